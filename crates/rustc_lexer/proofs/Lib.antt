@@ -1,3 +1,5 @@
 mod RunLemmas
 mod RowLemmas
 mod TokenLemmas
+mod CutLemmas
+mod StandingLemmas

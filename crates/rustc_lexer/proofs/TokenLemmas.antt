@@ -2,19 +2,16 @@
 use Rattle.std.proofs.Common.{◌≡◌, ℕ, zero, suc, ◌+◌, ◌-◌, ◌≤◌, Bool, true, false, List, [], ◌∷◌, ◌++◌, length, take, drop, refl, sym, ◌∙◌, ap, subst, arith, one-add, chars, encode_utf8_all, encode_utf8, IsUtf8, if◌then◌else◌, length-append}
 use Rattle.std.specs.List.{prefix_len}
 use Rattle.std.specs.Char.{len_utf8}
-use Rattle.std.proofs.lemmas.Str.{encodes-chars, length-encode}
+use Rattle.std.proofs.lemmas.Str.{encodes-chars, length-encode, len_utf8_bounds}
 use Rattle.rustc_lexer.specs.Character.{utf8_len, char_at, is_whitespace, is_id_start, continues, identifier_len}
 use Rattle.rustc_lexer.specs.Lexeme.{Lexeme, thin_lexeme, opens_comment, opens_guarded, is_prefix_mark}
 use Rattle.rustc_lexer.specs.Lexing.{thin_after, thin_tokens, token_of}
+use Rattle.rustc_lexer.proofs.CutLemmas.{length_encodes}
 use Rattle.rustc_lexer.specs.declared.token.Token.{Token}
 use Rattle.rustc_lexer.specs.declared.token.TokenKind.{TokenKind}
 use Rattle.rustc_lexer.specs.declared.token.TokenKind.TheVariants.{Whitespace, Ident, Unknown}
 
 -- ---- lengths
-
-length_encodes : (cs : List ℕ) → length (encode_utf8_all cs) ≡ utf8_len cs
-length_encodes [] = refl
-length_encodes (c ∷ cs) = rw (length-append, length-encode c, length_encodes cs)
 
 -- a text has as many bytes as its characters take
 pub length_text : (bs : List ℕ) → IsUtf8 bs → length bs ≡ utf8_len (chars bs)
@@ -64,6 +61,15 @@ skip_one_less (suc n) c cs h =
 pub thin_first : (c : ℕ) (cs : List ℕ) → thin_tokens (c ∷ cs) ≡ token_of (thin_lexeme (c ∷ cs)) (c ∷ cs) ∷ thin_tokens (drop (thin_lexeme (c ∷ cs)).size (c ∷ cs))
 unfolding HasCharacters
 thin_first c cs = ap (λ ts. token_of (thin_lexeme (c ∷ cs)) (c ∷ cs) ∷ ts) (skip_one_less (thin_lexeme (c ∷ cs)).size c cs (thin_positive c cs))
+
+one_byte_more : (n c : ℕ) (cs : List ℕ) → 1 ≤ n → 1 ≤ utf8_len (take n (c ∷ cs))
+one_byte_more zero c cs h = absurd (omega arith)
+one_byte_more (suc n) c cs h = omega (arith, (len_utf8_bounds c).0)
+
+-- the first token takes at least one byte
+pub thin_long : (c : ℕ) (cs : List ℕ) → 1 ≤ utf8_len (take (thin_lexeme (c ∷ cs)).size (c ∷ cs))
+unfolding HasCharacters
+thin_long c cs = one_byte_more (thin_lexeme (c ∷ cs)).size c cs (thin_positive c cs)
 
 -- the length of a token is that of the text before it less that of the text behind it
 pub token_length : (bs ds cs : List ℕ) (n : ℕ) → IsUtf8 bs → IsUtf8 ds → chars bs ≡ cs → chars ds ≡ drop n cs → (length ds ≤ length bs) × (utf8_len (take n cs) ≡ length bs - length ds)

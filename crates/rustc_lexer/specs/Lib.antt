@@ -3,3 +3,4 @@ pub mod Character
 pub mod Lexeme
 pub mod Lexing
 pub mod Remaining
+pub mod Standing

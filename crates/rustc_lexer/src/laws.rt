@@ -1,1 +1,47 @@
-//! Laws of the tokens, for proofs about loops over them.
+//! Laws of the tokens, for proofs about loops over them. A call costs nothing: it only states.
+//!
+//! A loop `for token in tokenize(text, ..)` that keeps in `at` the place where the next token begins
+//! has the invariant `AreTokensFrom text at left`, where `left` are the tokens that the iterator has
+//! left: [`tokens_begin`] gives it at 0, [`next_token`] keeps it over `at += token.len` and says that
+//! the token's text may be cut out, and [`tokens_end`] says that `at` ends as the text's length.
+ghost use Rattle.std.specs.Prelude.{◌≡◌, ◌≤◌, ◌+◌, ℕ, List, [], ◌∷◌, length, chars, IsUtf8, All, sum_by, take, IsCharBoundary};
+ghost use Rattle.rustc_lexer.specs.Lexing.{thin_tokens};
+ghost use Rattle.rustc_lexer.specs.Standing.{AreTokensFrom, IsTokenAt};
+ghost use Rattle.rustc_lexer.specs.declared.token.Token.{Token};
+
+/// The tokens of a text begin at its first byte.
+pub fn tokens_begin()
+    ensures { (text : List ℕ) → IsUtf8 text → AreTokensFrom text 0 (thin_tokens (chars text)) }
+{
+}
+
+/// The first of the tokens that are left stands where they begin, and the others begin behind it.
+pub fn next_token()
+    ensures here {
+        (text : List ℕ) (at : ℕ) (t : Token) (ts : List Token) →
+            IsUtf8 text → AreTokensFrom text at (t ∷ ts) → IsTokenAt text at t
+    }
+    ensures others {
+        (text : List ℕ) (at : ℕ) (t : Token) (ts : List Token) →
+            IsUtf8 text → AreTokensFrom text at (t ∷ ts) → AreTokensFrom text (at + t.len) ts
+    }
+{
+}
+
+/// Where no token is left, the text ends.
+pub fn tokens_end()
+    ensures { (text : List ℕ) (at : ℕ) → IsUtf8 text → AreTokensFrom text at [] → at ≡ length text }
+{
+}
+
+/// Each length is at least 1, the first lengths sum to a place between two characters, and all of
+/// them to the length of the text.
+pub fn token_lengths()
+    ensures positive { (text : List ℕ) → IsUtf8 text → All (λ t. 1 ≤ t.len) (thin_tokens (chars text)) }
+    ensures boundaries {
+        (text : List ℕ) (k : ℕ) →
+            IsUtf8 text → IsCharBoundary text (sum_by (λ t. t.len) (take k (thin_tokens (chars text))))
+    }
+    ensures whole { (text : List ℕ) → IsUtf8 text → sum_by (λ t. t.len) (thin_tokens (chars text)) ≡ length text }
+{
+}
