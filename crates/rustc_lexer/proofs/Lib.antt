@@ -3,3 +3,4 @@ mod RowLemmas
 mod TokenLemmas
 mod CutLemmas
 mod StandingLemmas
+mod Rows

@@ -64,11 +64,11 @@ step text at t ts u from =
     let behind = subst (IsBehind left n) len (behind_chars left n (IsUtf8-drop text at u from.boundary)) in
     stands text at n t ts from.boundary refl behind first (subst (λ k. 1 ≤ k) len first.long)
 
-pub token_here : (text : List ℕ) (at : ℕ) (t : Token) (ts : List Token) → IsUtf8 text → AreTokensFrom text at (t ∷ ts) → IsTokenAt text at t
-token_here text at t ts u from = (step text at t ts u from).here
+pub token_here : (text : List ℕ) (at : ℕ) (left : List Token) (t : Token) (ts : List Token) → IsUtf8 text → AreTokensFrom text at left → left ≡ t ∷ ts → IsTokenAt text at t
+token_here text at left t ts u from e = (step text at t ts u (subst (AreTokensFrom text at) e from)).here
 
-pub other_tokens : (text : List ℕ) (at : ℕ) (t : Token) (ts : List Token) → IsUtf8 text → AreTokensFrom text at (t ∷ ts) → AreTokensFrom text (at + t.len) ts
-other_tokens text at t ts u from = (step text at t ts u from).others
+pub other_tokens : (text : List ℕ) (at : ℕ) (left : List Token) (t : Token) (ts : List Token) → IsUtf8 text → AreTokensFrom text at left → left ≡ t ∷ ts → AreTokensFrom text (at + t.len) ts
+other_tokens text at left t ts u from e = (step text at t ts u (subst (AreTokensFrom text at) e from)).others
 
 -- ---- the end
 
@@ -76,10 +76,10 @@ none_left : (cs : List ℕ) → [] ≡ thin_tokens cs → cs ≡ []
 none_left [] e = refl
 none_left (c ∷ cs) e = absurd (let l : 0 ≡ length (thin_tokens (c ∷ cs)) = ap length e in omega (arith, l))
 
-pub tokens_end : (text : List ℕ) (at : ℕ) → IsUtf8 text → AreTokensFrom text at [] → at ≡ length text
-tokens_end text at u from =
+pub tokens_end : (text : List ℕ) (at : ℕ) (left : List Token) → IsUtf8 text → AreTokensFrom text at left → left ≡ [] → at ≡ length text
+tokens_end text at tokens_left u from e =
     let left : List ℕ = drop at text in
-    let none : left ≡ [] = sym (encodes-chars left (IsUtf8-drop text at u from.boundary)) ∙ ap encode_utf8_all (none_left (chars left) from.tokens) in
+    let none : left ≡ [] = sym (encodes-chars left (IsUtf8-drop text at u from.boundary)) ∙ ap encode_utf8_all (none_left (chars left) (sym e ∙ from.tokens)) in
     omega (arith, ap length none, length-drop at text, from.boundary.0)
 
 -- ---- all lengths
@@ -100,7 +100,7 @@ boundaries (t ∷ ts) text at u from (suc k) =
     subst (IsCharBoundary text) e again
 
 whole : (ts : List Token) (text : List ℕ) (at : ℕ) → IsUtf8 text → AreTokensFrom text at ts → at + sum_by (λ t. t.len) ts ≡ length text
-whole [] text at u from = add-zero at ∙ tokens_end text at u from
+whole [] text at u from = add-zero at ∙ tokens_end text at [] u from refl
 whole (t ∷ ts) text at u from =
     let again = whole ts text (at + t.len) u (step text at t ts u from).others in
     omega (arith, again, sum_by-cons (λ x. x.len) t ts)

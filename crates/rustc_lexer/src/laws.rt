@@ -15,22 +15,26 @@ pub fn tokens_begin()
 {
 }
 
-/// The first of the tokens that are left stands where they begin, and the others begin behind it.
+/// Where a first token is left, it stands where the tokens that are left begin, and the others begin
+/// behind it.
 pub fn next_token()
     ensures here {
-        (text : List ℕ) (at : ℕ) (t : Token) (ts : List Token) →
-            IsUtf8 text → AreTokensFrom text at (t ∷ ts) → IsTokenAt text at t
+        (text : List ℕ) (at : ℕ) (left : List Token) (t : Token) (ts : List Token) →
+            IsUtf8 text → AreTokensFrom text at left → left ≡ t ∷ ts → IsTokenAt text at t
     }
     ensures others {
-        (text : List ℕ) (at : ℕ) (t : Token) (ts : List Token) →
-            IsUtf8 text → AreTokensFrom text at (t ∷ ts) → AreTokensFrom text (at + t.len) ts
+        (text : List ℕ) (at : ℕ) (left : List Token) (t : Token) (ts : List Token) →
+            IsUtf8 text → AreTokensFrom text at left → left ≡ t ∷ ts → AreTokensFrom text (at + t.len) ts
     }
 {
 }
 
 /// Where no token is left, the text ends.
 pub fn tokens_end()
-    ensures { (text : List ℕ) (at : ℕ) → IsUtf8 text → AreTokensFrom text at [] → at ≡ length text }
+    ensures {
+        (text : List ℕ) (at : ℕ) (left : List Token) →
+            IsUtf8 text → AreTokensFrom text at left → left ≡ [] → at ≡ length text
+    }
 {
 }
 
