@@ -4,3 +4,4 @@ mod TokenLemmas
 mod CutLemmas
 mod StandingLemmas
 mod Rows
+mod KindLemmas

@@ -10,7 +10,9 @@ use Rattle.rustc_lexer.specs.Lexeme.{Lexeme, thin_lexeme}
 use Rattle.rustc_lexer.specs.Lexing.{thin_tokens, token_of}
 use Rattle.rustc_lexer.specs.Standing.{AreTokensFrom, IsTokenAt}
 use Rattle.rustc_lexer.specs.declared.token.Token.{Token}
+use Rattle.rustc_lexer.specs.declared.token.TokenKind.TheVariants.{Eof}
 use Rattle.rustc_lexer.proofs.CutLemmas.{IsBehind, behind_chars}
+use Rattle.rustc_lexer.proofs.KindLemmas.{never_eof}
 use Rattle.rustc_lexer.proofs.TokenLemmas.{thin_first, thin_long}
 
 pub tokens_begin : (text : List ℕ) → IsUtf8 text → AreTokensFrom text 0 (thin_tokens (chars text))
@@ -50,7 +52,8 @@ stands text at n t ts start is_size behind first long =
         stop = stop;
         utf8 = subst IsUtf8 (sym word) behind.front_utf8;
         word = ap chars word ∙ behind.front ∙ ap (λ k. take k (chars (drop at text))) is_size;
-        kind = ap (λ x. x.kind) first.token };
+        kind = ap (λ x. x.kind) first.token;
+        not_eof = never_eof (chars (drop at text)) t.kind (ap (λ x. x.kind) first.token) };
       others = record {
         boundary = stop;
         tokens = first.others ∙ ap thin_tokens (ap (λ k. drop k (chars (drop at text))) (sym is_size) ∙ sym behind.rest ∙ ap chars (drop-drop t.len at text)) } }
@@ -82,13 +85,19 @@ tokens_end text at tokens_left u from e =
     let none : left ≡ [] = sym (encodes-chars left (IsUtf8-drop text at u from.boundary)) ∙ ap encode_utf8_all (none_left (chars left) (sym e ∙ from.tokens)) in
     omega (arith, ap length none, length-drop at text, from.boundary.0)
 
--- ---- all lengths
+-- ---- all tokens from a place on
 
 positive : (ts : List Token) (text : List ℕ) (at : ℕ) → IsUtf8 text → AreTokensFrom text at ts → All (λ t. 1 ≤ t.len) ts
 positive [] text at u from = λ k d h. absurd (omega arith)
 positive (t ∷ ts) text at u from =
     let s = step text at t ts u from in
     All-cons (λ x. 1 ≤ x.len) t ts s.here.positive (positive ts text (at + t.len) u s.others)
+
+none_eof : (ts : List Token) (text : List ℕ) (at : ℕ) → IsUtf8 text → AreTokensFrom text at ts → All (λ t. ¬ (t.kind ≡ Eof)) ts
+none_eof [] text at u from = λ k d h. absurd (omega arith)
+none_eof (t ∷ ts) text at u from =
+    let s = step text at t ts u from in
+    All-cons (λ x. ¬ (x.kind ≡ Eof)) t ts s.here.not_eof (none_eof ts text (at + t.len) u s.others)
 
 boundaries : (ts : List Token) (text : List ℕ) (at : ℕ) → IsUtf8 text → AreTokensFrom text at ts → (k : ℕ) → IsCharBoundary text (at + sum_by (λ t. t.len) (take k ts))
 boundaries ts text at u from zero = subst (IsCharBoundary text) (sym (add-zero at)) from.boundary
@@ -105,7 +114,7 @@ whole (t ∷ ts) text at u from =
     let again = whole ts text (at + t.len) u (step text at t ts u from).others in
     omega (arith, again, sum_by-cons (λ x. x.len) t ts)
 
--- ---- all lengths of a whole text
+-- ---- all tokens of a text
 
 pub lengths_positive : (text : List ℕ) → IsUtf8 text → All (λ t. 1 ≤ t.len) (thin_tokens (chars text))
 lengths_positive text u = positive (thin_tokens (chars text)) text 0 u (tokens_begin text u)
@@ -116,3 +125,6 @@ lengths_boundaries text k u =
 
 pub lengths_whole : (text : List ℕ) → IsUtf8 text → sum_by (λ t. t.len) (thin_tokens (chars text)) ≡ length text
 lengths_whole text u = omega (arith, whole (thin_tokens (chars text)) text 0 u (tokens_begin text u))
+
+pub no_token_is_eof : (text : List ℕ) → IsUtf8 text → All (λ t. ¬ (t.kind ≡ Eof)) (thin_tokens (chars text))
+no_token_is_eof text u = none_eof (thin_tokens (chars text)) text 0 u (tokens_begin text u)

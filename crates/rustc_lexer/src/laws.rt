@@ -8,6 +8,7 @@ ghost use Rattle.std.specs.Prelude.{◌≡◌, ◌≤◌, ◌+◌, ℕ, List, []
 ghost use Rattle.rustc_lexer.specs.Lexing.{thin_tokens};
 ghost use Rattle.rustc_lexer.specs.Standing.{AreTokensFrom, IsTokenAt};
 ghost use Rattle.rustc_lexer.specs.declared.token.Token.{Token};
+ghost use Rattle.rustc_lexer.specs.declared.token.TokenKind.TheVariants.{Eof};
 
 /// The tokens of a text begin at its first byte.
 pub fn tokens_begin()
@@ -47,5 +48,11 @@ pub fn token_lengths()
             IsUtf8 text → IsCharBoundary text (sum_by (λ t. t.len) (take k (thin_tokens (chars text))))
     }
     ensures whole { (text : List ℕ) → IsUtf8 text → sum_by (λ t. t.len) (thin_tokens (chars text)) ≡ length text }
+{
+}
+
+/// No token of a text is `Eof`.
+pub fn no_token_is_eof()
+    ensures { (text : List ℕ) → IsUtf8 text → All (λ t. ¬ (t.kind ≡ Eof)) (thin_tokens (chars text)) }
 {
 }
