@@ -1,5 +1,5 @@
 -- No lexeme is the end of the text.
-use Rattle.std.proofs.Common.{◌≡◌, ℕ, Bool, true, false, List, [], ◌∷◌, ◌∙◌, sym, ap, refl, arith, true≢false, if◌then◌else◌}
+use Rattle.std.proofs.Common.{◌≡◌, ℕ, Bool, true, false, List, ◌∙◌, sym, ap, refl, arith, true≢false}
 use Rattle.std.proofs.lemmas.Grind.{common_steps}
 use Rattle.rustc_lexer.specs.Character.{char_at, is_whitespace, is_id_start, identifier_len}
 use Rattle.rustc_lexer.specs.Lexeme.{Lexeme, thin_lexeme, one_char_kind, opens_comment, opens_guarded, is_prefix_mark}
@@ -23,7 +23,7 @@ lexeme_inside cs =
     choice IsInside (opens_comment (char_at cs 0) (char_at cs 1)) _ _ (λ _. refl)
     (λ _. choice IsInside (is_whitespace (char_at cs 0)) _ _ (λ _. refl)
     (λ _. choice IsInside (is_id_start (char_at cs 0)) _ _
-      (λ _. choice IsInside (is_prefix_mark (char_at cs (identifier_len cs))) _ _ (λ _. refl) (λ _. refl))
+    (λ _. choice IsInside (is_prefix_mark (char_at cs (identifier_len cs))) _ _ (λ _. refl) (λ _. refl))
     (λ _. choice IsInside (opens_guarded (char_at cs 0) (char_at cs 1)) _ _ (λ _. refl) (λ _. one_char_inside (char_at cs 0)))))
 
 pub never_eof : (cs : List ℕ) (k : TokenKind) → k ≡ (thin_lexeme cs).kind → ¬ (k ≡ Eof)

@@ -29,11 +29,14 @@ one_underscore : thin_tokens (codes "_") ≡ of Ident 1 ∷ []
 unfolding is_xid_start is_xid_continue in_ranges xid_start_ranges xid_continue_ranges
 one_underscore = refl
 
-brackets : thin_tokens (codes ";,.(){}[]") ≡ ones (Semi ∷ Comma ∷ Dot ∷ OpenParen ∷ CloseParen ∷ OpenBrace ∷ CloseBrace ∷ OpenBracket ∷ CloseBracket ∷ [])
+brackets : thin_tokens (codes ";,.(){}[]") ≡
+    ones (Semi ∷ Comma ∷ Dot ∷ OpenParen ∷ CloseParen ∷ OpenBrace ∷ CloseBrace ∷ OpenBracket ∷ CloseBracket ∷ [])
 unfolding is_xid_start is_xid_continue in_ranges xid_start_ranges xid_continue_ranges
 brackets = refl
 
-signs : thin_tokens (codes "@~?:$=!<>-&|+*/^%#") ≡ ones (At ∷ Tilde ∷ Question ∷ Colon ∷ Dollar ∷ Eq ∷ Bang ∷ Lt ∷ Gt ∷ Minus ∷ And ∷ Or ∷ Plus ∷ Star ∷ Slash ∷ Caret ∷ Percent ∷ Pound ∷ [])
+signs : thin_tokens (codes "@~?:$=!<>-&|+*/^%#") ≡
+    ones (At ∷ Tilde ∷ Question ∷ Colon ∷ Dollar ∷ Eq ∷ Bang ∷ Lt ∷ Gt
+    ∷ Minus ∷ And ∷ Or ∷ Plus ∷ Star ∷ Slash ∷ Caret ∷ Percent ∷ Pound ∷ [])
 unfolding is_xid_start is_xid_continue in_ranges xid_start_ranges xid_continue_ranges
 signs = refl
 
@@ -42,7 +45,8 @@ prefix_hash : thin_tokens (codes "ab#c") ≡ of Unknown 1 ∷ of Unknown 1 ∷ o
 unfolding is_xid_start is_xid_continue in_ranges xid_start_ranges xid_continue_ranges
 prefix_hash = refl
 
-prefix_quotes : thin_tokens (codes "b'x r\"y") ≡ of Unknown 1 ∷ of Unknown 1 ∷ of Ident 1 ∷ of Whitespace 1 ∷ of Unknown 1 ∷ of Unknown 1 ∷ of Ident 1 ∷ []
+prefix_quotes : thin_tokens (codes "b'x r\"y") ≡
+    of Unknown 1 ∷ of Unknown 1 ∷ of Ident 1 ∷ of Whitespace 1 ∷ of Unknown 1 ∷ of Unknown 1 ∷ of Ident 1 ∷ []
 unfolding is_xid_start is_xid_continue in_ranges xid_start_ranges xid_continue_ranges
 prefix_quotes = refl
 
@@ -64,7 +68,8 @@ block_comment : thin_tokens (codes "/*a*/") ≡ of Unknown 1 ∷ of Star 1 ∷ o
 unfolding is_xid_start is_xid_continue in_ranges xid_start_ranges xid_continue_ranges
 block_comment = refl
 
-guarded : thin_tokens (codes "##a #\"b") ≡ of Unknown 1 ∷ of Pound 1 ∷ of Ident 1 ∷ of Whitespace 1 ∷ of Unknown 1 ∷ of Unknown 1 ∷ of Ident 1 ∷ []
+guarded : thin_tokens (codes "##a #\"b") ≡
+    of Unknown 1 ∷ of Pound 1 ∷ of Ident 1 ∷ of Whitespace 1 ∷ of Unknown 1 ∷ of Unknown 1 ∷ of Ident 1 ∷ []
 unfolding is_xid_start is_xid_continue in_ranges xid_start_ranges xid_continue_ranges
 guarded = refl
 
@@ -73,18 +78,20 @@ digits : thin_tokens (codes "10u8 a1") ≡ of Unknown 1 ∷ of Unknown 1 ∷ of 
 unfolding is_xid_start is_xid_continue in_ranges xid_start_ranges xid_continue_ranges
 digits = refl
 
-quotes : thin_tokens (codes "\"a\" 'b") ≡ of Unknown 1 ∷ of Unknown 1 ∷ of Unknown 1 ∷ of Whitespace 1 ∷ of Unknown 1 ∷ of Ident 1 ∷ []
+quotes : thin_tokens (codes "\"a\" 'b") ≡
+    of Unknown 1 ∷ of Unknown 1 ∷ of Unknown 1 ∷ of Whitespace 1 ∷ of Unknown 1 ∷ of Ident 1 ∷ []
 unfolding is_xid_start is_xid_continue in_ranges xid_start_ranges xid_continue_ranges
 quotes = refl
 
--- two letters of two bytes each, and U+0085, of two bytes too
-two_bytes : thin_tokens (codes "éß " ) ≡ of Ident 4 ∷ of Whitespace 1 ∷ []
+-- two letters of two bytes each
+two_bytes : thin_tokens (codes "éß ") ≡ of Ident 4 ∷ of Whitespace 1 ∷ []
 unfolding is_xid_start is_xid_continue in_ranges xid_start_ranges xid_continue_ranges
 two_bytes = refl
 
-next_line : thin_tokens (0x20 ∷ 0x85 ∷ 0x2028 ∷ codes "a") ≡ of Whitespace 6 ∷ of Ident 1 ∷ []
+-- U+0085, of two bytes, and U+2028, of three, are white space
+other_white : thin_tokens (0x20 ∷ 0x85 ∷ 0x2028 ∷ codes "a") ≡ of Whitespace 6 ∷ of Ident 1 ∷ []
 unfolding is_xid_start is_xid_continue in_ranges xid_start_ranges xid_continue_ranges
-next_line = refl
+other_white = refl
 
 -- a combining acute accent, U+0301, goes on in an identifier and begins none
 accent : thin_tokens (0x61 ∷ 0x301 ∷ 0x20 ∷ 0x301 ∷ []) ≡ of Ident 3 ∷ of Whitespace 1 ∷ of Unknown 2 ∷ []

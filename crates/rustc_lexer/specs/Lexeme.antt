@@ -50,6 +50,6 @@ thin_lexeme cs =
     if opens_comment c d then lexeme_of Unknown 1
     else if is_whitespace c then lexeme_of Whitespace (prefix_len is_whitespace cs)
     else if is_id_start c then
-      (if is_prefix_mark (char_at cs word) then lexeme_of Unknown 1 else lexeme_of Ident word)
+    (if is_prefix_mark (char_at cs word) then lexeme_of Unknown 1 else lexeme_of Ident word)
     else if opens_guarded c d then lexeme_of Unknown 1
     else lexeme_of (one_char_kind c) 1

@@ -12,9 +12,14 @@ pub struct Token {
 #[derive(Clone, Copy, PartialEq, Eq, Debug)]
 pub enum TokenKind {
     /// `// ..`, up to the end of the line and without the line feed.
-    LineComment { doc_style: Option<DocStyle> },
+    LineComment {
+        doc_style: Option<DocStyle>,
+    },
     /// `/* .. */`, comments inside counted; `terminated` tells whether its end was found.
-    BlockComment { doc_style: Option<DocStyle>, terminated: bool },
+    BlockComment {
+        doc_style: Option<DocStyle>,
+        terminated: bool,
+    },
     /// White space, as long as it goes on.
     Whitespace,
     /// An identifier or a keyword.
@@ -34,9 +39,14 @@ pub enum TokenKind {
     /// `#"` or `##`, which from edition 2024 on begin a guarded string.
     GuardedStrPrefix,
     /// A literal; `suffix_start` is the length in bytes of what stands before its suffix.
-    Literal { kind: LiteralKind, suffix_start: u32 },
+    Literal {
+        kind: LiteralKind,
+        suffix_start: u32,
+    },
     /// `'name`; `starts_with_number` tells of one as `'1`.
-    Lifetime { starts_with_number: bool },
+    Lifetime {
+        starts_with_number: bool,
+    },
     /// `;`
     Semi,
     /// `,`

@@ -13,5 +13,7 @@ returns-in_default g c = sym (skip_ends g.T.CharTest.passes _ c.in_default.ensur
 
 pub loop-c-preserved : goal.loop-c-preserved
 loop-c-preserved g c =
-    let passes : g.T.CharTest.passes c.in-Some.c ≡ true = search rules in
-    (IsUtf8-past_char _ _ _ c.loop-c.invariant.0 c.in-Some.ensures.bytes, sym (skip_more g.T.CharTest.passes _ _ _ c.in-Some.ensures.chars passes) ∙ c.loop-c.invariant.1)
+    let passes : g.T.CharTest.passes c.in-Some.c ≡ true = search rules in (
+      IsUtf8-past_char _ _ _ c.loop-c.invariant.0 c.in-Some.ensures.bytes,
+      sym (skip_more g.T.CharTest.passes _ _ _ c.in-Some.ensures.chars passes) ∙ c.loop-c.invariant.1,
+    )

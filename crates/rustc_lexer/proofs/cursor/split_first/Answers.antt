@@ -1,11 +1,12 @@
-use Rattle.std.proofs.Common.{◌≡◌, ◌++◌, length, encode_utf8, chars, refl}
+use Rattle.std.proofs.Common.{◌≡◌, ◌++◌, length, encode_utf8}
 use Rattle.std.proofs.lemmas.Str.{chars_past_char, chars-nil}
 use Rattle.std.proofs.lemmas.List.{nil_from_length}
 use Rattle.rustc_lexer.proofs.cursor.split_first.Goals as goal
 
 pub returns-in-Some-clause-chars : goal.returns-in-Some-clause-chars
 returns-in-Some-clause-chars c =
-    let front : c.args.text.now ≡ encode_utf8 c.in-Some.c ++ c.as_str.result.now = cc (c.chars-chars.ensures.rest, c.in-Some.ensures.steps.0, c.as_str.ensures) in
+    let front : c.args.text.now ≡ encode_utf8 c.in-Some.c ++ c.as_str.result.now =
+    cc (c.chars-chars.ensures.rest, c.in-Some.ensures.steps.0, c.as_str.ensures) in
     chars_past_char c.args.text.now c.as_str.result.now c.in-Some.c c.utf8.text front
 
 pub returns-in-None-clause-chars : goal.returns-in-None-clause-chars

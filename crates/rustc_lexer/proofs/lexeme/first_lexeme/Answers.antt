@@ -1,6 +1,6 @@
 use Rattle.std.proofs.Common.{◌≡◌, true, false, rules, chars, one-add}
-use Rattle.rustc_lexer.specs.Character.{char_at, is_whitespace, is_id_start, continues}
-use Rattle.rustc_lexer.specs.Lexeme.{opens_comment, is_prefix_mark}
+use Rattle.rustc_lexer.specs.Character.{char_at, is_whitespace, is_id_start}
+use Rattle.rustc_lexer.specs.Lexeme.{opens_comment}
 use Rattle.rustc_lexer.proofs.RowLemmas.{white_lexeme, prefix_lexeme, ident_lexeme, mark_behind}
 use Rattle.rustc_lexer.proofs.lexeme.first_lexeme.Goals as goal
 
