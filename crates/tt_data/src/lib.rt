@@ -1,0 +1,18 @@
+//! The data of token trees: spans, symbols, leaves, delimiters and the records of a flat list of tokens.
+//!
+//! `specs/Forest.antt` has the one definition of a list of trees on which the crates above stand.
+#![tactic(auto)]
+
+pub mod delimiter;
+pub mod fault;
+pub mod leaf;
+pub mod span;
+pub mod symbol;
+pub mod tree;
+
+pub use delimiter::{DelimSpan, Delimiter, DelimiterKind};
+pub use fault::TtFault;
+pub use leaf::{Ident, IdentIsRaw, Leaf, LitKind, Literal, Punct, Spacing};
+pub use span::{Span, SyntaxContext, TextRange, TextSize};
+pub use symbol::Symbol;
+pub use tree::{Subtree, TokenTree};
