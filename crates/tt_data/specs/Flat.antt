@@ -1,5 +1,5 @@
 -- A forest and its flat list give each other back.
-use Rattle.std.proofs.Common.{◌≡◌, ℕ, ◌+◌, ◌-◌, ◌<◌, ◌≤◌, List, [], ◌∷◌, ◌++◌, length, take, drop, refl, sym, ap, ◌∙◌, arith, length-append, append_assoc}
+use Rattle.std.proofs.Common.{◌≡◌, ◌+◌, ◌-◌, ◌≤◌, List, [], ◌∷◌, ◌++◌, length, take, drop, refl, sym, ap, ◌∙◌, arith, length-append, append_assoc}
 use Rattle.std.proofs.lemmas.Bool.{lt-ltb, le-ltb}
 use Rattle.std.proofs.Math.Seq.{take-append_seam, drop-append_seam}
 use Rattle.tt_data.specs.Forest.{Forest, empty, leaf, group, joined, size, preorder, front, back, forest_of, IsPreorder}
@@ -42,7 +42,7 @@ forest_of-append empty tokens = refl
 forest_of-append (leaf l rest) tokens = ap (leaf l) (forest_of-append rest tokens)
 forest_of-append (group d inner rest) tokens =
     let e : forest_of ((preorder inner ++ preorder rest) ++ tokens) ≡ joined inner (joined rest (forest_of tokens)) =
-        rw (append_assoc, forest_of-append inner (preorder rest ++ tokens), forest_of-append rest tokens) refl in
+    rw (append_assoc, forest_of-append inner (preorder rest ++ tokens), forest_of-append rest tokens) refl in
     rw (e, front-joined inner (joined rest (forest_of tokens)), back-joined inner (joined rest (forest_of tokens))) refl
 
 pub joined-empty : (f : Forest) → joined f empty ≡ f
@@ -94,7 +94,7 @@ parts_of-append s f g more counted e =
     let front_is : take s.len more ≡ preorder f = rw (← e, ← counted) (take-preorder f (preorder g)) in
     let back_is : drop s.len more ≡ preorder g = rw (← e, ← counted) (drop-preorder f (preorder g)) in
     let all : forest_of more ≡ joined f g =
-        rw (← e) (forest_of-append f (preorder g) ∙ ap (joined f) (forest_of-preorder g)) in
+    rw (← e) (forest_of-append f (preorder g) ∙ ap (joined f) (forest_of-preorder g)) in
     record {
       fits = omega (arith, counted, ap length e, length-append (preorder f) (preorder g), length-preorder f);
       inner_whole = rw front_is (IsPreorder-preorder f);

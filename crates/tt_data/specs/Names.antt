@@ -1,5 +1,5 @@
 -- Names as they are written: a raw one has `r#` before it.
-use Rattle.std.specs.Prelude.{ℕ, List, [], codes, drop, nat_eq, if◌then◌else◌, Bool}
+use Rattle.std.specs.Prelude.{ℕ, List, [], codes, drop, nat_eq, if◌then◌else◌}
 use Rattle.std.specs.List.{starts_with}
 use Rattle.tt_data.specs.declared.span.Span.{Span}
 use Rattle.tt_data.specs.declared.leaf.Ident.{Ident}

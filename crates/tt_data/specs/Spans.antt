@@ -1,5 +1,4 @@
 -- The places of tokens, and the same tokens at other places.
-use Rattle.std.specs.Prelude.{ℕ}
 use Rattle.tt_data.specs.declared.span.Span.{Span}
 use Rattle.tt_data.specs.declared.span.SyntaxContext.TheVariants.{Written}
 use Rattle.tt_data.specs.declared.delimiter.Delimiter.{Delimiter}

@@ -1,4 +1,8 @@
 //! Why a call on trees is refused.
+ghost use Rattle.std.specs.Prelude.{◌≡◌};
+ghost use Rattle.tt_data.specs.declared.fault.TtFault.TheVariants.{Memory};
+
+use std::alloc::AllocError;
 
 /// Why a call on trees is refused. The objects of a refused call are as they were.
 #[derive(Clone, Copy, PartialEq, Eq, Debug)]
@@ -13,4 +17,12 @@ pub enum TtFault {
     Place,
     /// A point that no longer stands in its builder.
     Stale,
+}
+
+impl From<AllocError> for TtFault {
+    ghost from_gives = { λ _ fault. fault ≡ Memory };
+
+    fn from(_error: AllocError) -> TtFault {
+        TtFault::Memory
+    }
 }
