@@ -1,6 +1,7 @@
 -- A forest and its flat list give each other back.
 use Rattle.std.proofs.Common.{◌≡◌, ◌+◌, ◌-◌, ◌≤◌, List, [], ◌∷◌, ◌++◌, length, take, drop, refl, sym, ap, ◌∙◌, arith, length-append, append_assoc}
 use Rattle.std.proofs.lemmas.Bool.{lt-ltb, le-ltb}
+use Rattle.std.proofs.lemmas.List.{append-nil}
 use Rattle.std.proofs.Math.Seq.{take-append_seam, drop-append_seam}
 use Rattle.tt_data.specs.Forest.{Forest, empty, leaf, group, joined, size, preorder, front, back, forest_of, IsPreorder}
 use Rattle.tt_data.specs.declared.leaf.Leaf.{Leaf}
@@ -49,10 +50,6 @@ pub joined-empty : (f : Forest) → joined f empty ≡ f
 joined-empty empty = refl
 joined-empty (leaf l rest) = ap (leaf l) (joined-empty rest)
 joined-empty (group d inner rest) = ap (group d inner) (joined-empty rest)
-
-pub append-nil : (tokens : List TokenTree) → tokens ++ [] ≡ tokens
-append-nil [] = refl
-append-nil (t ∷ tokens) = ap (λ more. t ∷ more) (append-nil tokens)
 
 -- a forest is that of its tokens
 pub forest_of-preorder : (f : Forest) → forest_of (preorder f) ≡ f

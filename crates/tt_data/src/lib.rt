@@ -5,9 +5,12 @@
 
 pub mod delimiter;
 pub mod fault;
+pub mod laws;
 pub mod leaf;
 pub mod span;
 pub mod symbol;
+#[cfg(test)]
+mod tests;
 pub mod tree;
 
 pub use delimiter::{DelimSpan, Delimiter, DelimiterKind};
