@@ -4,6 +4,7 @@ pub mod Walk
 pub mod Spans
 pub mod Names
 pub mod Literals
+pub mod Editions
 pub mod Outcome
 -- a forest and its flat list give each other back
 pub mod Flat

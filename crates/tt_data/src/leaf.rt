@@ -113,6 +113,14 @@ pub enum LitKind {
     Err(()),
 }
 
+/// A literal without its place: its form, what stands between its quotes, and its suffix.
+#[derive(Clone, PartialEq, Eq, Hash, Debug, Drop)]
+pub struct Lit {
+    pub kind: LitKind,
+    pub symbol: Symbol,
+    pub suffix: Option<Symbol>,
+}
+
 /// A literal: what stands between its quotes, its suffix, and the form that it is written in.
 #[derive(Clone, PartialEq, Eq, Hash, Debug, Drop)]
 pub struct Literal {

@@ -4,6 +4,7 @@
 #![tactic(auto)]
 
 pub mod delimiter;
+pub mod edition;
 pub mod fault;
 pub mod laws;
 pub mod leaf;
@@ -14,8 +15,9 @@ mod tests;
 pub mod tree;
 
 pub use delimiter::{DelimSpan, Delimiter, DelimiterKind};
+pub use edition::Edition;
 pub use fault::TtFault;
-pub use leaf::{Ident, IdentIsRaw, Leaf, LitKind, Literal, Punct, Spacing};
+pub use leaf::{Ident, IdentIsRaw, Leaf, Lit, LitKind, Literal, Punct, Spacing};
 pub use span::{Span, SyntaxContext, TextRange, TextSize};
 pub use symbol::Symbol;
 pub use tree::{Subtree, TokenTree};
