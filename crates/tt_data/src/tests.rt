@@ -29,7 +29,9 @@ fn names(rt: HostRuntime) -> Result<(), Fail> {
         ("r#r#a", IdentIsRaw::Yes, "r#a"),
         ("", IdentIsRaw::No, ""),
     ] {
-        let ident = Ident::new(rt.alloc(), written, byte_at(3)).ok().ok_or("no memory")?;
+        let ident = Ident::new(rt.alloc(), written, byte_at(3))
+            .ok()
+            .ok_or("no memory")?;
         assert_eq!(rt; ident.is_raw, is_raw, "of {written}");
         assert_eq!(rt; ident.sym.as_str(), name, "of {written}");
         assert_eq!(rt; Leaf::from(ident).span(), byte_at(3));
@@ -43,18 +45,26 @@ fn names(rt: HostRuntime) -> Result<(), Fail> {
 #[test]
 fn literals(rt: HostRuntime) -> Result<(), Fail> {
     for (text, suffix) in [("1", "u8"), ("", ""), ("é", "é"), ("a", "")] {
-        let literal = Literal::new(rt.alloc(), text, byte_at(3), LitKind::StrRaw(2), suffix).ok().ok_or("no memory")?;
+        let literal = Literal::new(rt.alloc(), text, byte_at(3), LitKind::StrRaw(2), suffix)
+            .ok()
+            .ok_or("no memory")?;
         assert_eq!(rt; literal.text(), text);
         assert_eq!(rt; literal.suffix(), suffix);
         assert!(rt; literal.text_and_suffix() == (text, suffix));
         assert_eq!(rt; literal.kind(), LitKind::StrRaw(2));
         assert_eq!(rt; literal.span(), byte_at(3));
     }
-    let bare = Literal::new_no_suffix(rt.alloc(), "1", byte_at(3), LitKind::Integer).ok().ok_or("no memory")?;
+    let bare = Literal::new_no_suffix(rt.alloc(), "1", byte_at(3), LitKind::Integer)
+        .ok()
+        .ok_or("no memory")?;
     assert!(rt; bare.text_and_suffix() == ("1", ""));
     // The same text all in all, but another suffix.
-    let long = Literal::new(rt.alloc(), "1u", byte_at(3), LitKind::Integer, "8").ok().ok_or("no memory")?;
-    let short = Literal::new(rt.alloc(), "1", byte_at(3), LitKind::Integer, "u8").ok().ok_or("no memory")?;
+    let long = Literal::new(rt.alloc(), "1u", byte_at(3), LitKind::Integer, "8")
+        .ok()
+        .ok_or("no memory")?;
+    let short = Literal::new(rt.alloc(), "1", byte_at(3), LitKind::Integer, "u8")
+        .ok()
+        .ok_or("no memory")?;
     assert!(rt; long != short);
     Ok(())
 }
