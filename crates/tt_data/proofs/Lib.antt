@@ -1,0 +1,4 @@
+pub mod ForestLemmas
+mod LiteralLemmas
+mod Rows
+pub mod WalkLemmas

@@ -1,0 +1,157 @@
+-- Rows worked out by hand, by computation: `a ( b , ) c` and lists that hold no forest.
+use Rattle.std.proofs.Common.{◌≡◌, ℕ, ◌+◌, List, [], ◌∷◌, refl, ap, arith, codes}
+use Rattle.tt_data.specs.declared.span.Span.{Span}
+use Rattle.tt_data.specs.declared.span.SyntaxContext.TheVariants.{Written, Made}
+use Rattle.tt_data.specs.declared.delimiter.Delimiter.{Delimiter}
+use Rattle.tt_data.specs.declared.delimiter.DelimiterKind.TheVariants.{Parenthesis, Invisible}
+use Rattle.tt_data.specs.declared.leaf.IdentIsRaw.TheVariants as is_raw
+use Rattle.tt_data.specs.declared.leaf.Leaf.{Leaf}
+use Rattle.tt_data.specs.declared.leaf.Leaf.TheVariants as as_leaf
+use Rattle.tt_data.specs.declared.leaf.LitKind.TheVariants.{Integer}
+use Rattle.tt_data.specs.declared.leaf.Spacing.TheVariants.{Alone}
+use Rattle.tt_data.specs.declared.tree.TokenTree.{TokenTree}
+use Rattle.tt_data.specs.declared.tree.TokenTree.TheVariants as token
+use Rattle.tt_data.specs.Forest.{Forest, empty, leaf, group, joined, size, preorder, front, back, forest_of, IsPreorder, map_spans, shape}
+use Rattle.tt_data.specs.Literals.{literal_of, text_of, suffix_of}
+use Rattle.tt_data.specs.Names.{ident_of}
+use Rattle.tt_data.specs.Spans.{first_span_of}
+use Rattle.tt_data.specs.Walk.{at_leaf, opens, closes, walk}
+
+-- one byte of the text, as it was written
+abbrev at : ℕ → Span
+at n = record { range = record { start = n; «end» = n + 1 }; anchor = 0; ctx = Written }
+
+abbrev name : List ℕ → Span → Leaf
+name text span = as_leaf.Ident (ident_of text span)
+
+abbrev comma : Span → Leaf
+comma span = as_leaf.Punct (record { char = 44; spacing = Alone; span = span })
+
+abbrev round : Span → Span → Delimiter
+round from to = record { open_span = from; close_span = to; kind = Parenthesis }
+
+abbrev head : Delimiter → ℕ → TokenTree
+head d n = token.Subtree (record { delimiter = d; len = n })
+
+-- `a(b,)c`
+abbrev flat : List TokenTree
+flat =
+    token.Leaf (name (codes "a") (at 0))
+    ∷ head (round (at 1) (at 4)) 2
+    ∷ token.Leaf (name (codes "b") (at 2))
+    ∷ token.Leaf (comma (at 3))
+    ∷ token.Leaf (name (codes "c") (at 5))
+    ∷ []
+
+abbrev trees : Forest
+trees =
+    leaf (name (codes "a") (at 0))
+    (group (round (at 1) (at 4)) (leaf (name (codes "b") (at 2)) (leaf (comma (at 3)) empty)) (leaf (name (codes "c") (at 5)) empty))
+
+flat_gives_trees : forest_of flat ≡ trees
+flat_gives_trees = refl
+
+trees_give_flat : preorder trees ≡ flat
+trees_give_flat = refl
+
+flat_is_preorder : IsPreorder flat
+flat_is_preorder = refl
+
+five_tokens : size trees ≡ 5
+five_tokens = refl
+
+-- how many tokens the first head of a list counts
+abbrev first_count : List TokenTree → ℕ
+first_count (token.Subtree s ∷ more) = s.len
+first_count _ = 0
+
+-- a head that counts more tokens than there are
+too_few : IsPreorder (head (round (at 0) (at 1)) 1 ∷ []) → ⊥
+too_few whole = let none : 0 ≡ 1 = ap first_count whole in omega (arith, none)
+
+-- a group whose end lies inside another group
+split_group : IsPreorder (head (round (at 0) (at 3)) 1 ∷ head (round (at 1) (at 2)) 1 ∷ token.Leaf (comma (at 2)) ∷ []) → ⊥
+split_group whole = let none : 0 ≡ 1 = ap first_count whole in omega (arith, none)
+
+-- an empty group is one token
+empty_group : forest_of (head (round (at 0) (at 1)) 0 ∷ token.Leaf (comma (at 2)) ∷ []) ≡ group (round (at 0) (at 1)) empty (leaf (comma (at 2)) empty)
+empty_group = refl
+
+-- the leaf and the group are the first four tokens
+first_two : front 4 trees ≡ leaf (name (codes "a") (at 0)) (group (round (at 1) (at 4)) (leaf (name (codes "b") (at 2)) (leaf (comma (at 3)) empty)) empty)
+first_two = refl
+
+last_one : back 4 trees ≡ leaf (name (codes "c") (at 5)) empty
+last_one = refl
+
+-- two tokens end inside the group, so it stays with what follows
+no_cut : front 2 trees ≡ leaf (name (codes "a") (at 0)) empty
+no_cut = refl
+
+-- `,` after `a ( , )`
+joined_row :
+    joined (leaf (name (codes "a") (at 0)) (group (round (at 1) (at 3)) (leaf (comma (at 2)) empty) empty)) (leaf (comma (at 4)) empty)
+    ≡ leaf (name (codes "a") (at 0)) (group (round (at 1) (at 3)) (leaf (comma (at 2)) empty) (leaf (comma (at 4)) empty))
+joined_row = refl
+
+walked :
+    walk trees
+    ≡ at_leaf (name (codes "a") (at 0))
+    ∷ opens Parenthesis (at 1)
+    ∷ at_leaf (name (codes "b") (at 2))
+    ∷ at_leaf (comma (at 3))
+    ∷ closes Parenthesis (at 4)
+    ∷ at_leaf (name (codes "c") (at 5))
+    ∷ []
+walked = refl
+
+-- an invisible group's brackets are steps, at their places
+walked_invisible :
+    walk (group (record { open_span = at 0; close_span = at 9; kind = Invisible }) (leaf (comma (at 3)) empty) empty)
+    ≡ opens Invisible (at 0) ∷ at_leaf (comma (at 3)) ∷ closes Invisible (at 9) ∷ []
+walked_invisible = refl
+
+abbrev made : Span → Span
+made s = record s { ctx = Made }
+
+-- marked as made: each leaf and both brackets, and nothing else
+marked :
+    map_spans made trees
+    ≡ leaf (name (codes "a") (made (at 0)))
+    (group (round (made (at 1)) (made (at 4)))
+    (leaf (name (codes "b") (made (at 2))) (leaf (comma (made (at 3))) empty))
+    (leaf (name (codes "c") (made (at 5))) empty))
+marked = refl
+
+-- the same trees elsewhere have the same shape
+same_shape : shape (leaf (comma (at 3)) empty) ≡ shape (leaf (comma (made (at 7))) empty)
+same_shape = refl
+
+-- a group begins with its opening bracket, and a leaf where it stands
+first_of_group : first_span_of (head (round (at 1) (at 4)) 2) ≡ at 1
+first_of_group = refl
+
+first_of_leaf : first_span_of (token.Leaf (comma (at 3))) ≡ at 3
+first_of_leaf = refl
+
+-- `r#fn` is the raw name `fn`; `r` is a name like any other
+raw_name : ident_of (codes "r#fn") (at 0) ≡ record { sym = codes "fn"; span = at 0; is_raw = is_raw.Yes }
+raw_name = refl
+
+plain_name : ident_of (codes "r") (at 0) ≡ record { sym = codes "r"; span = at 0; is_raw = is_raw.No }
+plain_name = refl
+
+-- `1u8`
+suffix_row : suffix_of (literal_of (codes "1") (codes "u8") Integer (at 0)) ≡ codes "u8"
+suffix_row = refl
+
+text_row : text_of (literal_of (codes "1") (codes "u8") Integer (at 0)) ≡ codes "1"
+text_row = refl
+
+-- `aé`, whose second letter has two bytes: a suffix that would begin inside a character is none
+no_suffix_inside : suffix_of (record { text_and_suffix = 97 ∷ 195 ∷ 169 ∷ []; suffix_len = 1; kind = Integer; span = at 0 }) ≡ []
+no_suffix_inside = refl
+
+-- a suffix longer than all is all
+long_suffix : suffix_of (record { text_and_suffix = codes "u8"; suffix_len = 9; kind = Integer; span = at 0 }) ≡ codes "u8"
+long_suffix = refl

@@ -1,0 +1,11 @@
+-- what the contracts and the definitions of the crates above rest on
+pub mod Forest
+pub mod Walk
+pub mod Spans
+pub mod Names
+pub mod Literals
+pub mod Editions
+pub mod Outcome
+-- a forest and its flat list give each other back
+pub mod Flat
+pub mod Coded

@@ -1,0 +1,60 @@
+//! Laws of forests, for proofs above this crate. A call does nothing: it only states.
+ghost use Rattle.std.specs.Prelude.{◌≡◌, ◌≤◌, ℕ, ◌+◌, List, [], ◌∷◌, ◌++◌, length, take, drop, map};
+ghost use Rattle.tt_data.specs.Flat.{Parts};
+ghost use Rattle.tt_data.specs.Forest.{Forest, empty, leaf, group, joined, size, preorder, front, back, forest_of, IsPreorder, map_spans, shape};
+ghost use Rattle.tt_data.specs.Spans.{token_with};
+ghost use Rattle.tt_data.specs.Walk.{walk, step_with};
+ghost use Rattle.tt_data.specs.declared.leaf.Leaf.{Leaf};
+ghost use Rattle.tt_data.specs.declared.span.Span.{Span};
+ghost use Rattle.tt_data.specs.declared.tree.Subtree.{Subtree};
+ghost use Rattle.tt_data.specs.declared.tree.TokenTree.{TokenTree};
+ghost use Rattle.tt_data.specs.declared.tree.TokenTree.TheVariants as token;
+
+/// A forest is that of its tokens, as many as its size says.
+pub fn tokens_of_a_forest()
+    ensures back { (f : Forest) → forest_of (preorder f) ≡ f }
+    ensures whole { (f : Forest) → IsPreorder (preorder f) }
+    ensures counted { (f : Forest) → length (preorder f) ≡ size f }
+{}
+
+/// In a flat list that holds a forest, the tokens after a leaf hold the trees after it, and those
+/// after the head of a group hold first the trees inside it, as many as it counts, and then the others.
+pub fn flat_lists()
+    ensures after_leaf { (l : Leaf) (more : List TokenTree) → IsPreorder (token.Leaf l ∷ more) → IsPreorder more }
+    ensures after_head { (s : Subtree) (more : List TokenTree) → IsPreorder (token.Subtree s ∷ more) → Parts s more }
+{}
+
+/// One forest after another: joining is associative, the empty forest changes nothing, and tokens,
+/// their number and steps are those of the one and then those of the other.
+pub fn forests_joined()
+    ensures grouping { (f g h : Forest) → joined (joined f g) h ≡ joined f (joined g h) }
+    ensures nothing { (f : Forest) → joined f empty ≡ f }
+    ensures counted { (f g : Forest) → size (joined f g) ≡ size f + size g }
+    ensures tokens { (f g : Forest) → preorder (joined f g) ≡ preorder f ++ preorder g }
+    ensures steps { (f g : Forest) → walk (joined f g) ≡ walk f ++ walk g }
+    ensures followed { (f : Forest) (more : List TokenTree) → forest_of (preorder f ++ more) ≡ joined f (forest_of more) }
+{}
+
+/// A forest cut in two gives its parts back.
+pub fn forests_cut()
+    ensures whole { (n : ℕ) (f : Forest) → joined (front n f) (back n f) ≡ f }
+    ensures first { (f g : Forest) → front (size f) (joined f g) ≡ f }
+    ensures others { (f g : Forest) → back (size f) (joined f g) ≡ g }
+{}
+
+/// A walk is that of one forest alone.
+pub fn walk_of_a_forest()
+    ensures { (f g : Forest) → walk f ≡ walk g → f ≡ g }
+{}
+
+/// The same trees with other places: how many tokens there are and where trees begin and end stays,
+/// each token and each step has its own place changed, and two changes in turn are one.
+pub fn spans_mapped()
+    ensures joining { (m : Span → Span) (f g : Forest) → map_spans m (joined f g) ≡ joined (map_spans m f) (map_spans m g) }
+    ensures counted { (m : Span → Span) (f : Forest) → size (map_spans m f) ≡ size f }
+    ensures tokens { (m : Span → Span) (f : Forest) → preorder (map_spans m f) ≡ map (token_with m) (preorder f) }
+    ensures steps { (m : Span → Span) (f : Forest) → walk (map_spans m f) ≡ map (step_with m) (walk f) }
+    ensures twice { (m n : Span → Span) (f : Forest) → map_spans m (map_spans n f) ≡ map_spans (λ s. m (n s)) f }
+    ensures same { (f : Forest) → map_spans (λ s. s) f ≡ f }
+    ensures shapes { (m : Span → Span) (f : Forest) → shape (map_spans m f) ≡ shape f }
+{}

@@ -1,0 +1,23 @@
+//! The data of token trees: spans, symbols, leaves, delimiters and the records of a flat list of tokens.
+//!
+//! `specs/Forest.antt` has the one definition of a list of trees on which the crates above stand.
+#![tactic(auto)]
+
+pub mod delimiter;
+pub mod edition;
+pub mod fault;
+pub mod laws;
+pub mod leaf;
+pub mod span;
+pub mod symbol;
+#[cfg(test)]
+mod tests;
+pub mod tree;
+
+pub use delimiter::{DelimSpan, Delimiter, DelimiterKind};
+pub use edition::Edition;
+pub use fault::TtFault;
+pub use leaf::{Ident, IdentIsRaw, Leaf, Lit, LitKind, Literal, Punct, Spacing};
+pub use span::{Span, SyntaxContext, TextRange, TextSize};
+pub use symbol::Symbol;
+pub use tree::{Subtree, TokenTree};
