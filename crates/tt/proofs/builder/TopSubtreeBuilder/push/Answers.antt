@@ -1,0 +1,20 @@
+use Rattle.std.proofs.Common.{◌≡◌, ◌≤◌, refl, arith, reverse, length-append}
+use Rattle.tt_data.specs.Forest.{leaf, empty}
+use Rattle.tt.specs.Building.{pushed}
+use Rattle.tt_data.specs.declared.tree.TokenTree.{TokenTree}
+use Rattle.tt.specs.BuilderTokens.{IsHeld}
+use Rattle.tt.proofs.Held.{IsHeld-append, here_of-append, groups_of-append}
+use Rattle.tt.proofs.builder.TopSubtreeBuilder.push.Goals as goal
+
+held : (c : goal.In-Ok) → IsHeld c.self.inside.tokens.items (reverse c.self.inside.open.items)
+held c = c.self.invariant.0
+
+pub invariant_of-self-2 : goal.invariant_of-self-2
+invariant_of-self-2 c =
+    rw c.in-Ok.ensures.items (IsHeld-append _ _ (leaf c.args.leaf empty) (held c), omega (arith, c.self.inside.tokens.ok.0, length-append {A = TokenTree}))
+
+pub returns-clause-ok : goal.returns-clause-ok
+returns-clause-ok c =
+    let h = here_of-append _ _ (leaf c.args.leaf empty) (held c) in
+    let g = groups_of-append _ _ (leaf c.args.leaf empty) (held c) in
+    rw (← c.self.view_is, c.in-Ok.ensures.items) (rw (h, g) refl)

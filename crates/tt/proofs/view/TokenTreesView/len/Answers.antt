@@ -1,0 +1,9 @@
+use Rattle.std.proofs.Common.{rules, refl, ap, length, ◌≡◌, ◌∙◌, sym}
+use Rattle.tt_data.specs.Forest.{size, forest_of}
+use Rattle.tt_data.specs.Flat.{length-preorder}
+use Rattle.tt.specs.Views.{forest}
+use Rattle.tt.proofs.view.TokenTreesView.len.Goals as goal
+
+pub returns : goal.returns
+unfolding forest
+returns c = ap length (sym c.args.self.now.whole) ∙ length-preorder (forest_of c.args.self.now.tokens.now)

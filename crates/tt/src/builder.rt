@@ -1,0 +1,155 @@
+// Trees under construction.
+ghost use Rattle.std.specs.Prelude.{◌≡◌, ◌↔◌, OnOk, OnErr, IfErr, IsErrOf, [], length, Ok, Err, IfOk, IsOk, IsOkUnless, ◌≢◌, ◌≤◌, ◌^◌};
+
+use tt_data::delimiter::{Delimiter, DelimiterKind};
+use tt_data::fault::TtFault;
+use tt_data::leaf::Leaf;
+use tt_data::span::Span;
+use tt_data::tree::{Subtree, TokenTree};
+use crate::top::TopSubtree;
+use std::alloc::Global;
+use std::marker::Model;
+
+const MOST_TOKENS: usize = 0xffff_ffff;
+
+/// A group that is open, and where its token stands.
+#[derive(Clone, Copy)]
+struct Opening {
+    at: usize,
+    kind: DelimiterKind,
+    open_span: Span,
+}
+
+#[derive(Drop)]
+pub struct TopSubtreeBuilder {
+    top: Delimiter,
+    tokens: Vec<TokenTree>,
+    open: Vec<Opening>,
+}
+
+impl Model for TopSubtreeBuilder {
+    ghost use Rattle.std.specs.Prelude.{reverse, length, ◌≤◌, ◌^◌};
+    ghost use Rattle.tt.specs.Building.{Building, building_code};
+
+    ghost Value = { Building };
+
+    ghost coded = { building_code };
+
+    ghost use Rattle.tt.specs.BuilderTokens.{here_of, groups_of, IsHeld};
+
+    ghost view = { λ b. record {
+        top = b.top;
+        groups = groups_of b.tokens.items (reverse b.open.items);
+        here = here_of b.tokens.items (reverse b.open.items);
+    } };
+
+    ghost invariant = { λ b. IsHeld b.tokens.items (reverse b.open.items) × (length b.tokens.items ≤ 2 ^ 32) };
+}
+
+impl TopSubtreeBuilder {
+    ghost use Rattle.tt_data.specs.Forest.{empty};
+    ghost use Rattle.tt.specs.Building.{pushed, opened, closed, innermost_group};
+
+    pub fn new(alloc: Global, top: Delimiter) -> Result<TopSubtreeBuilder, TtFault>
+        ensures { IfOk result (λ b. b ≡ record { top = top; groups = []; here = empty }) }
+    {
+        let mut tokens = Vec::new(alloc);
+        let first = TokenTree::Subtree(Subtree {
+            delimiter: top,
+            len: 0,
+        });
+        let Ok(()) = tokens.push(first) else {
+            return Err(TtFault::Memory);
+        };
+        Ok(TopSubtreeBuilder {
+            top,
+            tokens,
+            open: Vec::new(alloc),
+        })
+    }
+
+    pub fn push(&mut self, leaf: Leaf) -> Result<(), TtFault>
+        ensures ok { OnOk result (self.new ≡ pushed self.old leaf) }
+        ensures err { OnErr result (self.new ≡ self.old) }
+    {
+        if self.tokens.len() > MOST_TOKENS {
+            return Err(TtFault::Tokens);
+        }
+        let Ok(()) = self.tokens.push(TokenTree::Leaf(leaf)) else {
+            return Err(TtFault::Memory);
+        };
+        Ok(())
+    }
+
+    pub fn open(&mut self, delimiter_kind: DelimiterKind, open_span: Span) -> Result<(), TtFault>
+        ensures ok { OnOk result (self.new ≡ opened self.old delimiter_kind open_span) }
+        ensures err { OnErr result (self.new ≡ self.old) }
+    {
+        if self.tokens.len() > MOST_TOKENS {
+            return Err(TtFault::Tokens);
+        }
+        let opening = Opening {
+            at: self.tokens.len(),
+            kind: delimiter_kind,
+            open_span,
+        };
+        let Ok(()) = self.open.push(opening) else {
+            return Err(TtFault::Memory);
+        };
+        let delimiter = Delimiter {
+            open_span,
+            close_span: open_span,
+            kind: delimiter_kind,
+        };
+        match self.tokens.push(TokenTree::Subtree(Subtree { delimiter, len: 0 })) {
+            Ok(()) => Ok(()),
+            Err(_) => {
+                let _ = self.open.pop();
+                Err(TtFault::Memory)
+            }
+        }
+    }
+
+    /// The innermost open group's kind, and the place of its opening.
+    pub fn innermost(&self) -> Option<(DelimiterKind, Span)>
+        ensures { result ≡ innermost_group self.now.groups }
+    {
+        let opening = self.open.last()?;
+        Some((opening.kind, opening.open_span))
+    }
+
+    pub fn close(&mut self, close_span: Span) -> Result<(), TtFault>
+        ensures ok { OnOk result (self.new ≡ closed self.old close_span) }
+        ensures place { IsOkUnless result TtFault.Place }
+        ensures err { OnErr result (self.new ≡ self.old) }
+        ensures none_open { IsOk result ↔ (self.old.groups ≢ []) }
+    {
+        let Some(opening) = self.open.pop() else {
+            return Err(TtFault::Place);
+        };
+        let delimiter = Delimiter {
+            open_span: opening.open_span,
+            close_span,
+            kind: opening.kind,
+        };
+        let len = (self.tokens.len() - opening.at - 1) as u32;
+        self.tokens[opening.at] = TokenTree::Subtree(Subtree { delimiter, len });
+        Ok(())
+    }
+
+    /// The tree, where no group is open; else the builder comes back.
+    pub fn build(self) -> Result<TopSubtree, (TopSubtreeBuilder, TtFault)>
+        ensures ok { IfOk result (λ t. t ≡ record { delimiter = self.top; inner = self.here }) }
+        ensures err { IfErr result (λ e. (e.0 ≡ self) × (e.1 ≡ TtFault.Place)) }
+        ensures built { IsOk result ↔ (self.groups ≡ []) }
+    {
+        if !self.open.is_empty() {
+            return Err((self, TtFault::Place));
+        }
+        let TopSubtreeBuilder { top, tokens, open: _ } = self;
+        Ok(TopSubtree {
+            delimiter: top,
+            tokens,
+        })
+    }
+}
