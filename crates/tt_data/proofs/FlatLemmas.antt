@@ -27,7 +27,8 @@ size-forest_of a whole = sym (length-preorder (forest_of a)) ∙ ap length whole
 module _ (d : Delimiter) (a b : List TokenTree) (whole_a : IsPreorder a) where
   pub forest_of-grouped : forest_of (head_of d (length a) ∷ a ++ b) ≡ group d (forest_of a) (forest_of b)
   forest_of-grouped =
-      rw (← size-forest_of a whole_a, forest_of-append_whole a b whole_a, front-joined (forest_of a) (forest_of b), back-joined (forest_of a) (forest_of b)) refl
+      let both : forest_of (a ++ b) ≡ joined (forest_of a) (forest_of b) = forest_of-append_whole a b whole_a in
+      rw (← size-forest_of a whole_a, both, front-joined (forest_of a) (forest_of b), back-joined (forest_of a) (forest_of b)) refl
 
   pub IsPreorder-grouped : IsPreorder b → IsPreorder (head_of d (length a) ∷ a ++ b)
   IsPreorder-grouped whole_b =
