@@ -4,9 +4,10 @@ use Rattle.tt_data.specs.declared.span.Span.{Span}
 use Rattle.tt_data.specs.declared.leaf.Leaf.{Leaf}
 use Rattle.tt_data.specs.declared.leaf.Leaf.TheVariants as as_leaf
 use Rattle.tt_data.specs.declared.delimiter.Delimiter.{Delimiter}
+use Rattle.tt_data.specs.declared.tree.TokenTree.{TokenTree}
 use Rattle.tt_data.specs.declared.tree.TokenTree.TheVariants as token
 use Rattle.tt_data.specs.Spans.{leaf_with, delimiter_with, token_with, no_span}
-use Rattle.tt_data.specs.Forest.{Forest, empty, leaf, group, joined, size, preorder, front, back, map_spans, shape}
+use Rattle.tt_data.specs.Forest.{Forest, empty, leaf, group, joined, size, preorder, front, back, forest_of, IsPreorder, map_spans, shape}
 use Rattle.tt_data.specs.Walk.{at_leaf, opens, closes, walk, step_with}
 
 pub joined_assoc : (f g h : Forest) → joined (joined f g) h ≡ joined f (joined g h)
@@ -67,6 +68,48 @@ module _ (f : Span → Span) where
   preorder-map_spans (leaf l rest) = ap (λ more. token.Leaf (leaf_with f l) ∷ more) (preorder-map_spans rest)
   preorder-map_spans (group d inner rest) =
       rw (size-map_spans inner, preorder-map_spans inner, preorder-map_spans rest, map-append (token_with f) (preorder inner) (preorder rest)) refl
+
+  -- a cut of trees elsewhere, where the cut is the same
+  front-cut_leaf : (first : Bool) (l : Leaf) (a : Forest)
+      → (if first then leaf (leaf_with f l) (map_spans f a) else empty) ≡ map_spans f (if first then leaf l a else empty)
+  front-cut_leaf true l a = refl
+  front-cut_leaf false l a = refl
+
+  front-cut_group : (first : Bool) (d : Delimiter) (inner a : Forest)
+      → (if first then group (delimiter_with f d) (map_spans f inner) (map_spans f a) else empty)
+      ≡ map_spans f (if first then group d inner a else empty)
+  front-cut_group true d inner a = refl
+  front-cut_group false d inner a = refl
+
+  back-cut : (first : Bool) (a b : Forest) → (if first then map_spans f a else map_spans f b) ≡ map_spans f (if first then a else b)
+  back-cut true a b = refl
+  back-cut false a b = refl
+
+  pub front-map_spans : (n : ℕ) (g : Forest) → front n (map_spans f g) ≡ map_spans f (front n g)
+  front-map_spans n empty = refl
+  front-map_spans n (leaf l rest) = rw (front-map_spans (n - 1) rest) (front-cut_leaf (nat_lt 0 n) l (front (n - 1) rest))
+  front-map_spans n (group d inner rest) =
+      rw (size-map_spans inner, front-map_spans (n - 1 - size inner) rest)
+      (front-cut_group (nat_lt (size inner) n) d inner (front (n - 1 - size inner) rest))
+
+  pub back-map_spans : (n : ℕ) (g : Forest) → back n (map_spans f g) ≡ map_spans f (back n g)
+  back-map_spans n empty = refl
+  back-map_spans n (leaf l rest) =
+      rw (back-map_spans (n - 1) rest) (back-cut (nat_lt 0 n) (back (n - 1) rest) (leaf l rest))
+  back-map_spans n (group d inner rest) =
+      rw (size-map_spans inner, back-map_spans (n - 1 - size inner) rest)
+      (back-cut (nat_lt (size inner) n) (back (n - 1 - size inner) rest) (group d inner rest))
+
+  -- tokens elsewhere hold the trees elsewhere
+  pub forest_of-token_with : (tokens : List TokenTree) → forest_of (map (token_with f) tokens) ≡ map_spans f (forest_of tokens)
+  forest_of-token_with [] = refl
+  forest_of-token_with (token.Leaf l ∷ more) = ap (leaf (leaf_with f l)) (forest_of-token_with more)
+  forest_of-token_with (token.Subtree s ∷ more) =
+      rw (forest_of-token_with more, front-map_spans s.len (forest_of more), back-map_spans s.len (forest_of more)) refl
+
+  pub IsPreorder-token_with : (tokens : List TokenTree) → IsPreorder tokens → IsPreorder (map (token_with f) tokens)
+  IsPreorder-token_with tokens whole =
+      ap preorder (forest_of-token_with tokens) ∙ preorder-map_spans (forest_of tokens) ∙ ap (map (token_with f)) whole
 
   pub walk-map_spans : (g : Forest) → walk (map_spans f g) ≡ map (step_with f) (walk g)
   walk-map_spans empty = refl

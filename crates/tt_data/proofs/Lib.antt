@@ -1,4 +1,5 @@
+pub mod FlatLemmas
 pub mod ForestLemmas
-mod LiteralLemmas
+pub mod LiteralLemmas
 mod Rows
 pub mod WalkLemmas

@@ -11,7 +11,9 @@ use Rattle.tt_data.specs.declared.leaf.LitKind.TheVariants.{Integer}
 use Rattle.tt_data.specs.declared.leaf.Spacing.TheVariants.{Alone}
 use Rattle.tt_data.specs.declared.tree.TokenTree.{TokenTree}
 use Rattle.tt_data.specs.declared.tree.TokenTree.TheVariants as token
-use Rattle.tt_data.specs.Forest.{Forest, empty, leaf, group, joined, size, preorder, front, back, forest_of, IsPreorder, map_spans, shape}
+use Rattle.tt_data.specs.Elements.{alone, within}
+use Rattle.tt_data.specs.Elements as elements
+use Rattle.tt_data.specs.Forest.{Forest, empty, leaf, group, joined, size, preorder, front, back, forest_of, head_of, IsPreorder, map_spans, shape}
 use Rattle.tt_data.specs.Literals.{literal_of, text_of, suffix_of}
 use Rattle.tt_data.specs.Names.{ident_of}
 use Rattle.tt_data.specs.Spans.{first_span_of}
@@ -30,14 +32,11 @@ comma span = as_leaf.Punct (record { char = 44; spacing = Alone; span = span })
 abbrev round : Span → Span → Delimiter
 round from to = record { open_span = from; close_span = to; kind = Parenthesis }
 
-abbrev head : Delimiter → ℕ → TokenTree
-head d n = token.Subtree (record { delimiter = d; len = n })
-
 -- `a(b,)c`
 abbrev flat : List TokenTree
 flat =
     token.Leaf (name (codes "a") (at 0))
-    ∷ head (round (at 1) (at 4)) 2
+    ∷ head_of (round (at 1) (at 4)) 2
     ∷ token.Leaf (name (codes "b") (at 2))
     ∷ token.Leaf (comma (at 3))
     ∷ token.Leaf (name (codes "c") (at 5))
@@ -66,15 +65,15 @@ first_count (token.Subtree s ∷ more) = s.len
 first_count _ = 0
 
 -- a head that counts more tokens than there are
-too_few : IsPreorder (head (round (at 0) (at 1)) 1 ∷ []) → ⊥
+too_few : IsPreorder (head_of (round (at 0) (at 1)) 1 ∷ []) → ⊥
 too_few whole = let none : 0 ≡ 1 = ap first_count whole in omega (arith, none)
 
 -- a group whose end lies inside another group
-split_group : IsPreorder (head (round (at 0) (at 3)) 1 ∷ head (round (at 1) (at 2)) 1 ∷ token.Leaf (comma (at 2)) ∷ []) → ⊥
+split_group : IsPreorder (head_of (round (at 0) (at 3)) 1 ∷ head_of (round (at 1) (at 2)) 1 ∷ token.Leaf (comma (at 2)) ∷ []) → ⊥
 split_group whole = let none : 0 ≡ 1 = ap first_count whole in omega (arith, none)
 
 -- an empty group is one token
-empty_group : forest_of (head (round (at 0) (at 1)) 0 ∷ token.Leaf (comma (at 2)) ∷ []) ≡ group (round (at 0) (at 1)) empty (leaf (comma (at 2)) empty)
+empty_group : forest_of (head_of (round (at 0) (at 1)) 0 ∷ token.Leaf (comma (at 2)) ∷ []) ≡ group (round (at 0) (at 1)) empty (leaf (comma (at 2)) empty)
 empty_group = refl
 
 -- the leaf and the group are the first four tokens
@@ -128,7 +127,7 @@ same_shape : shape (leaf (comma (at 3)) empty) ≡ shape (leaf (comma (made (at 
 same_shape = refl
 
 -- a group begins with its opening bracket, and a leaf where it stands
-first_of_group : first_span_of (head (round (at 1) (at 4)) 2) ≡ at 1
+first_of_group : first_span_of (head_of (round (at 1) (at 4)) 2) ≡ at 1
 first_of_group = refl
 
 first_of_leaf : first_span_of (token.Leaf (comma (at 3))) ≡ at 3
@@ -155,3 +154,12 @@ no_suffix_inside = refl
 -- a suffix longer than all is all
 long_suffix : suffix_of (record { text_and_suffix = codes "u8"; suffix_len = 9; kind = Integer; span = at 0 }) ≡ codes "u8"
 long_suffix = refl
+
+-- the trees of `a ( b , ) c` are three
+three_trees :
+    elements.trees trees
+    ≡ alone (name (codes "a") (at 0))
+    ∷ within (round (at 1) (at 4)) (leaf (name (codes "b") (at 2)) (leaf (comma (at 3)) empty))
+    ∷ alone (name (codes "c") (at 5))
+    ∷ []
+three_trees = refl

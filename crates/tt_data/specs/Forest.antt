@@ -25,11 +25,15 @@ size empty = 0
 size (leaf l rest) = 1 + size rest
 size (group d inner rest) = 1 + (size inner + size rest)
 
+-- the head of a group that has so many tokens inside
+abbrev pub head_of : Delimiter → ℕ → TokenTree
+head_of d n = token.Subtree (record { delimiter = d; len = n })
+
 -- the tokens of a forest, each group before what it has inside and with the number of those
 abbrev pub preorder : Forest → List TokenTree
 preorder empty = []
 preorder (leaf l rest) = token.Leaf l ∷ preorder rest
-preorder (group d inner rest) = token.Subtree (record { delimiter = d; len = size inner }) ∷ (preorder inner ++ preorder rest)
+preorder (group d inner rest) = head_of d (size inner) ∷ (preorder inner ++ preorder rest)
 
 -- the first trees of a forest, as many as have n tokens together
 abbrev pub front : ℕ → Forest → Forest

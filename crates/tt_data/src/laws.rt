@@ -1,10 +1,14 @@
 //! Laws of forests, for proofs above this crate. A call does nothing: it only states.
-ghost use Rattle.std.specs.Prelude.{◌≡◌, ◌≤◌, ℕ, ◌+◌, List, [], ◌∷◌, ◌++◌, length, take, drop, map};
+ghost use Rattle.std.specs.Prelude.{◌≡◌, ℕ, ◌+◌, List, ◌∷◌, ◌++◌, length, map};
+ghost use Rattle.std.specs.Str.{IsUtf8};
 ghost use Rattle.tt_data.specs.Flat.{Parts};
-ghost use Rattle.tt_data.specs.Forest.{Forest, empty, leaf, group, joined, size, preorder, front, back, forest_of, IsPreorder, map_spans, shape};
+ghost use Rattle.tt_data.specs.Forest.{Forest, empty, group, joined, size, preorder, front, back, forest_of, head_of, IsPreorder, map_spans, shape};
+ghost use Rattle.tt_data.specs.Literals.{literal_of, text_of, suffix_of};
 ghost use Rattle.tt_data.specs.Spans.{token_with};
 ghost use Rattle.tt_data.specs.Walk.{walk, step_with};
+ghost use Rattle.tt_data.specs.declared.delimiter.Delimiter.{Delimiter};
 ghost use Rattle.tt_data.specs.declared.leaf.Leaf.{Leaf};
+ghost use Rattle.tt_data.specs.declared.leaf.LitKind.{LitKind};
 ghost use Rattle.tt_data.specs.declared.span.Span.{Span};
 ghost use Rattle.tt_data.specs.declared.tree.Subtree.{Subtree};
 ghost use Rattle.tt_data.specs.declared.tree.TokenTree.{TokenTree};
@@ -19,9 +23,21 @@ pub fn tokens_of_a_forest()
 
 /// In a flat list that holds a forest, the tokens after a leaf hold the trees after it, and those
 /// after the head of a group hold first the trees inside it, as many as it counts, and then the others.
-pub fn flat_lists()
+pub fn flat_lists_taken_apart()
     ensures after_leaf { (l : Leaf) (more : List TokenTree) → IsPreorder (token.Leaf l ∷ more) → IsPreorder more }
     ensures after_head { (s : Subtree) (more : List TokenTree) → IsPreorder (token.Subtree s ∷ more) → Parts s more }
+{}
+
+/// Flat lists that hold forests make further ones: a leaf before one, one list after another, and the
+/// head of a group that counts the tokens of the first of two lists.
+pub fn flat_lists_put_together()
+    ensures leaf_before { (l : Leaf) (more : List TokenTree) → IsPreorder more → IsPreorder (token.Leaf l ∷ more) }
+    ensures appended { (a b : List TokenTree) → IsPreorder a → forest_of (a ++ b) ≡ joined (forest_of a) (forest_of b) }
+    ensures appended_whole { (a b : List TokenTree) → IsPreorder a → IsPreorder b → IsPreorder (a ++ b) }
+    ensures grouped { (d : Delimiter) (a b : List TokenTree) → IsPreorder a →
+        forest_of (head_of d (length a) ∷ a ++ b) ≡ group d (forest_of a) (forest_of b) }
+    ensures grouped_whole { (d : Delimiter) (a b : List TokenTree) → IsPreorder a → IsPreorder b →
+        IsPreorder (head_of d (length a) ∷ a ++ b) }
 {}
 
 /// One forest after another: joining is associative, the empty forest changes nothing, and tokens,
@@ -56,5 +72,15 @@ pub fn spans_mapped()
     ensures steps { (m : Span → Span) (f : Forest) → walk (map_spans m f) ≡ map (step_with m) (walk f) }
     ensures twice { (m n : Span → Span) (f : Forest) → map_spans m (map_spans n f) ≡ map_spans (λ s. m (n s)) f }
     ensures same { (f : Forest) → map_spans (λ s. s) f ≡ f }
+    ensures flat { (m : Span → Span) (ts : List TokenTree) → forest_of (map (token_with m) ts) ≡ map_spans m (forest_of ts) }
+    ensures flat_whole { (m : Span → Span) (ts : List TokenTree) → IsPreorder ts → IsPreorder (map (token_with m) ts) }
     ensures shapes { (m : Span → Span) (f : Forest) → shape (map_spans m f) ≡ shape f }
+{}
+
+/// A literal that is put together of a text and a suffix has this text and this suffix.
+pub fn literals_read_back()
+    ensures text { (text suffix : List ℕ) (kind : LitKind) (span : Span) →
+        IsUtf8 suffix → text_of (literal_of text suffix kind span) ≡ text }
+    ensures suffix { (text suffix : List ℕ) (kind : LitKind) (span : Span) →
+        IsUtf8 suffix → suffix_of (literal_of text suffix kind span) ≡ suffix }
 {}

@@ -1,5 +1,5 @@
 //! The tokens that hold no other tokens: literals, puncts and identifiers.
-ghost use Rattle.std.specs.Prelude.{◌≡◌, ◌^◌, ◌-◌, ◌≤◌, ◌<◌, ◌++◌, [], length, IfOk, IfErr, IsTrue, ◌↔◌};
+ghost use Rattle.std.specs.Prelude.{◌≡◌, ◌^◌, ◌<◌, ◌++◌, ◌↔◌, [], length, IfErr, IsTrue};
 ghost use Rattle.std.specs.Str.{IsCharBoundary};
 ghost use Rattle.tt_data.specs.Literals.{literal_of, text_of, suffix_of, suffix_start};
 ghost use Rattle.tt_data.specs.Names.{prefix_of, rawness, bare_name, ident_of};
@@ -66,6 +66,7 @@ impl IdentIsRaw {
     pub fn split_from_symbol(sym: &str) -> (IdentIsRaw, &str)
         ensures raw { result.0 ≡ rawness sym.now }
         ensures name { result.1.now ≡ bare_name sym.now }
+        ensures whole { prefix_of result.0 ++ result.1.now ≡ sym.now }
     {
         match sym.strip_prefix("r#") {
             Some(name) => (IdentIsRaw::Yes, name),

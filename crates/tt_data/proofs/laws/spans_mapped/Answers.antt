@@ -1,5 +1,5 @@
 -- By induction on the forest.
-use Rattle.tt_data.proofs.ForestLemmas.{map_spans-joined, size-map_spans, preorder-map_spans, walk-map_spans, map_spans-map_spans, map_spans-same, shape-map_spans}
+use Rattle.tt_data.proofs.ForestLemmas.{map_spans-joined, size-map_spans, preorder-map_spans, walk-map_spans, map_spans-map_spans, map_spans-same, forest_of-token_with, IsPreorder-token_with, shape-map_spans}
 use Rattle.tt_data.proofs.laws.spans_mapped.Goals as goal
 
 pub returns-clause-joining : goal.returns-clause-joining
@@ -22,3 +22,9 @@ returns-clause-same c = map_spans-same
 
 pub returns-clause-shapes : goal.returns-clause-shapes
 returns-clause-shapes c = shape-map_spans
+
+pub returns-clause-flat : goal.returns-clause-flat
+returns-clause-flat c = forest_of-token_with
+
+pub returns-clause-flat_whole : goal.returns-clause-flat_whole
+returns-clause-flat_whole c = IsPreorder-token_with
