@@ -1,0 +1,121 @@
+-- Cutting a piece off, tree by tree.
+use Rattle.std.proofs.Common.{◌≡◌, ◌≢◌, ℕ, ◌+◌, ◌<◌, ◌≤◌, List, [], ◌∷◌, refl, sym, ap, ◌∙◌, arith, Bool, true, false, if◌then◌else◌}
+use Rattle.tt_data.specs.Forest.{Forest, empty, leaf, group, joined, size, front}
+use Rattle.tt_data.specs.Flat.{joined-empty, front-joined}
+use Rattle.tt_data.specs.declared.delimiter.Delimiter.{Delimiter}
+use Rattle.tt_data.specs.declared.leaf.Leaf.{Leaf}
+use Rattle.expander.specs.Pieces.{cut, cut_from, ends_piece}
+use Rattle.expander.specs.Cutting.{PassesTree}
+use Rattle.expander.specs.Text.{is_punct}
+use Rattle.std.specs.Prelude.{Some, None}
+
+pub joined-assoc : (f g h : Forest) → joined (joined f g) h ≡ joined f (joined g h)
+joined-assoc empty g h = refl
+joined-assoc (leaf l rest) g h = ap (leaf l) (joined-assoc rest g h)
+joined-assoc (group d inner rest) g h = ap (group d inner) (joined-assoc rest g h)
+
+pub size-joined : (f g : Forest) → size (joined f g) ≡ size f + size g
+size-joined empty g = omega arith
+size-joined (leaf l rest) g = omega (arith, size-joined rest g)
+size-joined (group d inner rest) g = omega (arith, size-joined rest g)
+
+-- what stands before the same trees is the same
+pub joined-cancel : (f g rest : Forest) → joined f rest ≡ joined g rest → f ≡ g
+joined-cancel f g rest e =
+    let counted : size f ≡ size g = omega (arith, ap size e, size-joined f rest, size-joined g rest) in
+    sym (front-joined f rest) ∙ ap (front (size f)) e ∙ ap (λ n. front n (joined g rest)) counted ∙ front-joined g rest
+
+-- a piece that is begun: its trees so far and those to come are all that was left, and the pieces are the same
+pub record IsBegun (old rest begun : Forest) : Type 0 where
+  pub split : old ≡ joined begun rest
+  pub same : cut_from rest begun ≡ cut old
+
+pub nothing_begun : (old : Forest) → IsBegun old old empty
+nothing_begun old = record { split = refl; same = refl }
+
+cut_leaf : (b : Bool) (x : Forest) (xs ys : List Forest) → b ≡ true → (if b then x ∷ xs else ys) ≡ x ∷ xs
+cut_leaf true x xs ys e = refl
+cut_leaf false x xs ys e = cc
+
+not_cut : (b : Bool) (xs ys : List Forest) → b ≡ false → (if b then xs else ys) ≡ ys
+not_cut true xs ys e = cc
+not_cut false xs ys e = refl
+
+pub leaf_more : (old rest begun : Forest) (l : Leaf) → IsBegun old (leaf l rest) begun → is_punct ";" l ≡ false
+    → IsBegun old rest (joined begun (leaf l empty))
+leaf_more old rest begun l b test = record {
+  split = b.split ∙ sym (joined-assoc begun (leaf l empty) rest);
+  same = sym (not_cut (is_punct ";" l) _ _ test) ∙ b.same;
+}
+
+pub leaf_ends : (old rest begun : Forest) (l : Leaf) → IsBegun old (leaf l rest) begun → is_punct ";" l ≡ true
+    → cut old ≡ joined begun (leaf l empty) ∷ cut rest
+leaf_ends old rest begun l b test = sym b.same ∙ cut_leaf (is_punct ";" l) _ _ _ test
+
+pub group_more : (old inner rest begun : Forest) (d : Delimiter) → IsBegun old (group d inner rest) begun → ends_piece begun d ≡ false
+    → IsBegun old rest (joined begun (group d inner empty))
+group_more old inner rest begun d b test = record {
+  split = b.split ∙ sym (joined-assoc begun (group d inner empty) rest);
+  same = sym (not_cut (ends_piece begun d) _ _ test) ∙ b.same;
+}
+
+pub group_ends : (old inner rest begun : Forest) (d : Delimiter) → IsBegun old (group d inner rest) begun → ends_piece begun d ≡ true
+    → cut old ≡ joined begun (group d inner empty) ∷ cut rest
+group_ends old inner rest begun d b test = sym b.same ∙ cut_leaf (ends_piece begun d) _ _ _ test
+
+pub last_piece : (old begun : Forest) → old ≢ empty → IsBegun old empty begun → cut old ≡ begun ∷ []
+last_piece old empty some b = absurd (some b.split)
+last_piece old (leaf l begun) some b = sym b.same
+last_piece old (group d inner begun) some b = sym b.same
+
+-- what is left is less, once a tree was passed
+pub left_size : (old rest begun : Forest) → old ≡ joined begun rest → size rest ≤ size old
+left_size old rest begun e = omega (arith, ap size e, size-joined begun rest)
+
+passes_by : (begun old new tree : Forest) (b : Bool) → old ≡ joined tree new → size new < size old
+    → cut_from old begun ≡ (if b then joined begun tree ∷ cut new else cut_from new (joined begun tree)) → PassesTree begun old new (Some b)
+passes_by begun old new tree true split less e = (tree, (split, e, less))
+passes_by begun old new tree false split less e = (tree, (split, e, less))
+
+-- one tree passed
+pub passes_leaf : (begun old new : Forest) (l : Leaf) (b : Bool) → old ≡ leaf l new → b ≡ is_punct ";" l → PassesTree begun old new (Some b)
+passes_leaf begun old new l b e test =
+    passes_by begun old new (leaf l empty) b e (omega (arith, ap size e)) (rw (e, test) refl)
+
+pub passes_group : (begun old new inner : Forest) (d : Delimiter) (b : Bool) → old ≡ group d inner new → b ≡ ends_piece begun d → PassesTree begun old new (Some b)
+passes_group begun old new inner d b e test =
+    passes_by begun old new (group d inner empty) b e (omega (arith, ap size e)) (rw (e, test) refl)
+
+-- the trees that the code passed are those of the piece begun
+pub is_passed : (start old rest begun passed : Forest) → start ≡ old → IsBegun old rest begun → start ≡ joined passed rest → IsBegun old rest passed
+is_passed start old rest begun passed same b e =
+    let is : passed ≡ begun = joined-cancel passed begun rest (sym e ∙ same ∙ b.split) in
+    rw is b
+
+pub ends_text : (old rest new begun : Forest) → old ≢ empty → IsBegun old rest begun → PassesTree begun rest new None
+    → (cut old ≡ begun ∷ cut new) × (size new < size old)
+ends_text old rest new begun some b e =
+    let at_end : IsBegun old empty begun = rw e.0 at b in
+    let none : new ≡ empty = e.1 ∙ e.0 in
+    (rw none (last_piece old begun some at_end), rw none (grown old some))
+  where
+    grown : (f : Forest) → f ≢ empty → 0 < size f
+    grown empty h = absurd (h refl)
+    grown (leaf l f) h = omega arith
+    grown (group d f g) h = omega arith
+
+split_more : (old rest new begun tree : Forest) → old ≡ joined begun rest → rest ≡ joined tree new → old ≡ joined (joined begun tree) new
+split_more old rest new begun tree e h = e ∙ ap (joined begun) h ∙ sym (joined-assoc begun tree new)
+
+pub ends_here : (old rest new begun piece : Forest) → IsBegun old rest begun → PassesTree begun rest new (Some true) → old ≡ joined piece new
+    → (cut old ≡ piece ∷ cut new) × (size new < size old)
+ends_here old rest new begun piece b (tree, p) e =
+    let is : piece ≡ joined begun tree = joined-cancel piece (joined begun tree) new (sym e ∙ split_more old rest new begun tree b.split p.0) in
+    (sym b.same ∙ p.1 ∙ ap (λ f. f ∷ cut new) (sym is), omega (arith, p.2, left_size old rest begun b.split))
+
+pub passed_whole : (old rest new begun : Forest) → IsBegun old rest begun → PassesTree begun rest new (Some true) → (f : Forest) × (old ≡ joined f new)
+passed_whole old rest new begun b (tree, p) = (joined begun tree, split_more old rest new begun tree b.split p.0)
+
+pub goes_on : (old rest new begun : Forest) → IsBegun old rest begun → PassesTree begun rest new (Some false) → (f : Forest) × IsBegun old new f
+goes_on old rest new begun b (tree, p) =
+    (joined begun tree, record { split = split_more old rest new begun tree b.split p.0; same = sym p.1 ∙ b.same })

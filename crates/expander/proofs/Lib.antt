@@ -1,0 +1,7 @@
+mod Rows
+mod AttributeLemmas
+mod CuttingLemmas
+mod UnitLemmas
+mod KnownLemmas
+mod RunLemmas
+mod RunRows

@@ -1,0 +1,41 @@
+-- Small runs and calls, worked by hand.
+use Rattle.std.proofs.Common.{◌≡◌, ℕ, List, [], ◌∷◌, Option, Some, true, false, refl, ap, arith}
+use Rattle.std.specs.Prelude.{Ok, Err}
+use Rattle.expander.specs.Watch.{Watch, is_bad_write}
+use Rattle.expander.specs.Runs.{Refuses, Runs, status, status_by}
+use Rattle.expander.specs.declared.program.Status.{Status}
+use Rattle.expander.specs.declared.program.Stop.{Stop}
+use Rattle.expander.specs.declared.program.Stop.TheVariants.{ReadFailed}
+use Rattle.expander.specs.declared.faults.Fault.{Fault}
+
+-- a byte of which nothing was taken is a write that failed
+nothing_taken : is_bad_write {E = ℕ} (120 ∷ []) (Ok 0) ≡ true
+nothing_taken = refl
+
+-- one of two bytes is a short write
+some_taken : is_bad_write {E = ℕ} (120 ∷ 121 ∷ []) (Ok 1) ≡ false
+some_taken = refl
+
+-- there was nothing to take
+nothing_to_take : is_bad_write {E = ℕ} [] (Ok 0) ≡ false
+nothing_to_take = refl
+
+-- an error is a failure though there was nothing to take
+error_of_nothing : (fault : ℕ) → is_bad_write [] (Err fault) ≡ true
+error_of_nothing fault = refl
+
+without_faults : status_by [] ≡ status 0
+without_faults = refl
+
+with_faults : (fault : Fault) (faults : List Fault) → status_by (fault ∷ faults) ≡ status 1
+with_faults fault faults = refl
+
+-- a run that stops never has status 0
+never_0 : {R W : Type 0} (stop : Stop) (input : Option (List ℕ)) (depth : ℕ) (writes : List ℕ → Type 0) (reader : Watch R) (writer : Watch W)
+    → Refuses stop input depth writes reader writer (status 0) → ⊥
+never_0 stop input depth writes reader writer h = omega (arith, ap (λ (s : Status). s.0) h.status)
+
+-- a reader that failed in mid-stream: nothing is written
+read_failed : (depth : ℕ) → Runs {R = ℕ} {W = ℕ} (Some ReadFailed) (Some (120 ∷ 121 ∷ [])) depth (λ bytes. bytes ≡ [])
+    (record { inner = 0; failed = true; flushed = false }) (record { inner = 0; failed = false; flushed = false }) (status 1)
+read_failed depth = record { cause = tt; left = refl; status = refl; of_reader = refl; of_writer = refl }

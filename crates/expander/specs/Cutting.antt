@@ -1,0 +1,23 @@
+-- How a piece is cut off the trees that are left.
+use Rattle.std.specs.Prelude.{◌≡◌, ◌<◌, ◌∷◌, Bool, true, false, MatchOption, Option, Some, None}
+use Rattle.tt_data.specs.Forest.{Forest, empty, joined, size}
+use Rattle.expander.specs.Pieces.{cut, cut_from}
+use Rattle.expander.specs.ThinRules.{parts}
+
+-- nothing is left, or the first of the pieces, after which the others are left
+abbrev pub CutsOff : Forest → Forest → Option Forest → Type 0
+CutsOff old new result =
+    MatchOption result (old ≡ empty) (λ piece. (cut old ≡ piece ∷ cut new) × (size new < size old))
+
+-- the next tree was passed: it ends the piece begun, which is the first of the pieces, or the piece goes on with it
+abbrev pub PassesTree : Forest → Forest → Forest → Option Bool → Type 0
+PassesTree begun old new None = (old ≡ empty) × (new ≡ old)
+PassesTree begun old new (Some true) =
+    (tree : Forest) × ((old ≡ joined tree new) × (cut_from old begun ≡ joined begun tree ∷ cut new) × (size new < size old))
+PassesTree begun old new (Some false) =
+    (tree : Forest) × ((old ≡ joined tree new) × (cut_from old begun ≡ cut_from new (joined begun tree)) × (size new < size old))
+
+-- nothing is left, or the first of the parts between `;`, after which the others are left
+abbrev pub CutsOffPart : Forest → Forest → Option Forest → Type 0
+CutsOffPart old new result =
+    MatchOption result (old ≡ empty) (λ part. (parts old ≡ part ∷ parts new) × (size new < size old))

@@ -1,0 +1,98 @@
+-- Definition pieces, and what a name finds. (The Rust Reference, "Macros By Example": syntax and textual scope.)
+use Rattle.std.specs.Prelude.{ℕ, Bool, true, false, ◌&&◌, ◌||◌, List, [], ◌∷◌, if◌then◌else◌, Option, Some, None, find, unwrap_or, is_some}
+use Rattle.tt_data.specs.Forest.{Forest, empty, leaf, group}
+use Rattle.tt_data.specs.declared.delimiter.Delimiter.{Delimiter}
+use Rattle.tt_data.specs.declared.delimiter.DelimiterKind.TheVariants.{Parenthesis, Brace, Bracket}
+use Rattle.tt_data.specs.declared.leaf.Ident.{Ident}
+use Rattle.tt_data.specs.declared.leaf.Leaf.TheVariants as as_leaf
+use Rattle.expander.specs.declared.definitions.Definition.{Definition}
+use Rattle.expander.specs.FirstTrees.{◌>>=◌, ◌>>◌, first_ident, first_punct, first_group, is_empty}
+use Rattle.expander.specs.Text.{same_text, same_kind, is_word, is_char}
+
+-- what follows an outer attribute at the beginning
+abbrev pub after_attribute : Forest → Option Forest
+after_attribute f = do
+  (p, after_pound) ← first_punct f
+  is_char "#" p
+  (d, inner, rest) ← first_group after_pound
+  same_kind d.kind Bracket
+  Some rest
+
+-- what follows the outer attributes at the beginning
+abbrev pub after_attributes : Forest → Forest
+after_attributes (leaf (as_leaf.Punct p) (group d inner rest)) =
+    if is_char "#" p && same_kind d.kind Bracket then after_attributes rest
+    else leaf (as_leaf.Punct p) (group d inner rest)
+after_attributes f = f
+
+-- what follows a parenthesis group at the beginning
+abbrev pub after_parenthesis : Forest → Option Forest
+after_parenthesis f = do
+  (d, inner, rest) ← first_group f
+  same_kind d.kind Parenthesis
+  Some rest
+
+-- what follows a `pub`, with its parenthesis group, at the beginning
+abbrev pub after_pub : Forest → Option Forest
+after_pub f = do
+  (w, rest) ← first_ident f
+  is_word "pub" w
+  Some (unwrap_or (after_parenthesis rest) rest)
+
+-- nothing but a `;`
+abbrev pub is_semicolon : Forest → Bool
+is_semicolon f = is_some (do
+  (p, rest) ← first_punct f
+  is_char ";" p
+  is_empty rest >> Some p)
+
+-- a brace group ends a `macro_rules` definition by itself, another visible group does with `;`
+abbrev pub ends_definition : Delimiter → Forest → Bool
+ends_definition d f =
+    (same_kind d.kind Brace && is_empty f)
+    || ((same_kind d.kind Parenthesis || same_kind d.kind Bracket) && is_semicolon f)
+
+-- `macro_rules ! name { .. }`
+abbrev pub macro_rules_of : Forest → Forest → Option Definition
+macro_rules_of piece f = do
+  (w, after_word) ← first_ident f
+  is_word "macro_rules" w
+  (bang, after_bang) ← first_punct after_word
+  is_char "!" bang
+  (name, after_name) ← first_ident after_bang
+  (d, body, rest) ← first_group after_name
+  ends_definition d rest
+  Some (record { name = name; arguments = None; body = body; is_macro = false; piece = piece })
+
+-- the body of a `macro`: `{ .. }`, or with its one rule's pattern `(..) { .. }`
+abbrev pub macro_body : Forest → Option (Option Forest × Forest)
+macro_body f = do
+  (d, inner, rest) ← first_group f
+  if is_empty rest then same_kind d.kind Brace >> Some (None, inner) else (do
+    same_kind d.kind Parenthesis
+    (e, body, last) ← first_group rest
+    same_kind e.kind Brace && is_empty last
+    Some (Some inner, body))
+
+-- `macro name { .. }` or `macro name(..) { .. }`
+abbrev pub macro_of : Forest → Forest → Option Definition
+macro_of piece f = do
+  (w, after_word) ← first_ident f
+  is_word "macro" w
+  (name, after_name) ← first_ident after_word
+  (arguments, body) ← macro_body after_name
+  Some (record { name = name; arguments = arguments; body = body; is_macro = true; piece = piece })
+
+abbrev pub or_else : {X : Type 0} → Option X → Option X → Option X
+or_else None y = y
+or_else (Some x) y = Some x
+
+-- the definition that a piece is, or none where it is plain
+abbrev pub definition_of : Forest → Option Definition
+definition_of piece =
+    let rest : Forest = after_attributes piece in
+    or_else (macro_rules_of piece rest) (macro_of piece (unwrap_or (after_pub rest) rest))
+
+-- what a name finds among the definitions before, which are given nearest first: rawness doesn't count
+abbrev pub nearest : List Definition → List ℕ → Option Definition
+nearest before name = find (λ (d : Definition). same_text d.name.sym name) before

@@ -1,0 +1,58 @@
+// Calls: a name, `!` and a visible group, side by side.
+use crate::first_trees::{first_group, first_ident, first_punct};
+use tt::view::TtIter;
+use tt_data::delimiter::DelimiterKind;
+use tt_data::leaf::{Ident, Punct, Spacing};
+
+/// A call at the beginning of a list of trees.
+#[derive(Drop)]
+pub(crate) struct Call<'a> {
+    pub name: Ident,
+    pub argument: TtIter<'a>,
+    /// The trees behind it.
+    pub rest: TtIter<'a>,
+}
+
+// Whether two puncts are a `::`.
+fn is_colons(first: Punct, second: Punct) -> bool {
+    first.char == ':' && second.char == ':' && first.spacing != Spacing::Alone
+}
+
+// A name, `!` and a visible group.
+fn bare_call<'a>(trees: &TtIter<'a>) -> Option<Call<'a>> {
+    let (name, after_name) = first_ident(trees)?;
+    let (bang, after_bang) = first_punct(&after_name)?;
+    if bang.char != '!' {
+        return None;
+    }
+    let (brackets, argument, rest) = first_group(&after_bang)?;
+    if brackets.kind == DelimiterKind::Invisible {
+        return None;
+    }
+    Some(Call {
+        name,
+        argument,
+        rest,
+    })
+}
+
+/// What would be a call, but stands behind a `::` with which the trees begin.
+pub(crate) fn call_behind_colons<'a>(trees: &TtIter<'a>) -> Option<Call<'a>> {
+    let (first, after_first) = first_punct(trees)?;
+    let (second, after_colons) = first_punct(&after_first)?;
+    if is_colons(first, second) { bare_call(&after_colons) } else { None }
+}
+
+// A call with its `$crate ::`.
+fn crate_call<'a>(trees: &TtIter<'a>) -> Option<Call<'a>> {
+    let (name, after_name) = first_ident(trees)?;
+    if name.sym.as_str() == "$crate" { call_behind_colons(&after_name) } else { None }
+}
+
+/// The call with which the trees begin.
+pub(crate) fn call_at<'a>(trees: &TtIter<'a>) -> Option<Call<'a>> {
+    match crate_call(trees) {
+        Some(call) => Some(call),
+        None => bare_call(trees),
+    }
+}

@@ -1,0 +1,172 @@
+// Definition pieces.
+ghost use Rattle.std.specs.Prelude.{◌≡◌, Option, option_map, unwrap_or};
+ghost use Rattle.expander.specs.Definitions.{after_attribute, after_attributes, after_parenthesis, after_pub, is_semicolon, ends_definition, macro_rules_of, macro_body, macro_of, definition_of};
+ghost use Rattle.expander.specs.Text.{has_text};
+
+use crate::first_trees::{again, first_group, first_ident, first_punct};
+use tt::view::TtIter;
+use tt_data::delimiter::{Delimiter, DelimiterKind};
+use tt_data::leaf::{Ident, IdentIsRaw};
+
+/// A definition of a macro, its trees borrowed from the text.
+#[derive(Drop)]
+pub(crate) struct Definition<'a> {
+    pub name: Ident,
+    /// The group before the body, of a `macro` with a single rule.
+    pub arguments: Option<TtIter<'a>>,
+    pub body: TtIter<'a>,
+    /// Read by the rules of `macro`, not by those of `macro_rules`.
+    pub is_macro: bool,
+    /// The whole piece.
+    pub piece: TtIter<'a>,
+}
+
+// Whether the name is this word, and isn't raw.
+pub(crate) fn is_word(name: &Ident, word: &str) -> bool
+    ensures { result ≡ has_text word.now name.now }
+{
+    name.is_raw == IdentIsRaw::No && name.sym.as_str() == word
+}
+
+// What follows an outer attribute, where the list begins with one.
+fn after_attribute<'a>(trees: &TtIter<'a>) -> Option<TtIter<'a>>
+    ensures { result ≡ after_attribute trees.now }
+{
+    let (pound, after_pound) = first_punct(trees)?;
+    if pound.char != '#' {
+        return None;
+    }
+    let (brackets, _, rest) = first_group(&after_pound)?;
+    if brackets.kind == DelimiterKind::Bracket { Some(rest) } else { None }
+}
+
+// What follows the outer attributes at the beginning.
+fn after_attributes<'a>(piece: &TtIter<'a>) -> TtIter<'a>
+    ensures { result ≡ after_attributes piece.now }
+{
+    let mut rest = again(piece);
+    while let Some(after) = after_attribute(&rest) {
+        rest = after;
+    }
+    rest
+}
+
+// What follows a parenthesis group at the beginning.
+fn after_parenthesis<'a>(trees: &TtIter<'a>) -> Option<TtIter<'a>>
+    ensures { result ≡ after_parenthesis trees.now }
+{
+    let (brackets, _, rest) = first_group(trees)?;
+    if brackets.kind == DelimiterKind::Parenthesis { Some(rest) } else { None }
+}
+
+// What follows a `pub`, with its parenthesis group, at the beginning.
+fn after_pub<'a>(trees: &TtIter<'a>) -> Option<TtIter<'a>>
+    ensures { result ≡ after_pub trees.now }
+{
+    let (word, rest) = first_ident(trees)?;
+    if !is_word(&word, "pub") {
+        return None;
+    }
+    match after_parenthesis(&rest) {
+        Some(after) => Some(after),
+        None => Some(rest),
+    }
+}
+
+// Whether there is nothing but a `;`.
+fn is_semicolon(trees: &TtIter<'_>) -> bool
+    ensures { result ≡ is_semicolon trees.now }
+{
+    match first_punct(trees) {
+        Some((punct, rest)) => punct.char == ';' && rest.is_empty(),
+        None => false,
+    }
+}
+
+fn ends_definition(brackets: Delimiter, rest: &TtIter<'_>) -> bool
+    ensures { result ≡ ends_definition brackets rest.now }
+{
+    match brackets.kind {
+        DelimiterKind::Brace => rest.is_empty(),
+        DelimiterKind::Parenthesis | DelimiterKind::Bracket => is_semicolon(rest),
+        DelimiterKind::Invisible => false,
+    }
+}
+
+// `macro_rules ! name { .. }`.
+fn macro_rules_of<'a>(piece: &TtIter<'a>, trees: &TtIter<'a>) -> Option<Definition<'a>>
+    ensures { result ≡ macro_rules_of piece.now trees.now }
+{
+    let (word, after_word) = first_ident(trees)?;
+    if !is_word(&word, "macro_rules") {
+        return None;
+    }
+    let (bang, after_bang) = first_punct(&after_word)?;
+    if bang.char != '!' {
+        return None;
+    }
+    let (name, after_name) = first_ident(&after_bang)?;
+    let (brackets, body, rest) = first_group(&after_name)?;
+    if !ends_definition(brackets, &rest) {
+        return None;
+    }
+    Some(Definition {
+        name,
+        arguments: None,
+        body,
+        is_macro: false,
+        piece: again(piece),
+    })
+}
+
+// The body of a `macro`: `{ .. }`, or with its one rule's pattern `(..) { .. }`.
+fn macro_body<'a>(trees: &TtIter<'a>) -> Option<(Option<TtIter<'a>>, TtIter<'a>)>
+    ensures { result ≡ macro_body trees.now }
+{
+    let (brackets, inner, rest) = first_group(trees)?;
+    if rest.is_empty() {
+        return if brackets.kind == DelimiterKind::Brace { Some((None, inner)) } else { None };
+    }
+    if brackets.kind != DelimiterKind::Parenthesis {
+        return None;
+    }
+    let (braces, body, last) = first_group(&rest)?;
+    if braces.kind == DelimiterKind::Brace && last.is_empty() {
+        Some((Some(inner), body))
+    } else {
+        None
+    }
+}
+
+// `macro name { .. }` or `macro name(..) { .. }`.
+fn macro_of<'a>(piece: &TtIter<'a>, trees: &TtIter<'a>) -> Option<Definition<'a>>
+    ensures { result ≡ macro_of piece.now trees.now }
+{
+    let (word, after_word) = first_ident(trees)?;
+    if !is_word(&word, "macro") {
+        return None;
+    }
+    let (name, after_name) = first_ident(&after_word)?;
+    let (arguments, body) = macro_body(&after_name)?;
+    Some(Definition {
+        name,
+        arguments,
+        body,
+        is_macro: true,
+        piece: again(piece),
+    })
+}
+
+/// The definition that a piece is, or `None` where it is plain.
+pub(crate) fn definition_of<'a>(piece: &TtIter<'a>) -> Option<Definition<'a>>
+    ensures { result ≡ definition_of piece.now }
+{
+    let rest = after_attributes(piece);
+    match macro_rules_of(piece, &rest) {
+        Some(definition) => Some(definition),
+        None => match after_pub(&rest) {
+            Some(after) => macro_of(piece, &after),
+            None => macro_of(piece, &rest),
+        },
+    }
+}

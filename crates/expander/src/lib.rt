@@ -1,0 +1,27 @@
+//! Expands the macros of a text: sessions over a text, and the run of a program.
+#![tactic(auto)]
+
+mod calls;
+mod definitions;
+mod expansion;
+pub mod faults;
+mod first_trees;
+mod matching;
+mod names;
+mod output;
+mod pieces;
+mod printing;
+pub mod program;
+mod reading;
+mod rules;
+mod scope;
+pub mod session;
+mod substitution;
+mod units;
+pub mod watched;
+
+pub use faults::{Fault, FaultKind, ReadFault, ReadFaultKind};
+pub use program::{run, Status, Stop};
+pub use session::{Expansion, Refusal, Reply, Session};
+pub use tt_data::span::TextRange;
+pub use watched::Watched;

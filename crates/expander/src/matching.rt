@@ -1,0 +1,142 @@
+// Matching: which trees of an argument each variable of a pattern takes.
+ghost use Rattle.std.specs.Prelude.{◌≡◌};
+ghost use Rattle.expander.specs.ThinFit.{same_operator};
+
+use crate::first_trees::{again, first_group, first_ident, first_punct};
+use crate::names::Names;
+use crate::rules::{variable_after, FragmentKind};
+use crate::units::{operator_at, Operator};
+use std::alloc::{AllocError, Global};
+use tt::view::{TtElement, TtIter};
+use tt_data::leaf::Leaf;
+use tt_data::symbol::Symbol;
+
+/// The trees that each variable took last.
+#[derive(Drop)]
+pub(crate) struct Bindings<'a> {
+    names: Names,
+    taken: Vec<TtIter<'a>>,
+}
+
+impl<'a> Bindings<'a> {
+    /// No variable took anything.
+    pub(crate) fn new(alloc: Global) -> Self {
+        Bindings {
+            names: Names::new(alloc),
+            taken: Vec::new(alloc),
+        }
+    }
+
+    // The variable took these trees.
+    fn bind(&mut self, name: Symbol, taken: TtIter<'a>) -> Result<(), AllocError> {
+        self.names.insert(name, self.taken.len())?;
+        self.taken.push(taken)?;
+        Ok(())
+    }
+
+    /// The trees that the variable took.
+    pub(crate) fn get(&self, name: &Symbol) -> Option<&TtIter<'a>> {
+        self.taken.get(self.names.get(name)?)
+    }
+}
+
+fn same_operator(first: Operator, second: Operator) -> bool
+    ensures { result ≡ same_operator first second }
+{
+    first == second
+}
+
+// What is behind the first unit.
+fn behind_unit<'a>(trees: &TtIter<'a>) -> Option<TtIter<'a>> {
+    let mut rest = again(trees);
+    match rest.next()? {
+        TtElement::Leaf(Leaf::Punct(punct)) => {
+            let (_, behind) = operator_at(punct, &rest);
+            Some(behind)
+        }
+        _ => Some(rest),
+    }
+}
+
+// What is behind a fragment of the kind, at which the trees begin.
+fn behind_fragment<'a>(kind: FragmentKind, trees: &TtIter<'a>) -> Option<TtIter<'a>> {
+    match kind {
+        FragmentKind::Ident => {
+            let (name, rest) = first_ident(trees)?;
+            if name.sym.as_str() == "_" { None } else { Some(rest) }
+        }
+        FragmentKind::Tree => behind_unit(trees),
+    }
+}
+
+// The trees of a fragment, and those behind it.
+fn fragment<'a>(kind: FragmentKind, trees: &TtIter<'a>) -> Option<(TtIter<'a>, TtIter<'a>)> {
+    let rest = behind_fragment(kind, trees)?;
+    let taken = rest.passed_since(trees.remaining()).iter();
+    Some((taken, rest))
+}
+
+// What is behind the operator, where the trees begin with it.
+fn behind_operator<'a>(operator: Operator, trees: &TtIter<'a>) -> Option<TtIter<'a>> {
+    let (first, after) = first_punct(trees)?;
+    let (found, behind) = operator_at(first, &after);
+    if same_operator(operator, found) { Some(behind) } else { None }
+}
+
+/// Whether the pattern uses up the argument, its variables bound as they take their trees.
+pub(crate) fn fit<'a>(
+    alloc: Global,
+    pattern: &TtIter<'_>,
+    argument: &TtIter<'a>,
+    bindings: &mut Bindings<'a>,
+) -> Result<bool, AllocError> {
+    let mut steps = again(pattern);
+    let mut rest = again(argument);
+    while let Some(step) = steps.next() {
+        match step {
+            TtElement::Leaf(Leaf::Ident(word)) => {
+                let Some((name, behind)) = first_ident(&rest) else {
+                    return Ok(false);
+                };
+                if name.sym != word.sym {
+                    return Ok(false);
+                }
+                rest = behind;
+            }
+            TtElement::Leaf(Leaf::Literal(_)) => return Ok(false),
+            TtElement::Leaf(Leaf::Punct(punct)) => {
+                if punct.char == '$' {
+                    let Some((name, kind, behind)) = variable_after(&steps) else {
+                        return Ok(false);
+                    };
+                    steps = behind;
+                    let Some((taken, behind)) = fragment(kind, &rest) else {
+                        return Ok(false);
+                    };
+                    bindings.bind(name, taken)?;
+                    rest = behind;
+                } else {
+                    let (operator, behind) = operator_at(punct, &steps);
+                    steps = behind;
+                    let Some(behind) = behind_operator(operator, &rest) else {
+                        return Ok(false);
+                    };
+                    rest = behind;
+                }
+            }
+            TtElement::Subtree(subtree, inner) => {
+                let Some((brackets, held, behind)) = first_group(&rest) else {
+                    return Ok(false);
+                };
+                if brackets.kind != subtree.delimiter.kind {
+                    return Ok(false);
+                }
+                if !fit(alloc, &inner, &held, bindings)? {
+                    return Ok(false);
+                }
+                rest = behind;
+            }
+        }
+    }
+    Ok(rest.is_empty())
+}

@@ -1,0 +1,118 @@
+// Printing: the text of the output's visible tokens.
+ghost use Rattle.std.specs.Prelude.{◌<◌, ◌≡◌, ℕ};
+
+use crate::output::{PlacedStep, Step};
+use std::alloc::{AllocError, Global};
+use tt_data::delimiter::DelimiterKind;
+use tt_data::leaf::{Leaf, Spacing};
+
+/// Printed text, and how many tokens it has.
+#[derive(Drop)]
+pub(crate) struct Printed {
+    pub text: String,
+    pub tokens: usize,
+}
+
+// The brackets of a group, opening and closing.
+fn brackets(kind: DelimiterKind) -> Option<(char, char)> {
+    match kind {
+        DelimiterKind::Parenthesis => Some(('(', ')')),
+        DelimiterKind::Brace => Some(('{', '}')),
+        DelimiterKind::Bracket => Some(('[', ']')),
+        DelimiterKind::Invisible => None,
+    }
+}
+
+/// Whether the step has a spelling.
+pub(crate) fn has_spelling(step: &Step) -> bool {
+    match step {
+        Step::Leaf(leaf) => !matches!(leaf, Leaf::Literal(_)),
+        Step::Opens(kind, _) | Step::Closes(kind, _) => *kind != DelimiterKind::Invisible,
+    }
+}
+
+// Adds a step's spelling, where it has one.
+fn push_spelling(text: &mut String, step: &Step) -> Result<(), AllocError> {
+    match step {
+        Step::Leaf(Leaf::Ident(ident)) => text.push_str(ident.sym.as_str()),
+        Step::Leaf(Leaf::Punct(punct)) => text.push(punct.char),
+        Step::Leaf(Leaf::Literal(_)) => Ok(()),
+        Step::Opens(kind, _) => match brackets(*kind) {
+            Some((open, _)) => text.push(open),
+            None => Ok(()),
+        },
+        Step::Closes(kind, _) => match brackets(*kind) {
+            Some((_, close)) => text.push(close),
+            None => Ok(()),
+        },
+    }
+}
+
+// Whether a line ends after the step, outside all groups.
+fn ends_line(step: &Step) -> bool {
+    match step {
+        Step::Leaf(Leaf::Punct(punct)) => punct.char == ';',
+        Step::Closes(kind, _) => *kind == DelimiterKind::Brace,
+        _ => false,
+    }
+}
+
+// Whether nothing stands between two steps that are printed one after another.
+fn are_joined(first: &Step, second: &Step) -> bool {
+    match (first, second) {
+        (Step::Leaf(Leaf::Punct(first)), Step::Leaf(Leaf::Punct(second))) => {
+            first.char == '\''
+                || (first.spacing != Spacing::Alone
+                    && second.char != '\''
+                    && !matches!((first.char, second.char), ('/', '/' | '*') | ('#', '#')))
+        }
+        (Step::Leaf(Leaf::Punct(first)), _) => first.char == '\'',
+        _ => false,
+    }
+}
+
+// How many groups are open after the step.
+fn depth_after(depth: usize, step: &Step) -> usize
+    requires { depth < 18446744073709551615 }
+{
+    match step {
+        Step::Leaf(_) => depth,
+        Step::Opens(_, _) => depth + 1,
+        Step::Closes(_, _) => depth.saturating_sub(1),
+    }
+}
+
+// Adds what stands between two steps.
+fn push_gap(text: &mut String, depth: usize, first: &Step, second: &Step) -> Result<(), AllocError> {
+    if depth == 0 && ends_line(first) {
+        text.push('\n')
+    } else if are_joined(first, second) {
+        Ok(())
+    } else {
+        text.push(' ')
+    }
+}
+
+/// The text of the visible tokens that have a spelling.
+pub(crate) fn print(alloc: Global, steps: &[PlacedStep]) -> Result<Printed, AllocError> {
+    let mut text = String::new(alloc);
+    let mut tokens = 0;
+    let mut depth = 0;
+    let mut last: Option<&Step> = None;
+    for placed in steps {
+        let step = &placed.step;
+        if has_spelling(step) {
+            if let Some(before) = last {
+                push_gap(&mut text, depth, before, step)?;
+            }
+            push_spelling(&mut text, step)?;
+            depth = depth_after(depth, step);
+            last = Some(step);
+            tokens += 1;
+        }
+    }
+    if last.is_some() {
+        text.push('\n')?;
+    }
+    Ok(Printed { text, tokens })
+}

@@ -1,0 +1,182 @@
+//! A session over a text.
+ghost use Rattle.std.specs.Prelude.{◌≡◌, ℕ, ◌<◌, ◌^◌, List, length, string_bytes, IfOk, OnErr, Ok};
+ghost use Rattle.expander.specs.State.{State};
+ghost use Rattle.expander.specs.Replies.{IsReplyTo};
+
+use crate::expansion::{expand_pieces, Output};
+use crate::faults::{push_output_faults, sort_faults, Fault, ReadFault};
+use crate::printing::print;
+use crate::reading::{read_tokens, Read};
+use rustc_lexer::{tokenize, FrontmatterAllowed, Token};
+use std::alloc::{AllocError, Global};
+use std::marker::Model;
+use tt_data::fault::TtFault;
+use tt_data::span::TextRange;
+
+/// Why there is no reply. The session is as it was.
+#[derive(Clone, Copy, Debug, PartialEq, Eq)]
+pub enum Refusal {
+    /// There was no memory left.
+    Memory,
+    /// A tree would have more than `u32::MAX` tokens.
+    Tokens,
+    /// More than `u32::MAX` definitions would have been numbered. It never comes yet.
+    Numbers,
+}
+
+impl From<TtFault> for Refusal {
+    fn from(fault: TtFault) -> Refusal {
+        match fault {
+            TtFault::Tokens => Refusal::Tokens,
+            _ => Refusal::Memory,
+        }
+    }
+}
+
+impl From<AllocError> for Refusal {
+    fn from(_: AllocError) -> Refusal {
+        Refusal::Memory
+    }
+}
+
+/// The expansion of a text: what is printed, and the faults.
+#[derive(Drop)]
+pub struct Expansion {
+    printed: String,
+    faults: Vec<Fault>,
+    tokens: usize,
+    expanded: usize,
+}
+
+impl Model for Expansion {
+    ghost use Rattle.std.specs.Prelude.{string_bytes};
+    ghost use Rattle.expander.specs.Expanded.{Expanded};
+
+    ghost Value = { Expanded };
+
+    ghost view = { λ e. record { printed = string_bytes e.printed; faults = e.faults.items; tokens = e.tokens; expanded = e.expanded } };
+}
+
+impl Expansion {
+    /// The printed text.
+    pub fn printed(&self) -> &str
+        ensures { result.now ≡ self.now.printed }
+    {
+        self.printed.as_str()
+    }
+
+    /// The faults, in order of start, end and kind.
+    pub fn faults(&self) -> &[Fault]
+        ensures { result.now ≡ self.now.faults }
+    {
+        self.faults.as_slice()
+    }
+
+    /// How many pieces were expanded: all that are no definitions.
+    pub fn expanded(&self) -> usize
+        ensures { result ≡ self.now.expanded }
+    {
+        self.expanded
+    }
+
+    /// How many tokens are printed.
+    pub fn tokens(&self) -> usize
+        ensures { result ≡ self.now.tokens }
+    {
+        self.tokens
+    }
+
+    /// Where in the text the printed token of this number, from 0, comes from. It is not kept yet: `None`.
+    pub fn origin(&self, i: usize) -> Option<TextRange>
+        requires { i < self.now.tokens }
+    {
+        None
+    }
+}
+
+/// What a text gives.
+#[derive(Drop)]
+pub enum Reply {
+    /// The text was read as trees and expanded.
+    Read(Expansion),
+    /// The text cannot be read as trees.
+    Unread(ReadFault),
+}
+
+/// A text, and how many levels of calls are expanded in it.
+#[derive(Drop)]
+pub struct Session {
+    alloc: Global,
+    text: String,
+    depth: u8,
+}
+
+impl Model for Session {
+    ghost use Rattle.std.specs.Prelude.{string_bytes, length, ◌<◌, ◌^◌};
+    ghost use Rattle.expander.specs.State.{State};
+
+    ghost Value = { State };
+
+    ghost view = { λ s. record { text = string_bytes s.text; depth = s.depth } };
+
+    ghost invariant = { λ s. length (string_bytes s.text) < 2 ^ 32 };
+}
+
+impl Session {
+    /// A session over a text of at most `u32::MAX` bytes. Nothing is expanded yet. Refused where there is no memory
+    /// for a copy of the text.
+    pub fn new(alloc: Global, text: &str, depth: u8) -> Result<Self, AllocError>
+        requires { length text.now < 2 ^ 32 }
+        ensures { IfOk result (λ s. s ≡ record { text = text.now; depth = depth }) }
+    {
+        let text = String::from_str(alloc, text)?;
+        Ok(Session { alloc, text, depth })
+    }
+
+    /// The text.
+    pub fn text(&self) -> &str
+        ensures { result.now ≡ self.now.text }
+    {
+        self.text.as_str()
+    }
+
+    /// The expansion of the text, or its reading fault.
+    pub fn expansion(&mut self) -> Result<Reply, Refusal>
+        ensures reply { IfOk result (λ reply. IsReplyTo self.old reply) }
+        ensures same { self.new ≡ self.old }
+    {
+        reply_to_text(self.alloc, self.text.as_str(), self.depth)
+    }
+}
+
+// The expansion of a text, or its reading fault.
+fn reply_to_text(alloc: Global, text: &str, depth: u8) -> Result<Reply, Refusal>
+    requires { length text.now < 2 ^ 32 }
+{
+    let tokens: Vec<Token> = tokenize(text, FrontmatterAllowed::No).collect(alloc)?;
+    match read_tokens(alloc, text, tokens.as_slice())? {
+        Read::Fault(fault) => Ok(Reply::Unread(fault)),
+        Read::Tree(tree) => {
+            let output = expand_pieces(alloc, depth, &tree.token_trees().iter())?;
+            Ok(Reply::Read(expansion_of(alloc, output)?))
+        }
+    }
+}
+
+// What the output of a text's pieces prints, and all faults in order.
+fn expansion_of(alloc: Global, output: Output) -> Result<Expansion, AllocError> {
+    let Output {
+        steps,
+        mut faults,
+        plain,
+    } = output;
+    push_output_faults(&mut faults, steps.as_slice())?;
+    sort_faults(&mut faults)?;
+    let printed = print(alloc, steps.as_slice())?;
+    Ok(Expansion {
+        printed: printed.text,
+        faults,
+        tokens: printed.tokens,
+        expanded: plain,
+    })
+}

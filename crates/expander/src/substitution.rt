@@ -1,0 +1,172 @@
+// Substitution: what a rule's template gives.
+use crate::first_trees::again;
+use crate::matching::{fit, Bindings};
+use crate::rules::{name_after, Rule};
+use std::alloc::Global;
+use tt::builder::TopSubtreeBuilder;
+use tt::top::TopSubtree;
+use tt::view::{TtElement, TtIter};
+use tt_data::delimiter::Delimiter;
+use tt_data::fault::TtFault;
+use tt_data::leaf::{Ident, IdentIsRaw, Leaf, Punct, Spacing};
+use tt_data::span::{Span, SyntaxContext, TextRange};
+use tt_data::symbol::Symbol;
+
+// The span as one of a token that a definition made.
+fn made(span: Span) -> Span {
+    Span {
+        ctx: SyntaxContext::Made,
+        ..span
+    }
+}
+
+fn made_leaf(leaf: Leaf) -> Leaf {
+    match leaf {
+        Leaf::Punct(punct) => Leaf::Punct(Punct {
+            span: made(punct.span),
+            ..punct
+        }),
+        Leaf::Ident(ident) => {
+            let Ident { sym, span, is_raw } = ident;
+            let span = made(span);
+            Leaf::Ident(Ident { sym, span, is_raw })
+        }
+        Leaf::Literal(literal) => Leaf::Literal(literal),
+    }
+}
+
+// A punct that stands alone, another leaf as it is.
+fn alone(leaf: Leaf) -> Leaf {
+    match leaf {
+        Leaf::Punct(punct) => Leaf::Punct(Punct {
+            spacing: Spacing::Alone,
+            ..punct
+        }),
+        other => other,
+    }
+}
+
+// Adds the trees as they are.
+fn extend(out: &mut TopSubtreeBuilder, trees: &TtIter<'_>) -> Result<(), TtFault> {
+    let mut rest = again(trees);
+    while let Some(element) = rest.next() {
+        match element {
+            TtElement::Leaf(leaf) => out.push(leaf)?,
+            TtElement::Subtree(subtree, inner) => {
+                out.open(subtree.delimiter.kind, subtree.delimiter.open_span)?;
+                extend(out, &inner)?;
+                out.close(subtree.delimiter.close_span)?;
+            }
+        }
+    }
+    Ok(())
+}
+
+// Adds the trees that a variable took: a last punct stands alone.
+fn extend_by_value(out: &mut TopSubtreeBuilder, trees: &TtIter<'_>) -> Result<(), TtFault> {
+    let mut rest = again(trees);
+    while let Some(element) = rest.next() {
+        match element {
+            TtElement::Leaf(leaf) => {
+                let leaf = if rest.is_empty() { alone(leaf) } else { leaf };
+                out.push(leaf)?;
+            }
+            TtElement::Subtree(subtree, inner) => {
+                out.open(subtree.delimiter.kind, subtree.delimiter.open_span)?;
+                extend(out, &inner)?;
+                out.close(subtree.delimiter.close_span)?;
+            }
+        }
+    }
+    Ok(())
+}
+
+// Adds a name that is not bound: it stands for itself, after its `$`.
+fn extend_by_itself(
+    out: &mut TopSubtreeBuilder,
+    name: Symbol,
+    span: Span,
+) -> Result<(), TtFault> {
+    let span = made(span);
+    out.push(Leaf::Punct(Punct {
+        char: '$',
+        spacing: Spacing::Alone,
+        span,
+    }))?;
+    out.push(Leaf::Ident(Ident {
+        sym: name,
+        span,
+        is_raw: IdentIsRaw::No,
+    }))
+}
+
+/// Adds what the template gives with these bindings.
+fn substitute(
+    out: &mut TopSubtreeBuilder,
+    template: &TtIter<'_>,
+    bindings: &Bindings<'_>,
+) -> Result<(), TtFault> {
+    let mut rest = again(template);
+    while let Some(element) = rest.next() {
+        match element {
+            TtElement::Leaf(Leaf::Punct(punct)) => {
+                if punct.char == '$' {
+                    let Some((name, behind)) = name_after(&rest) else {
+                        return Err(TtFault::Malformed);
+                    };
+                    rest = behind;
+                    match bindings.get(&name) {
+                        Some(taken) => extend_by_value(out, taken)?,
+                        None => extend_by_itself(out, name, punct.span)?,
+                    }
+                } else {
+                    out.push(made_leaf(Leaf::Punct(punct)))?;
+                }
+            }
+            TtElement::Leaf(leaf) => out.push(made_leaf(leaf))?,
+            TtElement::Subtree(subtree, inner) => {
+                out.open(subtree.delimiter.kind, made(subtree.delimiter.open_span))?;
+                substitute(out, &inner, bindings)?;
+                out.close(made(subtree.delimiter.close_span))?;
+            }
+        }
+    }
+    Ok(())
+}
+
+// What the rule gives for the argument, or `None` where its pattern does not fit.
+fn rule_fit(
+    alloc: Global,
+    rule: &Rule<'_>,
+    argument: &TtIter<'_>,
+) -> Result<Option<TopSubtree>, TtFault> {
+    let mut bindings = Bindings::new(alloc);
+    if !fit(alloc, &rule.pattern, argument, &mut bindings)? {
+        return Ok(None);
+    }
+    let start_of_text = Span {
+        range: TextRange { start: 0, end: 0 },
+        anchor: 0,
+        ctx: SyntaxContext::Made,
+    };
+    let mut out = TopSubtreeBuilder::new(alloc, Delimiter::invisible_spanned(start_of_text))?;
+    substitute(&mut out, &rule.template, &bindings)?;
+    match out.build() {
+        Ok(tree) => Ok(Some(tree)),
+        Err((_, fault)) => Err(fault),
+    }
+}
+
+/// What the first rule that fits gives for the argument.
+pub(crate) fn first_fit(
+    alloc: Global,
+    rules: &[Rule<'_>],
+    argument: &TtIter<'_>,
+) -> Result<Option<TopSubtree>, TtFault> {
+    for rule in rules {
+        if let Some(tree) = rule_fit(alloc, rule, argument)? {
+            return Ok(Some(tree));
+        }
+    }
+    Ok(None)
+}
