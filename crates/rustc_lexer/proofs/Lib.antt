@@ -1,0 +1,7 @@
+mod RunLemmas
+mod RowLemmas
+mod TokenLemmas
+mod CutLemmas
+mod StandingLemmas
+mod Rows
+mod KindLemmas

@@ -1,0 +1,14 @@
+use Rattle.std.proofs.Common.{◌<◌, arith}
+use Rattle.std.proofs.lemmas.Grind.{common_steps}
+use Rattle.unicode_ident.proofs.IdentLemmas.{is_xid_continue-ascii}
+use Rattle.rustc_lexer.proofs.character.is_id_continue.Goals as goal
+
+pub returns-then-is_ascii_alphanumeric : goal.returns-then-is_ascii_alphanumeric
+returns-then-is_ascii_alphanumeric c =
+    let low : c.args.c < 128 = grind (arith, common_steps) in
+    rw (is_xid_continue-ascii c.args.c low) (grind (arith, common_steps))
+
+pub returns-else-is_ascii_alphanumeric : goal.returns-else-is_ascii_alphanumeric
+returns-else-is_ascii_alphanumeric c =
+    let low : c.args.c < 128 = grind (arith, common_steps) in
+    rw (is_xid_continue-ascii c.args.c low) (grind (arith, common_steps))

@@ -1,0 +1,5 @@
+use Rattle.rustc_lexer.proofs.StandingLemmas.{tokens_end}
+use Rattle.rustc_lexer.proofs.laws.tokens_end.Goals as goal
+
+pub returns : goal.returns
+returns c = tokens_end

@@ -1,0 +1,36 @@
+//! The classes of characters that the grammar of Rust knows.
+ghost use Rattle.std.specs.Prelude.{◌≡◌};
+ghost use Rattle.rustc_lexer.specs.Character.{is_whitespace, is_id_start, is_id_continue};
+
+/// Whether the character is white space: one of Unicode's `Pattern_White_Space`.
+#[inline]
+pub fn is_whitespace(c: char) -> bool
+    ensures { result ≡ is_whitespace c }
+{
+    matches!(
+        c,
+        '\u{9}'..='\u{d}' | ' ' | '\u{85}' | '\u{200e}' | '\u{200f}' | '\u{2028}' | '\u{2029}'
+    )
+}
+
+/// Whether an identifier may begin with the character: `_`, or one of Unicode's `XID_Start`.
+#[inline]
+pub fn is_id_start(c: char) -> bool
+    ensures { result ≡ is_id_start c }
+{
+    if c.is_ascii() {
+        return c == '_' || c.is_ascii_alphabetic();
+    }
+    unicode_ident::is_xid_start(c)
+}
+
+/// Whether an identifier may go on with the character: one of Unicode's `XID_Continue`.
+#[inline]
+pub fn is_id_continue(c: char) -> bool
+    ensures { result ≡ is_id_continue c }
+{
+    if c.is_ascii() {
+        return c.is_ascii_alphanumeric() || c == '_';
+    }
+    unicode_ident::is_xid_continue(c)
+}

@@ -1,0 +1,33 @@
+//! The tokens of a text, one after another.
+ghost use Rattle.std.specs.Prelude.{◌<◌, ◌^◌, length};
+
+use crate::cursor::split_first;
+use crate::lexeme::first_lexeme;
+use crate::token::Token;
+
+/// The tokens of a text, in order. [`crate::tokenize`] makes it.
+#[derive(Drop)]
+pub struct Tokens<'a> {
+    pub(crate) rest: &'a str,
+    ghost small: { length rest.now < 2 ^ 32 },
+}
+
+impl<'a> Iterator for Tokens<'a> {
+    ghost use Rattle.std.specs.Iterator.{YieldsFirst, item_count};
+    ghost use Rattle.rustc_lexer.specs.Remaining.{tokens_left};
+
+    type Item = Token;
+
+    ghost next_gives = { YieldsFirst tokens_left };
+
+    ghost remaining = { item_count tokens_left };
+
+    fn next(&mut self) -> Option<Token> {
+        let text = self.rest;
+        let (c, after) = split_first(text)?;
+        let (kind, rest) = first_lexeme(c, after);
+        let len = (text.len() - rest.len()) as u32;
+        self.rest = rest;
+        Some(Token { kind, len })
+    }
+}
