@@ -1,0 +1,2 @@
+pub mod CountedBlock
+pub mod HeapBoxes

@@ -1,0 +1,6 @@
+//! The data of token trees.
+#![tactic(auto)]
+
+mod symbol;
+
+pub use symbol::Symbol;
