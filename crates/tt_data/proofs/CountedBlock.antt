@@ -11,14 +11,16 @@ use seplogic.Ra.Ura.{Ura}
 use base.Fraction.{full_share}
 use base.Mask.{every}
 use base.Logic.{SProp, ent, sep, guard, guard_i, wand, ex, apply∗, ex_i, never, id⊢}
-use base.Fml.{Fml, Lft, Incl, Incl-trans, Key, Share, ftrue, fsep, fex, fat, flft, fbor, ftok}
+use base.Fml.{Fml, Lft, Incl, Incl-trans, Key, Share, ftrue, fsep, fex, fhide, fat, flft, fbor, ftok}
 use mir.Syntax.{w64, ty_int}
 use mir.Val.{vint}
 use contract.BorrowLft.{meet_⊑_left, meet_⊑_right}
 use contract.Monad.{fact, fact_i, fact_use}
 use types.Logic.{Logic, sem}
-use types.Kit.{Item, mean, ‵, raw, some, later, given, ◌⊛◌, ◌$◌, ◌∵◌, !, qed, by, move, keep, drop, use1, use2, use3, pick, show, learn, await, group, split, split3, join, frame, check, fsplit, fjoin, fjoin3, fpick, fpack, feq_i, feq_l, flt_i, flt_l, rewrite, updating, now, done}
-use types.Tokens.{bor_new, bor_fracture}
+use types.Kit.{Item, mean, ‵, raw, some, later, given, ◌⊛◌, ◌$◌, ◌∵◌, !, qed, by, move, keep, drop, use1, use2, use3, pick, show, learn, await, group, split, split3, join, frame, assume, check, fsplit, fsplit3, fjoin, fjoin3, fpick, fpack, feq_i, feq_l, flt_i, flt_l, rewrite, updating, now, done}
+use types.Na.{na_inv_dup}
+use types.Tokens.{bor_new, bor_fracture, shr_bor-open, obor_close}
+use types.Within.{tokens_halve}
 use types.RcWeak as rc
 use denote.RcWeak as owners
 use denote.RattleType.{RattleType}
@@ -28,9 +30,10 @@ use denote.Shares.{Shares-less}
 use denote.Sharing.{ShrLaws}
 use denote.SharingLaws.{contraction}
 use denote.Moves.{moves_from}
+use denote.Opens.{unhide}
 use denote.Steps.{nothing}
 use denote.Struct.Lending.{Lends, Lends-first, Lends-lies, lent_at_shr_laws}
-use Rattle.tt_data.specs.SharedBlock.{most, count_at, left_at, block_type, field_types, value_offset, may_free, rest, seen, says, said, counting, counts, owner_owns}
+use Rattle.tt_data.specs.SharedBlock.{most, count_at, left_at, block_type, field_types, value_offset, may_free, rest, seen, says, said, counting, counts, owner_owns, owner_lends}
 
 -- the lifetime for which the value is shared, and one for which the block stands
 abbrev pub Name : Type 0
@@ -186,6 +189,15 @@ module _ (R : RattleType) (L : Laws R) (c : Ptr) (x : R.Denot) where
         fpack ! Bool (says R c x u.0 m) y $ move ! (0 ∷ 5 ∷ 2 ∷ 4 ∷ []) $ group ! 4 $ use1 𝓛 (Inside m) (sealed m u.0 u.1) $ move ! (1 ∷ 0 ∷ 2 ∷ []) $ group ! 3 $
         now ! $ show ! (λ (j : ℕ). guard 𝓤 (0 < j) (mean 𝓛 (‵ (count_at c j) ⊛ Inside j ⊛ ‵ (flft (shared_for a) s)))) m $ check ! some_m $ done !))))))
 
+    -- the same, by an owner's own part
+    abbrev pub Entered : Item 𝓤
+    Entered = some (λ (m : ℕ). given (0 < m) (‵ (count_at c m) ⊛ Inside m ⊛ ‵ (part a)))
+
+    pub owner_enters : ent 𝓤 (sep 𝓤 (sem 𝓛 (part a)) (sep 𝓤 (sem 𝓛 (standing a)) (A.tok every))) (H.⇛ (mean 𝓛 Entered))
+    owner_enters = qed 𝓛 (‵ (part a) ∷ ‵ (standing a) ∷ ‵ (ftok every) ∷ []) ∵ updating ! $ fpick ! (λ s. fpick ! (λ one. move ! (1 ∷ 0 ∷ []) $ use3 𝓛 (later (Opened s)) (enters s) $ await ! tt $ pick ! (λ m. learn ! (λ some_m. split3 ! $
+        move ! (2 ∷ []) $ use1 𝓛 (‵ (part a)) (rc.part_in 64 𝓛 a.0 s one) $ move ! (1 ∷ 2 ∷ 0 ∷ []) $ group ! 3 $
+        now ! $ show ! (λ (j : ℕ). guard 𝓤 (0 < j) (mean 𝓛 (‵ (count_at c j) ⊛ Inside j ⊛ ‵ (part a)))) m $ check ! some_m $ done !))))
+
     -- what the value's owners see of it, for as long as its lifetime stands
     shows_all : (μ : Lft) (q : Share) → Incl μ R.lives → ent 𝓤 (sep 𝓤 (sem 𝓛 (fbor (shared_for a) (rest R c x))) (sep 𝓤 (sem 𝓛 (part a)) (A.lft μ q))) (H.⇛ (sep 𝓤 (sem 𝓛 (part a)) (sep 𝓤 (sem 𝓛 (seen R c x (shared_for a))) (A.lft μ q))))
     shows_all μ q inc = qed 𝓛 (‵ (fbor (shared_for a) (rest R c x)) ∷ ‵ (part a) ∷ ‵ (flft μ q) ∷ []) ∵ updating ! $ move ! (1 ∷ []) $ fpick ! (λ e. fpick ! (λ one.
@@ -198,6 +210,22 @@ module _ (R : RattleType) (L : Laws R) (c : Ptr) (x : R.Denot) where
 
 module _ (R : RattleType) (L : Laws R) (c : Ptr) (x : R.Denot) {M : Type 1} {𝓤 : Ura M} (𝓛 : Logic 𝓤) where
   open 𝓛 use {H, A}
+
+  pub standing_twice : (a : Name) → ent 𝓤 (sem 𝓛 (standing R L c x a)) (sep 𝓤 (sem 𝓛 (standing R L c x a)) (sem 𝓛 (standing R L c x a)))
+  standing_twice a = na_inv_dup 𝓛 (key R L c x) (rc.Inv 64 (key R L c x) (counts R c x) (λ _. ftrue) (rest R c x) ftrue ftrue a)
+
+  pub owner_of : (a : Name) → ent 𝓤 (sep 𝓤 (sem 𝓛 (part R L c x a)) (sep 𝓤 (sem 𝓛 (standing R L c x a)) (sem 𝓛 (seen R c x (shared_for a))))) (sem 𝓛 (owner_owns R c x))
+  owner_of a = qed 𝓛 (‵ (part R L c x a) ∷ ‵ (standing R L c x a) ∷ ‵ (seen R c x (shared_for a)) ∷ []) ∵ fjoin3 ! $ fpack ! Name (handle R L c x) a $ done !
+
+  -- a `&` to an owner, for as long as a function uses it: what stands, what is seen, and a share of the owners' token with the way back
+  abbrev pub Lent : Lft → Share → Name × Share → Item 𝓤
+  Lent κ q u = ‵ (standing R L c x u.0) ⊛ ‵ (seen R c x (shared_for u.0)) ⊛ ‵ (flft (shared_for u.0) u.1) ⊛ raw (wand 𝓤 (A.lft (shared_for u.0) u.1) (H.⇛ (A.lft κ q)))
+
+  pub looks_in : (κ : Lft) (q : Share) → ent 𝓤 (sep 𝓤 (sem 𝓛 (fhide (owner_lends R c x κ))) (A.lft κ q)) (H.⇛ (ex 𝓤 (λ (u : Name × Share). mean 𝓛 (Lent κ q u))))
+  looks_in κ q = qed 𝓛 (‵ (fhide (owner_lends R c x κ)) ∷ ‵ (flft κ q) ∷ []) ∵ updating ! $ unhide ! $ fpick ! (λ a. fsplit3 ! $
+      -- [the shares of the owners' token; the invariant; what is seen; the token]
+      move ! (0 ∷ 3 ∷ []) $ shr_bor-open ! tt (tokens_halve 𝓛 (shared_for a)) (λ s. move ! (2 ∷ 3 ∷ 1 ∷ 0 ∷ []) $ now ! $ show ! (λ (u : Name × Share). mean 𝓛 (Lent κ q u)) (a, s) $ frame ! $ frame ! $ frame ! $
+      assume ! (‵ (flft (shared_for a) s)) $ updating ! $ move ! (1 ∷ 0 ∷ []) $ obor_close ! tt $ drop ! $ now ! $ done !))
 
   -- the count of a block with one owner
   one_counted : ent 𝓤 (sem 𝓛 (count_at c 1)) (sem 𝓛 (counts R c x 1))

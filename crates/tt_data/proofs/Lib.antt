@@ -1,2 +1,5 @@
+pub mod BlockFields
 pub mod CountedBlock
 pub mod HeapBoxes
+pub mod OwnerWalks
+pub mod TokenEntry
