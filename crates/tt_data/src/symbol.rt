@@ -9,8 +9,12 @@ ghost use Rattle.tt_data.specs.SymbolText.{text_of};
 
 pub(crate) mod shared;
 
+#[cfg(test)]
+mod tests;
+
 use crate::symbol::shared::{Bare, Block, Shared};
 use std::alloc::{AllocError, Global};
+use std::fmt;
 use std::hash::{Hash, Hasher};
 use std::marker::Model;
 
@@ -119,5 +123,12 @@ impl Hash for Symbol {
     /// Feeds the text, as `str` does.
     fn hash<H: Hasher>(&self, state: &mut H) {
         self.as_str().hash(state);
+    }
+}
+
+impl fmt::Debug for Symbol {
+    /// Writes the text as `str` does, in quotes.
+    fn fmt<W: fmt::Write>(&self, f: &mut fmt::Formatter<W>) -> fmt::Result {
+        fmt::Debug::fmt(self.as_str(), f)
     }
 }
