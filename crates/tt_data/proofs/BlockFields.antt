@@ -54,12 +54,16 @@ module _ (T : RattleType) where
 
     pub apart : ent 𝓤 (sem 𝓛 (bare_owns Block c d)) (sep 𝓤 (sem 𝓛 (word_at b o d.owners)) (sem 𝓛 (rest (param 0 T) c d.value)))
     apart = qed 𝓛 (‵ (bare_owns Block c d) ∷ []) ∵ fsplit ! $ use1 𝓛 (‵ (part_at Fields full_share (each d) b o)) as_fields $
-        use1 𝓛 (‵ (parts_at full_share fields 0 (each d) b o) ⊛ ‵ left) (Struct-left 𝓛 full_share [] fields (lawful_Lones 𝓛 fields (u64-laws.lawful 𝓛, ((param_laws 0 T L).lawful 𝓛, tt))) (each d) b o) $ split ! $ fsplit3 ! $
+        use1 𝓛 (‵ (parts_at full_share fields 0 (each d) b o) ⊛ ‵ left) (Struct-left 𝓛 full_share [] fields (lawful_Lones 𝓛 fields (u64-laws.lawful 𝓛,
+        ((param_laws 0 T L).lawful 𝓛, tt))) (each d) b o) $ split ! $ fsplit3 ! $
         -- [the count; the value; nothing; what is left; the right to free]
-        use1 𝓛 (‵ (word_at b o d.owners)) (uint_out 𝓛 full_share w64 d.owners b (o + 0)) $ move ! (1 ∷ 3 ∷ 4 ∷ []) $ fjoin3 ! $ move ! (1 ∷ []) $ keep ! (0 ∷ 1 ∷ []) $ done !
+        use1 𝓛 (‵ (word_at b o d.owners)) (uint_out 𝓛 full_share w64 d.owners b (o + 0)) $ move ! (1 ∷ 3 ∷ 4 ∷ []) $ fjoin3 ! $ move ! (1 ∷ []) $
+        keep ! (0 ∷ 1 ∷ []) $ done !
 
     pub together : ent 𝓤 (sep 𝓤 (sem 𝓛 (word_at b o d.owners)) (sem 𝓛 (rest (param 0 T) c d.value))) (sem 𝓛 (bare_owns Block c d))
-    together = qed 𝓛 (‵ (word_at b o d.owners) ∷ ‵ (rest (param 0 T) c d.value) ∷ []) ∵ use1 𝓛 (‵ (part_at usize full_share d.owners b (o + 0))) (uint_in 𝓛 full_share w64 d.owners b (o + 0)) $ move ! (1 ∷ []) $ fsplit3 ! $
+    together = qed 𝓛 (‵ (word_at b o d.owners) ∷ ‵ (rest (param 0 T) c d.value) ∷ []) ∵
+        use1 𝓛 (‵ (part_at usize full_share d.owners b (o + 0))) (uint_in 𝓛 full_share w64 d.owners b (o + 0)) $ move ! (1 ∷ []) $ fsplit3 ! $
         -- [the value; what is left; the right to free; the count]
-        nothing ! $ move ! (4 ∷ 1 ∷ 0 ∷ []) $ fjoin3 ! $ move ! (0 ∷ 1 ∷ []) $ use2 𝓛 (‵ (part_at Fields full_share (each d) b o)) (left_Struct 𝓛 full_share [] fields (each d) b o) $
+        nothing ! $ move ! (4 ∷ 1 ∷ 0 ∷ []) $ fjoin3 ! $ move ! (0 ∷ 1 ∷ []) $
+        use2 𝓛 (‵ (part_at Fields full_share (each d) b o)) (left_Struct 𝓛 full_share [] fields (each d) b o) $
         use1 𝓛 (‵ (part_at Block full_share d b o)) as_block $ fjoin ! $ done !

@@ -74,10 +74,12 @@ module _ (T : RattleType) (L : Laws T) where
     Lasting more = raw (fact 𝓤 (κ ⊑ T.lives)) ⊛ raw (fact 𝓤 (κ ⊑ Heap.lives)) ⊛ more
 
     lasting : (more : Item 𝓤) → ent 𝓤 (mean 𝓛 more) (mean 𝓛 (Lasting more))
-    lasting more = qed 𝓛 (more ∷ []) ∵ use0 𝓛 (raw (fact 𝓤 (κ ⊑ Heap.lives))) (fact_i 𝓤 _ (emp 𝓤) (⊑_static κ)) $ join ! $ use0 𝓛 (raw (fact 𝓤 (κ ⊑ T.lives))) (fact_i 𝓤 _ (emp 𝓤) inside) $ done !
+    lasting more = qed 𝓛 (more ∷ []) ∵ use0 𝓛 (raw (fact 𝓤 (κ ⊑ Heap.lives))) (fact_i 𝓤 _ (emp 𝓤) (⊑_static κ)) $ join ! $
+        use0 𝓛 (raw (fact 𝓤 (κ ⊑ T.lives))) (fact_i 𝓤 _ (emp 𝓤) inside) $ done !
 
     cuts : ent 𝓤 (A.lft κ q) (mean 𝓛 Tokens)
-    cuts = qed 𝓛 (‵ (flft κ q) ∷ []) ∵ use1 𝓛 (‵ (flft κ (Share.left q)) ⊛ ‵ (flft κ (Share.right q))) (𝓛.lfts.lft_split κ q) $ split ! $ nothing ! $ move ! (1 ∷ 2 ∷ 0 ∷ []) $ done !
+    cuts = qed 𝓛 (‵ (flft κ q) ∷ []) ∵ use1 𝓛 (‵ (flft κ (Share.left q)) ⊛ ‵ (flft κ (Share.right q))) (𝓛.lfts.lft_split κ q) $ split ! $ nothing ! $
+        move ! (1 ∷ 2 ∷ 0 ∷ []) $ done !
 
     glues : ent 𝓤 (mean 𝓛 Tokens) (A.lft κ q)
     glues = qed 𝓛 (Tokens ∷ []) ∵ split3 ! $ keep ! (0 ∷ 1 ∷ []) $ by ! (𝓛.lfts.lft_join κ q)
@@ -90,14 +92,19 @@ module _ (T : RattleType) (L : Laws T) where
       to_raw = (((κ, (κ, tt)), (Share.left q, (Share.right q, tt)), tt, (v, tt), (w ∷ [], tt)), tt)
 
       pub into_raw_asks : ent 𝓤 (sep 𝓤 (A.lft κ q) (sem 𝓛 (B.own_val v (w ∷ [])))) (Raw.pre to_raw)
-      into_raw_asks = qed 𝓛 (‵ (flft κ q) ∷ ‵ (B.own_val v (w ∷ [])) ∷ []) ∵ nothing ! $ use1 𝓛 (Lasting (‵ ftrue)) (lasting (‵ ftrue)) $ nothing ! $ move ! (3 ∷ 0 ∷ []) $ fjoin ! $ move ! (2 ∷ []) $
+      into_raw_asks = qed 𝓛 (‵ (flft κ q) ∷ ‵ (B.own_val v (w ∷ [])) ∷ []) ∵ nothing ! $ use1 𝓛 (Lasting (‵ ftrue)) (lasting (‵ ftrue)) $ nothing ! $
+          move ! (3 ∷ 0 ∷ []) $ fjoin ! $ move ! (2 ∷ []) $
           use1 𝓛 Tokens cuts $ move ! (0 ∷ 1 ∷ []) $ join ! $ join ! $ by ! (id⊢ 𝓤 _)
 
-      pub into_raw_gives : (u : Val) → ent 𝓤 (Raw.post to_raw u) (H.⇛ (ex 𝓤 (λ (p : Ptr). guard 𝓤 (u ≡ ptr_val p) (sep 𝓤 (sem 𝓛 (bare_owns R p v.value)) (A.lft κ q)))))
+      pub into_raw_gives : (u : Val) → ent 𝓤 (Raw.post to_raw u) (H.⇛ (ex 𝓤 (λ (p : Ptr). guard 𝓤 (u ≡ ptr_val p)
+          (sep 𝓤 (sem 𝓛 (bare_owns R p v.value)) (A.lft κ q)))))
       into_raw_gives u = qed 𝓛 (raw (Raw.post to_raw u) ∷ []) ∵ updating ! $
-          use1 𝓛 (later (some (λ (p : Ptr). (Tokens ⊛ ‵ (RawPtr.own_val p (u ∷ []))) ⊛ some (λ (ls : Lasts (into.ended T Heap ghosts dict no_drop dT) to_raw.0.0 to_raw.0.3).
-          ‵ (lasts (into.ended T Heap ghosts dict no_drop dT) to_raw.0.0 to_raw.0.3 ls) ⊛ ‵ (box_owns (ghosts.dealloc_token v.alloc) R p v.value))))) (id⊢ 𝓤 _) $
-          await ! tt $ pick ! (λ p. split ! $ split ! $ use1 𝓛 (‵ (flft κ q)) glues $ move ! (1 ∷ []) $ feq_l ! (λ e. move ! (1 ∷ []) $ pick ! (λ ls. split ! $ drop ! $
+          use1 𝓛 (later (some (λ (p : Ptr). (Tokens ⊛ ‵ (RawPtr.own_val p (u ∷ []))) ⊛ some
+          (λ (ls : Lasts (into.ended T Heap ghosts dict no_drop dT) to_raw.0.0 to_raw.0.3).
+          ‵ (lasts (into.ended T Heap ghosts dict no_drop dT) to_raw.0.0 to_raw.0.3 ls) ⊛ ‵ (box_owns (ghosts.dealloc_token v.alloc) R p v.value)))))
+          (id⊢ 𝓤 _) $
+          await ! tt $ pick ! (λ p. split ! $ split ! $ use1 𝓛 (‵ (flft κ q)) glues $ move ! (1 ∷ []) $ feq_l ! (λ e. move ! (1 ∷ []) $
+          pick ! (λ ls. split ! $ drop ! $
           fsplit ! $ move ! (1 ∷ []) $ fpack ! Global (λ (h : Global). ghosts.dealloc_token h (bare (layout T)) p) v.alloc $ move ! (1 ∷ 0 ∷ []) $ fjoin ! $
           now ! $ show ! (λ (r : Ptr). guard 𝓤 (u ≡ ptr_val r) (sep 𝓤 (sem 𝓛 (bare_owns R r v.value)) (A.lft κ q))) p $ check ! (ap only e) $ done !)))
 
@@ -109,18 +116,24 @@ module _ (T : RattleType) (L : Laws T) where
       to_box = (((κ, (κ, tt)), (Share.left q, (Share.right q, tt)), tt, (a, (p, tt)), (h ∷ [], (ptr_val p ∷ [], tt))), x)
 
       pub from_raw_asks : ent 𝓤 (sep 𝓤 (A.lft κ q) (sep 𝓤 (sem 𝓛 (bare_owns R p x)) (sem 𝓛 (Heap.own_val a (h ∷ []))))) (Whole.pre to_box)
-      from_raw_asks = qed 𝓛 (‵ (flft κ q) ∷ ‵ (bare_owns R p x) ∷ ‵ (Heap.own_val a (h ∷ [])) ∷ []) ∵ move ! (1 ∷ []) $ fsplit ! $ move ! (1 ∷ []) $ fpick ! (λ any. move ! (1 ∷ 0 ∷ []) $
-          use2 𝓛 (‵ (box_owns (ghosts.dealloc_token a) R p x)) (id⊢ 𝓤 _) $ use1 𝓛 (Lasting (‵ (box_owns (ghosts.dealloc_token a) R p x))) (lasting (‵ (box_owns (ghosts.dealloc_token a) R p x))) $
+      from_raw_asks = qed 𝓛 (‵ (flft κ q) ∷ ‵ (bare_owns R p x) ∷ ‵ (Heap.own_val a (h ∷ [])) ∷ []) ∵ move ! (1 ∷ []) $ fsplit ! $ move ! (1 ∷ []) $
+          fpick ! (λ any. move ! (1 ∷ 0 ∷ []) $
+          use2 𝓛 (‵ (box_owns (ghosts.dealloc_token a) R p x)) (id⊢ 𝓤 _) $
+          use1 𝓛 (Lasting (‵ (box_owns (ghosts.dealloc_token a) R p x))) (lasting (‵ (box_owns (ghosts.dealloc_token a) R p x))) $
           -- [what is required; the token; the handle]
           nothing ! $ feq_i ! (List Val) (ptr_val p ∷ []) (ptr_val p ∷ []) refl $ fjoin ! $ move ! (3 ∷ 0 ∷ []) $ fjoin ! $ move ! (2 ∷ []) $
           use1 𝓛 Tokens cuts $ join ! $ join ! $ by ! (id⊢ 𝓤 _))
 
       -- the box that comes back, and its machine value
-      pub from_raw_gives : (u : Val) → ent 𝓤 (Whole.post to_box u) (H.⇛ (ex 𝓤 (λ (r : B.Denot). guard 𝓤 ((r.value ≡ x) × Good (layout B) u) (sep 𝓤 (sem 𝓛 (B.own_val r (u ∷ []))) (A.lft κ q)))))
+      pub from_raw_gives : (u : Val) → ent 𝓤 (Whole.post to_box u) (H.⇛ (ex 𝓤 (λ (r : B.Denot). guard 𝓤 ((r.value ≡ x) × Good (layout B) u)
+          (sep 𝓤 (sem 𝓛 (B.own_val r (u ∷ []))) (A.lft κ q)))))
       from_raw_gives u = qed 𝓛 (raw (Whole.post to_box u) ∷ []) ∵ updating ! $
-          use1 𝓛 (later (some (λ (r : B.Denot). (Tokens ⊛ ‵ (B.own_val r (u ∷ []))) ⊛ some (λ (ls : Lasts (from.ended T Heap ghosts dict no_drop) to_box.0.0 to_box.0.3).
+          use1 𝓛 (later (some (λ (r : B.Denot). (Tokens ⊛ ‵ (B.own_val r (u ∷ []))) ⊛ some
+          (λ (ls : Lasts (from.ended T Heap ghosts dict no_drop) to_box.0.0 to_box.0.3).
           ‵ (lasts (from.ended T Heap ghosts dict no_drop) to_box.0.0 to_box.0.3 ls) ⊛ raw (fact 𝓤 (r.value ≡ x)) ⊛ raw (fact 𝓤 (r.alloc ≡ a)))))) (id⊢ 𝓤 _) $
-          await ! tt $ pick ! (λ r. split ! $ split ! $ use1 𝓛 (‵ (flft κ q)) glues $ move ! (2 ∷ []) $ pick ! (λ ls. split3 ! $ drop ! $ heard ! (r.value ≡ x) (λ same. drop ! $ move ! (1 ∷ []) $
-          box_out boxed ! r (u ∷ []) (λ b o hv at words fits. box_in boxed ! r b o r.value at refl $ rewrite ! 0 (λ (us : List Val). ‵ (B.own_val r us)) (sym words) refl $
+          await ! tt $ pick ! (λ r. split ! $ split ! $ use1 𝓛 (‵ (flft κ q)) glues $ move ! (2 ∷ []) $ pick ! (λ ls. split3 ! $ drop ! $
+          heard ! (r.value ≡ x) (λ same. drop ! $ move ! (1 ∷ []) $
+          box_out boxed ! r (u ∷ []) (λ b o hv at words fits. box_in boxed ! r b o r.value at refl $
+          rewrite ! 0 (λ (us : List Val). ‵ (B.own_val r us)) (sym words) refl $
           now ! $ show ! (λ (d : B.Denot). guard 𝓤 ((d.value ≡ x) × Good (layout B) u) (sep 𝓤 (sem 𝓛 (B.own_val d (u ∷ []))) (A.lft κ q))) r $
           check ! (same, subst (Good (layout B)) (sym (ap only words)) (box.box_typed boxed hv b o fits)) $ done !))))

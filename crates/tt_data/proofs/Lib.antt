@@ -3,3 +3,4 @@ pub mod CountedBlock
 pub mod HeapBoxes
 pub mod OwnerWalks
 pub mod TokenEntry
+pub mod WalkWords

@@ -45,13 +45,18 @@ module _ {M : Type 1} {𝓤 : Ura M} (𝓛 : Logic 𝓤) (𝓜 : Model 𝓤 𝓛
 
       -- what is owned of the arguments tells their form
       tells : ent 𝓤 ((walk_of 𝓛 E stays asked).pre y) (contract.Monad.fact 𝓤 Known)
-      tells = via 𝓤 (on_entry 𝓛 E.signature y.0.0 y.0.1 y.0.3 y.0.4) (fst∗ 𝓤 _ ((asked y.0.0 y.0.3).requires y.1)) (via 𝓤 (sem 𝓛 (owns (types_at E.signature.params y.0.0) y.0.3 y.0.4)) (snd∗ 𝓤 (alive 𝓛 E.signature y.0.0 y.0.1) (sem 𝓛 (owns (types_at E.signature.params y.0.0) y.0.3 y.0.4)))
-          (owns_show 𝓛 (types_at E.signature.params y.0.0) (Ises (types_at E.signature.params y.0.0)) (showss 𝓛 (types_at E.signature.params y.0.0)) y.0.3 y.0.4))
+      tells = via 𝓤 (on_entry 𝓛 E.signature y.0.0 y.0.1 y.0.3 y.0.4) (fst∗ 𝓤 _ ((asked y.0.0 y.0.3).requires y.1))
+          (via 𝓤 (sem 𝓛 (owns (types_at E.signature.params y.0.0) y.0.3 y.0.4)) (snd∗ 𝓤 (alive 𝓛 E.signature y.0.0 y.0.1)
+          (sem 𝓛 (owns (types_at E.signature.params y.0.0) y.0.3 y.0.4)))
+          (owns_show 𝓛 (types_at E.signature.params y.0.0) (Ises (types_at E.signature.params y.0.0))
+          (showss 𝓛 (types_at E.signature.params y.0.0)) y.0.3 y.0.4))
 
     pub walks_with_token : AllGo 𝓛 E.signature.lifetimes E.signature.params E.kept stays → (k : Callee) (e : Fn) → Closed 𝓤 𝓛.H calls.C calls.Λ k e
-        → ((y : (walk_of 𝓛 E stays asked).Ghost) → Known y → ent 𝓤 ((walk_of 𝓛 E stays asked).pre y) (WpFn 𝓤 𝓛.H calls.C calls.Λ e ((walk_of 𝓛 E stays asked).args y) ((walk_of 𝓛 E stays asked).post y)))
+        → ((y : (walk_of 𝓛 E stays asked).Ghost) → Known y
+        → ent 𝓤 ((walk_of 𝓛 E stays asked).pre y) (WpFn 𝓤 𝓛.H calls.C calls.Λ e ((walk_of 𝓛 E stays asked).args y) ((walk_of 𝓛 E stays asked).post y)))
         → Meets 𝓛 E.signature (𝓡.run (𝓡.env k)) (closing 𝓛 E c)
     unfolding tables_of
     walks_with_token gone k e closed walk =
-        let meets = walk_Meets 𝓛 E stays gone asked (WpFn 𝓤 𝓛.H calls.C calls.Λ e) (WpFn-mono 𝓤 𝓛.H 𝓛.laws calls e) (λ y. fact_use 𝓤 (Known y) (tells y) (walk y)) in
+        let meets = walk_Meets 𝓛 E stays gone asked (WpFn 𝓤 𝓛.H calls.C calls.Λ e) (WpFn-mono 𝓤 𝓛.H 𝓛.laws calls e) (λ y.
+        fact_use 𝓤 (Known y) (tells y) (walk y)) in
         hands 𝓛 E token c 𝓜 inner 𝓡 (𝓡.env k) (entered 𝓤 𝓛.H (triple_of 𝓛 E.signature (closing 𝓛 E asked)) calls.C calls.Λ k e closed meets)
