@@ -6,7 +6,7 @@ use base.Fml.{Fml}
 use base.Logic.{ent, sep, id⊢}
 use mir.Syntax.{w64, ty_int}
 use types.Logic.{Logic, sem}
-use types.Kit.{‵, ◌⊛◌, ◌$◌, ◌∵◌, !, qed, by, move, keep, use1, use2, split, fsplit, fsplit3, fjoin, fjoin3, done}
+use types.Kit.{‵, ◌⊛◌, ◌$◌, ◌∵◌, !, qed, move, keep, use1, use2, split, fsplit, fsplit3, fjoin, fjoin3, done}
 use denote.RattleType.{RattleType, Denots}
 use denote.Builtin.{usize}
 use denote.Memory.{lone, part_at, part_of}
@@ -54,8 +54,10 @@ module _ (T : RattleType) where
 
     pub apart : ent 𝓤 (sem 𝓛 (bare_owns Block c d)) (sep 𝓤 (sem 𝓛 (word_at b o d.owners)) (sem 𝓛 (rest (param 0 T) c d.value)))
     apart = qed 𝓛 (‵ (bare_owns Block c d) ∷ []) ∵ fsplit ! $ use1 𝓛 (‵ (part_at Fields full_share (each d) b o)) as_fields $
-        use1 𝓛 (‵ (parts_at full_share fields 0 (each d) b o) ⊛ ‵ left) (Struct-left 𝓛 full_share [] fields (lawful_Lones 𝓛 fields (u64-laws.lawful 𝓛,
-        ((param_laws 0 T L).lawful 𝓛, tt))) (each d) b o) $ split ! $ fsplit3 ! $
+        use1 𝓛 (‵ (parts_at full_share fields 0 (each d) b o) ⊛ ‵ left) (Struct-left 𝓛 full_share [] fields (lawful_Lones 𝓛 fields (
+          u64-laws.lawful 𝓛,
+          ((param_laws 0 T L).lawful 𝓛, tt),
+        )) (each d) b o) $ split ! $ fsplit3 ! $
         -- [the count; the value; nothing; what is left; the right to free]
         use1 𝓛 (‵ (word_at b o d.owners)) (uint_out 𝓛 full_share w64 d.owners b (o + 0)) $ move ! (1 ∷ 3 ∷ 4 ∷ []) $ fjoin3 ! $ move ! (1 ∷ []) $
         keep ! (0 ∷ 1 ∷ []) $ done !

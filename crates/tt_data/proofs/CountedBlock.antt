@@ -5,13 +5,13 @@
 --     one_more, one_less, none_left      an owner more, one less, and the last, which takes the block.        for_good      the value stays
 --     founded                     the first owner
 -- Assumes `Logic`.
-use Rattle.std.proofs.Common.{◌≡◌, refl, sym, ◌∙◌, subst, ap, ℕ, ◌+◌, ◌-◌, ◌<◌, ◌^◌, List, [], ◌∷◌, ◌++◌, lit<, arith}
+use Rattle.std.proofs.Common.{◌≡◌, refl, sym, ◌∙◌, ap, ℕ, ◌+◌, ◌-◌, ◌<◌, ◌^◌, [], ◌∷◌, ◌++◌, lit<, arith}
 use mathlib.Core.Bool.{Bool, true, false}
 use seplogic.Ra.Ura.{Ura}
 use base.Fraction.{full_share}
 use base.Mask.{every}
-use base.Logic.{SProp, ent, sep, guard, guard_i, wand, ex, apply∗, ex_i, never, id⊢}
-use base.Fml.{Fml, Lft, Incl, Incl-trans, Key, Share, ftrue, fsep, fex, fhide, fat, flft, fbor, ftok}
+use base.Logic.{SProp, ent, sep, guard, guard_i, wand, ex, apply∗, ex_i, id⊢}
+use base.Fml.{Fml, Lft, Incl, Incl-trans, Key, Share, ftrue, fsep, fhide, fat, flft, fbor, ftok}
 use mir.Syntax.{w64, ty_int}
 use mir.Val.{vint}
 use contract.BorrowLft.{meet_⊑_left, meet_⊑_right}
@@ -25,7 +25,7 @@ use types.RcWeak as rc
 use denote.RcWeak as owners
 use denote.RattleType.{RattleType}
 use denote.Param.Laws.{Laws}
-use denote.RawPtr.{Ptr, block_ptr, null_ptr, block_of, count_of, in_a_block, lies_at, ◌+ₚ◌}
+use denote.RawPtr.{Ptr, block_of, count_of, lies_at, ◌+ₚ◌}
 use denote.Shares.{Shares-less}
 use denote.Sharing.{ShrLaws}
 use denote.SharingLaws.{contraction}
@@ -97,6 +97,13 @@ module _ (R : RattleType) (L : Laws R) (c : Ptr) (x : R.Denot) where
     say : (n : ℕ) → n < most → ent 𝓤 (sem 𝓛 ftrue) (sem 𝓛 (said R c x n n))
     say n low = qed 𝓛 (‵ ftrue ∷ []) ∵ drop ! $ flt_i ! n most low $ feq_i ! ℕ n n refl $ fjoin ! $ fpack ! Bool (says R c x n n) true $ done !
 
+    -- the steps of `types.RcWeak`, at this block
+    grows : (n : ℕ) → n + 1 < 2 ^ 64 → ent 𝓤 (sem 𝓛 (lent_out a n)) (sep 𝓤 (sem 𝓛 (lent_out a (n + 1))) (sem 𝓛 (part a)))
+    grows = rc.more 64 key (counts R c x) (λ _. ftrue) (rest R c x) ftrue ftrue 𝓛 a
+
+    shrinks : (n : ℕ) → 1 < n → ent 𝓤 (sep 𝓤 (sem 𝓛 (lent_out a n)) (sem 𝓛 (part a))) (sem 𝓛 (lent_out a (n - 1)))
+    shrinks = rc.less 64 key (counts R c x) (λ _. ftrue) (rest R c x) ftrue ftrue 𝓛 a
+
     sealed : (m n w : ℕ) → ent 𝓤 (mean 𝓛 (Among m (n, w))) (mean 𝓛 (Inside m))
     sealed m n w = ex_i 𝓤 (λ (u : ℕ × ℕ). mean 𝓛 (Among m u)) (n, w)
 
@@ -112,8 +119,7 @@ module _ (R : RattleType) (L : Laws R) (c : Ptr) (x : R.Denot) where
         use1 𝓛 (given (m ≡ u.0) (‵ ftrue)) (counted u.0 m (omega (arith, room))) $ learn ! (λ same. let fits : u.0 + 1 < most = omega (arith, room, same) in
         use1 𝓛 (‵ (said R c x (u.0 + 1) (u.0 + 1))) (say (u.0 + 1) fits) $
         rewrite ! 0 (λ (j : ℕ). ‵ (said R c x (u.0 + 1) j)) (ap (λ (j : ℕ). j + 1) (sym same)) refl $
-        move ! (1 ∷ []) $ split3 ! $ use1 𝓛 (‵ (lent_out a (u.0 + 1)) ⊛ ‵ (part a)) (rc.more 64 key (counts R c x) (λ _.
-        ftrue) (rest R c x) ftrue ftrue 𝓛 a u.0 (omega (arith, fits))) $ split ! $
+        move ! (1 ∷ []) $ split3 ! $ use1 𝓛 (‵ (lent_out a (u.0 + 1)) ⊛ ‵ (part a)) (grows u.0 (omega (arith, fits))) $ split ! $
         -- [the value; the part; the block; what shuts; what is said]
         move ! (4 ∷ 0 ∷ 2 ∷ 3 ∷ []) $ group ! 4 $ use1 𝓛 (Inside (m + 1)) (sealed (m + 1) (u.0 + 1) u.1) $ done !))
 
@@ -121,11 +127,10 @@ module _ (R : RattleType) (L : Laws R) (c : Ptr) (x : R.Denot) where
     one_less m low many = qed 𝓛 (Inside m ∷ ‵ (part a) ∷ []) ∵ pick ! (λ u. split ! $
         use1 𝓛 (given (m ≡ u.0) (‵ ftrue)) (counted u.0 m low) $ learn ! (λ same. move ! (1 ∷ []) $ split3 ! $
         use1 𝓛 (given (0 < u.0) (‵ (lent_out a u.0))) (some_left u.0) $ learn ! (λ some_n. let fits : u.0 - 1 < most = omega (arith, low, same) in
-        move ! (0 ∷ 4 ∷ []) $ use2 𝓛 (‵ (lent_out a (u.0 - 1))) (rc.less 64 key (counts R c x) (λ _.
-        ftrue) (rest R c x) ftrue ftrue 𝓛 a u.0 (omega (arith, λ (one : u.0 ≡ 1). many (same ∙ one), some_n))) $
+        move ! (0 ∷ 4 ∷ []) $ use2 𝓛 (‵ (lent_out a (u.0 - 1))) (shrinks u.0 (omega (arith, λ (one : u.0 ≡ 1). many (same ∙ one), some_n))) $
         -- [the value; the block; what shuts; nothing]
         move ! (3 ∷ []) $ use1 𝓛 (‵ (said R c x (u.0 - 1) (u.0 - 1))) (say (u.0 - 1) fits) $
-            rewrite ! 0 (λ (j : ℕ). ‵ (said R c x (u.0 - 1) j)) (ap (λ (j : ℕ). j - 1) (sym same)) refl $
+        rewrite ! 0 (λ (j : ℕ). ‵ (said R c x (u.0 - 1) j)) (ap (λ (j : ℕ). j - 1) (sym same)) refl $
         group ! 4 $ use1 𝓛 (Inside (m - 1)) (sealed (m - 1) (u.0 - 1) u.1) $ done !)))
 
     pub leaves : (m : ℕ) → ent 𝓤 (sep 𝓤 (sem 𝓛 (count_at c m)) (mean 𝓛 (Inside m))) (H.⇛ (A.tok every))
@@ -139,8 +144,8 @@ module _ (R : RattleType) (L : Laws R) (c : Ptr) (x : R.Denot) where
     none_left = qed 𝓛 (Inside 1 ∷ ‵ (part a) ∷ []) ∵ updating ! $ pick ! (λ u. split ! $
         use1 𝓛 (given (1 ≡ u.0) (‵ ftrue)) (counted u.0 1 (lit< tt)) $ learn ! (λ only. drop ! $ split3 ! $
         rewrite ! 0 (λ (j : ℕ). ‵ (lent_out a j)) (sym only) refl $ move ! (0 ∷ 3 ∷ []) $
-        use2 𝓛 (later (‵ (rest R c x) ⊛ ‵ (rc.part 64 a.1) ⊛ raw (wand 𝓤 (sem 𝓛 ftrue) (sem 𝓛 nobody)))) (rc.last 64 key (counts R c x) (λ _.
-        ftrue) (rest R c x) ftrue ftrue 𝓛 a) $ await ! tt $ split3 ! $
+        use2 𝓛 (later (‵ (rest R c x) ⊛ ‵ (rc.part 64 a.1) ⊛ raw (wand 𝓤 (sem 𝓛 ftrue) (sem 𝓛 nobody)))) (rc.last 64 key (counts R c x) (λ _. ftrue)
+        (rest R c x) ftrue ftrue 𝓛 a) $ await ! tt $ split3 ! $
         -- [all but the count; the block's part; the wand; the block; what shuts]
         move ! (2 ∷ []) $ nothing ! $ use2 𝓛 (‵ nobody) (apply∗ 𝓤 (sem 𝓛 ftrue) (sem 𝓛 nobody)) $
         nothing ! $ feq_i ! ℕ 0 0 refl $ fpack ! Bool (counting R c x 0) false $ move ! (0 ∷ 1 ∷ 2 ∷ 5 ∷ 6 ∷ []) $ group ! 5 $
@@ -156,8 +161,7 @@ module _ (R : RattleType) (L : Laws R) (c : Ptr) (x : R.Denot) where
     gives_away : (n : ℕ) → n + 1 < 2 ^ 64 → ent 𝓤 (sep 𝓤 (sem 𝓛 (lent_out a n)) (sem 𝓛 (seen R c x (shared_for a))))
         (H.⇛ (sep 𝓤 (sem 𝓛 (lent_out a (n + 1))) (sem 𝓛 (seen R c x []))))
     gives_away n room = qed 𝓛 (‵ (lent_out a n) ∷ ‵ (seen R c x (shared_for a)) ∷ []) ∵ updating ! $
-        use1 𝓛 (‵ (lent_out a (n + 1)) ⊛ ‵ (part a)) (rc.more 64 key (counts R c x) (λ _. ftrue) (rest R c x) ftrue ftrue 𝓛 a n room) $ split ! $
-        move ! (1 ∷ []) $
+        use1 𝓛 (‵ (lent_out a (n + 1)) ⊛ ‵ (part a)) (grows n room) $ split ! $ move ! (1 ∷ []) $
         fpick ! (λ e. fpick ! (λ one. bor_new ! tt [] $ bor_fracture ! tt (λ q. flft (shared_for a) q) e $ move ! (0 ∷ 3 ∷ []) $
         use2 𝓛 (‵ (seen R c x [])) (moves_from 𝓛 (seen R c x) sees [] (shared_for a) (shared_for a) (meet_⊑_left (shared_for a) [])) $
         move ! (2 ∷ 0 ∷ []) $ now ! $ keep ! (0 ∷ 1 ∷ []) $ done !))
@@ -223,7 +227,7 @@ module _ (R : RattleType) (L : Laws R) (c : Ptr) (x : R.Denot) where
         let ν : Lft = shared_for a in let l : Lft = ν ++ μ in let value = lies_at R full_share (c +ₚ value_offset R c x) x in
         let lends : Lends 𝓛 (rest R c x) (seen R c x) l = Lends-first 𝓛 value (fsep (left_at (block_type R c x) (field_types R c x) c)
         (may_free (block_type R c x) c)) (seen R c x) l
-          (Lends-lies 𝓛 R l (c +ₚ value_offset R c x) x (Shares-less 𝓛 R R.lives l (Incl-trans (meet_⊑_right ν μ) inc) (L.shares 𝓛) x)) in
+        (Lends-lies 𝓛 R l (c +ₚ value_offset R c x) x (Shares-less 𝓛 R R.lives l (Incl-trans (meet_⊑_right ν μ) inc) (L.shares 𝓛) x)) in
         move ! (0 ∷ 2 ∷ []) $ join ! $ move ! (1 ∷ 0 ∷ []) $
         use2 𝓛 (later (‵ (seen R c x ν) ⊛ ‵ (flft ν e) ⊛ ‵ (flft μ q))) (lends ν ((ν, e) ∷ (μ, q) ∷ []) (λ y m. m) (meet_⊑_left ν μ)) $ await ! tt $
         split3 ! $ move ! (1 ∷ []) $
@@ -249,7 +253,7 @@ module _ (R : RattleType) (L : Laws R) (c : Ptr) (x : R.Denot) {M : Type 1} {�
   looks_in κ q = qed 𝓛 (‵ (fhide (owner_lends R c x κ)) ∷ ‵ (flft κ q) ∷ []) ∵ updating ! $ unhide ! $ fpick ! (λ a. fsplit3 ! $
       -- [the shares of the owners' token; the invariant; what is seen; the token]
       move ! (0 ∷ 3 ∷ []) $ shr_bor-open ! tt (tokens_halve 𝓛 (shared_for a)) (λ s. move ! (2 ∷ 3 ∷ 1 ∷ 0 ∷ []) $ now ! $
-          show ! (λ (u : Name × Share). mean 𝓛 (Lent κ q u)) (a, s) $ frame ! $ frame ! $ frame ! $
+      show ! (λ (u : Name × Share). mean 𝓛 (Lent κ q u)) (a, s) $ frame ! $ frame ! $ frame ! $
       assume ! (‵ (flft (shared_for a) s)) $ updating ! $ move ! (1 ∷ 0 ∷ []) $ obor_close ! tt $ drop ! $ now ! $ done !))
 
   -- the count of a block with one owner

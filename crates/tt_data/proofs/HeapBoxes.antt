@@ -2,14 +2,14 @@
 --     handle, boxed      the heap's handle under the bound `Allocator`, and a box of it, in `std_alloc`'s words
 --     Raw, into_raw_asks, into_raw_gives      the first contract, its beginning and its end.        Whole, from_raw_asks, from_raw_gives      the second's
 -- A token of the value's lifetime is cut in two for each call, since the handle has a lifetime too. Assumes `Logic`.
-use Rattle.std.proofs.Common.{◌≡◌, refl, sym, ap, subst, ℕ, List, [], ◌∷◌}
+use Rattle.std.proofs.Common.{◌≡◌, refl, sym, ap, subst, List, [], ◌∷◌}
 use seplogic.Ra.Ura.{Ura}
 use base.Share
 use mir.Syntax.{Dict, impl, tcons, tnil, dnil}
 use mir.Raw.{raw as bare}
 use mir.Val.{Val}
-use base.Logic.{SProp, ent, sep, ex, guard, id⊢, never, fst∗, emp}
-use base.Fml.{Lft, Share, ftrue, fex, flft}
+use base.Logic.{SProp, ent, sep, ex, guard, id⊢, emp}
+use base.Fml.{Lft, Share, ftrue, flft}
 use prog.Memory.{Memory}
 use prog.Routine.{Routine}
 use contract.BorrowLft.{◌⊑◌, ⊑_static}
@@ -36,7 +36,7 @@ use Rattle.std_alloc.specs.contracts.boxed.Box.from_raw as from
 use Rattle.core.proofs.cell.Inside.{Good}
 use Rattle.std_alloc.proofs.BoxSteps.Form as box
 use Rattle.std_alloc.proofs.BoxSteps.Steps.{box_out, box_in}
-use Rattle.tt_data.specs.SharedBlock.{may_free, bare_owns}
+use Rattle.tt_data.specs.SharedBlock.{bare_owns}
 
 -- the type `Global`, as an argument
 abbrev pub Heap : RattleType

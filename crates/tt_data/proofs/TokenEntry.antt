@@ -11,7 +11,6 @@ use prog.Model.{Model}
 use prog.Wp.{WpFn, Closed, Tables}
 use contract.Beside.{Carries}
 use contract.Monad.{fact_use}
-use contract.Named.{bare_unfolds}
 use contract.Running.{Running, bare_tables, tables_of}
 use sound.WpLaws.{WpFn-mono}
 use types.Logic.{Logic, sem}
@@ -57,6 +56,6 @@ module _ {M : Type 1} {𝓤 : Ura M} (𝓛 : Logic 𝓤) (𝓜 : Model 𝓤 𝓛
         → Meets 𝓛 E.signature (𝓡.run (𝓡.env k)) (closing 𝓛 E c)
     unfolding tables_of
     walks_with_token gone k e closed walk =
-        let meets = walk_Meets 𝓛 E stays gone asked (WpFn 𝓤 𝓛.H calls.C calls.Λ e) (WpFn-mono 𝓤 𝓛.H 𝓛.laws calls e) (λ y.
-        fact_use 𝓤 (Known y) (tells y) (walk y)) in
+        let meets = walk_Meets 𝓛 E stays gone asked (WpFn 𝓤 𝓛.H calls.C calls.Λ e) (WpFn-mono 𝓤 𝓛.H 𝓛.laws calls e) (λ y. fact_use 𝓤 (Known y)
+        (tells y) (walk y)) in
         hands 𝓛 E token c 𝓜 inner 𝓡 (𝓡.env k) (entered 𝓤 𝓛.H (triple_of 𝓛 E.signature (closing 𝓛 E asked)) calls.C calls.Λ k e closed meets)

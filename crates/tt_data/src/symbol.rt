@@ -8,7 +8,6 @@ ghost use Rattle.std.proofs.Common.{rules};
 ghost use Rattle.tt_data.specs.SymbolText.{text_of};
 
 pub(crate) mod shared;
-
 #[cfg(test)]
 mod tests;
 

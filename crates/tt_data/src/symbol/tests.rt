@@ -93,7 +93,10 @@ fn dropped_texts_give_their_memory_back(rt: HostRuntime) -> Result<(), Fail> {
     }
     let after = resident_pages(&rt);
     assert_eq!(rt; equal, 1_000_000);
-    assert!(rt; after.saturating_sub(before) < 64, "{before} pages, then {after}");
+    assert!(rt;
+        after.saturating_sub(before) < 64,
+        "{before} pages, then {after}"
+    );
     Ok(())
 }
 

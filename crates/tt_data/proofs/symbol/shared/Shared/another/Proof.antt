@@ -1,6 +1,6 @@
 -- `another` makes one more owner, or finds the count full.
 use contract.Running.{tables_of}
-use Rattle.tt_data.proofs.WalkWords.{ℕ, ◌+◌, ◌-◌, ◌<◌, ◌^◌, List, [], ◌∷◌, ◌++◌, refl, sym, ap, subst, lit<, arith, nleb→lt, Sym, a_type, inst_fn, Val, vptr, vcons, vnil, ent, id⊢, every, fhide, ftrue, flft, ftok, Wp, WpFn, after_block, after_seq, at_return, ‵, raw, ◌⊛◌, at_ret, any_q, ◌$◌, ◌∵◌, !, qed, move, keep, drop, split, join, fsplit, fjoin, suffices, use0, use1, use3, frame, done, stop, fld, load, look, lit, neg_lit, bin, store, of_opd, and_then, no_more, assigns_last, first, blocks, branches, skips, exec, returns, returns_within, enter, well_typed, alloc_all, pass_all, free_all, look_at, get, through, sets, is, env, live, agg, sub, whole, look_in, bare_unfolds, RefOf, yes, hidden_shr, layouts, RattleType, owns, Ptr, ptr_val, types_at, plain, nothing, Stays, stay_dropped, walk_of, says, ends_at, Goes-dropped, None, Some, Some-of, none_of, after, head, inside, Word, word, word_ty, word-Good, word_made, some_Good}
+use Rattle.tt_data.proofs.WalkWords.{◌+◌, ◌-◌, ◌<◌, ◌^◌, List, [], ◌∷◌, ◌++◌, refl, sym, ap, lit<, arith, nleb→lt, Sym, a_type, inst_fn, Val, vptr, vcons, vnil, id⊢, every, fhide, ftrue, flft, ftok, Wp, WpFn, after_block, after_seq, at_return, ‵, raw, ◌⊛◌, at_ret, any_q, ◌$◌, ◌∵◌, !, qed, move, keep, drop, split, join, fsplit, fjoin, suffices, use0, use1, use3, frame, done, stop, fld, load, look, lit, neg_lit, bin, store, of_opd, and_then, no_more, assigns_last, first, blocks, branches, skips, exec, returns, returns_within, enter, well_typed, alloc_all, pass_all, free_all, look_at, get, through, sets, is, env, live, agg, sub, whole, look_in, bare_unfolds, RefOf, yes, hidden_shr, layouts, RattleType, owns, Ptr, ptr_val, types_at, plain, nothing, Stays, stay_dropped, walk_of, says, ends_at, Goes-dropped, None, Some, Some-of, none_of, after, head, inside, Word, word, word_ty, word-Good, word_made, some_Good}
 use Rattle.core.specs.contracts.option.Option as options
 use Rattle.tt_data.specs.SharedBlock.{most, owner_owns, owner_lends}
 use Rattle.tt_data.specs.contracts.symbol.shared.Shared as owners
@@ -23,7 +23,7 @@ another_spec 𝓤 𝓛 𝓜 𝓡 wired T L =
     walks_with_token 𝓛 𝓜 𝓡 end stayed c (Goes-dropped 𝓛 2 (RefOf (0 ∷ []) tt (plain (λ _. Out)) (λ _. tt)) yes (λ κs x w. refl), tt) (f.Key.name inst) fn
     (bare_unfolds 𝓤 𝓛.H (inner 𝓛 𝓜 𝓡).inner 𝓡.allowed 𝓡.how 𝓡.env (f.Key.name inst) fn (wired.0.0 (f.Key.name inst) refl)) (λ y are.
     let κ = y.0.0.0 in let q = y.0.1.0 in let others = ‵ (flft y.0.0.1.0 y.0.1.1.0) ⊛ ‵ ftrue in let p : Ptr = y.0.3.0.now.block in
-        let x = y.0.3.0.now.value in let b = y.0.3.0.ref_ptr.0 in let o = y.0.3.0.ref_ptr.1 in
+    let x = y.0.3.0.now.value in let b = y.0.3.0.ref_ptr.0 in let o = y.0.3.0.ref_ptr.1 in
     let Post = (walk_of 𝓛 end stayed held).post y in let Run = λ (us : List Val). WpFn 𝓤 𝓛.H 𝓣.C 𝓣.Λ fn us Post in
     qed 𝓛 (((‵ (flft κ q) ⊛ others) ⊛ ‵ (owns (types_at end.signature.params y.0.0) y.0.3 y.0.4)) ∷ (‵ (ftok every) ⊛ raw
     ((c y.0.0 y.0.3).requires y.1)) ∷ []) ∵

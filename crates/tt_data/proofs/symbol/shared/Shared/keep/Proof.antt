@@ -1,6 +1,6 @@
 -- `keep` sets the count to its maximum, and the value stays for good.
 use contract.Running.{tables_of}
-use Rattle.tt_data.proofs.WalkWords.{ℕ, ◌+◌, List, [], ◌∷◌, ◌++◌, refl, sym, ap, subst, lit<, Sym, a_type, inst_fn, Val, vptr, ent, id⊢, every, fhide, ftrue, flft, ftok, WpFn, ‵, raw, ◌⊛◌, later, at_ret, ◌$◌, ◌∵◌, !, qed, move, keep, drop, split, join, fsplit, fjoin, suffices, use1, use2, await, rewrite, feq_i, frame, done, stop, fld, addr, load, neg_lit, store, of_opd, assigns, first, blocks, exec, returns, enter, alloc_all, pass_all, free_all, look_at, get, through, sets, sets_last, is, env, sub, whole, look_in, bare_unfolds, RefOf, yes, hidden_shr, hide, layouts, RattleType, owns, Ptr, ptr_val, ◌+ₚ◌, types_at, plain, nothing, lent_at, Stays, stay_dropped, walk_of, says, ends_at, Goes-dropped, after, Word}
+use Rattle.tt_data.proofs.WalkWords.{◌+◌, List, [], ◌∷◌, ◌++◌, refl, ap, lit<, Sym, a_type, inst_fn, Val, vptr, id⊢, every, fhide, ftrue, flft, ftok, WpFn, ‵, raw, ◌⊛◌, later, at_ret, ◌$◌, ◌∵◌, !, qed, move, keep, drop, split, join, fsplit, fjoin, suffices, use1, use2, await, rewrite, feq_i, frame, done, stop, fld, addr, load, neg_lit, store, of_opd, assigns, first, blocks, exec, returns, enter, alloc_all, pass_all, free_all, look_at, get, through, sets, sets_last, is, env, sub, whole, look_in, bare_unfolds, RefOf, yes, hidden_shr, hide, layouts, RattleType, owns, Ptr, ptr_val, ◌+ₚ◌, types_at, plain, nothing, lent_at, Stays, stay_dropped, walk_of, says, ends_at, Goes-dropped, after, Word}
 use Rattle.tt_data.specs.SharedBlock.{most, seen, value_offset, owner_lends}
 use Rattle.tt_data.specs.contracts.symbol.shared.Shared as owners
 use Rattle.tt_data.specs.contracts.symbol.shared.Shared.keep as f
@@ -22,7 +22,7 @@ keep_spec 𝓤 𝓛 𝓜 𝓡 wired T L =
     walks_with_token 𝓛 𝓜 𝓡 end stayed c (Goes-dropped 𝓛 2 (RefOf (0 ∷ []) tt (plain (λ _. Out)) (λ _. tt)) yes (λ κs x w. refl), tt) (f.Key.name inst) fn
     (bare_unfolds 𝓤 𝓛.H (inner 𝓛 𝓜 𝓡).inner 𝓡.allowed 𝓡.how 𝓡.env (f.Key.name inst) fn (wired.0.0 (f.Key.name inst) refl)) (λ y are.
     let κ = y.0.0.0 in let q = y.0.1.0 in let others = ‵ (flft y.0.0.1.0 y.0.1.1.0) ⊛ ‵ ftrue in let p : Ptr = y.0.3.0.now.block in
-        let x = y.0.3.0.now.value in let b = y.0.3.0.ref_ptr.0 in let o = y.0.3.0.ref_ptr.1 in
+    let x = y.0.3.0.now.value in let b = y.0.3.0.ref_ptr.0 in let o = y.0.3.0.ref_ptr.1 in
     let Post = (walk_of 𝓛 end stayed held).post y in let Run = λ (us : List Val). WpFn 𝓤 𝓛.H 𝓣.C 𝓣.Λ fn us Post in
     qed 𝓛 (((‵ (flft κ q) ⊛ others) ⊛ ‵ (owns (types_at end.signature.params y.0.0) y.0.3 y.0.4)) ∷ (‵ (ftok every) ⊛ raw
     ((c y.0.0 y.0.3).requires y.1)) ∷ []) ∵
@@ -43,7 +43,7 @@ keep_spec 𝓤 𝓛 𝓜 𝓡 wired T L =
     move ! (2 ∷ 0 ∷ 3 ∷ 4 ∷ []) $ shuts T L p x ν κ q b o ! tt a s r most cb co at $
     -- [the thread's token; the `&`'s; what is seen for good; the invariant; the others]
     move ! (2 ∷ []) $ rewrite ! 0 (λ (s' : Ptr). ‵ (lent_at Z (s' +ₚ into) x [])) at refl $ fsplit ! $ drop ! $ hide ! $
-        feq_i ! (List Val) (got ∷ []) (got ∷ []) refl $ fjoin ! $
+    feq_i ! (List Val) (got ∷ []) (got ∷ []) refl $ fjoin ! $
     returns ! (look_at ! 0 refl) $ free_all ! refl $ keep ! (0 ∷ 2 ∷ 4 ∷ 1 ∷ []) $
     suffices ! _ (ends_at 𝓛 end stayed held y got (record { ref_ptr = (cb, co + into); now = x }) (tt, tt) (tt, tt)) $ nothing ! $ nothing ! $
     fjoin ! $ join ! $ move ! (1 ∷ 2 ∷ []) $ join ! $ join ! $ frame ! $ says ! refl $ done !)))

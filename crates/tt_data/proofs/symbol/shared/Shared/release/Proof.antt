@@ -1,13 +1,13 @@
 -- `release` gives an owner's part back. The last owner gets the block.
 use contract.Running.{tables_of}
-use Rattle.tt_data.proofs.WalkWords.{◌≡◌, ℕ, ◌-◌, ◌<◌, ◌^◌, List, [], ◌∷◌, ◌++◌, refl, sym, ap, subst, lit<, arith, Sym, a_type, inst_fn, Val, vptr, vcons, vnil, ent, id⊢, never, every, ftrue, flft, ftok, Wp, WpFn, after_block, after_seq, at_return, ‵, raw, ◌⊛◌, later, at_ret, any_q, ◌$◌, ◌∵◌, !, qed, move, keep, drop, split, split3, join, fsplit, fsplit3, fjoin, fpick, pick, learn, suffices, use0, use1, use2, use3, await, rewrite, frame, done, stop, fld, load, look, lit, neg_lit, bin, store, of_opd, and_then, no_more, assigns, first, blocks, branches, skips, exec, returns, returns_within, enter, well_typed, alloc_all, pass_all, free_all, look_at, get, get_in, through, sets, is, env, live, agg, sub, whole, bare_unfolds, no, layouts, RattleType, owns, Ptr, block_ptr, ptr_val, in_a_block, types_at, plain, nothing, Stays, stay_dropped, walk_of, says, ends_at, Goes-dropped, None, Some, Some-of, none_of, after, head, inside, word, word_ty, word-Good, word_had, word_made, some_Good, is_not, is_so}
+use Rattle.tt_data.proofs.WalkWords.{◌≡◌, ℕ, ◌-◌, ◌<◌, ◌^◌, List, [], ◌∷◌, ◌++◌, refl, sym, ap, lit<, arith, Sym, a_type, inst_fn, Val, vcons, vnil, id⊢, never, every, ftrue, flft, ftok, Wp, WpFn, after_block, after_seq, at_return, ‵, raw, ◌⊛◌, later, at_ret, any_q, ◌$◌, ◌∵◌, !, qed, move, keep, drop, split, split3, join, fsplit, fsplit3, fjoin, fpick, pick, learn, suffices, use0, use1, use2, use3, await, rewrite, frame, done, stop, fld, load, look, lit, neg_lit, bin, store, of_opd, and_then, no_more, assigns, first, blocks, branches, skips, exec, returns, returns_within, enter, well_typed, alloc_all, pass_all, free_all, look_at, get, get_in, through, sets, is, env, live, agg, sub, whole, bare_unfolds, no, layouts, RattleType, owns, Ptr, block_ptr, ptr_val, in_a_block, types_at, plain, nothing, Stays, stay_dropped, walk_of, says, ends_at, Goes-dropped, None, Some, Some-of, none_of, after, head, inside, word, word_ty, word-Good, word_had, word_made, some_Good, is_not, is_so}
 use Rattle.core.specs.contracts.option.Option as options
 use Rattle.tt_data.specs.SharedBlock.{most, count_at, rest, bare_owns}
 use Rattle.tt_data.specs.contracts.symbol.shared.Bare as bares
 use Rattle.tt_data.specs.contracts.symbol.shared.Shared as owners
 use Rattle.tt_data.specs.contracts.symbol.shared.Shared.release as f
 use Rattle.tt_data.proofs.BlockFields.{Block, together}
-use Rattle.tt_data.proofs.CountedBlock.{word_at, part, Inside, Entered, owner_enters, leaves, one_less, none_left}
+use Rattle.tt_data.proofs.CountedBlock.{Inside, Entered, owner_enters, leaves, one_less, none_left}
 use Rattle.tt_data.proofs.HeapBoxes.{boxed}
 use Rattle.tt_data.proofs.OwnerWalks.{at_words, R, LR}
 use Rattle.tt_data.proofs.TokenEntry.{inner, calls, asked, walks_with_token}
@@ -26,7 +26,7 @@ release_spec 𝓤 𝓛 𝓜 𝓡 wired T L =
     walks_with_token 𝓛 𝓜 𝓡 end stayed c (Goes-dropped 𝓛 1 (plain (λ _. owners.the_row Z)) no (λ κs x w. refl), tt) (f.Key.name inst) fn
     (bare_unfolds 𝓤 𝓛.H (inner 𝓛 𝓜 𝓡).inner 𝓡.allowed 𝓡.how 𝓡.env (f.Key.name inst) fn (wired.0.0 (f.Key.name inst) refl)) (λ y are.
     let κ = y.0.0.0 in let q = y.0.1.0 in let toks = ‵ (flft κ q) ⊛ ‵ ftrue in let p : Ptr = y.0.3.0.block in let x = y.0.3.0.value in
-        let Post = (walk_of 𝓛 end stayed held).post y in let Run = λ (us : List Val). WpFn 𝓤 𝓛.H 𝓣.C 𝓣.Λ fn us Post in
+    let Post = (walk_of 𝓛 end stayed held).post y in let Run = λ (us : List Val). WpFn 𝓤 𝓛.H 𝓣.C 𝓣.Λ fn us Post in
     qed 𝓛 ((toks ⊛ ‵ (owns (types_at end.signature.params y.0.0) y.0.3 y.0.4)) ∷ (‵ (ftok every) ⊛ raw ((c y.0.0 y.0.3).requires y.1)) ∷ []) ∵
     move ! (1 ∷ []) $ split ! $ move ! (1 ∷ []) $ drop ! $ move ! (1 ∷ []) $ split ! $ move ! (1 ∷ []) $ fsplit ! $ fsplit ! $
     word_had E νo p ! y.0.4.0 (λ ep.
@@ -69,7 +69,7 @@ release_spec 𝓤 𝓛 𝓜 𝓡 wired T L =
     use2 𝓛 (later (‵ (rest Z p x) ⊛ ‵ (ftok every))) (none_left Z LZ p x 𝓛 a) $ await ! tt $ split ! $
     -- [all but the count; the thread's token; the count; nothing; the tokens]
     rewrite ! 0 (λ (s : Ptr). ‵ (rest Z s x)) at refl $ move ! (2 ∷ 0 ∷ []) $ use2 𝓛 (‵ (bare_owns B (block_ptr cb co) d)) (together T L 𝓛 cb co d) $
-        rewrite ! 0 (λ (s : Ptr). ‵ (bare_owns B s d)) (sym at) refl $
+    rewrite ! 0 (λ (s : Ptr). ‵ (bare_owns B s d)) (sym at) refl $
     word_made E νb p ! $ fjoin ! $ use1 𝓛 (‵ ((options.the_row Out).own_val (Some made) (live 1 (vcons (word p) vnil) ∷ []))) (Some-of 𝓛 Out made (word p)) $
     returns ! (look_at ! 0 refl) $ free_all ! refl $ keep ! (0 ∷ 3 ∷ 1 ∷ []) $
     suffices ! _ (ends_at 𝓛 end stayed held y (live 1 (vcons (word p) vnil)) (Some made) (tt, tt) (tt, tt)) $ nothing ! $ nothing ! $ fjoin ! $
