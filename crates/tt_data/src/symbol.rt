@@ -28,7 +28,7 @@ enum Held {
 /// Text that any number of owners share.
 ///
 /// A clone takes no memory and is never refused, and the text is freed with the last of them.
-/// (After 2^64 - 2 clones of one text, that text is never freed.)
+/// A text that has 2^64 - 2 owners at once is kept for good by the next clone.
 pub struct Symbol {
     held: Held,
 }
@@ -40,11 +40,11 @@ impl Model for Symbol {
 }
 
 impl Symbol {
-    /// A symbol with this text, which is copied.
+    /// A symbol with this text, which is copied. It takes two blocks of memory: the copy, and the count of its owners.
     ///
     /// # Errors
     ///
-    /// `AllocError` if `alloc` has no room for the copy.
+    /// `AllocError` if `alloc` has no room for one of them.
     pub fn new(alloc: Global, text: &str) -> Result<Symbol, AllocError>
         ensures { IfOk result (λ s. s ≡ text.now) }
     {
