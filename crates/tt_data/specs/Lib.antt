@@ -10,3 +10,6 @@ pub mod Outcome
 -- a forest and its flat list give each other back
 pub mod Flat
 pub mod Coded
+-- a symbol's text, and the block that its owners share
+pub mod SymbolText
+pub mod SharedBlock
