@@ -1,4 +1,8 @@
 // Calls: a name, `!` and a visible group, side by side.
+ghost use Rattle.std.specs.Prelude.{◌≡◌, Option};
+ghost use Rattle.expander.specs.Calls.{is_colons};
+ghost use Rattle.expander.specs.CallSteps.{bare_call, call_behind_colons, crate_call, call_at};
+
 use crate::first_trees::{first_group, first_ident, first_punct};
 use tt::view::TtIter;
 use tt_data::delimiter::DelimiterKind;
@@ -14,12 +18,16 @@ pub(crate) struct Call<'a> {
 }
 
 // Whether two puncts are a `::`.
-fn is_colons(first: Punct, second: Punct) -> bool {
+fn is_colons(first: Punct, second: Punct) -> bool
+    ensures { result ≡ is_colons first second }
+{
     first.char == ':' && second.char == ':' && first.spacing != Spacing::Alone
 }
 
 // A name, `!` and a visible group.
-fn bare_call<'a>(trees: &TtIter<'a>) -> Option<Call<'a>> {
+fn bare_call<'a>(trees: &TtIter<'a>) -> Option<Call<'a>>
+    ensures { result ≡ bare_call trees.now }
+{
     let (name, after_name) = first_ident(trees)?;
     let (bang, after_bang) = first_punct(&after_name)?;
     if bang.char != '!' {
@@ -37,20 +45,26 @@ fn bare_call<'a>(trees: &TtIter<'a>) -> Option<Call<'a>> {
 }
 
 /// What would be a call, but stands behind a `::` with which the trees begin.
-pub(crate) fn call_behind_colons<'a>(trees: &TtIter<'a>) -> Option<Call<'a>> {
+pub(crate) fn call_behind_colons<'a>(trees: &TtIter<'a>) -> Option<Call<'a>>
+    ensures { result ≡ call_behind_colons trees.now }
+{
     let (first, after_first) = first_punct(trees)?;
     let (second, after_colons) = first_punct(&after_first)?;
     if is_colons(first, second) { bare_call(&after_colons) } else { None }
 }
 
 // A call with its `$crate ::`.
-fn crate_call<'a>(trees: &TtIter<'a>) -> Option<Call<'a>> {
+fn crate_call<'a>(trees: &TtIter<'a>) -> Option<Call<'a>>
+    ensures { result ≡ crate_call trees.now }
+{
     let (name, after_name) = first_ident(trees)?;
     if name.sym.as_str() == "$crate" { call_behind_colons(&after_name) } else { None }
 }
 
 /// The call with which the trees begin.
-pub(crate) fn call_at<'a>(trees: &TtIter<'a>) -> Option<Call<'a>> {
+pub(crate) fn call_at<'a>(trees: &TtIter<'a>) -> Option<Call<'a>>
+    ensures { result ≡ call_at trees.now }
+{
     match crate_call(trees) {
         Some(call) => Some(call),
         None => bare_call(trees),

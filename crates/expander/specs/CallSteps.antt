@@ -1,0 +1,37 @@
+-- A call as it is met from the left.
+use Rattle.std.specs.Prelude.{Bool, Option, Some, None, codes}
+use Rattle.tt_data.specs.Forest.{Forest}
+use Rattle.expander.specs.declared.calls.Call.{Call}
+use Rattle.expander.specs.Calls.{is_colons, is_dollar_crate}
+use Rattle.expander.specs.Definitions.{or_else}
+use Rattle.expander.specs.FirstTrees.{◌>>=◌, ◌>>◌, first_ident, first_punct, first_group}
+use Rattle.expander.specs.Text.{is_char, is_visible}
+
+-- a name, `!` and a visible group
+abbrev pub bare_call : Forest → Option Call
+bare_call f = do
+  (name, after_name) ← first_ident f
+  (bang, after_bang) ← first_punct after_name
+  is_char "!" bang
+  (brackets, argument, rest) ← first_group after_bang
+  is_visible brackets.kind
+  Some (record { name = name; argument = argument; rest = rest })
+
+-- what would be a call, but for the `::` before it
+abbrev pub call_behind_colons : Forest → Option Call
+call_behind_colons f = do
+  (first, after_first) ← first_punct f
+  (second, after_colons) ← first_punct after_first
+  is_colons first second
+  bare_call after_colons
+
+-- a call with its `$crate ::`
+abbrev pub crate_call : Forest → Option Call
+crate_call f = do
+  (name, after_name) ← first_ident f
+  is_dollar_crate name
+  call_behind_colons after_name
+
+-- the call that a list begins with
+abbrev pub call_at : Forest → Option Call
+call_at f = or_else (crate_call f) (bare_call f)
