@@ -32,7 +32,7 @@ pub struct TopSubtreeBuilder {
     // The top's token, and those below it. The top and an open group count nothing yet.
     tokens: Vec<TokenTree>,
     // The open groups, the innermost last.
-    open: Vec<Opening>,
+    openings: Vec<Opening>,
 }
 
 impl Model for TopSubtreeBuilder {
@@ -46,11 +46,11 @@ impl Model for TopSubtreeBuilder {
 
     ghost view = { λ b. record {
         top = b.top;
-        groups = groups_of b.tokens.items (reverse b.open.items);
-        here = here_of b.tokens.items (reverse b.open.items);
+        groups = groups_of b.tokens.items (reverse b.openings.items);
+        here = here_of b.tokens.items (reverse b.openings.items);
     } };
 
-    ghost invariant = { λ b. IsHeld b.tokens.items (reverse b.open.items) × (length b.tokens.items ≤ 2 ^ 32) };
+    ghost invariant = { λ b. IsHeld b.tokens.items (reverse b.openings.items) × (length b.tokens.items ≤ 2 ^ 32) };
 }
 
 impl TopSubtreeBuilder {
@@ -75,7 +75,7 @@ impl TopSubtreeBuilder {
         Ok(TopSubtreeBuilder {
             top,
             tokens,
-            open: Vec::new(alloc),
+            openings: Vec::new(alloc),
         })
     }
 
@@ -117,7 +117,7 @@ impl TopSubtreeBuilder {
             kind: delimiter_kind,
             open_span,
         };
-        let Ok(()) = self.open.push(opening) else {
+        let Ok(()) = self.openings.push(opening) else {
             return Err(TtFault::Memory);
         };
         let delimiter = Delimiter {
@@ -128,7 +128,7 @@ impl TopSubtreeBuilder {
         match self.tokens.push(TokenTree::Subtree(Subtree { delimiter, len: 0 })) {
             Ok(()) => Ok(()),
             Err(_) => {
-                let _ = self.open.pop();
+                let _ = self.openings.pop();
                 Err(TtFault::Memory)
             }
         }
@@ -138,7 +138,7 @@ impl TopSubtreeBuilder {
     pub fn innermost(&self) -> Option<(DelimiterKind, Span)>
         ensures { result ≡ innermost_group self.now.groups }
     {
-        let opening = self.open.last()?;
+        let opening = self.openings.last()?;
         Some((opening.kind, opening.open_span))
     }
 
@@ -151,7 +151,7 @@ impl TopSubtreeBuilder {
         ensures err { OnErr result (self.new ≡ self.old) }
         ensures none_open { IsOk result ↔ (self.old.groups ≢ []) }
     {
-        let Some(opening) = self.open.pop() else {
+        let Some(opening) = self.openings.pop() else {
             return Err(TtFault::Place);
         };
         let delimiter = Delimiter {
@@ -173,10 +173,10 @@ impl TopSubtreeBuilder {
         ensures err { IfErr result (λ e. (e.0 ≡ self) × (e.1 ≡ TtFault.Place)) }
         ensures built { IsOk result ↔ (self.groups ≡ []) }
     {
-        if !self.open.is_empty() {
+        if !self.openings.is_empty() {
             return Err((self, TtFault::Place));
         }
-        let TopSubtreeBuilder { top, tokens, open: _ } = self;
+        let TopSubtreeBuilder { top, tokens, openings: _ } = self;
         Ok(TopSubtree {
             delimiter: top,
             tokens,

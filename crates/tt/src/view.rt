@@ -104,7 +104,7 @@ impl<'a> TtIter<'a> {
     pub fn peek(&self) -> Option<TtElement<'a>>
         ensures { result ≡ first_element self.now }
     {
-        let mut ahead = TtIter { tokens: self.tokens };
+        let mut ahead = self.remaining().iter();
         ahead.next()
     }
 

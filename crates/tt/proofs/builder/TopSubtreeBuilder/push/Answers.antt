@@ -7,7 +7,7 @@ use Rattle.tt.proofs.Held.{IsHeld-append, here_of-append, groups_of-append}
 use Rattle.tt.proofs.Limits.{counted, room_left}
 use Rattle.tt.proofs.builder.TopSubtreeBuilder.push.Goals as goal
 
-held : (c : goal.In-Ok) → IsHeld c.self.inside.tokens.items (reverse c.self.inside.open.items)
+held : (c : goal.In-Ok) → IsHeld c.self.inside.tokens.items (reverse c.self.inside.openings.items)
 held c = c.self.invariant.0
 
 pub invariant_of-self-2 : goal.invariant_of-self-2
