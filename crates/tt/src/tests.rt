@@ -35,30 +35,49 @@ fn punct(char: char, start: TextSize) -> Leaf
     })
 }
 
-// `+(-[]*)/`
-fn sample(alloc: Global) -> Result<TopSubtree, TtFault> {
-    let mut builder = TopSubtreeBuilder::new(alloc, top())?;
-    builder.push(punct('+', 0))?;
-    builder.open(DelimiterKind::Parenthesis, byte_at(1))?;
-    builder.push(punct('-', 2))?;
-    builder.open(DelimiterKind::Bracket, byte_at(3))?;
-    builder.close(byte_at(4))?;
-    builder.push(punct('*', 5))?;
-    builder.close(byte_at(6))?;
-    builder.push(punct('/', 7))?;
-    match builder.build() {
-        Ok(tree) => Ok(tree),
-        Err((_, fault)) => Err(fault),
+// Each of the next three calls once more where memory ran out: a refusal changed nothing.
+fn new_builder(alloc: Global) -> Result<TopSubtreeBuilder, TtFault> {
+    match TopSubtreeBuilder::new(alloc, top()) {
+        Err(TtFault::Memory) => TopSubtreeBuilder::new(alloc, top()),
+        answer => answer,
     }
 }
 
-// Builds the trees again.
+fn push(builder: &mut TopSubtreeBuilder, leaf: &Leaf) -> Result<(), TtFault> {
+    match builder.push(leaf.clone()?) {
+        Err(TtFault::Memory) => builder.push(leaf.clone()?),
+        answer => answer,
+    }
+}
+
+fn open(builder: &mut TopSubtreeBuilder, kind: DelimiterKind, at: Span) -> Result<(), TtFault> {
+    match builder.open(kind, at) {
+        Err(TtFault::Memory) => builder.open(kind, at),
+        answer => answer,
+    }
+}
+
+// `+(-[]*)/`
+fn sample(alloc: Global) -> Result<TopSubtree, TtFault> {
+    let mut builder = new_builder(alloc)?;
+    push(&mut builder, &punct('+', 0))?;
+    open(&mut builder, DelimiterKind::Parenthesis, byte_at(1))?;
+    push(&mut builder, &punct('-', 2))?;
+    open(&mut builder, DelimiterKind::Bracket, byte_at(3))?;
+    builder.close(byte_at(4))?;
+    push(&mut builder, &punct('*', 5))?;
+    builder.close(byte_at(6))?;
+    push(&mut builder, &punct('/', 7))?;
+    builder.build().map_err(|refused| refused.1)
+}
+
+// Builds these trees once more.
 fn rebuild(builder: &mut TopSubtreeBuilder, trees: TtIter<'_>) -> Result<(), TtFault> {
     for tree in trees {
         match tree {
-            TtElement::Leaf(leaf) => builder.push(leaf)?,
+            TtElement::Leaf(leaf) => push(builder, &leaf)?,
             TtElement::Subtree(head, inside) => {
-                builder.open(head.delimiter.kind, head.delimiter.open_span)?;
+                open(builder, head.delimiter.kind, head.delimiter.open_span)?;
                 rebuild(builder, inside)?;
                 builder.close(head.delimiter.close_span)?;
             }
@@ -69,10 +88,10 @@ fn rebuild(builder: &mut TopSubtreeBuilder, trees: TtIter<'_>) -> Result<(), TtF
 
 #[test]
 fn builds_again(rt: HostRuntime) -> Result<(), Fail> {
-    let tree = sample(rt.alloc()).ok().ok_or("no memory")?;
-    let mut builder = TopSubtreeBuilder::new(rt.alloc(), top()).ok().ok_or("no memory")?;
-    rebuild(&mut builder, tree.iter()).ok().ok_or("no memory")?;
-    let again = builder.build().ok().ok_or("open")?;
+    let tree = sample(rt.alloc()).ok().ok_or("refused")?;
+    let mut builder = new_builder(rt.alloc()).ok().ok_or("refused")?;
+    rebuild(&mut builder, tree.iter()).ok().ok_or("refused")?;
+    let again = builder.build().ok().ok_or("refused")?;
     assert_eq!(rt; again.top_subtree(), tree.top_subtree());
     assert!(rt; again.tokens == tree.tokens);
     Ok(())
@@ -80,7 +99,7 @@ fn builds_again(rt: HostRuntime) -> Result<(), Fail> {
 
 #[test]
 fn walks(rt: HostRuntime) -> Result<(), Fail> {
-    let tree = sample(rt.alloc()).ok().ok_or("no memory")?;
+    let tree = sample(rt.alloc()).ok().ok_or("refused")?;
     let head = tree.top_subtree();
     assert_eq!(rt; head.delimiter, top());
     assert_eq!(rt; head.len, 6);
@@ -117,17 +136,17 @@ fn walks(rt: HostRuntime) -> Result<(), Fail> {
 
 #[test]
 fn out_of_place(rt: HostRuntime) -> Result<(), Fail> {
-    let mut builder = TopSubtreeBuilder::new(rt.alloc(), top()).ok().ok_or("no memory")?;
+    let mut builder = new_builder(rt.alloc()).ok().ok_or("refused")?;
     assert!(rt; builder.innermost().is_none());
     assert!(rt; builder.close(byte_at(1)) == Err(TtFault::Place));
-    builder.open(DelimiterKind::Brace, byte_at(2)).ok().ok_or("no memory")?;
+    open(&mut builder, DelimiterKind::Brace, byte_at(2)).ok().ok_or("refused")?;
     assert!(rt; builder.innermost() == Some((DelimiterKind::Brace, byte_at(2))));
     let (mut builder, fault) = builder.build().err().ok_or("built")?;
     assert_eq!(rt; fault, TtFault::Place);
     // The group is still open.
-    builder.close(byte_at(3)).ok().ok_or("none open")?;
+    builder.close(byte_at(3)).ok().ok_or("refused")?;
     assert!(rt; builder.innermost().is_none());
-    let tree = builder.build().ok().ok_or("open")?;
+    let tree = builder.build().ok().ok_or("refused")?;
     assert_eq!(rt; tree.token_trees().len(), 1);
     Ok(())
 }
