@@ -1,6 +1,8 @@
--- What an iterator over trees gives.
-use Rattle.std.specs.Prelude.{◌≡◌, List, [], ◌∷◌, Option, Some, None}
+-- What a walk over a list of trees gives, tree by tree.
+use Rattle.std.specs.Prelude.{◌≡◌, List, [], ◌∷◌, Option, Some, None, option_map}
+use Rattle.tt_data.specs.declared.span.Span.{Span}
 use Rattle.tt_data.specs.Forest.{Forest, empty, leaf, group, size}
+use Rattle.tt_data.specs.Spans.{span_of}
 use Rattle.tt.specs.declared.view.TtElement.{TtElement}
 use Rattle.tt.specs.declared.view.TtElement.TheVariants as element
 
@@ -15,3 +17,18 @@ abbrev pub IsNext : Forest → Option TtElement → Forest → Type 0
 IsNext f None g = (f ≡ empty) × (g ≡ empty)
 IsNext f (Some (element.Leaf l)) g = f ≡ leaf l g
 IsNext f (Some (element.Subtree s inner)) g = (f ≡ group s.delimiter inner g) × (s.len ≡ size inner)
+
+-- the first tree of a forest, where it has one
+abbrev pub first_element : Forest → Option TtElement
+first_element empty = None
+first_element (leaf l rest) = Some (element.Leaf l)
+first_element (group d inner rest) = Some (element.Subtree (record { delimiter = d; len = size inner }) inner)
+
+-- the place where a tree begins: a group begins with its opening bracket
+abbrev pub place_of : TtElement → Span
+place_of (element.Leaf l) = span_of l
+place_of (element.Subtree s inner) = s.delimiter.open_span
+
+-- the place where the first tree of a forest begins, where it has one
+abbrev pub first_place : Forest → Option Span
+first_place f = option_map place_of (first_element f)

@@ -1,5 +1,7 @@
-pub mod BuilderTokens
-pub mod Building
+-- what the public contracts rest on
+pub mod Views
 pub mod Elements
 pub mod Tops
-pub mod Views
+pub mod Building
+-- what the functions inside the crate promise each other
+pub mod BuilderTokens

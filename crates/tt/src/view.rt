@@ -1,13 +1,14 @@
-// Borrowed lists of trees.
+//! Lists of trees that are borrowed, and walks over them.
 ghost use Rattle.std.specs.Prelude.{◌≡◌, ⊤, IsTrue, ◌↔◌};
 ghost use Rattle.tt_data.specs.Forest.{IsPreorder};
 
-use tt_data::leaf::Leaf;
-use tt_data::tree::{Subtree, TokenTree};
 use std::alloc::AllocError;
 use std::marker::Model;
+use tt_data::leaf::Leaf;
+use tt_data::span::Span;
+use tt_data::tree::{Subtree, TokenTree};
 
-/// The trees that are left of a list.
+/// A walk over a list of trees. It stands before the trees that are left.
 #[derive(Drop)]
 pub struct TtIter<'a> {
     tokens: &'a [TokenTree],
@@ -26,11 +27,26 @@ impl<'a> Model for TtIter<'a> {
     ghost invariant = { λ it. IsPreorder it.tokens.now };
 }
 
-/// The next tree: a leaf, or a group and what it has inside.
+/// One tree of a list.
 #[derive(Drop)]
 pub enum TtElement<'a> {
     Leaf(Leaf),
+    /// A group: its head, and a walk over the trees inside.
     Subtree(Subtree, TtIter<'a>),
+}
+
+impl<'a> TtElement<'a> {
+    ghost use Rattle.tt.specs.Elements.{place_of};
+
+    /// The place where the tree begins: a group begins with its opening bracket.
+    pub fn first_span(&self) -> Span
+        ensures { result ≡ place_of self.now }
+    {
+        match self {
+            TtElement::Leaf(leaf) => leaf.span(),
+            TtElement::Subtree(subtree, _) => subtree.delimiter.open_span,
+        }
+    }
 }
 
 impl<'a> Clone for TtIter<'a> {
@@ -73,25 +89,30 @@ impl<'a> Iterator for TtIter<'a> {
 }
 
 impl<'a> TtIter<'a> {
-    ghost use Rattle.std.specs.Prelude.{ℕ};
     ghost use Rattle.tt_data.specs.Forest.{Forest, empty, joined};
+    ghost use Rattle.tt.specs.Elements.{first_element, first_place};
     ghost use Rattle.tt.specs.Views.{forest};
 
+    /// Whether no trees are left.
     pub fn is_empty(&self) -> bool
         ensures { IsTrue result ↔ (self.now ≡ empty) }
     {
         self.tokens.is_empty()
     }
 
-    /// The trees passed since a view of what was left then.
-    pub fn passed_since(&self, then: TokenTreesView<'a>) -> TokenTreesView<'a>
-        requires { (passed : Forest) × (forest then ≡ joined passed self.now) }
-        ensures { forest then.entry ≡ joined (forest result) self.now }
+    /// The next tree, without passing it: none where none are left.
+    pub fn peek(&self) -> Option<TtElement<'a>>
+        ensures { result ≡ first_element self.now }
     {
-        let count = then.tokens.len() - self.tokens.len();
-        TokenTreesView {
-            tokens: &then.tokens[..count],
-        }
+        let mut ahead = self.remaining().iter();
+        ahead.next()
+    }
+
+    /// The place where the next tree begins: none where no trees are left.
+    pub fn next_span(&self) -> Option<Span>
+        ensures { result ≡ first_place self.now }
+    {
+        Some(self.tokens.first()?.first_span())
     }
 
     /// The trees that are left.
@@ -100,6 +121,19 @@ impl<'a> TtIter<'a> {
         ensures { forest result ≡ self.now }
     {
         TokenTreesView { tokens: self.tokens }
+    }
+
+    /// The trees passed since `then`, which is what was left at an earlier point of this walk.
+    ///
+    /// Those trees and the trees that are left now have to be all of `then` together.
+    pub fn passed_since(&self, then: TokenTreesView<'a>) -> TokenTreesView<'a>
+        requires { (passed : Forest) × (forest then ≡ joined passed self.now) }
+        ensures { forest then.entry ≡ joined (forest result) self.now }
+    {
+        let count = then.tokens.len() - self.tokens.len();
+        TokenTreesView {
+            tokens: &then.tokens[..count],
+        }
     }
 }
 
@@ -111,9 +145,19 @@ pub struct TokenTreesView<'a> {
 }
 
 impl<'a> TokenTreesView<'a> {
-    ghost use Rattle.tt_data.specs.Forest.{size};
+    ghost use Rattle.tt_data.specs.Forest.{empty, size};
+    ghost use Rattle.tt.specs.Elements.{first_place};
     ghost use Rattle.tt.specs.Views.{forest};
 
+    /// The list without trees.
+    #[tactic(auto, unfolding(crate::specs::Views::forest))]
+    pub fn empty() -> TokenTreesView<'a>
+        ensures { forest result ≡ empty }
+    {
+        TokenTreesView { tokens: &[] }
+    }
+
+    /// A walk over the trees, before the first.
     #[tactic(auto, unfolding(crate::specs::Views::forest))]
     pub fn iter(&self) -> TtIter<'a>
         ensures { result ≡ forest self.now }
@@ -121,10 +165,24 @@ impl<'a> TokenTreesView<'a> {
         TtIter { tokens: self.tokens }
     }
 
-    /// The number of all tokens.
+    /// The number of all tokens: each leaf, and each group with what it has inside.
     pub fn len(&self) -> usize
         ensures { result ≡ size (forest self.now) }
     {
         self.tokens.len()
+    }
+
+    /// Whether there are no trees.
+    pub fn is_empty(&self) -> bool
+        ensures { IsTrue result ↔ (forest self.now ≡ empty) }
+    {
+        self.iter().is_empty()
+    }
+
+    /// The place where the first tree begins: none where there are no trees.
+    pub fn first_span(&self) -> Option<Span>
+        ensures { result ≡ first_place (forest self.now) }
+    {
+        self.iter().next_span()
     }
 }

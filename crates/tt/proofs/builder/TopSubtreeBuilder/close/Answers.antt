@@ -6,8 +6,8 @@ use Rattle.tt.proofs.Held.{IsHeld-closed, here_of-closed, groups_of-closed, reve
 use Rattle.tt.proofs.builder.TopSubtreeBuilder.close.Goals as goal
 
 -- the opening that was taken off is the innermost
-innermost : (c : goal.After-self-1) → reverse c.self.inside.open.items ≡ c.in-Some.opening ∷ reverse c.pop.new.self.items
-innermost c = reverse-popped c.self.inside.open.items c.pop.new.self.items c.in-Some.opening c.in-Some.ensures.items
+innermost : (c : goal.After-self-1) → reverse c.self.inside.openings.items ≡ c.in-Some.opening ∷ reverse c.pop.new.self.items
+innermost c = reverse-popped c.self.inside.openings.items c.pop.new.self.items c.in-Some.opening c.in-Some.ensures.items
 
 held : (c : goal.After-self-1) → IsHeld c.self.inside.tokens.items (c.in-Some.opening ∷ reverse c.pop.new.self.items)
 held c = rw (innermost c) at c.self.invariant.0
