@@ -75,3 +75,7 @@ groups_of-closed tokens o outer d held =
 
 pub reverse-popped : (old new : List Opening) (o : Opening) → old ≡ new ++ o ∷ [] → reverse old ≡ o ∷ reverse new
 reverse-popped old new o e = ap reverse e ∙ reverse-append new (o ∷ [])
+
+-- the opening that was taken off was the innermost
+pub held_popped : (tokens : List TokenTree) (old new : List Opening) (o : Opening) → old ≡ new ++ o ∷ [] → IsHeld tokens (reverse old) → IsHeld tokens (o ∷ reverse new)
+held_popped tokens old new o e held = rw (reverse-popped old new o e) at held

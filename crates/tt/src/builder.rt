@@ -125,13 +125,12 @@ impl TopSubtreeBuilder {
             close_span: open_span,
             kind: delimiter_kind,
         };
-        match self.tokens.push(TokenTree::Subtree(Subtree { delimiter, len: 0 })) {
-            Ok(()) => Ok(()),
-            Err(_) => {
-                let _ = self.openings.pop();
-                Err(TtFault::Memory)
-            }
-        }
+        let head = TokenTree::Subtree(Subtree { delimiter, len: 0 });
+        let Ok(()) = self.tokens.push(head) else {
+            let _ = self.openings.pop();
+            return Err(TtFault::Memory);
+        };
+        Ok(())
     }
 
     /// The innermost open group's kind, and the place of its opening: none where no group is open.
