@@ -5,3 +5,5 @@ mod UnitLemmas
 mod KnownLemmas
 mod RunLemmas
 mod RunRows
+mod MarkLemmas
+mod CallLemmas

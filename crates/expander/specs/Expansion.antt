@@ -36,8 +36,8 @@ abbrev pub just : {D : Type 0} → Option Span → List Step → Outcome D
 just outer steps = record { steps = placed outer steps; faults = []; finds = [] }
 
 -- one outcome after another
-abbrev pub then : {D : Type 0} → Outcome D → Outcome D → Outcome D
-then a b = record { steps = a.steps ++ b.steps; faults = a.faults ++ b.faults; finds = a.finds ++ b.finds }
+abbrev pub followed_by : {D : Type 0} → Outcome D → Outcome D → Outcome D
+followed_by a b = record { steps = a.steps ++ b.steps; faults = a.faults ++ b.faults; finds = a.finds ++ b.finds }
 
 -- an outcome in brackets
 abbrev pub grouped : {D : Type 0} → Option Span → Delimiter → Outcome D → Outcome D
@@ -103,14 +103,14 @@ whole_call path name bang d argument =
 abbrev pub search_calls : {D : Type 0} → World D → (List ℕ → Option D) → Deeper D → Option Span → Marked → Outcome D
 search_calls world scope deeper outer none = just outer []
 search_calls world scope deeper outer (token l rest) =
-    then (just outer (at_leaf l ∷ [])) (search_calls world scope deeper outer rest)
+    followed_by (just outer (at_leaf l ∷ [])) (search_calls world scope deeper outer rest)
 search_calls world scope deeper outer (inside d a rest) =
-    then (grouped outer d (search_calls world scope deeper outer a)) (search_calls world scope deeper outer rest)
+    followed_by (grouped outer d (search_calls world scope deeper outer a)) (search_calls world scope deeper outer rest)
 search_calls world scope deeper outer (call path name bang d a rest) =
-    then
+    followed_by
       (at_call world scope deeper outer path name
         (record { at = name.span; whole = whole_call path name bang d (unmarked a); argument = unmarked a })
-        (then (just outer (walk (before_group path name bang))) (grouped outer d (search_calls world scope deeper outer a))))
+        (followed_by (just outer (walk (before_group path name bang))) (grouped outer d (search_calls world scope deeper outer a))))
       (search_calls world scope deeper outer rest)
 
 -- the expansion of a forest with n levels left, placed at the name of a call that was expanded around it, or at none

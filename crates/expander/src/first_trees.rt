@@ -45,6 +45,6 @@ pub(crate) fn first_group<'a>(
     let mut rest = again(trees);
     match rest.next()? {
         TtElement::Subtree(subtree, inner) => Some((subtree.delimiter, inner, rest)),
-        _ => None,
+        TtElement::Leaf(_leaf) => None,
     }
 }

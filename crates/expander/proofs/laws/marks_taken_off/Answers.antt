@@ -1,0 +1,5 @@
+use Rattle.expander.proofs.MarkLemmas.{unmarked-marked}
+use Rattle.expander.proofs.laws.marks_taken_off.Goals as goal
+
+pub returns : goal.returns
+returns c = unmarked-marked
