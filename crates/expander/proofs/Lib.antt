@@ -3,6 +3,8 @@ mod AttributeLemmas
 mod CuttingLemmas
 mod UnitLemmas
 mod PatternLemmas
+mod RuleLemmas
+mod PartLemmas
 mod KnownLemmas
 mod RunLemmas
 mod RunRows
