@@ -1,16 +1,18 @@
--- Whether trees are a pattern or a template: a turn of the loop over them.
-use Rattle.std.proofs.Common.{◌≡◌, ℕ, ◌+◌, ◌-◌, ◌<◌, ◌≤◌, List, [], ◌∷◌, ◌++◌, refl, sym, ap, ◌∙◌, arith, Bool, true, false, append_assoc, append-nil}
+-- Whether trees are a pattern or a template, and that those of a rule are.
+use Rattle.std.proofs.Common.{◌≡◌, ℕ, ◌+◌, ◌-◌, ◌<◌, ◌≤◌, List, [], ◌∷◌, subst, refl, sym, ap, ◌∙◌, arith, Bool, true, false}
 use Rattle.std.proofs.lemmas.Bool.{ne_eqb}
-use Rattle.std.specs.Prelude.{Option, Some, None, is_some, option_map}
+use Rattle.std.proofs.lemmas.List.Elements.{All-nil, All-cons}
+use Rattle.std.specs.List.{All}
+use Rattle.std.specs.Prelude.{IsTrue, Option, Some, None, is_some, option_map}
 use Rattle.tt_data.specs.Forest.{Forest, empty, leaf, group, back, size}
 use Rattle.tt_data.specs.declared.leaf.Leaf.TheVariants as as_leaf
 use Rattle.tt_data.specs.declared.leaf.Punct.{Punct}
 use Rattle.expander.specs.declared.units.Operator.{Operator}
 use Rattle.expander.specs.declared.rules.Rule.{Rule}
-use Rattle.expander.specs.FirstTrees.{◌>>=◌}
+use Rattle.expander.specs.FirstTrees.{first_punct, first_group, is_empty}
 use Rattle.expander.specs.Text.{is_char}
-use Rattle.expander.specs.ThinRules.{operator_at, puncts_of, puncts, pattern_of, parts, rule_of, all_rules, rules_of}
-use Rattle.expander.proofs.PatternLemmas.{back-size, operator_begins}
+use Rattle.expander.specs.ThinRules.{operator_at, puncts_of, puncts, pattern_of, template_of, parts, rule_of, all_rules, rules_of, IsRule}
+use Rattle.expander.proofs.PatternLemmas.{bind_some, test_some, back-size, operator_begins}
 
 mapped_is_some : {A B : Type 0} (f : A → B) (o : Option A) → is_some (option_map f o) ≡ is_some o
 mapped_is_some f None = refl
@@ -25,45 +27,39 @@ operator_passed p f rest op other is behind =
     let passed = ap is_some (operator_begins p f dollar) ∙ mapped_is_some (puncts (operator_at p f)) (pattern_of (back (puncts_of (operator_at p f) - 1) f)) in
     (rw here (sym passed), omega (arith, ap size here, back-size (puncts_of (operator_at p f) - 1) f))
 
--- ---- the rules of a body, one after another
+-- `is_empty` says so
+pub not_empty : (f : Forest) → (f ≡ empty → IsTrue false) → is_empty f ≡ false
+not_empty empty h = let no : false ≡ true = h refl in cc
+not_empty (leaf l f) h = refl
+not_empty (group d inner f) h = refl
 
-rules_more : (f g part : Forest) (r : Rule) → parts f ≡ part ∷ parts g → rule_of part ≡ Some r
-    → rules_of f ≡ option_map (λ rs. r ∷ rs) (rules_of g)
-rules_more f g part r cut is = ap all_rules cut ∙ rw is (mapped (rules_of g))
-  where
-    mapped : (o : Option (List Rule)) → (o >>= (λ rs. Some (r ∷ rs))) ≡ option_map (λ rs. r ∷ rs) o
-    mapped None = refl
-    mapped (Some rs) = refl
+-- ---- a rule that was read is within the forms
 
--- one rule more
-pub rule_read : (f g part : Forest) (r : Rule) (before : List Rule) (all : Option (List Rule))
-    → option_map (λ rs. before ++ rs) (rules_of f) ≡ all → parts f ≡ part ∷ parts g → rule_of part ≡ Some r
-    → option_map (λ rs. (before ++ r ∷ []) ++ rs) (rules_of g) ≡ all
-rule_read f g part r before all so_far cut is =
-    moved (rules_of g) ∙ ap (option_map (λ rs. before ++ rs)) (sym (rules_more f g part r cut is)) ∙ so_far
-  where
-    moved : (o : Option (List Rule)) → option_map (λ rs. (before ++ r ∷ []) ++ rs) o ≡ option_map (λ rs. before ++ rs) (option_map (λ rs. r ∷ rs) o)
-    moved None = refl
-    moved (Some rs) = ap Some (append_assoc before (r ∷ []) rs)
+pub rule_of-form : (f : Forest) (r : Rule) → rule_of f ≡ Some r → IsRule r
+rule_of-form f r e =
+    let pattern = bind_some (first_group f) _ _ e in
+    let equals = bind_some (first_punct pattern.0.2) _ _ pattern.2 in
+    let is_equals = test_some (is_char "=" equals.0.0) _ _ equals.2 in
+    let greater = bind_some (first_punct equals.0.1) _ _ is_equals.1 in
+    let is_greater = test_some (is_char ">" greater.0.0) _ _ greater.2 in
+    let template = bind_some (first_group greater.0.1) _ _ is_greater.1 in
+    let last = test_some (is_empty template.0.2) _ _ template.2 in
+    let is_pattern = test_some (is_some (pattern_of pattern.0.1)) _ _ last.1 in
+    let is_template = test_some (is_some (template_of template.0.1)) _ _ is_pattern.1 in
+    let same : Some (record { pattern = pattern.0.1; template = template.0.1 }) ≡ Some r = is_template.1 in
+    let is : record { pattern = pattern.0.1; template = template.0.1 } ≡ r = cc in
+    subst IsRule is (is_pattern.0, is_template.0)
 
--- a part that is no rule
-pub no_rule : (f g part : Forest) (before : List Rule) (all : Option (List Rule))
-    → option_map (λ rs. before ++ rs) (rules_of f) ≡ all → parts f ≡ part ∷ parts g → rule_of part ≡ None → None ≡ all
-no_rule f g part before all so_far cut is =
-    let broken : rules_of f ≡ None = ap all_rules cut ∙ rw is refl in
-    rw broken at so_far
+all_rules-forms : (ps : List Forest) (rs : List Rule) → all_rules ps ≡ Some rs → All IsRule rs
+all_rules-forms [] rs e =
+    let none : [] ≡ rs = cc in
+    subst (All IsRule) none (All-nil IsRule)
+all_rules-forms (p ∷ ps) rs e =
+    let first = bind_some (rule_of p) _ _ e in
+    let more = bind_some (all_rules ps) _ _ first.2 in
+    let same : Some (first.0 ∷ more.0) ≡ Some rs = more.2 in
+    let is : first.0 ∷ more.0 ≡ rs = cc in
+    subst (All IsRule) is (All-cons IsRule first.0 more.0 (rule_of-form p first.0 first.1) (all_rules-forms ps more.0 more.1))
 
--- nothing is left
-pub rules_read : (f : Forest) (before : List Rule) (all : Option (List Rule))
-    → option_map (λ rs. before ++ rs) (rules_of f) ≡ all → f ≡ empty → Some before ≡ all
-rules_read f before all so_far none =
-    let last : Some (before ++ []) ≡ all = rw none at so_far in
-    ap Some (sym (append-nil before)) ∙ last
-
--- nothing was read yet
-pub rules_begin : (f : Forest) → option_map (λ rs. [] ++ rs) (rules_of f) ≡ rules_of f
-rules_begin f = same (rules_of f)
-  where
-    same : (o : Option (List Rule)) → option_map (λ rs. [] ++ rs) o ≡ o
-    same None = refl
-    same (Some rs) = refl
+pub rules_of-forms : (body : Forest) (rs : List Rule) → rules_of body ≡ Some rs → All IsRule rs
+rules_of-forms body rs e = all_rules-forms (parts body) rs e
