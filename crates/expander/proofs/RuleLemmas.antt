@@ -19,13 +19,15 @@ mapped_is_some f None = refl
 mapped_is_some f (Some x) = refl
 
 -- behind an operator the pattern goes on
-pub operator_passed : (p : Punct) (f rest : Forest) (op : Operator) → (p.char ≡ 36 → ⊥) → op ≡ operator_at p f → rest ≡ back (puncts_of op - 1) f
-    → (is_some (pattern_of rest) ≡ is_some (pattern_of (leaf (as_leaf.Punct p) f))) × (size rest < size (leaf (as_leaf.Punct p) f))
-operator_passed p f rest op other is behind =
+pub operator_passed : (old f rest : Forest) (p : Punct) (op : Operator) → old ≡ leaf (as_leaf.Punct p) f → (p.char ≡ 36 → ⊥)
+    → op ≡ operator_at p f → rest ≡ back (puncts_of op - 1) f
+    → (is_some (pattern_of rest) ≡ is_some (pattern_of old)) × (size rest < size old)
+operator_passed old f rest p op next other is behind =
     let dollar : is_char "$" p ≡ false = ne_eqb p.char 36 other in
-    let here : rest ≡ back (puncts_of (operator_at p f) - 1) f = rw (← is) behind in
-    let passed = ap is_some (operator_begins p f dollar) ∙ mapped_is_some (puncts (operator_at p f)) (pattern_of (back (puncts_of (operator_at p f) - 1) f)) in
-    (rw here (sym passed), omega (arith, ap size here, back-size (puncts_of (operator_at p f) - 1) f))
+    let n : ℕ = puncts_of (operator_at p f) - 1 in
+    let here : rest ≡ back n f = rw (← is) behind in
+    let passed = ap is_some (operator_begins p f dollar) ∙ mapped_is_some (puncts (operator_at p f)) (pattern_of (back n f)) in
+    (rw (here, next) (sym passed), omega (arith, ap size here, ap size next, back-size n f))
 
 -- `is_empty` says so
 pub not_empty : (f : Forest) → (f ≡ empty → IsTrue false) → is_empty f ≡ false

@@ -131,6 +131,7 @@ fn is_template(trees: &TtIter<'_>) -> bool
 }
 
 // `(..) => (..)` and nothing more.
+#[tactic(auto, using(crate::proofs::RuleLemmas::not_empty))]
 fn rule_of<'a>(trees: &TtIter<'a>) -> Option<Rule<'a>>
     ensures { result ≡ rule_of trees.now }
 {
