@@ -1,7 +1,6 @@
 use Rattle.std.proofs.Common.{◌≡◌, is_some, ◌≤◌}
 use Rattle.tt_data.specs.Forest.{size}
 use Rattle.expander.specs.ThinRules.{pattern_of}
-use Rattle.expander.proofs.PatternLemmas.{pattern_after-variable}
 use Rattle.expander.proofs.rules.+is_pattern.Given as goal
 
 abbrev pub decreases-is_pattern : goal.decreases-is_pattern
