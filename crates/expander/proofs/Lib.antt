@@ -2,6 +2,9 @@ mod Rows
 mod AttributeLemmas
 mod CuttingLemmas
 mod UnitLemmas
+mod PatternLemmas
+mod RuleLemmas
+mod PartLemmas
 mod KnownLemmas
 mod RunLemmas
 mod RunRows

@@ -131,6 +131,7 @@ fn is_template(trees: &TtIter<'_>) -> bool
 }
 
 // `(..) => (..)` and nothing more.
+#[tactic(auto, using(crate::proofs::RuleLemmas::not_empty))]
 fn rule_of<'a>(trees: &TtIter<'a>) -> Option<Rule<'a>>
     ensures { result ≡ rule_of trees.now }
 {
@@ -174,7 +175,10 @@ fn next_part<'a>(rest: &mut TtIter<'a>) -> Option<TtIter<'a>>
 }
 
 /// The rules of a body, or `None` where it is broken.
-pub(crate) fn rules_of<'a>(alloc: Global, body: &TtIter<'a>) -> Result<Option<Vec<Rule<'a>>>, AllocError>
+pub(crate) fn rules_of<'a>(
+    alloc: Global,
+    body: &TtIter<'a>,
+) -> Result<Option<Vec<Rule<'a>>>, AllocError>
     ensures { IfOk result (λ rules. option_map (λ v. v.items) rules ≡ rules_of body.now) }
 {
     let mut rules = Vec::new(alloc);
