@@ -45,9 +45,9 @@ impl Model for TopSubtreeBuilder {
     ghost coded = { building_code };
 
     ghost view = { λ b. record {
-        top = b.top;
-        groups = groups_of b.tokens.items (reverse b.openings.items);
-        here = here_of b.tokens.items (reverse b.openings.items);
+      top = b.top;
+      groups = groups_of b.tokens.items (reverse b.openings.items);
+      here = here_of b.tokens.items (reverse b.openings.items);
     } };
 
     ghost invariant = { λ b. IsHeld b.tokens.items (reverse b.openings.items) × (length b.tokens.items ≤ 2 ^ 32) };
@@ -125,12 +125,16 @@ impl TopSubtreeBuilder {
             close_span: open_span,
             kind: delimiter_kind,
         };
-        let head = TokenTree::Subtree(Subtree { delimiter, len: 0 });
-        let Ok(()) = self.tokens.push(head) else {
-            let _ = self.openings.pop();
-            return Err(TtFault::Memory);
-        };
-        Ok(())
+        match self
+            .tokens
+            .push(TokenTree::Subtree(Subtree { delimiter, len: 0 }))
+        {
+            Ok(()) => Ok(()),
+            Err(_) => {
+                let _ = self.openings.pop();
+                Err(TtFault::Memory)
+            }
+        }
     }
 
     /// The innermost open group's kind, and the place of its opening: none where no group is open.
@@ -175,7 +179,11 @@ impl TopSubtreeBuilder {
         if !self.openings.is_empty() {
             return Err((self, TtFault::Place));
         }
-        let TopSubtreeBuilder { top, tokens, openings: _ } = self;
+        let TopSubtreeBuilder {
+            top,
+            tokens,
+            openings: _,
+        } = self;
         Ok(TopSubtree {
             delimiter: top,
             tokens,

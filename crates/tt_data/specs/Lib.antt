@@ -10,6 +10,3 @@ pub mod Outcome
 -- a forest and its flat list give each other back
 pub mod Flat
 pub mod Coded
--- a symbol's text, and the block that its owners share
-pub mod SymbolText
-pub mod SharedBlock

@@ -1,22 +1,32 @@
-use Rattle.std.proofs.Common.{◌≡◌, ◌≤◌, ◌-◌, refl, reverse, ◌∷◌, length, ap, ◌∙◌, sym, arith, vec_len}
+use Rattle.std.proofs.Common.{◌≡◌, refl, reverse, ◌∷◌, length, ◌∙◌}
 use Rattle.std.proofs.lemmas.List.{length-set}
 use Rattle.tt_data.specs.declared.delimiter.Delimiter.{Delimiter}
 use Rattle.tt.specs.BuilderTokens.{IsHeld}
-use Rattle.tt.proofs.Held.{IsHeld-closed, here_of-closed, groups_of-closed, reverse-popped, held_popped}
+use Rattle.tt.proofs.Held.{IsHeld-closed, here_of-closed, groups_of-closed, reverse-popped}
 use Rattle.tt.proofs.builder.TopSubtreeBuilder.close.Goals as goal
+
+-- the opening that was taken off is the innermost
+innermost : (c : goal.After-self-1) → reverse c.self.inside.openings.items ≡ c.in-Some.opening ∷ reverse c.pop.new.self.items
+innermost c = reverse-popped c.self.inside.openings.items c.pop.new.self.items c.in-Some.opening c.in-Some.ensures.items
+
+held : (c : goal.After-self-1) → IsHeld c.self.inside.tokens.items (c.in-Some.opening ∷ reverse c.pop.new.self.items)
+held c = rw (innermost c) at c.self.invariant.0
+
+counted : (c : goal.After-self-1) → c.len.result ≡ length c.self.inside.tokens.items
+counted c = c.len.ensures ∙ c.self.inside.tokens.ok.0
+
+abbrev delimiter_of : (c : goal.After-self-1) → Delimiter
+delimiter_of c = record { open_span = c.in-Some.opening.open_span; close_span = c.args.close_span; kind = c.in-Some.opening.kind }
 
 pub invariant_of-self-2 : goal.invariant_of-self-2
 invariant_of-self-2 c =
-    let held = held_popped c.self.inside.tokens.items c.self.inside.openings.items c.pop.new.self.items c.in-Some.opening c.in-Some.ensures.items c.self.invariant.0 in
-    let counted = c.len.ensures ∙ c.self.inside.tokens.ok.0 in
-    let d : Delimiter = record { open_span = c.in-Some.opening.open_span; close_span = c.args.close_span; kind = c.in-Some.opening.kind } in
-    rw counted (IsHeld-closed c.self.inside.tokens.items c.in-Some.opening (reverse c.pop.new.self.items) d held, rw length-set c.self.invariant.1)
+    let tokens = c.self.inside.tokens.items in
+    let still = IsHeld-closed tokens c.in-Some.opening (reverse c.pop.new.self.items) (delimiter_of c) (held c) in
+    rw (counted c) (still, rw length-set c.self.invariant.1)
 
 pub returns-clause-ok : goal.returns-clause-ok
 returns-clause-ok c =
-    let held = held_popped c.self.inside.tokens.items c.self.inside.openings.items c.pop.new.self.items c.in-Some.opening c.in-Some.ensures.items c.self.invariant.0 in
-    let counted = c.len.ensures ∙ c.self.inside.tokens.ok.0 in
-    let d : Delimiter = record { open_span = c.in-Some.opening.open_span; close_span = c.args.close_span; kind = c.in-Some.opening.kind } in
-    let here = here_of-closed c.self.inside.tokens.items c.in-Some.opening (reverse c.pop.new.self.items) d held in
-    let groups = groups_of-closed c.self.inside.tokens.items c.in-Some.opening (reverse c.pop.new.self.items) d held in
-    rw (← c.self.view_is, counted) (rw (here, groups, reverse-popped c.self.inside.openings.items c.pop.new.self.items c.in-Some.opening c.in-Some.ensures.items) refl)
+    let tokens = c.self.inside.tokens.items in
+    let here = here_of-closed tokens c.in-Some.opening (reverse c.pop.new.self.items) (delimiter_of c) (held c) in
+    let groups = groups_of-closed tokens c.in-Some.opening (reverse c.pop.new.self.items) (delimiter_of c) (held c) in
+    rw (← c.self.view_is, counted c) (rw (here, groups, innermost c) refl)

@@ -1,4 +1,4 @@
-use Rattle.std.proofs.Common.{◌≡◌, ◌↔◌, refl, arith}
+use Rattle.std.proofs.Common.{refl, arith}
 use Rattle.tt.proofs.Limits.{counted, room_left}
 use Rattle.tt.proofs.builder.TopSubtreeBuilder.open.Goals as goal
 
@@ -12,12 +12,12 @@ returns-in_default-clause-tokens c =
     let all = counted _ _ c.self.invariant.0 in
     rw (← c.self.view_is) (room_left _ _ refl (omega (arith, all, c.if-len-gt-MOST_TOKENS.false, c.len.ensures, c.self.inside.tokens.ok.0)))
 
-pub returns-in_default-push-clause-tokens : goal.returns-in_default-push-clause-tokens
-returns-in_default-push-clause-tokens c =
+pub returns-in-Ok-push-clause-tokens : goal.returns-in-Ok-push-clause-tokens
+returns-in-Ok-push-clause-tokens c =
     let all = counted _ _ c.self.invariant.0 in
     rw (← c.self.view_is) (room_left _ _ refl (omega (arith, all, c.if-len-gt-MOST_TOKENS.false, c.len.ensures, c.self.inside.tokens.ok.0)))
 
-pub returns-clause-tokens : goal.returns-clause-tokens
-returns-clause-tokens c =
+pub returns-in-Err-clause-tokens : goal.returns-in-Err-clause-tokens
+returns-in-Err-clause-tokens c =
     let all = counted _ _ c.self.invariant.0 in
     rw (← c.self.view_is) (room_left _ _ refl (omega (arith, all, c.if-len-gt-MOST_TOKENS.false, c.len.ensures, c.self.inside.tokens.ok.0)))
