@@ -80,8 +80,8 @@ fn is_pattern(trees: &TtIter<'_>) -> bool
     let mut rest = again(trees);
     while let Some(element) = rest.next() {
         match element {
-            TtElement::Leaf(Leaf::Ident(_name)) => {}
-            TtElement::Leaf(Leaf::Literal(_literal)) => return false,
+            TtElement::Leaf(Leaf::Ident(_)) => {}
+            TtElement::Leaf(Leaf::Literal(_)) => return false,
             TtElement::Leaf(Leaf::Punct(punct)) => {
                 if punct.char == '$' {
                     let Some((_, _, behind)) = variable_after(&rest) else {
@@ -93,7 +93,7 @@ fn is_pattern(trees: &TtIter<'_>) -> bool
                     rest = behind;
                 }
             }
-            TtElement::Subtree(_subtree, inner) => {
+            TtElement::Subtree(_, inner) => {
                 if !is_pattern(&inner) {
                     return false;
                 }
@@ -110,8 +110,8 @@ fn is_template(trees: &TtIter<'_>) -> bool
     let mut rest = again(trees);
     while let Some(element) = rest.next() {
         match element {
-            TtElement::Leaf(Leaf::Ident(_name)) => {}
-            TtElement::Leaf(Leaf::Literal(_literal)) => return false,
+            TtElement::Leaf(Leaf::Ident(_)) => {}
+            TtElement::Leaf(Leaf::Literal(_)) => return false,
             TtElement::Leaf(Leaf::Punct(punct)) => {
                 if punct.char == '$' {
                     let Some((_, behind)) = name_after(&rest) else {
@@ -120,7 +120,7 @@ fn is_template(trees: &TtIter<'_>) -> bool
                     rest = behind;
                 }
             }
-            TtElement::Subtree(_subtree, inner) => {
+            TtElement::Subtree(_, inner) => {
                 if !is_template(&inner) {
                     return false;
                 }
