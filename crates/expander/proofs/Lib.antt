@@ -5,3 +5,4 @@ mod UnitLemmas
 mod KnownLemmas
 mod RunLemmas
 mod RunRows
+pub mod ReadingLemmas

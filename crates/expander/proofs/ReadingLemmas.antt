@@ -1,0 +1,182 @@
+-- Reading, token by token: what the builder holds after each.
+use Rattle.std.proofs.Common.{◌≡◌, ℕ, List, [], ◌∷◌, ◌++◌, Bool, true, false, refl, sym, ap, ◌∙◌}
+use Rattle.std.specs.Prelude.{◌&&◌, not, Option, Some, None, if◌then◌else◌, nat_eq}
+use Rattle.rustc_lexer.specs.declared.token.TokenKind.{TokenKind}
+use Rattle.tt.specs.Building.{Building, Opened, pushed, opened, closed, closed_in, innermost_group}
+use Rattle.tt_data.specs.Forest.{Forest, empty, leaf, group, joined}
+use Rattle.tt_data.specs.Walk.{at_leaf, opens, closes}
+use Rattle.tt_data.specs.declared.delimiter.DelimiterKind.{DelimiterKind}
+use Rattle.tt_data.specs.declared.delimiter.DelimiterKind.TheVariants.{Parenthesis, Brace, Bracket, Invisible}
+use Rattle.tt_data.specs.declared.leaf.IdentIsRaw.TheVariants as is_raw
+use Rattle.tt_data.specs.declared.leaf.Leaf.{Leaf}
+use Rattle.tt_data.specs.declared.leaf.Leaf.TheVariants as as_leaf
+use Rattle.tt_data.specs.declared.leaf.Spacing.{Spacing}
+use Rattle.tt_data.specs.declared.leaf.Spacing.TheVariants.{Alone, Joint}
+use Rattle.tt_data.specs.declared.span.Span.{Span}
+use Rattle.tt_data.specs.declared.span.TextRange.{TextRange}
+use Rattle.expander.specs.Pieces.{separated}
+use Rattle.expander.specs.Reading.{closed as closed_group, PlacedToken, range_of, written_at, TextStep, step, read_from}
+use Rattle.expander.specs.ReadSteps.{GoesOn, IsBuilt, built_groups, built_here, ends_top, first_kind, is_next_mark, spacing_in}
+use Rattle.expander.specs.Text.{alone, is_punct, same_kind}
+use Rattle.expander.specs.ThinReading.{char, spacing_before, steps_of_sort}
+use Rattle.expander.specs.declared.reading.Sort.{Sort}
+use Rattle.expander.specs.declared.reading.Sort.TheVariants.{Name, Mark, Opening, Closing}
+
+separated-joined : (f g : Forest) → separated (joined f g) ≡ joined (separated f) (separated g)
+separated-joined empty g = refl
+separated-joined (leaf l rest) g = ap (leaf (if is_punct ";" l then alone l else l)) (separated-joined rest g)
+separated-joined (group d inner rest) g = ap (group d inner) (separated-joined rest g)
+
+built_here-joined : (groups : List Opened) (f g : Forest) → built_here groups (joined f g) ≡ joined (built_here groups f) (built_here groups g)
+built_here-joined [] f g = separated-joined f g
+built_here-joined (o ∷ outer) f g = refl
+
+-- a leaf is pushed: the builder has it as it stands in the list that it is pushed to
+pushes : (old new : Building) (groups : List Opened) (here : Forest) (l told : Leaf) → built_here groups (leaf l empty) ≡ leaf told empty
+    → new ≡ pushed old told → IsBuilt old groups here → GoesOn (step (at_leaf l) ∷ []) groups here new
+pushes old new groups here l told stands e b = record {
+  new_groups = groups;
+  new_here = joined here (leaf l empty);
+  built = record {
+    groups_are = ap (λ (m : Building). m.groups) e ∙ b.groups_are;
+    here_is =
+      ap (λ (m : Building). m.here) e ∙ ap (λ f. joined f (leaf told empty)) b.here_is ∙ ap (joined (built_here groups here)) (sym stands)
+      ∙ sym (built_here-joined groups here (leaf l empty));
+  };
+  reads = λ more. refl;
+}
+
+pub adds_name : (sort : Sort) (t : PlacedToken) (after : List PlacedToken) (text word : List ℕ) (range : TextRange) (span : Span) (old new : Building)
+    (groups : List Opened) (here : Forest) → sort ≡ Name → t.text ≡ text → range_of t ≡ range → word ≡ text → span ≡ written_at range
+    → new ≡ pushed old (as_leaf.Ident (record { sym = word; span = span; is_raw = is_raw.No })) → IsBuilt old groups here
+    → GoesOn (steps_of_sort sort t after) groups here new
+adds_name sort t after text word range span old new groups here is same at named spanned e b =
+    let w : word ≡ t.text = named ∙ sym same in
+    let s : span ≡ written_at (range_of t) = spanned ∙ ap written_at (sym at) in
+    let told : new ≡ pushed old (as_leaf.Ident (record { sym = t.text; span = written_at (range_of t); is_raw = is_raw.No })) = cc in
+    rw is (pushes old new groups here _ _ (stands groups) told b)
+  where
+    stands : (gs : List Opened) → built_here gs (leaf (as_leaf.Ident (record { sym = t.text; span = written_at (range_of t); is_raw = is_raw.No })) empty)
+        ≡ leaf (as_leaf.Ident (record { sym = t.text; span = written_at (range_of t); is_raw = is_raw.No })) empty
+    stands [] = refl
+    stands (o ∷ outer) = refl
+
+spaces : (is_end marked : Bool) (c : ℕ) (span : Span)
+    → (if is_end then as_leaf.Punct (record { char = c; spacing = Alone; span = span })
+        else as_leaf.Punct (record { char = c; spacing = if marked then Joint else Alone; span = span }))
+      ≡ as_leaf.Punct (record { char = c; spacing = if marked && not is_end then Joint else Alone; span = span })
+spaces true true c span = refl
+spaces true false c span = refl
+spaces false true c span = refl
+spaces false false c span = refl
+
+spaces_inside : (marked : Bool) (c : ℕ) (span : Span)
+    → as_leaf.Punct (record { char = c; spacing = if marked then Joint else Alone; span = span })
+      ≡ as_leaf.Punct (record { char = c; spacing = if marked && not false then Joint else Alone; span = span })
+spaces_inside true c span = refl
+spaces_inside false c span = refl
+
+spacing_before-is : (after : List PlacedToken) → spacing_before after ≡ (if is_next_mark (first_kind after) then Joint else Alone)
+spacing_before-is [] = refl
+spacing_before-is (t ∷ more) = refl
+
+-- a punct as it stands in its list
+mark_stands : (groups : List Opened) (after : List PlacedToken) (c : ℕ) (span : Span)
+    → built_here groups (leaf (as_leaf.Punct (record { char = c; spacing = spacing_before after; span = span })) empty)
+      ≡ leaf (as_leaf.Punct (record { char = c; spacing = spacing_in (built_groups groups) c (first_kind after); span = span })) empty
+mark_stands [] after c span = rw (spacing_before-is after) (ap (λ l. leaf l empty) (spaces (nat_eq c (char ";")) (is_next_mark (first_kind after)) c span))
+mark_stands (o ∷ []) after c span = rw (spacing_before-is after) (ap (λ l. leaf l empty) (spaces_inside (is_next_mark (first_kind after)) c span))
+mark_stands (o ∷ p ∷ outer) after c span = rw (spacing_before-is after) (ap (λ l. leaf l empty) (spaces_inside (is_next_mark (first_kind after)) c span))
+
+pub adds_mark : (sort : Sort) (c : ℕ) (t : PlacedToken) (after : List PlacedToken) (next : Option TokenKind) (spacing : Spacing) (range : TextRange) (span : Span)
+    (old new : Building) (groups : List Opened) (here : Forest) → sort ≡ Mark c → range_of t ≡ range → first_kind after ≡ next
+    → spacing ≡ spacing_in old.groups c next → span ≡ written_at range
+    → new ≡ pushed old (as_leaf.Punct (record { char = c; spacing = spacing; span = span })) → IsBuilt old groups here
+    → GoesOn (steps_of_sort sort t after) groups here new
+adds_mark sort c t after next spacing range span old new groups here is at follows spaced spanned e b =
+    let s : span ≡ written_at (range_of t) = spanned ∙ ap written_at (sym at) in
+    let p : spacing ≡ spacing_in (built_groups groups) c (first_kind after) =
+      spaced ∙ ap (λ gs. spacing_in gs c next) b.groups_are ∙ ap (spacing_in (built_groups groups) c) (sym follows) in
+    let told : new ≡ pushed old (as_leaf.Punct (record { char = c; spacing = spacing_in (built_groups groups) c (first_kind after); span = written_at (range_of t) })) =
+      e ∙ ap (λ l. pushed old l) (ap (λ (x : Spacing). as_leaf.Punct (record { char = c; spacing = x; span = span })) p
+        ∙ ap (λ (x : Span). as_leaf.Punct (record { char = c; spacing = spacing_in (built_groups groups) c (first_kind after); span = x })) s) in
+    rw is (pushes old new groups here _ _ (mark_stands groups after c (written_at (range_of t))) told b)
+
+opened_groups : (kind : DelimiterKind) (span : Span) (groups : List Opened) (here : Forest)
+    → record { kind = kind; open_span = span; before = built_here groups here } ∷ built_groups groups
+      ≡ built_groups (record { kind = kind; open_span = span; before = here } ∷ groups)
+opened_groups kind span [] here = refl
+opened_groups kind span (o ∷ outer) here = refl
+
+pub adds_opening : (sort : Sort) (kind : DelimiterKind) (t : PlacedToken) (after : List PlacedToken) (range : TextRange) (span : Span)
+    (old new : Building) (groups : List Opened) (here : Forest) → sort ≡ Opening kind → range_of t ≡ range → span ≡ written_at range
+    → new ≡ opened old kind span → IsBuilt old groups here → GoesOn (steps_of_sort sort t after) groups here new
+adds_opening sort kind t after range span old new groups here is at spanned e b =
+    let s : span ≡ written_at (range_of t) = spanned ∙ ap written_at (sym at) in
+    rw (is, ← s) (record {
+      new_groups = record { kind = kind; open_span = span; before = here } ∷ groups;
+      new_here = empty;
+      built = record {
+        groups_are =
+          ap (λ (m : Building). m.groups) e
+          ∙ ap (λ f. record { kind = kind; open_span = span; before = f } ∷ old.groups) b.here_is
+          ∙ ap (λ gs. record { kind = kind; open_span = span; before = built_here groups here } ∷ gs) b.groups_are
+          ∙ opened_groups kind span groups here;
+        here_is = ap (λ (m : Building). m.here) e;
+      };
+      reads = λ more. refl;
+    })
+
+same_kind-self : (k : DelimiterKind) → same_kind k k ≡ true
+same_kind-self Parenthesis = refl
+same_kind-self Brace = refl
+same_kind-self Bracket = refl
+same_kind-self Invisible = refl
+
+closes_innermost : (groups : List Opened) (kind opening : DelimiterKind) (open_at span : Span) (old new : Building) (here : Forest)
+    → innermost_group old.groups ≡ Some (opening, open_at) → opening ≡ kind → new ≡ closed old span → IsBuilt old groups here
+    → GoesOn (step (closes kind span) ∷ []) groups here new
+closes_innermost [] kind opening open_at span old new here found same e b = let none : innermost_group old.groups ≡ None = ap innermost_group b.groups_are in cc
+closes_innermost (o ∷ []) kind opening open_at span old new here found same e b =
+    let known : innermost_group old.groups ≡ Some (o.kind, o.open_span) = ap innermost_group b.groups_are in
+    let both : (opening, open_at) ≡ (o.kind, o.open_span) = cc in
+    let fits : o.kind ≡ kind = sym (ap (λ (x : DelimiterKind × Span). x.0) both) ∙ same in
+    let test : same_kind o.kind kind ≡ true = rw (← fits) (same_kind-self o.kind) in
+    let now : new ≡ closed_in (built_groups (o ∷ [])) old span = e ∙ ap (λ gs. closed_in gs old span) b.groups_are in
+    record {
+      new_groups = [];
+      new_here = closed_group o here span;
+      built = record {
+        groups_are = ap (λ (m : Building). m.groups) now;
+        here_is =
+          ap (λ (m : Building). m.here) now
+          ∙ ap (λ f. joined (separated o.before) (group (record { open_span = o.open_span; close_span = span; kind = o.kind }) f empty)) b.here_is
+          ∙ sym (separated-joined o.before (group (record { open_span = o.open_span; close_span = span; kind = o.kind }) here empty));
+      };
+      reads = λ more. rw test refl;
+    }
+closes_innermost (o ∷ p ∷ outer) kind opening open_at span old new here found same e b =
+    let known : innermost_group old.groups ≡ Some (o.kind, o.open_span) = ap innermost_group b.groups_are in
+    let both : (opening, open_at) ≡ (o.kind, o.open_span) = cc in
+    let fits : o.kind ≡ kind = sym (ap (λ (x : DelimiterKind × Span). x.0) both) ∙ same in
+    let test : same_kind o.kind kind ≡ true = rw (← fits) (same_kind-self o.kind) in
+    let now : new ≡ closed_in (built_groups (o ∷ p ∷ outer)) old span = e ∙ ap (λ gs. closed_in gs old span) b.groups_are in
+    record {
+      new_groups = p ∷ outer;
+      new_here = closed_group o here span;
+      built = record {
+        groups_are = ap (λ (m : Building). m.groups) now;
+        here_is =
+          ap (λ (m : Building). m.here) now
+          ∙ ap (λ f. joined o.before (group (record { open_span = o.open_span; close_span = span; kind = o.kind }) f empty)) b.here_is;
+      };
+      reads = λ more. rw test refl;
+    }
+
+pub adds_closing : (sort : Sort) (kind opening : DelimiterKind) (open_at : Span) (t : PlacedToken) (after : List PlacedToken) (range : TextRange) (span : Span)
+    (old new : Building) (groups : List Opened) (here : Forest) → sort ≡ Closing kind → range_of t ≡ range → span ≡ written_at range
+    → innermost_group old.groups ≡ Some (opening, open_at) → opening ≡ kind → new ≡ closed old span → IsBuilt old groups here
+    → GoesOn (steps_of_sort sort t after) groups here new
+adds_closing sort kind opening open_at t after range span old new groups here is at spanned found same e b =
+    let s : span ≡ written_at (range_of t) = spanned ∙ ap written_at (sym at) in
+    rw (is, ← s) (closes_innermost groups kind opening open_at span old new here found same e b)
