@@ -1,10 +1,15 @@
 -- Reading, token by token: what the builder holds after each.
-use Rattle.std.proofs.Common.{◌≡◌, ℕ, List, [], ◌∷◌, ◌++◌, Bool, true, false, refl, sym, ap, ◌∙◌}
-use Rattle.std.specs.Prelude.{◌&&◌, not, Option, Some, None, if◌then◌else◌, nat_eq}
+use Rattle.std.proofs.Common.{◌≡◌, ℕ, ◌+◌, ◌-◌, ◌≤◌, List, [], ◌∷◌, ◌++◌, length, take, drop, Bool, true, false, refl, sym, ap, ◌∙◌, arith, length-drop, chars}
+use Rattle.std.proofs.lemmas.List.{drop-drop, length-take-le}
+use Rattle.std.specs.List.{slice_range}
+use Rattle.std.specs.Prelude.{◌&&◌, not, Option, Some, None, Result, Ok, Err, if◌then◌else◌, nat_eq}
+use Rattle.rustc_lexer.specs.Lexing.{thin_tokens}
+use Rattle.rustc_lexer.specs.declared.token.Token.{Token}
 use Rattle.rustc_lexer.specs.declared.token.TokenKind.{TokenKind}
 use Rattle.tt.specs.Building.{Building, Opened, pushed, opened, closed, closed_in, innermost_group}
 use Rattle.tt_data.specs.Forest.{Forest, empty, leaf, group, joined}
 use Rattle.tt_data.specs.Walk.{at_leaf, opens, closes}
+use Rattle.tt_data.specs.declared.delimiter.Delimiter.{Delimiter}
 use Rattle.tt_data.specs.declared.delimiter.DelimiterKind.{DelimiterKind}
 use Rattle.tt_data.specs.declared.delimiter.DelimiterKind.TheVariants.{Parenthesis, Brace, Bracket, Invisible}
 use Rattle.tt_data.specs.declared.leaf.IdentIsRaw.TheVariants as is_raw
@@ -15,10 +20,12 @@ use Rattle.tt_data.specs.declared.leaf.Spacing.TheVariants.{Alone, Joint}
 use Rattle.tt_data.specs.declared.span.Span.{Span}
 use Rattle.tt_data.specs.declared.span.TextRange.{TextRange}
 use Rattle.expander.specs.Pieces.{separated}
-use Rattle.expander.specs.Reading.{closed as closed_group, PlacedToken, range_of, written_at, TextStep, step, read_from}
-use Rattle.expander.specs.ReadSteps.{GoesOn, IsBuilt, built_groups, built_here, ends_top, first_kind, is_next_mark, spacing_in}
+use Rattle.expander.specs.Reading.{closed as closed_group, PlacedToken, placed_from, range_of, written_at, TextStep, step, read_from}
+use Rattle.expander.specs.ReadSteps.{GoesOn, IsBuilt, IsRead, Takes, built_groups, built_here, ends_top, first_kind, is_next_mark, spacing_in}
 use Rattle.expander.specs.Text.{alone, is_punct, same_kind}
-use Rattle.expander.specs.ThinReading.{char, spacing_before, steps_of_sort}
+use Rattle.expander.specs.ThinReading.{char, sort_of, spacing_before, steps_of, steps_of_sort, thin_reading}
+use Rattle.expander.specs.declared.faults.ReadFault.{ReadFault}
+use Rattle.expander.specs.declared.reading.Read.TheVariants.{Fault}
 use Rattle.expander.specs.declared.reading.Sort.{Sort}
 use Rattle.expander.specs.declared.reading.Sort.TheVariants.{Name, Mark, Opening, Closing}
 
@@ -180,3 +187,82 @@ pub adds_closing : (sort : Sort) (kind opening : DelimiterKind) (open_at : Span)
 adds_closing sort kind opening open_at t after range span old new groups here is at spanned found same e b =
     let s : span ≡ written_at (range_of t) = spanned ∙ ap written_at (sym at) in
     rw (is, ← s) (closes_innermost groups kind opening open_at span old new here found same e b)
+
+-- what the builder has and what is left to read are the whole text's reading
+pub record IsReadSoFar (text : List ℕ) (start : ℕ) (rest : List Token) (b : Building) : Type 0 where
+  pub groups : List Opened
+  pub here : Forest
+  pub built : IsBuilt b groups here
+  pub whole : read_from (steps_of (placed_from start (drop start text) rest)) groups here ≡ thin_reading text
+
+-- a token as it stands in the text
+token_at : List ℕ → ℕ → Token → PlacedToken
+token_at text start t = record { kind = t.kind; start = start; text = take t.len (drop start text) }
+
+range-at : (text : List ℕ) (start : ℕ) (t : Token) → start + t.len ≤ length text
+    → range_of (token_at text start t) ≡ record { start = start; «end» = start + t.len }
+unfolding token_at
+range-at text start t fits =
+    let enough : t.len ≤ length (drop start text) = omega (arith, length-drop start text) in
+    rw (length-take-le t.len (drop start text) enough) refl
+
+text-at : (text word : List ℕ) (start : ℕ) (t : Token) → word ≡ slice_range text start (start + t.len) → (token_at text start t).text ≡ word
+unfolding token_at
+text-at text word start t e =
+    let n : start + t.len - start ≡ t.len = omega arith in
+    sym (e ∙ ap (λ k. take k (drop start text)) n)
+
+-- what one token adds, and what stands in the code's variables there
+pub record IsAdding (text : List ℕ) (start : ℕ) (t : Token) (more : List Token) (old new : Building) (added : Option ReadFault) : Type 0 where
+  pub sort : Sort
+  pub word : List ℕ
+  pub range : TextRange
+  pub next : Option TokenKind
+  pub adds : (p : PlacedToken) (after : List PlacedToken) → p.text ≡ word → range_of p ≡ range → first_kind after ≡ next
+      → Takes (steps_of_sort sort p after) old new added
+  pub sort_is : sort ≡ sort_of t.kind
+  pub word_is : word ≡ slice_range text start (start + t.len)
+  pub range_is : range ≡ record { start = start; «end» = start + t.len }
+  pub fits : start + t.len ≤ length text
+  pub next_is : (from : ℕ) (rest : List ℕ) → first_kind (placed_from from rest more) ≡ next
+
+takes_token : (text : List ℕ) (start : ℕ) (t : Token) (more : List Token) (old new : Building) (added : Option ReadFault) → IsAdding text start t more old new added
+    → Takes (steps_of_sort (sort_of t.kind) (token_at text start t) (placed_from (start + t.len) (drop t.len (drop start text)) more)) old new added
+takes_token text start t more old new added a =
+    let takes = a.adds (token_at text start t) (placed_from (start + t.len) (drop t.len (drop start text)) more)
+      (text-at text a.word start t a.word_is) (range-at text start t a.fits ∙ sym a.range_is) (a.next_is (start + t.len) (drop t.len (drop start text))) in
+    rw a.sort_is at takes
+
+pub reads_on : (text : List ℕ) (start : ℕ) (rest : List Token) (t : Token) (more : List Token) (old new : Building) (added : Option ReadFault)
+    → rest ≡ t ∷ more → IsReadSoFar text start rest old → IsAdding text start t more old new added → added ≡ None → IsReadSoFar text (start + t.len) more new
+unfolding token_at
+reads_on text start rest t more old new added split s a none =
+    let takes = rw none at (takes_token text start t more old new added a) in
+    let g = takes s.groups s.here s.built in
+    let e = rw split at s.whole in
+    record {
+      groups = g.new_groups;
+      here = g.new_here;
+      built = g.built;
+      whole = rw (← drop-drop t.len start text) (sym (g.reads (steps_of (placed_from (start + t.len) (drop t.len (drop start text)) more))) ∙ e);
+    }
+
+pub reads_fault : (text : List ℕ) (start : ℕ) (rest : List Token) (t : Token) (more : List Token) (old new : Building) (added : Option ReadFault) (fault : ReadFault)
+    → rest ≡ t ∷ more → IsReadSoFar text start rest old → IsAdding text start t more old new added → added ≡ Some fault → thin_reading text ≡ Err fault
+unfolding token_at
+reads_fault text start rest t more old new added fault split s a some =
+    let takes = rw some at (takes_token text start t more old new added a) in
+    let e = rw split at s.whole in
+    sym e ∙ takes s.groups s.here s.built (steps_of (placed_from (start + t.len) (drop t.len (drop start text)) more))
+
+pub read_nothing : (text : List ℕ) (tokens : List Token) (b : Building) (top : Delimiter) → tokens ≡ thin_tokens (chars text)
+    → b ≡ record { top = top; groups = []; here = empty } → IsReadSoFar text 0 tokens b
+read_nothing text tokens b top are new = record {
+  groups = [];
+  here = empty;
+  built = record { groups_are = ap (λ (m : Building). m.groups) new; here_is = ap (λ (m : Building). m.here) new };
+  whole = rw are refl;
+}
+
+pub fault_read : (r : Result Forest ReadFault) (fault : ReadFault) → r ≡ Err fault → IsRead r (Fault fault)
+fault_read r fault e = rw e refl
