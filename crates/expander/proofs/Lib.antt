@@ -5,4 +5,5 @@ mod UnitLemmas
 mod KnownLemmas
 mod RunLemmas
 mod RunRows
+pub mod ReadStepLemmas
 pub mod ReadingLemmas

@@ -6,6 +6,7 @@ mod definitions;
 mod expansion;
 pub mod faults;
 mod first_trees;
+pub mod laws;
 mod matching;
 mod names;
 mod output;

@@ -1,5 +1,5 @@
 use Rattle.std.proofs.Common.{◌≡◌, sym, ◌∙◌, rules}
-use Rattle.expander.proofs.ReadingLemmas.{adds_name, adds_mark, adds_opening, adds_closing}
+use Rattle.expander.proofs.ReadStepLemmas.{adds_name, adds_mark, adds_opening, adds_closing}
 use Rattle.expander.proofs.reading.add.Goals as goal
 
 pub returns-in_ok-push-in-Name : goal.returns-in_ok-push-in-Name

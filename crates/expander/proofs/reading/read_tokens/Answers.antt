@@ -1,6 +1,6 @@
 use Rattle.std.proofs.Common.{◌≡◌, ◌≤◌, ◌+◌, length, sym, refl, ◌∙◌, rules, arith}
 use Rattle.rustc_lexer.specs.Standing.{IsTokenAt}
-use Rattle.expander.proofs.ReadingLemmas.{read_nothing, reads_on, reads_fault, fault_read}
+use Rattle.expander.proofs.ReadStepLemmas.{read_nothing, reads_on, reads_fault, fault_read}
 use Rattle.expander.proofs.reading.read_tokens.Goals as goal
 
 pub loop-token-init : goal.loop-token-init

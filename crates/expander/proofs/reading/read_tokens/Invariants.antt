@@ -1,6 +1,6 @@
 use Rattle.std.proofs.Common.{length}
 use Rattle.rustc_lexer.specs.Standing.{AreTokensFrom}
-use Rattle.expander.proofs.ReadingLemmas.{IsReadSoFar}
+use Rattle.expander.proofs.ReadStepLemmas.{IsReadSoFar}
 use Rattle.expander.proofs.reading.read_tokens.Given as goal
 
 abbrev pub invariant-loop-token : goal.invariant-loop-token
