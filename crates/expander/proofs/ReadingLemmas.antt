@@ -1,7 +1,6 @@
 -- The reading that is computed is the one that is defined: a forest's walk, or the first fault.
 use Rattle.std.proofs.Common.{◌≡◌, List, [], ◌∷◌, ◌++◌, Bool, true, false, refl, sym, ap, ◌∙◌, append_assoc, map}
-use Rattle.std.proofs.lemmas.List.{append-nil}
-use Rattle.std.proofs.lemmas.List.{map-append}
+use Rattle.std.proofs.lemmas.List.{append-nil, map-append}
 use Rattle.std.specs.Prelude.{Result, Ok, Err, if◌then◌else◌}
 use Rattle.tt.specs.Building.{Opened}
 use Rattle.tt_data.proofs.ForestLemmas.{joined_assoc, walk-joined}
@@ -50,11 +49,13 @@ read_from-walk (group d inner rest) more groups here =
     let o : Opened = record { kind = d.kind; open_span = d.open_span; before = here } in
     let e : map step (walk inner ++ (closes d.kind d.close_span ∷ walk rest)) ++ more
         ≡ map step (walk inner) ++ (step (closes d.kind d.close_span) ∷ (map step (walk rest) ++ more)) =
-      rw (map-append step (walk inner) (closes d.kind d.close_span ∷ walk rest)) (append_assoc (map step (walk inner)) (step (closes d.kind d.close_span) ∷ map step (walk rest)) more) in
+      ap (λ s. s ++ more) (map-append step (walk inner) (closes d.kind d.close_span ∷ walk rest))
+      ∙ append_assoc (map step (walk inner)) (step (closes d.kind d.close_span) ∷ map step (walk rest)) more in
     ap (λ s. read_from s (o ∷ groups) empty) e
     ∙ read_from-walk inner (step (closes d.kind d.close_span) ∷ (map step (walk rest) ++ more)) (o ∷ groups) empty
     ∙ rw (same_kind-self d.kind)
-        (read_from-walk rest more groups (joined here (group d inner empty)) ∙ ap (read_from more groups) (joined_assoc here (group d inner empty) rest))
+        (read_from-walk rest more groups (joined here (group d inner empty))
+          ∙ ap (read_from more groups) (joined_assoc here (group d inner empty) rest))
 
 -- after a walk that leaves groups open, these are open
 read_from-walk_open : (groups : List Opened) (here : Forest) (more : List TextStep)
@@ -77,7 +78,8 @@ reading-fault steps fault (bad_at groups here range more e) = ap reading e ∙ r
 reading-fault steps fault (closer_at groups here kind span more e h) =
     ap reading e ∙ read_from-walk_open groups here (step (closes kind span) ∷ more) ∙ told groups h
   where
-    told : (gs : List Opened) → DoesNotFit kind gs → read_from (step (closes kind span) ∷ more) gs here ≡ Err (record { kind = CloserDoesNotFit; range = span.range })
+    told : (gs : List Opened) → DoesNotFit kind gs
+        → read_from (step (closes kind span) ∷ more) gs here ≡ Err (record { kind = CloserDoesNotFit; range = span.range })
     told [] n = refl
     told (o ∷ outer) n = rw (differs o.kind kind n) refl
 reading-fault steps fault (left_open o outer here e) =
@@ -93,7 +95,9 @@ walk_open-joined (o ∷ outer) here g =
 moved : (so_far : List Step) (s : Step) (now : List Step) (more : List TextStep) → now ≡ so_far ++ (s ∷ [])
     → map step so_far ++ (step s ∷ more) ≡ map step now ++ more
 moved so_far s now more e =
-    sym (ap (λ w. map step w ++ more) e ∙ ap (λ w. w ++ more) (map-append step so_far (s ∷ [])) ∙ append_assoc (map step so_far) (step s ∷ []) more)
+    sym (ap (λ w. map step w ++ more) e
+      ∙ ap (λ w. w ++ more) (map-append step so_far (s ∷ []))
+      ∙ append_assoc (map step so_far) (step s ∷ []) more)
 
 closed_walk : (o : Opened) (outer : List Opened) (here : Forest) (kind : DelimiterKind) (span : Span) → o.kind ≡ kind
     → walk_open outer (closed o here span) ≡ walk_open (o ∷ outer) here ++ (closes kind span ∷ [])
@@ -106,8 +110,8 @@ IsOutcome : List TextStep → Result Forest ReadFault → Type 0
 IsOutcome all (Ok f) = IsReading all f
 IsOutcome all (Err fault) = IsFault all fault
 
-at_closer : (all : List TextStep) (r s : Result Forest ReadFault) (b : Bool) → (b ≡ true → IsOutcome all r) → (b ≡ false → IsOutcome all s)
-    → IsOutcome all (if b then r else s)
+at_closer : (all : List TextStep) (r s : Result Forest ReadFault) (b : Bool) → (b ≡ true → IsOutcome all r)
+    → (b ≡ false → IsOutcome all s) → IsOutcome all (if b then r else s)
 at_closer all r s true fits other = fits refl
 at_closer all r s false fits other = other refl
 
@@ -118,7 +122,8 @@ outcome all [] [] here e = e ∙ append-nil (map step (walk here))
 outcome all [] (o ∷ outer) here e = left_open o outer here (e ∙ append-nil (map step (walk_open (o ∷ outer) here)))
 outcome all (step (at_leaf l) ∷ more) groups here e =
     outcome all more groups (joined here (leaf l empty))
-      (e ∙ moved (walk_open groups here) (at_leaf l) (walk_open groups (joined here (leaf l empty))) more (walk_open-joined groups here (leaf l empty)))
+      (e ∙ moved (walk_open groups here) (at_leaf l) (walk_open groups (joined here (leaf l empty))) more
+        (walk_open-joined groups here (leaf l empty)))
 outcome all (step (opens kind span) ∷ more) groups here e =
     outcome all more (record { kind = kind; open_span = span; before = here } ∷ groups) empty
       (e ∙ moved (walk_open groups here) (opens kind span) _ more refl)

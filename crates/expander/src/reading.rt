@@ -148,19 +148,19 @@ fn add(
 }
 
 // The trees of all tokens, or the group that is left open.
-fn whole(builder: TopSubtreeBuilder) -> Result<Read, TtFault>
-    ensures { IfOk result (λ read. (groups : List Opened) (here : Forest) →
-        IsBuilt builder groups here → IsRead (read_from [] groups here) read) }
+fn whole(builder: TopSubtreeBuilder) -> Read
+    ensures { (groups : List Opened) (here : Forest) →
+        IsBuilt builder groups here → IsRead (read_from [] groups here) result }
 {
     if let Some((_, open_span)) = builder.innermost() {
-        return Ok(Read::Fault(ReadFault {
+        return Read::Fault(ReadFault {
             kind: ReadFaultKind::GroupLeftOpen,
             range: open_span.range,
-        }));
+        });
     }
     match builder.build() {
-        Ok(tree) => Ok(Read::Tree(tree)),
-        Err((_, fault)) => Err(fault),
+        Ok(tree) => Read::Tree(tree),
+        Err(_) => unreachable!("no group is open"),
     }
 }
 
@@ -194,5 +194,5 @@ pub(crate) fn read_tokens(alloc: Global, text: &str, tokens: &[Token]) -> Result
         start = end;
         rest = more;
     }
-    whole(builder)
+    Ok(whole(builder))
 }
