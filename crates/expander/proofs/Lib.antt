@@ -10,3 +10,5 @@ mod RunLemmas
 mod RunRows
 mod MarkLemmas
 mod CallLemmas
+pub mod ReadStepLemmas
+pub mod ReadingLemmas

@@ -21,3 +21,4 @@ pub mod Watch
 pub mod Runs
 pub mod Steps
 pub mod CallSteps
+pub mod ReadSteps

@@ -1,10 +1,14 @@
 // Reading: the tokens of a text as trees.
-ghost use Rattle.std.specs.Prelude.{◌≡◌, ◌<◌, ◌^◌, length, chars};
+ghost use Rattle.std.specs.Prelude.{◌≡◌, ℕ, ◌<◌, ◌^◌, List, [], length, chars, IfOk};
+ghost use Rattle.expander.specs.ReadSteps.{Takes, IsBuilt, IsRead, first_kind, spacing_in};
+ghost use Rattle.expander.specs.Reading.{PlacedToken, placed_from, range_of, written_at, read_from};
+ghost use Rattle.expander.specs.ThinReading.{is_mark, sort_of, steps_of_sort, thin_reading};
 ghost use Rattle.rustc_lexer.specs.Lexing.{thin_tokens};
-ghost use Rattle.expander.specs.ThinReading.{sort_of};
+ghost use Rattle.tt.specs.Building.{Opened};
+ghost use Rattle.tt_data.specs.Forest.{Forest};
 
 use crate::faults::{ReadFault, ReadFaultKind};
-use rustc_lexer::{Token, TokenKind};
+use rustc_lexer::{Token, TokenKind, laws};
 use std::alloc::Global;
 use tt::builder::TopSubtreeBuilder;
 use tt::top::TopSubtree;
@@ -70,7 +74,9 @@ pub(crate) enum Read {
 }
 
 // A span of the text itself.
-fn written_at(range: TextRange) -> Span {
+fn written_at(range: TextRange) -> Span
+    ensures { result ≡ written_at range }
+{
     Span {
         range,
         anchor: 0,
@@ -78,12 +84,16 @@ fn written_at(range: TextRange) -> Span {
     }
 }
 
-fn is_mark(kind: TokenKind) -> bool {
+fn is_mark(kind: TokenKind) -> bool
+    ensures { result ≡ is_mark (sort_of kind) }
+{
     matches!(sort_of(kind), Sort::Mark(_))
 }
 
 // How a punct stands before the next token. What ends a piece stands alone.
-fn spacing_of(builder: &TopSubtreeBuilder, char: char, next: Option<TokenKind>) -> Spacing {
+fn spacing_of(builder: &TopSubtreeBuilder, char: char, next: Option<TokenKind>) -> Spacing
+    ensures { result ≡ spacing_in builder.now.groups char next }
+{
     match next {
         Some(kind) if is_mark(kind) && !(char == ';' && builder.innermost().is_none()) => {
             Spacing::Joint
@@ -100,7 +110,11 @@ fn add(
     text: &str,
     range: TextRange,
     next: Option<TokenKind>,
-) -> Result<Option<ReadFault>, TtFault> {
+) -> Result<Option<ReadFault>, TtFault>
+    ensures { IfOk result (λ fault. (t : PlacedToken) (after : List PlacedToken) →
+        t.text ≡ text.now → range_of t ≡ range → first_kind after ≡ next →
+        Takes (steps_of_sort sort t after) builder.old builder.new fault) }
+{
     let span = written_at(range);
     match sort {
         Sort::Blank => {}
@@ -134,36 +148,51 @@ fn add(
 }
 
 // The trees of all tokens, or the group that is left open.
-fn whole(builder: TopSubtreeBuilder) -> Result<Read, TtFault> {
+fn whole(builder: TopSubtreeBuilder) -> Read
+    ensures { (groups : List Opened) (here : Forest) →
+        IsBuilt builder groups here → IsRead (read_from [] groups here) result }
+{
     if let Some((_, open_span)) = builder.innermost() {
-        return Ok(Read::Fault(ReadFault {
+        return Read::Fault(ReadFault {
             kind: ReadFaultKind::GroupLeftOpen,
             range: open_span.range,
-        }));
+        });
     }
     match builder.build() {
-        Ok(tree) => Ok(Read::Tree(tree)),
-        Err((_, fault)) => Err(fault),
+        Ok(tree) => Read::Tree(tree),
+        Err(_) => unreachable!("no group is open"),
     }
+}
+
+fn first_kind(tokens: &[Token]) -> Option<TokenKind>
+    ensures { (start : ℕ) (text : List ℕ) → first_kind (placed_from start text tokens.now) ≡ result }
+{
+    let first = tokens.first()?;
+    Some(first.kind)
 }
 
 /// The trees of the text with these tokens, each `;` of the top list standing alone, or the first fault.
 pub(crate) fn read_tokens(alloc: Global, text: &str, tokens: &[Token]) -> Result<Read, TtFault>
     requires small { length text.now < 2 ^ 32 }
     requires tokens { tokens.now ≡ thin_tokens (chars text.now) }
+    ensures { IfOk result (λ read. IsRead (thin_reading text.now) read) }
 {
+    laws::tokens_begin();
+    laws::next_token();
     let start_of_text = written_at(TextRange { start: 0, end: 0 });
     let mut builder = TopSubtreeBuilder::new(alloc, Delimiter::invisible_spanned(start_of_text))?;
     let mut start: u32 = 0;
-    for (i, token) in tokens.iter().enumerate() {
+    let mut rest = tokens;
+    while let Some((token, more)) = rest.split_first() {
         let end = start + token.len;
         let word = &text[start as usize..end as usize];
-        let next = tokens.get(i + 1).map(|next| next.kind);
         let range = TextRange { start, end };
-        if let Some(fault) = add(alloc, &mut builder, sort_of(token.kind), word, range, next)? {
+        let sort = sort_of(token.kind);
+        if let Some(fault) = add(alloc, &mut builder, sort, word, range, first_kind(more))? {
             return Ok(Read::Fault(fault));
         }
         start = end;
+        rest = more;
     }
-    whole(builder)
+    Ok(whole(builder))
 }

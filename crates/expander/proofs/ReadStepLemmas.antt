@@ -1,0 +1,265 @@
+-- Reading, token by token: what the builder holds after each.
+use Rattle.std.proofs.Common.{◌≡◌, ℕ, ◌+◌, ◌-◌, ◌≤◌, List, [], ◌∷◌, length, take, drop, Bool, true, false, refl, sym, ap, ◌∙◌, arith, length-drop, chars}
+use Rattle.expander.proofs.ReadingLemmas.{same_kind-self}
+use Rattle.std.proofs.lemmas.List.{drop-drop, length-take-le}
+use Rattle.std.specs.List.{slice_range}
+use Rattle.std.specs.Prelude.{◌&&◌, not, Option, Some, None, Result, Ok, Err, if◌then◌else◌, nat_eq}
+use Rattle.rustc_lexer.specs.Lexing.{thin_tokens}
+use Rattle.rustc_lexer.specs.declared.token.Token.{Token}
+use Rattle.rustc_lexer.specs.declared.token.TokenKind.{TokenKind}
+use Rattle.tt.specs.Building.{Building, Opened, pushed, opened, closed, closed_in, innermost_group}
+use Rattle.tt_data.specs.Forest.{Forest, empty, leaf, group, joined}
+use Rattle.tt_data.specs.Walk.{at_leaf, opens, closes}
+use Rattle.tt_data.specs.declared.delimiter.Delimiter.{Delimiter}
+use Rattle.tt_data.specs.declared.delimiter.DelimiterKind.{DelimiterKind}
+use Rattle.tt_data.specs.declared.leaf.IdentIsRaw.TheVariants as is_raw
+use Rattle.tt_data.specs.declared.leaf.Leaf.{Leaf}
+use Rattle.tt_data.specs.declared.leaf.Leaf.TheVariants as as_leaf
+use Rattle.tt_data.specs.declared.leaf.Spacing.{Spacing}
+use Rattle.tt_data.specs.declared.leaf.Spacing.TheVariants.{Alone, Joint}
+use Rattle.tt_data.specs.declared.span.Span.{Span}
+use Rattle.tt_data.specs.declared.span.TextRange.{TextRange}
+use Rattle.expander.specs.Pieces.{separated}
+use Rattle.expander.specs.Reading.{closed as closed_group, PlacedToken, placed_from, range_of, written_at, TextStep, step, read_from}
+use Rattle.expander.specs.ReadSteps.{GoesOn, IsBuilt, IsRead, Takes, built_groups, built_here, ends_top, first_kind, is_next_mark, spacing_in}
+use Rattle.expander.specs.Text.{alone, is_punct, same_kind}
+use Rattle.expander.specs.ThinReading.{char, sort_of, spacing_before, steps_of, steps_of_sort, thin_reading}
+use Rattle.expander.specs.declared.faults.ReadFault.{ReadFault}
+use Rattle.expander.specs.declared.reading.Read.TheVariants.{Fault}
+use Rattle.expander.specs.declared.reading.Sort.{Sort}
+use Rattle.expander.specs.declared.reading.Sort.TheVariants.{Name, Mark, Opening, Closing}
+
+separated-joined : (f g : Forest) → separated (joined f g) ≡ joined (separated f) (separated g)
+separated-joined empty g = refl
+separated-joined (leaf l rest) g = ap (leaf (if is_punct ";" l then alone l else l)) (separated-joined rest g)
+separated-joined (group d inner rest) g = ap (group d inner) (separated-joined rest g)
+
+built_here-joined : (groups : List Opened) (f g : Forest)
+    → built_here groups (joined f g) ≡ joined (built_here groups f) (built_here groups g)
+built_here-joined [] f g = separated-joined f g
+built_here-joined (o ∷ outer) f g = refl
+
+-- a leaf is pushed: the builder has it as it stands in the list that it is pushed to
+pushes : {old new : Building} (groups : List Opened) (here : Forest) (l told : Leaf)
+    → built_here groups (leaf l empty) ≡ leaf told empty → new ≡ pushed old told → IsBuilt old groups here
+    → GoesOn (step (at_leaf l) ∷ []) groups here new
+pushes groups here l told stands e b = record {
+  new_groups = groups;
+  new_here = joined here (leaf l empty);
+  built = record {
+    groups_are = ap (λ (m : Building). m.groups) e ∙ b.groups_are;
+    here_is =
+      ap (λ (m : Building). m.here) e
+      ∙ ap (λ f. joined f (leaf told empty)) b.here_is
+      ∙ ap (joined (built_here groups here)) (sym stands)
+      ∙ sym (built_here-joined groups here (leaf l empty));
+  };
+  reads = λ more. refl;
+}
+
+-- ---- an identifier
+
+abbrev name_leaf : List ℕ → Span → Leaf
+name_leaf word span = as_leaf.Ident (record { sym = word; span = span; is_raw = is_raw.No })
+
+name_stands : (groups : List Opened) (word : List ℕ) (span : Span)
+    → built_here groups (leaf (name_leaf word span) empty) ≡ leaf (name_leaf word span) empty
+name_stands [] word span = refl
+name_stands (o ∷ outer) word span = refl
+
+pub adds_name : {sort : Sort} (t : PlacedToken) (after : List PlacedToken) {text word : List ℕ} {range : TextRange} {span : Span}
+    {old new : Building} (groups : List Opened) (here : Forest) → sort ≡ Name → t.text ≡ text → range_of t ≡ range → word ≡ text
+    → span ≡ written_at range → new ≡ pushed old (name_leaf word span) → IsBuilt old groups here
+    → GoesOn (steps_of_sort sort t after) groups here new
+adds_name t after {old = old} {new = new} groups here is same at named spanned e b =
+    let told : new ≡ pushed old (name_leaf t.text (written_at (range_of t))) =
+      rw (at, same, ← named, ← spanned) e in
+    rw is (pushes groups here _ _ (name_stands groups t.text (written_at (range_of t))) told b)
+
+-- ---- a punct
+
+abbrev mark_leaf : ℕ → Spacing → Span → Leaf
+mark_leaf c spacing span = as_leaf.Punct (record { char = c; spacing = spacing; span = span })
+
+abbrev joint_if : Bool → Spacing
+joint_if b = if b then Joint else Alone
+
+spaces : (is_end marked : Bool) (c : ℕ) (span : Span)
+    → (if is_end then mark_leaf c Alone span else mark_leaf c (joint_if marked) span)
+      ≡ mark_leaf c (joint_if (marked && not is_end)) span
+spaces true true c span = refl
+spaces true false c span = refl
+spaces false true c span = refl
+spaces false false c span = refl
+
+spacing_before-is : (after : List PlacedToken) → spacing_before after ≡ joint_if (is_next_mark (first_kind after))
+spacing_before-is [] = refl
+spacing_before-is (t ∷ more) = refl
+
+-- a punct as it stands in its list
+mark_stands : (groups : List Opened) (after : List PlacedToken) (c : ℕ) (span : Span)
+    → built_here groups (leaf (mark_leaf c (spacing_before after) span) empty)
+      ≡ leaf (mark_leaf c (spacing_in (built_groups groups) c (first_kind after)) span) empty
+mark_stands [] after c span =
+    rw (spacing_before-is after) (ap (λ l. leaf l empty) (spaces (nat_eq c (char ";")) (is_next_mark (first_kind after)) c span))
+mark_stands (o ∷ []) after c span =
+    rw (spacing_before-is after) (ap (λ l. leaf l empty) (spaces false (is_next_mark (first_kind after)) c span))
+mark_stands (o ∷ p ∷ outer) after c span =
+    rw (spacing_before-is after) (ap (λ l. leaf l empty) (spaces false (is_next_mark (first_kind after)) c span))
+
+pub adds_mark : {sort : Sort} {c : ℕ} (t : PlacedToken) (after : List PlacedToken) {next : Option TokenKind} {spacing : Spacing}
+    {range : TextRange} {span : Span} {old new : Building} (groups : List Opened) (here : Forest) → sort ≡ Mark c
+    → range_of t ≡ range → first_kind after ≡ next → spacing ≡ spacing_in old.groups c next → span ≡ written_at range
+    → new ≡ pushed old (mark_leaf c spacing span) → IsBuilt old groups here
+    → GoesOn (steps_of_sort sort t after) groups here new
+adds_mark {c = c} t after {old = old} {new = new} groups here is at follows spaced spanned e b =
+    let told : new ≡ pushed old (mark_leaf c (spacing_in (built_groups groups) c (first_kind after)) (written_at (range_of t))) =
+      rw (at, follows, ← b.groups_are, ← spaced, ← spanned) e in
+    rw is (pushes groups here _ _ (mark_stands groups after c (written_at (range_of t))) told b)
+
+-- ---- an opening bracket
+
+opened_groups : (kind : DelimiterKind) (span : Span) (groups : List Opened) (here : Forest)
+    → record { kind = kind; open_span = span; before = built_here groups here } ∷ built_groups groups
+      ≡ built_groups (record { kind = kind; open_span = span; before = here } ∷ groups)
+opened_groups kind span [] here = refl
+opened_groups kind span (o ∷ outer) here = refl
+
+pub adds_opening : {sort : Sort} {kind : DelimiterKind} (t : PlacedToken) (after : List PlacedToken) {range : TextRange} {span : Span}
+    {old new : Building} (groups : List Opened) (here : Forest) → sort ≡ Opening kind → range_of t ≡ range
+    → span ≡ written_at range → new ≡ opened old kind span → IsBuilt old groups here
+    → GoesOn (steps_of_sort sort t after) groups here new
+adds_opening {kind = kind} t after {span = span} {old = old} groups here is at spanned e b =
+    rw (is, at, ← spanned) (record {
+      new_groups = record { kind = kind; open_span = span; before = here } ∷ groups;
+      new_here = empty;
+      built = record {
+        groups_are =
+          ap (λ (m : Building). m.groups) e
+          ∙ ap (λ f. record { kind = kind; open_span = span; before = f } ∷ old.groups) b.here_is
+          ∙ ap (λ gs. record { kind = kind; open_span = span; before = built_here groups here } ∷ gs) b.groups_are
+          ∙ opened_groups kind span groups here;
+        here_is = ap (λ (m : Building). m.here) e;
+      };
+      reads = λ more. refl;
+    })
+
+-- ---- a closing bracket
+
+innermost-built : (groups : List Opened) → innermost_group (built_groups groups) ≡ innermost_group groups
+innermost-built [] = refl
+innermost-built (o ∷ []) = refl
+innermost-built (o ∷ p ∷ outer) = refl
+
+-- the builder once the innermost group is closed
+built_closed : (outer : List Opened) (o : Opened) (here : Forest) (span : Span) (old : Building) → old.here ≡ here
+    → IsBuilt (closed_in (built_groups (o ∷ outer)) old span) outer (closed_group o here span)
+built_closed [] o here span old e = record {
+  groups_are = refl;
+  here_is =
+    ap (λ f. closed_group (record o { before = separated o.before }) f span) e
+    ∙ sym (separated-joined o.before (group (record { open_span = o.open_span; close_span = span; kind = o.kind }) here empty));
+}
+built_closed (p ∷ outer) o here span old e = record { groups_are = refl; here_is = ap (λ f. closed_group o f span) e }
+
+closes_innermost : (groups : List Opened) (kind opening : DelimiterKind) (open_at span : Span) (old new : Building) (here : Forest)
+    → innermost_group old.groups ≡ Some (opening, open_at) → opening ≡ kind → new ≡ closed old span → IsBuilt old groups here
+    → GoesOn (step (closes kind span) ∷ []) groups here new
+closes_innermost [] kind opening open_at span old new here found same e b =
+    let none : innermost_group old.groups ≡ None = ap innermost_group b.groups_are in
+    cc
+closes_innermost (o ∷ outer) kind opening open_at span old new here found same e b =
+    let known : innermost_group old.groups ≡ Some (o.kind, o.open_span) =
+      ap innermost_group b.groups_are ∙ innermost-built (o ∷ outer) in
+    let both : (opening, open_at) ≡ (o.kind, o.open_span) = cc in
+    let fits : o.kind ≡ kind = sym (ap (λ (x : DelimiterKind × Span). x.0) both) ∙ same in
+    let test : same_kind o.kind kind ≡ true = rw (← fits) (same_kind-self o.kind) in
+    let now : new ≡ closed_in (built_groups (o ∷ outer)) old span = e ∙ ap (λ gs. closed_in gs old span) b.groups_are in
+    record {
+      new_groups = outer;
+      new_here = closed_group o here span;
+      built = rw now (built_closed outer o here span old b.here_is);
+      reads = λ more. rw test refl;
+    }
+
+pub adds_closing : {sort : Sort} {kind opening : DelimiterKind} {open_at : Span} (t : PlacedToken) (after : List PlacedToken)
+    {range : TextRange} {span : Span} {old new : Building} (groups : List Opened) (here : Forest) → sort ≡ Closing kind
+    → range_of t ≡ range → span ≡ written_at range → innermost_group old.groups ≡ Some (opening, open_at) → opening ≡ kind
+    → new ≡ closed old span → IsBuilt old groups here → GoesOn (steps_of_sort sort t after) groups here new
+adds_closing {kind = kind} t after {span = span} groups here is at spanned found same e b =
+    rw (is, at, ← spanned) (closes_innermost groups kind _ _ span _ _ here found same e b)
+
+-- ---- the tokens of a text, one after another
+
+-- what the builder has and what is left to read are the whole text's reading
+pub record IsReadSoFar (text : List ℕ) (start : ℕ) (rest : List Token) (b : Building) : Type 0 where
+  pub groups : List Opened
+  pub here : Forest
+  pub built : IsBuilt b groups here
+  pub whole : read_from (steps_of (placed_from start (drop start text) rest)) groups here ≡ thin_reading text
+
+pub read_nothing : {text : List ℕ} {tokens : List Token} {b : Building} {top : Delimiter} → tokens ≡ thin_tokens (chars text)
+    → b ≡ record { top = top; groups = []; here = empty } → IsReadSoFar text 0 tokens b
+read_nothing are new = record {
+  groups = [];
+  here = empty;
+  built = record { groups_are = ap (λ (m : Building). m.groups) new; here_is = ap (λ (m : Building). m.here) new };
+  whole = rw are refl;
+}
+
+-- a token as it stands in the text
+abbrev token_at : List ℕ → ℕ → Token → PlacedToken
+token_at text start t = record { kind = t.kind; start = start; text = take t.len (drop start text) }
+
+-- what one token adds, and what stands in the code's variables there
+pub record IsAdding (text : List ℕ) (start : ℕ) (t : Token) (more : List Token) (old new : Building) (added : Option ReadFault) : Type 0 where
+  pub sort : Sort
+  pub word : List ℕ
+  pub next : Option TokenKind
+  pub adds : (p : PlacedToken) (after : List PlacedToken) → p.text ≡ word
+      → range_of p ≡ record { start = start; «end» = start + t.len } → first_kind after ≡ next
+      → Takes (steps_of_sort sort p after) old new added
+  pub sort_is : sort ≡ sort_of t.kind
+  pub word_is : word ≡ slice_range text start (start + t.len)
+  pub next_is : (from : ℕ) (rest : List ℕ) → first_kind (placed_from from rest more) ≡ next
+  pub fits : start + t.len ≤ length text
+
+takes_token : (text : List ℕ) (start : ℕ) (t : Token) (more : List Token) (old new : Building) (added : Option ReadFault)
+    → IsAdding text start t more old new added
+    → Takes (steps_of_sort (sort_of t.kind) (token_at text start t) (placed_from (start + t.len) (drop t.len (drop start text)) more))
+        old new added
+takes_token text start t more old new added a =
+    let n : start + t.len - start ≡ t.len = omega arith in
+    let spelt : take t.len (drop start text) ≡ a.word = sym (a.word_is ∙ ap (λ k. take k (drop start text)) n) in
+    let enough : t.len ≤ length (drop start text) = omega (arith, a.fits, length-drop start text) in
+    let placed : range_of (token_at text start t) ≡ record { start = start; «end» = start + t.len } =
+      rw (length-take-le t.len (drop start text) enough) refl in
+    let takes = a.adds (token_at text start t) (placed_from (start + t.len) (drop t.len (drop start text)) more)
+      spelt placed (a.next_is (start + t.len) (drop t.len (drop start text))) in
+    rw a.sort_is at takes
+
+pub reads_on : {text : List ℕ} {start : ℕ} {rest more : List Token} {t : Token} {old new : Building} {added : Option ReadFault}
+    → rest ≡ t ∷ more → IsReadSoFar text start rest old → IsAdding text start t more old new added → added ≡ None
+    → IsReadSoFar text (start + t.len) more new
+reads_on {text = text} {start = start} {more = more} {t = t} split s a none =
+    let takes = rw none at (takes_token text start t more _ _ _ a) in
+    let goes_on = takes s.groups s.here s.built in
+    let left = rw split at s.whole in
+    record {
+      groups = goes_on.new_groups;
+      here = goes_on.new_here;
+      built = goes_on.built;
+      whole =
+        rw (← drop-drop t.len start text)
+          (sym (goes_on.reads (steps_of (placed_from (start + t.len) (drop t.len (drop start text)) more))) ∙ left);
+    }
+
+pub reads_fault : {text : List ℕ} {start : ℕ} {rest more : List Token} {t : Token} {old new : Building} {added : Option ReadFault}
+    {fault : ReadFault} → rest ≡ t ∷ more → IsReadSoFar text start rest old → IsAdding text start t more old new added
+    → added ≡ Some fault → IsRead (thin_reading text) (Fault fault)
+reads_fault {text = text} {start = start} {more = more} {t = t} {fault = fault} split s a some =
+    let takes = rw some at (takes_token text start t more _ _ _ a) in
+    let left = rw split at s.whole in
+    let e : thin_reading text ≡ Err fault =
+      sym left ∙ takes s.groups s.here s.built (steps_of (placed_from (start + t.len) (drop t.len (drop start text)) more)) in
+    rw e refl
