@@ -20,3 +20,4 @@ pub mod Replies
 pub mod Watch
 pub mod Runs
 pub mod Steps
+pub mod OutputSteps

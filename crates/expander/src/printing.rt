@@ -1,5 +1,8 @@
 // Printing: the text of the output's visible tokens.
-ghost use Rattle.std.specs.Prelude.{◌<◌, ◌≡◌, ℕ};
+ghost use Rattle.std.specs.Prelude.{◌≡◌, ◌<◌, ◌^◌, ◌+◌, ◌++◌, OnOk, IfOk, length, encode_utf8, option_map, string_bytes};
+ghost use Rattle.expander.specs.OutputSteps.{step_of, is_spelled, text_of_step, token_at, are_joined, tokens_of_output};
+ghost use Rattle.expander.specs.Printing.{depth_after, ends_line, gap, text_of};
+ghost use Rattle.expander.specs.Thin.{open_text, close_text};
 
 use crate::output::{PlacedStep, Step};
 use std::alloc::{AllocError, Global};
@@ -14,7 +17,10 @@ pub(crate) struct Printed {
 }
 
 // The brackets of a group, opening and closing.
-fn brackets(kind: DelimiterKind) -> Option<(char, char)> {
+fn brackets(kind: DelimiterKind) -> Option<(char, char)>
+    ensures opening { option_map (λ b. encode_utf8 b.0) result ≡ open_text kind }
+    ensures closing { option_map (λ b. encode_utf8 b.1) result ≡ close_text kind }
+{
     match kind {
         DelimiterKind::Parenthesis => Some(('(', ')')),
         DelimiterKind::Brace => Some(('{', '}')),
@@ -24,7 +30,9 @@ fn brackets(kind: DelimiterKind) -> Option<(char, char)> {
 }
 
 /// Whether the step has a spelling.
-pub(crate) fn has_spelling(step: &Step) -> bool {
+pub(crate) fn has_spelling(step: &Step) -> bool
+    ensures { result ≡ is_spelled (step_of step.now) }
+{
     match step {
         Step::Leaf(leaf) => !matches!(leaf, Leaf::Literal(_)),
         Step::Opens(kind, _) | Step::Closes(kind, _) => *kind != DelimiterKind::Invisible,
@@ -32,7 +40,9 @@ pub(crate) fn has_spelling(step: &Step) -> bool {
 }
 
 // Adds a step's spelling, where it has one.
-fn push_spelling(text: &mut String, step: &Step) -> Result<(), AllocError> {
+fn push_spelling(text: &mut String, step: &Step) -> Result<(), AllocError>
+    ensures { OnOk result (string_bytes text.new ≡ string_bytes text.old ++ text_of_step (step_of step.now)) }
+{
     match step {
         Step::Leaf(Leaf::Ident(ident)) => text.push_str(ident.sym.as_str()),
         Step::Leaf(Leaf::Punct(punct)) => text.push(punct.char),
@@ -49,7 +59,9 @@ fn push_spelling(text: &mut String, step: &Step) -> Result<(), AllocError> {
 }
 
 // Whether a line ends after the step, outside all groups.
-fn ends_line(step: &Step) -> bool {
+fn ends_line(step: &Step) -> bool
+    ensures { result ≡ ends_line (step_of step.now) }
+{
     match step {
         Step::Leaf(Leaf::Punct(punct)) => punct.char == ';',
         Step::Closes(kind, _) => *kind == DelimiterKind::Brace,
@@ -58,7 +70,9 @@ fn ends_line(step: &Step) -> bool {
 }
 
 // Whether nothing stands between two steps that are printed one after another.
-fn are_joined(first: &Step, second: &Step) -> bool {
+fn are_joined(first: &Step, second: &Step) -> bool
+    ensures { result ≡ are_joined (token_at (step_of first.now)) (token_at (step_of second.now)) }
+{
     match (first, second) {
         (Step::Leaf(Leaf::Punct(first)), Step::Leaf(Leaf::Punct(second))) => {
             first.char == '\''
@@ -73,7 +87,8 @@ fn are_joined(first: &Step, second: &Step) -> bool {
 
 // How many groups are open after the step.
 fn depth_after(depth: usize, step: &Step) -> usize
-    requires { depth < 18446744073709551615 }
+    requires { depth + 1 < 2 ^ 64 }
+    ensures { result ≡ depth_after depth (step_of step.now) }
 {
     match step {
         Step::Leaf(_) => depth,
@@ -83,7 +98,12 @@ fn depth_after(depth: usize, step: &Step) -> usize
 }
 
 // Adds what stands between two steps.
-fn push_gap(text: &mut String, depth: usize, first: &Step, second: &Step) -> Result<(), AllocError> {
+fn push_gap(text: &mut String, depth: usize, first: &Step, second: &Step) -> Result<(), AllocError>
+    ensures {
+        OnOk result
+            (string_bytes text.new ≡ string_bytes text.old ++ gap depth (token_at (step_of first.now)) (token_at (step_of second.now)))
+    }
+{
     if depth == 0 && ends_line(first) {
         text.push('\n')
     } else if are_joined(first, second) {
