@@ -1,7 +1,7 @@
 // Printing: the text of the output's visible tokens.
 ghost use Rattle.std.specs.Prelude.{◌≡◌, ◌<◌, ◌^◌, ◌+◌, ◌++◌, OnOk, IfOk, length, encode_utf8, option_map, string_bytes};
 ghost use Rattle.expander.specs.OutputSteps.{step_of, is_spelled, text_of_step, token_at, are_joined, tokens_of_output};
-ghost use Rattle.expander.specs.Printing.{depth_after, ends_line, gap, text_of};
+ghost use Rattle.expander.specs.Printing.{depth_after, ends_line, gap, is_kept_apart, text_of};
 ghost use Rattle.expander.specs.Thin.{open_text, close_text};
 
 use crate::output::{PlacedStep, Step};
@@ -69,7 +69,17 @@ fn ends_line(step: &Step) -> bool
     }
 }
 
-// Whether nothing stands between two steps that are printed one after another.
+// Whether two puncts side by side would begin a comment or a guarded string.
+#[tactic(auto, using(crate::proofs::PrintingLemmas::apart))]
+fn are_kept_apart(first: char, second: char) -> bool
+    ensures { result ≡ is_kept_apart (encode_utf8 first) (encode_utf8 second) }
+{
+    (first == '/' && second == '/')
+        || (first == '/' && second == '*')
+        || (first == '#' && second == '#')
+}
+
+// Whether nothing stands between two steps on one line.
 fn are_joined(first: &Step, second: &Step) -> bool
     ensures { result ≡ are_joined (token_at (step_of first.now)) (token_at (step_of second.now)) }
 {
@@ -78,7 +88,7 @@ fn are_joined(first: &Step, second: &Step) -> bool
             first.char == '\''
                 || (first.spacing != Spacing::Alone
                     && second.char != '\''
-                    && !matches!((first.char, second.char), ('/', '/' | '*') | ('#', '#')))
+                    && !are_kept_apart(first.char, second.char))
         }
         (Step::Leaf(Leaf::Punct(first)), _) => first.char == '\'',
         _ => false,
