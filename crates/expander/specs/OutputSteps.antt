@@ -5,7 +5,7 @@ use Rattle.expander.specs.declared.output.PlacedStep as declared
 use Rattle.expander.specs.declared.output.Step as kept
 use Rattle.expander.specs.declared.output.Step.TheVariants as as_step
 use Rattle.expander.specs.Expansion.{PlacedStep}
-use Rattle.expander.specs.Printing.{PrintedToken, visible, printed, is_quote, is_joined, is_punct_but_quote, is_kept_apart}
+use Rattle.expander.specs.Printing.{PrintedToken, visible, printed, is_quote, is_joined, is_punct_but_quote, is_kept_apart, gap}
 use Rattle.expander.specs.Thin.{thin_spelling}
 
 abbrev pub step_of : kept.Step → Step
@@ -42,3 +42,8 @@ token_at s = token_of (record { step = s; outer = None })
 abbrev pub are_joined : PrintedToken → PrintedToken → Bool
 are_joined a b =
     is_quote a.token.step || (is_joined a.token.step && is_punct_but_quote b.token.step && not (is_kept_apart a.text b.text))
+
+-- what stands before a token, after the step printed last, if any
+abbrev pub gap_after : ℕ → Option Step → Step → List ℕ
+gap_after depth None s = []
+gap_after depth (Some last) s = gap depth (token_at last) (token_at s)

@@ -1,6 +1,6 @@
 // Printing: the text of the output's visible tokens.
 ghost use Rattle.std.specs.Prelude.{◌≡◌, ◌<◌, ◌^◌, ◌+◌, ◌++◌, OnOk, IfOk, length, encode_utf8, option_map, string_bytes};
-ghost use Rattle.expander.specs.OutputSteps.{step_of, is_spelled, text_of_step, token_at, are_joined, tokens_of_output};
+ghost use Rattle.expander.specs.OutputSteps.{step_of, is_spelled, text_of_step, token_at, are_joined, gap_after, tokens_of_output};
 ghost use Rattle.expander.specs.Printing.{depth_after, ends_line, gap, is_kept_apart, text_of};
 ghost use Rattle.expander.specs.Thin.{open_text, close_text};
 
@@ -123,8 +123,29 @@ fn push_gap(text: &mut String, depth: usize, first: &Step, second: &Step) -> Res
     }
 }
 
-/// The text of the visible tokens that have a spelling.
-pub(crate) fn print(alloc: Global, steps: &[PlacedStep]) -> Result<Printed, AllocError> {
+// Adds a step's spelling, after what stands between it and the step printed last.
+fn push_step(text: &mut String, depth: usize, last: Option<&Step>, step: &Step) -> Result<(), AllocError>
+    ensures {
+        OnOk result
+            (string_bytes text.new
+                ≡ (string_bytes text.old ++ gap_after depth (option_map (λ s. step_of s.now) last.entry) (step_of step.now))
+                    ++ text_of_step (step_of step.now))
+    }
+{
+    if let Some(before) = last {
+        push_gap(text, depth, before, step)?;
+    }
+    push_spelling(text, step)
+}
+
+/// The text of the visible tokens that have a spelling, and their number.
+pub(crate) fn print(alloc: Global, steps: &[PlacedStep]) -> Result<Printed, AllocError>
+    ensures {
+        IfOk result (λ p.
+            (string_bytes p.text ≡ text_of (tokens_of_output steps.now))
+            × (p.tokens ≡ length (tokens_of_output steps.now)))
+    }
+{
     let mut text = String::new(alloc);
     let mut tokens = 0;
     let mut depth = 0;
@@ -132,10 +153,7 @@ pub(crate) fn print(alloc: Global, steps: &[PlacedStep]) -> Result<Printed, Allo
     for placed in steps {
         let step = &placed.step;
         if has_spelling(step) {
-            if let Some(before) = last {
-                push_gap(&mut text, depth, before, step)?;
-            }
-            push_spelling(&mut text, step)?;
+            push_step(&mut text, depth, last, step)?;
             depth = depth_after(depth, step);
             last = Some(step);
             tokens += 1;
