@@ -1,5 +1,5 @@
 -- The printed text, step by step.
-use Rattle.std.proofs.Common.{◌≡◌, ℕ, ◌<◌, append_assoc, List, [], ◌∷◌, ◌++◌, refl, sym, ap, ◌∙◌, arith, Bool, true, false, nat_eq}
+use Rattle.std.proofs.Common.{◌≡◌, ℕ, ◌<◌, ◌≤◌, ◌+◌, append_assoc, add-one, length, get_or, drop, drop-cons, List, [], ◌∷◌, ◌++◌, refl, sym, ap, ◌∙◌, arith, Bool, true, false, nat_eq}
 use Rattle.std.specs.Prelude.{◌&&◌, ◌||◌, Option, Some, None, codes, encode_utf8}
 use Rattle.std.proofs.lemmas.List.{append-nil}
 use Rattle.std.specs.Str.{bytes_eq}
@@ -109,7 +109,10 @@ pub more_text : (text all : List ℕ) (depth : ℕ) (last : Option Step) (s : Pl
 more_text text all depth None s more e =
     rw (append-nil, append_assoc) (ap (λ t. text ++ t) (sym (first_text depth s more)) ∙ e)
 more_text text all depth (Some last) s more e =
-    rw (append_assoc, append_assoc) (ap (λ t. text ++ (gap depth (token_at last) (token_at s.step) ++ t)) (sym (first_text depth s more)) ∙ e)
+    let after = gap depth (token_at last) (token_at s.step) in
+    let rest = continued (depth_after depth s.step) (Some s.step) more in
+    append_assoc (text ++ after) (text_of_step s.step) rest ∙ append_assoc text after (text_of_step s.step ++ rest)
+      ∙ (ap (λ t. text ++ (gap depth (token_at last) (token_at s.step) ++ t)) (sym (first_text depth s more)) ∙ e)
 
 pub text_ends_none : (text all : List ℕ) (depth : ℕ) (steps : List PlacedStep) → steps ≡ [] → text ++ continued depth None (tokens_from steps) ≡ all → text ≡ all
 text_ends_none text all depth steps e h =
@@ -118,3 +121,12 @@ text_ends_none text all depth steps e h =
 pub text_ends : (text all : List ℕ) (depth : ℕ) (last : Step) (steps : List PlacedStep) → steps ≡ []
     → text ++ continued depth (Some last) (tokens_from steps) ≡ all → text ++ codes "\n" ≡ all
 text_ends text all depth last steps e h = ap (λ s. text ++ continued depth (Some last) (tokens_from s)) (sym e) ∙ h
+
+pub next_dropped : {X : Type 0} (xs : List X) (i : ℕ) (x : X) → i < length xs → x ≡ get_or xs i x → drop i xs ≡ x ∷ drop (i + 1) xs
+next_dropped xs i x below is = drop-cons xs i x below ∙ rw (add-one i, ← is) refl
+
+-- one step opens at the most one group
+pub depth_after-le : (depth : ℕ) (s : Step) → depth_after depth s ≤ depth + 1
+depth_after-le depth (at_leaf l) = omega arith
+depth_after-le depth (opens kind span) = omega arith
+depth_after-le depth (closes kind span) = omega arith
