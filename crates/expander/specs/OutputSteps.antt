@@ -5,7 +5,7 @@ use Rattle.expander.specs.declared.output.PlacedStep as declared
 use Rattle.expander.specs.declared.output.Step as kept
 use Rattle.expander.specs.declared.output.Step.TheVariants as as_step
 use Rattle.expander.specs.Expansion.{PlacedStep}
-use Rattle.expander.specs.Printing.{PrintedToken, visible, printed, is_quote, is_joined, is_punct_but_quote, is_kept_apart, gap}
+use Rattle.expander.specs.Printing.{PrintedToken, is_visible_step, visible, printed, left_out, is_quote, is_joined, is_punct_but_quote, is_kept_apart, gap}
 use Rattle.expander.specs.Thin.{thin_spelling}
 
 abbrev pub step_of : kept.Step → Step
@@ -23,12 +23,20 @@ steps_of_output steps = map placed_of steps
 abbrev pub tokens_of_output : List declared.PlacedStep → List PrintedToken
 tokens_of_output steps = printed thin_spelling (visible (steps_of_output steps))
 
+-- the visible steps of an output that have no spelling
+abbrev pub left_out_of_output : List declared.PlacedStep → List PlacedStep
+left_out_of_output steps = left_out thin_spelling (visible (steps_of_output steps))
+
 -- a step's spelling: no text where it has none
 abbrev pub text_of_step : Step → List ℕ
 text_of_step s = unwrap_or (thin_spelling s []) []
 
 abbrev pub is_spelled : Step → Bool
 is_spelled s = is_some (thin_spelling s [])
+
+-- whether the step is visible without a spelling
+abbrev pub is_left_out : Step → Bool
+is_left_out s = is_visible_step s && not (is_spelled s)
 
 -- the step as a token that is printed
 abbrev pub token_of : PlacedStep → PrintedToken
