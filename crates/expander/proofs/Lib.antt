@@ -5,6 +5,7 @@ mod UnitLemmas
 mod PatternLemmas
 mod RuleLemmas
 mod PartLemmas
+mod PrintingLemmas
 mod KnownLemmas
 mod RunLemmas
 mod RunRows

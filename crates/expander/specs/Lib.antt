@@ -22,3 +22,4 @@ pub mod Runs
 pub mod Steps
 pub mod CallSteps
 pub mod ReadSteps
+pub mod OutputSteps

@@ -1,4 +1,7 @@
 // Faults of a text.
+ghost use Rattle.std.specs.Prelude.{◌≡◌, ◌++◌, OnOk};
+ghost use Rattle.expander.specs.Faults.{place, fault_at, is_definition_word, nested, unspellable, in_order};
+ghost use Rattle.expander.specs.OutputSteps.{step_of, placed_of, is_left_out, tokens_of_output, left_out_of_output};
 
 use crate::definitions::is_word;
 use crate::output::{PlacedStep, Step};
@@ -47,7 +50,9 @@ pub struct ReadFault {
 }
 
 // Where a fault of an output token is told: at the name of the outermost expanded call, or at the token itself.
-fn place(placed: &PlacedStep) -> Span {
+fn place(placed: &PlacedStep) -> Span
+    ensures { result ≡ place (placed_of placed.now) }
+{
     if let Some(outer) = placed.outer {
         return outer;
     }
@@ -57,33 +62,70 @@ fn place(placed: &PlacedStep) -> Span {
     }
 }
 
-// The fault of a token of the output, if it is one by itself.
-fn fault_of(step: &Step) -> Option<FaultKind> {
-    match step {
-        Step::Leaf(Leaf::Ident(name)) => {
-            if is_word(name, "macro_rules") || is_word(name, "macro") {
-                Some(FaultKind::NestedDefinition)
-            } else {
-                None
-            }
-        }
-        Step::Leaf(Leaf::Literal(_)) => Some(FaultKind::Unspellable),
-        _ => None,
+// The fault of this kind at a token of the output.
+fn fault_at(kind: FaultKind, placed: &PlacedStep) -> Fault
+    ensures { result ≡ fault_at kind (place (placed_of placed.now)) }
+{
+    Fault {
+        kind,
+        range: place(placed).range,
     }
 }
 
-/// Adds the faults of the output's tokens.
-pub(crate) fn push_output_faults(
-    faults: &mut Vec<Fault>,
-    steps: &[PlacedStep],
-) -> Result<(), AllocError> {
+// Whether the token is a word that begins a definition.
+fn is_definition_word(step: &Step) -> bool
+    ensures { result ≡ is_definition_word (step_of step.now) }
+{
+    match step {
+        Step::Leaf(Leaf::Ident(name)) => is_word(name, "macro_rules") || is_word(name, "macro"),
+        _ => false,
+    }
+}
+
+// Whether the token has no spelling. An invisible bracket is no token.
+fn is_left_out(step: &Step) -> bool
+    ensures { result ≡ is_left_out (step_of step.now) }
+{
+    matches!(step, Step::Leaf(Leaf::Literal(_)))
+}
+
+// Adds a fault for each printed word that begins a definition.
+fn push_nested(faults: &mut Vec<Fault>, steps: &[PlacedStep]) -> Result<(), AllocError>
+    ensures { OnOk result (faults.new.items ≡ faults.old.items ++ nested (tokens_of_output steps.now)) }
+{
     for placed in steps {
-        if let Some(kind) = fault_of(&placed.step) {
-            let range = place(placed).range;
-            faults.push(Fault { kind, range })?;
+        if is_definition_word(&placed.step) {
+            faults.push(fault_at(FaultKind::NestedDefinition, placed))?;
         }
     }
     Ok(())
+}
+
+// Adds a fault for each token that is left out of the printed text.
+fn push_unspellable(faults: &mut Vec<Fault>, steps: &[PlacedStep]) -> Result<(), AllocError>
+    ensures { OnOk result (faults.new.items ≡ faults.old.items ++ unspellable (left_out_of_output steps.now)) }
+{
+    for placed in steps {
+        if is_left_out(&placed.step) {
+            faults.push(fault_at(FaultKind::Unspellable, placed))?;
+        }
+    }
+    Ok(())
+}
+
+/// Adds the faults of the output's tokens: those of the printed ones, then those of the ones left out.
+pub(crate) fn push_output_faults(
+    faults: &mut Vec<Fault>,
+    steps: &[PlacedStep],
+) -> Result<(), AllocError>
+    ensures {
+        OnOk result
+            (faults.new.items
+                ≡ faults.old.items ++ (nested (tokens_of_output steps.now) ++ unspellable (left_out_of_output steps.now)))
+    }
+{
+    push_nested(faults, steps)?;
+    push_unspellable(faults, steps)
 }
 
 /// Puts the faults in order of start, end and kind.

@@ -1,4 +1,9 @@
 // The output of an expansion: steps of a walk, each with its place.
+ghost use Rattle.std.specs.Prelude.{◌≡◌, ◌∷◌, [], ◌++◌, OnOk};
+ghost use Rattle.tt_data.specs.Walk.{walk};
+ghost use Rattle.expander.specs.Expansion.{placed};
+ghost use Rattle.expander.specs.OutputSteps.{step_of, steps_of_output};
+
 use crate::first_trees::again;
 use std::alloc::AllocError;
 use tt::view::{TtElement, TtIter};
@@ -26,7 +31,9 @@ pub(crate) fn push_walk(
     steps: &mut Vec<PlacedStep>,
     trees: &TtIter<'_>,
     outer: Option<Span>,
-) -> Result<(), AllocError> {
+) -> Result<(), AllocError>
+    ensures { OnOk result (steps_of_output steps.new.items ≡ steps_of_output steps.old.items ++ placed outer (walk trees.now)) }
+{
     let mut rest = again(trees);
     while let Some(element) = rest.next() {
         match element {
@@ -47,7 +54,9 @@ fn push_step(
     steps: &mut Vec<PlacedStep>,
     step: Step,
     outer: Option<Span>,
-) -> Result<(), AllocError> {
+) -> Result<(), AllocError>
+    ensures { OnOk result (steps_of_output steps.new.items ≡ steps_of_output steps.old.items ++ placed outer (step_of step ∷ [])) }
+{
     steps.push(PlacedStep { step, outer })?;
     Ok(())
 }

@@ -1,0 +1,57 @@
+-- The output of an expansion as the code keeps it, and what its steps are printed as.
+use Rattle.std.specs.Prelude.{ℕ, ◌++◌, List, [], ◌∷◌, Option, Some, None, Bool, ◌&&◌, ◌||◌, not, codes, is_some, map, unwrap_or}
+use Rattle.tt_data.specs.Walk.{Step, at_leaf, opens, closes}
+use Rattle.expander.specs.declared.output.PlacedStep as declared
+use Rattle.expander.specs.declared.output.Step as kept
+use Rattle.expander.specs.declared.output.Step.TheVariants as as_step
+use Rattle.expander.specs.Expansion.{PlacedStep}
+use Rattle.expander.specs.Printing.{PrintedToken, is_visible_step, visible, printed, left_out, is_quote, is_joined, is_punct_but_quote, is_kept_apart, gap}
+use Rattle.expander.specs.Thin.{thin_spelling}
+
+abbrev pub step_of : kept.Step → Step
+step_of (as_step.Leaf l) = at_leaf l
+step_of (as_step.Opens kind span) = opens kind span
+step_of (as_step.Closes kind span) = closes kind span
+
+abbrev pub placed_of : declared.PlacedStep → PlacedStep
+placed_of p = record { step = step_of p.step; outer = p.outer }
+
+abbrev pub steps_of_output : List declared.PlacedStep → List PlacedStep
+steps_of_output steps = map placed_of steps
+
+-- the tokens that are printed of an output
+abbrev pub tokens_of_output : List declared.PlacedStep → List PrintedToken
+tokens_of_output steps = printed thin_spelling (visible (steps_of_output steps))
+
+-- the visible steps of an output that have no spelling
+abbrev pub left_out_of_output : List declared.PlacedStep → List PlacedStep
+left_out_of_output steps = left_out thin_spelling (visible (steps_of_output steps))
+
+-- a step's spelling: no text where it has none
+abbrev pub text_of_step : Step → List ℕ
+text_of_step s = unwrap_or (thin_spelling s []) []
+
+abbrev pub is_spelled : Step → Bool
+is_spelled s = is_some (thin_spelling s [])
+
+-- whether the step is visible without a spelling
+abbrev pub is_left_out : Step → Bool
+is_left_out s = is_visible_step s && not (is_spelled s)
+
+-- the step as a token that is printed
+abbrev pub token_of : PlacedStep → PrintedToken
+token_of s = record { token = s; text = text_of_step s.step }
+
+-- the same for a step at no place
+abbrev pub token_at : Step → PrintedToken
+token_at s = token_of (record { step = s; outer = None })
+
+-- nothing stands between two tokens on one line
+abbrev pub are_joined : PrintedToken → PrintedToken → Bool
+are_joined a b =
+    is_quote a.token.step || (is_joined a.token.step && is_punct_but_quote b.token.step && not (is_kept_apart a.text b.text))
+
+-- what stands before a token, after the step printed last, if any
+abbrev pub gap_after : ℕ → Option Step → Step → List ℕ
+gap_after depth None s = []
+gap_after depth (Some last) s = gap depth (token_at last) (token_at s)
