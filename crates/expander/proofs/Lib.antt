@@ -5,3 +5,7 @@ mod UnitLemmas
 mod KnownLemmas
 mod RunLemmas
 mod RunRows
+mod BindingLemmas
+mod BehindLemmas
+mod PatternLemmas
+mod FillingLemmas

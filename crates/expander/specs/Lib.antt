@@ -20,3 +20,6 @@ pub mod Replies
 pub mod Watch
 pub mod Runs
 pub mod Steps
+pub mod Names
+pub mod Bound
+pub mod Filling
