@@ -9,3 +9,4 @@ mod BindingLemmas
 mod BehindLemmas
 mod PatternLemmas
 mod FillingLemmas
+mod FitLemmas

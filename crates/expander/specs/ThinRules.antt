@@ -1,6 +1,6 @@
 -- Rules whose patterns hold identifiers, puncts, groups, `$name:ident` and `$name:tt`, and whose templates hold
 -- identifiers, puncts, groups and `$name`. (The Rust Reference, "Macros By Example".)
-use Rattle.std.specs.Prelude.{ℕ, zero, suc, ◌+◌, ◌-◌, Bool, true, false, ◌&&◌, ◌||◌, not, List, [], ◌∷◌, nat_eq, codes, if◌then◌else◌, Option, Some, None, option_map, is_some}
+use Rattle.std.specs.Prelude.{ℕ, zero, suc, ◌+◌, ◌-◌, Bool, true, false, ◌&&◌, ◌||◌, not, List, [], ◌∷◌, nat_eq, codes, if◌then◌else◌, Option, Some, None, option_map, is_some, IsSome}
 use Rattle.std.specs.List.{list_any}
 use Prim.Native.String.{String}
 use Rattle.tt_data.specs.Forest.{Forest, empty, leaf, group, joined, size}
@@ -214,6 +214,10 @@ rule_of f = do
   is_some (pattern_of pattern)
   is_some (template_of template)
   Some (record { pattern = pattern; template = template })
+
+-- the pattern and the template are within the forms
+abbrev pub IsRule : Rule → Type 0
+IsRule r = IsSome (pattern_of r.pattern) × IsSome (template_of r.template)
 
 -- the parts of a list between its `;`, before which `begun` was met since the last; none is behind the last `;` where
 -- nothing is left
