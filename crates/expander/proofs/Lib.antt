@@ -13,3 +13,7 @@ mod MarkLemmas
 mod CallLemmas
 pub mod ReadStepLemmas
 pub mod ReadingLemmas
+mod BindingLemmas
+mod BehindLemmas
+mod FillingLemmas
+mod FitLemmas

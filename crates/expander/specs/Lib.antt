@@ -23,3 +23,6 @@ pub mod Steps
 pub mod CallSteps
 pub mod ReadSteps
 pub mod OutputSteps
+pub mod Names
+pub mod Bound
+pub mod Filling

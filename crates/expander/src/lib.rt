@@ -1,6 +1,7 @@
 //! Expands the macros of a text: sessions over a text, and the run of a program.
 #![tactic(auto)]
 
+mod bindings;
 mod calls;
 mod definitions;
 mod expansion;

@@ -1,44 +1,16 @@
 // Matching: which trees of an argument each variable of a pattern takes.
-ghost use Rattle.std.specs.Prelude.{◌≡◌};
+ghost use Rattle.std.specs.Prelude.{◌≡◌, IfOk, Some};
+ghost use Rattle.expander.specs.Bound.{bindings_of, behind_unit, behind_fragment, fragment, behind_operator, Fits};
 ghost use Rattle.expander.specs.ThinFit.{same_operator};
+ghost use Rattle.expander.specs.ThinRules.{Pattern, pattern_of};
 
+use crate::bindings::Bindings;
 use crate::first_trees::{again, first_group, first_ident, first_punct};
-use crate::names::Names;
 use crate::rules::{variable_after, FragmentKind};
 use crate::units::{operator_at, Operator};
 use std::alloc::{AllocError, Global};
 use tt::view::{TtElement, TtIter};
 use tt_data::leaf::Leaf;
-use tt_data::symbol::Symbol;
-
-/// The trees that each variable took last.
-#[derive(Drop)]
-pub(crate) struct Bindings<'a> {
-    names: Names,
-    taken: Vec<TtIter<'a>>,
-}
-
-impl<'a> Bindings<'a> {
-    /// No variable took anything.
-    pub(crate) fn new(alloc: Global) -> Self {
-        Bindings {
-            names: Names::new(alloc),
-            taken: Vec::new(alloc),
-        }
-    }
-
-    // The variable took these trees.
-    fn bind(&mut self, name: Symbol, taken: TtIter<'a>) -> Result<(), AllocError> {
-        self.names.insert(name, self.taken.len())?;
-        self.taken.push(taken)?;
-        Ok(())
-    }
-
-    /// The trees that the variable took.
-    pub(crate) fn get(&self, name: &Symbol) -> Option<&TtIter<'a>> {
-        self.taken.get(self.names.get(name)?)
-    }
-}
 
 fn same_operator(first: Operator, second: Operator) -> bool
     ensures { result ≡ same_operator first second }
@@ -47,19 +19,22 @@ fn same_operator(first: Operator, second: Operator) -> bool
 }
 
 // What is behind the first unit.
-fn behind_unit<'a>(trees: &TtIter<'a>) -> Option<TtIter<'a>> {
-    let mut rest = again(trees);
-    match rest.next()? {
-        TtElement::Leaf(Leaf::Punct(punct)) => {
-            let (_, behind) = operator_at(punct, &rest);
-            Some(behind)
-        }
-        _ => Some(rest),
+fn behind_unit<'a>(trees: &TtIter<'a>) -> Option<TtIter<'a>>
+    ensures { result ≡ behind_unit trees.now }
+{
+    if let Some((punct, rest)) = first_punct(trees) {
+        let (_, behind) = operator_at(punct, &rest);
+        return Some(behind);
     }
+    let mut rest = again(trees);
+    let _ = rest.next()?;
+    Some(rest)
 }
 
 // What is behind a fragment of the kind, at which the trees begin.
-fn behind_fragment<'a>(kind: FragmentKind, trees: &TtIter<'a>) -> Option<TtIter<'a>> {
+fn behind_fragment<'a>(kind: FragmentKind, trees: &TtIter<'a>) -> Option<TtIter<'a>>
+    ensures { result ≡ behind_fragment kind trees.now }
+{
     match kind {
         FragmentKind::Ident => {
             let (name, rest) = first_ident(trees)?;
@@ -70,14 +45,18 @@ fn behind_fragment<'a>(kind: FragmentKind, trees: &TtIter<'a>) -> Option<TtIter<
 }
 
 // The trees of a fragment, and those behind it.
-fn fragment<'a>(kind: FragmentKind, trees: &TtIter<'a>) -> Option<(TtIter<'a>, TtIter<'a>)> {
+fn fragment<'a>(kind: FragmentKind, trees: &TtIter<'a>) -> Option<(TtIter<'a>, TtIter<'a>)>
+    ensures { result ≡ fragment kind trees.now }
+{
     let rest = behind_fragment(kind, trees)?;
     let taken = rest.passed_since(trees.remaining()).iter();
     Some((taken, rest))
 }
 
 // What is behind the operator, where the trees begin with it.
-fn behind_operator<'a>(operator: Operator, trees: &TtIter<'a>) -> Option<TtIter<'a>> {
+fn behind_operator<'a>(operator: Operator, trees: &TtIter<'a>) -> Option<TtIter<'a>>
+    ensures { result ≡ behind_operator operator trees.now }
+{
     let (first, after) = first_punct(trees)?;
     let (found, behind) = operator_at(first, &after);
     if same_operator(operator, found) { Some(behind) } else { None }
@@ -89,7 +68,10 @@ pub(crate) fn fit<'a>(
     pattern: &TtIter<'_>,
     argument: &TtIter<'a>,
     bindings: &mut Bindings<'a>,
-) -> Result<bool, AllocError> {
+) -> Result<bool, AllocError>
+    ensures { (p : Pattern) → pattern_of pattern.now ≡ Some p →
+        IfOk result (λ fits. Fits (bindings_of bindings.old) p argument.now (bindings_of bindings.new) fits) }
+{
     let mut steps = again(pattern);
     let mut rest = again(argument);
     while let Some(step) = steps.next() {

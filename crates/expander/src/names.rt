@@ -1,4 +1,8 @@
 // Values by name: the latest of each name is found.
+ghost use Rattle.std.specs.Prelude.{◌≡◌, ℕ, List, OnOk, OnErr, if◌then◌else◌};
+ghost use Rattle.expander.specs.Names.{index_of};
+ghost use Rattle.expander.specs.Text.{same_text};
+
 use std::alloc::{AllocError, Global};
 use std::collections::HashMap;
 use tt_data::symbol::Symbol;
@@ -11,20 +15,31 @@ pub(crate) struct Names {
 
 impl Names {
     /// No name stands for anything.
-    pub(crate) fn new(alloc: Global) -> Self {
+    #[tactic(auto, unfolding(crate::specs::Names::index_of))]
+    pub(crate) fn new(alloc: Global) -> Self
+        ensures { (name : List ℕ) → index_of result name ≡ None }
+    {
         Names {
             map: HashMap::new(alloc),
         }
     }
 
     /// The name stands for the value at this index from now on.
-    pub(crate) fn insert(&mut self, name: Symbol, index: usize) -> Result<(), AllocError> {
+    #[tactic(auto, unfolding(crate::specs::Names::index_of))]
+    pub(crate) fn insert(&mut self, name: Symbol, index: usize) -> Result<(), AllocError>
+        ensures ok { OnOk result ((other : List ℕ) → index_of self.new other
+            ≡ (if same_text name other then Some index else index_of self.old other)) }
+        ensures err { OnErr result ((other : List ℕ) → index_of self.new other ≡ index_of self.old other) }
+    {
         let _ = self.map.insert(name, index)?;
         Ok(())
     }
 
     /// The index of the value that the name stands for.
-    pub(crate) fn get(&self, name: &Symbol) -> Option<usize> {
+    #[tactic(auto, unfolding(crate::specs::Names::index_of))]
+    pub(crate) fn get(&self, name: &Symbol) -> Option<usize>
+        ensures { result ≡ index_of self.now name.now }
+    {
         self.map.get(name).copied()
     }
 }

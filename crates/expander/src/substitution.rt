@@ -1,6 +1,15 @@
 // Substitution: what a rule's template gives.
+ghost use Rattle.std.specs.Prelude.{◌≡◌, OnOk, Some};
+ghost use Rattle.tt_data.specs.Spans.{leaf_with};
+ghost use Rattle.expander.specs.Bound.{bindings_of};
+ghost use Rattle.expander.specs.Filling.{with_trees};
+ghost use Rattle.expander.specs.Text.{alone, with_last_alone};
+ghost use Rattle.expander.specs.ThinFit.{made, itself, substituted};
+ghost use Rattle.expander.specs.ThinRules.{Template, template_of};
+
+use crate::bindings::Bindings;
 use crate::first_trees::again;
-use crate::matching::{fit, Bindings};
+use crate::matching::fit;
 use crate::rules::{name_after, Rule};
 use std::alloc::Global;
 use tt::builder::TopSubtreeBuilder;
@@ -8,19 +17,23 @@ use tt::top::TopSubtree;
 use tt::view::{TtElement, TtIter};
 use tt_data::delimiter::Delimiter;
 use tt_data::fault::TtFault;
-use tt_data::leaf::{Ident, IdentIsRaw, Leaf, Punct, Spacing};
+use tt_data::leaf::{Ident, IdentIsRaw, Leaf, Literal, Punct, Spacing};
 use tt_data::span::{Span, SyntaxContext, TextRange};
 use tt_data::symbol::Symbol;
 
 // The span as one of a token that a definition made.
-fn made(span: Span) -> Span {
+fn made(span: Span) -> Span
+    ensures { result ≡ made span }
+{
     Span {
         ctx: SyntaxContext::Made,
         ..span
     }
 }
 
-fn made_leaf(leaf: Leaf) -> Leaf {
+fn made_leaf(leaf: Leaf) -> Leaf
+    ensures { result ≡ leaf_with made leaf }
+{
     match leaf {
         Leaf::Punct(punct) => Leaf::Punct(Punct {
             span: made(punct.span),
@@ -31,12 +44,28 @@ fn made_leaf(leaf: Leaf) -> Leaf {
             let span = made(span);
             Leaf::Ident(Ident { sym, span, is_raw })
         }
-        Leaf::Literal(literal) => Leaf::Literal(literal),
+        Leaf::Literal(literal) => {
+            let Literal {
+                text_and_suffix,
+                suffix_len,
+                kind,
+                span,
+            } = literal;
+            let span = made(span);
+            Leaf::Literal(Literal {
+                text_and_suffix,
+                suffix_len,
+                kind,
+                span,
+            })
+        }
     }
 }
 
 // A punct that stands alone, another leaf as it is.
-fn alone(leaf: Leaf) -> Leaf {
+fn alone(leaf: Leaf) -> Leaf
+    ensures { result ≡ alone leaf }
+{
     match leaf {
         Leaf::Punct(punct) => Leaf::Punct(Punct {
             spacing: Spacing::Alone,
@@ -47,7 +76,9 @@ fn alone(leaf: Leaf) -> Leaf {
 }
 
 // Adds the trees as they are.
-fn extend(out: &mut TopSubtreeBuilder, trees: &TtIter<'_>) -> Result<(), TtFault> {
+fn extend(out: &mut TopSubtreeBuilder, trees: &TtIter<'_>) -> Result<(), TtFault>
+    ensures { OnOk result (out.new ≡ with_trees out.old trees.now) }
+{
     let mut rest = again(trees);
     while let Some(element) = rest.next() {
         match element {
@@ -63,7 +94,9 @@ fn extend(out: &mut TopSubtreeBuilder, trees: &TtIter<'_>) -> Result<(), TtFault
 }
 
 // Adds the trees that a variable took: a last punct stands alone.
-fn extend_by_value(out: &mut TopSubtreeBuilder, trees: &TtIter<'_>) -> Result<(), TtFault> {
+fn extend_by_value(out: &mut TopSubtreeBuilder, trees: &TtIter<'_>) -> Result<(), TtFault>
+    ensures { OnOk result (out.new ≡ with_trees out.old (with_last_alone trees.now)) }
+{
     let mut rest = again(trees);
     while let Some(element) = rest.next() {
         match element {
@@ -86,7 +119,9 @@ fn extend_by_itself(
     out: &mut TopSubtreeBuilder,
     name: Symbol,
     span: Span,
-) -> Result<(), TtFault> {
+) -> Result<(), TtFault>
+    ensures { OnOk result (out.new ≡ with_trees out.old (itself name span)) }
+{
     let span = made(span);
     out.push(Leaf::Punct(Punct {
         char: '$',
@@ -105,7 +140,10 @@ fn substitute(
     out: &mut TopSubtreeBuilder,
     template: &TtIter<'_>,
     bindings: &Bindings<'_>,
-) -> Result<(), TtFault> {
+) -> Result<(), TtFault>
+    ensures { (t : Template) → template_of template.now ≡ Some t →
+        OnOk result (out.new ≡ with_trees out.old (substituted (bindings_of bindings.now) t)) }
+{
     let mut rest = again(template);
     while let Some(element) = rest.next() {
         match element {
@@ -123,7 +161,8 @@ fn substitute(
                     out.push(made_leaf(Leaf::Punct(punct)))?;
                 }
             }
-            TtElement::Leaf(leaf) => out.push(made_leaf(leaf))?,
+            TtElement::Leaf(Leaf::Ident(ident)) => out.push(made_leaf(Leaf::Ident(ident)))?,
+            TtElement::Leaf(Leaf::Literal(_)) => return Err(TtFault::Malformed),
             TtElement::Subtree(subtree, inner) => {
                 out.open(subtree.delimiter.kind, made(subtree.delimiter.open_span))?;
                 substitute(out, &inner, bindings)?;

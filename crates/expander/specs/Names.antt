@@ -1,0 +1,13 @@
+-- What names stand for, in the table that holds them.
+use Rattle.std.specs.Prelude.{◌≡◌, ℕ, ◌<◌, List, Option, Some}
+use Rattle.std.specs.HashMap.{get}
+use Rattle.expander.specs.declared.names.Names.{Names}
+use Rattle.expander.specs.Text.{same_text}
+
+-- the index that a name stands for
+unfoldable pub index_of : Names → List ℕ → Option ℕ
+index_of names name = get same_text names.map name
+
+-- each index that a name stands for is one of so many
+abbrev pub IsWithin : Names → ℕ → Type 0
+IsWithin names n = (name : List ℕ) (i : ℕ) → index_of names name ≡ Some i → i < n
