@@ -13,11 +13,11 @@ pub bound_none : (b : table.Bindings) → ((name : List ℕ) → index_of b.name
 unfolding bindings_of
 bound_none b none = fun_ext (λ name. ap (λ o. option_and_then (λ i. slice_get b.taken.items i) o) (none name))
 
-get_at : {X : Type 0} (xs : List X) (x : X) → slice_get (xs ++ x ∷ []) (length xs) ≡ Some x
+pub get_at : {X : Type 0} (xs : List X) (x : X) → slice_get (xs ++ x ∷ []) (length xs) ≡ Some x
 get_at [] x = refl
 get_at (y ∷ xs) x = get_at xs x
 
-get_before : {X : Type 0} (xs : List X) (x : X) (i : ℕ) → i < length xs → slice_get (xs ++ x ∷ []) i ≡ slice_get xs i
+pub get_before : {X : Type 0} (xs : List X) (x : X) (i : ℕ) → i < length xs → slice_get (xs ++ x ∷ []) i ≡ slice_get xs i
 get_before [] x i h = absurd (omega arith)
 get_before (y ∷ xs) x zero h = refl
 get_before (y ∷ xs) x (suc i) h = get_before xs x i (omega arith)

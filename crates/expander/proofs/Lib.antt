@@ -13,7 +13,8 @@ mod MarkLemmas
 mod CallLemmas
 pub mod ReadStepLemmas
 pub mod ReadingLemmas
-mod BindingLemmas
+pub mod BindingLemmas
 mod BehindLemmas
 mod FillingLemmas
 mod FitLemmas
+mod ScopeLemmas

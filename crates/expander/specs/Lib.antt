@@ -26,3 +26,4 @@ pub mod OutputSteps
 pub mod Names
 pub mod Bound
 pub mod Filling
+pub mod ScopeTable
