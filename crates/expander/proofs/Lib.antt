@@ -6,4 +6,5 @@ mod KnownLemmas
 mod RunLemmas
 mod RunRows
 pub mod ReadStepLemmas
+pub mod ReadTokensLemmas
 pub mod ReadingLemmas
