@@ -12,6 +12,7 @@ mod RunRows
 mod MarkLemmas
 mod CallLemmas
 pub mod ReadStepLemmas
+pub mod ReadTokensLemmas
 pub mod ReadingLemmas
 pub mod BindingLemmas
 mod BehindLemmas

@@ -1,16 +1,11 @@
--- Reading, token by token: what the builder holds after each.
-use Rattle.std.proofs.Common.{◌≡◌, ℕ, ◌+◌, ◌-◌, ◌≤◌, List, [], ◌∷◌, length, take, drop, Bool, true, false, refl, sym, ap, ◌∙◌, arith, length-drop, chars}
+-- What one token adds to what the builder holds.
+use Rattle.std.proofs.Common.{◌≡◌, ℕ, List, [], ◌∷◌, Bool, true, false, refl, sym, ap, ◌∙◌}
 use Rattle.expander.proofs.ReadingLemmas.{same_kind-self}
-use Rattle.std.proofs.lemmas.List.{drop-drop, length-take-le}
-use Rattle.std.specs.List.{slice_range}
-use Rattle.std.specs.Prelude.{◌&&◌, not, Option, Some, None, Result, Ok, Err, if◌then◌else◌, nat_eq}
-use Rattle.rustc_lexer.specs.Lexing.{thin_tokens}
-use Rattle.rustc_lexer.specs.declared.token.Token.{Token}
+use Rattle.std.specs.Prelude.{◌&&◌, not, Option, Some, None, if◌then◌else◌, nat_eq}
 use Rattle.rustc_lexer.specs.declared.token.TokenKind.{TokenKind}
 use Rattle.tt.specs.Building.{Building, Opened, pushed, opened, closed, closed_in, innermost_group}
 use Rattle.tt_data.specs.Forest.{Forest, empty, leaf, group, joined}
-use Rattle.tt_data.specs.Walk.{at_leaf, opens, closes}
-use Rattle.tt_data.specs.declared.delimiter.Delimiter.{Delimiter}
+use Rattle.tt_data.specs.Walk.{at_leaf, closes}
 use Rattle.tt_data.specs.declared.delimiter.DelimiterKind.{DelimiterKind}
 use Rattle.tt_data.specs.declared.leaf.IdentIsRaw.TheVariants as is_raw
 use Rattle.tt_data.specs.declared.leaf.Leaf.{Leaf}
@@ -20,12 +15,10 @@ use Rattle.tt_data.specs.declared.leaf.Spacing.TheVariants.{Alone, Joint}
 use Rattle.tt_data.specs.declared.span.Span.{Span}
 use Rattle.tt_data.specs.declared.span.TextRange.{TextRange}
 use Rattle.expander.specs.Pieces.{separated}
-use Rattle.expander.specs.Reading.{closed as closed_group, PlacedToken, placed_from, range_of, written_at, TextStep, step, read_from}
-use Rattle.expander.specs.ReadSteps.{GoesOn, IsBuilt, IsRead, Takes, built_groups, built_here, ends_top, first_kind, is_next_mark, spacing_in}
+use Rattle.expander.specs.Reading.{closed as closed_group, PlacedToken, range_of, written_at, step}
+use Rattle.expander.specs.ReadSteps.{GoesOn, IsBuilt, built_groups, built_here, first_kind, is_next_mark, spacing_in}
 use Rattle.expander.specs.Text.{alone, is_punct, same_kind}
-use Rattle.expander.specs.ThinReading.{char, sort_of, spacing_before, steps_of, steps_of_sort, thin_reading}
-use Rattle.expander.specs.declared.faults.ReadFault.{ReadFault}
-use Rattle.expander.specs.declared.reading.Read.TheVariants.{Fault}
+use Rattle.expander.specs.ThinReading.{char, spacing_before, steps_of_sort}
 use Rattle.expander.specs.declared.reading.Sort.{Sort}
 use Rattle.expander.specs.declared.reading.Sort.TheVariants.{Name, Mark, Opening, Closing}
 
@@ -49,10 +42,10 @@ pushes groups here l told stands e b = record {
   built = record {
     groups_are = ap (λ (m : Building). m.groups) e ∙ b.groups_are;
     here_is =
-      ap (λ (m : Building). m.here) e
-      ∙ ap (λ f. joined f (leaf told empty)) b.here_is
-      ∙ ap (joined (built_here groups here)) (sym stands)
-      ∙ sym (built_here-joined groups here (leaf l empty));
+        ap (λ (m : Building). m.here) e
+        ∙ ap (λ f. joined f (leaf told empty)) b.here_is
+        ∙ ap (joined (built_here groups here)) (sym stands)
+        ∙ sym (built_here-joined groups here (leaf l empty));
   };
   reads = λ more. refl;
 }
@@ -73,7 +66,7 @@ pub adds_name : {sort : Sort} (t : PlacedToken) (after : List PlacedToken) {text
     → GoesOn (steps_of_sort sort t after) groups here new
 adds_name t after {old = old} {new = new} groups here is same at named spanned e b =
     let told : new ≡ pushed old (name_leaf t.text (written_at (range_of t))) =
-      rw (at, same, ← named, ← spanned) e in
+    rw (at, same, ← named, ← spanned) e in
     rw is (pushes groups here _ _ (name_stands groups t.text (written_at (range_of t))) told b)
 
 -- ---- a punct
@@ -86,7 +79,7 @@ joint_if b = if b then Joint else Alone
 
 spaces : (is_end marked : Bool) (c : ℕ) (span : Span)
     → (if is_end then mark_leaf c Alone span else mark_leaf c (joint_if marked) span)
-      ≡ mark_leaf c (joint_if (marked && not is_end)) span
+    ≡ mark_leaf c (joint_if (marked && not is_end)) span
 spaces true true c span = refl
 spaces true false c span = refl
 spaces false true c span = refl
@@ -99,7 +92,7 @@ spacing_before-is (t ∷ more) = refl
 -- a punct as it stands in its list
 mark_stands : (groups : List Opened) (after : List PlacedToken) (c : ℕ) (span : Span)
     → built_here groups (leaf (mark_leaf c (spacing_before after) span) empty)
-      ≡ leaf (mark_leaf c (spacing_in (built_groups groups) c (first_kind after)) span) empty
+    ≡ leaf (mark_leaf c (spacing_in (built_groups groups) c (first_kind after)) span) empty
 mark_stands [] after c span =
     rw (spacing_before-is after) (ap (λ l. leaf l empty) (spaces (nat_eq c (char ";")) (is_next_mark (first_kind after)) c span))
 mark_stands (o ∷ []) after c span =
@@ -114,14 +107,14 @@ pub adds_mark : {sort : Sort} {c : ℕ} (t : PlacedToken) (after : List PlacedTo
     → GoesOn (steps_of_sort sort t after) groups here new
 adds_mark {c = c} t after {old = old} {new = new} groups here is at follows spaced spanned e b =
     let told : new ≡ pushed old (mark_leaf c (spacing_in (built_groups groups) c (first_kind after)) (written_at (range_of t))) =
-      rw (at, follows, ← b.groups_are, ← spaced, ← spanned) e in
+    rw (at, follows, ← b.groups_are, ← spaced, ← spanned) e in
     rw is (pushes groups here _ _ (mark_stands groups after c (written_at (range_of t))) told b)
 
 -- ---- an opening bracket
 
 opened_groups : (kind : DelimiterKind) (span : Span) (groups : List Opened) (here : Forest)
     → record { kind = kind; open_span = span; before = built_here groups here } ∷ built_groups groups
-      ≡ built_groups (record { kind = kind; open_span = span; before = here } ∷ groups)
+    ≡ built_groups (record { kind = kind; open_span = span; before = here } ∷ groups)
 opened_groups kind span [] here = refl
 opened_groups kind span (o ∷ outer) here = refl
 
@@ -135,10 +128,10 @@ adds_opening {kind = kind} t after {span = span} {old = old} groups here is at s
       new_here = empty;
       built = record {
         groups_are =
-          ap (λ (m : Building). m.groups) e
-          ∙ ap (λ f. record { kind = kind; open_span = span; before = f } ∷ old.groups) b.here_is
-          ∙ ap (λ gs. record { kind = kind; open_span = span; before = built_here groups here } ∷ gs) b.groups_are
-          ∙ opened_groups kind span groups here;
+            ap (λ (m : Building). m.groups) e
+            ∙ ap (λ f. record { kind = kind; open_span = span; before = f } ∷ old.groups) b.here_is
+            ∙ ap (λ gs. record { kind = kind; open_span = span; before = built_here groups here } ∷ gs) b.groups_are
+            ∙ opened_groups kind span groups here;
         here_is = ap (λ (m : Building). m.here) e;
       };
       reads = λ more. refl;
@@ -157,8 +150,8 @@ built_closed : (outer : List Opened) (o : Opened) (here : Forest) (span : Span) 
 built_closed [] o here span old e = record {
   groups_are = refl;
   here_is =
-    ap (λ f. closed_group (record o { before = separated o.before }) f span) e
-    ∙ sym (separated-joined o.before (group (record { open_span = o.open_span; close_span = span; kind = o.kind }) here empty));
+      ap (λ f. closed_group (record o { before = separated o.before }) f span) e
+      ∙ sym (separated-joined o.before (group (record { open_span = o.open_span; close_span = span; kind = o.kind }) here empty));
 }
 built_closed (p ∷ outer) o here span old e = record { groups_are = refl; here_is = ap (λ f. closed_group o f span) e }
 
@@ -170,7 +163,7 @@ closes_innermost [] kind opening open_at span old new here found same e b =
     cc
 closes_innermost (o ∷ outer) kind opening open_at span old new here found same e b =
     let known : innermost_group old.groups ≡ Some (o.kind, o.open_span) =
-      ap innermost_group b.groups_are ∙ innermost-built (o ∷ outer) in
+    ap innermost_group b.groups_are ∙ innermost-built (o ∷ outer) in
     let both : (opening, open_at) ≡ (o.kind, o.open_span) = cc in
     let fits : o.kind ≡ kind = sym (ap (λ (x : DelimiterKind × Span). x.0) both) ∙ same in
     let test : same_kind o.kind kind ≡ true = rw (← fits) (same_kind-self o.kind) in
@@ -188,78 +181,3 @@ pub adds_closing : {sort : Sort} {kind opening : DelimiterKind} {open_at : Span}
     → new ≡ closed old span → IsBuilt old groups here → GoesOn (steps_of_sort sort t after) groups here new
 adds_closing {kind = kind} t after {span = span} groups here is at spanned found same e b =
     rw (is, at, ← spanned) (closes_innermost groups kind _ _ span _ _ here found same e b)
-
--- ---- the tokens of a text, one after another
-
--- what the builder has and what is left to read are the whole text's reading
-pub record IsReadSoFar (text : List ℕ) (start : ℕ) (rest : List Token) (b : Building) : Type 0 where
-  pub groups : List Opened
-  pub here : Forest
-  pub built : IsBuilt b groups here
-  pub whole : read_from (steps_of (placed_from start (drop start text) rest)) groups here ≡ thin_reading text
-
-pub read_nothing : {text : List ℕ} {tokens : List Token} {b : Building} {top : Delimiter} → tokens ≡ thin_tokens (chars text)
-    → b ≡ record { top = top; groups = []; here = empty } → IsReadSoFar text 0 tokens b
-read_nothing are new = record {
-  groups = [];
-  here = empty;
-  built = record { groups_are = ap (λ (m : Building). m.groups) new; here_is = ap (λ (m : Building). m.here) new };
-  whole = rw are refl;
-}
-
--- a token as it stands in the text
-abbrev token_at : List ℕ → ℕ → Token → PlacedToken
-token_at text start t = record { kind = t.kind; start = start; text = take t.len (drop start text) }
-
--- what one token adds, and what stands in the code's variables there
-pub record IsAdding (text : List ℕ) (start : ℕ) (t : Token) (more : List Token) (old new : Building) (added : Option ReadFault) : Type 0 where
-  pub sort : Sort
-  pub word : List ℕ
-  pub next : Option TokenKind
-  pub adds : (p : PlacedToken) (after : List PlacedToken) → p.text ≡ word
-      → range_of p ≡ record { start = start; «end» = start + t.len } → first_kind after ≡ next
-      → Takes (steps_of_sort sort p after) old new added
-  pub sort_is : sort ≡ sort_of t.kind
-  pub word_is : word ≡ slice_range text start (start + t.len)
-  pub next_is : (from : ℕ) (rest : List ℕ) → first_kind (placed_from from rest more) ≡ next
-  pub fits : start + t.len ≤ length text
-
-takes_token : (text : List ℕ) (start : ℕ) (t : Token) (more : List Token) (old new : Building) (added : Option ReadFault)
-    → IsAdding text start t more old new added
-    → Takes (steps_of_sort (sort_of t.kind) (token_at text start t) (placed_from (start + t.len) (drop t.len (drop start text)) more))
-        old new added
-takes_token text start t more old new added a =
-    let n : start + t.len - start ≡ t.len = omega arith in
-    let spelt : take t.len (drop start text) ≡ a.word = sym (a.word_is ∙ ap (λ k. take k (drop start text)) n) in
-    let enough : t.len ≤ length (drop start text) = omega (arith, a.fits, length-drop start text) in
-    let placed : range_of (token_at text start t) ≡ record { start = start; «end» = start + t.len } =
-      rw (length-take-le t.len (drop start text) enough) refl in
-    let takes = a.adds (token_at text start t) (placed_from (start + t.len) (drop t.len (drop start text)) more)
-      spelt placed (a.next_is (start + t.len) (drop t.len (drop start text))) in
-    rw a.sort_is at takes
-
-pub reads_on : {text : List ℕ} {start : ℕ} {rest more : List Token} {t : Token} {old new : Building} {added : Option ReadFault}
-    → rest ≡ t ∷ more → IsReadSoFar text start rest old → IsAdding text start t more old new added → added ≡ None
-    → IsReadSoFar text (start + t.len) more new
-reads_on {text = text} {start = start} {more = more} {t = t} split s a none =
-    let takes = rw none at (takes_token text start t more _ _ _ a) in
-    let goes_on = takes s.groups s.here s.built in
-    let left = rw split at s.whole in
-    record {
-      groups = goes_on.new_groups;
-      here = goes_on.new_here;
-      built = goes_on.built;
-      whole =
-        rw (← drop-drop t.len start text)
-          (sym (goes_on.reads (steps_of (placed_from (start + t.len) (drop t.len (drop start text)) more))) ∙ left);
-    }
-
-pub reads_fault : {text : List ℕ} {start : ℕ} {rest more : List Token} {t : Token} {old new : Building} {added : Option ReadFault}
-    {fault : ReadFault} → rest ≡ t ∷ more → IsReadSoFar text start rest old → IsAdding text start t more old new added
-    → added ≡ Some fault → IsRead (thin_reading text) (Fault fault)
-reads_fault {text = text} {start = start} {more = more} {t = t} {fault = fault} split s a some =
-    let takes = rw some at (takes_token text start t more _ _ _ a) in
-    let left = rw split at s.whole in
-    let e : thin_reading text ≡ Err fault =
-      sym left ∙ takes s.groups s.here s.built (steps_of (placed_from (start + t.len) (drop t.len (drop start text)) more)) in
-    rw e refl

@@ -10,7 +10,6 @@ use Rattle.tt_data.specs.Walk.{Step, at_leaf, opens, closes, walk}
 use Rattle.tt_data.specs.declared.delimiter.DelimiterKind.{DelimiterKind}
 use Rattle.tt_data.specs.declared.delimiter.DelimiterKind.TheVariants.{Parenthesis, Brace, Bracket, Invisible}
 use Rattle.tt_data.specs.declared.span.Span.{Span}
-use Rattle.tt_data.specs.declared.span.TextRange.{TextRange}
 use Rattle.expander.specs.Reading.{DoesNotFit, IsFault, IsReading, TextStep, bad, bad_at, closed, closer_at, left_open, read_from, reading, step, walk_open}
 use Rattle.expander.specs.Text.{same_kind}
 use Rattle.expander.specs.declared.faults.ReadFault.{ReadFault}
@@ -48,14 +47,14 @@ read_from-walk (leaf l rest) more groups here =
 read_from-walk (group d inner rest) more groups here =
     let o : Opened = record { kind = d.kind; open_span = d.open_span; before = here } in
     let e : map step (walk inner ++ (closes d.kind d.close_span ∷ walk rest)) ++ more
-        ≡ map step (walk inner) ++ (step (closes d.kind d.close_span) ∷ (map step (walk rest) ++ more)) =
-      ap (λ s. s ++ more) (map-append step (walk inner) (closes d.kind d.close_span ∷ walk rest))
-      ∙ append_assoc (map step (walk inner)) (step (closes d.kind d.close_span) ∷ map step (walk rest)) more in
+    ≡ map step (walk inner) ++ (step (closes d.kind d.close_span) ∷ (map step (walk rest) ++ more)) =
+    ap (λ s. s ++ more) (map-append step (walk inner) (closes d.kind d.close_span ∷ walk rest))
+    ∙ append_assoc (map step (walk inner)) (step (closes d.kind d.close_span) ∷ map step (walk rest)) more in
     ap (λ s. read_from s (o ∷ groups) empty) e
     ∙ read_from-walk inner (step (closes d.kind d.close_span) ∷ (map step (walk rest) ++ more)) (o ∷ groups) empty
     ∙ rw (same_kind-self d.kind)
-        (read_from-walk rest more groups (joined here (group d inner empty))
-          ∙ ap (read_from more groups) (joined_assoc here (group d inner empty) rest))
+    (read_from-walk rest more groups (joined here (group d inner empty))
+    ∙ ap (read_from more groups) (joined_assoc here (group d inner empty) rest))
 
 -- after a walk that leaves groups open, these are open
 read_from-walk_open : (groups : List Opened) (here : Forest) (more : List TextStep)
@@ -63,8 +62,8 @@ read_from-walk_open : (groups : List Opened) (here : Forest) (more : List TextSt
 read_from-walk_open [] here more = read_from-walk here more [] empty
 read_from-walk_open (o ∷ outer) here more =
     ap (λ s. read_from s [] empty)
-      (ap (λ s. s ++ more) (map-append step (walk_open outer o.before) (opens o.kind o.open_span ∷ walk here))
-        ∙ append_assoc (map step (walk_open outer o.before)) (step (opens o.kind o.open_span) ∷ map step (walk here)) more)
+    (ap (λ s. s ++ more) (map-append step (walk_open outer o.before) (opens o.kind o.open_span ∷ walk here))
+    ∙ append_assoc (map step (walk_open outer o.before)) (step (opens o.kind o.open_span) ∷ map step (walk here)) more)
     ∙ read_from-walk_open outer o.before (step (opens o.kind o.open_span) ∷ (map step (walk here) ++ more))
     ∙ read_from-walk here more (o ∷ outer) empty
 
@@ -96,8 +95,8 @@ moved : (so_far : List Step) (s : Step) (now : List Step) (more : List TextStep)
     → map step so_far ++ (step s ∷ more) ≡ map step now ++ more
 moved so_far s now more e =
     sym (ap (λ w. map step w ++ more) e
-      ∙ ap (λ w. w ++ more) (map-append step so_far (s ∷ []))
-      ∙ append_assoc (map step so_far) (step s ∷ []) more)
+    ∙ ap (λ w. w ++ more) (map-append step so_far (s ∷ []))
+    ∙ append_assoc (map step so_far) (step s ∷ []) more)
 
 closed_walk : (o : Opened) (outer : List Opened) (here : Forest) (kind : DelimiterKind) (span : Span) → o.kind ≡ kind
     → walk_open outer (closed o here span) ≡ walk_open (o ∷ outer) here ++ (closes kind span ∷ [])
@@ -122,18 +121,18 @@ outcome all [] [] here e = e ∙ append-nil (map step (walk here))
 outcome all [] (o ∷ outer) here e = left_open o outer here (e ∙ append-nil (map step (walk_open (o ∷ outer) here)))
 outcome all (step (at_leaf l) ∷ more) groups here e =
     outcome all more groups (joined here (leaf l empty))
-      (e ∙ moved (walk_open groups here) (at_leaf l) (walk_open groups (joined here (leaf l empty))) more
-        (walk_open-joined groups here (leaf l empty)))
+    (e ∙ moved (walk_open groups here) (at_leaf l) (walk_open groups (joined here (leaf l empty))) more
+    (walk_open-joined groups here (leaf l empty)))
 outcome all (step (opens kind span) ∷ more) groups here e =
     outcome all more (record { kind = kind; open_span = span; before = here } ∷ groups) empty
-      (e ∙ moved (walk_open groups here) (opens kind span) _ more refl)
+    (e ∙ moved (walk_open groups here) (opens kind span) _ more refl)
 outcome all (step (closes kind span) ∷ more) [] here e = closer_at [] here kind span more e tt
 outcome all (step (closes kind span) ∷ more) (o ∷ outer) here e =
     at_closer all _ _ (same_kind o.kind kind)
-      (λ same. outcome all more outer (closed o here span)
-        (e ∙ moved (walk_open (o ∷ outer) here) (closes kind span) (walk_open outer (closed o here span)) more
-          (closed_walk o outer here kind span (same_kind-true o.kind kind same))))
-      (λ other. closer_at (o ∷ outer) here kind span more e (same_kind-false o.kind kind other))
+    (λ same. outcome all more outer (closed o here span)
+    (e ∙ moved (walk_open (o ∷ outer) here) (closes kind span) (walk_open outer (closed o here span)) more
+    (closed_walk o outer here kind span (same_kind-true o.kind kind same))))
+    (λ other. closer_at (o ∷ outer) here kind span more e (same_kind-false o.kind kind other))
 outcome all (bad range ∷ more) groups here e = bad_at groups here range more e
 
 -- what is read is what the walk is of, and a fault that is told is the first

@@ -1,5 +1,5 @@
 -- How the code reads: what its builder holds, and what one token adds to it.
-use Rattle.std.specs.Prelude.{◌≡◌, ℕ, Bool, true, false, ◌&&◌, not, List, [], ◌∷◌, ◌++◌, nat_eq, Option, Some, None, Result, Ok, Err, if◌then◌else◌}
+use Rattle.std.specs.Prelude.{◌≡◌, ℕ, Bool, false, ◌&&◌, not, List, [], ◌∷◌, ◌++◌, nat_eq, Option, Some, None, Result, Ok, Err, if◌then◌else◌}
 use Rattle.rustc_lexer.specs.declared.token.TokenKind.{TokenKind}
 use Rattle.tt.specs.Building.{Building, Opened}
 use Rattle.tt_data.specs.Forest.{Forest}

@@ -84,6 +84,7 @@ fn written_at(range: TextRange) -> Span
     }
 }
 
+// Whether a token of this kind is read as a punct.
 fn is_mark(kind: TokenKind) -> bool
     ensures { result ≡ is_mark (sort_of kind) }
 {
@@ -164,6 +165,7 @@ fn whole(builder: TopSubtreeBuilder) -> Read
     }
 }
 
+// The kind of the first of the tokens, where there is one.
 fn first_kind(tokens: &[Token]) -> Option<TokenKind>
     ensures { (start : ℕ) (text : List ℕ) → first_kind (placed_from start text tokens.now) ≡ result }
 {

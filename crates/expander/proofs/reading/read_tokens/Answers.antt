@@ -1,6 +1,6 @@
 -- Token by token: where it stands, and what it adds to what was read.
 use Rattle.std.proofs.Common.{◌≤◌, ◌+◌, length, arith}
-use Rattle.expander.proofs.ReadStepLemmas.{read_nothing, reads_on, reads_fault}
+use Rattle.expander.proofs.ReadTokensLemmas.{read_nothing, reads_on, reads_fault}
 use Rattle.expander.proofs.reading.read_tokens.Goals as goal
 
 pub loop-token-init : goal.loop-token-init

@@ -1,12 +1,13 @@
 use Rattle.std.proofs.Common.{length}
 use Rattle.rustc_lexer.specs.Standing.{AreTokensFrom}
-use Rattle.expander.proofs.ReadStepLemmas.{IsReadSoFar}
+use Rattle.expander.proofs.ReadTokensLemmas.{IsReadSoFar}
 use Rattle.expander.proofs.reading.read_tokens.Given as goal
 
 abbrev pub invariant-loop-token : goal.invariant-loop-token
 invariant-loop-token l = record {
   stand : AreTokensFrom l.text l.start l.rest;
-  so_far : IsReadSoFar l.text l.start l.rest l.builder }
+  so_far : IsReadSoFar l.text l.start l.rest l.builder;
+}
 
 abbrev pub decreases-loop-token : goal.decreases-loop-token
 decreases-loop-token l = length l.rest
