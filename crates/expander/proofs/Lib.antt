@@ -3,6 +3,7 @@ mod AttributeLemmas
 mod CuttingLemmas
 mod UnitLemmas
 mod PrintingLemmas
+mod OrderLemmas
 mod KnownLemmas
 mod RunLemmas
 mod RunRows
