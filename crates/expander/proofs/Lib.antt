@@ -6,6 +6,7 @@ mod PatternLemmas
 mod RuleLemmas
 mod PartLemmas
 mod PrintingLemmas
+mod OrderLemmas
 mod KnownLemmas
 mod RunLemmas
 mod RunRows

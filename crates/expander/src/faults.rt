@@ -129,6 +129,8 @@ pub(crate) fn push_output_faults(
 }
 
 /// Puts the faults in order of start, end and kind.
-pub(crate) fn sort_faults(faults: &mut Vec<Fault>) -> Result<(), AllocError> {
+pub(crate) fn sort_faults(faults: &mut Vec<Fault>) -> Result<(), AllocError>
+    ensures { OnOk result (faults.new.items ≡ in_order faults.old.items) }
+{
     faults.sort_by_key(|fault| (fault.range.start, fault.range.end, fault.kind))
 }
