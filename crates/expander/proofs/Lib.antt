@@ -10,3 +10,4 @@ mod BehindLemmas
 mod PatternLemmas
 mod FillingLemmas
 mod FitLemmas
+mod PassedLemmas
