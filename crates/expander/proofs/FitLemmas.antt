@@ -17,7 +17,7 @@ use Rattle.expander.specs.declared.units.Operator.{Operator}
 pub operator_shorter : (steps more behind : Forest) (l : Leaf) (n : ℕ) → steps ≡ leaf l more → behind ≡ back n more → size behind < size steps
 operator_shorter steps more behind l n is left = omega (arith, ap size is, ap size left, back-size n more)
 
-map_some : {A B : Type 0} (o : Option A) (f : A → B) (y : B) → option_map f o ≡ Some y → (x : A) × (o ≡ Some x) × (f x ≡ y)
+pub map_some : {A B : Type 0} (o : Option A) (f : A → B) (y : B) → option_map f o ≡ Some y → (x : A) × (o ≡ Some x) × (f x ≡ y)
 map_some None f y e = cc
 map_some (Some x) f y e = (x, refl, cc)
 

@@ -11,3 +11,4 @@ mod PatternLemmas
 mod FillingLemmas
 mod FitLemmas
 mod PassedLemmas
+mod TemplateLemmas
