@@ -1,10 +1,7 @@
 -- Matching a pattern with an argument, one step of the pattern after another.
-use Rattle.std.proofs.Common.{◌≡◌, ℕ, ◌+◌, ◌-◌, ◌<◌, ◌≤◌, List, refl, sym, ap, ◌∙◌, subst, arith, Bool, true, false}
+use Rattle.std.proofs.Common.{◌≡◌, ℕ, ◌+◌, ◌-◌, ◌<◌, ◌≤◌, List, refl, sym, ap, ◌∙◌, arith, Bool, true, false}
 use Rattle.std.proofs.lemmas.Bool.{ne_eqb}
 use Rattle.std.specs.Prelude.{Option, Some, None, option_map}
-use Rattle.tt.specs.Elements.{IsNext}
-use Rattle.tt.specs.declared.view.TtElement.{TtElement}
-use Rattle.tt.specs.declared.view.TtElement.TheVariants as element
 use Rattle.tt_data.specs.Forest.{Forest, empty, leaf, group, back, front, size}
 use Rattle.tt_data.specs.declared.leaf.Leaf.TheVariants as as_leaf
 use Rattle.tt_data.specs.declared.leaf.Leaf.{Leaf}
@@ -17,17 +14,10 @@ use Rattle.expander.specs.ThinFit.{Bindings, fit_after, same_operator}
 use Rattle.expander.specs.ThinRules.{Pattern, puncts, pattern_of, pattern_after, operator_at, puncts_of, first_operator}
 use Rattle.expander.specs.declared.units.Operator.{Operator}
 
--- a leaf that was passed
-pub passed_leaf : (f g : Forest) (t : TtElement) (l m : Leaf) → IsNext f (Some t) g → t ≡ element.Leaf l → l ≡ m → f ≡ leaf m g
-passed_leaf f g t l m next is same =
-    let P : TtElement → Type 0 = λ t. IsNext f (Some t) g in
-    let whole : f ≡ leaf l g = subst P is next in
-    whole ∙ ap (λ l. leaf l g) same
-
 pub operator_shorter : (steps more behind : Forest) (l : Leaf) (n : ℕ) → steps ≡ leaf l more → behind ≡ back n more → size behind < size steps
 operator_shorter steps more behind l n is left = omega (arith, ap size is, ap size left, back-size n more)
 
-map_some : {A B : Type 0} (o : Option A) (f : A → B) (y : B) → option_map f o ≡ Some y → (x : A) × (o ≡ Some x) × (f x ≡ y)
+pub map_some : {A B : Type 0} (o : Option A) (f : A → B) (y : B) → option_map f o ≡ Some y → (x : A) × (o ≡ Some x) × (f x ≡ y)
 map_some None f y e = cc
 map_some (Some x) f y e = (x, refl, cc)
 

@@ -20,3 +20,5 @@ mod BehindLemmas
 mod FillingLemmas
 mod FitLemmas
 mod ScopeLemmas
+mod PassedLemmas
+mod TemplateLemmas

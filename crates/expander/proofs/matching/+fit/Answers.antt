@@ -4,7 +4,8 @@ use Rattle.tt_data.specs.declared.leaf.Leaf.TheVariants as as_leaf
 use Rattle.expander.specs.Bound.{bindings_of}
 use Rattle.expander.specs.ThinFit.{fit_after}
 use Rattle.expander.specs.ThinRules.{pattern_of}
-use Rattle.expander.proofs.FitLemmas.{passed_leaf, operator_shorter, operator_fits, operator_fails}
+use Rattle.expander.proofs.FitLemmas.{operator_shorter, operator_fits, operator_fails}
+use Rattle.expander.proofs.PassedLemmas.{passed_leaf}
 use Rattle.expander.proofs.matching.+fit.Goals as goal
 
 pub loop-step-init : goal.loop-step-init
