@@ -1,5 +1,5 @@
 -- How many tokens a builder has, and what that says of the answers of calls that add one.
-use Rattle.std.proofs.Common.{◌≡◌, ◌↔◌, ℕ, ◌+◌, ◌<◌, ◌≤◌, length, List, [], ◌∷◌, take, drop, ap, sym, ◌∙◌, arith, refl, Result, Ok, Err}
+use Rattle.std.proofs.Common.{◌≡◌, ◌↔◌, ℕ, ◌+◌, ◌<◌, length, List, [], ◌∷◌, take, drop, ap, sym, ◌∙◌, arith, Result, Err}
 use Rattle.std.proofs.lemmas.List.{length-drop, length-take}
 use Rattle.tt_data.specs.Forest.{IsPreorder, forest_of, size}
 use Rattle.tt_data.specs.Flat.{length-preorder}
@@ -19,8 +19,14 @@ pub counted : (tokens : List TokenTree) (openings : List Opening) → IsHeld tok
     → size (here_of tokens openings) + count_in (groups_of tokens openings) + 1 ≡ length tokens
 counted tokens [] held = omega (arith, held.0, size-whole (drop 1 tokens) held.1, length-drop 1 tokens)
 counted tokens (o ∷ outer) held =
-    omega (arith, held.0, size-whole (drop (o.at + 1) tokens) held.1, length-drop (o.at + 1) tokens,
-      counted (take o.at tokens) outer held.2, length-take o.at tokens)
+    omega (
+      arith,
+      held.0,
+      size-whole (drop (o.at + 1) tokens) held.1,
+      length-drop (o.at + 1) tokens,
+      counted (take o.at tokens) outer held.2,
+      length-take o.at tokens,
+    )
 
 -- whether a call was refused for the number of tokens
 abbrev refused_as_full : Result (Unit {0}) TtFault → ℕ

@@ -1,5 +1,5 @@
 -- Rows worked out by hand, by computation: `a(,)b` under construction, and tree by tree.
-use Rattle.std.proofs.Common.{◌≡◌, ℕ, ◌+◌, List, [], ◌∷◌, refl, codes, Option, Some, None}
+use Rattle.std.proofs.Common.{◌≡◌, ℕ, ◌+◌, List, [], ◌∷◌, refl, codes, Some, None}
 use Rattle.tt_data.specs.declared.span.Span.{Span}
 use Rattle.tt_data.specs.declared.span.SyntaxContext.TheVariants.{Written}
 use Rattle.tt_data.specs.declared.delimiter.Delimiter.{Delimiter}
@@ -7,9 +7,13 @@ use Rattle.tt_data.specs.declared.delimiter.DelimiterKind.TheVariants.{Parenthes
 use Rattle.tt_data.specs.declared.leaf.Leaf.{Leaf}
 use Rattle.tt_data.specs.declared.leaf.Leaf.TheVariants as as_leaf
 use Rattle.tt_data.specs.declared.leaf.Spacing.TheVariants.{Alone}
+use Rattle.tt_data.specs.declared.tree.TokenTree.{TokenTree}
+use Rattle.tt_data.specs.declared.tree.TokenTree.TheVariants as token
 use Rattle.tt_data.specs.Forest.{Forest, empty, leaf, group}
 use Rattle.tt_data.specs.Names.{ident_of}
+use Rattle.tt.specs.declared.builder.Opening.{Opening}
 use Rattle.tt.specs.declared.view.TtElement.TheVariants as element
+use Rattle.tt.specs.BuilderTokens.{here_of, groups_of}
 use Rattle.tt.specs.Building.{Building, pushed, opened, closed, innermost_group, count_of, most_tokens, point_of, cut_back}
 use Rattle.tt.specs.Elements.{elements, first_element, first_place, IsNext}
 use Rattle.tt.specs.Tops.{head_of}
@@ -85,6 +89,24 @@ still_three = refl
 
 limit : most_tokens ≡ 4294967295
 limit = refl
+
+-- the tokens that hold it: the top and the open group count nothing yet
+abbrev unclosed_tokens : List TokenTree
+unclosed_tokens =
+    token.Subtree (record { delimiter = top; len = 0 })
+    ∷ token.Leaf (name (codes "a") 0)
+    ∷ token.Subtree (record { delimiter = round 1 1; len = 0 })
+    ∷ token.Leaf (comma 2)
+    ∷ []
+
+abbrev openings : List Opening
+openings = record { at = 2; kind = Parenthesis; open_span = at 1 } ∷ []
+
+held_groups : groups_of unclosed_tokens openings ≡ unclosed.groups
+held_groups = refl
+
+held_here : here_of unclosed_tokens openings ≡ unclosed.here
+held_here = refl
 
 -- a point stands after more leaves, and after groups that were opened and closed past it
 stands_past_leaves : cut_back (point_of unclosed) (pushed unclosed (comma 3)) ≡ Some unclosed

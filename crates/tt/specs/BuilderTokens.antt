@@ -1,5 +1,5 @@
 -- How a builder's tokens hold a tree under construction. The token of the top and that of each open group count nothing yet.
-use Rattle.std.specs.Prelude.{ℕ, ◌+◌, ◌<◌, List, [], ◌∷◌, length, take, drop}
+use Rattle.std.specs.Prelude.{◌+◌, ◌<◌, List, [], ◌∷◌, length, take, drop}
 use Rattle.tt_data.specs.declared.tree.TokenTree.{TokenTree}
 use Rattle.tt.specs.declared.builder.Opening.{Opening}
 use Rattle.tt_data.specs.Forest.{Forest, forest_of, IsPreorder}

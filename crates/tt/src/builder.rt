@@ -45,9 +45,9 @@ impl Model for TopSubtreeBuilder {
     ghost coded = { building_code };
 
     ghost view = { λ b. record {
-        top = b.top;
-        groups = groups_of b.tokens.items (reverse b.openings.items);
-        here = here_of b.tokens.items (reverse b.openings.items);
+      top = b.top;
+      groups = groups_of b.tokens.items (reverse b.openings.items);
+      here = here_of b.tokens.items (reverse b.openings.items);
     } };
 
     ghost invariant = { λ b. IsHeld b.tokens.items (reverse b.openings.items) × (length b.tokens.items ≤ 2 ^ 32) };
@@ -125,7 +125,10 @@ impl TopSubtreeBuilder {
             close_span: open_span,
             kind: delimiter_kind,
         };
-        match self.tokens.push(TokenTree::Subtree(Subtree { delimiter, len: 0 })) {
+        match self
+            .tokens
+            .push(TokenTree::Subtree(Subtree { delimiter, len: 0 }))
+        {
             Ok(()) => Ok(()),
             Err(_) => {
                 let _ = self.openings.pop();
@@ -176,7 +179,11 @@ impl TopSubtreeBuilder {
         if !self.openings.is_empty() {
             return Err((self, TtFault::Place));
         }
-        let TopSubtreeBuilder { top, tokens, openings: _ } = self;
+        let TopSubtreeBuilder {
+            top,
+            tokens,
+            openings: _,
+        } = self;
         Ok(TopSubtree {
             delimiter: top,
             tokens,

@@ -4,7 +4,10 @@ ghost use Rattle.std.specs.Prelude.{◌≡◌, ◌+◌, ◌<◌};
 use super::*;
 use std::alloc::Global;
 use std::test::*;
-use tt_data::{Delimiter, DelimiterKind, Leaf, Punct, Spacing, Span, Subtree, SyntaxContext, TextRange, TextSize, TtFault};
+use tt_data::{
+    Delimiter, DelimiterKind, Leaf, Punct, Spacing, Span, Subtree, SyntaxContext, TextRange,
+    TextSize, TtFault,
+};
 
 // The byte at this place, as it was written.
 fn byte_at(start: TextSize) -> Span
@@ -137,7 +140,9 @@ fn out_of_place(rt: HostRuntime) -> Result<(), Fail> {
     let mut builder = new_builder(rt.alloc()).ok().ok_or("refused")?;
     assert!(rt; builder.innermost().is_none());
     assert!(rt; builder.close(byte_at(1)) == Err(TtFault::Place));
-    open(&mut builder, DelimiterKind::Brace, byte_at(2)).ok().ok_or("refused")?;
+    open(&mut builder, DelimiterKind::Brace, byte_at(2))
+        .ok()
+        .ok_or("refused")?;
     assert!(rt; builder.innermost() == Some((DelimiterKind::Brace, byte_at(2))));
     let (mut builder, fault) = builder.build().err().ok_or("built")?;
     assert_eq!(rt; fault, TtFault::Place);

@@ -10,7 +10,7 @@ use tt_data::tree::{Subtree, TokenTree};
 #[derive(Drop)]
 pub struct TopSubtree {
     pub(crate) delimiter: Delimiter,
-    // The top's own token, and those below it.
+    // The top's own token, which nothing reads, and those below it.
     pub(crate) tokens: Vec<TokenTree>,
 }
 

@@ -55,7 +55,7 @@ impl<'a> Clone for TtIter<'a> {
     ghost is_infallible = { λ _. ⊤ };
 
     fn clone(&self) -> Result<TtIter<'a>, AllocError> {
-        Ok(TtIter { tokens: self.tokens })
+        Ok(self.remaining().iter())
     }
 }
 
@@ -120,7 +120,9 @@ impl<'a> TtIter<'a> {
     pub fn remaining(&self) -> TokenTreesView<'a>
         ensures { forest result ≡ self.now }
     {
-        TokenTreesView { tokens: self.tokens }
+        TokenTreesView {
+            tokens: self.tokens,
+        }
     }
 
     /// The trees passed since `then`, which is what was left at an earlier point of this walk.
@@ -162,7 +164,8 @@ impl<'a> TokenTreesView<'a> {
     pub fn iter(&self) -> TtIter<'a>
         ensures { result ≡ forest self.now }
     {
-        TtIter { tokens: self.tokens }
+        let tokens = self.tokens;
+        TtIter { tokens }
     }
 
     /// The number of all tokens: each leaf, and each group with what it has inside.

@@ -1,4 +1,4 @@
-use Rattle.std.proofs.Common.{◌≡◌, ◌∙◌}
+use Rattle.std.proofs.Common.{◌∙◌}
 use Rattle.tt_data.specs.Forest.{empty, leaf, group}
 use Rattle.tt.proofs.tests.walks.Goals as goal
 

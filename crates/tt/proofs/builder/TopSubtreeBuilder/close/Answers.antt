@@ -1,4 +1,4 @@
-use Rattle.std.proofs.Common.{◌≡◌, ◌≤◌, ◌-◌, refl, reverse, ◌∷◌, length, ap, ◌∙◌, sym, arith, vec_len}
+use Rattle.std.proofs.Common.{◌≡◌, refl, reverse, ◌∷◌, length, ◌∙◌}
 use Rattle.std.proofs.lemmas.List.{length-set}
 use Rattle.tt_data.specs.declared.delimiter.Delimiter.{Delimiter}
 use Rattle.tt.specs.BuilderTokens.{IsHeld}
@@ -19,10 +19,14 @@ abbrev delimiter_of : (c : goal.After-self-1) → Delimiter
 delimiter_of c = record { open_span = c.in-Some.opening.open_span; close_span = c.args.close_span; kind = c.in-Some.opening.kind }
 
 pub invariant_of-self-2 : goal.invariant_of-self-2
-invariant_of-self-2 c = rw (counted c) (IsHeld-closed c.self.inside.tokens.items c.in-Some.opening (reverse c.pop.new.self.items) (delimiter_of c) (held c), rw length-set c.self.invariant.1)
+invariant_of-self-2 c =
+    let tokens = c.self.inside.tokens.items in
+    let still = IsHeld-closed tokens c.in-Some.opening (reverse c.pop.new.self.items) (delimiter_of c) (held c) in
+    rw (counted c) (still, rw length-set c.self.invariant.1)
 
 pub returns-clause-ok : goal.returns-clause-ok
 returns-clause-ok c =
-    let h = here_of-closed c.self.inside.tokens.items c.in-Some.opening (reverse c.pop.new.self.items) (delimiter_of c) (held c) in
-    let g = groups_of-closed c.self.inside.tokens.items c.in-Some.opening (reverse c.pop.new.self.items) (delimiter_of c) (held c) in
-    rw (← c.self.view_is, counted c) (rw (h, g, innermost c) refl)
+    let tokens = c.self.inside.tokens.items in
+    let here = here_of-closed tokens c.in-Some.opening (reverse c.pop.new.self.items) (delimiter_of c) (held c) in
+    let groups = groups_of-closed tokens c.in-Some.opening (reverse c.pop.new.self.items) (delimiter_of c) (held c) in
+    rw (← c.self.view_is, counted c) (rw (here, groups, innermost c) refl)

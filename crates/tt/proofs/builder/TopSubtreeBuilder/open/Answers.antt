@@ -1,4 +1,4 @@
-use Rattle.std.proofs.Common.{◌≡◌, ◌↔◌, refl, arith}
+use Rattle.std.proofs.Common.{refl, arith}
 use Rattle.tt.proofs.Limits.{counted, room_left}
 use Rattle.tt.proofs.builder.TopSubtreeBuilder.open.Goals as goal
 

@@ -1,6 +1,5 @@
-use Rattle.std.proofs.Common.{◌≡◌, ◌≤◌, refl, arith, reverse, length-append}
+use Rattle.std.proofs.Common.{refl, arith, reverse, length-append}
 use Rattle.tt_data.specs.Forest.{leaf, empty}
-use Rattle.tt.specs.Building.{pushed}
 use Rattle.tt_data.specs.declared.tree.TokenTree.{TokenTree}
 use Rattle.tt.specs.BuilderTokens.{IsHeld}
 use Rattle.tt.proofs.Held.{IsHeld-append, here_of-append, groups_of-append}

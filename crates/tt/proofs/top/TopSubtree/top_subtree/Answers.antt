@@ -1,4 +1,4 @@
-use Rattle.std.proofs.Common.{◌≡◌, ◌-◌, refl, arith, length, drop}
+use Rattle.std.proofs.Common.{◌≡◌, ◌-◌, refl, arith, drop}
 use Rattle.std.proofs.lemmas.List.{length-drop}
 use Rattle.tt_data.specs.Forest.{size, forest_of}
 use Rattle.tt.proofs.Limits.{size-whole}
@@ -8,5 +8,5 @@ pub returns : goal.returns
 returns c =
     let tokens = c.self.inside.tokens.items in
     let counted : c.len.result - 1 ≡ size (forest_of (drop 1 tokens)) =
-        omega (arith, c.len.ensures, c.self.inside.tokens.ok.0, size-whole (drop 1 tokens) c.self.invariant.1, length-drop 1 tokens) in
+    omega (arith, c.len.ensures, c.self.inside.tokens.ok.0, size-whole (drop 1 tokens) c.self.invariant.1, length-drop 1 tokens) in
     rw (← c.self.view_is, counted) refl

@@ -1,5 +1,5 @@
-use Rattle.std.proofs.Common.{rules, refl, ap, length, ◌≡◌, ◌∙◌, sym}
-use Rattle.tt_data.specs.Forest.{size, forest_of}
+use Rattle.std.proofs.Common.{ap, length, ◌∙◌, sym}
+use Rattle.tt_data.specs.Forest.{forest_of}
 use Rattle.tt_data.specs.Flat.{length-preorder}
 use Rattle.tt.specs.Views.{forest}
 use Rattle.tt.proofs.view.TokenTreesView.len.Goals as goal

@@ -1,15 +1,16 @@
-use Rattle.std.proofs.Common.{◌≡◌, ◌+◌, ◌∷◌, length, arith, ap, sym, ◌∙◌}
-use Rattle.tt_data.specs.Forest.{forest_of}
+use Rattle.std.proofs.Common.{◌∷◌, length, arith, ap, sym, ◌∙◌}
 use Rattle.tt.specs.Elements.{elements}
-use Rattle.tt_data.specs.declared.tree.TokenTree.TheVariants as token
 use Rattle.tt.proofs.Steps.{Step, step, fits}
 use Rattle.tt.proofs.view.TtIterIterator.next.Goals as goal
 
 pub split_at-requires : goal.split_at-requires
 split_at-requires c = fits _ _ _ c.self.invariant (c.in_ok-first.ensures.cases.0 ∙ ap (λ t. t ∷ c.in_ok-first.more.now) c.in-Subtree.is)
 
+-- the group was passed, with what it has inside
 taken : (c : goal.After-result-1) → Step c.in-Subtree.subtree c.self.inside.tokens.now c.split_at.result.0.now c.split_at.result.1.now
-taken c = step _ _ _ _ _ c.self.invariant (c.in_ok-first.ensures.cases.0 ∙ ap (λ t. t ∷ c.in_ok-first.more.now) c.in-Subtree.is) c.split_at.ensures.front c.split_at.ensures.back
+taken c =
+    let all = c.in_ok-first.ensures.cases.0 ∙ ap (λ t. t ∷ c.in_ok-first.more.now) c.in-Subtree.is in
+    step _ _ _ _ _ c.self.invariant all c.split_at.ensures.front c.split_at.ensures.back
 
 pub invariant_of-result : goal.invariant_of-result
 invariant_of-result c = (taken c).inner_whole
