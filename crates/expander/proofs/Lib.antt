@@ -22,3 +22,4 @@ mod FitLemmas
 mod ScopeLemmas
 mod PassedLemmas
 mod TemplateLemmas
+mod TurnLemmas

@@ -79,10 +79,10 @@ module _ {D : Type 0} (world : World D) (scope : List ℕ → Option D) (deeper 
   search : Marked → Outcome D
   search m = search_calls world scope deeper outer m
 
-  just_more : (xs ys : List Step) → followed_by (just {D = D} outer xs) (just outer ys) ≡ just outer (xs ++ ys)
+  pub just_more : (xs ys : List Step) → followed_by (just {D = D} outer xs) (just outer ys) ≡ just outer (xs ++ ys)
   just_more xs ys = ap (λ s. record { steps = s; faults = []; finds = [] }) (sym (map-append (λ s. record { step = s; outer = outer }) xs ys))
 
-  grouped_just : (d : Delimiter) (xs : List Step) → grouped outer d (just {D = D} outer xs) ≡ just outer (opens d.kind d.open_span ∷ (xs ++ (closes d.kind d.close_span ∷ [])))
+  pub grouped_just : (d : Delimiter) (xs : List Step) → grouped outer d (just {D = D} outer xs) ≡ just outer (opens d.kind d.open_span ∷ (xs ++ (closes d.kind d.close_span ∷ [])))
   grouped_just d xs =
       ap (λ s. record { steps = record { step = opens d.kind d.open_span; outer = outer } ∷ s; faults = []; finds = [] })
         (sym (map-append (λ s. record { step = s; outer = outer }) xs (closes d.kind d.close_span ∷ [])))

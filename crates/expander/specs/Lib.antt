@@ -27,3 +27,4 @@ pub mod Names
 pub mod Bound
 pub mod Filling
 pub mod ScopeTable
+pub mod Turns

@@ -1,11 +1,22 @@
 // The expansion of a text's pieces.
+ghost use Rattle.std.specs.Prelude.{◌≡◌, ◌<◌, ◌++◌, ◌∷◌, [], ℕ, List, true, IfOk, OnOk, Some, Option};
+ghost use Rattle.tt_data.specs.Forest.{Forest, joined, size, empty};
+ghost use Rattle.tt_data.specs.Walk.{walk};
+ghost use Rattle.expander.specs.CallSteps.{call_at, call_behind_colons};
+ghost use Rattle.expander.specs.Expansion.{CallSite, placed, unbroken};
+ghost use Rattle.expander.specs.Faults.{fault_at};
+ghost use Rattle.expander.specs.OutputSteps.{steps_of_output};
+ghost use Rattle.expander.specs.ScopeTable.{definitions_of};
+ghost use Rattle.expander.specs.Thin.{thin_world, is_free_of, groups_are_free_of};
+ghost use Rattle.expander.specs.Turns.{deeper_at, searched, Adds, Turn, Tries, AreFree, IsBehindFirst};
+ghost use Rattle.expander.specs.declared.definitions.Definition.{Definition};
+
 use crate::calls::{call_at, call_behind_colons, Call};
 use crate::definitions::definition_of;
 use crate::faults::{Fault, FaultKind};
 use crate::first_trees::again;
 use crate::output::{push_walk, PlacedStep};
 use crate::pieces::next_piece;
-use crate::rules::Rule;
 use crate::scope::{Known, Scope};
 use crate::substitution::first_fit;
 use std::alloc::{AllocError, Global};
@@ -22,35 +33,52 @@ pub(crate) struct Output {
 }
 
 // Adds a fault at the span.
-fn push_fault(faults: &mut Vec<Fault>, kind: FaultKind, at: Span) -> Result<(), AllocError> {
+fn push_fault(faults: &mut Vec<Fault>, kind: FaultKind, at: Span) -> Result<(), AllocError>
+    ensures { OnOk result (faults.new.items ≡ faults.old.items ++ fault_at kind at ∷ []) }
+{
     let range = at.range;
     faults.push(Fault { kind, range })?;
     Ok(())
 }
 
-// Passes over the trees up to those behind: they stay as they are.
-fn keep<'a>(steps: &mut Vec<PlacedStep>, trees: &mut TtIter<'a>, behind: TtIter<'a>) -> Result<(), TtFault> {
+// Adds the walk of the trees up to those behind, which are left then.
+fn keep<'a>(
+    steps: &mut Vec<PlacedStep>,
+    trees: &mut TtIter<'a>,
+    behind: TtIter<'a>,
+) -> Result<(), AllocError>
+    requires { (passed : Forest) × (trees.old ≡ joined passed behind) }
+    ensures rest { OnOk result (trees.new ≡ behind.entry) }
+    ensures steps { (passed : Forest) → trees.old ≡ joined passed behind.entry →
+        OnOk result (steps_of_output steps.new.items ≡ steps_of_output steps.old.items ++ placed None (walk passed)) }
+{
     let kept = behind.passed_since(trees.remaining()).iter();
     push_walk(steps, &kept, None)?;
     *trees = behind;
     Ok(())
 }
 
-// The rules of a definition expand a call, or tell why they don't.
+// Expands a call by the definition that its name finds, or tells why it stays.
 fn expand_by(
     alloc: Global,
     steps: &mut Vec<PlacedStep>,
-    rules: Option<&[Rule<'_>]>,
+    known: &Known<'_>,
     depth: u8,
     call: &Call<'_>,
-) -> Result<Option<FaultKind>, TtFault> {
-    let Some(rules) = rules else {
+) -> Result<Option<FaultKind>, TtFault>
+    ensures { (scope : List ℕ → Option Definition) (site : CallSite) →
+        site.at ≡ call.now.name.span → site.argument ≡ call.now.argument →
+        is_free_of "!" known.now.definition.body ≡ true → is_free_of "!" call.now.argument ≡ true →
+        IfOk result (Tries steps.old.items steps.new.items site
+            (unbroken thin_world known.now.definition (thin_world.broken known.now.definition) (deeper_at scope depth) None site)) }
+{
+    let Some(rules) = &known.rules else {
         return Ok(Some(FaultKind::BrokenDefinition));
     };
     if depth == 0 {
         return Ok(Some(FaultKind::RecursionLimit));
     }
-    let Some(result) = first_fit(alloc, rules, &call.argument)? else {
+    let Some(result) = first_fit(alloc, rules.as_slice(), &call.argument)? else {
         return Ok(Some(FaultKind::CannotExpand));
     };
     push_walk(steps, &result.token_trees().iter(), Some(call.name.span))?;
@@ -65,33 +93,36 @@ fn expand_call<'a>(
     out: &mut Output,
     trees: &mut TtIter<'a>,
     call: Call<'a>,
-) -> Result<(), TtFault> {
-    let fault = match scope.find(&call.name.sym) {
-        None => {
-            return keep(&mut out.steps, trees, call.rest);
-        }
-        Some(known) => expand_by(alloc, &mut out.steps, known.rules.as_deref(), depth, &call)?,
-    };
-    match fault {
-        None => {
-            *trees = call.rest;
-            Ok(())
-        }
-        Some(kind) => {
-            push_fault(&mut out.faults, kind, call.name.span)?;
-            keep(&mut out.steps, trees, call.rest)
+) -> Result<(), TtFault>
+    requires { call_at trees.old ≡ Some call }
+    ensures less { OnOk result (size trees.new < size trees.old) }
+    ensures plain { OnOk result (out.new.plain ≡ out.old.plain) }
+    ensures turn { groups_are_free_of "!" trees.old ≡ true → AreFree (definitions_of scope.now) →
+        OnOk result (Turn (definitions_of scope.now) depth out.old.steps.items out.new.steps.items out.old.faults.items out.new.faults.items trees.old trees.new) }
+{
+    if let Some(known) = scope.find(&call.name.sym) {
+        match expand_by(alloc, &mut out.steps, known, depth, &call)? {
+            None => {
+                *trees = call.rest;
+                return Ok(());
+            }
+            Some(kind) => push_fault(&mut out.faults, kind, call.name.span)?,
         }
     }
+    keep(&mut out.steps, trees, call.rest)?;
+    Ok(())
 }
 
-// Passes over what stays as it is at the beginning: a call behind a `::`, or one tree.
-fn keep_first<'a>(steps: &mut Vec<PlacedStep>, trees: &mut TtIter<'a>) -> Result<(), TtFault> {
+// The trees behind what stays as it is at the beginning: a call behind a `::`, or one tree.
+fn behind_first<'a>(trees: &TtIter<'a>) -> TtIter<'a>
+    ensures { IsBehindFirst trees.now result }
+{
     match call_behind_colons(trees) {
-        Some(call) => keep(steps, trees, call.rest),
+        Some(call) => call.rest,
         None => {
             let mut behind = again(trees);
             let _ = behind.next();
-            keep(steps, trees, behind)
+            behind
         }
     }
 }
@@ -103,12 +134,20 @@ fn expand_piece(
     depth: u8,
     out: &mut Output,
     piece: &TtIter<'_>,
-) -> Result<(), TtFault> {
+) -> Result<(), TtFault>
+    ensures plain { OnOk result (out.new.plain ≡ out.old.plain) }
+    ensures adds { groups_are_free_of "!" piece.now ≡ true → AreFree (definitions_of scope.now) →
+        OnOk result (Adds out.old.steps.items out.new.steps.items out.old.faults.items out.new.faults.items
+            (searched (definitions_of scope.now) depth piece.now)) }
+{
     let mut rest = again(piece);
     while !rest.is_empty() {
         match call_at(&rest) {
             Some(call) => expand_call(alloc, scope, depth, out, &mut rest, call)?,
-            None => keep_first(&mut out.steps, &mut rest)?,
+            None => {
+                let behind = behind_first(&rest);
+                keep(&mut out.steps, &mut rest, behind)?;
+            }
         }
     }
     Ok(())
