@@ -5,8 +5,8 @@ use super::*;
 use std::alloc::Global;
 use std::test::*;
 use tt_data::{
-    Delimiter, DelimiterKind, Leaf, Punct, Spacing, Span, Subtree, SyntaxContext, TextRange,
-    TextSize, TtFault,
+    Delimiter, DelimiterKind, Leaf, Punct, Spacing, Span, SyntaxContext, TextRange, TextSize,
+    TtFault,
 };
 
 // The byte at this place, as it was written.

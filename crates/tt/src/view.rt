@@ -54,6 +54,7 @@ impl<'a> Clone for TtIter<'a> {
 
     ghost is_infallible = { λ _. ⊤ };
 
+    /// A walk of its own over the trees that are left. It is never refused.
     fn clone(&self) -> Result<TtIter<'a>, AllocError> {
         Ok(self.remaining().iter())
     }
@@ -69,6 +70,7 @@ impl<'a> Iterator for TtIter<'a> {
 
     ghost remaining = { item_count elements };
 
+    /// The next tree, which is passed, a group with all that it has inside: none where none are left.
     fn next(&mut self) -> Option<TtElement<'a>> {
         let (first, more) = self.tokens.split_first()?;
         match first {
