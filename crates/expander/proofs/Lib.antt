@@ -4,6 +4,7 @@ mod CuttingLemmas
 mod UnitLemmas
 mod PrintingLemmas
 mod OrderLemmas
+mod SortLemmas
 mod KnownLemmas
 mod RunLemmas
 mod RunRows
