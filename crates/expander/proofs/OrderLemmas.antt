@@ -175,4 +175,3 @@ key_less a b =
     (nat_eq a.range.«end» b.range.«end») ((kind_ord.ghosts).cmp a.kind b.kind)
     ∙ ap (λ p. nat_lt a.range.start b.range.start || (nat_eq a.range.start b.range.start
     && (nat_lt a.range.«end» b.range.«end» || (nat_eq a.range.«end» b.range.«end» && p)))) (kind_less a.kind b.kind)
-
