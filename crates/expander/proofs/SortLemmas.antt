@@ -10,7 +10,7 @@ use Rattle.std.proofs.lemmas.List.Sorted.{IsPermutation-keeps}
 use Rattle.expander.specs.declared.faults.Fault.{Fault}
 use Rattle.expander.specs.declared.faults.FaultKind.TheVariants.{CannotExpand}
 use Rattle.expander.specs.Faults.{comes_before, in_order, put_in_order}
-use Rattle.expander.proofs.OrderLemmas.{Stands, below, level, above, stands, before-never, before-itself, before-tied, before-between, Key, key_of, key_cmp, key_less}
+use Rattle.expander.proofs.OrderLemmas.{below, level, above, stands, before-never, before-itself, before-tied, before-between, Key, key_of, key_cmp, key_less}
 
 -- a fault before which none of the list's first comes
 put_before : (f g : Fault) (gs : List Fault) → comes_before g f ≡ false → put_in_order f (g ∷ gs) ≡ f ∷ g ∷ gs
