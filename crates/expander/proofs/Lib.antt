@@ -7,6 +7,7 @@ mod RuleLemmas
 mod PartLemmas
 mod PrintingLemmas
 mod OrderLemmas
+mod SortLemmas
 mod KnownLemmas
 mod RunLemmas
 mod RunRows

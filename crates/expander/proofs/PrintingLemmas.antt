@@ -40,14 +40,14 @@ pair_text a b x y one two =
     let known : encode_utf8 x ++ encode_utf8 y ≡ x ∷ y ∷ [] = rw (encode_ascii x one, encode_ascii y two) refl in
     let tells = bytes_eq-Decides (encode_utf8 a ++ encode_utf8 b) (x ∷ y ∷ []) in
     same_tests _ _
-      (λ h.
-        let first = encode_same a x (encode_utf8 b) (encode_utf8 y) (tells.0 h ∙ sym known) in
-        let second = encode_same b y [] [] (ap (λ (l : List ℕ). l ++ []) first.1) in
-        both (nat_eq a x) (nat_eq b y) (eq-eqb a x first.0) (eq-eqb b y second.0))
-      (λ h.
-        let first : a ≡ x = eqb-true a x (first_of_both (nat_eq a x) (nat_eq b y) h) in
-        let second : b ≡ y = eqb-true b y (second_of_both (nat_eq a x) (nat_eq b y) h) in
-        tells.1 (ap (λ n. encode_utf8 n ++ encode_utf8 b) first ∙ ap (λ n. encode_utf8 x ++ encode_utf8 n) second ∙ known))
+    (λ h.
+    let first = encode_same a x (encode_utf8 b) (encode_utf8 y) (tells.0 h ∙ sym known) in
+    let second = encode_same b y [] [] (ap (λ (l : List ℕ). l ++ []) first.1) in
+    both (nat_eq a x) (nat_eq b y) (eq-eqb a x first.0) (eq-eqb b y second.0))
+    (λ h.
+    let first : a ≡ x = eqb-true a x (first_of_both (nat_eq a x) (nat_eq b y) h) in
+    let second : b ≡ y = eqb-true b y (second_of_both (nat_eq a x) (nat_eq b y) h) in
+    tells.1 (ap (λ n. encode_utf8 n ++ encode_utf8 b) first ∙ ap (λ n. encode_utf8 x ++ encode_utf8 n) second ∙ known))
 
 pub apart : (a b : ℕ) → is_kept_apart (encode_utf8 a) (encode_utf8 b)
     ≡ (nat_eq a 47 && nat_eq b 47 || nat_eq a 47 && nat_eq b 42 || nat_eq a 35 && nat_eq b 35)
@@ -112,16 +112,9 @@ more_text text all depth (Some last) s more e =
     let after = gap depth (token_at last) (token_at s.step) in
     let rest = continued (depth_after depth s.step) (Some s.step) more in
     append_assoc (text ++ after) (text_of_step s.step) rest ∙ append_assoc text after (text_of_step s.step ++ rest)
-      ∙ (ap (λ t. text ++ (gap depth (token_at last) (token_at s.step) ++ t)) (sym (first_text depth s more)) ∙ e)
+    ∙ (ap (λ t. text ++ (gap depth (token_at last) (token_at s.step) ++ t)) (sym (first_text depth s more)) ∙ e)
 
-pub text_ends_none : (text all : List ℕ) (depth : ℕ) (steps : List PlacedStep) → steps ≡ [] → text ++ continued depth None (tokens_from steps) ≡ all → text ≡ all
-text_ends_none text all depth steps e h =
-    sym (append-nil text) ∙ ap (λ s. text ++ continued depth None (tokens_from s)) (sym e) ∙ h
-
-pub text_ends : (text all : List ℕ) (depth : ℕ) (last : Step) (steps : List PlacedStep) → steps ≡ []
-    → text ++ continued depth (Some last) (tokens_from steps) ≡ all → text ++ codes "\n" ≡ all
-text_ends text all depth last steps e h = ap (λ s. text ++ continued depth (Some last) (tokens_from s)) (sym e) ∙ h
-
+-- the element at an index, and those after it
 pub next_dropped : {X : Type 0} (xs : List X) (i : ℕ) (x : X) → i < length xs → x ≡ get_or xs i x → drop i xs ≡ x ∷ drop (i + 1) xs
 next_dropped xs i x below is = drop-cons xs i x below ∙ rw (add-one i, ← is) refl
 

@@ -1,5 +1,5 @@
 -- The output of an expansion as the code keeps it, and what its steps are printed as.
-use Rattle.std.specs.Prelude.{ℕ, ◌++◌, List, [], ◌∷◌, Option, Some, None, Bool, ◌&&◌, ◌||◌, not, codes, is_some, map, unwrap_or}
+use Rattle.std.specs.Prelude.{ℕ, List, [], Option, Some, None, Bool, ◌&&◌, ◌||◌, not, is_some, map, unwrap_or}
 use Rattle.tt_data.specs.Walk.{Step, at_leaf, opens, closes}
 use Rattle.expander.specs.declared.output.PlacedStep as declared
 use Rattle.expander.specs.declared.output.Step as kept
@@ -8,14 +8,17 @@ use Rattle.expander.specs.Expansion.{PlacedStep}
 use Rattle.expander.specs.Printing.{PrintedToken, is_visible_step, visible, printed, left_out, is_quote, is_joined, is_punct_but_quote, is_kept_apart, gap}
 use Rattle.expander.specs.Thin.{thin_spelling}
 
+-- a step of the code as a step of a walk
 abbrev pub step_of : kept.Step → Step
 step_of (as_step.Leaf l) = at_leaf l
 step_of (as_step.Opens kind span) = opens kind span
 step_of (as_step.Closes kind span) = closes kind span
 
+-- the same with its place
 abbrev pub placed_of : declared.PlacedStep → PlacedStep
 placed_of p = record { step = step_of p.step; outer = p.outer }
 
+-- the steps of an output
 abbrev pub steps_of_output : List declared.PlacedStep → List PlacedStep
 steps_of_output steps = map placed_of steps
 
@@ -31,6 +34,7 @@ left_out_of_output steps = left_out thin_spelling (visible (steps_of_output step
 abbrev pub text_of_step : Step → List ℕ
 text_of_step s = unwrap_or (thin_spelling s []) []
 
+-- whether the step has a spelling
 abbrev pub is_spelled : Step → Bool
 is_spelled s = is_some (thin_spelling s [])
 

@@ -118,11 +118,9 @@ pub(crate) fn push_output_faults(
     faults: &mut Vec<Fault>,
     steps: &[PlacedStep],
 ) -> Result<(), AllocError>
-    ensures {
-        OnOk result
-            (faults.new.items
-                ≡ faults.old.items ++ (nested (tokens_of_output steps.now) ++ unspellable (left_out_of_output steps.now)))
-    }
+    ensures { OnOk result
+        (faults.new.items
+        ≡ faults.old.items ++ (nested (tokens_of_output steps.now) ++ unspellable (left_out_of_output steps.now))) }
 {
     push_nested(faults, steps)?;
     push_unspellable(faults, steps)

@@ -42,7 +42,11 @@ pub(crate) fn push_walk(
                 let brackets = subtree.delimiter;
                 push_step(steps, Step::Opens(brackets.kind, brackets.open_span), outer)?;
                 push_walk(steps, &inner, outer)?;
-                push_step(steps, Step::Closes(brackets.kind, brackets.close_span), outer)?;
+                push_step(
+                    steps,
+                    Step::Closes(brackets.kind, brackets.close_span),
+                    outer,
+                )?;
             }
         }
     }
@@ -50,11 +54,7 @@ pub(crate) fn push_walk(
 }
 
 // Adds one step.
-fn push_step(
-    steps: &mut Vec<PlacedStep>,
-    step: Step,
-    outer: Option<Span>,
-) -> Result<(), AllocError>
+fn push_step(steps: &mut Vec<PlacedStep>, step: Step, outer: Option<Span>) -> Result<(), AllocError>
     ensures { OnOk result (steps_of_output steps.new.items ≡ steps_of_output steps.old.items ++ placed outer (step_of step ∷ [])) }
 {
     steps.push(PlacedStep { step, outer })?;

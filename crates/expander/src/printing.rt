@@ -29,8 +29,8 @@ fn brackets(kind: DelimiterKind) -> Option<(char, char)>
     }
 }
 
-/// Whether the step has a spelling.
-pub(crate) fn has_spelling(step: &Step) -> bool
+// Whether the step has a spelling.
+fn has_spelling(step: &Step) -> bool
     ensures { result ≡ is_spelled (step_of step.now) }
 {
     match step {
@@ -109,10 +109,8 @@ fn depth_after(depth: usize, step: &Step) -> usize
 
 // Adds what stands between two steps.
 fn push_gap(text: &mut String, depth: usize, first: &Step, second: &Step) -> Result<(), AllocError>
-    ensures {
-        OnOk result
-            (string_bytes text.new ≡ string_bytes text.old ++ gap depth (token_at (step_of first.now)) (token_at (step_of second.now)))
-    }
+    ensures { OnOk result
+        (string_bytes text.new ≡ string_bytes text.old ++ gap depth (token_at (step_of first.now)) (token_at (step_of second.now))) }
 {
     if depth == 0 && ends_line(first) {
         text.push('\n')
@@ -124,13 +122,16 @@ fn push_gap(text: &mut String, depth: usize, first: &Step, second: &Step) -> Res
 }
 
 // Adds a step's spelling, after what stands between it and the step printed last.
-fn push_step(text: &mut String, depth: usize, last: Option<&Step>, step: &Step) -> Result<(), AllocError>
-    ensures {
-        OnOk result
-            (string_bytes text.new
-                ≡ (string_bytes text.old ++ gap_after depth (option_map (λ s. step_of s.now) last.entry) (step_of step.now))
-                    ++ text_of_step (step_of step.now))
-    }
+fn push_step(
+    text: &mut String,
+    depth: usize,
+    last: Option<&Step>,
+    step: &Step,
+) -> Result<(), AllocError>
+    ensures { OnOk result
+        (string_bytes text.new
+        ≡ (string_bytes text.old ++ gap_after depth (option_map (λ s. step_of s.now) last.entry) (step_of step.now))
+        ++ text_of_step (step_of step.now)) }
 {
     if let Some(before) = last {
         push_gap(text, depth, before, step)?;
@@ -140,11 +141,9 @@ fn push_step(text: &mut String, depth: usize, last: Option<&Step>, step: &Step) 
 
 /// The text of the visible tokens that have a spelling, and their number.
 pub(crate) fn print(alloc: Global, steps: &[PlacedStep]) -> Result<Printed, AllocError>
-    ensures {
-        IfOk result (λ p.
-            (string_bytes p.text ≡ text_of (tokens_of_output steps.now))
-            × (p.tokens ≡ length (tokens_of_output steps.now)))
-    }
+    ensures { IfOk result (λ p.
+        (string_bytes p.text ≡ text_of (tokens_of_output steps.now))
+        × (p.tokens ≡ length (tokens_of_output steps.now))) }
 {
     let mut text = String::new(alloc);
     let mut tokens = 0;

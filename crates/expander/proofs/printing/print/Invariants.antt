@@ -11,6 +11,6 @@ invariant-loop-placed l = record {
   tokens_fit : l.tokens ≤ l.placed-index;
   counted : l.tokens + length (tokens_of_output (drop l.placed-index l.steps)) ≡ length (tokens_of_output l.steps);
   printed :
-    string_bytes l.text ++ continued l.depth (option_map (λ s. step_of s.now) l.last) (tokens_of_output (drop l.placed-index l.steps))
+      string_bytes l.text ++ continued l.depth (option_map (λ s. step_of s.now) l.last) (tokens_of_output (drop l.placed-index l.steps))
       ≡ text_of (tokens_of_output l.steps);
 }
