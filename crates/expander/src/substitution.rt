@@ -1,11 +1,12 @@
 // Substitution: what a rule's template gives.
-ghost use Rattle.std.specs.Prelude.{◌≡◌, OnOk, Some};
+ghost use Rattle.std.specs.Prelude.{◌≡◌, All, IfOk, OnOk, Some, option_map};
+ghost use Rattle.tt.specs.Tops.{Top};
 ghost use Rattle.tt_data.specs.Spans.{leaf_with};
 ghost use Rattle.expander.specs.Bound.{bindings_of};
 ghost use Rattle.expander.specs.Filling.{with_trees};
 ghost use Rattle.expander.specs.Text.{alone, with_last_alone};
-ghost use Rattle.expander.specs.ThinFit.{made, itself, substituted};
-ghost use Rattle.expander.specs.ThinRules.{Template, template_of};
+ghost use Rattle.expander.specs.ThinFit.{made, itself, substituted, rule_fit, first_fit};
+ghost use Rattle.expander.specs.ThinRules.{Template, template_of, IsRule};
 
 use crate::bindings::Bindings;
 use crate::first_trees::again;
@@ -178,7 +179,10 @@ fn rule_fit(
     alloc: Global,
     rule: &Rule<'_>,
     argument: &TtIter<'_>,
-) -> Result<Option<TopSubtree>, TtFault> {
+) -> Result<Option<TopSubtree>, TtFault>
+    requires { IsRule rule.now }
+    ensures { IfOk result (λ tree. option_map (λ (top : Top). top.inner) tree ≡ rule_fit rule.now argument.now) }
+{
     let mut bindings = Bindings::new(alloc);
     if !fit(alloc, &rule.pattern, argument, &mut bindings)? {
         return Ok(None);
@@ -201,7 +205,10 @@ pub(crate) fn first_fit(
     alloc: Global,
     rules: &[Rule<'_>],
     argument: &TtIter<'_>,
-) -> Result<Option<TopSubtree>, TtFault> {
+) -> Result<Option<TopSubtree>, TtFault>
+    requires { All IsRule rules.now }
+    ensures { IfOk result (λ tree. option_map (λ (top : Top). top.inner) tree ≡ first_fit rules.now argument.now) }
+{
     for rule in rules {
         if let Some(tree) = rule_fit(alloc, rule, argument)? {
             return Ok(Some(tree));

@@ -1,5 +1,5 @@
-use Rattle.std.proofs.Common.{◌≡◌, refl, sym, ap, ◌∙◌, arith}
-use Rattle.tt_data.specs.Forest.{leaf, group, size}
+use Rattle.std.proofs.Common.{◌≡◌, refl, sym, ap, ◌∙◌}
+use Rattle.tt_data.specs.Forest.{leaf, group}
 use Rattle.expander.specs.Filling.{with_trees}
 use Rattle.expander.specs.Text.{with_last_alone}
 use Rattle.expander.proofs.FillingLemmas.{last_alone, not_last, not_true, group_added, all_added}
