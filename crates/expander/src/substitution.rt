@@ -1,5 +1,5 @@
 // Substitution: what a rule's template gives.
-ghost use Rattle.std.specs.Prelude.{◌≡◌, All, IfOk, OnOk, Some, option_map};
+ghost use Rattle.std.specs.Prelude.{◌≡◌, All, IfOk, IsSome, OnOk, Some, option_map};
 ghost use Rattle.tt.specs.Tops.{Top};
 ghost use Rattle.tt_data.specs.Spans.{leaf_with};
 ghost use Rattle.expander.specs.Bound.{bindings_of};
@@ -87,7 +87,9 @@ fn extend(out: &mut TopSubtreeBuilder, trees: &TtIter<'_>) -> Result<(), TtFault
             TtElement::Subtree(subtree, inner) => {
                 out.open(subtree.delimiter.kind, subtree.delimiter.open_span)?;
                 extend(out, &inner)?;
-                out.close(subtree.delimiter.close_span)?;
+                let Ok(()) = out.close(subtree.delimiter.close_span) else {
+                    unreachable!()
+                };
             }
         }
     }
@@ -108,7 +110,9 @@ fn extend_by_value(out: &mut TopSubtreeBuilder, trees: &TtIter<'_>) -> Result<()
             TtElement::Subtree(subtree, inner) => {
                 out.open(subtree.delimiter.kind, subtree.delimiter.open_span)?;
                 extend(out, &inner)?;
-                out.close(subtree.delimiter.close_span)?;
+                let Ok(()) = out.close(subtree.delimiter.close_span) else {
+                    unreachable!()
+                };
             }
         }
     }
@@ -142,6 +146,7 @@ fn substitute(
     template: &TtIter<'_>,
     bindings: &Bindings<'_>,
 ) -> Result<(), TtFault>
+    requires { IsSome (template_of template.now) }
     ensures { (t : Template) → template_of template.now ≡ Some t →
         OnOk result (out.new ≡ with_trees out.old (substituted (bindings_of bindings.now) t)) }
 {
@@ -151,7 +156,7 @@ fn substitute(
             TtElement::Leaf(Leaf::Punct(punct)) => {
                 if punct.char == '$' {
                     let Some((name, behind)) = name_after(&rest) else {
-                        return Err(TtFault::Malformed);
+                        unreachable!()
                     };
                     rest = behind;
                     match bindings.get(&name) {
@@ -163,11 +168,13 @@ fn substitute(
                 }
             }
             TtElement::Leaf(Leaf::Ident(ident)) => out.push(made_leaf(Leaf::Ident(ident)))?,
-            TtElement::Leaf(Leaf::Literal(_)) => return Err(TtFault::Malformed),
+            TtElement::Leaf(Leaf::Literal(_)) => unreachable!(),
             TtElement::Subtree(subtree, inner) => {
                 out.open(subtree.delimiter.kind, made(subtree.delimiter.open_span))?;
                 substitute(out, &inner, bindings)?;
-                out.close(made(subtree.delimiter.close_span))?;
+                let Ok(()) = out.close(made(subtree.delimiter.close_span)) else {
+                    unreachable!()
+                };
             }
         }
     }
@@ -194,10 +201,10 @@ fn rule_fit(
     };
     let mut out = TopSubtreeBuilder::new(alloc, Delimiter::invisible_spanned(start_of_text))?;
     substitute(&mut out, &rule.template, &bindings)?;
-    match out.build() {
-        Ok(tree) => Ok(Some(tree)),
-        Err((_, fault)) => Err(fault),
-    }
+    let Ok(tree) = out.build() else {
+        unreachable!()
+    };
+    Ok(Some(tree))
 }
 
 /// What the first rule that fits gives for the argument.

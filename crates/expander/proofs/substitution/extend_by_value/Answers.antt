@@ -22,7 +22,7 @@ pub loop-element-preserved : goal.loop-element-preserved
 loop-element-preserved c =
     let passed : c.loop-element.rest ≡ group c.in-Subtree.subtree.delimiter c.in-Subtree.inner c.next.new.self = passed_group _ _ _ _ _ c.in-Some.ensures.steps c.in-Subtree.is in
     group_added c.loop-element.out c.open.new.self c.extend.new.out _ _ c.in-Subtree.subtree.delimiter c.in-Subtree.inner _
-      c.in_ok-open-in-Subtree.ensures.ok c.in_ok-extend-in-Subtree.ensures c.in_ok-close-in-Subtree.ensures.ok
+      c.in_ok-open-in-Subtree.ensures.ok c.in_ok-extend-in-Subtree.ensures c.in-Ok.ensures.ok
       (ap (λ f. with_trees c.loop-element.out (with_last_alone f)) (sym passed) ∙ c.loop-element.invariant)
 
 pub returns : goal.returns
