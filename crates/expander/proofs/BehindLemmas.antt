@@ -1,7 +1,7 @@
 -- What is behind the first trees of a list.
-use Rattle.std.proofs.Common.{◌≡◌, ◌≢◌, ℕ, ◌+◌, ◌-◌, ◌<◌, ◌≤◌, List, [], ◌∷◌, ◌++◌, length, refl, sym, ap, ◌∙◌, subst, arith, Bool, true, false, if◌then◌else◌, nat_lt}
+use Rattle.std.proofs.Common.{◌≡◌, ℕ, ◌+◌, ◌-◌, refl, sym, ap, ◌∙◌, subst, arith, Bool, true, false, if◌then◌else◌, nat_lt}
 use Rattle.std.proofs.lemmas.Bool.{lt-ltb}
-use Rattle.std.specs.Prelude.{Option, Some, None, codes, option_and_then, slice_get}
+use Rattle.std.specs.Prelude.{Option, Some, None, codes}
 use Rattle.tt.specs.Elements.{IsNext}
 use Rattle.tt.specs.declared.view.TtElement.{TtElement}
 use Rattle.tt.specs.declared.view.TtElement.TheVariants as element
@@ -11,7 +11,6 @@ use Rattle.tt_data.specs.declared.delimiter.Delimiter.{Delimiter}
 use Rattle.tt_data.specs.declared.leaf.Ident.{Ident}
 use Rattle.tt_data.specs.declared.leaf.Leaf.TheVariants as as_leaf
 use Rattle.tt_data.specs.declared.leaf.Leaf.{Leaf}
-use Rattle.tt_data.specs.declared.leaf.Literal.{Literal}
 use Rattle.tt_data.specs.declared.leaf.Punct.{Punct}
 use Rattle.expander.proofs.CuttingLemmas.{joined-cancel}
 use Rattle.expander.proofs.UnitLemmas.{first_punct-is}

@@ -1,7 +1,7 @@
 -- What variables are bound to in the table that holds them.
 use Rattle.std.proofs.Common.{◌≡◌, ℕ, ◌+◌, ◌<◌, zero, suc, List, [], ◌∷◌, ◌++◌, length, refl, sym, ap, ◌∙◌, arith, Bool, true, false, if◌then◌else◌}
 use Rattle.std.proofs.Math.Path.{fun_ext}
-use Rattle.std.specs.Prelude.{Option, Some, None, option_and_then, slice_get, Result, Ok, Err, OnOk, OnErr}
+use Rattle.std.specs.Prelude.{Option, Some, None, option_and_then, slice_get, Result, Ok, Err, OnErr}
 use Rattle.tt_data.specs.Forest.{Forest}
 use Rattle.expander.specs.Bound.{bindings_of}
 use Rattle.expander.specs.Names.{index_of, IsWithin}

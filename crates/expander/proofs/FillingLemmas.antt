@@ -1,10 +1,9 @@
 -- Adding trees to a tree under construction, one by one.
-use Rattle.std.proofs.Common.{◌≡◌, ◌≢◌, ℕ, ◌+◌, ◌<◌, ◌≤◌, List, refl, sym, ap, ◌∙◌, arith, Bool, true, false}
-use Rattle.std.specs.Prelude.{Option, Some, None, option_map, IsTrue}
+use Rattle.std.proofs.Common.{◌≡◌, ℕ, List, refl, sym, ap, ◌∙◌, Bool, true, false}
+use Rattle.std.specs.Prelude.{IsTrue}
 use Rattle.tt.specs.Building.{Building, pushed, opened, closed}
 use Rattle.tt_data.specs.Flat.{joined-empty}
-use Rattle.tt_data.specs.Forest.{Forest, empty, leaf, group, joined, size}
-use Rattle.tt_data.specs.Spans.{leaf_with, delimiter_with}
+use Rattle.tt_data.specs.Forest.{Forest, empty, leaf, group, joined}
 use Rattle.tt_data.specs.declared.delimiter.Delimiter.{Delimiter}
 use Rattle.tt_data.specs.declared.leaf.IdentIsRaw.TheVariants as is_raw
 use Rattle.tt_data.specs.declared.leaf.Leaf.TheVariants as as_leaf

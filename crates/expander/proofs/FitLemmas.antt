@@ -1,15 +1,14 @@
 -- Matching a pattern with an argument, one step of the pattern after another.
-use Rattle.std.proofs.Common.{◌≡◌, ℕ, ◌+◌, ◌-◌, ◌<◌, ◌≤◌, List, refl, sym, ap, ◌∙◌, arith, Bool, true, false}
+use Rattle.std.proofs.Common.{◌≡◌, ℕ, ◌-◌, ◌<◌, refl, sym, ap, ◌∙◌, arith, true, false}
 use Rattle.std.proofs.lemmas.Bool.{ne_eqb}
 use Rattle.std.specs.Prelude.{Option, Some, None, option_map}
-use Rattle.tt_data.specs.Forest.{Forest, empty, leaf, group, back, front, size}
+use Rattle.tt_data.specs.Forest.{Forest, leaf, back, size}
 use Rattle.tt_data.specs.declared.leaf.Leaf.TheVariants as as_leaf
 use Rattle.tt_data.specs.declared.leaf.Leaf.{Leaf}
 use Rattle.tt_data.specs.declared.leaf.Punct.{Punct}
 use Rattle.expander.proofs.PatternLemmas.{operator_begins, back-size}
 use Rattle.expander.specs.Bound.{behind_operator}
 use Rattle.expander.specs.FirstTrees.{◌>>=◌, ◌>>◌}
-use Rattle.expander.specs.Text.{is_char}
 use Rattle.expander.specs.ThinFit.{Bindings, fit_after, same_operator}
 use Rattle.expander.specs.ThinRules.{Pattern, puncts, pattern_of, pattern_after, operator_at, puncts_of, first_operator}
 use Rattle.expander.specs.declared.units.Operator.{Operator}

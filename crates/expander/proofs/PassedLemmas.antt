@@ -1,10 +1,10 @@
 -- The tree that an iterator passed.
 use Rattle.std.proofs.Common.{◌≡◌, ap, ◌∙◌, subst}
-use Rattle.std.specs.Prelude.{Some, None}
+use Rattle.std.specs.Prelude.{Some}
 use Rattle.tt.specs.Elements.{IsNext}
 use Rattle.tt.specs.declared.view.TtElement.{TtElement}
 use Rattle.tt.specs.declared.view.TtElement.TheVariants as element
-use Rattle.tt_data.specs.Forest.{Forest, empty, leaf, group}
+use Rattle.tt_data.specs.Forest.{Forest, leaf, group}
 use Rattle.tt_data.specs.declared.leaf.Leaf.{Leaf}
 use Rattle.tt_data.specs.declared.tree.Subtree.{Subtree}
 

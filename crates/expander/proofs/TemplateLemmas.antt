@@ -1,9 +1,9 @@
 -- Substituting in a template, one tree of it after another.
-use Rattle.std.proofs.Common.{◌≡◌, ℕ, ◌+◌, ◌<◌, List, refl, sym, ap, ◌∙◌, arith}
+use Rattle.std.proofs.Common.{◌≡◌, ℕ, ◌<◌, List, refl, sym, ap, ◌∙◌, arith}
 use Rattle.std.proofs.lemmas.Bool.{ne_eqb, eq-eqb}
-use Rattle.std.specs.Prelude.{Option, Some, None, option_map}
+use Rattle.std.specs.Prelude.{[], Option, Some, None, IsSome, option_map}
 use Rattle.tt.specs.Building.{Building, pushed, opened, closed}
-use Rattle.tt_data.specs.Forest.{Forest, empty, leaf, group, joined, size}
+use Rattle.tt_data.specs.Forest.{Forest, empty, leaf, group, size}
 use Rattle.tt_data.specs.Spans.{leaf_with, delimiter_with}
 use Rattle.tt_data.specs.declared.delimiter.Delimiter.{Delimiter}
 use Rattle.tt_data.specs.declared.leaf.Ident.{Ident}
@@ -13,7 +13,7 @@ use Rattle.tt_data.specs.declared.leaf.Punct.{Punct}
 use Rattle.tt_data.specs.declared.span.Span.{Span}
 use Rattle.expander.proofs.FillingLemmas.{with_none, with_more, leaf_added, group_added}
 use Rattle.expander.proofs.FitLemmas.{map_some}
-use Rattle.expander.proofs.PatternLemmas.{bind_some, name_begins, punct_begins, name_after-smaller}
+use Rattle.expander.proofs.PatternLemmas.{name_begins, punct_begins, name_after-smaller}
 use Rattle.expander.specs.Filling.{with_trees}
 use Rattle.expander.specs.ThinFit.{Bindings, made, value_of, substituted}
 use Rattle.expander.specs.ThinRules.{Template, filled, put, exactly, around, template_of, name_after, around_template}
@@ -80,3 +80,9 @@ template_done bs out end rest none (u, is_some, gives) =
 
 pub name_shorter : (rest more behind : Forest) (l : Leaf) (x : List ℕ) → rest ≡ leaf l more → name_after more ≡ Some (x, behind) → size behind < size rest
 name_shorter rest more behind l x first name = omega (arith, ap size first, name_after-smaller more behind x name)
+
+-- no group is open at the end where none was before
+pub none_open : (bs : Bindings) (start out : Building) (o : Option Template) → IsSome o → start.groups ≡ []
+    → ((t : Template) → o ≡ Some t → out ≡ with_trees start (substituted bs t)) → out.groups ≡ []
+none_open bs start out None is none added = cc
+none_open bs start out (Some t) is none added = ap (λ (b : Building). b.groups) (added t refl) ∙ none

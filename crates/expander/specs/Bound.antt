@@ -1,5 +1,5 @@
 -- What variables are bound to, in the table that holds them, and what a list's beginning is matched with.
-use Rattle.std.specs.Prelude.{◌≡◌, ℕ, Bool, true, false, slice_get, Option, Some, None, option_and_then}
+use Rattle.std.specs.Prelude.{◌≡◌, Bool, true, false, slice_get, Option, Some, None, option_and_then}
 use Rattle.tt_data.specs.Forest.{Forest, front, back}
 use Rattle.expander.specs.declared.bindings.Bindings as table
 use Rattle.expander.specs.declared.rules.FragmentKind.{FragmentKind}

@@ -1,11 +1,12 @@
 // Substitution: what a rule's template gives.
-ghost use Rattle.std.specs.Prelude.{◌≡◌, OnOk, Some};
+ghost use Rattle.std.specs.Prelude.{◌≡◌, All, IfOk, IsSome, OnOk, Some, option_map};
+ghost use Rattle.tt.specs.Tops.{Top};
 ghost use Rattle.tt_data.specs.Spans.{leaf_with};
 ghost use Rattle.expander.specs.Bound.{bindings_of};
 ghost use Rattle.expander.specs.Filling.{with_trees};
 ghost use Rattle.expander.specs.Text.{alone, with_last_alone};
-ghost use Rattle.expander.specs.ThinFit.{made, itself, substituted};
-ghost use Rattle.expander.specs.ThinRules.{Template, template_of};
+ghost use Rattle.expander.specs.ThinFit.{made, itself, substituted, rule_fit, first_fit};
+ghost use Rattle.expander.specs.ThinRules.{Template, template_of, IsRule};
 
 use crate::bindings::Bindings;
 use crate::first_trees::again;
@@ -86,7 +87,9 @@ fn extend(out: &mut TopSubtreeBuilder, trees: &TtIter<'_>) -> Result<(), TtFault
             TtElement::Subtree(subtree, inner) => {
                 out.open(subtree.delimiter.kind, subtree.delimiter.open_span)?;
                 extend(out, &inner)?;
-                out.close(subtree.delimiter.close_span)?;
+                let Ok(()) = out.close(subtree.delimiter.close_span) else {
+                    unreachable!()
+                };
             }
         }
     }
@@ -107,7 +110,9 @@ fn extend_by_value(out: &mut TopSubtreeBuilder, trees: &TtIter<'_>) -> Result<()
             TtElement::Subtree(subtree, inner) => {
                 out.open(subtree.delimiter.kind, subtree.delimiter.open_span)?;
                 extend(out, &inner)?;
-                out.close(subtree.delimiter.close_span)?;
+                let Ok(()) = out.close(subtree.delimiter.close_span) else {
+                    unreachable!()
+                };
             }
         }
     }
@@ -141,6 +146,7 @@ fn substitute(
     template: &TtIter<'_>,
     bindings: &Bindings<'_>,
 ) -> Result<(), TtFault>
+    requires { IsSome (template_of template.now) }
     ensures { (t : Template) → template_of template.now ≡ Some t →
         OnOk result (out.new ≡ with_trees out.old (substituted (bindings_of bindings.now) t)) }
 {
@@ -150,7 +156,7 @@ fn substitute(
             TtElement::Leaf(Leaf::Punct(punct)) => {
                 if punct.char == '$' {
                     let Some((name, behind)) = name_after(&rest) else {
-                        return Err(TtFault::Malformed);
+                        unreachable!()
                     };
                     rest = behind;
                     match bindings.get(&name) {
@@ -162,11 +168,13 @@ fn substitute(
                 }
             }
             TtElement::Leaf(Leaf::Ident(ident)) => out.push(made_leaf(Leaf::Ident(ident)))?,
-            TtElement::Leaf(Leaf::Literal(_)) => return Err(TtFault::Malformed),
+            TtElement::Leaf(Leaf::Literal(_)) => unreachable!(),
             TtElement::Subtree(subtree, inner) => {
                 out.open(subtree.delimiter.kind, made(subtree.delimiter.open_span))?;
                 substitute(out, &inner, bindings)?;
-                out.close(made(subtree.delimiter.close_span))?;
+                let Ok(()) = out.close(made(subtree.delimiter.close_span)) else {
+                    unreachable!()
+                };
             }
         }
     }
@@ -178,7 +186,10 @@ fn rule_fit(
     alloc: Global,
     rule: &Rule<'_>,
     argument: &TtIter<'_>,
-) -> Result<Option<TopSubtree>, TtFault> {
+) -> Result<Option<TopSubtree>, TtFault>
+    requires { IsRule rule.now }
+    ensures { IfOk result (λ tree. option_map (λ (top : Top). top.inner) tree ≡ rule_fit rule.now argument.now) }
+{
     let mut bindings = Bindings::new(alloc);
     if !fit(alloc, &rule.pattern, argument, &mut bindings)? {
         return Ok(None);
@@ -190,10 +201,10 @@ fn rule_fit(
     };
     let mut out = TopSubtreeBuilder::new(alloc, Delimiter::invisible_spanned(start_of_text))?;
     substitute(&mut out, &rule.template, &bindings)?;
-    match out.build() {
-        Ok(tree) => Ok(Some(tree)),
-        Err((_, fault)) => Err(fault),
-    }
+    let Ok(tree) = out.build() else {
+        unreachable!()
+    };
+    Ok(Some(tree))
 }
 
 /// What the first rule that fits gives for the argument.
@@ -201,7 +212,10 @@ pub(crate) fn first_fit(
     alloc: Global,
     rules: &[Rule<'_>],
     argument: &TtIter<'_>,
-) -> Result<Option<TopSubtree>, TtFault> {
+) -> Result<Option<TopSubtree>, TtFault>
+    requires { All IsRule rules.now }
+    ensures { IfOk result (λ tree. option_map (λ (top : Top). top.inner) tree ≡ first_fit rules.now argument.now) }
+{
     for rule in rules {
         if let Some(tree) = rule_fit(alloc, rule, argument)? {
             return Ok(Some(tree));

@@ -1,4 +1,4 @@
-use Rattle.std.proofs.Common.{sym, ap, ◌∙◌}
+use Rattle.std.proofs.Common.{sym, ◌∙◌}
 use Rattle.expander.proofs.BehindLemmas.{behind_word}
 use Rattle.expander.proofs.matching.behind_fragment.Goals as goal
 

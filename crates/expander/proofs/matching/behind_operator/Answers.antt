@@ -1,5 +1,5 @@
-use Rattle.std.proofs.Common.{sym, ap, ◌∙◌, ◌-◌}
-use Rattle.expander.proofs.BehindLemmas.{operator_same, operator_other, operator_none}
+use Rattle.std.proofs.Common.{sym, ◌∙◌}
+use Rattle.expander.proofs.BehindLemmas.{operator_same}
 use Rattle.expander.proofs.matching.behind_operator.Goals as goal
 
 pub returns-then-same_operator : goal.returns-then-same_operator

@@ -16,7 +16,7 @@ loop-element-preserved t c =
     let passed : c.loop-element.rest ≡ group c.in-Subtree.subtree.delimiter c.in-Subtree.inner c.next.new.self = passed_group _ _ _ _ _ c.in-Some.ensures.steps c.in-Subtree.is in
     (omega (arith, ap size passed, c.loop-element.invariant.0),
      group_added c.loop-element.out c.open.new.self c.extend.new.out _ _ c.in-Subtree.subtree.delimiter c.in-Subtree.inner _
-       c.in_ok-open-in-Subtree.ensures.ok c.in_ok-extend-in-Subtree.ensures c.in_ok-close-in-Subtree.ensures.ok
+       c.in_ok-open-in-Subtree.ensures.ok c.in_ok-extend-in-Subtree.ensures c.in-Ok.ensures.ok
        (ap (with_trees c.loop-element.out) (sym passed) ∙ c.loop-element.invariant.1))
 
 pub returns : goal.returns

@@ -56,7 +56,7 @@ loop-element-preserved t c =
     (omega (arith, ap size passed, c.loop-element.invariant.0), λ t e.
       group_put (bindings_of c.args.bindings.now) c.loop-element.out c.open.new.self c.substitute.new.out _ _ c.loop-element.rest _ c.in-Subtree.inner
         c.in-Subtree.subtree.delimiter c.made.result c.made-in-Subtree.result passed c.made.ensures c.made-in-Subtree.ensures c.in_ok-open-in-Subtree.ensures.ok
-        c.in_ok-substitute-in-Subtree.ensures c.in_ok-close-in-Subtree.ensures.ok (c.loop-element.invariant.1 t e))
+        c.in_ok-substitute-in-Subtree.ensures c.in-Ok.ensures.ok (c.loop-element.invariant.1 t e))
 
 pub returns : goal.returns
 returns t c = λ t e.

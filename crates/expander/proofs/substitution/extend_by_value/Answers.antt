@@ -1,5 +1,5 @@
-use Rattle.std.proofs.Common.{◌≡◌, refl, sym, ap, ◌∙◌, arith}
-use Rattle.tt_data.specs.Forest.{leaf, group, size}
+use Rattle.std.proofs.Common.{◌≡◌, refl, sym, ap, ◌∙◌}
+use Rattle.tt_data.specs.Forest.{leaf, group}
 use Rattle.expander.specs.Filling.{with_trees}
 use Rattle.expander.specs.Text.{with_last_alone}
 use Rattle.expander.proofs.FillingLemmas.{last_alone, not_last, not_true, group_added, all_added}
@@ -22,7 +22,7 @@ pub loop-element-preserved : goal.loop-element-preserved
 loop-element-preserved c =
     let passed : c.loop-element.rest ≡ group c.in-Subtree.subtree.delimiter c.in-Subtree.inner c.next.new.self = passed_group _ _ _ _ _ c.in-Some.ensures.steps c.in-Subtree.is in
     group_added c.loop-element.out c.open.new.self c.extend.new.out _ _ c.in-Subtree.subtree.delimiter c.in-Subtree.inner _
-      c.in_ok-open-in-Subtree.ensures.ok c.in_ok-extend-in-Subtree.ensures c.in_ok-close-in-Subtree.ensures.ok
+      c.in_ok-open-in-Subtree.ensures.ok c.in_ok-extend-in-Subtree.ensures c.in-Ok.ensures.ok
       (ap (λ f. with_trees c.loop-element.out (with_last_alone f)) (sym passed) ∙ c.loop-element.invariant)
 
 pub returns : goal.returns

@@ -1,4 +1,4 @@
-use Rattle.std.proofs.Common.{◌≡◌, ◌≤◌}
+use Rattle.std.proofs.Common.{◌≡◌}
 use Rattle.tt_data.specs.Forest.{size}
 use Rattle.expander.specs.Filling.{with_trees}
 use Rattle.expander.specs.Text.{with_last_alone}
