@@ -24,3 +24,4 @@ mod ScopeLemmas
 mod PassedLemmas
 mod TemplateLemmas
 mod TurnLemmas
+mod ExpandLemmas

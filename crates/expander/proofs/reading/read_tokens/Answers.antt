@@ -6,7 +6,7 @@ use Rattle.expander.proofs.reading.read_tokens.Goals as goal
 pub loop-token-init : goal.loop-token-init
 loop-token-init c = record {
   stand = rw c.requires.tokens (c.tokens_begin.ensures _ c.utf8.text);
-  so_far = read_nothing c.requires.tokens c.in_ok-builder.ensures;
+  so_far = read_nothing c.requires.tokens c.in_ok-builder.ensures.ok;
 }
 
 pub overflow_add-end : goal.overflow_add-end
