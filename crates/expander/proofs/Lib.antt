@@ -17,3 +17,4 @@ mod BindingLemmas
 mod BehindLemmas
 mod FillingLemmas
 mod FitLemmas
+pub mod FreeLemmas
