@@ -18,3 +18,4 @@ mod BehindLemmas
 mod FillingLemmas
 mod FitLemmas
 pub mod FreeLemmas
+pub mod FreeFitLemmas
