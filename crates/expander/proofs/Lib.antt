@@ -25,3 +25,5 @@ mod PassedLemmas
 mod TemplateLemmas
 mod TurnLemmas
 mod ExpandLemmas
+pub mod FreeLemmas
+pub mod FreeFitLemmas
