@@ -6,11 +6,13 @@ use Rattle.tt_data.specs.Walk.{walk}
 use Rattle.expander.specs.declared.definitions.Definition.{Definition}
 use Rattle.expander.specs.declared.faults.FaultKind.TheVariants.{CannotExpand, BrokenDefinition, RecursionLimit}
 use Rattle.expander.specs.declared.rules.Rule.{Rule}
-use Rattle.expander.specs.Expansion.{CallSite, Outcome, just, stays, unbroken, at_level, fitted, expansion, search_calls}
+use Rattle.expander.specs.declared.output.PlacedStep as kept
+use Rattle.expander.specs.OutputSteps.{steps_of_output}
+use Rattle.expander.specs.Expansion.{CallSite, Outcome, placed, just, stays, unbroken, at_level, fitted, expansion, search_calls}
 use Rattle.expander.specs.Thin.{thin_world, thin_rules, is_free_of}
 use Rattle.expander.specs.ThinFit.{first_fit}
 use Rattle.expander.specs.ThinRules.{rules_of, IsRule}
-use Rattle.expander.specs.Turns.{deeper_at}
+use Rattle.expander.specs.Turns.{deeper_at, Tries}
 use Rattle.expander.proofs.MarkLemmas.{free_search}
 use Rattle.expander.proofs.RuleLemmas.{rules_of-forms}
 
@@ -50,3 +52,11 @@ module _ (scope : List ℕ → Option Definition) (d : Definition) (site : CallS
   pub fit_call : (n : ℕ) (rs : List Rule) (g : Forest) → thin_rules d ≡ Some rs → first_fit rs site.argument ≡ Some g → is_free_of "!" g ≡ true
       → unbroken thin_world d (thin_world.broken d) (deeper_at scope (suc n)) None site ≡ just (Some site.at) (walk g)
   fit_call n rs g e some free = level n rs e ∙ ap (fitted (expansion thin_world scope n) None site) some ∙ expansion_of_free n g free
+
+  pub tries_fit : (depth : ℕ) (rs : List Rule) (g : Forest) (old new : List kept.PlacedStep) → thin_rules d ≡ Some rs → (depth ≡ 0 → ⊥)
+      → first_fit rs site.argument ≡ Some g → is_free_of "!" g ≡ true → steps_of_output new ≡ steps_of_output old ++ placed (Some site.at) (walk g)
+      → Tries old new site (unbroken thin_world d (thin_world.broken d) (deeper_at scope depth) None site) None
+  tries_fit zero rs g old new e deep some free steps = absurd (deep refl)
+  tries_fit (suc n) rs g old new e deep some free steps =
+      let is = fit_call n rs g e some free in
+      (ap (λ (o : Outcome Definition). o.faults) is, steps ∙ ap (λ (o : Outcome Definition). steps_of_output old ++ o.steps) (sym is))

@@ -235,3 +235,43 @@ module _ (scope : List ℕ → Option Definition) (depth : ℕ) where
         adds = adds_just old_steps new_steps faults (group d a empty) (steps (group d a empty) refl);
         free = fr.1;
       }
+
+whole-size : (path : Path) (name : Ident) (bang : Punct) (d : Delimiter) (a : Forest) → 0 < size (whole_call path name bang d a)
+whole-size bare name bang d a = omega arith
+whole-size (from_crate crate p q) name bang d a = omega arith
+whole-size (other p q) name bang d a = omega arith
+
+-- a call's trees, and fewer behind them
+pub call_passed : (f : Forest) (c : Call) → call_at f ≡ Some c → (w : Forest) × (f ≡ joined w c.rest)
+call_passed f c e = let k : IsCall f c true = call_is_call f c e in (whole_call k.path c.name k.bang k.brackets c.argument, k.whole)
+
+pub call_smaller : (f : Forest) (c : Call) → call_at f ≡ Some c → size c.rest < size f
+call_smaller f c e =
+    let k : IsCall f c true = call_is_call f c e in
+    omega (arith, ap size k.whole, size-joined (whole_call k.path c.name k.bang k.brackets c.argument) c.rest, whole-size k.path c.name k.bang k.brackets c.argument)
+
+pub behind_passed : (f : Forest) → (o : Option Call) → call_behind_colons f ≡ o → (w : Forest) × (f ≡ joined w (behind_kept f o))
+behind_passed f (Some c) e = let k : IsCall f c false = behind_is_call f c (is_behind f c e) in (whole_call k.path c.name k.bang k.brackets c.argument, k.whole)
+behind_passed empty None e = (empty, refl)
+behind_passed (leaf l rest) None e = (leaf l empty, refl)
+behind_passed (group d a rest) None e = (group d a empty, refl)
+
+pub behind_smaller : (f : Forest) → f ≢ empty → (o : Option Call) → call_behind_colons f ≡ o → size (behind_kept f o) < size f
+behind_smaller f some (Some c) e =
+    let k : IsCall f c false = behind_is_call f c (is_behind f c e) in
+    omega (arith, ap size k.whole, size-joined (whole_call k.path c.name k.bang k.brackets c.argument) c.rest, whole-size k.path c.name k.bang k.brackets c.argument)
+behind_smaller empty some None e = absurd (some refl)
+behind_smaller (leaf l rest) some None e = omega arith
+behind_smaller (group d a rest) some None e = omega arith
+
+-- what was tried is added
+pub expanded_adds : (old new : List kept.PlacedStep) (faults : List Fault) (site : CallSite) (o : Outcome Definition) → Tries old new site o None → Adds old new faults faults o
+expanded_adds old new faults site o t = record { steps = t.1; faults = sym (append-nil faults) ∙ ap (λ fs. faults ++ told fs) (sym t.0) }
+
+pub stays_adds : (old tried new : List kept.PlacedStep) (old_faults new_faults : List Fault) (kind : FaultKind) (site : CallSite) (o : Outcome Definition)
+    → Tries old tried site o (Some kind) → new_faults ≡ old_faults ++ fault_at kind site.at ∷ []
+    → steps_of_output new ≡ steps_of_output tried ++ placed None (walk site.whole) → Adds old new old_faults new_faults o
+stays_adds old tried new old_faults new_faults kind site o t faults steps = record {
+  steps = steps ∙ ap (λ xs. steps_of_output xs ++ placed None (walk site.whole)) t.1 ∙ ap (λ (x : Outcome Definition). steps_of_output old ++ x.steps) (sym t.0);
+  faults = faults ∙ ap (λ (x : Outcome Definition). old_faults ++ told x.faults) (sym t.0);
+}

@@ -100,16 +100,16 @@ fn expand_call<'a>(
     ensures turn { groups_are_free_of "!" trees.old ≡ true → AreFree (definitions_of scope.now) →
         OnOk result (Turn (definitions_of scope.now) depth out.old.steps.items out.new.steps.items out.old.faults.items out.new.faults.items trees.old trees.new) }
 {
-    if let Some(known) = scope.find(&call.name.sym) {
-        match expand_by(alloc, &mut out.steps, known, depth, &call)? {
-            None => {
-                *trees = call.rest;
-                return Ok(());
-            }
-            Some(kind) => push_fault(&mut out.faults, kind, call.name.span)?,
-        }
+    let Some(known) = scope.find(&call.name.sym) else {
+        keep(&mut out.steps, trees, call.rest)?;
+        return Ok(());
+    };
+    if let Some(kind) = expand_by(alloc, &mut out.steps, known, depth, &call)? {
+        push_fault(&mut out.faults, kind, call.name.span)?;
+        keep(&mut out.steps, trees, call.rest)?;
+        return Ok(());
     }
-    keep(&mut out.steps, trees, call.rest)?;
+    *trees = call.rest;
     Ok(())
 }
 
