@@ -275,3 +275,40 @@ stays_adds old tried new old_faults new_faults kind site o t faults steps = reco
   steps = steps ∙ ap (λ xs. steps_of_output xs ++ placed None (walk site.whole)) t.1 ∙ ap (λ (x : Outcome Definition). steps_of_output old ++ x.steps) (sym t.0);
   faults = faults ∙ ap (λ (x : Outcome Definition). old_faults ++ told x.faults) (sym t.0);
 }
+
+-- ---- turn by turn
+
+-- what is still to come of a piece is what is missing in the output
+pub record Left (scope : List ℕ → Option Definition) (depth : ℕ) (piece rest : Forest) (old_steps now_steps : List kept.PlacedStep) (old_faults now_faults : List Fault) : Type 0 where
+  pub steps : steps_of_output now_steps ++ (searched scope depth rest).steps ≡ steps_of_output old_steps ++ (searched scope depth piece).steps
+  pub faults : now_faults ++ told (searched scope depth rest).faults ≡ old_faults ++ told (searched scope depth piece).faults
+  pub free : groups_are_free_of "!" rest ≡ true
+
+pub left_at_first : (scope : List ℕ → Option Definition) (depth : ℕ) (piece : Forest) (steps : List kept.PlacedStep) (faults : List Fault)
+    → groups_are_free_of "!" piece ≡ true → Left scope depth piece piece steps steps faults faults
+left_at_first scope depth piece steps faults free = record { steps = refl; faults = refl; free = free }
+
+told-append : (xs ys : List (FaultKind × Span)) → told (xs ++ ys) ≡ told xs ++ told ys
+told-append xs ys = map-append (λ f. fault_at f.0 f.1) xs ys
+
+pub left_more : (scope : List ℕ → Option Definition) (depth : ℕ) (piece rest more : Forest) (old_steps now_steps new_steps : List kept.PlacedStep) (old_faults now_faults new_faults : List Fault)
+    → Left scope depth piece rest old_steps now_steps old_faults now_faults → Turn scope depth now_steps new_steps now_faults new_faults rest more
+    → Left scope depth piece more old_steps new_steps old_faults new_faults
+left_more scope depth piece rest more old_steps now_steps new_steps old_faults now_faults new_faults l t = record {
+  steps = ap (λ xs. xs ++ (searched scope depth more).steps) t.adds.steps
+    ∙ append_assoc (steps_of_output now_steps) t.outcome.steps (searched scope depth more).steps
+    ∙ ap (λ (o : Outcome Definition). steps_of_output now_steps ++ o.steps) (sym t.is) ∙ l.steps;
+  faults = ap (λ xs. xs ++ told (searched scope depth more).faults) t.adds.faults
+    ∙ append_assoc now_faults (told t.outcome.faults) (told (searched scope depth more).faults)
+    ∙ ap (λ xs. now_faults ++ xs) (sym (told-append t.outcome.faults (searched scope depth more).faults))
+    ∙ ap (λ (o : Outcome Definition). now_faults ++ told o.faults) (sym t.is) ∙ l.faults;
+  free = t.free;
+}
+
+pub left_nothing : (scope : List ℕ → Option Definition) (depth : ℕ) (piece rest : Forest) (old_steps now_steps : List kept.PlacedStep) (old_faults now_faults : List Fault)
+    → rest ≡ empty → Left scope depth piece rest old_steps now_steps old_faults now_faults
+    → Adds old_steps now_steps old_faults now_faults (searched scope depth piece)
+left_nothing scope depth piece rest old_steps now_steps old_faults now_faults none_left l = record {
+  steps = sym (append-nil (steps_of_output now_steps)) ∙ ap (λ f. steps_of_output now_steps ++ (searched scope depth f).steps) (sym none_left) ∙ l.steps;
+  faults = sym (append-nil now_faults) ∙ ap (λ f. now_faults ++ told (searched scope depth f).faults) (sym none_left) ∙ l.faults;
+}
