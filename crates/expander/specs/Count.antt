@@ -1,5 +1,5 @@
 -- How many plain pieces of a text have no match in an earlier one. (Of this project.)
-use Rattle.std.specs.Prelude.{ℕ, Bool, true, false, ◌&&◌, not, List, [], ◌∷◌, Option, Some, None, option_map, map, filter_map, count_by, nat_eq}
+use Rattle.std.specs.Prelude.{ℕ, Bool, true, false, ◌&&◌, not, List, [], ◌∷◌, Option, Some, None, option_map, map, filter_map, filter, length, nat_eq}
 use Rattle.std.specs.List.{list_any, list_all}
 use Rattle.tt_data.specs.Forest.{Forest, empty, leaf, group}
 use Rattle.tt_data.specs.declared.delimiter.Delimiter.{Delimiter}
@@ -75,4 +75,4 @@ module _ (same_leaf : Leaf → Leaf → Bool) where
 
   -- the plain pieces that have no match among the earlier ones: all of them where there is no earlier text
   abbrev pub expanded_count : Option (List Looked) → List Looked → ℕ
-  expanded_count earlier now = count_by (λ p. not (list_any (is_same p) (earlier_pieces earlier))) now
+  expanded_count earlier now = length (filter (λ p. not (list_any (is_same p) (earlier_pieces earlier))) now)

@@ -28,3 +28,4 @@ pub mod Bound
 pub mod Filling
 pub mod ScopeTable
 pub mod Turns
+pub mod PieceTurns

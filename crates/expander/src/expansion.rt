@@ -1,5 +1,8 @@
 // The expansion of a text's pieces.
-ghost use Rattle.std.specs.Prelude.{◌≡◌, ◌<◌, ◌++◌, ◌∷◌, [], ℕ, List, true, IfOk, OnOk, Some, Option};
+ghost use Rattle.std.specs.Prelude.{◌≡◌, ◌<◌, ◌≤◌, ◌+◌, ◌^◌, ◌++◌, ◌∷◌, [], ℕ, List, true, IfOk, OnOk, Some, Option};
+ghost use Rattle.expander.specs.Definitions.{nearest};
+ghost use Rattle.expander.specs.Pieces.{cut};
+ghost use Rattle.expander.specs.PieceTurns.{TakesPiece, IsOutputOf};
 ghost use Rattle.tt_data.specs.Forest.{Forest, joined, size, empty};
 ghost use Rattle.tt_data.specs.Walk.{walk};
 ghost use Rattle.expander.specs.CallSteps.{call_at, call_behind_colons};
@@ -153,8 +156,38 @@ fn expand_piece(
     Ok(())
 }
 
+// Takes the next piece: a definition enters the scope, a plain piece is expanded under those before it.
+fn take_piece<'a>(
+    alloc: Global,
+    depth: u8,
+    scope: &mut Scope<'a>,
+    out: &mut Output,
+    piece: &TtIter<'a>,
+) -> Result<(), TtFault>
+    requires { out.old.plain + 1 < 2 ^ 64 }
+    ensures plain { OnOk result (out.new.plain ≤ out.old.plain + 1) }
+    ensures turn { (before : List Definition) → definitions_of scope.old ≡ nearest before → AreFree (nearest before) →
+        groups_are_free_of "!" piece.now ≡ true →
+        OnOk result (TakesPiece depth before piece.now (definitions_of scope.new) out.old out.new) }
+{
+    let Some(definition) = definition_of(piece) else {
+        expand_piece(alloc, scope, depth, out, piece)?;
+        out.plain += 1;
+        return Ok(());
+    };
+    let known = Known::new(alloc, definition)?;
+    if known.rules.is_none() {
+        push_fault(&mut out.faults, FaultKind::BrokenDefinition, known.definition.name.span)?;
+    }
+    scope.define(known)?;
+    Ok(())
+}
+
 /// Expands the pieces of a text, each under the definitions before it.
-pub(crate) fn expand_pieces(alloc: Global, depth: u8, trees: &TtIter<'_>) -> Result<Output, TtFault> {
+pub(crate) fn expand_pieces(alloc: Global, depth: u8, trees: &TtIter<'_>) -> Result<Output, TtFault>
+    ensures { groups_are_free_of "!" trees.now ≡ true → IfOk result (IsOutputOf depth (cut trees.now)) }
+{
+    let most = trees.remaining().len();
     let mut scope = Scope::new(alloc);
     let mut out = Output {
         steps: Vec::new(alloc),
@@ -163,19 +196,7 @@ pub(crate) fn expand_pieces(alloc: Global, depth: u8, trees: &TtIter<'_>) -> Res
     };
     let mut rest = again(trees);
     while let Some(piece) = next_piece(&mut rest) {
-        match definition_of(&piece) {
-            Some(definition) => {
-                let known = Known::new(alloc, definition)?;
-                if known.rules.is_none() {
-                    push_fault(&mut out.faults, FaultKind::BrokenDefinition, known.definition.name.span)?;
-                }
-                scope.define(known)?;
-            }
-            None => {
-                expand_piece(alloc, &scope, depth, &mut out, &piece)?;
-                out.plain += 1;
-            }
-        }
+        take_piece(alloc, depth, &mut scope, &mut out, &piece)?;
     }
     Ok(out)
 }
