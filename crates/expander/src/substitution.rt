@@ -11,7 +11,7 @@ ghost use Rattle.expander.specs.ThinRules.{Template, template_of, IsRule};
 use crate::bindings::Bindings;
 use crate::first_trees::again;
 use crate::matching::fit;
-use crate::rules::{name_after, Rule};
+use crate::rules::{Rule, name_after};
 use std::alloc::Global;
 use tt::builder::TopSubtreeBuilder;
 use tt::top::TopSubtree;
@@ -120,11 +120,7 @@ fn extend_by_value(out: &mut TopSubtreeBuilder, trees: &TtIter<'_>) -> Result<()
 }
 
 // Adds a name that is not bound: it stands for itself, after its `$`.
-fn extend_by_itself(
-    out: &mut TopSubtreeBuilder,
-    name: Symbol,
-    span: Span,
-) -> Result<(), TtFault>
+fn extend_by_itself(out: &mut TopSubtreeBuilder, name: Symbol, span: Span) -> Result<(), TtFault>
     ensures { OnOk result (out.new ≡ with_trees out.old (itself name span)) }
 {
     let span = made(span);

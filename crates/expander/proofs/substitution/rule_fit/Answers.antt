@@ -8,6 +8,6 @@ use Rattle.expander.proofs.substitution.rule_fit.Goals as goal
 pub unreachable-requires : goal.unreachable-requires
 unreachable-requires c =
     let closed = none_open (bindings_of c.fit.new.bindings) c.in_ok-out.out c.substitute.new.out (template_of c.args.rule.now.template) c.requires.1
-        (ap (λ (b : Building). b.groups) c.in_ok-out.ensures) c.in_ok-substitute.ensures in
+    (ap (λ (b : Building). b.groups) c.in_ok-out.ensures) c.in_ok-substitute.ensures in
     let built = c.in_default.ensures.built.1 closed in
     cc
