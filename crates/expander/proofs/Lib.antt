@@ -2,12 +2,12 @@ mod Rows
 mod AttributeLemmas
 mod CuttingLemmas
 mod UnitLemmas
+mod PatternLemmas
 mod KnownLemmas
 mod RunLemmas
 mod RunRows
 mod BindingLemmas
 mod BehindLemmas
-mod PatternLemmas
 mod FillingLemmas
 mod FitLemmas
 mod PassedLemmas
