@@ -19,9 +19,9 @@ loop-element-preserved t c =
     passed_group _ _ _ _ _ c.in-Some.ensures.steps c.in-Subtree.is in (
       omega (arith, ap size passed, c.loop-element.invariant.0),
       group_added c.loop-element.out c.open.new.self c.extend.new.out _ _ c.in-Subtree.subtree.delimiter c.in-Subtree.inner _
-          c.in_ok-open-in-Subtree.ensures.ok c.in_ok-extend-in-Subtree.ensures c.in-Ok.ensures.ok
+          c.in_ok-open-in-Subtree.ensures.ok c.in_ok-extend-in-Subtree.ensures.added c.in-Ok.ensures.ok
           (ap (with_trees c.loop-element.out) (sym passed) ∙ c.loop-element.invariant.1),
     )
 
-pub returns : goal.returns
-returns t c = all_added _ _ c.loop-element.rest c.in_default.ensures.steps.0 c.loop-element.invariant.1
+pub returns-clause-added : goal.returns-clause-added
+returns-clause-added t c = all_added _ _ c.loop-element.rest c.in_default.ensures.steps.0 c.loop-element.invariant.1

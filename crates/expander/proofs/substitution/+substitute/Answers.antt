@@ -24,7 +24,7 @@ loop-element-preserved-in-Continue-1 t c =
           name_put (bindings_of c.args.bindings.now) c.loop-element.out c.extend_by_value.new.out _ c.loop-element.rest c.next.new.self
           c.in-Some-name_after.behind
           c.in-Leaf-Punct.punct c.in-Some-name_after.name (Some c.in-Some-get.taken.now) passed c.if-punct-eq36.true name
-          (sym c.get.ensures ∙ ap (option_map (λ trees. trees.now)) c.in-Some-get.is) c.in_ok-extend_by_value-in-Some-get.ensures
+          (sym c.get.ensures ∙ ap (option_map (λ trees. trees.now)) c.in-Some-get.is) c.in_ok-extend_by_value-in-Some-get.ensures.added
           (c.loop-element.invariant.1 t e),
     )
 
@@ -40,7 +40,7 @@ loop-element-preserved-in-Continue-branch-2 t c =
           name_put (bindings_of c.args.bindings.now) c.loop-element.out c.extend_by_itself.new.out _ c.loop-element.rest c.next.new.self
           c.in-Some-name_after.behind
           c.in-Leaf-Punct.punct c.in-Some-name_after.name None passed c.if-punct-eq36.true name
-          (sym c.get.ensures ∙ ap (option_map (λ trees. trees.now)) c.in-None.is) c.in_ok-extend_by_itself-in-None.ensures (c.loop-element.invariant.1 t e),
+          (sym c.get.ensures ∙ ap (option_map (λ trees. trees.now)) c.in-None.is) c.in_ok-extend_by_itself-in-None.ensures.added (c.loop-element.invariant.1 t e),
     )
 
 pub loop-element-preserved-in-Continue-branch-3 : goal.loop-element-preserved-in-Continue-branch-3
@@ -74,9 +74,9 @@ loop-element-preserved t c =
           group_put (bindings_of c.args.bindings.now) c.loop-element.out c.open.new.self c.substitute.new.out _ _ c.loop-element.rest _ c.in-Subtree.inner
           c.in-Subtree.subtree.delimiter c.made.result c.made-in-Subtree.result passed c.made.ensures c.made-in-Subtree.ensures
           c.in_ok-open-in-Subtree.ensures.ok
-          c.in_ok-substitute-in-Subtree.ensures c.in-Ok.ensures.ok (c.loop-element.invariant.1 t e),
+          c.in_ok-substitute-in-Subtree.ensures.added c.in-Ok.ensures.ok (c.loop-element.invariant.1 t e),
     )
 
-pub returns : goal.returns
-returns t c = λ t e.
+pub returns-clause-added : goal.returns-clause-added
+returns-clause-added t c = λ t e.
     template_done (bindings_of c.args.bindings.now) _ _ c.loop-element.rest c.in_default.ensures.steps.0 (c.loop-element.invariant.1 t e)

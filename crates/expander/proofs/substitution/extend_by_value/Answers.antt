@@ -25,8 +25,8 @@ loop-element-preserved c =
     let passed : c.loop-element.rest ≡ group c.in-Subtree.subtree.delimiter c.in-Subtree.inner c.next.new.self =
     passed_group _ _ _ _ _ c.in-Some.ensures.steps c.in-Subtree.is in
     group_added c.loop-element.out c.open.new.self c.extend.new.out _ _ c.in-Subtree.subtree.delimiter c.in-Subtree.inner _
-    c.in_ok-open-in-Subtree.ensures.ok c.in_ok-extend-in-Subtree.ensures c.in-Ok.ensures.ok
+    c.in_ok-open-in-Subtree.ensures.ok c.in_ok-extend-in-Subtree.ensures.added c.in-Ok.ensures.ok
     (ap (λ f. with_trees c.loop-element.out (with_last_alone f)) (sym passed) ∙ c.loop-element.invariant)
 
-pub returns : goal.returns
-returns c = all_added _ _ (with_last_alone c.loop-element.rest) (ap with_last_alone c.in_default.ensures.steps.0) c.loop-element.invariant
+pub returns-clause-added : goal.returns-clause-added
+returns-clause-added c = all_added _ _ (with_last_alone c.loop-element.rest) (ap with_last_alone c.in_default.ensures.steps.0) c.loop-element.invariant
