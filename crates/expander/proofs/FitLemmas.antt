@@ -33,14 +33,16 @@ fits_from : (bs : Bindings) (op : Operator) (r : Pattern) (f g : Forest) (o : Op
     → (o >>= λ at. same_operator op at >> Some (back (puncts_of op) f)) ≡ Some g
     → fit_after bs r g ≡ (o >>= λ at. same_operator op at >> fit_after bs r (back (puncts_of op) f))
 fits_from bs op r f g None e = cc
-fits_from bs op r f g (Some at) e = elim (same_operator op at) as (λ b. (b >> Some (back (puncts_of op) f)) ≡ Some g → fit_after bs r g ≡ (b >> fit_after bs r (back (puncts_of op) f)))
+fits_from bs op r f g (Some at) e = elim (same_operator op at) as
+    (λ b. (b >> Some (back (puncts_of op) f)) ≡ Some g → fit_after bs r g ≡ (b >> fit_after bs r (back (puncts_of op) f)))
     [ true ↦ λ h. let same : g ≡ back (puncts_of op) f = cc in ap (fit_after bs r) same | false ↦ λ h. cc ] e
 
 fails_from : (bs : Bindings) (op : Operator) (r : Pattern) (f : Forest) (o : Option Operator)
     → (o >>= λ at. same_operator op at >> Some (back (puncts_of op) f)) ≡ None
     → (o >>= λ at. same_operator op at >> fit_after bs r (back (puncts_of op) f)) ≡ None
 fails_from bs op r f None e = refl
-fails_from bs op r f (Some at) e = elim (same_operator op at) as (λ b. (b >> Some (back (puncts_of op) f)) ≡ None → (b >> fit_after bs r (back (puncts_of op) f)) ≡ None)
+fails_from bs op r f (Some at) e = elim (same_operator op at) as
+    (λ b. (b >> Some (back (puncts_of op) f)) ≡ None → (b >> fit_after bs r (back (puncts_of op) f)) ≡ None)
     [ true ↦ λ h. cc | false ↦ λ h. refl ] e
 
 -- an operator of the pattern, with which the argument goes on

@@ -1,6 +1,7 @@
 -- Which rule fits a call's argument, and what its template gives. (The Rust Reference, "Macros By Example": transcribing.)
-use Rattle.std.specs.Prelude.{ℕ, Bool, false, ◌&&◌, List, [], ◌∷◌, codes, if◌then◌else◌, Option, Some, None, nat_eq}
+use Rattle.std.specs.Prelude.{ℕ, Bool, true, false, ◌&&◌, not, List, [], ◌∷◌, codes, if◌then◌else◌, Option, Some, None, nat_eq}
 use Rattle.tt_data.specs.Forest.{Forest, empty, leaf, group, joined, front, back}
+use Rattle.tt_data.specs.declared.leaf.Ident.{Ident}
 use Rattle.tt_data.specs.declared.leaf.IdentIsRaw.TheVariants as is_raw
 use Rattle.tt_data.specs.declared.leaf.Leaf.TheVariants as as_leaf
 use Rattle.tt_data.specs.declared.leaf.Spacing.TheVariants.{Alone}

@@ -11,7 +11,7 @@ use Rattle.tt_data.specs.declared.leaf.Leaf.{Leaf}
 use Rattle.tt_data.specs.declared.leaf.Leaf.TheVariants as as_leaf
 use Rattle.tt_data.specs.declared.leaf.Punct.{Punct}
 use Rattle.tt_data.specs.declared.leaf.Spacing.{Spacing}
-use Rattle.tt_data.specs.declared.leaf.Spacing.TheVariants.{Joint}
+use Rattle.tt_data.specs.declared.leaf.Spacing.TheVariants.{Alone, Joint, JointHidden}
 use Rattle.tt_data.specs.declared.span.Span.{Span}
 use Rattle.expander.specs.declared.units.Operator.{Operator}
 use Rattle.expander.specs.declared.units.Operator.TheVariants.{One, Two, Three}
