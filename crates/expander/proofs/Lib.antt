@@ -27,3 +27,4 @@ mod TurnLemmas
 mod ExpandLemmas
 pub mod FreeLemmas
 pub mod FreeFitLemmas
+mod PieceLemmas

@@ -2,7 +2,7 @@
 ghost use Rattle.std.specs.Prelude.{◌≡◌, ◌<◌, ◌≤◌, ◌+◌, ◌^◌, ◌++◌, ◌∷◌, [], ℕ, List, true, IfOk, OnOk, Some, Option};
 ghost use Rattle.expander.specs.Definitions.{nearest};
 ghost use Rattle.expander.specs.Pieces.{cut};
-ghost use Rattle.expander.specs.PieceTurns.{TakesPiece, IsOutputOf};
+ghost use Rattle.expander.specs.PieceTurns.{TakesPiece, IsOutputOf, told_if_broken};
 ghost use Rattle.tt_data.specs.Forest.{Forest, joined, size, empty};
 ghost use Rattle.tt_data.specs.Walk.{walk};
 ghost use Rattle.expander.specs.CallSteps.{call_at, call_behind_colons};
@@ -156,6 +156,16 @@ fn expand_piece(
     Ok(())
 }
 
+// Tells a definition that is broken, at its name.
+fn tell_if_broken(faults: &mut Vec<Fault>, known: &Known<'_>) -> Result<(), AllocError>
+    ensures { OnOk result (faults.new.items ≡ faults.old.items ++ told_if_broken known.now.definition) }
+{
+    if known.rules.is_none() {
+        push_fault(faults, FaultKind::BrokenDefinition, known.definition.name.span)?;
+    }
+    Ok(())
+}
+
 // Takes the next piece: a definition enters the scope, a plain piece is expanded under those before it.
 fn take_piece<'a>(
     alloc: Global,
@@ -176,9 +186,7 @@ fn take_piece<'a>(
         return Ok(());
     };
     let known = Known::new(alloc, definition)?;
-    if known.rules.is_none() {
-        push_fault(&mut out.faults, FaultKind::BrokenDefinition, known.definition.name.span)?;
-    }
+    tell_if_broken(&mut out.faults, &known)?;
     scope.define(known)?;
     Ok(())
 }

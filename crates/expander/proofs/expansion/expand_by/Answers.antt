@@ -21,7 +21,7 @@ returns c = λ scope site at argument body_free argument_free.
     let rules_are : thin_rules c.args.known.now.definition ≡ Some c.in-Some.rules.items =
         sym c.args.known.now.rules_are ∙ ap (option_map (λ v. v.items)) c.in-Some.is in
     let gives : first_fit c.in-Some.rules.items c.args.call.now.argument ≡ Some c.in-Some-2.result.inner =
-        ap (λ rules. first_fit rules c.args.call.now.argument) (sym c.as_slice.ensures.value) ∙ sym c.in_ok-result.ensures ∙ ap (option_map (λ (top : Top). top.inner)) c.in-Some-2.is in
+        ap (λ rules. first_fit rules c.args.call.now.argument) (sym c.as_slice.ensures.value) ∙ sym c.in_ok-result.ensures.given ∙ ap (option_map (λ (top : Top). top.inner)) c.in-Some-2.is in
     let free = first_fit_free c.args.known.now.definition.body c.args.call.now.argument c.in-Some-2.result.inner c.in-Some.rules.items
         body_free (thin_rules-read c.args.known.now.definition c.in-Some.rules.items rules_are) argument_free gives in
     tries_fit scope c.args.known.now.definition site c.args.depth c.in-Some.rules.items c.in-Some-2.result.inner c.args.steps.now.items c.push_walk.new.steps.items

@@ -8,10 +8,6 @@ pub unreachable-requires : goal.unreachable-requires
 unreachable-requires c =
     let started : c.in_ok-out.out.groups ≡ [] = search rules in
     let closed = none_open (bindings_of c.fit.new.bindings) c.in_ok-out.out c.substitute.new.out (template_of c.args.rule.now.template) c.requires.1
-<<<<<<< HEAD
-        (ap (λ (b : Building). b.groups) c.in_ok-out.ensures.ok) c.in_ok-substitute.ensures in
-=======
     started c.in_ok-substitute.ensures.added in
->>>>>>> x_match_faults
     let built = c.in_default.ensures.built.1 closed in
     cc
