@@ -28,3 +28,4 @@ mod ExpandLemmas
 pub mod FreeLemmas
 pub mod FreeFitLemmas
 mod PieceLemmas
+mod ReplyLemmas

@@ -29,3 +29,4 @@ pub mod Filling
 pub mod ScopeTable
 pub mod Turns
 pub mod PieceTurns
+pub mod Shown
