@@ -18,7 +18,7 @@ use Rattle.expander.specs.Bound.{behind_unit, behind_fragment, fragment, behind_
 use Rattle.expander.specs.FirstTrees.{◌>>=◌, ◌>>◌, first_ident, first_punct}
 use Rattle.expander.specs.Text.{same_text}
 use Rattle.expander.specs.ThinFit.{fragment_size, same_operator}
-use Rattle.expander.specs.ThinRules.{operator_at, puncts_of}
+use Rattle.expander.specs.Units.{operator_at, puncts_of}
 use Rattle.expander.specs.declared.rules.FragmentKind.{FragmentKind}
 use Rattle.expander.specs.declared.rules.FragmentKind.TheVariants as kind
 use Rattle.expander.specs.declared.units.Operator.TheVariants.{One, Two, Three}

@@ -10,7 +10,8 @@ use Rattle.expander.proofs.PatternLemmas.{operator_begins, back-size}
 use Rattle.expander.specs.Bound.{behind_operator}
 use Rattle.expander.specs.FirstTrees.{◌>>=◌, ◌>>◌}
 use Rattle.expander.specs.ThinFit.{Bindings, fit_after, same_operator}
-use Rattle.expander.specs.ThinRules.{Pattern, puncts, pattern_of, pattern_after, operator_at, puncts_of, first_operator}
+use Rattle.expander.specs.ThinRules.{Pattern, puncts, pattern_of, pattern_after}
+use Rattle.expander.specs.Units.{operator_at, puncts_of, first_operator}
 use Rattle.expander.specs.declared.units.Operator.{Operator}
 
 pub operator_shorter : (steps more behind : Forest) (l : Leaf) (n : ℕ) → steps ≡ leaf l more → behind ≡ back n more → size behind < size steps

@@ -16,7 +16,8 @@ use Rattle.expander.specs.FirstTrees.{◌>>=◌, ◌>>◌, first_ident, first_pu
 use Rattle.expander.specs.Text.{same_text, same_kind, is_char, is_punct, with_last_alone}
 use Rattle.expander.specs.Thin.{is_free_of}
 use Rattle.expander.specs.ThinFit.{Bindings, unbound, bound, fragment_size, same_operator, fit_after, fit, made, itself, value_of, substituted, rule_fit, or_later, first_fit}
-use Rattle.expander.specs.ThinRules.{first_operator, puncts_of, Pattern, done, variable, word, puncts, within, pattern_of, Template, filled, put, exactly, around, name_after, put_template, around_template, punct_template, template_after, template_of, parts, parts_from, rule_of, all_rules, rules_of}
+use Rattle.expander.specs.ThinRules.{Pattern, done, variable, word, puncts, within, pattern_of, Template, filled, put, exactly, around, name_after, put_template, around_template, punct_template, template_after, template_of, parts, parts_from, rule_of, all_rules, rules_of}
+use Rattle.expander.specs.Units.{first_operator, puncts_of}
 use Rattle.expander.proofs.FreeLemmas.{both, parted, free_both, free_front, free_back, free_last_alone}
 use Rattle.expander.proofs.PatternLemmas.{bind_some, test_some}
 

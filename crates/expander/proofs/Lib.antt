@@ -1,3 +1,4 @@
+-- lemmas by subject; the worked rows
 mod Rows
 mod AttributeLemmas
 mod CuttingLemmas

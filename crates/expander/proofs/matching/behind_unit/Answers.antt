@@ -1,6 +1,6 @@
 use Rattle.std.proofs.Common.{sym, ap, ◌∙◌, ◌-◌}
 use Rattle.tt_data.specs.Forest.{back}
-use Rattle.expander.specs.ThinRules.{puncts_of}
+use Rattle.expander.specs.Units.{puncts_of}
 use Rattle.expander.proofs.BehindLemmas.{behind_punct, behind_other}
 use Rattle.expander.proofs.matching.behind_unit.Goals as goal
 
