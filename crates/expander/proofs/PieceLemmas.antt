@@ -1,19 +1,17 @@
 -- What one piece adds to the output and to the scope.
 use Rattle.std.proofs.Common.{◌≡◌, ℕ, ◌+◌, zero, suc, List, [], ◌∷◌, ◌++◌, length, refl, sym, ap, ◌∙◌, append_assoc, append-nil, arith, Bool, true, false, if◌then◌else◌}
-use Rattle.std.specs.Prelude.{Option, Some, None, All, flat_map, filter_map, ◌&&◌}
+use Rattle.std.specs.Prelude.{Option, Some, None, All, flat_map, ◌&&◌}
 use Rattle.std.specs.List.{list_all}
 use Rattle.std.proofs.Math.Path.{fun_ext}
 use Rattle.tt_data.specs.Forest.{Forest}
 use Rattle.expander.specs.declared.definitions.Definition.{Definition}
 use Rattle.expander.specs.declared.expansion.Output.{Output}
-use Rattle.expander.specs.declared.faults.Fault.{Fault}
-use Rattle.expander.specs.declared.output.PlacedStep as kept
 use Rattle.expander.specs.Count.{looked_of}
 use Rattle.expander.specs.Definitions.{definition_of, nearest}
 use Rattle.expander.specs.Expansion.{Outcome, expansion}
 use Rattle.expander.specs.Meaning.{Member, plain, defining, member, members_after, with_definition, output_of, member_faults}
 use Rattle.expander.specs.OutputSteps.{steps_of_output}
-use Rattle.expander.specs.PieceTurns.{plain_of, AddsMember, TakesPiece, IsOutputOf, told_if_broken}
+use Rattle.expander.specs.PieceTurns.{plain_of, TakesPiece, IsOutputOf, told_if_broken}
 use Rattle.expander.specs.ScopeTable.{defined}
 use Rattle.expander.specs.Pieces.{cut}
 use Rattle.expander.specs.Text.{same_text}
@@ -32,7 +30,7 @@ pub takes_plain : (depth : ℕ) (before : List Definition) (piece : Forest) (sco
     → TakesPiece depth before piece scope old new
 takes_plain depth before piece scope old new none_here finds free adds counted =
     let is : searched scope depth piece ≡ expansion thin_world (nearest before) depth None piece =
-        ap (λ s. searched s depth piece) finds ∙ sym (expansion_is (nearest before) depth piece) in
+    ap (λ s. searched s depth piece) finds ∙ sym (expansion_is (nearest before) depth piece) in
     record {
       adds = rw none_here (record {
         steps = adds.steps ∙ ap (λ (o : Outcome Definition). steps_of_output old.steps.items ++ o.steps) is;
@@ -128,9 +126,9 @@ pieces_more depth all more piece scope new_scope old new l takes =
       free = t.free;
       rest_free = frees.1;
       steps = ap (λ s. s ++ flat_map (output_of thin_layers depth) later) t.adds.steps
-        ∙ append_assoc (steps_of_output old.steps.items) (output_of thin_layers depth m) (flat_map (output_of thin_layers depth) later) ∙ l.steps;
+          ∙ append_assoc (steps_of_output old.steps.items) (output_of thin_layers depth m) (flat_map (output_of thin_layers depth) later) ∙ l.steps;
       faults = ap (λ s. s ++ flat_map (member_faults thin_layers depth) later) t.adds.faults
-        ∙ append_assoc old.faults.items (member_faults thin_layers depth m) (flat_map (member_faults thin_layers depth) later) ∙ l.faults;
+          ∙ append_assoc old.faults.items (member_faults thin_layers depth m) (flat_map (member_faults thin_layers depth) later) ∙ l.faults;
       plain = omega (arith, t.adds.plain, l.plain, looked_more m later);
     }
 

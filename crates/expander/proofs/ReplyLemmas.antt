@@ -1,21 +1,19 @@
 -- From the output of a text's pieces to its meaning.
 use Rattle.std.proofs.Common.{◌≡◌, ℕ, List, [], ◌∷◌, ◌++◌, length, refl, sym, ap, ◌∙◌, Bool, true, false, subst}
-use Rattle.std.specs.Prelude.{Option, Some, None, Result, Ok, Err, ◌&&◌, not, filter, flat_map, IsTrue}
+use Rattle.std.specs.Prelude.{None, Result, Ok, Err, ◌&&◌, not, filter, flat_map}
 use Rattle.std.specs.List.{list_any}
 use Rattle.tt_data.specs.Forest.{Forest}
 use Rattle.tt.specs.Tops.{Top}
 use Rattle.expander.specs.declared.reading.Read.TheVariants as read
 use Rattle.expander.specs.ReadSteps.{IsRead}
 use Rattle.expander.specs.declared.expansion.Output.{Output}
-use Rattle.expander.specs.declared.faults.Fault.{Fault}
 use Rattle.expander.specs.declared.faults.ReadFault.{ReadFault}
 use Rattle.expander.specs.declared.session.Reply.TheVariants.{Read, Unread}
 use Rattle.expander.specs.Count.{Looked, is_same, expanded_count, looked_of}
 use Rattle.expander.specs.Expanded.{Expanded}
 use Rattle.expander.specs.Expansion.{PlacedStep}
 use Rattle.expander.specs.Faults.{nested, unspellable, in_order}
-use Rattle.expander.specs.Meaning.{Member, ReadMeaning, meaning_of, meaning_from, meaning, members, members_after, output_of, member_faults}
-use Rattle.expander.specs.OutputSteps.{steps_of_output}
+use Rattle.expander.specs.Meaning.{Member, meaning_of, meaning_from, meaning, members, output_of}
 use Rattle.expander.specs.PieceTurns.{IsOutputOf}
 use Rattle.expander.specs.Pieces.{cut, pieces, separated}
 use Rattle.expander.specs.Printing.{visible, printed, left_out, text_of}
@@ -56,8 +54,8 @@ means_output depth f out e is shows =
     record {
       printed = shows.printed ∙ ap (λ s. text_of (printed thin_spelling (visible s))) is.steps;
       faults = shows.faults
-        ∙ ap (λ s. in_order (out.faults.items ++ (nested (printed thin_spelling (visible s)) ++ unspellable (left_out thin_spelling (visible s))))) is.steps
-        ∙ ap (λ fs. in_order (fs ++ (nested (printed thin_spelling (visible steps)) ++ unspellable (left_out thin_spelling (visible steps))))) is.faults;
+          ∙ ap (λ s. in_order (out.faults.items ++ (nested (printed thin_spelling (visible s)) ++ unspellable (left_out thin_spelling (visible s))))) is.steps
+          ∙ ap (λ fs. in_order (fs ++ (nested (printed thin_spelling (visible steps)) ++ unspellable (left_out thin_spelling (visible steps))))) is.faults;
       tokens = shows.tokens ∙ ap (λ s. length (printed thin_spelling (visible s))) is.steps;
       expanded = shows.expanded ∙ is.plain ∙ sym (all_count (looked_of ms));
     }

@@ -1,10 +1,9 @@
 -- The trees behind an operator.
-use Rattle.std.proofs.Common.{◌≡◌, ℕ, refl, ap}
-use Rattle.std.specs.Prelude.{Option, Some, None}
+use Rattle.std.proofs.Common.{◌≡◌, refl, ap}
+use Rattle.std.specs.Prelude.{Some}
 use Rattle.tt_data.specs.Forest.{Forest, empty, leaf, group, back}
 use Rattle.tt_data.specs.Flat.{back-zero}
 use Rattle.tt_data.specs.declared.leaf.Leaf.TheVariants as as_leaf
-use Rattle.tt_data.specs.declared.leaf.Leaf.{Leaf}
 use Rattle.tt_data.specs.declared.leaf.Punct.{Punct}
 use Rattle.expander.specs.FirstTrees.{first_punct}
 

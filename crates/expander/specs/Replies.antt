@@ -1,5 +1,5 @@
 -- What a session replies: the meaning of its text.
-use Rattle.std.specs.Prelude.{◌≡◌, ℕ, List, length, Option, Some, None, Result, Ok, Err, IsTrue}
+use Rattle.std.specs.Prelude.{◌≡◌, ℕ, length, None, Result, Ok, Err, IsTrue}
 use Rattle.expander.specs.declared.faults.ReadFault.{ReadFault}
 use Rattle.expander.specs.declared.session.Reply.{Reply}
 use Rattle.expander.specs.declared.session.Reply.TheVariants.{Read, Unread}

@@ -1,7 +1,6 @@
 -- Which rule fits a call's argument, and what its template gives. (The Rust Reference, "Macros By Example": transcribing.)
-use Rattle.std.specs.Prelude.{ℕ, Bool, true, false, ◌&&◌, not, List, [], ◌∷◌, codes, if◌then◌else◌, Option, Some, None, nat_eq}
+use Rattle.std.specs.Prelude.{ℕ, Bool, false, ◌&&◌, List, [], ◌∷◌, codes, if◌then◌else◌, Option, Some, None, nat_eq}
 use Rattle.tt_data.specs.Forest.{Forest, empty, leaf, group, joined, front, back}
-use Rattle.tt_data.specs.declared.leaf.Ident.{Ident}
 use Rattle.tt_data.specs.declared.leaf.IdentIsRaw.TheVariants as is_raw
 use Rattle.tt_data.specs.declared.leaf.Leaf.TheVariants as as_leaf
 use Rattle.tt_data.specs.declared.leaf.Spacing.TheVariants.{Alone}
@@ -74,7 +73,7 @@ made span = record span { ctx = Made }
 abbrev pub itself : List ℕ → Span → Forest
 itself x span =
     leaf (as_leaf.Punct (record { char = 36; spacing = Alone; span = made span }))
-      (leaf (as_leaf.Ident (record { sym = x; span = made span; is_raw = is_raw.No })) empty)
+    (leaf (as_leaf.Ident (record { sym = x; span = made span; is_raw = is_raw.No })) empty)
 
 -- the trees that a name was bound to, the last of them standing alone where it is a punct
 abbrev pub value_of : List ℕ → Span → Option Forest → Forest

@@ -1,6 +1,6 @@
 -- Rules whose patterns hold identifiers, puncts, groups, `$name:ident` and `$name:tt`, and whose templates hold
 -- identifiers, puncts, groups and `$name`. (The Rust Reference, "Macros By Example".)
-use Rattle.std.specs.Prelude.{ℕ, zero, suc, ◌-◌, Bool, true, false, List, [], ◌∷◌, codes, if◌then◌else◌, Option, Some, None, option_map, is_some, IsSome}
+use Rattle.std.specs.Prelude.{ℕ, zero, suc, ◌-◌, List, [], ◌∷◌, codes, if◌then◌else◌, Option, Some, None, option_map, is_some, IsSome}
 use Rattle.tt_data.specs.Forest.{Forest, empty, leaf, group, joined}
 use Rattle.tt_data.specs.declared.delimiter.Delimiter.{Delimiter}
 use Rattle.tt_data.specs.declared.delimiter.DelimiterKind.{DelimiterKind}

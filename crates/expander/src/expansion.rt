@@ -14,11 +14,11 @@ ghost use Rattle.expander.specs.Thin.{thin_world, is_free_of, groups_are_free_of
 ghost use Rattle.expander.specs.Turns.{deeper_at, searched, Adds, Turn, Tries, AreFree, IsBehindFirst};
 ghost use Rattle.expander.specs.declared.definitions.Definition.{Definition};
 
-use crate::calls::{call_at, call_behind_colons, Call};
+use crate::calls::{Call, call_at, call_behind_colons};
 use crate::definitions::definition_of;
 use crate::faults::{Fault, FaultKind};
 use crate::first_trees::again;
-use crate::output::{push_walk, PlacedStep};
+use crate::output::{PlacedStep, push_walk};
 use crate::pieces::next_piece;
 use crate::scope::{Known, Scope};
 use crate::substitution::first_fit;
@@ -73,7 +73,7 @@ fn expand_by(
         site.at ≡ call.now.name.span → site.argument ≡ call.now.argument →
         is_free_of "!" known.now.definition.body ≡ true → is_free_of "!" call.now.argument ≡ true →
         IfOk result (Tries steps.old.items steps.new.items site
-            (unbroken thin_world known.now.definition (thin_world.broken known.now.definition) (deeper_at scope depth) None site)) }
+        (unbroken thin_world known.now.definition (thin_world.broken known.now.definition) (deeper_at scope depth) None site)) }
 {
     let Some(rules) = &known.rules else {
         return Ok(Some(FaultKind::BrokenDefinition));
@@ -141,7 +141,7 @@ fn expand_piece(
     ensures plain { OnOk result (out.new.plain ≡ out.old.plain) }
     ensures adds { groups_are_free_of "!" piece.now ≡ true → AreFree (definitions_of scope.now) →
         OnOk result (Adds out.old.steps.items out.new.steps.items out.old.faults.items out.new.faults.items
-            (searched (definitions_of scope.now) depth piece.now)) }
+        (searched (definitions_of scope.now) depth piece.now)) }
 {
     let mut rest = again(piece);
     while !rest.is_empty() {
@@ -161,7 +161,11 @@ fn tell_if_broken(faults: &mut Vec<Fault>, known: &Known<'_>) -> Result<(), Allo
     ensures { OnOk result (faults.new.items ≡ faults.old.items ++ told_if_broken known.now.definition) }
 {
     if known.rules.is_none() {
-        push_fault(faults, FaultKind::BrokenDefinition, known.definition.name.span)?;
+        push_fault(
+            faults,
+            FaultKind::BrokenDefinition,
+            known.definition.name.span,
+        )?;
     }
     Ok(())
 }

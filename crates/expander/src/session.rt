@@ -4,11 +4,11 @@ ghost use Rattle.expander.specs.State.{State};
 ghost use Rattle.expander.specs.Replies.{IsReplyTo};
 ghost use Rattle.expander.specs.Shown.{ShowsOutput};
 
-use crate::expansion::{expand_pieces, Output};
-use crate::faults::{push_output_faults, sort_faults, Fault, ReadFault};
+use crate::expansion::{Output, expand_pieces};
+use crate::faults::{Fault, ReadFault, push_output_faults, sort_faults};
 use crate::printing::print;
-use crate::reading::{read_tokens, Read};
-use rustc_lexer::{tokenize, FrontmatterAllowed, Token};
+use crate::reading::{Read, read_tokens};
+use rustc_lexer::{FrontmatterAllowed, Token, tokenize};
 use std::alloc::{AllocError, Global};
 use std::marker::Model;
 use tt_data::fault::TtFault;

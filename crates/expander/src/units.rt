@@ -21,7 +21,10 @@ fn is_two(first: char, second: char) -> bool
     ensures { result ≡ is_two first second }
 {
     match second {
-        '=' => matches!(first, '-' | '!' | '*' | '/' | '&' | '%' | '^' | '+' | '<' | '=' | '>' | '|'),
+        '=' => matches!(
+            first,
+            '-' | '!' | '*' | '/' | '&' | '%' | '^' | '+' | '<' | '=' | '>' | '|'
+        ),
         '>' => matches!(first, '-' | '=' | '>'),
         '-' => first == '<',
         ':' | '.' | '&' | '<' | '|' => first == second,
