@@ -1,6 +1,6 @@
 -- From the output of a text's pieces to its meaning.
 use Rattle.std.proofs.Common.{◌≡◌, ℕ, List, [], ◌∷◌, ◌++◌, length, refl, sym, ap, ◌∙◌, Bool, true, false, subst}
-use Rattle.std.specs.Prelude.{None, Result, Ok, Err, ◌&&◌, not, filter, flat_map}
+use Rattle.std.specs.Prelude.{IsTrue, None, Result, Ok, Err, ◌&&◌, not, filter, flat_map}
 use Rattle.std.specs.List.{list_any}
 use Rattle.tt_data.specs.Forest.{Forest}
 use Rattle.tt.specs.Tops.{Top}
@@ -17,7 +17,7 @@ use Rattle.expander.specs.Meaning.{Member, meaning_of, meaning_from, meaning, me
 use Rattle.expander.specs.PieceTurns.{IsOutputOf}
 use Rattle.expander.specs.Pieces.{cut, pieces, separated}
 use Rattle.expander.specs.Printing.{visible, printed, left_out, text_of}
-use Rattle.expander.specs.Replies.{IsExpansionOf, IsMeant}
+use Rattle.expander.specs.Replies.{IsExpansionOf, IsMeant, IsReadAs, IsReplyTo}
 use Rattle.expander.specs.Shown.{ShowsOutput}
 use Rattle.expander.specs.Thin.{thin_layers, thin_spelling, is_thin, is_thin_reading, is_thin_forest, groups_are_free_of}
 use Rattle.expander.specs.ThinReading.{thin_reading}
@@ -81,3 +81,20 @@ means_fault depth text fault told is_read same =
 pub read_by : (r : Result Forest ReadFault) (t : Top) → IsRead r (read.Tree t) → (f : Forest) × ((r ≡ Ok f) × (t.inner ≡ separated f))
 read_by (Ok f) t h = (f, (refl, h))
 read_by (Err fault) t h = absurd h
+
+-- the reply to a text that was read
+pub reply_read : (text : List ℕ) (depth : ℕ) (f : Forest) (e : Expanded) → thin_reading text ≡ Ok f
+    → (IsTrue (is_thin text) → IsMeant thin_layers depth (meaning thin_layers depth text) (Read e)) → IsReplyTo (record { text = text; depth = depth }) (Read e)
+reply_read text depth f e is_read meant =
+    let Q : Result Forest ReadFault → Type 0 = λ r. IsReadAs r (Read e) in
+    record { is_read = subst Q (sym is_read) tt; meant = meant }
+
+-- the reply to a text that cannot be read
+pub reply_fault : (text : List ℕ) (depth : ℕ) (told : ReadFault) → IsRead (thin_reading text) (read.Fault told) → IsReplyTo (record { text = text; depth = depth }) (Unread told)
+reply_fault text depth told h = by_reading (thin_reading text) refl h
+  where
+    by_reading : (r : Result Forest ReadFault) → thin_reading text ≡ r → IsRead r (read.Fault told) → IsReplyTo (record { text = text; depth = depth }) (Unread told)
+    by_reading (Err fault) e g =
+        let Q : Result Forest ReadFault → Type 0 = λ r. IsReadAs r (Unread told) in
+        record { is_read = subst Q (sym e) g; meant = λ thin. means_fault depth text fault told e g }
+    by_reading (Ok f) e g = absurd g

@@ -1,5 +1,6 @@
 -- What a session replies: the meaning of its text.
 use Rattle.std.specs.Prelude.{◌≡◌, ℕ, length, None, Result, Ok, Err, IsTrue}
+use Rattle.tt_data.specs.Forest.{Forest}
 use Rattle.expander.specs.declared.faults.ReadFault.{ReadFault}
 use Rattle.expander.specs.declared.session.Reply.{Reply}
 use Rattle.expander.specs.declared.session.Reply.TheVariants.{Read, Unread}
@@ -23,7 +24,14 @@ IsMeant layers depth (Ok m) (Read e) = IsExpansionOf layers depth m e
 IsMeant layers depth (Err fault) (Unread f) = f ≡ fault
 IsMeant layers depth _ _ = ⊥
 
--- what a session may reply: for a thin text, what it means over the thin layers
-abbrev pub IsReplyTo : State → Reply → Type 0
-IsReplyTo state reply =
-    IsTrue (is_thin state.text) → IsMeant thin_layers state.depth (meaning thin_layers state.depth state.text) reply
+-- a text was read, or has this fault
+abbrev pub IsReadAs : Result Forest ReadFault → Reply → Type 0
+IsReadAs (Ok f) (Read e) = Unit {0}
+IsReadAs (Err fault) (Unread told) = told ≡ fault
+IsReadAs _ _ = ⊥
+
+-- what a session may reply: every text is read by the thin layers, or has their reading fault; and a thin text's reply is
+-- what it means
+pub record IsReplyTo (state : State) (reply : Reply) : Type 0 where
+  pub is_read : IsReadAs (thin_layers.read state.text) reply
+  pub meant : IsTrue (is_thin state.text) → IsMeant thin_layers state.depth (meaning thin_layers state.depth state.text) reply
