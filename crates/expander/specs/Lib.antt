@@ -19,6 +19,7 @@ pub mod Thin
 -- what the contracts of `Session`, `Watched` and `run` rest on
 pub mod State
 pub mod Expanded
+pub mod Refusals
 pub mod Replies
 pub mod Watch
 pub mod Runs

@@ -1,7 +1,9 @@
 //! A session over a text.
-ghost use Rattle.std.specs.Prelude.{◌≡◌, ℕ, ◌<◌, ◌^◌, List, length, string_bytes, IfOk, OnErr, Ok};
+ghost use Rattle.std.specs.Prelude.{◌≡◌, ℕ, ◌<◌, ◌^◌, List, length, string_bytes, IfOk, OnErr, Ok, Err, None};
 ghost use Rattle.expander.specs.State.{State};
+ghost use Rattle.expander.specs.Refusals.{refusal_of};
 ghost use Rattle.expander.specs.Replies.{IsReplyTo};
+ghost use Rattle.expander.specs.declared.session.Refusal.TheVariants.{Memory};
 ghost use Rattle.expander.specs.Shown.{ShowsOutput};
 
 use crate::expansion::{Output, expand_pieces};
@@ -26,6 +28,8 @@ pub enum Refusal {
 }
 
 impl From<TtFault> for Refusal {
+    ghost from_gives = { λ fault refusal. refusal ≡ refusal_of fault };
+
     fn from(fault: TtFault) -> Refusal {
         match fault {
             TtFault::Tokens => Refusal::Tokens,
@@ -35,6 +39,8 @@ impl From<TtFault> for Refusal {
 }
 
 impl From<AllocError> for Refusal {
+    ghost from_gives = { λ _ refusal. refusal ≡ Memory };
+
     fn from(_: AllocError) -> Refusal {
         Refusal::Memory
     }
@@ -90,6 +96,7 @@ impl Expansion {
     /// Where in the text the printed token of this number, from 0, comes from. It is not kept yet: `None`.
     pub fn origin(&self, i: usize) -> Option<TextRange>
         requires { i < self.now.tokens }
+        ensures { result ≡ None }
     {
         None
     }
