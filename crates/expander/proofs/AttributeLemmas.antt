@@ -1,9 +1,8 @@
 -- Passing the attributes before a definition, one by one.
-use Rattle.std.proofs.Common.{◌≡◌, ℕ, ◌+◌, ◌<◌, refl, sym, ap, arith, Bool, true, false, if◌then◌else◌}
-use Rattle.std.specs.Prelude.{Option, Some, None, ◌&&◌}
+use Rattle.std.proofs.Common.{◌≡◌, ◌<◌, refl, ap, arith, Bool, true, false, if◌then◌else◌}
+use Rattle.std.specs.Prelude.{Some, None, ◌&&◌}
 use Rattle.tt_data.specs.Forest.{Forest, empty, leaf, group, size}
 use Rattle.tt_data.specs.declared.delimiter.DelimiterKind.TheVariants.{Bracket}
-use Rattle.tt_data.specs.declared.leaf.Leaf.{Leaf}
 use Rattle.tt_data.specs.declared.leaf.Leaf.TheVariants as as_leaf
 use Rattle.expander.specs.Definitions.{after_attribute, after_attributes}
 use Rattle.expander.specs.FirstTrees.{◌>>◌}

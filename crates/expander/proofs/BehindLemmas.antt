@@ -18,7 +18,7 @@ use Rattle.expander.specs.Bound.{behind_unit, behind_fragment, fragment, behind_
 use Rattle.expander.specs.FirstTrees.{◌>>=◌, ◌>>◌, first_ident, first_punct}
 use Rattle.expander.specs.Text.{same_text}
 use Rattle.expander.specs.ThinFit.{fragment_size, same_operator}
-use Rattle.expander.specs.ThinRules.{operator_at, puncts_of}
+use Rattle.expander.specs.Units.{operator_at, puncts_of}
 use Rattle.expander.specs.declared.rules.FragmentKind.{FragmentKind}
 use Rattle.expander.specs.declared.rules.FragmentKind.TheVariants as kind
 use Rattle.expander.specs.declared.units.Operator.TheVariants.{One, Two, Three}
@@ -30,7 +30,8 @@ joined_front n (leaf l rest) =
     elim (nat_lt 0 n) as (λ b. joined (if b then leaf l (front (n - 1) rest) else empty) (if b then back (n - 1) rest else leaf l rest) ≡ leaf l rest)
     [ true ↦ ap (leaf l) (joined_front (n - 1) rest) | false ↦ refl ]
 joined_front n (group d inner rest) =
-    elim (nat_lt (size inner) n) as (λ b. joined (if b then group d inner (front (n - 1 - size inner) rest) else empty) (if b then back (n - 1 - size inner) rest else group d inner rest) ≡ group d inner rest)
+    elim (nat_lt (size inner) n) as (λ b. joined (if b then group d inner (front (n - 1 - size inner) rest) else empty)
+    (if b then back (n - 1 - size inner) rest else group d inner rest) ≡ group d inner rest)
     [ true ↦ ap (group d inner) (joined_front (n - 1 - size inner) rest) | false ↦ refl ]
 
 -- the puncts of an operator: its first one, and the others behind it
@@ -91,7 +92,8 @@ pub fragment_some : (kind : FragmentKind) (f g passed : Forest) → behind_fragm
     → ◌≡◌ {A = Option (Forest × Forest)} (Some (passed, g)) (fragment kind f)
 fragment_some kind f g passed e split = fragment_at (fragment_size kind f) f g passed e split
 
-no_fragment : (o : Option ℕ) (f : Forest) → (o >>= λ n. Some (back n f)) ≡ None → ◌≡◌ {A = Option (Forest × Forest)} None (o >>= λ n. Some (front n f, back n f))
+no_fragment : (o : Option ℕ) (f : Forest) → (o >>= λ n. Some (back n f)) ≡ None
+    → ◌≡◌ {A = Option (Forest × Forest)} None (o >>= λ n. Some (front n f, back n f))
 no_fragment None f e = refl
 no_fragment (Some n) f e = cc
 
@@ -127,7 +129,8 @@ operator_same op at f g h p e is behind test =
     rw (first_punct-is f g p e) (at_operator (operator_at p g) is)
   where
     at_operator : (o : Operator) → at ≡ o → Some h ≡ (same_operator op o >> Some (back (puncts_of op) (leaf (as_leaf.Punct p) g)))
-    at_operator o e = rw (← e, test) (ap (λ k. Some k) (behind ∙ sym (back_puncts at (as_leaf.Punct p) g) ∙ ap (λ n. back n (leaf (as_leaf.Punct p) g)) (sym (same_size op at test))))
+    at_operator o e = rw (← e, test) (ap (λ k. Some k)
+        (behind ∙ sym (back_puncts at (as_leaf.Punct p) g) ∙ ap (λ n. back n (leaf (as_leaf.Punct p) g)) (sym (same_size op at test))))
 
 pub operator_other : (op at : Operator) (f g : Forest) (p : Punct) → first_punct f ≡ Some (p, g) → at ≡ operator_at p g
     → same_operator op at ≡ false → None ≡ behind_operator op f

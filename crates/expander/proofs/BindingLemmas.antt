@@ -24,7 +24,7 @@ get_before (y ∷ xs) x (suc i) h = get_before xs x i (omega arith)
 
 bound_at : (xs : List Forest) (taken : Forest) (o : Option ℕ) (b : Bool) → ((i : ℕ) → o ≡ Some i → i < length xs)
     → option_and_then (λ i. slice_get (xs ++ taken ∷ []) i) (if b then Some (length xs) else o)
-      ≡ (if b then Some taken else option_and_then (λ i. slice_get xs i) o)
+    ≡ (if b then Some taken else option_and_then (λ i. slice_get xs i) o)
 bound_at xs taken o true within = get_at xs taken
 bound_at xs taken None false within = refl
 bound_at xs taken (Some i) false within = get_before xs taken i (within i refl)

@@ -1,15 +1,15 @@
 -- A call that a list begins with, or none, and how its marks begin.
-use Rattle.std.proofs.Common.{◌≡◌, ℕ, List, [], ◌∷◌, refl, sym, ap, ◌∙◌, Bool, true, false, if◌then◌else◌}
-use Rattle.std.specs.Prelude.{Option, Some, None, ◌&&◌, not}
-use Rattle.tt_data.specs.Forest.{Forest, empty, leaf, group, joined}
+use Rattle.std.proofs.Common.{◌≡◌, refl, ap, ◌∙◌, Bool, true, false, if◌then◌else◌}
+use Rattle.std.specs.Prelude.{Option, Some, None, ◌&&◌}
+use Rattle.tt_data.specs.Forest.{Forest, empty, leaf, group}
 use Rattle.tt_data.specs.declared.delimiter.Delimiter.{Delimiter}
 use Rattle.tt_data.specs.declared.leaf.Ident.{Ident}
 use Rattle.tt_data.specs.declared.leaf.Leaf.{Leaf}
 use Rattle.tt_data.specs.declared.leaf.Leaf.TheVariants as as_leaf
 use Rattle.tt_data.specs.declared.leaf.Punct.{Punct}
 use Rattle.expander.specs.declared.calls.Call.{Call}
-use Rattle.expander.specs.CallSteps.{bare_call, call_behind_colons, crate_call, call_at}
-use Rattle.expander.specs.Calls.{Path, bare, from_crate, other, Marked, none, token, inside, call, is_colons, is_dollar_crate, is_bang_group, mark_leaf, marked, in_front}
+use Rattle.expander.specs.CallSteps.{bare_call, call_behind_colons, crate_call}
+use Rattle.expander.specs.Calls.{bare, from_crate, other, Marked, token, inside, call, is_colons, is_dollar_crate, is_bang_group, mark_leaf, marked}
 use Rattle.expander.specs.FirstTrees.{◌>>◌}
 use Rattle.expander.specs.Text.{is_char, is_visible}
 
@@ -219,8 +219,9 @@ unfolding colon_first bare_first
 colon_punct p q (call bare name bang b a r) = elim (is_colons p q) as (λ t. t ≡ (t && true)) [ true ↦ refl | false ↦ refl ]
 colon_punct p q (token (as_leaf.Punct s) (call bare name bang b a r)) =
     elim (is_colons q s) as (λ t. colon_first p (if t then call (other q s) name bang b a r else token (as_leaf.Punct q) (token (as_leaf.Punct s) (call bare name bang b a r))) ≡ (is_colons p q && false)) [
-      true ↦ elim (is_colons p q) as (λ t. false ≡ (t && false)) [ true ↦ refl | false ↦ refl ]
-    | false ↦ elim (is_colons p q) as (λ t. false ≡ (t && false)) [ true ↦ refl | false ↦ refl ] ]
+      | true ↦ elim (is_colons p q) as (λ t. false ≡ (t && false)) [ true ↦ refl | false ↦ refl ]
+      | false ↦ elim (is_colons p q) as (λ t. false ≡ (t && false)) [ true ↦ refl | false ↦ refl ]
+    ]
 colon_punct p q m = elim (is_colons p q) as (λ t. false ≡ (t && false)) [ true ↦ refl | false ↦ refl ]
 
 colon_ident : (p : Punct) (i : Ident) (m : Marked) → colon_first p (mark_leaf (as_leaf.Ident i) m) ≡ false

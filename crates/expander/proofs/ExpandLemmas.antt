@@ -1,6 +1,6 @@
 -- What a definition does with a call.
-use Rattle.std.proofs.Common.{◌≡◌, ℕ, zero, suc, List, [], ◌∷◌, ◌++◌, refl, sym, ap, ◌∙◌, Bool, true, false, if◌then◌else◌}
-use Rattle.std.specs.Prelude.{Option, Some, None, is_none, option_and_then, option_map, All}
+use Rattle.std.proofs.Common.{◌≡◌, ℕ, zero, suc, List, ◌++◌, refl, sym, ap, ◌∙◌, Bool, true, false, if◌then◌else◌}
+use Rattle.std.specs.Prelude.{Option, Some, None, is_none, option_and_then, All}
 use Rattle.tt_data.specs.Forest.{Forest}
 use Rattle.tt_data.specs.Walk.{walk}
 use Rattle.expander.specs.declared.definitions.Definition.{Definition}
@@ -8,7 +8,7 @@ use Rattle.expander.specs.declared.faults.FaultKind.TheVariants.{CannotExpand, B
 use Rattle.expander.specs.declared.rules.Rule.{Rule}
 use Rattle.expander.specs.declared.output.PlacedStep as kept
 use Rattle.expander.specs.OutputSteps.{steps_of_output}
-use Rattle.expander.specs.Expansion.{CallSite, Outcome, placed, just, stays, unbroken, at_level, fitted, expansion, search_calls}
+use Rattle.expander.specs.Expansion.{CallSite, Outcome, placed, just, stays, unbroken, fitted, expansion}
 use Rattle.expander.specs.Thin.{thin_world, thin_rules, is_free_of}
 use Rattle.expander.specs.ThinFit.{first_fit}
 use Rattle.expander.specs.ThinRules.{rules_of, IsRule}

@@ -57,8 +57,8 @@ pub not_last : (old out end : Building) (l m : Leaf) (f g : Forest) → out ≡ 
     → with_trees old (with_last_alone f) ≡ end → with_trees out (with_last_alone g) ≡ end
 not_last old out end l m f g is first same some e =
     leaf_added old out end m (with_last_alone g) is
-      (ap (λ k. with_trees old (leaf k (with_last_alone g))) same
-        ∙ ap (with_trees old) (sym (alone_later l g some)) ∙ ap (λ h. with_trees old (with_last_alone h)) (sym first) ∙ e)
+    (ap (λ k. with_trees old (leaf k (with_last_alone g))) same
+    ∙ ap (with_trees old) (sym (alone_later l g some)) ∙ ap (λ h. with_trees old (with_last_alone h)) (sym first) ∙ e)
 
 -- ---- a name that stands for itself
 
@@ -68,4 +68,4 @@ pub itself_added : (old one two : Building) (x : List ℕ) (span s : Span) → s
     → two ≡ with_trees old (itself x span)
 itself_added old one two x span s is first second =
     all_added two (with_trees old (itself x span)) empty refl
-      (leaf_added one two _ _ empty second (leaf_added old one _ _ (leaf _ empty) first (rw is refl)))
+    (leaf_added one two _ _ empty second (leaf_added old one _ _ (leaf _ empty) first (rw is refl)))

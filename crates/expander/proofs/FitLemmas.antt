@@ -10,7 +10,8 @@ use Rattle.expander.proofs.PatternLemmas.{operator_begins, back-size}
 use Rattle.expander.specs.Bound.{behind_operator}
 use Rattle.expander.specs.FirstTrees.{◌>>=◌, ◌>>◌}
 use Rattle.expander.specs.ThinFit.{Bindings, fit_after, same_operator}
-use Rattle.expander.specs.ThinRules.{Pattern, puncts, pattern_of, pattern_after, operator_at, puncts_of, first_operator}
+use Rattle.expander.specs.ThinRules.{Pattern, puncts, pattern_of, pattern_after}
+use Rattle.expander.specs.Units.{operator_at, puncts_of, first_operator}
 use Rattle.expander.specs.declared.units.Operator.{Operator}
 
 pub operator_shorter : (steps more behind : Forest) (l : Leaf) (n : ℕ) → steps ≡ leaf l more → behind ≡ back n more → size behind < size steps
@@ -33,14 +34,16 @@ fits_from : (bs : Bindings) (op : Operator) (r : Pattern) (f g : Forest) (o : Op
     → (o >>= λ at. same_operator op at >> Some (back (puncts_of op) f)) ≡ Some g
     → fit_after bs r g ≡ (o >>= λ at. same_operator op at >> fit_after bs r (back (puncts_of op) f))
 fits_from bs op r f g None e = cc
-fits_from bs op r f g (Some at) e = elim (same_operator op at) as (λ b. (b >> Some (back (puncts_of op) f)) ≡ Some g → fit_after bs r g ≡ (b >> fit_after bs r (back (puncts_of op) f)))
+fits_from bs op r f g (Some at) e = elim (same_operator op at) as
+    (λ b. (b >> Some (back (puncts_of op) f)) ≡ Some g → fit_after bs r g ≡ (b >> fit_after bs r (back (puncts_of op) f)))
     [ true ↦ λ h. let same : g ≡ back (puncts_of op) f = cc in ap (fit_after bs r) same | false ↦ λ h. cc ] e
 
 fails_from : (bs : Bindings) (op : Operator) (r : Pattern) (f : Forest) (o : Option Operator)
     → (o >>= λ at. same_operator op at >> Some (back (puncts_of op) f)) ≡ None
     → (o >>= λ at. same_operator op at >> fit_after bs r (back (puncts_of op) f)) ≡ None
 fails_from bs op r f None e = refl
-fails_from bs op r f (Some at) e = elim (same_operator op at) as (λ b. (b >> Some (back (puncts_of op) f)) ≡ None → (b >> fit_after bs r (back (puncts_of op) f)) ≡ None)
+fails_from bs op r f (Some at) e = elim (same_operator op at) as
+    (λ b. (b >> Some (back (puncts_of op) f)) ≡ None → (b >> fit_after bs r (back (puncts_of op) f)) ≡ None)
     [ true ↦ λ h. cc | false ↦ λ h. refl ] e
 
 -- an operator of the pattern, with which the argument goes on

@@ -12,11 +12,12 @@ use Rattle.tt_data.specs.declared.leaf.Leaf.TheVariants as as_leaf
 use Rattle.tt_data.specs.declared.leaf.Punct.{Punct}
 use Rattle.tt_data.specs.declared.span.Span.{Span}
 use Rattle.expander.specs.declared.rules.Rule.{Rule}
-use Rattle.expander.specs.FirstTrees.{◌>>=◌, ◌>>◌, first_ident, first_punct, first_group, is_empty}
-use Rattle.expander.specs.Text.{same_text, same_kind, is_char, is_punct, with_last_alone}
+use Rattle.expander.specs.FirstTrees.{first_ident, first_punct, first_group, is_empty}
+use Rattle.expander.specs.Text.{same_text, same_kind, is_char, is_punct}
 use Rattle.expander.specs.Thin.{is_free_of}
-use Rattle.expander.specs.ThinFit.{Bindings, unbound, bound, fragment_size, same_operator, fit_after, fit, made, itself, value_of, substituted, rule_fit, or_later, first_fit}
-use Rattle.expander.specs.ThinRules.{first_operator, puncts_of, Pattern, done, variable, word, puncts, within, pattern_of, Template, filled, put, exactly, around, name_after, put_template, around_template, punct_template, template_after, template_of, parts, parts_from, rule_of, all_rules, rules_of}
+use Rattle.expander.specs.ThinFit.{Bindings, unbound, bound, fragment_size, same_operator, fit_after, fit, made, value_of, substituted, rule_fit, or_later, first_fit}
+use Rattle.expander.specs.ThinRules.{Pattern, done, variable, word, puncts, within, pattern_of, Template, filled, put, exactly, around, name_after, put_template, around_template, template_after, template_of, parts, parts_from, rule_of, all_rules, rules_of}
+use Rattle.expander.specs.Units.{first_operator, puncts_of}
 use Rattle.expander.proofs.FreeLemmas.{both, parted, free_both, free_front, free_back, free_last_alone}
 use Rattle.expander.proofs.PatternLemmas.{bind_some, test_some}
 
@@ -44,9 +45,10 @@ group_passed empty x e h = cc
 group_passed (leaf l rest) x e h = cc
 group_passed (group d inner rest) x e h =
     let is : (d, inner, rest) ≡ x = cc in
-    let p = parted (is_free_of "!" inner) (is_free_of "!" rest) h in
-    (ap (λ (y : Delimiter × Forest × Forest). is_free_of "!" y.1) (sym is) ∙ p.0,
-     ap (λ (y : Delimiter × Forest × Forest). is_free_of "!" y.2) (sym is) ∙ p.1)
+    let p = parted (is_free_of "!" inner) (is_free_of "!" rest) h in (
+      ap (λ (y : Delimiter × Forest × Forest). is_free_of "!" y.1) (sym is) ∙ p.0,
+      ap (λ (y : Delimiter × Forest × Forest). is_free_of "!" y.2) (sym is) ∙ p.1,
+    )
 
 -- ---- the rules of a body
 
@@ -58,9 +60,10 @@ free_parts_from empty (group d inner begun) h g =
 free_parts_from (leaf l rest) begun h g =
     let p = parted (not (is_punct "!" l)) (is_free_of "!" rest) h in
     elim (is_punct ";" l) as (λ b. All (λ p. is_free_of "!" p ≡ true)
-        (if b then begun ∷ parts_from rest empty else parts_from rest (joined begun (leaf l empty)))) [
-      true ↦ All-cons (λ p. is_free_of "!" p ≡ true) begun (parts_from rest empty) g (free_parts_from rest empty p.1 refl)
-    | false ↦ free_parts_from rest (joined begun (leaf l empty)) p.1 (free_both begun (leaf l empty) g (both (not (is_punct "!" l)) true p.0 refl)) ]
+    (if b then begun ∷ parts_from rest empty else parts_from rest (joined begun (leaf l empty)))) [
+      | true ↦ All-cons (λ p. is_free_of "!" p ≡ true) begun (parts_from rest empty) g (free_parts_from rest empty p.1 refl)
+      | false ↦ free_parts_from rest (joined begun (leaf l empty)) p.1 (free_both begun (leaf l empty) g (both (not (is_punct "!" l)) true p.0 refl))
+    ]
 free_parts_from (group d inner rest) begun h g =
     let p = parted (is_free_of "!" inner) (is_free_of "!" rest) h in
     free_parts_from rest (joined begun (group d inner empty)) p.1 (free_both begun (group d inner empty) g (both (is_free_of "!" inner) true p.0 refl))

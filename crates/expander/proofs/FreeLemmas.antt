@@ -1,5 +1,5 @@
 -- Trees without a `!`, or with none inside a group: what is taken of them has none either.
-use Rattle.std.proofs.Common.{◌≡◌, ℕ, ◌-◌, List, [], ◌∷◌, refl, sym, ap, ◌∙◌, Bool, true, false, if◌then◌else◌, nat_lt}
+use Rattle.std.proofs.Common.{◌≡◌, ℕ, ◌-◌, [], ◌∷◌, refl, sym, ap, ◌∙◌, Bool, true, false, if◌then◌else◌, nat_lt}
 use Rattle.std.proofs.lemmas.List.Elements.{All-nil, All-cons}
 use Rattle.std.specs.List.{All}
 use Rattle.std.specs.Prelude.{Option, Some, None, ◌&&◌, not, unwrap_or}
@@ -19,7 +19,7 @@ use Rattle.expander.specs.FirstTrees.{◌>>=◌, ◌>>◌, first_ident, first_pu
 use Rattle.expander.specs.Pieces.{cut, cut_from, ends_piece, separated, pieces}
 use Rattle.expander.specs.Text.{same_kind, is_word, is_char, is_punct, alone, with_last_alone}
 use Rattle.expander.specs.Thin.{is_free_of, groups_are_free_of}
-use Rattle.expander.proofs.CallLemmas.{IsBare, IsBehind, IsOfCrate, is_bare, is_behind, is_of_crate}
+use Rattle.expander.proofs.CallLemmas.{IsBare, IsBehind, is_bare, is_behind, is_of_crate}
 use Rattle.expander.proofs.PatternLemmas.{bind_some, test_some}
 
 -- ---- two tests
@@ -111,16 +111,18 @@ free_pieces_from empty (group d inner begun) h g =
 free_pieces_from (leaf l rest) begun h g =
     let more = groups_free_both begun (leaf l empty) g refl in
     elim (is_punct ";" l) as (λ b. All (λ p. groups_are_free_of "!" p ≡ true)
-        (if b then joined begun (leaf l empty) ∷ cut_from rest empty else cut_from rest (joined begun (leaf l empty)))) [
-      true ↦ All-cons (λ p. groups_are_free_of "!" p ≡ true) (joined begun (leaf l empty)) (cut_from rest empty) more (free_pieces_from rest empty h refl)
-    | false ↦ free_pieces_from rest (joined begun (leaf l empty)) h more ]
+    (if b then joined begun (leaf l empty) ∷ cut_from rest empty else cut_from rest (joined begun (leaf l empty)))) [
+      | true ↦ All-cons (λ p. groups_are_free_of "!" p ≡ true) (joined begun (leaf l empty)) (cut_from rest empty) more (free_pieces_from rest empty h refl)
+      | false ↦ free_pieces_from rest (joined begun (leaf l empty)) h more
+    ]
 free_pieces_from (group d inner rest) begun h g =
     let p = parted (is_free_of "!" inner) (groups_are_free_of "!" rest) h in
     let more = groups_free_both begun (group d inner empty) g (both (is_free_of "!" inner) true p.0 refl) in
     elim (ends_piece begun d) as (λ b. All (λ p. groups_are_free_of "!" p ≡ true)
-        (if b then joined begun (group d inner empty) ∷ cut_from rest empty else cut_from rest (joined begun (group d inner empty)))) [
-      true ↦ All-cons (λ p. groups_are_free_of "!" p ≡ true) (joined begun (group d inner empty)) (cut_from rest empty) more (free_pieces_from rest empty p.1 refl)
-    | false ↦ free_pieces_from rest (joined begun (group d inner empty)) p.1 more ]
+    (if b then joined begun (group d inner empty) ∷ cut_from rest empty else cut_from rest (joined begun (group d inner empty)))) [
+      | true ↦ All-cons (λ p. groups_are_free_of "!" p ≡ true) (joined begun (group d inner empty)) (cut_from rest empty) more (free_pieces_from rest empty p.1 refl)
+      | false ↦ free_pieces_from rest (joined begun (group d inner empty)) p.1 more
+    ]
 
 pub free_pieces : (f : Forest) → groups_are_free_of "!" f ≡ true → All (λ p. groups_are_free_of "!" p ≡ true) (cut f)
 free_pieces f h = free_pieces_from f empty h refl
@@ -155,9 +157,10 @@ group_left empty x e h = cc
 group_left (leaf l rest) x e h = cc
 group_left (group d inner rest) x e h =
     let is : (d, inner, rest) ≡ x = cc in
-    let p = parted (is_free_of "!" inner) (groups_are_free_of "!" rest) h in
-    (ap (λ (y : Delimiter × Forest × Forest). is_free_of "!" y.1) (sym is) ∙ p.0,
-     ap (λ (y : Delimiter × Forest × Forest). groups_are_free_of "!" y.2) (sym is) ∙ p.1)
+    let p = parted (is_free_of "!" inner) (groups_are_free_of "!" rest) h in (
+      ap (λ (y : Delimiter × Forest × Forest). is_free_of "!" y.1) (sym is) ∙ p.0,
+      ap (λ (y : Delimiter × Forest × Forest). groups_are_free_of "!" y.2) (sym is) ∙ p.1,
+    )
 
 -- ---- what follows the attributes and a `pub`
 

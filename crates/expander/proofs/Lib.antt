@@ -1,3 +1,4 @@
+-- lemmas by subject; the worked rows
 mod Rows
 mod AttributeLemmas
 mod CuttingLemmas
@@ -27,3 +28,5 @@ mod TurnLemmas
 mod ExpandLemmas
 pub mod FreeLemmas
 pub mod FreeFitLemmas
+mod PieceLemmas
+mod ReplyLemmas

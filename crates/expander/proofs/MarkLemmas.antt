@@ -1,34 +1,29 @@
 -- Marked calls, met from the left.
-use Rattle.std.proofs.Common.{◌≡◌, ℕ, List, [], ◌∷◌, ◌++◌, map, refl, sym, ap, ◌∙◌, append_assoc, Bool, true, false, if◌then◌else◌}
-use Rattle.std.specs.Prelude.{Option, Some, None, ◌&&◌, not}
+use Rattle.std.proofs.Common.{◌≡◌, ℕ, List, [], ◌∷◌, ◌++◌, refl, sym, ap, ◌∙◌, append_assoc, Bool, true, false, if◌then◌else◌}
+use Rattle.std.specs.Prelude.{Option, ◌&&◌, not}
 use Rattle.std.proofs.lemmas.List.{map-append}
-use Rattle.tt_data.specs.Forest.{Forest, empty, leaf, group, joined}
+use Rattle.tt_data.specs.Forest.{Forest, empty, leaf, group}
 use Rattle.tt_data.specs.Walk.{Step, at_leaf, opens, closes, walk}
 use Rattle.tt_data.specs.declared.delimiter.Delimiter.{Delimiter}
-use Rattle.tt_data.specs.declared.leaf.Ident.{Ident}
 use Rattle.tt_data.specs.declared.leaf.Leaf.{Leaf}
 use Rattle.tt_data.specs.declared.leaf.Leaf.TheVariants as as_leaf
-use Rattle.tt_data.specs.declared.leaf.Punct.{Punct}
 use Rattle.tt_data.specs.declared.span.Span.{Span}
-use Rattle.expander.specs.declared.calls.Call.{Call}
-use Rattle.expander.specs.CallSteps.{bare_call, call_behind_colons, crate_call, call_at}
-use Rattle.expander.specs.Calls.{Path, bare, from_crate, other, Marked, none, token, inside, call, is_colons, is_dollar_crate, is_bang_group, mark_leaf, marked, in_front, unmarked}
-use Rattle.expander.specs.Expansion.{World, Outcome, Deeper, placed, just, followed_by, grouped, search_calls}
-use Rattle.expander.specs.FirstTrees.{◌>>◌, ◌>>=◌}
-use Rattle.expander.specs.Text.{is_char, is_visible, is_punct}
+use Rattle.expander.specs.Calls.{bare, from_crate, other, Marked, none, token, inside, call, is_colons, is_dollar_crate, is_bang_group, mark_leaf, marked, unmarked}
+use Rattle.expander.specs.Expansion.{World, Outcome, Deeper, just, followed_by, grouped, search_calls}
+use Rattle.expander.specs.Text.{is_char}
 use Rattle.expander.specs.Thin.{is_free_of}
 
 -- a leaf in front is there again when the marks are taken off
 unmark_leaf : (l : Leaf) (m : Marked) → unmarked (mark_leaf l m) ≡ leaf l (unmarked m)
 unmark_leaf (as_leaf.Ident name) (token (as_leaf.Punct bang) (inside b a r)) =
     elim (is_bang_group bang b) as (λ t. unmarked (if t then call bare name bang b a r else token (as_leaf.Ident name) (token (as_leaf.Punct bang) (inside b a r)))
-        ≡ leaf (as_leaf.Ident name) (leaf (as_leaf.Punct bang) (group b (unmarked a) (unmarked r)))) [ true ↦ refl | false ↦ refl ]
+    ≡ leaf (as_leaf.Ident name) (leaf (as_leaf.Punct bang) (group b (unmarked a) (unmarked r)))) [ true ↦ refl | false ↦ refl ]
 unmark_leaf (as_leaf.Punct first) (token (as_leaf.Punct second) (call bare name bang b a r)) =
     elim (is_colons first second) as (λ t. unmarked (if t then call (other first second) name bang b a r else token (as_leaf.Punct first) (token (as_leaf.Punct second) (call bare name bang b a r)))
-        ≡ leaf (as_leaf.Punct first) (leaf (as_leaf.Punct second) (leaf (as_leaf.Ident name) (leaf (as_leaf.Punct bang) (group b (unmarked a) (unmarked r)))))) [ true ↦ refl | false ↦ refl ]
+    ≡ leaf (as_leaf.Punct first) (leaf (as_leaf.Punct second) (leaf (as_leaf.Ident name) (leaf (as_leaf.Punct bang) (group b (unmarked a) (unmarked r)))))) [ true ↦ refl | false ↦ refl ]
 unmark_leaf (as_leaf.Ident crate) (call (other first second) name bang b a r) =
     elim (is_dollar_crate crate) as (λ t. unmarked (if t then call (from_crate crate first second) name bang b a r else token (as_leaf.Ident crate) (call (other first second) name bang b a r))
-        ≡ leaf (as_leaf.Ident crate) (leaf (as_leaf.Punct first) (leaf (as_leaf.Punct second) (leaf (as_leaf.Ident name) (leaf (as_leaf.Punct bang) (group b (unmarked a) (unmarked r))))))) [ true ↦ refl | false ↦ refl ]
+    ≡ leaf (as_leaf.Ident crate) (leaf (as_leaf.Punct first) (leaf (as_leaf.Punct second) (leaf (as_leaf.Ident name) (leaf (as_leaf.Punct bang) (group b (unmarked a) (unmarked r))))))) [ true ↦ refl | false ↦ refl ]
 unmark_leaf l m = refl
 
 -- a forest's marks taken off give it back
@@ -85,7 +80,7 @@ module _ {D : Type 0} (world : World D) (scope : List ℕ → Option D) (deeper 
   pub grouped_just : (d : Delimiter) (xs : List Step) → grouped outer d (just {D = D} outer xs) ≡ just outer (opens d.kind d.open_span ∷ (xs ++ (closes d.kind d.close_span ∷ [])))
   grouped_just d xs =
       ap (λ s. record { steps = record { step = opens d.kind d.open_span; outer = outer } ∷ s; faults = []; finds = [] })
-        (sym (map-append (λ s. record { step = s; outer = outer }) xs (closes d.kind d.close_span ∷ [])))
+      (sym (map-append (λ s. record { step = s; outer = outer }) xs (closes d.kind d.close_span ∷ [])))
 
   plain_search : (f : Forest) → search_calls world scope deeper outer (plain_marks f) ≡ just outer (walk f)
   unfolding plain_marks

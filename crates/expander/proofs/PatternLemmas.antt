@@ -10,7 +10,8 @@ use Rattle.expander.specs.declared.rules.FragmentKind.{FragmentKind}
 use Rattle.expander.specs.declared.units.Operator.TheVariants.{One, Two, Three}
 use Rattle.expander.specs.FirstTrees.{◌>>=◌, ◌>>◌}
 use Rattle.expander.specs.Text.{is_char}
-use Rattle.expander.specs.ThinRules.{operator_at, puncts_of, is_pair, is_triple, name_of, kind_of, variable_after, name_after, pattern_after, variable_pattern, variable, puncts, template_after, put_template, put, exactly}
+use Rattle.expander.specs.ThinRules.{name_of, kind_of, variable_after, name_after, pattern_after, variable_pattern, variable, puncts, template_after, put_template, put, exactly}
+use Rattle.expander.specs.Units.{operator_at, puncts_of, is_pair, is_triple}
 
 -- ---- steps of a reading
 

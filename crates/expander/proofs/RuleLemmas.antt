@@ -11,7 +11,8 @@ use Rattle.expander.specs.declared.units.Operator.{Operator}
 use Rattle.expander.specs.declared.rules.Rule.{Rule}
 use Rattle.expander.specs.FirstTrees.{first_punct, first_group, is_empty}
 use Rattle.expander.specs.Text.{is_char}
-use Rattle.expander.specs.ThinRules.{operator_at, puncts_of, puncts, pattern_of, template_of, parts, rule_of, all_rules, rules_of, IsRule}
+use Rattle.expander.specs.ThinRules.{puncts, pattern_of, template_of, parts, rule_of, all_rules, rules_of, IsRule}
+use Rattle.expander.specs.Units.{operator_at, puncts_of}
 use Rattle.expander.proofs.PatternLemmas.{bind_some, test_some, back-size, operator_begins}
 
 mapped_is_some : {A B : Type 0} (f : A → B) (o : Option A) → is_some (option_map f o) ≡ is_some o

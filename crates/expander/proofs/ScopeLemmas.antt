@@ -1,11 +1,10 @@
 -- What names find in the table of definitions.
-use Rattle.std.proofs.Common.{◌≡◌, ℕ, ◌+◌, ◌<◌, List, [], ◌∷◌, ◌++◌, length, refl, sym, ap, ◌∙◌, arith, Bool, true, false, if◌then◌else◌}
+use Rattle.std.proofs.Common.{◌≡◌, ℕ, ◌<◌, List, [], ◌∷◌, ◌++◌, length, refl, ap, Bool, true, false, if◌then◌else◌}
 use Rattle.std.proofs.Math.Path.{fun_ext}
-use Rattle.std.specs.Prelude.{Option, Some, None, option_map, option_and_then, slice_get}
+use Rattle.std.specs.Prelude.{Option, Some, None, option_map}
 use Rattle.expander.specs.Names.{index_of, IsWithin}
 use Rattle.expander.specs.ScopeTable.{known_at, definitions_of, defined}
 use Rattle.expander.specs.Text.{same_text}
-use Rattle.expander.specs.declared.definitions.Definition.{Definition}
 use Rattle.expander.specs.declared.scope.Known.{Known}
 use Rattle.expander.specs.declared.scope.Scope as table
 use Rattle.expander.proofs.BindingLemmas.{get_at, get_before}
@@ -16,7 +15,7 @@ scope_none s none = fun_ext (λ name. ap (λ o. option_map (λ (k : Known). k.de
 
 defined_at : (ks : List Known) (k : Known) (o : Option ℕ) (b : Bool) → ((i : ℕ) → o ≡ Some i → i < length ks)
     → option_map (λ (k : Known). k.definition) (known_at (ks ++ k ∷ []) (if b then Some (length ks) else o))
-      ≡ (if b then Some k.definition else option_map (λ (k : Known). k.definition) (known_at ks o))
+    ≡ (if b then Some k.definition else option_map (λ (k : Known). k.definition) (known_at ks o))
 defined_at ks k o true within = ap (option_map (λ (k : Known). k.definition)) (get_at ks k)
 defined_at ks k None false within = refl
 defined_at ks k (Some i) false within = ap (option_map (λ (k : Known). k.definition)) (get_before ks k i (within i refl))

@@ -29,23 +29,29 @@ pub name_put : (bs : Bindings) (old out end : Building) (rest more behind : Fore
 name_put bs old out end rest more behind p x taken first dollar name is added (u, is_some, gives) =
     let begun : option_map (put x p.span) (template_of behind) ≡ Some u =
     sym (name_begins p more behind x (eq-eqb p.char 36 dollar) name) ∙ ap template_of (sym first) ∙ is_some in
-    let v = map_some (template_of behind) (put x p.span) u begun in
-    (v.0, v.1, ap (λ b. with_trees b (substituted bs v.0)) (added ∙ ap (λ o. with_trees old (value_of x p.span o)) (sym is))
-      ∙ with_more old (value_of x p.span (bs x)) (substituted bs v.0) ∙ ap (λ w. with_trees old (substituted bs w)) v.2 ∙ gives)
+    let v = map_some (template_of behind) (put x p.span) u begun in (
+      v.0,
+      v.1,
+      ap (λ b. with_trees b (substituted bs v.0)) (added ∙ ap (λ o. with_trees old (value_of x p.span o)) (sym is))
+          ∙ with_more old (value_of x p.span (bs x)) (substituted bs v.0) ∙ ap (λ w. with_trees old (substituted bs w)) v.2 ∙ gives,
+    )
 
 -- a leaf that stands for itself
 leaf_put : (bs : Bindings) (old out end : Building) (more : Forest) (l m : Leaf) (u : Template) → option_map (exactly l) (template_of more) ≡ Some u
     → m ≡ leaf_with made l → out ≡ pushed old m → with_trees old (substituted bs u) ≡ end → Goes bs out more end
 leaf_put bs old out end more l m u begun is added e =
-    let v = map_some (template_of more) (exactly l) u begun in
-    (v.0, v.1, leaf_added old out end m (substituted bs v.0) added
-      (ap (λ k. with_trees old (leaf k (substituted bs v.0))) is ∙ ap (λ w. with_trees old (substituted bs w)) v.2 ∙ e))
+    let v = map_some (template_of more) (exactly l) u begun in (
+      v.0,
+      v.1,
+      leaf_added old out end m (substituted bs v.0) added
+          (ap (λ k. with_trees old (leaf k (substituted bs v.0))) is ∙ ap (λ w. with_trees old (substituted bs w)) v.2 ∙ e),
+    )
 
 pub punct_put : (bs : Bindings) (old out end : Building) (rest more : Forest) (p : Punct) (m : Leaf) → rest ≡ leaf (as_leaf.Punct p) more
     → (p.char ≡ 36 → ⊥) → m ≡ leaf_with made (as_leaf.Punct p) → out ≡ pushed old m → Goes bs old rest end → Goes bs out more end
 punct_put bs old out end rest more p m first plain is added (u, is_some, gives) =
     leaf_put bs old out end more (as_leaf.Punct p) m u
-      (sym (punct_begins p more (ne_eqb p.char 36 plain)) ∙ ap template_of (sym first) ∙ is_some) is added gives
+    (sym (punct_begins p more (ne_eqb p.char 36 plain)) ∙ ap template_of (sym first) ∙ is_some) is added gives
 
 pub word_put : (bs : Bindings) (old out end : Building) (rest more : Forest) (i : Ident) (m : Leaf) → rest ≡ leaf (as_leaf.Ident i) more
     → m ≡ leaf_with made (as_leaf.Ident i) → out ≡ pushed old m → Goes bs old rest end → Goes bs out more end
@@ -65,11 +71,13 @@ pub group_put : (bs : Bindings) (old begun inside out end : Building) (rest more
     → ((v : Template) → template_of inner ≡ Some v → inside ≡ with_trees begun (substituted bs v)) → out ≡ closed inside stop
     → Goes bs old rest end → Goes bs out more end
 group_put bs old begun inside out end rest more inner d start stop first is_start is_stop at_open in_group at_close (u, is_some, gives) =
-    let parts = group_parts d (template_of inner) (template_of more) u (ap template_of (sym first) ∙ is_some) in
-    (parts.1, parts.3,
-     group_added old begun inside out end (delimiter_with made d) (substituted bs parts.0) (substituted bs parts.1)
-       (at_open ∙ ap (opened old d.kind) is_start) (in_group parts.0 parts.2) (at_close ∙ ap (closed inside) is_stop)
-       (ap (λ w. with_trees old (substituted bs w)) parts.4 ∙ gives))
+    let parts = group_parts d (template_of inner) (template_of more) u (ap template_of (sym first) ∙ is_some) in (
+      parts.1,
+      parts.3,
+      group_added old begun inside out end (delimiter_with made d) (substituted bs parts.0) (substituted bs parts.1)
+          (at_open ∙ ap (opened old d.kind) is_start) (in_group parts.0 parts.2) (at_close ∙ ap (closed inside) is_stop)
+          (ap (λ w. with_trees old (substituted bs w)) parts.4 ∙ gives),
+    )
 
 -- nothing is left of the template
 pub template_done : (bs : Bindings) (out end : Building) (rest : Forest) → rest ≡ empty → Goes bs out rest end → out ≡ end

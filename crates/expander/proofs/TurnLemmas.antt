@@ -1,13 +1,12 @@
 -- What one turn of a piece's expansion adds to the output.
-use Rattle.std.proofs.Common.{◌≡◌, ◌≢◌, ℕ, ◌+◌, ◌<◌, zero, suc, List, [], ◌∷◌, ◌++◌, map, refl, sym, ap, ◌∙◌, subst, append_assoc, append-nil, arith, Bool, true, false, inl, inr}
+use Rattle.std.proofs.Common.{◌≡◌, ◌≢◌, ℕ, ◌<◌, List, [], ◌∷◌, ◌++◌, refl, sym, ap, ◌∙◌, append_assoc, append-nil, arith, Bool, true, false, inl, inr}
 use Rattle.std.specs.Prelude.{Option, Some, None, ◌&&◌, ◌⊎◌}
 use Rattle.std.proofs.lemmas.List.{map-append}
 use Rattle.tt_data.specs.Forest.{Forest, empty, leaf, group, joined, size}
-use Rattle.tt_data.specs.Walk.{Step, at_leaf, opens, closes, walk}
+use Rattle.tt_data.specs.Walk.{at_leaf, opens, closes, walk}
 use Rattle.tt_data.proofs.ForestLemmas.{walk-joined}
 use Rattle.tt_data.specs.declared.delimiter.Delimiter.{Delimiter}
 use Rattle.tt_data.specs.declared.leaf.Ident.{Ident}
-use Rattle.tt_data.specs.declared.leaf.Leaf.{Leaf}
 use Rattle.tt_data.specs.declared.leaf.Leaf.TheVariants as as_leaf
 use Rattle.tt_data.specs.declared.leaf.Punct.{Punct}
 use Rattle.tt_data.specs.declared.span.Span.{Span}
@@ -17,15 +16,15 @@ use Rattle.expander.specs.declared.faults.Fault.{Fault}
 use Rattle.expander.specs.declared.faults.FaultKind.{FaultKind}
 use Rattle.expander.specs.declared.output.PlacedStep as kept
 use Rattle.expander.specs.CallSteps.{bare_call, call_behind_colons, crate_call, call_at}
-use Rattle.expander.specs.Calls.{Path, bare, from_crate, other, Marked, none, token, inside, call, marked, unmarked, in_front}
+use Rattle.expander.specs.Calls.{Path, bare, from_crate, other, call, marked, in_front}
 use Rattle.expander.specs.Definitions.{or_else}
-use Rattle.expander.specs.Expansion.{World, PlacedStep, Outcome, Deeper, CallSite, placed, just, followed_by, grouped, found, stays, looked_up, unbroken, at_call, before_group, whole_call, search_calls}
+use Rattle.expander.specs.Expansion.{Outcome, CallSite, placed, just, followed_by, grouped, found, looked_up, unbroken, at_call, before_group, whole_call, search_calls}
 use Rattle.expander.specs.Faults.{fault_at}
 use Rattle.expander.specs.OutputSteps.{steps_of_output}
 use Rattle.expander.specs.Thin.{thin_world, is_free_of, groups_are_free_of}
-use Rattle.expander.specs.Turns.{deeper_at, searched, told, Adds, Turn, Tries, AreFree, behind_tree, behind_kept}
+use Rattle.expander.specs.Turns.{deeper_at, searched, told, Adds, Turn, Tries, behind_kept}
 use Rattle.expander.proofs.CallLemmas.{IsBare, IsBehind, IsOfCrate, is_bare, is_behind, is_of_crate, marked_bare, marked_behind, marked_of_crate, no_call}
-use Rattle.expander.proofs.CuttingLemmas.{joined-assoc, joined-cancel, size-joined}
+use Rattle.expander.proofs.CuttingLemmas.{joined-cancel, size-joined}
 use Rattle.expander.proofs.MarkLemmas.{unmarked-marked, free_search, just_more, grouped_just}
 
 -- ---- how the marks of a call begin
@@ -106,7 +105,7 @@ module _ (scope : List ℕ → Option Definition) (depth : ℕ) where
 
   kept_call_is : (path : Path) (name : Ident) (bang : Punct) (d : Delimiter) (a : Forest) → is_free_of "!" a ≡ true
       → followed_by (just None (walk (before_group path name bang))) (grouped None d (search_calls thin_world scope (deeper_at scope depth) None (marked a)))
-        ≡ just {D = Definition} None (walk (whole_call path name bang d a))
+      ≡ just {D = Definition} None (walk (whole_call path name bang d a))
   kept_call_is path name bang d a free =
       ap (λ o. followed_by (just None (walk (before_group path name bang))) (grouped None d o)) (free_search thin_world scope (deeper_at scope depth) None a free)
       ∙ ap (followed_by (just None (walk (before_group path name bang)))) (grouped_just thin_world scope (deeper_at scope depth) None d (walk a))
@@ -134,19 +133,19 @@ module _ (scope : List ℕ → Option Definition) (depth : ℕ) where
   -- the expansion of trees that begin with a call, its argument free of calls
   call_search : (f : Forest) (c : Call) (b : Bool) (k : IsCall f c b) → is_free_of "!" c.argument ≡ true
       → searched scope depth f ≡ followed_by
-          (at_call thin_world scope (deeper_at scope depth) None k.path c.name (site_of k.path c.name k.bang k.brackets c.argument)
-            (just None (walk (whole_call k.path c.name k.bang k.brackets c.argument))))
-          (searched scope depth c.rest)
+      (at_call thin_world scope (deeper_at scope depth) None k.path c.name (site_of k.path c.name k.bang k.brackets c.argument)
+      (just None (walk (whole_call k.path c.name k.bang k.brackets c.argument))))
+      (searched scope depth c.rest)
   unfolding site_of
   call_search f c b k free =
       ap (search_calls thin_world scope (deeper_at scope depth) None) k.marks
       ∙ ap (λ a. followed_by
-          (at_call thin_world scope (deeper_at scope depth) None k.path c.name (record { at = c.name.span; whole = whole_call k.path c.name k.bang k.brackets a; argument = a })
-            (followed_by (just None (walk (before_group k.path c.name k.bang))) (grouped None k.brackets (search_calls thin_world scope (deeper_at scope depth) None (marked c.argument)))))
-          (searched scope depth c.rest)) (unmarked-marked c.argument)
+      (at_call thin_world scope (deeper_at scope depth) None k.path c.name (record { at = c.name.span; whole = whole_call k.path c.name k.bang k.brackets a; argument = a })
+      (followed_by (just None (walk (before_group k.path c.name k.bang))) (grouped None k.brackets (search_calls thin_world scope (deeper_at scope depth) None (marked c.argument)))))
+      (searched scope depth c.rest)) (unmarked-marked c.argument)
       ∙ ap (λ o. followed_by
-          (at_call thin_world scope (deeper_at scope depth) None k.path c.name (record { at = c.name.span; whole = whole_call k.path c.name k.bang k.brackets c.argument; argument = c.argument }) o)
-          (searched scope depth c.rest)) (kept_call_is k.path c.name k.bang k.brackets c.argument free)
+      (at_call thin_world scope (deeper_at scope depth) None k.path c.name (record { at = c.name.span; whole = whole_call k.path c.name k.bang k.brackets c.argument; argument = c.argument }) o)
+      (searched scope depth c.rest)) (kept_call_is k.path c.name k.bang k.brackets c.argument free)
 
   -- the trees of a call, passed
   passed_is : (f : Forest) (c : Call) (b : Bool) (k : IsCall f c b) (passed : Forest) → f ≡ joined passed c.rest
@@ -173,7 +172,7 @@ module _ (scope : List ℕ → Option Definition) (depth : ℕ) where
       record {
         outcome = found c.name.sym (scope c.name.sym) (just None (walk w));
         is = call_search f c true k free
-          ∙ ap (λ o. followed_by o (searched scope depth c.rest)) (found_call k.path c.name (site_of k.path c.name k.bang k.brackets c.argument) (just None (walk w)) k.is_so
+            ∙ ap (λ o. followed_by o (searched scope depth c.rest)) (found_call k.path c.name (site_of k.path c.name k.bang k.brackets c.argument) (just None (walk w)) k.is_so
             ∙ ap (λ d. found c.name.sym (scope c.name.sym) (looked_up thin_world d (deeper_at scope depth) None (site_of k.path c.name k.bang k.brackets c.argument) (just None (walk w)))) nothing);
         adds = adds_found old_steps new_steps faults faults _ _ _ (adds_just old_steps new_steps faults w (steps w k.whole));
         free = rest_free;
@@ -183,7 +182,7 @@ module _ (scope : List ℕ → Option Definition) (depth : ℕ) where
   pub known_turn : (f : Forest) (c : Call) (d : Definition) → call_at f ≡ Some c → is_free_of "!" c.argument ≡ true → groups_are_free_of "!" c.rest ≡ true
       → scope c.name.sym ≡ Some d → (old_steps new_steps : List kept.PlacedStep) (old_faults new_faults : List Fault)
       → ((w : Forest) → f ≡ joined w c.rest → Adds old_steps new_steps old_faults new_faults
-          (unbroken thin_world d (thin_world.broken d) (deeper_at scope depth) None (record { at = c.name.span; whole = w; argument = c.argument })))
+      (unbroken thin_world d (thin_world.broken d) (deeper_at scope depth) None (record { at = c.name.span; whole = w; argument = c.argument })))
       → Turn scope depth old_steps new_steps old_faults new_faults f c.rest
   unfolding site_of
   known_turn f c d e free rest_free finds old_steps new_steps old_faults new_faults adds =
@@ -193,7 +192,7 @@ module _ (scope : List ℕ → Option Definition) (depth : ℕ) where
       record {
         outcome = found c.name.sym (scope c.name.sym) (unbroken thin_world d (thin_world.broken d) (deeper_at scope depth) None site);
         is = call_search f c true k free
-          ∙ ap (λ o. followed_by o (searched scope depth c.rest)) (found_call k.path c.name site (just None (walk w)) k.is_so
+            ∙ ap (λ o. followed_by o (searched scope depth c.rest)) (found_call k.path c.name site (just None (walk w)) k.is_so
             ∙ ap (λ x. found c.name.sym (scope c.name.sym) (looked_up thin_world x (deeper_at scope depth) None site (just None (walk w)))) finds);
         adds = adds_found old_steps new_steps old_faults new_faults _ _ _ (adds w k.whole);
         free = rest_free;
@@ -213,7 +212,7 @@ module _ (scope : List ℕ → Option Definition) (depth : ℕ) where
       record {
         outcome = just None (walk w);
         is = call_search f c false k fr.0
-          ∙ ap (λ o. followed_by o (searched scope depth c.rest)) (other_call k.path c.name (site_of k.path c.name k.bang k.brackets c.argument) (just None (walk w)) k.is_so);
+            ∙ ap (λ o. followed_by o (searched scope depth c.rest)) (other_call k.path c.name (site_of k.path c.name k.bang k.brackets c.argument) (just None (walk w)) k.is_so);
         adds = adds_just old_steps new_steps faults w (steps w k.whole);
         free = fr.1;
       }
@@ -231,7 +230,7 @@ module _ (scope : List ℕ → Option Definition) (depth : ℕ) where
       record {
         outcome = just None (walk (group d a empty));
         is = ap (λ o. followed_by (grouped None d o) (searched scope depth rest)) (free_search thin_world scope (deeper_at scope depth) None a fr.0)
-          ∙ ap (λ o. followed_by o (searched scope depth rest)) (grouped_just thin_world scope (deeper_at scope depth) None d (walk a));
+            ∙ ap (λ o. followed_by o (searched scope depth rest)) (grouped_just thin_world scope (deeper_at scope depth) None d (walk a));
         adds = adds_just old_steps new_steps faults (group d a empty) (steps (group d a empty) refl);
         free = fr.1;
       }
@@ -296,12 +295,12 @@ pub left_more : (scope : List ℕ → Option Definition) (depth : ℕ) (piece re
     → Left scope depth piece more old_steps new_steps old_faults new_faults
 left_more scope depth piece rest more old_steps now_steps new_steps old_faults now_faults new_faults l t = record {
   steps = ap (λ xs. xs ++ (searched scope depth more).steps) t.adds.steps
-    ∙ append_assoc (steps_of_output now_steps) t.outcome.steps (searched scope depth more).steps
-    ∙ ap (λ (o : Outcome Definition). steps_of_output now_steps ++ o.steps) (sym t.is) ∙ l.steps;
+      ∙ append_assoc (steps_of_output now_steps) t.outcome.steps (searched scope depth more).steps
+      ∙ ap (λ (o : Outcome Definition). steps_of_output now_steps ++ o.steps) (sym t.is) ∙ l.steps;
   faults = ap (λ xs. xs ++ told (searched scope depth more).faults) t.adds.faults
-    ∙ append_assoc now_faults (told t.outcome.faults) (told (searched scope depth more).faults)
-    ∙ ap (λ xs. now_faults ++ xs) (sym (told-append t.outcome.faults (searched scope depth more).faults))
-    ∙ ap (λ (o : Outcome Definition). now_faults ++ told o.faults) (sym t.is) ∙ l.faults;
+      ∙ append_assoc now_faults (told t.outcome.faults) (told (searched scope depth more).faults)
+      ∙ ap (λ xs. now_faults ++ xs) (sym (told-append t.outcome.faults (searched scope depth more).faults))
+      ∙ ap (λ (o : Outcome Definition). now_faults ++ told o.faults) (sym t.is) ∙ l.faults;
   free = t.free;
 }
 

@@ -8,7 +8,8 @@ use Rattle.expander.specs.declared.units.Operator.{Operator}
 use Rattle.expander.specs.FirstTrees.{◌>>=◌, ◌>>◌}
 use Rattle.expander.specs.Names.{index_of}
 use Rattle.expander.specs.ThinFit.{Bindings, fragment_size, same_operator, fit_after}
-use Rattle.expander.specs.ThinRules.{Pattern, first_operator, puncts_of}
+use Rattle.expander.specs.ThinRules.{Pattern}
+use Rattle.expander.specs.Units.{first_operator, puncts_of}
 
 -- the trees that each name is bound to
 unfoldable pub bindings_of : table.Bindings → Bindings

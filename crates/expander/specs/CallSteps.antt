@@ -1,5 +1,5 @@
 -- A call as it is met from the left.
-use Rattle.std.specs.Prelude.{Bool, Option, Some, None, codes}
+use Rattle.std.specs.Prelude.{Option, Some}
 use Rattle.tt_data.specs.Forest.{Forest}
 use Rattle.expander.specs.declared.calls.Call.{Call}
 use Rattle.expander.specs.Calls.{is_colons, is_dollar_crate}

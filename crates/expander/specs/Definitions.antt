@@ -1,9 +1,8 @@
 -- Definition pieces, and what a name finds. (The Rust Reference, "Macros By Example": syntax and textual scope.)
-use Rattle.std.specs.Prelude.{ℕ, Bool, true, false, ◌&&◌, ◌||◌, List, [], ◌∷◌, if◌then◌else◌, Option, Some, None, find, unwrap_or, is_some}
-use Rattle.tt_data.specs.Forest.{Forest, empty, leaf, group}
+use Rattle.std.specs.Prelude.{ℕ, Bool, true, false, ◌&&◌, ◌||◌, List, if◌then◌else◌, Option, Some, None, find, unwrap_or, is_some}
+use Rattle.tt_data.specs.Forest.{Forest, leaf, group}
 use Rattle.tt_data.specs.declared.delimiter.Delimiter.{Delimiter}
 use Rattle.tt_data.specs.declared.delimiter.DelimiterKind.TheVariants.{Parenthesis, Brace, Bracket}
-use Rattle.tt_data.specs.declared.leaf.Ident.{Ident}
 use Rattle.tt_data.specs.declared.leaf.Leaf.TheVariants as as_leaf
 use Rattle.expander.specs.declared.definitions.Definition.{Definition}
 use Rattle.expander.specs.FirstTrees.{◌>>=◌, ◌>>◌, first_ident, first_punct, first_group, is_empty}

@@ -9,7 +9,7 @@ use Rattle.tt_data.specs.declared.leaf.Punct.{Punct}
 use Rattle.tt_data.specs.declared.span.Span.{Span}
 use Rattle.expander.specs.declared.faults.FaultKind.{FaultKind}
 use Rattle.expander.specs.declared.faults.FaultKind.TheVariants.{CannotExpand, BrokenDefinition, RecursionLimit}
-use Rattle.expander.specs.Calls.{Path, bare, from_crate, other, Marked, none, token, inside, call, marked, unmarked, in_front}
+use Rattle.expander.specs.Calls.{Path, other, Marked, none, token, inside, call, marked, unmarked, in_front}
 
 -- a step of the output, with the span of the name of the outermost call that was expanded to give it, or none
 pub record PlacedStep : Type 0 where
@@ -108,10 +108,10 @@ search_calls world scope deeper outer (inside d a rest) =
     followed_by (grouped outer d (search_calls world scope deeper outer a)) (search_calls world scope deeper outer rest)
 search_calls world scope deeper outer (call path name bang d a rest) =
     followed_by
-      (at_call world scope deeper outer path name
-        (record { at = name.span; whole = whole_call path name bang d (unmarked a); argument = unmarked a })
-        (followed_by (just outer (walk (before_group path name bang))) (grouped outer d (search_calls world scope deeper outer a))))
-      (search_calls world scope deeper outer rest)
+    (at_call world scope deeper outer path name
+    (record { at = name.span; whole = whole_call path name bang d (unmarked a); argument = unmarked a })
+    (followed_by (just outer (walk (before_group path name bang))) (grouped outer d (search_calls world scope deeper outer a))))
+    (search_calls world scope deeper outer rest)
 
 -- the expansion of a forest with n levels left, placed at the name of a call that was expanded around it, or at none
 abbrev pub expansion : {D : Type 0} → World D → (List ℕ → Option D) → ℕ → Option Span → Forest → Outcome D

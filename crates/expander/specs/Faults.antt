@@ -1,5 +1,5 @@
 -- The faults of a text: their places and their order. (Of this project.)
-use Rattle.std.specs.Prelude.{ℕ, List, [], ◌∷◌, Bool, true, false, ◌&&◌, ◌||◌, nat_eq, nat_lt, if◌then◌else◌, unwrap_or, map, filter}
+use Rattle.std.specs.Prelude.{ℕ, List, [], ◌∷◌, Bool, false, ◌&&◌, ◌||◌, nat_eq, nat_lt, if◌then◌else◌, unwrap_or, map, filter}
 use Rattle.tt_data.specs.Walk.{Step, at_leaf, opens, closes}
 use Rattle.tt_data.specs.declared.leaf.Leaf.TheVariants as as_leaf
 use Rattle.tt_data.specs.declared.span.Span.{Span}
@@ -31,7 +31,7 @@ is_definition_word _ = false
 abbrev pub nested : List PrintedToken → List Fault
 nested tokens =
     map (λ (t : PrintedToken). fault_at NestedDefinition (place t.token))
-      (filter (λ (t : PrintedToken). is_definition_word t.token.step) tokens)
+    (filter (λ (t : PrintedToken). is_definition_word t.token.step) tokens)
 
 abbrev pub unspellable : List PlacedStep → List Fault
 unspellable steps = map (λ s. fault_at Unspellable (place s)) steps

@@ -1,3 +1,4 @@
+-- what a text means, in reading order
 pub mod Text
 pub mod FirstTrees
 pub mod Reading
@@ -8,23 +9,29 @@ pub mod Expansion
 pub mod Printing
 pub mod Faults
 pub mod Meaning
+pub mod Count
+-- the thin layers, and the texts that they are enough for
 pub mod ThinReading
+pub mod Units
 pub mod ThinRules
 pub mod ThinFit
 pub mod Thin
-pub mod Count
-pub mod Cutting
+-- what the contracts of `Session`, `Watched` and `run` rest on
 pub mod State
 pub mod Expanded
 pub mod Replies
 pub mod Watch
 pub mod Runs
-pub mod Steps
-pub mod CallSteps
+-- what the functions inside the crate promise each other
 pub mod ReadSteps
-pub mod OutputSteps
+pub mod Cutting
+pub mod CallSteps
 pub mod Names
 pub mod Bound
 pub mod Filling
 pub mod ScopeTable
+pub mod OutputSteps
 pub mod Turns
+pub mod PieceTurns
+pub mod Shown
+pub mod Steps

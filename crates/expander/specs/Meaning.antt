@@ -1,8 +1,7 @@
 -- The meaning of a text: its reading fault, or the printed text and the faults of its expansion. (Of this project.)
-use Rattle.std.specs.Prelude.{ℕ, Bool, true, false, List, [], ◌∷◌, ◌++◌, Option, Some, None, Result, Ok, Err, map, flat_map, if◌then◌else◌}
+use Rattle.std.specs.Prelude.{ℕ, List, [], ◌∷◌, ◌++◌, Option, Some, None, Result, Ok, Err, map, flat_map, if◌then◌else◌}
 use Rattle.tt_data.specs.Forest.{Forest}
 use Rattle.tt_data.specs.Walk.{Step}
-use Rattle.tt_data.specs.declared.span.Span.{Span}
 use Rattle.expander.specs.declared.faults.Fault.{Fault}
 use Rattle.expander.specs.declared.faults.FaultKind.TheVariants.{BrokenDefinition}
 use Rattle.expander.specs.declared.faults.ReadFault.{ReadFault}
@@ -66,7 +65,7 @@ module _ (layers : Layers) (depth : ℕ) where
   abbrev pub faults_of : List Member → List Fault
   faults_of ms =
       in_order (flat_map member_faults ms
-        ++ (nested (tokens_of ms) ++ unspellable (left_out layers.spelling (output ms))))
+      ++ (nested (tokens_of ms) ++ unspellable (left_out layers.spelling (output ms))))
 
   -- what a text means that was read
   pub record ReadMeaning : Type 0 where

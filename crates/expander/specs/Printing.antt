@@ -2,7 +2,7 @@
 use Rattle.std.specs.Prelude.{ℕ, ◌+◌, ◌-◌, List, [], ◌∷◌, ◌++◌, Bool, true, false, Option, Some, None, codes, nat_eq, if◌then◌else◌, ◌||◌, ◌&&◌, not}
 use Rattle.tt_data.specs.Walk.{Step, at_leaf, opens, closes}
 use Rattle.tt_data.specs.declared.leaf.Leaf.TheVariants as as_leaf
-use Rattle.tt_data.specs.declared.delimiter.DelimiterKind.TheVariants.{Parenthesis, Brace, Bracket, Invisible}
+use Rattle.tt_data.specs.declared.delimiter.DelimiterKind.TheVariants.{Brace}
 use Rattle.expander.specs.Expansion.{PlacedStep}
 use Rattle.expander.specs.Text.{same_text, same_kind, is_visible, is_alone, is_punct}
 

@@ -9,7 +9,6 @@ use Rattle.tt_data.specs.declared.span.Span.{Span}
 use Rattle.tt_data.specs.declared.span.TextRange.{TextRange}
 use Rattle.tt_data.specs.declared.span.SyntaxContext.TheVariants.{Written}
 use Rattle.expander.specs.declared.faults.ReadFault.{ReadFault}
-use Rattle.expander.specs.declared.faults.ReadFaultKind.{ReadFaultKind}
 use Rattle.expander.specs.declared.faults.ReadFaultKind.TheVariants.{BadToken, CloserDoesNotFit, GroupLeftOpen}
 use Rattle.tt.specs.Building.{Opened}
 use Rattle.expander.specs.Text.{same_kind}

@@ -1,5 +1,5 @@
 -- What names find, in the table that holds the definitions met so far.
-use Rattle.std.specs.Prelude.{ℕ, List, Option, Some, None, option_map, option_and_then, slice_get, if◌then◌else◌}
+use Rattle.std.specs.Prelude.{ℕ, List, Option, Some, option_map, option_and_then, slice_get, if◌then◌else◌}
 use Rattle.expander.specs.declared.definitions.Definition.{Definition}
 use Rattle.expander.specs.declared.scope.Known.{Known}
 use Rattle.expander.specs.declared.scope.Scope as table

@@ -1,5 +1,5 @@
 -- The thin layers, and the texts that they are enough for.
-use Rattle.std.specs.Prelude.{ℕ, Bool, true, false, ◌&&◌, ◌||◌, not, List, [], ◌∷◌, codes, if◌then◌else◌, Option, Some, None, Result, Ok, Err, option_and_then, is_some, is_none, unwrap_or, encode_utf8, chars, map}
+use Rattle.std.specs.Prelude.{ℕ, Bool, true, false, ◌&&◌, ◌||◌, not, List, codes, if◌then◌else◌, Option, Some, None, Result, Ok, Err, option_and_then, is_some, is_none, encode_utf8, chars}
 use Rattle.std.specs.List.{list_all}
 use Prim.Native.String.{String}
 use Rattle.rustc_lexer.specs.Lexing.{thin_tokens}

@@ -13,7 +13,8 @@ use Rattle.expander.specs.declared.rules.FragmentKind.TheVariants as kind
 use Rattle.expander.specs.FirstTrees.{◌>>=◌, ◌>>◌, first_ident, first_group, is_empty}
 use Rattle.tt_data.specs.Spans.{leaf_with, delimiter_with}
 use Rattle.expander.specs.Text.{same_text, same_kind, with_last_alone}
-use Rattle.expander.specs.ThinRules.{unit_size, first_operator, puncts_of, Pattern, done, variable, word, puncts, within, pattern_of, Template, filled, put, exactly, around, template_of}
+use Rattle.expander.specs.ThinRules.{Pattern, done, variable, word, puncts, within, pattern_of, Template, filled, put, exactly, around, template_of}
+use Rattle.expander.specs.Units.{unit_size, first_operator, puncts_of}
 use Rattle.expander.specs.declared.rules.Rule.{Rule}
 
 -- which trees a name is bound to, if any
@@ -72,7 +73,7 @@ made span = record span { ctx = Made }
 abbrev pub itself : List ℕ → Span → Forest
 itself x span =
     leaf (as_leaf.Punct (record { char = 36; spacing = Alone; span = made span }))
-      (leaf (as_leaf.Ident (record { sym = x; span = made span; is_raw = is_raw.No })) empty)
+    (leaf (as_leaf.Ident (record { sym = x; span = made span; is_raw = is_raw.No })) empty)
 
 -- the trees that a name was bound to, the last of them standing alone where it is a punct
 abbrev pub value_of : List ℕ → Span → Option Forest → Forest

@@ -1,12 +1,11 @@
 -- What the thin tokens are read as: white space, identifiers, puncts and brackets; every other token is bad.
-use Rattle.std.specs.Prelude.{ℕ, List, [], ◌∷◌, ◌++◌, Bool, true, false, Option, Some, None, chars, codes, slice_index, Result, if◌then◌else◌, is_some}
+use Rattle.std.specs.Prelude.{ℕ, List, [], ◌∷◌, ◌++◌, Bool, true, false, chars, codes, slice_index, Result, if◌then◌else◌}
 use Prim.Native.String.{String}
 use Rattle.rustc_lexer.specs.Lexing.{thin_tokens}
 use Rattle.rustc_lexer.specs.declared.token.TokenKind.{TokenKind}
 use Rattle.rustc_lexer.specs.declared.token.TokenKind.TheVariants as kind
 use Rattle.tt_data.specs.Forest.{Forest}
-use Rattle.tt_data.specs.Walk.{Step, at_leaf, opens, closes}
-use Rattle.tt_data.specs.declared.delimiter.DelimiterKind.{DelimiterKind}
+use Rattle.tt_data.specs.Walk.{at_leaf, opens, closes}
 use Rattle.tt_data.specs.declared.delimiter.DelimiterKind.TheVariants.{Parenthesis, Brace, Bracket}
 use Rattle.tt_data.specs.declared.leaf.IdentIsRaw.TheVariants as is_raw
 use Rattle.tt_data.specs.declared.leaf.Leaf.TheVariants as as_leaf

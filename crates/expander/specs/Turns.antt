@@ -1,5 +1,5 @@
 -- One turn of a piece's expansion: what is added to the output for the trees that are passed.
-use Rattle.std.specs.Prelude.{◌≡◌, ℕ, zero, suc, List, [], ◌∷◌, ◌++◌, map, Bool, true, Option, Some, None}
+use Rattle.std.specs.Prelude.{◌≡◌, ℕ, zero, suc, List, [], ◌++◌, map, true, Option, Some, None}
 use Rattle.tt_data.specs.Forest.{Forest, empty, leaf, group}
 use Rattle.tt_data.specs.declared.span.Span.{Span}
 use Rattle.expander.specs.declared.definitions.Definition.{Definition}
@@ -9,7 +9,7 @@ use Rattle.expander.specs.declared.output.PlacedStep as kept
 use Rattle.expander.specs.declared.calls.Call.{Call}
 use Rattle.expander.specs.CallSteps.{call_behind_colons}
 use Rattle.expander.specs.Calls.{marked}
-use Rattle.expander.specs.Expansion.{PlacedStep, Outcome, Deeper, CallSite, placed, just, followed_by, stays, unbroken, search_calls, expansion}
+use Rattle.expander.specs.Expansion.{Outcome, Deeper, CallSite, followed_by, stays, search_calls, expansion}
 use Rattle.expander.specs.Faults.{fault_at}
 use Rattle.expander.specs.OutputSteps.{steps_of_output}
 use Rattle.expander.specs.Thin.{thin_world, is_free_of, groups_are_free_of}

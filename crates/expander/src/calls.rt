@@ -50,7 +50,11 @@ pub(crate) fn call_behind_colons<'a>(trees: &TtIter<'a>) -> Option<Call<'a>>
 {
     let (first, after_first) = first_punct(trees)?;
     let (second, after_colons) = first_punct(&after_first)?;
-    if is_colons(first, second) { bare_call(&after_colons) } else { None }
+    if is_colons(first, second) {
+        bare_call(&after_colons)
+    } else {
+        None
+    }
 }
 
 // A call with its `$crate ::`.
@@ -58,7 +62,11 @@ fn crate_call<'a>(trees: &TtIter<'a>) -> Option<Call<'a>>
     ensures { result ≡ crate_call trees.now }
 {
     let (name, after_name) = first_ident(trees)?;
-    if name.sym.as_str() == "$crate" { call_behind_colons(&after_name) } else { None }
+    if name.sym.as_str() == "$crate" {
+        call_behind_colons(&after_name)
+    } else {
+        None
+    }
 }
 
 /// The call with which the trees begin.

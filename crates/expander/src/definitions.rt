@@ -37,7 +37,11 @@ fn after_attribute<'a>(trees: &TtIter<'a>) -> Option<TtIter<'a>>
         return None;
     }
     let (brackets, _, rest) = first_group(&after_pound)?;
-    if brackets.kind == DelimiterKind::Bracket { Some(rest) } else { None }
+    if brackets.kind == DelimiterKind::Bracket {
+        Some(rest)
+    } else {
+        None
+    }
 }
 
 // What follows the outer attributes at the beginning.
@@ -56,7 +60,11 @@ fn after_parenthesis<'a>(trees: &TtIter<'a>) -> Option<TtIter<'a>>
     ensures { result ≡ after_parenthesis trees.now }
 {
     let (brackets, _, rest) = first_group(trees)?;
-    if brackets.kind == DelimiterKind::Parenthesis { Some(rest) } else { None }
+    if brackets.kind == DelimiterKind::Parenthesis {
+        Some(rest)
+    } else {
+        None
+    }
 }
 
 // What follows a `pub`, with its parenthesis group, at the beginning.
@@ -125,7 +133,11 @@ fn macro_body<'a>(trees: &TtIter<'a>) -> Option<(Option<TtIter<'a>>, TtIter<'a>)
 {
     let (brackets, inner, rest) = first_group(trees)?;
     if rest.is_empty() {
-        return if brackets.kind == DelimiterKind::Brace { Some((None, inner)) } else { None };
+        return if brackets.kind == DelimiterKind::Brace {
+            Some((None, inner))
+        } else {
+            None
+        };
     }
     if brackets.kind != DelimiterKind::Parenthesis {
         return None;

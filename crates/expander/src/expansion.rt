@@ -1,5 +1,8 @@
 // The expansion of a text's pieces.
-ghost use Rattle.std.specs.Prelude.{◌≡◌, ◌<◌, ◌++◌, ◌∷◌, [], ℕ, List, true, IfOk, OnOk, Some, Option};
+ghost use Rattle.std.specs.Prelude.{◌≡◌, ◌<◌, ◌≤◌, ◌+◌, ◌^◌, ◌++◌, ◌∷◌, [], ℕ, List, true, IfOk, OnOk, Some, Option};
+ghost use Rattle.expander.specs.Definitions.{nearest};
+ghost use Rattle.expander.specs.Pieces.{cut};
+ghost use Rattle.expander.specs.PieceTurns.{TakesPiece, IsOutputOf, told_if_broken};
 ghost use Rattle.tt_data.specs.Forest.{Forest, joined, size, empty};
 ghost use Rattle.tt_data.specs.Walk.{walk};
 ghost use Rattle.expander.specs.CallSteps.{call_at, call_behind_colons};
@@ -11,11 +14,11 @@ ghost use Rattle.expander.specs.Thin.{thin_world, is_free_of, groups_are_free_of
 ghost use Rattle.expander.specs.Turns.{deeper_at, searched, Adds, Turn, Tries, AreFree, IsBehindFirst};
 ghost use Rattle.expander.specs.declared.definitions.Definition.{Definition};
 
-use crate::calls::{call_at, call_behind_colons, Call};
+use crate::calls::{Call, call_at, call_behind_colons};
 use crate::definitions::definition_of;
 use crate::faults::{Fault, FaultKind};
 use crate::first_trees::again;
-use crate::output::{push_walk, PlacedStep};
+use crate::output::{PlacedStep, push_walk};
 use crate::pieces::next_piece;
 use crate::scope::{Known, Scope};
 use crate::substitution::first_fit;
@@ -70,7 +73,7 @@ fn expand_by(
         site.at ≡ call.now.name.span → site.argument ≡ call.now.argument →
         is_free_of "!" known.now.definition.body ≡ true → is_free_of "!" call.now.argument ≡ true →
         IfOk result (Tries steps.old.items steps.new.items site
-            (unbroken thin_world known.now.definition (thin_world.broken known.now.definition) (deeper_at scope depth) None site)) }
+        (unbroken thin_world known.now.definition (thin_world.broken known.now.definition) (deeper_at scope depth) None site)) }
 {
     let Some(rules) = &known.rules else {
         return Ok(Some(FaultKind::BrokenDefinition));
@@ -138,7 +141,7 @@ fn expand_piece(
     ensures plain { OnOk result (out.new.plain ≡ out.old.plain) }
     ensures adds { groups_are_free_of "!" piece.now ≡ true → AreFree (definitions_of scope.now) →
         OnOk result (Adds out.old.steps.items out.new.steps.items out.old.faults.items out.new.faults.items
-            (searched (definitions_of scope.now) depth piece.now)) }
+        (searched (definitions_of scope.now) depth piece.now)) }
 {
     let mut rest = again(piece);
     while !rest.is_empty() {
@@ -153,8 +156,50 @@ fn expand_piece(
     Ok(())
 }
 
+// Tells a definition that is broken, at its name.
+fn tell_if_broken(faults: &mut Vec<Fault>, known: &Known<'_>) -> Result<(), AllocError>
+    ensures { OnOk result (faults.new.items ≡ faults.old.items ++ told_if_broken known.now.definition) }
+{
+    if known.rules.is_none() {
+        push_fault(
+            faults,
+            FaultKind::BrokenDefinition,
+            known.definition.name.span,
+        )?;
+    }
+    Ok(())
+}
+
+// Takes the next piece: a definition enters the scope, a plain piece is expanded under those before it.
+fn take_piece<'a>(
+    alloc: Global,
+    depth: u8,
+    scope: &mut Scope<'a>,
+    out: &mut Output,
+    piece: &TtIter<'a>,
+) -> Result<(), TtFault>
+    requires { out.old.plain + 1 < 2 ^ 64 }
+    ensures plain { OnOk result (out.new.plain ≤ out.old.plain + 1) }
+    ensures turn { (before : List Definition) → definitions_of scope.old ≡ nearest before → AreFree (nearest before) →
+        groups_are_free_of "!" piece.now ≡ true →
+        OnOk result (TakesPiece depth before piece.now (definitions_of scope.new) out.old out.new) }
+{
+    let Some(definition) = definition_of(piece) else {
+        expand_piece(alloc, scope, depth, out, piece)?;
+        out.plain += 1;
+        return Ok(());
+    };
+    let known = Known::new(alloc, definition)?;
+    tell_if_broken(&mut out.faults, &known)?;
+    scope.define(known)?;
+    Ok(())
+}
+
 /// Expands the pieces of a text, each under the definitions before it.
-pub(crate) fn expand_pieces(alloc: Global, depth: u8, trees: &TtIter<'_>) -> Result<Output, TtFault> {
+pub(crate) fn expand_pieces(alloc: Global, depth: u8, trees: &TtIter<'_>) -> Result<Output, TtFault>
+    ensures { groups_are_free_of "!" trees.now ≡ true → IfOk result (IsOutputOf depth (cut trees.now)) }
+{
+    let most = trees.remaining().len();
     let mut scope = Scope::new(alloc);
     let mut out = Output {
         steps: Vec::new(alloc),
@@ -163,19 +208,7 @@ pub(crate) fn expand_pieces(alloc: Global, depth: u8, trees: &TtIter<'_>) -> Res
     };
     let mut rest = again(trees);
     while let Some(piece) = next_piece(&mut rest) {
-        match definition_of(&piece) {
-            Some(definition) => {
-                let known = Known::new(alloc, definition)?;
-                if known.rules.is_none() {
-                    push_fault(&mut out.faults, FaultKind::BrokenDefinition, known.definition.name.span)?;
-                }
-                scope.define(known)?;
-            }
-            None => {
-                expand_piece(alloc, &scope, depth, &mut out, &piece)?;
-                out.plain += 1;
-            }
-        }
+        take_piece(alloc, depth, &mut scope, &mut out, &piece)?;
     }
     Ok(out)
 }

@@ -37,9 +37,7 @@ pub(crate) fn first_punct<'a>(trees: &TtIter<'a>) -> Option<(Punct, TtIter<'a>)>
 }
 
 // A group's brackets and what they hold.
-pub(crate) fn first_group<'a>(
-    trees: &TtIter<'a>,
-) -> Option<(Delimiter, TtIter<'a>, TtIter<'a>)>
+pub(crate) fn first_group<'a>(trees: &TtIter<'a>) -> Option<(Delimiter, TtIter<'a>, TtIter<'a>)>
     ensures { result ≡ first_group trees.now }
 {
     let mut rest = again(trees);

@@ -18,8 +18,3 @@ pub fn reading_is_a_relation()
 pub fn marks_taken_off()
     ensures { (f : Forest) → unmarked (marked f) ≡ f }
 {}
-
-/// scratch
-pub fn scratch_law()
-    ensures { (f : Forest) → unmarked (marked f) ≡ f }
-{}

@@ -25,7 +25,7 @@ mod units;
 pub mod watched;
 
 pub use faults::{Fault, FaultKind, ReadFault, ReadFaultKind};
-pub use program::{run, Status, Stop};
+pub use program::{Status, Stop, run};
 pub use session::{Expansion, Refusal, Reply, Session};
 pub use tt_data::span::TextRange;
 pub use watched::Watched;

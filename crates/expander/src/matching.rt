@@ -6,8 +6,8 @@ ghost use Rattle.expander.specs.ThinRules.{Pattern, pattern_of};
 
 use crate::bindings::Bindings;
 use crate::first_trees::{again, first_group, first_ident, first_punct};
-use crate::rules::{variable_after, FragmentKind};
-use crate::units::{operator_at, Operator};
+use crate::rules::{FragmentKind, variable_after};
+use crate::units::{Operator, operator_at};
 use std::alloc::{AllocError, Global};
 use tt::view::{TtElement, TtIter};
 use tt_data::leaf::Leaf;
@@ -38,7 +38,11 @@ fn behind_fragment<'a>(kind: FragmentKind, trees: &TtIter<'a>) -> Option<TtIter<
     match kind {
         FragmentKind::Ident => {
             let (name, rest) = first_ident(trees)?;
-            if name.sym.as_str() == "_" { None } else { Some(rest) }
+            if name.sym.as_str() == "_" {
+                None
+            } else {
+                Some(rest)
+            }
         }
         FragmentKind::Tree => behind_unit(trees),
     }
@@ -59,7 +63,11 @@ fn behind_operator<'a>(operator: Operator, trees: &TtIter<'a>) -> Option<TtIter<
 {
     let (first, after) = first_punct(trees)?;
     let (found, behind) = operator_at(first, &after);
-    if same_operator(operator, found) { Some(behind) } else { None }
+    if same_operator(operator, found) {
+        Some(behind)
+    } else {
+        None
+    }
 }
 
 /// Whether the pattern uses up the argument, its variables bound as they take their trees.

@@ -2,12 +2,13 @@
 ghost use Rattle.std.specs.Prelude.{◌≡◌, ℕ, ◌<◌, ◌^◌, List, length, string_bytes, IfOk, OnErr, Ok};
 ghost use Rattle.expander.specs.State.{State};
 ghost use Rattle.expander.specs.Replies.{IsReplyTo};
+ghost use Rattle.expander.specs.Shown.{ShowsOutput};
 
-use crate::expansion::{expand_pieces, Output};
-use crate::faults::{push_output_faults, sort_faults, Fault, ReadFault};
+use crate::expansion::{Output, expand_pieces};
+use crate::faults::{Fault, ReadFault, push_output_faults, sort_faults};
 use crate::printing::print;
-use crate::reading::{read_tokens, Read};
-use rustc_lexer::{tokenize, FrontmatterAllowed, Token};
+use crate::reading::{Read, read_tokens};
+use rustc_lexer::{FrontmatterAllowed, Token, tokenize};
 use std::alloc::{AllocError, Global};
 use std::marker::Model;
 use tt_data::fault::TtFault;
@@ -152,6 +153,7 @@ impl Session {
 // The expansion of a text, or its reading fault.
 fn reply_to_text(alloc: Global, text: &str, depth: u8) -> Result<Reply, Refusal>
     requires { length text.now < 2 ^ 32 }
+    ensures { IfOk result (IsReplyTo (record { text = text.now; depth = depth })) }
 {
     let tokens: Vec<Token> = tokenize(text, FrontmatterAllowed::No).collect(alloc)?;
     match read_tokens(alloc, text, tokens.as_slice())? {
@@ -164,7 +166,9 @@ fn reply_to_text(alloc: Global, text: &str, depth: u8) -> Result<Reply, Refusal>
 }
 
 // What the output of a text's pieces prints, and all faults in order.
-fn expansion_of(alloc: Global, output: Output) -> Result<Expansion, AllocError> {
+fn expansion_of(alloc: Global, output: Output) -> Result<Expansion, AllocError>
+    ensures { IfOk result (ShowsOutput output) }
+{
     let Output {
         steps,
         mut faults,

@@ -1,9 +1,9 @@
 // Substitution: what a rule's template gives.
-ghost use Rattle.std.specs.Prelude.{◌≡◌, All, IfOk, IsSome, OnOk, Some, option_map};
+ghost use Rattle.std.specs.Prelude.{◌≡◌, All, IfErr, IfOk, IsSome, OnOk, Some, option_map};
 ghost use Rattle.tt.specs.Tops.{Top};
 ghost use Rattle.tt_data.specs.Spans.{leaf_with};
 ghost use Rattle.expander.specs.Bound.{bindings_of};
-ghost use Rattle.expander.specs.Filling.{with_trees};
+ghost use Rattle.expander.specs.Filling.{IsWantOfRoom, with_trees};
 ghost use Rattle.expander.specs.Text.{alone, with_last_alone};
 ghost use Rattle.expander.specs.ThinFit.{made, itself, substituted, rule_fit, first_fit};
 ghost use Rattle.expander.specs.ThinRules.{Template, template_of, IsRule};
@@ -11,7 +11,7 @@ ghost use Rattle.expander.specs.ThinRules.{Template, template_of, IsRule};
 use crate::bindings::Bindings;
 use crate::first_trees::again;
 use crate::matching::fit;
-use crate::rules::{name_after, Rule};
+use crate::rules::{Rule, name_after};
 use std::alloc::Global;
 use tt::builder::TopSubtreeBuilder;
 use tt::top::TopSubtree;
@@ -78,7 +78,8 @@ fn alone(leaf: Leaf) -> Leaf
 
 // Adds the trees as they are.
 fn extend(out: &mut TopSubtreeBuilder, trees: &TtIter<'_>) -> Result<(), TtFault>
-    ensures { OnOk result (out.new ≡ with_trees out.old trees.now) }
+    ensures faults { IfErr result IsWantOfRoom }
+    ensures added { OnOk result (out.new ≡ with_trees out.old trees.now) }
 {
     let mut rest = again(trees);
     while let Some(element) = rest.next() {
@@ -98,7 +99,8 @@ fn extend(out: &mut TopSubtreeBuilder, trees: &TtIter<'_>) -> Result<(), TtFault
 
 // Adds the trees that a variable took: a last punct stands alone.
 fn extend_by_value(out: &mut TopSubtreeBuilder, trees: &TtIter<'_>) -> Result<(), TtFault>
-    ensures { OnOk result (out.new ≡ with_trees out.old (with_last_alone trees.now)) }
+    ensures faults { IfErr result IsWantOfRoom }
+    ensures added { OnOk result (out.new ≡ with_trees out.old (with_last_alone trees.now)) }
 {
     let mut rest = again(trees);
     while let Some(element) = rest.next() {
@@ -120,12 +122,9 @@ fn extend_by_value(out: &mut TopSubtreeBuilder, trees: &TtIter<'_>) -> Result<()
 }
 
 // Adds a name that is not bound: it stands for itself, after its `$`.
-fn extend_by_itself(
-    out: &mut TopSubtreeBuilder,
-    name: Symbol,
-    span: Span,
-) -> Result<(), TtFault>
-    ensures { OnOk result (out.new ≡ with_trees out.old (itself name span)) }
+fn extend_by_itself(out: &mut TopSubtreeBuilder, name: Symbol, span: Span) -> Result<(), TtFault>
+    ensures faults { IfErr result IsWantOfRoom }
+    ensures added { OnOk result (out.new ≡ with_trees out.old (itself name span)) }
 {
     let span = made(span);
     out.push(Leaf::Punct(Punct {
@@ -147,7 +146,8 @@ fn substitute(
     bindings: &Bindings<'_>,
 ) -> Result<(), TtFault>
     requires { IsSome (template_of template.now) }
-    ensures { (t : Template) → template_of template.now ≡ Some t →
+    ensures faults { IfErr result IsWantOfRoom }
+    ensures added { (t : Template) → template_of template.now ≡ Some t →
         OnOk result (out.new ≡ with_trees out.old (substituted (bindings_of bindings.now) t)) }
 {
     let mut rest = again(template);
@@ -188,7 +188,8 @@ fn rule_fit(
     argument: &TtIter<'_>,
 ) -> Result<Option<TopSubtree>, TtFault>
     requires { IsRule rule.now }
-    ensures { IfOk result (λ tree. option_map (λ (top : Top). top.inner) tree ≡ rule_fit rule.now argument.now) }
+    ensures faults { IfErr result IsWantOfRoom }
+    ensures given { IfOk result (λ tree. option_map (λ (top : Top). top.inner) tree ≡ rule_fit rule.now argument.now) }
 {
     let mut bindings = Bindings::new(alloc);
     if !fit(alloc, &rule.pattern, argument, &mut bindings)? {
@@ -214,7 +215,8 @@ pub(crate) fn first_fit(
     argument: &TtIter<'_>,
 ) -> Result<Option<TopSubtree>, TtFault>
     requires { All IsRule rules.now }
-    ensures { IfOk result (λ tree. option_map (λ (top : Top). top.inner) tree ≡ first_fit rules.now argument.now) }
+    ensures faults { IfErr result IsWantOfRoom }
+    ensures given { IfOk result (λ tree. option_map (λ (top : Top). top.inner) tree ≡ first_fit rules.now argument.now) }
 {
     for rule in rules {
         if let Some(tree) = rule_fit(alloc, rule, argument)? {

@@ -1,7 +1,7 @@
 // Units: what stands at one place of a list of trees.
 ghost use Rattle.std.specs.Prelude.{◌≡◌, ◌-◌};
 ghost use Rattle.tt_data.specs.Forest.{back};
-ghost use Rattle.expander.specs.ThinRules.{is_two, is_three, is_pair, is_triple, operator_at, puncts_of};
+ghost use Rattle.expander.specs.Units.{is_two, is_three, is_pair, is_triple, operator_at, puncts_of};
 ghost use Rattle.expander.specs.ThinFit.{same_operator};
 
 use crate::first_trees::{again, first_punct};
@@ -21,7 +21,10 @@ fn is_two(first: char, second: char) -> bool
     ensures { result ≡ is_two first second }
 {
     match second {
-        '=' => matches!(first, '-' | '!' | '*' | '/' | '&' | '%' | '^' | '+' | '<' | '=' | '>' | '|'),
+        '=' => matches!(
+            first,
+            '-' | '!' | '*' | '/' | '&' | '%' | '^' | '+' | '<' | '=' | '>' | '|'
+        ),
         '>' => matches!(first, '-' | '=' | '>'),
         '-' => first == '<',
         ':' | '.' | '&' | '<' | '|' => first == second,

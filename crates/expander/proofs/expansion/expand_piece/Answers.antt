@@ -1,6 +1,6 @@
 use Rattle.std.proofs.Common.{◌≡◌, ◌≢◌, sym, refl, true, false}
 use Rattle.std.specs.Prelude.{None}
-use Rattle.tt_data.specs.Forest.{Forest, empty}
+use Rattle.tt_data.specs.Forest.{empty}
 use Rattle.expander.specs.CallSteps.{call_at, call_behind_colons}
 use Rattle.expander.specs.ScopeTable.{definitions_of}
 use Rattle.expander.proofs.FreeLemmas.{free_behind_colons}
@@ -13,14 +13,16 @@ keep-requires c = rw c.behind_first-behind.ensures (behind_passed c.loop-rest.re
 pub loop-rest-preserved : goal.loop-rest-preserved
 loop-rest-preserved c =
     let some : c.loop-rest.rest ≢ empty = λ e. let wrong : false ≡ true = c.loop-rest-test.ensures.1 e in cc in
-    let none_here : call_at c.loop-rest.rest ≡ None = sym c.in-None.ensures in
-    (c.loop-rest.invariant.0, λ free scope_free.
-      let left = c.loop-rest.invariant.1 free scope_free in
-      left_more (definitions_of c.args.scope.now) c.args.depth c.args.piece.now c.loop-rest.rest c.keep.new.trees
-        c.args.out.now.steps.items c.loop-rest.out.steps.items c.keep.new.steps.items c.args.out.now.faults.items c.loop-rest.out.faults.items c.loop-rest.out.faults.items
-        left
-        (rw (c.in_ok-keep-in-None.ensures.rest, c.behind_first-behind.ensures)
+    let none_here : call_at c.loop-rest.rest ≡ None = sym c.in-None.ensures in (
+      c.loop-rest.invariant.0,
+      λ free scope_free.
+          let left = c.loop-rest.invariant.1 free scope_free in
+          left_more (definitions_of c.args.scope.now) c.args.depth c.args.piece.now c.loop-rest.rest c.keep.new.trees
+          c.args.out.now.steps.items c.loop-rest.out.steps.items c.keep.new.steps.items c.args.out.now.faults.items c.loop-rest.out.faults.items c.loop-rest.out.faults.items
+          left
+          (rw (c.in_ok-keep-in-None.ensures.rest, c.behind_first-behind.ensures)
           (kept_turn (definitions_of c.args.scope.now) c.args.depth c.loop-rest.rest some none_here left.free (call_behind_colons c.loop-rest.rest) refl
-            (λ call e. free_behind_colons c.loop-rest.rest call left.free e)
-            c.loop-rest.out.steps.items c.keep.new.steps.items c.loop-rest.out.faults.items
-            (λ passed e. c.in_ok-keep-in-None.ensures.steps passed (rw c.behind_first-behind.ensures e)))))
+          (λ call e. free_behind_colons c.loop-rest.rest call left.free e)
+          c.loop-rest.out.steps.items c.keep.new.steps.items c.loop-rest.out.faults.items
+          (λ passed e. c.in_ok-keep-in-None.ensures.steps passed (rw c.behind_first-behind.ensures e)))),
+    )

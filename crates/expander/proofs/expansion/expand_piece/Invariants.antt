@@ -10,7 +10,7 @@ abbrev pub invariant-loop-rest : goal.invariant-loop-rest
 invariant-loop-rest l =
     (l.out.plain ≡ l.initial.out.plain)
     × (groups_are_free_of "!" l.piece ≡ true → AreFree (definitions_of l.scope)
-        → Left (definitions_of l.scope) l.depth l.piece l.rest l.initial.out.steps.items l.out.steps.items l.initial.out.faults.items l.out.faults.items)
+    → Left (definitions_of l.scope) l.depth l.piece l.rest l.initial.out.steps.items l.out.steps.items l.initial.out.faults.items l.out.faults.items)
 
 abbrev pub decreases-loop-rest : goal.decreases-loop-rest
 decreases-loop-rest l = size l.rest

@@ -13,7 +13,7 @@ abbrev pub invariant-loop-step : goal.invariant-loop-step
 invariant-loop-step l =
     (size l.steps ≤ size l.pattern)
     × ((p : Pattern) → pattern_of l.pattern ≡ Some p
-        → (q : Pattern) × (pattern_of l.steps ≡ Some q) × (fit_after (bindings_of l.bindings) q l.rest ≡ fit_after (bindings_of l.initial.bindings) p l.argument))
+    → (q : Pattern) × (pattern_of l.steps ≡ Some q) × (fit_after (bindings_of l.bindings) q l.rest ≡ fit_after (bindings_of l.initial.bindings) p l.argument))
 
 abbrev pub decreases-loop-step : goal.decreases-loop-step
 decreases-loop-step l = size l.steps

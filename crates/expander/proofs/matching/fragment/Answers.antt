@@ -11,4 +11,4 @@ passed_since-requires c =
 pub returns : goal.returns
 returns c =
     fragment_some c.args.kind c.args.trees.now c.in_ok-rest.rest c.iter-taken.result (sym c.behind_fragment.ensures ∙ c.in_ok-rest.was)
-      (sym c.remaining.ensures ∙ c.passed_since.ensures ∙ ap (λ f. joined f c.in_ok-rest.rest) (sym c.iter-taken.ensures))
+    (sym c.remaining.ensures ∙ c.passed_since.ensures ∙ ap (λ f. joined f c.in_ok-rest.rest) (sym c.iter-taken.ensures))

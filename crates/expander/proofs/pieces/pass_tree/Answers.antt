@@ -1,4 +1,3 @@
-use Rattle.std.proofs.Common.{◌≡◌, refl, ap, sym, ◌∙◌}
 use Rattle.expander.proofs.CuttingLemmas.{passes_leaf, passes_group}
 use Rattle.expander.proofs.pieces.pass_tree.Goals as goal
 

@@ -7,17 +7,21 @@ use Rattle.expander.proofs.substitution.+extend.Goals as goal
 
 pub loop-element-preserved-in-Continue-1 : goal.loop-element-preserved-in-Continue-1
 loop-element-preserved-in-Continue-1 t c =
-    let passed : c.loop-element.rest ≡ leaf c.in-Leaf.leaf c.next.new.self = passed_leaf _ _ _ _ _ c.in-Some.ensures.steps c.in-Leaf.is refl in
-    (omega (arith, ap size passed, c.loop-element.invariant.0),
-     leaf_added c.loop-element.out _ _ c.in-Leaf.leaf _ c.in_ok-push-in-Leaf.ensures.ok (ap (with_trees c.loop-element.out) (sym passed) ∙ c.loop-element.invariant.1))
+    let passed : c.loop-element.rest ≡ leaf c.in-Leaf.leaf c.next.new.self = passed_leaf _ _ _ _ _ c.in-Some.ensures.steps c.in-Leaf.is refl in (
+      omega (arith, ap size passed, c.loop-element.invariant.0),
+      leaf_added c.loop-element.out _ _ c.in-Leaf.leaf _ c.in_ok-push-in-Leaf.ensures.ok
+          (ap (with_trees c.loop-element.out) (sym passed) ∙ c.loop-element.invariant.1),
+    )
 
 pub loop-element-preserved : goal.loop-element-preserved
 loop-element-preserved t c =
-    let passed : c.loop-element.rest ≡ group c.in-Subtree.subtree.delimiter c.in-Subtree.inner c.next.new.self = passed_group _ _ _ _ _ c.in-Some.ensures.steps c.in-Subtree.is in
-    (omega (arith, ap size passed, c.loop-element.invariant.0),
-     group_added c.loop-element.out c.open.new.self c.extend.new.out _ _ c.in-Subtree.subtree.delimiter c.in-Subtree.inner _
-       c.in_ok-open-in-Subtree.ensures.ok c.in_ok-extend-in-Subtree.ensures c.in-Ok.ensures.ok
-       (ap (with_trees c.loop-element.out) (sym passed) ∙ c.loop-element.invariant.1))
+    let passed : c.loop-element.rest ≡ group c.in-Subtree.subtree.delimiter c.in-Subtree.inner c.next.new.self =
+    passed_group _ _ _ _ _ c.in-Some.ensures.steps c.in-Subtree.is in (
+      omega (arith, ap size passed, c.loop-element.invariant.0),
+      group_added c.loop-element.out c.open.new.self c.extend.new.out _ _ c.in-Subtree.subtree.delimiter c.in-Subtree.inner _
+          c.in_ok-open-in-Subtree.ensures.ok c.in_ok-extend-in-Subtree.ensures.added c.in-Ok.ensures.ok
+          (ap (with_trees c.loop-element.out) (sym passed) ∙ c.loop-element.invariant.1),
+    )
 
-pub returns : goal.returns
-returns t c = all_added _ _ c.loop-element.rest c.in_default.ensures.steps.0 c.loop-element.invariant.1
+pub returns-clause-added : goal.returns-clause-added
+returns-clause-added t c = all_added _ _ c.loop-element.rest c.in_default.ensures.steps.0 c.loop-element.invariant.1

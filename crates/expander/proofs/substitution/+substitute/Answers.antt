@@ -17,47 +17,66 @@ loop-element-preserved-in-Continue-1 t c =
     let passed : c.loop-element.rest ≡ leaf (as_leaf.Punct c.in-Leaf-Punct.punct) c.next.new.self =
     passed_leaf _ _ _ _ _ c.in-Some.ensures.steps c.in-Leaf-Punct.is c.in-Leaf-Punct.field-0-is in
     let name = sym c.name_after.ensures ∙ c.in-Some-name_after.is in
-    let less : size c.in-Some-name_after.behind < size c.loop-element.rest = name_shorter c.loop-element.rest c.next.new.self _ _ c.in-Some-name_after.name passed name in
-    (omega (arith, less, c.loop-element.invariant.0), λ t e.
-      name_put (bindings_of c.args.bindings.now) c.loop-element.out c.extend_by_value.new.out _ c.loop-element.rest c.next.new.self c.in-Some-name_after.behind
-        c.in-Leaf-Punct.punct c.in-Some-name_after.name (Some c.in-Some-get.taken.now) passed c.if-punct-eq36.true name
-        (sym c.get.ensures ∙ ap (option_map (λ trees. trees.now)) c.in-Some-get.is) c.in_ok-extend_by_value-in-Some-get.ensures (c.loop-element.invariant.1 t e))
+    let less : size c.in-Some-name_after.behind < size c.loop-element.rest =
+    name_shorter c.loop-element.rest c.next.new.self _ _ c.in-Some-name_after.name passed name in (
+      omega (arith, less, c.loop-element.invariant.0),
+      λ t e.
+          name_put (bindings_of c.args.bindings.now) c.loop-element.out c.extend_by_value.new.out _ c.loop-element.rest c.next.new.self
+          c.in-Some-name_after.behind
+          c.in-Leaf-Punct.punct c.in-Some-name_after.name (Some c.in-Some-get.taken.now) passed c.if-punct-eq36.true name
+          (sym c.get.ensures ∙ ap (option_map (λ trees. trees.now)) c.in-Some-get.is) c.in_ok-extend_by_value-in-Some-get.ensures.added
+          (c.loop-element.invariant.1 t e),
+    )
 
 pub loop-element-preserved-in-Continue-branch-2 : goal.loop-element-preserved-in-Continue-branch-2
 loop-element-preserved-in-Continue-branch-2 t c =
     let passed : c.loop-element.rest ≡ leaf (as_leaf.Punct c.in-Leaf-Punct.punct) c.next.new.self =
     passed_leaf _ _ _ _ _ c.in-Some.ensures.steps c.in-Leaf-Punct.is c.in-Leaf-Punct.field-0-is in
     let name = sym c.name_after.ensures ∙ c.in-Some-name_after.is in
-    let less : size c.in-Some-name_after.behind < size c.loop-element.rest = name_shorter c.loop-element.rest c.next.new.self _ _ c.in-Some-name_after.name passed name in
-    (omega (arith, less, c.loop-element.invariant.0), λ t e.
-      name_put (bindings_of c.args.bindings.now) c.loop-element.out c.extend_by_itself.new.out _ c.loop-element.rest c.next.new.self c.in-Some-name_after.behind
-        c.in-Leaf-Punct.punct c.in-Some-name_after.name None passed c.if-punct-eq36.true name
-        (sym c.get.ensures ∙ ap (option_map (λ trees. trees.now)) c.in-None.is) c.in_ok-extend_by_itself-in-None.ensures (c.loop-element.invariant.1 t e))
+    let less : size c.in-Some-name_after.behind < size c.loop-element.rest =
+    name_shorter c.loop-element.rest c.next.new.self _ _ c.in-Some-name_after.name passed name in (
+      omega (arith, less, c.loop-element.invariant.0),
+      λ t e.
+          name_put (bindings_of c.args.bindings.now) c.loop-element.out c.extend_by_itself.new.out _ c.loop-element.rest c.next.new.self
+          c.in-Some-name_after.behind
+          c.in-Leaf-Punct.punct c.in-Some-name_after.name None passed c.if-punct-eq36.true name
+          (sym c.get.ensures ∙ ap (option_map (λ trees. trees.now)) c.in-None.is) c.in_ok-extend_by_itself-in-None.ensures.added (c.loop-element.invariant.1 t e),
+    )
 
 pub loop-element-preserved-in-Continue-branch-3 : goal.loop-element-preserved-in-Continue-branch-3
 loop-element-preserved-in-Continue-branch-3 t c =
     let passed : c.loop-element.rest ≡ leaf (as_leaf.Punct c.in-Leaf-Punct.punct) c.next.new.self =
-    passed_leaf _ _ _ _ _ c.in-Some.ensures.steps c.in-Leaf-Punct.is c.in-Leaf-Punct.field-0-is in
-    (omega (arith, ap size passed, c.loop-element.invariant.0), λ t e.
-      punct_put (bindings_of c.args.bindings.now) c.loop-element.out _ _ c.loop-element.rest _ c.in-Leaf-Punct.punct c.made_leaf.result passed c.if-punct-eq36.false
-        c.made_leaf.ensures c.in_ok-push-in-Leaf-Punct.ensures.ok (c.loop-element.invariant.1 t e))
+    passed_leaf _ _ _ _ _ c.in-Some.ensures.steps c.in-Leaf-Punct.is c.in-Leaf-Punct.field-0-is in (
+      omega (arith, ap size passed, c.loop-element.invariant.0),
+      λ t e.
+          punct_put (bindings_of c.args.bindings.now) c.loop-element.out _ _ c.loop-element.rest _ c.in-Leaf-Punct.punct c.made_leaf.result passed
+          c.if-punct-eq36.false
+          c.made_leaf.ensures c.in_ok-push-in-Leaf-Punct.ensures.ok (c.loop-element.invariant.1 t e),
+    )
 
 pub loop-element-preserved-in-Continue-branch-4 : goal.loop-element-preserved-in-Continue-branch-4
 loop-element-preserved-in-Continue-branch-4 t c =
     let passed : c.loop-element.rest ≡ leaf (as_leaf.Ident c.in-Leaf-Ident.ident) c.next.new.self =
-    passed_leaf _ _ _ _ _ c.in-Some.ensures.steps c.in-Leaf-Ident.is c.in-Leaf-Ident.field-0-is in
-    (omega (arith, ap size passed, c.loop-element.invariant.0), λ t e.
-      word_put (bindings_of c.args.bindings.now) c.loop-element.out _ _ c.loop-element.rest _ c.in-Leaf-Ident.ident c.made_leaf-in-Leaf-Ident.result passed
-        c.made_leaf-in-Leaf-Ident.ensures c.in_ok-push-in-Leaf-Ident.ensures.ok (c.loop-element.invariant.1 t e))
+    passed_leaf _ _ _ _ _ c.in-Some.ensures.steps c.in-Leaf-Ident.is c.in-Leaf-Ident.field-0-is in (
+      omega (arith, ap size passed, c.loop-element.invariant.0),
+      λ t e.
+          word_put (bindings_of c.args.bindings.now) c.loop-element.out _ _ c.loop-element.rest _ c.in-Leaf-Ident.ident
+          c.made_leaf-in-Leaf-Ident.result passed
+          c.made_leaf-in-Leaf-Ident.ensures c.in_ok-push-in-Leaf-Ident.ensures.ok (c.loop-element.invariant.1 t e),
+    )
 
 pub loop-element-preserved : goal.loop-element-preserved
 loop-element-preserved t c =
-    let passed : c.loop-element.rest ≡ group c.in-Subtree.subtree.delimiter c.in-Subtree.inner c.next.new.self = passed_group _ _ _ _ _ c.in-Some.ensures.steps c.in-Subtree.is in
-    (omega (arith, ap size passed, c.loop-element.invariant.0), λ t e.
-      group_put (bindings_of c.args.bindings.now) c.loop-element.out c.open.new.self c.substitute.new.out _ _ c.loop-element.rest _ c.in-Subtree.inner
-        c.in-Subtree.subtree.delimiter c.made.result c.made-in-Subtree.result passed c.made.ensures c.made-in-Subtree.ensures c.in_ok-open-in-Subtree.ensures.ok
-        c.in_ok-substitute-in-Subtree.ensures c.in-Ok.ensures.ok (c.loop-element.invariant.1 t e))
+    let passed : c.loop-element.rest ≡ group c.in-Subtree.subtree.delimiter c.in-Subtree.inner c.next.new.self =
+    passed_group _ _ _ _ _ c.in-Some.ensures.steps c.in-Subtree.is in (
+      omega (arith, ap size passed, c.loop-element.invariant.0),
+      λ t e.
+          group_put (bindings_of c.args.bindings.now) c.loop-element.out c.open.new.self c.substitute.new.out _ _ c.loop-element.rest _ c.in-Subtree.inner
+          c.in-Subtree.subtree.delimiter c.made.result c.made-in-Subtree.result passed c.made.ensures c.made-in-Subtree.ensures
+          c.in_ok-open-in-Subtree.ensures.ok
+          c.in_ok-substitute-in-Subtree.ensures.added c.in-Ok.ensures.ok (c.loop-element.invariant.1 t e),
+    )
 
-pub returns : goal.returns
-returns t c = λ t e.
+pub returns-clause-added : goal.returns-clause-added
+returns-clause-added t c = λ t e.
     template_done (bindings_of c.args.bindings.now) _ _ c.loop-element.rest c.in_default.ensures.steps.0 (c.loop-element.invariant.1 t e)

@@ -2,8 +2,9 @@ use Rattle.std.proofs.lemmas.Result.{on_ok_weaker}
 use Rattle.expander.proofs.FillingLemmas.{itself_added}
 use Rattle.expander.proofs.substitution.extend_by_itself.Goals as goal
 
-pub returns : goal.returns
-returns c =
+pub returns-clause-added : goal.returns-clause-added
+returns-clause-added c =
     on_ok_weaker c.push-2.result
-      (λ e. itself_added c.args.out.now c.push.new.self c.push-2.new.self c.args.name c.args.span c.made-span.result c.made-span.ensures c.in_ok-push.ensures.ok e)
-      c.push-2.ensures.ok
+    (λ e. itself_added c.args.out.now c.push.new.self c.push-2.new.self c.args.name c.args.span c.made-span.result c.made-span.ensures
+    c.in_ok-push.ensures.ok e)
+    c.push-2.ensures.ok

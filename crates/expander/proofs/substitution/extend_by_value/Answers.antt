@@ -11,19 +11,22 @@ pub loop-element-preserved-in-Continue-1 : goal.loop-element-preserved-in-Contin
 loop-element-preserved-in-Continue-1 c =
     let passed : c.loop-element.rest ≡ leaf c.in-Leaf.leaf c.next.new.self = passed_leaf _ _ _ _ _ c.in-Some.ensures.steps c.in-Leaf.is refl in
     elim c.if-is_empty.branch [
-      then-is_empty w ↦
-        last_alone c.loop-element.out _ _ c.in-Leaf.leaf c.if-is_empty.leaf c.loop-element.rest _ c.in_ok-push-in-Leaf.ensures.ok passed (w.leaf-is ∙ w.alone-leaf.ensures)
+      | then-is_empty w ↦
+          last_alone c.loop-element.out _ _ c.in-Leaf.leaf c.if-is_empty.leaf c.loop-element.rest _ c.in_ok-push-in-Leaf.ensures.ok passed
+          (w.leaf-is ∙ w.alone-leaf.ensures)
           (c.is_empty.ensures.0 w.if-is_empty.true) c.loop-element.invariant
-    | else-is_empty w ↦
-        not_last c.loop-element.out _ _ c.in-Leaf.leaf c.if-is_empty.leaf c.loop-element.rest _ c.in_ok-push-in-Leaf.ensures.ok passed w.leaf-is
-          (λ e. not_true c.is_empty.result w.if-is_empty.false (c.is_empty.ensures.1 e)) c.loop-element.invariant ]
+      | else-is_empty w ↦
+          not_last c.loop-element.out _ _ c.in-Leaf.leaf c.if-is_empty.leaf c.loop-element.rest _ c.in_ok-push-in-Leaf.ensures.ok passed w.leaf-is
+          (λ e. not_true c.is_empty.result w.if-is_empty.false (c.is_empty.ensures.1 e)) c.loop-element.invariant
+    ]
 
 pub loop-element-preserved : goal.loop-element-preserved
 loop-element-preserved c =
-    let passed : c.loop-element.rest ≡ group c.in-Subtree.subtree.delimiter c.in-Subtree.inner c.next.new.self = passed_group _ _ _ _ _ c.in-Some.ensures.steps c.in-Subtree.is in
+    let passed : c.loop-element.rest ≡ group c.in-Subtree.subtree.delimiter c.in-Subtree.inner c.next.new.self =
+    passed_group _ _ _ _ _ c.in-Some.ensures.steps c.in-Subtree.is in
     group_added c.loop-element.out c.open.new.self c.extend.new.out _ _ c.in-Subtree.subtree.delimiter c.in-Subtree.inner _
-      c.in_ok-open-in-Subtree.ensures.ok c.in_ok-extend-in-Subtree.ensures c.in-Ok.ensures.ok
-      (ap (λ f. with_trees c.loop-element.out (with_last_alone f)) (sym passed) ∙ c.loop-element.invariant)
+    c.in_ok-open-in-Subtree.ensures.ok c.in_ok-extend-in-Subtree.ensures.added c.in-Ok.ensures.ok
+    (ap (λ f. with_trees c.loop-element.out (with_last_alone f)) (sym passed) ∙ c.loop-element.invariant)
 
-pub returns : goal.returns
-returns c = all_added _ _ (with_last_alone c.loop-element.rest) (ap with_last_alone c.in_default.ensures.steps.0) c.loop-element.invariant
+pub returns-clause-added : goal.returns-clause-added
+returns-clause-added c = all_added _ _ (with_last_alone c.loop-element.rest) (ap with_last_alone c.in_default.ensures.steps.0) c.loop-element.invariant

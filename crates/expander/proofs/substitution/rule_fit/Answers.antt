@@ -1,5 +1,4 @@
-use Rattle.std.proofs.Common.{ap}
-use Rattle.tt.specs.Building.{Building}
+use Rattle.std.proofs.Common.{◌≡◌, [], rules}
 use Rattle.expander.specs.Bound.{bindings_of}
 use Rattle.expander.specs.ThinRules.{template_of}
 use Rattle.expander.proofs.TemplateLemmas.{none_open}
@@ -7,7 +6,8 @@ use Rattle.expander.proofs.substitution.rule_fit.Goals as goal
 
 pub unreachable-requires : goal.unreachable-requires
 unreachable-requires c =
+    let started : c.in_ok-out.out.groups ≡ [] = search rules in
     let closed = none_open (bindings_of c.fit.new.bindings) c.in_ok-out.out c.substitute.new.out (template_of c.args.rule.now.template) c.requires.1
-        (ap (λ (b : Building). b.groups) c.in_ok-out.ensures.ok) c.in_ok-substitute.ensures in
+    started c.in_ok-substitute.ensures.added in
     let built = c.in_default.ensures.built.1 closed in
     cc

@@ -9,9 +9,11 @@ returns-in_err-push-clause-err c = for_err c.from_residual.result (bound_kept _ 
 pub returns-clause-ok : goal.returns-clause-ok
 returns-clause-ok c =
     let counted : c.len-index.result ≡ length c.args.self.now.taken.items = omega arith in
-    on_ok_weaker c.insert.result (λ named. bound_more c.args.self.now _ c.args.name c.args.taken c.len-index.result c.args.self.now.in_range counted c.in_ok-push.ensures.items named)
-      c.insert.ensures.ok
+    on_ok_weaker c.insert.result (λ named. bound_more c.args.self.now _ c.args.name c.args.taken c.len-index.result c.args.self.now.in_range counted
+    c.in_ok-push.ensures.items named)
+    c.insert.ensures.ok
 
 pub returns-clause-err : goal.returns-clause-err
 returns-clause-err c =
-    map_err c.insert.result (λ named. bound_same c.args.self.now _ c.args.taken c.args.self.now.in_range c.in_ok-push.ensures.items named) c.insert.ensures.err
+    map_err c.insert.result (λ named. bound_same c.args.self.now _ c.args.taken c.args.self.now.in_range c.in_ok-push.ensures.items named)
+    c.insert.ensures.err

@@ -1,5 +1,4 @@
-use Rattle.std.proofs.Common.{◌≡◌, ℕ, List, length, refl, arith, rules, if◌then◌else◌}
-use Rattle.std.specs.Prelude.{Some}
+use Rattle.std.proofs.Common.{◌≡◌, length, arith, rules}
 use Rattle.std.proofs.lemmas.Result.{on_ok_weaker}
 use Rattle.expander.proofs.ScopeLemmas.{scope_more}
 use Rattle.expander.proofs.scope.Scope.define.Goals as goal
@@ -9,4 +8,4 @@ returns c =
     let counted : c.len-index.result ≡ length c.args.self.now.known.items = omega arith in
     let name_is : c.in-Ok.name ≡ c.args.known.definition.name.sym = search rules in
     on_ok_weaker c.insert.result (λ named. scope_more c.args.self.now _ c.args.known c.len-index.result c.args.self.now.in_range counted c.in_ok-push.ensures.items (rw name_is at named))
-      c.insert.ensures.ok
+    c.insert.ensures.ok

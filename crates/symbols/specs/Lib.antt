@@ -1,0 +1,2 @@
+pub mod SharedBlock
+pub mod SymbolText

@@ -1,0 +1,85 @@
+-- What an owner of a counted block owns, and what a `&` to one holds. R is the value's row, c the block, x the value.
+use Rattle.std.specs.Prelude.{ℕ, ◌+◌, ◌-◌, ◌^◌, Bool, true, false, []}
+use base.Fraction.{full_share}
+use base.Fml.{Lft, Fml, ftrue, ffalse, fsep, fex, flt, feq, fat, fleft}
+use mir.Syntax.{Ty, Tys, w64, ty_int, ty_struct, tcons, tnil}
+use mir.Val.{vint}
+use mir.Raw.{raw}
+use prog.Memory.{align, up}
+use denote.RattleType.{RattleType}
+use denote.Memory.{lone}
+use denote.RawPtr.{Ptr, block_ptr, null_ptr, block_of, count_of, lies_at, ◌+ₚ◌}
+use denote.Struct.Lending.{lent_at}
+use denote.RcWeak.{rc_cell_owns, rc_lends}
+use Rattle.std.specs.Box.Ownership.{box_owns}
+use Rattle.std.specs.declared.alloc.Global.{Global}
+use Rattle.std.specs.contracts.impls.GlobalAllocator.TheImpl.{ghosts}
+
+-- the count at which a block is never freed
+abbrev pub most : ℕ
+most = 2 ^ 64 - 1
+
+-- the block's count is n: it lies first in the block
+abbrev pub count_at : Ptr → ℕ → Fml
+count_at (block_ptr b o) n = fat full_share (ty_int w64) b (o + 0) (vint w64 n)
+count_at null_ptr n = ffalse
+
+-- what is left of a block of the type τ with these fields, once they are out
+abbrev pub left_at : Ty → Tys → Ptr → Fml
+left_at τ τs (block_ptr b o) = fleft full_share τ τs b o
+left_at τ τs null_ptr = ffalse
+
+-- the right to free a block of the type τ, by whatever handle of the heap
+abbrev pub may_free : Ty → Ptr → Fml
+may_free τ p = fex Global (λ heap. ghosts.dealloc_token heap τ p)
+
+-- the value at p, and the right to free its block
+abbrev pub bare_owns : (R : RattleType) → Ptr → R.Denot → Fml
+bare_owns = box_owns may_free
+
+module _ (R : RattleType) (c : Ptr) (x : R.Denot) where
+  -- the types of the block's fields, as the machine sees them
+  abbrev pub field_types : Tys
+  field_types = tcons (ty_int w64) (tcons (raw (lone R.mir)) tnil)
+
+  -- the type of the block, as the machine sees it
+  abbrev pub block_type : Ty
+  block_type = ty_struct [] field_types
+
+  -- where in the block the value lies
+  abbrev pub value_offset : ℕ
+  value_offset = up (align (lone R.mir)) 8
+
+  -- all of the block but the count
+  abbrev pub rest : Fml
+  rest = fsep (lies_at R full_share (c +ₚ value_offset) x) (fsep (left_at block_type field_types c) (may_free block_type c))
+
+  -- what a `&` to the value holds
+  abbrev pub seen : Lft → Fml
+  seen = lent_at R (c +ₚ value_offset) x
+
+  -- of n owners the block's count says m: it is n, or it is at its maximum and the value stays for good
+  abbrev pub says : ℕ → ℕ → Bool → Fml
+  says n m true = fsep (feq ℕ m n) (flt n most)
+  says n m false = fsep (feq ℕ m most) (seen [])
+
+  -- the same, whichever of the two it is
+  abbrev pub said : ℕ → ℕ → Fml
+  said n m = fex Bool (says n m)
+
+  -- the count's memory for n owners; with none left it is no longer here
+  abbrev pub counting : ℕ → Bool → Fml
+  counting n true = fex ℕ (λ m. fsep (count_at c m) (said n m))
+  counting n false = feq ℕ n 0
+
+  -- the same, whether or not an owner is left
+  abbrev pub counts : ℕ → Fml
+  counts n = fex Bool (counting n)
+
+  -- what an owner owns: one part of the value's lifetime, counted by the block
+  abbrev pub owner_owns : Fml
+  owner_owns = rc_cell_owns 64 (block_of c, count_of c) counts (λ _. ftrue) rest ftrue ftrue seen
+
+  -- what a `&` to an owner holds
+  abbrev pub owner_lends : Lft → Fml
+  owner_lends = rc_lends 64 (block_of c, count_of c) counts (λ _. ftrue) rest ftrue ftrue seen

@@ -1,0 +1,126 @@
+//! A value with any number of owners, in one block with the count of them.
+ghost use Rattle.std.specs.Prelude.{◌≡◌, IfSome};
+ghost use Rattle.symbols.specs.SharedBlock.{bare_owns, owner_owns, owner_lends};
+
+use std::alloc::Global;
+use std::marker::Model;
+
+/// The count of the owners, and what they share.
+///
+/// A count that is at its maximum stays there.
+#[derive(Drop)]
+pub(crate) struct Block<T> {
+    pub(crate) owners: usize,
+    pub(crate) value: T,
+}
+
+/// A box of the heap as its pointer. Any handle of the heap can take it back.
+///
+/// It has no `Drop`: it ends by [`Bare::into_box`] alone, so no block is lost.
+pub(crate) struct Bare<T> {
+    at: *mut T,
+    pub(crate) ghost value: { T },
+}
+
+impl<T> Model for Bare<T> {
+    ghost also_owns = { λ b. bare_owns T.row b.at b.value };
+}
+
+impl<T> Bare<T> {
+    /// The box's pointer.
+    pub(crate) fn of(from: Box<T, Global>) -> Bare<T>
+    where
+        T: Drop,
+        ensures { result.value ≡ from.value }
+    {
+        let at = Box::into_raw(from);
+        Bare { at }
+    }
+
+    /// The box again.
+    pub(crate) fn into_box(self, alloc: Global) -> Box<T, Global>
+        ensures { result.value ≡ self.value }
+    {
+        let Bare { at } = self;
+        unsafe { Box::from_raw(alloc, at) }
+    }
+}
+
+/// One owner of a block.
+///
+/// It has no `Drop`: it ends by [`Shared::release`] alone, so no owner is lost.
+pub(crate) struct Shared<T> {
+    block: *const Block<T>,
+    pub(crate) ghost value: { T },
+}
+
+impl<T> Model for Shared<T> {
+    ghost also_owns = { λ s. owner_owns T.row s.block s.value };
+
+    ghost also_shares = { λ s _ κ. owner_lends T.row s.block s.value κ };
+}
+
+impl<T> Shared<T> {
+    /// The first owner of a block.
+    pub(crate) fn first(block: Bare<Block<T>>) -> Shared<T>
+        requires { block.value.owners ≡ 1 }
+        ensures { result.value ≡ block.value.value }
+    {
+        let Bare { at } = block;
+        Shared { block: at }
+    }
+
+    /// What all owners of the block share.
+    pub(crate) fn value(&self) -> &T
+        ensures { result.now ≡ self.now.value }
+    {
+        unsafe { &(*self.block).value }
+    }
+
+    /// One more owner, or `None` where the count is at its maximum or would come to it.
+    pub(crate) fn another(&self) -> Option<Shared<T>>
+        ensures { IfSome result (λ s. s.value ≡ self.now.value) }
+    {
+        let block = self.block.cast_mut();
+        unsafe {
+            let owners = (*block).owners;
+            if owners >= usize::MAX - 1 {
+                return None;
+            }
+            (*block).owners = owners + 1;
+        }
+        Some(Shared { block })
+    }
+
+    /// The value for good: the count goes to its maximum, and the block is never freed.
+    pub(crate) fn keep(&self) -> &'static T
+    where
+        T: 'static,
+        ensures { result.now ≡ self.now.value }
+    {
+        let block = self.block.cast_mut();
+        unsafe {
+            (*block).owners = usize::MAX;
+            &(*block).value
+        }
+    }
+
+    /// Gives this owner up. The last one gets the block, and no other does.
+    pub(crate) fn release(self) -> Option<Bare<Block<T>>>
+        ensures { IfSome result (λ b. b.value.value ≡ self.value) }
+    {
+        let Shared { block } = self;
+        let at = block.cast_mut();
+        unsafe {
+            let owners = (*at).owners;
+            if owners == usize::MAX {
+                return None;
+            }
+            if owners != 1 {
+                (*at).owners = owners - 1;
+                return None;
+            }
+        }
+        Some(Bare { at })
+    }
+}
