@@ -1,0 +1,442 @@
+//! Sessions over texts whose expansions were worked out by hand.
+use crate::FaultKind::{BrokenDefinition, CannotExpand, NestedDefinition, RecursionLimit};
+use crate::ReadFaultKind::{BadToken, CloserDoesNotFit, GroupLeftOpen};
+use crate::{Expansion, Fault, FaultKind, ReadFault, Reply, Session, TextRange};
+use std::alloc::Global;
+use std::process::Abort;
+use std::test::Fail;
+
+// A fault's kind, and where its bytes start and end.
+type Told = (FaultKind, u32, u32);
+
+// A text, what it prints, its faults, and how many pieces are expanded.
+type Row<'a> = (&'a str, &'a str, &'a [Told], usize);
+
+// What a session over the text replies.
+fn reply_to(rt: &impl Abort, alloc: Global, text: &str, depth: u8) -> Result<Reply, Fail> {
+    assert!(rt; text.len() < 10_000);
+    let mut session = Session::new(alloc, text, depth)?;
+    assert!(rt; session.text() == text);
+    Ok(session.expansion()?)
+}
+
+// The expansion of a text that can be read.
+fn expansion_of(rt: &impl Abort, alloc: Global, text: &str, depth: u8) -> Result<Expansion, Fail> {
+    match reply_to(rt, alloc, text, depth)? {
+        Reply::Read(expansion) => Ok(expansion),
+        Reply::Unread(_) => Err(Fail::new("the text is not read")),
+    }
+}
+
+// Asserts what a text shows at this depth.
+fn shows(rt: &impl Abort, alloc: Global, depth: u8, row: Row<'_>) -> Result<(), Fail> {
+    let (text, printed, told, expanded) = row;
+    let expansion = expansion_of(rt, alloc, text, depth)?;
+    assert!(rt;
+        expansion.printed() == printed,
+        "{:?} of {text:?}",
+        expansion.printed()
+    );
+    assert!(rt;
+        expansion.expanded() == expanded,
+        "{} of {text:?}",
+        expansion.expanded()
+    );
+    let faults = expansion.faults();
+    assert!(rt; faults.len() == told.len(), "{faults:?} of {text:?}");
+    for (fault, (kind, start, end)) in faults.iter().zip(told) {
+        let kind = *kind;
+        let range = TextRange {
+            start: *start,
+            end: *end,
+        };
+        assert!(rt; *fault == Fault { kind, range }, "{faults:?} of {text:?}");
+    }
+    Ok(())
+}
+
+// Asserts what each text shows with the levels of the program.
+fn show(rt: &impl Abort, alloc: Global, rows: &[Row<'_>]) -> Result<(), Fail> {
+    for row in rows {
+        shows(rt, alloc, 128, *row)?;
+    }
+    Ok(())
+}
+
+#[test]
+fn first_texts(rt: HostRuntime) -> Result<(), Fail> {
+    show(
+        &rt,
+        rt.alloc(),
+        &[
+            ("", "", &[], 0),
+            (
+                "macro_rules! p { ($a:ident $b:tt) => { $b $a } }\np!{ x y }\n",
+                "y x\n",
+                &[],
+                1,
+            ),
+            (
+                "macro_rules! s { ($a:tt) => { ($a) x } }\ns!{ + } y;\n",
+                "( + ) x y ;\n",
+                &[],
+                2,
+            ),
+            ("macro_rules! e { () => { } }\ne!{}\n", "", &[], 1),
+            (
+                "m!{}\nmacro_rules! m { () => { x } }\n",
+                "m ! { }\n",
+                &[],
+                1,
+            ),
+            (
+                "macro_rules! d { () => { macro_rules } }\nd!{}\n! e { () => { x } }\n",
+                "macro_rules ! e { ( ) => { x } }\n",
+                &[(NestedDefinition, 41, 42)],
+                2,
+            ),
+            (
+                "macro_rules! f { (x) => { y } }\nf!(f!(x));\n",
+                "f ! ( f ! ( x ) ) ;\n",
+                &[(CannotExpand, 32, 33)],
+                1,
+            ),
+        ],
+    )
+}
+
+#[test]
+fn definitions(rt: HostRuntime) -> Result<(), Fail> {
+    show(
+        &rt,
+        rt.alloc(),
+        &[
+            // Brackets of each kind, and attributes before.
+            (
+                "macro_rules! m ( () => { x } );\n#[a] #[b(c)] macro_rules! n [ () => ( y ); ];\nm!(); n![];\n",
+                "x ;\ny ;\n",
+                &[],
+                2,
+            ),
+            // Without its `;` it is none.
+            (
+                "macro_rules! m ( () => { x } )\nm!{}\n",
+                "macro_rules ! m ( ( ) => { x } ) m ! { }\n",
+                &[(NestedDefinition, 0, 11)],
+                1,
+            ),
+            // Of two of one name the nearest before, and none inside a group.
+            (
+                "macro_rules! m { () => { x } }\nm!{}\nmacro_rules! m { () => { y } }\nm!{}\n",
+                "x y\n",
+                &[],
+                2,
+            ),
+            (
+                "mod a { macro_rules! m { () => { x } } }\nm!{}\n",
+                "mod a { macro_rules ! m { ( ) => { x } } }\nm ! { }\n",
+                &[(NestedDefinition, 8, 19)],
+                2,
+            ),
+            // No rule at all.
+            (
+                "macro_rules! m { }\nm!{}\n",
+                "m ! { }\n",
+                &[(CannotExpand, 19, 20)],
+                1,
+            ),
+            (
+                "é!{} macro_rules! é { ($ñ:ident) => { $ñ Δ } }\né!{ 名 }\n",
+                "é ! { }\n名 Δ\n",
+                &[],
+                2,
+            ),
+            // A broken one takes its name all the same.
+            (
+                "macro_rules! m { () => { x } }\nmacro_rules! m { () }\nm!{}\n",
+                "m ! { }\n",
+                &[(BrokenDefinition, 44, 45), (BrokenDefinition, 53, 54)],
+                1,
+            ),
+        ],
+    )
+}
+
+#[test]
+fn broken_definitions(rt: HostRuntime) -> Result<(), Fail> {
+    let bodies = [
+        "()",
+        "() -> { }",
+        "() => { } x",
+        "() => { } () => { }",
+        "() => { };;",
+        "() => { $crate }",
+        "() => { $ }",
+        "() => { ($(x)*) }",
+        "($($a:tt)*) => { }",
+        "($a) => { }",
+        "([$a:expr]) => { }",
+        "attr() () => { }",
+        "unsafe () => { }",
+    ];
+    for body in bodies {
+        let text = format!(in rt.alloc(); "macro_rules! m {{ {body} }}\n")?;
+        shows(
+            &rt,
+            rt.alloc(),
+            128,
+            (text.as_str(), "", &[(BrokenDefinition, 13, 14)], 0),
+        )?;
+    }
+    show(
+        &rt,
+        rt.alloc(),
+        &[
+            (
+                "macro k($a:ident) { $a }\nk!{z}\n",
+                "k ! { z }\n",
+                &[(BrokenDefinition, 6, 7), (BrokenDefinition, 25, 26)],
+                1,
+            ),
+            (
+                "pub(a) macro k { () => { } }",
+                "",
+                &[(BrokenDefinition, 13, 14)],
+                0,
+            ),
+        ],
+    )
+}
+
+#[test]
+fn matching(rt: HostRuntime) -> Result<(), Fail> {
+    show(
+        &rt,
+        rt.alloc(),
+        &[
+            // The first rule that fits, and `_` is no identifier.
+            (
+                "macro_rules! m { ($a:ident) => { x }; ($a:tt) => { y } }\nm!{ _ }\nm!{ z }\nm!{ + }\n",
+                "y x y\n",
+                &[],
+                3,
+            ),
+            // Operators whole, in the argument and in the pattern.
+            (
+                "macro_rules! m { ($a:tt $b:tt) => { $b $a } }\nm!{ ..= x }\nm!{ .. = }\n",
+                "x ..= = ..\n",
+                &[],
+                2,
+            ),
+            (
+                "macro_rules! m { (a <<= b) => { x } }\nm!{ a <<= b }\nm!{ a << = b }\n",
+                "x m ! { a << = b }\n",
+                &[(CannotExpand, 52, 53)],
+                2,
+            ),
+            // Groups by kind, and whole.
+            (
+                "macro_rules! m { ($a:tt [ { $b:ident } ]) => { ($b [ $a ]) } }\nm!{ (x) [ { y } ] }\n",
+                "( y [ ( x ) ] )\n",
+                &[],
+                1,
+            ),
+            (
+                "macro_rules! m { ((a)) => { y } }\nm!{ [a] }\n",
+                "m ! { [ a ] }\n",
+                &[(CannotExpand, 34, 35)],
+                1,
+            ),
+            // The argument is used up.
+            (
+                "macro_rules! m { (a) => { y } }\nm!{ a b }\n",
+                "m ! { a b }\n",
+                &[(CannotExpand, 32, 33)],
+                1,
+            ),
+            // A name bound twice has what it took last, one that is not bound stands for itself.
+            (
+                "macro_rules! m { ($a:tt $a:tt) => { $a $y } }\nm!{ x (z) }\n",
+                "( z ) $ y\n",
+                &[],
+                1,
+            ),
+        ],
+    )
+}
+
+#[test]
+fn pieces_and_calls(rt: HostRuntime) -> Result<(), Fail> {
+    show(
+        &rt,
+        rt.alloc(),
+        &[
+            ("a;b;;c", "a ;\nb ;\n;\nc\n", &[], 4),
+            (
+                "#![a]\nmacro_rules! e { () => { x } }\ne!{}\n",
+                "#! [ a ] x\n",
+                &[],
+                2,
+            ),
+            (
+                "#[a] struct S { b: C; } #![d]",
+                "# [ a ] struct S { b : C ; }\n#! [ d ]\n",
+                &[],
+                2,
+            ),
+            // What stands behind a `::` is no call, two `:` apart are none.
+            (
+                "macro_rules! f { () => { y } }\na::f!();\na: :f!();\n",
+                "a :: f ! ( ) ;\na : : y ;\n",
+                &[],
+                2,
+            ),
+            // Groups and what a call gives are not searched yet.
+            (
+                "macro_rules! f { () => { g!() } }\nmacro_rules! g { () => { x } }\n(f!()) g!() f![];\n",
+                "( f ! ( ) ) x g ! ( ) ;\n",
+                &[],
+                1,
+            ),
+            // Faults in order, and several of one place.
+            (
+                "macro_rules! m { (x) => { macro macro } }\nm!{ y } m!{ x } macro_rules\nmacro_rules! n { x }\n",
+                "m ! { y }\nmacro macro macro_rules macro_rules ! n { x }\n",
+                &[
+                    (CannotExpand, 42, 43),
+                    (NestedDefinition, 50, 51),
+                    (NestedDefinition, 50, 51),
+                    (NestedDefinition, 58, 69),
+                    (NestedDefinition, 70, 81),
+                ],
+                3,
+            ),
+        ],
+    )
+}
+
+#[test]
+fn spaces(rt: HostRuntime) -> Result<(), Fail> {
+    show(
+        &rt,
+        rt.alloc(),
+        &[
+            (
+                "macro_rules! m { ($x:tt) => { /$x } }\nm!{/}\n",
+                "/ /\n",
+                &[],
+                1,
+            ),
+            (
+                "macro_rules! m { ($a:tt) => { x +$a y } }\nm!{=}\n",
+                "x += y\n",
+                &[],
+                1,
+            ),
+            (
+                "fn f(x: &a::T)->U{x+=-y;z}",
+                "fn f ( x : & a :: T ) -> U { x +=- y ; z }\n",
+                &[],
+                1,
+            ),
+            ("x+ =y", "x + = y\n", &[], 1),
+            ("{ ;; } # #", "{ ;; }\n# #\n", &[], 2),
+        ],
+    )
+}
+
+#[test]
+fn depth_0_expands_nothing(rt: HostRuntime) -> Result<(), Fail> {
+    let rows: [Row<'_>; 2] = [
+        (
+            "macro_rules! s { (a) => { b } }\ns!{c}\n",
+            "s ! { c }\n",
+            &[(RecursionLimit, 32, 33)],
+            1,
+        ),
+        (
+            "macro_rules! s { a }\ns!{c} t!{}\n",
+            "s ! { c }\nt ! { }\n",
+            &[(BrokenDefinition, 13, 14), (BrokenDefinition, 21, 22)],
+            2,
+        ),
+    ];
+    for row in rows {
+        shows(&rt, rt.alloc(), 0, row)?;
+    }
+    Ok(())
+}
+
+#[test]
+fn counts_and_places(rt: HostRuntime) -> Result<(), Fail> {
+    let cases = [
+        ("", 0),
+        ("macro_rules! e { () => { } }\ne!{}\n", 0),
+        ("macro_rules! s { ($a:tt) => { ($a) x } }\ns!{ + } y;\n", 6),
+        ("a::f!(); x += y", 12),
+    ];
+    for (text, tokens) in cases {
+        let expansion = expansion_of(&rt, rt.alloc(), text, 128)?;
+        assert!(rt;
+            expansion.tokens() == tokens,
+            "{} of {text:?}",
+            expansion.tokens()
+        );
+        if expansion.tokens() > 0 {
+            assert!(rt; expansion.origin(0).is_none());
+        }
+    }
+    Ok(())
+}
+
+#[test]
+fn texts_that_are_not_read(rt: HostRuntime) -> Result<(), Fail> {
+    let cases = [
+        ("fn f( {", GroupLeftOpen, 6, 7),
+        ("{} (()", GroupLeftOpen, 3, 4),
+        ("(]", CloserDoesNotFit, 1, 2),
+        ("([)", CloserDoesNotFit, 2, 3),
+        ("é)", CloserDoesNotFit, 2, 3),
+        ("x \"ab\"", BadToken, 2, 3),
+        ("x 7 \"", BadToken, 2, 3),
+        ("a // b", BadToken, 2, 3),
+        ("/* a */", BadToken, 0, 1),
+        ("&'a T", BadToken, 1, 2),
+        ("r#fn )", BadToken, 0, 1),
+        ("( 😀 ]", BadToken, 2, 6),
+    ];
+    for (text, kind, start, end) in cases {
+        let fault = match reply_to(&rt, rt.alloc(), text, 128)? {
+            Reply::Read(_) => return Err(Fail::new("the text is read")),
+            Reply::Unread(fault) => fault,
+        };
+        let range = TextRange { start, end };
+        assert!(rt; fault == ReadFault { kind, range }, "{fault:?} of {text:?}");
+    }
+    Ok(())
+}
+
+#[test]
+fn deep_groups(rt: HostRuntime) -> Result<(), Fail> {
+    let definition = "macro_rules! m { ($a:tt) => { $a } }\n";
+    let mut text = String::from_str(rt.alloc(), definition)?;
+    let mut printed = String::new(rt.alloc());
+    text.push_str("m!{")?;
+    for _ in 0..500 {
+        text.push_str("(")?;
+        printed.push_str("( ")?;
+    }
+    for _ in 0..500 {
+        text.push_str(")")?;
+        printed.push_str(") ")?;
+    }
+    text.push_str("}")?;
+    let _ = printed.pop();
+    printed.push_str("\n")?;
+    shows(
+        &rt,
+        rt.alloc(),
+        128,
+        (text.as_str(), printed.as_str(), &[], 1),
+    )
+}
