@@ -20,6 +20,7 @@ pub mod ReadingLemmas
 pub mod BindingLemmas
 mod BehindLemmas
 mod FillingLemmas
+mod TooManyLemmas
 mod FitLemmas
 mod ScopeLemmas
 mod PassedLemmas

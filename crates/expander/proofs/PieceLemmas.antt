@@ -46,7 +46,7 @@ free_if : (d e : Definition) (b : Bool) (o : Option Definition) → is_free_of "
 free_if d e true o free later h = let same : d ≡ e = cc in ap (λ (x : Definition). is_free_of "!" x.body) (sym same) ∙ free
 free_if d e false o free later h = later h
 
-nearest_first : (d : Definition) (before : List Definition) (name : List ℕ) → nearest (d ∷ before) name ≡ (if same_text d.name.sym name then Some d else nearest before name)
+pub nearest_first : (d : Definition) (before : List Definition) (name : List ℕ) → nearest (d ∷ before) name ≡ (if same_text d.name.sym name then Some d else nearest before name)
 nearest_first d before name = refl
 
 -- a definition

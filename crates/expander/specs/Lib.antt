@@ -20,6 +20,7 @@ pub mod Thin
 pub mod State
 pub mod Expanded
 pub mod Refusals
+pub mod TooMany
 pub mod Replies
 pub mod Watch
 pub mod Runs

@@ -1,6 +1,9 @@
 // The expansion of a text's pieces.
-ghost use Rattle.std.specs.Prelude.{◌≡◌, ◌<◌, ◌≤◌, ◌+◌, ◌^◌, ◌++◌, ◌∷◌, [], ℕ, List, true, IfOk, OnOk, Some, Option};
-ghost use Rattle.expander.specs.Definitions.{nearest};
+ghost use Rattle.std.specs.Prelude.{◌≡◌, ◌<◌, ◌≤◌, ◌+◌, ◌^◌, ◌++◌, ◌∷◌, [], ℕ, List, true, IfOk, OnOk, Some, None, Err, Option};
+ghost use Rattle.expander.specs.Definitions.{definition_of, nearest};
+ghost use Rattle.expander.specs.Filling.{GivesTooMany};
+ghost use Rattle.expander.specs.Meaning.{with_definition};
+ghost use Rattle.expander.specs.TooMany.{IsTooMuch, CallsTooMuch, HasTooManyAfter};
 ghost use Rattle.expander.specs.Pieces.{cut};
 ghost use Rattle.expander.specs.PieceTurns.{TakesPiece, IsOutputOf, told_if_broken};
 ghost use Rattle.tt_data.specs.Forest.{Forest, joined, size, empty};
@@ -10,7 +13,7 @@ ghost use Rattle.expander.specs.Expansion.{CallSite, placed, unbroken};
 ghost use Rattle.expander.specs.Faults.{fault_at};
 ghost use Rattle.expander.specs.OutputSteps.{steps_of_output};
 ghost use Rattle.expander.specs.ScopeTable.{definitions_of};
-ghost use Rattle.expander.specs.Thin.{thin_world, is_free_of, groups_are_free_of};
+ghost use Rattle.expander.specs.Thin.{thin_layers, thin_world, is_free_of, groups_are_free_of};
 ghost use Rattle.expander.specs.Turns.{deeper_at, searched, Adds, Turn, Tries, AreFree, IsBehindFirst};
 ghost use Rattle.expander.specs.declared.definitions.Definition.{Definition};
 
@@ -69,11 +72,12 @@ fn expand_by(
     depth: u8,
     call: &Call<'_>,
 ) -> Result<Option<FaultKind>, TtFault>
-    ensures { (scope : List ℕ → Option Definition) (site : CallSite) →
+    ensures tries { (scope : List ℕ → Option Definition) (site : CallSite) →
         site.at ≡ call.now.name.span → site.argument ≡ call.now.argument →
         is_free_of "!" known.now.definition.body ≡ true → is_free_of "!" call.now.argument ≡ true →
         IfOk result (Tries steps.old.items steps.new.items site
         (unbroken thin_world known.now.definition (thin_world.broken known.now.definition) (deeper_at scope depth) None site)) }
+    ensures tokens { result ≡ Err TtFault.Tokens → GivesTooMany (thin_world.fit known.now.definition call.now.argument) }
 {
     let Some(rules) = &known.rules else {
         return Ok(Some(FaultKind::BrokenDefinition));
@@ -102,6 +106,8 @@ fn expand_call<'a>(
     ensures plain { OnOk result (out.new.plain ≡ out.old.plain) }
     ensures turn { groups_are_free_of "!" trees.old ≡ true → AreFree (definitions_of scope.now) →
         OnOk result (Turn (definitions_of scope.now) depth out.old.steps.items out.new.steps.items out.old.faults.items out.new.faults.items trees.old trees.new) }
+    ensures rest { OnOk result (trees.new ≡ call.entry.rest) }
+    ensures tokens { result ≡ Err TtFault.Tokens → IsTooMuch (definitions_of scope.now) call.entry }
 {
     let Some(known) = scope.find(&call.name.sym) else {
         keep(&mut out.steps, trees, call.rest)?;
@@ -142,6 +148,7 @@ fn expand_piece(
     ensures adds { groups_are_free_of "!" piece.now ≡ true → AreFree (definitions_of scope.now) →
         OnOk result (Adds out.old.steps.items out.new.steps.items out.old.faults.items out.new.faults.items
         (searched (definitions_of scope.now) depth piece.now)) }
+    ensures tokens { result ≡ Err TtFault.Tokens → CallsTooMuch (definitions_of scope.now) piece.now }
 {
     let mut rest = again(piece);
     while !rest.is_empty() {
@@ -183,6 +190,10 @@ fn take_piece<'a>(
     ensures turn { (before : List Definition) → definitions_of scope.old ≡ nearest before → AreFree (nearest before) →
         groups_are_free_of "!" piece.now ≡ true →
         OnOk result (TakesPiece depth before piece.now (definitions_of scope.new) out.old out.new) }
+    ensures finds { (before : List Definition) → definitions_of scope.old ≡ nearest before →
+        OnOk result (definitions_of scope.new ≡ nearest (with_definition thin_layers 0 (definition_of piece.now) before)) }
+    ensures tokens { result ≡ Err TtFault.Tokens →
+        (definition_of piece.now ≡ None) × CallsTooMuch (definitions_of scope.old) piece.now }
 {
     let Some(definition) = definition_of(piece) else {
         expand_piece(alloc, scope, depth, out, piece)?;
@@ -197,7 +208,8 @@ fn take_piece<'a>(
 
 /// Expands the pieces of a text, each under the definitions before it.
 pub(crate) fn expand_pieces(alloc: Global, depth: u8, trees: &TtIter<'_>) -> Result<Output, TtFault>
-    ensures { groups_are_free_of "!" trees.now ≡ true → IfOk result (IsOutputOf depth (cut trees.now)) }
+    ensures output { groups_are_free_of "!" trees.now ≡ true → IfOk result (IsOutputOf depth (cut trees.now)) }
+    ensures tokens { result ≡ Err TtFault.Tokens → HasTooManyAfter [] (cut trees.now) }
 {
     let most = trees.remaining().len();
     let mut scope = Scope::new(alloc);

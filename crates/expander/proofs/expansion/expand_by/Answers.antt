@@ -16,8 +16,8 @@ first_fit-requires c =
     sym c.args.known.now.rules_are ∙ ap (option_map (λ v. v.items)) c.in-Some.is in
     rw c.as_slice.ensures.value (thin_rules-forms c.args.known.now.definition c.in-Some.rules.items rules_are)
 
-pub returns : goal.returns
-returns c = λ scope site at argument body_free argument_free.
+pub returns-clause-tries : goal.returns-clause-tries
+returns-clause-tries c = λ scope site at argument body_free argument_free.
     let rules_are : thin_rules c.args.known.now.definition ≡ Some c.in-Some.rules.items =
     sym c.args.known.now.rules_are ∙ ap (option_map (λ v. v.items)) c.in-Some.is in
     let gives : first_fit c.in-Some.rules.items c.args.call.now.argument ≡ Some c.in-Some-2.result.inner =

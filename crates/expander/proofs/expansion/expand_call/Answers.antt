@@ -28,7 +28,7 @@ returns-in-Some-2-clause-turn c = λ free scope_free.
     c.args.out.now.steps.items c.keep-in-Some-2.new.steps.items c.args.out.now.faults.items c.push_fault.new.faults.items
     (λ w e. stays_adds c.args.out.now.steps.items c.expand_by.new.steps.items c.keep-in-Some-2.new.steps.items c.args.out.now.faults.items c.push_fault.new.faults.items
     c.in-Some-2.kind (record { at = c.args.call.name.span; whole = w; argument = c.args.call.argument }) _
-    (rw c.in-Some-2.is at (c.in_ok-kind.ensures (definitions_of c.args.scope.now) (record { at = c.args.call.name.span; whole = w; argument = c.args.call.argument })
+    (rw c.in-Some-2.is at (c.in_ok-kind.ensures.tries (definitions_of c.args.scope.now) (record { at = c.args.call.name.span; whole = w; argument = c.args.call.argument })
     refl refl (scope_free _ _ finds) parts.0))
     c.in_ok-push_fault.ensures (c.in_ok-keep-2.ensures.steps w e)))
 
@@ -40,5 +40,5 @@ returns-clause-turn c = λ free scope_free.
     c.args.out.now.steps.items c.expand_by.new.steps.items c.args.out.now.faults.items c.args.out.now.faults.items
     (λ w e. expanded_adds c.args.out.now.steps.items c.expand_by.new.steps.items c.args.out.now.faults.items
     (record { at = c.args.call.name.span; whole = w; argument = c.args.call.argument }) _
-    (rw c.in_default-2.is at (c.in_ok-kind.ensures (definitions_of c.args.scope.now) (record { at = c.args.call.name.span; whole = w; argument = c.args.call.argument })
+    (rw c.in_default-2.is at (c.in_ok-kind.ensures.tries (definitions_of c.args.scope.now) (record { at = c.args.call.name.span; whole = w; argument = c.args.call.argument })
     refl refl (scope_free _ _ finds) parts.0)))

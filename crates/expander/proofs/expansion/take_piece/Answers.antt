@@ -5,6 +5,7 @@ use Rattle.expander.specs.Definitions.{definition_of}
 use Rattle.expander.specs.PieceTurns.{told_if_broken}
 use Rattle.expander.specs.ScopeTable.{definitions_of, defined}
 use Rattle.expander.proofs.PieceLemmas.{takes_plain, takes_definition}
+use Rattle.expander.proofs.TooManyLemmas.{finds_more}
 use Rattle.expander.proofs.expansion.take_piece.Goals as goal
 
 pub returns-in_default-clause-turn : goal.returns-in_default-clause-turn
@@ -19,3 +20,8 @@ returns-clause-turn c = λ before finds free piece_free.
     takes_definition c.args.depth before c.args.piece.now c.in-Some.definition _ _ c.args.out.now _ (sym c.in-Some.ensures) finds free piece_free
     (c.in_ok-define.ensures ∙ ap (λ (d : Definition). defined d (definitions_of c.args.scope.now)) same) refl
     (c.in_ok-tell_if_broken.ensures ∙ ap (λ (d : Definition). c.args.out.now.faults.items ++ told_if_broken d) same) refl
+
+pub returns-clause-finds : goal.returns-clause-finds
+returns-clause-finds c = λ before finds.
+    finds_more before c.args.piece.now c.in-Some.definition c.in_ok-known.known.definition (definitions_of c.args.scope.now) (definitions_of c.define.new.self)
+    (sym c.in-Some.ensures) c.in_ok-known.ensures finds c.in_ok-define.ensures

@@ -1,0 +1,56 @@
+-- What stands in a list, a piece or a text whose call would give too many tokens.
+use Rattle.std.proofs.Common.{◌≡◌, ℕ, List, [], ◌∷◌, refl, sym, ap, ◌∙◌, subst, inl, inr}
+use Rattle.std.specs.Prelude.{Option, Some, None, Result, Ok, Err, ◌⊎◌, option_and_then}
+use Rattle.std.proofs.Math.Path.{fun_ext}
+use Rattle.tt_data.proofs.ForestLemmas.{joined_assoc}
+use Rattle.expander.proofs.PieceLemmas.{nearest_first}
+use Rattle.tt_data.specs.Forest.{Forest, joined}
+use Rattle.expander.specs.declared.calls.Call.{Call}
+use Rattle.expander.specs.declared.definitions.Definition.{Definition}
+use Rattle.expander.specs.declared.rules.Rule.{Rule}
+use Rattle.expander.specs.declared.faults.ReadFault.{ReadFault}
+use Rattle.expander.specs.CallSteps.{call_at}
+use Rattle.expander.specs.Definitions.{definition_of, nearest}
+use Rattle.expander.specs.Filling.{GivesTooMany}
+use Rattle.expander.specs.Meaning.{with_definition}
+use Rattle.expander.specs.Pieces.{pieces, cut, separated}
+use Rattle.expander.specs.Thin.{thin_layers, thin_world, thin_rules}
+use Rattle.expander.specs.ThinFit.{first_fit}
+use Rattle.expander.specs.ScopeTable.{defined}
+use Rattle.expander.specs.TooMany.{IsTooMuch, CallsTooMuch, HasTooManyAfter, HasTooMany}
+
+-- what a definition gives by its rules
+pub gives_by_rules : (d : Definition) (rs : List Rule) (argument : Forest) → thin_rules d ≡ Some rs → GivesTooMany (first_fit rs argument)
+    → GivesTooMany (thin_world.fit d argument)
+gives_by_rules d rs argument e much =
+    subst GivesTooMany (sym (ap (λ o. option_and_then (λ rules. first_fit rules argument) o) e)) much
+
+-- what was passed and what is passed now
+pub passed_more : (whole rest behind passed : Forest) → whole ≡ joined passed rest → (w : Forest) × (rest ≡ joined w behind)
+    → (before : Forest) × (whole ≡ joined before behind)
+passed_more whole rest behind passed e now =
+    (joined passed now.0, e ∙ ap (joined passed) now.1 ∙ sym (joined_assoc passed now.0 behind))
+
+-- a definition's name finds it from now on
+pub finds_more : (before : List Definition) (piece : Forest) (d known : Definition) (scope new_scope : List ℕ → Option Definition)
+    → definition_of piece ≡ Some d → known ≡ d → scope ≡ nearest before → new_scope ≡ defined known scope
+    → new_scope ≡ nearest (with_definition thin_layers 0 (definition_of piece) before)
+finds_more before piece d known scope new_scope here same finds is_defined =
+    rw here (is_defined ∙ ap (λ (k : Definition). defined k scope) same ∙ ap (defined d) finds ∙ fun_ext (λ name. sym (nearest_first d before name)))
+
+-- the pieces before are behind us: what the others have, the text has
+abbrev pub IsBehind : List Forest → List Definition → List Forest → Type 0
+IsBehind all before rest = HasTooManyAfter before rest → HasTooManyAfter [] all
+
+pub one_more : (all more : List Forest) (before : List Definition) (piece : Forest) → IsBehind all before (piece ∷ more)
+    → IsBehind all (with_definition thin_layers 0 (definition_of piece) before) more
+one_more all more before piece behind = λ later. behind (inr later)
+
+pub here_too_many : (all more : List Forest) (before : List Definition) (piece : Forest) → IsBehind all before (piece ∷ more)
+    → definition_of piece ≡ None → CallsTooMuch (nearest before) piece → HasTooManyAfter [] all
+here_too_many all more before piece behind plain much = behind (inl (plain, much))
+
+pub too_many_read : (r : Result Forest ReadFault) (f inner trees : Forest) → r ≡ Ok f → inner ≡ separated f → trees ≡ inner
+    → HasTooManyAfter [] (cut trees) → HasTooMany r
+too_many_read r f inner trees e inner_is trees_is much =
+    subst HasTooMany (sym e) (subst (λ g. HasTooManyAfter [] (cut g)) (trees_is ∙ inner_is) much)

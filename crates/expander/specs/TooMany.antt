@@ -1,0 +1,38 @@
+-- Which texts have a call whose result would have more tokens than a tree may have.
+use Rattle.std.specs.Prelude.{◌≡◌, ◌⊎◌, ℕ, List, [], ◌∷◌, Option, Some, None, Result, Ok, Err}
+use Rattle.tt_data.specs.Forest.{Forest, joined}
+use Rattle.expander.specs.declared.calls.Call.{Call}
+use Rattle.expander.specs.declared.definitions.Definition.{Definition}
+use Rattle.expander.specs.declared.faults.ReadFault.{ReadFault}
+use Rattle.expander.specs.CallSteps.{call_at}
+use Rattle.expander.specs.Definitions.{definition_of, nearest}
+use Rattle.expander.specs.Filling.{GivesTooMany}
+use Rattle.expander.specs.Meaning.{with_definition}
+use Rattle.expander.specs.Pieces.{pieces}
+use Rattle.expander.specs.Thin.{thin_layers, thin_world}
+
+-- the call's name finds a definition, which gives too many tokens for its argument
+abbrev pub IsTooMuch : (List ℕ → Option Definition) → Call → Type 0
+IsTooMuch scope c =
+    (d : Definition) × (scope c.name.sym ≡ Some d) × GivesTooMany (thin_world.fit d c.argument)
+
+-- such a call stands in the list
+pub record CallsTooMuch (scope : List ℕ → Option Definition) (f : Forest) : Type 0 where
+  pub passed : Forest
+  pub rest : Forest
+  pub call : Call
+  pub splits : f ≡ joined passed rest
+  pub calls : call_at rest ≡ Some call
+  pub gives : IsTooMuch scope call
+
+-- such a call stands in one of the pieces that are no definitions; the definitions before them are given nearest first
+abbrev pub HasTooManyAfter : List Definition → List Forest → Type 0
+HasTooManyAfter before [] = ⊥
+HasTooManyAfter before (p ∷ ps) =
+    ((definition_of p ≡ None) × CallsTooMuch (nearest before) p)
+    ⊎ HasTooManyAfter (with_definition thin_layers 0 (definition_of p) before) ps
+
+-- such a call stands in a text that was read
+abbrev pub HasTooMany : Result Forest ReadFault → Type 0
+HasTooMany (Ok f) = HasTooManyAfter [] (pieces f)
+HasTooMany (Err fault) = ⊥
