@@ -20,10 +20,12 @@ pub mod ReadingLemmas
 pub mod BindingLemmas
 mod BehindLemmas
 mod FillingLemmas
+mod RoomLemmas
 mod FitLemmas
 mod ScopeLemmas
 mod PassedLemmas
 mod TemplateLemmas
+mod TemplateRoomLemmas
 mod TurnLemmas
 mod ExpandLemmas
 pub mod FreeLemmas
