@@ -21,10 +21,12 @@ pub mod BindingLemmas
 mod BehindLemmas
 mod FillingLemmas
 mod TooManyLemmas
+mod RoomLemmas
 mod FitLemmas
 mod ScopeLemmas
 mod PassedLemmas
 mod TemplateLemmas
+mod TemplateRoomLemmas
 mod TurnLemmas
 mod ExpandLemmas
 pub mod FreeLemmas

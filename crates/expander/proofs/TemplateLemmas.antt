@@ -59,7 +59,7 @@ word_put bs old out end rest more i m first is added (u, is_some, gives) =
     leaf_put bs old out end more (as_leaf.Ident i) m u (ap template_of (sym first) ∙ is_some) is added gives
 
 -- the parts of a group's template
-group_parts : (d : Delimiter) (inner more : Option Template) (u : Template) → around_template d inner more ≡ Some u
+pub group_parts : (d : Delimiter) (inner more : Option Template) (u : Template) → around_template d inner more ≡ Some u
     → (v : Template) × (w : Template) × (inner ≡ Some v) × (more ≡ Some w) × (around d v w ≡ u)
 group_parts d None more u e = cc
 group_parts d (Some v) None u e = cc

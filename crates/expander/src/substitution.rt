@@ -1,9 +1,9 @@
 // Substitution: what a rule's template gives.
-ghost use Rattle.std.specs.Prelude.{◌≡◌, All, IfErr, IfOk, IsSome, OnOk, Some, option_map};
+ghost use Rattle.std.specs.Prelude.{◌≡◌, All, Err, IfErr, IfOk, IsSome, OnOk, Some, option_map};
 ghost use Rattle.tt.specs.Tops.{Top};
 ghost use Rattle.tt_data.specs.Spans.{leaf_with};
 ghost use Rattle.expander.specs.Bound.{bindings_of};
-ghost use Rattle.expander.specs.Filling.{IsWantOfRoom, with_trees};
+ghost use Rattle.expander.specs.Filling.{GivesTooMany, IsWantOfRoom, LacksRoom, with_trees};
 ghost use Rattle.expander.specs.Text.{alone, with_last_alone};
 ghost use Rattle.expander.specs.ThinFit.{made, itself, substituted, rule_fit, first_fit};
 ghost use Rattle.expander.specs.ThinRules.{Template, template_of, IsRule};
@@ -80,6 +80,7 @@ fn alone(leaf: Leaf) -> Leaf
 fn extend(out: &mut TopSubtreeBuilder, trees: &TtIter<'_>) -> Result<(), TtFault>
     ensures faults { IfErr result IsWantOfRoom }
     ensures added { OnOk result (out.new ≡ with_trees out.old trees.now) }
+    ensures tokens { result ≡ Err TtFault.Tokens → LacksRoom out.old trees.now }
 {
     let mut rest = again(trees);
     while let Some(element) = rest.next() {
@@ -101,6 +102,7 @@ fn extend(out: &mut TopSubtreeBuilder, trees: &TtIter<'_>) -> Result<(), TtFault
 fn extend_by_value(out: &mut TopSubtreeBuilder, trees: &TtIter<'_>) -> Result<(), TtFault>
     ensures faults { IfErr result IsWantOfRoom }
     ensures added { OnOk result (out.new ≡ with_trees out.old (with_last_alone trees.now)) }
+    ensures tokens { result ≡ Err TtFault.Tokens → LacksRoom out.old (with_last_alone trees.now) }
 {
     let mut rest = again(trees);
     while let Some(element) = rest.next() {
@@ -125,6 +127,7 @@ fn extend_by_value(out: &mut TopSubtreeBuilder, trees: &TtIter<'_>) -> Result<()
 fn extend_by_itself(out: &mut TopSubtreeBuilder, name: Symbol, span: Span) -> Result<(), TtFault>
     ensures faults { IfErr result IsWantOfRoom }
     ensures added { OnOk result (out.new ≡ with_trees out.old (itself name span)) }
+    ensures tokens { result ≡ Err TtFault.Tokens → LacksRoom out.old (itself name span) }
 {
     let span = made(span);
     out.push(Leaf::Punct(Punct {
@@ -149,6 +152,8 @@ fn substitute(
     ensures faults { IfErr result IsWantOfRoom }
     ensures added { (t : Template) → template_of template.now ≡ Some t →
         OnOk result (out.new ≡ with_trees out.old (substituted (bindings_of bindings.now) t)) }
+    ensures tokens { (t : Template) → template_of template.now ≡ Some t → result ≡ Err TtFault.Tokens →
+        LacksRoom out.old (substituted (bindings_of bindings.now) t) }
 {
     let mut rest = again(template);
     while let Some(element) = rest.next() {
@@ -190,6 +195,7 @@ fn rule_fit(
     requires { IsRule rule.now }
     ensures faults { IfErr result IsWantOfRoom }
     ensures given { IfOk result (λ tree. option_map (λ (top : Top). top.inner) tree ≡ rule_fit rule.now argument.now) }
+    ensures tokens { result ≡ Err TtFault.Tokens → GivesTooMany (rule_fit rule.now argument.now) }
 {
     let mut bindings = Bindings::new(alloc);
     if !fit(alloc, &rule.pattern, argument, &mut bindings)? {
@@ -217,6 +223,7 @@ pub(crate) fn first_fit(
     requires { All IsRule rules.now }
     ensures faults { IfErr result IsWantOfRoom }
     ensures given { IfOk result (λ tree. option_map (λ (top : Top). top.inner) tree ≡ first_fit rules.now argument.now) }
+    ensures tokens { result ≡ Err TtFault.Tokens → GivesTooMany (first_fit rules.now argument.now) }
 {
     for rule in rules {
         if let Some(tree) = rule_fit(alloc, rule, argument)? {
