@@ -1,8 +1,10 @@
 //! A session over a text.
-ghost use Rattle.std.specs.Prelude.{◌≡◌, ℕ, ◌<◌, ◌^◌, List, length, string_bytes, IfOk, OnErr, Ok, Err, None};
+ghost use Rattle.std.specs.Prelude.{◌≡◌, ◌≢◌, ℕ, ◌<◌, ◌^◌, List, length, string_bytes, IfOk, OnErr, Ok, Err, None};
 ghost use Rattle.expander.specs.State.{State};
 ghost use Rattle.expander.specs.Refusals.{refusal_of};
 ghost use Rattle.expander.specs.Replies.{IsReplyTo};
+ghost use Rattle.expander.specs.Thin.{thin_layers};
+ghost use Rattle.expander.specs.TooMany.{HasTooMany};
 ghost use Rattle.expander.specs.declared.session.Refusal.TheVariants.{Memory};
 ghost use Rattle.expander.specs.Shown.{ShowsOutput};
 
@@ -148,10 +150,13 @@ impl Session {
         self.text.as_str()
     }
 
-    /// The expansion of the text, or its reading fault.
+    /// The expansion of the text, or its reading fault. Refused where there is no memory left, or where a call's result
+    /// would have more than `u32::MAX` tokens.
     pub fn expansion(&mut self) -> Result<Reply, Refusal>
         ensures reply { IfOk result (λ reply. IsReplyTo self.old reply) }
         ensures same { self.new ≡ self.old }
+        ensures tokens { result ≡ Err Refusal.Tokens → HasTooMany (thin_layers.read self.old.text) }
+        ensures numbers { result ≢ Err Refusal.Numbers }
     {
         reply_to_text(self.alloc, self.text.as_str(), self.depth)
     }
@@ -160,7 +165,9 @@ impl Session {
 // The expansion of a text, or its reading fault.
 fn reply_to_text(alloc: Global, text: &str, depth: u8) -> Result<Reply, Refusal>
     requires { length text.now < 2 ^ 32 }
-    ensures { IfOk result (IsReplyTo (record { text = text.now; depth = depth })) }
+    ensures reply { IfOk result (IsReplyTo (record { text = text.now; depth = depth })) }
+    ensures tokens { result ≡ Err Refusal.Tokens → HasTooMany (thin_layers.read text.now) }
+    ensures numbers { result ≢ Err Refusal.Numbers }
 {
     let tokens: Vec<Token> = tokenize(text, FrontmatterAllowed::No).collect(alloc)?;
     match read_tokens(alloc, text, tokens.as_slice())? {

@@ -4,6 +4,9 @@ use Rattle.expander.specs.Pieces.{cut}
 use Rattle.expander.specs.Definitions.{definition_of}
 use Rattle.expander.specs.Meaning.{with_definition}
 use Rattle.expander.specs.Thin.{thin_layers}
+use Rattle.std.specs.Prelude.{Err}
+use Rattle.tt_data.specs.declared.fault.TtFault.TheVariants.{Tokens}
+use Rattle.expander.proofs.RoomLemmas.{handed}
 use Rattle.expander.proofs.TooManyLemmas.{one_more, here_too_many}
 use Rattle.expander.proofs.PieceLemmas.{free_cut, pieces_at_first, pieces_more}
 use Rattle.expander.proofs.expansion.expand_pieces.Goals as goal
@@ -28,7 +31,6 @@ loop-piece-preserved c = (
 
 pub returns-in_err-take_piece-clause-tokens : goal.returns-in_err-take_piece-clause-tokens
 returns-in_err-take_piece-clause-tokens c = λ e.
-    let h1 = c.from_residual.ensures in let h2 = c.in_err-take_piece.ensures.tokens in
-    let much = ? in
+    let much = c.in_err-take_piece.ensures.tokens (ap Err (handed c.from_residual.result _ Tokens c.from_residual.ensures.1 e)) in
     here_too_many (cut c.args.trees.now) (cut c.next_piece.new.rest) c.loop-piece.invariant.1.0 c.in-Some.piece (rw c.in-Some.ensures.0 at c.loop-piece.invariant.1.1.1)
     much.0 (rw c.loop-piece.invariant.1.1.0 at much.1)
