@@ -14,6 +14,7 @@ mod RunLemmas
 mod RunRows
 mod MarkLemmas
 mod CallLemmas
+mod CountLemmas
 pub mod ReadStepLemmas
 pub mod ReadTokensLemmas
 pub mod ReadingLemmas

@@ -1,10 +1,10 @@
 // Reading: the tokens of a text as trees.
-ghost use Rattle.std.specs.Prelude.{◌≡◌, ℕ, ◌<◌, ◌^◌, List, [], length, chars, IfOk};
+ghost use Rattle.std.specs.Prelude.{◌≡◌, ℕ, ◌+◌, ◌<◌, ◌≤◌, ◌^◌, List, [], length, chars, IfOk, IfErr, OnOk};
 ghost use Rattle.expander.specs.ReadSteps.{Takes, IsBuilt, IsRead, first_kind, spacing_in};
 ghost use Rattle.expander.specs.Reading.{PlacedToken, placed_from, range_of, written_at, read_from};
 ghost use Rattle.expander.specs.ThinReading.{is_mark, sort_of, steps_of_sort, thin_reading};
 ghost use Rattle.rustc_lexer.specs.Lexing.{thin_tokens};
-ghost use Rattle.tt.specs.Building.{Opened};
+ghost use Rattle.tt.specs.Building.{Opened, count_of, most_tokens};
 ghost use Rattle.tt_data.specs.Forest.{Forest};
 
 use crate::faults::{ReadFault, ReadFaultKind};
@@ -104,6 +104,7 @@ fn spacing_of(builder: &TopSubtreeBuilder, char: char, next: Option<TokenKind>) 
 }
 
 // Adds what a token is read as, `text`, before the next token. Answers the fault where it cannot be read.
+// At most one token is added, and `Memory` is the only error where the builder has room for one.
 fn add(
     alloc: Global,
     builder: &mut TopSubtreeBuilder,
@@ -112,9 +113,11 @@ fn add(
     range: TextRange,
     next: Option<TokenKind>,
 ) -> Result<Option<ReadFault>, TtFault>
-    ensures { IfOk result (λ fault. (t : PlacedToken) (after : List PlacedToken) →
+    ensures takes { IfOk result (λ fault. (t : PlacedToken) (after : List PlacedToken) →
         t.text ≡ text.now → range_of t ≡ range → first_kind after ≡ next →
         Takes (steps_of_sort sort t after) builder.old builder.new fault) }
+    ensures counted { OnOk result (count_of builder.new ≤ count_of builder.old + 1) }
+    ensures memory { count_of builder.old < most_tokens → IfErr result (λ e. e ≡ TtFault.Memory) }
 {
     let span = written_at(range);
     match sort {
@@ -174,10 +177,13 @@ fn first_kind(tokens: &[Token]) -> Option<TokenKind>
 }
 
 /// The trees of the text with these tokens, each `;` of the top list standing alone, or the first fault.
+///
+/// `Memory` is its only error: a text has no more tokens than a tree has room for.
 pub(crate) fn read_tokens(alloc: Global, text: &str, tokens: &[Token]) -> Result<Read, TtFault>
     requires small { length text.now < 2 ^ 32 }
     requires tokens { tokens.now ≡ thin_tokens (chars text.now) }
-    ensures { IfOk result (λ read. IsRead (thin_reading text.now) read) }
+    ensures read { IfOk result (λ read. IsRead (thin_reading text.now) read) }
+    ensures memory { IfErr result (λ e. e ≡ TtFault.Memory) }
 {
     laws::tokens_begin();
     laws::next_token();

@@ -1,5 +1,6 @@
-use Rattle.std.proofs.Common.{length}
+use Rattle.std.proofs.Common.{◌≤◌, length}
 use Rattle.rustc_lexer.specs.Standing.{AreTokensFrom}
+use Rattle.tt.specs.Building.{count_of}
 use Rattle.expander.proofs.ReadTokensLemmas.{IsReadSoFar}
 use Rattle.expander.proofs.reading.read_tokens.Given as goal
 
@@ -7,6 +8,7 @@ abbrev pub invariant-loop-token : goal.invariant-loop-token
 invariant-loop-token l = record {
   stand : AreTokensFrom l.text l.start l.rest;
   so_far : IsReadSoFar l.text l.start l.rest l.builder;
+  counted : count_of l.builder ≤ l.start;
 }
 
 abbrev pub decreases-loop-token : goal.decreases-loop-token

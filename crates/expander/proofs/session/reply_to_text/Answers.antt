@@ -3,11 +3,11 @@ use Rattle.expander.proofs.ReplyLemmas.{read_by, means_read, reply_read, reply_f
 use Rattle.expander.proofs.session.reply_to_text.Goals as goal
 
 pub returns-in-Fault : goal.returns-in-Fault
-returns-in-Fault c = reply_fault c.args.text.now c.args.depth c.in-Fault.fault (rw c.in-Fault.is at c.in_ok-fault.ensures)
+returns-in-Fault c = reply_fault c.args.text.now c.args.depth c.in-Fault.fault (rw c.in-Fault.is at c.in_ok-fault.ensures.read)
 
 pub returns : goal.returns
 returns c =
-    let read = rw c.in-Tree.is at c.in_ok-fault.ensures in
+    let read = rw c.in-Tree.is at c.in_ok-fault.ensures.read in
     let tree = read_by _ c.in-Tree.tree read in
     reply_read c.args.text.now c.args.depth tree.0 _ tree.1.0 (λ thin.
     means_read c.args.depth c.args.text.now tree.0 c.in-Tree.tree.inner c.iter.result c.in_ok-output-in-Tree.output _ thin tree.1.0 tree.1.1
