@@ -1,5 +1,5 @@
 -- Substituting in a template where the tree has no room for what it gives.
-use Rattle.std.proofs.Common.{◌≡◌, ℕ, ◌<◌, List, sym, ap, ◌∙◌, arith}
+use Rattle.std.proofs.Common.{◌≡◌, ℕ, List, sym, ap, ◌∙◌, arith}
 use Rattle.std.proofs.lemmas.Bool.{ne_eqb, eq-eqb}
 use Rattle.std.specs.Prelude.{Option, Some, option_map}
 use Rattle.tt.specs.Building.{Building, opened, count_of, most_tokens}

@@ -1,23 +1,21 @@
 -- What stands in a list, a piece or a text whose call would give too many tokens.
-use Rattle.std.proofs.Common.{◌≡◌, ℕ, List, [], ◌∷◌, refl, sym, ap, ◌∙◌, subst, inl, inr}
-use Rattle.std.specs.Prelude.{Option, Some, None, Result, Ok, Err, ◌⊎◌, option_and_then}
+use Rattle.std.proofs.Common.{◌≡◌, ℕ, List, [], ◌∷◌, sym, ap, ◌∙◌, subst, inl, inr}
+use Rattle.std.specs.Prelude.{Option, Some, None, Result, Ok, option_and_then}
 use Rattle.std.proofs.Math.Path.{fun_ext}
 use Rattle.tt_data.proofs.ForestLemmas.{joined_assoc}
 use Rattle.expander.proofs.PieceLemmas.{nearest_first}
 use Rattle.tt_data.specs.Forest.{Forest, joined}
-use Rattle.expander.specs.declared.calls.Call.{Call}
 use Rattle.expander.specs.declared.definitions.Definition.{Definition}
 use Rattle.expander.specs.declared.rules.Rule.{Rule}
 use Rattle.expander.specs.declared.faults.ReadFault.{ReadFault}
-use Rattle.expander.specs.CallSteps.{call_at}
 use Rattle.expander.specs.Definitions.{definition_of, nearest}
 use Rattle.expander.specs.Filling.{GivesTooMany}
 use Rattle.expander.specs.Meaning.{with_definition}
-use Rattle.expander.specs.Pieces.{pieces, cut, separated}
+use Rattle.expander.specs.Pieces.{cut, separated}
 use Rattle.expander.specs.Thin.{thin_layers, thin_world, thin_rules}
 use Rattle.expander.specs.ThinFit.{first_fit}
 use Rattle.expander.specs.ScopeTable.{defined}
-use Rattle.expander.specs.TooMany.{IsTooMuch, CallsTooMuch, HasTooManyAfter, HasTooMany}
+use Rattle.expander.specs.TooMany.{CallsTooMuch, HasTooManyAfter, HasTooMany}
 
 -- what a definition gives by its rules
 pub gives_by_rules : (d : Definition) (rs : List Rule) (argument : Forest) → thin_rules d ≡ Some rs → GivesTooMany (first_fit rs argument)

@@ -1,4 +1,4 @@
-use Rattle.std.proofs.Common.{ap, ◌≡◌, ◌≢◌, sym, refl, true, false}
+use Rattle.std.proofs.Common.{ap, ◌∙◌, ◌≡◌, ◌≢◌, sym, refl, true, false}
 use Rattle.std.specs.Prelude.{None}
 use Rattle.tt_data.specs.Forest.{empty}
 use Rattle.expander.specs.CallSteps.{call_at, call_behind_colons}
@@ -20,7 +20,7 @@ loop-rest-preserved c =
     let none_here : call_at c.loop-rest.rest ≡ None = sym c.in-None.ensures in (
       c.loop-rest.invariant.0,
       passed_more c.args.piece.now c.loop-rest.rest c.keep.new.trees c.loop-rest.invariant.1.0 c.loop-rest.invariant.1.1
-      (rw (c.in_ok-keep-in-None.ensures.rest, c.behind_first-behind.ensures) (behind_passed c.loop-rest.rest (call_behind_colons c.loop-rest.rest) refl)),
+          (rw (c.in_ok-keep-in-None.ensures.rest, c.behind_first-behind.ensures) (behind_passed c.loop-rest.rest (call_behind_colons c.loop-rest.rest) refl)),
       λ free scope_free.
           let left = c.loop-rest.invariant.2 free scope_free in
           left_more (definitions_of c.args.scope.now) c.args.depth c.args.piece.now c.loop-rest.rest c.keep.new.trees
@@ -39,12 +39,12 @@ returns-in_err-expand_call-in-Some-clause-tokens c = λ e.
 
 pub loop-rest-preserved-in-Continue-1 : goal.loop-rest-preserved-in-Continue-1
 loop-rest-preserved-in-Continue-1 c = (
-  c.in_ok-expand_call.ensures.plain ∙ c.loop-rest.invariant.0,
+  c.in_ok-expand_call-in-Some.ensures.plain ∙ c.loop-rest.invariant.0,
   passed_more c.args.piece.now c.loop-rest.rest c.expand_call.new.trees c.loop-rest.invariant.1.0 c.loop-rest.invariant.1.1
-      (rw c.in_ok-expand_call.ensures.rest (call_passed c.loop-rest.rest c.in-Some.call (sym c.in-Some.ensures))),
+      (rw c.in_ok-expand_call-in-Some.ensures.rest (call_passed c.loop-rest.rest c.in-Some.call (sym c.in-Some.ensures))),
   λ free scope_free.
       let left = c.loop-rest.invariant.2 free scope_free in
       left_more (definitions_of c.args.scope.now) c.args.depth c.args.piece.now c.loop-rest.rest c.expand_call.new.trees
       c.args.out.now.steps.items c.loop-rest.out.steps.items c.expand_call.new.out.steps.items c.args.out.now.faults.items c.loop-rest.out.faults.items c.expand_call.new.out.faults.items
-      left (c.in_ok-expand_call.ensures.turn left.free scope_free),
+      left (c.in_ok-expand_call-in-Some.ensures.turn left.free scope_free),
 )

@@ -22,9 +22,13 @@ loop-piece-init c =
 pub loop-piece-preserved : goal.loop-piece-preserved
 loop-piece-preserved c = (
   omega (arith, c.in_ok-take_piece.ensures.plain, c.loop-piece.invariant.0, c.in-Some.ensures.1),
-  (with_definition thin_layers 0 (definition_of c.in-Some.piece) c.loop-piece.invariant.1.0,
-  (c.in_ok-take_piece.ensures.finds c.loop-piece.invariant.1.0 c.loop-piece.invariant.1.1.0,
-  one_more (cut c.args.trees.now) (cut c.next_piece.new.rest) c.loop-piece.invariant.1.0 c.in-Some.piece (rw c.in-Some.ensures.0 at c.loop-piece.invariant.1.1.1))),
+  (
+    with_definition thin_layers 0 (definition_of c.in-Some.piece) c.loop-piece.invariant.1.0,
+    (
+      c.in_ok-take_piece.ensures.finds c.loop-piece.invariant.1.0 c.loop-piece.invariant.1.1.0,
+      one_more (cut c.args.trees.now) (cut c.next_piece.new.rest) c.loop-piece.invariant.1.0 c.in-Some.piece (rw c.in-Some.ensures.0 at c.loop-piece.invariant.1.1.1),
+    ),
+  ),
   λ free. pieces_more c.args.depth (cut c.args.trees.now) (cut c.next_piece.new.rest) c.in-Some.piece _ _ c.loop-piece.out c.take_piece.new.out
       (rw c.in-Some.ensures.0 at (c.loop-piece.invariant.2 free)) c.in_ok-take_piece.ensures.turn,
 )
