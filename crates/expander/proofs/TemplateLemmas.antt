@@ -23,16 +23,16 @@ abbrev pub Goes : Bindings → Building → Forest → Building → Type 0
 Goes bs out rest end = (u : Template) × (template_of rest ≡ Some u) × (with_trees out (substituted bs u) ≡ end)
 
 -- a name, after its `$`
-pub name_put : (bs : Bindings) (old out end : Building) (rest more behind : Forest) (p : Punct) (x : List ℕ) (taken : Option Forest)
-    → rest ≡ leaf (as_leaf.Punct p) more → p.char ≡ 36 → name_after more ≡ Some (x, behind) → bs x ≡ taken
-    → out ≡ with_trees old (value_of x p.span taken) → Goes bs old rest end → Goes bs out behind end
-name_put bs old out end rest more behind p x taken first dollar name is added (u, is_some, gives) =
+pub name_put : (bs : Bindings) (old out end : Building) (rest more behind : Forest) (p : Punct) (x : List ℕ)
+    → rest ≡ leaf (as_leaf.Punct p) more → p.char ≡ 36 → name_after more ≡ Some (x, behind)
+    → out ≡ with_trees old (value_of x p.span (bs x)) → Goes bs old rest end → Goes bs out behind end
+name_put bs old out end rest more behind p x first dollar name added (u, is_some, gives) =
     let begun : option_map (put x p.span) (template_of behind) ≡ Some u =
     sym (name_begins p more behind x (eq-eqb p.char 36 dollar) name) ∙ ap template_of (sym first) ∙ is_some in
     let v = map_some (template_of behind) (put x p.span) u begun in (
       v.0,
       v.1,
-      ap (λ b. with_trees b (substituted bs v.0)) (added ∙ ap (λ o. with_trees old (value_of x p.span o)) (sym is))
+      ap (λ b. with_trees b (substituted bs v.0)) added
           ∙ with_more old (value_of x p.span (bs x)) (substituted bs v.0) ∙ ap (λ w. with_trees old (substituted bs w)) v.2 ∙ gives,
     )
 

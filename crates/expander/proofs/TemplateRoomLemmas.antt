@@ -1,7 +1,7 @@
 -- Substituting in a template where the tree has no room for what it gives.
 use Rattle.std.proofs.Common.{◌≡◌, ℕ, List, sym, ap, ◌∙◌, arith}
 use Rattle.std.proofs.lemmas.Bool.{ne_eqb, eq-eqb}
-use Rattle.std.specs.Prelude.{Option, Some, option_map}
+use Rattle.std.specs.Prelude.{Some, option_map}
 use Rattle.tt.specs.Building.{Building, opened, count_of, most_tokens}
 use Rattle.tt_data.specs.Forest.{Forest, leaf, group, size}
 use Rattle.tt_data.specs.Spans.{delimiter_with}
@@ -30,15 +30,14 @@ pub template_lacks : (bs : Bindings) (old out : Building) (rest : Forest) (t : T
 template_lacks bs old out rest t (u, is_some, gives) less = lacked old out (substituted bs t) (substituted bs u) gives (less u is_some)
 
 -- the trees in a name's place find no room
-pub name_lacks : (bs : Bindings) (out : Building) (rest more behind : Forest) (p : Punct) (x : List ℕ) (taken : Option Forest)
-    → rest ≡ leaf (as_leaf.Punct p) more → p.char ≡ 36 → name_after more ≡ Some (x, behind) → bs x ≡ taken
-    → LacksRoom out (value_of x p.span taken) → Lacks bs out rest
-name_lacks bs out rest more behind p x taken first dollar name is less u is_some =
+pub name_lacks : (bs : Bindings) (out : Building) (rest more behind : Forest) (p : Punct) (x : List ℕ)
+    → rest ≡ leaf (as_leaf.Punct p) more → p.char ≡ 36 → name_after more ≡ Some (x, behind)
+    → LacksRoom out (value_of x p.span (bs x)) → Lacks bs out rest
+name_lacks bs out rest more behind p x first dollar name less u is_some =
     let begun : option_map (put x p.span) (template_of behind) ≡ Some u =
     sym (name_begins p more behind x (eq-eqb p.char 36 dollar) name) ∙ ap template_of (sym first) ∙ is_some in
     let v = map_some (template_of behind) (put x p.span) u begun in
-    omega
-    (arith, less, ap (λ o. size (value_of x p.span o)) is, size-joined (value_of x p.span (bs x)) (substituted bs v.0), ap (λ w. size (substituted bs w)) v.2)
+    omega (arith, less, size-joined (value_of x p.span (bs x)) (substituted bs v.0), ap (λ w. size (substituted bs w)) v.2)
 
 -- the tree is full before a leaf
 leaf_lacks : (bs : Bindings) (out : Building) (more : Forest) (l : Leaf) (u : Template) → option_map (exactly l) (template_of more) ≡ Some u

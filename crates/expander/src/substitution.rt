@@ -5,7 +5,7 @@ ghost use Rattle.tt_data.specs.Spans.{leaf_with};
 ghost use Rattle.expander.specs.Bound.{bindings_of};
 ghost use Rattle.expander.specs.Filling.{GivesTooMany, IsWantOfRoom, LacksRoom, with_trees};
 ghost use Rattle.expander.specs.Text.{alone, with_last_alone};
-ghost use Rattle.expander.specs.ThinFit.{made, itself, substituted, rule_fit, first_fit};
+ghost use Rattle.expander.specs.ThinFit.{made, itself, value_of, substituted, rule_fit, first_fit};
 ghost use Rattle.expander.specs.ThinRules.{Template, template_of, IsRule};
 
 use crate::bindings::Bindings;
@@ -142,6 +142,23 @@ fn extend_by_itself(out: &mut TopSubtreeBuilder, name: Symbol, span: Span) -> Re
     }))
 }
 
+// Adds what stands in the place of a name and its `$`: the trees that it took, or the name itself.
+fn extend_by_name(
+    out: &mut TopSubtreeBuilder,
+    bindings: &Bindings<'_>,
+    name: Symbol,
+    span: Span,
+) -> Result<(), TtFault>
+    ensures faults { IfErr result IsWantOfRoom }
+    ensures added { OnOk result (out.new ≡ with_trees out.old (value_of name span (bindings_of bindings.now name))) }
+    ensures tokens { result ≡ Err TtFault.Tokens → LacksRoom out.old (value_of name span (bindings_of bindings.now name)) }
+{
+    match bindings.get(&name) {
+        Some(taken) => extend_by_value(out, taken),
+        None => extend_by_itself(out, name, span),
+    }
+}
+
 /// Adds what the template gives with these bindings.
 fn substitute(
     out: &mut TopSubtreeBuilder,
@@ -164,10 +181,7 @@ fn substitute(
                         unreachable!()
                     };
                     rest = behind;
-                    match bindings.get(&name) {
-                        Some(taken) => extend_by_value(out, taken)?,
-                        None => extend_by_itself(out, name, punct.span)?,
-                    }
+                    extend_by_name(out, bindings, name, punct.span)?;
                 } else {
                     out.push(made_leaf(Leaf::Punct(punct)))?;
                 }

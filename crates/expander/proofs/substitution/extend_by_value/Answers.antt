@@ -1,11 +1,10 @@
-use Rattle.std.proofs.Common.{◌≡◌, refl, sym, ap, ◌∙◌, arith}
-use Rattle.std.specs.Prelude.{Err}
-use Rattle.tt_data.specs.Forest.{leaf, group, size}
+use Rattle.std.proofs.Common.{◌≡◌, refl, sym, ap, ◌∙◌}
+use Rattle.tt_data.specs.Forest.{leaf, group}
 use Rattle.expander.specs.Filling.{with_trees}
 use Rattle.expander.specs.Text.{with_last_alone}
 use Rattle.expander.proofs.FillingLemmas.{last_alone, not_last, not_true, group_added, all_added}
 use Rattle.expander.proofs.PassedLemmas.{passed_leaf, passed_group}
-use Rattle.expander.proofs.RoomLemmas.{handed, lacked, full, group_lacks, size-last_alone}
+use Rattle.expander.proofs.RoomLemmas.{handed, lacked, full_for_leaf, full_for_group, group_lacks, alone_lacks}
 use Rattle.expander.proofs.substitution.extend_by_value.Goals as goal
 use Rattle.expander.proofs.substitution.extend_by_value.Goals.{then-is_empty, else-is_empty}
 
@@ -35,26 +34,21 @@ returns-clause-added c = all_added _ _ (with_last_alone c.loop-element.rest) (ap
 
 pub returns-in_err-push-in-Leaf-clause-tokens : goal.returns-in_err-push-in-Leaf-clause-tokens
 returns-in_err-push-in-Leaf-clause-tokens c = λ e.
-    let passed : c.loop-element.rest ≡ leaf c.in-Leaf.leaf c.next.new.self = passed_leaf _ _ _ _ _ c.in-Some.ensures.steps c.in-Leaf.is refl in
     lacked c.args.out.now c.loop-element.out (with_last_alone c.args.trees.now) (with_last_alone c.loop-element.rest) c.loop-element.invariant
-    (full c.loop-element.out (with_last_alone c.loop-element.rest) (omega (arith, ap size passed, size-last_alone c.loop-element.rest))
-    (c.in_err-push-in-Leaf.ensures.tokens.0 (ap Err (handed c.from_residual.result _ _ c.from_residual.ensures.1 e))))
+    (alone_lacks c.loop-element.out c.loop-element.rest
+    (full_for_leaf c.loop-element.out _ _ c.loop-element.rest (passed_leaf _ _ _ _ _ c.in-Some.ensures.steps c.in-Leaf.is refl)
+    (c.in_err-push-in-Leaf.ensures.tokens.0 (handed c.from_residual.result _ c.from_residual.ensures.1 e))))
 
 pub returns-in_err-open-in-Subtree-clause-tokens : goal.returns-in_err-open-in-Subtree-clause-tokens
 returns-in_err-open-in-Subtree-clause-tokens c = λ e.
-    let passed : c.loop-element.rest ≡ group c.in-Subtree.subtree.delimiter c.in-Subtree.inner c.next.new.self =
-    passed_group _ _ _ _ _ c.in-Some.ensures.steps c.in-Subtree.is in
     lacked c.args.out.now c.loop-element.out (with_last_alone c.args.trees.now) (with_last_alone c.loop-element.rest) c.loop-element.invariant
-    (full c.loop-element.out (with_last_alone c.loop-element.rest) (omega (arith, ap size passed, size-last_alone c.loop-element.rest))
-    (c.in_err-open-in-Subtree.ensures.tokens.0
-    (ap Err (handed c.from_residual-in_err-open-in-Subtree.result _ _ c.from_residual-in_err-open-in-Subtree.ensures.1 e))))
+    (alone_lacks c.loop-element.out c.loop-element.rest
+    (full_for_group c.loop-element.out _ _ _ c.loop-element.rest (passed_group _ _ _ _ _ c.in-Some.ensures.steps c.in-Subtree.is)
+    (c.in_err-open-in-Subtree.ensures.tokens.0 (handed c.from_residual-in_err-open-in-Subtree.result _ c.from_residual-in_err-open-in-Subtree.ensures.1 e))))
 
 pub returns-in_err-extend-in-Subtree-clause-tokens : goal.returns-in_err-extend-in-Subtree-clause-tokens
 returns-in_err-extend-in-Subtree-clause-tokens c = λ e.
-    let passed : c.loop-element.rest ≡ group c.in-Subtree.subtree.delimiter c.in-Subtree.inner c.next.new.self =
-    passed_group _ _ _ _ _ c.in-Some.ensures.steps c.in-Subtree.is in
     lacked c.args.out.now c.loop-element.out (with_last_alone c.args.trees.now) (with_last_alone c.loop-element.rest) c.loop-element.invariant
-    (group_lacks c.loop-element.out c.open.new.self c.in-Subtree.subtree.delimiter c.in-Subtree.subtree.delimiter.open_span c.in-Subtree.inner
-    (with_last_alone c.next.new.self) (with_last_alone c.loop-element.rest) (ap with_last_alone passed) c.in_ok-open-in-Subtree.ensures.ok
-    (c.in_err-extend-in-Subtree.ensures.tokens
-    (ap Err (handed c.from_residual-in_err-extend-in-Subtree.result _ _ c.from_residual-in_err-extend-in-Subtree.ensures.1 e))))
+    (alone_lacks c.loop-element.out c.loop-element.rest
+    (group_lacks c.loop-element.out c.open.new.self _ _ c.in-Subtree.inner _ c.loop-element.rest (passed_group _ _ _ _ _ c.in-Some.ensures.steps c.in-Subtree.is)
+    c.in_ok-open-in-Subtree.ensures.ok (c.in_err-extend-in-Subtree.ensures.tokens (handed c.from_residual-in_err-extend-in-Subtree.result _ c.from_residual-in_err-extend-in-Subtree.ensures.1 e))))
