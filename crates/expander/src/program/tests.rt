@@ -123,8 +123,14 @@ fn watch_run(alloc: Global, reader: Pieces<'_>, writer: Narrow) -> Seen {
 
 #[test]
 fn a_text_is_answered(rt: HostRuntime) {
-    let cases: [(&[u8], &str, u8, u8); 5] = [
+    let cases: [(&[u8], &str, u8, u8); 6] = [
         (b"", "", 0, 1),
+        (
+            b"macro_rules! m { (a) => { b } }\nm!{a} m!{c}\n",
+            "b m ! { c }\n",
+            1,
+            1,
+        ),
         (b"let x = y ;\n", "let x = y ;\n", 0, 1),
         (b"macro_rules x ;\n", "macro_rules x ;\n", 1, 1),
         (b"fn f( {", "", 1, 0),
