@@ -35,7 +35,7 @@ loop-rest-preserved c =
 
 pub returns-in_err-expand_call-in-Some-clause-tokens : goal.returns-in_err-expand_call-in-Some-clause-tokens
 returns-in_err-expand_call-in-Some-clause-tokens c = λ e.
-    record { passed = c.loop-rest.invariant.1.0; rest = c.loop-rest.rest; call = c.in-Some.call; splits = c.loop-rest.invariant.1.1; calls = sym c.in-Some.ensures; gives = c.in_err-expand_call-in-Some.ensures.tokens (ap Err (handed c.from_residual.result _ Tokens c.from_residual.ensures.1 e)) }
+    record { passed = c.loop-rest.invariant.1.0; rest = c.loop-rest.rest; call = c.in-Some.call; splits = c.loop-rest.invariant.1.1; calls = sym c.in-Some.ensures; gives = c.in_err-expand_call-in-Some.ensures.tokens (handed c.from_residual.result _ c.from_residual.ensures.1 e) }
 
 pub loop-rest-preserved-in-Continue-1 : goal.loop-rest-preserved-in-Continue-1
 loop-rest-preserved-in-Continue-1 c = (

@@ -35,6 +35,6 @@ loop-piece-preserved c = (
 
 pub returns-in_err-take_piece-clause-tokens : goal.returns-in_err-take_piece-clause-tokens
 returns-in_err-take_piece-clause-tokens c = λ e.
-    let much = c.in_err-take_piece.ensures.tokens (ap Err (handed c.from_residual.result _ Tokens c.from_residual.ensures.1 e)) in
+    let much = c.in_err-take_piece.ensures.tokens (handed c.from_residual.result _ c.from_residual.ensures.1 e) in
     here_too_many (cut c.args.trees.now) (cut c.next_piece.new.rest) c.loop-piece.invariant.1.0 c.in-Some.piece (rw c.in-Some.ensures.0 at c.loop-piece.invariant.1.1.1)
     much.0 (rw c.loop-piece.invariant.1.1.0 at much.1)
