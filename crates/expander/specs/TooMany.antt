@@ -16,7 +16,7 @@ abbrev pub IsTooMuch : (List ℕ → Option Definition) → Call → Type 0
 IsTooMuch scope c =
     (d : Definition) × (scope c.name.sym ≡ Some d) × GivesTooMany (thin_world.fit d c.argument)
 
--- such a call stands in the list
+-- such a call stands in the list, also where a `::` stands before it
 pub record CallsTooMuch (scope : List ℕ → Option Definition) (f : Forest) : Type 0 where
   pub passed : Forest
   pub rest : Forest
