@@ -3,8 +3,8 @@ use Rattle.std.proofs.Common.{◌≡◌, ℕ, ◌+◌, ◌-◌, refl, sym, ap, �
 use Rattle.std.proofs.lemmas.Bool.{lt-ltb}
 use Rattle.std.specs.Prelude.{Option, Some, None, codes}
 use Rattle.tt.specs.Elements.{IsNext}
-use Rattle.tt.specs.declared.view.TtElement.{TtElement}
-use Rattle.tt.specs.declared.view.TtElement.TheVariants as element
+use Rattle.tt.specs.declared.iter.TtElement.{TtElement}
+use Rattle.tt.specs.declared.iter.TtElement.TheVariants as element
 use Rattle.tt_data.specs.Flat.{back-zero}
 use Rattle.tt_data.specs.Forest.{Forest, empty, leaf, group, joined, size, front, back}
 use Rattle.tt_data.specs.declared.delimiter.Delimiter.{Delimiter}

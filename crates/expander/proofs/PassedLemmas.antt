@@ -2,8 +2,8 @@
 use Rattle.std.proofs.Common.{◌≡◌, ap, ◌∙◌, subst}
 use Rattle.std.specs.Prelude.{Some}
 use Rattle.tt.specs.Elements.{IsNext}
-use Rattle.tt.specs.declared.view.TtElement.{TtElement}
-use Rattle.tt.specs.declared.view.TtElement.TheVariants as element
+use Rattle.tt.specs.declared.iter.TtElement.{TtElement}
+use Rattle.tt.specs.declared.iter.TtElement.TheVariants as element
 use Rattle.tt_data.specs.Forest.{Forest, leaf, group}
 use Rattle.tt_data.specs.declared.leaf.Leaf.{Leaf}
 use Rattle.tt_data.specs.declared.tree.Subtree.{Subtree}

@@ -3,7 +3,7 @@ use Rattle.std.proofs.Common.{◌≡◌, ℕ, ◌+◌, ◌-◌, ◌≤◌, List,
 use Rattle.std.proofs.lemmas.List.{drop-drop, length-take-le}
 use Rattle.std.specs.List.{slice_range}
 use Rattle.std.specs.Prelude.{Option, Some, None, Err}
-use Rattle.rustc_lexer.specs.Lexing.{thin_tokens}
+use Rattle.rustc_lexer.specs.Lexing.{tokens_of}
 use Rattle.rustc_lexer.specs.declared.token.Token.{Token}
 use Rattle.rustc_lexer.specs.declared.token.TokenKind.{TokenKind}
 use Rattle.tt.specs.Building.{Building, Opened}
@@ -23,7 +23,7 @@ pub record IsReadSoFar (text : List ℕ) (start : ℕ) (rest : List Token) (b : 
   pub built : IsBuilt b groups here
   pub whole : read_from (steps_of (placed_from start (drop start text) rest)) groups here ≡ thin_reading text
 
-pub read_nothing : {text : List ℕ} {tokens : List Token} {b : Building} {top : Delimiter} → tokens ≡ thin_tokens (chars text)
+pub read_nothing : {text : List ℕ} {tokens : List Token} {b : Building} {top : Delimiter} → tokens ≡ tokens_of (chars text)
     → b ≡ record { top = top; groups = []; here = empty } → IsReadSoFar text 0 tokens b
 read_nothing are new = record {
   groups = [];

@@ -189,7 +189,7 @@ closer : shown (meaning thin_layers 128 (codes "(]")) ≡ unread (record { kind 
 unfolding chars is_xid_start is_xid_continue in_ranges xid_start_ranges xid_continue_ranges encode_utf8
 closer = refl
 
-bad : shown (meaning thin_layers 128 (codes "x \"ab\"")) ≡ unread (record { kind = BadToken; range = record { start = 2; «end» = 3 } })
+bad : shown (meaning thin_layers 128 (codes "x \"ab\"")) ≡ unread (record { kind = BadToken; range = record { start = 2; «end» = 6 } })
 unfolding chars is_xid_start is_xid_continue in_ranges xid_start_ranges xid_continue_ranges encode_utf8
 bad = refl
 

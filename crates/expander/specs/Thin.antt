@@ -2,7 +2,7 @@
 use Rattle.std.specs.Prelude.{ℕ, Bool, true, false, ◌&&◌, ◌||◌, not, List, codes, if◌then◌else◌, Option, Some, None, Result, Ok, Err, option_and_then, is_some, is_none, encode_utf8, chars}
 use Rattle.std.specs.List.{list_all}
 use Prim.Native.String.{String}
-use Rattle.rustc_lexer.specs.Lexing.{thin_tokens}
+use Rattle.rustc_lexer.specs.Lexing.{tokens_of}
 use Rattle.rustc_lexer.specs.declared.token.Token.{Token}
 use Rattle.tt_data.specs.Forest.{Forest, empty, leaf, group}
 use Rattle.tt_data.specs.Walk.{Step, at_leaf, opens, closes}
@@ -106,4 +106,4 @@ is_known _ = true
 -- every definition is within the limits
 abbrev pub is_thin : List ℕ → Bool
 is_thin text =
-    list_all (λ (t : Token). is_known (sort_of t.kind)) (thin_tokens (chars text)) && is_thin_reading (thin_reading text)
+    list_all (λ (t : Token). is_known (sort_of t.kind)) (tokens_of (chars text)) && is_thin_reading (thin_reading text)

@@ -1,7 +1,7 @@
 -- What the thin tokens are read as: white space, identifiers, puncts and brackets; every other token is bad.
 use Rattle.std.specs.Prelude.{ℕ, List, [], ◌∷◌, ◌++◌, Bool, true, false, chars, codes, slice_index, Result, if◌then◌else◌}
 use Prim.Native.String.{String}
-use Rattle.rustc_lexer.specs.Lexing.{thin_tokens}
+use Rattle.rustc_lexer.specs.Lexing.{tokens_of}
 use Rattle.rustc_lexer.specs.declared.token.TokenKind.{TokenKind}
 use Rattle.rustc_lexer.specs.declared.token.TokenKind.TheVariants as kind
 use Rattle.tt_data.specs.Forest.{Forest}
@@ -77,4 +77,4 @@ steps_of (t ∷ more) = steps_of_sort (sort_of t.kind) t more ++ steps_of more
 
 -- a text's forest by its thin tokens, or its first fault
 abbrev pub thin_reading : List ℕ → Result Forest ReadFault
-thin_reading text = reading (steps_of (placed_from 0 text (thin_tokens (chars text))))
+thin_reading text = reading (steps_of (placed_from 0 text (tokens_of (chars text))))

@@ -3,7 +3,7 @@ ghost use Rattle.std.specs.Prelude.{◌≡◌, ℕ, ◌+◌, ◌<◌, ◌≤◌,
 ghost use Rattle.expander.specs.ReadSteps.{Takes, IsBuilt, IsRead, first_kind, spacing_in};
 ghost use Rattle.expander.specs.Reading.{PlacedToken, placed_from, range_of, written_at, read_from};
 ghost use Rattle.expander.specs.ThinReading.{is_mark, sort_of, steps_of_sort, thin_reading};
-ghost use Rattle.rustc_lexer.specs.Lexing.{thin_tokens};
+ghost use Rattle.rustc_lexer.specs.Lexing.{tokens_of};
 ghost use Rattle.tt.specs.Building.{Opened, count_of, most_tokens};
 ghost use Rattle.tt_data.specs.Forest.{Forest};
 
@@ -93,7 +93,7 @@ fn is_mark(kind: TokenKind) -> bool
 
 // How a punct stands before the next token. What ends a piece stands alone.
 fn spacing_of(builder: &TopSubtreeBuilder, char: char, next: Option<TokenKind>) -> Spacing
-    ensures { result ≡ spacing_in builder.now.groups char next }
+    ensures { result ≡ spacing_in builder.now.tree.groups char next }
 {
     match next {
         Some(kind) if is_mark(kind) && !(char == ';' && builder.innermost().is_none()) => {
@@ -115,9 +115,9 @@ fn add(
 ) -> Result<Option<ReadFault>, TtFault>
     ensures takes { IfOk result (λ fault. (t : PlacedToken) (after : List PlacedToken) →
         t.text ≡ text.now → range_of t ≡ range → first_kind after ≡ next →
-        Takes (steps_of_sort sort t after) builder.old builder.new fault) }
-    ensures counted { OnOk result (count_of builder.new ≤ count_of builder.old + 1) }
-    ensures memory { count_of builder.old < most_tokens → IfErr result (λ e. e ≡ TtFault.Memory) }
+        Takes (steps_of_sort sort t after) builder.old.tree builder.new.tree fault) }
+    ensures counted { OnOk result (count_of builder.new.tree ≤ count_of builder.old.tree + 1) }
+    ensures memory { count_of builder.old.tree < most_tokens → IfErr result (λ e. e ≡ TtFault.Memory) }
 {
     let span = written_at(range);
     match sort {
@@ -154,7 +154,7 @@ fn add(
 // The trees of all tokens, or the group that is left open.
 fn whole(builder: TopSubtreeBuilder) -> Read
     ensures { (groups : List Opened) (here : Forest) →
-        IsBuilt builder groups here → IsRead (read_from [] groups here) result }
+        IsBuilt builder.tree groups here → IsRead (read_from [] groups here) result }
 {
     if let Some((_, open_span)) = builder.innermost() {
         return Read::Fault(ReadFault {
@@ -181,7 +181,7 @@ fn first_kind(tokens: &[Token]) -> Option<TokenKind>
 /// `Memory` is its only error: a text has no more tokens than a tree has room for.
 pub(crate) fn read_tokens(alloc: Global, text: &str, tokens: &[Token]) -> Result<Read, TtFault>
     requires small { length text.now < 2 ^ 32 }
-    requires tokens { tokens.now ≡ thin_tokens (chars text.now) }
+    requires tokens { tokens.now ≡ tokens_of (chars text.now) }
     ensures read { IfOk result (λ read. IsRead (thin_reading text.now) read) }
     ensures memory { IfErr result (λ e. e ≡ TtFault.Memory) }
 {

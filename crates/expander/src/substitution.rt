@@ -79,8 +79,8 @@ fn alone(leaf: Leaf) -> Leaf
 // Adds the trees as they are.
 fn extend(out: &mut TopSubtreeBuilder, trees: &TtIter<'_>) -> Result<(), TtFault>
     ensures faults { IfErr result IsWantOfRoom }
-    ensures added { OnOk result (out.new ≡ with_trees out.old trees.now) }
-    ensures tokens { result ≡ Err TtFault.Tokens → LacksRoom out.old trees.now }
+    ensures added { OnOk result (out.new.tree ≡ with_trees out.old.tree trees.now) }
+    ensures tokens { result ≡ Err TtFault.Tokens → LacksRoom out.old.tree trees.now }
 {
     let mut rest = again(trees);
     while let Some(element) = rest.next() {
@@ -101,8 +101,8 @@ fn extend(out: &mut TopSubtreeBuilder, trees: &TtIter<'_>) -> Result<(), TtFault
 // Adds the trees that a variable took: a last punct stands alone.
 fn extend_by_value(out: &mut TopSubtreeBuilder, trees: &TtIter<'_>) -> Result<(), TtFault>
     ensures faults { IfErr result IsWantOfRoom }
-    ensures added { OnOk result (out.new ≡ with_trees out.old (with_last_alone trees.now)) }
-    ensures tokens { result ≡ Err TtFault.Tokens → LacksRoom out.old (with_last_alone trees.now) }
+    ensures added { OnOk result (out.new.tree ≡ with_trees out.old.tree (with_last_alone trees.now)) }
+    ensures tokens { result ≡ Err TtFault.Tokens → LacksRoom out.old.tree (with_last_alone trees.now) }
 {
     let mut rest = again(trees);
     while let Some(element) = rest.next() {
@@ -126,8 +126,8 @@ fn extend_by_value(out: &mut TopSubtreeBuilder, trees: &TtIter<'_>) -> Result<()
 // Adds a name that is not bound: it stands for itself, after its `$`.
 fn extend_by_itself(out: &mut TopSubtreeBuilder, name: Symbol, span: Span) -> Result<(), TtFault>
     ensures faults { IfErr result IsWantOfRoom }
-    ensures added { OnOk result (out.new ≡ with_trees out.old (itself name span)) }
-    ensures tokens { result ≡ Err TtFault.Tokens → LacksRoom out.old (itself name span) }
+    ensures added { OnOk result (out.new.tree ≡ with_trees out.old.tree (itself name span)) }
+    ensures tokens { result ≡ Err TtFault.Tokens → LacksRoom out.old.tree (itself name span) }
 {
     let span = made(span);
     out.push(Leaf::Punct(Punct {
@@ -150,8 +150,8 @@ fn extend_by_name(
     span: Span,
 ) -> Result<(), TtFault>
     ensures faults { IfErr result IsWantOfRoom }
-    ensures added { OnOk result (out.new ≡ with_trees out.old (value_of name span (bindings_of bindings.now name))) }
-    ensures tokens { result ≡ Err TtFault.Tokens → LacksRoom out.old (value_of name span (bindings_of bindings.now name)) }
+    ensures added { OnOk result (out.new.tree ≡ with_trees out.old.tree (value_of name span (bindings_of bindings.now name))) }
+    ensures tokens { result ≡ Err TtFault.Tokens → LacksRoom out.old.tree (value_of name span (bindings_of bindings.now name)) }
 {
     match bindings.get(&name) {
         Some(taken) => extend_by_value(out, taken),
@@ -168,9 +168,9 @@ fn substitute(
     requires { IsSome (template_of template.now) }
     ensures faults { IfErr result IsWantOfRoom }
     ensures added { (t : Template) → template_of template.now ≡ Some t →
-        OnOk result (out.new ≡ with_trees out.old (substituted (bindings_of bindings.now) t)) }
+        OnOk result (out.new.tree ≡ with_trees out.old.tree (substituted (bindings_of bindings.now) t)) }
     ensures tokens { (t : Template) → template_of template.now ≡ Some t → result ≡ Err TtFault.Tokens →
-        LacksRoom out.old (substituted (bindings_of bindings.now) t) }
+        LacksRoom out.old.tree (substituted (bindings_of bindings.now) t) }
 {
     let mut rest = again(template);
     while let Some(element) = rest.next() {

@@ -147,12 +147,12 @@ fn texts_that_are_not_read(rt: HostRuntime) -> Result<(), Fail> {
         ("(]", CloserDoesNotFit, 1, 2),
         ("([)", CloserDoesNotFit, 2, 3),
         ("é)", CloserDoesNotFit, 2, 3),
-        ("x \"ab\"", BadToken, 2, 3),
+        ("x \"ab\"", BadToken, 2, 6),
         ("x 7 \"", BadToken, 2, 3),
-        ("a // b", BadToken, 2, 3),
-        ("/* a */", BadToken, 0, 1),
-        ("&'a T", BadToken, 1, 2),
-        ("r#fn )", BadToken, 0, 1),
+        ("a // b", BadToken, 2, 6),
+        ("/* a */", BadToken, 0, 7),
+        ("&'a T", BadToken, 1, 3),
+        ("r#fn )", BadToken, 0, 4),
         ("( 😀 ]", BadToken, 2, 6),
     ];
     for (text, kind, start, end) in cases {

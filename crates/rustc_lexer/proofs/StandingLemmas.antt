@@ -6,32 +6,32 @@ use Rattle.std.proofs.lemmas.List.Elements.{All-cons}
 use Rattle.std.proofs.lemmas.List.Sums.{sum_by-cons}
 use Rattle.std.proofs.lemmas.Str.{IsUtf8-drop, IsCharBoundary-start, IsCharBoundary-from_rest, encodes-chars}
 use Rattle.rustc_lexer.specs.Character.{utf8_len}
-use Rattle.rustc_lexer.specs.Lexeme.{thin_lexeme}
-use Rattle.rustc_lexer.specs.Lexing.{thin_tokens, token_of}
+use Rattle.rustc_lexer.specs.Lexeme.{lexeme}
+use Rattle.rustc_lexer.specs.Lexing.{tokens_of, token_of}
 use Rattle.rustc_lexer.specs.Standing.{AreTokensFrom, IsTokenAt}
 use Rattle.rustc_lexer.specs.declared.token.Token.{Token}
 use Rattle.rustc_lexer.specs.declared.token.TokenKind.TheVariants.{Eof}
 use Rattle.rustc_lexer.proofs.CutLemmas.{IsBehind, behind_chars}
 use Rattle.rustc_lexer.proofs.KindLemmas.{never_eof}
-use Rattle.rustc_lexer.proofs.TokenLemmas.{thin_first, thin_long}
+use Rattle.rustc_lexer.proofs.TokenLemmas.{first_of_tokens, lexeme_long}
 
-pub tokens_begin : (text : List ℕ) → IsUtf8 text → AreTokensFrom text 0 (thin_tokens (chars text))
+pub tokens_begin : (text : List ℕ) → IsUtf8 text → AreTokensFrom text 0 (tokens_of (chars text))
 tokens_begin text u = record { boundary = IsCharBoundary-start text u; tokens = refl }
 
 -- ---- the first token of a list of characters
 
 record IsFirst (cs : List ℕ) (t : Token) (ts : List Token) : Type 0 where
-  token : t ≡ token_of (thin_lexeme cs) cs
-  long : 1 ≤ utf8_len (take (thin_lexeme cs).size cs)
-  others : ts ≡ thin_tokens (drop (thin_lexeme cs).size cs)
+  token : t ≡ token_of (lexeme cs) cs
+  long : 1 ≤ utf8_len (take (lexeme cs).size cs)
+  others : ts ≡ tokens_of (drop (lexeme cs).size cs)
 
-first_token : (cs : List ℕ) (t : Token) (ts : List Token) → t ∷ ts ≡ thin_tokens cs → IsFirst cs t ts
+first_token : (cs : List ℕ) (t : Token) (ts : List Token) → t ∷ ts ≡ tokens_of cs → IsFirst cs t ts
 first_token [] t ts e = absurd (let l : suc (length ts) ≡ 0 = ap length e in omega (arith, l))
 first_token (c ∷ cs) t ts e =
-    let same = e ∙ thin_first c cs in
+    let same = e ∙ first_of_tokens c cs in
     record {
       token = ap (λ l. slice_index_or l 0 t) same;
-      long = thin_long c cs;
+      long = lexeme_long c cs;
       others = ap (drop 1) same;
     }
 
@@ -41,7 +41,7 @@ record Steps (text : List ℕ) (at : ℕ) (t : Token) (ts : List Token) : Type 0
   here : IsTokenAt text at t
   others : AreTokensFrom text (at + t.len) ts
 
-stands : (text : List ℕ) (at n : ℕ) (t : Token) (ts : List Token) → IsCharBoundary text at → n ≡ (thin_lexeme (chars (drop at text))).size →
+stands : (text : List ℕ) (at n : ℕ) (t : Token) (ts : List Token) → IsCharBoundary text at → n ≡ (lexeme (chars (drop at text))).size →
     IsBehind (drop at text) n t.len → IsFirst (chars (drop at text)) t ts → 1 ≤ t.len → Steps text at t ts
 stands text at n t ts start is_size behind first long =
     let stop : IsCharBoundary text (at + t.len) = IsCharBoundary-from_rest text at t.len start.0 behind.boundary in
@@ -60,14 +60,14 @@ stands text at n t ts start is_size behind first long =
       others = record {
         boundary = stop;
         tokens = first.others
-            ∙ ap thin_tokens (ap (λ k. drop k (chars (drop at text))) (sym is_size) ∙ sym behind.rest ∙ ap chars (drop-drop t.len at text));
+            ∙ ap tokens_of (ap (λ k. drop k (chars (drop at text))) (sym is_size) ∙ sym behind.rest ∙ ap chars (drop-drop t.len at text));
       };
     }
 
 step : (text : List ℕ) (at : ℕ) (t : Token) (ts : List Token) → IsUtf8 text → AreTokensFrom text at (t ∷ ts) → Steps text at t ts
 step text at t ts u from =
     let left : List ℕ = drop at text in
-    let n : ℕ = (thin_lexeme (chars left)).size in
+    let n : ℕ = (lexeme (chars left)).size in
     let first = first_token (chars left) t ts from.tokens in
     let len : utf8_len (take n (chars left)) ≡ t.len = ap (λ x. x.len) (sym first.token) in
     let behind = subst (IsBehind left n) len (behind_chars left n (IsUtf8-drop text at u from.boundary)) in
@@ -83,9 +83,9 @@ other_tokens text at left t ts u from e = (step text at t ts u (subst (AreTokens
 
 -- ---- the end
 
-none_left : (cs : List ℕ) → [] ≡ thin_tokens cs → cs ≡ []
+none_left : (cs : List ℕ) → [] ≡ tokens_of cs → cs ≡ []
 none_left [] e = refl
-none_left (c ∷ cs) e = absurd (let l : 0 ≡ length (thin_tokens (c ∷ cs)) = ap length e in omega (arith, l))
+none_left (c ∷ cs) e = absurd (let l : 0 ≡ length (tokens_of (c ∷ cs)) = ap length e in omega (arith, l))
 
 pub tokens_end : (text : List ℕ) (at : ℕ) (left : List Token) → IsUtf8 text → AreTokensFrom text at left → left ≡ [] → at ≡ length text
 tokens_end text at none u from e =
@@ -126,16 +126,16 @@ whole (t ∷ ts) text at u from =
 
 -- ---- all tokens of a text
 
-pub lengths_positive : (text : List ℕ) → IsUtf8 text → All (λ t. 1 ≤ t.len) (thin_tokens (chars text))
-lengths_positive text u = positive (thin_tokens (chars text)) text 0 u (tokens_begin text u)
+pub lengths_positive : (text : List ℕ) → IsUtf8 text → All (λ t. 1 ≤ t.len) (tokens_of (chars text))
+lengths_positive text u = positive (tokens_of (chars text)) text 0 u (tokens_begin text u)
 
 pub token_places : (text : List ℕ) (k : ℕ) → IsUtf8 text →
-    AreTokensFrom text (sum_by (λ t. t.len) (take k (thin_tokens (chars text)))) (drop k (thin_tokens (chars text)))
+    AreTokensFrom text (sum_by (λ t. t.len) (take k (tokens_of (chars text)))) (drop k (tokens_of (chars text)))
 token_places text k u =
-    subst (λ n. AreTokensFrom text n (drop k (thin_tokens (chars text)))) (omega arith) (places (thin_tokens (chars text)) text 0 u (tokens_begin text u) k)
+    subst (λ n. AreTokensFrom text n (drop k (tokens_of (chars text)))) (omega arith) (places (tokens_of (chars text)) text 0 u (tokens_begin text u) k)
 
-pub lengths_whole : (text : List ℕ) → IsUtf8 text → sum_by (λ t. t.len) (thin_tokens (chars text)) ≡ length text
-lengths_whole text u = omega (arith, whole (thin_tokens (chars text)) text 0 u (tokens_begin text u))
+pub lengths_whole : (text : List ℕ) → IsUtf8 text → sum_by (λ t. t.len) (tokens_of (chars text)) ≡ length text
+lengths_whole text u = omega (arith, whole (tokens_of (chars text)) text 0 u (tokens_begin text u))
 
-pub no_token_is_eof : (text : List ℕ) → IsUtf8 text → All (λ t. ¬ (t.kind ≡ Eof)) (thin_tokens (chars text))
-no_token_is_eof text u = none_eof (thin_tokens (chars text)) text 0 u (tokens_begin text u)
+pub no_token_is_eof : (text : List ℕ) → IsUtf8 text → All (λ t. ¬ (t.kind ≡ Eof)) (tokens_of (chars text))
+no_token_is_eof text u = none_eof (tokens_of (chars text)) text 0 u (tokens_begin text u)

@@ -1,30 +1,109 @@
 -- The first lexeme of a text, after the Rust Reference's part "Lexical structure". Texts are lists of characters.
-use Rattle.std.specs.Prelude.{ℕ, Bool, ◌||◌, ◌&&◌, List, if◌then◌else◌}
+use Rattle.std.specs.Prelude.{ℕ, ◌+◌, Bool, true, false, not, ◌||◌, ◌&&◌, List, drop, Option, if◌then◌else◌}
 use Rattle.std.specs.List.{prefix_len}
-use Rattle.rustc_lexer.specs.Character.{char_at, is, is_whitespace, is_id_start, identifier_len}
+use Rattle.std.specs.Option.{is_some}
+use Rattle.rustc_lexer.specs.Character.{char_at, begins, is, is_whitespace, is_id_start, is_digit, continues, identifier_len}
+use Rattle.rustc_lexer.specs.Comments.{line_comment, block_comment}
+use Rattle.rustc_lexer.specs.Literals.{literal, with_suffix, bare, quoted_body, string_body, raw_form}
+use Rattle.rustc_lexer.specs.Numbers.{number}
+use Rattle.rustc_lexer.specs.Stretch.{Stretch, further}
+use Rattle.rustc_lexer.specs.declared.token.LiteralKind.{LiteralKind}
+use Rattle.rustc_lexer.specs.declared.token.LiteralKind.TheVariants.{Char, Byte, Str, ByteStr, CStr, RawStr, RawByteStr, RawCStr}
 use Rattle.rustc_lexer.specs.declared.token.TokenKind.{TokenKind}
-use Rattle.rustc_lexer.specs.declared.token.TokenKind.TheVariants.{Whitespace, Ident, Semi, Comma, Dot, OpenParen, CloseParen, OpenBrace, CloseBrace, OpenBracket, CloseBracket, At, Pound, Tilde, Question, Colon, Dollar, Eq, Bang, Lt, Gt, Minus, And, Or, Plus, Star, Slash, Caret, Percent, Unknown}
+use Rattle.rustc_lexer.specs.declared.token.TokenKind.TheVariants.{Whitespace, Ident, RawIdent, ForcedKeywordIdent, UnknownPrefix, UnknownPrefixLifetime, RawLifetime, GuardedStrPrefix, Lifetime, Semi, Comma, Dot, OpenParen, CloseParen, OpenBrace, CloseBrace, OpenBracket, CloseBracket, At, Pound, Tilde, Question, Colon, Dollar, Eq, Bang, Lt, Gt, Minus, And, Or, Plus, Star, Slash, Caret, Percent, Unknown}
 
 -- a lexeme: its kind, and how many characters it takes
-pub record Lexeme : Type 0 where
-  pub kind : TokenKind
-  pub size : ℕ
+abbrev pub Lexeme : Type 0
+Lexeme = Stretch TokenKind
 
 -- the lexeme of a kind that takes that many characters
 abbrev pub lexeme_of : TokenKind → ℕ → Lexeme
-lexeme_of kind size = record { kind = kind; size = size }
+lexeme_of kind size = record { value = kind; size = size }
 
--- a comment begins with these two characters
-abbrev pub opens_comment : ℕ → ℕ → Bool
-opens_comment c d = is "/" c && (is "/" d || is "*" d)
+-- white space, as long as it goes on
+abbrev pub white_space : List ℕ → Lexeme
+white_space cs = lexeme_of Whitespace (prefix_len is_whitespace cs)
 
--- a string between number signs begins with these two characters
-abbrev pub opens_guarded : ℕ → ℕ → Bool
-opens_guarded c d = is "#" c && (is "\"" d || is "#" d)
+-- ---- literals in quotes
+
+-- a character: behind its prefix of p characters, of which the last is the quote
+abbrev pub quoted : (Bool → LiteralKind) → ℕ → List ℕ → Lexeme
+quoted kind p cs =
+    let body : Stretch Bool = further p (quoted_body (drop p cs)) in
+    literal body.value (kind body.value) body.size cs
+
+-- a string: behind its prefix of p characters, of which the last is the quote
+abbrev pub string : (Bool → LiteralKind) → ℕ → List ℕ → Lexeme
+string kind p cs =
+    let body : Stretch Bool = further p (string_body false (drop p cs)) in
+    literal body.value (kind body.value) body.size cs
+
+-- a raw string: behind its prefix of p characters, of which the last is the `r`
+abbrev pub raw_string : (Option ℕ → LiteralKind) → ℕ → List ℕ → Lexeme
+raw_string kind p cs =
+    let form : Stretch (Option ℕ) = further p (raw_form (drop p cs)) in
+    literal (is_some form.value) (kind form.value) form.size cs
+
+-- a number and its suffix
+abbrev pub numeral : List ℕ → Lexeme
+numeral cs = with_suffix (number cs).value (number cs).size cs
+
+-- ---- words
 
 -- the character right behind a word makes the word a prefix
 abbrev pub is_prefix_mark : ℕ → Bool
 is_prefix_mark c = is "#" c || is "\"" c || is "'" c
+
+-- an identifier or a keyword, and where a mark of literals stands right behind it, an unknown prefix
+abbrev pub plain_word : List ℕ → Lexeme
+plain_word cs = lexeme_of (if is_prefix_mark (char_at cs (identifier_len cs)) then UnknownPrefix else Ident) (identifier_len cs)
+
+-- an identifier behind two characters
+abbrev pub marked_word : TokenKind → List ℕ → Lexeme
+marked_word kind cs = lexeme_of kind (2 + continues (drop 2 cs))
+
+-- a prefix of identifiers or literals may begin with the character
+abbrev pub is_prefix_start : ℕ → Bool
+is_prefix_start c = is "r" c || is "b" c || is "c" c || is "k" c
+
+-- what may begin with one of these: raw identifiers and strings, bytes, strings of bytes and of C, forced keywords; or a word
+abbrev pub prefixed : List ℕ → Lexeme
+prefixed cs =
+    if begins "r#" cs && is_id_start (char_at cs 2) then marked_word RawIdent cs
+    else if begins "r#" cs || begins "r\"" cs then raw_string RawStr 1 cs
+    else if begins "b'" cs then quoted Byte 2 cs
+    else if begins "b\"" cs then string ByteStr 2 cs
+    else if begins "c\"" cs then string CStr 2 cs
+    else if begins "br#" cs || begins "br\"" cs then raw_string RawByteStr 2 cs
+    else if begins "cr#" cs || begins "cr\"" cs then raw_string RawCStr 2 cs
+    else if begins "k#" cs && is_id_start (char_at cs 2) then marked_word ForcedKeywordIdent cs
+    else plain_word cs
+
+-- what begins with a character that may begin an identifier
+abbrev pub word : List ℕ → Lexeme
+word cs = if is_prefix_start (char_at cs 0) then prefixed cs else plain_word cs
+
+-- ---- what begins with `'`
+
+-- a lifetime, or a character of one letter
+abbrev pub lifetime : List ℕ → Lexeme
+lifetime cs =
+    let numbered : Bool = is_digit (char_at cs 1) in
+    let n : ℕ = 2 + continues (drop 2 cs) in
+    if begins "'r#" cs && is_id_start (char_at cs 3) then lexeme_of RawLifetime (3 + continues (drop 3 cs))
+    else if is "'" (char_at cs n) then bare (Char true) (n + 1) cs
+    else if is "#" (char_at cs n) && not numbered then lexeme_of UnknownPrefixLifetime n
+    else lexeme_of (Lifetime numbered) n
+
+-- behind the `'` stands a letter or a digit, and no second `'` right after it
+abbrev pub begins_lifetime : List ℕ → Bool
+begins_lifetime cs = not (is "'" (char_at cs 2)) && (is_id_start (char_at cs 1) || is_digit (char_at cs 1))
+
+-- a lifetime or a character
+abbrev pub quote : List ℕ → Lexeme
+quote cs = if begins_lifetime cs then lifetime cs else quoted Char 1 cs
+
+-- ---- one character
 
 -- the kind of a character that is a token by itself, and unknown for any other
 abbrev pub one_char_kind : ℕ → TokenKind
@@ -40,16 +119,22 @@ one_char_kind c =
     else if is "*" c then Star else if is "/" c then Slash else if is "^" c then Caret
     else if is "%" c then Percent else Unknown
 
--- the first lexeme of a text that is not empty, where comments, strings, literals, lifetimes and words with a prefix are
--- not told: where one of them begins, one unknown character stands for it
-abbrev pub thin_lexeme : List ℕ → Lexeme
-thin_lexeme cs =
+-- ---- the first lexeme
+
+-- a string between number signs begins with these
+abbrev pub begins_guarded : List ℕ → Bool
+begins_guarded cs = begins "#\"" cs || begins "##" cs
+
+-- the first lexeme of a text that is not empty
+abbrev pub lexeme : List ℕ → Lexeme
+lexeme cs =
     let c : ℕ = char_at cs 0 in
-    let d : ℕ = char_at cs 1 in
-    let word : ℕ = identifier_len cs in
-    if opens_comment c d then lexeme_of Unknown 1
-    else if is_whitespace c then lexeme_of Whitespace (prefix_len is_whitespace cs)
-    else if is_id_start c then
-    (if is_prefix_mark (char_at cs word) then lexeme_of Unknown 1 else lexeme_of Ident word)
-    else if opens_guarded c d then lexeme_of Unknown 1
+    if begins "//" cs then line_comment cs
+    else if begins "/*" cs then block_comment cs
+    else if is_whitespace c then white_space cs
+    else if is_id_start c then word cs
+    else if is_digit c then numeral cs
+    else if begins_guarded cs then lexeme_of GuardedStrPrefix 2
+    else if is "'" c then quote cs
+    else if is "\"" c then string Str 1 cs
     else lexeme_of (one_char_kind c) 1

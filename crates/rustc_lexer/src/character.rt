@@ -1,6 +1,11 @@
 //! The classes of characters that the grammar of Rust knows.
-ghost use Rattle.std.specs.Prelude.{◌≡◌};
-ghost use Rattle.rustc_lexer.specs.Character.{is_whitespace, is_id_start, is_id_continue};
+ghost use Rattle.std.specs.Prelude.{◌≡◌, chars};
+ghost use Rattle.rustc_lexer.specs.Character.{is_whitespace, is_horizontal_whitespace, is_id_start, is_id_continue, is_ident};
+
+use crate::steps::{Continue, skip_while, split_first};
+
+/// The version of Unicode that tells letters and digits.
+pub const UNICODE_VERSION: (u8, u8, u8) = (18, 0, 0);
 
 /// Whether the character is white space: one of Unicode's `Pattern_White_Space`.
 #[inline]
@@ -11,6 +16,14 @@ pub fn is_whitespace(c: char) -> bool
         c,
         '\u{9}'..='\u{d}' | ' ' | '\u{85}' | '\u{200e}' | '\u{200f}' | '\u{2028}' | '\u{2029}'
     )
+}
+
+/// Whether the character is white space inside a line: a tabulator or a space.
+#[inline]
+pub fn is_horizontal_whitespace(c: char) -> bool
+    ensures { result ≡ is_horizontal_whitespace c }
+{
+    matches!(c, '\t' | ' ')
 }
 
 /// Whether an identifier may begin with the character: `_`, or one of Unicode's `XID_Start`.
@@ -33,4 +46,15 @@ pub fn is_id_continue(c: char) -> bool
         return c.is_ascii_alphanumeric() || c == '_';
     }
     unicode_ident::is_xid_continue(c)
+}
+
+/// Whether the text is an identifier: one character that may begin it, and others that may go on.
+/// Keywords and `_` are.
+pub fn is_ident(string: &str) -> bool
+    ensures { result ≡ is_ident (chars string.now) }
+{
+    match split_first(string) {
+        Some((c, after)) => is_id_start(c) && skip_while::<Continue>(after).is_empty(),
+        None => false,
+    }
 }

@@ -1,49 +1,129 @@
-//! Steps over the characters of a text: each takes the text that is left and gives what is left then.
-ghost use Rattle.std.specs.Prelude.{◌≡◌, ℕ, Bool, drop, ◌∷◌, [], ◌++◌, chars, encode_utf8, MatchOption, IfSome, IsUtf8};
-ghost use Rattle.std.specs.List.{prefix_len};
+//! A cursor over the lexemes of a text.
+ghost use Rattle.std.specs.Prelude.{◌≡◌, ◌<◌, ◌+◌, ◌^◌, length, chars};
 ghost use Rattle.rustc_lexer.specs.Character.{char_at};
+ghost use Rattle.rustc_lexer.specs.Cursors.{Unread, next_token, past_token, next_guarded, past_guarded, later_suffix, suffix_of};
 
-// A test of a character.
-pub trait CharTest {
-    ghost passes: { ℕ → Bool };
+use crate::lexeme::first_lexeme;
+use crate::literal::{count_hashes, guarded_string};
+use crate::steps::{first, third};
+use crate::token::{FrontmatterAllowed, GuardedStr, Token, TokenKind};
+use std::marker::Model;
 
-    fn test(c: char) -> bool
-        ensures { result ≡ passes c };
+/// A text that is read lexeme by lexeme, from its front on.
+///
+/// Hashes that [`Cursor::guarded_double_quoted_string`] took where no string follows them count in
+/// the next token.
+#[derive(Drop)]
+pub struct Cursor<'a> {
+    rest: &'a str,
+    // How many bytes were taken that the next token counts.
+    pending: u32,
+    ghost small: { length rest.now + pending < 2 ^ 32 },
 }
 
-// The first character and what follows it, or None at the end.
-#[inline]
-pub fn split_first(text: &str) -> Option<(char, &str)>
-    ensures chars { MatchOption result (chars text.now ≡ []) (λ (c, rest). chars text.now ≡ c ∷ chars rest.now) }
-    ensures utf8 { IsUtf8 text.now × IfSome result (λ p. IsUtf8 p.1.now) }
-    ensures bytes { IfSome result (λ (c, rest). text.now ≡ encode_utf8 c ++ rest.now) }
-{
-    let mut chars = text.chars();
-    match chars.next() {
-        Some(c) => Some((c, chars.as_str())),
-        None => None,
-    }
+impl<'a> Model for Cursor<'a> {
+    ghost use Rattle.rustc_lexer.specs.Cursors.{Unread};
+
+    ghost Value = { Unread };
+
+    ghost view = { λ c. record { rest = c.rest.now; pending = c.pending } };
 }
 
-// The first character, or U+0000 at the end.
-#[inline]
-pub fn first(text: &str) -> char
-    ensures { result ≡ char_at (chars text.now) 0 }
-{
-    text.chars().next().unwrap_or('\0')
-}
-
-// What follows all characters at the front that pass the test.
-#[inline]
-pub fn skip_while<'a, T: CharTest>(text: &'a str) -> &'a str
-    ensures { chars result.now ≡ drop (prefix_len T.passes (chars text.now)) (chars text.now) }
-{
-    let mut rest = text;
-    while let Some((c, after)) = split_first(rest) {
-        if !T::test(c) {
-            break;
+impl<'a> Cursor<'a> {
+    /// A cursor at the front of the text, which has at most `u32::MAX` bytes.
+    pub fn new(input: &'a str, frontmatter_allowed: FrontmatterAllowed) -> Cursor<'a>
+        requires { length input.now < 2 ^ 32 }
+        ensures { result ≡ record { rest = input.now; pending = 0 } }
+    {
+        match frontmatter_allowed {
+            FrontmatterAllowed::No => Cursor {
+                rest: input,
+                pending: 0,
+            },
         }
-        rest = after;
     }
-    rest
+
+    /// The text that is left.
+    pub fn as_str(&self) -> &'a str
+        ensures { result.now ≡ self.now.rest }
+    {
+        self.rest
+    }
+
+    /// The first character that is left, or U+0000 where there is none.
+    pub fn first(&self) -> char
+        ensures { result ≡ char_at (chars self.now.rest) 0 }
+    {
+        first(self.rest)
+    }
+
+    /// The third character that is left, or U+0000 where there is none.
+    pub fn third(&self) -> char
+        ensures { result ≡ char_at (chars self.now.rest) 2 }
+    {
+        third(self.rest)
+    }
+
+    /// The next token, with a length in bytes of at least 1; at the end of the text `Eof`, of length 0.
+    pub fn advance_token(&mut self) -> Token
+        ensures token { result ≡ next_token self.old }
+        ensures rest { self.new ≡ past_token self.old }
+    {
+        let text = self.rest;
+        if text.is_empty() {
+            let kind = TokenKind::Eof;
+            return Token { kind, len: 0 };
+        }
+        let (kind, rest) = first_lexeme(text);
+        let pending = self.pending;
+        let len = pending + (text.len() - rest.len()) as u32;
+        self.rest = rest;
+        self.pending = 0;
+        Token {
+            kind: later_suffix(pending, kind),
+            len,
+        }
+    }
+
+    /// The string between hashes at the front, if one stands there: all hashes, and where a `"` follows
+    /// them, the string, at most as many hashes and a suffix. Where none follows, the hashes count in
+    /// the next token.
+    pub fn guarded_double_quoted_string(&mut self) -> Option<GuardedStr>
+        ensures guarded { result ≡ next_guarded self.old }
+        ensures rest { self.new ≡ past_guarded self.old }
+    {
+        let text = self.rest;
+        let (n_hashes, _) = count_hashes(text);
+        let (found, rest) = guarded_string(text);
+        let token_len = self.pending + (text.len() - rest.len()) as u32;
+        self.rest = rest;
+        match found {
+            Some(terminated) => {
+                self.pending = 0;
+                Some(GuardedStr {
+                    n_hashes: n_hashes as u32,
+                    terminated,
+                    token_len,
+                })
+            }
+            None => {
+                self.pending = token_len;
+                None
+            }
+        }
+    }
+}
+
+// A token's kind, where so many bytes before its lexeme count in it.
+fn later_suffix(pending: u32, kind: TokenKind) -> TokenKind
+    requires { pending + suffix_of kind < 2 ^ 32 }
+    ensures { result ≡ later_suffix pending kind }
+{
+    match kind {
+        TokenKind::Literal { kind, suffix_start } => TokenKind::Literal {
+            kind,
+            suffix_start: pending + suffix_start,
+        },
+        kind => kind,
+    }
 }

@@ -1,81 +1,70 @@
 //! The first lexeme of a text.
-ghost use Rattle.std.specs.Prelude.{◌≡◌, ◌∷◌, drop, chars, IsUtf8};
-ghost use Rattle.rustc_lexer.specs.Character.{is_whitespace, is_id_continue};
-ghost use Rattle.rustc_lexer.specs.Lexeme.{thin_lexeme, opens_comment, opens_guarded, is_prefix_mark, one_char_kind};
+ghost use Rattle.std.specs.Prelude.{◌≡◌, ◌<◌, ◌^◌, length, chars, IsUtf8};
+ghost use Rattle.rustc_lexer.specs.Lexeme.{lexeme, string, one_char_kind, begins_guarded, numeral, white_space};
+ghost use Rattle.rustc_lexer.specs.Stretch.{IsRead};
+ghost use Rattle.rustc_lexer.specs.declared.token.LiteralKind.TheVariants.{Str};
 
-use crate::character::{is_id_continue, is_id_start, is_whitespace};
-use crate::cursor::{CharTest, first, skip_while};
-use crate::token::TokenKind;
+use crate::character::{is_id_start, is_whitespace};
+use crate::comment::{block_comment, line_comment};
+use crate::literal::{literal, string_body, with_suffix};
+use crate::number::number;
+use crate::quote::quote;
+use crate::steps::{White, begins, behind, first, is_digit, skip_while};
+use crate::token::{LiteralKind, TokenKind};
+use crate::word::word;
 
-struct White;
-
-impl CharTest for White {
-    ghost passes = { is_whitespace };
-
-    #[inline]
-    fn test(c: char) -> bool {
-        is_whitespace(c)
-    }
-}
-
-struct Continue;
-
-impl CharTest for Continue {
-    ghost passes = { is_id_continue };
-
-    #[inline]
-    fn test(c: char) -> bool {
-        is_id_continue(c)
-    }
-}
-
-// The kind of the first lexeme of a text that begins with `c`, and what follows the lexeme.
-pub fn first_lexeme(c: char, after: &str) -> (TokenKind, &str)
-    ensures kind { result.0 ≡ (thin_lexeme (c ∷ chars after.now)).kind }
-    ensures rest { chars result.1.now ≡ drop (thin_lexeme (c ∷ chars after.now)).size (c ∷ chars after.now) }
-    ensures utf8 { IsUtf8 result.1.now }
+// The kind of the first lexeme of the text, and what follows the lexeme.
+pub fn first_lexeme(text: &str) -> (TokenKind, &str)
+    requires { length text.now < 2 ^ 32 }
+    ensures utf8 { IsUtf8 text.now }
+    ensures read { IsRead (lexeme (chars text.now)) text.now result.0 result.1.now }
 {
-    if opens_comment(c, first(after)) {
-        return (TokenKind::Unknown, after);
+    let c = first(text);
+    if begins(text, '/', '/') {
+        line_comment(text)
+    } else if begins(text, '/', '*') {
+        block_comment(text)
+    } else if is_whitespace(c) {
+        (TokenKind::Whitespace, skip_while::<White>(text))
+    } else if is_id_start(c) {
+        word(text)
+    } else if is_digit(c) {
+        numeral(text)
+    } else if begins_guarded(text) {
+        (TokenKind::GuardedStrPrefix, behind(behind(text)))
+    } else if c == '\'' {
+        quote(text)
+    } else if c == '"' {
+        string(text)
+    } else {
+        (one_char_kind(c), behind(text))
     }
-    if is_whitespace(c) {
-        return (TokenKind::Whitespace, skip_while::<White>(after));
-    }
-    if is_id_start(c) {
-        let rest = skip_while::<Continue>(after);
-        if is_prefix_mark(first(rest)) {
-            return (TokenKind::Unknown, after);
-        }
-        return (TokenKind::Ident, rest);
-    }
-    if opens_guarded(c, first(after)) {
-        return (TokenKind::Unknown, after);
-    }
-    (one_char_kind(c), after)
-}
-
-// Whether a comment begins with these two characters.
-#[inline]
-fn opens_comment(c: char, next: char) -> bool
-    ensures { result ≡ opens_comment c next }
-{
-    c == '/' && matches!(next, '/' | '*')
 }
 
 // Whether a guarded string begins with these two characters.
 #[inline]
-fn opens_guarded(c: char, next: char) -> bool
-    ensures { result ≡ opens_guarded c next }
+fn begins_guarded(text: &str) -> bool
+    ensures { result ≡ begins_guarded (chars text.now) }
 {
-    c == '#' && matches!(next, '"' | '#')
+    begins(text, '#', '"') || begins(text, '#', '#')
 }
 
-// Whether a word is a prefix where this character follows it.
-#[inline]
-fn is_prefix_mark(c: char) -> bool
-    ensures { result ≡ is_prefix_mark c }
+// A number and its suffix.
+fn numeral(text: &str) -> (TokenKind, &str)
+    requires { length text.now < 2 ^ 32 }
+    ensures { IsRead (numeral (chars text.now)) text.now result.0 result.1.now }
 {
-    matches!(c, '#' | '"' | '\'')
+    let (kind, rest) = number(text);
+    with_suffix(kind, text, rest)
+}
+
+// `"a"`
+fn string(text: &str) -> (TokenKind, &str)
+    requires { length text.now < 2 ^ 32 }
+    ensures { IsRead (string Str 1 (chars text.now)) text.now result.0 result.1.now }
+{
+    let (terminated, rest) = string_body(behind(text));
+    literal(terminated, LiteralKind::Str { terminated }, text, rest)
 }
 
 // The kind of a character that is a token by itself, and `Unknown` of any other.

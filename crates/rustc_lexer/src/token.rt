@@ -139,6 +139,17 @@ pub enum LiteralKind {
     RawCStr { n_hashes: Option<u8> },
 }
 
+/// A string between hashes, as `#"a"#`, which edition 2024 reserves.
+#[derive(Clone, Copy, PartialEq, Eq, PartialOrd, Ord, Debug)]
+pub struct GuardedStr {
+    /// How many hashes stand before the string.
+    pub n_hashes: u32,
+    /// Whether the string's end was found.
+    pub terminated: bool,
+    /// In bytes, with all hashes and the suffix.
+    pub token_len: u32,
+}
+
 /// The base of a number.
 #[derive(Clone, Copy, PartialEq, Eq, PartialOrd, Ord, Debug)]
 pub enum Base {

@@ -1,7 +1,6 @@
 //! The tokens of a text, one after another.
 ghost use Rattle.std.specs.Prelude.{◌<◌, ◌^◌, length};
 
-use crate::cursor::split_first;
 use crate::lexeme::first_lexeme;
 use crate::token::Token;
 
@@ -24,8 +23,10 @@ impl<'a> Iterator for Tokens<'a> {
 
     fn next(&mut self) -> Option<Token> {
         let text = self.rest;
-        let (c, after) = split_first(text)?;
-        let (kind, rest) = first_lexeme(c, after);
+        if text.is_empty() {
+            return None;
+        }
+        let (kind, rest) = first_lexeme(text);
         let len = (text.len() - rest.len()) as u32;
         self.rest = rest;
         Some(Token { kind, len })

@@ -1,8 +1,9 @@
 -- A builder's tokens with whole trees after them, and with their innermost group closed.
-use Rattle.std.proofs.Common.{◌≡◌, ℕ, ◌+◌, ◌<◌, ◌≤◌, length, List, [], ◌∷◌, ◌++◌, take, drop, ap, subst, refl, add-one, ◌-◌, set, reverse, ◌∙◌, sym, arith, length-append, append-nil}
+use Rattle.std.proofs.Common.{◌≡◌, ℕ, ◌+◌, ◌<◌, ◌≤◌, length, List, [], ◌∷◌, ◌++◌, map, take, drop, ap, subst, refl, add-one, ◌-◌, set, reverse, ◌∙◌, sym, arith, length-append, append-nil}
 use Rattle.std.proofs.lemmas.List.{drop-append-le, take-append-le, set_split, length-drop, reverse-append}
 use Rattle.tt_data.specs.Forest.{Forest, empty, group, joined, IsPreorder, forest_of, size, preorder}
 use Rattle.tt_data.specs.Flat.{forest_of-append, forest_of-preorder, IsPreorder-preorder, preorder-joined, length-preorder}
+use Rattle.tt.specs.Building.{Opened}
 use Rattle.tt.specs.BuilderTokens.{here_of, groups_of, IsHeld}
 use Rattle.tt_data.specs.declared.delimiter.Delimiter.{Delimiter}
 use Rattle.tt_data.specs.declared.tree.TokenTree.{TokenTree}
@@ -87,3 +88,8 @@ groups_of-closed tokens o outer d held =
 -- the opening that is taken off the end is the innermost
 pub reverse-popped : (old new : List Opening) (o : Opening) → old ≡ new ++ o ∷ [] → reverse old ≡ o ∷ reverse new
 reverse-popped old new o e = ap reverse e ∙ reverse-append new (o ∷ [])
+
+-- the sorts of the open groups
+pub kinds_of : (tokens : List TokenTree) (os : List Opening) → map (λ (o : Opened). o.kind) (groups_of tokens os) ≡ map (λ (o : Opening). o.kind) os
+kinds_of tokens [] = refl
+kinds_of tokens (o ∷ outer) = ap (λ kinds. o.kind ∷ kinds) (kinds_of (take o.at tokens) outer)

@@ -1,5 +1,5 @@
 -- How many tokens a builder has, and what that says of the answers of calls that add one.
-use Rattle.std.proofs.Common.{◌≡◌, ◌↔◌, ℕ, ◌+◌, ◌<◌, length, List, [], ◌∷◌, take, drop, ap, sym, ◌∙◌, arith, Result, Err}
+use Rattle.std.proofs.Common.{◌≡◌, ◌↔◌, ℕ, ◌+◌, ◌<◌, ◌≤◌, length, List, [], ◌∷◌, take, drop, ap, sym, ◌∙◌, arith, Result, Err}
 use Rattle.std.proofs.lemmas.List.{length-drop, length-take}
 use Rattle.tt_data.specs.Forest.{IsPreorder, forest_of, size}
 use Rattle.tt_data.specs.Flat.{length-preorder}
@@ -37,3 +37,8 @@ refused_as_full _ = 0
 pub room_left : (r : Result (Unit {0}) TtFault) (n : ℕ) → refused_as_full r ≡ 0 → n < most_tokens → (r ≡ Err fault.Tokens) ↔ (n ≡ most_tokens)
 room_left r n other room =
     (λ e. let no : 0 ≡ 1 = sym other ∙ ap refused_as_full e in omega (arith, no), λ e. absurd (omega (arith, e, room)))
+
+-- the same for a call that adds several
+pub room_for : (r : Result (Unit {0}) TtFault) (n : ℕ) → refused_as_full r ≡ 0 → n ≤ most_tokens → (r ≡ Err fault.Tokens) ↔ (most_tokens < n)
+room_for r n other room =
+    (λ e. let no : 0 ≡ 1 = sym other ∙ ap refused_as_full e in omega (arith, no), λ more. absurd (omega (arith, more, room)))

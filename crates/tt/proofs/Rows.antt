@@ -1,22 +1,26 @@
 -- Rows worked out by hand, by computation: `a(,)b` under construction, and tree by tree.
-use Rattle.std.proofs.Common.{◌≡◌, ℕ, ◌+◌, List, [], ◌∷◌, refl, codes, Some, None}
+use Rattle.std.proofs.Common.{◌≡◌, ℕ, ◌+◌, List, [], ◌∷◌, refl, codes, Some, None, true, false}
 use Rattle.tt_data.specs.declared.span.Span.{Span}
 use Rattle.tt_data.specs.declared.span.SyntaxContext.TheVariants.{Written}
 use Rattle.tt_data.specs.declared.delimiter.Delimiter.{Delimiter}
 use Rattle.tt_data.specs.declared.delimiter.DelimiterKind.TheVariants.{Parenthesis, Brace, Invisible}
 use Rattle.tt_data.specs.declared.leaf.Leaf.{Leaf}
 use Rattle.tt_data.specs.declared.leaf.Leaf.TheVariants as as_leaf
-use Rattle.tt_data.specs.declared.leaf.Spacing.TheVariants.{Alone}
+use Rattle.tt_data.specs.declared.leaf.Spacing.TheVariants.{Alone, Joint}
 use Rattle.tt_data.specs.declared.tree.TokenTree.{TokenTree}
 use Rattle.tt_data.specs.declared.tree.TokenTree.TheVariants as token
-use Rattle.tt_data.specs.Forest.{Forest, empty, leaf, group}
+use Rattle.tt_data.specs.Forest.{Forest, empty, leaf, group, preorder}
 use Rattle.tt_data.specs.Names.{ident_of}
+use Rattle.tt_data.specs.Walk.{at_leaf, opens, closes}
 use Rattle.tt.specs.declared.builder.Opening.{Opening}
-use Rattle.tt.specs.declared.view.TtElement.TheVariants as element
-use Rattle.tt.specs.BuilderTokens.{here_of, groups_of}
-use Rattle.tt.specs.Building.{Building, pushed, opened, closed, innermost_group, count_of, most_tokens, point_of, cut_back}
-use Rattle.tt.specs.Elements.{elements, first_element, first_place, IsNext}
-use Rattle.tt.specs.Tops.{head_of}
+use Rattle.tt.specs.declared.iter.TtElement.TheVariants as element
+use Rattle.tt.specs.BuilderTokens.{here_of, groups_of, begins_invisible, moved_back, alone_token}
+use Rattle.tt.specs.Building.{Building, pushed, opened, closed, extended, leaves, last_alone, Reached, itself, by_open, innermost_group, count_of, most_tokens, point_of, list_in, cut_back, unwrapped_at}
+use Rattle.tt.specs.Elements.{elements, first_element, first_place, first_alone, after_first, last_place, IsNext}
+use Rattle.tt.specs.Groups.{stripped}
+use Rattle.tt.specs.CursorTokens.{place_of}
+use Rattle.tt.specs.Places.{Around, beginning, moved, IsEnd, first_token, innermost_head, two_leaves, steps_before, steps_after}
+use Rattle.tt.specs.Tops.{head_of, only_group, tokens_of, tree_of, has_leaf_at}
 
 -- one byte of the text, as it was written
 abbrev at : ℕ → Span
@@ -63,7 +67,11 @@ closed_row = refl
 -- of two open groups the inner one closes, and stands inside the other
 inner_first :
     closed (opened (opened start Brace (at 0)) Parenthesis (at 1)) (at 2)
-    ≡ record { top = top; groups = record { kind = Brace; open_span = at 0; before = empty } ∷ []; here = group (round 1 2) empty empty }
+    ≡ record {
+      top = top;
+      groups = record { kind = Brace; open_span = at 0; before = empty } ∷ [];
+      here = group (round 1 2) empty empty;
+    }
 inner_first = refl
 
 -- where none is open, a closing changes nothing
@@ -125,6 +133,89 @@ falls_before_the_group = refl
 falls_inside_a_group : cut_back (record { tokens = 2; depth = 0 }) (closed unclosed (at 3)) ≡ None
 falls_inside_a_group = refl
 
+-- all can be taken back
+to_the_start : cut_back (point_of start) (closed unclosed (at 3)) ≡ Some start
+to_the_start = refl
+
+-- `a(,` again: in the top's list stands `a` alone, and no second group is open
+list_of_the_top : list_in 0 unclosed.groups unclosed.here ≡ Some ([], leaf (name (codes "a") 0) empty)
+list_of_the_top = refl
+
+no_such_list : list_in 2 unclosed.groups unclosed.here ≡ None
+no_such_list = refl
+
+-- `{}` without its closing, reached from nothing
+one_reached : Reached start (opened start Brace (at 0))
+one_reached = by_open start Brace (at 0) itself
+
+-- `a` and an invisible group round `,`: the group is the third token
+abbrev hidden : Building
+hidden = closed (pushed (opened (pushed start (name (codes "a") 0)) Invisible (at 1)) (comma 2)) (at 2)
+
+-- the group gives way to its contents, also where another group is open after it
+dissolved : unwrapped_at (Some 2) hidden ≡ pushed (pushed start (name (codes "a") 0)) (comma 2)
+dissolved = refl
+
+dissolved_before_a_group :
+    unwrapped_at (Some 2) (opened hidden Brace (at 3))
+    ≡ opened (pushed (pushed start (name (codes "a") 0)) (comma 2)) Brace (at 3)
+dissolved_before_a_group = refl
+
+-- a group with brackets stays
+visible_stays : unwrapped_at (Some 2) (closed unclosed (at 3)) ≡ closed unclosed (at 3)
+visible_stays = refl
+
+-- how a builder's tokens are read there: the group's own token is the third
+begins_third : begins_invisible (token.Subtree (record { delimiter = top; len = 1 })) ≡ true
+begins_third = refl
+
+leaf_begins_none : begins_invisible (token.Leaf (comma 2)) ≡ false
+leaf_begins_none = refl
+
+moved_after : moved_back 1 (record { at = 2; kind = Brace; open_span = at 1 }) ≡ record { at = 1; kind = Brace; open_span = at 1 }
+moved_after = refl
+
+-- trees and leaves in bulk
+bulk : extended start trees ≡ record { top = top; groups = []; here = trees }
+bulk = refl
+
+leaves_in_turn : leaves (comma 0 ∷ comma 1 ∷ []) ≡ leaf (comma 0) (leaf (comma 1) empty)
+leaves_in_turn = refl
+
+-- a comma that is joined to what follows
+abbrev joint : ℕ → Leaf
+joint n = as_leaf.Punct (record { char = 44; spacing = Joint; span = at n })
+
+-- the last token alone changes, be it inside the last group; a name has no spacing
+last_leaf : last_alone (leaf (joint 0) (leaf (joint 1) empty)) ≡ leaf (joint 0) (leaf (comma 1) empty)
+last_leaf = refl
+
+last_inside : last_alone (group (round 0 3) (leaf (joint 1) (leaf (joint 2) empty)) empty) ≡ group (round 0 3) (leaf (joint 1) (leaf (comma 2) empty)) empty
+last_inside = refl
+
+last_name : last_alone trees ≡ trees
+last_name = refl
+
+alone_in_a_list : alone_token (token.Leaf (joint 0)) ≡ token.Leaf (comma 0)
+alone_in_a_list = refl
+
+-- the tokens of a tree: its own head counts all that follow
+tree_tokens : tokens_of (record { delimiter = top; inner = leaf (comma 2) empty }) ≡ token.Subtree (record { delimiter = top; len = 1 }) ∷ token.Leaf (comma 2) ∷ []
+tree_tokens = refl
+
+tree_of_tokens : tree_of (token.Subtree (record { delimiter = top; len = 1 }) ∷ token.Leaf (comma 2) ∷ []) ≡ record { delimiter = top; inner = leaf (comma 2) empty }
+tree_of_tokens = refl
+
+-- a leaf stands second there, and none first or third
+leaf_second : has_leaf_at 1 (tokens_of (record { delimiter = top; inner = leaf (comma 2) empty })) ≡ true
+leaf_second = refl
+
+no_leaf_first : has_leaf_at 0 (tokens_of (record { delimiter = top; inner = leaf (comma 2) empty })) ≡ false
+no_leaf_first = refl
+
+no_leaf_third : has_leaf_at 2 (tokens_of (record { delimiter = top; inner = leaf (comma 2) empty })) ≡ false
+no_leaf_third = refl
+
 -- tree by tree: the group is one tree, with its number of tokens
 elements_row :
     elements trees
@@ -155,6 +246,171 @@ first_place_row = refl
 no_first_place : first_place empty ≡ None
 no_first_place = refl
 
+-- the first tree alone, and the others
+first_alone_row :
+    first_alone (group (round 1 3) (leaf (comma 2) empty) (leaf (name (codes "b") 4) empty))
+    ≡ Some (group (round 1 3) (leaf (comma 2) empty) empty)
+first_alone_row = refl
+
+after_first_row : after_first (group (round 1 3) (leaf (comma 2) empty) (leaf (name (codes "b") 4) empty)) ≡ leaf (name (codes "b") 4) empty
+after_first_row = refl
+
+none_alone : first_alone empty ≡ None
+none_alone = refl
+
+none_after : after_first empty ≡ empty
+none_after = refl
+
+-- the last token is `b`; of `(,)` it is the comma, and of `()` the group, which ends with its closing bracket
+last_place_row : last_place trees ≡ Some (at 4)
+last_place_row = refl
+
+last_place_inside : last_place (group (round 1 3) (leaf (comma 2) empty) empty) ≡ Some (at 2)
+last_place_inside = refl
+
+last_place_of_an_empty_group : last_place (group (round 1 3) empty empty) ≡ Some (at 3)
+last_place_of_an_empty_group = refl
+
+no_last_place : last_place empty ≡ None
+no_last_place = refl
+
+-- `(,)` is one group; `a(,)b`, a leaf and nothing are not
+only_group_row : only_group (group (round 1 3) (leaf (comma 2) empty) empty) ≡ Some (record { delimiter = round 1 3; inner = leaf (comma 2) empty })
+only_group_row = refl
+
+not_one_group : only_group trees ≡ None
+not_one_group = refl
+
+group_and_leaf : only_group (group (round 1 3) empty (leaf (comma 4) empty)) ≡ None
+group_and_leaf = refl
+
+leaf_is_no_group : only_group (leaf (comma 2) empty) ≡ None
+leaf_is_no_group = refl
+
+-- of two invisible groups, one inside the other, one goes; round brackets stay, and so does a group with a leaf after it
+stripped_once : stripped (group top (group top (leaf (comma 2) empty) empty) empty) ≡ group top (leaf (comma 2) empty) empty
+stripped_once = refl
+
+round_stays : stripped (group (round 1 3) empty empty) ≡ group (round 1 3) empty empty
+round_stays = refl
+
+not_alone_stays : stripped (group top empty (leaf (comma 2) empty)) ≡ group top empty (leaf (comma 2) empty)
+not_alone_stays = refl
+
 -- four tokens below the top
 head_row : head_of (record { delimiter = top; inner = trees }) ≡ record { delimiter = top; len = 4 }
 head_row = refl
+
+-- a walk of `a(,)b`, step by step: past `a`, into the group, past the comma, out, past `b`
+abbrev inside : Around
+inside = record { delimiter = round 1 3; before = leaf (name (codes "a") 0) empty; after = leaf (name (codes "b") 4) empty }
+
+past_a : moved (beginning trees) ≡ record { around = []; before = leaf (name (codes "a") 0) empty; after = after_first trees }
+past_a = refl
+
+in_group : moved (moved (beginning trees)) ≡ record { around = inside ∷ []; before = empty; after = leaf (comma 2) empty }
+in_group = refl
+
+at_its_end : moved (moved (moved (beginning trees))) ≡ record { around = inside ∷ []; before = leaf (comma 2) empty; after = empty }
+at_its_end = refl
+
+past_group :
+    moved (moved (moved (moved (beginning trees))))
+    ≡ record {
+      around = [];
+      before = leaf (name (codes "a") 0) (group (round 1 3) (leaf (comma 2) empty) empty);
+      after = leaf (name (codes "b") 4) empty;
+    }
+past_group = refl
+
+past_all : moved (moved (moved (moved (moved (beginning trees))))) ≡ record { around = []; before = trees; after = empty }
+past_all = refl
+
+-- the end of the walk is the end, that of the group is not
+is_end : IsEnd (record { around = []; before = trees; after = empty })
+is_end = (refl, refl)
+
+not_the_end : IsEnd (record { around = inside ∷ []; before = leaf (comma 2) empty; after = empty }) → ⊥
+not_the_end e = absurd cc
+
+-- in the group, two steps of the walk are before the place and three after it; past the group, four and one
+walked_in :
+    steps_before (moved (moved (beginning trees))) ≡ at_leaf (name (codes "a") 0) ∷ opens Parenthesis (at 1) ∷ []
+walked_in = refl
+
+to_walk_in :
+    steps_after (moved (moved (beginning trees)))
+    ≡ at_leaf (comma 2) ∷ closes Parenthesis (at 3) ∷ at_leaf (name (codes "b") 4) ∷ []
+to_walk_in = refl
+
+walked_past :
+    steps_before (moved (moved (moved (moved (beginning trees)))))
+    ≡ at_leaf (name (codes "a") 0) ∷ opens Parenthesis (at 1) ∷ at_leaf (comma 2) ∷ closes Parenthesis (at 3) ∷ []
+walked_past = refl
+
+to_walk_past : steps_after (moved (moved (moved (moved (beginning trees))))) ≡ at_leaf (name (codes "b") 4) ∷ []
+to_walk_past = refl
+
+first_token_row : first_token (after_first trees) ≡ Some (token.Subtree (record { delimiter = round 1 3; len = 1 }))
+first_token_row = refl
+
+no_first_token : first_token empty ≡ None
+no_first_token = refl
+
+-- the head of the group that a place is in counts the comma after it
+inner_head : innermost_head (moved (moved (beginning trees))) ≡ Some (record { delimiter = round 1 3; len = 1 })
+inner_head = refl
+
+no_inner_head : innermost_head (beginning trees) ≡ None
+no_inner_head = refl
+
+-- two leaves side by side; a group, and the end of a list, are no leaf
+two_leaves_row : two_leaves (leaf (comma 0) (leaf (comma 1) (group top empty empty))) ≡ Some (comma 0 ∷ comma 1 ∷ [])
+two_leaves_row = refl
+
+leaf_and_group : two_leaves trees ≡ None
+leaf_and_group = refl
+
+one_leaf : two_leaves (leaf (comma 0) empty) ≡ None
+one_leaf = refl
+
+-- the tokens and two numbers that hold these places: in the group, at its end, and past it, all but the first after three tokens
+held_in_group : place_of (preorder trees) 2 2 ≡ record { around = inside ∷ []; before = empty; after = leaf (comma 2) empty }
+held_in_group = refl
+
+held_at_its_end : place_of (preorder trees) 2 3 ≡ record { around = inside ∷ []; before = leaf (comma 2) empty; after = empty }
+held_at_its_end = refl
+
+held_past_group :
+    place_of (preorder trees) 0 3
+    ≡ record {
+      around = [];
+      before = leaf (name (codes "a") 0) (group (round 1 3) (leaf (comma 2) empty) empty);
+      after = leaf (name (codes "b") 4) empty;
+    }
+held_past_group = refl
+
+-- in `(())` the end of the inner group, of the outer one and of the list are after as many tokens
+abbrev nested : Forest
+nested = group (round 0 3) (group (round 1 2) empty empty) empty
+
+inner_end :
+    place_of (preorder nested) 2 2
+    ≡ record {
+      around = record { delimiter = round 1 2; before = empty; after = empty } ∷ record { delimiter = round 0 3; before = empty; after = empty } ∷ [];
+      before = empty;
+      after = empty;
+    }
+inner_end = refl
+
+outer_end :
+    place_of (preorder nested) 1 2
+    ≡ record {
+      around = record { delimiter = round 0 3; before = empty; after = empty } ∷ [];
+      before = group (round 1 2) empty empty;
+      after = empty;
+    }
+outer_end = refl
+
+last_end : place_of (preorder nested) 0 2 ≡ record { around = []; before = nested; after = empty }
+last_end = refl

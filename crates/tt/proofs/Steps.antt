@@ -1,12 +1,14 @@
 -- Steps over a flat list: over a group at its front, and over all up to a later rest.
-use Rattle.std.proofs.Common.{◌≡◌, ◌≤◌, ◌+◌, ◌-◌, ◌++◌, length, List, ◌∷◌, take, drop, ap, refl, ◌∙◌, sym, arith, length-append}
-use Rattle.tt_data.specs.Forest.{Forest, group, joined, preorder, IsPreorder, forest_of, size}
-use Rattle.tt_data.specs.Flat.{Parts, parts, preorder-joined, length-preorder, take-preorder, IsPreorder-preorder, forest_of-preorder}
-use Rattle.tt.specs.Elements.{elements}
+use Rattle.std.proofs.Common.{◌≡◌, ◌≤◌, ◌+◌, ◌-◌, ◌++◌, length, List, ◌∷◌, take, drop, ap, refl, ◌∙◌, sym, arith, length-append, Some}
+use Rattle.tt_data.specs.Forest.{Forest, empty, leaf, group, joined, preorder, front, IsPreorder, forest_of, size}
+use Rattle.tt_data.proofs.ForestLemmas.{size-joined}
+use Rattle.tt_data.specs.Flat.{Parts, parts, front-joined, preorder-joined, length-preorder, take-preorder, IsPreorder-preorder, forest_of-preorder}
+use Rattle.tt.specs.Elements.{elements, IsNext, first_alone}
+use Rattle.tt.specs.declared.iter.TtElement.{TtElement}
 use Rattle.tt_data.specs.declared.tree.Subtree.{Subtree}
 use Rattle.tt_data.specs.declared.tree.TokenTree.{TokenTree}
 use Rattle.tt_data.specs.declared.tree.TokenTree.TheVariants as token
-use Rattle.tt.specs.declared.view.TtElement.TheVariants as element
+use Rattle.tt.specs.declared.iter.TtElement.TheVariants as element
 
 -- what the step passes, what is left, and what a walk gives for it
 pub record Step (s : Subtree) (tokens inner rest : List TokenTree) : Type 0 where
@@ -53,3 +55,22 @@ passed_of all rest now all_whole rest_whole left some =
       whole = rw front_is (IsPreorder-preorder passed);
       all_is = rw (front_is, forest_of-preorder passed) some.1;
     }
+
+-- a step passes one tree
+pub passed_one : (then old new : Forest) (t : TtElement) → then ≡ old → IsNext old (Some t) new → (passed : Forest) × (then ≡ joined passed new)
+passed_one then old new (element.Leaf l) same next = (leaf l empty, same ∙ next)
+passed_one then old new (element.Subtree s inner) same next = (group s.delimiter inner empty, same ∙ next.0)
+
+-- two forests that make one with the same trees after them are the same
+joined-left : (a b f : Forest) → joined a f ≡ joined b f → a ≡ b
+joined-left a b f e =
+    let counted : size a ≡ size b = omega (arith, ap size e, size-joined a f, size-joined b f) in
+    sym (front-joined a f) ∙ (ap (λ n. front n (joined a f)) counted ∙ (ap (front (size b)) e ∙ front-joined b f))
+
+-- the trees that a step passed are the first alone
+pub alone_of : (then passed old new : Forest) (t : TtElement) → then ≡ old → IsNext old (Some t) new → then ≡ joined passed new
+    → Some passed ≡ first_alone old
+alone_of then passed old new (element.Leaf l) same next all =
+    rw next (ap Some (joined-left passed (leaf l empty) new (sym all ∙ (same ∙ next))))
+alone_of then passed old new (element.Subtree s inner) same next all =
+    rw next.0 (ap Some (joined-left passed (group s.delimiter inner empty) new (sym all ∙ (same ∙ next.0))))

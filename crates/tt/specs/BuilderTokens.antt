@@ -1,9 +1,15 @@
 -- How a builder's tokens hold a tree under construction. The token of the top and that of each open group count nothing yet.
-use Rattle.std.specs.Prelude.{◌+◌, ◌<◌, List, [], ◌∷◌, length, take, drop}
+use Rattle.std.specs.Prelude.{ℕ, ◌+◌, ◌-◌, ◌<◌, ◌⊎◌, List, [], ◌∷◌, length, take, drop, Option, Some, None, Bool, false, nat_lt, if◌then◌else◌}
 use Rattle.tt_data.specs.declared.tree.TokenTree.{TokenTree}
+use Rattle.tt_data.specs.declared.tree.TokenTree.TheVariants as token
 use Rattle.tt.specs.declared.builder.Opening.{Opening}
 use Rattle.tt_data.specs.Forest.{Forest, forest_of, IsPreorder}
-use Rattle.tt.specs.Building.{Opened}
+use Rattle.tt.specs.Building.{Opened, is_invisible, alone}
+
+-- how many tokens stand before those trees that are in the innermost list; openings come innermost first
+abbrev pub start_of : List Opening → ℕ
+start_of [] = 1
+start_of (o ∷ outer) = o.at + 1
 
 -- the trees inside the innermost open group, or the top's: those of the tokens after its own; openings come innermost first
 abbrev pub here_of : List TokenTree → List Opening → Forest
@@ -20,3 +26,27 @@ groups_of tokens (o ∷ outer) =
 abbrev pub IsHeld : List TokenTree → List Opening → Type 0
 IsHeld tokens [] = (0 < length tokens) × IsPreorder (drop 1 tokens)
 IsHeld tokens (o ∷ outer) = (o.at < length tokens) × IsPreorder (drop (o.at + 1) tokens) × IsHeld (take o.at tokens) outer
+
+-- whole trees end right before this place, in the list that it is in
+abbrev pub IsCut : ℕ → List TokenTree → List Opening → Type 0
+IsCut at tokens [] = IsHeld (take at tokens) []
+IsCut at tokens (o ∷ outer) = ((o.at < at) × IsHeld (take at tokens) (o ∷ outer)) ⊎ ((at < o.at) × IsCut at (take o.at tokens) outer)
+
+-- a tree begins at the place, where there is one
+abbrev pub IsTreeAt : Option ℕ → List TokenTree → List Opening → Type 0
+IsTreeAt None tokens openings = Unit {0}
+IsTreeAt (Some at) tokens openings = (at < length tokens) × IsCut at tokens openings
+
+-- whether a token begins an invisible group
+abbrev pub begins_invisible : TokenTree → Bool
+begins_invisible (token.Subtree s) = is_invisible s.delimiter.kind
+begins_invisible (token.Leaf l) = false
+
+-- an opening, once the token at a place is taken out
+abbrev pub moved_back : ℕ → Opening → Opening
+moved_back at o = record { at = if nat_lt at o.at then o.at - 1 else o.at; kind = o.kind; open_span = o.open_span }
+
+-- a token that is not joined to what follows
+abbrev pub alone_token : TokenTree → TokenTree
+alone_token (token.Leaf l) = token.Leaf (alone l)
+alone_token (token.Subtree s) = token.Subtree s

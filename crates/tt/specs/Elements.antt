@@ -1,10 +1,12 @@
 -- What a walk over a list of trees gives, tree by tree.
-use Rattle.std.specs.Prelude.{◌≡◌, List, [], ◌∷◌, Option, Some, None, option_map}
+use Rattle.std.specs.Prelude.{◌≡◌, ◌-◌, List, [], ◌∷◌, Option, Some, None, option_map, slice_get}
 use Rattle.tt_data.specs.declared.span.Span.{Span}
-use Rattle.tt_data.specs.Forest.{Forest, empty, leaf, group, size}
+use Rattle.tt_data.specs.declared.tree.TokenTree.{TokenTree}
+use Rattle.tt_data.specs.declared.tree.TokenTree.TheVariants as token
+use Rattle.tt_data.specs.Forest.{Forest, empty, leaf, group, size, preorder}
 use Rattle.tt_data.specs.Spans.{span_of}
-use Rattle.tt.specs.declared.view.TtElement.{TtElement}
-use Rattle.tt.specs.declared.view.TtElement.TheVariants as element
+use Rattle.tt.specs.declared.iter.TtElement.{TtElement}
+use Rattle.tt.specs.declared.iter.TtElement.TheVariants as element
 
 -- the trees of a forest, one by one: a group comes with its delimiter, its number of tokens and the forest inside
 abbrev pub elements : Forest → List TtElement
@@ -32,3 +34,24 @@ place_of (element.Subtree s inner) = s.delimiter.open_span
 -- the place where the first tree of a forest begins, where it has one
 abbrev pub first_place : Forest → Option Span
 first_place f = option_map place_of (first_element f)
+
+-- the first tree of a forest alone, where it has one
+abbrev pub first_alone : Forest → Option Forest
+first_alone empty = None
+first_alone (leaf l rest) = Some (leaf l empty)
+first_alone (group d inner rest) = Some (group d inner empty)
+
+-- the trees of a forest after the first
+abbrev pub after_first : Forest → Forest
+after_first empty = empty
+after_first (leaf l rest) = rest
+after_first (group d inner rest) = rest
+
+-- the place of a token that has nothing after it in its group: a leaf's own, and that of a group's closing bracket
+abbrev pub last_span_of : TokenTree → Span
+last_span_of (token.Leaf l) = span_of l
+last_span_of (token.Subtree s) = s.delimiter.close_span
+
+-- the place of the last of all tokens of a forest, where it has one
+abbrev pub last_place : Forest → Option Span
+last_place f = option_map last_span_of (slice_get (preorder f) (size f - 1))

@@ -2,6 +2,9 @@
 pub mod Views
 pub mod Elements
 pub mod Tops
+pub mod Places
+pub mod Groups
 pub mod Building
 -- what the functions inside the crate promise each other
 pub mod BuilderTokens
+pub mod CursorTokens

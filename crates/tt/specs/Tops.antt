@@ -1,10 +1,16 @@
 -- A whole tree: one group.
-use Rattle.std.specs.Prelude.{refl}
+use Rattle.std.specs.Prelude.{◌≡◌, ℕ, refl, List, ◌∷◌, Option, Some, None, Bool, true, false}
+use Rattle.std.specs.List.{slice_get}
 use Rattle.std.specs.Coded.{Coded, code_by, coded×}
 use Rattle.tt_data.specs.declared.delimiter.Delimiter.{Delimiter}
+use Rattle.tt_data.specs.declared.delimiter.DelimSpan.{DelimSpan}
+use Rattle.tt_data.specs.declared.delimiter.DelimiterKind.TheVariants.{Invisible}
 use Rattle.tt_data.specs.declared.tree.Subtree.{Subtree}
+use Rattle.tt_data.specs.declared.tree.TokenTree.{TokenTree}
+use Rattle.tt_data.specs.declared.tree.TokenTree.TheVariants as token
 use Rattle.tt_data.specs.contracts.delimiter.Delimiter as delimiter_row
-use Rattle.tt_data.specs.Forest.{Forest, size}
+use Rattle.tt_data.specs.Forest.{Forest, empty, group, size, preorder, forest_of}
+use Rattle.tt_data.specs.Spans.{no_span}
 use Rattle.tt_data.specs.Coded.{forest_code}
 
 -- the group's delimiter, and the trees inside
@@ -15,6 +21,41 @@ pub record Top : Type 0 where
 -- the group's head: its delimiter, and the number of all tokens inside
 abbrev pub head_of : Top → Subtree
 head_of t = record { delimiter = t.delimiter; len = size t.inner }
+
+-- no brackets, with the two ends where they are here
+abbrev pub no_brackets : DelimSpan → Delimiter
+no_brackets span = record { open_span = span.open_span; close_span = span.close_span; kind = Invisible }
+
+-- a tree as a list of one group
+abbrev pub forest_of_top : Top → Forest
+forest_of_top t = group t.delimiter t.inner empty
+
+-- all its tokens, the group's own first
+abbrev pub tokens_of : Top → List TokenTree
+tokens_of t = preorder (forest_of_top t)
+
+-- a list of trees that is one group, as a tree
+abbrev pub only_group : Forest → Option Top
+only_group (group d inner empty) = Some (record { delimiter = d; inner = inner })
+only_group f = None
+
+-- whether a token is there, and is a leaf
+abbrev pub is_leaf : Option TokenTree → Bool
+is_leaf (Some (token.Leaf l)) = true
+is_leaf found = false
+
+-- whether a leaf stands at this place of a flat list
+abbrev pub has_leaf_at : ℕ → List TokenTree → Bool
+has_leaf_at n tokens = is_leaf (slice_get tokens n)
+
+-- the tree that a flat list begins with, of which all tokens after the first are the inside; junk for a list that begins with no group
+abbrev pub tree_of : List TokenTree → Top
+tree_of (token.Subtree s ∷ more) = record { delimiter = s.delimiter; inner = forest_of more }
+tree_of tokens = record { delimiter = record { open_span = no_span; close_span = no_span; kind = Invisible }; inner = empty }
+
+-- a flat list holds one group
+abbrev pub IsOneGroup : List TokenTree → Type 0
+IsOneGroup tokens = tokens_of (tree_of tokens) ≡ tokens
 
 -- a whole tree is stored as its two parts
 abbrev pub top_code : Coded Top

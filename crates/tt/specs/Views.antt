@@ -1,7 +1,14 @@
--- What a borrowed list of trees shows.
+-- What a borrowed list of trees shows, and what a borrowed group.
 use Rattle.tt_data.specs.Forest.{Forest, forest_of}
+use Rattle.tt.specs.declared.view.SubtreeView.{SubtreeView}
 use Rattle.tt.specs.declared.view.TokenTreesView.{TokenTreesView}
+use Rattle.tt.specs.Groups.{group_in}
+use Rattle.tt.specs.Tops.{Top}
 
 -- the list's trees
 unfoldable pub forest : TokenTreesView → Forest
 forest v = forest_of v.tokens.now
+
+-- the group: its delimiter, and the trees inside
+unfoldable pub top_of : SubtreeView → Top
+top_of v = group_in (forest_of v.tokens.now)

@@ -1,18 +1,41 @@
 //! Trees under construction.
-ghost use Rattle.std.specs.Prelude.{◌≡◌, ◌≢◌, ◌↔◌, ◌⊎◌, [], Err, IfOk, IfErr, IsOk, IsOkUnless, OnOk, OnErr};
+ghost use Rattle.std.specs.Prelude.{◌≡◌, ◌≢◌, ◌↔◌, ◌⊎◌, ◌+◌, ◌<◌, ◌^◌, [], reverse, Err, Some, None, option_map, map, IfOk, IfErr, IsOk, IsOkUnless, IsSome, IsTrue, OnOk, OnErr};
+ghost use Rattle.tt_data.specs.Forest.{size, front};
+ghost use Rattle.tt.specs.BuilderTokens.{start_of, begins_invisible, moved_back, alone_token};
 ghost use Rattle.tt_data.specs.declared.fault.TtFault.TheVariants as fault;
 
+use crate::tokens::{append_copies, is_one_group, is_tree_end};
 use crate::top::TopSubtree;
+use crate::view::{TokenTreesView, TtIter};
 use std::alloc::Global;
 use std::marker::Model;
 use tt_data::delimiter::{Delimiter, DelimiterKind};
 use tt_data::fault::TtFault;
-use tt_data::leaf::Leaf;
+use tt_data::leaf::{Leaf, Spacing};
 use tt_data::span::Span;
 use tt_data::tree::{Subtree, TokenTree};
 
 // The most tokens that a tree has below its top.
 const MOST_TOKENS: usize = u32::MAX as usize;
+
+/// A point of a builder's past: how many tokens it had below the top, and how many groups were open.
+#[derive(Clone, Copy)]
+pub struct SubtreeBuilderRestorePoint {
+    tokens: u32,
+    depth: usize,
+}
+
+impl Model for SubtreeBuilderRestorePoint {
+    ghost use Rattle.tt.specs.Building.{Point, point_code};
+
+    ghost Value = { Point };
+
+    ghost coded = { point_code };
+
+    ghost view = { λ p. record { tokens = p.tokens; depth = p.depth } };
+
+    ghost inverse = { λ p. record { tokens = p.tokens; depth = p.depth } };
+}
 
 // A group that is open, and where its token stands.
 #[derive(Clone, Copy)]
@@ -20,6 +43,53 @@ struct Opening {
     at: usize,
     kind: DelimiterKind,
     open_span: Span,
+}
+
+impl Opening {
+    // The same opening, once the token at a place is taken out.
+    fn moved_back(self, at: usize) -> Opening
+        ensures { result ≡ moved_back at self }
+    {
+        let moved = if at < self.at { self.at - 1 } else { self.at };
+        Opening { at: moved, ..self }
+    }
+}
+
+/// The sorts of a builder's open groups, the innermost first.
+#[derive(Drop)]
+pub struct ExpectedDelimiters<'a> {
+    // The innermost last.
+    openings: &'a [Opening],
+}
+
+impl<'a> Model for ExpectedDelimiters<'a> {
+    ghost use Rattle.std.specs.Prelude.{List, map, reverse};
+    ghost use Rattle.std.specs.Coded.{coded_list};
+    ghost use Rattle.tt_data.specs.contracts.delimiter.DelimiterKind as kind_row;
+    ghost use Rattle.tt_data.specs.declared.delimiter.DelimiterKind.{DelimiterKind};
+
+    ghost Value = { List DelimiterKind };
+
+    ghost coded = { coded_list kind_row.the_row.coded };
+
+    ghost view = { λ it. map (λ o. o.kind) (reverse it.openings.now) };
+}
+
+impl<'a> Iterator for ExpectedDelimiters<'a> {
+    ghost use Rattle.std.specs.Iterator.{YieldsFirst, item_count};
+
+    type Item = DelimiterKind;
+
+    ghost next_gives = { YieldsFirst (λ it. it) };
+
+    ghost remaining = { item_count (λ it. it) };
+
+    /// The next sort, further out: none where no groups are left.
+    fn next(&mut self) -> Option<DelimiterKind> {
+        let (innermost, outer) = self.openings.split_last()?;
+        self.openings = outer;
+        Some(innermost.kind)
+    }
 }
 
 /// A tree under construction: some of its groups are open, one inside the other, and what comes
@@ -33,35 +103,47 @@ pub struct TopSubtreeBuilder {
     tokens: Vec<TokenTree>,
     // The open groups, the innermost last.
     openings: Vec<Opening>,
+    // Where the token of the group closed last stands.
+    last_closed: Option<usize>,
 }
 
 impl Model for TopSubtreeBuilder {
     ghost use Rattle.std.specs.Prelude.{reverse, length, ◌≤◌, ◌^◌};
-    ghost use Rattle.tt.specs.Building.{Building, building_code};
-    ghost use Rattle.tt.specs.BuilderTokens.{here_of, groups_of, IsHeld};
+    ghost use Rattle.tt.specs.Building.{Builder, builder_code};
+    ghost use Rattle.tt.specs.BuilderTokens.{here_of, groups_of, IsHeld, IsTreeAt};
 
-    ghost Value = { Building };
+    ghost Value = { Builder };
 
-    ghost coded = { building_code };
+    ghost coded = { builder_code };
 
     ghost view = { λ b. record {
-      top = b.top;
-      groups = groups_of b.tokens.items (reverse b.openings.items);
-      here = here_of b.tokens.items (reverse b.openings.items);
+      tree = record {
+        top = b.top;
+        groups = groups_of b.tokens.items (reverse b.openings.items);
+        here = here_of b.tokens.items (reverse b.openings.items);
+      };
+      last_closed = b.last_closed;
     } };
 
-    ghost invariant = { λ b. IsHeld b.tokens.items (reverse b.openings.items) × (length b.tokens.items ≤ 2 ^ 32) };
+    ghost invariant = { λ b. IsHeld b.tokens.items (reverse b.openings.items) × (length b.tokens.items ≤ 2 ^ 32)
+        × IsTreeAt b.last_closed b.tokens.items (reverse b.openings.items) };
 }
 
 impl TopSubtreeBuilder {
     ghost use Rattle.tt_data.specs.Forest.{empty};
-    ghost use Rattle.tt.specs.Building.{pushed, opened, closed, count_of, most_tokens, innermost_group};
+    ghost use Rattle.std.specs.Prelude.{List, length};
+    ghost use Rattle.std.specs.Iterator.{Drains, Yields, IsFinite};
+    ghost use Rattle.tt.specs.Views.{forest};
+    ghost use Rattle.tt.specs.Building.{leaves as leaves_of};
+    ghost use Rattle.tt_data.specs.declared.leaf.Leaf.{Leaf};
+    ghost use Rattle.tt.specs.Tops.{only_group};
+    ghost use Rattle.tt.specs.Building.{pushed, extended, last_alone, opened, closed, count_of, count_in, most_tokens, innermost_group, point_of, list_in, cut_back, unwrapped_at};
 
     /// A builder of a tree with the brackets `top`, so far with nothing inside.
     ///
     /// `Memory` is its only error.
     pub fn new(alloc: Global, top: Delimiter) -> Result<TopSubtreeBuilder, TtFault>
-        ensures ok { IfOk result (λ b. b ≡ record { top = top; groups = []; here = empty }) }
+        ensures ok { IfOk result (λ b. b ≡ record { tree = record { top = top; groups = []; here = empty }; last_closed = None }) }
         ensures memory { IsOkUnless result fault.Memory }
     {
         let mut tokens = Vec::new(alloc);
@@ -76,6 +158,7 @@ impl TopSubtreeBuilder {
             top,
             tokens,
             openings: Vec::new(alloc),
+            last_closed: None,
         })
     }
 
@@ -84,9 +167,10 @@ impl TopSubtreeBuilder {
     /// It answers `Tokens` where there are `u32::MAX` tokens below the top already, and only there;
     /// its one other error is `Memory`.
     pub fn push(&mut self, leaf: Leaf) -> Result<(), TtFault>
-        ensures ok { OnOk result (self.new ≡ pushed self.old leaf) }
+        ensures ok { OnOk result (self.new.tree ≡ pushed self.old.tree leaf) }
+        ensures last { self.new.last_closed ≡ self.old.last_closed }
         ensures err { OnErr result (self.new ≡ self.old) }
-        ensures tokens { (result ≡ Err fault.Tokens) ↔ (count_of self.old ≡ most_tokens) }
+        ensures tokens { (result ≡ Err fault.Tokens) ↔ (count_of self.old.tree ≡ most_tokens) }
         ensures faults { IfErr result (λ e. (e ≡ fault.Memory) ⊎ (e ≡ fault.Tokens)) }
     {
         if self.tokens.len() > MOST_TOKENS {
@@ -98,15 +182,93 @@ impl TopSubtreeBuilder {
         Ok(())
     }
 
+    /// Puts these trees after the last tree of the innermost open group.
+    ///
+    /// It answers `Tokens` where there would be more than `u32::MAX` tokens below the top, and only
+    /// there; its one other error is `Memory`.
+    pub fn extend_with_tt(&mut self, tt: TokenTreesView<'_>) -> Result<(), TtFault>
+        ensures ok { OnOk result (self.new.tree ≡ extended self.old.tree (forest tt.entry)) }
+        ensures last { self.new.last_closed ≡ self.old.last_closed }
+        ensures err { OnErr result (self.new ≡ self.old) }
+        ensures tokens { (result ≡ Err fault.Tokens) ↔ (most_tokens < count_of self.old.tree + size (forest tt.entry)) }
+        ensures faults { IfErr result (λ e. (e ≡ fault.Memory) ⊎ (e ≡ fault.Tokens)) }
+    {
+        let room = MOST_TOKENS + 1 - self.tokens.len();
+        if room < tt.len() {
+            return Err(TtFault::Tokens);
+        }
+        let Ok(()) = append_copies(&mut self.tokens, tt.tokens) else {
+            return Err(TtFault::Memory);
+        };
+        Ok(())
+    }
+
+    /// Puts these leaves after the last tree of the innermost open group.
+    ///
+    /// It answers `Tokens` only where the leaves that it asked for would be more than fit below the
+    /// top; its one other error is `Memory`.
+    pub fn extend<I: IntoIterator<Item = Leaf>>(&mut self, leaves: I) -> Result<(), TtFault>
+        requires { (all : I.IntoIter) → I.into_iter_gives leaves all → I.IntoIter.can_next all × IsFinite (I.IntoIter.remaining all) }
+        ensures ok { OnOk result ((all : I.IntoIter) × (ls : List Leaf) × I.into_iter_gives leaves all × Drains I.IntoIter.next_gives all ls × (self.new.tree ≡ extended self.old.tree (leaves_of ls))) }
+        ensures last { self.new.last_closed ≡ self.old.last_closed }
+        ensures err { OnErr result (self.new ≡ self.old) }
+        ensures tokens { result ≡ Err fault.Tokens → (all : I.IntoIter) × (ls : List Leaf) × (rest : I.IntoIter) × I.into_iter_gives leaves all × Yields I.IntoIter.next_gives all ls rest × (most_tokens < count_of self.old.tree + length ls) }
+        ensures faults { IfErr result (λ e. (e ≡ fault.Memory) ⊎ (e ≡ fault.Tokens)) }
+    {
+        let room = MOST_TOKENS + 1 - self.tokens.len();
+        let mut more = Vec::new(*self.tokens.allocator());
+        for leaf in leaves {
+            if more.len() == room {
+                return Err(TtFault::Tokens);
+            }
+            let Ok(()) = more.push(TokenTree::Leaf(leaf)) else {
+                return Err(TtFault::Memory);
+            };
+        }
+        let Ok(()) = self.tokens.append(&mut more) else {
+            return Err(TtFault::Memory);
+        };
+        Ok(())
+    }
+
+    /// Puts these trees there, with the very last token, be it inside a last group, `Alone` where it
+    /// is a punct.
+    ///
+    /// It answers `Tokens` where there would be more than `u32::MAX` tokens below the top, and only
+    /// there; its one other error is `Memory`.
+    pub fn extend_with_tt_alone(&mut self, tt: TokenTreesView<'_>) -> Result<(), TtFault>
+        ensures ok { OnOk result (self.new.tree ≡ extended self.old.tree (last_alone (forest tt.entry))) }
+        ensures last { self.new.last_closed ≡ self.old.last_closed }
+        ensures err { OnErr result (self.new ≡ self.old) }
+        ensures tokens { (result ≡ Err fault.Tokens) ↔ (most_tokens < count_of self.old.tree + size (forest tt.entry)) }
+        ensures faults { IfErr result (λ e. (e ≡ fault.Memory) ⊎ (e ≡ fault.Tokens)) }
+    {
+        self.extend_with_tt(tt)?;
+        if !tt.is_empty() {
+            self.set_last_alone();
+        }
+        Ok(())
+    }
+
+    // The last token is no longer joined to what follows.
+    fn set_last_alone(&mut self)
+        requires { self.old.tree.here ≢ empty }
+        ensures { self.new ≡ record self.old { tree = record self.old.tree { here = last_alone self.old.tree.here } } }
+    {
+        let last = self.tokens.len() - 1;
+        set_alone(&mut self.tokens[last]);
+    }
+
     /// Opens a group after the last tree of the innermost open group. It is the innermost one now,
     /// with nothing inside.
     ///
     /// It answers `Tokens` where there are `u32::MAX` tokens below the top already, and only there;
     /// its one other error is `Memory`.
     pub fn open(&mut self, delimiter_kind: DelimiterKind, open_span: Span) -> Result<(), TtFault>
-        ensures ok { OnOk result (self.new ≡ opened self.old delimiter_kind open_span) }
+        ensures ok { OnOk result (self.new.tree ≡ opened self.old.tree delimiter_kind open_span) }
+        ensures last { self.new.last_closed ≡ self.old.last_closed }
         ensures err { OnErr result (self.new ≡ self.old) }
-        ensures tokens { (result ≡ Err fault.Tokens) ↔ (count_of self.old ≡ most_tokens) }
+        ensures tokens { (result ≡ Err fault.Tokens) ↔ (count_of self.old.tree ≡ most_tokens) }
         ensures faults { IfErr result (λ e. (e ≡ fault.Memory) ⊎ (e ≡ fault.Tokens)) }
     {
         if self.tokens.len() > MOST_TOKENS {
@@ -139,20 +301,30 @@ impl TopSubtreeBuilder {
 
     /// The innermost open group's kind, and the place of its opening: none where no group is open.
     pub fn innermost(&self) -> Option<(DelimiterKind, Span)>
-        ensures { result ≡ innermost_group self.now.groups }
+        ensures { result ≡ innermost_group self.now.tree.groups }
     {
         let opening = self.openings.last()?;
         Some((opening.kind, opening.open_span))
+    }
+
+    /// The sorts of the open groups, the innermost first: what closing brackets are to come.
+    pub fn expected_delimiters(&self) -> ExpectedDelimiters<'_>
+        ensures { result ≡ map (λ o. o.kind) self.now.tree.groups }
+    {
+        ExpectedDelimiters {
+            openings: self.openings.as_slice(),
+        }
     }
 
     /// Closes the innermost open group, which then stands as one tree where it was opened.
     ///
     /// It answers `Place` where no group is open, and only there. It takes no memory.
     pub fn close(&mut self, close_span: Span) -> Result<(), TtFault>
-        ensures ok { OnOk result (self.new ≡ closed self.old close_span) }
+        ensures ok { OnOk result (self.new.tree ≡ closed self.old.tree close_span) }
+        ensures last { OnOk result (self.new.last_closed ≡ Some (count_in self.old.tree.groups)) }
         ensures place { IsOkUnless result TtFault.Place }
         ensures err { OnErr result (self.new ≡ self.old) }
-        ensures none_open { IsOk result ↔ (self.old.groups ≢ []) }
+        ensures none_open { IsOk result ↔ (self.old.tree.groups ≢ []) }
     {
         let Some(opening) = self.openings.pop() else {
             return Err(TtFault::Place);
@@ -164,7 +336,87 @@ impl TopSubtreeBuilder {
         };
         let len = (self.tokens.len() - opening.at - 1) as u32;
         self.tokens[opening.at] = TokenTree::Subtree(Subtree { delimiter, len });
+        self.last_closed = Some(opening.at);
         Ok(())
+    }
+
+    /// Where the group closed last is invisible, its contents stand in its place. No group counts as
+    /// the one closed last then, until the next is closed. It takes no memory.
+    pub fn remove_last_subtree_if_invisible(&mut self)
+        ensures tree { self.new.tree ≡ unwrapped_at self.old.last_closed self.old.tree }
+        ensures last { self.new.last_closed ≡ None }
+    {
+        let Some(at) = self.last_closed.take() else {
+            return;
+        };
+        if is_invisible_head(&self.tokens[at]) {
+            let _ = self.tokens.remove(at);
+            move_back(&mut self.openings, at);
+        }
+    }
+
+    /// Where the builder stands now, for `restore`.
+    pub fn restore_point(&self) -> SubtreeBuilderRestorePoint
+        ensures { result ≡ point_of self.now.tree }
+    {
+        SubtreeBuilderRestorePoint {
+            tokens: (self.tokens.len() - 1) as u32,
+            depth: self.openings.len(),
+        }
+    }
+
+    /// Takes back all that came after a point. No group counts as the one closed last then.
+    ///
+    /// It answers `Stale` where the point doesn't stand, and only there. A point stands where the
+    /// builder has as many tokens, just as many open groups begin among them, and no closed group
+    /// begins among them and ends past them. It takes no memory.
+    pub fn restore(&mut self, restore_point: SubtreeBuilderRestorePoint) -> Result<(), TtFault>
+        ensures ok { OnOk result (cut_back restore_point self.old.tree ≡ Some self.new.tree) }
+        ensures last { OnOk result (self.new.last_closed ≡ None) }
+        ensures stands { IsOk result ↔ IsSome (cut_back restore_point self.old.tree) }
+        ensures stale { IsOkUnless result fault.Stale }
+        ensures err { OnErr result (self.new ≡ self.old) }
+    {
+        if !self.stands(restore_point) {
+            return Err(TtFault::Stale);
+        }
+        self.tokens.truncate(restore_point.tokens as usize + 1);
+        self.openings.truncate(restore_point.depth);
+        self.last_closed = None;
+        Ok(())
+    }
+
+    // How many tokens stand before the list in which just so many groups are open, the top's among
+    // them, and a walk over that list.
+    fn list_at(&self, depth: usize) -> Option<(usize, TtIter<'_>)>
+        ensures { result ≡ option_map (λ l. (1 + count_in l.0, l.1)) (list_in depth self.now.tree.groups self.now.tree.here) }
+    {
+        let mut tokens = self.tokens.as_slice();
+        let mut openings = self.openings.as_slice();
+        while openings.len() > depth {
+            let last = openings.len() - 1;
+            tokens = &tokens[..openings[last].at];
+            openings = &openings[..last];
+        }
+        if openings.len() < depth {
+            return None;
+        }
+        let start = list_start(openings);
+        let trees = TokenTreesView {
+            tokens: &tokens[start..],
+        };
+        Some((start, trees.iter()))
+    }
+
+    // Whether a point stands.
+    fn stands(&self, point: SubtreeBuilderRestorePoint) -> bool
+        ensures { IsTrue result ↔ IsSome (cut_back point self.now.tree) }
+    {
+        let at = point.tokens as usize + 1;
+        match self.list_at(point.depth) {
+            Some((start, trees)) => start <= at && is_tree_end(trees, at - start),
+            None => false,
+        }
     }
 
     /// The tree, with all that is inside the top so far.
@@ -172,21 +424,96 @@ impl TopSubtreeBuilder {
     /// Where a group is open, and only there, the builder comes back as it was, with `Place`. It
     /// takes no memory.
     pub fn build(self) -> Result<TopSubtree, (TopSubtreeBuilder, TtFault)>
-        ensures ok { IfOk result (λ t. t ≡ record { delimiter = self.top; inner = self.here }) }
+        ensures ok { IfOk result (λ t. t ≡ record { delimiter = self.tree.top; inner = self.tree.here }) }
         ensures err { IfErr result (λ e. (e.0 ≡ self) × (e.1 ≡ TtFault.Place)) }
-        ensures built { IsOk result ↔ (self.groups ≡ []) }
+        ensures built { IsOk result ↔ (self.tree.groups ≡ []) }
     {
         if !self.openings.is_empty() {
             return Err((self, TtFault::Place));
         }
         let TopSubtreeBuilder {
             top,
-            tokens,
+            mut tokens,
             openings: _,
+            last_closed: _,
         } = self;
-        Ok(TopSubtree {
+        let len = (tokens.len() - 1) as u32;
+        tokens[0] = TokenTree::Subtree(Subtree {
             delimiter: top,
-            tokens,
-        })
+            len,
+        });
+        Ok(TopSubtree { tokens })
+    }
+
+    /// The tree whose group is the only one inside the top. The top's own brackets are dropped.
+    ///
+    /// Where a group is open, and only there, the builder comes back as it was, with `Place`; and with
+    /// `Malformed` where else the trees inside the top are not exactly one group. It takes no memory.
+    pub fn build_skip_top_subtree(self) -> Result<TopSubtree, (TopSubtreeBuilder, TtFault)>
+        ensures ok { IfOk result (λ t. only_group self.tree.here ≡ Some t) }
+        ensures err { IfErr result (λ e. e.0 ≡ self) }
+        ensures place { IfErr result (λ e. (self.tree.groups ≢ []) → e.1 ≡ fault.Place) }
+        ensures malformed { IfErr result (λ e. self.tree.groups ≡ [] → e.1 ≡ fault.Malformed) }
+        ensures built { IsOk result ↔ ((self.tree.groups ≡ []) × IsSome (only_group self.tree.here)) }
+    {
+        let open_groups = self.openings.len();
+        if open_groups > 0 {
+            return Err((self, TtFault::Place));
+        }
+        if !is_one_group(&self.tokens.as_slice()[1..]) {
+            return Err((self, TtFault::Malformed));
+        }
+        let TopSubtreeBuilder {
+            top: _,
+            mut tokens,
+            openings: _,
+            last_closed: _,
+        } = self;
+        let _ = tokens.remove(0);
+        Ok(TopSubtree { tokens })
+    }
+}
+
+// A punct is no longer joined to what follows.
+fn set_alone(token: &mut TokenTree)
+    ensures { token.new ≡ alone_token token.old }
+{
+    if let TokenTree::Leaf(leaf) = token {
+        if let Leaf::Punct(punct) = leaf {
+            punct.spacing = Spacing::Alone;
+        }
+    }
+}
+
+// Whether a token begins an invisible group.
+fn is_invisible_head(token: &TokenTree) -> bool
+    ensures { result ≡ begins_invisible token.now }
+{
+    match token {
+        TokenTree::Subtree(subtree) => match subtree.delimiter.kind {
+            DelimiterKind::Invisible => true,
+            _ => false,
+        },
+        TokenTree::Leaf(_) => false,
+    }
+}
+
+// The openings after the token at a place stand one token before where they stood.
+fn move_back(openings: &mut Vec<Opening>, at: usize)
+    ensures { openings.new.items ≡ map (moved_back at) openings.old.items }
+{
+    for opening in openings.iter_mut() {
+        *opening = opening.moved_back(at);
+    }
+}
+
+// How many tokens stand before the trees of the innermost list.
+fn list_start(openings: &[Opening]) -> usize
+    requires { start_of (reverse openings.now) < 2 ^ 64 }
+    ensures { result ≡ start_of (reverse openings.now) }
+{
+    match openings.last() {
+        Some(opening) => opening.at + 1,
+        None => 1,
     }
 }

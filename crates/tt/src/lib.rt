@@ -5,12 +5,20 @@
 //! `specs/Building.antt` says what a tree under construction is.
 #![tactic(auto)]
 
+pub mod buffer;
 pub mod builder;
+pub mod flat;
+pub mod iter;
+pub mod laws;
 #[cfg(test)]
 mod tests;
+mod tokens;
 pub mod top;
 pub mod view;
 
-pub use builder::TopSubtreeBuilder;
+pub use buffer::Cursor;
+pub use builder::{ExpectedDelimiters, SubtreeBuilderRestorePoint, TopSubtreeBuilder};
+pub use flat::FlatTokens;
+pub use iter::{TtElement, TtIter};
 pub use top::TopSubtree;
-pub use view::{TokenTreesView, TtElement, TtIter};
+pub use view::{SubtreeView, TokenTreesView};

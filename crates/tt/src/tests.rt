@@ -3,10 +3,11 @@ ghost use Rattle.std.specs.Prelude.{◌≡◌, ◌+◌, ◌<◌};
 
 use super::*;
 use std::alloc::Global;
+use std::hash::{DefaultHasher, Hash, Hasher};
 use std::test::*;
 use tt_data::{
-    Delimiter, DelimiterKind, Leaf, Punct, Spacing, Span, SyntaxContext, TextRange, TextSize,
-    TtFault,
+    DelimSpan, Delimiter, DelimiterKind, Leaf, Punct, Spacing, Span, Subtree, SyntaxContext,
+    TextRange, TextSize, TokenTree, TtFault,
 };
 
 // The byte at this place, as it was written.
@@ -74,6 +75,12 @@ fn sample(alloc: Global) -> Result<TopSubtree, TtFault> {
     builder.build().map_err(|refused| refused.1)
 }
 
+fn hash_of(tree: &TopSubtree) -> u64 {
+    let mut state = DefaultHasher::new();
+    tree.hash(&mut state);
+    state.finish()
+}
+
 // Builds these trees once more.
 fn rebuild(builder: &mut TopSubtreeBuilder, trees: TtIter<'_>) -> Result<(), TtFault> {
     for tree in trees {
@@ -96,7 +103,8 @@ fn builds_again(rt: HostRuntime) -> Result<(), Fail> {
     rebuild(&mut builder, tree.iter()).ok().ok_or("refused")?;
     let again = builder.build().ok().ok_or("refused")?;
     assert_eq!(rt; again.top_subtree(), tree.top_subtree());
-    assert!(rt; again.tokens == tree.tokens);
+    assert!(rt; again == tree);
+    assert!(rt; hash_of(&again) == hash_of(&tree));
     Ok(())
 }
 
@@ -116,6 +124,7 @@ fn walks(rt: HostRuntime) -> Result<(), Fail> {
         assert_eq!(rt; walk.next_span(), Some(byte_at(start)));
         let ahead = walk.peek().ok_or("ended")?;
         assert_eq!(rt; ahead.first_span(), byte_at(start));
+        assert_eq!(rt; ahead.clone()?.first_span(), byte_at(start));
         let before = walk.remaining();
         let passed = match walk.next() {
             None => 0,
@@ -135,6 +144,175 @@ fn walks(rt: HostRuntime) -> Result<(), Fail> {
     Ok(())
 }
 
+// The one tree of a list, where it is one group, has its tokens.
+fn is_one_group(trees: TokenTreesView<'_>) -> bool {
+    match trees.try_into_subtree() {
+        Some(group) => group.as_token_trees().len() == group.top_subtree().usize_len() + 1,
+        None => false,
+    }
+}
+
+#[test]
+fn tree_by_tree(rt: HostRuntime) -> Result<(), Fail> {
+    let tree = sample(rt.alloc()).ok().ok_or("refused")?;
+    let trees = tree.token_trees();
+    assert_eq!(rt; trees.last_span(), Some(byte_at(7)));
+    assert!(rt; !is_one_group(trees));
+    let mut walk = trees.iter();
+    // The number of tokens of each of the three trees, its last place, and whether it is a group.
+    for (tokens, last, group) in [(1, 0, false), (4, 5, true), (1, 7, false)] {
+        let one = walk.next_as_view().ok_or("ended")?;
+        assert_eq!(rt; one.len(), tokens);
+        assert_eq!(rt; one.last_span(), Some(byte_at(last)));
+        assert_eq!(rt; is_one_group(one), group);
+        assert_eq!(rt; one.strip_invisible().len(), tokens);
+    }
+    assert!(rt; walk.next_as_view().is_none());
+    assert!(rt; TokenTreesView::empty().last_span().is_none());
+    assert!(rt; !is_one_group(TokenTreesView::empty()));
+    Ok(())
+}
+
+#[test]
+fn strips_one_invisible_group(rt: HostRuntime) -> Result<(), Fail> {
+    let mut builder = new_builder(rt.alloc()).ok().ok_or("refused")?;
+    open(&mut builder, DelimiterKind::Invisible, byte_at(0))
+        .ok()
+        .ok_or("refused")?;
+    open(&mut builder, DelimiterKind::Invisible, byte_at(1))
+        .ok()
+        .ok_or("refused")?;
+    builder.close(byte_at(2)).ok().ok_or("refused")?;
+    builder.close(byte_at(3)).ok().ok_or("refused")?;
+    let tree = builder.build().ok().ok_or("refused")?;
+    let trees = tree.token_trees();
+    // The last token is the inner group.
+    assert_eq!(rt; trees.last_span(), Some(byte_at(2)));
+    let group = trees.try_into_subtree().ok_or("not one group")?;
+    assert_eq!(rt; group.top_subtree().delimiter.close_span, byte_at(3));
+    assert_eq!(rt; group.token_trees().len(), 1);
+    assert!(rt; !group.iter().is_empty());
+    assert_eq!(rt; group.strip_invisible().len(), 1);
+    assert_eq!(rt; trees.strip_invisible().len(), 1);
+    assert_eq!(rt; trees.strip_invisible().strip_invisible().len(), 0);
+    Ok(())
+}
+
+#[test]
+fn tokens_in_order(rt: HostRuntime) -> Result<(), Fail> {
+    let tree = sample(rt.alloc()).ok().ok_or("refused")?;
+    let mut tokens = tree.token_trees().iter_flat_tokens();
+    // Where each token begins, and how many a group counts.
+    for (start, inside) in [(0, 0), (1, 3), (2, 0), (3, 0), (5, 0), (7, 0)] {
+        let token = tokens.next().ok_or("ended")?;
+        assert_eq!(rt; token.first_span(), byte_at(start));
+        if let TokenTree::Subtree(head) = token {
+            assert_eq!(rt; head.len, inside);
+        }
+    }
+    assert!(rt; tokens.next().is_none());
+    Ok(())
+}
+
+#[test]
+fn steps(rt: HostRuntime) -> Result<(), Fail> {
+    let tree = sample(rt.alloc()).ok().ok_or("refused")?;
+    let trees = tree.token_trees();
+    let mut cursor = trees.cursor();
+    // Where the token at each place begins, and whether it is in no group; a closing has no token.
+    for (start, root) in [
+        (Some(0), true),
+        (Some(1), true),
+        (Some(2), false),
+        (Some(3), false),
+        (None, false),
+        (Some(5), false),
+        (None, false),
+        (Some(7), true),
+    ] {
+        let begins = cursor
+            .token_tree()
+            .map(|token| token.first_span().range.start);
+        assert!(rt; begins == start);
+        assert_eq!(rt; cursor.is_root(), root);
+        if cursor.eof() {
+            return Err(Fail::new("ended"));
+        }
+        cursor.bump_or_end();
+    }
+    assert!(rt; cursor.eof());
+    if !cursor.is_root() {
+        return Err(Fail::new("in a group"));
+    }
+    assert_eq!(rt; cursor.crossed().len(), trees.len());
+    Ok(())
+}
+
+fn bump(cursor: &mut Cursor<'_>) -> Result<(), Fail> {
+    if cursor.token_tree().is_none() {
+        return Err(Fail::new("at an end"));
+    }
+    cursor.bump();
+    Ok(())
+}
+
+fn end(cursor: &mut Cursor<'_>) -> Result<Subtree, Fail> {
+    if cursor.is_root() || cursor.token_tree().is_some() {
+        return Err(Fail::new("at no end of a group"));
+    }
+    Ok(cursor.end())
+}
+
+#[test]
+fn into_groups(rt: HostRuntime) -> Result<(), Fail> {
+    let tree = sample(rt.alloc()).ok().ok_or("refused")?;
+    let mut cursor = Cursor::new(tree.token_trees());
+    // Past `+(-[`, to the end of the inner group.
+    for _ in 0..4 {
+        bump(&mut cursor)?;
+    }
+    let copy = cursor.clone()?;
+    assert_eq!(rt; end(&mut cursor)?.delimiter.close_span, byte_at(4));
+    bump(&mut cursor)?;
+    assert_eq!(rt; end(&mut cursor)?.len, 3);
+    if !cursor.is_root() {
+        return Err(Fail::new("in a group"));
+    }
+    assert_eq!(rt; cursor.crossed().len(), 5);
+    // The copy is where it was.
+    assert!(rt; !copy.is_root());
+    assert!(rt; copy.token_tree().is_none());
+    Ok(())
+}
+
+// Two leaves next to each other, and one that ends a group.
+#[test]
+fn peeks(rt: HostRuntime) -> Result<(), Fail> {
+    let mut builder = new_builder(rt.alloc()).ok().ok_or("refused")?;
+    for start in [0, 1] {
+        push(&mut builder, &punct('+', start))
+            .ok()
+            .ok_or("refused")?;
+    }
+    open(&mut builder, DelimiterKind::Brace, byte_at(2))
+        .ok()
+        .ok_or("refused")?;
+    push(&mut builder, &punct('+', 3)).ok().ok_or("refused")?;
+    builder.close(byte_at(4)).ok().ok_or("refused")?;
+    push(&mut builder, &punct('+', 5)).ok().ok_or("refused")?;
+    let tree = builder.build().ok().ok_or("refused")?;
+    let mut cursor = tree.token_trees().cursor();
+    for found in [true, false, false, false, false, false] {
+        assert_eq!(rt; cursor.peek_two_leaves().is_some(), found);
+        if cursor.eof() {
+            return Err(Fail::new("ended"));
+        }
+        cursor.bump_or_end();
+    }
+    assert!(rt; cursor.eof());
+    Ok(())
+}
+
 #[test]
 fn out_of_place(rt: HostRuntime) -> Result<(), Fail> {
     let mut builder = new_builder(rt.alloc()).ok().ok_or("refused")?;
@@ -151,5 +329,217 @@ fn out_of_place(rt: HostRuntime) -> Result<(), Fail> {
     assert!(rt; builder.innermost().is_none());
     let tree = builder.build().ok().ok_or("refused")?;
     assert_eq!(rt; tree.token_trees().len(), 1);
+    Ok(())
+}
+
+#[test]
+fn restores(rt: HostRuntime) -> Result<(), Fail> {
+    let mut builder = new_builder(rt.alloc()).ok().ok_or("refused")?;
+    let at_start = builder.restore_point();
+    open(&mut builder, DelimiterKind::Brace, byte_at(0))
+        .ok()
+        .ok_or("refused")?;
+    push(&mut builder, &punct('+', 1)).ok().ok_or("refused")?;
+    let inside = builder.restore_point();
+    open(&mut builder, DelimiterKind::Bracket, byte_at(2))
+        .ok()
+        .ok_or("refused")?;
+    let deeper = builder.restore_point();
+    push(&mut builder, &punct('-', 3)).ok().ok_or("refused")?;
+    builder.restore(inside).ok().ok_or("stale")?;
+    // The bracket is gone, and the point in it with it.
+    assert!(rt; builder.innermost() == Some((DelimiterKind::Brace, byte_at(0))));
+    assert!(rt; builder.restore(deeper) == Err(TtFault::Stale));
+    builder.close(byte_at(4)).ok().ok_or("refused")?;
+    assert!(rt; builder.restore(inside) == Err(TtFault::Stale));
+    builder.restore(at_start).ok().ok_or("stale")?;
+    let tree = builder.build().ok().ok_or("refused")?;
+    assert!(rt; tree.token_trees().is_empty());
+    Ok(())
+}
+
+#[test]
+fn dissolves(rt: HostRuntime) -> Result<(), Fail> {
+    // How many tokens `(,)` is, where the brackets are of this sort.
+    for (kind, tokens) in [(DelimiterKind::Invisible, 2), (DelimiterKind::Brace, 3)] {
+        let mut builder = new_builder(rt.alloc()).ok().ok_or("refused")?;
+        open(&mut builder, kind, byte_at(0)).ok().ok_or("refused")?;
+        push(&mut builder, &punct(',', 1)).ok().ok_or("refused")?;
+        builder.close(byte_at(2)).ok().ok_or("refused")?;
+        open(&mut builder, DelimiterKind::Bracket, byte_at(3))
+            .ok()
+            .ok_or("refused")?;
+        builder.remove_last_subtree_if_invisible();
+        builder.close(byte_at(4)).ok().ok_or("refused")?;
+        let tree = builder.build().ok().ok_or("refused")?;
+        assert_eq!(rt; tree.token_trees().len(), tokens);
+    }
+    Ok(())
+}
+
+#[test]
+fn expects_what_is_open(rt: HostRuntime) -> Result<(), Fail> {
+    let mut builder = new_builder(rt.alloc()).ok().ok_or("refused")?;
+    open(&mut builder, DelimiterKind::Brace, byte_at(0))
+        .ok()
+        .ok_or("refused")?;
+    open(&mut builder, DelimiterKind::Bracket, byte_at(1))
+        .ok()
+        .ok_or("refused")?;
+    let mut expected = builder.expected_delimiters();
+    assert!(rt; expected.next() == Some(DelimiterKind::Bracket));
+    assert!(rt; expected.next() == Some(DelimiterKind::Brace));
+    assert!(rt; expected.next().is_none());
+    Ok(())
+}
+
+// A tree with a copy of these trees inside.
+fn with_copies(alloc: Global, trees: TokenTreesView<'_>) -> Result<TopSubtree, TtFault> {
+    let mut builder = new_builder(alloc)?;
+    builder.extend_with_tt(trees)?;
+    builder.build().map_err(|refused| refused.1)
+}
+
+// The same, with the last token alone.
+fn with_last_alone(alloc: Global, trees: TokenTreesView<'_>) -> Result<TopSubtree, TtFault> {
+    let mut builder = new_builder(alloc)?;
+    builder.extend_with_tt_alone(trees)?;
+    builder.build().map_err(|refused| refused.1)
+}
+
+// Two commas, each joined to what follows.
+fn joined_commas(alloc: Global) -> Result<TopSubtree, TtFault> {
+    let mut leaves = Vec::new(alloc);
+    for at in 0..2 {
+        let Ok(()) = leaves.push(joint(at)) else {
+            return Err(TtFault::Memory);
+        };
+    }
+    let mut builder = new_builder(alloc)?;
+    builder.extend(leaves)?;
+    builder.build().map_err(|refused| refused.1)
+}
+
+// Whether this leaf stands at the place among all tokens.
+fn has_leaf(tree: &TopSubtree, at: usize, leaf: Leaf) -> bool {
+    match tree.tokens.get(at) {
+        Some(token) => *token == TokenTree::Leaf(leaf),
+        None => false,
+    }
+}
+
+#[test]
+fn copies(rt: HostRuntime) -> Result<(), Fail> {
+    let tree = sample(rt.alloc()).ok().ok_or("refused")?;
+    let again = with_copies(rt.alloc(), tree.token_trees())
+        .ok()
+        .ok_or("refused")?;
+    assert!(rt; again == tree);
+    Ok(())
+}
+
+#[test]
+fn sets_the_last_alone(rt: HostRuntime) -> Result<(), Fail> {
+    let row = joined_commas(rt.alloc()).ok().ok_or("refused")?;
+    let last = with_last_alone(rt.alloc(), row.token_trees())
+        .ok()
+        .ok_or("refused")?;
+    assert!(rt; has_leaf(&last, 1, joint(0)));
+    assert!(rt; has_leaf(&last, 2, punct(',', 1)));
+    Ok(())
+}
+
+fn joint(start: TextSize) -> Leaf
+    requires { start < 100 }
+{
+    Leaf::Punct(Punct {
+        char: ',',
+        spacing: Spacing::Joint,
+        span: byte_at(start),
+    })
+}
+
+#[test]
+fn skips_the_top(rt: HostRuntime) -> Result<(), Fail> {
+    let mut builder = new_builder(rt.alloc()).ok().ok_or("refused")?;
+    open(&mut builder, DelimiterKind::Brace, byte_at(0))
+        .ok()
+        .ok_or("refused")?;
+    push(&mut builder, &punct(',', 1)).ok().ok_or("refused")?;
+    let (mut builder, fault) = builder.build_skip_top_subtree().err().ok_or("built")?;
+    assert_eq!(rt; fault, TtFault::Place);
+    builder.close(byte_at(2)).ok().ok_or("refused")?;
+    let group = builder.build_skip_top_subtree().ok().ok_or("refused")?;
+    assert_eq!(rt; group.top_subtree().delimiter.kind, DelimiterKind::Brace);
+    assert_eq!(rt; group.top_subtree().len, 1);
+    let builder = new_builder(rt.alloc()).ok().ok_or("refused")?;
+    let (_builder, fault) = builder.build_skip_top_subtree().err().ok_or("built")?;
+    assert_eq!(rt; fault, TtFault::Malformed);
+    Ok(())
+}
+
+#[test]
+fn makes_trees(rt: HostRuntime) -> Result<(), Fail> {
+    let tree = sample(rt.alloc()).ok().ok_or("refused")?;
+    let copy = tree.try_clone().ok().ok_or("refused")?;
+    assert!(rt; copy == tree);
+    let copy = TopSubtree::from_token_trees(rt.alloc(), top(), tree.token_trees())
+        .ok()
+        .ok_or("refused")?;
+    assert!(rt; copy == tree);
+    assert_eq!(rt; tree.as_token_trees().len(), 7);
+    let ends = DelimSpan::from_single(byte_at(0));
+    let empty = TopSubtree::empty(rt.alloc(), ends).ok().ok_or("refused")?;
+    assert!(rt; empty.token_trees().is_empty());
+    let leaves = TopSubtree::invisible_from_leaves(
+        rt.alloc(),
+        byte_at(0),
+        &[punct('+', 0), punct('-', 1)],
+    ).ok()
+        .ok_or("refused")?;
+    assert_eq!(rt; leaves.top_subtree().len, 2);
+    assert!(rt; leaves != empty);
+    Ok(())
+}
+
+// The head of a group that counts so many tokens.
+fn head(len: u32) -> TokenTree {
+    TokenTree::Subtree(Subtree {
+        delimiter: top(),
+        len,
+    })
+}
+
+#[test]
+fn reads_flat_lists(rt: HostRuntime) -> Result<(), Fail> {
+    // What two heads and a leaf count, and whether that is one group.
+    for (outer, inner, is_tree) in [(2, 1, true), (2, 0, true), (2, 2, false), (1, 1, false)] {
+        let mut tokens = Vec::new(rt.alloc());
+        for token in [head(outer), head(inner), TokenTree::Leaf(punct(',', 0))] {
+            tokens.push(token).ok().ok_or("refused")?;
+        }
+        assert_eq!(rt; TopSubtree::from_serialized(tokens).is_ok(), is_tree);
+    }
+    let none: Vec<TokenTree> = Vec::new(rt.alloc());
+    assert!(rt; TopSubtree::from_serialized(none).is_err());
+    Ok(())
+}
+
+#[test]
+fn changes_in_place(rt: HostRuntime) -> Result<(), Fail> {
+    let mut tree = sample(rt.alloc()).ok().ok_or("refused")?;
+    tree.set_top_subtree_delimiter_kind(DelimiterKind::Brace);
+    tree.set_top_subtree_delimiter_span(DelimSpan::from_pair(byte_at(8), byte_at(9)));
+    let delimiter = Delimiter {
+        open_span: byte_at(8),
+        close_span: byte_at(9),
+        kind: DelimiterKind::Brace,
+    };
+    assert_eq!(rt; tree.top_subtree().delimiter, delimiter);
+    // Which of the tokens are leaves.
+    for (idx, is_leaf) in [(0, false), (1, true), (2, false), (3, true), (7, false)] {
+        assert_eq!(rt; tree.set_token(idx, punct('?', 0)).is_ok(), is_leaf);
+    }
+    assert!(rt; has_leaf(&tree, 3, punct('?', 0)));
     Ok(())
 }

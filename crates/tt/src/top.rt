@@ -1,36 +1,148 @@
 //! Whole trees.
-ghost use Rattle.std.specs.Prelude.{◌≡◌};
+ghost use Rattle.std.specs.Prelude.{◌≡◌, ◌↔◌, ◌⊎◌, ◌<◌, Err, IfOk, IfErr, IsOk, IsOkUnless, IsTrue, OnOk, OnErr};
+ghost use Rattle.tt_data.specs.declared.fault.TtFault.TheVariants as fault;
 
+use crate::tokens::{append_copies, is_one_group};
 use crate::view::{TokenTreesView, TtIter};
+use std::alloc::Global;
+use std::hash::{Hash, Hasher};
 use std::marker::Model;
-use tt_data::delimiter::Delimiter;
+use tt_data::delimiter::{DelimSpan, Delimiter, DelimiterKind};
+use tt_data::fault::TtFault;
+use tt_data::leaf::Leaf;
+use tt_data::span::Span;
 use tt_data::tree::{Subtree, TokenTree};
 
 /// A whole tree: one group, and the trees inside it.
 #[derive(Drop)]
 pub struct TopSubtree {
-    pub(crate) delimiter: Delimiter,
-    // The top's own token, which nothing reads, and those below it.
+    // The group's own token, and those inside.
     pub(crate) tokens: Vec<TokenTree>,
 }
 
 impl Model for TopSubtree {
-    ghost use Rattle.std.specs.Prelude.{length, drop, ◌<◌, ◌≤◌, ◌^◌};
-    ghost use Rattle.tt_data.specs.Forest.{forest_of, IsPreorder};
-    ghost use Rattle.tt.specs.Tops.{Top, top_code};
+    ghost use Rattle.std.specs.Prelude.{length, ◌≤◌, ◌^◌};
+    ghost use Rattle.tt.specs.Tops.{Top, top_code, tree_of, IsOneGroup};
 
     ghost Value = { Top };
 
     ghost coded = { top_code };
 
-    ghost view = { λ t. record { delimiter = t.delimiter; inner = forest_of (drop 1 t.tokens.items) } };
+    ghost view = { λ t. tree_of t.tokens.items };
 
-    ghost invariant = { λ t. (0 < length t.tokens.items) × IsPreorder (drop 1 t.tokens.items) × (length t.tokens.items ≤ 2 ^ 32) };
+    ghost invariant = { λ t. IsOneGroup t.tokens.items × (length t.tokens.items ≤ 2 ^ 32) };
 }
 
 impl TopSubtree {
-    ghost use Rattle.tt.specs.Tops.{head_of};
+    ghost use Rattle.tt_data.specs.Forest.{size, empty};
+    ghost use Rattle.std.specs.Prelude.{set, length};
+    ghost use Rattle.tt_data.specs.declared.delimiter.DelimiterKind.TheVariants.{Invisible};
+    ghost use Rattle.tt_data.specs.declared.tree.TokenTree.TheVariants as token;
+    ghost use Rattle.tt.specs.Building.{most_tokens, leaves as leaves_of};
+    ghost use Rattle.tt.specs.Tops.{Top, head_of, forest_of_top, tokens_of, no_brackets, has_leaf_at};
     ghost use Rattle.tt.specs.Views.{forest};
+
+    /// The tree with no brackets, of which the two ends stand where `span` has them, and nothing
+    /// inside.
+    ///
+    /// `Memory` is its only error.
+    pub fn empty(alloc: Global, span: DelimSpan) -> Result<TopSubtree, TtFault>
+        ensures ok { IfOk result (λ t. t ≡ record { delimiter = no_brackets span; inner = empty }) }
+        ensures memory { IsOkUnless result fault.Memory }
+    {
+        match TopSubtree::from_token_trees(
+            alloc,
+            Delimiter::invisible_delim_spanned(span),
+            TokenTreesView::empty(),
+        ) {
+            Err(_) => Err(TtFault::Memory),
+            tree => tree,
+        }
+    }
+
+    /// The group with these brackets round a copy of these trees.
+    ///
+    /// It answers `Tokens` where the trees have more than `u32::MAX` tokens, and only there; its one
+    /// other error is `Memory`.
+    pub fn from_token_trees(
+        alloc: Global,
+        delimiter: Delimiter,
+        token_trees: TokenTreesView<'_>,
+    ) -> Result<TopSubtree, TtFault>
+        ensures ok { IfOk result (λ t. t ≡ record { delimiter = delimiter; inner = forest token_trees.entry }) }
+        ensures tokens { (result ≡ Err fault.Tokens) ↔ (most_tokens < size (forest token_trees.entry)) }
+        ensures faults { IfErr result (λ e. (e ≡ fault.Memory) ⊎ (e ≡ fault.Tokens)) }
+    {
+        let Ok(len) = u32::try_from(token_trees.len()) else {
+            return Err(TtFault::Tokens);
+        };
+        let mut tokens = Vec::new(alloc);
+        let Ok(()) = tokens.push(TokenTree::Subtree(Subtree { delimiter, len })) else {
+            return Err(TtFault::Memory);
+        };
+        let Ok(()) = append_copies(&mut tokens, token_trees.tokens) else {
+            return Err(TtFault::Memory);
+        };
+        Ok(TopSubtree { tokens })
+    }
+
+    /// The tree whose tokens these are: the head of a group, and then all that is inside.
+    ///
+    /// Where the list is not that of one group, and only there, it comes back, with `Malformed`. It
+    /// takes no memory.
+    pub fn from_serialized(tts: Vec<TokenTree>) -> Result<TopSubtree, (Vec<TokenTree>, TtFault)>
+        ensures ok { IfOk result (λ t. tokens_of t ≡ tts.items) }
+        ensures err { IfErr result (λ e. (e.0 ≡ tts) × (e.1 ≡ fault.Malformed)) }
+        ensures whole { ((t : Top) → tokens_of t ≡ tts.items → IsOk result) }
+    {
+        if !is_one_group(tts.as_slice()) {
+            return Err((tts, TtFault::Malformed));
+        }
+        Ok(TopSubtree { tokens: tts })
+    }
+
+    /// The tree with no brackets, of which both ends stand at `delim_span`, and these leaves inside.
+    ///
+    /// It answers `Tokens` where there are more than `u32::MAX` leaves, and only there; its one other
+    /// error is `Memory`.
+    pub fn invisible_from_leaves(
+        alloc: Global,
+        delim_span: Span,
+        leaves: &[Leaf],
+    ) -> Result<TopSubtree, TtFault>
+        ensures ok { IfOk result (λ t. t ≡ record { delimiter = record { open_span = delim_span; close_span = delim_span; kind = Invisible }; inner = leaves_of leaves.now }) }
+        ensures tokens { (result ≡ Err fault.Tokens) ↔ (most_tokens < length leaves.now) }
+        ensures faults { IfErr result (λ e. (e ≡ fault.Memory) ⊎ (e ≡ fault.Tokens)) }
+    {
+        let Ok(len) = u32::try_from(leaves.len()) else {
+            return Err(TtFault::Tokens);
+        };
+        let delimiter = Delimiter::invisible_spanned(delim_span);
+        let mut tokens = Vec::new(alloc);
+        let Ok(()) = tokens.push(TokenTree::Subtree(Subtree { delimiter, len })) else {
+            return Err(TtFault::Memory);
+        };
+        for leaf in leaves {
+            let Ok(()) = tokens.push(TokenTree::Leaf(leaf.clone()?)) else {
+                return Err(TtFault::Memory);
+            };
+        }
+        Ok(TopSubtree { tokens })
+    }
+
+    /// Another tree that is equal to this one.
+    ///
+    /// `Memory` is its only error.
+    pub fn try_clone(&self) -> Result<TopSubtree, TtFault>
+        ensures ok { IfOk result (λ t. t ≡ self.now) }
+        ensures memory { IsOkUnless result fault.Memory }
+    {
+        let mut tokens = Vec::new(*self.tokens.allocator());
+        let Ok(()) = append_copies(&mut tokens, self.tokens.as_slice()) else {
+            return Err(TtFault::Memory);
+        };
+        Ok(TopSubtree { tokens })
+    }
 
     /// The trees inside the group.
     #[tactic(auto, unfolding(crate::specs::Views::forest))]
@@ -39,6 +151,57 @@ impl TopSubtree {
     {
         TokenTreesView {
             tokens: &self.tokens.as_slice()[1..],
+        }
+    }
+
+    /// Gives the group brackets of another sort. It takes no memory.
+    pub fn set_top_subtree_delimiter_kind(&mut self, kind: DelimiterKind)
+        ensures { self.new ≡ record self.old { delimiter = record self.old.delimiter { kind = kind } } }
+    {
+        let mut head = self.top_subtree();
+        head.delimiter.kind = kind;
+        self.tokens[0] = TokenTree::Subtree(head);
+    }
+
+    /// Puts the group's brackets elsewhere. It takes no memory.
+    pub fn set_top_subtree_delimiter_span(&mut self, span: DelimSpan)
+        ensures { self.new ≡ record self.old { delimiter = record { open_span = span.open_span; close_span = span.close_span; kind = self.old.delimiter.kind } } }
+    {
+        let mut head = self.top_subtree();
+        head.delimiter.open_span = span.open_span;
+        head.delimiter.close_span = span.close_span;
+        self.tokens[0] = TokenTree::Subtree(head);
+    }
+
+    /// Puts a leaf in place of another: `idx` is that one's place among all tokens, the group's own
+    /// being 0.
+    ///
+    /// It answers `Place` where no leaf stands there, and only there. It takes no memory.
+    pub fn set_token(&mut self, idx: usize, leaf: Leaf) -> Result<(), TtFault>
+        ensures ok { OnOk result (tokens_of self.new ≡ set (tokens_of self.old) idx (token.Leaf leaf)) }
+        ensures err { OnErr result (self.new ≡ self.old) }
+        ensures place { IsOkUnless result fault.Place }
+        ensures there { IsOk result ↔ IsTrue (has_leaf_at idx (tokens_of self.old)) }
+    {
+        let Some(old) = self.tokens.get(idx) else {
+            return Err(TtFault::Place);
+        };
+        match old {
+            TokenTree::Subtree(_) => Err(TtFault::Place),
+            TokenTree::Leaf(_) => {
+                self.tokens[idx] = TokenTree::Leaf(leaf);
+                Ok(())
+            }
+        }
+    }
+
+    /// The tree as a list of one group.
+    #[tactic(auto, unfolding(crate::specs::Views::forest))]
+    pub fn as_token_trees(&self) -> TokenTreesView<'_>
+        ensures { forest result ≡ forest_of_top self.now }
+    {
+        TokenTreesView {
+            tokens: self.tokens.as_slice(),
         }
     }
 
@@ -53,9 +216,50 @@ impl TopSubtree {
     pub fn top_subtree(&self) -> Subtree
         ensures { result ≡ head_of self.now }
     {
-        Subtree {
-            delimiter: self.delimiter,
-            len: (self.tokens.len() - 1) as u32,
+        match self.tokens.first() {
+            Some(TokenTree::Subtree(head)) => *head,
+            _ => unreachable!(),
         }
+    }
+}
+
+// Two trees are equal where their tokens are, places included.
+impl PartialEq for TopSubtree {
+    ghost use Rattle.std.specs.Cmp.{on_per};
+    ghost use Rattle.tt_data.specs.contracts.tree.TokenTreePartialEq.TheImpl.Laws as token_laws;
+    ghost use Rattle.std.specs.Cmp.Lexicographic.{pointwise, lists_per};
+    ghost use Rattle.tt.specs.Tops.{tokens_of};
+
+    ghost eq = { λ a b. pointwise ⟦<TokenTree as PartialEq>⟧.eq (tokens_of a) (tokens_of b) };
+
+    ghost laws = { on_per tokens_of (lists_per token_laws.laws-law) };
+
+    fn eq(&self, other: &TopSubtree) -> bool {
+        self.tokens == other.tokens
+    }
+}
+
+impl Eq for TopSubtree {
+    ghost use Rattle.std.specs.Cmp.{on_equiv};
+    ghost use Rattle.tt_data.specs.contracts.tree.TokenTreeEq.TheImpl.Laws as token_laws;
+    ghost use Rattle.std.specs.Cmp.Lexicographic.{lists_equiv};
+    ghost use Rattle.tt.specs.Tops.{tokens_of};
+
+    ghost laws = { on_equiv tokens_of (lists_equiv token_laws.laws-law) };
+}
+
+impl Hash for TopSubtree {
+    ghost use Rattle.std.specs.Hash as fed;
+    ghost use Rattle.std.specs.Hash.{on_Alike, items_Alike};
+    ghost use Rattle.std.specs.Cmp.Rules.{hashing};
+    ghost use Rattle.std.proofs.Common.{rules};
+    ghost use Rattle.tt.specs.Tops.{tokens_of};
+
+    ghost hash_input = { λ t. fed.slice ⟦<TokenTree as Hash>⟧.hash_input (tokens_of t) };
+
+    ghost respects_eq = { (on_Alike tokens_of (items_Alike {E = ⟦<TokenTree as PartialEq>⟧.eq} {F = ⟦<TokenTree as Hash>⟧.hash_input} (record { fed = Prim.search (hashing, rules) }))).fed };
+
+    fn hash<H: Hasher>(&self, state: &mut H) {
+        self.tokens.hash(state);
     }
 }

@@ -1,145 +1,14 @@
-//! Lists of trees that are borrowed, and walks over them.
-ghost use Rattle.std.specs.Prelude.{◌≡◌, ⊤, IsTrue, ◌↔◌};
-ghost use Rattle.tt_data.specs.Forest.{IsPreorder};
+//! Lists of trees that are borrowed.
+ghost use Rattle.std.specs.Prelude.{◌≡◌, IsTrue, ◌↔◌, true};
+ghost use Rattle.tt_data.specs.Forest.{IsPreorder, forest_of};
+ghost use Rattle.tt.specs.Groups.{is_one_group};
 
-use std::alloc::AllocError;
-use std::marker::Model;
-use tt_data::leaf::Leaf;
+use crate::buffer::Cursor;
+use crate::flat::FlatTokens;
+pub use crate::iter::{TtElement, TtIter};
+use tt_data::delimiter::DelimiterKind;
 use tt_data::span::Span;
 use tt_data::tree::{Subtree, TokenTree};
-
-/// A walk over a list of trees. It stands before the trees that are left.
-#[derive(Drop)]
-pub struct TtIter<'a> {
-    tokens: &'a [TokenTree],
-}
-
-impl<'a> Model for TtIter<'a> {
-    ghost use Rattle.tt_data.specs.Coded.{forest_code};
-    ghost use Rattle.tt_data.specs.Forest.{Forest, forest_of, IsPreorder};
-
-    ghost Value = { Forest };
-
-    ghost coded = { forest_code };
-
-    ghost view = { λ it. forest_of it.tokens.now };
-
-    ghost invariant = { λ it. IsPreorder it.tokens.now };
-}
-
-/// One tree of a list.
-#[derive(Drop)]
-pub enum TtElement<'a> {
-    Leaf(Leaf),
-    /// A group: its head, and a walk over the trees inside.
-    Subtree(Subtree, TtIter<'a>),
-}
-
-impl<'a> TtElement<'a> {
-    ghost use Rattle.tt.specs.Elements.{place_of};
-
-    /// The place where the tree begins: a group begins with its opening bracket.
-    pub fn first_span(&self) -> Span
-        ensures { result ≡ place_of self.now }
-    {
-        match self {
-            TtElement::Leaf(leaf) => leaf.span(),
-            TtElement::Subtree(subtree, _) => subtree.delimiter.open_span,
-        }
-    }
-}
-
-impl<'a> Clone for TtIter<'a> {
-    ghost is_clone = { λ it copy. copy ≡ it };
-
-    ghost is_infallible = { λ _. ⊤ };
-
-    /// A walk of its own over the trees that are left. It is never refused.
-    fn clone(&self) -> Result<TtIter<'a>, AllocError> {
-        Ok(self.remaining().iter())
-    }
-}
-
-impl<'a> Iterator for TtIter<'a> {
-    ghost use Rattle.std.specs.Iterator.{item_count};
-    ghost use Rattle.tt.specs.Elements.{elements, IsNext};
-
-    type Item = TtElement<'a>;
-
-    ghost next_gives = { IsNext };
-
-    ghost remaining = { item_count elements };
-
-    /// The next tree, which is passed, a group with all that it has inside: none where none are left.
-    fn next(&mut self) -> Option<TtElement<'a>> {
-        let (first, more) = self.tokens.split_first()?;
-        match first {
-            TokenTree::Leaf(leaf) => {
-                self.tokens = more;
-                let Ok(leaf) = leaf.clone() else {
-                    unreachable!()
-                };
-                Some(TtElement::Leaf(leaf))
-            }
-            TokenTree::Subtree(subtree) => {
-                let (inner, rest) = more.split_at(subtree.len as usize);
-                self.tokens = rest;
-                Some(TtElement::Subtree(*subtree, TtIter { tokens: inner }))
-            }
-        }
-    }
-}
-
-impl<'a> TtIter<'a> {
-    ghost use Rattle.tt_data.specs.Forest.{Forest, empty, joined};
-    ghost use Rattle.tt.specs.Elements.{first_element, first_place};
-    ghost use Rattle.tt.specs.Views.{forest};
-
-    /// Whether no trees are left.
-    pub fn is_empty(&self) -> bool
-        ensures { IsTrue result ↔ (self.now ≡ empty) }
-    {
-        self.tokens.is_empty()
-    }
-
-    /// The next tree, without passing it: none where none are left.
-    pub fn peek(&self) -> Option<TtElement<'a>>
-        ensures { result ≡ first_element self.now }
-    {
-        let mut ahead = self.remaining().iter();
-        ahead.next()
-    }
-
-    /// The place where the next tree begins: none where no trees are left.
-    pub fn next_span(&self) -> Option<Span>
-        ensures { result ≡ first_place self.now }
-    {
-        Some(self.tokens.first()?.first_span())
-    }
-
-    /// The trees that are left.
-    #[tactic(auto, unfolding(crate::specs::Views::forest))]
-    pub fn remaining(&self) -> TokenTreesView<'a>
-        ensures { forest result ≡ self.now }
-    {
-        TokenTreesView {
-            tokens: self.tokens,
-        }
-    }
-
-    /// The trees passed since `then`, which is what was left at an earlier point of this walk.
-    ///
-    /// Those trees and the trees that are left now have to be all of `then` together.
-    pub fn passed_since(&self, then: TokenTreesView<'a>) -> TokenTreesView<'a>
-        requires { (passed : Forest) × (forest then ≡ joined passed self.now) }
-        ensures { forest then.entry ≡ joined (forest result) self.now }
-    {
-        let count = then.tokens.len() - self.tokens.len();
-        TokenTreesView {
-            tokens: &then.tokens[..count],
-        }
-    }
-}
 
 /// A list of trees.
 #[derive(Clone, Copy)]
@@ -149,9 +18,13 @@ pub struct TokenTreesView<'a> {
 }
 
 impl<'a> TokenTreesView<'a> {
-    ghost use Rattle.tt_data.specs.Forest.{empty, size};
-    ghost use Rattle.tt.specs.Elements.{first_place};
-    ghost use Rattle.tt.specs.Views.{forest};
+    ghost use Rattle.std.specs.Prelude.{option_map};
+    ghost use Rattle.tt_data.specs.Forest.{empty, size, preorder};
+    ghost use Rattle.tt.specs.Elements.{first_place, last_place};
+    ghost use Rattle.tt.specs.Groups.{stripped};
+    ghost use Rattle.tt.specs.Tops.{only_group};
+    ghost use Rattle.tt.specs.Places.{beginning};
+    ghost use Rattle.tt.specs.Views.{forest, top_of};
 
     /// The list without trees.
     #[tactic(auto, unfolding(crate::specs::Views::forest))]
@@ -168,6 +41,22 @@ impl<'a> TokenTreesView<'a> {
     {
         let tokens = self.tokens;
         TtIter { tokens }
+    }
+
+    /// A place in the list, before the first tree.
+    pub fn cursor(&self) -> Cursor<'a>
+        ensures { result ≡ beginning (forest self.now) }
+    {
+        Cursor::new(*self)
+    }
+
+    /// A walk over all tokens, each group's head before what it has inside.
+    #[tactic(auto, unfolding(crate::specs::Views::forest))]
+    pub fn iter_flat_tokens(&self) -> FlatTokens<'a>
+        ensures { result ≡ preorder (forest self.now) }
+    {
+        let flat = self.tokens;
+        FlatTokens { tokens: flat }
     }
 
     /// The number of all tokens: each leaf, and each group with what it has inside.
@@ -189,5 +78,108 @@ impl<'a> TokenTreesView<'a> {
         ensures { result ≡ first_place (forest self.now) }
     {
         self.iter().next_span()
+    }
+
+    /// The place of the last of all tokens: none where there are no trees.
+    ///
+    /// A leaf has its own place, and a group, which is last where nothing is inside, that of its
+    /// closing bracket.
+    #[tactic(auto, unfolding(crate::specs::Views::forest))]
+    pub fn last_span(&self) -> Option<Span>
+        ensures { result ≡ last_place (forest self.now) }
+    {
+        match self.tokens.last()? {
+            TokenTree::Leaf(leaf) => Some(leaf.span()),
+            TokenTree::Subtree(subtree) => Some(subtree.delimiter.close_span),
+        }
+    }
+
+    /// The one group that the list is: none where there are no trees, several, or one leaf.
+    #[tactic(auto, unfolding(crate::specs::Views::forest, crate::specs::Views::top_of))]
+    pub fn try_into_subtree(self) -> Option<SubtreeView<'a>>
+        ensures { option_map top_of result ≡ only_group (forest self.entry) }
+    {
+        let (first, inside) = self.tokens.split_first()?;
+        match first {
+            TokenTree::Leaf(_) => None,
+            TokenTree::Subtree(subtree) if subtree.usize_len() == inside.len() => Some(
+                SubtreeView {
+                    tokens: self.tokens,
+                },
+            ),
+            TokenTree::Subtree(_) => None,
+        }
+    }
+
+    /// The trees inside, where the list is one invisible group, and else the list as it is.
+    pub fn strip_invisible(self) -> TokenTreesView<'a>
+        ensures { forest result ≡ stripped (forest self.entry) }
+    {
+        match self.try_into_subtree() {
+            Some(group) => group.strip_invisible(),
+            None => self,
+        }
+    }
+}
+
+/// One group.
+#[derive(Clone, Copy)]
+pub struct SubtreeView<'a> {
+    pub(crate) tokens: &'a [TokenTree],
+    ghost whole: { IsPreorder tokens.now },
+    ghost one: { is_one_group (forest_of tokens.now) ≡ true },
+}
+
+impl<'a> SubtreeView<'a> {
+    ghost use Rattle.tt_data.specs.Forest.{empty, group};
+    ghost use Rattle.tt.specs.Groups.{stripped};
+    ghost use Rattle.tt.specs.Tops.{head_of};
+    ghost use Rattle.tt.specs.Views.{forest, top_of};
+
+    /// The list with this group as its one tree.
+    #[tactic(auto, unfolding(crate::specs::Views::forest, crate::specs::Views::top_of))]
+    pub fn as_token_trees(self) -> TokenTreesView<'a>
+        ensures { forest result ≡ group (top_of self.entry).delimiter (top_of self.entry).inner empty }
+    {
+        let whole = self.tokens;
+        TokenTreesView { tokens: whole }
+    }
+
+    /// The trees inside the group.
+    #[tactic(auto, unfolding(crate::specs::Views::forest, crate::specs::Views::top_of))]
+    pub fn token_trees(&self) -> TokenTreesView<'a>
+        ensures { forest result ≡ (top_of self.now).inner }
+    {
+        TokenTreesView {
+            tokens: &self.tokens[1..],
+        }
+    }
+
+    /// A walk over the trees inside the group.
+    pub fn iter(&self) -> TtIter<'a>
+        ensures { result ≡ (top_of self.now).inner }
+    {
+        self.token_trees().iter()
+    }
+
+    /// The head of the group: its brackets, and how many tokens are inside.
+    #[tactic(auto, unfolding(crate::specs::Views::forest, crate::specs::Views::top_of))]
+    pub fn top_subtree(&self) -> Subtree
+        ensures { result ≡ head_of (top_of self.now) }
+    {
+        match self.tokens.first() {
+            Some(TokenTree::Subtree(subtree)) => *subtree,
+            _ => unreachable!(),
+        }
+    }
+
+    /// The trees inside, where the group is invisible, and else the group.
+    pub fn strip_invisible(&self) -> TokenTreesView<'a>
+        ensures { forest result ≡ stripped (group (top_of self.now).delimiter (top_of self.now).inner empty) }
+    {
+        match self.top_subtree().delimiter.kind {
+            DelimiterKind::Invisible => self.token_trees(),
+            _ => self.as_token_trees(),
+        }
     }
 }

@@ -1,5 +1,6 @@
 -- Token by token: where it stands, and what it adds to what was read.
-use Rattle.std.proofs.Common.{◌≤◌, ◌+◌, length, arith, rules}
+use Rattle.std.proofs.Common.{◌≤◌, ◌+◌, length, ap, arith, rules}
+use Rattle.tt.specs.Building.{Builder}
 use Rattle.expander.proofs.CountLemmas.{has_room}
 use Rattle.expander.proofs.ReadTokensLemmas.{read_nothing, reads_on, reads_fault}
 use Rattle.expander.proofs.reading.read_tokens.Goals as goal
@@ -7,7 +8,7 @@ use Rattle.expander.proofs.reading.read_tokens.Goals as goal
 pub loop-token-init : goal.loop-token-init
 loop-token-init c = record {
   stand = rw c.requires.tokens (c.tokens_begin.ensures _ c.utf8.text);
-  so_far = read_nothing c.requires.tokens c.in_ok-builder.ensures.ok;
+  so_far = read_nothing c.requires.tokens (ap (λ (b : Builder). b.tree) c.in_ok-builder.ensures.ok);
   counted = rw c.in_ok-builder.ensures.ok (omega arith);
 }
 

@@ -7,8 +7,8 @@ use Rattle.expander.proofs.reading.read_tokens.Given as goal
 abbrev pub invariant-loop-token : goal.invariant-loop-token
 invariant-loop-token l = record {
   stand : AreTokensFrom l.text l.start l.rest;
-  so_far : IsReadSoFar l.text l.start l.rest l.builder;
-  counted : count_of l.builder ≤ l.start;
+  so_far : IsReadSoFar l.text l.start l.rest l.builder.tree;
+  counted : count_of l.builder.tree ≤ l.start;
 }
 
 abbrev pub decreases-loop-token : goal.decreases-loop-token

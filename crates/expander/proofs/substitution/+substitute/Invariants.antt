@@ -15,7 +15,7 @@ invariant-loop-element l =
     (size l.rest ≤ size l.template)
     × ((t : Template) → template_of l.template ≡ Some t
     → (u : Template) × (template_of l.rest ≡ Some u)
-    × (with_trees l.out (substituted (bindings_of l.bindings) u) ≡ with_trees l.initial.out (substituted (bindings_of l.bindings) t)))
+    × (with_trees l.out.tree (substituted (bindings_of l.bindings) u) ≡ with_trees l.initial.out.tree (substituted (bindings_of l.bindings) t)))
 
 abbrev pub decreases-loop-element : goal.decreases-loop-element
 decreases-loop-element l = size l.rest

@@ -1,48 +1,23 @@
-use Rattle.std.proofs.Common.{◌≡◌, true, false, rules, chars, one-add}
-use Rattle.rustc_lexer.specs.Character.{char_at, is_whitespace, is_id_start}
-use Rattle.rustc_lexer.specs.Lexeme.{opens_comment}
-use Rattle.rustc_lexer.proofs.RowLemmas.{white_lexeme, prefix_lexeme, ident_lexeme, mark_behind}
+use Rattle.std.proofs.Common.{◌≡◌, ◌∙◌, false, chars, ap, rules}
+use Rattle.rustc_lexer.specs.Character.{char_at, begins, is, is_whitespace, is_id_start, is_digit}
+use Rattle.rustc_lexer.specs.Lexeme.{begins_guarded, one_char_kind}
+use Rattle.rustc_lexer.proofs.ReadLemmas.{is_other}
 use Rattle.rustc_lexer.proofs.lexeme.first_lexeme.Goals as goal
 
-pub returns-then-is_whitespace-clause-rest : goal.returns-then-is_whitespace-clause-rest
-returns-then-is_whitespace-clause-rest c =
-    let after = chars c.args.after.now in
-    let no_comment : opens_comment c.args.c (char_at after 0) ≡ false = search rules in
-    let white : is_whitespace c.args.c ≡ true = search rules in
-    rw (white_lexeme c.args.c after no_comment white, one-add) c.skip_while.ensures
-
-pub returns-then-is_prefix_mark-clause-kind : goal.returns-then-is_prefix_mark-clause-kind
-returns-then-is_prefix_mark-clause-kind c =
-    let after = chars c.args.after.now in
-    let no_comment : opens_comment c.args.c (char_at after 0) ≡ false = search rules in
-    let white : is_whitespace c.args.c ≡ false = search rules in
-    let start : is_id_start c.args.c ≡ true = search rules in
-    let mark = mark_behind after _ _ _ true c.skip_while-rest.ensures c.first-then-is_id_start.ensures c.is_prefix_mark.ensures c.if-is_prefix_mark.true in
-    rw (prefix_lexeme c.args.c after no_comment white start mark)
-
-pub returns-then-is_prefix_mark-clause-rest : goal.returns-then-is_prefix_mark-clause-rest
-returns-then-is_prefix_mark-clause-rest c =
-    let after = chars c.args.after.now in
-    let no_comment : opens_comment c.args.c (char_at after 0) ≡ false = search rules in
-    let white : is_whitespace c.args.c ≡ false = search rules in
-    let start : is_id_start c.args.c ≡ true = search rules in
-    let mark = mark_behind after _ _ _ true c.skip_while-rest.ensures c.first-then-is_id_start.ensures c.is_prefix_mark.ensures c.if-is_prefix_mark.true in
-    rw (prefix_lexeme c.args.c after no_comment white start mark)
-
-pub returns-then-is_id_start-clause-kind : goal.returns-then-is_id_start-clause-kind
-returns-then-is_id_start-clause-kind c =
-    let after = chars c.args.after.now in
-    let no_comment : opens_comment c.args.c (char_at after 0) ≡ false = search rules in
-    let white : is_whitespace c.args.c ≡ false = search rules in
-    let start : is_id_start c.args.c ≡ true = search rules in
-    let mark = mark_behind after _ _ _ false c.skip_while-rest.ensures c.first-then-is_id_start.ensures c.is_prefix_mark.ensures c.if-is_prefix_mark.false in
-    rw (ident_lexeme c.args.c after no_comment white start mark)
-
-pub returns-then-is_id_start-clause-rest : goal.returns-then-is_id_start-clause-rest
-returns-then-is_id_start-clause-rest c =
-    let after = chars c.args.after.now in
-    let no_comment : opens_comment c.args.c (char_at after 0) ≡ false = search rules in
-    let white : is_whitespace c.args.c ≡ false = search rules in
-    let start : is_id_start c.args.c ≡ true = search rules in
-    let mark = mark_behind after _ _ _ false c.skip_while-rest.ensures c.first-then-is_id_start.ensures c.is_prefix_mark.ensures c.if-is_prefix_mark.false in
-    rw (ident_lexeme c.args.c after no_comment white start mark, one-add) c.skip_while-rest.ensures
+pub returns-else-c-eq34-clause-read : goal.returns-else-c-eq34-clause-read
+returns-else-c-eq34-clause-read c =
+    let cs = chars c.args.text.now in
+    let no_line : begins "//" cs ≡ false = search rules in
+    let no_block : begins "/*" cs ≡ false = search rules in
+    let no_white : is_whitespace (char_at cs 0) ≡ false = search rules in
+    let no_word : is_id_start (char_at cs 0) ≡ false = search rules in
+    let no_digit : is_digit (char_at cs 0) ≡ false = search rules in
+    let no_guard : begins_guarded cs ≡ false = search rules in
+    let no_quote : is "'" (char_at cs 0) ≡ false = is_other 39 _ _ c.first-c.ensures c.if-c-eq39.false in
+    let no_string : is "\"" (char_at cs 0) ≡ false = is_other 34 _ _ c.first-c.ensures c.if-c-eq34.false in
+    record {
+      value = rw (no_line, no_block, no_white, no_word, no_digit, no_guard, no_quote, no_string)
+          (c.one_char_kind.ensures ∙ ap one_char_kind c.first-c.ensures);
+      rest = rw (no_line, no_block, no_white, no_word, no_digit, no_guard, no_quote, no_string) c.behind-else-c-eq34.ensures;
+      utf8 = c.behind-else-c-eq34.utf8;
+    }

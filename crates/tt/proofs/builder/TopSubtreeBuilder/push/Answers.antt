@@ -3,6 +3,7 @@ use Rattle.tt_data.specs.Forest.{leaf, empty}
 use Rattle.tt_data.specs.declared.tree.TokenTree.{TokenTree}
 use Rattle.tt.specs.BuilderTokens.{IsHeld}
 use Rattle.tt.proofs.Held.{IsHeld-append, here_of-append, groups_of-append}
+use Rattle.tt.proofs.Closings.{IsTreeAt-append}
 use Rattle.tt.proofs.Limits.{counted, room_left}
 use Rattle.tt.proofs.builder.TopSubtreeBuilder.push.Goals as goal
 
@@ -11,7 +12,7 @@ held c = c.self.invariant.0
 
 pub invariant_of-self-2 : goal.invariant_of-self-2
 invariant_of-self-2 c =
-    rw c.in-Ok.ensures.items (IsHeld-append _ _ (leaf c.args.leaf empty) (held c), omega (arith, c.self.inside.tokens.ok.0, length-append {A = TokenTree}))
+    rw c.in-Ok.ensures.items (IsHeld-append _ _ (leaf c.args.leaf empty) (held c), omega (arith, c.self.inside.tokens.ok.0, length-append {A = TokenTree}), IsTreeAt-append c.self.inside.last_closed _ _ _ (held c) c.self.invariant.2)
 
 pub returns-clause-ok : goal.returns-clause-ok
 returns-clause-ok c =

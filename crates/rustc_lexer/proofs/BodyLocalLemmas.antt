@@ -1,0 +1,148 @@
+-- The bodies of comments and literals hang on their own characters, and on the few that follow.
+use Rattle.std.proofs.Common.{◌≡◌, ℕ, zero, suc, ◌+◌, ◌-◌, ◌≤◌, ◌<◌, Bool, true, false, not, ◌||◌, ◌&&◌, ◌==◌, nat_le, List, [], ◌∷◌, length, take, drop, refl, sym, subst, ap, arith, if◌then◌else◌, Option, None}
+use Rattle.std.specs.List.{prefix_len}
+use Rattle.std.proofs.lemmas.Bool.Decides.{nat_tests}
+use Rattle.rustc_lexer.specs.Character.{char_at, begins, is}
+use Rattle.rustc_lexer.specs.Comments.{block_body}
+use Rattle.rustc_lexer.specs.Literals.{quoted_rest, string_body, raw_body, raw_form, hashes_of}
+use Rattle.rustc_lexer.specs.Stretch.{Stretch, further}
+use Rattle.rustc_lexer.proofs.AgreeLemmas.{Agree, agree_less, agree_at, agree_drop, agree_tail, agree_end, agree_end_too, prefix_len_local, at_least_local}
+use Rattle.rustc_lexer.proofs.PositiveLemmas.{choice}
+
+-- a choice that is answered alike is the same where its branches are the same within n characters
+pub same_choice : {A : Type 0} (n : ℕ) (b e : Bool) (x y u v : Stretch A) → e ≡ b → (if b then x else y).size < n →
+    (x.size < n → u ≡ x) → (y.size < n → v ≡ y) → (if e then u else v) ≡ (if b then x else y)
+same_choice n true e x y u v s l f g = rw s (f l)
+same_choice n false e x y u v s l f g = rw s (g l)
+
+-- ---- strings
+
+pub string_local : (e : Bool) (n : ℕ) (cs ds : List ℕ) → Agree n cs ds → (string_body e cs).size < n → string_body e ds ≡ string_body e cs
+string_local e zero cs ds a l = absurd (omega arith)
+string_local e (suc n) [] [] a l = refl
+string_local e (suc n) [] (d ∷ ds) a l = agree_end n d ds a
+string_local e (suc n) (c ∷ cs) [] a l = agree_end_too n c cs a
+string_local true (suc n) (c ∷ cs) (d ∷ ds) a l =
+    let t = agree_tail n c d cs ds a in ap (further 1) (string_local false n cs ds t.1 (omega arith))
+string_local false (suc n) (c ∷ cs) (d ∷ ds) a l =
+    let t = agree_tail n c d cs ds a in
+    rw t.0 (same_choice (suc n) (is "\"" c) (is "\"" c) _ _ _ _ refl l (λ h. refl) (λ h. ap (further 1) (string_local (is "\\" c) n cs ds t.1 (omega arith))))
+
+-- ---- characters
+
+pub quoted_local : (e : Bool) (n : ℕ) (cs ds : List ℕ) → Agree (suc n) cs ds → (quoted_rest e cs).size < n → quoted_rest e ds ≡ quoted_rest e cs
+quoted_local e zero cs ds a l = absurd (omega arith)
+quoted_local e (suc n) [] [] a l = refl
+quoted_local e (suc n) [] (d ∷ ds) a l = agree_end (suc n) d ds a
+quoted_local e (suc n) (c ∷ cs) [] a l = agree_end_too (suc n) c cs a
+quoted_local true (suc n) (c ∷ cs) (d ∷ ds) a l =
+    let t = agree_tail (suc n) c d cs ds a in ap (further 1) (quoted_local false n cs ds t.1 (omega arith))
+quoted_local false (suc n) (c ∷ cs) (d ∷ ds) a l =
+    let t = agree_tail (suc n) c d cs ds a in
+    let next : begins "'" ds ≡ begins "'" cs = ap (is "'") (agree_at 0 t.1 (omega arith)) in
+    rw t.0 (same_choice (suc n) (is "'" c) (is "'" c) _ _ _ _ refl l (λ h. refl)
+    (λ h. same_choice (suc n) (is "/" c || (c == 10 && not (begins "'" cs))) (is "/" c || (c == 10 && not (begins "'" ds))) _ _ _ _
+    (ap (λ b. is "/" c || (c == 10 && not b)) next) h (λ k. refl)
+    (λ k. ap (further 1) (quoted_local (is "\\" c) n cs ds t.1 (omega arith)))))
+
+-- ---- raw strings
+
+-- a raw string's body has at least the hashes that stand at its front
+hashes_inside : (h : ℕ) (cs : List ℕ) → prefix_len (is "#") cs ≤ (raw_body h cs).size
+hashes_inside h [] = omega arith
+hashes_inside h (c ∷ cs) = by_test (is "#" c) refl (hashes_inside h cs)
+  where
+    by_test : (b : Bool) → is "#" c ≡ b → prefix_len (is "#") cs ≤ (raw_body h cs).size →
+        (if b then 1 + prefix_len (is "#") cs else 0) ≤ (raw_body h (c ∷ cs)).size
+    by_test true e again = (let hash : c ≡ 35 = grind (arith, nat_tests) in rw hash (omega arith))
+    by_test false e again = omega arith
+
+pub raw_local : (h n : ℕ) (cs ds : List ℕ) → Agree n cs ds → (raw_body h cs).size < n → raw_body h ds ≡ raw_body h cs
+raw_local h zero cs ds a l = absurd (omega arith)
+raw_local h (suc n) [] [] a l = refl
+raw_local h (suc n) [] (d ∷ ds) a l = agree_end n d ds a
+raw_local h (suc n) (c ∷ cs) [] a l = agree_end_too n c cs a
+raw_local h (suc n) (c ∷ cs) (d ∷ ds) a l =
+    let t = agree_tail n c d cs ds a in
+    rw t.0 (same_choice (suc n) (is "\"" c && nat_le h (prefix_len (is "#") cs)) (is "\"" c && nat_le h (prefix_len (is "#") ds)) _ _ _ _
+    (ap (λ b. is "\"" c && b) (same_test (is "\"" c && nat_le h (prefix_len (is "#") cs)) t.1 l)) l (λ k. refl)
+    (λ k. ap (further 1) (raw_local h n cs ds t.1 (omega arith))))
+  where
+    same_test : (b : Bool) → Agree n cs ds → (if b then record { value = true; size = 1 + h } else further 1 (raw_body h cs)).size < suc n →
+        nat_le h (prefix_len (is "#") ds) ≡ nat_le h (prefix_len (is "#") cs)
+    same_test true a l = at_least_local (is "#") h n cs ds a (omega arith)
+    same_test false a l = ap (nat_le h) (prefix_len_local (is "#") n cs ds a (omega (arith, hashes_inside h cs)))
+
+-- a raw form that begins with n hashes
+abbrev form_at : ℕ → List ℕ → Stretch (Option ℕ)
+form_at n cs =
+    let body : Stretch Bool = further 1 (raw_body n (drop 1 (drop n cs))) in
+    if is "\"" (char_at cs n) then further n (record { value = hashes_of body.value n; size = body.size })
+    else further n (record { value = None; size = length (take 1 (drop n cs)) })
+
+form_long : (n : ℕ) (cs : List ℕ) → n ≤ (form_at n cs).size
+form_long n cs = choice (λ (s : Stretch (Option ℕ)). n ≤ s.size) (is "\"" (char_at cs n)) _ _ (λ h. omega arith) (λ h. omega arith)
+
+form_local : (n m : ℕ) (cs ds : List ℕ) → Agree m cs ds → n < m → (form_at n cs).size < m → form_at n ds ≡ form_at n cs
+form_local n m cs ds a k l =
+    same_choice m (is "\"" (char_at cs n)) (is "\"" (char_at ds n)) _ _ _ _ (ap (is "\"") (agree_at n a k)) l
+    (λ h. (let b : Agree (n + (1 + (m - n - 1))) cs ds = agree_less _ a (omega arith) in
+    ap (λ (body : Stretch Bool). further n (record { value = hashes_of body.value n; size = body.size }))
+    (ap (further 1) (raw_local n (m - n - 1) (drop 1 (drop n cs)) (drop 1 (drop n ds)) (agree_drop 1 (agree_drop n b)) (omega arith)))))
+    (λ h. (let b : Agree (n + 1) cs ds = agree_less _ a (omega arith) in
+    ap (λ xs. further n (record { value = None; size = length xs })) (sym (agree_drop n b).same)))
+
+pub raw_form_local : (m : ℕ) (cs ds : List ℕ) → Agree m cs ds → (raw_form cs).size < m → raw_form ds ≡ raw_form cs
+raw_form_local m cs ds a l =
+    let n : ℕ = prefix_len (is "#") cs in
+    let k : n < m = omega (arith, form_long n cs) in
+    let e : prefix_len (is "#") ds ≡ n = prefix_len_local (is "#") m cs ds a k in
+    rw e (form_local n m cs ds a k l)
+
+-- ---- block comments
+
+-- what follows `c` and `d`, where these open a comment, or end one
+abbrev block_step : Bool → Bool → ℕ → ℕ → List ℕ → Stretch Bool
+block_step opens ends depth d cs =
+    elim opens [
+      | true ↦ further 2 (block_body (suc depth) cs)
+      | false ↦ elim ends [
+        | true ↦ elim depth [ zero ↦ record { value = true; size = 2 } | suc outer ↦ further 2 (block_body outer cs) ]
+        | false ↦ further 1 (block_body depth (d ∷ cs))
+      ]
+    ]
+
+block_positive : (depth c : ℕ) (cs : List ℕ) → 1 ≤ (block_body depth (c ∷ cs)).size
+block_positive depth c [] = omega arith
+block_positive depth c (d ∷ cs) = by_tests (is "/" c && is "*" d) (is "*" c && is "/" d) depth
+  where
+    by_tests : (u v : Bool) (k : ℕ) → 1 ≤ (block_step u v k d cs).size
+    by_tests true v k = omega arith
+    by_tests false true zero = omega arith
+    by_tests false true (suc k) = omega arith
+    by_tests false false k = omega arith
+
+pub block_local : (depth n : ℕ) (cs ds : List ℕ) → Agree n cs ds → (block_body depth cs).size < n → block_body depth ds ≡ block_body depth cs
+block_local depth zero cs ds a l = absurd (omega arith)
+block_local depth (suc n) [] [] a l = refl
+block_local depth (suc n) [] (d ∷ ds) a l = agree_end n d ds a
+block_local depth (suc n) (c ∷ cs) [] a l = agree_end_too n c cs a
+block_local depth (suc zero) (c ∷ cs) (d ∷ ds) a l = absurd (omega (arith, block_positive depth c cs))
+block_local depth (suc (suc n)) (c ∷ []) (d ∷ []) a l = refl
+block_local depth (suc (suc n)) (c ∷ []) (d ∷ f ∷ ds) a l = agree_end n f ds (agree_tail (suc n) c d [] (f ∷ ds) a).1
+block_local depth (suc (suc n)) (c ∷ e ∷ cs) (d ∷ []) a l = agree_end_too n e cs (agree_tail (suc n) c d (e ∷ cs) [] a).1
+block_local depth (suc (suc n)) (c ∷ e ∷ cs) (d ∷ f ∷ ds) a l =
+    let t = agree_tail (suc n) c d (e ∷ cs) (f ∷ ds) a in
+    let u = agree_tail n e f cs ds t.1 in
+    rw (t.0, u.0) (by_tests (is "/" c && is "*" e) (is "*" c && is "/" e) depth l
+    (λ k h. block_local k n cs ds u.1 h)
+    (block_local depth (suc n) (e ∷ cs) (e ∷ ds) (subst (λ x. Agree (suc n) (e ∷ cs) (x ∷ ds)) u.0 t.1)))
+  where
+    by_tests : (u v : Bool) (k : ℕ) → (block_step u v k e cs).size < suc (suc n) →
+        ((j : ℕ) → (block_body j cs).size < n → block_body j ds ≡ block_body j cs) →
+        ((block_body k (e ∷ cs)).size < suc n → block_body k (e ∷ ds) ≡ block_body k (e ∷ cs)) →
+        block_step u v k e ds ≡ block_step u v k e cs
+    by_tests true v k l behind again = ap (further 2) (behind (suc k) (omega arith))
+    by_tests false true zero l behind again = refl
+    by_tests false true (suc k) l behind again = ap (further 2) (behind k (omega arith))
+    by_tests false false k l behind again = ap (further 1) (again (omega arith))

@@ -1,0 +1,8 @@
+use Rattle.rustc_lexer.proofs.PlaceLemmas.{first_tokens, same_place}
+use Rattle.rustc_lexer.proofs.laws.first_tokens.Goals as goal
+
+pub returns-clause-tokens : goal.returns-clause-tokens
+returns-clause-tokens c = λ k cs ds e. first_tokens k cs ds (record { same = e })
+
+pub returns-clause-places : goal.returns-clause-places
+returns-clause-places c = λ k cs ds e. same_place k cs ds (record { same = e })

@@ -1,0 +1,10 @@
+use Rattle.rustc_lexer.proofs.MendLemmas.{next_boundary, next_fits}
+use Rattle.rustc_lexer.proofs.mend.front.Goals as goal
+
+pub overflow_add-next : goal.overflow_add-next
+overflow_add-next c =
+    next_fits c.args.text.now _ _ _ _ c.utf8.text c.requires.small c.requires.tokens c.loop-k-test.true c.loop-k.invariant.at
+
+pub is_clear-requires-clause-at : goal.is_clear-requires-clause-at
+is_clear-requires-clause-at c =
+    next_boundary c.args.text.now _ _ _ _ c.utf8.text c.requires.tokens c.loop-k-test.true c.loop-k.invariant.at

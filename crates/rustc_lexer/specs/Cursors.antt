@@ -1,0 +1,88 @@
+-- What a cursor over a text has left, and what its calls make of it. Texts are lists of bytes here.
+use Rattle.std.specs.Prelude.{ℕ, ◌+◌, Bool, false, ◌==◌, List, take, drop, min, length, chars, Option, Some, None, if◌then◌else◌}
+use Rattle.rustc_lexer.specs.Character.{char_at, is, utf8_len, identifier_len}
+use Rattle.rustc_lexer.specs.Lexeme.{Lexeme, lexeme}
+use Rattle.rustc_lexer.specs.Literals.{hashes, string_body}
+use Rattle.rustc_lexer.specs.Stretch.{Stretch, further}
+use Rattle.rustc_lexer.specs.declared.token.Token.{Token}
+use Rattle.rustc_lexer.specs.declared.token.TokenKind.{TokenKind}
+use Rattle.rustc_lexer.specs.declared.token.TokenKind.TheVariants.{Literal, Eof}
+use Rattle.rustc_lexer.specs.declared.token.GuardedStr.{GuardedStr}
+
+-- the text that a cursor has left, and how many bytes were taken before it that the next token counts
+pub record Unread : Type 0 where
+  pub rest : List ℕ
+  pub pending : ℕ
+
+-- where the suffix of a literal begins, and 0 for any other kind
+abbrev pub suffix_of : TokenKind → ℕ
+suffix_of (Literal kind suffix_start) = suffix_start
+suffix_of kind = 0
+
+-- a token's kind, where so many bytes before its lexeme count in it: the suffix of a literal begins as much later
+abbrev pub later_suffix : ℕ → TokenKind → TokenKind
+later_suffix pending (Literal kind suffix_start) = Literal kind (pending + suffix_start)
+later_suffix pending kind = kind
+
+-- how many bytes the first n characters of the text take
+abbrev pub bytes_of : ℕ → List ℕ → ℕ
+bytes_of n text = utf8_len (take n (chars text))
+
+-- the next token: the first lexeme of what is left with the bytes that count in it, or the end, of length 0
+abbrev pub next_token : Unread → Token
+next_token u =
+    if length u.rest == 0 then record { kind = Eof; len = 0 }
+    else
+    (let w : Lexeme = lexeme (chars u.rest) in
+    record { kind = later_suffix u.pending w.value; len = u.pending + bytes_of w.size u.rest })
+
+-- what is left behind the next token
+abbrev pub past_token : Unread → Unread
+past_token u =
+    if length u.rest == 0 then u
+    else record { rest = drop (bytes_of (lexeme (chars u.rest)).size u.rest) u.rest; pending = 0 }
+
+-- what follows the body of a string that n hashes stand before: at most n hashes, and a suffix
+abbrev pub guard_end : ℕ → List ℕ → ℕ
+guard_end n cs =
+    let closing : ℕ = min n (hashes cs).size in closing + identifier_len (drop closing cs)
+
+-- a string that n hashes stand before, from its quote on: whether it is terminated, and what it takes
+abbrev pub guarded_body : ℕ → List ℕ → Stretch Bool
+guarded_body n cs =
+    let body : Stretch Bool = further 1 (string_body false (drop 1 cs)) in
+    record {
+      value = body.value;
+      size = if body.value then body.size + guard_end n (drop body.size cs) else body.size;
+    }
+
+-- a guarded string: all hashes at the front and the string behind them, or the hashes alone where none stands there
+abbrev pub guarded_string : List ℕ → Stretch (Option Bool)
+guarded_string cs =
+    let n : ℕ = (hashes cs).size in
+    let body : Stretch Bool = further n (guarded_body n (drop n cs)) in
+    if is "\"" (char_at cs n) then record { value = Some body.value; size = body.size }
+    else record { value = None; size = n }
+
+-- what a guarded string is told as: its hashes, whether it is terminated, and all bytes that it takes
+abbrev pub guarded_of : ℕ → ℕ → ℕ → Option Bool → Option GuardedStr
+guarded_of n pending len None = None
+guarded_of n pending len (Some terminated) = Some (record { n_hashes = n; terminated = terminated; token_len = pending + len })
+
+abbrev pub next_guarded : Unread → Option GuardedStr
+next_guarded u =
+    let s : Stretch (Option Bool) = guarded_string (chars u.rest) in
+    guarded_of (hashes (chars u.rest)).size u.pending (bytes_of s.size u.rest) s.value
+
+-- what is left behind it: where there was none, the hashes count in the next token
+abbrev pub pending_past : ℕ → Option Bool → ℕ
+pending_past taken None = taken
+pending_past taken (Some terminated) = 0
+
+abbrev pub past_guarded : Unread → Unread
+past_guarded u =
+    let s : Stretch (Option Bool) = guarded_string (chars u.rest) in
+    record {
+      rest = drop (bytes_of s.size u.rest) u.rest;
+      pending = pending_past (u.pending + bytes_of s.size u.rest) s.value;
+    }

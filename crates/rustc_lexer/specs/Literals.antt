@@ -1,0 +1,67 @@
+-- The bodies and suffixes of literals, after the Rust Reference's chapter "Tokens". Texts are lists of characters.
+use Rattle.std.specs.Prelude.{ℕ, ◌+◌, Bool, true, false, not, ◌||◌, ◌&&◌, ◌==◌, nat_le, List, [], ◌∷◌, length, take, drop, Option, Some, None, if◌then◌else◌}
+use Rattle.std.specs.List.{prefix_len}
+use Rattle.rustc_lexer.specs.Character.{char_at, begins, is, utf8_len, identifier_len}
+use Rattle.rustc_lexer.specs.Stretch.{Stretch, further}
+use Rattle.rustc_lexer.specs.declared.token.LiteralKind.{LiteralKind}
+use Rattle.rustc_lexer.specs.declared.token.TokenKind.{TokenKind}
+use Rattle.rustc_lexer.specs.declared.token.TokenKind.TheVariants.{Literal}
+
+-- the n first characters are a literal of the kind, and an identifier that follows them is its suffix
+abbrev pub with_suffix : LiteralKind → ℕ → List ℕ → Stretch TokenKind
+with_suffix kind n cs = record { value = Literal kind (utf8_len (take n cs)); size = n + identifier_len (drop n cs) }
+
+-- the n first characters are a literal of the kind, and nothing is its suffix
+abbrev pub bare : LiteralKind → ℕ → List ℕ → Stretch TokenKind
+bare kind n cs = record { value = Literal kind (utf8_len (take n cs)); size = n }
+
+-- a suffix belongs to a literal that is whole
+abbrev pub literal : Bool → LiteralKind → ℕ → List ℕ → Stretch TokenKind
+literal whole kind n cs = if whole then with_suffix kind n cs else bare kind n cs
+
+-- what is left of a character: up to and with the next `'`, where `\` takes the next character along (`escaped` tells
+-- that it did); it isn't terminated where the text ends, or before a `/`, or before a line feed without a `'` behind it
+abbrev pub quoted_rest : Bool → List ℕ → Stretch Bool
+quoted_rest escaped [] = record { value = false; size = 0 }
+quoted_rest true (c ∷ cs) = further 1 (quoted_rest false cs)
+quoted_rest false (c ∷ cs) =
+    if is "'" c then record { value = true; size = 1 }
+    else if is "/" c || (c == 10 && not (begins "'" cs)) then record { value = false; size = 0 }
+    else further 1 (quoted_rest (is "\\" c) cs)
+
+-- what follows the first `'` of a character: any one but `\` and a `'`, or what `quoted_rest` has
+abbrev pub quoted_body : List ℕ → Stretch Bool
+quoted_body cs =
+    if is "'" (char_at cs 1) && not (begins "\\" cs) then record { value = true; size = 2 } else quoted_rest false cs
+
+-- what follows the first `"` of a string: up to and with the next `"`, where `\` takes the next character along
+-- (`escaped` tells that it did); or the whole text, and then it isn't terminated
+abbrev pub string_body : Bool → List ℕ → Stretch Bool
+string_body escaped [] = record { value = false; size = 0 }
+string_body true (c ∷ cs) = further 1 (string_body false cs)
+string_body false (c ∷ cs) =
+    if is "\"" c then record { value = true; size = 1 } else further 1 (string_body (is "\\" c) cs)
+
+-- what follows the first `"` of a raw string: up to and with the first `"` that n hashes follow, and these; or the whole
+-- text, and then it isn't terminated
+abbrev pub raw_body : ℕ → List ℕ → Stretch Bool
+raw_body n [] = record { value = false; size = 0 }
+raw_body n (c ∷ cs) =
+    if is "\"" c && nat_le n (prefix_len (is "#") cs) then record { value = true; size = 1 + n } else further 1 (raw_body n cs)
+
+-- the hashes at the front, and how many they are
+abbrev pub hashes : List ℕ → Stretch ℕ
+hashes cs = record { value = prefix_len (is "#") cs; size = prefix_len (is "#") cs }
+
+-- the number of hashes, where a raw string is whole: terminated, with at most 255
+abbrev pub hashes_of : Bool → ℕ → Option ℕ
+hashes_of terminated n = if terminated && nat_le n 255 then Some n else None
+
+-- what follows the `r` of a raw string: hashes, and a body in quotes; where no quote stands behind the hashes, the next
+-- character ends it
+abbrev pub raw_form : List ℕ → Stretch (Option ℕ)
+raw_form cs =
+    let n : ℕ = (hashes cs).size in
+    let body : Stretch Bool = further 1 (raw_body n (drop 1 (drop n cs))) in
+    if is "\"" (char_at cs n) then further n (record { value = hashes_of body.value n; size = body.size })
+    else further n (record { value = None; size = length (take 1 (drop n cs)) })

@@ -1,0 +1,96 @@
+//! Comments.
+ghost use Rattle.std.specs.Prelude.{◌≡◌, ◌&&◌, chars};
+ghost use Rattle.rustc_lexer.specs.Character.{is};
+ghost use Rattle.rustc_lexer.specs.Comments.{line_style, line_comment, block_style, block_body, block_comment};
+ghost use Rattle.rustc_lexer.specs.Stretch.{IsRead};
+
+use crate::steps::{begins, behind, first, from_line_feed, second, split_first, third};
+use crate::token::{DocStyle, TokenKind};
+
+// A line comment, up to the end of its line.
+pub fn line_comment(text: &str) -> (TokenKind, &str)
+    ensures { IsRead (line_comment (chars text.now)) text.now result.0 result.1.now }
+{
+    let doc_style = line_style(text);
+    (TokenKind::LineComment { doc_style }, from_line_feed(text))
+}
+
+// Whether a line comment documents.
+fn line_style(text: &str) -> Option<DocStyle>
+    ensures { result ≡ line_style (chars text.now) }
+{
+    if !begins(text, '/', '/') {
+        return None;
+    }
+    match third(text) {
+        '!' => Some(DocStyle::Inner),
+        '/' if second(behind(behind(text))) != '/' => Some(DocStyle::Outer),
+        _ => None,
+    }
+}
+
+// A block comment, with the comments inside it.
+pub fn block_comment(text: &str) -> (TokenKind, &str)
+    ensures { IsRead (block_comment (chars text.now)) text.now result.0 result.1.now }
+{
+    let doc_style = block_style(text);
+    let (terminated, rest) = block_body(behind(behind(text)));
+    (
+        TokenKind::BlockComment {
+            doc_style,
+            terminated,
+        },
+        rest,
+    )
+}
+
+// Whether a block comment documents.
+fn block_style(text: &str) -> Option<DocStyle>
+    ensures { result ≡ block_style (chars text.now) }
+{
+    if !begins(text, '/', '*') {
+        return None;
+    }
+    match third(text) {
+        '!' => Some(DocStyle::Inner),
+        '*' if !matches!(second(behind(behind(text))), '*' | '/') => Some(DocStyle::Outer),
+        _ => None,
+    }
+}
+
+// What follows the `/*` of a block comment: whether its end was found, and what follows it.
+fn block_body(text: &str) -> (bool, &str)
+    ensures { IsRead (block_body 0 (chars text.now)) text.now result.0 result.1.now }
+{
+    let mut depth = 0usize;
+    let mut rest = text;
+    while let Some((c, after)) = split_first(rest) {
+        let d = first(after);
+        if opens_comment(c, d) {
+            depth += 1;
+            rest = behind(after);
+        } else if !ends_comment(c, d) {
+            rest = after;
+        } else if depth == 0 {
+            return (true, behind(after));
+        } else {
+            depth -= 1;
+            rest = behind(after);
+        }
+    }
+    (false, rest)
+}
+
+#[inline]
+fn opens_comment(c: char, d: char) -> bool
+    ensures { result ≡ (is "/" c && is "*" d) }
+{
+    c == '/' && d == '*'
+}
+
+#[inline]
+fn ends_comment(c: char, d: char) -> bool
+    ensures { result ≡ (is "*" c && is "/" d) }
+{
+    c == '*' && d == '/'
+}

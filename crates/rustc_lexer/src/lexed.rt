@@ -1,0 +1,135 @@
+//! A text that keeps its tokens while it is edited.
+ghost use Rattle.std.specs.Prelude.{◌≡◌, ◌+◌, ◌-◌, ◌<◌, ◌≤◌, ◌^◌, ◌↔◌, IsTrue, IfOk, OnOk, OnErr, length, chars, string_bytes, IsCharBoundary};
+ghost use Rattle.rustc_lexer.specs.Edit.{edited, kept};
+ghost use Rattle.rustc_lexer.specs.Lexing.{tokens_of};
+
+use crate::mend::{Mended, mend};
+use crate::token::{FrontmatterAllowed, Token};
+use crate::tokenize;
+use std::alloc::{AllocError, Global};
+use std::marker::Model;
+
+/// What an edit has kept of the tokens, and how many were lexed again between.
+#[derive(Clone, Copy, PartialEq, Eq, Debug)]
+pub struct Kept {
+    /// The tokens before the edit that were kept.
+    pub front: usize,
+    /// The tokens that were lexed again.
+    pub lexed: usize,
+    /// The tokens behind the edit that were kept.
+    pub back: usize,
+}
+
+/// A text and its tokens. A clause sees the text, as the list of its bytes.
+#[derive(Drop)]
+pub struct LexedText {
+    text: String,
+    tokens: Vec<Token>,
+}
+
+impl Model for LexedText {
+    ghost use Rattle.std.specs.Prelude.{List, ℕ, ◌≡◌, ◌<◌, ◌^◌, length, chars, string_bytes};
+    ghost use Rattle.rustc_lexer.specs.Lexing.{tokens_of};
+
+    ghost Value = { List ℕ };
+
+    ghost view = { λ t. string_bytes t.text };
+
+    ghost invariant = { λ t. (length (string_bytes t.text) < 2 ^ 32) × (t.tokens.items ≡ tokens_of (chars (string_bytes t.text))) };
+}
+
+impl LexedText {
+    /// A copy of the text, of at most `u32::MAX` bytes, and its tokens. Refused where there is no memory for them.
+    pub fn new(alloc: Global, text: &str) -> Result<LexedText, AllocError>
+        requires { length text.now < 2 ^ 32 }
+        ensures { IfOk result (λ t. t ≡ text.now) }
+    {
+        let tokens = tokenize(text, FrontmatterAllowed::No).collect(alloc)?;
+        let text = String::from_str(alloc, text)?;
+        Ok(LexedText { text, tokens })
+    }
+
+    /// The text.
+    pub fn text(&self) -> &str
+        ensures { result.now ≡ self.now }
+    {
+        self.text.as_str()
+    }
+
+    /// The text's tokens, those that [`crate::tokenize`] gives.
+    pub fn tokens(&self) -> &[Token]
+        ensures { result.now ≡ tokens_of (chars self.now) }
+    {
+        self.tokens.as_slice()
+    }
+
+    /// Whether the byte `at` is at most the text's length, and begins a character or ends the text.
+    pub fn is_boundary(&self, at: usize) -> bool
+        ensures { IsTrue result ↔ IsCharBoundary self.now at }
+    {
+        self.text().is_char_boundary(at)
+    }
+
+    /// Whether the bytes from `start` to `end` are in the text, and it has at most `u32::MAX` bytes once `replacement_len`
+    /// bytes stand in their place.
+    pub fn fits(&self, start: usize, end: usize, replacement_len: usize) -> bool
+        ensures { IsTrue result ↔ ((start ≤ end) × (end ≤ length self.now)
+            × (length self.now - (end - start) + replacement_len < 2 ^ 32)) }
+    {
+        let len = self.text.len();
+        start <= end && end <= len && replacement_len <= 0xffff_ffff - (len - (end - start))
+    }
+
+    /// Puts the replacement in place of the bytes from `start` to `end`, which are boundaries of the text and fit, and mends
+    /// the tokens: those that end at least two characters before `start` are kept, lexing goes on behind them up to the
+    /// first old boundary at or past `end` that it meets at this boundary's new place, and the tokens behind are kept.
+    /// Refused where there is no memory for them, and then text and tokens stay.
+    pub fn edit(&mut self, start: usize, end: usize, replacement: &str) -> Result<Kept, AllocError>
+        requires start { IsCharBoundary self.old start }
+        requires stop { IsCharBoundary self.old «end» }
+        requires order { start ≤ «end» }
+        requires fits { length self.old - («end» - start) + length replacement.now < 2 ^ 32 }
+        ensures text { OnOk result (self.new ≡ edited self.old start «end» replacement.now) }
+        ensures kept { IfOk result (λ k. k ≡ kept self.old start «end» replacement.now) }
+        ensures err { OnErr result (self.new ≡ self.old) }
+    {
+        let alloc = *self.text.allocator();
+        let text = replaced(alloc, &self.text, start, end, replacement)?;
+        let Mended { front, fresh, stop } = mend(
+            alloc,
+            &self.text,
+            &self.tokens,
+            start,
+            end,
+            replacement,
+            &text,
+        )?;
+        let lexed = fresh.len();
+        let back = self.tokens.len() - stop;
+        self.tokens.splice(front..stop, fresh)?;
+        self.text = text;
+        Ok(Kept { front, lexed, back })
+    }
+}
+
+// The text with the replacement in place of its bytes from `start` to `stop`.
+fn replaced(
+    alloc: Global,
+    text: &str,
+    start: usize,
+    stop: usize,
+    replacement: &str,
+) -> Result<String, AllocError>
+    requires start { IsCharBoundary text.now start }
+    requires stop { IsCharBoundary text.now stop }
+    requires order { start ≤ stop }
+    requires fits { length text.now - (stop - start) + length replacement.now < 2 ^ 32 }
+    ensures { IfOk result (λ t. string_bytes t ≡ edited text.now start stop replacement.now) }
+{
+    let len = text.len() - (stop - start) + replacement.len();
+    let mut out = String::with_capacity(alloc, len)?;
+    out.push_str(&text[..start])?;
+    out.push_str(replacement)?;
+    out.push_str(&text[stop..])?;
+    Ok(out)
+}

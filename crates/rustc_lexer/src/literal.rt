@@ -1,0 +1,223 @@
+//! The bodies and suffixes of literals.
+ghost use Rattle.std.specs.Prelude.{◌≡◌, ◌<◌, ◌≤◌, ◌^◌, ◌-◌, ℕ, Bool, true, false, nat_le, min, drop, length, chars, MatchOption, IsUtf8, IfSome};
+ghost use Rattle.std.specs.List.{prefix_len};
+ghost use Rattle.rustc_lexer.specs.Character.{is, identifier_len};
+ghost use Rattle.rustc_lexer.specs.Literals.{with_suffix, bare, literal, quoted_body, quoted_rest, string_body, raw_body, raw_form, hashes, hashes_of};
+ghost use Rattle.rustc_lexer.specs.Cursors.{guarded_body, guarded_string};
+ghost use Rattle.rustc_lexer.specs.Stretch.{IsRead};
+
+use crate::character::is_id_start;
+use crate::steps::{
+    Continue, Hash, behind, first, from_quote, from_quote_or_escape, second, skip_while,
+    split_first,
+};
+use crate::token::{LiteralKind, TokenKind};
+
+// How many bytes of the text stand before what is left of it.
+#[inline]
+fn bytes_before(text: &str, rest: &str) -> u32
+    requires { length text.now < 2 ^ 32 }
+    ensures { length rest.now ≤ length text.now → result ≡ length text.now - length rest.now }
+{
+    text.len().saturating_sub(rest.len()) as u32
+}
+
+// What follows an identifier, if one stands at the front.
+#[inline]
+fn skip_identifier(text: &str) -> &str
+    ensures { chars result.now ≡ drop (identifier_len (chars text.now)) (chars text.now) }
+{
+    if is_id_start(first(text)) {
+        skip_while::<Continue>(behind(text))
+    } else {
+        text
+    }
+}
+
+// What stands before `rest`, with a suffix.
+pub fn with_suffix<'a>(kind: LiteralKind, text: &'a str, rest: &'a str) -> (TokenKind, &'a str)
+    requires { length text.now < 2 ^ 32 }
+    ensures { (n : ℕ) → chars rest.now ≡ drop n (chars text.now) →
+        IsRead (with_suffix kind n (chars text.now)) text.now result.0 result.1.now }
+{
+    let suffix_start = bytes_before(text, rest);
+    (
+        TokenKind::Literal { kind, suffix_start },
+        skip_identifier(rest),
+    )
+}
+
+// What stands before `rest`, without a suffix.
+pub fn bare<'a>(kind: LiteralKind, text: &'a str, rest: &'a str) -> (TokenKind, &'a str)
+    requires { length text.now < 2 ^ 32 }
+    ensures { (n : ℕ) → chars rest.now ≡ drop n (chars text.now) →
+        IsRead (bare kind n (chars text.now)) text.now result.0 result.1.now }
+{
+    let suffix_start = bytes_before(text, rest);
+    (TokenKind::Literal { kind, suffix_start }, rest)
+}
+
+// What stands before `rest`, with a suffix where it is whole.
+pub fn literal<'a>(
+    whole: bool,
+    kind: LiteralKind,
+    text: &'a str,
+    rest: &'a str,
+) -> (TokenKind, &'a str)
+    requires { length text.now < 2 ^ 32 }
+    ensures { (n : ℕ) → chars rest.now ≡ drop n (chars text.now) →
+        IsRead (literal whole kind n (chars text.now)) text.now result.0 result.1.now }
+{
+    if whole {
+        with_suffix(kind, text, rest)
+    } else {
+        bare(kind, text, rest)
+    }
+}
+
+// What follows the first `'` of a character: whether its end was found, and what follows it.
+pub fn quoted_body(text: &str) -> (bool, &str)
+    ensures { IsRead (quoted_body (chars text.now)) text.now result.0 result.1.now }
+{
+    if second(text) == '\'' && first(text) != '\\' {
+        (true, behind(behind(text)))
+    } else {
+        quoted_rest(text)
+    }
+}
+
+fn quoted_rest(text: &str) -> (bool, &str)
+    ensures { IsRead (quoted_rest false (chars text.now)) text.now result.0 result.1.now }
+{
+    let mut rest = text;
+    while let Some((c, after)) = split_first(rest) {
+        match c {
+            '\'' => return (true, after),
+            '/' => return (false, rest),
+            '\n' if first(after) != '\'' => return (false, rest),
+            '\\' => rest = behind(after),
+            _ => rest = after,
+        }
+    }
+    (false, rest)
+}
+
+// What follows the first `"` of a string: whether its end was found, and what follows it.
+pub fn string_body(text: &str) -> (bool, &str)
+    ensures { IsRead (string_body false (chars text.now)) text.now result.0 result.1.now }
+{
+    let mut rest = text;
+    loop {
+        let mark = from_quote_or_escape(rest);
+        let Some((c, after)) = split_first(mark) else {
+            return (false, mark);
+        };
+        if c == '"' {
+            return (true, after);
+        }
+        rest = behind(after);
+    }
+}
+
+// What follows n hashes at the front, or None where there are fewer.
+fn skip_hashes(text: &str, n: usize) -> Option<&str>
+    ensures utf8 { IfSome result (λ rest. IsUtf8 rest.now) }
+    ensures hashes { MatchOption result (nat_le n (prefix_len (is "#") (chars text.now)) ≡ false)
+        (λ rest. (nat_le n (prefix_len (is "#") (chars text.now)) ≡ true) × (chars rest.now ≡ drop n (chars text.now))) }
+{
+    let mut left = n;
+    let mut rest = text;
+    while left > 0 {
+        if first(rest) != '#' {
+            return None;
+        }
+        rest = behind(rest);
+        left -= 1;
+    }
+    Some(rest)
+}
+
+// What follows the first `"` of a raw string: whether its end was found, and what follows it.
+fn raw_body(text: &str, n: usize) -> (bool, &str)
+    ensures { IsRead (raw_body n (chars text.now)) text.now result.0 result.1.now }
+{
+    let mut rest = text;
+    loop {
+        let mark = from_quote(rest);
+        let Some((_, after)) = split_first(mark) else {
+            return (false, mark);
+        };
+        if let Some(end) = skip_hashes(after, n) {
+            return (true, end);
+        }
+        rest = after;
+    }
+}
+
+// The hashes at the front: how many, and what follows them.
+pub fn count_hashes(text: &str) -> (usize, &str)
+    ensures { IsRead (hashes (chars text.now)) text.now result.0 result.1.now }
+{
+    let rest = skip_while::<Hash>(text);
+    (text.len().saturating_sub(rest.len()), rest)
+}
+
+// The number of hashes of a raw string that is whole.
+fn hashes_of(terminated: bool, n: usize) -> Option<u8>
+    ensures { result ≡ hashes_of terminated n }
+{
+    if terminated {
+        u8::try_from(n).ok()
+    } else {
+        None
+    }
+}
+
+// What follows the `r` of a raw string: the number of its hashes where it is whole, and what follows it.
+pub fn raw_form(text: &str) -> (Option<u8>, &str)
+    ensures { IsRead (raw_form (chars text.now)) text.now result.0 result.1.now }
+{
+    let (n, opening) = count_hashes(text);
+    if first(opening) != '"' {
+        return (None, behind(opening));
+    }
+    let (terminated, rest) = raw_body(behind(opening), n);
+    (hashes_of(terminated, n), rest)
+}
+
+// What follows at most n hashes at the front.
+fn skip_closing(text: &str, n: usize) -> &str
+    ensures { chars result.now ≡ drop (min n (hashes (chars text.now)).size) (chars text.now) }
+{
+    let mut left = n;
+    let mut rest = text;
+    while left > 0 && first(rest) == '#' {
+        rest = behind(rest);
+        left -= 1;
+    }
+    rest
+}
+
+// A string that n hashes stand before, from its quote on: whether it is terminated, and what follows it.
+fn guarded_body(text: &str, n: usize) -> (bool, &str)
+    ensures { IsRead (guarded_body n (chars text.now)) text.now result.0 result.1.now }
+{
+    let (terminated, rest) = string_body(behind(text));
+    if !terminated {
+        return (false, rest);
+    }
+    (true, skip_identifier(skip_closing(rest, n)))
+}
+
+// A string between hashes: whether it is terminated, or None where no string follows the hashes, and what is left.
+pub fn guarded_string(text: &str) -> (Option<bool>, &str)
+    ensures utf8 { IsUtf8 text.now }
+    ensures read { IsRead (guarded_string (chars text.now)) text.now result.0 result.1.now }
+{
+    let (n, opening) = count_hashes(text);
+    if first(opening) != '"' {
+        return (None, opening);
+    }
+    let (terminated, rest) = guarded_body(opening, n);
+    (Some(terminated), rest)
+}

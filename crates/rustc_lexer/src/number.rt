@@ -1,0 +1,158 @@
+//! Numbers.
+ghost use Rattle.std.specs.Prelude.{◌≡◌, chars};
+ghost use Rattle.rustc_lexer.specs.Character.{is_digit, is_hex_digit};
+ghost use Rattle.rustc_lexer.specs.Numbers.{run, is_exponent_mark, exponent, after_fraction, fraction, begins_fraction, after_run, based, decimal, number};
+ghost use Rattle.rustc_lexer.specs.Stretch.{IsRead};
+ghost use Rattle.rustc_lexer.specs.declared.token.Base.TheVariants.{Hexadecimal};
+
+use crate::character::is_id_start;
+use crate::steps::{
+    DecimalRun, HexRun, Underscore, behind, first, is_digit, is_hex_digit, second, skip_while,
+};
+use crate::token::{Base, LiteralKind};
+
+// A number, up to its suffix.
+pub fn number(text: &str) -> (LiteralKind, &str)
+    ensures { IsRead (number (chars text.now)) text.now result.0 result.1.now }
+{
+    if first(text) != '0' {
+        return decimal(text);
+    }
+    match second(text) {
+        'b' => based(Base::Binary, behind(behind(text))),
+        'o' => based(Base::Octal, behind(behind(text))),
+        'x' => hexadecimal(behind(behind(text))),
+        _ => decimal(text),
+    }
+}
+
+fn decimal(text: &str) -> (LiteralKind, &str)
+    ensures { IsRead (decimal (chars text.now)) text.now result.0 result.1.now }
+{
+    after_run(Base::Decimal, skip_while::<DecimalRun>(text))
+}
+
+// What follows the prefix of a base whose digits are decimal ones.
+fn based(base: Base, text: &str) -> (LiteralKind, &str)
+    ensures { IsRead (based base is_digit (chars text.now)) text.now result.0 result.1.now }
+{
+    let (digits, rest) = decimal_run(text);
+    if digits {
+        return after_run(base, rest);
+    }
+    let empty_int = true;
+    (LiteralKind::Int { base, empty_int }, rest)
+}
+
+// What follows `0x`.
+fn hexadecimal(text: &str) -> (LiteralKind, &str)
+    ensures { IsRead (based Hexadecimal is_hex_digit (chars text.now)) text.now result.0 result.1.now }
+{
+    let base = Base::Hexadecimal;
+    let (digits, rest) = hexadecimal_run(text);
+    if digits {
+        return after_run(base, rest);
+    }
+    let empty_int = true;
+    (LiteralKind::Int { base, empty_int }, rest)
+}
+
+// A run of digits and `_`: whether a digit is in it, and what follows it.
+fn decimal_run(text: &str) -> (bool, &str)
+    ensures { IsRead (run is_digit (chars text.now)) text.now result.0 result.1.now }
+{
+    let digits = is_digit(first(skip_while::<Underscore>(text)));
+    (digits, skip_while::<DecimalRun>(text))
+}
+
+fn hexadecimal_run(text: &str) -> (bool, &str)
+    ensures { IsRead (run is_hex_digit (chars text.now)) text.now result.0 result.1.now }
+{
+    let digits = is_hex_digit(first(skip_while::<Underscore>(text)));
+    (digits, skip_while::<HexRun>(text))
+}
+
+// What follows the first run of a number.
+fn after_run(base: Base, text: &str) -> (LiteralKind, &str)
+    ensures { IsRead (after_run base (chars text.now)) text.now result.0 result.1.now }
+{
+    if begins_fraction(text) {
+        return fraction(base, behind(text));
+    }
+    if is_exponent_mark(first(text)) {
+        return exponent(base, behind(text));
+    }
+    let empty_int = false;
+    (LiteralKind::Int { base, empty_int }, text)
+}
+
+// Whether a point that belongs to the number stands at the front.
+fn begins_fraction(text: &str) -> bool
+    ensures { result ≡ begins_fraction (chars text.now) }
+{
+    if first(text) != '.' {
+        return false;
+    }
+    let next = second(text);
+    next != '.' && !is_id_start(next)
+}
+
+#[inline]
+fn is_exponent_mark(c: char) -> bool
+    ensures { result ≡ is_exponent_mark c }
+{
+    matches!(c, 'e' | 'E')
+}
+
+// What follows the point of a number.
+fn fraction(base: Base, text: &str) -> (LiteralKind, &str)
+    ensures { IsRead (fraction base (chars text.now)) text.now result.0 result.1.now }
+{
+    if is_digit(first(text)) {
+        return after_fraction(base, skip_while::<DecimalRun>(text));
+    }
+    let empty_exponent = false;
+    (
+        LiteralKind::Float {
+            base,
+            empty_exponent,
+        },
+        text,
+    )
+}
+
+// What follows the digits behind the point.
+fn after_fraction(base: Base, text: &str) -> (LiteralKind, &str)
+    ensures { IsRead (after_fraction base (chars text.now)) text.now result.0 result.1.now }
+{
+    if is_exponent_mark(first(text)) {
+        return exponent(base, behind(text));
+    }
+    let empty_exponent = false;
+    (
+        LiteralKind::Float {
+            base,
+            empty_exponent,
+        },
+        text,
+    )
+}
+
+// What follows the `e` of an exponent.
+fn exponent(base: Base, text: &str) -> (LiteralKind, &str)
+    ensures { IsRead (exponent base (chars text.now)) text.now result.0 result.1.now }
+{
+    let signed = if matches!(first(text), '+' | '-') {
+        behind(text)
+    } else {
+        text
+    };
+    let (digits, rest) = decimal_run(signed);
+    (
+        LiteralKind::Float {
+            base,
+            empty_exponent: !digits,
+        },
+        rest,
+    )
+}

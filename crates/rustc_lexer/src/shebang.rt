@@ -1,0 +1,68 @@
+//! The first line of a script.
+ghost use Rattle.std.specs.Prelude.{◌≡◌, ◌<◌, ◌≤◌, ◌^◌, length, chars};
+ghost use Rattle.rustc_lexer.specs.Lexing.{tokens_of};
+ghost use Rattle.rustc_lexer.specs.Shebang.{is_blank, is_open_bracket, begins_with_bracket, first_line, shebang};
+
+use crate::token::{FrontmatterAllowed, TokenKind};
+use crate::tokenize;
+
+/// The length in bytes of the `#!` at the front of a script and the rest of that line, without the
+/// line's end (`\n` or `\r\n`).
+///
+/// None where the text does not begin with `#!`, or where an inner attribute does, as `#![a]`: there
+/// `[` is the first token behind `#!` but for white space and comments that document nothing.
+pub fn strip_shebang(input: &str) -> Option<usize>
+    requires { length input.now < 2 ^ 32 }
+    ensures { result ≡ shebang input.now }
+{
+    let rest = input.strip_prefix("#!")?;
+    if begins_with_bracket(rest) {
+        return None;
+    }
+    Some(2 + first_line_len(rest))
+}
+
+// Whether `[` is the first token that is not blank.
+fn begins_with_bracket(text: &str) -> bool
+    requires { length text.now < 2 ^ 32 }
+    ensures { result ≡ begins_with_bracket (tokens_of (chars text.now)) }
+{
+    for token in tokenize(text, FrontmatterAllowed::No) {
+        if !is_blank(token.kind) {
+            return is_open_bracket(token.kind);
+        }
+    }
+    false
+}
+
+// Whether this is white space or a comment that documents nothing.
+fn is_blank(kind: TokenKind) -> bool
+    ensures { result ≡ is_blank kind }
+{
+    matches!(
+        kind,
+        TokenKind::Whitespace
+            | TokenKind::LineComment { doc_style: None }
+            | TokenKind::BlockComment {
+                doc_style: None,
+                ..
+            }
+    )
+}
+
+fn is_open_bracket(kind: TokenKind) -> bool
+    ensures { result ≡ is_open_bracket kind }
+{
+    matches!(kind, TokenKind::OpenBracket)
+}
+
+// How many bytes the first line takes, without its end.
+fn first_line_len(text: &str) -> usize
+    ensures line { result ≡ length (first_line text.now) }
+    ensures fits { result ≤ length text.now }
+{
+    match text.lines().next() {
+        Some(line) => line.len(),
+        None => 0,
+    }
+}

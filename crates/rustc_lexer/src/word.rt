@@ -1,0 +1,184 @@
+//! Words, and the forms that begin with one.
+ghost use Rattle.std.specs.Prelude.{◌≡◌, ◌<◌, ◌^◌, ◌==◌, ◌&&◌, ◌||◌, true, codes, slice_index, length, chars};
+ghost use Rattle.rustc_lexer.specs.Character.{char_at, begins, is_id_start};
+ghost use Rattle.rustc_lexer.specs.Lexeme.{plain_word, marked_word, is_prefix_mark, is_prefix_start, prefixed, word, quoted, string, raw_string};
+ghost use Rattle.rustc_lexer.specs.Stretch.{IsRead};
+ghost use Rattle.rustc_lexer.specs.declared.token.LiteralKind.TheVariants.{Byte, ByteStr, CStr, RawStr, RawByteStr, RawCStr};
+
+use crate::character::is_id_start;
+use crate::literal::{literal, quoted_body, raw_form, string_body};
+use crate::steps::{Continue, begins, behind, first, second, skip_while, third};
+use crate::token::{LiteralKind, TokenKind};
+
+// What begins with a character that may begin an identifier.
+pub fn word(text: &str) -> (TokenKind, &str)
+    requires small { length text.now < 2 ^ 32 }
+    requires start { is_id_start (char_at (chars text.now) 0) ≡ true }
+    ensures { IsRead (word (chars text.now)) text.now result.0 result.1.now }
+{
+    if is_prefix_start(first(text)) {
+        prefixed(text)
+    } else {
+        plain_word(text)
+    }
+}
+
+// Whether a prefix of identifiers or literals may begin with the character.
+#[inline]
+fn is_prefix_start(c: char) -> bool
+    ensures { result ≡ is_prefix_start c }
+{
+    matches!(c, 'r' | 'b' | 'c' | 'k')
+}
+
+// An identifier, a keyword or an unknown prefix.
+fn plain_word(text: &str) -> (TokenKind, &str)
+    requires { is_id_start (char_at (chars text.now) 0) ≡ true }
+    ensures { IsRead (plain_word (chars text.now)) text.now result.0 result.1.now }
+{
+    let rest = skip_while::<Continue>(behind(text));
+    if is_prefix_mark(first(rest)) {
+        (TokenKind::UnknownPrefix, rest)
+    } else {
+        (TokenKind::Ident, rest)
+    }
+}
+
+// Whether a word is a prefix where this character follows it.
+#[inline]
+fn is_prefix_mark(c: char) -> bool
+    ensures { result ≡ is_prefix_mark c }
+{
+    matches!(c, '#' | '"' | '\'')
+}
+
+// What begins with the letter of a prefix.
+fn prefixed(text: &str) -> (TokenKind, &str)
+    requires small { length text.now < 2 ^ 32 }
+    requires start { is_id_start (char_at (chars text.now) 0) ≡ true }
+    ensures { IsRead (prefixed (chars text.now)) text.now result.0 result.1.now }
+{
+    if begins_raw_word(text) {
+        marked_word(TokenKind::RawIdent, text)
+    } else if begins_raw_string(text) {
+        raw_string(text)
+    } else if begins(text, 'b', '\'') {
+        byte(text)
+    } else if begins(text, 'b', '"') {
+        byte_string(text)
+    } else if begins(text, 'c', '"') {
+        c_string(text)
+    } else if begins_raw_byte_string(text) {
+        raw_byte_string(text)
+    } else if begins_raw_c_string(text) {
+        raw_c_string(text)
+    } else if begins_forced_keyword(text) {
+        marked_word(TokenKind::ForcedKeywordIdent, text)
+    } else {
+        plain_word(text)
+    }
+}
+
+// `r#` and the start of an identifier.
+#[inline]
+fn begins_raw_word(text: &str) -> bool
+    ensures { result ≡ (begins "r#" (chars text.now) && is_id_start (char_at (chars text.now) 2)) }
+{
+    begins(text, 'r', '#') && is_id_start(third(text))
+}
+
+// `k#` and the start of an identifier.
+#[inline]
+fn begins_forced_keyword(text: &str) -> bool
+    ensures { result ≡ (begins "k#" (chars text.now) && is_id_start (char_at (chars text.now) 2)) }
+{
+    begins(text, 'k', '#') && is_id_start(third(text))
+}
+
+// `r#` or `r"`
+#[inline]
+fn begins_raw_string(text: &str) -> bool
+    ensures { result ≡ (begins "r#" (chars text.now) || begins "r\"" (chars text.now)) }
+{
+    begins(text, 'r', '#') || begins(text, 'r', '"')
+}
+
+// `br#` or `br"`
+#[inline]
+fn begins_raw_byte_string(text: &str) -> bool
+    ensures { result ≡ (begins "br#" (chars text.now) || begins "br\"" (chars text.now)) }
+{
+    begins(text, 'b', 'r') && matches!(third(text), '#' | '"')
+}
+
+// `cr#` or `cr"`
+#[inline]
+fn begins_raw_c_string(text: &str) -> bool
+    ensures { result ≡ (begins "cr#" (chars text.now) || begins "cr\"" (chars text.now)) }
+{
+    begins(text, 'c', 'r') && matches!(third(text), '#' | '"')
+}
+
+// An identifier behind two characters.
+fn marked_word(kind: TokenKind, text: &str) -> (TokenKind, &str)
+    ensures { IsRead (marked_word kind (chars text.now)) text.now result.0 result.1.now }
+{
+    (kind, skip_while::<Continue>(behind(behind(text))))
+}
+
+// `b'a'`
+fn byte(text: &str) -> (TokenKind, &str)
+    requires { length text.now < 2 ^ 32 }
+    ensures { IsRead (quoted Byte 2 (chars text.now)) text.now result.0 result.1.now }
+{
+    let (terminated, rest) = quoted_body(behind(behind(text)));
+    literal(terminated, LiteralKind::Byte { terminated }, text, rest)
+}
+
+// `b"a"`
+fn byte_string(text: &str) -> (TokenKind, &str)
+    requires { length text.now < 2 ^ 32 }
+    ensures { IsRead (string ByteStr 2 (chars text.now)) text.now result.0 result.1.now }
+{
+    let (terminated, rest) = string_body(behind(behind(text)));
+    literal(terminated, LiteralKind::ByteStr { terminated }, text, rest)
+}
+
+// `c"a"`
+fn c_string(text: &str) -> (TokenKind, &str)
+    requires { length text.now < 2 ^ 32 }
+    ensures { IsRead (string CStr 2 (chars text.now)) text.now result.0 result.1.now }
+{
+    let (terminated, rest) = string_body(behind(behind(text)));
+    literal(terminated, LiteralKind::CStr { terminated }, text, rest)
+}
+
+// `r"a"`
+fn raw_string(text: &str) -> (TokenKind, &str)
+    requires { length text.now < 2 ^ 32 }
+    ensures { IsRead (raw_string RawStr 1 (chars text.now)) text.now result.0 result.1.now }
+{
+    let (n_hashes, rest) = raw_form(behind(text));
+    let kind = LiteralKind::RawStr { n_hashes };
+    literal(n_hashes.is_some(), kind, text, rest)
+}
+
+// `br"a"`
+fn raw_byte_string(text: &str) -> (TokenKind, &str)
+    requires { length text.now < 2 ^ 32 }
+    ensures { IsRead (raw_string RawByteStr 2 (chars text.now)) text.now result.0 result.1.now }
+{
+    let (n_hashes, rest) = raw_form(behind(behind(text)));
+    let kind = LiteralKind::RawByteStr { n_hashes };
+    literal(n_hashes.is_some(), kind, text, rest)
+}
+
+// `cr"a"`
+fn raw_c_string(text: &str) -> (TokenKind, &str)
+    requires { length text.now < 2 ^ 32 }
+    ensures { IsRead (raw_string RawCStr 2 (chars text.now)) text.now result.0 result.1.now }
+{
+    let (n_hashes, rest) = raw_form(behind(behind(text)));
+    let kind = LiteralKind::RawCStr { n_hashes };
+    literal(n_hashes.is_some(), kind, text, rest)
+}

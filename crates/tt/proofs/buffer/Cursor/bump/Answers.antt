@@ -1,0 +1,47 @@
+use Rattle.std.proofs.Common.{◌+◌, ◌∙◌, arith, ap, sym, Some}
+use Rattle.tt.specs.Views.{forest}
+use Rattle.tt.specs.Places.{first_token, bumped}
+use Rattle.tt.specs.CursorTokens.{Stands}
+use Rattle.tt.proofs.CursorLemmas.{stood, first_is, past_leaf, into_group, none_first}
+use Rattle.tt.proofs.PlaceLemmas.{found, placed}
+use Rattle.tt.proofs.FrameLemmas.{fits}
+use Rattle.tt.proofs.buffer.Cursor.bump.Goals as goal
+
+pub overflow_add-self : goal.overflow_add-self
+overflow_add-self c = omega (arith, fits _ _ _ _ (stood _ _ _ _ c.self.view_is c.self.invariant))
+
+-- past the leaf
+past : (c : goal.After-self-1) → Stands c.self.inside.tokens.now c.self.inside.start (c.self.inside.at + 1) (bumped c.args.self.now)
+unfolding forest
+past c =
+    let first = c.in-Some-Leaf.ensures.value ∙ (first_is _ c.after.result.whole ∙ ap first_token c.after.ensures) in
+    past_leaf _ _ _ _ c.in-Some-Leaf.field-0-0 (stood _ _ _ _ c.self.view_is c.self.invariant) (ap Some (sym c.in-Some-Leaf.field-0-is) ∙ first)
+
+pub invariant_of-self : goal.invariant_of-self
+invariant_of-self c = placed _ _ _ _ (past c)
+
+pub returns-in-Some-Leaf : goal.returns-in-Some-Leaf
+returns-in-Some-Leaf c = found _ _ _ _ (past c)
+
+pub overflow_add-self-in-Some-Subtree : goal.overflow_add-self-in-Some-Subtree
+overflow_add-self-in-Some-Subtree c = omega (arith, fits _ _ _ _ (stood _ _ _ _ c.self.view_is c.self.invariant))
+
+-- into the group
+into : (c : goal.After-self-in-Some-Subtree-2-1)
+    → Stands c.self.inside.tokens.now (c.self.inside.at + 1) (c.self.inside.at + 1) (bumped c.args.self.now)
+unfolding forest
+into c =
+    let first = c.in-Some-Subtree.ensures.value ∙ (first_is _ c.after.result.whole ∙ ap first_token c.after.ensures) in
+    into_group _ c.self.inside.start _ _ c.in-Some-Subtree.field-0-0 (stood _ _ _ _ c.self.view_is c.self.invariant)
+    (ap Some (sym c.in-Some-Subtree.field-0-is) ∙ first)
+
+pub invariant_of-self-in-Some-Subtree : goal.invariant_of-self-in-Some-Subtree
+invariant_of-self-in-Some-Subtree c = placed _ _ _ _ (into c)
+
+pub returns-in-Some-Subtree : goal.returns-in-Some-Subtree
+returns-in-Some-Subtree c = found _ _ _ _ (into c)
+
+pub unreachable-requires : goal.unreachable-requires
+unfolding forest
+unreachable-requires c =
+    c.requires (none_first _ (c.in-None.ensures.value ∙ (first_is _ c.after.result.whole ∙ ap first_token c.after.ensures)))

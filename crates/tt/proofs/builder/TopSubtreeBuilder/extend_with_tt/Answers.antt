@@ -1,0 +1,41 @@
+use Rattle.std.proofs.Common.{◌≡◌, ◌≤◌, ◌++◌, ◌∙◌, refl, arith, reverse, length, length-append}
+use Rattle.tt_data.specs.Forest.{forest_of}
+use Rattle.tt.specs.Views.{forest}
+use Rattle.tt.proofs.Closings.{IsTreeAt-append}
+use Rattle.tt.proofs.Held.{IsHeld-append, here_of-append, groups_of-append}
+use Rattle.tt.proofs.Limits.{counted, room_for, size-whole}
+use Rattle.tt.proofs.builder.TopSubtreeBuilder.extend_with_tt.Goals as goal
+
+pub invariant_of-self-2 : goal.invariant_of-self-2
+unfolding forest
+invariant_of-self-2 c =
+    let tokens = c.self.inside.tokens.items in
+    let counts : c.len-2.result ≡ length c.args.tt.tokens.now = c.len-2.ensures ∙ size-whole c.args.tt.tokens.now c.args.tt.whole in
+    let fits : length (tokens ++ c.args.tt.tokens.now) ≤ 4294967296 =
+    omega (arith, c.if-room-len.false, c.len.ensures, c.self.inside.tokens.ok.0, counts, length-append tokens c.args.tt.tokens.now, c.self.invariant.1) in
+    let held = rw c.args.tt.whole at (IsHeld-append tokens (reverse c.self.inside.openings.items) (forest_of c.args.tt.tokens.now) c.self.invariant.0) in
+    rw c.in-Ok.ensures.ok (held, fits, IsTreeAt-append c.self.inside.last_closed _ _ _ c.self.invariant.0 c.self.invariant.2)
+
+pub returns-clause-ok : goal.returns-clause-ok
+unfolding forest
+returns-clause-ok c =
+    let h = rw c.args.tt.whole at (here_of-append c.self.inside.tokens.items (reverse c.self.inside.openings.items) (forest_of c.args.tt.tokens.now) c.self.invariant.0) in
+    let g = rw c.args.tt.whole at (groups_of-append c.self.inside.tokens.items (reverse c.self.inside.openings.items) (forest_of c.args.tt.tokens.now) c.self.invariant.0) in
+    rw (← c.self.view_is, c.in-Ok.ensures.ok) (rw (h, g) refl)
+
+pub returns-then-room-len-clause-tokens : goal.returns-then-room-len-clause-tokens
+returns-then-room-len-clause-tokens c =
+    let all = counted _ _ c.self.invariant.0 in
+    (λ _. rw (← c.self.view_is) (omega (arith, all, c.if-room-len.true, c.len.ensures, c.len-2.ensures, c.self.inside.tokens.ok.0)), λ _. refl)
+
+pub returns-in_default-clause-tokens : goal.returns-in_default-clause-tokens
+returns-in_default-clause-tokens c =
+    let all = counted _ _ c.self.invariant.0 in
+    rw (← c.self.view_is)
+    (room_for _ _ refl (omega (arith, all, c.if-room-len.false, c.len.ensures, c.len-2.ensures, c.self.inside.tokens.ok.0, c.self.invariant.1)))
+
+pub returns-clause-tokens : goal.returns-clause-tokens
+returns-clause-tokens c =
+    let all = counted _ _ c.self.invariant.0 in
+    rw (← c.self.view_is)
+    (room_for _ _ refl (omega (arith, all, c.if-room-len.false, c.len.ensures, c.len-2.ensures, c.self.inside.tokens.ok.0, c.self.invariant.1)))

@@ -1,0 +1,206 @@
+//! A place in a list of trees that walks through it, leaf by leaf and bracket by bracket.
+ghost use Rattle.tt.specs.CursorTokens.{BeginsListOf, Reaches};
+ghost use Rattle.std.specs.Prelude.{◌≡◌, ◌≢◌, ⊤, IsTrue, ◌↔◌, ◌<◌, ◌≤◌, length, [], Some, IsNone};
+
+use crate::iter::TtElement;
+use crate::view::TokenTreesView;
+use std::alloc::AllocError;
+use std::marker::Model;
+use tt_data::leaf::Leaf;
+use tt_data::tree::{Subtree, TokenTree};
+
+/// A place in a list of trees: between two trees of the list, or of a group in it.
+///
+/// Its walk goes over leaves, openings and closings. It takes no memory; leaving a group looks back
+/// over the tokens from the group to the start of the list that it is in, and any other step looks
+/// at the innermost group's head and at most two tokens.
+#[derive(Drop)]
+pub struct Cursor<'a> {
+    tokens: &'a [TokenTree],
+    // Where the innermost list begins: 0 in no group, else just after the group's head.
+    start: usize,
+    at: usize,
+}
+
+impl<'a> Model for Cursor<'a> {
+    ghost use Rattle.tt.specs.Places.{Place, place_code};
+    ghost use Rattle.tt.specs.CursorTokens.{place_of, IsPlaced};
+
+    ghost Value = { Place };
+
+    ghost coded = { place_code };
+
+    ghost view = { λ c. place_of c.tokens.now c.start c.at };
+
+    ghost invariant = { λ c. IsPlaced c.tokens.now c.start c.at };
+}
+
+impl<'a> Clone for Cursor<'a> {
+    ghost is_clone = { λ it copy. copy ≡ it };
+
+    ghost is_infallible = { λ _. ⊤ };
+
+    /// A cursor of its own at the same place. It is never refused.
+    fn clone(&self) -> Result<Cursor<'a>, AllocError> {
+        Ok(Cursor {
+            tokens: self.tokens,
+            start: self.start,
+            at: self.at,
+        })
+    }
+}
+
+// Whether the token just before `start` is the head of a group that has the token at `head` inside.
+fn has_inside(token: &TokenTree, start: usize, head: usize) -> bool
+    requires { start ≤ head }
+    ensures { IsTrue result ↔ Reaches token.now start head }
+{
+    match token {
+        TokenTree::Leaf(_) => false,
+        TokenTree::Subtree(group) => head - start < group.usize_len(),
+    }
+}
+
+// Where the list begins that the group with its head at `head` is a tree of.
+fn list_around(tokens: &[TokenTree], head: usize) -> usize
+    requires { head ≤ length tokens.now }
+    ensures { BeginsListOf tokens.now head result }
+{
+    let mut start = head;
+    while start > 0 {
+        if has_inside(&tokens[start - 1], start, head) {
+            return start;
+        }
+        start -= 1;
+    }
+    0
+}
+
+impl<'a> Cursor<'a> {
+    ghost use Rattle.tt_data.specs.Forest.{empty};
+    ghost use Rattle.tt.specs.Places.{beginning, IsEnd, first_token, bumped, ended, moved, innermost_head, two_leaves};
+    ghost use Rattle.tt.specs.Views.{forest};
+
+    /// Before the first tree of the list.
+    pub fn new(origin: TokenTreesView<'a>) -> Cursor<'a>
+        ensures { result ≡ beginning (forest origin.entry) }
+    {
+        Cursor {
+            tokens: origin.tokens,
+            start: 0,
+            at: 0,
+        }
+    }
+
+    // The trees after the place in the innermost list.
+    fn after(&self) -> TokenTreesView<'a>
+        ensures { forest result ≡ self.now.after }
+    {
+        let (_, ahead) = self.tokens.split_at(self.at);
+        let Some(group) = self.head() else {
+            return TokenTreesView { tokens: ahead };
+        };
+        let (list, _) = ahead.split_at(group.usize_len() - (self.at - self.start));
+        TokenTreesView { tokens: list }
+    }
+
+    // The head of the innermost group.
+    fn head(&self) -> Option<Subtree>
+        ensures { result ≡ innermost_head self.now }
+    {
+        match self.tokens.get(self.start.checked_sub(1)?)? {
+            TokenTree::Subtree(group) => Some(*group),
+            TokenTree::Leaf(_) => None,
+        }
+    }
+
+    /// Whether it is after the last tree, in no group.
+    pub fn eof(&self) -> bool
+        ensures { IsTrue result ↔ IsEnd self.now }
+    {
+        self.is_root() && self.after().is_empty()
+    }
+
+    /// Whether it is in no group.
+    pub fn is_root(&self) -> bool
+        ensures { IsTrue result ↔ (self.now.around ≡ []) }
+    {
+        self.start == 0
+    }
+
+    /// The token at the place: a leaf, or the head of a group, and none at the end of a list.
+    pub fn token_tree(&self) -> Option<TokenTree>
+        ensures token { result ≡ first_token self.now.after }
+        ensures at_end { IsNone result ↔ (self.now.after ≡ empty) }
+    {
+        let Ok(token) = self.after().tokens.first()?.clone() else {
+            unreachable!()
+        };
+        Some(token)
+    }
+
+    /// Leaves the innermost group, at whose end it is, and answers the head of that group.
+    pub fn end(&mut self) -> Subtree
+        requires inside { self.old.around ≢ [] }
+        requires at_end { self.old.after ≡ empty }
+        ensures group { Some result ≡ innermost_head self.old }
+        ensures left { self.new ≡ ended self.old }
+    {
+        let Some(group) = self.head() else {
+            unreachable!()
+        };
+        self.start = list_around(self.tokens, self.start - 1);
+        group
+    }
+
+    /// Goes past the leaf that comes next, or into the group.
+    pub fn bump(&mut self)
+        requires { self.old.after ≢ empty }
+        ensures { self.new ≡ bumped self.old }
+    {
+        match self.after().tokens.first() {
+            Some(TokenTree::Leaf(_)) => self.at += 1,
+            Some(TokenTree::Subtree(_)) => {
+                self.at += 1;
+                self.start = self.at;
+            }
+            None => unreachable!(),
+        }
+    }
+
+    /// Goes past the leaf that comes next, or into the group, or at the end of a list out of the
+    /// innermost group.
+    pub fn bump_or_end(&mut self)
+        requires { IsEnd self.old → ⊥ }
+        ensures { self.new ≡ moved self.old }
+    {
+        if self.after().is_empty() {
+            let _group = self.end();
+        } else {
+            self.bump();
+        }
+    }
+
+    /// The two leaves that come next in the list: none where one of them is a group or missing.
+    pub fn peek_two_leaves(&self) -> Option<[Leaf; 2]>
+        ensures { result ≡ two_leaves self.now.after }
+    {
+        let mut ahead = self.after().iter();
+        let TtElement::Leaf(first) = ahead.next()? else {
+            return None;
+        };
+        let TtElement::Leaf(second) = ahead.next()? else {
+            return None;
+        };
+        Some([first, second])
+    }
+
+    /// The trees before the place, which is in no group.
+    pub fn crossed(&self) -> TokenTreesView<'a>
+        requires { self.now.around ≡ [] }
+        ensures { forest result ≡ self.now.before }
+    {
+        let (before, _) = self.tokens.split_at(self.at);
+        TokenTreesView { tokens: before }
+    }
+}

@@ -1,0 +1,38 @@
+//! The tokens of a list of trees, one by one.
+use std::marker::Model;
+use tt_data::tree::TokenTree;
+
+/// A walk over all tokens of a list of trees, each group's head before what it has inside.
+#[derive(Drop)]
+pub struct FlatTokens<'a> {
+    pub(crate) tokens: &'a [TokenTree],
+}
+
+impl<'a> Model for FlatTokens<'a> {
+    ghost use Rattle.std.specs.Prelude.{List};
+    ghost use Rattle.tt_data.specs.declared.tree.TokenTree.{TokenTree};
+
+    ghost Value = { List TokenTree };
+
+    ghost view = { λ it. it.tokens.now };
+}
+
+impl<'a> Iterator for FlatTokens<'a> {
+    ghost use Rattle.std.specs.Iterator.{item_count, YieldsFirst};
+
+    type Item = TokenTree;
+
+    ghost next_gives = { YieldsFirst (λ left. left) };
+
+    ghost remaining = { item_count (λ left. left) };
+
+    /// The next token: none where none are left.
+    fn next(&mut self) -> Option<TokenTree> {
+        let (first, more) = self.tokens.split_first()?;
+        self.tokens = more;
+        let Ok(token) = first.clone() else {
+            unreachable!()
+        };
+        Some(token)
+    }
+}

@@ -1,0 +1,174 @@
+//! Walks over a list of trees, tree by tree.
+ghost use Rattle.std.specs.Prelude.{◌≡◌, ⊤, IsTrue, ◌↔◌};
+
+use crate::view::TokenTreesView;
+use std::alloc::AllocError;
+use std::marker::Model;
+use tt_data::leaf::Leaf;
+use tt_data::span::Span;
+use tt_data::tree::{Subtree, TokenTree};
+
+/// A walk over a list of trees. It stands before the trees that are left.
+#[derive(Drop)]
+pub struct TtIter<'a> {
+    pub(crate) tokens: &'a [TokenTree],
+}
+
+impl<'a> Model for TtIter<'a> {
+    ghost use Rattle.tt_data.specs.Coded.{forest_code};
+    ghost use Rattle.tt_data.specs.Forest.{Forest, forest_of, IsPreorder};
+
+    ghost Value = { Forest };
+
+    ghost coded = { forest_code };
+
+    ghost view = { λ it. forest_of it.tokens.now };
+
+    ghost invariant = { λ it. IsPreorder it.tokens.now };
+}
+
+/// One tree of a list.
+#[derive(Drop)]
+pub enum TtElement<'a> {
+    Leaf(Leaf),
+    /// A group: its head, and a walk over the trees inside.
+    Subtree(Subtree, TtIter<'a>),
+}
+
+impl<'a> TtElement<'a> {
+    ghost use Rattle.tt.specs.Elements.{place_of};
+
+    /// The place where the tree begins: a group begins with its opening bracket.
+    pub fn first_span(&self) -> Span
+        ensures { result ≡ place_of self.now }
+    {
+        match self {
+            TtElement::Leaf(leaf) => leaf.span(),
+            TtElement::Subtree(subtree, _) => subtree.delimiter.open_span,
+        }
+    }
+}
+
+impl<'a> Clone for TtElement<'a> {
+    ghost is_clone = { λ tree copy. copy ≡ tree };
+
+    ghost is_infallible = { λ _. ⊤ };
+
+    /// The same tree. It is never refused.
+    fn clone(&self) -> Result<TtElement<'a>, AllocError> {
+        match self {
+            TtElement::Leaf(leaf) => {
+                let Ok(leaf) = leaf.clone() else {
+                    unreachable!()
+                };
+                Ok(TtElement::Leaf(leaf))
+            }
+            TtElement::Subtree(subtree, inner) => {
+                Ok(TtElement::Subtree(*subtree, inner.remaining().iter()))
+            }
+        }
+    }
+}
+
+impl<'a> Clone for TtIter<'a> {
+    ghost is_clone = { λ it copy. copy ≡ it };
+
+    ghost is_infallible = { λ _. ⊤ };
+
+    /// A walk of its own over the trees that are left. It is never refused.
+    fn clone(&self) -> Result<TtIter<'a>, AllocError> {
+        Ok(self.remaining().iter())
+    }
+}
+
+impl<'a> Iterator for TtIter<'a> {
+    ghost use Rattle.std.specs.Iterator.{item_count};
+    ghost use Rattle.tt.specs.Elements.{elements, IsNext};
+
+    type Item = TtElement<'a>;
+
+    ghost next_gives = { IsNext };
+
+    ghost remaining = { item_count elements };
+
+    /// The next tree, which is passed, a group with all that it has inside: none where none are left.
+    fn next(&mut self) -> Option<TtElement<'a>> {
+        let (first, more) = self.tokens.split_first()?;
+        match first {
+            TokenTree::Leaf(leaf) => {
+                self.tokens = more;
+                let Ok(leaf) = leaf.clone() else {
+                    unreachable!()
+                };
+                Some(TtElement::Leaf(leaf))
+            }
+            TokenTree::Subtree(subtree) => {
+                let (inner, rest) = more.split_at(subtree.len as usize);
+                self.tokens = rest;
+                Some(TtElement::Subtree(*subtree, TtIter { tokens: inner }))
+            }
+        }
+    }
+}
+
+impl<'a> TtIter<'a> {
+    ghost use Rattle.std.specs.Prelude.{option_map};
+    ghost use Rattle.tt_data.specs.Forest.{Forest, empty, joined};
+    ghost use Rattle.tt.specs.Elements.{first_element, first_place, first_alone, after_first};
+    ghost use Rattle.tt.specs.Views.{forest};
+
+    /// Whether no trees are left.
+    pub fn is_empty(&self) -> bool
+        ensures { IsTrue result ↔ (self.now ≡ empty) }
+    {
+        self.tokens.is_empty()
+    }
+
+    /// The next tree, without passing it: none where none are left.
+    pub fn peek(&self) -> Option<TtElement<'a>>
+        ensures { result ≡ first_element self.now }
+    {
+        let mut ahead = self.remaining().iter();
+        ahead.next()
+    }
+
+    /// The place where the next tree begins: none where no trees are left.
+    pub fn next_span(&self) -> Option<Span>
+        ensures { result ≡ first_place self.now }
+    {
+        Some(self.tokens.first()?.first_span())
+    }
+
+    /// The trees that are left.
+    #[tactic(auto, unfolding(crate::specs::Views::forest))]
+    pub fn remaining(&self) -> TokenTreesView<'a>
+        ensures { forest result ≡ self.now }
+    {
+        TokenTreesView {
+            tokens: self.tokens,
+        }
+    }
+
+    /// The next tree alone, which is passed: none where no trees are left.
+    pub fn next_as_view(&mut self) -> Option<TokenTreesView<'a>>
+        ensures tree { option_map forest result ≡ first_alone self.old }
+        ensures rest { self.new ≡ after_first self.old }
+    {
+        let before = self.remaining();
+        let _tree = self.next()?;
+        Some(self.passed_since(before))
+    }
+
+    /// The trees passed since `then`, which is what was left at an earlier point of this walk.
+    ///
+    /// Those trees and the trees that are left now have to be all of `then` together.
+    pub fn passed_since(&self, then: TokenTreesView<'a>) -> TokenTreesView<'a>
+        requires { (passed : Forest) × (forest then ≡ joined passed self.now) }
+        ensures { forest then.entry ≡ joined (forest result) self.now }
+    {
+        let count = then.tokens.len() - self.tokens.len();
+        TokenTreesView {
+            tokens: &then.tokens[..count],
+        }
+    }
+}
