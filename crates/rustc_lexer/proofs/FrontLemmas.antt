@@ -20,14 +20,14 @@ pub record IsFront (text new : List ℕ) (start k at : ℕ) : Type 0 where
   pub tokens : take k (tokens_of (chars new)) ≡ take k (tokens_of (chars text))
   pub rest : tokens_of (chars (drop at new)) ≡ drop k (tokens_of (chars new))
 
-clear_before : (text : List ℕ) (at start : ℕ) → is_clear_of text start at ≡ true → at ≤ start
+pub clear_before : (text : List ℕ) (at start : ℕ) → is_clear_of text start at ≡ true → at ≤ start
 clear_before text at start h = by_test (nat_le at start) refl
   where
     by_test : (b : Bool) → nat_le at start ≡ b → at ≤ start
     by_test true e = grind (arith, nat_tests)
     by_test false e = absurd (let l : start < at = grind (arith, nat_tests) in true≢false (sym h ∙ not_clear text at start l))
 
-clear_two : (text : List ℕ) (at start : ℕ) → is_clear_of text start at ≡ true → 2 ≤ length (chars (take (start - at) (drop at text)))
+pub clear_two : (text : List ℕ) (at start : ℕ) → is_clear_of text start at ≡ true → 2 ≤ length (chars (take (start - at) (drop at text)))
 clear_two text at start h = grind (arith, nat_tests)
 
 chars_split : (bs : List ℕ) (n : ℕ) → IsUtf8 bs → IsCharBoundary bs n → chars bs ≡ chars (take n bs) ++ chars (drop n bs)

@@ -21,6 +21,9 @@ mod MeetingLemmas
 mod MendLemmas
 mod FrontLemmas
 mod MendedLemmas
+mod MarkLemmas
+mod SplicedLemmas
+mod NearLemmas
 mod ShebangLemmas
 mod ShebangRows
 mod RawFormLemmas

@@ -23,7 +23,7 @@ to_the_end k xs = ap (λ n. take n (drop k xs)) (sym (length-drop k xs)) ∙ tak
 pub total_split : (k : ℕ) (ts : List Token) → total (take k ts) + total (drop k ts) ≡ total ts
 total_split k ts = sum_by-take-drop (λ x. x.len) ts k
 
-total_append : (xs ys : List Token) → total (xs ++ ys) ≡ total xs + total ys
+pub total_append : (xs ys : List Token) → total (xs ++ ys) ≡ total xs + total ys
 total_append xs ys = sum_by-append (λ x. x.len) xs ys
 
 -- ---- what lies behind the edit
@@ -34,7 +34,7 @@ edited_length text start stop replacement l =
     length-append (take start text) replacement ∙ ap (λ n. n + length replacement) (length-take-le start text l)
 
 -- what lies at `at` in the text, behind the edit, follows in the edited text at the place to which it was moved
-edited_behind : (text : List ℕ) (start stop : ℕ) (replacement : List ℕ) (at : ℕ) → start ≤ length text → stop ≤ at →
+pub edited_behind : (text : List ℕ) (start stop : ℕ) (replacement : List ℕ) (at : ℕ) → start ≤ length text → stop ≤ at →
     drop (at - stop + (start + length replacement)) (edited text start stop replacement) ≡ drop at text
 edited_behind text start stop replacement at l h =
     let front : List ℕ = take start text ++ replacement in
@@ -138,7 +138,7 @@ same_end text new start stop replacement at passed bound rest behind walked l h 
     omega (arith, size, left, walk, total_split passed behind, s.place, s.behind, in_new, r)
 
 -- the old boundary where the walk ends
-old_end : (ts : List Token) (k passed met at bound : ℕ) → at ≡ total (take k ts) → bound ≡ at + total (take passed (drop k ts)) →
+pub old_end : (ts : List Token) (k passed met at bound : ℕ) → at ≡ total (take k ts) → bound ≡ at + total (take passed (drop k ts)) →
     total (take (k + passed + met) ts) ≡ bound + total (take met (drop passed (drop k ts)))
 old_end ts k passed met at bound e f =
     let one = ap total (take-add (k + passed) met ts) ∙ total_append (take (k + passed) ts) (take met (drop (k + passed) ts)) in

@@ -3,7 +3,8 @@ ghost use Rattle.std.specs.Prelude.{◌≡◌, ◌+◌, ◌-◌, ◌<◌, ◌≤
 ghost use Rattle.rustc_lexer.specs.Edit.{edited, kept};
 ghost use Rattle.rustc_lexer.specs.Lexing.{tokens_of};
 
-use crate::mend::{Mended, mend};
+use crate::marks::{Mark, move_marks, nearest, refine};
+use crate::mend::mend;
 use crate::token::{FrontmatterAllowed, Token};
 use crate::tokenize;
 use std::alloc::{AllocError, Global};
@@ -25,17 +26,21 @@ pub struct Kept {
 pub struct LexedText {
     text: String,
     tokens: Vec<Token>,
+    marks: Vec<Mark>,
 }
 
 impl Model for LexedText {
     ghost use Rattle.std.specs.Prelude.{List, ℕ, ◌≡◌, ◌<◌, ◌^◌, length, chars, string_bytes};
+    ghost use Rattle.std.specs.List.{All};
     ghost use Rattle.rustc_lexer.specs.Lexing.{tokens_of};
+    ghost use Rattle.rustc_lexer.specs.Mending.{IsMark};
 
     ghost Value = { List ℕ };
 
     ghost view = { λ t. string_bytes t.text };
 
-    ghost invariant = { λ t. (length (string_bytes t.text) < 2 ^ 32) × (t.tokens.items ≡ tokens_of (chars (string_bytes t.text))) };
+    ghost invariant = { λ t. (length (string_bytes t.text) < 2 ^ 32) × (t.tokens.items ≡ tokens_of (chars (string_bytes t.text)))
+        × All (IsMark t.tokens.items) t.marks.items };
 }
 
 impl LexedText {
@@ -46,7 +51,12 @@ impl LexedText {
     {
         let tokens = tokenize(text, FrontmatterAllowed::No).collect(alloc)?;
         let text = String::from_str(alloc, text)?;
-        Ok(LexedText { text, tokens })
+        let marks = Vec::new(alloc);
+        Ok(LexedText {
+            text,
+            tokens,
+            marks,
+        })
     }
 
     /// The text.
@@ -94,42 +104,23 @@ impl LexedText {
         ensures err { OnErr result (self.new ≡ self.old) }
     {
         let alloc = *self.text.allocator();
-        let text = replaced(alloc, &self.text, start, end, replacement)?;
-        let Mended { front, fresh, stop } = mend(
+        let held = self.tokens.len();
+        refine(&mut self.marks, &self.tokens, start)?;
+        let (_, near) = nearest(&self.marks, start);
+        let mended = mend(
             alloc,
-            &self.text,
-            &self.tokens,
+            &mut self.text,
+            &mut self.tokens,
+            near,
             start,
             end,
             replacement,
-            &text,
         )?;
-        let lexed = fresh.len();
-        let back = self.tokens.len() - stop;
-        self.tokens.splice(front..stop, fresh)?;
-        self.text = text;
-        Ok(Kept { front, lexed, back })
+        move_marks(&mut self.marks, &mended);
+        Ok(Kept {
+            front: mended.front.tokens,
+            lexed: mended.new.tokens - mended.front.tokens,
+            back: held - mended.old.tokens,
+        })
     }
-}
-
-// The text with the replacement in place of its bytes from `start` to `stop`.
-fn replaced(
-    alloc: Global,
-    text: &str,
-    start: usize,
-    stop: usize,
-    replacement: &str,
-) -> Result<String, AllocError>
-    requires start { IsCharBoundary text.now start }
-    requires stop { IsCharBoundary text.now stop }
-    requires order { start ≤ stop }
-    requires fits { length text.now - (stop - start) + length replacement.now < 2 ^ 32 }
-    ensures { IfOk result (λ t. string_bytes t ≡ edited text.now start stop replacement.now) }
-{
-    let len = text.len() - (stop - start) + replacement.len();
-    let mut out = String::with_capacity(alloc, len)?;
-    out.push_str(&text[..start])?;
-    out.push_str(replacement)?;
-    out.push_str(&text[stop..])?;
-    Ok(out)
 }

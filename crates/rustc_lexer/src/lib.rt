@@ -18,6 +18,7 @@ pub mod laws;
 mod lexed;
 mod lexeme;
 mod literal;
+mod marks;
 mod mend;
 mod number;
 mod quote;

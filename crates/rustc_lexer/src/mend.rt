@@ -1,10 +1,11 @@
 //! Mending the tokens of an edited text: those well before the edit and those behind it stay.
-ghost use Rattle.std.specs.Prelude.{◌≡◌, ◌+◌, ◌-◌, ◌<◌, ◌≤◌, ◌^◌, ℕ, List, true, nat_le, length, take, drop, chars, IfOk, IsCharBoundary};
-ghost use Rattle.std.specs.List.{list_any, splice};
-ghost use Rattle.rustc_lexer.specs.Edit.{boundaries_from, edited, front_of, is_clear_of, kept, moves_to};
+ghost use Rattle.std.specs.Prelude.{◌≡◌, ◌+◌, ◌-◌, ◌<◌, ◌≤◌, ◌^◌, true, nat_le, length, take, drop, chars, string_bytes, string_len, string_capacity, IfOk, OnOk, OnErr, IsCharBoundary};
+ghost use Rattle.std.specs.List.{splice};
+ghost use Rattle.rustc_lexer.specs.Edit.{edited, front_of, is_clear_of, kept};
 ghost use Rattle.rustc_lexer.specs.Lexing.{tokens_of};
-ghost use Rattle.rustc_lexer.specs.Mending.{count_to_meeting, total};
+ghost use Rattle.rustc_lexer.specs.Mending.{IsMark, IsMended, count_to_meeting, lexed_again, total};
 
+use crate::marks::{Mark, Mended, first_from};
 use crate::steps::split_first;
 use crate::token::{FrontmatterAllowed, Token};
 use crate::tokenize;
@@ -38,19 +39,22 @@ fn is_clear(text: &str, at: usize, start: usize) -> bool
     has_two_chars(&text[at..start])
 }
 
-// How many tokens of the text end at least two characters before `start`, and where the last of them ends.
-fn front(text: &str, tokens: &[Token], start: usize) -> (usize, usize)
+// How many tokens of the text end at least two characters before `start`, and where the last of them ends. The walk begins at
+// a mark, which is such a boundary too.
+fn front(text: &str, tokens: &[Token], near: Mark, start: usize) -> (usize, usize)
     requires small { length text.now < 2 ^ 32 }
     requires tokens { tokens.now ≡ tokens_of (chars text.now) }
+    requires near { IsMark tokens.now near }
+    requires far { 0 < near.tokens → near.place + 8 ≤ start }
     requires start { IsCharBoundary text.now start }
     ensures count { result.0 ≡ front_of text.now start }
     ensures at { result.1 ≡ total (take result.0 tokens.now) }
     ensures clear { 0 < result.0 → is_clear_of text.now start result.1 ≡ true }
     ensures within { result.0 ≤ length tokens.now }
 {
-    let mut at = 0;
-    for (k, token) in tokens.iter().enumerate() {
-        let next = at + token.len as usize;
+    let mut at = near.place;
+    for k in near.tokens..tokens.len() {
+        let next = at + tokens[k].len as usize;
         if !is_clear(text, next, start) {
             return (k, at);
         }
@@ -59,42 +63,21 @@ fn front(text: &str, tokens: &[Token], start: usize) -> (usize, usize)
     (tokens.len(), at)
 }
 
-// How many of the tokens, of which the first begins at `at`, lie in front of the first boundary at `stop` or behind it, and
-// this boundary.
-fn first_from(tokens: &[Token], at: usize, stop: usize) -> (usize, usize)
-    requires fits { at + total tokens.now < 2 ^ 32 }
-    requires reaches { stop ≤ at + total tokens.now }
-    ensures place { result.1 ≡ at + total (take result.0 tokens.now) }
-    ensures within { result.0 ≤ length tokens.now }
-    ensures stop { stop ≤ result.1 }
-    ensures moves { (moved place : ℕ) → list_any (moves_to stop moved place) (boundaries_from at tokens.now)
-        ≡ list_any (moves_to stop moved place) (boundaries_from result.1 (drop result.0 tokens.now)) }
-{
-    let mut place = at;
-    for (k, token) in tokens.iter().enumerate() {
-        if stop <= place {
-            return (k, place);
-        }
-        place += token.len as usize;
-    }
-    (tokens.len(), place)
-}
-
 // The tokens of the text, which begins at `at`, up to the first boundary that is one of the old tokens' too, of which the
-// first begins at `to`; and how many old tokens lie in front of this boundary.
+// first begins at `to`; how many old tokens lie in front of this boundary; and the boundary.
 fn relex(
     alloc: Global,
     text: &str,
     at: usize,
     old: &[Token],
     to: usize,
-) -> Result<(Vec<Token>, usize), AllocError>
+) -> Result<(Vec<Token>, usize, usize), AllocError>
     requires small { length text.now < 2 ^ 32 }
     requires fits { at + length text.now < 2 ^ 33 }
     requires same_end { at + length text.now ≡ to + total old.now }
     ensures fresh { IfOk result (λ r. r.0.items ≡ take (count_to_meeting at (tokens_of (chars text.now)) to old.now) (tokens_of (chars text.now))) }
     ensures count { IfOk result (λ r. length r.0.items ≡ count_to_meeting at (tokens_of (chars text.now)) to old.now) }
-    ensures met { IfOk result (λ r. (r.1 ≤ length old.now) × (at + total r.0.items ≡ to + total (take r.1 old.now))) }
+    ensures met { IfOk result (λ r. (r.1 ≤ length old.now) × (at + total r.0.items ≡ r.2) × (to + total (take r.1 old.now) ≡ r.2)) }
 {
     let mut fresh = Vec::new(alloc);
     let mut tokens = tokenize(text, FrontmatterAllowed::No);
@@ -115,52 +98,113 @@ fn relex(
             met += 1;
         }
     }
-    Ok((fresh, met))
+    Ok((fresh, met, place))
 }
 
-/// The tokens of an edited text: the first `front` old ones, those that were lexed again, and the old ones from `stop` on.
-#[derive(Drop)]
-pub struct Mended {
-    pub front: usize,
-    pub fresh: Vec<Token>,
-    pub stop: usize,
+// Lexes the text from the front on, up to the first boundary that is one of the old tokens' too, of which the one behind `stop`
+// tokens is at `to`; and puts these tokens in the place of the old ones up to this boundary. The boundary among the new tokens,
+// and how many old ones are in front of it.
+fn relex_into(
+    alloc: Global,
+    text: &str,
+    tokens: &mut Vec<Token>,
+    front: Mark,
+    stop: usize,
+    to: usize,
+) -> Result<(Mark, usize), AllocError>
+    requires small { length text.now < 2 ^ 32 }
+    requires at { IsCharBoundary text.now front.place }
+    requires order { front.tokens ≤ stop }
+    requires within { stop ≤ length tokens.old.items }
+    requires same_end { length text.now ≡ to + total (drop stop tokens.old.items) }
+    ensures tokens { IfOk result (λ r. tokens.new.items
+        ≡ splice tokens.old.items front.tokens r.1 (lexed_again text.now front.place to (drop stop tokens.old.items))) }
+    ensures count { IfOk result (λ r. length (lexed_again text.now front.place to (drop stop tokens.old.items))
+        ≡ count_to_meeting front.place (tokens_of (chars (drop front.place text.now))) to (drop stop tokens.old.items)) }
+    ensures lexed { IfOk result (λ r. r.0.tokens ≡ front.tokens + length (lexed_again text.now front.place to (drop stop tokens.old.items))) }
+    ensures place { IfOk result (λ r. r.0.place ≡ front.place + total (lexed_again text.now front.place to (drop stop tokens.old.items))) }
+    ensures met { IfOk result (λ r. r.0.place ≡ to + total (take (r.1 - stop) (drop stop tokens.old.items))) }
+    ensures within { IfOk result (λ r. (stop ≤ r.1) × (r.1 ≤ length tokens.old.items)) }
+    ensures err { OnErr result (tokens.new.items ≡ tokens.old.items) }
+{
+    let (fresh, met, place) = relex(
+        alloc,
+        &text[front.place..],
+        front.place,
+        &tokens[stop..],
+        to,
+    )?;
+    let new = Mark {
+        tokens: front.tokens + fresh.len(),
+        place,
+    };
+    tokens.splice(front.tokens..stop + met, fresh)?;
+    Ok((new, stop + met))
 }
 
-/// The tokens of the text `after`, which is `before` with the replacement in place of its bytes from `start` to `stop`.
+// Undoes a replacement: the text has room for what was there.
+fn put_back(text: &mut String, start: usize, stop: usize, gone: &str)
+    requires start { IsCharBoundary (string_bytes text.old) start }
+    requires stop { IsCharBoundary (string_bytes text.old) stop }
+    requires order { start ≤ stop }
+    requires room { string_len text.old + length gone.now ≤ string_capacity text.old }
+    ensures { string_bytes text.new ≡ edited (string_bytes text.old) start stop gone.now }
+{
+    match text.replace_range(start..stop, gone) {
+        Ok(()) => {}
+        Err(_) => unreachable!(),
+    }
+}
+
+/// Puts the replacement in place of the text's bytes from `start` to `stop`, and mends the text's tokens, of which the mark is a
+/// boundary. Where there is no memory, the text and the tokens stay.
 pub fn mend(
     alloc: Global,
-    before: &str,
-    tokens: &[Token],
+    text: &mut String,
+    tokens: &mut Vec<Token>,
+    near: Mark,
     start: usize,
     stop: usize,
     replacement: &str,
-    after: &str,
 ) -> Result<Mended, AllocError>
-    requires tokens { tokens.now ≡ tokens_of (chars before.now) }
-    requires start { IsCharBoundary before.now start }
-    requires stop { IsCharBoundary before.now stop }
+    requires tokens { tokens.old.items ≡ tokens_of (chars (string_bytes text.old)) }
+    requires near { IsMark tokens.old.items near }
+    requires far { 0 < near.tokens → near.place + 8 ≤ start }
+    requires start { IsCharBoundary (string_bytes text.old) start }
+    requires stop { IsCharBoundary (string_bytes text.old) stop }
     requires order { start ≤ stop }
-    requires after { after.now ≡ edited before.now start stop replacement.now }
-    requires small { (length before.now < 2 ^ 32) × (length after.now < 2 ^ 32) }
-    ensures within { IfOk result (λ m. (m.front ≤ m.stop) × (m.stop ≤ length tokens.now)) }
-    ensures tokens { IfOk result (λ m. splice tokens.now m.front m.stop m.fresh.items ≡ tokens_of (chars after.now)) }
-    ensures kept { IfOk result (λ m. kept before.now start stop replacement.now
-        ≡ record { front = m.front; lexed = length m.fresh.items; back = length tokens.now - m.stop }) }
+    requires small { length (string_bytes text.old) < 2 ^ 32 }
+    requires fits { length (string_bytes text.old) - (stop - start) + length replacement.now < 2 ^ 32 }
+    ensures text { OnOk result (string_bytes text.new ≡ edited (string_bytes text.old) start stop replacement.now) }
+    ensures tokens { OnOk result (tokens.new.items ≡ tokens_of (chars (string_bytes text.new))) }
+    ensures mended { IfOk result (IsMended tokens.old.items tokens.new.items) }
+    ensures kept { IfOk result (λ m. kept (string_bytes text.old) start stop replacement.now
+        ≡ record { front = m.front.tokens; lexed = m.new.tokens - m.front.tokens; back = length tokens.old.items - m.old.tokens }) }
+    ensures err { OnErr result (string_bytes text.new ≡ string_bytes text.old) }
+    ensures err_tokens { OnErr result (tokens.new.items ≡ tokens.old.items) }
 {
-    let (front, at) = front(before, tokens, start);
-    let behind = &tokens[front..];
-    let (passed, boundary) = first_from(behind, at, stop);
-    let moved = start + replacement.len();
-    let (fresh, met) = relex(
-        alloc,
-        &after[at..],
-        at,
-        &behind[passed..],
-        boundary - stop + moved,
-    )?;
-    Ok(Mended {
-        front,
-        fresh,
-        stop: front + passed + met,
-    })
+    let (count, at) = front(text, tokens, near, start);
+    let front = Mark {
+        tokens: count,
+        place: at,
+    };
+    let (passed, boundary) = first_from(&tokens[count..], at, stop);
+    let gone = String::from_str(alloc, &text[start..stop])?;
+    text.reserve(replacement.len())?;
+    text.replace_range(start..stop, replacement)?;
+    let end = start + replacement.len();
+    let to = boundary - stop + end;
+    match relex_into(alloc, text, tokens, front, count + passed, to) {
+        Ok((new, behind)) => {
+            let old = Mark {
+                tokens: behind,
+                place: new.place - end + stop,
+            };
+            Ok(Mended { front, old, new })
+        }
+        Err(e) => {
+            put_back(text, start, end, &gone);
+            Err(e)
+        }
+    }
 }

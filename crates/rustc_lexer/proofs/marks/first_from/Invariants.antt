@@ -2,7 +2,7 @@ use Rattle.std.proofs.Common.{◌≡◌, ◌+◌, ℕ, take, drop}
 use Rattle.std.specs.List.{list_any}
 use Rattle.rustc_lexer.specs.Edit.{boundaries_from, moves_to}
 use Rattle.rustc_lexer.specs.Mending.{total}
-use Rattle.rustc_lexer.proofs.mend.first_from.Given as goal
+use Rattle.rustc_lexer.proofs.marks.first_from.Given as goal
 
 abbrev pub invariant-loop-k : goal.invariant-loop-k
 invariant-loop-k l = record {

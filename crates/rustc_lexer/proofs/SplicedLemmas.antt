@@ -1,0 +1,188 @@
+-- Old and mended tokens, side by side.
+use Rattle.std.proofs.Common.{◌≡◌, ℕ, ◌+◌, ◌-◌, ◌≤◌, ◌<◌, ◌^◌, true, Fits, w64, List, ◌++◌, length, take, drop, refl, sym, ◌∙◌, ap, subst, arith, append_assoc, chars, IsUtf8, IsCharBoundary, length-append}
+use Rattle.std.specs.List.{list_any, replace_range, splice}
+use Rattle.std.proofs.lemmas.List.{drop-drop, length-drop, length-take-le, take-append-drop, take-append-le, take-take}
+use Rattle.std.proofs.lemmas.Str.{IsCharBoundary-at_seam, IsUtf8-append, IsUtf8-drop}
+use Rattle.std.proofs.Math.Seq.{take-length, drop-append-add}
+use Rattle.rustc_lexer.specs.Edit.{boundaries_from, edited, front_of, is_clear_of, kept, moves_to}
+use Rattle.rustc_lexer.specs.Lexing.{tokens_of}
+use Rattle.rustc_lexer.specs.Mending.{IsMark, IsMended, count_to_meeting, lexed_again, total}
+use Rattle.rustc_lexer.proofs.FrontLemmas.{IsFront}
+use Rattle.rustc_lexer.proofs.MendedLemmas.{IsFound, IsLexed, IsScan, edited_behind, edited_size, found, front_found, mended_counts, mended_tokens, old_end, reach, same_end, to_the_end, total_append, total_split}
+use Rattle.rustc_lexer.specs.declared.lexed.Kept.{Kept}
+use Rattle.rustc_lexer.specs.declared.marks.Mark.{Mark}
+use Rattle.rustc_lexer.specs.declared.marks.Mended.{Mended}
+use Rattle.rustc_lexer.specs.declared.token.Token.{Token}
+
+-- ---- tokens with others in the place of some
+
+take_front : {A : Type 0} (xs ys : List A) (n : ℕ) → length xs ≡ n → take n (xs ++ ys) ≡ xs
+take_front xs ys n e = take-append-le n xs ys (omega (arith, e)) ∙ ap (λ k. take k xs) (sym e) ∙ take-length xs
+
+drop_front : {A : Type 0} (xs ys : List A) (n : ℕ) → length xs ≡ n → drop n (xs ++ ys) ≡ ys
+drop_front xs ys n e =
+    let here : n ≡ length xs + 0 = omega (arith, e) in
+    ap (λ k. drop k (xs ++ ys)) here ∙ drop-append-add xs ys 0
+
+pub spliced : (ts new fresh : List Token) (m : Mended) → new ≡ splice ts m.front.tokens m.old.tokens fresh → IsMark ts m.front → IsMark ts m.old →
+    m.new.tokens ≡ m.front.tokens + length fresh → m.new.place ≡ m.front.place + total fresh → IsMended ts new m
+spliced ts new fresh m e f b count place =
+    let k : ℕ = m.front.tokens in
+    let front : List Token = take k ts in
+    let rest : List Token = drop m.old.tokens ts in
+    let both : List Token = front ++ fresh in
+    let size : length front ≡ k = length-take-le k ts f.0 in
+    let sizes : length both ≡ m.new.tokens = length-append front fresh ∙ omega (arith, size, count) in
+    let parts : new ≡ both ++ rest = e ∙ sym (append_assoc front fresh rest) in
+    let whole = ap length parts ∙ length-append both rest in
+    let same_front : take k new ≡ front = ap (take k) e ∙ take_front front (fresh ++ rest) k size in
+    let first : take m.new.tokens new ≡ both = ap (take m.new.tokens) parts ∙ take_front both rest m.new.tokens sizes in
+    let sum = ap total first ∙ total_append front fresh in
+    record {
+      front = f;
+      front_there = (omega (arith, whole, sizes, count), f.1 ∙ ap total (sym same_front));
+      back = b;
+      back_there = (omega (arith, whole, sizes), omega (arith, sum, place, f.1));
+      same_front = same_front;
+      same_back = ap (drop m.new.tokens) parts ∙ drop_front both rest m.new.tokens sizes;
+    }
+
+-- ---- what is found before the text is changed
+
+-- the first k tokens are those well before `start`, and end at `at`
+pub record IsBegun (text : List ℕ) (ts : List Token) (start k at : ℕ) : Type 0 where
+  pub count : k ≡ front_of text start
+  pub is_at : at ≡ total (take k ts)
+  pub clear : 0 < k → is_clear_of text start at ≡ true
+  pub within : k ≤ length ts
+
+pub begun : (text bytes : List ℕ) (ts items : List Token) (start k at : ℕ) → bytes ≡ text → items ≡ ts → k ≡ front_of bytes start →
+    at ≡ total (take k items) → (0 < k → is_clear_of bytes start at ≡ true) → k ≤ length items → IsBegun text ts start k at
+begun text bytes ts items start k at e f count is_at clear within = record {
+  count = count ∙ ap (λ bs. front_of bs start) e;
+  is_at = is_at ∙ ap (λ xs. total (take k xs)) f;
+  clear = λ l. subst (λ bs. is_clear_of bs start at ≡ true) e (clear l);
+  within = subst (λ xs. k ≤ length xs) f within;
+}
+
+pub scanned : (ts items : List Token) (k at stop passed bound : ℕ) → items ≡ ts →
+    IsScan at stop passed bound (take (length items - k) (drop k items)) → IsScan at stop passed bound (drop k ts)
+scanned ts items k at stop passed bound f s = subst (IsScan at stop passed bound) (to_the_end k items ∙ ap (drop k) f) s
+
+-- ---- the text, changed and changed back
+
+pub replaced : (text bytes new : List ℕ) (start stop : ℕ) (replacement : List ℕ) → new ≡ replace_range bytes start stop replacement → bytes ≡ text →
+    new ≡ edited text start stop replacement
+replaced text bytes new start stop replacement e f =
+    e ∙ append_assoc (take start bytes) replacement (drop stop bytes) ∙ ap (λ bs. edited bs start stop replacement) f
+
+pub start_stays : (text new : List ℕ) (start stop : ℕ) (replacement : List ℕ) → IsUtf8 text → IsUtf8 replacement → IsCharBoundary text stop →
+    start ≤ length text → new ≡ edited text start stop replacement → IsCharBoundary new start
+start_stays text new start stop replacement u r b l e =
+    let rest : IsUtf8 (replacement ++ drop stop text) = IsUtf8-append replacement (drop stop text) r (IsUtf8-drop text stop u b) in
+    subst (IsCharBoundary new) (length-take-le start text l) (IsCharBoundary-at_seam new (take start text) (replacement ++ drop stop text) e rest)
+
+pub undone : (text new gone : List ℕ) (start stop : ℕ) (replacement : List ℕ) → new ≡ edited text start stop replacement →
+    gone ≡ take (stop - start) (drop start text) → start ≤ stop → stop ≤ length text → edited new start (start + length replacement) gone ≡ text
+undone text new gone start stop replacement e is_gone o l =
+    let size : length (take start text) ≡ start = length-take-le start text (omega arith) in
+    let front : take start new ≡ take start text = ap (take start) e ∙ take_front (take start text) (replacement ++ drop stop text) start size in
+    let none : stop - stop + (start + length replacement) ≡ start + length replacement = omega arith in
+    let behind : drop (start + length replacement) new ≡ drop stop text =
+    ap (drop (start + length replacement)) e ∙ ap (λ n. drop n (edited text start stop replacement)) (sym none)
+    ∙ edited_behind text start stop replacement stop (omega arith) (omega arith) in
+    let there : start + (stop - start) ≡ stop = omega arith in
+    let rest : drop stop text ≡ drop (stop - start) (drop start text) = ap (λ n. drop n text) (sym there) ∙ sym (drop-drop (stop - start) start text) in
+    ap (λ xs. xs ++ (gone ++ drop (start + length replacement) new)) front
+    ∙ ap (λ xs. take start text ++ (gone ++ xs)) (behind ∙ rest)
+    ∙ ap (λ xs. take start text ++ (xs ++ drop (stop - start) (drop start text))) is_gone
+    ∙ ap (λ xs. take start text ++ xs) (take-append-drop (stop - start) (drop start text))
+    ∙ take-append-drop start text
+
+-- ---- what is found behind it, in the changed text
+
+-- what `relex_into` gives
+pub record IsRelexed (new : List ℕ) (ts tokens : List Token) (k at stop to behind : ℕ) (m : Mark) : Type 0 where
+  pub placed : tokens ≡ splice ts k behind (lexed_again new at to (drop stop ts))
+  pub count : length (lexed_again new at to (drop stop ts)) ≡ count_to_meeting at (tokens_of (chars (drop at new))) to (drop stop ts)
+  pub lexed : m.tokens ≡ k + length (lexed_again new at to (drop stop ts))
+  pub place : m.place ≡ at + total (lexed_again new at to (drop stop ts))
+  pub met : m.place ≡ to + total (take (behind - stop) (drop stop ts))
+  pub order : stop ≤ behind
+  pub within : behind ≤ length ts
+
+pub put_in : (tokens ts walked xs fresh : List Token) (text rest : List ℕ) (k behind at to stop : ℕ) → tokens ≡ splice ts k behind xs → xs ≡ fresh →
+    fresh ≡ take (count_to_meeting at (tokens_of (chars rest)) to walked) (tokens_of (chars rest)) → rest ≡ drop at text → walked ≡ drop stop ts →
+    tokens ≡ splice ts k behind (lexed_again text at to (drop stop ts))
+put_in tokens ts walked xs fresh text rest k behind at to stop e f g is_rest is_walked =
+    e ∙ ap (splice ts k behind) (f ∙ g
+    ∙ ap (λ bs. take (count_to_meeting at (tokens_of (chars bs)) to walked) (tokens_of (chars bs))) is_rest
+    ∙ ap (λ old. take (count_to_meeting at (tokens_of (chars (drop at text))) to old) (tokens_of (chars (drop at text)))) is_walked)
+
+pub relexed_of : (new bytes : List ℕ) (ts tokens : List Token) (k at stop to behind : ℕ) (m : Mark) → bytes ≡ new →
+    IsRelexed bytes ts tokens k at stop to behind m → IsRelexed new ts tokens k at stop to behind m
+relexed_of new bytes ts tokens k at stop to behind m e r = subst (λ bs. IsRelexed bs ts tokens k at stop to behind m) e r
+
+pub old_fits : (text : List ℕ) (ts : List Token) (place behind at k : ℕ) → IsMark ts (record { tokens = behind; place = place }) → at ≡ total (take k ts) →
+    at + total (drop k ts) ≡ length text → length text < 2 ^ 32 → Fits w64 place
+old_fits text ts place behind at k m e whole small = omega (arith, m.1, total_split behind ts, total_split k ts, e, whole, small)
+
+module _ (text new : List ℕ) (start stop : ℕ) (replacement : List ℕ) (ts : List Token) (k at passed bound : ℕ)
+    (u : IsUtf8 text) (v : IsUtf8 new) (b : IsCharBoundary text start) (c : IsCharBoundary text stop) (o : start ≤ stop)
+    (e : new ≡ edited text start stop replacement) (f : ts ≡ tokens_of (chars text))
+    (w : IsBegun text ts start k at) (s : IsScan at stop passed bound (drop k ts)) where
+
+  pub front_is : IsFront text new start k at
+  front_is = front_found text new start stop replacement ts k at u v b e f w.is_at w.clear
+
+  behind_front : drop passed (drop k ts) ≡ drop (k + passed) ts
+  behind_front = drop-drop passed k ts
+
+  pub to_the_same_end : length new ≡ bound - stop + (start + length replacement) + total (drop (k + passed) ts)
+  to_the_same_end =
+      let size = ap length e ∙ edited_size text start stop replacement b.0 c.0 in
+      let all = reach text ts (drop k ts) k at u f refl w.is_at in
+      let rest = ap total behind_front in
+      omega (arith, size, all, rest, total_split passed (drop k ts), s.place, s.behind, c.0, o)
+
+  module _ (tokens : List Token) (behind : ℕ) (m : Mark) (r : IsRelexed new ts tokens k at (k + passed) (bound - stop + (start + length replacement)) behind m) where
+
+    abbrev met : ℕ
+    met = behind - (k + passed)
+
+    abbrev fresh : List Token
+    fresh = lexed_again new at (bound - stop + (start + length replacement)) (drop (k + passed) ts)
+
+    there : k + passed + met ≡ behind
+    there = omega (arith, r.order)
+
+    found_here : IsFound text new start stop (start + length replacement) ts k at passed bound met fresh
+    found_here = found text new start stop (start + length replacement) ts k at passed bound met fresh (drop at new) (drop k ts) (drop (k + passed) ts)
+        refl refl (sym behind_front) front_is w.is_at w.within s
+        (record { read = refl; count = r.count; within = within; meets = sym r.place ∙ r.met })
+      where
+        within : met ≤ length (drop (k + passed) ts)
+        within = (let size = length-drop (k + passed) ts in omega (arith, size, r.within))
+
+    pub tokens_mended : tokens ≡ tokens_of (chars new)
+    tokens_mended =
+        r.placed ∙ ap (λ n. splice ts k n fresh) (sym there) ∙ mended_tokens text new start stop replacement ts k at passed bound met fresh u v b.0 e f found_here
+
+    pub counts_mended : kept text start stop replacement ≡ record { front = k; lexed = m.tokens - k; back = length ts - behind }
+    counts_mended =
+        let lexed : length fresh ≡ m.tokens - k = omega (arith, r.lexed) in
+        mended_counts text new start stop replacement ts k at passed bound met fresh u v o b.0 e f w.count found_here
+        ∙ ap (λ n. counts n (k + passed + met)) lexed
+        ∙ ap (λ n. counts (m.tokens - k) n) there
+      where
+        counts : ℕ → ℕ → Kept
+        counts n back = record { front = k; lexed = n; back = length ts - back }
+
+    pub marks_mended : IsMended ts tokens (record { front = record { tokens = k; place = at }; old = record { tokens = behind; place = m.place - (start + length replacement) + stop }; new = m })
+    marks_mended =
+        let ends = old_end ts k passed met at bound w.is_at s.place in
+        let same = ap (λ n. total (take n ts)) there in
+        let rest = ap (λ xs. total (take met xs)) behind_front in
+        let old_place : m.place - (start + length replacement) + stop ≡ total (take behind ts) = omega (arith, ends, same, rest, r.met, s.behind) in
+        spliced ts tokens fresh (record { front = record { tokens = k; place = at }; old = record { tokens = behind; place = m.place - (start + length replacement) + stop }; new = m })
+        r.placed (w.within, w.is_at) (r.within, old_place) r.lexed r.place

@@ -1,0 +1,124 @@
+//! Marks: boundaries of tokens whose places are held, so that a place in a long text is found without a walk over all tokens
+//! in front of it.
+//!
+//! Which marks there are is a matter of speed alone. A walk that would be long leaves a mark half-way, and an edit moves the
+//! marks behind it.
+ghost use Rattle.std.specs.Prelude.{◌≡◌, ◌+◌, ◌<◌, ◌≤◌, ◌^◌, ℕ, List, length, map, take, drop};
+ghost use Rattle.std.specs.List.{All, list_any};
+ghost use Rattle.rustc_lexer.specs.Edit.{boundaries_from, moves_to};
+ghost use Rattle.rustc_lexer.specs.Mending.{IsMark, IsPlace, moved_mark, total};
+
+use crate::token::Token;
+use std::alloc::AllocError;
+
+// A walk over so many bytes leaves a mark.
+const FAR: usize = 8192;
+
+// So many bytes of the text stand for one mark at least, but for a few.
+const DENSE: usize = 1024;
+
+/// A boundary of a text's tokens.
+#[derive(Clone, Copy)]
+pub struct Mark {
+    /// The tokens in front of it.
+    pub tokens: usize,
+    /// The bytes in front of it.
+    pub place: usize,
+}
+
+/// Where the tokens of a text and of an edited one agree: up to `front` in both, and from `old` on in the one as from `new` on
+/// in the other.
+#[derive(Drop)]
+pub struct Mended {
+    pub front: Mark,
+    pub old: Mark,
+    pub new: Mark,
+}
+
+/// How many marks stand at least eight bytes in front of `start`, and so at least two characters, and the last of them: the
+/// text's begin, if there is none.
+pub fn nearest(marks: &[Mark], start: usize) -> (usize, Mark)
+    ensures within { result.0 ≤ length marks.now }
+    ensures mark { (ts : List Token) → All (IsMark ts) marks.now → IsMark ts result.1 }
+    ensures far { 0 < result.1.tokens → result.1.place + 8 ≤ start }
+{
+    let mut near = Mark {
+        tokens: 0,
+        place: 0,
+    };
+    for (k, mark) in marks.iter().enumerate() {
+        if start < mark.place || start - mark.place < 8 {
+            return (k, near);
+        }
+        near = *mark;
+    }
+    (marks.len(), near)
+}
+
+/// How many of the tokens, of which the first begins at `at`, lie in front of the first boundary at `stop` or behind it, and
+/// this boundary.
+pub fn first_from(tokens: &[Token], at: usize, stop: usize) -> (usize, usize)
+    requires fits { at + total tokens.now < 2 ^ 32 }
+    requires reaches { stop ≤ at + total tokens.now }
+    ensures place { result.1 ≡ at + total (take result.0 tokens.now) }
+    ensures within { result.0 ≤ length tokens.now }
+    ensures stop { stop ≤ result.1 }
+    ensures moves { (moved place : ℕ) → list_any (moves_to stop moved place) (boundaries_from at tokens.now)
+        ≡ list_any (moves_to stop moved place) (boundaries_from result.1 (drop result.0 tokens.now)) }
+{
+    let mut place = at;
+    for (k, token) in tokens.iter().enumerate() {
+        if stop <= place {
+            return (k, place);
+        }
+        place += token.len as usize;
+    }
+    (tokens.len(), place)
+}
+
+/// Leaves a mark half-way to `start` where the nearest one is far from it. Marks that stand too densely are given up first.
+pub fn refine(marks: &mut Vec<Mark>, tokens: &[Token], start: usize) -> Result<(), AllocError>
+    requires marks { All (IsMark tokens.now) marks.old.items }
+    requires fits { total tokens.now < 2 ^ 32 }
+    requires start { start ≤ total tokens.now }
+    ensures { All (IsMark tokens.now) marks.new.items }
+{
+    let (passed, near) = nearest(marks, start);
+    if start < near.place || start - near.place < FAR {
+        return Ok(());
+    }
+    let half = near.place + (start - near.place) / 2;
+    let (walked, place) = first_from(&tokens[near.tokens..], near.place, half);
+    let tokens = near.tokens + walked;
+    marks.insert(passed, Mark { tokens, place })?;
+    Ok(())
+}
+
+// The mark's boundary in the edited text, or the boundary where lexing began, if it is lost.
+fn moved(mark: Mark, mended: &Mended) -> Mark
+    requires mark { IsPlace mark }
+    requires to { IsPlace mended.now.new }
+    ensures { result ≡ moved_mark mended.now mark }
+{
+    if mark.tokens <= mended.front.tokens {
+        mark
+    } else if mended.old.tokens <= mark.tokens {
+        Mark {
+            tokens: mark.tokens - mended.old.tokens + mended.new.tokens,
+            place: mark.place.saturating_sub(mended.old.place) + mended.new.place,
+        }
+    } else {
+        mended.front
+    }
+}
+
+/// The marks of the edited text.
+pub fn move_marks(marks: &mut Vec<Mark>, mended: &Mended)
+    requires marks { All IsPlace marks.old.items }
+    requires to { IsPlace mended.now.new }
+    ensures { marks.new.items ≡ map (moved_mark mended.now) marks.old.items }
+{
+    for mark in marks.iter_mut() {
+        *mark = moved(*mark, mended);
+    }
+}
