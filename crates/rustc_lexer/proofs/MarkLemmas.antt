@@ -1,11 +1,14 @@
 -- Marks of an edited text.
-use Rattle.std.proofs.Common.{◌≡◌, ℕ, zero, suc, ◌+◌, ◌-◌, ◌≤◌, ◌<◌, ◌^◌, Bool, true, false, nat_le, List, [], ◌∷◌, ◌++◌, length, take, drop, map, get_or, set, refl, sym, ◌∙◌, ap, subst, arith, All, if◌then◌else◌}
+use Rattle.std.proofs.Common.{◌≡◌, ℕ, zero, suc, ◌+◌, ◌-◌, ◌≤◌, ◌<◌, ◌^◌, Bool, true, false, nat_le, List, [], ◌∷◌, ◌++◌, length, take, drop, map, get_or, set, refl, sym, ◌∙◌, ap, subst, arith, All, chars, IsUtf8, if◌then◌else◌}
 use Rattle.std.proofs.lemmas.Bool.Decides.{nat_tests}
 use Rattle.std.proofs.lemmas.List.Edits.{map_over_more}
 use Rattle.std.proofs.lemmas.List.{get_or_default, length-drop, length-take-le, take-take, drop-drop}
-use Rattle.std.proofs.lemmas.List.Elements.{All-append, All-cons, All-drop, All-get_or, All-map, All-same, All-take, All-weaker}
+use Rattle.std.proofs.lemmas.List.Elements.{All-append, All-cons, All-drop, All-get_or, All-map, All-same, All-tail, All-take, All-weaker}
 use Rattle.std.specs.List.{insert}
 use Rattle.std.proofs.Math.Seq.{take-add}
+use Rattle.rustc_lexer.specs.Lexing.{tokens_of}
+use Rattle.rustc_lexer.proofs.BoundaryLemmas.{total_cons}
+use Rattle.rustc_lexer.proofs.StandingLemmas.{lengths_positive, lengths_whole}
 use Rattle.rustc_lexer.specs.Mending.{IsMark, IsMended, IsPlace, moved_mark, total}
 use Rattle.rustc_lexer.proofs.MendedLemmas.{to_the_end, total_append, total_split}
 use Rattle.rustc_lexer.specs.declared.marks.Mark.{Mark}
@@ -93,3 +96,24 @@ pub marks_moved : (old new : List Token) (m : Mended) (marks : List Mark) → Is
     All (IsMark new) (map (moved_mark m) marks)
 marks_moved old new m marks w h =
     All-map (IsMark new) (moved_mark m) marks (All-weaker (IsMark old) (λ x. IsMark new (moved_mark m x)) (λ x. mark_moves old new m x w) marks h)
+
+-- ---- marks of a text's tokens
+
+many_bytes : (ts : List Token) → All (λ t. 1 ≤ t.len) ts → length ts ≤ total ts
+many_bytes [] h = omega arith
+many_bytes (t ∷ ts) h =
+    let first : 1 ≤ t.len = h 0 t (omega arith) in
+    omega (arith, first, many_bytes ts (All-tail (λ x. 1 ≤ x.len) t ts h), total_cons t ts)
+
+pub tokens_total : (text : List ℕ) (ts : List Token) → IsUtf8 text → ts ≡ tokens_of (chars text) → total ts ≡ length text
+tokens_total text ts u f = ap total f ∙ lengths_whole text u
+
+pub text_mark_fits : (text : List ℕ) (ts : List Token) (m : Mark) → IsUtf8 text → length text < 2 ^ 32 → ts ≡ tokens_of (chars text) → IsMark ts m → IsPlace m
+text_mark_fits text ts m u small f h =
+    let whole = tokens_total text ts u f in
+    let many = many_bytes ts (subst (All (λ t. 1 ≤ t.len)) (sym f) (lengths_positive text u)) in
+    mark_fits ts m (omega (arith, whole, many)) (omega (arith, whole)) h
+
+pub text_marks_fit : (text : List ℕ) (ts : List Token) (marks : List Mark) → IsUtf8 text → length text < 2 ^ 32 → ts ≡ tokens_of (chars text) →
+    All (IsMark ts) marks → All IsPlace marks
+text_marks_fit text ts marks u small f h = All-weaker (IsMark ts) IsPlace (λ m. text_mark_fits text ts m u small f) marks h

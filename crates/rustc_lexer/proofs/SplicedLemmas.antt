@@ -43,6 +43,7 @@ spliced ts new fresh m e f b count place =
       front_there = (omega (arith, whole, sizes, count), f.1 ∙ ap total (sym same_front));
       back = b;
       back_there = (omega (arith, whole, sizes), omega (arith, sum, place, f.1));
+      order = omega (arith, count);
       same_front = same_front;
       same_back = ap (drop m.new.tokens) parts ∙ drop_front both rest m.new.tokens sizes;
     }

@@ -34,6 +34,7 @@ pub record IsMended (old new : List Token) (m : Mended) : Type 0 where
   pub front_there : IsMark new m.front
   pub back : IsMark old m.old
   pub back_there : IsMark new m.new
+  pub order : m.front.tokens ≤ m.new.tokens
   pub same_front : take m.front.tokens new ≡ take m.front.tokens old
   pub same_back : drop m.new.tokens new ≡ drop m.old.tokens old
 

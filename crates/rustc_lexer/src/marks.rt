@@ -14,8 +14,8 @@ use std::alloc::AllocError;
 // A walk over so many bytes leaves a mark.
 const FAR: usize = 8192;
 
-// So many bytes of the text stand for one mark at least, but for a few.
-const DENSE: usize = 1024;
+// A mark for so few tokens saves nothing.
+const FEW: usize = 32;
 
 /// A boundary of a text's tokens.
 #[derive(Clone, Copy)]
@@ -76,13 +76,24 @@ pub fn first_from(tokens: &[Token], at: usize, stop: usize) -> (usize, usize)
     (tokens.len(), place)
 }
 
-/// Leaves a mark half-way to `start` where the nearest one is far from it. Marks that stand too densely are given up first.
+// Gives all marks up where they are too many for the tokens, as they may be when much was taken out of the text.
+fn thin_out(marks: &mut Vec<Mark>, tokens: &[Token])
+    requires { All (IsMark tokens.now) marks.old.items }
+    ensures { All (IsMark tokens.now) marks.new.items }
+{
+    if marks.len() > tokens.len() / FEW {
+        marks.clear();
+    }
+}
+
+/// Leaves a mark half-way to `start` where the nearest one is far from it.
 pub fn refine(marks: &mut Vec<Mark>, tokens: &[Token], start: usize) -> Result<(), AllocError>
     requires marks { All (IsMark tokens.now) marks.old.items }
     requires fits { total tokens.now < 2 ^ 32 }
     requires start { start ≤ total tokens.now }
     ensures { All (IsMark tokens.now) marks.new.items }
 {
+    thin_out(marks, tokens);
     let (passed, near) = nearest(marks, start);
     if start < near.place || start - near.place < FAR {
         return Ok(());

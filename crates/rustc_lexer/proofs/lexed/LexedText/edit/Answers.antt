@@ -1,13 +1,45 @@
-use Rattle.std.proofs.Common.{◌∙◌, arith}
-use Rattle.std.proofs.lemmas.Iterator.Adapters.{YieldsList-from_vec}
-use Rattle.rustc_lexer.proofs.MendedLemmas.{drained, edited_small}
+use Rattle.std.proofs.Common.{◌≡◌, ◌<◌, ◌^◌, ◌∙◌, ap, arith, length, map, string_bytes, subst, sym, All}
+use Rattle.std.proofs.lemmas.List.Elements.{All-same}
+use Rattle.std.proofs.lemmas.Str.{IsUtf8-string_bytes}
+use Rattle.rustc_lexer.specs.Mending.{IsMark, moved_mark, total}
+use Rattle.rustc_lexer.proofs.MarkLemmas.{marks_moved, text_mark_fits, text_marks_fit, tokens_total}
+use Rattle.rustc_lexer.proofs.MendedLemmas.{edited_small}
 use Rattle.rustc_lexer.proofs.lexed.LexedText.edit.Goals as goal
+
+pub refine-requires-clause-fits : goal.refine-requires-clause-fits
+refine-requires-clause-fits c =
+    let text = c.self.inside.text in
+    let whole = ap total c.deref.ensures.value ∙ tokens_total (string_bytes text) c.self.inside.tokens.items (IsUtf8-string_bytes text) c.self.invariant.1 in
+    omega (arith, whole, c.self.invariant.0)
+
+pub refine-requires-clause-start : goal.refine-requires-clause-start
+refine-requires-clause-start c =
+    let text = c.self.inside.text in
+    let whole = ap total c.deref.ensures.value ∙ tokens_total (string_bytes text) c.self.inside.tokens.items (IsUtf8-string_bytes text) c.self.invariant.1 in
+    let size = ap length c.self.view_is in
+    omega (arith, whole, size, c.requires.start.0)
+
+pub move_marks-requires-clause-marks : goal.move_marks-requires-clause-marks
+move_marks-requires-clause-marks c =
+    let text = c.self.inside.text in
+    let marks = subst (λ ts. All (IsMark ts) c.refine.new.marks.items) c.deref.ensures.value c.refine.ensures in
+    text_marks_fit (string_bytes text) c.self.inside.tokens.items c.refine.new.marks.items (IsUtf8-string_bytes text) c.self.invariant.0 c.self.invariant.1 marks
+
+pub move_marks-requires-clause-to : goal.move_marks-requires-clause-to
+move_marks-requires-clause-to c =
+    let new = string_bytes c.mend.new.text in
+    let small : length new < 2 ^ 32 = edited_small _ _ _ _ _ _ c.self.view_is c.in_ok-mended.ensures.text c.requires.order c.requires.stop.0 c.requires.fits in
+    text_mark_fits new c.mend.new.tokens.items c.in_ok-mended.mended.new (IsUtf8-string_bytes c.mend.new.text) small c.in_ok-mended.ensures.tokens
+    c.in_ok-mended.ensures.mended.back_there
+
+pub overflow_sub-result : goal.overflow_sub-result
+overflow_sub-result c = c.in_ok-mended.ensures.mended.order
 
 pub invariant_of-self-2 : goal.invariant_of-self-2
 invariant_of-self-2 c =
-    let given = c.in_ok-splice.ensures.items in
-    let same = drained given.0 given.1 c.in_ok-front.field-0.fresh.items given.3 (YieldsList-from_vec c.in_ok-front.field-0.fresh.items given.2.0 (omega (arith, given.2.1, c.in_ok-front.field-0.fresh.ok))) in
-    let tokens = c.in_ok-front.ensures.tokens in (
-      edited_small _ _ _ _ _ _ (c.deref.ensures ∙ c.self.view_is) c.in_ok-text.ensures c.requires.order c.requires.stop.0 c.requires.fits,
-      cc (given.4, same, tokens, c.deref-3.ensures.value, c.deref-4.ensures),
+    let marks = subst (λ ts. All (IsMark ts) c.refine.new.marks.items) c.deref.ensures.value c.refine.ensures in
+    let there = marks_moved c.self.inside.tokens.items c.mend.new.tokens.items c.in_ok-mended.mended c.refine.new.marks.items c.in_ok-mended.ensures.mended marks in (
+      edited_small _ _ _ _ _ _ c.self.view_is c.in_ok-mended.ensures.text c.requires.order c.requires.stop.0 c.requires.fits,
+      c.in_ok-mended.ensures.tokens,
+      All-same (IsMark c.mend.new.tokens.items) c.move_marks.new.marks.items (map (moved_mark c.in_ok-mended.mended) c.refine.new.marks.items) c.move_marks.ensures there,
     )
