@@ -1,16 +1,16 @@
 -- The tokens well before an edit are those of the edited text.
-use Rattle.std.proofs.Common.{◌≡◌, ℕ, zero, suc, ◌+◌, ◌-◌, ◌≤◌, ◌<◌, Bool, true, false, true≢false, nat_le, List, [], ◌∷◌, ◌++◌, length, take, drop, refl, sym, ◌∙◌, ap, subst, arith, chars, IsUtf8, IsCharBoundary, length-append}
+use Rattle.std.proofs.Common.{◌≡◌, ℕ, zero, suc, ◌+◌, ◌-◌, ◌≤◌, ◌<◌, Bool, true, false, true≢false, nat_le, List, ◌++◌, length, take, drop, refl, sym, ◌∙◌, ap, subst, arith, chars, IsUtf8, IsCharBoundary, length-append}
 use Rattle.std.proofs.Math.Seq.{take-add}
 use Rattle.std.proofs.lemmas.Bool.Decides.{nat_tests}
 use Rattle.std.proofs.lemmas.List.{take-append-le, take-append-drop, length-drop, length-take-le}
-use Rattle.std.proofs.lemmas.Str.{chars-append, IsUtf8-drop, IsUtf8-take, IsCharBoundary-start}
+use Rattle.std.proofs.lemmas.Str.{chars-append, IsUtf8-take, IsCharBoundary-start}
 use Rattle.rustc_lexer.specs.Character.{utf8_len}
 use Rattle.rustc_lexer.specs.Edit.{edited, is_clear_of}
 use Rattle.rustc_lexer.specs.Lexing.{tokens_of, place}
 use Rattle.rustc_lexer.specs.Mending.{total}
 use Rattle.rustc_lexer.proofs.AgreeLemmas.{Agree, agree_less}
 use Rattle.rustc_lexer.proofs.CutLemmas.{IsBehind, behind_chars}
-use Rattle.rustc_lexer.proofs.MendLemmas.{not_clear, boundary_in_rest, utf8_between}
+use Rattle.rustc_lexer.proofs.MendLemmas.{not_clear, boundary_in_rest}
 use Rattle.rustc_lexer.proofs.PlaceLemmas.{rest_of_tokens, place_in_bytes, first_tokens, same_place}
 
 -- the first k tokens of a text, which end at `at`, are those of its edited text too

@@ -2,7 +2,7 @@
 use Rattle.std.proofs.Common.{◌≡◌, ℕ, zero, suc, ◌+◌, ◌-◌, ◌≤◌, ◌<◌, ◌^◌, Bool, true, false, nat_le, List, [], ◌∷◌, ◌++◌, length, take, drop, map, get_or, set, refl, sym, ◌∙◌, ap, subst, arith, All, chars, IsUtf8, if◌then◌else◌}
 use Rattle.std.proofs.lemmas.Bool.Decides.{nat_tests}
 use Rattle.std.proofs.lemmas.List.Edits.{map_over_more}
-use Rattle.std.proofs.lemmas.List.{get_or_default, length-drop, length-take-le, take-take, drop-drop}
+use Rattle.std.proofs.lemmas.List.{get_or_default, length-drop, take-take}
 use Rattle.std.proofs.lemmas.List.Elements.{All-append, All-cons, All-drop, All-get_or, All-map, All-same, All-tail, All-take, All-weaker}
 use Rattle.std.specs.List.{insert}
 use Rattle.std.proofs.Math.Seq.{take-add}
@@ -71,25 +71,28 @@ mark_moves old new m mark w h = by_front (nat_le mark.tokens m.front.tokens) ref
   where
     goal : Mark → Type 0
     goal x = IsMark new x
+
     by_back : (b : Bool) → nat_le mark.tokens m.front.tokens ≡ false → nat_le m.old.tokens mark.tokens ≡ b → goal (moved_mark m mark)
     by_back true e f = rw (e, f) (
-      let l : m.old.tokens ≤ mark.tokens = grind (arith, nat_tests) in
-      let more : ℕ = mark.tokens - m.old.tokens in
-      let there : m.old.tokens + more ≡ mark.tokens = omega arith in
-      let old_parts = ap (λ n. total (take n old)) (sym there) ∙ ap total (take-add m.old.tokens more old) ∙ total_append (take m.old.tokens old) (take more (drop m.old.tokens old)) in
-      let here : more + m.new.tokens ≡ m.new.tokens + more = omega arith in
-      let new_parts = ap (λ n. total (take n new)) here ∙ ap total (take-add m.new.tokens more new) ∙ total_append (take m.new.tokens new) (take more (drop m.new.tokens new)) in
-      let rest = ap (λ xs. total (take more xs)) w.same_back in
-      let sizes = ap length w.same_back in
-      (omega (arith, sizes, length-drop m.new.tokens new, length-drop m.old.tokens old, h.0, w.back.0, w.back_there.0),
-      omega (arith, old_parts, new_parts, rest, h.1, w.back.1, w.back_there.1)))
+        let l : m.old.tokens ≤ mark.tokens = grind (arith, nat_tests) in
+        let more : ℕ = mark.tokens - m.old.tokens in
+        let there : m.old.tokens + more ≡ mark.tokens = omega arith in
+        let old_parts = ap (λ n. total (take n old)) (sym there) ∙ ap total (take-add m.old.tokens more old) ∙ total_append (take m.old.tokens old) (take more (drop m.old.tokens old)) in
+        let here : more + m.new.tokens ≡ m.new.tokens + more = omega arith in
+        let new_parts = ap (λ n. total (take n new)) here ∙ ap total (take-add m.new.tokens more new) ∙ total_append (take m.new.tokens new) (take more (drop m.new.tokens new)) in
+        let rest = ap (λ xs. total (take more xs)) w.same_back in
+        let sizes = ap length w.same_back in (
+          omega (arith, sizes, length-drop m.new.tokens new, length-drop m.old.tokens old, h.0, w.back.0, w.back_there.0),
+          omega (arith, old_parts, new_parts, rest, h.1, w.back.1, w.back_there.1),
+        ))
     by_back false e f = rw (e, f) w.front_there
+
     by_front : (b : Bool) → nat_le mark.tokens m.front.tokens ≡ b → goal (moved_mark m mark)
     by_front true e = rw e (
-      let l : mark.tokens ≤ m.front.tokens = grind (arith, nat_tests) in
-      let same : take mark.tokens new ≡ take mark.tokens old =
-      sym (take-take mark.tokens m.front.tokens new l) ∙ ap (take mark.tokens) w.same_front ∙ take-take mark.tokens m.front.tokens old l in
-      (omega (arith, l, w.front_there.0), h.1 ∙ ap total (sym same)))
+        let l : mark.tokens ≤ m.front.tokens = grind (arith, nat_tests) in
+        let same : take mark.tokens new ≡ take mark.tokens old =
+        sym (take-take mark.tokens m.front.tokens new l) ∙ ap (take mark.tokens) w.same_front ∙ take-take mark.tokens m.front.tokens old l in
+        (omega (arith, l, w.front_there.0), h.1 ∙ ap total (sym same)))
     by_front false e = by_back (nat_le m.old.tokens mark.tokens) e refl
 
 pub marks_moved : (old new : List Token) (m : Mended) (marks : List Mark) → IsMended old new m → All (IsMark old) marks →

@@ -1,14 +1,14 @@
 -- Old and mended tokens, side by side.
 use Rattle.std.proofs.Common.{◌≡◌, ℕ, ◌+◌, ◌-◌, ◌≤◌, ◌<◌, ◌^◌, true, Fits, w64, List, ◌++◌, length, take, drop, refl, sym, ◌∙◌, ap, subst, arith, append_assoc, chars, IsUtf8, IsCharBoundary, length-append}
-use Rattle.std.specs.List.{list_any, replace_range, splice}
-use Rattle.std.proofs.lemmas.List.{drop-drop, length-drop, length-take-le, take-append-drop, take-append-le, take-take}
+use Rattle.std.specs.List.{replace_range, splice}
+use Rattle.std.proofs.lemmas.List.{drop-drop, length-drop, length-take-le, take-append-drop, take-append-le}
 use Rattle.std.proofs.lemmas.Str.{IsCharBoundary-at_seam, IsUtf8-append, IsUtf8-drop}
 use Rattle.std.proofs.Math.Seq.{take-length, drop-append-add}
-use Rattle.rustc_lexer.specs.Edit.{boundaries_from, edited, front_of, is_clear_of, kept, moves_to}
+use Rattle.rustc_lexer.specs.Edit.{edited, front_of, is_clear_of, kept}
 use Rattle.rustc_lexer.specs.Lexing.{tokens_of}
 use Rattle.rustc_lexer.specs.Mending.{IsMark, IsMended, count_to_meeting, lexed_again, total}
 use Rattle.rustc_lexer.proofs.FrontLemmas.{IsFront}
-use Rattle.rustc_lexer.proofs.MendedLemmas.{IsFound, IsLexed, IsScan, edited_behind, edited_size, found, front_found, mended_counts, mended_tokens, old_end, reach, same_end, to_the_end, total_append, total_split}
+use Rattle.rustc_lexer.proofs.MendedLemmas.{IsFound, IsScan, edited_behind, edited_size, found, front_found, mended_counts, mended_tokens, old_end, reach, to_the_end, total_append, total_split}
 use Rattle.rustc_lexer.specs.declared.lexed.Kept.{Kept}
 use Rattle.rustc_lexer.specs.declared.marks.Mark.{Mark}
 use Rattle.rustc_lexer.specs.declared.marks.Mended.{Mended}
@@ -132,7 +132,6 @@ module _ (text new : List ℕ) (start stop : ℕ) (replacement : List ℕ) (ts :
     (u : IsUtf8 text) (v : IsUtf8 new) (b : IsCharBoundary text start) (c : IsCharBoundary text stop) (o : start ≤ stop)
     (e : new ≡ edited text start stop replacement) (f : ts ≡ tokens_of (chars text))
     (w : IsBegun text ts start k at) (s : IsScan at stop passed bound (drop k ts)) where
-
   pub front_is : IsFront text new start k at
   front_is = front_found text new start stop replacement ts k at u v b e f w.is_at w.clear
 
@@ -147,7 +146,6 @@ module _ (text new : List ℕ) (start stop : ℕ) (replacement : List ℕ) (ts :
       omega (arith, size, all, rest, total_split passed (drop k ts), s.place, s.behind, c.0, o)
 
   module _ (tokens : List Token) (behind : ℕ) (m : Mark) (r : IsRelexed new ts tokens k at (k + passed) (bound - stop + (start + length replacement)) behind m) where
-
     abbrev met : ℕ
     met = behind - (k + passed)
 

@@ -43,5 +43,5 @@ abbrev pub moved_mark : Mended → Mark → Mark
 moved_mark m mark =
     if nat_le mark.tokens m.front.tokens then mark
     else if nat_le m.old.tokens mark.tokens
-        then record { tokens = mark.tokens - m.old.tokens + m.new.tokens; place = mark.place - m.old.place + m.new.place }
-        else m.front
+    then record { tokens = mark.tokens - m.old.tokens + m.new.tokens; place = mark.place - m.old.place + m.new.place }
+    else m.front

@@ -114,3 +114,46 @@ fn refused_edits_change_nothing(rt: HostRuntime) -> Result<(), Fail> {
     assert!(rt; held.tokens() == [ident, semi, white, ident, white, ident, semi, ident].as_slice());
     Ok(())
 }
+
+// Edits all over a text that is long enough for marks: after each of them the tokens are those of the text lexed afresh.
+#[test]
+fn edits_of_a_long_text(rt: HostRuntime) -> Result<(), Fail> {
+    let mut text = String::new(rt.alloc());
+    for _ in 0..700 {
+        text.push_str("fn f(x: &str) { g!(x + 1) } // é\n")?;
+    }
+    assert!(rt; text.len() < 100_000);
+    let mut held = LexedText::new(rt.alloc(), &text)?;
+    let words = ["", " ", "x", "/*", "*/", "a b c"];
+    let mut seed = 1u32;
+    for k in 0..30u32 {
+        seed = seed.wrapping_mul(1_103_515_245).wrapping_add(12_345);
+        let len = held.text().len();
+        let start = (seed >> 12) as usize % len.max(1);
+        let end = start.saturating_add(k as usize % 3);
+        let word = words[k as usize % 6];
+        if start <= end
+            && held.is_boundary(start)
+            && held.is_boundary(end)
+            && held.fits(start, end, word.len())
+        {
+            let _ = held.edit(start, end, word)?;
+            let now = held.text();
+            assert!(rt; now.len() < 200_000);
+            let again = LexedText::new(rt.alloc(), now)?;
+            assert!(rt; held.tokens() == again.tokens(), "edit {k}");
+        }
+    }
+    // Without most of its text, a text gives its marks up.
+    let len = held.text().len();
+    assert!(rt; len >= 9_000);
+    assert!(rt; held.is_boundary(0) && held.is_boundary(len));
+    assert!(rt; held.fits(0, len, 1));
+    let kept = held.edit(0, len, ";")?;
+    assert!(rt; kept.front == 0 && kept.lexed == 1 && kept.back == 0);
+    assert!(rt; held.is_boundary(1) && held.fits(1, 1, 1));
+    let kept = held.edit(1, 1, "a")?;
+    assert!(rt; kept.front == 0 && kept.lexed == 2 && kept.back == 0);
+    assert_eq!(rt; held.text(), ";a");
+    Ok(())
+}

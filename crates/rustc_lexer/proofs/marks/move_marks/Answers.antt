@@ -1,5 +1,4 @@
-use Rattle.std.proofs.Common.{length, arith, ap, ◌∙◌, ◌≡◌, subst, sym, All}
-use Rattle.std.proofs.lemmas.List.Edits.{map_over_more}
+use Rattle.std.proofs.Common.{subst, sym, All}
 use Rattle.rustc_lexer.specs.Mending.{IsPlace, moved_mark}
 use Rattle.rustc_lexer.proofs.MarkLemmas.{mark_written, next_place}
 use Rattle.rustc_lexer.proofs.marks.move_marks.Goals as goal

@@ -1,7 +1,7 @@
-use Rattle.std.proofs.Common.{◌-◌, length, take, drop, arith, ap, subst, sym, All}
+use Rattle.std.proofs.Common.{◌-◌, length, take, drop, arith, subst, sym, All}
 use Rattle.rustc_lexer.specs.Mending.{IsMark}
 use Rattle.rustc_lexer.proofs.MarkLemmas.{one_more, walked, rest_of_mark}
-use Rattle.rustc_lexer.proofs.MendedLemmas.{to_the_end, total_split}
+use Rattle.rustc_lexer.proofs.MendedLemmas.{to_the_end}
 use Rattle.rustc_lexer.proofs.marks.refine.Goals as goal
 
 pub first_from-walked-requires-clause-fits : goal.first_from-walked-requires-clause-fits

@@ -1,4 +1,4 @@
-use Rattle.std.proofs.Common.{◌≡◌, ◌+◌, ◌<◌, ◌≤◌, true, length, take, drop}
+use Rattle.std.proofs.Common.{◌≡◌, ◌+◌, ◌<◌, true, take, drop}
 use Rattle.std.specs.List.{prefix_len}
 use Rattle.rustc_lexer.specs.Edit.{ends_from, front_of, is_clear_of}
 use Rattle.rustc_lexer.specs.Mending.{total}

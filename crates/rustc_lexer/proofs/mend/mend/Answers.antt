@@ -1,6 +1,6 @@
-use Rattle.std.proofs.Common.{◌≡◌, ◌-◌, ◌+◌, length, take, drop, arith, ap, sym, subst, ◌∙◌, refl, string_bytes, IsCharBoundary, IsUtf8}
-use Rattle.rustc_lexer.proofs.MendedLemmas.{IsScan, edited_size, reach, to_the_end, total_split}
-use Rattle.rustc_lexer.proofs.SplicedLemmas.{IsBegun, IsRelexed, begun, scanned, old_fits, relexed_of, replaced, start_stays, undone, front_is, to_the_same_end, tokens_mended, counts_mended, marks_mended}
+use Rattle.std.proofs.Common.{◌-◌, ◌+◌, length, take, drop, arith, ap, sym, subst, ◌∙◌, refl, string_bytes, IsCharBoundary, IsUtf8}
+use Rattle.rustc_lexer.proofs.MendedLemmas.{reach, to_the_end, total_split}
+use Rattle.rustc_lexer.proofs.SplicedLemmas.{begun, scanned, old_fits, relexed_of, replaced, start_stays, undone, front_is, to_the_same_end, tokens_mended, counts_mended, marks_mended}
 use Rattle.rustc_lexer.proofs.mend.mend.Goals as goal
 
 pub first_from-passed-requires-clause-fits : goal.first_from-passed-requires-clause-fits

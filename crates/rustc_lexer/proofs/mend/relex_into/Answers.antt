@@ -1,4 +1,4 @@
-use Rattle.std.proofs.Common.{◌-◌, ◌∙◌, ap, arith, drop, length}
+use Rattle.std.proofs.Common.{◌∙◌, ap, arith, drop}
 use Rattle.std.proofs.lemmas.Iterator.Adapters.{YieldsList-from_vec}
 use Rattle.rustc_lexer.proofs.MendedLemmas.{drained, to_the_end}
 use Rattle.rustc_lexer.proofs.SplicedLemmas.{put_in}
