@@ -62,10 +62,8 @@ impl Clone for Symbol {
 
     /// One more owner of the same text. It takes no memory, and is never an `Err`.
     fn clone(&self) -> Result<Symbol, AllocError> {
-        Ok(Symbol {
-            owner: self.owner.another(),
-            alloc: self.alloc,
-        })
+        let owner = self.owner.another();
+        Ok(Symbol { owner, alloc: self.alloc })
     }
 }
 
