@@ -5,18 +5,17 @@
 --     adds, one_less, leaves, none_left      an owner more, one less, shut, and the last, which takes the block
 --     founded                     the first owner
 -- Assumes `Logic`.
-use Rattle.std.proofs.Common.{◌≡◌, refl, sym, ◌∙◌, ap, ℕ, ◌+◌, ◌-◌, ◌<◌, ◌≤◌, ◌^◌, [], ◌∷◌, ◌++◌, lit<, ltb, arith}
+use Rattle.std.proofs.Common.{◌≡◌, refl, ℕ, ◌+◌, ◌-◌, ◌<◌, ◌≤◌, ◌^◌, [], ◌∷◌, ◌++◌, lit<, ltb, arith}
 use Rattle.std.proofs.lemmas.Bool.{ltb-true, ltb-false}
 use mathlib.Core.Bool.{Bool, true, false}
 use seplogic.Ra.Ura.{Ura}
 use base.Fraction.{full_share}
 use base.Mask.{every}
-use base.Logic.{SProp, ent, sep, guard, guard_i, wand, ex, apply∗, ex_i, id⊢}
-use base.Fml.{Fml, Lft, Incl, Incl-trans, Key, Share, ftrue, fsep, fhide, fat, flft, fbor, ftok}
+use base.Logic.{SProp, ent, sep, guard, wand, ex, apply∗, ex_i, id⊢}
+use base.Fml.{Fml, Lft, Incl, Incl-trans, Key, Share, ftrue, fsep, fat, flft, fbor, ftok}
 use mir.Syntax.{w64, ty_int}
 use mir.Val.{vint}
 use contract.BorrowLft.{meet_⊑_left, meet_⊑_right, ⊑_static}
-use contract.Monad.{fact, fact_i, fact_use}
 use types.Logic.{Logic, sem}
 use types.Kit.{Item, mean, ‵, raw, some, later, given, ◌⊛◌, ◌$◌, ◌∵◌, !, qed, by, move, keep, drop, use1, use2, use3, pick, show, learn, await, group, split, split3, join, frame, assume, check, fsplit, fsplit3, fjoin, fjoin3, fpick, fpack, feq_i, feq_l, flt_i, flt_l, rewrite, updating, now, done}
 use types.Na.{na_inv_dup}
@@ -29,10 +28,9 @@ use denote.RattleType.{RattleType}
 use denote.Param.Laws.{Laws}
 use denote.RawPtr.{Ptr, block_of, count_of, lies_at, ◌+ₚ◌}
 use denote.Shares.{Shares-less}
-use denote.Sharing.{ShrLaws, one, beside, some as for_some}
+use denote.Sharing.{ShrLaws, one}
 use denote.SharingLaws.{contraction, shortens, one_shr_laws, beside_shr_laws, some_shr_laws, held_shr_laws}
 use denote.Moves.{moves_from}
-use denote.Opens.{unhide}
 use denote.Steps.{nothing}
 use denote.Struct.Lending.{Lends, Lends-first, Lends-lies, lent_at_shr_laws}
 use Rattle.symbols.specs.SharedBlock.{most, count_in, count_at, left_at, block_type, field_types, value_offset, may_free, rest, seen, full, stays, says, counting, counts, owns_by, owner_owns, lends_by, owner_lends}

@@ -63,7 +63,10 @@ impl Clone for Symbol {
     /// One more owner of the same text. It takes no memory, and is never an `Err`.
     fn clone(&self) -> Result<Symbol, AllocError> {
         let owner = self.owner.another();
-        Ok(Symbol { owner, alloc: self.alloc })
+        Ok(Symbol {
+            owner,
+            alloc: self.alloc,
+        })
     }
 }
 

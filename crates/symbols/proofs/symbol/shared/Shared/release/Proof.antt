@@ -1,6 +1,6 @@
 -- `release` gives an owner's part back. The last owner gets the block.
 use contract.Running.{tables_of}
-use Rattle.symbols.proofs.WalkWords.{◌≡◌, ℕ, ◌-◌, ◌<◌, ◌^◌, List, [], ◌∷◌, ◌++◌, refl, sym, ap, lit<, arith, eqb→eq, Sym, a_type, inst_fn, Val, vcons, vnil, id⊢, never, every, ftrue, flft, ftok, Wp, WpFn, after_block, after_seq, at_return, ‵, raw, ◌⊛◌, later, at_ret, any_q, ◌$◌, ◌∵◌, !, qed, move, keep, drop, split, split3, join, fsplit, fsplit3, fjoin, fpick, pick, learn, suffices, use0, use1, use2, use3, await, rewrite, frame, done, stop, fld, load, look, lit, neg_lit, bin, store, of_opd, and_then, no_more, assigns, first, blocks, branches, skips, exec, returns, returns_within, enter, well_typed, alloc_all, pass_all, free_all, look_at, get, get_in, through, sets, is, env, live, agg, sub, whole, bare_unfolds, no, layouts, RattleType, owns, Ptr, block_ptr, ptr_val, in_a_block, types_at, plain, nothing, Stays, stay_dropped, walk_of, says, ends_at, Goes-dropped, None, Some, Some-of, none_of, after, head, inside, word, word_ty, word-Good, word_had, word_made, some_Good, is_not, is_so}
+use Rattle.symbols.proofs.WalkWords.{◌≡◌, ℕ, ◌-◌, ◌<◌, ◌^◌, List, [], ◌∷◌, ◌++◌, refl, sym, ap, lit<, arith, eqb→eq, Sym, a_type, inst_fn, Val, vcons, vnil, every, ftrue, flft, ftok, Wp, WpFn, after_block, after_seq, at_return, ‵, raw, ◌⊛◌, later, at_ret, any_q, ◌$◌, ◌∵◌, !, qed, move, keep, drop, split, join, fsplit, fjoin, suffices, use0, use1, use2, await, rewrite, frame, done, stop, fld, load, look, lit, neg_lit, bin, store, of_opd, and_then, no_more, assigns, first, blocks, branches, skips, exec, returns, returns_within, enter, well_typed, alloc_all, pass_all, free_all, look_at, get, get_in, through, sets, is, env, live, agg, sub, whole, bare_unfolds, no, layouts, RattleType, owns, Ptr, block_ptr, ptr_val, types_at, plain, nothing, Stays, stay_dropped, walk_of, says, ends_at, Goes-dropped, None, Some, Some-of, none_of, after, head, inside, word, word_ty, word-Good, word_had, word_made, some_Good, is_not, is_so}
 use Rattle.core.specs.contracts.option.Option as options
 use Rattle.symbols.specs.SharedBlock.{most, count_at, rest, bare_owns}
 use Rattle.symbols.specs.contracts.symbol.shared.Bare as bares
