@@ -128,7 +128,7 @@ fn walks(rt: HostRuntime) -> Result<(), Fail> {
         let before = walk.remaining();
         let passed = match walk.next() {
             None => 0,
-            Some(TtElement::Leaf(_)) => walk.passed_since(before).len(),
+            Some(TtElement::Leaf(_leaf)) => walk.passed_since(before).len(),
             Some(TtElement::Subtree(head, inside)) => {
                 assert_eq!(rt; inside.remaining().len(), head.usize_len());
                 walk.passed_since(before).len()
