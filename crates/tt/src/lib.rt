@@ -12,6 +12,7 @@ pub mod iter;
 pub mod laws;
 #[cfg(test)]
 mod tests;
+pub mod split;
 mod tokens;
 pub mod top;
 pub mod view;
@@ -20,5 +21,6 @@ pub use buffer::Cursor;
 pub use builder::{ExpectedDelimiters, SubtreeBuilderRestorePoint, TopSubtreeBuilder};
 pub use flat::FlatTokens;
 pub use iter::{TtElement, TtIter};
+pub use split::Split;
 pub use top::TopSubtree;
 pub use view::{SubtreeView, TokenTreesView};
