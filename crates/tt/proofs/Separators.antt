@@ -40,7 +40,7 @@ module _ (p : TtElement → Bool) where
   goes_on (element.Leaf l) f g next other = (rw (next, other) refl, rw (next, other) refl)
   goes_on (element.Subtree s inner) f g next other =
       let same : p (element.Subtree (record { delimiter = s.delimiter; len = size inner }) inner) ≡ false =
-        ap (λ n. p (element.Subtree (record { delimiter = s.delimiter; len = n }) inner)) (sym next.1) ∙ other in
+      ap (λ n. p (element.Subtree (record { delimiter = s.delimiter; len = n }) inner)) (sym next.1) ∙ other in
       (rw (next.0, same) refl, rw (next.0, same) refl)
 
   stops : (t : TtElement) (f g : Forest) → IsNext f (Some t) g → p t ≡ true
@@ -48,7 +48,7 @@ module _ (p : TtElement → Bool) where
   stops (element.Leaf l) f g next picked = (rw (next, picked) refl, rw (next, picked) refl)
   stops (element.Subtree s inner) f g next picked =
       let same : p (element.Subtree (record { delimiter = s.delimiter; len = size inner }) inner) ≡ true =
-        ap (λ n. p (element.Subtree (record { delimiter = s.delimiter; len = n }) inner)) (sym next.1) ∙ picked in
+      ap (λ n. p (element.Subtree (record { delimiter = s.delimiter; len = n }) inner)) (sym next.1) ∙ picked in
       (rw (next.0, same) refl, rw (next.0, same) refl)
 
 module _ {F : Type 0} (g : Mut F (TtElement × Unit {0}) Bool) where
@@ -67,28 +67,32 @@ module _ {F : Type 0} (g : Mut F (TtElement × Unit {0}) Bool) where
   pub passes : (all piece rest new : Forest) (t : TtElement) (before test after : F) (r : Bool) → Passing all before piece rest test
       → IsNext rest (Some t) new → Called g test (t, tt) r after → r ≡ false → Passing all before (joined piece (alone t)) new after
   passes all piece rest new t before test after r so next called other = record {
-      all_is = so.all_is ∙ ap (joined piece) (next_is t rest new next) ∙ sym (joined_assoc piece (alone t) new);
-      same = λ p h.
+    all_is = so.all_is ∙ ap (joined piece) (next_is t rest new next) ∙ sym (joined_assoc piece (alone t) new);
+    same = λ p h.
         let s = so.same p h in
         let told = answers_next g (λ a r. r ≡ p a.0) test (t, tt) r after called s.0 in
         let on = goes_on p t rest new next (sym told.0 ∙ other) in
         (told.1, s.1 ∙ ap (joined piece) on.0 ∙ sym (joined_assoc piece (alone t) (until_separator p new)), s.2 ∙ on.1);
-    }
+  }
 
   pub ends_at : (all piece rest new : Forest) (t : TtElement) (before test after : F) (r : Bool) → Passing all before piece rest test
       → IsNext rest (Some t) new → Called g test (t, tt) r after → r ≡ true → Cuts g all before piece (Some new) after
-  ends_at all piece rest new t before test after r so next called picked =
-      ((rest, t, so.all_is, next), λ p h.
+  ends_at all piece rest new t before test after r so next called picked = (
+    (rest, t, so.all_is, next),
+    λ p h.
         let s = so.same p h in
         let told = answers_next g (λ a r. r ≡ p a.0) test (t, tt) r after called s.0 in
         let at = stops p t rest new next (sym told.0 ∙ picked) in
-        (told.1, sym (s.1 ∙ ap (joined piece) at.0 ∙ joined_empty piece), sym (s.2 ∙ at.1)))
+        (told.1, sym (s.1 ∙ ap (joined piece) at.0 ∙ joined_empty piece), sym (s.2 ∙ at.1)),
+  )
 
   pub ends_all : (all piece rest : Forest) (before test : F) → Passing all before piece rest test → rest ≡ empty → Cuts g all before piece None test
   ends_all all piece rest before test so none =
-      let done : Passing all before piece empty test = rw (sym none) so in
-      (done.all_is ∙ joined_empty piece, λ p h.
-        let s = done.same p h in (s.0, sym (s.1 ∙ joined_empty piece), sym s.2))
+      let done : Passing all before piece empty test = rw (sym none) so in (
+        done.all_is ∙ joined_empty piece,
+        λ p h.
+            let s = done.same p h in (s.0, sym (s.1 ∙ joined_empty piece), sym s.2),
+      )
 
 -- a cut at a separator leaves fewer tokens
 pub fewer : (all piece more : Forest) → IsCut all piece (Some more) → size more < size all

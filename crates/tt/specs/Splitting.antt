@@ -53,7 +53,7 @@ module _ {F : Type 0} (g : Mut F (TtElement × Unit {0}) Bool) where
   abbrev pub Cuts : Forest → F → Forest → Option Forest → F → Type 0
   Cuts f test piece more after =
       IsCut f piece more × ((p : TtElement → Bool) → Judges p test
-        → Judges p after × (piece ≡ until_separator p f) × (more ≡ behind_separator p f))
+      → Judges p after × (piece ≡ until_separator p f) × (more ≡ behind_separator p f))
 
   -- a call of `next` gave the piece up to the first separator, or all that was left, and then no more is left
   abbrev pub split_steps : Split F → Option TokenTreesView → Split F → Type 0

@@ -10,9 +10,9 @@ pub mod builder;
 pub mod flat;
 pub mod iter;
 pub mod laws;
+pub mod split;
 #[cfg(test)]
 mod tests;
-pub mod split;
 mod tokens;
 pub mod top;
 pub mod view;

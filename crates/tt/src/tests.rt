@@ -157,10 +157,12 @@ fn pieces(rt: HostRuntime) -> Result<(), Fail> {
     assert_eq!(rt; around.next().ok_or("ended")?.len(), 1);
     assert_eq!(rt; around.next().ok_or("ended")?.len(), 1);
     assert!(rt; around.next().is_none());
-    let mut whole = trees.split(|_tree|
-        requires { ⊤ }
-        ensures { result ≡ false }
-    { false });
+    let mut whole = trees.split(
+        |_tree|
+            requires { ⊤ }
+            ensures { result ≡ false }
+        { false },
+    );
     assert_eq!(rt; whole.next().ok_or("ended")?.len(), trees.len());
     assert!(rt; whole.next().is_none());
     let mut nothing = TokenTreesView::empty().split(is_group);

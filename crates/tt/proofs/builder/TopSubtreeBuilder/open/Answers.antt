@@ -17,8 +17,8 @@ pub returns-clause-tokens : goal.returns-clause-tokens
 returns-clause-tokens c =
     let all = counted _ _ c.self.invariant.0 in
     elim c.match-push-2.branch [
-        in-Ok-push w ↦ rw w.result-is (rw (← c.self.view_is) (room_left _ _ refl
-        (omega (arith, all, c.if-len-gt-MOST_TOKENS.false, c.len.ensures, c.self.inside.tokens.ok.0))))
+      | in-Ok-push w ↦ rw w.result-is (rw (← c.self.view_is) (room_left _ _ refl
+          (omega (arith, all, c.if-len-gt-MOST_TOKENS.false, c.len.ensures, c.self.inside.tokens.ok.0))))
       | in-Err w ↦ rw w.result-is (rw (← c.self.view_is) (room_left _ _ refl
-        (omega (arith, all, c.if-len-gt-MOST_TOKENS.false, c.len.ensures, c.self.inside.tokens.ok.0))))
+          (omega (arith, all, c.if-len-gt-MOST_TOKENS.false, c.len.ensures, c.self.inside.tokens.ok.0))))
     ]
