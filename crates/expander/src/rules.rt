@@ -80,11 +80,11 @@ fn is_pattern(trees: &TtIter<'_>) -> bool
     let mut rest = again(trees);
     while let Some(element) = rest.next() {
         match element {
-            TtElement::Leaf(Leaf::Ident(_)) => {}
-            TtElement::Leaf(Leaf::Literal(_)) => return false,
+            TtElement::Leaf(Leaf::Ident(_word)) => {}
+            TtElement::Leaf(Leaf::Literal(_literal)) => return false,
             TtElement::Leaf(Leaf::Punct(punct)) => {
                 if punct.char == '$' {
-                    let Some((_, _, behind)) = variable_after(&rest) else {
+                    let Some((_name, _, behind)) = variable_after(&rest) else {
                         return false;
                     };
                     rest = behind;
@@ -110,11 +110,11 @@ fn is_template(trees: &TtIter<'_>) -> bool
     let mut rest = again(trees);
     while let Some(element) = rest.next() {
         match element {
-            TtElement::Leaf(Leaf::Ident(_)) => {}
-            TtElement::Leaf(Leaf::Literal(_)) => return false,
+            TtElement::Leaf(Leaf::Ident(_word)) => {}
+            TtElement::Leaf(Leaf::Literal(_literal)) => return false,
             TtElement::Leaf(Leaf::Punct(punct)) => {
                 if punct.char == '$' {
-                    let Some((_, behind)) = name_after(&rest) else {
+                    let Some((_name, behind)) = name_after(&rest) else {
                         return false;
                     };
                     rest = behind;

@@ -1,2 +1,1 @@
 pub mod SharedBlock
-pub mod SymbolText

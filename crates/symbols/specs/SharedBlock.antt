@@ -1,7 +1,7 @@
 -- What an owner of a counted block owns, and what a `&` to one holds. R is the value's row, c the block, x the value.
 use Rattle.std.specs.Prelude.{ℕ, ◌+◌, ◌-◌, ◌^◌, Bool, true, false, []}
 use base.Fraction.{full_share}
-use base.Fml.{Lft, Fml, ftrue, ffalse, fsep, fex, flt, feq, fat, fleft}
+use base.Fml.{Lft, Share, Fml, ftrue, ffalse, fsep, fex, flt, feq, fat, fleft}
 use mir.Syntax.{Ty, Tys, w64, ty_int, ty_struct, tcons, tnil}
 use mir.Val.{vint}
 use mir.Raw.{raw}
@@ -11,6 +11,7 @@ use denote.Memory.{lone}
 use denote.RawPtr.{Ptr, block_ptr, null_ptr, block_of, count_of, lies_at, ◌+ₚ◌}
 use denote.Struct.Lending.{lent_at}
 use denote.RcWeak.{rc_cell_owns, rc_lends}
+use denote.Sharing.{one, beside, some, held}
 use Rattle.std.specs.Box.Ownership.{box_owns}
 use Rattle.std.specs.declared.alloc.Global.{Global}
 use Rattle.std.specs.contracts.impls.GlobalAllocator.TheImpl.{ghosts}
@@ -19,10 +20,14 @@ use Rattle.std.specs.contracts.impls.GlobalAllocator.TheImpl.{ghosts}
 abbrev pub most : ℕ
 most = 2 ^ 64 - 1
 
--- the block's count is n: it lies first in the block
+-- of a share of the count's memory, which lies first in the block: the count is n
+abbrev pub count_in : Share → Ptr → ℕ → Fml
+count_in q (block_ptr b o) n = fat q (ty_int w64) b (o + 0) (vint w64 n)
+count_in q null_ptr n = ffalse
+
+-- the same, of all of it
 abbrev pub count_at : Ptr → ℕ → Fml
-count_at (block_ptr b o) n = fat full_share (ty_int w64) b (o + 0) (vint w64 n)
-count_at null_ptr n = ffalse
+count_at = count_in full_share
 
 -- what is left of a block of the type τ with these fields, once they are out
 abbrev pub left_at : Ty → Tys → Ptr → Fml
@@ -58,28 +63,40 @@ module _ (R : RattleType) (c : Ptr) (x : R.Denot) where
   abbrev pub seen : Lft → Fml
   seen = lent_at R (c +ₚ value_offset) x
 
-  -- of n owners the block's count says m: it is n, or it is at its maximum and the value stays for good
-  abbrev pub says : ℕ → ℕ → Bool → Fml
-  says n m true = fsep (feq ℕ m n) (flt n most)
-  says n m false = fsep (feq ℕ m most) (seen [])
+  -- what a `&` to a count at its maximum holds, and to the value
+  abbrev pub full : Lft → Fml
+  full = beside (one (λ q. count_in q c most)) seen
 
-  -- the same, whichever of the two it is
-  abbrev pub said : ℕ → ℕ → Fml
-  said n m = fex Bool (says n m)
+  -- the count is at its maximum, and both are lent for good: no one frees the block
+  abbrev pub stays : Fml
+  stays = full []
 
-  -- the count's memory for n owners; with none left it is no longer here
+  -- the count's memory for n owners: it says n, or it stays at its maximum
+  abbrev pub says : ℕ → Bool → Fml
+  says n true = fsep (count_at c n) (flt n most)
+  says n false = stays
+
+  -- the same, whichever of the two it is; with no owner left it is no longer here
   abbrev pub counting : ℕ → Bool → Fml
-  counting n true = fex ℕ (λ m. fsep (count_at c m) (said n m))
+  counting n true = fex Bool (says n)
   counting n false = feq ℕ n 0
 
   -- the same, whether or not an owner is left
   abbrev pub counts : ℕ → Fml
   counts n = fex Bool (counting n)
 
-  -- what an owner owns: one part of the value's lifetime, counted by the block
+  -- what an owner owns: one part of the value's lifetime, which is counted; or, where the count stays, no part
+  abbrev pub owns_by : Bool → Fml
+  owns_by true = rc_cell_owns 64 (block_of c, count_of c) counts (λ _. ftrue) rest ftrue ftrue seen
+  owns_by false = stays
+
   abbrev pub owner_owns : Fml
-  owner_owns = rc_cell_owns 64 (block_of c, count_of c) counts (λ _. ftrue) rest ftrue ftrue seen
+  owner_owns = fex Bool owns_by
 
   -- what a `&` to an owner holds
+  abbrev pub lends_by : Bool → Lft → Fml
+  lends_by true = rc_lends 64 (block_of c, count_of c) counts (λ _. ftrue) rest ftrue ftrue seen
+  lends_by false = held [] full
+
   abbrev pub owner_lends : Lft → Fml
-  owner_lends = rc_lends 64 (block_of c, count_of c) counts (λ _. ftrue) rest ftrue ftrue seen
+  owner_lends = some Bool lends_by

@@ -5,7 +5,7 @@ ghost use Rattle.std.specs.Cmp.Lexicographic.{pointwise, nat_list_eq_equiv};
 ghost use Rattle.std.specs.Cmp.{partial_equiv_from_equiv};
 ghost use Rattle.std.specs.Cmp.Rules.{hashing};
 ghost use Rattle.std.proofs.Common.{rules};
-ghost use Rattle.symbols.specs.SymbolText.{text_of};
+ghost use Rattle.std.specs.String.{string_bytes};
 
 pub(crate) mod shared;
 #[cfg(test)]
@@ -17,26 +17,19 @@ use std::fmt;
 use std::hash::{Hash, Hasher};
 use std::marker::Model;
 
-/// Where the text of a [`Symbol`] is held.
-enum Held {
-    /// In a block with a count of its owners.
-    Counted(Shared<String>, Global),
-    /// In memory that is never freed.
-    Forever(&'static str),
-}
-
 /// Text that any number of owners share.
 ///
 /// A clone takes no memory and is never refused, and the text is freed with the last of them.
-/// A text that has 2^64 - 2 owners at once is kept for good by the next clone.
+/// A text that comes to have 2^64 - 1 owners at once is kept for good.
 pub struct Symbol {
-    held: Held,
+    owner: Shared<String>,
+    alloc: Global,
 }
 
 impl Model for Symbol {
     ghost Value = { List ℕ };
 
-    ghost view = { λ s. text_of s.held };
+    ghost view = { λ s. string_bytes s.owner.value };
 }
 
 impl Symbol {
@@ -50,19 +43,15 @@ impl Symbol {
     {
         let value = String::from_str(alloc, text)?;
         let block = Box::new(alloc, Block { owners: 1, value })?;
-        Ok(Symbol {
-            held: Held::Counted(Shared::first(Bare::of(block)), alloc),
-        })
+        let owner = Shared::first(Bare::of(block));
+        Ok(Symbol { owner, alloc })
     }
 
     /// The text.
     pub fn as_str(&self) -> &str
         ensures { result.now ≡ self.now }
     {
-        match &self.held {
-            Held::Counted(owner, _) => owner.value().as_str(),
-            Held::Forever(text) => text,
-        }
+        self.owner.value().as_str()
     }
 }
 
@@ -73,28 +62,20 @@ impl Clone for Symbol {
 
     /// One more owner of the same text. It takes no memory, and is never an `Err`.
     fn clone(&self) -> Result<Symbol, AllocError> {
-        let held = match &self.held {
-            Held::Counted(owner, alloc) => match owner.another() {
-                Some(owner) => Held::Counted(owner, *alloc),
-                None => Held::Forever(owner.keep().as_str()),
-            },
-            Held::Forever(text) => Held::Forever(*text),
-        };
-        Ok(Symbol { held })
+        let owner = self.owner.another();
+        Ok(Symbol {
+            owner,
+            alloc: self.alloc,
+        })
     }
 }
 
 impl Drop for Symbol {
     /// One owner less. The last one frees the text.
     fn drop(self) {
-        let Symbol { held } = self;
-        match held {
-            Held::Counted(owner, alloc) => {
-                if let Some(block) = owner.release() {
-                    drop(block.into_box(alloc));
-                }
-            }
-            Held::Forever(_) => {}
+        let Symbol { owner, alloc } = self;
+        if let Some(block) = owner.release() {
+            drop(block.into_box(alloc));
         }
     }
 }

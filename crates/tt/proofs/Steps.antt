@@ -62,7 +62,7 @@ passed_one then old new (element.Leaf l) same next = (leaf l empty, same ∙ nex
 passed_one then old new (element.Subtree s inner) same next = (group s.delimiter inner empty, same ∙ next.0)
 
 -- two forests that make one with the same trees after them are the same
-joined-left : (a b f : Forest) → joined a f ≡ joined b f → a ≡ b
+pub joined-left : (a b f : Forest) → joined a f ≡ joined b f → a ≡ b
 joined-left a b f e =
     let counted : size a ≡ size b = omega (arith, ap size e, size-joined a f, size-joined b f) in
     sym (front-joined a f) ∙ (ap (λ n. front n (joined a f)) counted ∙ (ap (front (size b)) e ∙ front-joined b f))

@@ -3,6 +3,7 @@ pub mod Views
 pub mod Elements
 pub mod Tops
 pub mod Places
+pub mod Splitting
 pub mod Groups
 pub mod Building
 -- what the functions inside the crate promise each other

@@ -1,9 +1,14 @@
 //! Laws of places and of trees under construction, for proofs above this crate. A call does nothing: it only states.
-ghost use Rattle.std.specs.Prelude.{◌≡◌, [], Some};
+ghost use Rattle.std.specs.Prelude.{◌≡◌, Bool, [], ◌∷◌, ◌+◌, length, Some, option_map};
+ghost use Rattle.std.specs.List.{count_by};
+ghost use Rattle.std.specs.Option.{unwrap_or};
 ghost use Rattle.tt_data.specs.Forest.{Forest};
 ghost use Rattle.tt_data.specs.Walk.{walk};
 ghost use Rattle.tt.specs.Building.{Building, Reached, point_of, cut_back};
+ghost use Rattle.tt.specs.Elements.{elements};
 ghost use Rattle.tt.specs.Places.{Place, beginning, IsEnd, moved, steps_before, steps_after, IsStep};
+ghost use Rattle.tt.specs.Splitting.{until_separator, behind_separator, pieces_between};
+ghost use Rattle.tt.specs.declared.iter.TtElement.{TtElement};
 
 /// A cursor goes over the walk of its list step by step: at the beginning all steps are after it,
 /// each move passes one, and at the end none is left.
@@ -18,4 +23,12 @@ pub fn walk_of_a_cursor()
 /// closed that was open there. The tree is cut back to what it was.
 pub fn points_stand()
     ensures { (b t : Building) → Reached b t → cut_back (point_of b) t ≡ Some b }
+{}
+
+/// The pieces of a list of trees come one after another, each up to the next separator, and there is
+/// one more than there are separators.
+pub fn pieces_of_trees()
+    ensures next { (p : TtElement → Bool) (f : Forest) → pieces_between p f
+        ≡ until_separator p f ∷ unwrap_or (option_map (pieces_between p) (behind_separator p f)) [] }
+    ensures counted { (p : TtElement → Bool) (f : Forest) → length (pieces_between p f) ≡ count_by p (elements f) + 1 }
 {}

@@ -10,6 +10,7 @@ pub mod builder;
 pub mod flat;
 pub mod iter;
 pub mod laws;
+pub mod split;
 #[cfg(test)]
 mod tests;
 mod tokens;
@@ -20,5 +21,6 @@ pub use buffer::Cursor;
 pub use builder::{ExpectedDelimiters, SubtreeBuilderRestorePoint, TopSubtreeBuilder};
 pub use flat::FlatTokens;
 pub use iter::{TtElement, TtIter};
+pub use split::Split;
 pub use top::TopSubtree;
 pub use view::{SubtreeView, TokenTreesView};

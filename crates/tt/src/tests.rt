@@ -1,5 +1,5 @@
 //! Trees that are built, walked and built again; refusals; each public call once.
-ghost use Rattle.std.specs.Prelude.{◌≡◌, ◌+◌, ◌<◌};
+ghost use Rattle.std.specs.Prelude.{◌≡◌, ◌+◌, ◌<◌, ⊤, false};
 
 use super::*;
 use std::alloc::Global;
@@ -128,7 +128,7 @@ fn walks(rt: HostRuntime) -> Result<(), Fail> {
         let before = walk.remaining();
         let passed = match walk.next() {
             None => 0,
-            Some(TtElement::Leaf(_)) => walk.passed_since(before).len(),
+            Some(TtElement::Leaf(_leaf)) => walk.passed_since(before).len(),
             Some(TtElement::Subtree(head, inside)) => {
                 assert_eq!(rt; inside.remaining().len(), head.usize_len());
                 walk.passed_since(before).len()
@@ -141,6 +141,33 @@ fn walks(rt: HostRuntime) -> Result<(), Fail> {
     assert!(rt; walk.next_span().is_none());
     assert!(rt; walk.remaining().is_empty());
     assert!(rt; TokenTreesView::empty().first_span().is_none());
+    Ok(())
+}
+
+// Whether the tree is a group.
+fn is_group(tree: TtElement<'_>) -> bool {
+    matches!(tree, TtElement::Subtree(_, _))
+}
+
+#[test]
+fn pieces(rt: HostRuntime) -> Result<(), Fail> {
+    let tree = sample(rt.alloc()).ok().ok_or("refused")?;
+    let trees = tree.token_trees();
+    let mut around = trees.split(is_group);
+    assert_eq!(rt; around.next().ok_or("ended")?.len(), 1);
+    assert_eq!(rt; around.next().ok_or("ended")?.len(), 1);
+    assert!(rt; around.next().is_none());
+    let mut whole = trees.split(
+        |_tree|
+            requires { ⊤ }
+            ensures { result ≡ false }
+        { false },
+    );
+    assert_eq!(rt; whole.next().ok_or("ended")?.len(), trees.len());
+    assert!(rt; whole.next().is_none());
+    let mut nothing = TokenTreesView::empty().split(is_group);
+    assert!(rt; nothing.next().ok_or("ended")?.is_empty());
+    assert!(rt; nothing.next().is_none());
     Ok(())
 }
 

@@ -7,7 +7,7 @@ use std::marker::Model;
 
 /// The count of the owners, and what they share.
 ///
-/// A count that is at its maximum stays there.
+/// A count that is at its maximum stays there, and the block with it.
 #[derive(Drop)]
 pub(crate) struct Block<T> {
     pub(crate) owners: usize,
@@ -77,32 +77,18 @@ impl<T> Shared<T> {
         unsafe { &(*self.block).value }
     }
 
-    /// One more owner, or `None` where the count is at its maximum or would come to it.
-    pub(crate) fn another(&self) -> Option<Shared<T>>
-        ensures { IfSome result (λ s. s.value ≡ self.now.value) }
+    /// One more owner. A count at its maximum is not raised.
+    pub(crate) fn another(&self) -> Shared<T>
+        ensures { result.value ≡ self.now.value }
     {
         let block = self.block.cast_mut();
         unsafe {
             let owners = (*block).owners;
-            if owners >= usize::MAX - 1 {
-                return None;
+            if owners != usize::MAX {
+                (*block).owners = owners + 1;
             }
-            (*block).owners = owners + 1;
         }
-        Some(Shared { block })
-    }
-
-    /// The value for good: the count goes to its maximum, and the block is never freed.
-    pub(crate) fn keep(&self) -> &'static T
-    where
-        T: 'static,
-        ensures { result.now ≡ self.now.value }
-    {
-        let block = self.block.cast_mut();
-        unsafe {
-            (*block).owners = usize::MAX;
-            &(*block).value
-        }
+        Shared { block }
     }
 
     /// Gives this owner up. The last one gets the block, and no other does.

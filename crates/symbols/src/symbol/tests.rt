@@ -1,4 +1,4 @@
-// What no clause says: that allocations succeed, that memory comes back, and what the code does at a count that no run reaches.
+// What no clause says: that allocations succeed, who frees a text, and that its memory comes back.
 use crate::symbol::Symbol;
 use crate::symbol::shared::{Bare, Block, Shared};
 use std::alloc::{AllocError, Global};
@@ -41,38 +41,28 @@ fn equality_and_hash_are_by_text(rt: HostRuntime) -> Result<(), Fail> {
 }
 
 #[test]
-fn a_text_that_stays_is_shown_after_its_owners(rt: HostRuntime) -> Result<(), Fail> {
-    let value = String::from_str(rt.alloc(), "kept")?;
+fn the_last_owner_gets_the_block(rt: HostRuntime) -> Result<(), Fail> {
+    let value = String::from_str(rt.alloc(), "shared")?;
     let block = Box::new(rt.alloc(), Block { owners: 1, value })?;
     let first = Shared::first(Bare::of(block));
     let second = first.another();
-    let text = first.keep().as_str();
-    let third = first.another();
-    let ended = (
-        ends(first, rt.alloc()),
-        ends_if(second, rt.alloc()),
-        ends_if(third, rt.alloc()),
+    let third = second.another();
+    let freed = (
+        frees(second, rt.alloc()),
+        frees(first, rt.alloc()),
+        frees(third, rt.alloc()),
     );
-    assert_eq!(rt; ended, (true, true, false));
-    assert_eq!(rt; text, "kept");
+    assert_eq!(rt; freed, (false, false, true));
     Ok(())
 }
 
-// Whether the block was not handed back.
-fn ends(owner: Shared<String>, alloc: Global) -> bool {
+// Whether the owner was the last one, and freed the block.
+fn frees(owner: Shared<String>, alloc: Global) -> bool {
     match owner.release() {
         Some(block) => {
             drop(block.into_box(alloc));
-            false
+            true
         }
-        None => true,
-    }
-}
-
-// Whether there was an owner, and the block was not handed back.
-fn ends_if(owner: Option<Shared<String>>, alloc: Global) -> bool {
-    match owner {
-        Some(owner) => ends(owner, alloc),
         None => false,
     }
 }

@@ -6,7 +6,7 @@ use Rattle.tt.proofs.tests.walks.Goals as goal
 pub passed_since-requires : goal.passed_since-requires
 passed_since-requires g c =
     let passed = c.in-Some-Leaf in
-    (leaf passed.field-0-0 empty, c.remaining-before.ensures ∙ rw passed.field-0-is at passed.ensures.steps)
+    (leaf passed._leaf empty, c.remaining-before.ensures ∙ rw passed.field-0-is at passed.ensures.steps)
 
 pub passed_since-requires-in-Some-Subtree : goal.passed_since-requires-in-Some-Subtree
 passed_since-requires-in-Some-Subtree g c =

@@ -1,6 +1,7 @@
 use Rattle.std.proofs.Common.{refl, arith}
 use Rattle.tt.proofs.Limits.{counted, room_left}
 use Rattle.tt.proofs.builder.TopSubtreeBuilder.open.Goals as goal
+use Rattle.tt.proofs.builder.TopSubtreeBuilder.open.Goals.{in-Ok-push, in-Err}
 
 pub returns-then-len-gt-MOST_TOKENS-clause-tokens : goal.returns-then-len-gt-MOST_TOKENS-clause-tokens
 returns-then-len-gt-MOST_TOKENS-clause-tokens c =
@@ -12,12 +13,12 @@ returns-in_default-clause-tokens c =
     let all = counted _ _ c.self.invariant.0 in
     rw (← c.self.view_is) (room_left _ _ refl (omega (arith, all, c.if-len-gt-MOST_TOKENS.false, c.len.ensures, c.self.inside.tokens.ok.0)))
 
-pub returns-in-Ok-push-clause-tokens : goal.returns-in-Ok-push-clause-tokens
-returns-in-Ok-push-clause-tokens c =
+pub returns-clause-tokens : goal.returns-clause-tokens
+returns-clause-tokens c =
     let all = counted _ _ c.self.invariant.0 in
-    rw (← c.self.view_is) (room_left _ _ refl (omega (arith, all, c.if-len-gt-MOST_TOKENS.false, c.len.ensures, c.self.inside.tokens.ok.0)))
-
-pub returns-in-Err-clause-tokens : goal.returns-in-Err-clause-tokens
-returns-in-Err-clause-tokens c =
-    let all = counted _ _ c.self.invariant.0 in
-    rw (← c.self.view_is) (room_left _ _ refl (omega (arith, all, c.if-len-gt-MOST_TOKENS.false, c.len.ensures, c.self.inside.tokens.ok.0)))
+    elim c.match-push-2.branch [
+      | in-Ok-push w ↦ rw w.result-is (rw (← c.self.view_is) (room_left _ _ refl
+          (omega (arith, all, c.if-len-gt-MOST_TOKENS.false, c.len.ensures, c.self.inside.tokens.ok.0))))
+      | in-Err w ↦ rw w.result-is (rw (← c.self.view_is) (room_left _ _ refl
+          (omega (arith, all, c.if-len-gt-MOST_TOKENS.false, c.len.ensures, c.self.inside.tokens.ok.0))))
+    ]

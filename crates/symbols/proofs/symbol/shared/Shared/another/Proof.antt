@@ -1,13 +1,12 @@
--- `another` makes one more owner, or finds the count full.
+-- `another` makes one more owner, whom the block counts unless its count stays.
 use contract.Running.{tables_of}
-use Rattle.symbols.proofs.WalkWords.{◌+◌, ◌-◌, ◌<◌, ◌^◌, List, [], ◌∷◌, ◌++◌, refl, sym, ap, lit<, arith, nleb→lt, Sym, a_type, inst_fn, Val, vptr, vcons, vnil, id⊢, every, fhide, ftrue, flft, ftok, Wp, WpFn, after_block, after_seq, at_return, ‵, raw, ◌⊛◌, at_ret, any_q, ◌$◌, ◌∵◌, !, qed, move, keep, drop, split, join, fsplit, fjoin, suffices, use0, use1, use3, frame, done, stop, fld, load, look, lit, neg_lit, bin, store, of_opd, and_then, no_more, assigns_last, first, blocks, branches, skips, exec, returns, returns_within, enter, well_typed, alloc_all, pass_all, free_all, look_at, get, through, sets, is, env, live, agg, sub, whole, look_in, bare_unfolds, RefOf, yes, hidden_shr, layouts, RattleType, owns, Ptr, ptr_val, types_at, plain, nothing, Stays, stay_dropped, walk_of, says, ends_at, Goes-dropped, None, Some, Some-of, none_of, after, head, inside, Word, word, word_ty, word-Good, word_made, some_Good}
-use Rattle.core.specs.contracts.option.Option as options
-use Rattle.symbols.specs.SharedBlock.{most, owner_owns, owner_lends}
+use Rattle.symbols.proofs.WalkWords.{◌+◌, ◌<◌, ◌^◌, List, [], ◌∷◌, ◌++◌, Bool, false, refl, sym, ap, arith, Sym, a_type, inst_fn, Val, vptr, id⊢, every, fhide, ftrue, flft, ftok, WpFn, ‵, raw, ◌⊛◌, later, at_ret, ◌$◌, ◌∵◌, !, qed, move, keep, drop, split, join, group, fsplit, fjoin, fpack, suffices, use1, await, rewrite, frame, done, stop, fld, load, look, lit, neg_lit, bin, store, of_opd, and_then, no_more, assigns_last, first, blocks, branches, skips, exec, returns, enter, well_typed, alloc_all, pass_all, free_all, look_at, get, through, sets, is, env, agg, sub, whole, look_in, bare_unfolds, RefOf, yes, hidden_shr, layouts, RattleType, owns, Ptr, ptr_val, types_at, plain, nothing, Stays, stay_dropped, walk_of, says, ends_at, Goes-dropped, after, Word, word, word-Good, word_made, reads, read, is_not, is_so}
+use Rattle.symbols.specs.SharedBlock.{most, count_at, owns_by, owner_owns, owner_lends}
 use Rattle.symbols.specs.contracts.symbol.shared.Shared as owners
 use Rattle.symbols.specs.contracts.symbol.shared.Shared.another as f
-use Rattle.symbols.proofs.CountedBlock.{part, Inside, one_more, owner_of}
+use Rattle.symbols.proofs.CountedBlock.{adds}
 use Rattle.symbols.proofs.HeapBoxes.{boxed}
-use Rattle.symbols.proofs.OwnerWalks.{at_words, R, LR, opens, shuts}
+use Rattle.symbols.proofs.OwnerWalks.{at_words, R, LR, opens, returned, reads_full}
 use Rattle.symbols.proofs.TokenEntry.{inner, calls, asked, walks_with_token}
 use Rattle.symbols.proofs.symbol.shared.Shared.another.Statement.{statement}
 use Rattle.symbols.proofs.symbol.shared.Shared.another.Code as code
@@ -32,32 +31,39 @@ another_spec 𝓤 𝓛 𝓜 𝓡 wired T L =
     -- [the word; what the `&` holds; its token; the thread's; the others]
     suffices ! (Run (vptr b o ∷ [])) (at_words 𝓤 Run (vptr b o ∷ []) _ (λ i. are.0.0 i ++ [])) $
     enter ! 𝓣.C 𝓣.Λ fn (vptr b o ∷ []) Post $ alloc_all ! (λ l. pass_all ! refl ((tt, tt), tt) $
-    let Ev = env fn.locals l in opens T L p x ν κ q b o ! tt (λ a s r m cb co at some_m. well_typed ! (λ ok.
+    let Ev = env fn.locals l in let made : Out.Denot = record { block = p; value = x } in
+    opens T L p x ν κ q b o ! tt (λ a s r m cb co at low. well_typed ! (λ ok.
     -- [the count; the invariant; the word; the way back; the invariant once more; what is seen; the others]
     sets ! (is ! (of_opd ! (load ! (through ! refl (fld ! refl (stop !))) (look_in ! 2 (sub ! 0 refl (whole !))))) (ap ptr_val at)) refl (tt, tt) $
     sets ! (of_opd ! (get ! refl)) refl (tt, tt) $ first ! $ blocks ! $
     sets ! (of_opd ! (load ! (through ! refl (fld ! refl (stop !))) (look ! 0 refl))) refl ok $
-    sets ! (bin ! (neg_lit ! tt) (lit ! tt) (lit< tt)) refl (tt, record { fits = lit< tt }) $
-    sets ! (bin ! (get ! refl) (get ! refl) tt) refl (tt, tt) $ first ! $ branches ! (get ! refl)
-    (λ full. sets ! (agg ! (and_then ! (lit ! tt) (no_more !))) refl (tt, (record { fits = lit< tt }, tt)) $ shuts T L p x ν κ q b o ! tt a s r m cb co at $
-    use0 𝓛 (‵ ((options.the_row Out).own_val None (live 0 vnil ∷ []))) (none_of 𝓛 Out) $ returns_within ! Post refl (look_at ! 0 refl) $
-    free_all ! refl $ keep ! (0 ∷ 2 ∷ 5 ∷ 1 ∷ []) $
-    suffices ! _ (ends_at 𝓛 end stayed held y (live 0 vnil) None (tt, tt) (tt, tt)) $ nothing ! $ nothing ! $ fjoin ! $ join ! $ move ! (1 ∷ 2 ∷ []) $
-    join ! $ join ! $ frame ! $ says ! tt $ done !)
-    (λ below. skips ! $ exec ! 𝓣.C 𝓣.Λ Ev (after 4 (inside (head (after 2 fn.body))))
-    (any_q (after_block 𝓤 𝓛.H (after_seq 𝓤 𝓛.H (Wp 𝓤 𝓛.H 𝓣.C 𝓣.Λ Ev (after 3 fn.body) (at_return 𝓤 𝓛.H Ev Post)) (at_return 𝓤 𝓛.H Ev Post)))) $
-    let low : m < most - 1 = nleb→lt (most - 1) m below in let fits : m + 1 < 2 ^ 64 = omega (arith, low) in
-    let room : m + 1 < most = omega (arith, low) in let made : Out.Denot = record { block = p; value = x } in
+    sets ! (bin ! (get ! refl) (neg_lit ! tt) tt) refl (tt, tt) $ branches ! (get ! refl)
+    (λ below. let fits : m + 1 < 2 ^ 64 = omega (arith, low) in
     sets ! (bin ! (get ! refl) (lit ! tt) (record { fits = fits })) refl (tt, record { fits = fits }) $
     assigns_last ! (of_opd ! (get ! refl)) (through ! refl (fld ! refl (stop !))) (store ! 0 refl (tt, record { fits = fits })) $
     exec ! 𝓣.C 𝓣.Λ Ev (after 3 fn.body) (at_ret Ev Post) $
     sets ! (is ! (agg ! (and_then ! (get ! refl) (no_more !))) (ap word (sym at))) refl (word-Good ν p) $
-    sets ! (agg ! (and_then ! (lit ! tt) (and_then ! (get ! refl) (no_more !)))) refl (some_Good (word_ty ν) (word p) (word-Good ν p)) $
-    move ! (1 ∷ []) $ use1 𝓛 (Inside Z LZ p x 𝓛 a (m + 1) ⊛ ‵ (part Z LZ p x a)) (one_more Z LZ p x 𝓛 a m room) $ split ! $
-    move ! (2 ∷ 0 ∷ 3 ∷ 4 ∷ []) $ shuts T L p x ν κ q b o ! tt a s r (m + 1) cb co at $
-    -- [the thread's token; the `&`'s; a part of the owners'; the invariant; what is seen; the others]
-    move ! (2 ∷ 3 ∷ 4 ∷ []) $ use3 𝓛 (‵ (owner_owns Z p x)) (owner_of Z LZ p x 𝓛 a) $ word_made E ν p ! $ fjoin ! $
-    use1 𝓛 (‵ ((options.the_row Out).own_val (Some made) (live 1 (vcons (word p) vnil) ∷ []))) (Some-of 𝓛 Out made (word p)) $
-    returns ! (look_at ! 0 refl) $ free_all ! refl $ keep ! (0 ∷ 2 ∷ 3 ∷ 1 ∷ []) $
-    suffices ! _ (ends_at 𝓛 end stayed held y (live 1 (vcons (word p) vnil)) (Some made) (tt, tt) (tt, tt)) $ nothing ! $ nothing ! $ fjoin ! $
-    join ! $ move ! (1 ∷ 2 ∷ []) $ join ! $ join ! $ frame ! $ says ! refl $ done !)))))
+    rewrite ! 0 (λ (s' : Ptr). ‵ (count_at s' (m + 1))) (sym at) refl $ move ! (0 ∷ 1 ∷ 4 ∷ 5 ∷ []) $ group ! 4 $
+    use1 𝓛 (later (‵ (ftok every) ⊛ ‵ (owner_owns Z p x))) (adds Z LZ p x 𝓛 a m low) $ await ! tt $ split ! $
+    move ! (2 ∷ 3 ∷ []) $ returned T L p x ν κ q b o ! tt a s r $
+    -- [the `&`'s token; the thread's; the new owner; the others]
+    move ! (2 ∷ []) $ word_made E ν p ! $ fjoin ! $
+    returns ! (look_at ! 0 refl) $ free_all ! refl $ keep ! (0 ∷ 1 ∷ 3 ∷ 2 ∷ []) $
+    suffices ! _ (ends_at 𝓛 end stayed held y (word p) made (tt, tt) (tt, tt)) $ nothing ! $ nothing ! $ fjoin ! $
+    join ! $ move ! (1 ∷ 2 ∷ []) $ join ! $ join ! $ frame ! $ says ! refl $ done !)
+    (λ full. absurd (omega (arith, low, is_so m most full)))))
+    (reads_full T L p x ! tt (λ r' cb co at. move ! (2 ∷ 3 ∷ []) $ reads E ν p ! tt b o (λ r. move ! (2 ∷ []) $ well_typed ! (λ ok.
+    -- [the count; the word; its way back; what stays; the thread's token; the others]
+    sets ! (is ! (of_opd ! (load ! (through ! refl (fld ! refl (stop !))) (look_in ! 1 (sub ! 0 refl (whole !))))) (ap ptr_val at)) refl (tt, tt) $
+    sets ! (of_opd ! (get ! refl)) refl (tt, tt) $ first ! $ blocks ! $
+    sets ! (of_opd ! (load ! (through ! refl (fld ! refl (stop !))) (look ! 0 refl))) refl ok $
+    sets ! (bin ! (get ! refl) (neg_lit ! tt) tt) refl (tt, tt) $ branches ! (get ! refl)
+    (λ below. absurd (is_not most most below refl))
+    (λ full. skips ! $ exec ! 𝓣.C 𝓣.Λ Ev (after 3 fn.body) (at_ret Ev Post) $
+    sets ! (is ! (agg ! (and_then ! (get ! refl) (no_more !))) (ap word (sym at))) refl (word-Good ν p) $
+    move ! (1 ∷ 2 ∷ []) $ read E ν p ! tt b o r $ move ! (2 ∷ []) $ fpack ! Bool (owns_by Z p x) false $
+    -- [the new owner; the `&`'s token; the count; the thread's token; the others]
+    word_made E ν p ! $ fjoin ! $
+    returns ! (look_at ! 0 refl) $ free_all ! refl $ keep ! (0 ∷ 1 ∷ 4 ∷ 3 ∷ []) $
+    suffices ! _ (ends_at 𝓛 end stayed held y (word p) made (tt, tt) (tt, tt)) $ nothing ! $ nothing ! $ fjoin ! $
+    join ! $ move ! (1 ∷ 2 ∷ []) $ join ! $ join ! $ frame ! $ says ! refl $ done !)))))))

@@ -1,15 +1,15 @@
 -- `release` gives an owner's part back. The last owner gets the block.
 use contract.Running.{tables_of}
-use Rattle.symbols.proofs.WalkWords.{◌≡◌, ℕ, ◌-◌, ◌<◌, ◌^◌, List, [], ◌∷◌, ◌++◌, refl, sym, ap, lit<, arith, Sym, a_type, inst_fn, Val, vcons, vnil, id⊢, never, every, ftrue, flft, ftok, Wp, WpFn, after_block, after_seq, at_return, ‵, raw, ◌⊛◌, later, at_ret, any_q, ◌$◌, ◌∵◌, !, qed, move, keep, drop, split, split3, join, fsplit, fsplit3, fjoin, fpick, pick, learn, suffices, use0, use1, use2, use3, await, rewrite, frame, done, stop, fld, load, look, lit, neg_lit, bin, store, of_opd, and_then, no_more, assigns, first, blocks, branches, skips, exec, returns, returns_within, enter, well_typed, alloc_all, pass_all, free_all, look_at, get, get_in, through, sets, is, env, live, agg, sub, whole, bare_unfolds, no, layouts, RattleType, owns, Ptr, block_ptr, ptr_val, in_a_block, types_at, plain, nothing, Stays, stay_dropped, walk_of, says, ends_at, Goes-dropped, None, Some, Some-of, none_of, after, head, inside, word, word_ty, word-Good, word_had, word_made, some_Good, is_not, is_so}
+use Rattle.symbols.proofs.WalkWords.{◌≡◌, ℕ, ◌-◌, ◌<◌, ◌^◌, List, [], ◌∷◌, ◌++◌, refl, sym, ap, lit<, arith, eqb→eq, Sym, a_type, inst_fn, Val, vcons, vnil, every, ftrue, flft, ftok, Wp, WpFn, after_block, after_seq, at_return, ‵, raw, ◌⊛◌, later, at_ret, any_q, ◌$◌, ◌∵◌, !, qed, move, keep, drop, split, join, fsplit, fjoin, suffices, use0, use1, use2, await, rewrite, frame, done, stop, fld, load, look, lit, neg_lit, bin, store, of_opd, and_then, no_more, assigns, first, blocks, branches, skips, exec, returns, returns_within, enter, well_typed, alloc_all, pass_all, free_all, look_at, get, get_in, through, sets, is, env, live, agg, sub, whole, bare_unfolds, no, layouts, RattleType, owns, Ptr, block_ptr, ptr_val, types_at, plain, nothing, Stays, stay_dropped, walk_of, says, ends_at, Goes-dropped, None, Some, Some-of, none_of, after, head, inside, word, word_ty, word-Good, word_had, word_made, some_Good, is_not, is_so}
 use Rattle.core.specs.contracts.option.Option as options
 use Rattle.symbols.specs.SharedBlock.{most, count_at, rest, bare_owns}
 use Rattle.symbols.specs.contracts.symbol.shared.Bare as bares
 use Rattle.symbols.specs.contracts.symbol.shared.Shared as owners
 use Rattle.symbols.specs.contracts.symbol.shared.Shared.release as f
 use Rattle.symbols.proofs.BlockFields.{Block, together}
-use Rattle.symbols.proofs.CountedBlock.{Inside, Entered, owner_enters, leaves, one_less, none_left}
+use Rattle.symbols.proofs.CountedBlock.{Inside, leaves, one_less, none_left}
 use Rattle.symbols.proofs.HeapBoxes.{boxed}
-use Rattle.symbols.proofs.OwnerWalks.{at_words, R, LR}
+use Rattle.symbols.proofs.OwnerWalks.{at_words, R, LR, owner_opens, reads_full}
 use Rattle.symbols.proofs.TokenEntry.{inner, calls, asked, walks_with_token}
 use Rattle.symbols.proofs.symbol.shared.Shared.release.Statement.{statement}
 use Rattle.symbols.proofs.symbol.shared.Shared.release.Code as code
@@ -33,30 +33,22 @@ release_spec 𝓤 𝓛 𝓜 𝓡 wired T L =
     -- [what the owner owns; nothing; the tokens; the thread's token]
     suffices ! (Run (word p ∷ [])) (at_words 𝓤 Run (word p ∷ []) _ (λ i. ep i ++ [])) $
     enter ! 𝓣.C 𝓣.Λ fn (word p ∷ []) Post $ alloc_all ! (λ l. pass_all ! refl (word-Good νo p, tt) $
-    let Ev = env fn.locals l in fpick ! (λ a. fsplit3 ! $ move ! (2 ∷ []) $ drop ! $ move ! (0 ∷ 1 ∷ 4 ∷ []) $
-    use3 𝓛 (later (Entered Z LZ p x 𝓛 a)) (owner_enters Z LZ p x 𝓛 a) $ await ! tt $ pick ! (λ m. learn ! (λ some_m. split3 ! $
-    in_a_block ! p (λ s. count_at s m) (id⊢ 𝓤 (never 𝓤)) (λ cb co at. well_typed ! (λ ok.
+    let Ev = env fn.locals l in move ! (0 ∷ 3 ∷ []) $ owner_opens T L p x ! tt (λ a m cb co at some_m low. well_typed ! (λ ok.
     -- [the count; the invariant; a part of the owners' token; nothing; the tokens]
     sets ! (is ! (of_opd ! (get_in ! (fld ! refl (stop !)) (sub ! 0 refl (whole !)))) (ap ptr_val at)) refl (tt, tt) $
     sets ! (of_opd ! (get ! refl)) refl (tt, tt) $ first ! $ blocks ! $
     sets ! (of_opd ! (load ! (through ! refl (fld ! refl (stop !))) (look ! 0 refl))) refl ok $
     sets ! (bin ! (get ! refl) (neg_lit ! tt) tt) refl (tt, tt) $ first ! $ branches ! (get ! refl)
-    (λ full. sets ! (agg ! (and_then ! (lit ! tt) (no_more !))) refl (tt, (record { fits = lit< tt }, tt)) $
-    rewrite ! 0 (λ (s : Ptr). ‵ (count_at s m)) (sym at) refl $ use2 𝓛 (later (‵ (ftok every))) (leaves Z LZ p x 𝓛 a m) $ await ! tt $
-    use0 𝓛 (‵ ((options.the_row Out).own_val None (live 0 vnil ∷ []))) (none_of 𝓛 Out) $ returns_within ! Post refl (look_at ! 0 refl) $
-    free_all ! refl $ keep ! (0 ∷ 4 ∷ 1 ∷ []) $
-    suffices ! _ (ends_at 𝓛 end stayed held y (live 0 vnil) None (tt, tt) (tt, tt)) $ nothing ! $ nothing ! $ fjoin ! $ join ! $ move ! (1 ∷ 0 ∷ []) $
-    join ! $ frame ! $ says ! tt $ done !)
+    (λ full. let over : m ≡ most = eqb→eq m most full in absurd (omega (arith, low, over)))
     (λ below. skips ! $ exec ! 𝓣.C 𝓣.Λ Ev (after 3 (inside (head (after 2 fn.body))))
     (any_q (after_block 𝓤 𝓛.H (after_seq 𝓤 𝓛.H (Wp 𝓤 𝓛.H 𝓣.C 𝓣.Λ Ev (after 3 fn.body) (at_return 𝓤 𝓛.H Ev Post)) (at_return 𝓤 𝓛.H Ev Post)))) $
-    let low : m < most = omega (arith, is_not m most below, ok.1.fits) in
     sets ! (bin ! (get ! refl) (lit ! tt) tt) refl (tt, tt) $ branches ! (get ! refl)
     (λ many. let fits : m - 1 < 2 ^ 64 = omega (arith, low) in
     sets ! (bin ! (get ! refl) (lit ! tt) (omega (arith, some_m))) refl (tt, record { fits = fits }) $
     assigns ! (of_opd ! (get ! refl)) (through ! refl (fld ! refl (stop !))) (store ! 0 refl (tt, record { fits = fits })) $
     sets ! (agg ! (and_then ! (lit ! tt) (no_more !))) refl (tt, (record { fits = lit< tt }, tt)) $
-    move ! (1 ∷ 2 ∷ []) $ use2 𝓛 (Inside Z LZ p x 𝓛 a (m - 1)) (one_less Z LZ p x 𝓛 a m low (is_not m 1 many)) $ move ! (1 ∷ 0 ∷ []) $
-    rewrite ! 0 (λ (s : Ptr). ‵ (count_at s (m - 1))) (sym at) refl $ use2 𝓛 (later (‵ (ftok every))) (leaves Z LZ p x 𝓛 a (m - 1)) $ await ! tt $
+    move ! (1 ∷ 2 ∷ []) $ use2 𝓛 (Inside Z LZ p x 𝓛 a (m - 1)) (one_less Z LZ p x 𝓛 a m (omega (arith, is_not m 1 many, some_m))) $ move ! (1 ∷ 0 ∷ []) $
+    rewrite ! 0 (λ (s : Ptr). ‵ (count_at s (m - 1))) (sym at) refl $ use2 𝓛 (later (‵ (ftok every))) (leaves Z LZ p x 𝓛 a (m - 1) (omega (arith, low))) $ await ! tt $
     use0 𝓛 (‵ ((options.the_row Out).own_val None (live 0 vnil ∷ []))) (none_of 𝓛 Out) $ returns_within ! Post refl (look_at ! 0 refl) $
     free_all ! refl $ keep ! (0 ∷ 3 ∷ 1 ∷ []) $
     suffices ! _ (ends_at 𝓛 end stayed held y (live 0 vnil) None (tt, tt) (tt, tt)) $ nothing ! $ nothing ! $ fjoin ! $ join ! $ move ! (1 ∷ 0 ∷ []) $
@@ -73,4 +65,16 @@ release_spec 𝓤 𝓛 𝓜 𝓡 wired T L =
     word_made E νb p ! $ fjoin ! $ use1 𝓛 (‵ ((options.the_row Out).own_val (Some made) (live 1 (vcons (word p) vnil) ∷ []))) (Some-of 𝓛 Out made (word p)) $
     returns ! (look_at ! 0 refl) $ free_all ! refl $ keep ! (0 ∷ 3 ∷ 1 ∷ []) $
     suffices ! _ (ends_at 𝓛 end stayed held y (live 1 (vcons (word p) vnil)) (Some made) (tt, tt) (tt, tt)) $ nothing ! $ nothing ! $ fjoin ! $
-    join ! $ move ! (1 ∷ 0 ∷ []) $ join ! $ frame ! $ says ! refl $ done !))))))))))
+    join ! $ move ! (1 ∷ 0 ∷ []) $ join ! $ frame ! $ says ! refl $ done !))))
+    (reads_full T L p x ! tt (λ r cb co at. well_typed ! (λ ok.
+    -- [the count; what stays; the thread's token; nothing; the tokens]
+    sets ! (is ! (of_opd ! (get_in ! (fld ! refl (stop !)) (sub ! 0 refl (whole !)))) (ap ptr_val at)) refl (tt, tt) $
+    sets ! (of_opd ! (get ! refl)) refl (tt, tt) $ first ! $ blocks ! $
+    sets ! (of_opd ! (load ! (through ! refl (fld ! refl (stop !))) (look ! 0 refl))) refl ok $
+    sets ! (bin ! (get ! refl) (neg_lit ! tt) tt) refl (tt, tt) $ first ! $ branches ! (get ! refl)
+    (λ full. sets ! (agg ! (and_then ! (lit ! tt) (no_more !))) refl (tt, (record { fits = lit< tt }, tt)) $
+    use0 𝓛 (‵ ((options.the_row Out).own_val None (live 0 vnil ∷ []))) (none_of 𝓛 Out) $ returns_within ! Post refl (look_at ! 0 refl) $
+    free_all ! refl $ keep ! (0 ∷ 5 ∷ 3 ∷ []) $
+    suffices ! _ (ends_at 𝓛 end stayed held y (live 0 vnil) None (tt, tt) (tt, tt)) $ nothing ! $ nothing ! $ fjoin ! $ join ! $ move ! (1 ∷ 0 ∷ []) $
+    join ! $ frame ! $ says ! tt $ done !)
+    (λ below. absurd (is_not most most below refl))))))))

@@ -1,9 +1,9 @@
 -- `value` shows what every owner shares.
-use Rattle.symbols.proofs.WalkWords.{◌+◌, List, [], ◌∷◌, ◌++◌, refl, sym, Sym, a_type, inst_fn, Val, vptr, id⊢, fst∗, never, fhide, ftrue, fat, flft, WpFn, sem, ‵, raw, ◌⊛◌, at_ret, ◌$◌, ◌∵◌, !, qed, move, keep, drop, split, join, fsplit, fjoin, suffices, use1, feq_i, rewrite, done, stop, fld, hop, addr, of_opd, first, blocks, exec, returns, enter, alloc_all, pass_all, free_all, look_at, get, through, sets, sets_last, env, sub, whole, look_in, tables, RefOf, yes, hidden_shr, shared_of, unhide, hide, layouts, RattleType, owns, Ptr, in_a_block, ◌+ₚ◌, rc_sees, types_at, plain, nothing, lent_at, Stays, stay_dropped, walk_of, says, ends_at, Goes-dropped, after, proved_at, Word, word, word_ty, reads, read}
-use Rattle.symbols.specs.SharedBlock.{counts, rest, seen, value_offset, owner_lends}
+use Rattle.symbols.proofs.WalkWords.{◌+◌, List, [], ◌∷◌, ◌++◌, refl, sym, Sym, a_type, inst_fn, Val, vptr, id⊢, fst∗, never, fhide, ftrue, fat, flft, WpFn, sem, ‵, raw, ◌⊛◌, at_ret, ◌$◌, ◌∵◌, !, qed, move, keep, drop, split, join, fsplit, fjoin, fpick, suffices, use1, feq_i, rewrite, done, stop, fld, hop, addr, of_opd, first, blocks, exec, returns, enter, alloc_all, pass_all, free_all, look_at, get, through, sets, sets_last, env, sub, whole, look_in, tables, RefOf, yes, hidden_shr, shared_of, unhide, hide, layouts, RattleType, owns, Ptr, in_a_block, ◌+ₚ◌, types_at, plain, nothing, lent_at, Stays, stay_dropped, walk_of, says, ends_at, Goes-dropped, after, proved_at, Word, word, word_ty, reads, read}
+use Rattle.symbols.specs.SharedBlock.{seen, value_offset, owner_lends}
 use Rattle.symbols.specs.contracts.symbol.shared.Shared as owners
 use Rattle.symbols.specs.contracts.symbol.shared.Shared.value as f
-use Rattle.symbols.proofs.CountedBlock.{key, sees}
+use Rattle.symbols.proofs.CountedBlock.{owner_sees}
 use Rattle.symbols.proofs.HeapBoxes.{boxed}
 use Rattle.symbols.proofs.OwnerWalks.{at_words, R, LR}
 use Rattle.symbols.proofs.symbol.shared.Shared.value.Statement.{statement}
@@ -24,8 +24,7 @@ value_spec 𝓤 𝓛 𝓜 𝓡 wired T L =
     use1 𝓛 (‵ (hidden_shr (Word E ν) κ (p, tt) b o) ⊛ ‵ (fhide (owner_lends Z p x κ))) (id⊢ 𝓤 _) $ split ! $
     -- [the word; what the `&` holds; nothing; the token; the others]
     suffices ! (Run (vptr b o ∷ [])) (at_words 𝓤 Run (vptr b o ∷ []) _ (λ i. are.0.0 i ++ [])) $
-    move ! (1 ∷ []) $ unhide ! $ use1 𝓛 (‵ (seen Z p x κ)) (rc_sees 64 (key Z (LR T L) p x) (counts Z p x) (λ _. ftrue) (rest Z p x) ftrue ftrue
-    (seen Z p x) 𝓛 (sees Z (LR T L) p x) κ) $
+    move ! (1 ∷ []) $ unhide ! $ fpick ! (λ form. use1 𝓛 (‵ (seen Z p x κ)) (owner_sees Z (LR T L) p x 𝓛 κ form) $
     in_a_block ! p (λ r. lent_at Z (r +ₚ at) x κ) (fst∗ 𝓤 (never 𝓤) (sem 𝓛 (shared_of Z x 0 0 κ))) (λ cb co lies. fsplit ! $ drop ! $ hide ! $
     let got : Val = vptr cb (co + at) in
     -- [the value; the word; nothing; the token; the others]
@@ -38,4 +37,4 @@ value_spec 𝓤 𝓛 𝓜 𝓡 wired T L =
     feq_i ! (List Val) (got ∷ []) (got ∷ []) refl $ fjoin ! $
     returns ! (look_at ! 0 refl) $ free_all ! refl $ keep ! (0 ∷ 1 ∷ 3 ∷ []) $
     suffices ! _ (ends_at 𝓛 end stayed c y got (record { ref_ptr = (cb, co + at); now = x }) (tt, tt) (tt, tt)) $
-    says ! refl $ nothing ! $ nothing ! $ fjoin ! $ join ! $ move ! (1 ∷ 2 ∷ []) $ join ! $ join ! $ done !))))
+    says ! refl $ nothing ! $ nothing ! $ fjoin ! $ join ! $ move ! (1 ∷ 2 ∷ []) $ join ! $ join ! $ done !)))))
