@@ -5,6 +5,8 @@ pub mod Tops
 pub mod Places
 pub mod Groups
 pub mod Building
+pub mod Texts
 -- what the functions inside the crate promise each other
 pub mod BuilderTokens
 pub mod CursorTokens
+pub mod Styles
