@@ -1,5 +1,5 @@
 -- Lists of trees that are one group.
-use Rattle.std.specs.Prelude.{Option, Some, None, Bool, true, false}
+use Rattle.std.specs.Prelude.{Bool, true, false}
 use Rattle.tt_data.specs.declared.delimiter.DelimiterKind.{DelimiterKind}
 use Rattle.tt_data.specs.declared.delimiter.DelimiterKind.TheVariants.{Invisible}
 use Rattle.tt_data.specs.Forest.{Forest, empty, group}

@@ -6,7 +6,7 @@ use Rattle.tt_data.specs.declared.leaf.Leaf.{Leaf}
 use Rattle.tt_data.specs.declared.leaf.Leaf.TheVariants as as_leaf
 use Rattle.tt_data.specs.declared.leaf.Spacing.{Spacing}
 use Rattle.tt_data.specs.declared.leaf.Spacing.TheVariants.{Alone, Joint, JointHidden}
-use Rattle.tt_data.specs.Displayed.{leaf_text}
+use Rattle.tt_data.specs.Displayed.{displayed_leaf}
 use Rattle.tt_data.specs.Forest.{Forest, empty, leaf, group}
 
 -- the bracket that opens a group of this sort, and the one that closes it
@@ -43,7 +43,7 @@ module _ (touches : Spacing → Bool) where
   -- the text of some trees, with this before it, if there are any; groups have no spaces inside their brackets, and one after them
   abbrev pub text_after : List ℕ → Forest → List ℕ
   text_after space empty = []
-  text_after space (leaf l rest) = space ++ (leaf_text l ++ text_after (space_after l) rest)
+  text_after space (leaf l rest) = space ++ (displayed_leaf l ++ text_after (space_after l) rest)
   text_after space (group d inner rest) =
       space ++ (opening_text d.kind ++ (text_after [] inner ++ (closing_text d.kind ++ text_after (codes " ") rest)))
 

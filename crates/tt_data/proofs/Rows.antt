@@ -12,7 +12,7 @@ use Rattle.tt_data.specs.declared.leaf.Spacing.TheVariants.{Alone}
 use Rattle.tt_data.specs.declared.tree.TokenTree.{TokenTree}
 use Rattle.tt_data.specs.declared.tree.TokenTree.TheVariants as token
 use Rattle.tt_data.specs.Elements.{alone, within}
-use Rattle.tt_data.specs.Displayed.{leaf_text, literal_text}
+use Rattle.tt_data.specs.Displayed.{displayed_leaf, literal_text}
 use Rattle.tt_data.specs.Elements as elements
 use Rattle.tt_data.specs.Forest.{Forest, empty, leaf, group, joined, size, preorder, front, back, forest_of, head_of, IsPreorder, map_spans, shape}
 use Rattle.tt_data.specs.Literals.{literal_of, text_of, suffix_of}
@@ -166,10 +166,10 @@ three_trees :
 three_trees = refl
 
 -- `r#fn`, `,`, `1u8`, `'a'`, `"a"` and `br##"a"##` are displayed as they are written
-displayed_name : leaf_text (name (codes "r#fn") (at 0)) ≡ codes "r#fn"
+displayed_name : displayed_leaf (name (codes "r#fn") (at 0)) ≡ codes "r#fn"
 displayed_name = refl
 
-displayed_comma : leaf_text (comma (at 0)) ≡ codes ","
+displayed_comma : displayed_leaf (comma (at 0)) ≡ codes ","
 unfolding lib.Utf8.encode
 displayed_comma = refl
 

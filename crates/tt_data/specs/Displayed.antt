@@ -52,7 +52,7 @@ ident_text i = prefix_of i.is_raw ++ i.sym
 abbrev pub punct_text : Punct → List ℕ
 punct_text p = encode_utf8 p.char
 
-abbrev pub leaf_text : Leaf → List ℕ
-leaf_text (as_leaf.Literal l) = literal_text l
-leaf_text (as_leaf.Punct p) = punct_text p
-leaf_text (as_leaf.Ident i) = ident_text i
+abbrev pub displayed_leaf : Leaf → List ℕ
+displayed_leaf (as_leaf.Literal l) = literal_text l
+displayed_leaf (as_leaf.Punct p) = punct_text p
+displayed_leaf (as_leaf.Ident i) = ident_text i

@@ -8,9 +8,9 @@ use std::fmt;
 
 impl fmt::Display for Leaf {
     ghost use Rattle.std.specs.Prelude.{Some};
-    ghost use Rattle.tt_data.specs.Displayed.{leaf_text};
+    ghost use Rattle.tt_data.specs.Displayed.{displayed_leaf};
 
-    ghost output = { λ leaf. Some (leaf_text leaf) };
+    ghost output = { λ leaf. Some (displayed_leaf leaf) };
 
     fn fmt<W: fmt::Write>(&self, f: &mut fmt::Formatter<W>) -> fmt::Result {
         match self {
