@@ -6,7 +6,7 @@ use Rattle.tt_data.specs.declared.delimiter.Delimiter.{Delimiter}
 use Rattle.tt_data.specs.declared.delimiter.DelimiterKind.TheVariants.{Parenthesis, Brace, Invisible}
 use Rattle.tt_data.specs.declared.leaf.Leaf.{Leaf}
 use Rattle.tt_data.specs.declared.leaf.Leaf.TheVariants as as_leaf
-use Rattle.tt_data.specs.declared.leaf.Spacing.TheVariants.{Alone, Joint}
+use Rattle.tt_data.specs.declared.leaf.Spacing.TheVariants.{Alone, Joint, JointHidden}
 use Rattle.tt_data.specs.declared.tree.TokenTree.{TokenTree}
 use Rattle.tt_data.specs.declared.tree.TokenTree.TheVariants as token
 use Rattle.tt_data.specs.Forest.{Forest, empty, leaf, group, preorder}
@@ -20,6 +20,7 @@ use Rattle.tt.specs.Elements.{elements, first_element, first_place, first_alone,
 use Rattle.tt.specs.Groups.{stripped}
 use Rattle.tt.specs.CursorTokens.{place_of}
 use Rattle.tt.specs.Places.{Around, beginning, moved, IsEnd, first_token, innermost_head, two_leaves, steps_before, steps_after}
+use Rattle.tt.specs.Texts.{displayed_text, pretty_text}
 use Rattle.tt.specs.Tops.{head_of, only_group, tokens_of, tree_of, has_leaf_at}
 
 -- one byte of the text, as it was written
@@ -414,3 +415,31 @@ outer_end = refl
 
 last_end : place_of (preorder nested) 0 2 ≡ record { around = []; before = nested; after = empty }
 last_end = refl
+
+-- `a +b`, where the punct is marked as joined, but not to a punct
+abbrev sum : Forest
+sum =
+    leaf (name (codes "a") 0)
+    (leaf (as_leaf.Punct (record { char = 43; spacing = JointHidden; span = at 2 })) (leaf (name (codes "b") 3) empty))
+
+displayed_sum : displayed_text sum ≡ codes "a +b"
+unfolding lib.Utf8.encode
+displayed_sum = refl
+
+pretty_sum : pretty_text sum ≡ codes "a + b"
+unfolding lib.Utf8.encode
+pretty_sum = refl
+
+-- `a(,)b` has spaces round its group and none inside
+displayed_group : displayed_text trees ≡ codes "a (,) b"
+unfolding lib.Utf8.encode
+displayed_group = refl
+
+-- an invisible group has no brackets, and its spaces are those of a group
+displayed_invisible :
+    displayed_text (leaf (name (codes "a") 0) (group top (leaf (name (codes "b") 1) (leaf (name (codes "c") 2) empty)) (group top empty (leaf (name (codes "d") 3) empty))))
+    ≡ codes "a b c  d"
+displayed_invisible = refl
+
+nothing_displayed : displayed_text empty ≡ []
+nothing_displayed = refl

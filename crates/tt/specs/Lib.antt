@@ -6,6 +6,8 @@ pub mod Places
 pub mod Splitting
 pub mod Groups
 pub mod Building
+pub mod Texts
 -- what the functions inside the crate promise each other
 pub mod BuilderTokens
 pub mod CursorTokens
+pub mod Styles

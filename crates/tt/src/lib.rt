@@ -7,6 +7,7 @@
 
 pub mod buffer;
 pub mod builder;
+pub mod display;
 pub mod flat;
 pub mod iter;
 pub mod laws;
@@ -19,6 +20,7 @@ pub mod view;
 
 pub use buffer::Cursor;
 pub use builder::{ExpectedDelimiters, SubtreeBuilderRestorePoint, TopSubtreeBuilder};
+pub use display::pretty;
 pub use flat::FlatTokens;
 pub use iter::{TtElement, TtIter};
 pub use split::Split;

@@ -6,7 +6,7 @@ use std::alloc::Global;
 use std::hash::{DefaultHasher, Hash, Hasher};
 use std::test::*;
 use tt_data::{
-    DelimSpan, Delimiter, DelimiterKind, Leaf, Punct, Spacing, Span, Subtree, SyntaxContext,
+    DelimSpan, Delimiter, DelimiterKind, Ident, Leaf, Punct, Spacing, Span, Subtree, SyntaxContext,
     TextRange, TextSize, TokenTree, TtFault,
 };
 
@@ -515,6 +515,11 @@ fn makes_trees(rt: HostRuntime) -> Result<(), Fail> {
         .ok_or("refused")?;
     assert!(rt; copy == tree);
     assert_eq!(rt; tree.as_token_trees().len(), 7);
+    assert_eq!(rt; tree.view().as_token_trees().len(), 7);
+    let copy = TopSubtree::from_subtree(rt.alloc(), tree.view())
+        .ok()
+        .ok_or("refused")?;
+    assert!(rt; copy == tree);
     let ends = DelimSpan::from_single(byte_at(0));
     let empty = TopSubtree::empty(rt.alloc(), ends).ok().ok_or("refused")?;
     assert!(rt; empty.token_trees().is_empty());
@@ -568,5 +573,69 @@ fn changes_in_place(rt: HostRuntime) -> Result<(), Fail> {
         assert_eq!(rt; tree.set_token(idx, punct('?', 0)).is_ok(), is_leaf);
     }
     assert!(rt; has_leaf(&tree, 3, punct('?', 0)));
+    Ok(())
+}
+
+// `r#fn(+b[]c;)` in one bare group, with the `+` spaced so.
+fn row(alloc: Global, spacing: Spacing) -> Result<TopSubtree, TtFault> {
+    let mut builder = new_builder(alloc)?;
+    push(&mut builder, &name(alloc, "r#fn")?)?;
+    open(&mut builder, DelimiterKind::Parenthesis, byte_at(1))?;
+    let plus = Leaf::Punct(Punct {
+        char: '+',
+        spacing,
+        span: byte_at(2),
+    });
+    push(&mut builder, &plus)?;
+    push(&mut builder, &name(alloc, "b")?)?;
+    open(&mut builder, DelimiterKind::Bracket, byte_at(4))?;
+    builder.close(byte_at(5))?;
+    push(&mut builder, &name(alloc, "c")?)?;
+    push(&mut builder, &punct(';', 7))?;
+    builder.close(byte_at(8))?;
+    builder.build().map_err(|refused| refused.1)
+}
+
+fn name(alloc: Global, text: &str) -> Result<Leaf, TtFault> {
+    let ident = match Ident::new(alloc, text, byte_at(0)) {
+        Err(TtFault::Memory) => Ident::new(alloc, text, byte_at(0)),
+        answer => answer,
+    };
+    Ok(Leaf::Ident(ident?))
+}
+
+#[test]
+fn prints(rt: HostRuntime) -> Result<(), Fail> {
+    let alloc = rt.alloc();
+    for (spacing, displayed, prettily, braced) in [
+        (
+            Spacing::Alone,
+            "r#fn (+ b [] c ;)",
+            "r#fn (+ b [] c ;)",
+            "{r#fn (+ b [] c ;)}",
+        ),
+        (
+            Spacing::Joint,
+            "r#fn (+b [] c ;)",
+            "r#fn (+b [] c ;)",
+            "{r#fn (+b [] c ;)}",
+        ),
+        (
+            Spacing::JointHidden,
+            "r#fn (+b [] c ;)",
+            "r#fn (+ b [] c ;)",
+            "{r#fn (+b [] c ;)}",
+        ),
+    ] {
+        let mut tree = row(alloc, spacing).ok().ok_or("refused")?;
+        assert_eq!(rt; format!(in alloc; "{tree}")?.as_str(), displayed);
+        let trees = tree.token_trees();
+        assert_eq!(rt; format!(in alloc; "{trees}")?.as_str(), displayed);
+        let text = pretty(alloc, trees).ok().ok_or("refused")?;
+        assert_eq!(rt; text.as_str(), prettily);
+        tree.set_top_subtree_delimiter_kind(DelimiterKind::Brace);
+        let group = tree.view();
+        assert_eq!(rt; format!(in alloc; "{group}")?.as_str(), braced);
+    }
     Ok(())
 }

@@ -3,7 +3,7 @@ ghost use Rattle.std.specs.Prelude.{◌≡◌, ◌↔◌, ◌⊎◌, ◌<◌, Er
 ghost use Rattle.tt_data.specs.declared.fault.TtFault.TheVariants as fault;
 
 use crate::tokens::{append_copies, is_one_group};
-use crate::view::{TokenTreesView, TtIter};
+use crate::view::{SubtreeView, TokenTreesView, TtIter};
 use std::alloc::Global;
 use std::hash::{Hash, Hasher};
 use std::marker::Model;
@@ -40,7 +40,7 @@ impl TopSubtree {
     ghost use Rattle.tt_data.specs.declared.tree.TokenTree.TheVariants as token;
     ghost use Rattle.tt.specs.Building.{most_tokens, leaves as leaves_of};
     ghost use Rattle.tt.specs.Tops.{Top, head_of, forest_of_top, tokens_of, no_brackets, has_leaf_at};
-    ghost use Rattle.tt.specs.Views.{forest};
+    ghost use Rattle.tt.specs.Views.{forest, top_of};
 
     /// The tree with no brackets, of which the two ends stand where `span` has them, and nothing
     /// inside.
@@ -84,6 +84,20 @@ impl TopSubtree {
             return Err(TtFault::Memory);
         };
         Ok(TopSubtree { tokens })
+    }
+
+    /// A copy of this group, as a tree of its own.
+    ///
+    /// `Memory` is its only error.
+    pub fn from_subtree(alloc: Global, subtree: SubtreeView<'_>) -> Result<TopSubtree, TtFault>
+        ensures ok { IfOk result (λ t. t ≡ top_of subtree.entry) }
+        ensures memory { IsOkUnless result fault.Memory }
+    {
+        let delimiter = subtree.top_subtree().delimiter;
+        match TopSubtree::from_token_trees(alloc, delimiter, subtree.token_trees()) {
+            Err(_) => Err(TtFault::Memory),
+            tree => tree,
+        }
     }
 
     /// The tree whose tokens these are: the head of a group, and then all that is inside.
@@ -193,6 +207,15 @@ impl TopSubtree {
                 Ok(())
             }
         }
+    }
+
+    /// The tree as a borrowed group.
+    #[tactic(auto, unfolding(crate::specs::Views::top_of))]
+    pub fn view(&self) -> SubtreeView<'_>
+        ensures { top_of result ≡ self.now }
+    {
+        let tokens = self.tokens.as_slice();
+        SubtreeView { tokens }
     }
 
     /// The tree as a list of one group.

@@ -7,11 +7,12 @@ use Rattle.tt_data.specs.declared.delimiter.DelimiterKind.TheVariants.{Parenthes
 use Rattle.tt_data.specs.declared.leaf.IdentIsRaw.TheVariants as is_raw
 use Rattle.tt_data.specs.declared.leaf.Leaf.{Leaf}
 use Rattle.tt_data.specs.declared.leaf.Leaf.TheVariants as as_leaf
-use Rattle.tt_data.specs.declared.leaf.LitKind.TheVariants.{Integer}
+use Rattle.tt_data.specs.declared.leaf.LitKind.TheVariants.{Integer, Str, ByteStrRaw, Char}
 use Rattle.tt_data.specs.declared.leaf.Spacing.TheVariants.{Alone}
 use Rattle.tt_data.specs.declared.tree.TokenTree.{TokenTree}
 use Rattle.tt_data.specs.declared.tree.TokenTree.TheVariants as token
 use Rattle.tt_data.specs.Elements.{alone, within}
+use Rattle.tt_data.specs.Displayed.{displayed_leaf, literal_text}
 use Rattle.tt_data.specs.Elements as elements
 use Rattle.tt_data.specs.Forest.{Forest, empty, leaf, group, joined, size, preorder, front, back, forest_of, head_of, IsPreorder, map_spans, shape}
 use Rattle.tt_data.specs.Literals.{literal_of, text_of, suffix_of}
@@ -163,3 +164,23 @@ three_trees :
     ∷ alone (name (codes "c") (at 5))
     ∷ []
 three_trees = refl
+
+-- `r#fn`, `,`, `1u8`, `'a'`, `"a"` and `br##"a"##` are displayed as they are written
+displayed_name : displayed_leaf (name (codes "r#fn") (at 0)) ≡ codes "r#fn"
+displayed_name = refl
+
+displayed_comma : displayed_leaf (comma (at 0)) ≡ codes ","
+unfolding lib.Utf8.encode
+displayed_comma = refl
+
+displayed_number : literal_text (literal_of (codes "1") (codes "u8") Integer (at 0)) ≡ codes "1u8"
+displayed_number = refl
+
+displayed_char : literal_text (literal_of (codes "a") [] Char (at 0)) ≡ codes "'a'"
+displayed_char = refl
+
+displayed_string : literal_text (literal_of (codes "a") (codes "x") Str (at 0)) ≡ codes "\"a\"x"
+displayed_string = refl
+
+displayed_raw_string : literal_text (literal_of (codes "a") [] (ByteStrRaw 2) (at 0)) ≡ codes "br##\"a\"##"
+displayed_raw_string = refl

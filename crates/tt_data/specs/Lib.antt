@@ -5,6 +5,7 @@ pub mod Elements
 pub mod Spans
 pub mod Names
 pub mod Literals
+pub mod Displayed
 pub mod Editions
 pub mod Outcome
 -- a forest and its flat list give each other back

@@ -4,6 +4,7 @@
 #![tactic(auto)]
 
 pub mod delimiter;
+pub mod display;
 pub mod edition;
 pub mod fault;
 pub mod laws;

@@ -125,3 +125,50 @@ fn editions(rt: HostRuntime) {
         assert_eq!(rt; edition.at_least_2024(), from_2024);
     }
 }
+
+#[test]
+fn displayed_literals(rt: HostRuntime) -> Result<(), Fail> {
+    for (kind, text, shown) in [
+        (LitKind::Byte, "\\n", "b'\\n's"),
+        (LitKind::Char, "a", "'a's"),
+        (LitKind::Integer, "0x1", "0x1s"),
+        (LitKind::Float, "1.", "1.s"),
+        (LitKind::Str, "é", "\"é\"s"),
+        (LitKind::StrRaw(0), "a", "r\"a\"s"),
+        (LitKind::StrRaw(2), "\"#", "r##\"\"#\"##s"),
+        (LitKind::ByteStr, "a", "b\"a\"s"),
+        (LitKind::ByteStrRaw(1), "a", "br#\"a\"#s"),
+        (LitKind::CStr, "", "c\"\"s"),
+        (LitKind::CStrRaw(1), "a", "cr#\"a\"#s"),
+        (LitKind::Err(()), "?", "?s"),
+    ] {
+        let literal = Literal::new(rt.alloc(), text, byte_at(3), kind, "s")
+            .ok()
+            .ok_or("no memory")?;
+        assert_eq!(rt; format!(in rt.alloc(); "{literal}")?.as_str(), shown);
+        let leaf = Leaf::from(literal);
+        assert_eq!(rt; format!(in rt.alloc(); "{leaf}")?.as_str(), shown);
+    }
+    Ok(())
+}
+
+#[test]
+fn displayed_names_and_puncts(rt: HostRuntime) -> Result<(), Fail> {
+    for written in ["a", "r#fn", "é"] {
+        let ident = Ident::new(rt.alloc(), written, byte_at(3))
+            .ok()
+            .ok_or("no memory")?;
+        assert_eq!(rt; format!(in rt.alloc(); "{ident}")?.as_str(), written);
+        let leaf = Leaf::from(ident);
+        assert_eq!(rt; format!(in rt.alloc(); "{leaf}")?.as_str(), written);
+    }
+    let punct = Punct {
+        char: '→',
+        spacing: Spacing::Joint,
+        span: byte_at(3),
+    };
+    assert_eq!(rt; format!(in rt.alloc(); "{punct}")?.as_str(), "→");
+    let leaf = Leaf::from(punct);
+    assert_eq!(rt; format!(in rt.alloc(); "{leaf}")?.as_str(), "→");
+    Ok(())
+}

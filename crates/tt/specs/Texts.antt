@@ -1,0 +1,56 @@
+-- The text of a list of trees: its tokens, with spaces between them.
+use Rattle.std.specs.Prelude.{ℕ, List, [], ◌++◌, Bool, true, false, codes, if◌then◌else◌}
+use Rattle.tt_data.specs.declared.delimiter.DelimiterKind.{DelimiterKind}
+use Rattle.tt_data.specs.declared.delimiter.DelimiterKind.TheVariants.{Parenthesis, Brace, Bracket, Invisible}
+use Rattle.tt_data.specs.declared.leaf.Leaf.{Leaf}
+use Rattle.tt_data.specs.declared.leaf.Leaf.TheVariants as as_leaf
+use Rattle.tt_data.specs.declared.leaf.Spacing.{Spacing}
+use Rattle.tt_data.specs.declared.leaf.Spacing.TheVariants.{Alone, Joint, JointHidden}
+use Rattle.tt_data.specs.Displayed.{displayed_leaf}
+use Rattle.tt_data.specs.Forest.{Forest, empty, leaf, group}
+
+-- the bracket that opens a group of this sort, and the one that closes it
+abbrev pub opening_text : DelimiterKind → List ℕ
+opening_text Parenthesis = codes "("
+opening_text Brace = codes "{"
+opening_text Bracket = codes "["
+opening_text Invisible = []
+
+abbrev pub closing_text : DelimiterKind → List ℕ
+closing_text Parenthesis = codes ")"
+closing_text Brace = codes "}"
+closing_text Bracket = codes "]"
+closing_text Invisible = []
+
+-- where trees are displayed, a punct that isn't `Alone` touches what follows
+abbrev pub touches_displayed : Spacing → Bool
+touches_displayed Alone = false
+touches_displayed Joint = true
+touches_displayed JointHidden = true
+
+-- where they are printed prettily, one that is `Joint` does
+abbrev pub touches_pretty : Spacing → Bool
+touches_pretty Alone = false
+touches_pretty Joint = true
+touches_pretty JointHidden = false
+
+module _ (touches : Spacing → Bool) where
+  -- what stands between a leaf and the tree after it: a space, or nothing
+  abbrev pub space_after : Leaf → List ℕ
+  space_after (as_leaf.Punct p) = if touches p.spacing then [] else codes " "
+  space_after l = codes " "
+
+  -- the text of some trees, with this before it, if there are any; groups have no spaces inside their brackets, and one after them
+  abbrev pub text_after : List ℕ → Forest → List ℕ
+  text_after space empty = []
+  text_after space (leaf l rest) = space ++ (displayed_leaf l ++ text_after (space_after l) rest)
+  text_after space (group d inner rest) =
+      space ++ (opening_text d.kind ++ (text_after [] inner ++ (closing_text d.kind ++ text_after (codes " ") rest)))
+
+-- the text of a list of trees as it is displayed
+abbrev pub displayed_text : Forest → List ℕ
+displayed_text = text_after touches_displayed []
+
+-- the text of a list of trees, printed prettily
+abbrev pub pretty_text : Forest → List ℕ
+pretty_text = text_after touches_pretty []
