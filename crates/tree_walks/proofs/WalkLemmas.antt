@@ -1,9 +1,12 @@
 -- Walks over all tokens of trees.
-use Rattle.std.proofs.Common.{◌≡◌, ℕ, ◌+◌, List, [], ◌∷◌, ◌++◌, refl, sym, ◌∙◌, ap, arith, append_assoc}
+use Rattle.std.proofs.Common.{◌≡◌, ℕ, ◌+◌, List, [], ◌∷◌, ◌++◌, refl, sym, ◌∙◌, ap, arith, Option, Some, None}
+use Rattle.std.proofs.lemmas.List.Elements.{filter_map-append}
+use Rattle.std.specs.List.{cons_option, filter_map}
+use Rattle.std.specs.Option.{option_to_list}
 use Rattle.tt_data.specs.declared.tree.TokenTree.{TokenTree}
 use Rattle.tt_data.specs.declared.tree.TokenTree.TheVariants as token
 use Rattle.tt_data.specs.Forest.{Forest, empty, leaf, group, size, preorder}
-use Rattle.tree_walks.specs.Walks.{leaf_count, name, names}
+use Rattle.tree_walks.specs.Walks.{leaf_count, name, name_of, names}
 
 -- how many of the tokens are heads of groups
 abbrev pub heads_in : List TokenTree → ℕ
@@ -13,19 +16,16 @@ heads_in (token.Subtree s ∷ ts) = 1 + heads_in ts
 
 -- the names of the identifiers among the tokens
 abbrev pub names_in : List TokenTree → List (List ℕ)
-names_in [] = []
-names_in (token.Leaf l ∷ ts) = name l ++ names_in ts
-names_in (token.Subtree s ∷ ts) = names_in ts
+names_in ts = filter_map name_of ts
 
 heads_append : (xs ys : List TokenTree) → heads_in (xs ++ ys) ≡ heads_in xs + heads_in ys
 heads_append [] ys = omega arith
 heads_append (token.Leaf l ∷ xs) ys = heads_append xs ys
 heads_append (token.Subtree s ∷ xs) ys = (let e = heads_append xs ys in omega (arith, e))
 
-names_append : (xs ys : List TokenTree) → names_in (xs ++ ys) ≡ names_in xs ++ names_in ys
-names_append [] ys = refl
-names_append (token.Leaf l ∷ xs) ys = ap (λ ns. name l ++ ns) (names_append xs ys) ∙ sym (append_assoc (name l) (names_in xs) (names_in ys))
-names_append (token.Subtree s ∷ xs) ys = names_append xs ys
+one_name : (o : Option (List ℕ)) (ns : List (List ℕ)) → option_to_list o ++ ns ≡ cons_option o ns
+one_name None ns = refl
+one_name (Some n) ns = refl
 
 -- each token is a leaf or a group's head
 pub leaves_and_heads : (f : Forest) → size f ≡ leaf_count f + heads_in (preorder f)
@@ -39,11 +39,11 @@ leaves_and_heads (group d inner rest) =
 
 pub names_of_all : (f : Forest) → names f ≡ names_in (preorder f)
 names_of_all empty = refl
-names_of_all (leaf l rest) = ap (λ ns. name l ++ ns) (names_of_all rest)
+names_of_all (leaf l rest) = one_name (name l) (names rest) ∙ ap (cons_option (name l)) (names_of_all rest)
 names_of_all (group d inner rest) =
     ap (λ ns. ns ++ names rest) (names_of_all inner)
     ∙ ap (λ ns. names_in (preorder inner) ++ ns) (names_of_all rest)
-    ∙ sym (names_append (preorder inner) (preorder rest))
+    ∙ sym (filter_map-append name_of (preorder inner) (preorder rest))
 
 -- ---- a walk before the first token
 

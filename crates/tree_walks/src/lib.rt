@@ -7,7 +7,7 @@
 ghost use Rattle.std.specs.Prelude.{◌≡◌, IfOk, OnOk};
 ghost use Rattle.tt.specs.Building.{extended};
 ghost use Rattle.tt.specs.Views.{forest};
-ghost use Rattle.tree_walks.specs.Walks.{leaf_count, names};
+ghost use Rattle.tree_walks.specs.Walks.{leaf_count, name_of, names};
 
 #[cfg(test)]
 mod tests;
@@ -38,11 +38,24 @@ pub fn identifiers(alloc: Global, trees: TokenTreesView<'_>) -> Result<Vec<Symbo
 {
     let mut found = Vec::new(alloc);
     for token in trees.iter_flat_tokens() {
-        if let TokenTree::Leaf(Leaf::Ident(ident)) = token {
-            found.push(ident.sym)?;
+        if let Some(name) = name_of(&token) {
+            found.push(name)?;
         }
     }
     Ok(found)
+}
+
+// The name of a token that is an identifier.
+fn name_of(token: &TokenTree) -> Option<Symbol>
+    ensures { result ≡ name_of token.now }
+{
+    let TokenTree::Leaf(Leaf::Ident(ident)) = token else {
+        return None;
+    };
+    let Ok(name) = ident.sym.clone() else {
+        unreachable!()
+    };
+    Some(name)
 }
 
 /// The same tree, built anew. Refused where there is no memory for it.
