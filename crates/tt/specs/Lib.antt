@@ -5,6 +5,7 @@ pub mod Tops
 pub mod Places
 pub mod Groups
 pub mod Building
+pub mod Rewriting
 pub mod Texts
 -- what the functions inside the crate promise each other
 pub mod BuilderTokens

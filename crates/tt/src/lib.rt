@@ -15,6 +15,7 @@ pub mod laws;
 mod tests;
 mod tokens;
 pub mod top;
+pub mod transform;
 pub mod view;
 
 pub use buffer::Cursor;
@@ -23,4 +24,5 @@ pub use display::pretty;
 pub use flat::FlatTokens;
 pub use iter::{TtElement, TtIter};
 pub use top::TopSubtree;
+pub use transform::{TransformTtAction, transform_tt};
 pub use view::{SubtreeView, TokenTreesView};
