@@ -1,21 +1,23 @@
 -- A rewriting walk, step by step: what is left of it, and what it has made so far.
-use Rattle.std.proofs.Common.{◌≡◌, ℕ, ◌+◌, ◌*◌, ◌≤◌, List, [], ◌∷◌, ◌++◌, length, ap, refl, sym, subst, ◌∙◌, arith, append_assoc, append-nil, Some, None}
+use Rattle.std.proofs.Common.{◌≡◌, ℕ, ◌+◌, ◌*◌, ◌≤◌, List, [], ◌∷◌, ◌++◌, length, reverse, ap, refl, sym, subst, ◌∙◌, arith, append_assoc, append-nil, Some, None}
 use Rattle.std.specs.List.{All}
-use Rattle.std.specs.Prelude.{Result, Ok, Err, IfOk}
+use Rattle.std.specs.Prelude.{Bool, true, false, is_none, Option, Result, Ok, Err, IfOk}
 use Rattle.std.specs.Result.{IsErrAnd}
 use Rattle.tt_data.specs.declared.fault.TtFault.{TtFault}
 use Rattle.std.proofs.lemmas.List.Elements.{All-nil, All-cons, All-append}
+use Rattle.std.proofs.lemmas.List.{reverse-append}
 use Rattle.tt_data.specs.declared.delimiter.Delimiter.{Delimiter}
 use Rattle.tt_data.specs.declared.leaf.Leaf.{Leaf}
 use Rattle.tt_data.specs.declared.span.Span.{Span}
+use Rattle.tt_data.specs.declared.tree.Subtree.{Subtree}
 use Rattle.tt_data.specs.declared.tree.TokenTree.TheVariants as token
 use Rattle.tt_data.specs.Forest.{Forest, empty, leaf, group, joined, size, head_of}
 use Rattle.tt_data.specs.Flat.{joined-empty}
 use Rattle.tt_data.proofs.ForestLemmas.{joined_assoc, size-joined}
 use Rattle.tt.specs.declared.transform.Around.{Around}
-use Rattle.tt.specs.Building.{Building, Opened, closed_in, count_in}
+use Rattle.tt.specs.Building.{Building, Opened, closed, closed_in, count_in, count_of}
 use Rattle.tt.specs.Tops.{Top, forest_of_top, only_group}
-use Rattle.tt.specs.Rewriting.{Call, IsRewritten, IsStarted, IsRemoval, nothing, leaf_stays, leaf_gives_way, group_stays, group_gives_way}
+use Rattle.tt.specs.Rewriting.{Call, IsRewritten, IsStarted, IsRemoval, with_answer, nothing, leaf_stays, leaf_gives_way, group_stays, group_gives_way}
 
 abbrev pub kept_leaf : Leaf → Call
 kept_leaf l = record { token = token.Leaf l; put = None }
@@ -193,6 +195,85 @@ least trees calls left around groups here tied way =
       begun = (more, All-append IsRemoval (removals left) c.more (all_removals left) c.removing, way more c.whole (empty, removals left, c.more, removed left, refl, c.done));
       counts = omega (arith, c.counts, size-joined here empty);
     }
+
+-- where a walk stands: these calls were made, these trees are left, and this is what it has made
+abbrev pub IsAt : Forest → Delimiter → List Call → Forest → List Around → Building → Type 0
+IsAt trees top calls left around b = (b.top ≡ top) × (length around ≡ length b.groups) × IsUnderWay trees calls left around b.groups b.here
+
+module _ (trees : Forest) (top : Delimiter) (calls : List Call) where
+  pub least_at : (left : Forest) (around : List Around) (b : Building) → IsAt trees top calls left around b → Least trees calls (count_of b)
+  least_at left around b (same, tied, way) = least trees calls left around b.groups b.here tied way
+
+  module _ (around : List Around) (b : Building) where
+    leaf_asked : (l : Leaf) (put : Option Forest) (rest : Forest) → IsAt trees top calls (leaf l rest) around b
+        → IsAt trees top (calls ++ record { token = token.Leaf l; put = put } ∷ []) rest around (with_answer (record { token = token.Leaf l; put = put }) b)
+    leaf_asked l None rest (same, tied, way) = (same, tied, leaf_kept trees calls around b.groups b.here l rest way)
+    leaf_asked l (Some f) rest (same, tied, way) = (same, tied, leaf_put trees calls around b.groups b.here l f rest way)
+
+    pub leaf_answered : (c : Call) (l : Leaf) (rest : Forest) → c.token ≡ token.Leaf l → IsAt trees top calls (leaf l rest) around b
+        → IsAt trees top (calls ++ c ∷ []) rest around (with_answer c b)
+    leaf_answered c l rest is at =
+        subst (λ t. IsAt trees top (calls ++ record { token = t; put = c.put } ∷ []) rest around (with_answer (record { token = t; put = c.put }) b)) (sym is) (leaf_asked l c.put rest at)
+
+    -- a group by its head
+    module _ (s : Subtree) (inner rest : Forest) where
+      abbrev call_of : Option Forest → Call
+      call_of put = record { token = token.Subtree s; put = put }
+
+      abbrev outside : List Around
+      outside = record { close_span = s.delimiter.close_span; rest = rest } ∷ around
+
+      -- the walk goes on inside the group, or after it
+      abbrev IsAfter : Bool → Call → Type 0
+      IsAfter true c = IsAt trees top (calls ++ c ∷ []) inner outside (with_answer c b)
+      IsAfter false c = IsAt trees top (calls ++ c ∷ []) rest around (with_answer c b)
+
+      group_asked : (put : Option Forest) → token.Subtree s ≡ head_of s.delimiter (size inner) → IsAt trees top calls (group s.delimiter inner rest) around b → IsAfter (is_none put) (call_of put)
+      group_asked None is (same, tied, way) =
+          (same, omega (arith, tied),
+          subst (λ t. IsUnderWay trees (calls ++ record { token = t; put = None } ∷ []) inner outside (record { kind = s.delimiter.kind; open_span = s.delimiter.open_span; before = b.here } ∷ b.groups) empty) (sym is)
+              (group_kept trees calls around b.groups b.here s.delimiter inner rest way))
+      group_asked (Some f) is (same, tied, way) =
+          (same, tied,
+          subst (λ t. IsUnderWay trees (calls ++ record { token = t; put = Some f } ∷ []) rest around b.groups (joined b.here f)) (sym is)
+              (group_put trees calls around b.groups b.here s.delimiter inner f rest way))
+
+      group_after : (c : Call) → c.token ≡ token.Subtree s → s.len ≡ size inner → IsAt trees top calls (group s.delimiter inner rest) around b → IsAfter (is_none c.put) c
+      group_after c is len at =
+          subst (λ t. IsAfter (is_none c.put) (record { token = t; put = c.put })) (sym is) (group_asked c.put (ap (λ n. head_of s.delimiter n) len) at)
+
+      pub group_entered : (c : Call) → c.token ≡ token.Subtree s → true ≡ is_none c.put → s.len ≡ size inner → IsAt trees top calls (group s.delimiter inner rest) around b
+          → IsAt trees top (calls ++ c ∷ []) inner outside (with_answer c b)
+      group_entered c is none len at = subst (λ o. IsAfter o c) (sym none) (group_after c is len at)
+
+      pub group_passed : (c : Call) → c.token ≡ token.Subtree s → false ≡ is_none c.put → s.len ≡ size inner → IsAt trees top calls (group s.delimiter inner rest) around b
+          → IsAt trees top (calls ++ c ∷ []) rest around (with_answer c b)
+      group_passed c is some len at = subst (λ o. IsAfter o c) (sym some) (group_after c is len at)
+
+      least_of : (c : Call) (o : Bool) → IsAfter o c → Least trees (calls ++ c ∷ []) (count_of (with_answer c b))
+      least_of c true (same, tied, way) = least trees (calls ++ c ∷ []) inner outside (with_answer c b).groups (with_answer c b).here tied way
+      least_of c false (same, tied, way) = least trees (calls ++ c ∷ []) rest around (with_answer c b).groups (with_answer c b).here tied way
+
+      pub group_least : (c : Call) → c.token ≡ token.Subtree s → s.len ≡ size inner → IsAt trees top calls (group s.delimiter inner rest) around b
+          → Least trees (calls ++ c ∷ []) (count_of (with_answer c b))
+      group_least c is len at = least_of c (is_none c.put) (group_after c is len at)
+
+  -- nothing is left inside the innermost group: the walk goes on after it, or is at its end
+  module _ (left : Forest) (around : List Around) (b : Building) where
+    pub closed_at : (a : Around) (outer : List Around) → left ≡ empty → around ≡ a ∷ outer → IsAt trees top calls left around b
+        → IsAt trees top calls a.rest outer (closed b a.close_span)
+    closed_at a outer none last at =
+        let (same, tied, way) = subst (λ o. IsAt trees top calls empty o b) last (subst (λ f. IsAt trees top calls f around b) none at) in
+        (top_closed b.groups b a.close_span ∙ same, tied_closed trees calls a outer b.groups b tied, left_closed trees calls a outer b.groups b tied way)
+
+    pub ended_at : left ≡ empty → around ≡ [] → b.groups ≡ [] → IsAt trees top calls left around b → IsRewritten trees calls b.here
+    ended_at none last bare (same, tied, way) =
+        all_made trees calls b.here
+        (subst (λ o. IsUnderWay trees calls empty [] o b.here) bare (subst (λ o. IsUnderWay trees calls empty o b.groups b.here) last (subst (λ f. IsUnderWay trees calls f around b.groups b.here) none way)))
+
+-- the groups around, the innermost first, where the vector has it last
+pub stacked : (xs ys : List Around) (a : Around) → ys ≡ xs ++ a ∷ [] → reverse ys ≡ a ∷ reverse xs
+stacked xs ys a is = ap reverse is ∙ reverse-append xs (a ∷ [])
 
 -- a bound on the steps of the walk
 abbrev pub steps_in : List Around → ℕ

@@ -1,5 +1,5 @@
 -- What becomes of a list of trees where a callback says of each token, in the order of the walk, whether it stays.
-use Rattle.std.specs.Prelude.{◌≡◌, ◌<◌, List, [], ◌∷◌, ◌++◌, Option, Some, None}
+use Rattle.std.specs.Prelude.{◌≡◌, List, [], ◌∷◌, ◌++◌, Option, Some, None}
 use Rattle.std.specs.Borrow.{Bor}
 use Rattle.std.specs.List.{All}
 use Rattle.std.specs.Fn.{CalledAt, Mut}
@@ -10,8 +10,7 @@ use Rattle.tt_data.specs.declared.tree.TokenTree.TheVariants as token
 use Rattle.tt_data.specs.Forest.{Forest, empty, leaf, group, joined, size, head_of}
 use Rattle.tt.specs.declared.transform.TransformTtAction.{TransformTtAction}
 use Rattle.tt.specs.declared.transform.TransformTtAction.TheVariants.{Keep, ReplaceWith}
-use Rattle.tt.specs.Building.{most_tokens}
-use Rattle.tt.specs.Tops.{Top, forest_of_top}
+use Rattle.tt.specs.Building.{Building, pushed, extended, opened}
 use Rattle.tt.specs.Views.{forest}
 
 -- the trees that come in a token's place: none where it stays
@@ -27,6 +26,16 @@ pub record Call : Type 0 where
 -- the callback may be asked this, answer so, and be f' afterwards
 abbrev pub IsAnswered : {F : Type 0} → Mut F (Bor TokenTree × Unit {0}) TransformTtAction → F → Call → F → Type 0
 IsAnswered g f c f' = (action : TransformTtAction) × CalledAt g f c.token action f' × (replacement action ≡ c.put)
+
+-- a tree under construction after a token: the trees that come in its place are there, or else the leaf, or the group is open
+abbrev with_put : Option Forest → TokenTree → Building → Building
+with_put (Some f) t b = extended b f
+with_put None (token.Leaf l) b = pushed b l
+with_put None (token.Subtree s) b = opened b s.delimiter.kind s.delimiter.open_span
+
+-- a tree under construction after a call
+abbrev pub with_answer : Call → Building → Building
+with_answer c b = with_put c.put c.token b
 
 -- these calls, one after the other, make the second list of trees of the first: each tree is asked about, a group by its head; a leaf that stays is there, and a group that stays is there with what is made of the trees inside; a tree that gives way is not walked, and what is put in its place is there
 pub data IsRewritten : Forest → List Call → Forest → Type 0 where

@@ -1,10 +1,11 @@
 //! Trees that are rewritten token by token.
-ghost use Rattle.std.specs.Prelude.{◌≡◌, ◌<◌, ◌⊎◌, List, Err, Some, None, IfOk, IfErr, OnOk, OnErr};
+ghost use Rattle.std.specs.Prelude.{◌≡◌, ◌<◌, ◌⊎◌, List, Err, Some, None, is_none, IfOk, IfErr, OnOk, OnErr};
 ghost use Rattle.std.specs.List.{FoldsTo};
 ghost use Rattle.tt_data.specs.Forest.{Forest, empty, size};
 ghost use Rattle.tt_data.specs.declared.fault.TtFault.TheVariants as fault;
-ghost use Rattle.tt.specs.Building.{most_tokens};
-ghost use Rattle.tt.specs.Rewriting.{Call, IsAnswered, IsRewritten, IsStarted, replacement};
+ghost use Rattle.tt_data.specs.declared.tree.TokenTree.TheVariants as token;
+ghost use Rattle.tt.specs.Building.{count_of, most_tokens};
+ghost use Rattle.tt.specs.Rewriting.{Call, IsAnswered, IsRewritten, IsStarted, replacement, with_answer};
 ghost use Rattle.tt.specs.Tops.{Top, forest_of_top, only_group};
 
 use crate::builder::TopSubtreeBuilder;
@@ -14,8 +15,9 @@ use crate::view::TokenTreesView;
 use std::alloc::Global;
 use tt_data::delimiter::Delimiter;
 use tt_data::fault::TtFault;
+use tt_data::leaf::Leaf;
 use tt_data::span::Span;
-use tt_data::tree::TokenTree;
+use tt_data::tree::{Subtree, TokenTree};
 
 /// What becomes of a token that a walk has come to.
 #[derive(Clone, Copy)]
@@ -92,6 +94,53 @@ struct Around<'a> {
     rest: TtIter<'a>,
 }
 
+// Asks about a leaf, and puts it into the tree, or what comes in its place.
+fn put_leaf<'b, F: FnMut(&TokenTree) -> TransformTtAction<'b>>(
+    tree: &mut TopSubtreeBuilder,
+    leaf: Leaf,
+    callback: &mut F,
+) -> Result<(), TtFault>
+    requires { F.IsAlwaysCallable callback.old }
+    ensures callable { F.IsAlwaysCallable callback.new }
+    ensures ok { OnOk result ((c : Call) × (c.token ≡ token.Leaf leaf) × IsAnswered F.FnMut callback.old c callback.new
+        × (tree.new.tree ≡ with_answer c tree.old.tree)) }
+    ensures tokens { result ≡ Err fault.Tokens → (c : Call) × (c.token ≡ token.Leaf leaf) × IsAnswered F.FnMut callback.old c callback.new
+        × (most_tokens < count_of (with_answer c tree.old.tree)) }
+    ensures faults { IfErr result (λ e. (e ≡ fault.Memory) ⊎ (e ≡ fault.Tokens)) }
+{
+    match callback(&TokenTree::Leaf(leaf.clone()?)) {
+        TransformTtAction::Keep => tree.push(leaf),
+        TransformTtAction::ReplaceWith(trees) => tree.extend_with_tt(trees),
+    }
+}
+
+// Asks about a group, and opens it in the tree, or puts there what comes in its place: whether it is
+// opened, for the walk to go into it.
+fn put_head<'b, F: FnMut(&TokenTree) -> TransformTtAction<'b>>(
+    tree: &mut TopSubtreeBuilder,
+    head: Subtree,
+    callback: &mut F,
+) -> Result<bool, TtFault>
+    requires { F.IsAlwaysCallable callback.old }
+    ensures callable { F.IsAlwaysCallable callback.new }
+    ensures ok { IfOk result (λ opened. (c : Call) × (c.token ≡ token.Subtree head) × (opened ≡ is_none c.put)
+        × IsAnswered F.FnMut callback.old c callback.new × (tree.new.tree ≡ with_answer c tree.old.tree)) }
+    ensures tokens { result ≡ Err fault.Tokens → (c : Call) × (c.token ≡ token.Subtree head) × IsAnswered F.FnMut callback.old c callback.new
+        × (most_tokens < count_of (with_answer c tree.old.tree)) }
+    ensures faults { IfErr result (λ e. (e ≡ fault.Memory) ⊎ (e ≡ fault.Tokens)) }
+{
+    match callback(&TokenTree::Subtree(head)) {
+        TransformTtAction::Keep => {
+            tree.open(head.delimiter.kind, head.delimiter.open_span)?;
+            Ok(true)
+        }
+        TransformTtAction::ReplaceWith(trees) => {
+            tree.extend_with_tt(trees)?;
+            Ok(false)
+        }
+    }
+}
+
 // The tree with these brackets and what the callback makes of these trees inside.
 fn rewritten<'b, F: FnMut(&TokenTree) -> TransformTtAction<'b>>(
     alloc: Global,
@@ -111,26 +160,17 @@ fn rewritten<'b, F: FnMut(&TokenTree) -> TransformTtAction<'b>>(
     let mut left = trees;
     'walk: loop {
         match left.next() {
-            Some(TtElement::Leaf(leaf)) => {
-                match callback(&TokenTree::Leaf(leaf.clone()?)) {
-                    TransformTtAction::Keep => tree.push(leaf)?,
-                    TransformTtAction::ReplaceWith(trees) => tree.extend_with_tt(trees)?,
-                }
-            }
+            Some(TtElement::Leaf(leaf)) => put_leaf(&mut tree, leaf, &mut callback)?,
             Some(TtElement::Subtree(head, inside)) => {
-                match callback(&TokenTree::Subtree(head)) {
-                    TransformTtAction::Keep => {
-                        tree.open(head.delimiter.kind, head.delimiter.open_span)?;
-                        let around = Around {
-                            close_span: head.delimiter.close_span,
-                            rest: left,
-                        };
-                        let Ok(()) = outer.push(around) else {
-                            return Err(TtFault::Memory);
-                        };
-                        left = inside;
-                    }
-                    TransformTtAction::ReplaceWith(trees) => tree.extend_with_tt(trees)?,
+                if put_head(&mut tree, head, &mut callback)? {
+                    let around = Around {
+                        close_span: head.delimiter.close_span,
+                        rest: left,
+                    };
+                    let Ok(()) = outer.push(around) else {
+                        return Err(TtFault::Memory);
+                    };
+                    left = inside;
                 }
             }
             None => match outer.pop() {
