@@ -80,21 +80,21 @@ module _ (trees : Forest) (calls : List Call) (around : List Around) (groups : L
   leaf_kept l rest way =
       after_call (kept_leaf l) (leaf l rest) rest around groups (joined here (leaf l empty)) way
       (λ more g (f, mine, others, made, all, k).
-          (leaf l f, kept_leaf l ∷ mine, others, leaf_stays l rest f mine made, ap (λ m. kept_leaf l ∷ m) all, done_with (leaf l empty) f _ others g (joined_assoc here (leaf l empty) f) k))
+      (leaf l f, kept_leaf l ∷ mine, others, leaf_stays l rest f mine made, ap (λ m. kept_leaf l ∷ m) all, done_with (leaf l empty) f _ others g (joined_assoc here (leaf l empty) f) k))
 
   pub leaf_put : (l : Leaf) (put rest : Forest) → IsUnderWay trees calls (leaf l rest) around groups here
       → IsUnderWay trees (calls ++ put_leaf l put ∷ []) rest around groups (joined here put)
   leaf_put l put rest way =
       after_call (put_leaf l put) (leaf l rest) rest around groups (joined here put) way
       (λ more g (f, mine, others, made, all, k).
-          (joined put f, put_leaf l put ∷ mine, others, leaf_gives_way l rest put f mine made, ap (λ m. put_leaf l put ∷ m) all, done_with put f _ others g (joined_assoc here put f) k))
+      (joined put f, put_leaf l put ∷ mine, others, leaf_gives_way l rest put f mine made, ap (λ m. put_leaf l put ∷ m) all, done_with put f _ others g (joined_assoc here put f) k))
 
   pub group_put : (d : Delimiter) (inner put rest : Forest) → IsUnderWay trees calls (group d inner rest) around groups here
       → IsUnderWay trees (calls ++ put_group d inner put ∷ []) rest around groups (joined here put)
   group_put d inner put rest way =
       after_call (put_group d inner put) (group d inner rest) rest around groups (joined here put) way
       (λ more g (f, mine, others, made, all, k).
-          (joined put f, put_group d inner put ∷ mine, others, group_gives_way d inner rest put f mine made, ap (λ m. put_group d inner put ∷ m) all, done_with put f _ others g (joined_assoc here put f) k))
+      (joined put f, put_group d inner put ∷ mine, others, group_gives_way d inner rest put f mine made, ap (λ m. put_group d inner put ∷ m) all, done_with put f _ others g (joined_assoc here put f) k))
 
   pub group_kept : (d : Delimiter) (inner rest : Forest) → IsUnderWay trees calls (group d inner rest) around groups here
       → IsUnderWay trees (calls ++ kept_group d inner ∷ []) inner (record { close_span = d.close_span; rest = rest } ∷ around)
@@ -102,15 +102,14 @@ module _ (trees : Forest) (calls : List Call) (around : List Around) (groups : L
   group_kept d inner rest way =
       after_call (kept_group d inner) (group d inner rest) inner (record { close_span = d.close_span; rest = rest } ∷ around)
       (record { kind = d.kind; open_span = d.open_span; before = here } ∷ groups) empty way
-      (λ more g (f, mine, others, made, all, (f2, mine2, others2, made2, all2, k)).
-          (
-            group d f f2,
-            kept_group d inner ∷ mine ++ mine2,
-            others2,
-            group_stays d inner rest f f2 mine mine2 made made2,
-            ap (λ m. kept_group d inner ∷ m) (all ∙ ap (λ m. mine ++ m) all2 ∙ sym (append_assoc mine mine2 others2)),
-            done_with (group d f empty) f2 _ others2 g (joined_assoc here (group d f empty) f2) k,
-          ))
+      (λ more g (f, mine, others, made, all, (f2, mine2, others2, made2, all2, k)). (
+        group d f f2,
+        kept_group d inner ∷ mine ++ mine2,
+        others2,
+        group_stays d inner rest f f2 mine mine2 made made2,
+        ap (λ m. kept_group d inner ∷ m) (all ∙ ap (λ m. mine ++ m) all2 ∙ sym (append_assoc mine mine2 others2)),
+        done_with (group d f empty) f2 _ others2 g (joined_assoc here (group d f empty) f2) k,
+      ))
 
 -- a group is left: it stands after the trees before it
 pub group_left : (trees : Forest) (calls : List Call) (a : Around) (outer : List Around) (o : Opened) (groups : List Opened) (here : Forest)
@@ -229,14 +228,18 @@ module _ (trees : Forest) (top : Delimiter) (calls : List Call) where
       IsAfter false c = IsAt trees top (calls ++ c ∷ []) rest around (with_answer c b)
 
       group_asked : (put : Option Forest) → token.Subtree s ≡ head_of s.delimiter (size inner) → IsAt trees top calls (group s.delimiter inner rest) around b → IsAfter (is_none put) (call_of put)
-      group_asked None is (same, tied, way) =
-          (same, omega (arith, tied),
-          subst (λ t. IsUnderWay trees (calls ++ record { token = t; put = None } ∷ []) inner outside (record { kind = s.delimiter.kind; open_span = s.delimiter.open_span; before = b.here } ∷ b.groups) empty) (sym is)
-              (group_kept trees calls around b.groups b.here s.delimiter inner rest way))
-      group_asked (Some f) is (same, tied, way) =
-          (same, tied,
-          subst (λ t. IsUnderWay trees (calls ++ record { token = t; put = Some f } ∷ []) rest around b.groups (joined b.here f)) (sym is)
-              (group_put trees calls around b.groups b.here s.delimiter inner f rest way))
+      group_asked None is (same, tied, way) = (
+        same,
+        omega (arith, tied),
+        subst (λ t. IsUnderWay trees (calls ++ record { token = t; put = None } ∷ []) inner outside (record { kind = s.delimiter.kind; open_span = s.delimiter.open_span; before = b.here } ∷ b.groups) empty) (sym is)
+            (group_kept trees calls around b.groups b.here s.delimiter inner rest way),
+      )
+      group_asked (Some f) is (same, tied, way) = (
+        same,
+        tied,
+        subst (λ t. IsUnderWay trees (calls ++ record { token = t; put = Some f } ∷ []) rest around b.groups (joined b.here f)) (sym is)
+            (group_put trees calls around b.groups b.here s.delimiter inner f rest way),
+      )
 
       group_after : (c : Call) → c.token ≡ token.Subtree s → s.len ≡ size inner → IsAt trees top calls (group s.delimiter inner rest) around b → IsAfter (is_none c.put) c
       group_after c is len at =

@@ -2,6 +2,7 @@ use Rattle.std.proofs.Common.{◌≡◌, ◌∷◌, [], ◌++◌, ap, sym, subst
 use Rattle.std.proofs.lemmas.Fn.{FoldsTo-push}
 use Rattle.std.proofs.lemmas.List.{nil_from_length}
 use Rattle.tt_data.specs.Forest.{empty, leaf}
+use Rattle.tt.specs.Building.{closed}
 use Rattle.tt.specs.Rewriting.{IsRewritten}
 use Rattle.tt.specs.Tops.{Top}
 use Rattle.tt.specs.declared.transform.Around.{Around}
@@ -82,7 +83,7 @@ walk-preserved g c =
     let none : c.walk.left ≡ empty = (rw c.in-None.is at c.next.ensures.steps).0 in
     let stack : reverse c.walk.outer.items ≡ a ∷ outer = stacked c.pop.new.self.items c.walk.outer.items a c.in-Some.ensures.items in
     let next = closed_at c.args.trees c.args.top calls c.walk.left (reverse c.walk.outer.items) c.walk.tree.tree a outer none stack at in
-    (search of_calls, (calls, made, subst (IsAt c.args.trees c.args.top calls a.rest outer) (sym c.in_ok-close-in-Some.ensures.ok) next))
+    (search of_calls, (calls, made, subst (IsAt c.args.trees c.args.top calls a.rest outer) {x = closed c.walk.tree.tree a.close_span} (sym c.in_ok-close-in-Some.ensures.ok) next))
 
 pub returns-clause-ok : goal.returns-clause-ok
 returns-clause-ok g c =

@@ -15,12 +15,12 @@ returns-in-Keep-clause-ok g c =
     let asked : IsAnswered g.F.FnMut c.args.callback (kept_group t.delimiter t.inner) c.callback.new.self =
     (Keep, subst (λ h. CalledAt g.F.FnMut c.args.callback (token.Subtree h) Keep c.callback.new.self) c.top_subtree-head.ensures (called_at g.F.FnMut c.callback.ensures c.in-Keep.is), refl) in
     followed _ _ c.rewritten.result
-        (λ tree (calls, last, made, all, top).
-            let inside = subst (λ f. IsRewritten f calls tree.inner) c.iter.ensures all in
-            let same = subst (λ d. IsRewritten (forest_of_top t) (kept_group t.delimiter t.inner ∷ calls) (forest_of_top (record { delimiter = d; inner = tree.inner })))
-                (sym (top ∙ ap (λ h. h.delimiter) c.top_subtree-head.ensures)) (top_kept t calls tree.inner inside) in
-            (kept_group t.delimiter t.inner ∷ calls, last, (c.callback.new.self, asked, made), same))
-        c.rewritten.ensures.ok
+    (λ tree (calls, last, made, all, top).
+    let inside = subst (λ f. IsRewritten f calls tree.inner) c.iter.ensures all in
+    let same = subst (λ d. IsRewritten (forest_of_top t) (kept_group t.delimiter t.inner ∷ calls) (forest_of_top (record { delimiter = d; inner = tree.inner })))
+    (sym (top ∙ ap (λ h. h.delimiter) c.top_subtree-head.ensures)) (top_kept t calls tree.inner inside) in
+    (kept_group t.delimiter t.inner ∷ calls, last, (c.callback.new.self, asked, made), same))
+    c.rewritten.ensures.ok
 
 pub returns-in-Keep-clause-tokens : goal.returns-in-Keep-clause-tokens
 returns-in-Keep-clause-tokens g c = λ e.
@@ -44,10 +44,13 @@ returns-in-Some-clause-ok g c =
     (ReplaceWith v, subst (λ h. CalledAt g.F.FnMut c.args.callback (token.Subtree h) (ReplaceWith v) c.callback.new.self) c.top_subtree-head.ensures (called_at g.F.FnMut c.callback.ensures c.in-ReplaceWith.is), refl) in
     let one : forest v ≡ forest_of_top (top_of c.in-Some.group) = only_is_top (forest v) (top_of c.in-Some.group) c.in-Some.ensures in
     followed _ _ c.from_subtree.result
-        (λ tree is.
-            (put_group t.delimiter t.inner (forest v) ∷ [], c.callback.new.self, (c.callback.new.self, asked, refl),
-            subst (IsRewritten (forest_of_top t) (put_group t.delimiter t.inner (forest v) ∷ [])) (one ∙ ap forest_of_top (sym is)) (top_put t (forest v))))
-        c.from_subtree.ensures.ok
+    (λ tree is. (
+      put_group t.delimiter t.inner (forest v) ∷ [],
+      c.callback.new.self,
+      (c.callback.new.self, asked, refl),
+      subst (IsRewritten (forest_of_top t) (put_group t.delimiter t.inner (forest v) ∷ [])) (one ∙ ap forest_of_top (sym is)) (top_put t (forest v)),
+    ))
+    c.from_subtree.ensures.ok
 
 pub returns-clause-malformed : goal.returns-clause-malformed
 returns-clause-malformed g c = λ e.
