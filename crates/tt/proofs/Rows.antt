@@ -20,6 +20,7 @@ use Rattle.tt.specs.Elements.{elements, first_element, first_place, first_alone,
 use Rattle.tt.specs.Groups.{stripped}
 use Rattle.tt.specs.CursorTokens.{place_of}
 use Rattle.tt.specs.Places.{Around, beginning, moved, IsEnd, first_token, innermost_head, two_leaves, steps_before, steps_after}
+use Rattle.tt.specs.Rewriting.{IsRewritten, nothing, leaf_stays, leaf_gives_way, group_stays, group_gives_way}
 use Rattle.tt.specs.Texts.{displayed_text, pretty_text}
 use Rattle.tt.specs.Tops.{head_of, only_group, tokens_of, tree_of, has_leaf_at}
 
@@ -443,3 +444,24 @@ displayed_invisible = refl
 
 nothing_displayed : displayed_text empty ≡ []
 nothing_displayed = refl
+
+-- `a(,)b`, where `a` and the group stay, `,` goes and `b` gives way to `a`
+rewritten_row :
+    IsRewritten trees
+    (record { token = token.Leaf (name (codes "a") 0); put = None }
+    ∷ record { token = token.Subtree (record { delimiter = round 1 3; len = 1 }); put = None }
+    ∷ record { token = token.Leaf (comma 2); put = Some empty }
+    ∷ record { token = token.Leaf (name (codes "b") 4); put = Some (leaf (name (codes "a") 0) empty) }
+    ∷ [])
+    (leaf (name (codes "a") 0) (group (round 1 3) empty (leaf (name (codes "a") 0) empty)))
+rewritten_row =
+    leaf_stays _ _ _ _
+    (group_stays (round 1 3) _ _ _ _ (record { token = token.Leaf (comma 2); put = Some empty } ∷ []) _
+    (leaf_gives_way _ _ _ _ _ nothing) (leaf_gives_way _ _ (leaf (name (codes "a") 0) empty) _ _ nothing))
+
+-- a group that gives way is asked about once
+given_way_row :
+    IsRewritten (group (round 1 3) (leaf (comma 2) empty) empty)
+    (record { token = token.Subtree (record { delimiter = round 1 3; len = 1 }); put = Some (leaf (comma 2) empty) } ∷ [])
+    (leaf (comma 2) empty)
+given_way_row = group_gives_way _ _ _ (leaf (comma 2) empty) _ _ nothing

@@ -6,6 +6,7 @@ pub mod Places
 pub mod Splitting
 pub mod Groups
 pub mod Building
+pub mod Rewriting
 pub mod Texts
 -- what the functions inside the crate promise each other
 pub mod BuilderTokens

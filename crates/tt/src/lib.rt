@@ -16,6 +16,7 @@ pub mod split;
 mod tests;
 mod tokens;
 pub mod top;
+pub mod transform;
 pub mod view;
 
 pub use buffer::Cursor;
@@ -25,4 +26,5 @@ pub use flat::FlatTokens;
 pub use iter::{TtElement, TtIter};
 pub use split::Split;
 pub use top::TopSubtree;
+pub use transform::{TransformTtAction, transform_tt};
 pub use view::{SubtreeView, TokenTreesView};

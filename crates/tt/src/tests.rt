@@ -639,3 +639,40 @@ fn prints(rt: HostRuntime) -> Result<(), Fail> {
     }
     Ok(())
 }
+
+// Whether the token is a punct of this character.
+fn is_punct(token: &TokenTree, char: char) -> bool {
+    match token {
+        TokenTree::Leaf(Leaf::Punct(punct)) => punct.char == char,
+        _ => false,
+    }
+}
+
+#[test]
+fn rewrites(rt: HostRuntime) -> Result<(), Fail> {
+    let mut tree = sample(rt.alloc()).ok().ok_or("refused")?;
+    let before = tree.try_clone().ok().ok_or("refused")?;
+    let mut asked = 0u8;
+    // `+(-[]*)/` without its `-`.
+    let done = transform_tt(&mut tree, |token| {
+        asked = asked.saturating_add(1);
+        if is_punct(token, '-') {
+            TransformTtAction::remove()
+        } else {
+            TransformTtAction::Keep
+        }
+    });
+    assert!(rt; done.is_ok());
+    assert_eq!(rt; asked, 7);
+    assert_eq!(rt; tree.top_subtree().len, 5);
+    // Without its top it is no tree.
+    let done = transform_tt(&mut tree, |_| TransformTtAction::remove());
+    assert_eq!(rt; done.err(), Some(TtFault::Malformed));
+    assert_eq!(rt; tree.top_subtree().len, 5);
+    let done = transform_tt(&mut tree, |_| {
+        TransformTtAction::ReplaceWith(before.as_token_trees())
+    });
+    assert!(rt; done.is_ok());
+    assert!(rt; tree == before);
+    Ok(())
+}

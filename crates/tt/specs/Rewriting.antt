@@ -1,0 +1,60 @@
+-- What becomes of a list of trees where a callback says of each token, in the order of the walk, whether it stays.
+use Rattle.std.specs.Prelude.{◌≡◌, List, [], ◌∷◌, ◌++◌, Option, Some, None}
+use Rattle.std.specs.Borrow.{Bor}
+use Rattle.std.specs.List.{All}
+use Rattle.std.specs.Fn.{CalledAt, Mut}
+use Rattle.tt_data.specs.declared.delimiter.Delimiter.{Delimiter}
+use Rattle.tt_data.specs.declared.leaf.Leaf.{Leaf}
+use Rattle.tt_data.specs.declared.tree.TokenTree.{TokenTree}
+use Rattle.tt_data.specs.declared.tree.TokenTree.TheVariants as token
+use Rattle.tt_data.specs.Forest.{Forest, empty, leaf, group, joined, size, head_of}
+use Rattle.tt.specs.declared.transform.TransformTtAction.{TransformTtAction}
+use Rattle.tt.specs.declared.transform.TransformTtAction.TheVariants.{Keep, ReplaceWith}
+use Rattle.tt.specs.Building.{Building, pushed, extended, opened}
+use Rattle.tt.specs.Views.{forest}
+
+-- the trees that come in a token's place: none where it stays
+abbrev pub replacement : TransformTtAction → Option Forest
+replacement Keep = None
+replacement (ReplaceWith v) = Some (forest v)
+
+-- a call of the callback: the token that it was asked about, and the trees that come in its place, if it gives way
+pub record Call : Type 0 where
+  pub token : TokenTree
+  pub put : Option Forest
+
+-- the callback may be asked this, answer so, and be f' afterwards
+abbrev pub IsAnswered : {F : Type 0} → Mut F (Bor TokenTree × Unit {0}) TransformTtAction → F → Call → F → Type 0
+IsAnswered g f c f' = (action : TransformTtAction) × CalledAt g f c.token action f' × (replacement action ≡ c.put)
+
+-- a tree under construction after a token: the trees that come in its place are there, or else the leaf, or the group is open
+abbrev with_put : Option Forest → TokenTree → Building → Building
+with_put (Some f) t b = extended b f
+with_put None (token.Leaf l) b = pushed b l
+with_put None (token.Subtree s) b = opened b s.delimiter.kind s.delimiter.open_span
+
+-- a tree under construction after a call
+abbrev pub with_answer : Call → Building → Building
+with_answer c b = with_put c.put c.token b
+
+-- these calls, one after the other, make the second list of trees of the first: each tree is asked about, a group by its head; a leaf that stays is there, and a group that stays is there with what is made of the trees inside; a tree that gives way is not walked, and what is put in its place is there
+pub data IsRewritten : Forest → List Call → Forest → Type 0 where
+  nothing : IsRewritten empty [] empty
+  leaf_stays : (l : Leaf) (rest g : Forest) (more : List Call)
+      → IsRewritten rest more g → IsRewritten (leaf l rest) (record { token = token.Leaf l; put = None } ∷ more) (leaf l g)
+  leaf_gives_way : (l : Leaf) (rest put g : Forest) (more : List Call)
+      → IsRewritten rest more g → IsRewritten (leaf l rest) (record { token = token.Leaf l; put = Some put } ∷ more) (joined put g)
+  group_stays : (d : Delimiter) (inner rest f g : Forest) (inside more : List Call)
+      → IsRewritten inner inside f → IsRewritten rest more g
+      → IsRewritten (group d inner rest) (record { token = head_of d (size inner); put = None } ∷ inside ++ more) (group d f g)
+  group_gives_way : (d : Delimiter) (inner rest put g : Forest) (more : List Call)
+      → IsRewritten rest more g
+      → IsRewritten (group d inner rest) (record { token = head_of d (size inner); put = Some put } ∷ more) (joined put g)
+
+-- the call takes its tree away
+abbrev pub IsRemoval : Call → Type 0
+IsRemoval c = c.put ≡ Some empty
+
+-- with these calls first, and then each tree left taken away, this comes of a list of trees
+abbrev pub IsStarted : Forest → List Call → Forest → Type 0
+IsStarted f calls g = (more : List Call) × All IsRemoval more × IsRewritten f (calls ++ more) g
