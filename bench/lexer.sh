@@ -2,27 +2,9 @@
 # Times `tokenize` on about 10 MB of Rust source, ten turns, beside a plain pass over its characters,
 # and on texts of 1 MB that invite a lexer to look far ahead. Ends with status 1 where one of the
 # latter takes more than a second for one turn. The source is the toolchain's own.
-export LC_ALL=C
-top=$(cd "$(dirname "$(readlink -f "${BASH_SOURCE[0]}")")/.." && pwd) || exit 2
-work=$(mktemp -d) || exit 2
-trap 'rm -rf "$work"' EXIT
-
-# The program stands on the lexer alone, in a workspace of its own.
-mkdir -p "$work/root/crates/lexer_speed/src" || exit 2
-mkdir "$work/root/crates/rustc_lexer"
-cp -r "$top"/crates/rustc_lexer/{src,specs,proofs} "$work/root/crates/rustc_lexer" || exit 2
-cp "$top/bench/lexer/main.rt.in" "$work/root/crates/lexer_speed/src/main.rt"
-{ grep '^rustc_lexer:' "$top/crates.txt"; echo 'lexer_speed: rustc_lexer'; } >"$work/root/crates.txt"
-echo "lexer: proving and building the program, which takes some minutes" >&2
-(cd "$work/root/crates/lexer_speed" && printf 'n' | rt run >"$work/log" 2>&1)
-program=$work/root/crates/lexer_speed/out/lexer_speed
-[ -x "$program" ] || { cat "$work/log" >&2; exit 2; }
-
-kit=$(dirname "$(rt doc)")
-while [ "$(stat -c %s "$work/source" 2>/dev/null || echo 0)" -lt 10000000 ]; do
-    find "$kit" -name '*.rt' | sort | xargs cat >>"$work/source"
-done
-head -c 10000000 "$work/source" | iconv -f utf-8 -t utf-8 -c >"$work/text"
+. "$(dirname "$(readlink -f "${BASH_SOURCE[0]}")")/common.sh"
+build lexer rustc_lexer
+source_text
 
 # The microseconds of ten turns over a text, those of reading it taken off; the least of three runs.
 turns() {

@@ -3,24 +3,8 @@
 # cursor, the time to build the tree taken off. A list in the tree has at most eight trees: a cursor
 # takes time for all that stands before a group in its list. Tells also the time of building, and the
 # bytes of a token.
-export LC_ALL=C
-top=$(cd "$(dirname "$(readlink -f "${BASH_SOURCE[0]}")")/.." && pwd) || exit 2
-work=$(mktemp -d) || exit 2
-trap 'rm -rf "$work"' EXIT
-
-# The program stands on the crate of trees and what is below it, in a workspace of its own.
-mkdir -p "$work/root/crates/tree_speed/src" || exit 2
-grep -E '^(symbols|tt_data|tt):' "$top/crates.txt" >"$work/root/crates.txt"
-while IFS=: read -r crate _; do
-    mkdir "$work/root/crates/$crate"
-    cp -r "$top/crates/$crate"/{src,specs,proofs} "$work/root/crates/$crate" || exit 2
-done <"$work/root/crates.txt"
-echo 'tree_speed: tt_data tt' >>"$work/root/crates.txt"
-cp "$top/bench/trees/main.rt.in" "$work/root/crates/tree_speed/src/main.rt" || exit 2
-echo "trees: proving and building the program, which takes some minutes" >&2
-(cd "$work/root/crates/tree_speed" && printf 'n' | rt run >"$work/log" 2>&1)
-program=$work/root/crates/tree_speed/out/tree_speed
-[ -x "$program" ] || { cat "$work/log" >&2; exit 2; }
+. "$(dirname "$(readlink -f "${BASH_SOURCE[0]}")")/common.sh"
+build trees symbols tt_data tt
 
 # The microseconds of a run in this mode; the least of three.
 run() {

@@ -1,0 +1,35 @@
+# For the scripts beside it, which read it: a folder for the while, a program that is proved and built
+# over crates of this repository, and Rust source to read.
+export LC_ALL=C
+top=$(cd "$(dirname "$(readlink -f "${BASH_SOURCE[0]}")")/.." && pwd) || exit 2
+work=$(mktemp -d) || exit 2
+trap 'rm -rf "$work"' EXIT
+
+# The program `bench/FOLDER/main.rt.in`, over these crates and those named behind them in crates.txt,
+# in a workspace of its own: its path is then in `program`.
+build() {
+    local folder=$1 name="$1_speed" crate
+    shift
+    mkdir -p "$work/root/crates/$name/src" || exit 2
+    for crate; do
+        mkdir "$work/root/crates/$crate"
+        cp -r "$top/crates/$crate"/{src,specs,proofs} "$work/root/crates/$crate" || exit 2
+        grep "^$crate:" "$top/crates.txt" >>"$work/root/crates.txt" || exit 2
+    done
+    cp "$top/bench/$folder/main.rt.in" "$work/root/crates/$name/src/main.rt" || exit 2
+    echo "$name: $*" >>"$work/root/crates.txt"
+    echo "$folder: proving and building the program, which takes some minutes" >&2
+    (cd "$work/root/crates/$name" && printf 'n' | rt run >"$work/log" 2>&1)
+    program=$work/root/crates/$name/out/$name
+    [ -x "$program" ] || { cat "$work/log" >&2; exit 2; }
+}
+
+# Ten million bytes of the toolchain's own source, less what is cut off at the end, in `$work/text`.
+source_text() {
+    local kit
+    kit=$(dirname "$(rt doc)")
+    while [ "$(stat -c %s "$work/source" 2>/dev/null || echo 0)" -lt 10000000 ]; do
+        find "$kit" -name '*.rt' | sort | xargs cat >>"$work/source"
+    done
+    head -c 10000000 "$work/source" | iconv -f utf-8 -t utf-8 -c >"$work/text"
+}
