@@ -86,7 +86,7 @@ fn thin_out(marks: &mut Vec<Mark>, tokens: &[Token])
     }
 }
 
-/// Leaves a mark half-way to `start` where the nearest one is far from it.
+/// Leaves a mark half-way to `start` where the nearest one is far from it, unless a single token reaches from there past `start`.
 pub fn refine(marks: &mut Vec<Mark>, tokens: &[Token], start: usize) -> Result<(), AllocError>
     requires marks { All (IsMark tokens.now) marks.old.items }
     requires fits { total tokens.now < 2 ^ 32 }
@@ -100,6 +100,9 @@ pub fn refine(marks: &mut Vec<Mark>, tokens: &[Token], start: usize) -> Result<(
     }
     let half = near.place + (start - near.place) / 2;
     let (walked, place) = first_from(&tokens[near.tokens..], near.place, half);
+    if start < place {
+        return Ok(());
+    }
     let tokens = near.tokens + walked;
     marks.insert(passed, Mark { tokens, place })?;
     Ok(())
