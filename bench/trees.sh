@@ -1,8 +1,8 @@
 #!/bin/bash
 # Times walks over a tree of two million tokens, ten turns each: tree by tree, by flat tokens and by a
-# cursor, the time to build the tree taken off. A list in the tree has at most eight trees: a cursor
-# takes time for all that stands before a group in its list. Tells also the time of building, and the
-# bytes of a token.
+# cursor, the time to build the tree taken off; first over groups in one another, with eight trees in
+# each list, then over one list of 666,667 groups. Tells also the time of building, and the bytes of a
+# token.
 . "$(dirname "$(readlink -f "${BASH_SOURCE[0]}")")/common.sh"
 build trees symbols tt_data tt
 
@@ -18,11 +18,15 @@ run() {
     echo "$least"
 }
 
-build=$(run n) || exit 2
-read -r tokens each _ <"$work/out"
-awk -v n="$tokens" -v t="$build" 'BEGIN { printf "%d tokens; built: %.1f million tokens/s\n", n, n / t }'
-for mode in 'i tree by tree' 'f flat tokens' 'c cursor'; do
-    all=$(run "${mode%% *}") || exit 2
-    awk -v what="${mode#* }" -v n="$tokens" -v t="$(( all - build ))" 'BEGIN { printf "%s: %.1f million tokens/s\n", what, 10 * n / t }'
+for shape in ' nested' 'l in one list'; do
+    build=$(run "n${shape%% *}") || exit 2
+    read -r tokens each _ <"$work/out"
+    awk -v what="${shape#* }" -v n="$tokens" -v t="$build" \
+        'BEGIN { printf "%s: %d tokens; built: %.1f million tokens/s\n", what, n, n / t }'
+    for mode in 'i tree by tree' 'f flat tokens' 'c cursor'; do
+        all=$(run "${mode%% *}${shape%% *}") || exit 2
+        awk -v what="${mode#* }" -v n="$tokens" -v t="$(( all - build ))" \
+            'BEGIN { printf "  %s: %.1f million tokens/s\n", what, 10 * n / t }'
+    done
 done
 echo "$each bytes a token"

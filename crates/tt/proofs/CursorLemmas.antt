@@ -103,16 +103,31 @@ is_tree tokens a outer f all =
       inside = λ d some. is_inside tokens a outer f d all some;
     }
 
+-- where the list around the innermost one begins
+abbrev pub next_start : List Around → ℕ
+next_start [] = 0
+next_start (a ∷ outer) = start_in outer
+
+-- the list that the group around the innermost one is a tree of begins there
+begins_in : (tokens : List TokenTree) (start at result : ℕ) (around : List Around) (before after : Forest)
+    → Stands tokens start at (record { around = around; before = before; after = after }) → around ≢ []
+    → BeginsListOf tokens (start - 1) result → result ≡ next_start around
+begins_in tokens start at result [] before after stands some begins = absurd (some refl)
+begins_in tokens start at result (a ∷ outer) before after stands some begins =
+    begins (start_in outer) (rw stands.start_is (is_tree tokens a outer (joined before after) stands.whole))
+
+pub begins_next : (tokens : List TokenTree) (start at result : ℕ) (p : Place) → Stands tokens start at p → p.around ≢ []
+    → BeginsListOf tokens (start - 1) result → result ≡ next_start p.around
+begins_next tokens start at result p stands some begins = begins_in tokens start at result p.around p.before p.after stands some begins
+
 -- out of the innermost group
 left_in : (tokens : List TokenTree) (start at result : ℕ) (around : List Around) (before after : Forest)
     → Stands tokens start at (record { around = around; before = before; after = after }) → around ≢ [] → after ≡ empty
-    → BeginsListOf tokens (start - 1) result → Stands tokens result at (ended (record { around = around; before = before; after = after }))
-left_in tokens start at result [] before after stands some done begins = absurd (some refl)
-left_in tokens start at result (a ∷ outer) before after stands some done begins =
-    let inner : Forest = joined before after in
-    let n : result ≡ start_in outer = begins (start_in outer) (rw stands.start_is (is_tree tokens a outer inner stands.whole)) in
+    → result ≡ next_start around → Stands tokens result at (ended (record { around = around; before = before; after = after }))
+left_in tokens start at result [] before after stands some done n = absurd (some refl)
+left_in tokens start at result (a ∷ outer) before after stands some done n =
     record {
-      whole = stands.whole ∙ ap (λ f. preorder (whole_in outer f)) (sym (joined_assoc a.before (group a.delimiter inner empty) a.after));
+      whole = stands.whole ∙ ap (λ f. preorder (whole_in outer f)) (sym (joined_assoc a.before (group a.delimiter (joined before after) empty) a.after));
       start_is = n;
       at_is =
           omega (
@@ -120,15 +135,15 @@ left_in tokens start at result (a ∷ outer) before after stands some done begin
             n,
             stands.at_is,
             stands.start_is,
-            size-joined a.before (group a.delimiter inner empty),
+            size-joined a.before (group a.delimiter (joined before after) empty),
             size-joined before after,
             ap size done,
           );
     }
 
 pub left : (tokens : List TokenTree) (start at result : ℕ) (p : Place) → Stands tokens start at p → p.around ≢ [] → p.after ≡ empty
-    → BeginsListOf tokens (start - 1) result → Stands tokens result at (ended p)
-left tokens start at result p stands some done begins = left_in tokens start at result p.around p.before p.after stands some done begins
+    → result ≡ next_start p.around → Stands tokens result at (ended p)
+left tokens start at result p stands some done n = left_in tokens start at result p.around p.before p.after stands some done n
 
 -- past a leaf
 past_in : (tokens : List TokenTree) (start at : ℕ) (around : List Around) (before after : Forest) (l : Leaf)

@@ -1,5 +1,5 @@
 -- How a cursor's flat list and two numbers hold its place.
-use Rattle.std.specs.Prelude.{◌≡◌, ℕ, ◌+◌, ◌-◌, ◌<◌, ◌≤◌, List, [], ◌∷◌, slice_index_or, nat_eq, nat_le, if◌then◌else◌}
+use Rattle.std.specs.Prelude.{◌≡◌, ℕ, ◌+◌, ◌-◌, ◌<◌, ◌≤◌, List, [], ◌∷◌, ◌++◌, ◌⊎◌, slice_index_or, nat_eq, nat_le, if◌then◌else◌}
 use Rattle.tt_data.specs.declared.tree.TokenTree.{TokenTree}
 use Rattle.tt_data.specs.declared.tree.TokenTree.TheVariants as token
 use Rattle.tt_data.specs.Forest.{Forest, empty, leaf, group, joined, size, preorder, forest_of}
@@ -56,3 +56,16 @@ pub record IsTreeOf (tokens : List TokenTree) (head start : ℕ) : Type 0 where
 -- the list that the group at this place is a tree of begins there
 abbrev pub BeginsListOf : List TokenTree → ℕ → ℕ → Type 0
 BeginsListOf tokens head result = (start : ℕ) → IsTreeOf tokens head start → result ≡ start
+
+-- where the lists begin that are around the innermost one, the nearest last
+abbrev pub starts_around : List Around → List ℕ
+starts_around [] = []
+starts_around (a ∷ outer) = starts_around outer ++ start_in outer ∷ []
+
+-- these are where the nearest of those lists begin
+abbrev pub AreNearest : List ℕ → List Around → Type 0
+AreNearest starts around = (further : List ℕ) × (starts_around around ≡ further ++ starts)
+
+-- the last of the places in a list is taken out of it, or in an empty one the place is that where the list of the group with this head begins
+abbrev pub IsNextOut : List TokenTree → ℕ → List ℕ → List ℕ → ℕ → Type 0
+IsNextOut tokens head old new result = (old ≡ new ++ result ∷ []) ⊎ ((old ≡ []) × ((new ≡ []) × BeginsListOf tokens head result))

@@ -1,9 +1,10 @@
 //! A place in a list of trees that walks through it, leaf by leaf and bracket by bracket.
-ghost use Rattle.tt.specs.CursorTokens.{BeginsListOf, Reaches};
-ghost use Rattle.std.specs.Prelude.{◌≡◌, ◌≢◌, ⊤, IsTrue, ◌↔◌, ◌<◌, ◌≤◌, length, [], Some, IsNone};
+ghost use Rattle.tt.specs.CursorTokens.{BeginsListOf, IsNextOut, Reaches};
+ghost use Rattle.std.specs.Prelude.{◌≡◌, ◌≢◌, ⊤, IsTrue, ◌↔◌, ◌<◌, ◌≤◌, ◌++◌, ◌∷◌, ℕ, List, length, [], Some, IsNone};
 
 use crate::iter::TtElement;
 use crate::view::TokenTreesView;
+use arrayvec::ArrayVec;
 use std::alloc::AllocError;
 use std::marker::Model;
 use tt_data::leaf::Leaf;
@@ -11,20 +12,25 @@ use tt_data::tree::{Subtree, TokenTree};
 
 /// A place in a list of trees: between two trees of the list, or of a group in it.
 ///
-/// Its walk goes over leaves, openings and closings. It takes no memory; leaving a group looks back
-/// over the tokens from the group to the start of the list that it is in, and any other step looks
-/// at the innermost group's head and at most two tokens.
+/// Its walk goes over leaves, openings and closings. It takes no memory. A step looks at the innermost
+/// group's head and at most two tokens; only where a walk leaves more than sixteen groups, one out of
+/// the other, without going into any, does each further one look back over the list that it stands in.
 #[derive(Drop)]
 pub struct Cursor<'a> {
     tokens: &'a [TokenTree],
     // Where the innermost list begins: 0 in no group, else just after the group's head.
     start: usize,
     at: usize,
+    // Where the nearest of the lists around that one begin, the nearest last.
+    nearest: ArrayVec<usize, NEAREST>,
 }
+
+// Of how many lists around its own a cursor knows at most where they begin.
+const NEAREST: usize = 16;
 
 impl<'a> Model for Cursor<'a> {
     ghost use Rattle.tt.specs.Places.{Place, place_code};
-    ghost use Rattle.tt.specs.CursorTokens.{place_of, IsPlaced};
+    ghost use Rattle.tt.specs.CursorTokens.{place_of, IsPlaced, AreNearest};
 
     ghost Value = { Place };
 
@@ -32,7 +38,7 @@ impl<'a> Model for Cursor<'a> {
 
     ghost view = { λ c. place_of c.tokens.now c.start c.at };
 
-    ghost invariant = { λ c. IsPlaced c.tokens.now c.start c.at };
+    ghost invariant = { λ c. IsPlaced c.tokens.now c.start c.at × AreNearest c.nearest.items (place_of c.tokens.now c.start c.at).around };
 }
 
 impl<'a> Clone for Cursor<'a> {
@@ -46,8 +52,29 @@ impl<'a> Clone for Cursor<'a> {
             tokens: self.tokens,
             start: self.start,
             at: self.at,
+            nearest: copied(&self.nearest),
         })
     }
+}
+
+// The same places once more.
+fn copied(nearest: &ArrayVec<usize, NEAREST>) -> ArrayVec<usize, NEAREST>
+    ensures { result ≡ nearest.now }
+{
+    let Ok(copy) = nearest.clone() else {
+        unreachable!()
+    };
+    copy
+}
+
+// Puts a place last, in place of the first where there is no more room.
+fn push_nearest(nearest: &mut ArrayVec<usize, NEAREST>, start: usize)
+    ensures { (gone : List ℕ) × (gone ++ nearest.new.items ≡ nearest.old.items ++ start ∷ []) }
+{
+    if nearest.is_full() {
+        let _ = nearest.remove(0);
+    }
+    nearest.push(start);
 }
 
 // Whether the token just before `start` is the head of a group that has the token at `head` inside.
@@ -76,6 +103,17 @@ fn list_around(tokens: &[TokenTree], head: usize) -> usize
     0
 }
 
+// The same, where the last of the nearest places, if there are any, is that one, which goes.
+fn next_out(nearest: &mut ArrayVec<usize, NEAREST>, tokens: &[TokenTree], head: usize) -> usize
+    requires { head ≤ length tokens.now }
+    ensures { IsNextOut tokens.now head nearest.old.items nearest.new.items result }
+{
+    match nearest.pop() {
+        Some(start) => start,
+        None => list_around(tokens, head),
+    }
+}
+
 impl<'a> Cursor<'a> {
     ghost use Rattle.tt_data.specs.Forest.{empty};
     ghost use Rattle.tt.specs.Places.{beginning, IsEnd, first_token, bumped, ended, moved, innermost_head, two_leaves};
@@ -89,6 +127,7 @@ impl<'a> Cursor<'a> {
             tokens: origin.tokens,
             start: 0,
             at: 0,
+            nearest: ArrayVec::new(),
         }
     }
 
@@ -149,7 +188,7 @@ impl<'a> Cursor<'a> {
         let Some(group) = self.head() else {
             unreachable!()
         };
-        self.start = list_around(self.tokens, self.start - 1);
+        self.start = next_out(&mut self.nearest, self.tokens, self.start - 1);
         group
     }
 
@@ -162,6 +201,7 @@ impl<'a> Cursor<'a> {
             Some(TokenTree::Leaf(_)) => self.at += 1,
             Some(TokenTree::Subtree(_)) => {
                 self.at += 1;
+                push_nearest(&mut self.nearest, self.start);
                 self.start = self.at;
             }
             None => unreachable!(),

@@ -1,6 +1,8 @@
 //! Trees that are built, walked and built again; refusals; each public call once.
 ghost use Rattle.std.specs.Prelude.{◌≡◌, ◌+◌, ◌<◌, ⊤, false};
 
+mod refused;
+
 use super::*;
 use std::alloc::Global;
 use std::hash::{DefaultHasher, Hash, Hasher};
@@ -526,7 +528,7 @@ fn makes_trees(rt: HostRuntime) -> Result<(), Fail> {
     let leaves = TopSubtree::invisible_from_leaves(
         rt.alloc(),
         byte_at(0),
-        &[punct('+', 0), punct('-', 1)],
+        [punct('+', 0), punct('-', 1)],
     ).ok()
         .ok_or("refused")?;
     assert_eq!(rt; leaves.top_subtree().len, 2);

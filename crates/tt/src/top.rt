@@ -119,16 +119,16 @@ impl TopSubtree {
     ///
     /// It answers `Tokens` where there are more than `u32::MAX` leaves, and only there; its one other
     /// error is `Memory`.
-    pub fn invisible_from_leaves(
+    pub fn invisible_from_leaves<const N: usize>(
         alloc: Global,
         delim_span: Span,
-        leaves: &[Leaf],
+        leaves: [Leaf; N],
     ) -> Result<TopSubtree, TtFault>
-        ensures ok { IfOk result (λ t. t ≡ record { delimiter = record { open_span = delim_span; close_span = delim_span; kind = Invisible }; inner = leaves_of leaves.now }) }
-        ensures tokens { (result ≡ Err fault.Tokens) ↔ (most_tokens < length leaves.now) }
+        ensures ok { IfOk result (λ t. t ≡ record { delimiter = record { open_span = delim_span; close_span = delim_span; kind = Invisible }; inner = leaves_of leaves.entry }) }
+        ensures tokens { (result ≡ Err fault.Tokens) ↔ (most_tokens < N) }
         ensures faults { IfErr result (λ e. (e ≡ fault.Memory) ⊎ (e ≡ fault.Tokens)) }
     {
-        let Ok(len) = u32::try_from(leaves.len()) else {
+        let Ok(len) = u32::try_from(N) else {
             return Err(TtFault::Tokens);
         };
         let delimiter = Delimiter::invisible_spanned(delim_span);
@@ -137,7 +137,7 @@ impl TopSubtree {
             return Err(TtFault::Memory);
         };
         for leaf in leaves {
-            let Ok(()) = tokens.push(TokenTree::Leaf(leaf.clone()?)) else {
+            let Ok(()) = tokens.push(TokenTree::Leaf(leaf)) else {
                 return Err(TtFault::Memory);
             };
         }

@@ -1,32 +1,53 @@
-use Rattle.std.proofs.Common.{◌≡◌, ◌∷◌, ◌++◌, [], ◌∙◌, ap, sym, refl, arith, length, map, take}
-use Rattle.std.proofs.lemmas.List.{take_all, length-map}
+use Rattle.std.proofs.Common.{◌≡◌, ◌∷◌, ◌++◌, [], ◌∙◌, ap, sym, refl, arith, length, map, List, append-nil, append_assoc}
+use Rattle.std.proofs.lemmas.List.{length-map}
+use Rattle.std.specs.Array.Iter.{array_into_iter_items}
 use Rattle.tt_data.specs.Forest.{head_of, preorder}
 use Rattle.tt_data.specs.Flat.{forest_of-preorder, IsPreorder-preorder}
+use Rattle.tt_data.specs.declared.leaf.Leaf.{Leaf}
 use Rattle.tt_data.specs.declared.tree.TokenTree.TheVariants as token
 use Rattle.tt.specs.Building.{leaves}
 use Rattle.tt.proofs.Groups.{grouped}
 use Rattle.tt.proofs.Leaves.{preorder-leaves}
+use Rattle.tt.proofs.top.TopSubtree.invisible_from_leaves.Given.{Over}
 use Rattle.tt.proofs.top.TopSubtree.invisible_from_leaves.Goals as goal
 
+pub loop-leaf-preserved : goal.loop-leaf-preserved
+loop-leaf-preserved g c =
+    let left : List token.the_data = map token.Leaf (array_into_iter_items c.next.new.self) in
+    ap (λ ts. ts ++ left) c.in-Ok-push-2.ensures.items
+    ∙ append_assoc c.loop-leaf.tokens.items (token.Leaf c.in-Some.leaf ∷ []) left
+    ∙ ap (λ ls. c.loop-leaf.tokens.items ++ map token.Leaf ls) (sym c.in-Some.ensures.steps)
+    ∙ c.loop-leaf.invariant
+
+none : (ls : List Leaf) → length ls ≡ 0 → ls ≡ []
+none [] e = refl
+none (l ∷ ls) e = absurd (omega (arith, e))
+
+-- as many tokens as there are leaves
+count_is : (g : Over) (c : goal.After-drop-leaf-iterator-2 g) → length (preorder (leaves c.args.leaves)) ≡ g.row.N
+count_is g c =
+    let given = c.into_iter-leaf-iterator.ensures.into_iter_gives in
+    ap length (preorder-leaves c.args.leaves) ∙ length-map c.args.leaves token.Leaf ∙ ap length (sym given.0) ∙ given.1
+
 -- the group's own token, and then those of the leaves
-all_is : (c : goal.After-loop-leaf)
-    → c.loop-leaf.tokens.items ≡ head_of c.invisible_spanned-delimiter.result (length (preorder (leaves c.args.leaves.now))) ∷ preorder (leaves c.args.leaves.now)
-all_is c =
-    let ls = c.args.leaves.now in
-    let tokens = preorder (leaves ls) in
-    let all : take c.loop-leaf.leaf-index ls ≡ ls = take_all c.loop-leaf.leaf-index ls (omega (arith, c.loop-leaf-test.false)) in
-    let same : map token.Leaf (take c.loop-leaf.leaf-index ls) ≡ tokens = ap (map token.Leaf) all ∙ sym (preorder-leaves ls) in
-    let counts : length tokens ≡ length ls = ap length (preorder-leaves ls) ∙ length-map ls token.Leaf in
-    c.loop-leaf.invariant ∙ ap (λ t. c.push.new.self.items ++ t) same
-    ∙ ap (λ t. t ++ tokens)
-    (c.in-Ok-push.ensures.items ∙ ap (λ t. t ++ head_of c.invisible_spanned-delimiter.result c.in-Ok.len ∷ []) c.new-tokens.ensures.items)
-    ∙ ap (λ n. head_of c.invisible_spanned-delimiter.result n ∷ tokens) (c.in-Ok.ensures.1 ∙ sym counts)
+all_is : (g : Over) (c : goal.After-drop-leaf-iterator-2 g)
+    → c.loop-leaf.tokens.items ≡ head_of c.invisible_spanned-delimiter.result (length (preorder (leaves c.args.leaves))) ∷ preorder (leaves c.args.leaves)
+all_is g c =
+    let ls = c.args.leaves in
+    let tokens : List token.the_data = preorder (leaves ls) in
+    sym (append-nil c.loop-leaf.tokens.items)
+    ∙ ap (λ xs. c.loop-leaf.tokens.items ++ map token.Leaf xs) (sym (none (array_into_iter_items c.loop-leaf.leaf-iterator) c.in-None.ensures.steps.0))
+    ∙ c.loop-leaf.invariant
+    ∙ ap (λ xs. c.push.new.self.items ++ map token.Leaf xs) c.into_iter-leaf-iterator.ensures.into_iter_gives.0
+    ∙ ap (λ ts. c.push.new.self.items ++ ts) (sym (preorder-leaves ls))
+    ∙ ap (λ ts. ts ++ tokens)
+    (c.in-Ok-push.ensures.items ∙ ap (λ ts. ts ++ head_of c.invisible_spanned-delimiter.result c.in-Ok.len ∷ []) c.new-tokens.ensures.items)
+    ∙ ap (λ n. head_of c.invisible_spanned-delimiter.result n ∷ tokens) (c.in-Ok.ensures.1 ∙ sym (count_is g c))
 
 pub invariant_of-result : goal.invariant_of-result
-invariant_of-result c =
-    let f = leaves c.args.leaves.now in
-    let counts : length (preorder f) ≡ length c.args.leaves.now = ap length (preorder-leaves c.args.leaves.now) ∙ length-map c.args.leaves.now token.Leaf in
-    rw (all_is c) (grouped c.invisible_spanned-delimiter.result (preorder f) (IsPreorder-preorder f), omega (arith, counts, c.in-Ok.ensures.0))
+invariant_of-result g c =
+    let f = leaves c.args.leaves in
+    rw (all_is g c) (grouped c.invisible_spanned-delimiter.result (preorder f) (IsPreorder-preorder f), omega (arith, count_is g c, c.in-Ok.ensures.0))
 
 pub returns-clause-ok : goal.returns-clause-ok
-returns-clause-ok c = rw (all_is c, c.invisible_spanned-delimiter.ensures, forest_of-preorder (leaves c.args.leaves.now)) refl
+returns-clause-ok g c = rw (all_is g c, c.invisible_spanned-delimiter.ensures, forest_of-preorder (leaves c.args.leaves)) refl
