@@ -1,5 +1,5 @@
 //! Laws of places and of trees under construction, for proofs above this crate. A call does nothing: it only states.
-ghost use Rattle.std.specs.Prelude.{◌≡◌, Bool, [], ◌∷◌, ◌+◌, length, Some, option_map};
+ghost use Rattle.std.specs.Prelude.{◌≡◌, ◌↔◌, Bool, true, [], ◌∷◌, ◌+◌, length, Some, option_map};
 ghost use Rattle.std.specs.List.{count_by};
 ghost use Rattle.std.specs.Option.{unwrap_or};
 ghost use Rattle.tt_data.specs.Forest.{Forest};
@@ -8,7 +8,10 @@ ghost use Rattle.tt.specs.Building.{Building, Reached, point_of, cut_back};
 ghost use Rattle.tt.specs.Elements.{elements};
 ghost use Rattle.tt.specs.Places.{Place, beginning, IsEnd, moved, steps_before, steps_after, IsStep};
 ghost use Rattle.tt.specs.Splitting.{until_separator, behind_separator, pieces_between};
+ghost use Rattle.tt.specs.Tops.{Top};
 ghost use Rattle.tt.specs.declared.iter.TtElement.{TtElement};
+
+use crate::top::TopSubtree;
 
 /// A cursor goes over the walk of its list step by step: at the beginning all steps are after it,
 /// each move passes one, and at the end none is left.
@@ -31,4 +34,9 @@ pub fn pieces_of_trees()
     ensures next { (p : TtElement → Bool) (f : Forest) → pieces_between p f
         ≡ until_separator p f ∷ unwrap_or (option_map (pieces_between p) (behind_separator p f)) [] }
     ensures counted { (p : TtElement → Bool) (f : Forest) → length (pieces_between p f) ≡ count_by p (elements f) + 1 }
+{}
+
+/// Two trees are equal by `==` exactly where they are the same tree, places included.
+pub fn equal_trees()
+    ensures { (a b : Top) → (⟦<TopSubtree as PartialEq>⟧.eq a b ≡ true) ↔ (a ≡ b) }
 {}

@@ -1,3 +1,4 @@
+pub mod EqualityLemmas
 pub mod FlatLemmas
 pub mod ForestLemmas
 pub mod LiteralLemmas

@@ -1,5 +1,5 @@
 //! Laws of forests, for proofs above this crate. A call does nothing: it only states.
-ghost use Rattle.std.specs.Prelude.{◌≡◌, ℕ, ◌+◌, List, ◌∷◌, ◌++◌, length, map};
+ghost use Rattle.std.specs.Prelude.{◌≡◌, ◌↔◌, true, ℕ, ◌+◌, List, ◌∷◌, ◌++◌, length, map};
 ghost use Rattle.std.specs.Str.{IsUtf8};
 ghost use Rattle.tt_data.specs.Flat.{Parts};
 ghost use Rattle.tt_data.specs.Forest.{Forest, empty, group, joined, size, preorder, front, back, forest_of, head_of, IsPreorder, map_spans, shape};
@@ -13,6 +13,15 @@ ghost use Rattle.tt_data.specs.declared.span.Span.{Span};
 ghost use Rattle.tt_data.specs.declared.tree.Subtree.{Subtree};
 ghost use Rattle.tt_data.specs.declared.tree.TokenTree.{TokenTree};
 ghost use Rattle.tt_data.specs.declared.tree.TokenTree.TheVariants as token;
+ghost use Rattle.tt_data.specs.declared.leaf.Ident.{Ident};
+ghost use Rattle.tt_data.specs.declared.leaf.Literal.{Literal};
+ghost use Rattle.tt_data.specs.declared.leaf.Punct.{Punct};
+
+use crate::delimiter::Delimiter;
+use crate::leaf::{Ident, Leaf, LitKind, Literal, Punct};
+use crate::span::Span;
+use crate::tree::{Subtree, TokenTree};
+use symbols::Symbol;
 
 /// A forest is that of its tokens, as many as its size says.
 pub fn tokens_of_a_forest()
@@ -83,4 +92,18 @@ pub fn literals_read_back()
         IsUtf8 suffix → text_of (literal_of text suffix kind span) ≡ text }
     ensures suffix { (text suffix : List ℕ) (kind : LitKind) (span : Span) →
         IsUtf8 suffix → suffix_of (literal_of text suffix kind span) ≡ suffix }
+{}
+
+/// Two tokens are equal by `==` exactly where they are the same, places included.
+pub fn equal_tokens()
+    ensures spans { (a b : Span) → (⟦<Span as PartialEq>⟧.eq a b ≡ true) ↔ (a ≡ b) }
+    ensures delimiters { (a b : Delimiter) → (⟦<Delimiter as PartialEq>⟧.eq a b ≡ true) ↔ (a ≡ b) }
+    ensures symbols { (a b : List ℕ) → (⟦<Symbol as PartialEq>⟧.eq a b ≡ true) ↔ (a ≡ b) }
+    ensures kinds { (a b : LitKind) → (⟦<LitKind as PartialEq>⟧.eq a b ≡ true) ↔ (a ≡ b) }
+    ensures puncts { (a b : Punct) → (⟦<Punct as PartialEq>⟧.eq a b ≡ true) ↔ (a ≡ b) }
+    ensures idents { (a b : Ident) → (⟦<Ident as PartialEq>⟧.eq a b ≡ true) ↔ (a ≡ b) }
+    ensures literals { (a b : Literal) → (⟦<Literal as PartialEq>⟧.eq a b ≡ true) ↔ (a ≡ b) }
+    ensures leaves { (a b : Leaf) → (⟦<Leaf as PartialEq>⟧.eq a b ≡ true) ↔ (a ≡ b) }
+    ensures heads { (a b : Subtree) → (⟦<Subtree as PartialEq>⟧.eq a b ≡ true) ↔ (a ≡ b) }
+    ensures tokens { (a b : TokenTree) → (⟦<TokenTree as PartialEq>⟧.eq a b ≡ true) ↔ (a ≡ b) }
 {}
