@@ -315,6 +315,34 @@ fn into_groups(rt: HostRuntime) -> Result<(), Fail> {
 }
 
 // Two leaves next to each other, and one that ends a group.
+// More groups in one another than a cursor knows the lists of.
+#[test]
+fn out_of_many_groups(rt: HostRuntime) -> Result<(), Fail> {
+    let mut builder = new_builder(rt.alloc()).ok().ok_or("refused")?;
+    for _ in 0..20 {
+        push(&mut builder, &punct(',', 0)).ok().ok_or("refused")?;
+        open(&mut builder, DelimiterKind::Brace, byte_at(0))
+            .ok()
+            .ok_or("refused")?;
+    }
+    for _ in 0..20 {
+        builder.close(byte_at(1)).ok().ok_or("refused")?;
+    }
+    let tree = builder.build().ok().ok_or("refused")?;
+    let mut cursor = tree.token_trees().cursor();
+    let mut steps = 0u32;
+    for _ in 0..100 {
+        if cursor.eof() {
+            break;
+        }
+        cursor.bump_or_end();
+        steps = steps.saturating_add(1);
+    }
+    assert_eq!(rt; steps, 60);
+    assert!(rt; cursor.eof());
+    Ok(())
+}
+
 #[test]
 fn peeks(rt: HostRuntime) -> Result<(), Fail> {
     let mut builder = new_builder(rt.alloc()).ok().ok_or("refused")?;
@@ -512,6 +540,7 @@ fn makes_trees(rt: HostRuntime) -> Result<(), Fail> {
     let tree = sample(rt.alloc()).ok().ok_or("refused")?;
     let copy = tree.try_clone().ok().ok_or("refused")?;
     assert!(rt; copy == tree);
+    assert!(rt; hash_of(&copy) == hash_of(&tree));
     let copy = TopSubtree::from_token_trees(rt.alloc(), top(), tree.token_trees())
         .ok()
         .ok_or("refused")?;
@@ -554,6 +583,16 @@ fn reads_flat_lists(rt: HostRuntime) -> Result<(), Fail> {
         }
         assert_eq!(rt; TopSubtree::from_serialized(tokens).is_ok(), is_tree);
     }
+    // One leaf, a group that counts a token which is not there, and a group with nothing inside.
+    for (token, is_tree) in [
+        (TokenTree::Leaf(punct(',', 0)), false),
+        (head(1), false),
+        (head(0), true),
+    ] {
+        let mut tokens = Vec::new(rt.alloc());
+        tokens.push(token).ok().ok_or("refused")?;
+        assert_eq!(rt; TopSubtree::from_serialized(tokens).is_ok(), is_tree);
+    }
     let none: Vec<TokenTree> = Vec::new(rt.alloc());
     assert!(rt; TopSubtree::from_serialized(none).is_err());
     Ok(())
@@ -574,6 +613,10 @@ fn changes_in_place(rt: HostRuntime) -> Result<(), Fail> {
     for (idx, is_leaf) in [(0, false), (1, true), (2, false), (3, true), (7, false)] {
         assert_eq!(rt; tree.set_token(idx, punct('?', 0)).is_ok(), is_leaf);
     }
+    assert_eq!(rt;
+        tree.set_token(0, punct('?', 0)).err(),
+        Some(TtFault::Place)
+    );
     assert!(rt; has_leaf(&tree, 3, punct('?', 0)));
     Ok(())
 }
@@ -639,6 +682,25 @@ fn prints(rt: HostRuntime) -> Result<(), Fail> {
         let group = tree.view();
         assert_eq!(rt; format!(in alloc; "{group}")?.as_str(), braced);
     }
+    Ok(())
+}
+
+#[test]
+fn spaces(rt: HostRuntime) -> Result<(), Fail> {
+    let alloc = rt.alloc();
+    let plus = Leaf::Punct(Punct {
+        char: '+',
+        spacing: Spacing::JointHidden,
+        span: byte_at(1),
+    });
+    let a = name(alloc, "a").ok().ok_or("refused")?;
+    let b = name(alloc, "b").ok().ok_or("refused")?;
+    let tree = TopSubtree::invisible_from_leaves(alloc, byte_at(0), [a, plus, b])
+        .ok()
+        .ok_or("refused")?;
+    assert_eq!(rt; format!(in alloc; "{tree}")?.as_str(), "a +b");
+    let text = pretty(alloc, tree.token_trees()).ok().ok_or("refused")?;
+    assert_eq!(rt; text.as_str(), "a + b");
     Ok(())
 }
 
