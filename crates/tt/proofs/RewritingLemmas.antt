@@ -1,7 +1,7 @@
 -- A rewriting walk, step by step: what is left of it, and what it has made so far.
 use Rattle.std.proofs.Common.{◌≡◌, ℕ, ◌+◌, ◌*◌, ◌≤◌, List, [], ◌∷◌, ◌++◌, length, reverse, ap, refl, sym, subst, ◌∙◌, arith, append_assoc, append-nil, Some, None}
 use Rattle.std.specs.List.{All}
-use Rattle.std.specs.Prelude.{Bool, true, false, is_none, Option, Result, Ok, Err, IfOk}
+use Rattle.std.specs.Prelude.{Bool, true, false, is_none, Option, Result, Ok, Err, IfOk, IfErr}
 use Rattle.std.specs.Result.{IsErrAnd}
 use Rattle.tt_data.specs.declared.fault.TtFault.{TtFault}
 use Rattle.std.proofs.lemmas.List.Elements.{All-nil, All-cons, All-append}
@@ -318,3 +318,8 @@ only_is_top (group d inner (group e more rest)) t is = absurd (grind (arith, is)
 pub followed : {T E : Type 0} (P Q : T → Type 0) (r : Result T E) → ((x : T) → P x → Q x) → IfOk r P → IfOk r Q
 followed P Q (Ok x) f p = f x p
 followed P Q (Err e) f p = p
+
+-- what holds anyway holds at each error of a kind
+pub at_errors : {T E : Type 0} (A : E → Type 0) (X : Type 0) (r : Result T E) → X → IfErr r (λ e. A e → X)
+at_errors A X (Ok t) x = tt
+at_errors A X (Err e) x = λ _. x

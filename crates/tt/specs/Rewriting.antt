@@ -1,5 +1,5 @@
 -- What becomes of a list of trees where a callback says of each token, in the order of the walk, whether it stays.
-use Rattle.std.specs.Prelude.{◌≡◌, List, [], ◌∷◌, ◌++◌, Option, Some, None}
+use Rattle.std.specs.Prelude.{◌≡◌, ◌⊎◌, List, [], ◌∷◌, ◌++◌, Option, Some, None}
 use Rattle.std.specs.Borrow.{Bor}
 use Rattle.std.specs.List.{All}
 use Rattle.std.specs.Fn.{CalledAt, Mut}
@@ -11,6 +11,7 @@ use Rattle.tt_data.specs.Forest.{Forest, empty, leaf, group, joined, size, head_
 use Rattle.tt.specs.declared.transform.TransformTtAction.{TransformTtAction}
 use Rattle.tt.specs.declared.transform.TransformTtAction.TheVariants.{Keep, ReplaceWith}
 use Rattle.tt.specs.Building.{Building, pushed, extended, opened}
+use Rattle.tt.specs.Tops.{Top, forest_of_top}
 use Rattle.tt.specs.Views.{forest}
 
 -- the trees that come in a token's place: none where it stays
@@ -37,7 +38,9 @@ with_put None (token.Subtree s) b = opened b s.delimiter.kind s.delimiter.open_s
 abbrev pub with_answer : Call → Building → Building
 with_answer c b = with_put c.put c.token b
 
--- these calls, one after the other, make the second list of trees of the first: each tree is asked about, a group by its head; a leaf that stays is there, and a group that stays is there with what is made of the trees inside; a tree that gives way is not walked, and what is put in its place is there
+-- these calls, one after the other, make the second list of trees of the first
+-- each tree is asked about, a group by its head; a leaf that stays is there, and a group that stays is there with what is made of the trees inside
+-- a tree that gives way is not walked, and what is put in its place is there
 pub data IsRewritten : Forest → List Call → Forest → Type 0 where
   nothing : IsRewritten empty [] empty
   leaf_stays : (l : Leaf) (rest g : Forest) (more : List Call)
@@ -50,6 +53,10 @@ pub data IsRewritten : Forest → List Call → Forest → Type 0 where
   group_gives_way : (d : Delimiter) (inner rest put g : Forest) (more : List Call)
       → IsRewritten rest more g
       → IsRewritten (group d inner rest) (record { token = head_of d (size inner); put = Some put } ∷ more) (joined put g)
+
+-- the call is about this tree's own head, and leaves one group: the head stays, or one group comes in the tree's place
+abbrev pub LeavesOneGroup : Top → Call → Type 0
+LeavesOneGroup t c = (c.token ≡ head_of t.delimiter (size t.inner)) × ((c.put ≡ None) ⊎ ((u : Top) × (c.put ≡ Some (forest_of_top u))))
 
 -- the call takes its tree away
 abbrev pub IsRemoval : Call → Type 0

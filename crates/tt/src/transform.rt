@@ -5,7 +5,7 @@ ghost use Rattle.tt_data.specs.Forest.{Forest, empty, size};
 ghost use Rattle.tt_data.specs.declared.fault.TtFault.TheVariants as fault;
 ghost use Rattle.tt_data.specs.declared.tree.TokenTree.TheVariants as token;
 ghost use Rattle.tt.specs.Building.{count_of, most_tokens};
-ghost use Rattle.tt.specs.Rewriting.{Call, IsAnswered, IsRewritten, IsStarted, replacement, with_answer};
+ghost use Rattle.tt.specs.Rewriting.{Call, IsAnswered, IsRewritten, IsStarted, LeavesOneGroup, replacement, with_answer};
 ghost use Rattle.tt.specs.Tops.{Top, forest_of_top, only_group};
 
 use crate::builder::TopSubtreeBuilder;
@@ -41,9 +41,9 @@ impl<'a> TransformTtAction<'a> {
 /// Asks `callback` about each token, the top's own head first and a group's head before what it has
 /// inside, and puts in a token's place what it answers. What is put there is not walked.
 ///
-/// It answers `Malformed` where the top gave way to anything but one group; `Tokens` where the tree
-/// would have more than `u32::MAX` tokens below its top, whatever the callback were to say of the
-/// tokens left; and else only `Memory`. The tree is then as it was.
+/// It answers `Malformed` where the top gave way to anything but one group, and only there; `Tokens`
+/// only where the tree would have more than `u32::MAX` tokens below its top, whatever the callback
+/// were to say of the tokens left; and else only `Memory`. The tree is then as it was.
 pub fn transform_tt<'b, F: FnMut(&TokenTree) -> TransformTtAction<'b>>(
     tt: &mut TopSubtree,
     callback: F,
@@ -56,6 +56,8 @@ pub fn transform_tt<'b, F: FnMut(&TokenTree) -> TransformTtAction<'b>>(
         × FoldsTo (IsAnswered F.FnMut) callback calls last × IsRewritten (forest_of_top tt.old) calls g × (only_group g ≡ None) }
     ensures tokens { result ≡ Err fault.Tokens → (calls : List Call) × (last : F) × (t : Top)
         × FoldsTo (IsAnswered F.FnMut) callback calls last × IsStarted (forest_of_top tt.old) calls (forest_of_top t) × (most_tokens < size t.inner) }
+    ensures one_group { IfErr result (λ e. (e ≡ fault.Memory) ⊎ (e ≡ fault.Tokens) → (c : Call) × (next : F)
+        × IsAnswered F.FnMut callback c next × LeavesOneGroup tt.old c) }
     ensures faults { IfErr result (λ e. (e ≡ fault.Memory) ⊎ (e ≡ fault.Tokens) ⊎ (e ≡ fault.Malformed)) }
 {
     *tt = transformed(tt, callback)?;
@@ -74,6 +76,8 @@ fn transformed<'b, F: FnMut(&TokenTree) -> TransformTtAction<'b>>(
         × FoldsTo (IsAnswered F.FnMut) callback calls last × IsRewritten (forest_of_top tt.now) calls g × (only_group g ≡ None) }
     ensures tokens { result ≡ Err fault.Tokens → (calls : List Call) × (last : F) × (t : Top)
         × FoldsTo (IsAnswered F.FnMut) callback calls last × IsStarted (forest_of_top tt.now) calls (forest_of_top t) × (most_tokens < size t.inner) }
+    ensures one_group { IfErr result (λ e. (e ≡ fault.Memory) ⊎ (e ≡ fault.Tokens) → (c : Call) × (next : F)
+        × IsAnswered F.FnMut callback c next × LeavesOneGroup tt.now c) }
     ensures faults { IfErr result (λ e. (e ≡ fault.Memory) ⊎ (e ≡ fault.Tokens) ⊎ (e ≡ fault.Malformed)) }
 {
     let alloc = *tt.tokens.allocator();
