@@ -1,6 +1,6 @@
 -- Where the group closed last stands, as a builder goes on.
-use Rattle.std.proofs.Common.{ℕ, ◌≤◌, length, List, [], ◌∷◌, ◌++◌, take, set, arith, Option, Some, None, inl, inr, length-append}
-use Rattle.std.proofs.lemmas.List.{take-append-le, take-set, length-set, length-take}
+use Rattle.std.proofs.Common.{◌≡◌, ℕ, ◌≤◌, sym, length, List, [], ◌∷◌, ◌++◌, take, set, arith, Option, Some, None, inl, inr, length-append}
+use Rattle.std.proofs.lemmas.List.{take-append-le, take-set, length-set, length-take, take_at}
 use Rattle.tt_data.specs.declared.tree.TokenTree.{TokenTree}
 use Rattle.tt.specs.declared.builder.Opening.{Opening}
 use Rattle.tt.specs.BuilderTokens.{start_of, IsHeld, IsCut, IsTreeAt}
@@ -23,6 +23,14 @@ IsTreeAt-append None tokens more os held tree = tt
 IsTreeAt-append (Some at) tokens more os held tree =
     let fits : at ≤ length tokens = omega (arith, tree.0) in
     (omega (arith, tree.0, length-append tokens more), IsCut-append at tokens more os fits held tree.1)
+
+-- with one more group open, whose token comes last
+pub IsTreeAt-opened : (last : Option ℕ) (tokens : List TokenTree) (x : TokenTree) (o : Opening) (os : List Opening) → o.at ≡ length tokens
+    → IsTreeAt last tokens os → IsTreeAt last (tokens ++ x ∷ []) (o ∷ os)
+IsTreeAt-opened None tokens x o os e tree = tt
+IsTreeAt-opened (Some at) tokens x o os e tree =
+    let before : take o.at (tokens ++ x ∷ []) ≡ tokens = take_at tokens (x ∷ []) o.at (sym e) in
+    (omega (arith, tree.0, length-append tokens (x ∷ [])), inr (omega (arith, tree.0, e), rw before tree.1))
 
 IsCut-last : (at : ℕ) (tokens : List TokenTree) (os : List Opening) → start_of os ≤ at → IsHeld (take at tokens) os → IsCut at tokens os
 IsCut-last at tokens [] from held = held

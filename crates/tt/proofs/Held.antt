@@ -1,6 +1,6 @@
 -- A builder's tokens with whole trees after them, and with their innermost group closed.
 use Rattle.std.proofs.Common.{◌≡◌, ℕ, ◌+◌, ◌<◌, ◌≤◌, length, List, [], ◌∷◌, ◌++◌, map, take, drop, ap, subst, refl, add-one, ◌-◌, set, reverse, ◌∙◌, sym, arith, length-append, append-nil}
-use Rattle.std.proofs.lemmas.List.{drop-append-le, take-append-le, set_split, length-drop, reverse-append}
+use Rattle.std.proofs.lemmas.List.{drop-append-le, take-append-le, set_split, length-drop, reverse-append, take_at, drop_all}
 use Rattle.tt_data.specs.Forest.{Forest, empty, group, joined, IsPreorder, forest_of, size, preorder}
 use Rattle.tt_data.specs.Flat.{forest_of-append, forest_of-preorder, IsPreorder-preorder, preorder-joined, length-preorder}
 use Rattle.tt.specs.Building.{Opened}
@@ -84,6 +84,15 @@ pub groups_of-closed : (tokens : List TokenTree) (o : Opening) (outer : List Ope
     → groups_of (with_head tokens o.at d) outer ≡ groups_of (take o.at tokens) outer
 groups_of-closed tokens o outer d held =
     rw (with_head-split tokens o.at d held.0 held.1) (groups_of-append (take o.at tokens) outer (closed_group tokens o d) held.2)
+
+-- with one more group open, whose token comes last
+pub IsHeld-opened : (tokens : List TokenTree) (x : TokenTree) (o : Opening) (os : List Opening) → o.at ≡ length tokens → IsHeld tokens os
+    → IsHeld (tokens ++ x ∷ []) (o ∷ os)
+IsHeld-opened tokens x o os e held =
+    let counts : length (tokens ++ x ∷ []) ≡ o.at + 1 = omega (arith, e, length-append tokens (x ∷ [])) in
+    let before : take o.at (tokens ++ x ∷ []) ≡ tokens = take_at tokens (x ∷ []) o.at (sym e) in
+    let inside : drop (o.at + 1) (tokens ++ x ∷ []) ≡ [] = drop_all (o.at + 1) (tokens ++ x ∷ []) (omega (arith, counts)) in
+    (omega (arith, counts), rw inside refl, rw before held)
 
 -- the opening that is taken off the end is the innermost
 pub reverse-popped : (old new : List Opening) (o : Opening) → old ≡ new ++ o ∷ [] → reverse old ≡ o ∷ reverse new

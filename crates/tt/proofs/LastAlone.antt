@@ -24,7 +24,7 @@ changed_append [] b y = refl
 changed_append (x ∷ []) b y = refl
 changed_append (x ∷ (z ∷ a)) b y = ap (λ t. x ∷ t) (changed_append (z ∷ a) b y)
 
-size-last_alone : (f : Forest) → size (last_alone f) ≡ size f
+pub size-last_alone : (f : Forest) → size (last_alone f) ≡ size f
 size-last_alone empty = refl
 size-last_alone (leaf l empty) = refl
 size-last_alone (leaf l (leaf m rest)) = ap (λ n. 1 + n) (size-last_alone (leaf m rest))

@@ -1,5 +1,5 @@
 -- A builder's lists, by how many groups are open in them, and cut back to fewer tokens.
-use Rattle.std.proofs.Common.{◌≡◌, ℕ, ◌+◌, ◌-◌, ◌<◌, ◌≤◌, ◌^◌, length, List, [], ◌∷◌, ◌++◌, take, drop, ap, subst, sym, refl, ◌∙◌, arith, nat_eq, nat_le, one-add, option_and_then, option_map, slice_index_or, Option, Some, None, IsSome, Bool, true, false, if◌then◌else◌, reverse, length-append, inl, inr}
+use Rattle.std.proofs.Common.{◌≡◌, ◌↔◌, ℕ, ◌+◌, ◌-◌, ◌<◌, ◌≤◌, ◌^◌, length, List, [], ◌∷◌, ◌++◌, take, drop, ap, subst, sym, refl, ◌∙◌, arith, nat_eq, nat_le, one-add, option_and_then, option_map, slice_index_or, Option, Some, None, IsSome, Bool, true, false, if◌then◌else◌, reverse, length-append, inl, inr}
 use Rattle.std.proofs.lemmas.Bool.{eq-eqb, ne_eqb, le-leb, leb-true, eqb-true, cases_lt}
 use Rattle.std.proofs.lemmas.List.{append_cancel_left, length-drop, length-take, length-take-le, take-take, take-append-drop, drop-take, reverse-append, length-reverse, drop_at, take_all, take_more}
 use Rattle.tt_data.specs.Forest.{Forest, joined, size, front, back, preorder, forest_of, IsPreorder}
@@ -243,9 +243,9 @@ kept_is items depth le =
     omega (arith, length-reverse (drop depth items), length-reverse items, length-drop depth items) in
     ap (drop (length (reverse items) - depth)) split ∙ drop_at (reverse (drop depth items)) (reverse (take depth items)) (length (reverse items) - depth) n
 
-some_mapped : {X Y : Type 0} (f : X → Y) (o : Option X) → IsSome (option_map f o) → IsSome o
-some_mapped f None some = some
-some_mapped f (Some x) some = refl
+pub some_mapped : {X Y : Type 0} (f : X → Y) (o : Option X) → IsSome (option_map f o) ↔ IsSome o
+some_mapped f None = (λ some. some, λ some. some)
+some_mapped f (Some x) = (λ some. refl, λ some. refl)
 
 -- the same for openings with the innermost last
 pub restored_items : (tokens : List TokenTree) (items : List Opening) (p : Point) (top : Delimiter) → IsHeld tokens (reverse items)
@@ -253,7 +253,7 @@ pub restored_items : (tokens : List TokenTree) (items : List Opening) (p : Point
     → Restored tokens (reverse items) (reverse (take p.depth items)) p
 restored_items tokens items p top held some =
     let os : List Opening = reverse items in
-    let stands : IsSome (cut_in p (groups_of tokens os) (here_of tokens os)) = some_mapped _ (cut_in p (groups_of tokens os) (here_of tokens os)) some in
+    let stands : IsSome (cut_in p (groups_of tokens os) (here_of tokens os)) = (some_mapped _ (cut_in p (groups_of tokens os) (here_of tokens os))).0 some in
     let within : p.depth ≤ length items = omega (arith, stands_within tokens os p stands, length-reverse items) in
     let P : List Opening → Type 0 = λ kept. Restored tokens os kept p in
     subst P (kept_is items p.depth within) (restored tokens os p held stands)

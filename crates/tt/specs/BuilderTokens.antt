@@ -1,10 +1,10 @@
 -- How a builder's tokens hold a tree under construction. The token of the top and that of each open group count nothing yet.
-use Rattle.std.specs.Prelude.{ℕ, ◌+◌, ◌-◌, ◌<◌, ◌⊎◌, List, [], ◌∷◌, length, take, drop, Option, Some, None, Bool, false, nat_lt, if◌then◌else◌}
+use Rattle.std.specs.Prelude.{◌≡◌, ℕ, ◌+◌, ◌-◌, ◌<◌, ◌≤◌, ◌⊎◌, List, [], ◌∷◌, length, take, drop, Option, Some, None, Bool, false, nat_lt, if◌then◌else◌}
 use Rattle.tt_data.specs.declared.tree.TokenTree.{TokenTree}
 use Rattle.tt_data.specs.declared.tree.TokenTree.TheVariants as token
 use Rattle.tt.specs.declared.builder.Opening.{Opening}
-use Rattle.tt_data.specs.Forest.{Forest, forest_of, IsPreorder}
-use Rattle.tt.specs.Building.{Opened, is_invisible, alone}
+use Rattle.tt_data.specs.Forest.{Forest, forest_of, IsPreorder, size, front}
+use Rattle.tt.specs.Building.{Opened, count_in, is_invisible, alone}
 
 -- how many tokens stand before those trees that are in the innermost list; openings come innermost first
 abbrev pub start_of : List Opening → ℕ
@@ -36,6 +36,13 @@ IsCut at tokens (o ∷ outer) = ((o.at < at) × IsHeld (take at tokens) (o ∷ o
 abbrev pub IsTreeAt : Option ℕ → List TokenTree → List Opening → Type 0
 IsTreeAt None tokens openings = Unit {0}
 IsTreeAt (Some at) tokens openings = (at < length tokens) × IsCut at tokens openings
+
+-- whole trees end right before this place, in the list that it is in: where an open group's token stands, in the list around the group
+abbrev pub IsSettled : ℕ → List Opened → Forest → Type 0
+IsSettled at [] here = (0 < at) × (size (front (at - 1) here) ≡ at - 1)
+IsSettled at (o ∷ outer) here =
+    ((count_in (o ∷ outer) < at) × (size (front (at - (1 + count_in (o ∷ outer))) here) ≡ at - (1 + count_in (o ∷ outer))))
+    ⊎ ((at ≤ count_in (o ∷ outer)) × IsSettled at outer o.before)
 
 -- whether a token begins an invisible group
 abbrev pub begins_invisible : TokenTree → Bool

@@ -4,7 +4,7 @@ ghost use Rattle.tt_data.specs.Forest.{size, front};
 ghost use Rattle.tt.specs.BuilderTokens.{start_of, begins_invisible, moved_back, alone_token};
 ghost use Rattle.tt_data.specs.declared.fault.TtFault.TheVariants as fault;
 
-use crate::tokens::{append_copies, is_one_group, is_tree_end};
+use crate::tokens::{append_copies, is_later_end, is_one_group};
 use crate::top::TopSubtree;
 use crate::view::{TokenTreesView, TtIter};
 use std::alloc::Global;
@@ -105,12 +105,15 @@ pub struct TopSubtreeBuilder {
     openings: Vec<Opening>,
     // Where the token of the group closed last stands.
     last_closed: Option<usize>,
+    // A place that no closed group lies across: that of the last point restored, or of the group
+    // around it that was closed since. Restores at growing places walk over each tree once.
+    settled: usize,
 }
 
 impl Model for TopSubtreeBuilder {
-    ghost use Rattle.std.specs.Prelude.{reverse, length, ◌≤◌, ◌^◌};
+    ghost use Rattle.std.specs.Prelude.{reverse, length, ◌≤◌, ◌^◌, IfSome};
     ghost use Rattle.tt.specs.Building.{Builder, builder_code};
-    ghost use Rattle.tt.specs.BuilderTokens.{here_of, groups_of, IsHeld, IsTreeAt};
+    ghost use Rattle.tt.specs.BuilderTokens.{here_of, groups_of, IsHeld, IsTreeAt, IsSettled};
 
     ghost Value = { Builder };
 
@@ -126,7 +129,9 @@ impl Model for TopSubtreeBuilder {
     } };
 
     ghost invariant = { λ b. IsHeld b.tokens.items (reverse b.openings.items) × (length b.tokens.items ≤ 2 ^ 32)
-        × IsTreeAt b.last_closed b.tokens.items (reverse b.openings.items) };
+        × IsTreeAt b.last_closed b.tokens.items (reverse b.openings.items)
+        × IsSettled b.settled (groups_of b.tokens.items (reverse b.openings.items)) (here_of b.tokens.items (reverse b.openings.items))
+        × IfSome b.last_closed (λ at. b.settled ≤ at) };
 }
 
 impl TopSubtreeBuilder {
@@ -159,6 +164,7 @@ impl TopSubtreeBuilder {
             tokens,
             openings: Vec::new(alloc),
             last_closed: None,
+            settled: 1,
         })
     }
 
@@ -337,6 +343,7 @@ impl TopSubtreeBuilder {
         let len = (self.tokens.len() - opening.at - 1) as u32;
         self.tokens[opening.at] = TokenTree::Subtree(Subtree { delimiter, len });
         self.last_closed = Some(opening.at);
+        self.settled = self.settled.min(opening.at);
         Ok(())
     }
 
@@ -383,6 +390,7 @@ impl TopSubtreeBuilder {
         self.tokens.truncate(restore_point.tokens as usize + 1);
         self.openings.truncate(restore_point.depth);
         self.last_closed = None;
+        self.settled = self.tokens.len();
         Ok(())
     }
 
@@ -414,7 +422,9 @@ impl TopSubtreeBuilder {
     {
         let at = point.tokens as usize + 1;
         match self.list_at(point.depth) {
-            Some((start, trees)) => start <= at && is_tree_end(trees, at - start),
+            Some((start, trees)) => {
+                start <= at && is_later_end(trees, self.settled.saturating_sub(start), at - start)
+            }
             None => false,
         }
     }
@@ -436,6 +446,7 @@ impl TopSubtreeBuilder {
             mut tokens,
             openings: _,
             last_closed: _,
+            settled: _,
         } = self;
         let len = (tokens.len() - 1) as u32;
         tokens[0] = TokenTree::Subtree(Subtree {
@@ -468,6 +479,7 @@ impl TopSubtreeBuilder {
             mut tokens,
             openings: _,
             last_closed: _,
+            settled: _,
         } = self;
         let _ = tokens.remove(0);
         Ok(TopSubtree { tokens })

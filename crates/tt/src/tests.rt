@@ -415,6 +415,43 @@ fn restores(rt: HostRuntime) -> Result<(), Fail> {
     Ok(())
 }
 
+// A comma that is taken back at once.
+fn try_comma(builder: &mut TopSubtreeBuilder) -> Result<(), TtFault> {
+    let before = builder.restore_point();
+    push(builder, &punct(',', 5))?;
+    builder.restore(before)
+}
+
+#[test]
+fn restores_at_growing_places(rt: HostRuntime) -> Result<(), Fail> {
+    // How many tokens `+{-}{-}{-}` is, and what is left of it where all but the first is taken back.
+    for (goes_back, tokens) in [(false, 7), (true, 1)] {
+        let mut builder = new_builder(rt.alloc()).ok().ok_or("refused")?;
+        push(&mut builder, &punct('+', 0)).ok().ok_or("refused")?;
+        let after_one = builder.restore_point();
+        push(&mut builder, &punct('+', 1)).ok().ok_or("refused")?;
+        let after_two = builder.restore_point();
+        builder.restore(after_one).ok().ok_or("stale")?;
+        for _ in 0..3 {
+            open(&mut builder, DelimiterKind::Brace, byte_at(2))
+                .ok()
+                .ok_or("refused")?;
+            push(&mut builder, &punct('-', 3)).ok().ok_or("refused")?;
+            try_comma(&mut builder).ok().ok_or("stale")?;
+            builder.close(byte_at(4)).ok().ok_or("refused")?;
+            // The first group lies across it.
+            assert!(rt; builder.restore(after_two) == Err(TtFault::Stale));
+            try_comma(&mut builder).ok().ok_or("stale")?;
+        }
+        if goes_back {
+            builder.restore(after_one).ok().ok_or("stale")?;
+        }
+        let tree = builder.build().ok().ok_or("refused")?;
+        assert_eq!(rt; tree.token_trees().len(), tokens);
+    }
+    Ok(())
+}
+
 #[test]
 fn dissolves(rt: HostRuntime) -> Result<(), Fail> {
     // How many tokens `(,)` is, where the brackets are of this sort.

@@ -69,3 +69,17 @@ pub(crate) fn is_tree_end(mut trees: TtIter<'_>, count: usize) -> bool
     }
     true
 }
+
+// The same, where one is known to end after `known` tokens, if there are as many.
+pub(crate) fn is_later_end(trees: TtIter<'_>, known: usize, count: usize) -> bool
+    requires { known ≤ size trees → size (front known trees) ≡ known }
+    ensures { IsTrue result ↔ (size (front count trees.entry) ≡ count) }
+{
+    if known > count || known > trees.tokens.len() {
+        return is_tree_end(trees, count);
+    }
+    let later = TtIter {
+        tokens: &trees.tokens[known..],
+    };
+    is_tree_end(later, count - known)
+}

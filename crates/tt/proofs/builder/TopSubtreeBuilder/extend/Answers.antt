@@ -7,6 +7,7 @@ use Rattle.tt.proofs.Closings.{IsTreeAt-append}
 use Rattle.tt.proofs.Held.{IsHeld-append, here_of-append, groups_of-append}
 use Rattle.tt.proofs.Limits.{counted}
 use Rattle.tt.proofs.Leaves.{preorder-leaves, yields_more}
+use Rattle.tt.proofs.Settled.{IsSettled-append}
 use Rattle.tt.proofs.builder.TopSubtreeBuilder.extend.Given.{Over}
 use Rattle.tt.proofs.builder.TopSubtreeBuilder.extend.Goals as goal
 
@@ -44,8 +45,13 @@ invariant_of-self-2 g c =
     ap length (preorder-leaves c.loop-leaf.yielded) ∙ length-map c.loop-leaf.yielded token.Leaf in
     let fits : length (tokens ++ preorder f) ≤ 4294967296 =
     omega (arith, c.loop-leaf.invariant.3, c.len.ensures, c.self.inside.tokens.ok.0, counts, length-append tokens (preorder f), c.self.invariant.1) in
-    rw (added g c)
-    (IsHeld-append tokens (reverse c.self.inside.openings.items) f c.self.invariant.0, fits, IsTreeAt-append c.self.inside.last_closed tokens (preorder f) _ c.self.invariant.0 c.self.invariant.2)
+    rw (added g c) (
+      IsHeld-append tokens (reverse c.self.inside.openings.items) f c.self.invariant.0,
+      fits,
+      IsTreeAt-append c.self.inside.last_closed tokens (preorder f) _ c.self.invariant.0 c.self.invariant.2,
+      IsSettled-append c.self.inside.settled tokens _ f c.self.invariant.0 c.self.invariant.3,
+      c.self.invariant.4,
+    )
 
 pub returns-clause-ok : goal.returns-clause-ok
 returns-clause-ok g c =

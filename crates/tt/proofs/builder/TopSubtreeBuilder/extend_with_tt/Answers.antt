@@ -4,6 +4,7 @@ use Rattle.tt.specs.Views.{forest}
 use Rattle.tt.proofs.Closings.{IsTreeAt-append}
 use Rattle.tt.proofs.Held.{IsHeld-append, here_of-append, groups_of-append}
 use Rattle.tt.proofs.Limits.{counted, room_for, size-whole}
+use Rattle.tt.proofs.Settled.{IsSettled-append}
 use Rattle.tt.proofs.builder.TopSubtreeBuilder.extend_with_tt.Goals as goal
 
 pub invariant_of-self-2 : goal.invariant_of-self-2
@@ -14,7 +15,10 @@ invariant_of-self-2 c =
     let fits : length (tokens ++ c.args.tt.tokens.now) ≤ 4294967296 =
     omega (arith, c.if-room-len.false, c.len.ensures, c.self.inside.tokens.ok.0, counts, length-append tokens c.args.tt.tokens.now, c.self.invariant.1) in
     let held = rw c.args.tt.whole at (IsHeld-append tokens (reverse c.self.inside.openings.items) (forest_of c.args.tt.tokens.now) c.self.invariant.0) in
-    rw c.in-Ok.ensures.ok (held, fits, IsTreeAt-append c.self.inside.last_closed _ _ _ c.self.invariant.0 c.self.invariant.2)
+    let settled =
+    rw c.args.tt.whole at (IsSettled-append c.self.inside.settled tokens (reverse c.self.inside.openings.items) (forest_of c.args.tt.tokens.now) c.self.invariant.0 c.self.invariant.3) in
+    rw c.in-Ok.ensures.ok
+    (held, fits, IsTreeAt-append c.self.inside.last_closed _ _ _ c.self.invariant.0 c.self.invariant.2, settled, c.self.invariant.4)
 
 pub returns-clause-ok : goal.returns-clause-ok
 unfolding forest

@@ -5,6 +5,7 @@ use Rattle.tt.specs.BuilderTokens.{IsHeld}
 use Rattle.tt.proofs.Held.{IsHeld-append, here_of-append, groups_of-append}
 use Rattle.tt.proofs.Closings.{IsTreeAt-append}
 use Rattle.tt.proofs.Limits.{counted, room_left}
+use Rattle.tt.proofs.Settled.{IsSettled-append}
 use Rattle.tt.proofs.builder.TopSubtreeBuilder.push.Goals as goal
 
 held : (c : goal.In-Ok) → IsHeld c.self.inside.tokens.items (reverse c.self.inside.openings.items)
@@ -12,7 +13,13 @@ held c = c.self.invariant.0
 
 pub invariant_of-self-2 : goal.invariant_of-self-2
 invariant_of-self-2 c =
-    rw c.in-Ok.ensures.items (IsHeld-append _ _ (leaf c.args.leaf empty) (held c), omega (arith, c.self.inside.tokens.ok.0, length-append {A = TokenTree}), IsTreeAt-append c.self.inside.last_closed _ _ _ (held c) c.self.invariant.2)
+    rw c.in-Ok.ensures.items (
+      IsHeld-append _ _ (leaf c.args.leaf empty) (held c),
+      omega (arith, c.self.inside.tokens.ok.0, length-append {A = TokenTree}),
+      IsTreeAt-append c.self.inside.last_closed _ _ _ (held c) c.self.invariant.2,
+      IsSettled-append c.self.inside.settled _ _ (leaf c.args.leaf empty) (held c) c.self.invariant.3,
+      c.self.invariant.4,
+    )
 
 pub returns-clause-ok : goal.returns-clause-ok
 returns-clause-ok c =

@@ -1,5 +1,6 @@
 use Rattle.std.proofs.Common.{◌≤◌, ◌++◌, refl, arith, length, take, drop, sym, ◌+◌, length-append}
 use Rattle.std.proofs.lemmas.List.{length-take, length-drop}
+use Rattle.tt.proofs.Settled.{IsSettled-unwrapped}
 use Rattle.tt.proofs.Unwrapping.{TakenOut, taken_out, left_there}
 use Rattle.tt.proofs.builder.TopSubtreeBuilder.remove_last_subtree_if_invisible.Goals as goal
 
@@ -15,8 +16,10 @@ invariant_of-self-then-is_invisible_head c =
     let tokens = c.self.inside.tokens.items in
     let fits : length (take at tokens ++ drop (at + 1) tokens) ≤ length tokens =
     omega (arith, length-append (take at tokens) (drop (at + 1) tokens), length-take at tokens, length-drop (at + 1) tokens) in
+    let before = rw (sym c.in-Some.ensures.value) at c.self.invariant.4 in
+    let settled = IsSettled-unwrapped c.self.inside.settled at _ _ before c.self.invariant.3 in
     rw (c.remove.ensures.by_index.2, c.move_back.ensures, c.in-Some.ensures.after)
-    ((out c).held, omega (arith, fits, c.self.invariant.1), tt)
+    ((out c).held, omega (arith, fits, c.self.invariant.1), tt, rw ((out c).groups_are, (out c).here_is) settled, tt)
 
 pub returns-then-is_invisible_head-clause-tree : goal.returns-then-is_invisible_head-clause-tree
 returns-then-is_invisible_head-clause-tree c =

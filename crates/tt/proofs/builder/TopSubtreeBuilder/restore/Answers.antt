@@ -1,14 +1,15 @@
-use Rattle.std.proofs.Common.{◌+◌, refl, arith, reverse, take, IsSome}
+use Rattle.std.proofs.Common.{◌≡◌, ◌+◌, ◌∙◌, ap, refl, arith, reverse, length, take, IsSome}
 use Rattle.std.proofs.lemmas.List.{length-take}
 use Rattle.tt.specs.Building.{Point, cut_back}
 use Rattle.tt.proofs.Points.{Restored, restored_items}
+use Rattle.tt.proofs.Settled.{settled_here}
 use Rattle.tt.proofs.builder.TopSubtreeBuilder.restore.Goals as goal
 
-abbrev point : goal.After-self-1 → Point
+abbrev point : goal.After-self-2-1 → Point
 point c = record { tokens = c.restore_point.inside.tokens; depth = c.restore_point.inside.depth }
 
 -- what is left after the cut
-left : (c : goal.After-self-1)
+left : (c : goal.After-self-2-1)
     → Restored c.self.inside.tokens.items (reverse c.self.inside.openings.items) (reverse (take (point c).depth c.self.inside.openings.items)) (point c)
 left c =
     let stood : IsSome (cut_back c.args.restore_point c.args.self.now.tree) = c.if-not-stands.ensures.0 refl in
@@ -16,8 +17,15 @@ left c =
 
 pub invariant_of-self : goal.invariant_of-self
 invariant_of-self c =
-    rw (c.truncate.ensures.items, c.truncate-2.ensures.items)
-    ((left c).held, omega (arith, c.self.invariant.1, length-take (c.restore_point.inside.tokens + 1) c.self.inside.tokens.items), tt)
+    let counts : c.len-self-inside.result ≡ length (take (c.restore_point.inside.tokens + 1) c.self.inside.tokens.items) =
+    c.len-self-inside.ensures ∙ c.truncate.new.self.ok.0 ∙ ap length c.truncate.ensures.items in
+    rw (c.truncate.ensures.items, c.truncate-2.ensures.items) (
+      (left c).held,
+      omega (arith, c.self.invariant.1, length-take (c.restore_point.inside.tokens + 1) c.self.inside.tokens.items),
+      tt,
+      settled_here _ _ _ (left c).held counts,
+      tt,
+    )
 
 pub returns-clause-ok : goal.returns-clause-ok
 returns-clause-ok c =

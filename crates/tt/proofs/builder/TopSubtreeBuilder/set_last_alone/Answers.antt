@@ -1,5 +1,6 @@
 use Rattle.std.proofs.Common.{refl, arith, reverse, set, ◌-◌}
 use Rattle.tt.proofs.LastAlone.{LastSet, last_set}
+use Rattle.tt.proofs.Settled.{IsSettled-alone}
 use Rattle.tt.proofs.builder.TopSubtreeBuilder.set_last_alone.Goals as goal
 
 done : (c : goal.After-self-1)
@@ -11,7 +12,9 @@ done c =
     (rw (← c.self.view_is) at c.requires)
 
 pub invariant_of-self : goal.invariant_of-self
-invariant_of-self c = ((done c).held, rw (done c).long c.self.invariant.1, (done c).tree)
+invariant_of-self c =
+    let settled = IsSettled-alone c.self.inside.settled _ _ c.self.invariant.3 in
+    ((done c).held, rw (done c).long c.self.invariant.1, (done c).tree, rw ((done c).groups_are, (done c).here_is) settled, c.self.invariant.4)
 
 pub returns : goal.returns
 returns c = rw (← c.self.view_is, (done c).groups_are, (done c).here_is) refl
