@@ -11,5 +11,5 @@ for mode in o i; do
     "$program" <"$work/in" >"$work/out" || exit 2
     awk -v mode="$mode" '{
         what = mode == "o" ? "a letter over another" : "a letter in, and out again"
-        printf "%s: %d edits of %d tokens, %.1f us each; the whole %.1f ms; %.0f times as long\n", what, $3, $1, $4 / 1000, $2 / 1e6, $2 / $4 }' "$work/out"
+        printf "%s: %d edits of %d tokens, %.1f us each; the whole %.1f ms; %.0f times as fast\n", what, $3, $1, $4 / 1000, $2 / 1e6, $2 / $4 }' "$work/out"
 done
