@@ -13,8 +13,8 @@ use tt_data::tree::{Subtree, TokenTree};
 /// A place in a list of trees: between two trees of the list, or of a group in it.
 ///
 /// Its walk goes over leaves, openings and closings. It takes no memory. A step looks at the innermost
-/// group's head and at most two tokens; only where a walk leaves more than sixteen groups, one out of
-/// the other, without going into any, does each further one look back over the list that it stands in.
+/// group's head and at most two tokens. Of the lists around its own it knows the sixteen that it came
+/// through last; leaving a group for one that is further out looks back over that list's tokens.
 #[derive(Drop)]
 pub struct Cursor<'a> {
     tokens: &'a [TokenTree],
