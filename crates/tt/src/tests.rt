@@ -453,6 +453,26 @@ fn restores_at_growing_places(rt: HostRuntime) -> Result<(), Fail> {
 }
 
 #[test]
+fn restores_by_a_point_of_another(rt: HostRuntime) -> Result<(), Fail> {
+    let mut other = new_builder(rt.alloc()).ok().ok_or("refused")?;
+    for _ in 0..2 {
+        push(&mut other, &punct('+', 0)).ok().ok_or("refused")?;
+    }
+    let point = other.restore_point();
+    // How many leaves there are, and whether the other's point stands among them.
+    for (leaves, stands) in [(1usize, false), (2, true), (3, true)] {
+        let mut builder = new_builder(rt.alloc()).ok().ok_or("refused")?;
+        for _ in 0..leaves {
+            push(&mut builder, &punct('-', 1)).ok().ok_or("refused")?;
+        }
+        assert_eq!(rt; builder.restore(point).is_ok(), stands);
+        let tree = builder.build().ok().ok_or("refused")?;
+        assert_eq!(rt; tree.token_trees().len(), leaves.min(2));
+    }
+    Ok(())
+}
+
+#[test]
 fn dissolves(rt: HostRuntime) -> Result<(), Fail> {
     // How many tokens `(,)` is, where the brackets are of this sort.
     for (kind, tokens) in [(DelimiterKind::Invisible, 2), (DelimiterKind::Brace, 3)] {
