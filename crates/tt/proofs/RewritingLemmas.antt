@@ -14,10 +14,17 @@ use Rattle.tt_data.specs.declared.tree.TokenTree.TheVariants as token
 use Rattle.tt_data.specs.Forest.{Forest, empty, leaf, group, joined, size, head_of}
 use Rattle.tt_data.specs.Flat.{joined-empty}
 use Rattle.tt_data.proofs.ForestLemmas.{joined_assoc, size-joined}
+use Rattle.std.specs.Borrow.{Bor}
+use Rattle.std.specs.Fn.{CalledAt, Mut}
+use Rattle.tt_data.specs.declared.tree.TokenTree.{TokenTree}
+use Rattle.tt.specs.Views.{forest}
 use Rattle.tt.specs.declared.transform.Around.{Around}
+use Rattle.tt.specs.declared.transform.TransformTtAction.{TransformTtAction}
+use Rattle.tt.specs.declared.transform.TransformTtAction.TheVariants.{Keep, ReplaceWith}
+use Rattle.tt.specs.declared.view.TokenTreesView.{TokenTreesView}
 use Rattle.tt.specs.Building.{Building, Opened, closed, closed_in, count_in, count_of}
 use Rattle.tt.specs.Tops.{Top, forest_of_top, only_group}
-use Rattle.tt.specs.Rewriting.{Call, IsRewritten, IsStarted, IsRemoval, with_answer, nothing, leaf_stays, leaf_gives_way, group_stays, group_gives_way}
+use Rattle.tt.specs.Rewriting.{Call, IsAnswered, IsRewritten, IsStarted, IsRemoval, with_answer, nothing, leaf_stays, leaf_gives_way, group_stays, group_gives_way}
 
 abbrev pub kept_leaf : Leaf → Call
 kept_leaf l = record { token = token.Leaf l; put = None }
@@ -323,3 +330,14 @@ followed P Q (Err e) f p = p
 pub at_errors : {T E : Type 0} (A : E → Type 0) (X : Type 0) (r : Result T E) → X → IfErr r (λ e. A e → X)
 at_errors A X (Ok t) x = tt
 at_errors A X (Err e) x = λ _. x
+
+-- a call about a tree's own head, of which the head is known in other words
+pub asked_kept : {F : Type 0} (g : Mut F (Bor TokenTree × Unit {0}) TransformTtAction) (f f' : F) (t : Top) (h : Subtree)
+    → h ≡ record { delimiter = t.delimiter; len = size t.inner } → CalledAt g f (token.Subtree h) Keep f'
+    → IsAnswered g f (kept_group t.delimiter t.inner) f'
+asked_kept g f f' t h same called = (Keep, subst (λ x. CalledAt g f (token.Subtree x) Keep f') same called, refl)
+
+pub asked_put : {F : Type 0} (g : Mut F (Bor TokenTree × Unit {0}) TransformTtAction) (f f' : F) (t : Top) (h : Subtree) (v : TokenTreesView)
+    → h ≡ record { delimiter = t.delimiter; len = size t.inner } → CalledAt g f (token.Subtree h) (ReplaceWith v) f'
+    → IsAnswered g f (put_group t.delimiter t.inner (forest v)) f'
+asked_put g f f' t h v same called = (ReplaceWith v, subst (λ x. CalledAt g f (token.Subtree x) (ReplaceWith v) f') same called, refl)

@@ -1,19 +1,15 @@
 use Rattle.std.proofs.Common.{◌≡◌, [], ◌∷◌, ap, refl, sym, subst, ◌∙◌, inl, inr, Some}
 use Rattle.std.proofs.lemmas.Fn.{called_at}
-use Rattle.std.specs.Fn.{CalledAt}
-use Rattle.tt_data.specs.declared.tree.TokenTree.TheVariants as token
-use Rattle.tt.specs.Rewriting.{IsAnswered, IsStarted, IsRewritten}
+use Rattle.tt.specs.Rewriting.{IsStarted, IsRewritten}
 use Rattle.tt.specs.Tops.{forest_of_top}
 use Rattle.tt.specs.Views.{forest, top_of}
-use Rattle.tt.specs.declared.transform.TransformTtAction.TheVariants.{Keep, ReplaceWith}
-use Rattle.tt.proofs.RewritingLemmas.{kept_group, put_group, top_kept, top_begun, top_put, only_is_top, followed, at_errors}
+use Rattle.tt.proofs.RewritingLemmas.{kept_group, put_group, top_kept, top_begun, top_put, only_is_top, followed, at_errors, asked_kept, asked_put}
 use Rattle.tt.proofs.transform.transformed.Goals as goal
 
 pub returns-in-Keep-clause-ok : goal.returns-in-Keep-clause-ok
 returns-in-Keep-clause-ok g c =
     let t = c.args.tt.now in
-    let asked : IsAnswered g.F.FnMut c.args.callback (kept_group t.delimiter t.inner) c.callback.new.self =
-    (Keep, subst (λ h. CalledAt g.F.FnMut c.args.callback (token.Subtree h) Keep c.callback.new.self) c.top_subtree-head.ensures (called_at g.F.FnMut c.callback.ensures c.in-Keep.is), refl) in
+    let asked = asked_kept g.F.FnMut _ _ t _ c.top_subtree-head.ensures (called_at g.F.FnMut c.callback.ensures c.in-Keep.is) in
     followed _ _ c.rewritten.result
     (λ tree (calls, last, made, all, top).
     let inside = subst (λ f. IsRewritten f calls tree.inner) c.iter.ensures all in
@@ -25,15 +21,13 @@ returns-in-Keep-clause-ok g c =
 pub returns-in-Keep-clause-one_group : goal.returns-in-Keep-clause-one_group
 returns-in-Keep-clause-one_group g c =
     let t = c.args.tt.now in
-    let asked : IsAnswered g.F.FnMut c.args.callback (kept_group t.delimiter t.inner) c.callback.new.self =
-    (Keep, subst (λ h. CalledAt g.F.FnMut c.args.callback (token.Subtree h) Keep c.callback.new.self) c.top_subtree-head.ensures (called_at g.F.FnMut c.callback.ensures c.in-Keep.is), refl) in
+    let asked = asked_kept g.F.FnMut _ _ t _ c.top_subtree-head.ensures (called_at g.F.FnMut c.callback.ensures c.in-Keep.is) in
     at_errors _ _ c.rewritten.result (kept_group t.delimiter t.inner, c.callback.new.self, asked, (refl, inl refl))
 
 pub returns-in-Keep-clause-tokens : goal.returns-in-Keep-clause-tokens
 returns-in-Keep-clause-tokens g c = λ e.
     let t = c.args.tt.now in
-    let asked : IsAnswered g.F.FnMut c.args.callback (kept_group t.delimiter t.inner) c.callback.new.self =
-    (Keep, subst (λ h. CalledAt g.F.FnMut c.args.callback (token.Subtree h) Keep c.callback.new.self) c.top_subtree-head.ensures (called_at g.F.FnMut c.callback.ensures c.in-Keep.is), refl) in
+    let asked = asked_kept g.F.FnMut _ _ t _ c.top_subtree-head.ensures (called_at g.F.FnMut c.callback.ensures c.in-Keep.is) in
     let (calls, last, f, made, left, much) = c.rewritten.ensures.tokens e in (
       kept_group t.delimiter t.inner ∷ calls,
       last,
@@ -47,8 +41,7 @@ pub returns-in-Some-clause-ok : goal.returns-in-Some-clause-ok
 returns-in-Some-clause-ok g c =
     let t = c.args.tt.now in
     let v = c.in-ReplaceWith.trees in
-    let asked : IsAnswered g.F.FnMut c.args.callback (put_group t.delimiter t.inner (forest v)) c.callback.new.self =
-    (ReplaceWith v, subst (λ h. CalledAt g.F.FnMut c.args.callback (token.Subtree h) (ReplaceWith v) c.callback.new.self) c.top_subtree-head.ensures (called_at g.F.FnMut c.callback.ensures c.in-ReplaceWith.is), refl) in
+    let asked = asked_put g.F.FnMut _ _ t _ v c.top_subtree-head.ensures (called_at g.F.FnMut c.callback.ensures c.in-ReplaceWith.is) in
     let one : forest v ≡ forest_of_top (top_of c.in-Some.group) = only_is_top (forest v) (top_of c.in-Some.group) c.in-Some.ensures in
     followed _ _ c.from_subtree.result
     (λ tree is. (
@@ -63,8 +56,7 @@ pub returns-in-Some-clause-one_group : goal.returns-in-Some-clause-one_group
 returns-in-Some-clause-one_group g c =
     let t = c.args.tt.now in
     let v = c.in-ReplaceWith.trees in
-    let asked : IsAnswered g.F.FnMut c.args.callback (put_group t.delimiter t.inner (forest v)) c.callback.new.self =
-    (ReplaceWith v, subst (λ h. CalledAt g.F.FnMut c.args.callback (token.Subtree h) (ReplaceWith v) c.callback.new.self) c.top_subtree-head.ensures (called_at g.F.FnMut c.callback.ensures c.in-ReplaceWith.is), refl) in
+    let asked = asked_put g.F.FnMut _ _ t _ v c.top_subtree-head.ensures (called_at g.F.FnMut c.callback.ensures c.in-ReplaceWith.is) in
     let one : forest v ≡ forest_of_top (top_of c.in-Some.group) = only_is_top (forest v) (top_of c.in-Some.group) c.in-Some.ensures in
     at_errors _ _ c.from_subtree.result
     (put_group t.delimiter t.inner (forest v), c.callback.new.self, asked, (refl, inr (top_of c.in-Some.group, ap Some one)))
@@ -73,6 +65,5 @@ pub returns-clause-malformed : goal.returns-clause-malformed
 returns-clause-malformed g c = λ e.
     let t = c.args.tt.now in
     let v = c.in-ReplaceWith.trees in
-    let asked : IsAnswered g.F.FnMut c.args.callback (put_group t.delimiter t.inner (forest v)) c.callback.new.self =
-    (ReplaceWith v, subst (λ h. CalledAt g.F.FnMut c.args.callback (token.Subtree h) (ReplaceWith v) c.callback.new.self) c.top_subtree-head.ensures (called_at g.F.FnMut c.callback.ensures c.in-ReplaceWith.is), refl) in
+    let asked = asked_put g.F.FnMut _ _ t _ v c.top_subtree-head.ensures (called_at g.F.FnMut c.callback.ensures c.in-ReplaceWith.is) in
     (put_group t.delimiter t.inner (forest v) ∷ [], c.callback.new.self, forest v, (c.callback.new.self, asked, refl), top_put t (forest v), sym c.in-None.ensures)
