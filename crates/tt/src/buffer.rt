@@ -15,7 +15,7 @@ use tt_data::tree::{Subtree, TokenTree};
 /// Its walk goes over leaves, openings and closings. It takes no memory. A step looks at the innermost
 /// group's head and at most two tokens. Of the lists around its own it knows the sixteen that it came
 /// through last; leaving a group for one that is further out looks back over that list's tokens.
-#[derive(Drop)]
+#[derive(Debug, Drop)]
 pub struct Cursor<'a> {
     tokens: &'a [TokenTree],
     // Where the innermost list begins: 0 in no group, else just after the group's head.

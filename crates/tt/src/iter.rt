@@ -9,7 +9,7 @@ use tt_data::span::Span;
 use tt_data::tree::{Subtree, TokenTree};
 
 /// A walk over a list of trees. It stands before the trees that are left.
-#[derive(Drop)]
+#[derive(Debug, Drop)]
 pub struct TtIter<'a> {
     pub(crate) tokens: &'a [TokenTree],
 }
@@ -28,7 +28,7 @@ impl<'a> Model for TtIter<'a> {
 }
 
 /// One tree of a list.
-#[derive(Drop)]
+#[derive(Debug, Drop)]
 pub enum TtElement<'a> {
     Leaf(Leaf),
     /// A group: its head, and a walk over the trees inside.

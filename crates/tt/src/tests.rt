@@ -761,6 +761,27 @@ fn spaces(rt: HostRuntime) -> Result<(), Fail> {
     Ok(())
 }
 
+#[test]
+fn tells_what_is_inside(rt: HostRuntime) -> Result<(), Fail> {
+    let alloc = rt.alloc();
+    let tree = TopSubtree::invisible_from_leaves(alloc, byte_at(0), [punct('+', 0)])
+        .ok()
+        .ok_or("refused")?;
+    let (group, trees, left) = (tree.view(), tree.token_trees(), tree.iter());
+    let (first, place) = (left.peek().ok_or("no tree")?, trees.cursor());
+    for text in [
+        format!(in alloc; "{tree:?}")?,
+        format!(in alloc; "{group:?}")?,
+        format!(in alloc; "{trees:?}")?,
+        format!(in alloc; "{left:?}")?,
+        format!(in alloc; "{first:?}")?,
+        format!(in alloc; "{place:?}")?,
+    ] {
+        assert!(rt; text.as_str().contains("'+'"));
+    }
+    Ok(())
+}
+
 // Whether the token is a punct of this character.
 fn is_punct(token: &TokenTree, char: char) -> bool {
     match token {

@@ -14,7 +14,7 @@ use tt_data::span::Span;
 use tt_data::tree::{Subtree, TokenTree};
 
 /// A whole tree: one group, and the trees inside it.
-#[derive(Drop)]
+#[derive(Debug, Drop)]
 pub struct TopSubtree {
     // The group's own token, and those inside.
     pub(crate) tokens: Vec<TokenTree>,

@@ -11,7 +11,7 @@ use tt_data::span::Span;
 use tt_data::tree::{Subtree, TokenTree};
 
 /// A list of trees.
-#[derive(Clone, Copy)]
+#[derive(Clone, Copy, Debug)]
 pub struct TokenTreesView<'a> {
     pub(crate) tokens: &'a [TokenTree],
     ghost whole: { IsPreorder tokens.now },
@@ -123,7 +123,7 @@ impl<'a> TokenTreesView<'a> {
 }
 
 /// One group.
-#[derive(Clone, Copy)]
+#[derive(Clone, Copy, Debug)]
 pub struct SubtreeView<'a> {
     pub(crate) tokens: &'a [TokenTree],
     ghost whole: { IsPreorder tokens.now },
