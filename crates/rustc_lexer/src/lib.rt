@@ -12,8 +12,6 @@ ghost use Rattle.rustc_lexer.specs.Remaining.{tokens_left};
 mod character;
 mod comment;
 mod cursor;
-#[cfg(test)]
-mod edit_tests;
 pub mod laws;
 mod lexed;
 mod lexeme;
@@ -25,10 +23,6 @@ mod quote;
 mod raw;
 mod shebang;
 mod steps;
-#[cfg(test)]
-mod tests;
-#[cfg(test)]
-mod tests_raw;
 mod token;
 mod tokens;
 mod word;

@@ -1,5 +1,5 @@
-//! Tests of edits, by texts whose tokens were worked out by hand.
-use crate::{Kept, LexedText, Token, TokenKind};
+//! Edits of a text that keeps its tokens.
+use rustc_lexer::{Kept, LexedText, Token, TokenKind};
 use std::test::Fail;
 
 #[test]
