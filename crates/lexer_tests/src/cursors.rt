@@ -1,21 +1,21 @@
 //! Cursors.
 use rustc_lexer::{Base, Cursor, FrontmatterAllowed, GuardedStr, LiteralKind, Token, TokenKind};
 
+const END: Token = Token {
+    kind: TokenKind::Eof,
+    len: 0,
+};
+
 #[test]
 fn a_cursor_shows_what_is_left(rt: HostRuntime) {
     let mut cursor = Cursor::new("aé#", FrontmatterAllowed::No);
-    assert_eq!(rt; cursor.first(), 'a');
-    assert_eq!(rt; cursor.third(), '#');
-    assert_eq!(rt; cursor.advance_token().len, 3);
-    assert_eq!(rt; cursor.as_str(), "#");
-    assert_eq!(rt; cursor.third(), '\0');
+    assert!(rt; cursor.first() == 'a' && cursor.third() == '#');
+    let word = cursor.advance_token();
+    assert!(rt; word.len == 3 && cursor.as_str() == "#" && cursor.third() == '\0');
     cursor.advance_token();
-    assert_eq!(rt; cursor.first(), '\0');
-    let end = Token {
-        kind: TokenKind::Eof,
-        len: 0,
-    };
-    assert!(rt; cursor.advance_token() == end && cursor.advance_token() == end);
+    assert!(rt;
+        cursor.first() == '\0' && cursor.advance_token() == END && cursor.advance_token() == END
+    );
 }
 
 // A string that so many hashes stand before, and the length of its token.
@@ -44,8 +44,10 @@ fn reads_guarded_strings(rt: HostRuntime) {
         assert!(rt; text.len() < 100);
         let mut cursor = Cursor::new(text, FrontmatterAllowed::No);
         let got = cursor.guarded_double_quoted_string();
-        assert!(rt; got == want, "guarded string of {text:?}");
-        assert_eq!(rt; cursor.as_str(), left, "left of {text:?}");
+        assert!(rt;
+            got == want && cursor.as_str() == left,
+            "guarded string of {text:?}"
+        );
     }
 }
 

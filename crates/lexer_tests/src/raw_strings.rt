@@ -1,14 +1,10 @@
 //! What is wrong with raw strings.
-ghost use Rattle.std.specs.Prelude.{◌<◌, length};
-
 use rustc_lexer::{Cursor, FrontmatterAllowed, RawStrError, validate_raw_str};
 use std::test::Fail;
 
-// What is wrong with a raw string behind a prefix of one letter, or None where the text does not begin with `r`.
-fn answer(text: &str) -> Option<Result<(), RawStrError>>
-    requires { length text.now < 1000 }
-{
-    if Cursor::new(text, FrontmatterAllowed::No).first() != 'r' {
+// What is wrong with a raw string behind a prefix of one letter, or None where the text is long or does not begin with `r`.
+fn answer(text: &str) -> Option<Result<(), RawStrError>> {
+    if text.len() >= 1000 || Cursor::new(text, FrontmatterAllowed::No).first() != 'r' {
         return None;
     }
     Some(validate_raw_str(text, 1))
@@ -38,28 +34,28 @@ fn tells_what_is_wrong_with_a_raw_string(rt: HostRuntime) {
         ("r###\"a\"#b\"##c\"##", unended(3, 2, Some(10))),
     ];
     for (text, want) in cases {
-        assert!(rt; text.len() < 100);
-        assert_eq!(rt; answer(text), Some(want), "raw string {text:?}");
+        assert!(rt; answer(text) == Some(want), "raw string {text:?}");
     }
+}
+
+// A raw string with n hashes.
+fn with_hashes(rt: &HostRuntime, n: usize) -> Result<String, Fail> {
+    let mut text = String::from_str(rt.alloc(), "r")?;
+    for _ in 0..n {
+        text.push('#')?;
+    }
+    text.push_str("\"\"")?;
+    for _ in 0..n {
+        text.push('#')?;
+    }
+    Ok(text)
 }
 
 #[test]
 fn takes_no_more_than_255_hashes(rt: HostRuntime) -> Result<(), Fail> {
-    let cases = [
-        (255, Ok(())),
-        (256, Err(RawStrError::TooManyDelimiters { found: 256 })),
-    ];
-    for (n, want) in cases {
-        let mut text = String::from_str(rt.alloc(), "r")?;
-        for _ in 0..n {
-            text.push('#')?;
-        }
-        text.push_str("\"\"")?;
-        for _ in 0..n {
-            text.push('#')?;
-        }
-        assert!(rt; text.len() < 1000);
-        assert_eq!(rt; answer(&text), Some(want), "{n} hashes");
-    }
+    let most = with_hashes(&rt, 255)?;
+    let more = with_hashes(&rt, 256)?;
+    let too_many = Err(RawStrError::TooManyDelimiters { found: 256 });
+    assert!(rt; answer(&most) == Some(Ok(())) && answer(&more) == Some(too_many));
     Ok(())
 }

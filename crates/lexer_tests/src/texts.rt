@@ -1,15 +1,14 @@
 //! Texts and their tokens.
-ghost use Rattle.std.specs.Prelude.{◌<◌, length};
-
 use rustc_lexer::{Cursor, FrontmatterAllowed, TokenKind, strip_shebang, tokenize};
 use std::fmt::Write;
 use std::test::Fail;
 use ucd_category::GeneralCategory;
 
 // The kinds and lengths of the text's tokens, which a cursor gives too, and then the end.
-fn printed(rt: &HostRuntime, text: &str) -> Result<String, Fail>
-    requires { length text.now < 100 }
-{
+fn printed(rt: &HostRuntime, text: &str) -> Result<String, Fail> {
+    if text.len() >= 100 {
+        return Err(Fail::new("a text is long"));
+    }
     let mut got = String::new(rt.alloc());
     let mut cursor = Cursor::new(text, FrontmatterAllowed::No);
     for token in tokenize(text, FrontmatterAllowed::No) {
@@ -81,8 +80,8 @@ fn cuts_texts_into_tokens(rt: HostRuntime) -> Result<(), Fail> {
         ),
     ];
     for (text, want) in cases {
-        assert!(rt; text.len() < 100);
-        assert_eq!(rt; printed(&rt, text)?.as_str(), want, "tokens of {text:?}");
+        let got = printed(&rt, text)?;
+        assert!(rt; got.as_str() == want, "tokens of {text:?}: {got}");
     }
     Ok(())
 }
@@ -122,13 +121,12 @@ fn lexes_a_character_of_each_category(rt: HostRuntime) -> Result<(), Fail> {
         (Category::Unassigned, "\u{378}", "Unknown 2; "),
     ];
     for (category, text, want) in cases {
-        assert!(rt; text.len() < 100);
-        let c = text.chars().next().unwrap_or('\0');
+        let found = GeneralCategory::for_char(text.chars().next().unwrap_or('\0'));
+        let got = printed(&rt, text)?;
         assert!(rt;
-            GeneralCategory::for_char(c) == category,
-            "category of {c:?}"
+            found == category && got.as_str() == want,
+            "category and tokens of {text:?}: {got}"
         );
-        assert_eq!(rt; printed(&rt, text)?.as_str(), want, "tokens of {c:?}");
     }
     Ok(())
 }
@@ -146,7 +144,9 @@ fn finds_the_first_line_of_a_script(rt: HostRuntime) {
         ("#!/** c */[a]", Some(13)),
     ];
     for (text, want) in cases {
-        assert!(rt; text.len() < 100);
-        assert_eq!(rt; strip_shebang(text), want, "first line of {text:?}");
+        assert!(rt;
+            text.len() < 100 && strip_shebang(text) == want,
+            "first line of {text:?}"
+        );
     }
 }
