@@ -86,48 +86,53 @@ fn cuts_texts_into_tokens(rt: HostRuntime) -> Result<(), Fail> {
     Ok(())
 }
 
+// A character of each category but the surrogates'.
+const CHARACTERS: &str = "Éß\u{1c5}\u{2b0}\u{3042}\u{301}\u{903}\u{20dd}\u{663}\u{2160}²\u{203f}\u{2013}\u{2045}\u{2046}«»¡×€¨©\u{a0}\u{2028}\u{2029}\u{85}\u{200e}\u{e000}\u{378}";
+
+// Their categories and tokens.
+const CATEGORIES: &str = "
+UppercaseLetter Ident 2;
+LowercaseLetter Ident 2;
+TitlecaseLetter Ident 2;
+ModifierLetter Ident 2;
+OtherLetter Ident 3;
+NonspacingMark Unknown 2;
+SpacingMark Unknown 3;
+EnclosingMark Unknown 3;
+DecimalNumber Unknown 2;
+LetterNumber Ident 3;
+OtherNumber Unknown 2;
+ConnectorPunctuation Unknown 3;
+DashPunctuation Unknown 3;
+OpenPunctuation Unknown 3;
+ClosePunctuation Unknown 3;
+InitialPunctuation Unknown 2;
+FinalPunctuation Unknown 2;
+OtherPunctuation Unknown 2;
+MathSymbol Unknown 2;
+CurrencySymbol Unknown 3;
+ModifierSymbol Unknown 2;
+OtherSymbol Unknown 2;
+SpaceSeparator Unknown 2;
+LineSeparator Whitespace 3;
+ParagraphSeparator Whitespace 3;
+Control Whitespace 2;
+Format Whitespace 3;
+PrivateUse Unknown 3;
+Unassigned Unknown 2;
+";
+
 #[test]
 fn lexes_a_character_of_each_category(rt: HostRuntime) -> Result<(), Fail> {
-    use GeneralCategory as Category;
-    let cases = [
-        (Category::UppercaseLetter, "É", "Ident 2; "),
-        (Category::LowercaseLetter, "ß", "Ident 2; "),
-        (Category::TitlecaseLetter, "\u{1c5}", "Ident 2; "),
-        (Category::ModifierLetter, "\u{2b0}", "Ident 2; "),
-        (Category::OtherLetter, "\u{3042}", "Ident 3; "),
-        (Category::NonspacingMark, "\u{301}", "Unknown 2; "),
-        (Category::SpacingMark, "\u{903}", "Unknown 3; "),
-        (Category::EnclosingMark, "\u{20dd}", "Unknown 3; "),
-        (Category::DecimalNumber, "\u{663}", "Unknown 2; "),
-        (Category::LetterNumber, "\u{2160}", "Ident 3; "),
-        (Category::OtherNumber, "²", "Unknown 2; "),
-        (Category::ConnectorPunctuation, "\u{203f}", "Unknown 3; "),
-        (Category::DashPunctuation, "\u{2013}", "Unknown 3; "),
-        (Category::OpenPunctuation, "\u{2045}", "Unknown 3; "),
-        (Category::ClosePunctuation, "\u{2046}", "Unknown 3; "),
-        (Category::InitialPunctuation, "«", "Unknown 2; "),
-        (Category::FinalPunctuation, "»", "Unknown 2; "),
-        (Category::OtherPunctuation, "¡", "Unknown 2; "),
-        (Category::MathSymbol, "×", "Unknown 2; "),
-        (Category::CurrencySymbol, "€", "Unknown 3; "),
-        (Category::ModifierSymbol, "¨", "Unknown 2; "),
-        (Category::OtherSymbol, "©", "Unknown 2; "),
-        (Category::SpaceSeparator, "\u{a0}", "Unknown 2; "),
-        (Category::LineSeparator, "\u{2028}", "Whitespace 3; "),
-        (Category::ParagraphSeparator, "\u{2029}", "Whitespace 3; "),
-        (Category::Control, "\u{85}", "Whitespace 2; "),
-        (Category::Format, "\u{200e}", "Whitespace 3; "),
-        (Category::PrivateUse, "\u{e000}", "Unknown 3; "),
-        (Category::Unassigned, "\u{378}", "Unknown 2; "),
-    ];
-    for (category, text, want) in cases {
-        let found = GeneralCategory::for_char(text.chars().next().unwrap_or('\0'));
-        let got = printed(&rt, text)?;
-        assert!(rt;
-            found == category && got.as_str() == want,
-            "category and tokens of {text:?}: {got}"
-        );
+    let mut got = String::from_str(rt.alloc(), "\n")?;
+    for c in CHARACTERS.chars() {
+        let mut text = String::new(rt.alloc());
+        text.push(c)?;
+        let tokens = printed(&rt, &text)?;
+        let category = GeneralCategory::for_char(c);
+        writeln!(got, "{category:?} {}", tokens.trim_end())?;
     }
+    assert!(rt; got.as_str() == CATEGORIES, "categories and tokens: {got}");
     Ok(())
 }
 

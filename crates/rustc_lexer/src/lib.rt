@@ -10,6 +10,7 @@ ghost use Rattle.rustc_lexer.specs.Lexing.{tokens_of};
 ghost use Rattle.rustc_lexer.specs.Remaining.{tokens_left};
 
 mod character;
+mod clear;
 mod comment;
 mod cursor;
 pub mod laws;
