@@ -28,3 +28,11 @@ mod ShebangLemmas
 mod ShebangRows
 mod RawFormLemmas
 mod RawFormRows
+mod BlankLemmas
+mod SealLemmas
+mod SealRowLemmas
+mod SeamLemmas
+mod NameLemmas
+mod ShapeLemmas
+mod ByteShapeLemmas
+mod EqualityLemmas

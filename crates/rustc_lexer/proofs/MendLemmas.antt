@@ -12,7 +12,7 @@ use Rattle.rustc_lexer.proofs.CutLemmas.{length_encodes}
 use Rattle.rustc_lexer.proofs.StandingLemmas.{token_places}
 use Rattle.rustc_lexer.specs.declared.token.Token.{Token}
 
-length_text : (bs : List ℕ) → IsUtf8 bs → length bs ≡ utf8_len (chars bs)
+pub length_text : (bs : List ℕ) → IsUtf8 bs → length bs ≡ utf8_len (chars bs)
 length_text bs u = ap length (sym (encodes-chars bs u)) ∙ length_encodes (chars bs)
 
 utf8_len_bound : (cs : List ℕ) → utf8_len cs ≤ 4 * length cs

@@ -11,7 +11,7 @@ use Rattle.rustc_lexer.specs.Lexing.{tokens_of}
 use Rattle.rustc_lexer.specs.Mending.{IsMark, total}
 use Rattle.rustc_lexer.proofs.BoundaryLemmas.{ends_drop, ends_length, total_cons}
 use Rattle.rustc_lexer.proofs.FrontLemmas.{clear_before, clear_two}
-use Rattle.rustc_lexer.proofs.MendLemmas.{clear_far, utf8_between}
+use Rattle.rustc_lexer.proofs.MendLemmas.{utf8_between}
 use Rattle.rustc_lexer.proofs.MendedLemmas.{total_append}
 use Rattle.rustc_lexer.proofs.StandingLemmas.{token_places}
 use Rattle.rustc_lexer.specs.declared.marks.Mark.{Mark}
@@ -82,10 +82,6 @@ front_from text ts start m u b f h clear =
     rest_of : (i k : ℕ) → i < k → k ≡ i + 1 + (k - (i + 1))
     rest_of i k l = omega arith
 
-pub mark_clear : (text : List ℕ) (ts : List Token) (start : ℕ) (m : Mark) → IsUtf8 text → IsCharBoundary text start → ts ≡ tokens_of (chars text) →
-    IsMark ts m → (0 < m.tokens → m.place + 8 ≤ start) → 0 < m.tokens → is_clear_of text start m.place ≡ true
-mark_clear text ts start m u b f h far l =
-    let here : IsCharBoundary text m.place =
-    subst (IsCharBoundary text) (sym h.1) (subst (λ xs. IsCharBoundary text (total (take m.tokens xs))) (sym f) (token_places text m.tokens u).boundary) in
-    let long = far l in
-    clear_far text m.place start u here b (omega arith)
+-- a mark stands between two characters
+pub mark_boundary : (text : List ℕ) (m : Mark) → IsUtf8 text → IsMark (tokens_of (chars text)) m → IsCharBoundary text m.place
+mark_boundary text m u h = subst (IsCharBoundary text) (sym h.1) (token_places text m.tokens u).boundary

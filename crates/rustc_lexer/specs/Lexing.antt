@@ -23,3 +23,7 @@ abbrev pub place : ℕ → List ℕ → ℕ
 place zero cs = 0
 place (suc k) [] = 0
 place (suc k) (c ∷ cs) = (lexeme (c ∷ cs)).size + place k (drop (lexeme (c ∷ cs)).size (c ∷ cs))
+
+-- how many characters of a text its first k tokens hang on: their own, and the two that follow these
+abbrev pub reach : ℕ → List ℕ → ℕ
+reach k cs = place k cs + 2

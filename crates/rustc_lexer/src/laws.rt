@@ -5,12 +5,28 @@
 //! left: [`tokens_begin`] gives it at 0, [`next_token`] keeps it over `at += token.len` and says that
 //! the token's text may be cut out, and [`tokens_end`] says that `at` ends as the text's length. For
 //! a loop that enters a list of tokens at some index, [`token_lengths`] gives it there.
-ghost use Rattle.std.specs.Prelude.{◌≡◌, ◌≤◌, ◌+◌, ℕ, List, [], ◌∷◌, length, chars, IsUtf8, All, sum_by, take, drop, IsCharBoundary};
+//!
+//! A text that is put together of whole tokens, spaces and line feeds between them has these tokens:
+//! [`whole_token`], [`blank_token`], [`one_character`] and [`quoted_name`] give them one by one, and
+//! [`token_shapes`] what each begins and ends with.
+ghost use Rattle.std.specs.Prelude.{◌≡◌, ◌≤◌, ◌+◌, ◌++◌, ◌↔◌, ℕ, List, [], ◌∷◌, true, false, length, chars, IsUtf8, All, sum_by, take, drop, IsCharBoundary};
+ghost use Rattle.std.specs.List.{slice_range};
 ghost use Rattle.rustc_lexer.specs.Character.{utf8_len};
-ghost use Rattle.rustc_lexer.specs.Lexing.{place, tokens_of};
+ghost use Rattle.rustc_lexer.specs.Cursors.{suffix_of};
+ghost use Rattle.rustc_lexer.specs.Lexeme.{lexeme, one_char_kind};
+ghost use Rattle.rustc_lexer.specs.Lexing.{place, reach, token_of, tokens_of};
+ghost use Rattle.rustc_lexer.specs.Seams.{begins_longer, begins_white, ends_here, is_blank, is_sign, is_whole};
+ghost use Rattle.rustc_lexer.specs.Shapes.{HasByteShape, HasShape, is_ended};
 ghost use Rattle.rustc_lexer.specs.Standing.{AreTokensFrom, IsTokenAt};
+ghost use Rattle.rustc_lexer.specs.declared.lexed.Kept.{Kept};
+ghost use Rattle.rustc_lexer.specs.declared.token.GuardedStr.{GuardedStr};
+ghost use Rattle.rustc_lexer.specs.declared.token.LiteralKind.{LiteralKind};
 ghost use Rattle.rustc_lexer.specs.declared.token.Token.{Token};
-ghost use Rattle.rustc_lexer.specs.declared.token.TokenKind.TheVariants.{Eof};
+ghost use Rattle.rustc_lexer.specs.declared.token.TokenKind.{TokenKind};
+ghost use Rattle.rustc_lexer.specs.declared.token.TokenKind.TheVariants.{Eof, Ident, Lifetime, Whitespace};
+
+use crate::lexed::Kept;
+use crate::token::{GuardedStr, LiteralKind, Token, TokenKind};
 
 /// The tokens of a text begin at its first byte.
 pub fn tokens_begin()
@@ -55,12 +71,81 @@ pub fn rest_of_tokens()
     ensures bytes { (k : ℕ) (cs : List ℕ) → sum_by (λ t. t.len) (take k (tokens_of cs)) ≡ utf8_len (take (place k cs) cs) }
 {}
 
-/// The first k tokens hang on their own characters and on the two that follow: a text with the same
-/// characters up to there, or that ends where the first one does, has the same first k tokens at the
-/// same places.
+/// The tokens of a text that is not empty are its first lexeme and the tokens of what follows the
+/// lexeme.
+pub fn first_of_tokens()
+    ensures { (c : ℕ) (cs : List ℕ) → tokens_of (c ∷ cs)
+        ≡ token_of (lexeme (c ∷ cs)) (c ∷ cs) ∷ tokens_of (drop (lexeme (c ∷ cs)).size (c ∷ cs)) }
+{}
+
+/// The first k tokens hang on the characters that `reach` counts, and on no others: a text with the
+/// same characters up to there, or that ends where the first one does, has the same first k tokens
+/// at the same places.
 pub fn first_tokens()
     ensures tokens { (k : ℕ) (cs ds : List ℕ) →
-        take (place k cs + 2) cs ≡ take (place k cs + 2) ds → take k (tokens_of ds) ≡ take k (tokens_of cs) }
+        take (reach k cs) cs ≡ take (reach k cs) ds → take k (tokens_of ds) ≡ take k (tokens_of cs) }
     ensures places { (k : ℕ) (cs ds : List ℕ) →
-        take (place k cs + 2) cs ≡ take (place k cs + 2) ds → place k ds ≡ place k cs }
+        take (reach k cs) cs ≡ take (reach k cs) ds → place k ds ≡ place k cs }
+{}
+
+/// The suffix of a literal begins inside its token or right behind it, between two characters.
+pub fn suffix_starts()
+    ensures within { (text : List ℕ) (at : ℕ) (t : Token) → IsTokenAt text at t → suffix_of t.kind ≤ t.len }
+    ensures boundary { (text : List ℕ) (at : ℕ) (t : Token) → IsUtf8 text → IsTokenAt text at t →
+        IsCharBoundary text (at + suffix_of t.kind) }
+{}
+
+/// A text that is one whole token is that token too where a space, a line feed or nothing follows.
+pub fn whole_token()
+    ensures { (cs ds : List ℕ) (t : Token) → tokens_of cs ≡ t ∷ [] → is_whole t.kind ≡ true → ends_here ds ≡ true →
+        tokens_of (cs ++ ds) ≡ t ∷ tokens_of ds }
+{}
+
+/// A text whose first token is whole does not begin with white space.
+pub fn whole_token_begins()
+    ensures { (cs : List ℕ) (t : Token) (ts : List Token) →
+        tokens_of cs ≡ t ∷ ts → is_whole t.kind ≡ true → begins_white cs ≡ false }
+{}
+
+/// A space or a line feed is a token by itself where no white space follows.
+pub fn blank_token()
+    ensures { (b : ℕ) (ds : List ℕ) → is_blank b ≡ true → begins_white ds ≡ false →
+        tokens_of (b ∷ ds) ≡ record { kind = Whitespace; len = 1 } ∷ tokens_of ds }
+{}
+
+/// A character that can be a token by itself is one where no comment and no guarded string begins.
+pub fn one_character()
+    ensures { (c : ℕ) (ds : List ℕ) → is_sign c ≡ true → begins_longer (c ∷ ds) ≡ false →
+        tokens_of (c ∷ ds) ≡ record { kind = one_char_kind c; len = 1 } ∷ tokens_of ds }
+{}
+
+/// `'` and a text that is one identifier are a lifetime.
+pub fn quoted_name()
+    ensures { (cs : List ℕ) (t : Token) → tokens_of cs ≡ t ∷ [] → t.kind ≡ Ident →
+        tokens_of (39 ∷ cs) ≡ record { kind = Lifetime false; len = t.len + 1 } ∷ [] }
+{}
+
+/// A token that is terminated begins and ends as its kind does, and the suffix of a literal follows
+/// its ending: `suffix_start` counts what stands before it.
+pub fn token_shapes()
+    ensures chars { (text : List ℕ) (at : ℕ) (t : Token) → IsTokenAt text at t → is_ended t.kind ≡ true →
+        HasShape t.kind (chars (slice_range text at (at + t.len))) }
+    ensures bytes { (text : List ℕ) (at : ℕ) (t : Token) → IsTokenAt text at t → is_ended t.kind ≡ true →
+        HasByteShape t.kind (slice_range text at (at + t.len)) }
+{}
+
+/// Two values are equal by `==` exactly where they are the same.
+pub fn equal_tokens()
+    ensures kinds { (a b : TokenKind) → (⟦<TokenKind as PartialEq>⟧.eq a b ≡ true) ↔ (a ≡ b) }
+    ensures literals { (a b : LiteralKind) → (⟦<LiteralKind as PartialEq>⟧.eq a b ≡ true) ↔ (a ≡ b) }
+    ensures tokens { (a b : Token) → (⟦<Token as PartialEq>⟧.eq a b ≡ true) ↔ (a ≡ b) }
+    ensures guarded { (a b : GuardedStr) → (⟦<GuardedStr as PartialEq>⟧.eq a b ≡ true) ↔ (a ≡ b) }
+    ensures kept { (a b : Kept) → (⟦<Kept as PartialEq>⟧.eq a b ≡ true) ↔ (a ≡ b) }
+{}
+
+/// A clone is the same value.
+pub fn clones()
+    ensures tokens { (a b : Token) → ⟦<Token as Clone>⟧.is_clone a b → b ≡ a }
+    ensures guarded { (a b : GuardedStr) → ⟦<GuardedStr as Clone>⟧.is_clone a b → b ≡ a }
+    ensures kept { (a b : Kept) → ⟦<Kept as Clone>⟧.is_clone a b → b ≡ a }
 {}

@@ -105,8 +105,8 @@ impl LexedText {
     {
         let alloc = *self.text.allocator();
         let held = self.tokens.len();
-        refine(&mut self.marks, &self.tokens, start)?;
-        let (_, near) = nearest(&self.marks, start);
+        refine(&self.text, &mut self.marks, &self.tokens, start)?;
+        let (_, near) = nearest(&self.text, &self.marks, start);
         let mended = mend(
             alloc,
             &mut self.text,

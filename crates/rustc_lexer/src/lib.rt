@@ -10,10 +10,9 @@ ghost use Rattle.rustc_lexer.specs.Lexing.{tokens_of};
 ghost use Rattle.rustc_lexer.specs.Remaining.{tokens_left};
 
 mod character;
+mod clear;
 mod comment;
 mod cursor;
-#[cfg(test)]
-mod edit_tests;
 pub mod laws;
 mod lexed;
 mod lexeme;
@@ -25,10 +24,6 @@ mod quote;
 mod raw;
 mod shebang;
 mod steps;
-#[cfg(test)]
-mod tests;
-#[cfg(test)]
-mod tests_raw;
 mod token;
 mod tokens;
 mod word;

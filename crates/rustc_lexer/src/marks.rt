@@ -3,11 +3,13 @@
 //!
 //! Which marks there are is a matter of speed alone. A walk that would be long leaves a mark half-way, and an edit moves the
 //! marks behind it.
-ghost use Rattle.std.specs.Prelude.{◌≡◌, ◌+◌, ◌<◌, ◌≤◌, ◌^◌, ℕ, List, length, map, take, drop};
+ghost use Rattle.std.specs.Prelude.{◌≡◌, ◌+◌, ◌<◌, ◌≤◌, ◌^◌, ℕ, true, length, map, take, drop, chars, IsCharBoundary};
 ghost use Rattle.std.specs.List.{All, list_any};
-ghost use Rattle.rustc_lexer.specs.Edit.{boundaries_from, moves_to};
+ghost use Rattle.rustc_lexer.specs.Edit.{boundaries_from, is_clear_of, moves_to};
+ghost use Rattle.rustc_lexer.specs.Lexing.{tokens_of};
 ghost use Rattle.rustc_lexer.specs.Mending.{IsMark, IsPlace, moved_mark, total};
 
+use crate::clear::is_clear;
 use crate::token::Token;
 use std::alloc::AllocError;
 
@@ -35,19 +37,20 @@ pub struct Mended {
     pub new: Mark,
 }
 
-/// How many marks stand at least eight bytes in front of `start`, and so at least two characters, and the last of them: the
-/// text's begin, if there is none.
-pub fn nearest(marks: &[Mark], start: usize) -> (usize, Mark)
+/// How many marks are clear of `start`, and the last of them: the text's begin, if there is none.
+pub fn nearest(text: &str, marks: &[Mark], start: usize) -> (usize, Mark)
+    requires marks { All (IsMark (tokens_of (chars text.now))) marks.now }
+    requires start { IsCharBoundary text.now start }
     ensures within { result.0 ≤ length marks.now }
-    ensures mark { (ts : List Token) → All (IsMark ts) marks.now → IsMark ts result.1 }
-    ensures far { 0 < result.1.tokens → result.1.place + 8 ≤ start }
+    ensures mark { IsMark (tokens_of (chars text.now)) result.1 }
+    ensures clear { 0 < result.1.tokens → is_clear_of text.now start result.1.place ≡ true }
 {
     let mut near = Mark {
         tokens: 0,
         place: 0,
     };
     for (k, mark) in marks.iter().enumerate() {
-        if start < mark.place || start - mark.place < 8 {
+        if !is_clear(text, mark.place, start) {
             return (k, near);
         }
         near = *mark;
@@ -87,14 +90,20 @@ fn thin_out(marks: &mut Vec<Mark>, tokens: &[Token])
 }
 
 /// Leaves a mark half-way to `start` where the nearest one is far from it, unless a single token reaches from there past `start`.
-pub fn refine(marks: &mut Vec<Mark>, tokens: &[Token], start: usize) -> Result<(), AllocError>
+pub fn refine(
+    text: &str,
+    marks: &mut Vec<Mark>,
+    tokens: &[Token],
+    start: usize,
+) -> Result<(), AllocError>
     requires marks { All (IsMark tokens.now) marks.old.items }
-    requires fits { total tokens.now < 2 ^ 32 }
-    requires start { start ≤ total tokens.now }
+    requires tokens { tokens.now ≡ tokens_of (chars text.now) }
+    requires small { length text.now < 2 ^ 32 }
+    requires start { IsCharBoundary text.now start }
     ensures { All (IsMark tokens.now) marks.new.items }
 {
     thin_out(marks, tokens);
-    let (passed, near) = nearest(marks, start);
+    let (passed, near) = nearest(text, marks, start);
     if start < near.place || start - near.place < FAR {
         return Ok(());
     }

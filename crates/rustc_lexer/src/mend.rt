@@ -1,43 +1,15 @@
 //! Mending the tokens of an edited text: those well before the edit and those behind it stay.
-ghost use Rattle.std.specs.Prelude.{◌≡◌, ◌+◌, ◌-◌, ◌<◌, ◌≤◌, ◌^◌, true, nat_le, length, take, drop, chars, string_bytes, string_len, string_capacity, IfOk, OnOk, OnErr, IsCharBoundary};
+ghost use Rattle.std.specs.Prelude.{◌≡◌, ◌+◌, ◌-◌, ◌<◌, ◌≤◌, ◌^◌, true, length, take, drop, chars, string_bytes, string_len, string_capacity, IfOk, OnOk, OnErr, IsCharBoundary};
 ghost use Rattle.std.specs.List.{splice};
 ghost use Rattle.rustc_lexer.specs.Edit.{edited, front_of, is_clear_of, kept};
 ghost use Rattle.rustc_lexer.specs.Lexing.{tokens_of};
 ghost use Rattle.rustc_lexer.specs.Mending.{IsMark, IsMended, count_to_meeting, lexed_again, total};
 
+use crate::clear::is_clear;
 use crate::marks::{Mark, Mended, first_from};
-use crate::steps::split_first;
 use crate::token::{FrontmatterAllowed, Token};
 use crate::tokenize;
 use std::alloc::{AllocError, Global};
-
-// The text has two characters.
-#[inline]
-fn has_two_chars(text: &str) -> bool
-    ensures { result ≡ nat_le 2 (length (chars text.now)) }
-{
-    match split_first(text) {
-        Some((_, rest)) => split_first(rest).is_some(),
-        None => false,
-    }
-}
-
-// At least two characters stand from the place `at` to `start`. As a character has at most four bytes, few places are near
-// enough to be looked at.
-#[inline]
-fn is_clear(text: &str, at: usize, start: usize) -> bool
-    requires at { IsCharBoundary text.now at }
-    requires start { IsCharBoundary text.now start }
-    ensures { result ≡ is_clear_of text.now start at }
-{
-    if start < at {
-        return false;
-    }
-    if 8 <= start - at {
-        return true;
-    }
-    has_two_chars(&text[at..start])
-}
 
 // How many tokens of the text end at least two characters before `start`, and where the last of them ends. The walk begins at
 // a mark, which is such a boundary too.
@@ -45,7 +17,7 @@ fn front(text: &str, tokens: &[Token], near: Mark, start: usize) -> (usize, usiz
     requires small { length text.now < 2 ^ 32 }
     requires tokens { tokens.now ≡ tokens_of (chars text.now) }
     requires near { IsMark tokens.now near }
-    requires far { 0 < near.tokens → near.place + 8 ≤ start }
+    requires clear { 0 < near.tokens → is_clear_of text.now start near.place ≡ true }
     requires start { IsCharBoundary text.now start }
     ensures count { result.0 ≡ front_of text.now start }
     ensures at { result.1 ≡ total (take result.0 tokens.now) }
@@ -169,7 +141,7 @@ pub fn mend(
 ) -> Result<Mended, AllocError>
     requires tokens { tokens.old.items ≡ tokens_of (chars (string_bytes text.old)) }
     requires near { IsMark tokens.old.items near }
-    requires far { 0 < near.tokens → near.place + 8 ≤ start }
+    requires clear { 0 < near.tokens → is_clear_of (string_bytes text.old) start near.place ≡ true }
     requires start { IsCharBoundary (string_bytes text.old) start }
     requires stop { IsCharBoundary (string_bytes text.old) stop }
     requires order { start ≤ stop }

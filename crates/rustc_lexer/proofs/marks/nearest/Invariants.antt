@@ -1,11 +1,11 @@
-use Rattle.std.proofs.Common.{◌+◌, ◌<◌, ◌≤◌, List}
-use Rattle.std.specs.List.{All}
+use Rattle.std.proofs.Common.{◌≡◌, ◌<◌, true, chars}
+use Rattle.rustc_lexer.specs.Edit.{is_clear_of}
+use Rattle.rustc_lexer.specs.Lexing.{tokens_of}
 use Rattle.rustc_lexer.specs.Mending.{IsMark}
-use Rattle.rustc_lexer.specs.declared.token.Token.{Token}
 use Rattle.rustc_lexer.proofs.marks.nearest.Given as goal
 
 abbrev pub invariant-loop-k : goal.invariant-loop-k
 invariant-loop-k l = record {
-  mark : (ts : List Token) → All (IsMark ts) l.marks → IsMark ts l.near;
-  far : 0 < l.near.tokens → l.near.place + 8 ≤ l.start;
+  mark : IsMark (tokens_of (chars l.text)) l.near;
+  clear : 0 < l.near.tokens → is_clear_of l.text l.start l.near.place ≡ true;
 }

@@ -1,5 +1,5 @@
 use Rattle.rustc_lexer.proofs.MendLemmas.{next_boundary, next_fits}
-use Rattle.rustc_lexer.proofs.NearLemmas.{front_from, mark_clear}
+use Rattle.rustc_lexer.proofs.NearLemmas.{front_from}
 use Rattle.rustc_lexer.proofs.mend.front.Goals as goal
 
 pub overflow_add-next : goal.overflow_add-next
@@ -11,10 +11,8 @@ is_clear-requires-clause-at c =
     next_boundary c.args.text.now _ _ _ _ c.utf8.text c.requires.tokens c.loop-k-test.true c.loop-k.invariant.at
 
 pub loop-k-init : goal.loop-k-init
-loop-k-init c =
-    let clear = mark_clear c.args.text.now c.args.tokens.now c.args.start c.args.near c.utf8.text c.requires.start c.requires.tokens c.requires.near c.requires.far in
-    record {
-      at = c.requires.near.1;
-      clear = clear;
-      count = front_from c.args.text.now c.args.tokens.now c.args.start c.args.near c.utf8.text c.requires.start c.requires.tokens c.requires.near clear;
-    }
+loop-k-init c = record {
+  at = c.requires.near.1;
+  clear = c.requires.clear;
+  count = front_from c.args.text.now c.args.tokens.now c.args.start c.args.near c.utf8.text c.requires.start c.requires.tokens c.requires.near c.requires.clear;
+}

@@ -1,28 +1,15 @@
-use Rattle.std.proofs.Common.{◌<◌, ◌^◌, ◌∙◌, ap, arith, length, map, string_bytes, subst, All}
+use Rattle.std.proofs.Common.{◌<◌, ◌^◌, length, map, string_bytes, subst, All}
 use Rattle.std.proofs.lemmas.List.Elements.{All-same}
 use Rattle.std.proofs.lemmas.Str.{IsUtf8-string_bytes}
-use Rattle.rustc_lexer.specs.Mending.{IsMark, moved_mark, total}
-use Rattle.rustc_lexer.proofs.MarkLemmas.{marks_moved, text_mark_fits, text_marks_fit, tokens_total}
+use Rattle.rustc_lexer.specs.Mending.{IsMark, moved_mark}
+use Rattle.rustc_lexer.proofs.MarkLemmas.{marks_moved, text_mark_fits, text_marks_fit}
 use Rattle.rustc_lexer.proofs.MendedLemmas.{edited_small}
 use Rattle.rustc_lexer.proofs.lexed.LexedText.edit.Goals as goal
-
-pub refine-requires-clause-fits : goal.refine-requires-clause-fits
-refine-requires-clause-fits c =
-    let text = c.self.inside.text in
-    let whole = ap total c.deref.ensures.value ∙ tokens_total (string_bytes text) c.self.inside.tokens.items (IsUtf8-string_bytes text) c.self.invariant.1 in
-    omega (arith, whole, c.self.invariant.0)
-
-pub refine-requires-clause-start : goal.refine-requires-clause-start
-refine-requires-clause-start c =
-    let text = c.self.inside.text in
-    let whole = ap total c.deref.ensures.value ∙ tokens_total (string_bytes text) c.self.inside.tokens.items (IsUtf8-string_bytes text) c.self.invariant.1 in
-    let size = ap length c.self.view_is in
-    omega (arith, whole, size, c.requires.start.0)
 
 pub move_marks-requires-clause-marks : goal.move_marks-requires-clause-marks
 move_marks-requires-clause-marks c =
     let text = c.self.inside.text in
-    let marks = subst (λ ts. All (IsMark ts) c.refine.new.marks.items) c.deref.ensures.value c.refine.ensures in
+    let marks = subst (λ ts. All (IsMark ts) c.refine.new.marks.items) c.deref-2.ensures.value c.refine.ensures in
     text_marks_fit (string_bytes text) c.self.inside.tokens.items c.refine.new.marks.items (IsUtf8-string_bytes text) c.self.invariant.0 c.self.invariant.1 marks
 
 pub move_marks-requires-clause-to : goal.move_marks-requires-clause-to
@@ -37,7 +24,7 @@ overflow_sub-result c = c.in_ok-mended.ensures.mended.order
 
 pub invariant_of-self-2 : goal.invariant_of-self-2
 invariant_of-self-2 c =
-    let marks = subst (λ ts. All (IsMark ts) c.refine.new.marks.items) c.deref.ensures.value c.refine.ensures in
+    let marks = subst (λ ts. All (IsMark ts) c.refine.new.marks.items) c.deref-2.ensures.value c.refine.ensures in
     let there = marks_moved c.self.inside.tokens.items c.mend.new.tokens.items c.in_ok-mended.mended c.refine.new.marks.items c.in_ok-mended.ensures.mended marks in (
       edited_small _ _ _ _ _ _ c.self.view_is c.in_ok-mended.ensures.text c.requires.order c.requires.stop.0 c.requires.fits,
       c.in_ok-mended.ensures.tokens,

@@ -1,6 +1,6 @@
 use Rattle.std.proofs.Common.{sym}
 use Rattle.rustc_lexer.proofs.MendLemmas.{not_clear, clear_far}
-use Rattle.rustc_lexer.proofs.mend.is_clear.Goals as goal
+use Rattle.rustc_lexer.proofs.clear.is_clear.Goals as goal
 
 pub returns-then-start-at : goal.returns-then-start-at
 returns-then-start-at c = sym (not_clear c.args.text.now c.args.at c.args.start c.if-start-at.true)
