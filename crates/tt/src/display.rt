@@ -1,7 +1,7 @@
 //! How trees are printed.
 ghost use Rattle.std.specs.Prelude.{◌≡◌, [], Some, IfOk, IsOkUnless, string_bytes};
 ghost use Rattle.std.specs.Fmt.{WritesOnOk};
-ghost use Rattle.tt_data.specs.declared.fault.TtFault.TheVariants as fault;
+ghost use Rattle.tt_data.specs.fault.TtFault.TheVariants as fault;
 ghost use Rattle.tt.specs.Styles.{touches_in, space_if};
 ghost use Rattle.tt.specs.Texts.{opening_text, closing_text, space_after, text_after, pretty_text};
 ghost use Rattle.tt.specs.Views.{forest};
