@@ -459,7 +459,7 @@ fn skips_the_top(rt: HostRuntime) -> Result<(), Fail> {
 #[test]
 fn makes_trees(rt: HostRuntime) -> Result<(), Fail> {
     let tree = sample(rt.alloc()).ok().ok_or("refused")?;
-    let copy = tree.try_clone().ok().ok_or("refused")?;
+    let copy = tree.try_clone(rt.alloc()).ok().ok_or("refused")?;
     assert!(rt; copy == tree);
     assert!(rt; hash_of(&copy) == hash_of(&tree));
     let copy = TopSubtree::from_token_trees(rt.alloc(), top(), tree.token_trees())
@@ -502,7 +502,10 @@ fn reads_flat_lists(rt: HostRuntime) -> Result<(), Fail> {
         for token in [head(outer), head(inner), TokenTree::Leaf(punct(',', 0))] {
             tokens.push(token).ok().ok_or("refused")?;
         }
-        assert_eq!(rt; TopSubtree::from_serialized(tokens).is_ok(), is_tree);
+        assert_eq!(rt;
+            TopSubtree::from_serialized(rt.alloc(), tokens).is_ok(),
+            is_tree
+        );
     }
     // One leaf, a group that counts a token which is not there, and a group with nothing inside.
     for (token, is_tree) in [
@@ -512,10 +515,13 @@ fn reads_flat_lists(rt: HostRuntime) -> Result<(), Fail> {
     ] {
         let mut tokens = Vec::new(rt.alloc());
         tokens.push(token).ok().ok_or("refused")?;
-        assert_eq!(rt; TopSubtree::from_serialized(tokens).is_ok(), is_tree);
+        assert_eq!(rt;
+            TopSubtree::from_serialized(rt.alloc(), tokens).is_ok(),
+            is_tree
+        );
     }
     let none: Vec<TokenTree> = Vec::new(rt.alloc());
-    assert!(rt; TopSubtree::from_serialized(none).is_err());
+    assert!(rt; TopSubtree::from_serialized(rt.alloc(), none).is_err());
     Ok(())
 }
 
@@ -532,10 +538,13 @@ fn changes_in_place(rt: HostRuntime) -> Result<(), Fail> {
     assert_eq!(rt; tree.top_subtree().delimiter, delimiter);
     // Which of the tokens are leaves.
     for (idx, is_leaf) in [(0, false), (1, true), (2, false), (3, true), (7, false)] {
-        assert_eq!(rt; tree.set_token(idx, punct('?', 0)).is_ok(), is_leaf);
+        assert_eq!(rt;
+            tree.set_token(rt.alloc(), idx, punct('?', 0)).is_ok(),
+            is_leaf
+        );
     }
     assert_eq!(rt;
-        tree.set_token(0, punct('?', 0)).err(),
+        tree.set_token(rt.alloc(), 0, punct('?', 0)).err(),
         Some(TtFault::Place)
     );
     assert!(rt; has_leaf(&tree, 3, punct('?', 0)));
@@ -657,10 +666,10 @@ fn is_punct(token: &TokenTree, char: char) -> bool {
 #[test]
 fn rewrites(rt: HostRuntime) -> Result<(), Fail> {
     let mut tree = sample(rt.alloc()).ok().ok_or("refused")?;
-    let before = tree.try_clone().ok().ok_or("refused")?;
+    let before = tree.try_clone(rt.alloc()).ok().ok_or("refused")?;
     let mut asked = 0u8;
     // `+(-[]*)/` without its `-`.
-    let done = transform_tt(&mut tree, |token| {
+    let done = transform_tt(rt.alloc(), &mut tree, |token| {
         asked = asked.saturating_add(1);
         if is_punct(token, '-') {
             TransformTtAction::remove()
@@ -672,10 +681,10 @@ fn rewrites(rt: HostRuntime) -> Result<(), Fail> {
     assert_eq!(rt; asked, 7);
     assert_eq!(rt; tree.top_subtree().len, 5);
     // Without its top it is no tree.
-    let done = transform_tt(&mut tree, |_| TransformTtAction::remove());
+    let done = transform_tt(rt.alloc(), &mut tree, |_| TransformTtAction::remove());
     assert_eq!(rt; done.err(), Some(TtFault::Malformed));
     assert_eq!(rt; tree.top_subtree().len, 5);
-    let done = transform_tt(&mut tree, |_| {
+    let done = transform_tt(rt.alloc(), &mut tree, |_| {
         TransformTtAction::ReplaceWith(before.as_token_trees())
     });
     assert!(rt; done.is_ok());

@@ -1,4 +1,5 @@
 // What no clause says: that allocations succeed, who frees a text, and that its memory comes back.
+use crate::fault::TtFault;
 use crate::symbol::Symbol;
 use crate::symbol::shared::{Bare, Block, Shared};
 use std::alloc::{AllocError, Global};
@@ -100,7 +101,7 @@ fn reuses_memory(rt: &HostRuntime) -> Result<bool, AllocError> {
 }
 
 // How many of the texts made are equal to their clones.
-fn round(alloc: Global, count: u64) -> Result<u64, AllocError> {
+fn round(alloc: Global, count: u64) -> Result<u64, TtFault> {
     let mut made = Vec::new(alloc);
     for n in 0..count {
         made.push(Symbol::new(alloc, if n % 2 == 0 { "vis" } else { "lifetime" })?)?;

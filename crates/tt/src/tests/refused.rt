@@ -47,7 +47,7 @@ fn builders(rt: HostRuntime) -> Result<(), Fail> {
 fn makers(rt: HostRuntime) -> Result<(), Fail> {
     let alloc = rt.alloc();
     let tree = once_more(|| sample(alloc)).ok_or("refused")?;
-    assert!(rt; once_more(|| tree.try_clone()).ok_or("refused")? == tree);
+    assert!(rt; once_more(|| tree.try_clone(alloc)).ok_or("refused")? == tree);
     assert!(rt;
         once_more(|| TopSubtree::from_subtree(alloc, tree.view())).ok_or("refused")? == tree
     );
@@ -74,7 +74,7 @@ fn makers(rt: HostRuntime) -> Result<(), Fail> {
 #[test]
 fn rewriting(rt: HostRuntime) -> Result<(), Fail> {
     let mut tree = once_more(|| sample(rt.alloc())).ok_or("refused")?;
-    let before = once_more(|| tree.try_clone()).ok_or("refused")?;
+    let before = once_more(|| tree.try_clone(rt.alloc())).ok_or("refused")?;
     // Without its `-`, and what comes after it in its group by a copy of the whole.
     let edit = |token: &TokenTree| match token {
         TokenTree::Leaf(Leaf::Punct(punct)) if punct.char == '-' => TransformTtAction::remove(),
@@ -83,9 +83,11 @@ fn rewriting(rt: HostRuntime) -> Result<(), Fail> {
         ),
         _ => TransformTtAction::Keep,
     };
-    if transform_tt(&mut tree, edit).is_err() {
+    if transform_tt(rt.alloc(), &mut tree, edit).is_err() {
         assert!(rt; tree == before);
-        transform_tt(&mut tree, edit).ok().ok_or("refused twice")?;
+        transform_tt(rt.alloc(), &mut tree, edit)
+            .ok()
+            .ok_or("refused twice")?;
     }
     assert_eq!(rt; tree.token_trees().len(), 11);
     Ok(())
