@@ -77,6 +77,7 @@ fn expand_by(
         is_free_of "!" known.now.definition.body ≡ true → is_free_of "!" call.now.argument ≡ true →
         IfOk result (Tries steps.old.items steps.new.items site
         (unbroken thin_world known.now.definition (thin_world.broken known.now.definition) (deeper_at scope depth) None site)) }
+    ensures unfit { result ≡ Ok (Some FaultKind.CannotExpand) → thin_world.fit known.now.definition call.now.argument ≡ None }
     ensures tokens { result ≡ Err TtFault.Tokens → GivesTooMany (thin_world.fit known.now.definition call.now.argument) }
 {
     let Some(rules) = &known.rules else {
@@ -92,7 +93,34 @@ fn expand_by(
     Ok(None)
 }
 
-// Expands a call with which the trees begin, and passes over it.
+// Expands a call with which the trees begin by the definition that its name finds, or keeps it with a fault, and passes
+// over it.
+fn expand_known<'a>(
+    alloc: Global,
+    known: &Known<'_>,
+    depth: u8,
+    out: &mut Output,
+    trees: &mut TtIter<'a>,
+    call: Call<'a>,
+) -> Result<(), TtFault>
+    requires { call_at trees.old ≡ Some call }
+    ensures plain { OnOk result (out.new.plain ≡ out.old.plain) }
+    ensures turn { (scope : List ℕ → Option Definition) → scope call.entry.name.sym ≡ Some known.now.definition →
+        groups_are_free_of "!" trees.old ≡ true → is_free_of "!" known.now.definition.body ≡ true →
+        OnOk result (Turn scope depth out.old.steps.items out.new.steps.items out.old.faults.items out.new.faults.items trees.old trees.new) }
+    ensures rest { OnOk result (trees.new ≡ call.entry.rest) }
+    ensures tokens { result ≡ Err TtFault.Tokens → GivesTooMany (thin_world.fit known.now.definition call.entry.argument) }
+{
+    if let Some(kind) = expand_by(alloc, &mut out.steps, known, depth, &call)? {
+        push_fault(&mut out.faults, kind, call.name.span)?;
+        keep(&mut out.steps, trees, call.rest)?;
+        return Ok(());
+    }
+    *trees = call.rest;
+    Ok(())
+}
+
+// Expands a call with which the trees begin, or keeps it where its name finds nothing, and passes over it.
 fn expand_call<'a>(
     alloc: Global,
     scope: &Scope<'_>,
@@ -107,19 +135,16 @@ fn expand_call<'a>(
     ensures turn { groups_are_free_of "!" trees.old ≡ true → AreFree (definitions_of scope.now) →
         OnOk result (Turn (definitions_of scope.now) depth out.old.steps.items out.new.steps.items out.old.faults.items out.new.faults.items trees.old trees.new) }
     ensures rest { OnOk result (trees.new ≡ call.entry.rest) }
+    ensures kept { definitions_of scope.now call.entry.name.sym ≡ None → (passed : Forest) → trees.old ≡ joined passed call.entry.rest →
+        OnOk result (steps_of_output out.new.steps.items ≡ steps_of_output out.old.steps.items ++ placed None (walk passed)) }
+    ensures untold { definitions_of scope.now call.entry.name.sym ≡ None → OnOk result (out.new.faults.items ≡ out.old.faults.items) }
     ensures tokens { result ≡ Err TtFault.Tokens → IsTooMuch (definitions_of scope.now) call.entry }
 {
     let Some(known) = scope.find(&call.name.sym) else {
         keep(&mut out.steps, trees, call.rest)?;
         return Ok(());
     };
-    if let Some(kind) = expand_by(alloc, &mut out.steps, known, depth, &call)? {
-        push_fault(&mut out.faults, kind, call.name.span)?;
-        keep(&mut out.steps, trees, call.rest)?;
-        return Ok(());
-    }
-    *trees = call.rest;
-    Ok(())
+    expand_known(alloc, known, depth, out, trees, call)
 }
 
 // The trees behind what stays as it is at the beginning: a call behind a `::`, or one tree.
