@@ -2,6 +2,7 @@
 mod Rows
 mod AttributeLemmas
 mod CuttingLemmas
+mod ApartLemmas
 mod UnitLemmas
 mod PatternLemmas
 mod RuleLemmas

@@ -10,6 +10,7 @@ ghost use Rattle.expander.specs.Shown.{ShowsOutput};
 
 use crate::expansion::{Output, expand_pieces};
 use crate::faults::{Fault, ReadFault, push_output_faults, sort_faults};
+use crate::pieces::set_apart;
 use crate::printing::print;
 use crate::reading::{Read, read_tokens};
 use rustc_lexer::{FrontmatterAllowed, Token, tokenize};
@@ -172,7 +173,8 @@ fn reply_to_text(alloc: Global, text: &str, depth: u8) -> Result<Reply, Refusal>
     let tokens: Vec<Token> = tokenize(text, FrontmatterAllowed::No).collect(alloc)?;
     match read_tokens(alloc, text, tokens.as_slice())? {
         Read::Fault(fault) => Ok(Reply::Unread(fault)),
-        Read::Tree(tree) => {
+        Read::Tree(mut tree) => {
+            set_apart(alloc, &mut tree)?;
             let output = expand_pieces(alloc, depth, &tree.token_trees().iter())?;
             Ok(Reply::Read(expansion_of(alloc, output)?))
         }
