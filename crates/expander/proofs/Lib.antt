@@ -1,5 +1,6 @@
 -- lemmas by subject; the worked rows
 mod Rows
+mod TextRows
 mod AttributeLemmas
 mod CuttingLemmas
 mod ApartLemmas

@@ -13,9 +13,6 @@ use crate::watched::Watched;
 use std::alloc::{AllocError, Global};
 use std::io::{Read, Write};
 
-#[cfg(test)]
-mod tests;
-
 /// The status that a program ends with.
 #[derive(Clone, Copy, Debug, PartialEq, Eq)]
 pub struct Status(pub u8);
