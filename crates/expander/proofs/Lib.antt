@@ -1,7 +1,9 @@
 -- lemmas by subject; the worked rows
 mod Rows
+mod TextRows
 mod AttributeLemmas
 mod CuttingLemmas
+mod ApartLemmas
 mod UnitLemmas
 mod PatternLemmas
 mod RuleLemmas

@@ -14,38 +14,22 @@ use Rattle.tt_data.specs.declared.leaf.Spacing.{Spacing}
 use Rattle.tt_data.specs.declared.leaf.Spacing.TheVariants.{Alone, Joint}
 use Rattle.tt_data.specs.declared.span.Span.{Span}
 use Rattle.tt_data.specs.declared.span.TextRange.{TextRange}
-use Rattle.expander.specs.Pieces.{separated}
 use Rattle.expander.specs.Reading.{closed as closed_group, PlacedToken, range_of, written_at, step}
-use Rattle.expander.specs.ReadSteps.{GoesOn, IsBuilt, built_groups, built_here, first_kind, is_next_mark, spacing_in}
-use Rattle.expander.specs.Text.{alone, is_punct, same_kind}
-use Rattle.expander.specs.ThinReading.{char, spacing_before, steps_of_sort}
+use Rattle.expander.specs.ReadSteps.{GoesOn, IsBuilt, first_kind, spacing_at}
+use Rattle.expander.specs.Text.{same_kind}
+use Rattle.expander.specs.ThinReading.{spacing_before, steps_of_sort}
 use Rattle.expander.specs.declared.reading.Sort.{Sort}
 use Rattle.expander.specs.declared.reading.Sort.TheVariants.{Name, Mark, Opening, Closing}
 
-separated-joined : (f g : Forest) → separated (joined f g) ≡ joined (separated f) (separated g)
-separated-joined empty g = refl
-separated-joined (leaf l rest) g = ap (leaf (if is_punct ";" l then alone l else l)) (separated-joined rest g)
-separated-joined (group d inner rest) g = ap (group d inner) (separated-joined rest g)
-
-built_here-joined : (groups : List Opened) (f g : Forest)
-    → built_here groups (joined f g) ≡ joined (built_here groups f) (built_here groups g)
-built_here-joined [] f g = separated-joined f g
-built_here-joined (o ∷ outer) f g = refl
-
--- a leaf is pushed: the builder has it as it stands in the list that it is pushed to
-pushes : {old new : Building} (groups : List Opened) (here : Forest) (l told : Leaf)
-    → built_here groups (leaf l empty) ≡ leaf told empty → new ≡ pushed old told → IsBuilt old groups here
+-- a leaf is pushed
+pushes : {old new : Building} (groups : List Opened) (here : Forest) (l : Leaf) → new ≡ pushed old l → IsBuilt old groups here
     → GoesOn (step (at_leaf l) ∷ []) groups here new
-pushes groups here l told stands e b = record {
+pushes groups here l e b = record {
   new_groups = groups;
   new_here = joined here (leaf l empty);
   built = record {
     groups_are = ap (λ (m : Building). m.groups) e ∙ b.groups_are;
-    here_is =
-        ap (λ (m : Building). m.here) e
-        ∙ ap (λ f. joined f (leaf told empty)) b.here_is
-        ∙ ap (joined (built_here groups here)) (sym stands)
-        ∙ sym (built_here-joined groups here (leaf l empty));
+    here_is = ap (λ (m : Building). m.here) e ∙ ap (λ f. joined f (leaf l empty)) b.here_is;
   };
   reads = λ more. refl;
 }
@@ -55,11 +39,6 @@ pushes groups here l told stands e b = record {
 abbrev name_leaf : List ℕ → Span → Leaf
 name_leaf word span = as_leaf.Ident (record { sym = word; span = span; is_raw = is_raw.No })
 
-name_stands : (groups : List Opened) (word : List ℕ) (span : Span)
-    → built_here groups (leaf (name_leaf word span) empty) ≡ leaf (name_leaf word span) empty
-name_stands [] word span = refl
-name_stands (o ∷ outer) word span = refl
-
 pub adds_name : {sort : Sort} (t : PlacedToken) (after : List PlacedToken) {text word : List ℕ} {range : TextRange} {span : Span}
     {old new : Building} (groups : List Opened) (here : Forest) → sort ≡ Name → t.text ≡ text → range_of t ≡ range → word ≡ text
     → span ≡ written_at range → new ≡ pushed old (name_leaf word span) → IsBuilt old groups here
@@ -67,56 +46,28 @@ pub adds_name : {sort : Sort} (t : PlacedToken) (after : List PlacedToken) {text
 adds_name t after {old = old} {new = new} groups here is same at named spanned e b =
     let told : new ≡ pushed old (name_leaf t.text (written_at (range_of t))) =
     rw (at, same, ← named, ← spanned) e in
-    rw is (pushes groups here _ _ (name_stands groups t.text (written_at (range_of t))) told b)
+    rw is (pushes groups here _ told b)
 
 -- ---- a punct
 
 abbrev mark_leaf : ℕ → Spacing → Span → Leaf
 mark_leaf c spacing span = as_leaf.Punct (record { char = c; spacing = spacing; span = span })
 
-abbrev joint_if : Bool → Spacing
-joint_if b = if b then Joint else Alone
-
-spaces : (is_end marked : Bool) (c : ℕ) (span : Span)
-    → (if is_end then mark_leaf c Alone span else mark_leaf c (joint_if marked) span)
-    ≡ mark_leaf c (joint_if (marked && not is_end)) span
-spaces true true c span = refl
-spaces true false c span = refl
-spaces false true c span = refl
-spaces false false c span = refl
-
-spacing_before-is : (after : List PlacedToken) → spacing_before after ≡ joint_if (is_next_mark (first_kind after))
+spacing_before-is : (after : List PlacedToken) → spacing_before after ≡ spacing_at (first_kind after)
 spacing_before-is [] = refl
 spacing_before-is (t ∷ more) = refl
 
--- a punct as it stands in its list
-mark_stands : (groups : List Opened) (after : List PlacedToken) (c : ℕ) (span : Span)
-    → built_here groups (leaf (mark_leaf c (spacing_before after) span) empty)
-    ≡ leaf (mark_leaf c (spacing_in (built_groups groups) c (first_kind after)) span) empty
-mark_stands [] after c span =
-    rw (spacing_before-is after) (ap (λ l. leaf l empty) (spaces (nat_eq c (char ";")) (is_next_mark (first_kind after)) c span))
-mark_stands (o ∷ []) after c span =
-    rw (spacing_before-is after) (ap (λ l. leaf l empty) (spaces false (is_next_mark (first_kind after)) c span))
-mark_stands (o ∷ p ∷ outer) after c span =
-    rw (spacing_before-is after) (ap (λ l. leaf l empty) (spaces false (is_next_mark (first_kind after)) c span))
-
 pub adds_mark : {sort : Sort} {c : ℕ} (t : PlacedToken) (after : List PlacedToken) {next : Option TokenKind} {spacing : Spacing}
     {range : TextRange} {span : Span} {old new : Building} (groups : List Opened) (here : Forest) → sort ≡ Mark c
-    → range_of t ≡ range → first_kind after ≡ next → spacing ≡ spacing_in old.groups c next → span ≡ written_at range
+    → range_of t ≡ range → first_kind after ≡ next → spacing ≡ spacing_at next → span ≡ written_at range
     → new ≡ pushed old (mark_leaf c spacing span) → IsBuilt old groups here
     → GoesOn (steps_of_sort sort t after) groups here new
 adds_mark {c = c} t after {old = old} {new = new} groups here is at follows spaced spanned e b =
-    let told : new ≡ pushed old (mark_leaf c (spacing_in (built_groups groups) c (first_kind after)) (written_at (range_of t))) =
-    rw (at, follows, ← b.groups_are, ← spaced, ← spanned) e in
-    rw is (pushes groups here _ _ (mark_stands groups after c (written_at (range_of t))) told b)
+    let told : new ≡ pushed old (mark_leaf c (spacing_before after) (written_at (range_of t))) =
+    rw (spacing_before-is after, at, follows, ← spaced, ← spanned) e in
+    rw is (pushes groups here _ told b)
 
 -- ---- an opening bracket
-
-opened_groups : (kind : DelimiterKind) (span : Span) (groups : List Opened) (here : Forest)
-    → record { kind = kind; open_span = span; before = built_here groups here } ∷ built_groups groups
-    ≡ built_groups (record { kind = kind; open_span = span; before = here } ∷ groups)
-opened_groups kind span [] here = refl
-opened_groups kind span (o ∷ outer) here = refl
 
 pub adds_opening : {sort : Sort} {kind : DelimiterKind} (t : PlacedToken) (after : List PlacedToken) {range : TextRange} {span : Span}
     {old new : Building} (groups : List Opened) (here : Forest) → sort ≡ Opening kind → range_of t ≡ range
@@ -130,8 +81,7 @@ adds_opening {kind = kind} t after {span = span} {old = old} groups here is at s
         groups_are =
             ap (λ (m : Building). m.groups) e
             ∙ ap (λ f. record { kind = kind; open_span = span; before = f } ∷ old.groups) b.here_is
-            ∙ ap (λ gs. record { kind = kind; open_span = span; before = built_here groups here } ∷ gs) b.groups_are
-            ∙ opened_groups kind span groups here;
+            ∙ ap (λ gs. record { kind = kind; open_span = span; before = here } ∷ gs) b.groups_are;
         here_is = ap (λ (m : Building). m.here) e;
       };
       reads = λ more. refl;
@@ -139,21 +89,10 @@ adds_opening {kind = kind} t after {span = span} {old = old} groups here is at s
 
 -- ---- a closing bracket
 
-innermost-built : (groups : List Opened) → innermost_group (built_groups groups) ≡ innermost_group groups
-innermost-built [] = refl
-innermost-built (o ∷ []) = refl
-innermost-built (o ∷ p ∷ outer) = refl
-
 -- the builder once the innermost group is closed
 built_closed : (outer : List Opened) (o : Opened) (here : Forest) (span : Span) (old : Building) → old.here ≡ here
-    → IsBuilt (closed_in (built_groups (o ∷ outer)) old span) outer (closed_group o here span)
-built_closed [] o here span old e = record {
-  groups_are = refl;
-  here_is =
-      ap (λ f. closed_group (record o { before = separated o.before }) f span) e
-      ∙ sym (separated-joined o.before (group (record { open_span = o.open_span; close_span = span; kind = o.kind }) here empty));
-}
-built_closed (p ∷ outer) o here span old e = record { groups_are = refl; here_is = ap (λ f. closed_group o f span) e }
+    → IsBuilt (closed_in (o ∷ outer) old span) outer (closed_group o here span)
+built_closed outer o here span old e = record { groups_are = refl; here_is = ap (λ f. closed_group o f span) e }
 
 closes_innermost : (groups : List Opened) (kind opening : DelimiterKind) (open_at span : Span) (old new : Building) (here : Forest)
     → innermost_group old.groups ≡ Some (opening, open_at) → opening ≡ kind → new ≡ closed old span → IsBuilt old groups here
@@ -162,12 +101,11 @@ closes_innermost [] kind opening open_at span old new here found same e b =
     let none : innermost_group old.groups ≡ None = ap innermost_group b.groups_are in
     cc
 closes_innermost (o ∷ outer) kind opening open_at span old new here found same e b =
-    let known : innermost_group old.groups ≡ Some (o.kind, o.open_span) =
-    ap innermost_group b.groups_are ∙ innermost-built (o ∷ outer) in
+    let known : innermost_group old.groups ≡ Some (o.kind, o.open_span) = ap innermost_group b.groups_are in
     let both : (opening, open_at) ≡ (o.kind, o.open_span) = cc in
     let fits : o.kind ≡ kind = sym (ap (λ (x : DelimiterKind × Span). x.0) both) ∙ same in
     let test : same_kind o.kind kind ≡ true = rw (← fits) (same_kind-self o.kind) in
-    let now : new ≡ closed_in (built_groups (o ∷ outer)) old span = e ∙ ap (λ gs. closed_in gs old span) b.groups_are in
+    let now : new ≡ closed_in (o ∷ outer) old span = e ∙ ap (λ gs. closed_in gs old span) b.groups_are in
     record {
       new_groups = outer;
       new_here = closed_group o here span;

@@ -78,7 +78,7 @@ means_fault depth text fault told is_read same =
     let Q : Result Forest ReadFault → Type 0 = λ r. IsMeant thin_layers depth (meaning_from thin_layers depth r) (Unread told) in
     subst Q (sym is_read) same
 
-pub read_by : (r : Result Forest ReadFault) (t : Top) → IsRead r (read.Tree t) → (f : Forest) × ((r ≡ Ok f) × (t.inner ≡ separated f))
+pub read_by : (r : Result Forest ReadFault) (t : Top) → IsRead r (read.Tree t) → (f : Forest) × ((r ≡ Ok f) × (t.inner ≡ f))
 read_by (Ok f) t h = (f, (refl, h))
 read_by (Err fault) t h = absurd h
 

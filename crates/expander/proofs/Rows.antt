@@ -20,21 +20,21 @@ pub data Shown : Type 0 where
   gives : List ℕ → List Fault → Shown
   unread : ReadFault → Shown
 
-abbrev shown_at : (depth : ℕ) → Result (ReadMeaning thin_layers depth) ReadFault → Shown
+abbrev pub shown_at : (depth : ℕ) → Result (ReadMeaning thin_layers depth) ReadFault → Shown
 shown_at depth (Ok m) = gives m.text m.faults
 shown_at depth (Err fault) = unread fault
 
-abbrev shown : Result (ReadMeaning thin_layers 128) ReadFault → Shown
+abbrev pub shown : Result (ReadMeaning thin_layers 128) ReadFault → Shown
 shown = shown_at 128
 
-abbrev lines : List (List ℕ) → List ℕ
+abbrev pub lines : List (List ℕ) → List ℕ
 lines [] = []
 lines (l ∷ ls) = l ++ (10 ∷ lines ls)
 
 abbrev of : List (List ℕ) → Shown
 of ls = shown (meaning thin_layers 128 (lines ls))
 
-abbrev fault : FaultKind → ℕ → ℕ → Fault
+abbrev pub fault : FaultKind → ℕ → ℕ → Fault
 fault kind start end = record { kind = kind; range = record { start = start; «end» = end } }
 
 empty_text : of ([]) ≡ gives (lines ([])) ([])

@@ -21,7 +21,7 @@ leaves_nothing (Refused refusal) input depth writes not_writer h = h
 
 module _ {R W : Type 0} (input : Option (List ℕ)) (depth : ℕ) (reader : Watch R) (writer : Watch W) where
   -- without a reply nothing was written
-  pub runs_stopped : (stop : Stop) (contents : Option (List ℕ)) → StopsEarly stop input reader.failed → writer.failed ≡ false
+  pub runs_stopped : (stop : Stop) (contents : Option (List ℕ)) → StopsEarly stop input depth reader.failed → writer.failed ≡ false
       → Runs (Some stop) input depth (Appends contents contents) reader writer (status 1)
   runs_stopped stop contents early fresh = record {
     cause = early.cause;

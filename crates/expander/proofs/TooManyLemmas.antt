@@ -37,18 +37,14 @@ finds_more before piece d known scope new_scope here same finds is_defined =
     rw here (is_defined ∙ ap (λ (k : Definition). defined k scope) same ∙ ap (defined d) finds ∙ fun_ext (λ name. sym (nearest_first d before name)))
 
 -- the pieces before are behind us: what the others have, the text has
-abbrev pub IsBehind : List Forest → List Definition → List Forest → Type 0
-IsBehind all before rest = HasTooManyAfter before rest → HasTooManyAfter [] all
+abbrev pub IsBehind : ℕ → List Forest → List Definition → List Forest → Type 0
+IsBehind depth all before rest = HasTooManyAfter depth before rest → HasTooManyAfter depth [] all
 
-pub one_more : (all more : List Forest) (before : List Definition) (piece : Forest) → IsBehind all before (piece ∷ more)
-    → IsBehind all (with_definition thin_layers 0 (definition_of piece) before) more
+pub one_more : {depth : ℕ} (all more : List Forest) (before : List Definition) (piece : Forest) → IsBehind depth all before (piece ∷ more)
+    → IsBehind depth all (with_definition thin_layers 0 (definition_of piece) before) more
 one_more all more before piece behind = λ later. behind (inr later)
 
-pub here_too_many : (all more : List Forest) (before : List Definition) (piece : Forest) → IsBehind all before (piece ∷ more)
-    → definition_of piece ≡ None → CallsTooMuch (nearest before) piece → HasTooManyAfter [] all
+pub here_too_many : {depth : ℕ} (all more : List Forest) (before : List Definition) (piece : Forest) → IsBehind depth all before (piece ∷ more)
+    → definition_of piece ≡ None → CallsTooMuch (nearest before) depth piece → HasTooManyAfter depth [] all
 here_too_many all more before piece behind plain much = behind (inl (plain, much))
 
-pub too_many_read : (r : Result Forest ReadFault) (f inner trees : Forest) → r ≡ Ok f → inner ≡ separated f → trees ≡ inner
-    → HasTooManyAfter [] (cut trees) → HasTooMany r
-too_many_read r f inner trees e inner_is trees_is much =
-    subst HasTooMany (sym e) (subst (λ g. HasTooManyAfter [] (cut g)) (trees_is ∙ inner_is) much)

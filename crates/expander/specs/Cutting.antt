@@ -1,8 +1,22 @@
--- How a piece is cut off the trees that are left.
-use Rattle.std.specs.Prelude.{◌≡◌, ◌<◌, ◌∷◌, Bool, true, false, MatchOption, Option, Some, None}
+-- How the ends of pieces are set apart, and how a piece is cut off the trees that are left.
+use Rattle.std.specs.Prelude.{◌≡◌, ◌<◌, List, [], ◌∷◌, Bool, true, false, MatchOption, Option, Some, None, set, if◌then◌else◌}
 use Rattle.tt_data.specs.Forest.{Forest, empty, joined, size}
 use Rattle.expander.specs.Pieces.{cut, cut_from}
 use Rattle.expander.specs.ThinRules.{parts}
+use Rattle.expander.specs.declared.pieces.Put.{Put}
+use Rattle.expander.specs.Text.{alone, is_punct}
+use Rattle.tt_data.specs.declared.leaf.Leaf.{Leaf}
+use Rattle.tt_data.specs.declared.tree.TokenTree.{TokenTree}
+use Rattle.tt_data.specs.declared.tree.TokenTree.TheVariants as token
+
+-- a `;` as it stands alone, and no other leaf
+abbrev pub end_alone : Leaf → Option Leaf
+end_alone l = if is_punct ";" l then Some (alone l) else None
+
+-- tokens with leaves put in their places
+abbrev pub put_all : List Put → List TokenTree → List TokenTree
+put_all [] tokens = tokens
+put_all (p ∷ ps) tokens = set (put_all ps tokens) p.at (token.Leaf p.leaf)
 
 -- nothing is left, or the first of the pieces, after which the others are left
 abbrev pub CutsOff : Forest → Forest → Option Forest → Type 0

@@ -3,6 +3,8 @@ use Rattle.std.specs.Prelude.{◌≡◌, ℕ, ◌≤◌, ◌<◌, ◌^◌, Bool,
 use Rattle.expander.specs.State.{State}
 use Rattle.expander.specs.Expanded.{Expanded}
 use Rattle.expander.specs.Replies.{IsReplyTo}
+use Rattle.expander.specs.Thin.{thin_layers}
+use Rattle.expander.specs.TooMany.{HasTooMany}
 use Rattle.expander.specs.Watch.{Watch}
 use Rattle.expander.specs.declared.faults.Fault.{Fault}
 use Rattle.expander.specs.declared.session.Refusal.TheVariants.{Memory, Tokens, Numbers}
@@ -66,15 +68,15 @@ abbrev pub is_of_writer : Stop → Bool
 is_of_writer WriteFailed = true
 is_of_writer _ = false
 
--- When a run may stop for a reason, by its input; readers and writers tell themselves whether they failed.
-abbrev pub Stops : Stop → Option (List ℕ) → Type 0
-Stops NotUtf8 input = (bytes : List ℕ) × IsNoText input bytes
-Stops TooLong input = IfSome input (λ bytes. 2 ^ 32 ≤ length bytes)
-Stops ReadFailed input = ⊤
-Stops WriteFailed input = ⊤
-Stops (Refused Memory) input = ⊤
-Stops (Refused Tokens) input = (text : List ℕ) × IsInput input text
-Stops (Refused Numbers) input = (text : List ℕ) × IsInput input text
+-- When a run may stop for a reason, by its input and its levels; readers and writers tell themselves whether they failed.
+abbrev pub Stops : Stop → Option (List ℕ) → ℕ → Type 0
+Stops NotUtf8 input depth = (bytes : List ℕ) × IsNoText input bytes
+Stops TooLong input depth = IfSome input (λ bytes. 2 ^ 32 ≤ length bytes)
+Stops ReadFailed input depth = ⊤
+Stops WriteFailed input depth = ⊤
+Stops (Refused Memory) input depth = ⊤
+Stops (Refused Tokens) input depth = (text : List ℕ) × IsInput input text × HasTooMany depth (thin_layers.read text)
+Stops (Refused Numbers) input depth = ⊥
 
 -- A writer that failed has taken a front of the text that was to be printed.
 pub record BreaksOff (input : Option (List ℕ)) (depth : ℕ) (writes : List ℕ → Type 0) : Type 0 where
@@ -106,7 +108,7 @@ pub record Finishes {R W : Type 0} (input : Option (List ℕ)) (depth : ℕ) (wr
 -- A run that stops: it has a cause, and its status is 1.
 pub record Refuses {R W : Type 0} (stop : Stop) (input : Option (List ℕ)) (depth : ℕ) (writes : List ℕ → Type 0)
     (reader : Watch R) (writer : Watch W) (result : Status) : Type 0 where
-  pub cause : Stops stop input
+  pub cause : Stops stop input depth
   pub left : LeavesAt stop input depth writes
   pub status : result ≡ status 1
   pub of_reader : reader.failed ≡ is_of_reader stop

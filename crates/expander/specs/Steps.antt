@@ -23,8 +23,8 @@ pub record Replied (input : Option (List ℕ)) (depth : ℕ) (reply : Reply) : T
   pub is_reply : IsReplyTo (opened text depth) reply
 
 -- why there is no reply, and whether the reader failed
-pub record StopsEarly (stop : Stop) (input : Option (List ℕ)) (failed : Bool) : Type 0 where
-  pub cause : Stops stop input
+pub record StopsEarly (stop : Stop) (input : Option (List ℕ)) (depth : ℕ) (failed : Bool) : Type 0 where
+  pub cause : Stops stop input depth
   pub reader : failed ≡ is_of_reader stop
   pub writer : is_of_writer stop ≡ false
 

@@ -1,5 +1,5 @@
--- Which texts have a call whose result would have more tokens than a tree may have.
-use Rattle.std.specs.Prelude.{◌≡◌, ◌⊎◌, ℕ, List, [], ◌∷◌, Option, Some, None, Result, Ok, Err}
+-- Which texts have a call whose result would have more tokens than a tree may have, with so many levels of calls.
+use Rattle.std.specs.Prelude.{◌≡◌, ◌<◌, ◌⊎◌, ℕ, List, [], ◌∷◌, Option, Some, None, Result, Ok, Err}
 use Rattle.tt_data.specs.Forest.{Forest, joined}
 use Rattle.expander.specs.declared.calls.Call.{Call}
 use Rattle.expander.specs.declared.definitions.Definition.{Definition}
@@ -11,28 +11,31 @@ use Rattle.expander.specs.Meaning.{with_definition}
 use Rattle.expander.specs.Pieces.{pieces}
 use Rattle.expander.specs.Thin.{thin_layers, thin_world}
 
--- the call's name finds a definition, which gives too many tokens for its argument
-abbrev pub IsTooMuch : (List ℕ → Option Definition) → Call → Type 0
-IsTooMuch scope c =
-    (d : Definition) × (scope c.name.sym ≡ Some d) × GivesTooMany (thin_world.fit d c.argument)
+-- a definition gives too many tokens for an argument, and a level is left to ask it
+abbrev pub FillsTooMuch : Definition → ℕ → Forest → Type 0
+FillsTooMuch d depth argument = (0 < depth) × GivesTooMany (thin_world.fit d argument)
+
+-- the call's name finds a definition that does so
+abbrev pub IsTooMuch : (List ℕ → Option Definition) → ℕ → Call → Type 0
+IsTooMuch scope depth c = (d : Definition) × (scope c.name.sym ≡ Some d) × FillsTooMuch d depth c.argument
 
 -- such a call stands in the list, also where a `::` stands before it
-pub record CallsTooMuch (scope : List ℕ → Option Definition) (f : Forest) : Type 0 where
+pub record CallsTooMuch (scope : List ℕ → Option Definition) (depth : ℕ) (f : Forest) : Type 0 where
   pub passed : Forest
   pub rest : Forest
   pub call : Call
   pub splits : f ≡ joined passed rest
   pub calls : call_at rest ≡ Some call
-  pub gives : IsTooMuch scope call
+  pub gives : IsTooMuch scope depth call
 
 -- such a call stands in one of the pieces that are no definitions; the definitions before them are given nearest first
-abbrev pub HasTooManyAfter : List Definition → List Forest → Type 0
-HasTooManyAfter before [] = ⊥
-HasTooManyAfter before (p ∷ ps) =
-    ((definition_of p ≡ None) × CallsTooMuch (nearest before) p)
-    ⊎ HasTooManyAfter (with_definition thin_layers 0 (definition_of p) before) ps
+abbrev pub HasTooManyAfter : ℕ → List Definition → List Forest → Type 0
+HasTooManyAfter depth before [] = ⊥
+HasTooManyAfter depth before (p ∷ ps) =
+    ((definition_of p ≡ None) × CallsTooMuch (nearest before) depth p)
+    ⊎ HasTooManyAfter depth (with_definition thin_layers 0 (definition_of p) before) ps
 
 -- such a call stands in a text that was read
-abbrev pub HasTooMany : Result Forest ReadFault → Type 0
-HasTooMany (Ok f) = HasTooManyAfter [] (pieces f)
-HasTooMany (Err fault) = ⊥
+abbrev pub HasTooMany : ℕ → Result Forest ReadFault → Type 0
+HasTooMany depth (Ok f) = HasTooManyAfter depth [] (pieces f)
+HasTooMany depth (Err fault) = ⊥

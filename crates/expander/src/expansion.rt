@@ -1,9 +1,8 @@
 // The expansion of a text's pieces.
 ghost use Rattle.std.specs.Prelude.{◌≡◌, ◌<◌, ◌≤◌, ◌+◌, ◌^◌, ◌++◌, ◌∷◌, [], ℕ, List, true, IfOk, OnOk, Some, None, Err, Option};
 ghost use Rattle.expander.specs.Definitions.{definition_of, nearest};
-ghost use Rattle.expander.specs.Filling.{GivesTooMany};
 ghost use Rattle.expander.specs.Meaning.{with_definition};
-ghost use Rattle.expander.specs.TooMany.{IsTooMuch, CallsTooMuch, HasTooManyAfter};
+ghost use Rattle.expander.specs.TooMany.{FillsTooMuch, IsTooMuch, CallsTooMuch, HasTooManyAfter};
 ghost use Rattle.expander.specs.Pieces.{cut};
 ghost use Rattle.expander.specs.PieceTurns.{TakesPiece, IsOutputOf, told_if_broken};
 ghost use Rattle.tt_data.specs.Forest.{Forest, joined, size, empty};
@@ -77,7 +76,8 @@ fn expand_by(
         is_free_of "!" known.now.definition.body ≡ true → is_free_of "!" call.now.argument ≡ true →
         IfOk result (Tries steps.old.items steps.new.items site
         (unbroken thin_world known.now.definition (thin_world.broken known.now.definition) (deeper_at scope depth) None site)) }
-    ensures tokens { result ≡ Err TtFault.Tokens → GivesTooMany (thin_world.fit known.now.definition call.now.argument) }
+    ensures unfit { result ≡ Ok (Some FaultKind.CannotExpand) → thin_world.fit known.now.definition call.now.argument ≡ None }
+    ensures tokens { result ≡ Err TtFault.Tokens → FillsTooMuch known.now.definition depth call.now.argument }
 {
     let Some(rules) = &known.rules else {
         return Ok(Some(FaultKind::BrokenDefinition));
@@ -92,7 +92,34 @@ fn expand_by(
     Ok(None)
 }
 
-// Expands a call with which the trees begin, and passes over it.
+// Expands a call with which the trees begin by the definition that its name finds, or keeps it with a fault, and passes
+// over it.
+fn expand_known<'a>(
+    alloc: Global,
+    known: &Known<'_>,
+    depth: u8,
+    out: &mut Output,
+    trees: &mut TtIter<'a>,
+    call: Call<'a>,
+) -> Result<(), TtFault>
+    requires { call_at trees.old ≡ Some call }
+    ensures plain { OnOk result (out.new.plain ≡ out.old.plain) }
+    ensures turn { (scope : List ℕ → Option Definition) → scope call.entry.name.sym ≡ Some known.now.definition →
+        groups_are_free_of "!" trees.old ≡ true → is_free_of "!" known.now.definition.body ≡ true →
+        OnOk result (Turn scope depth out.old.steps.items out.new.steps.items out.old.faults.items out.new.faults.items trees.old trees.new) }
+    ensures rest { OnOk result (trees.new ≡ call.entry.rest) }
+    ensures tokens { result ≡ Err TtFault.Tokens → FillsTooMuch known.now.definition depth call.entry.argument }
+{
+    if let Some(kind) = expand_by(alloc, &mut out.steps, known, depth, &call)? {
+        push_fault(&mut out.faults, kind, call.name.span)?;
+        keep(&mut out.steps, trees, call.rest)?;
+        return Ok(());
+    }
+    *trees = call.rest;
+    Ok(())
+}
+
+// Expands a call with which the trees begin, or keeps it where its name finds nothing, and passes over it.
 fn expand_call<'a>(
     alloc: Global,
     scope: &Scope<'_>,
@@ -107,19 +134,16 @@ fn expand_call<'a>(
     ensures turn { groups_are_free_of "!" trees.old ≡ true → AreFree (definitions_of scope.now) →
         OnOk result (Turn (definitions_of scope.now) depth out.old.steps.items out.new.steps.items out.old.faults.items out.new.faults.items trees.old trees.new) }
     ensures rest { OnOk result (trees.new ≡ call.entry.rest) }
-    ensures tokens { result ≡ Err TtFault.Tokens → IsTooMuch (definitions_of scope.now) call.entry }
+    ensures kept { definitions_of scope.now call.entry.name.sym ≡ None → (passed : Forest) → trees.old ≡ joined passed call.entry.rest →
+        OnOk result (steps_of_output out.new.steps.items ≡ steps_of_output out.old.steps.items ++ placed None (walk passed)) }
+    ensures untold { definitions_of scope.now call.entry.name.sym ≡ None → OnOk result (out.new.faults.items ≡ out.old.faults.items) }
+    ensures tokens { result ≡ Err TtFault.Tokens → IsTooMuch (definitions_of scope.now) depth call.entry }
 {
     let Some(known) = scope.find(&call.name.sym) else {
         keep(&mut out.steps, trees, call.rest)?;
         return Ok(());
     };
-    if let Some(kind) = expand_by(alloc, &mut out.steps, known, depth, &call)? {
-        push_fault(&mut out.faults, kind, call.name.span)?;
-        keep(&mut out.steps, trees, call.rest)?;
-        return Ok(());
-    }
-    *trees = call.rest;
-    Ok(())
+    expand_known(alloc, known, depth, out, trees, call)
 }
 
 // The trees behind what stays as it is at the beginning: a call behind a `::`, or one tree.
@@ -148,7 +172,7 @@ fn expand_piece(
     ensures adds { groups_are_free_of "!" piece.now ≡ true → AreFree (definitions_of scope.now) →
         OnOk result (Adds out.old.steps.items out.new.steps.items out.old.faults.items out.new.faults.items
         (searched (definitions_of scope.now) depth piece.now)) }
-    ensures tokens { result ≡ Err TtFault.Tokens → CallsTooMuch (definitions_of scope.now) piece.now }
+    ensures tokens { result ≡ Err TtFault.Tokens → CallsTooMuch (definitions_of scope.now) depth piece.now }
 {
     let mut rest = again(piece);
     while !rest.is_empty() {
@@ -193,7 +217,7 @@ fn take_piece<'a>(
     ensures finds { (before : List Definition) → definitions_of scope.old ≡ nearest before →
         OnOk result (definitions_of scope.new ≡ nearest (with_definition thin_layers 0 (definition_of piece.now) before)) }
     ensures tokens { result ≡ Err TtFault.Tokens →
-        (definition_of piece.now ≡ None) × CallsTooMuch (definitions_of scope.old) piece.now }
+        (definition_of piece.now ≡ None) × CallsTooMuch (definitions_of scope.old) depth piece.now }
 {
     let Some(definition) = definition_of(piece) else {
         expand_piece(alloc, scope, depth, out, piece)?;
@@ -209,7 +233,7 @@ fn take_piece<'a>(
 /// Expands the pieces of a text, each under the definitions before it.
 pub(crate) fn expand_pieces(alloc: Global, depth: u8, trees: &TtIter<'_>) -> Result<Output, TtFault>
     ensures output { groups_are_free_of "!" trees.now ≡ true → IfOk result (IsOutputOf depth (cut trees.now)) }
-    ensures tokens { result ≡ Err TtFault.Tokens → HasTooManyAfter [] (cut trees.now) }
+    ensures tokens { result ≡ Err TtFault.Tokens → HasTooManyAfter depth [] (cut trees.now) }
 {
     let most = trees.remaining().len();
     let mut scope = Scope::new(alloc);

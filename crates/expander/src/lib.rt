@@ -19,8 +19,6 @@ mod rules;
 mod scope;
 pub mod session;
 mod substitution;
-#[cfg(test)]
-mod tests;
 mod units;
 pub mod watched;
 

@@ -1,14 +1,18 @@
 // The pieces of a text's top list.
-ghost use Rattle.std.specs.Prelude.{◌≡◌};
+ghost use Rattle.std.specs.Prelude.{◌≡◌, ◌≢◌, IfErr, IfOk, OnOk};
+ghost use Rattle.tt.specs.Tops.{tokens_of};
 ghost use Rattle.tt_data.specs.Forest.{Forest, empty, size};
-ghost use Rattle.expander.specs.Pieces.{is_pound_bang, ends_piece};
-ghost use Rattle.expander.specs.Text.{is_punct};
-ghost use Rattle.expander.specs.Cutting.{CutsOff, PassesTree};
+ghost use Rattle.expander.specs.Pieces.{is_pound_bang, ends_piece, separated};
+ghost use Rattle.expander.specs.Text.{alone, is_punct};
+ghost use Rattle.expander.specs.Cutting.{CutsOff, PassesTree, end_alone, put_all};
 
 use crate::first_trees::first_punct;
+use std::alloc::{AllocError, Global};
 use tt::iter::{TtElement, TtIter};
+use tt::top::TopSubtree;
 use tt_data::delimiter::{Delimiter, DelimiterKind};
-use tt_data::leaf::Leaf;
+use tt_data::fault::TtFault;
+use tt_data::leaf::{Leaf, Punct, Spacing};
 
 // Whether these are exactly `#` and `!`.
 fn is_pound_bang(begun: &TtIter<'_>) -> bool
@@ -41,6 +45,67 @@ pub(crate) fn ends_statement(leaf: &Leaf) -> bool
         Leaf::Punct(punct) => punct.char == ';',
         _ => false,
     }
+}
+
+/// A punct that stands alone, another leaf as it is.
+pub(crate) fn alone(leaf: Leaf) -> Leaf
+    ensures { result ≡ alone leaf }
+{
+    match leaf {
+        Leaf::Punct(punct) => Leaf::Punct(Punct {
+            spacing: Spacing::Alone,
+            ..punct
+        }),
+        other => other,
+    }
+}
+
+// A `;` as it stands alone, and no other leaf.
+fn end_alone(leaf: Leaf) -> Option<Leaf>
+    ensures { result ≡ end_alone leaf }
+{
+    if ends_statement(&leaf) {
+        Some(alone(leaf))
+    } else {
+        None
+    }
+}
+
+/// A leaf, and the place among a tree's tokens, its own head included, where it is put.
+#[derive(Drop)]
+pub(crate) struct Put {
+    at: usize,
+    leaf: Leaf,
+}
+
+// Each `;` of the tree's own list as it stands alone.
+fn ends_alone(alloc: Global, tree: &TopSubtree) -> Result<Vec<Put>, AllocError>
+    ensures { IfOk result (λ puts. put_all puts.items (tokens_of tree.now) ≡ tokens_of (record tree.now { inner = separated tree.now.inner })) }
+{
+    let mut puts = Vec::new(alloc);
+    let mut rest = tree.token_trees().iter();
+    let most = rest.remaining().len();
+    while let Some(element) = rest.next() {
+        if let TtElement::Leaf(leaf) = element {
+            if let Some(leaf) = end_alone(leaf) {
+                let at = most - rest.remaining().len();
+                puts.push(Put { at, leaf })?;
+            }
+        }
+    }
+    Ok(puts)
+}
+
+/// Makes each `;` of the tree's own list stand alone, where it is: nothing is joined to what ends a piece.
+pub(crate) fn set_apart(alloc: Global, tree: &mut TopSubtree) -> Result<(), TtFault>
+    ensures apart { OnOk result (tree.new.inner ≡ separated tree.old.inner) }
+    ensures faults { IfErr result (λ fault. fault ≢ TtFault.Tokens) }
+{
+    let mut puts = ends_alone(alloc, tree)?;
+    while let Some(put) = puts.pop() {
+        tree.set_token(alloc, put.at, put.leaf)?;
+    }
+    Ok(())
 }
 
 // Passes the next tree, and tells whether it ends the piece that is begun.

@@ -1,8 +1,10 @@
 //! The run of a program: it reads a text, expands it and writes what that prints.
-ghost use Rattle.std.specs.Prelude.{◌≡◌, ℕ, ◌^◌, ◌<◌, false, List, length, take, Option, IfOk, IfErr};
+ghost use Rattle.std.specs.Prelude.{◌≡◌, ◌≢◌, ℕ, Err, ◌^◌, ◌<◌, false, List, length, take, Option, IfOk, IfErr};
 ghost use Rattle.std.specs.Io.KnownBytes.{Appends};
 ghost use Rattle.expander.specs.Replies.{IsReplyTo};
 ghost use Rattle.expander.specs.Runs.{IsAllOf, Runs, opened, status_by};
+ghost use Rattle.expander.specs.Thin.{thin_layers};
+ghost use Rattle.expander.specs.TooMany.{HasTooMany};
 ghost use Rattle.expander.specs.Steps.{Puts, Replied, StopsEarly, StopsReading};
 
 use crate::faults::Fault;
@@ -10,9 +12,6 @@ use crate::session::{Refusal, Reply, Session};
 use crate::watched::Watched;
 use std::alloc::{AllocError, Global};
 use std::io::{Read, Write};
-
-#[cfg(test)]
-mod tests;
 
 /// The status that a program ends with.
 #[derive(Clone, Copy, Debug, PartialEq, Eq)]
@@ -71,7 +70,7 @@ fn reply_to_input<R: Read>(alloc: Global, reader: &mut Watched<R>, depth: u8) ->
     requires { reader.old.failed ≡ false }
     ensures replied { IfOk result (λ reply. Replied (R.remaining reader.old.inner) depth reply) }
     ensures read { IfOk result (λ reply. reader.new.failed ≡ false) }
-    ensures stopped { IfErr result (λ stop. StopsEarly stop (R.remaining reader.old.inner) reader.new.failed) }
+    ensures stopped { IfErr result (λ stop. StopsEarly stop (R.remaining reader.old.inner) depth reader.new.failed) }
 {
     let bytes = read_all(alloc, reader)?;
     let text = std::str::from_utf8(bytes.as_slice()).map_err(|_| Stop::NotUtf8)?;
@@ -81,7 +80,9 @@ fn reply_to_input<R: Read>(alloc: Global, reader: &mut Watched<R>, depth: u8) ->
 // The reply of a session over this text.
 fn reply_to(alloc: Global, text: &str, depth: u8) -> Result<Reply, Refusal>
     requires { length text.now < 2 ^ 32 }
-    ensures { IfOk result (λ reply. IsReplyTo (opened text.now depth) reply) }
+    ensures reply { IfOk result (λ reply. IsReplyTo (opened text.now depth) reply) }
+    ensures tokens { result ≡ Err Refusal.Tokens → HasTooMany depth (thin_layers.read text.now) }
+    ensures numbers { result ≢ Err Refusal.Numbers }
 {
     match Session::new(alloc, text, depth) {
         Ok(mut session) => session.expansion(),

@@ -1,6 +1,6 @@
 // Reading: the tokens of a text as trees.
 ghost use Rattle.std.specs.Prelude.{◌≡◌, ℕ, ◌+◌, ◌<◌, ◌≤◌, ◌^◌, List, [], length, chars, IfOk, IfErr, OnOk};
-ghost use Rattle.expander.specs.ReadSteps.{Takes, IsBuilt, IsRead, first_kind, spacing_in};
+ghost use Rattle.expander.specs.ReadSteps.{Takes, IsBuilt, IsRead, first_kind, spacing_at};
 ghost use Rattle.expander.specs.Reading.{PlacedToken, placed_from, range_of, written_at, read_from};
 ghost use Rattle.expander.specs.ThinReading.{is_mark, sort_of, steps_of_sort, thin_reading};
 ghost use Rattle.rustc_lexer.specs.Lexing.{tokens_of};
@@ -91,14 +91,12 @@ fn is_mark(kind: TokenKind) -> bool
     matches!(sort_of(kind), Sort::Mark(_))
 }
 
-// How a punct stands before the next token. What ends a piece stands alone.
-fn spacing_of(builder: &TopSubtreeBuilder, char: char, next: Option<TokenKind>) -> Spacing
-    ensures { result ≡ spacing_in builder.now.tree.groups char next }
+// How a punct stands before the next token.
+fn spacing_at(next: Option<TokenKind>) -> Spacing
+    ensures { result ≡ spacing_at next }
 {
     match next {
-        Some(kind) if is_mark(kind) && !(char == ';' && builder.innermost().is_none()) => {
-            Spacing::Joint
-        }
+        Some(kind) if is_mark(kind) => Spacing::Joint,
         _ => Spacing::Alone,
     }
 }
@@ -128,7 +126,7 @@ fn add(
             builder.push(Leaf::Ident(Ident { sym, span, is_raw }))?;
         }
         Sort::Mark(char) => {
-            let spacing = spacing_of(builder, char, next);
+            let spacing = spacing_at(next);
             builder.push(Leaf::Punct(Punct {
                 char,
                 spacing,
@@ -176,7 +174,7 @@ fn first_kind(tokens: &[Token]) -> Option<TokenKind>
     Some(first.kind)
 }
 
-/// The trees of the text with these tokens, each `;` of the top list standing alone, or the first fault.
+/// The trees of the text with these tokens, or the first fault.
 ///
 /// `Memory` is its only error: a text has no more tokens than a tree has room for.
 pub(crate) fn read_tokens(alloc: Global, text: &str, tokens: &[Token]) -> Result<Read, TtFault>

@@ -10,6 +10,7 @@ ghost use Rattle.expander.specs.Shown.{ShowsOutput};
 
 use crate::expansion::{Output, expand_pieces};
 use crate::faults::{Fault, ReadFault, push_output_faults, sort_faults};
+use crate::pieces::set_apart;
 use crate::printing::print;
 use crate::reading::{Read, read_tokens};
 use rustc_lexer::{FrontmatterAllowed, Token, tokenize};
@@ -151,11 +152,11 @@ impl Session {
     }
 
     /// The expansion of the text, or its reading fault. Refused where there is no memory left, or where a call's result
-    /// would have more than `u32::MAX` tokens.
+    /// would have more than `u32::MAX` tokens; that never where no level of calls is left.
     pub fn expansion(&mut self) -> Result<Reply, Refusal>
         ensures reply { IfOk result (λ reply. IsReplyTo self.old reply) }
         ensures same { self.new ≡ self.old }
-        ensures tokens { result ≡ Err Refusal.Tokens → HasTooMany (thin_layers.read self.old.text) }
+        ensures tokens { result ≡ Err Refusal.Tokens → HasTooMany self.old.depth (thin_layers.read self.old.text) }
         ensures numbers { result ≢ Err Refusal.Numbers }
     {
         reply_to_text(self.alloc, self.text.as_str(), self.depth)
@@ -166,13 +167,14 @@ impl Session {
 fn reply_to_text(alloc: Global, text: &str, depth: u8) -> Result<Reply, Refusal>
     requires { length text.now < 2 ^ 32 }
     ensures reply { IfOk result (IsReplyTo (record { text = text.now; depth = depth })) }
-    ensures tokens { result ≡ Err Refusal.Tokens → HasTooMany (thin_layers.read text.now) }
+    ensures tokens { result ≡ Err Refusal.Tokens → HasTooMany depth (thin_layers.read text.now) }
     ensures numbers { result ≢ Err Refusal.Numbers }
 {
     let tokens: Vec<Token> = tokenize(text, FrontmatterAllowed::No).collect(alloc)?;
     match read_tokens(alloc, text, tokens.as_slice())? {
         Read::Fault(fault) => Ok(Reply::Unread(fault)),
-        Read::Tree(tree) => {
+        Read::Tree(mut tree) => {
+            set_apart(alloc, &mut tree)?;
             let output = expand_pieces(alloc, depth, &tree.token_trees().iter())?;
             Ok(Reply::Read(expansion_of(alloc, output)?))
         }

@@ -4,13 +4,14 @@ ghost use Rattle.tt.specs.Tops.{Top};
 ghost use Rattle.tt_data.specs.Spans.{leaf_with};
 ghost use Rattle.expander.specs.Bound.{bindings_of};
 ghost use Rattle.expander.specs.Filling.{GivesTooMany, IsWantOfRoom, LacksRoom, with_trees};
-ghost use Rattle.expander.specs.Text.{alone, with_last_alone};
+ghost use Rattle.expander.specs.Text.{with_last_alone};
 ghost use Rattle.expander.specs.ThinFit.{made, itself, value_of, substituted, rule_fit, first_fit};
 ghost use Rattle.expander.specs.ThinRules.{Template, template_of, IsRule};
 
 use crate::bindings::Bindings;
 use crate::first_trees::again;
 use crate::matching::fit;
+use crate::pieces::alone;
 use crate::rules::{Rule, name_after};
 use std::alloc::Global;
 use tt::builder::TopSubtreeBuilder;
@@ -49,19 +50,6 @@ fn made_leaf(leaf: Leaf) -> Leaf
             let span = made(literal.span());
             Leaf::Literal(literal.with_span(span))
         }
-    }
-}
-
-// A punct that stands alone, another leaf as it is.
-fn alone(leaf: Leaf) -> Leaf
-    ensures { result ≡ alone leaf }
-{
-    match leaf {
-        Leaf::Punct(punct) => Leaf::Punct(Punct {
-            spacing: Spacing::Alone,
-            ..punct
-        }),
-        other => other,
     }
 }
 

@@ -12,7 +12,7 @@ use Rattle.expander.proofs.expansion.expand_pieces.Given as goal
 abbrev pub invariant-loop-piece : goal.invariant-loop-piece
 invariant-loop-piece l =
     (l.out.plain + size l.rest ≤ l.most)
-    × ((before : List Definition) × ((definitions_of l.scope ≡ nearest before) × IsBehind (cut l.trees) before (cut l.rest)))
+    × ((before : List Definition) × ((definitions_of l.scope ≡ nearest before) × IsBehind l.depth (cut l.trees) before (cut l.rest)))
     × (groups_are_free_of "!" l.trees ≡ true → PiecesLeft l.depth (cut l.trees) (cut l.rest) (definitions_of l.scope) l.out)
 
 abbrev pub decreases-loop-piece : goal.decreases-loop-piece

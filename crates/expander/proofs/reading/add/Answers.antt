@@ -14,7 +14,7 @@ returns-in_ok-push-in-Name-clause-counted c = counts_push _ _ c.in_ok-push-in-Na
 
 pub returns-in_ok-push-in-Mark-clause-takes : goal.returns-in_ok-push-in-Mark-clause-takes
 returns-in_ok-push-in-Mark-clause-takes c = λ t after same at follows groups here b.
-    let spaced = c.spacing_of-spacing.ensures in
+    let spaced = c.spacing_at-spacing.ensures in
     adds_mark t after groups here c.in-Mark.is at follows spaced c.written_at-span.ensures c.in_ok-push-in-Mark.ensures.ok b
 
 pub returns-in_ok-push-in-Mark-clause-counted : goal.returns-in_ok-push-in-Mark-clause-counted

@@ -1,0 +1,14 @@
+//! Tests of the expander's public calls, in a crate of their own so that the expander is proved once.
+//!
+//! Expected values were worked out by hand. What definitions alone decide stands as rows in the expander's `proofs/`;
+//! here each call is run, with memory and without, and with readers and writers that fail.
+#![tactic(auto)]
+
+#[cfg(test)]
+mod fakes;
+#[cfg(test)]
+mod runs;
+#[cfg(test)]
+mod sessions;
+#[cfg(test)]
+mod watched;
