@@ -1,5 +1,5 @@
 //! Lists of trees that are borrowed.
-ghost use Rattle.std.specs.Prelude.{◌≡◌, IsSome, IsTrue, ◌↔◌, true};
+ghost use Rattle.std.specs.Prelude.{◌≡◌, IsSome, IsTrue, ◌↔◌, true, ◌<◌, ◌^◌};
 ghost use Rattle.tt_data.specs.Forest.{IsPreorder, forest_of};
 ghost use Rattle.tt.specs.Groups.{is_one_group};
 
@@ -60,8 +60,11 @@ impl<'a> TokenTreesView<'a> {
     }
 
     /// The number of all tokens: each leaf, and each group with what it has inside.
+    ///
+    /// It is less than half of the numbers that fit, so steps can be counted: a group has two.
     pub fn len(&self) -> usize
-        ensures { result ≡ size (forest self.now) }
+        ensures len { result ≡ size (forest self.now) }
+        ensures fits { result < 2 ^ 63 }
     {
         self.tokens.len()
     }

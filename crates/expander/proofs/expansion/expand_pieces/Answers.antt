@@ -13,7 +13,7 @@ use Rattle.expander.proofs.expansion.expand_pieces.Goals as goal
 
 pub loop-piece-init : goal.loop-piece-init
 loop-piece-init c =
-    let counted : c.len-most.result ≡ size c.args.trees.now = c.len-most.ensures ∙ ap size c.remaining.ensures in (
+    let counted : c.len-most.result ≡ size c.args.trees.now = c.len-most.ensures.len ∙ ap size c.remaining.ensures in (
       omega (arith, counted, ap size c.again-rest.ensures),
       ([], (c.new-scope.ensures, rw c.again-rest.ensures (λ many. many))),
       λ free. rw c.again-rest.ensures (pieces_at_first c.args.depth (cut c.args.trees.now) _ _ (free_cut c.args.trees.now free) c.new-scope.ensures c.new.ensures.items c.new-2.ensures.items refl),

@@ -10,15 +10,15 @@ loop-element-init c = rw (c.new-puts.ensures.items, c.iter-rest.ensures ∙ c.to
 
 pub overflow_sub-at : goal.overflow_sub-at
 overflow_sub-at c =
-    let most : c.len-most.result ≡ size c.args.tree.now.inner = c.len-most.ensures ∙ ap size (c.remaining.ensures ∙ c.iter-rest.ensures ∙ c.token_trees.ensures) in
-    let left : c.len.result ≡ size c.next.new.self = c.len.ensures ∙ ap size c.remaining-in-Some-end_alone.ensures in
+    let most : c.len-most.result ≡ size c.args.tree.now.inner = c.len-most.ensures.len ∙ ap size (c.remaining.ensures ∙ c.iter-rest.ensures ∙ c.token_trees.ensures) in
+    let left : c.len.result ≡ size c.next.new.self = c.len.ensures.len ∙ ap size c.remaining-in-Some-end_alone.ensures in
     let fits = fits_tail c.args.tree.now.inner c.loop-element.rest c.next.new.self c.in-Leaf.leaf c.loop-element.puts.items (rw c.in-Leaf.is at c.in-Some.ensures.steps) c.loop-element.invariant in
     omega arith
 
 pub loop-element-preserved-in-Continue-1 : goal.loop-element-preserved-in-Continue-1
 loop-element-preserved-in-Continue-1 c =
-    let most : c.len-most.result ≡ size c.args.tree.now.inner = c.len-most.ensures ∙ ap size (c.remaining.ensures ∙ c.iter-rest.ensures ∙ c.token_trees.ensures) in
-    let left : c.len.result ≡ size c.next.new.self = c.len.ensures ∙ ap size c.remaining-in-Some-end_alone.ensures in
+    let most : c.len-most.result ≡ size c.args.tree.now.inner = c.len-most.ensures.len ∙ ap size (c.remaining.ensures ∙ c.iter-rest.ensures ∙ c.token_trees.ensures) in
+    let left : c.len.result ≡ size c.next.new.self = c.len.ensures.len ∙ ap size c.remaining-in-Some-end_alone.ensures in
     let next = rw c.in-Leaf.is at c.in-Some.ensures.steps in
     let fits = fits_tail c.args.tree.now.inner c.loop-element.rest c.next.new.self c.in-Leaf.leaf c.loop-element.puts.items next c.loop-element.invariant in
     let ends : end_alone c.in-Leaf.leaf ≡ Some c.in-Some-end_alone.leaf = sym c.end_alone.ensures ∙ c.in-Some-end_alone.is in

@@ -11,7 +11,7 @@ pub invariant_of-self-2 : goal.invariant_of-self-2
 unfolding forest
 invariant_of-self-2 c =
     let tokens = c.self.inside.tokens.items in
-    let counts : c.len-2.result ≡ length c.args.tt.tokens.now = c.len-2.ensures ∙ size-whole c.args.tt.tokens.now c.args.tt.whole in
+    let counts : c.len-2.result ≡ length c.args.tt.tokens.now = c.len-2.ensures.len ∙ size-whole c.args.tt.tokens.now c.args.tt.whole in
     let fits : length (tokens ++ c.args.tt.tokens.now) ≤ 4294967296 =
     omega (arith, c.if-room-len.false, c.len.ensures, c.self.inside.tokens.ok.0, counts, length-append tokens c.args.tt.tokens.now, c.self.invariant.1) in
     let held = rw c.args.tt.whole at (IsHeld-append tokens (reverse c.self.inside.openings.items) (forest_of c.args.tt.tokens.now) c.self.invariant.0) in
@@ -30,16 +30,16 @@ returns-clause-ok c =
 pub returns-then-room-len-clause-tokens : goal.returns-then-room-len-clause-tokens
 returns-then-room-len-clause-tokens c =
     let all = counted _ _ c.self.invariant.0 in
-    (λ _. rw (← c.self.view_is) (omega (arith, all, c.if-room-len.true, c.len.ensures, c.len-2.ensures, c.self.inside.tokens.ok.0)), λ _. refl)
+    (λ _. rw (← c.self.view_is) (omega (arith, all, c.if-room-len.true, c.len.ensures, c.len-2.ensures.len, c.self.inside.tokens.ok.0)), λ _. refl)
 
 pub returns-in_default-clause-tokens : goal.returns-in_default-clause-tokens
 returns-in_default-clause-tokens c =
     let all = counted _ _ c.self.invariant.0 in
     rw (← c.self.view_is)
-    (room_for _ _ refl (omega (arith, all, c.if-room-len.false, c.len.ensures, c.len-2.ensures, c.self.inside.tokens.ok.0, c.self.invariant.1)))
+    (room_for _ _ refl (omega (arith, all, c.if-room-len.false, c.len.ensures, c.len-2.ensures.len, c.self.inside.tokens.ok.0, c.self.invariant.1)))
 
 pub returns-clause-tokens : goal.returns-clause-tokens
 returns-clause-tokens c =
     let all = counted _ _ c.self.invariant.0 in
     rw (← c.self.view_is)
-    (room_for _ _ refl (omega (arith, all, c.if-room-len.false, c.len.ensures, c.len-2.ensures, c.self.inside.tokens.ok.0, c.self.invariant.1)))
+    (room_for _ _ refl (omega (arith, all, c.if-room-len.false, c.len.ensures, c.len-2.ensures.len, c.self.inside.tokens.ok.0, c.self.invariant.1)))

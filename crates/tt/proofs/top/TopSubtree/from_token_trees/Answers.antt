@@ -12,7 +12,7 @@ unfolding forest
 all_is c =
     let tokens = c.args.token_trees.tokens.now in
     let counts : c.in-Ok.len ≡ length tokens =
-    c.in-Ok.ensures.1 ∙ (c.len.ensures ∙ size-whole tokens c.args.token_trees.whole) in
+    c.in-Ok.ensures.1 ∙ (c.len.ensures.len ∙ size-whole tokens c.args.token_trees.whole) in
     c.in-Ok-append_copies.ensures.ok
     ∙ ap (λ t. t ++ tokens) (c.in-Ok-push.ensures.items ∙ ap (λ t. t ++ head_of c.args.delimiter c.in-Ok.len ∷ []) c.new-tokens.ensures.items)
     ∙ ap (λ n. head_of c.args.delimiter n ∷ tokens) counts
@@ -21,7 +21,7 @@ pub invariant_of-result : goal.invariant_of-result
 unfolding forest
 invariant_of-result c =
     let tokens = c.args.token_trees.tokens.now in
-    let counts : c.in-Ok.len ≡ length tokens = c.in-Ok.ensures.1 ∙ (c.len.ensures ∙ size-whole tokens c.args.token_trees.whole) in
+    let counts : c.in-Ok.len ≡ length tokens = c.in-Ok.ensures.1 ∙ (c.len.ensures.len ∙ size-whole tokens c.args.token_trees.whole) in
     rw (all_is c) (grouped c.args.delimiter tokens c.args.token_trees.whole, omega (arith, counts))
 
 pub returns-clause-ok : goal.returns-clause-ok

@@ -4,6 +4,6 @@ use Rattle.tt_data.specs.Flat.{length-preorder}
 use Rattle.tt.specs.Views.{forest}
 use Rattle.tt.proofs.view.TokenTreesView.len.Goals as goal
 
-pub returns : goal.returns
+pub returns-clause-len : goal.returns-clause-len
 unfolding forest
-returns c = ap length (sym c.args.self.now.whole) ∙ length-preorder (forest_of c.args.self.now.tokens.now)
+returns-clause-len c = ap length (sym c.args.self.now.whole) ∙ length-preorder (forest_of c.args.self.now.tokens.now)

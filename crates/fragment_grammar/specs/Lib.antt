@@ -1,0 +1,2 @@
+-- what a grammar's answer is counted in
+pub mod Steps

@@ -1,0 +1,35 @@
+//! What a caller can prove of any grammar, and tests of the grammars.
+//!
+//! `behind_prefix` shows that the laws of a grammar suffice for a crate above: it goes as far as the
+//! grammar says, and needs no look at what is left.
+#![tactic(auto)]
+
+ghost use Rattle.std.specs.Prelude.{◌≡◌, length};
+ghost use Rattle.tt.specs.Places.{steps_before};
+ghost use Rattle.tt.specs.Views.{forest};
+ghost use Rattle.tt_data.specs.Forest.{shape};
+
+#[cfg(test)]
+mod tests;
+
+use fragment_grammar::{FragmentGrammar, PrefixEntryPoint};
+use tt::laws::walk_of_a_cursor;
+use tt::{Cursor, TokenTreesView};
+
+/// The place behind the steps that the grammar takes of a list.
+pub fn behind_prefix<'a, G: FragmentGrammar>(
+    grammar: &G,
+    entry: PrefixEntryPoint,
+    input: TokenTreesView<'a>,
+) -> Cursor<'a>
+    ensures { length (steps_before result) ≡ (G.answer grammar.now entry (shape (forest input.entry))).tokens }
+{
+    walk_of_a_cursor();
+    let mut left = grammar.prefix(entry, input).tokens;
+    let mut cursor = input.cursor();
+    while left > 0 {
+        cursor.bump_or_end();
+        left -= 1;
+    }
+    cursor
+}

@@ -1,0 +1,9 @@
+mod UnitLemmas
+mod TokenLemmas
+mod TakingLemmas
+mod ChoiceLemmas
+mod OperatorLemmas
+mod TypeLemmas
+mod PatternLemmas
+mod OutcomeLemmas
+mod Rows

@@ -1,0 +1,17 @@
+use Rattle.std.proofs.Common.{sym, ◌∙◌, arith}
+use Rattle.small_grammar.specs.Signs.{reference_sign}
+use Rattle.small_grammar.proofs.TakingLemmas.{shorter}
+use Rattle.small_grammar.proofs.PatternLemmas.{pattern_behind_reference}
+use Rattle.small_grammar.proofs.patterns.behind_references.Goals as goal
+
+pub loop-next-smaller : goal.loop-next-smaller
+loop-next-smaller c =
+    let s = shorter reference_sign c.loop-next.rest c.in-Some.next (sym c.reference_sign.ensures ∙ c.in-Some.is) in
+    omega (arith, s)
+
+pub loop-next-preserved : goal.loop-next-preserved
+loop-next-preserved c =
+    let fits = sym c.reference_sign.ensures ∙ c.in-Some.is in
+    let s = shorter reference_sign c.loop-next.rest c.in-Some.next fits in
+    let before = c.loop-next.invariant.1 in
+    (sym (pattern_behind_reference c.loop-next.rest c.in-Some.next fits) ∙ c.loop-next.invariant.0, omega (arith, s, before))

@@ -1,0 +1,15 @@
+-- what the contracts rest on, in reading order
+pub mod Text
+pub mod FirstTrees
+pub mod Units
+pub mod Tokens
+pub mod Expressions
+pub mod SmallGrammar
+pub mod Answer
+pub mod Outcomes
+-- that the answer keeps the laws of a grammar
+pub mod Passing
+pub mod Rules
+pub mod Laws
+-- what the functions inside the crate promise each other
+pub mod Signs

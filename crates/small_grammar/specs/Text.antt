@@ -1,0 +1,40 @@
+-- Words that the definitions share: texts, kinds of brackets, single characters.
+use Rattle.std.specs.Prelude.{ℕ, Bool, true, false, ◌&&◌, not, List, nat_eq, slice_index, codes}
+use Rattle.std.specs.Str.{bytes_eq}
+use Prim.Native.String.{String}
+use Rattle.tt_data.specs.Forest.{Forest, empty, leaf, group}
+use Rattle.tt_data.specs.declared.leaf.Ident.{Ident}
+use Rattle.tt_data.specs.declared.leaf.IdentIsRaw.TheVariants as is_raw
+use Rattle.tt_data.specs.declared.leaf.Leaf.{Leaf}
+use Rattle.tt_data.specs.declared.leaf.Leaf.TheVariants as as_leaf
+use Rattle.tt_data.specs.declared.leaf.Punct.{Punct}
+use Rattle.tt_data.specs.declared.leaf.Spacing.{Spacing}
+use Rattle.tt_data.specs.declared.leaf.Spacing.TheVariants.{Alone}
+use Rattle.tt_data.specs.declared.delimiter.DelimiterKind.{DelimiterKind}
+use Rattle.tt_data.specs.declared.delimiter.DelimiterKind.TheVariants.{Parenthesis, Brace, Bracket, Invisible}
+
+-- two texts are equal
+abbrev pub same_text : List ℕ → List ℕ → Bool
+same_text = bytes_eq
+
+-- two brackets are of one kind
+abbrev pub same_kind : DelimiterKind → DelimiterKind → Bool
+same_kind Parenthesis Parenthesis = true
+same_kind Brace Brace = true
+same_kind Bracket Bracket = true
+same_kind Invisible Invisible = true
+same_kind _ _ = false
+
+abbrev pub is_alone : Spacing → Bool
+is_alone Alone = true
+is_alone _ = false
+
+abbrev pub is_raw_name : Ident → Bool
+is_raw_name i = elim i.is_raw [ is_raw.No ↦ false | is_raw.Yes ↦ true ]
+
+-- the name has this text, and isn't raw
+abbrev pub has_text : List ℕ → Ident → Bool
+has_text word i = not (is_raw_name i) && same_text i.sym word
+
+abbrev pub is_word : String → Ident → Bool
+is_word word i = has_text (codes word) i

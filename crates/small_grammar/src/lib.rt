@@ -1,0 +1,18 @@
+//! A small grammar of Rust: how far an expression, a type, a pattern .. reaches at the beginning of a list of trees.
+//!
+//! `specs/SmallGrammar.antt` is the grammar, rule by rule, as parsing expressions; `specs/Outcomes.antt` says
+//! what such rules mean. Each function of the code is one rule or one alternative of a rule.
+#![tactic(auto)]
+
+mod expressions;
+mod first_trees;
+mod grammar;
+pub mod laws;
+mod names;
+mod operators;
+mod patterns;
+mod tokens;
+mod types;
+mod units;
+
+pub use grammar::SmallGrammar;

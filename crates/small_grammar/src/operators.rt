@@ -1,0 +1,92 @@
+// Operators whose puncts are glued, several at once.
+ghost use Rattle.std.specs.Prelude.{◌≡◌, ◌-◌};
+ghost use Rattle.small_grammar.specs.SmallGrammar.{takes, glued, binop};
+ghost use Rattle.small_grammar.specs.Tokens.{first_glued, is_operator};
+
+use crate::first_trees::first_punct;
+use crate::units::{Operator, operator_at};
+use tt::TtIter;
+
+// The operator at the beginning, and the trees behind it.
+fn first_glued<'a>(trees: &TtIter<'a>) -> Option<(Operator, TtIter<'a>)>
+    ensures { result ≡ first_glued trees.now }
+{
+    let (first, after) = first_punct(trees)?;
+    Some(operator_at(first, &after))
+}
+
+fn is_sign(operator: Operator) -> bool
+    ensures { result ≡ is_operator "- ! *" operator }
+{
+    matches!(operator, Operator::One('-' | '!' | '*'))
+}
+
+fn is_reference(operator: Operator) -> bool
+    ensures { result ≡ is_operator "& &&" operator }
+{
+    matches!(operator, Operator::One('&') | Operator::Two('&', '&'))
+}
+
+fn is_range(operator: Operator) -> bool
+    ensures { result ≡ is_operator "..= .." operator }
+{
+    matches!(
+        operator,
+        Operator::Two('.', '.') | Operator::Three('.', '.', '=')
+    )
+}
+
+fn is_binop(operator: Operator) -> bool
+    ensures { result ≡ is_operator "+ - * / % ^ & | && || << >> == != < > <= >= = += -= *= /= %= ^= &= |= <<= >>= .. ..=" operator }
+{
+    match operator {
+        Operator::One(first) => matches!(
+            first,
+            '+' | '-' | '*' | '/' | '%' | '^' | '&' | '|' | '<' | '>' | '='
+        ),
+        Operator::Two(first, '=') => matches!(
+            first,
+            '=' | '!' | '<' | '>' | '+' | '-' | '*' | '/' | '%' | '^' | '&' | '|'
+        ),
+        Operator::Two(first, second) => first == second
+            && matches!(first, '&' | '|' | '<' | '>' | '.'),
+        Operator::Three(first, second, '=') => first == second && matches!(first, '<' | '>' | '.'),
+        Operator::Three(_, _, _) => false,
+    }
+}
+
+/// `-`, `!` or `*`.
+pub(crate) fn sign<'a>(trees: &TtIter<'a>) -> Option<TtIter<'a>>
+    ensures { result ≡ takes (glued "- ! *") trees.now }
+{
+    let (operator, rest) = first_glued(trees)?;
+    if is_sign(operator) { Some(rest) } else { None }
+}
+
+/// `&` or `&&`.
+pub(crate) fn reference<'a>(trees: &TtIter<'a>) -> Option<TtIter<'a>>
+    ensures { result ≡ takes (glued "& &&") trees.now }
+{
+    let (operator, rest) = first_glued(trees)?;
+    if is_reference(operator) {
+        Some(rest)
+    } else {
+        None
+    }
+}
+
+/// `..=` or `..`.
+pub(crate) fn range<'a>(trees: &TtIter<'a>) -> Option<TtIter<'a>>
+    ensures { result ≡ takes (glued "..= ..") trees.now }
+{
+    let (operator, rest) = first_glued(trees)?;
+    if is_range(operator) { Some(rest) } else { None }
+}
+
+/// An operator between two operands.
+pub(crate) fn binop<'a>(trees: &TtIter<'a>) -> Option<TtIter<'a>>
+    ensures { result ≡ takes binop trees.now }
+{
+    let (operator, rest) = first_glued(trees)?;
+    if is_binop(operator) { Some(rest) } else { None }
+}
