@@ -5,10 +5,10 @@ use Rattle.tt_data.specs.Forest.{Forest, back}
 use Rattle.small_grammar.specs.declared.units.Operator.{Operator}
 use Rattle.small_grammar.proofs.ChoiceLemmas.{same_otherwise}
 use Rattle.small_grammar.specs.Expressions.{otherwise, token, never}
-use Rattle.small_grammar.specs.FirstTrees.{◌>>=◌, ◌>>◌}
 use Rattle.small_grammar.specs.SmallGrammar.{takes, spelled, one_of, glued}
 use Rattle.small_grammar.specs.Tokens.{operator_of, operator_where, same_operator, spells, is_one_of_words, is_operator, words, first_glued, token_at, operator}
 use Rattle.small_grammar.specs.Units.{first_operator, puncts_of}
+use Rattle.small_grammar.specs.Text.{◌>>=◌, ◌>>◌}
 
 none-passes : (f : Forest) (m : Option Operator) → None ≡ (m >>= λ op. false >> Some (back (puncts_of op) f))
 none-passes f None = refl

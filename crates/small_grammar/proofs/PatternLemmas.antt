@@ -15,11 +15,10 @@ use Rattle.small_grammar.proofs.ChoiceLemmas.{skip, alone, neither, both, or_sam
 use Rattle.small_grammar.proofs.OperatorLemmas.{one_of-is}
 use Rattle.small_grammar.proofs.TakingLemmas.{then_on, then_none}
 use Rattle.small_grammar.specs.Expressions.{a_pattern, Expression, ◌⨾◌, ◌∣◌, many, maybe, Taking, otherwise, after_rounds}
-use Rattle.small_grammar.specs.FirstTrees.{◌>>◌}
 use Rattle.small_grammar.specs.Rules.{rule-is}
 use Rattle.small_grammar.specs.Signs.{reference_sign, binding_sign, bare_pattern}
 use Rattle.small_grammar.specs.SmallGrammar.{takes, pat, pat_rule, num, path, name, literal, word, generics, glued, paren, brace, bracket, group as any_group}
-use Rattle.small_grammar.specs.Text.{has_text, is_raw_name}
+use Rattle.small_grammar.specs.Text.{has_text, is_raw_name, ◌>>◌}
 use Rattle.small_grammar.specs.Tokens.{token_at, is_name, is_among, reserved, path_words, is_operator, operator_where, words}
 use Rattle.small_grammar.specs.Units.{operator_at, puncts_of}
 

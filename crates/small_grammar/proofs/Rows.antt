@@ -7,7 +7,6 @@ use Rattle.std.specs.List.{prefix_len, list_any, starts_with}
 use Prim.Native.String.{String}
 use Rattle.tt_data.specs.Forest.{Forest, empty, leaf, group}
 use Rattle.tt_data.specs.Names.{ident_of}
-use Rattle.tt_data.specs.Literals.{literal_of}
 use Rattle.tt_data.specs.Spans.{no_span}
 use Rattle.tt_data.specs.declared.delimiter.DelimiterKind.{DelimiterKind}
 use Rattle.tt_data.specs.declared.delimiter.DelimiterKind.TheVariants.{Parenthesis, Brace, Bracket}
@@ -47,7 +46,7 @@ abbrev number : List ℕ → Leaf
 number cs =
     let n : ℕ = prefix_len is_inside cs in
     let m : ℕ = fraction_size (drop n cs) in
-    as_leaf.Literal (literal_of (take (n + m) cs) [] (if nat_eq m 0 then lit_kind.Integer else lit_kind.Float) no_span)
+    as_leaf.Literal (record { text = take (n + m) cs; suffix = []; kind = (if nat_eq m 0 then lit_kind.Integer else lit_kind.Float); span = no_span })
 
 abbrev number_size : List ℕ → ℕ
 number_size cs = (let n : ℕ = prefix_len is_inside cs in n + fraction_size (drop n cs))
@@ -95,7 +94,7 @@ read (suc n) (c ∷ cs) =
                         | true ↦
                             let size : ℕ = string_size (c ∷ cs) in
                             let rest : Forest × List ℕ = read n (drop size (c ∷ cs)) in
-                            (leaf (as_leaf.Literal (literal_of (take size (c ∷ cs)) [] lit_kind.Str no_span)) rest.0, rest.1)
+                            (leaf (as_leaf.Literal (record { text = take size (c ∷ cs); suffix = []; kind = lit_kind.Str; span = no_span })) rest.0, rest.1)
                         | false ↦
                             let rest : Forest × List ℕ = read n cs in
                             (leaf (punct (c ∷ cs)) rest.0, rest.1)

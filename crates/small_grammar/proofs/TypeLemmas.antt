@@ -7,11 +7,11 @@ use Rattle.tt_data.specs.declared.leaf.Punct.{Punct}
 use Rattle.small_grammar.proofs.ChoiceLemmas.{skip, alone, neither, both, two_parts, three_parts}
 use Rattle.small_grammar.proofs.TakingLemmas.{then_on, then_none}
 use Rattle.small_grammar.specs.Expressions.{a_type, Expression, ◌⨾◌, ◌∣◌, maybe, otherwise}
-use Rattle.small_grammar.specs.FirstTrees.{◌>>◌}
 use Rattle.small_grammar.specs.Rules.{rule-is}
 use Rattle.small_grammar.specs.Signs.{type_sign, bare_type}
 use Rattle.small_grammar.specs.SmallGrammar.{takes, type, type_rule, seg, tpath, bound, lifetime, arrow, single, word}
 use Rattle.small_grammar.specs.Tokens.{token_at, puncts}
+use Rattle.small_grammar.specs.Text.{◌>>◌}
 
 -- the signs, and each with a type behind it
 abbrev reference : Expression

@@ -17,8 +17,7 @@ use Rattle.fragment_grammar.specs.declared.fragment.Prefix.{Prefix}
 use Rattle.fragment_grammar.specs.declared.fragment.PrefixEntryPoint.{PrefixEntryPoint}
 use Rattle.fragment_grammar.specs.declared.fragment.PrefixEntryPoint.TheVariants.{Vis, Block, Stmt, Pat, PatTop, Ty, Expr, Path, Item, MetaItem}
 use Rattle.small_grammar.specs.declared.units.Operator.{Operator}
-use Rattle.small_grammar.specs.FirstTrees.{◌>>◌, is_empty}
-use Rattle.small_grammar.specs.Text.{is_alone}
+use Rattle.small_grammar.specs.Text.{is_alone, is_empty, ◌>>◌}
 use Rattle.small_grammar.specs.Units.{operator_at, puncts_of}
 use Rattle.small_grammar.specs.Tokens.{ident_where, literal_where, group_where, is_restriction, puncts_in_turn, operator_where, Token, a_word, a_name, an_identifier, a_literal, a_number, a_group, a_restriction, puncts, operator, token_at}
 use Rattle.small_grammar.specs.Expressions.{Name, Expression, never, token, ◌⨾◌, ◌∣◌, many, maybe, rule, Taking, otherwise, after_rounds, taken}

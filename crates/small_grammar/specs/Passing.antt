@@ -11,8 +11,7 @@ use Rattle.tt_data.specs.declared.leaf.Leaf.TheVariants as as_leaf
 use Rattle.tt_data.specs.declared.leaf.LitKind.{LitKind}
 use Rattle.small_grammar.specs.declared.units.Operator.{Operator}
 use Rattle.small_grammar.specs.declared.units.Operator.TheVariants.{One, Two, Three}
-use Rattle.small_grammar.specs.FirstTrees.{◌>>◌}
-use Rattle.small_grammar.specs.Text.{is_alone}
+use Rattle.small_grammar.specs.Text.{is_alone, ◌>>◌}
 use Rattle.small_grammar.specs.Units.{operator_at, puncts_of}
 use Rattle.small_grammar.specs.Tokens.{ident_where, literal_where, group_where, puncts_in_turn, operator_where, Token, a_word, a_name, an_identifier, a_literal, a_number, a_group, a_restriction, puncts, operator, token_at}
 use Rattle.small_grammar.specs.Expressions.{Name, Expression, never, token, ◌⨾◌, ◌∣◌, many, maybe, rule, Taking, one_after_other, otherwise, first_that_fits, once_where_it_fits, after_rounds, as_often_as_it_fits, taken}

@@ -1,8 +1,8 @@
--- Words that the definitions share: texts, kinds of brackets, single characters.
-use Rattle.std.specs.Prelude.{ℕ, Bool, true, false, ◌&&◌, not, List, nat_eq, slice_index, codes}
+-- Words that the definitions share: readings one after another, texts, kinds of brackets.
+use Rattle.std.specs.Prelude.{ℕ, Bool, true, false, ◌&&◌, not, List, codes, Option, Some, None, option_and_then, if◌then◌else◌}
 use Rattle.std.specs.Str.{bytes_eq}
 use Prim.Native.String.{String}
-use Rattle.tt_data.specs.Forest.{Forest, empty, leaf, group}
+use Rattle.tt_data.specs.Forest.{Forest, empty}
 use Rattle.tt_data.specs.declared.leaf.Ident.{Ident}
 use Rattle.tt_data.specs.declared.leaf.IdentIsRaw.TheVariants as is_raw
 use Rattle.tt_data.specs.declared.leaf.Leaf.{Leaf}
@@ -12,6 +12,20 @@ use Rattle.tt_data.specs.declared.leaf.Spacing.{Spacing}
 use Rattle.tt_data.specs.declared.leaf.Spacing.TheVariants.{Alone}
 use Rattle.tt_data.specs.declared.delimiter.DelimiterKind.{DelimiterKind}
 use Rattle.tt_data.specs.declared.delimiter.DelimiterKind.TheVariants.{Parenthesis, Brace, Bracket, Invisible}
+
+-- one step of a reading after another; none where a step gives none
+infixl 10 ◌>>=◌
+abbrev pub ◌>>=◌ : {A B : Type 0} → Option A → (A → Option B) → Option B
+o >>= f = option_and_then f o
+
+-- the rest of a reading, where a test holds
+infixl 10 ◌>>◌
+abbrev pub ◌>>◌ : {B : Type 0} → Bool → Option B → Option B
+test >> rest = if test then rest else None
+
+abbrev pub is_empty : Forest → Bool
+is_empty empty = true
+is_empty _ = false
 
 -- two texts are equal
 abbrev pub same_text : List ℕ → List ℕ → Bool

@@ -9,8 +9,8 @@ use Rattle.tt_data.specs.declared.leaf.Spacing.{Spacing}
 use Rattle.tt_data.specs.declared.leaf.Spacing.TheVariants.{Joint}
 use Rattle.small_grammar.specs.declared.units.Operator.{Operator}
 use Rattle.small_grammar.specs.declared.units.Operator.TheVariants.{One, Two, Three}
-use Rattle.small_grammar.specs.FirstTrees.{first_punct}
 use Rattle.small_grammar.specs.Text.{is_alone}
+use Rattle.tt.specs.FirstTrees.{first_punct}
 
 -- the character is one of these
 abbrev pub is_one_of : String → ℕ → Bool

@@ -3,7 +3,7 @@ ghost use Rattle.std.specs.Prelude.{◌≡◌, Some};
 ghost use Rattle.small_grammar.specs.Expressions.{◌⨾◌, ◌∣◌, many, maybe};
 ghost use Rattle.small_grammar.specs.SmallGrammar.{takes, path, post, atom, operand, binop, expr, name, literal, number, brace, group, generics, type, word, glued};
 
-use crate::first_trees::again;
+use crate::copies::again;
 use crate::names::name;
 use crate::operators::{binop, reference, sign};
 use crate::tokens::{glued, group, group_of, literal, number, word};

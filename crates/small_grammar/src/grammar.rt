@@ -5,8 +5,8 @@ ghost use Rattle.small_grammar.specs.Expressions.{◌⨾◌, ◌∣◌, maybe};
 ghost use Rattle.small_grammar.specs.Laws.{shape-within, shape-takes};
 ghost use Rattle.small_grammar.specs.SmallGrammar.{takes, vis, meta_item, group, glued, expr};
 
+use crate::copies::again;
 use crate::expressions::{expr, path};
-use crate::first_trees::again;
 use crate::names::restriction;
 use crate::patterns::{pat, pat_top};
 use crate::tokens::{glued, group, group_of, word};

@@ -4,8 +4,8 @@
 //! what such rules mean. Each function of the code is one rule or one alternative of a rule.
 #![tactic(auto)]
 
+mod copies;
 mod expressions;
-mod first_trees;
 mod grammar;
 pub mod laws;
 mod names;

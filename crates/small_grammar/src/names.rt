@@ -2,33 +2,36 @@
 ghost use Rattle.std.specs.Prelude.{◌≡◌, codes};
 ghost use Rattle.std.specs.List.{list_any};
 ghost use Rattle.small_grammar.specs.Text.{same_text};
-ghost use Rattle.small_grammar.specs.FirstTrees.{first_ident};
 ghost use Rattle.small_grammar.specs.Tokens.{token_at, a_name, a_restriction, is_name, is_among, reserved, path_words, words, is_place};
+ghost use Rattle.tt.specs.FirstTrees.{first_ident};
 
-use crate::first_trees::{first_group, first_ident};
 use tt::TtIter;
 use tt_data::delimiter::DelimiterKind;
 use tt_data::leaf::{Ident, IdentIsRaw};
 
-const FIRST_RESERVED: [&str; 13] = [
-    "as", "break", "const", "continue", "crate", "else", "enum", "extern", "false", "fn", "for",
-    "if", "impl",
+// The words that are reserved, by how many bytes they have.
+const OF_TWO: [&str; 5] = ["as", "fn", "if", "in", "do"];
+
+const OF_THREE: [&str; 11] = [
+    "for", "let", "mod", "mut", "pub", "ref", "use", "dyn", "box", "try", "gen",
 ];
 
-const SECOND_RESERVED: [&str; 13] = [
-    "in", "let", "loop", "match", "mod", "move", "mut", "pub", "ref", "return", "self", "Self",
-    "static",
+const OF_FOUR: [&str; 10] = [
+    "else", "enum", "impl", "loop", "move", "self", "Self", "true", "type", "priv",
 ];
 
-const THIRD_RESERVED: [&str; 13] = [
-    "struct", "super", "trait", "true", "type", "unsafe", "use", "where", "while", "async",
-    "await", "dyn", "abstract",
+const OF_FIVE: [&str; 14] = [
+    "break", "const", "crate", "false", "match", "super", "trait", "where", "while", "async",
+    "await", "final", "macro", "yield",
 ];
 
-const FOURTH_RESERVED: [&str; 13] = [
-    "become", "box", "do", "final", "macro", "override", "priv", "typeof", "unsized", "virtual",
-    "yield", "try", "gen",
+const OF_SIX: [&str; 7] = [
+    "extern", "return", "static", "struct", "unsafe", "become", "typeof",
 ];
+
+const OF_SEVEN: [&str; 2] = ["unsized", "virtual"];
+
+const OF_EIGHT: [&str; 3] = ["continue", "abstract", "override"];
 
 const PATH_WORDS: [&str; 4] = ["self", "Self", "super", "crate"];
 
@@ -44,41 +47,69 @@ fn is_among(texts: &[&str], text: &str) -> bool
     false
 }
 
-fn is_first_reserved(text: &str) -> bool
-    ensures { result ≡ is_among (words (codes "as break const continue crate else enum extern false fn for if impl")) text.now }
+fn is_of_two(text: &str) -> bool
+    ensures { result ≡ is_among (words (codes "as fn if in do")) text.now }
 {
-    let words: [&str; 13] = FIRST_RESERVED;
+    let words: [&str; 5] = OF_TWO;
     is_among(words.as_slice(), text)
 }
 
-fn is_second_reserved(text: &str) -> bool
-    ensures { result ≡ is_among (words (codes "in let loop match mod move mut pub ref return self Self static")) text.now }
+fn is_of_three(text: &str) -> bool
+    ensures { result ≡ is_among (words (codes "for let mod mut pub ref use dyn box try gen")) text.now }
 {
-    let words: [&str; 13] = SECOND_RESERVED;
+    let words: [&str; 11] = OF_THREE;
     is_among(words.as_slice(), text)
 }
 
-fn is_third_reserved(text: &str) -> bool
-    ensures { result ≡ is_among (words (codes "struct super trait true type unsafe use where while async await dyn abstract")) text.now }
+fn is_of_four(text: &str) -> bool
+    ensures { result ≡ is_among (words (codes "else enum impl loop move self Self true type priv")) text.now }
 {
-    let words: [&str; 13] = THIRD_RESERVED;
+    let words: [&str; 10] = OF_FOUR;
     is_among(words.as_slice(), text)
 }
 
-fn is_fourth_reserved(text: &str) -> bool
-    ensures { result ≡ is_among (words (codes "become box do final macro override priv typeof unsized virtual yield try gen")) text.now }
+fn is_of_five(text: &str) -> bool
+    ensures { result ≡ is_among (words (codes "break const crate false match super trait where while async await final macro yield")) text.now }
 {
-    let words: [&str; 13] = FOURTH_RESERVED;
+    let words: [&str; 14] = OF_FIVE;
     is_among(words.as_slice(), text)
 }
 
+fn is_of_six(text: &str) -> bool
+    ensures { result ≡ is_among (words (codes "extern return static struct unsafe become typeof")) text.now }
+{
+    let words: [&str; 7] = OF_SIX;
+    is_among(words.as_slice(), text)
+}
+
+fn is_of_seven(text: &str) -> bool
+    ensures { result ≡ is_among (words (codes "unsized virtual")) text.now }
+{
+    let words: [&str; 2] = OF_SEVEN;
+    is_among(words.as_slice(), text)
+}
+
+fn is_of_eight(text: &str) -> bool
+    ensures { result ≡ is_among (words (codes "continue abstract override")) text.now }
+{
+    let words: [&str; 3] = OF_EIGHT;
+    is_among(words.as_slice(), text)
+}
+
+// Whether the text is reserved: only words of as many bytes are looked at.
 fn is_reserved(text: &str) -> bool
     ensures { result ≡ is_among reserved text.now }
 {
-    is_first_reserved(text)
-        || is_second_reserved(text)
-        || is_third_reserved(text)
-        || is_fourth_reserved(text)
+    match text.len() {
+        2 => is_of_two(text),
+        3 => is_of_three(text),
+        4 => is_of_four(text),
+        5 => is_of_five(text),
+        6 => is_of_six(text),
+        7 => is_of_seven(text),
+        8 => is_of_eight(text),
+        _ => false,
+    }
 }
 
 fn is_path_word(text: &str) -> bool
@@ -101,7 +132,7 @@ fn is_name(ident: &Ident) -> bool
 pub(crate) fn name<'a>(trees: &TtIter<'a>) -> Option<TtIter<'a>>
     ensures { result ≡ token_at a_name trees.now }
 {
-    let (ident, rest) = first_ident(trees)?;
+    let (ident, rest) = trees.first_ident()?;
     if is_name(&ident) { Some(rest) } else { None }
 }
 
@@ -109,7 +140,7 @@ pub(crate) fn name<'a>(trees: &TtIter<'a>) -> Option<TtIter<'a>>
 fn is_place(trees: &TtIter<'_>) -> bool
     ensures { result ≡ is_place (first_ident trees.now) }
 {
-    let Some((ident, rest)) = first_ident(trees) else {
+    let Some((ident, rest)) = trees.first_ident() else {
         return false;
     };
     if ident.is_raw == IdentIsRaw::Yes {
@@ -124,7 +155,7 @@ fn is_place(trees: &TtIter<'_>) -> bool
 pub(crate) fn restriction<'a>(trees: &TtIter<'a>) -> Option<TtIter<'a>>
     ensures { result ≡ token_at a_restriction trees.now }
 {
-    let (delimiter, inner, rest) = first_group(trees)?;
+    let (delimiter, inner, rest) = trees.first_group()?;
     if delimiter.kind == DelimiterKind::Parenthesis && is_place(&inner) {
         Some(rest)
     } else {

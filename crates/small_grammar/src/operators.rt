@@ -3,7 +3,6 @@ ghost use Rattle.std.specs.Prelude.{◌≡◌, ◌-◌};
 ghost use Rattle.small_grammar.specs.SmallGrammar.{takes, glued, binop};
 ghost use Rattle.small_grammar.specs.Tokens.{first_glued, is_operator};
 
-use crate::first_trees::first_punct;
 use crate::units::{Operator, operator_at};
 use tt::TtIter;
 
@@ -11,7 +10,7 @@ use tt::TtIter;
 fn first_glued<'a>(trees: &TtIter<'a>) -> Option<(Operator, TtIter<'a>)>
     ensures { result ≡ first_glued trees.now }
 {
-    let (first, after) = first_punct(trees)?;
+    let (first, after) = trees.first_punct()?;
     Some(operator_at(first, &after))
 }
 

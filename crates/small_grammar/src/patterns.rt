@@ -5,8 +5,8 @@ ghost use Rattle.small_grammar.specs.Expressions.{◌⨾◌, ◌∣◌, many, ma
 ghost use Rattle.small_grammar.specs.Signs.{reference_sign, binding_sign, bare_pattern};
 ghost use Rattle.small_grammar.specs.SmallGrammar.{takes, pat, pat_top, num, name, word, paren, brace, bracket, group, glued, path};
 
+use crate::copies::again;
 use crate::expressions::{call, path};
-use crate::first_trees::again;
 use crate::names::name;
 use crate::operators::{range, reference};
 use crate::tokens::{glued, group_of, literal, word};

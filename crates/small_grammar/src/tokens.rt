@@ -1,23 +1,19 @@
 // Single tokens at the beginning of a list: each function answers the trees behind the token, or none.
 ghost use Rattle.std.specs.Prelude.{◌≡◌, [], ◌∷◌};
-ghost use Rattle.std.specs.List.{list_any};
-ghost use Rattle.small_grammar.specs.Expressions.{◌∣◌};
-ghost use Rattle.small_grammar.specs.SmallGrammar.{takes, group, lifetime, single};
-ghost use Rattle.small_grammar.specs.Text.{same_text};
-ghost use Rattle.small_grammar.specs.Tokens.{token_at, a_word, a_name, an_identifier, a_literal, a_number, a_group, a_restriction, puncts, operator, is_name, is_among, reserved, path_words, is_restriction, first_literal, same_operator};
+ghost use Rattle.small_grammar.specs.SmallGrammar.{takes, group, lifetime};
+ghost use Rattle.small_grammar.specs.Tokens.{token_at, a_word, an_identifier, a_literal, a_number, a_group, puncts, operator, same_operator};
 
-use crate::first_trees::{again, first_group, first_ident, first_punct};
 use crate::units::{Operator, operator_at};
-use tt::{TtElement, TtIter};
+use tt::TtIter;
 use tt_data::delimiter::DelimiterKind;
-use tt_data::leaf::{Ident, IdentIsRaw, Leaf, LitKind, Spacing};
+use tt_data::leaf::{IdentIsRaw, LitKind, Spacing};
 
 /// An identifier of this text that isn't raw.
 #[tactic(auto, unfolding(crate::specs::Tokens::token_at))]
 pub(crate) fn word<'a>(trees: &TtIter<'a>, text: &str) -> Option<TtIter<'a>>
     ensures { result ≡ token_at (a_word text.now) trees.now }
 {
-    let (ident, rest) = first_ident(trees)?;
+    let (ident, rest) = trees.first_ident()?;
     if ident.is_raw == IdentIsRaw::No && ident.sym.as_str() == text {
         Some(rest)
     } else {
@@ -30,19 +26,8 @@ pub(crate) fn word<'a>(trees: &TtIter<'a>, text: &str) -> Option<TtIter<'a>>
 pub(crate) fn identifier<'a>(trees: &TtIter<'a>) -> Option<TtIter<'a>>
     ensures { result ≡ token_at an_identifier trees.now }
 {
-    let (_, rest) = first_ident(trees)?;
+    let (_, rest) = trees.first_ident()?;
     Some(rest)
-}
-
-// The kind of a literal, and the trees behind it.
-fn first_literal<'a>(trees: &TtIter<'a>) -> Option<(LitKind, TtIter<'a>)>
-    ensures { result ≡ first_literal trees.now }
-{
-    let mut rest = again(trees);
-    match rest.next()? {
-        TtElement::Leaf(Leaf::Literal(literal)) => Some((literal.kind(), rest)),
-        _ => None,
-    }
 }
 
 /// A literal of any kind.
@@ -50,7 +35,7 @@ fn first_literal<'a>(trees: &TtIter<'a>) -> Option<(LitKind, TtIter<'a>)>
 pub(crate) fn literal<'a>(trees: &TtIter<'a>) -> Option<TtIter<'a>>
     ensures { result ≡ token_at a_literal trees.now }
 {
-    let (_, rest) = first_literal(trees)?;
+    let (_, rest) = trees.first_literal()?;
     Some(rest)
 }
 
@@ -59,7 +44,7 @@ pub(crate) fn literal<'a>(trees: &TtIter<'a>) -> Option<TtIter<'a>>
 pub(crate) fn number<'a>(trees: &TtIter<'a>) -> Option<TtIter<'a>>
     ensures { result ≡ token_at a_number trees.now }
 {
-    let (kind, rest) = first_literal(trees)?;
+    let (kind, rest) = trees.first_literal()?;
     match kind {
         LitKind::Integer | LitKind::Float => Some(rest),
         _ => None,
@@ -71,7 +56,7 @@ pub(crate) fn number<'a>(trees: &TtIter<'a>) -> Option<TtIter<'a>>
 pub(crate) fn group_of<'a>(trees: &TtIter<'a>, kind: DelimiterKind) -> Option<TtIter<'a>>
     ensures { result ≡ token_at (a_group kind) trees.now }
 {
-    let (delimiter, _, rest) = first_group(trees)?;
+    let (delimiter, _, rest) = trees.first_group()?;
     if kind == delimiter.kind {
         Some(rest)
     } else {
@@ -84,7 +69,7 @@ pub(crate) fn group_of<'a>(trees: &TtIter<'a>, kind: DelimiterKind) -> Option<Tt
 pub(crate) fn group<'a>(trees: &TtIter<'a>) -> Option<TtIter<'a>>
     ensures { result ≡ takes group trees.now }
 {
-    let (delimiter, _, rest) = first_group(trees)?;
+    let (delimiter, _, rest) = trees.first_group()?;
     match delimiter.kind {
         DelimiterKind::Invisible => None,
         _ => Some(rest),
@@ -96,7 +81,7 @@ pub(crate) fn group<'a>(trees: &TtIter<'a>) -> Option<TtIter<'a>>
 pub(crate) fn punct<'a>(trees: &TtIter<'a>, char: char) -> Option<TtIter<'a>>
     ensures { result ≡ token_at (puncts (char ∷ [])) trees.now }
 {
-    let (punct, rest) = first_punct(trees)?;
+    let (punct, rest) = trees.first_punct()?;
     if punct.char == char { Some(rest) } else { None }
 }
 
@@ -105,11 +90,11 @@ pub(crate) fn punct<'a>(trees: &TtIter<'a>, char: char) -> Option<TtIter<'a>>
 pub(crate) fn two_puncts<'a>(trees: &TtIter<'a>, first: char, second: char) -> Option<TtIter<'a>>
     ensures { result ≡ token_at (puncts (first ∷ second ∷ [])) trees.now }
 {
-    let (punct, rest) = first_punct(trees)?;
+    let (punct, rest) = trees.first_punct()?;
     if punct.char != first || punct.spacing == Spacing::Alone {
         return None;
     }
-    let (punct, rest) = first_punct(&rest)?;
+    let (punct, rest) = rest.first_punct()?;
     if punct.char == second {
         Some(rest)
     } else {
@@ -137,7 +122,7 @@ fn same_operator(first: Operator, second: Operator) -> bool
 pub(crate) fn glued<'a>(trees: &TtIter<'a>, wanted: Operator) -> Option<TtIter<'a>>
     ensures { result ≡ token_at (operator wanted) trees.now }
 {
-    let (first, after) = first_punct(trees)?;
+    let (first, after) = trees.first_punct()?;
     let (found, rest) = operator_at(first, &after);
     if same_operator(wanted, found) {
         Some(rest)

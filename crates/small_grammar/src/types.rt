@@ -5,7 +5,7 @@ ghost use Rattle.small_grammar.specs.Expressions.{◌⨾◌, ◌∣◌, many, ma
 ghost use Rattle.small_grammar.specs.Signs.{type_sign, bare_type};
 ghost use Rattle.small_grammar.specs.SmallGrammar.{takes, type, arrow, arg, generics, seg, tpath, bound, lifetime, name, literal, group, paren, bracket, single, word};
 
-use crate::first_trees::again;
+use crate::copies::again;
 use crate::names::name;
 use crate::tokens::{group, group_of, lifetime, literal, punct, two_puncts, word};
 use tt::TtIter;

@@ -1,6 +1,7 @@
 -- what the public contracts rest on
 pub mod Views
 pub mod Elements
+pub mod FirstTrees
 pub mod Tops
 pub mod Places
 pub mod Splitting

@@ -8,6 +8,7 @@
 pub mod buffer;
 pub mod builder;
 pub mod display;
+mod first_trees;
 pub mod flat;
 pub mod iter;
 pub mod laws;
