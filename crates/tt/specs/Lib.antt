@@ -12,3 +12,4 @@ pub mod Texts
 pub mod BuilderTokens
 pub mod CursorTokens
 pub mod Styles
+pub mod Walking
