@@ -1,7 +1,7 @@
 -- A rewriting walk, step by step: what is left of it, and what it has made so far.
-use Rattle.std.proofs.Common.{◌≡◌, ℕ, ◌+◌, ◌*◌, ◌≤◌, List, [], ◌∷◌, ◌++◌, length, reverse, ap, refl, sym, subst, ◌∙◌, arith, append_assoc, append-nil, Some, None}
+use Rattle.std.proofs.Common.{◌≡◌, ℕ, ◌+◌, ◌*◌, ◌<◌, ◌≤◌, List, [], ◌∷◌, ◌++◌, length, reverse, ap, refl, sym, subst, ◌∙◌, arith, append_assoc, append-nil, Some, None}
 use Rattle.std.specs.List.{All}
-use Rattle.std.specs.Prelude.{Bool, true, false, is_none, Option, Result, Ok, Err, IfOk, IfErr}
+use Rattle.std.specs.Prelude.{Bool, true, false, if◌then◌else◌, is_none, Option, Result, Ok, Err, IfOk, IfErr}
 use Rattle.std.specs.Result.{IsErrAnd}
 use Rattle.tt_data.specs.fault.TtFault.{TtFault}
 use Rattle.std.proofs.lemmas.List.Elements.{All-nil, All-cons, All-append}
@@ -24,6 +24,7 @@ use Rattle.tt.specs.declared.transform.TransformTtAction.TheVariants.{Keep, Repl
 use Rattle.tt.specs.declared.view.TokenTreesView.{TokenTreesView}
 use Rattle.tt.specs.Building.{Building, Opened, closed, closed_in, count_in, count_of}
 use Rattle.tt.specs.Tops.{Top, forest_of_top, only_group}
+use Rattle.tt.specs.Walking.{Standing, LeavesGroup, entered}
 use Rattle.tt.specs.Rewriting.{Call, IsAnswered, IsRewritten, IsStarted, IsRemoval, with_answer, nothing, leaf_stays, leaf_gives_way, group_stays, group_gives_way}
 
 abbrev pub kept_leaf : Leaf → Call
@@ -206,6 +207,9 @@ least trees calls left around groups here tied way =
 abbrev pub IsAt : Forest → Delimiter → List Call → Forest → List Around → Building → Type 0
 IsAt trees top calls left around b = (b.top ≡ top) × (length around ≡ length b.groups) × IsUnderWay trees calls left around b.groups b.here
 
+abbrev pub Stands : Forest → Delimiter → List Call → Standing → Type 0
+Stands trees top calls s = IsAt trees top calls s.left s.around s.tree
+
 module _ (trees : Forest) (top : Delimiter) (calls : List Call) where
   pub least_at : (left : Forest) (around : List Around) (b : Building) → IsAt trees top calls left around b → Least trees calls (count_of b)
   least_at left around b (same, tied, way) = least trees calls left around b.groups b.here tied way
@@ -252,13 +256,14 @@ module _ (trees : Forest) (top : Delimiter) (calls : List Call) where
       group_after c is len at =
           subst (λ t. IsAfter (is_none c.put) (record { token = t; put = c.put })) (sym is) (group_asked c.put (ap (λ n. head_of s.delimiter n) len) at)
 
-      pub group_entered : (c : Call) → c.token ≡ token.Subtree s → true ≡ is_none c.put → s.len ≡ size inner → IsAt trees top calls (group s.delimiter inner rest) around b
-          → IsAt trees top (calls ++ c ∷ []) inner outside (with_answer c b)
-      group_entered c is none len at = subst (λ o. IsAfter o c) (sym none) (group_after c is len at)
+      chosen : (o : Bool) (c : Call) → IsAfter o c
+          → Stands trees top (calls ++ c ∷ []) (if o then record { tree = with_answer c b; left = inner; around = outside } else record { tree = with_answer c b; left = rest; around = around })
+      chosen true c at = at
+      chosen false c at = at
 
-      pub group_passed : (c : Call) → c.token ≡ token.Subtree s → false ≡ is_none c.put → s.len ≡ size inner → IsAt trees top calls (group s.delimiter inner rest) around b
-          → IsAt trees top (calls ++ c ∷ []) rest around (with_answer c b)
-      group_passed c is some len at = subst (λ o. IsAfter o c) (sym some) (group_after c is len at)
+      pub stands_entered : (c : Call) → c.token ≡ token.Subtree s → s.len ≡ size inner → IsAt trees top calls (group s.delimiter inner rest) around b
+          → Stands trees top (calls ++ c ∷ []) (entered c s inner (record { tree = b; left = rest; around = around }))
+      stands_entered c is len at = chosen (is_none c.put) c (group_after c is len at)
 
       least_of : (c : Call) (o : Bool) → IsAfter o c → Least trees (calls ++ c ∷ []) (count_of (with_answer c b))
       least_of c true (same, tied, way) = least trees (calls ++ c ∷ []) inner outside (with_answer c b).groups (with_answer c b).here tied way
@@ -281,6 +286,12 @@ module _ (trees : Forest) (top : Delimiter) (calls : List Call) where
         all_made trees calls b.here
         (subst (λ o. IsUnderWay trees calls empty [] o b.here) bare (subst (λ o. IsUnderWay trees calls empty o b.groups b.here) last (subst (λ f. IsUnderWay trees calls f around b.groups b.here) none way)))
 
+  -- the same of a step that leaves the innermost group
+  pub stands_left : (s t : Standing) → s.left ≡ empty → LeavesGroup s t → Stands trees top calls s → Stands trees top calls t
+  stands_left s t none (a, last, rest, tree) at =
+      subst (λ b. IsAt trees top calls t.left t.around b) (sym tree)
+      (subst (λ f. IsAt trees top calls f t.around (closed s.tree a.close_span)) (sym rest) (closed_at s.left s.around s.tree a t.around none last at))
+
 -- the groups around, the innermost first, where the vector has it last
 pub stacked : (xs ys : List Around) (a : Around) → ys ≡ xs ++ a ∷ [] → reverse ys ≡ a ∷ reverse xs
 stacked xs ys a is = ap reverse is ∙ reverse-append xs (a ∷ [])
@@ -289,6 +300,25 @@ stacked xs ys a is = ap reverse is ∙ reverse-append xs (a ∷ [])
 abbrev pub steps_in : List Around → ℕ
 steps_in [] = 0
 steps_in (a ∷ outer) = 1 + 2 * size a.rest + steps_in outer
+
+-- what is left of a walk: each step makes it less
+abbrev pub work_of : Standing → ℕ
+work_of s = 2 * size s.left + steps_in s.around
+
+work_inside : (o : Bool) (tree : Building) (inner rest : Forest) (a : Around) (around : List Around) → a.rest ≡ rest
+    → work_of (if o then record { tree = tree; left = inner; around = a ∷ around } else record { tree = tree; left = rest; around = around })
+    < 2 * (1 + (size inner + size rest)) + steps_in around
+work_inside true tree inner rest a around is = omega (arith, ap size is)
+work_inside false tree inner rest a around is = omega arith
+
+pub work_entered : (c : Call) (head : Subtree) (inner before : Forest) (s : Standing) → before ≡ group head.delimiter inner s.left
+    → work_of (entered c head inner s) < 2 * size before + steps_in s.around
+work_entered c head inner before s first =
+    let less = work_inside (is_none c.put) (with_answer c s.tree) inner s.left (record { close_span = head.delimiter.close_span; rest = s.left }) s.around refl in
+    rw first less
+
+pub work_left : (s t : Standing) → LeavesGroup s t → work_of t < work_of s
+work_left s t (a, last, rest, tree) = omega (arith, ap size rest, ap steps_in last)
 
 -- a fault that is handed on is the one that came
 pub handed : {A B : Type 0} (r : Result A TtFault) (came : TtFault) {fault : TtFault} → IsErrAnd r (λ e. e ≡ came) → r ≡ Err fault

@@ -13,3 +13,4 @@ pub mod Texts
 pub mod BuilderTokens
 pub mod CursorTokens
 pub mod Styles
+pub mod Walking

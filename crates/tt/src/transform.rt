@@ -1,5 +1,5 @@
 //! Trees that are rewritten token by token.
-ghost use Rattle.std.specs.Prelude.{◌≡◌, ◌<◌, ◌⊎◌, List, Err, Some, None, is_none, IfOk, IfErr, OnOk, OnErr};
+ghost use Rattle.std.specs.Prelude.{◌≡◌, ◌<◌, ◌⊎◌, List, [], length, true, false, Err, Some, None, is_none, IfOk, IfErr, OnOk, OnErr};
 ghost use Rattle.std.specs.List.{FoldsTo};
 ghost use Rattle.tt_data.specs.Forest.{Forest, empty, size};
 ghost use Rattle.tt_data.specs.fault.TtFault.TheVariants as fault;
@@ -7,12 +7,14 @@ ghost use Rattle.tt_data.specs.declared.tree.TokenTree.TheVariants as token;
 ghost use Rattle.tt.specs.Building.{count_of, most_tokens};
 ghost use Rattle.tt.specs.Rewriting.{Call, IsAnswered, IsRewritten, IsStarted, LeavesOneGroup, replacement, with_answer};
 ghost use Rattle.tt.specs.Tops.{Top, forest_of_top, only_group};
+ghost use Rattle.tt.specs.Walking.{LeavesGroup, entered, standing};
 
 use crate::builder::TopSubtreeBuilder;
 use crate::iter::{TtElement, TtIter};
 use crate::top::TopSubtree;
 use crate::view::TokenTreesView;
 use std::alloc::Global;
+use std::mem::replace;
 use tt_data::delimiter::Delimiter;
 use tt_data::fault::TtFault;
 use tt_data::leaf::Leaf;
@@ -146,6 +148,59 @@ fn put_head<'b, F: FnMut(&TokenTree) -> TransformTtAction<'b>>(
     }
 }
 
+// A walk that rewrites trees.
+#[derive(Drop)]
+struct Walk<'a> {
+    tree: TopSubtreeBuilder,
+    // The trees left in the innermost group that stays.
+    left: TtIter<'a>,
+    // The groups around that one, the innermost last.
+    outer: Vec<Around<'a>>,
+}
+
+// Asks about a group that was passed. Where it stays, the walk goes on inside it.
+fn enter<'a, 'b, F: FnMut(&TokenTree) -> TransformTtAction<'b>>(
+    walk: &mut Walk<'a>,
+    head: Subtree,
+    inside: TtIter<'a>,
+    callback: &mut F,
+) -> Result<(), TtFault>
+    requires { F.IsAlwaysCallable callback.old }
+    ensures callable { F.IsAlwaysCallable callback.new }
+    ensures ok { OnOk result ((c : Call) × (c.token ≡ token.Subtree head) × IsAnswered F.FnMut callback.old c callback.new
+        × (standing walk.new ≡ entered c head inside.entry (standing walk.old))) }
+    ensures tokens { result ≡ Err fault.Tokens → (c : Call) × (c.token ≡ token.Subtree head) × IsAnswered F.FnMut callback.old c callback.new
+        × (most_tokens < count_of (with_answer c walk.old.tree.tree)) }
+    ensures faults { IfErr result (λ e. (e ≡ fault.Memory) ⊎ (e ≡ fault.Tokens)) }
+{
+    if put_head(&mut walk.tree, head, callback)? {
+        let around = Around {
+            close_span: head.delimiter.close_span,
+            rest: replace(&mut walk.left, inside),
+        };
+        let Ok(()) = walk.outer.push(around) else {
+            return Err(TtFault::Memory);
+        };
+    }
+    Ok(())
+}
+
+// Closes the innermost group, after whose trees the walk is: whether there is one.
+fn leave(walk: &mut Walk<'_>) -> bool
+    requires { length walk.old.outer.items ≡ length walk.old.tree.tree.groups }
+    ensures left { result ≡ true → LeavesGroup (standing walk.old) (standing walk.new) }
+    ensures over { result ≡ false → (walk.old.outer.items ≡ []) × (walk.new.tree ≡ walk.old.tree) }
+{
+    let Some(around) = walk.outer.pop() else {
+        return false;
+    };
+    let Ok(()) = walk.tree.close(around.close_span) else {
+        unreachable!()
+    };
+    walk.left = around.rest;
+    true
+}
+
 // The tree with these brackets and what the callback makes of these trees inside.
 fn rewritten<'b, F: FnMut(&TokenTree) -> TransformTtAction<'b>>(
     alloc: Global,
@@ -160,34 +215,25 @@ fn rewritten<'b, F: FnMut(&TokenTree) -> TransformTtAction<'b>>(
         × FoldsTo (IsAnswered F.FnMut) callback calls last × IsStarted trees.entry calls g × (most_tokens < size g) }
     ensures faults { IfErr result (λ e. (e ≡ fault.Memory) ⊎ (e ≡ fault.Tokens)) }
 {
-    let mut tree = TopSubtreeBuilder::new(alloc, top)?;
-    let mut outer: Vec<Around<'_>> = Vec::new(alloc);
-    let mut left = trees;
-    'walk: loop {
-        match left.next() {
-            Some(TtElement::Leaf(leaf)) => put_leaf(&mut tree, leaf, &mut callback)?,
+    let mut walk = Walk {
+        tree: TopSubtreeBuilder::new(alloc, top)?,
+        left: trees,
+        outer: Vec::new(alloc),
+    };
+    'turns: loop {
+        match walk.left.next() {
+            Some(TtElement::Leaf(leaf)) => put_leaf(&mut walk.tree, leaf, &mut callback)?,
             Some(TtElement::Subtree(head, inside)) => {
-                if put_head(&mut tree, head, &mut callback)? {
-                    let around = Around {
-                        close_span: head.delimiter.close_span,
-                        rest: left,
-                    };
-                    let Ok(()) = outer.push(around) else {
-                        return Err(TtFault::Memory);
-                    };
-                    left = inside;
+                enter(&mut walk, head, inside, &mut callback)?;
+            }
+            None => {
+                if !leave(&mut walk) {
+                    break;
                 }
             }
-            None => match outer.pop() {
-                Some(around) => {
-                    tree.close(around.close_span)?;
-                    left = around.rest;
-                }
-                None => break,
-            },
         }
     }
-    let Ok(tree) = tree.build() else {
+    let Ok(tree) = walk.tree.build() else {
         unreachable!()
     };
     Ok(tree)

@@ -6,11 +6,11 @@ use Rattle.tt.proofs.RewritingLemmas.{IsAt, steps_in}
 use Rattle.tt.proofs.transform.rewritten.Given as goal
 
 -- the calls so far, and what is left of the walk, make the whole of it
-abbrev pub invariant-walk : goal.invariant-walk
-invariant-walk g l =
+abbrev pub invariant-turns : goal.invariant-turns
+invariant-turns g l =
     goal.F-IsAlwaysCallable g l.callback
     × ((calls : List Call) × FoldsTo (IsAnswered g.F.FnMut) l.fn.callback calls l.callback
-    × IsAt l.fn.trees l.fn.top calls l.left (reverse l.outer.items) l.tree.tree)
+    × IsAt l.fn.trees l.fn.top calls l.walk.left (reverse l.walk.outer.items) l.walk.tree.tree)
 
-abbrev pub decreases-walk : goal.decreases-walk
-decreases-walk g l = 2 * size l.left + steps_in (reverse l.outer.items)
+abbrev pub decreases-turns : goal.decreases-turns
+decreases-turns g l = 2 * size l.walk.left + steps_in (reverse l.walk.outer.items)

@@ -1,0 +1,29 @@
+-- Where a walk that rewrites trees stands, and what a step of it does.
+use Rattle.std.specs.Prelude.{◌≡◌, List, ◌∷◌, reverse, is_none, if◌then◌else◌}
+use Rattle.tt_data.specs.declared.tree.Subtree.{Subtree}
+use Rattle.tt_data.specs.Forest.{Forest}
+use Rattle.tt.specs.declared.transform.Around.{Around}
+use Rattle.tt.specs.declared.transform.Walk.{Walk}
+use Rattle.tt.specs.Building.{Building, closed}
+use Rattle.tt.specs.Rewriting.{Call, with_answer}
+
+-- the tree so far, the trees left in the innermost group, and the groups around it, the innermost first
+pub record Standing : Type 0 where
+  pub tree : Building
+  pub left : Forest
+  pub around : List Around
+
+-- the same of the code's walk
+abbrev pub standing : Walk → Standing
+standing w = record { tree = w.tree.tree; left = w.left; around = reverse w.outer.items }
+
+-- the callback was asked about a group with these trees inside, which was passed: the walk goes on inside it where it stays, and else after it
+abbrev pub entered : Call → Subtree → Forest → Standing → Standing
+entered c head inside s =
+    if is_none c.put
+    then record { tree = with_answer c s.tree; left = inside; around = record { close_span = head.delimiter.close_span; rest = s.left } ∷ s.around }
+    else record { tree = with_answer c s.tree; left = s.left; around = s.around }
+
+-- the innermost group is closed, and the walk goes on after it
+abbrev pub LeavesGroup : Standing → Standing → Type 0
+LeavesGroup s t = (a : Around) × (s.around ≡ a ∷ t.around) × (t.left ≡ a.rest) × (t.tree ≡ closed s.tree a.close_span)
