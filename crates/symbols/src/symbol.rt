@@ -8,8 +8,6 @@ ghost use Rattle.std.proofs.Common.{rules};
 ghost use Rattle.std.specs.String.{string_bytes};
 
 pub(crate) mod shared;
-#[cfg(test)]
-mod tests;
 
 use crate::symbol::shared::{Bare, Block, Shared};
 use std::alloc::{AllocError, Global};
