@@ -5,7 +5,7 @@ use Rattle.std.specs.Result.{IsErrAnd}
 use Rattle.tt.specs.Building.{Building, pushed, opened, count_of, most_tokens}
 use Rattle.tt_data.specs.Forest.{Forest, empty, leaf, group, size}
 use Rattle.tt_data.specs.declared.delimiter.Delimiter.{Delimiter}
-use Rattle.tt_data.specs.declared.fault.TtFault.{TtFault}
+use Rattle.tt_data.specs.fault.TtFault.{TtFault}
 use Rattle.tt_data.specs.declared.leaf.Leaf.{Leaf}
 use Rattle.tt_data.specs.declared.span.Span.{Span}
 use Rattle.expander.proofs.CuttingLemmas.{size-joined}

@@ -70,7 +70,7 @@ abbrev pub same_leaf : Leaf → Leaf → Bool
 same_leaf (as_leaf.Ident i) (as_leaf.Ident j) = same_text i.sym j.sym && (same_raw i.is_raw j.is_raw && same_span i.span j.span)
 same_leaf (as_leaf.Punct p) (as_leaf.Punct q) = nat_eq p.char q.char && (same_spacing p.spacing q.spacing && same_span p.span q.span)
 same_leaf (as_leaf.Literal l) (as_leaf.Literal m) =
-    same_literal_kind l.kind m.kind && (same_text l.text_and_suffix m.text_and_suffix && (nat_eq l.suffix_len m.suffix_len && same_span l.span m.span))
+    same_literal_kind l.kind m.kind && (same_text l.text m.text && (same_text l.suffix m.suffix && same_span l.span m.span))
 same_leaf _ _ = false
 
 abbrev pub same_forest : Forest → Forest → Bool

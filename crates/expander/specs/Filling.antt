@@ -1,8 +1,8 @@
 -- A tree under construction, to which more trees are added.
 use Rattle.std.specs.Prelude.{◌≡◌, ◌<◌, ◌+◌, ◌⊎◌, Option, Some, None}
 use Rattle.tt.specs.Building.{Building, count_of, most_tokens}
-use Rattle.tt_data.specs.declared.fault.TtFault.TheVariants.{Memory, Tokens}
-use Rattle.tt_data.specs.declared.fault.TtFault.{TtFault}
+use Rattle.tt_data.specs.fault.TtFault.TheVariants.{Memory, Tokens}
+use Rattle.tt_data.specs.fault.TtFault.{TtFault}
 use Rattle.tt_data.specs.Forest.{Forest, joined, size}
 
 -- with these trees more

@@ -1,6 +1,6 @@
 -- Why there is no reply.
-use Rattle.tt_data.specs.declared.fault.TtFault.{TtFault}
-use Rattle.tt_data.specs.declared.fault.TtFault.TheVariants as fault
+use Rattle.tt_data.specs.fault.TtFault.{TtFault}
+use Rattle.tt_data.specs.fault.TtFault.TheVariants as fault
 use Rattle.expander.specs.declared.session.Refusal.{Refusal}
 use Rattle.expander.specs.declared.session.Refusal.TheVariants.{Memory, Tokens}
 

@@ -4,7 +4,7 @@ ghost use Rattle.expander.specs.Names.{IsWithin};
 
 use crate::names::Names;
 use std::alloc::{AllocError, Global};
-use tt::view::TtIter;
+use tt::iter::TtIter;
 use tt_data::symbol::Symbol;
 
 /// The trees that each variable took last.

@@ -4,7 +4,7 @@ ghost use Rattle.expander.specs.Calls.{is_colons};
 ghost use Rattle.expander.specs.CallSteps.{bare_call, call_behind_colons, crate_call, call_at};
 
 use crate::first_trees::{first_group, first_ident, first_punct};
-use tt::view::TtIter;
+use tt::iter::TtIter;
 use tt_data::delimiter::DelimiterKind;
 use tt_data::leaf::{Ident, Punct, Spacing};
 

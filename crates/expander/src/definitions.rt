@@ -4,7 +4,7 @@ ghost use Rattle.expander.specs.Definitions.{after_attribute, after_attributes, 
 ghost use Rattle.expander.specs.Text.{has_text};
 
 use crate::first_trees::{again, first_group, first_ident, first_punct};
-use tt::view::TtIter;
+use tt::iter::TtIter;
 use tt_data::delimiter::{Delimiter, DelimiterKind};
 use tt_data::leaf::{Ident, IdentIsRaw};
 

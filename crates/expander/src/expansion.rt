@@ -26,7 +26,7 @@ use crate::pieces::next_piece;
 use crate::scope::{Known, Scope};
 use crate::substitution::first_fit;
 use std::alloc::{AllocError, Global};
-use tt::view::TtIter;
+use tt::iter::TtIter;
 use tt_data::fault::TtFault;
 use tt_data::span::Span;
 

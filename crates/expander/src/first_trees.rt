@@ -2,7 +2,7 @@
 ghost use Rattle.std.specs.Prelude.{◌≡◌};
 ghost use Rattle.expander.specs.FirstTrees.{first_ident, first_punct, first_group};
 
-use tt::view::{TtElement, TtIter};
+use tt::iter::{TtElement, TtIter};
 use tt_data::delimiter::Delimiter;
 use tt_data::leaf::{Ident, Leaf, Punct};
 

@@ -9,7 +9,7 @@ use crate::first_trees::{again, first_group, first_ident, first_punct};
 use crate::rules::{FragmentKind, variable_after};
 use crate::units::{Operator, operator_at};
 use std::alloc::{AllocError, Global};
-use tt::view::{TtElement, TtIter};
+use tt::iter::{TtElement, TtIter};
 use tt_data::leaf::Leaf;
 
 fn same_operator(first: Operator, second: Operator) -> bool

@@ -6,7 +6,7 @@ ghost use Rattle.expander.specs.OutputSteps.{step_of, steps_of_output};
 
 use crate::first_trees::again;
 use std::alloc::AllocError;
-use tt::view::{TtElement, TtIter};
+use tt::iter::{TtElement, TtIter};
 use tt_data::delimiter::DelimiterKind;
 use tt_data::leaf::Leaf;
 use tt_data::span::Span;

@@ -6,7 +6,7 @@ ghost use Rattle.expander.specs.Text.{is_punct};
 ghost use Rattle.expander.specs.Cutting.{CutsOff, PassesTree};
 
 use crate::first_trees::first_punct;
-use tt::view::{TtElement, TtIter};
+use tt::iter::{TtElement, TtIter};
 use tt_data::delimiter::{Delimiter, DelimiterKind};
 use tt_data::leaf::Leaf;
 

@@ -7,7 +7,7 @@ use crate::first_trees::{again, first_group, first_ident, first_punct};
 use crate::pieces::ends_statement;
 use crate::units::operator_at;
 use std::alloc::{AllocError, Global};
-use tt::view::{TtElement, TtIter};
+use tt::iter::{TtElement, TtIter};
 use tt_data::leaf::{Ident, Leaf};
 use tt_data::symbol::Symbol;
 

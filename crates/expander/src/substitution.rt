@@ -14,11 +14,11 @@ use crate::matching::fit;
 use crate::rules::{Rule, name_after};
 use std::alloc::Global;
 use tt::builder::TopSubtreeBuilder;
+use tt::iter::{TtElement, TtIter};
 use tt::top::TopSubtree;
-use tt::view::{TtElement, TtIter};
 use tt_data::delimiter::Delimiter;
 use tt_data::fault::TtFault;
-use tt_data::leaf::{Ident, IdentIsRaw, Leaf, Literal, Punct, Spacing};
+use tt_data::leaf::{Ident, IdentIsRaw, Leaf, Punct, Spacing};
 use tt_data::span::{Span, SyntaxContext, TextRange};
 use tt_data::symbol::Symbol;
 
@@ -46,19 +46,8 @@ fn made_leaf(leaf: Leaf) -> Leaf
             Leaf::Ident(Ident { sym, span, is_raw })
         }
         Leaf::Literal(literal) => {
-            let Literal {
-                text_and_suffix,
-                suffix_len,
-                kind,
-                span,
-            } = literal;
-            let span = made(span);
-            Leaf::Literal(Literal {
-                text_and_suffix,
-                suffix_len,
-                kind,
-                span,
-            })
+            let span = made(literal.span());
+            Leaf::Literal(literal.with_span(span))
         }
     }
 }

@@ -5,7 +5,7 @@ ghost use Rattle.expander.specs.Units.{is_two, is_three, is_pair, is_triple, ope
 ghost use Rattle.expander.specs.ThinFit.{same_operator};
 
 use crate::first_trees::{again, first_punct};
-use tt::view::TtIter;
+use tt::iter::TtIter;
 use tt_data::leaf::{Punct, Spacing};
 
 /// One punct, or two or three that are glued to one operator.

@@ -1,14 +1,17 @@
 //! Shared text. The clauses see a `Symbol` as the list of its text's bytes.
-ghost use Rattle.std.specs.Prelude.{◌≡◌, ℕ, List, IfOk, ⊤, nat_eq};
+ghost use Rattle.std.specs.Fmt.{debug_str};
+ghost use Rattle.std.specs.Prelude.{◌≡◌, ℕ, List, IfOk, IsOkUnless, ⊤, nat_eq};
 ghost use Rattle.std.specs.Hash as fed;
 ghost use Rattle.std.specs.Cmp.Lexicographic.{pointwise, nat_list_eq_equiv};
 ghost use Rattle.std.specs.Cmp.{partial_equiv_from_equiv};
 ghost use Rattle.std.specs.Cmp.Rules.{hashing};
 ghost use Rattle.std.proofs.Common.{rules};
 ghost use Rattle.std.specs.String.{string_bytes};
+ghost use Rattle.symbols.specs.declared.fault.TtFault.TheVariants as fault;
 
 pub(crate) mod shared;
 
+use crate::fault::TtFault;
 use crate::symbol::shared::{Bare, Block, Shared};
 use std::alloc::{AllocError, Global};
 use std::fmt;
@@ -35,12 +38,15 @@ impl Symbol {
     ///
     /// # Errors
     ///
-    /// `AllocError` if `alloc` has no room for one of them.
-    pub fn new(alloc: Global, text: &str) -> Result<Symbol, AllocError>
-        ensures { IfOk result (λ s. s ≡ text.now) }
+    /// `Memory` if `alloc` has no room for one of them. It is the only error.
+    pub fn new(alloc: Global, text: &str) -> Result<Symbol, TtFault>
+        ensures text { IfOk result (λ s. s ≡ text.now) }
+        ensures memory { IsOkUnless result fault.Memory }
     {
         let value = String::from_str(alloc, text)?;
-        let block = Box::new(alloc, Block { owners: 1, value })?;
+        let Ok(block) = Box::new(alloc, Block { owners: 1, value }) else {
+            return Err(TtFault::Memory);
+        };
         let owner = Shared::first(Bare::of(block));
         Ok(Symbol { owner, alloc })
     }
@@ -105,6 +111,8 @@ impl Hash for Symbol {
 }
 
 impl fmt::Debug for Symbol {
+    ghost debug_output = { debug_str };
+
     /// Writes the text as `str` does, in quotes.
     fn fmt<W: fmt::Write>(&self, f: &mut fmt::Formatter<W>) -> fmt::Result {
         fmt::Debug::fmt(self.as_str(), f)

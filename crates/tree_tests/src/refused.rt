@@ -59,7 +59,7 @@ fn read_again(alloc: Global, tree: &TopSubtree) -> Result<TopSubtree, TtFault> {
             return Err(TtFault::Memory);
         };
     }
-    match TopSubtree::from_serialized(tokens) {
+    match TopSubtree::from_serialized(alloc, tokens) {
         Ok(tree) => Ok(tree),
         Err((_, fault)) => Err(fault),
     }
@@ -69,7 +69,7 @@ fn read_again(alloc: Global, tree: &TopSubtree) -> Result<TopSubtree, TtFault> {
 fn copies(alloc: Global, tree: &TopSubtree) -> Result<bool, TtFault> {
     let top = tree.top_subtree().delimiter;
     Ok(
-        tree.try_clone()? == *tree
+        tree.try_clone(alloc)? == *tree
             && read_again(alloc, tree)? == *tree
             && TopSubtree::from_subtree(alloc, tree.view())? == *tree
             && TopSubtree::from_token_trees(alloc, top, tree.token_trees())? == *tree,
@@ -119,8 +119,8 @@ fn changed(alloc: Global, tree: &mut TopSubtree, before: &TopSubtree) -> Result<
         Err(TtFault::Memory) if *tree == *before => rewrite(alloc, tree, before.token_trees())?,
         answer => answer?,
     }
-    match tree.set_token(2, punct('?', 3)) {
-        Err(TtFault::Memory) => tree.set_token(2, punct('?', 3)),
+    match tree.set_token(alloc, 2, punct('?', 3)) {
+        Err(TtFault::Memory) => tree.set_token(alloc, 2, punct('?', 3)),
         answer => answer,
     }
 }

@@ -9,12 +9,12 @@ use tt_data::TtFault;
 
 // Takes the second token away, and puts these trees in place of the fourth. The top is the first.
 pub(crate) fn rewrite(
-    _alloc: Global,
+    alloc: Global,
     tree: &mut TopSubtree,
     put: TokenTreesView<'_>,
 ) -> Result<(), TtFault> {
     let mut asked = 0u8;
-    transform_tt(tree, |_token| {
+    transform_tt(alloc, tree, |_token| {
         asked = asked.wrapping_add(1);
         match asked {
             2 => TransformTtAction::remove(),

@@ -3,8 +3,8 @@ use Rattle.std.proofs.Common.{◌≡◌, ◌↔◌, ℕ, ◌+◌, ◌<◌, ◌�
 use Rattle.std.proofs.lemmas.List.{length-drop, length-take}
 use Rattle.tt_data.specs.Forest.{IsPreorder, forest_of, size}
 use Rattle.tt_data.specs.Flat.{length-preorder}
-use Rattle.tt_data.specs.declared.fault.TtFault.{TtFault}
-use Rattle.tt_data.specs.declared.fault.TtFault.TheVariants as fault
+use Rattle.tt_data.specs.fault.TtFault.{TtFault}
+use Rattle.tt_data.specs.fault.TtFault.TheVariants as fault
 use Rattle.tt_data.specs.declared.tree.TokenTree.{TokenTree}
 use Rattle.tt.specs.declared.builder.Opening.{Opening}
 use Rattle.tt.specs.Building.{count_in, most_tokens}

@@ -3,7 +3,7 @@ use Rattle.std.proofs.Common.{◌≡◌, ℕ, ◌+◌, ◌*◌, ◌≤◌, List,
 use Rattle.std.specs.List.{All}
 use Rattle.std.specs.Prelude.{Bool, true, false, is_none, Option, Result, Ok, Err, IfOk, IfErr}
 use Rattle.std.specs.Result.{IsErrAnd}
-use Rattle.tt_data.specs.declared.fault.TtFault.{TtFault}
+use Rattle.tt_data.specs.fault.TtFault.{TtFault}
 use Rattle.std.proofs.lemmas.List.Elements.{All-nil, All-cons, All-append}
 use Rattle.std.proofs.lemmas.List.{reverse-append}
 use Rattle.tt_data.specs.declared.delimiter.Delimiter.{Delimiter}

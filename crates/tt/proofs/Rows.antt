@@ -436,11 +436,20 @@ displayed_group : displayed_text trees ≡ codes "a (,) b"
 unfolding lib.Utf8.encode
 displayed_group = refl
 
--- an invisible group has no brackets, and its spaces are those of a group
+-- invisible brackets are no tokens: `a`, `b c` and nothing between such brackets, and `d`
 displayed_invisible :
     displayed_text (leaf (name (codes "a") 0) (group top (leaf (name (codes "b") 1) (leaf (name (codes "c") 2) empty)) (group top empty (leaf (name (codes "d") 3) empty))))
-    ≡ codes "a b c  d"
+    ≡ codes "a b c d"
 displayed_invisible = refl
+
+-- `a`, nothing between invisible brackets, `b`, a joined `,`, nothing between such brackets, and `c`
+displayed_nothing_between :
+    displayed_text
+    (leaf (name (codes "a") 0)
+    (group top empty (leaf (name (codes "b") 1) (leaf (as_leaf.Punct (record { char = 44; spacing = Joint; span = at 2 })) (group top empty (leaf (name (codes "c") 3) empty))))))
+    ≡ codes "a b ,c"
+unfolding lib.Utf8.encode
+displayed_nothing_between = refl
 
 nothing_displayed : displayed_text empty ≡ []
 nothing_displayed = refl

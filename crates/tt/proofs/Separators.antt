@@ -1,8 +1,9 @@
 -- A list of trees is walked up to its first separator.
 --     Passing      the trees passed so far have no separator, and what is asked of all trees is asked of those that are left
 --     nothing_passed, passes, is_passed, ends_at, ends_all      at the beginning;  behind a tree that is none;  by whatever means they are known;  at a separator;  where no tree is left
-use Rattle.std.proofs.Common.{◌≡◌, refl, sym, ap, ◌∙◌, Bool, true, false, Option, Some, None, if◌then◌else◌, ◌<◌, ◌+◌, ℕ, List, [], ◌∷◌, length, cond, option_map, arith}
+use Rattle.std.proofs.Common.{◌≡◌, refl, sym, ap, ◌∙◌, Bool, true, false, Option, Some, None, if◌then◌else◌, ◌<◌, ◌+◌, ℕ, List, [], ◌∷◌, ◌++◌, subst, length, cond, option_map, arith}
 use Rattle.std.specs.List.{count_by}
+use Rattle.std.proofs.lemmas.Fn.{FoldsTo-push}
 use Rattle.std.proofs.lemmas.List.Sums.{sum_by-cons}
 use Rattle.std.specs.Option.{unwrap_or}
 use Rattle.std.specs.Fn.{Mut, Called, AlwaysReturns}
@@ -11,7 +12,7 @@ use Rattle.tt_data.proofs.ForestLemmas.{joined_assoc, size-joined}
 use Rattle.tt.specs.declared.iter.TtElement.{TtElement}
 use Rattle.tt.specs.declared.iter.TtElement.TheVariants as element
 use Rattle.tt.specs.Elements.{IsNext, elements}
-use Rattle.tt.specs.Splitting.{begun, until_separator, behind_separator, pieces_between, IsCut, Judges, Cuts}
+use Rattle.tt.specs.Splitting.{begun, until_separator, behind_separator, pieces_between, IsCut, Judges, Cuts, Refuses}
 use Rattle.tt.proofs.Steps.{joined-left}
 
 -- a closure that always answers so answers so now, and always from then on
@@ -32,6 +33,14 @@ alone (element.Subtree s inner) = group s.delimiter inner empty
 next_is : (t : TtElement) (f g : Forest) → IsNext f (Some t) g → f ≡ joined (alone t) g
 next_is (element.Leaf l) f g next = next
 next_is (element.Subtree s inner) f g next = next.0
+
+elements_pushed : (piece : Forest) (t : TtElement) (f g : Forest) → IsNext f (Some t) g → elements (joined piece (alone t)) ≡ elements piece ++ t ∷ []
+elements_pushed empty (element.Leaf l) f g next = refl
+elements_pushed empty (element.Subtree s inner) f g next =
+    ap (λ n. element.Subtree (record { delimiter = s.delimiter; len = n }) inner ∷ []) (sym next.1)
+elements_pushed (leaf l rest) t f g next = ap (λ ts. element.Leaf l ∷ ts) (elements_pushed rest t f g next)
+elements_pushed (group d inner rest) t f g next =
+    ap (λ ts. element.Subtree (record { delimiter = d; len = size inner }) inner ∷ ts) (elements_pushed rest t f g next)
 
 module _ (p : TtElement → Bool) where
   -- a tree that is no separator, and one that is
@@ -54,11 +63,12 @@ module _ (p : TtElement → Bool) where
 module _ {F : Type 0} (g : Mut F (TtElement × Unit {0}) Bool) where
   pub record Passing (all : Forest) (before : F) (passed rest : Forest) (test : F) : Type 0 where
     pub all_is : all ≡ joined passed rest
+    pub asked : Refuses g before passed test
     pub same : (p : TtElement → Bool) → Judges g p before
         → Judges g p test × (until_separator p all ≡ joined passed (until_separator p rest)) × (behind_separator p all ≡ behind_separator p rest)
 
   pub nothing_passed : (all : Forest) (test : F) → Passing all test empty all test
-  nothing_passed all test = record { all_is = refl; same = λ p h. (h, refl, refl) }
+  nothing_passed all test = record { all_is = refl; asked = refl; same = λ p h. (h, refl, refl) }
 
   pub is_passed : (all passed piece rest : Forest) (before test : F) → Passing all before passed rest test → all ≡ joined piece rest
       → Passing all before piece rest test
@@ -68,6 +78,9 @@ module _ {F : Type 0} (g : Mut F (TtElement × Unit {0}) Bool) where
       → IsNext rest (Some t) new → Called g test (t, tt) r after → r ≡ false → Passing all before (joined piece (alone t)) new after
   passes all piece rest new t before test after r so next called other = record {
     all_is = so.all_is ∙ ap (joined piece) (next_is t rest new next) ∙ sym (joined_assoc piece (alone t) new);
+    asked = rw (elements_pushed piece t rest new next)
+        (FoldsTo-push (λ (q : F) (t : TtElement) (q' : F). Called g q (t, tt) false q') before (elements piece) test t after so.asked
+        (subst (λ b. Called g test (t, tt) b after) other called));
     same = λ p h.
         let s = so.same p h in
         let told = answers_next g (λ a r. r ≡ p a.0) test (t, tt) r after called s.0 in
@@ -79,6 +92,7 @@ module _ {F : Type 0} (g : Mut F (TtElement × Unit {0}) Bool) where
       → IsNext rest (Some t) new → Called g test (t, tt) r after → r ≡ true → Cuts g all before piece (Some new) after
   ends_at all piece rest new t before test after r so next called picked = (
     (rest, t, so.all_is, next),
+    (rest, t, test, so.all_is, next, so.asked, subst (λ b. Called g test (t, tt) b after) picked called),
     λ p h.
         let s = so.same p h in
         let told = answers_next g (λ a r. r ≡ p a.0) test (t, tt) r after called s.0 in
@@ -90,6 +104,7 @@ module _ {F : Type 0} (g : Mut F (TtElement × Unit {0}) Bool) where
   ends_all all piece rest before test so none =
       let done : Passing all before piece empty test = rw (sym none) so in (
         done.all_is ∙ joined_empty piece,
+        (done.all_is ∙ joined_empty piece, done.asked),
         λ p h.
             let s = done.same p h in (s.0, sym (s.1 ∙ joined_empty piece), sym s.2),
       )

@@ -1,6 +1,7 @@
 -- The pieces of a list of trees, between the trees that a test picks out.
 use Rattle.std.specs.Prelude.{◌≡◌, Bool, true, false, List, [], ◌∷◌, Option, Some, None, option_map, MatchOption, ◌+◌, if◌then◌else◌}
-use Rattle.std.specs.Fn.{Mut, AlwaysReturns}
+use Rattle.std.specs.Fn.{Mut, Called, AlwaysReturns}
+use Rattle.std.specs.List.{FoldsTo}
 use Rattle.std.specs.Iterator.{Count, at_most}
 use Rattle.std.specs.Option.{unwrap_or}
 use Rattle.tt_data.specs.Forest.{Forest, empty, leaf, group, joined, size}
@@ -8,7 +9,7 @@ use Rattle.tt.specs.declared.iter.TtElement.{TtElement}
 use Rattle.tt.specs.declared.iter.TtElement.TheVariants as element
 use Rattle.tt.specs.declared.split.Split.{Split}
 use Rattle.tt.specs.declared.view.TokenTreesView.{TokenTreesView}
-use Rattle.tt.specs.Elements.{IsNext}
+use Rattle.tt.specs.Elements.{IsNext, elements}
 use Rattle.tt.specs.Views.{forest}
 
 -- a piece that a tree begins, unless the tree is a separator
@@ -49,10 +50,20 @@ module _ {F : Type 0} (g : Mut F (TtElement × Unit {0}) Bool) where
   abbrev pub Judges : (TtElement → Bool) → F → Type 0
   Judges p = AlwaysReturns g (λ a r. r ≡ p a.0)
 
+  -- a test was asked about each of these trees, in order, and was false of all
+  abbrev pub Refuses : F → Forest → F → Type 0
+  Refuses test f after = FoldsTo (λ (q : F) (t : TtElement) (q' : F). Called g q (t, tt) false q') test (elements f) after
+
+  -- and then it was true of the tree behind them, where any are left
+  abbrev pub IsAsked : Forest → F → Forest → Option Forest → F → Type 0
+  IsAsked f test piece None after = (f ≡ piece) × Refuses test piece after
+  IsAsked f test piece (Some more) after =
+      (at : Forest) × (t : TtElement) × (mid : F) × (f ≡ joined piece at) × IsNext at (Some t) more × Refuses test piece mid × Called g mid (t, tt) true after
+
   -- trees were cut at the first for which a test was true: where the test judges by p, at the first separator
   abbrev pub Cuts : Forest → F → Forest → Option Forest → F → Type 0
   Cuts f test piece more after =
-      IsCut f piece more × ((p : TtElement → Bool) → Judges p test
+      IsCut f piece more × IsAsked f test piece more after × ((p : TtElement → Bool) → Judges p test
       → Judges p after × (piece ≡ until_separator p f) × (more ≡ behind_separator p f))
 
   -- a call of `next` gave the piece up to the first separator, or all that was left, and then no more is left

@@ -1,9 +1,11 @@
--- The two ways of printing, as the code names them.
-use Rattle.std.specs.Prelude.{ℕ, List, [], Bool, codes, if◌then◌else◌}
+-- The two ways of printing, as the code names them, and what it carries along.
+use Rattle.std.specs.Prelude.{ℕ, List, [], ◌∷◌, Bool, codes, if◌then◌else◌}
 use Rattle.tt_data.specs.declared.leaf.Spacing.{Spacing}
 use Rattle.tt.specs.declared.display.Style.{Style}
 use Rattle.tt.specs.declared.display.Style.TheVariants.{Displayed, Pretty}
-use Rattle.tt.specs.Texts.{touches_displayed, touches_pretty}
+use Rattle.tt_data.specs.Walk.{Step, at_leaf, opens, closes}
+use Rattle.tt_data.specs.declared.delimiter.DelimiterKind.TheVariants.{Invisible}
+use Rattle.tt.specs.Texts.{touches_displayed, touches_pretty, space_after}
 
 -- which puncts touch what follows
 abbrev pub touches_in : Style → Spacing → Bool
@@ -13,3 +15,12 @@ touches_in Pretty = touches_pretty
 -- a space, or nothing
 abbrev pub space_if : Bool → List ℕ
 space_if spaced = if spaced then codes " " else []
+
+-- what stands before a token behind these steps, with this before their own first: the same where they have no token
+abbrev pub space_behind : (Spacing → Bool) → List ℕ → List Step → List ℕ
+space_behind touches space [] = space
+space_behind touches space (at_leaf l ∷ more) = space_behind touches (space_after touches l) more
+space_behind touches space (opens Invisible at ∷ more) = space_behind touches space more
+space_behind touches space (opens kind at ∷ more) = space_behind touches [] more
+space_behind touches space (closes Invisible at ∷ more) = space_behind touches space more
+space_behind touches space (closes kind at ∷ more) = space_behind touches (codes " ") more

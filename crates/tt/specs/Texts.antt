@@ -1,5 +1,5 @@
 -- The text of a list of trees: its tokens, with spaces between them.
-use Rattle.std.specs.Prelude.{ℕ, List, [], ◌++◌, Bool, true, false, codes, if◌then◌else◌}
+use Rattle.std.specs.Prelude.{ℕ, List, [], ◌∷◌, ◌++◌, Bool, true, false, codes, if◌then◌else◌}
 use Rattle.tt_data.specs.declared.delimiter.DelimiterKind.{DelimiterKind}
 use Rattle.tt_data.specs.declared.delimiter.DelimiterKind.TheVariants.{Parenthesis, Brace, Bracket, Invisible}
 use Rattle.tt_data.specs.declared.leaf.Leaf.{Leaf}
@@ -7,7 +7,8 @@ use Rattle.tt_data.specs.declared.leaf.Leaf.TheVariants as as_leaf
 use Rattle.tt_data.specs.declared.leaf.Spacing.{Spacing}
 use Rattle.tt_data.specs.declared.leaf.Spacing.TheVariants.{Alone, Joint, JointHidden}
 use Rattle.tt_data.specs.Displayed.{displayed_leaf}
-use Rattle.tt_data.specs.Forest.{Forest, empty, leaf, group}
+use Rattle.tt_data.specs.Forest.{Forest}
+use Rattle.tt_data.specs.Walk.{Step, at_leaf, opens, closes, walk}
 
 -- the bracket that opens a group of this sort, and the one that closes it
 abbrev pub opening_text : DelimiterKind → List ℕ
@@ -35,22 +36,24 @@ touches_pretty Joint = true
 touches_pretty JointHidden = false
 
 module _ (touches : Spacing → Bool) where
-  -- what stands between a leaf and the tree after it: a space, or nothing
+  -- what stands between a leaf and the token after it: a space, or nothing
   abbrev pub space_after : Leaf → List ℕ
   space_after (as_leaf.Punct p) = if touches p.spacing then [] else codes " "
   space_after l = codes " "
 
-  -- the text of some trees, with this before it, if there are any; groups have no spaces inside their brackets, and one after them
-  abbrev pub text_after : List ℕ → Forest → List ℕ
-  text_after space empty = []
-  text_after space (leaf l rest) = space ++ (displayed_leaf l ++ text_after (space_after l) rest)
-  text_after space (group d inner rest) =
-      space ++ (opening_text d.kind ++ (text_after [] inner ++ (closing_text d.kind ++ text_after (codes " ") rest)))
+  -- the text of the steps of a walk, with this before the first token; nothing stands right inside brackets, a space behind them, and invisible ones are no tokens
+  abbrev pub text_after : List ℕ → List Step → List ℕ
+  text_after space [] = []
+  text_after space (at_leaf l ∷ more) = space ++ (displayed_leaf l ++ text_after (space_after l) more)
+  text_after space (opens Invisible at ∷ more) = text_after space more
+  text_after space (opens kind at ∷ more) = space ++ (opening_text kind ++ text_after [] more)
+  text_after space (closes Invisible at ∷ more) = text_after space more
+  text_after space (closes kind at ∷ more) = closing_text kind ++ text_after (codes " ") more
 
 -- the text of a list of trees as it is displayed
 abbrev pub displayed_text : Forest → List ℕ
-displayed_text = text_after touches_displayed []
+displayed_text f = text_after touches_displayed [] (walk f)
 
 -- the text of a list of trees, printed prettily
 abbrev pub pretty_text : Forest → List ℕ
-pretty_text = text_after touches_pretty []
+pretty_text f = text_after touches_pretty [] (walk f)

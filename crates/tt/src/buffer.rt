@@ -2,7 +2,7 @@
 ghost use Rattle.tt.specs.CursorTokens.{BeginsListOf, IsNextOut, Reaches};
 ghost use Rattle.std.specs.Prelude.{◌≡◌, ◌≢◌, ⊤, IsTrue, ◌↔◌, ◌<◌, ◌≤◌, ◌++◌, ◌∷◌, ℕ, List, length, [], Some, IsNone};
 
-use crate::iter::TtElement;
+use crate::tokens::same_leaf;
 use crate::view::TokenTreesView;
 use arrayvec::ArrayVec;
 use std::alloc::AllocError;
@@ -225,14 +225,14 @@ impl<'a> Cursor<'a> {
     pub fn peek_two_leaves(&self) -> Option<[Leaf; 2]>
         ensures { result ≡ two_leaves self.now.after }
     {
-        let mut ahead = self.after().iter();
-        let TtElement::Leaf(first) = ahead.next()? else {
+        let (first, more) = self.after().tokens.split_first()?;
+        let TokenTree::Leaf(first) = first else {
             return None;
         };
-        let TtElement::Leaf(second) = ahead.next()? else {
+        let TokenTree::Leaf(second) = more.first()? else {
             return None;
         };
-        Some([first, second])
+        Some([same_leaf(first), same_leaf(second)])
     }
 
     /// The trees before the place, which is in no group.

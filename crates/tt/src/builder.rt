@@ -2,11 +2,12 @@
 ghost use Rattle.std.specs.Prelude.{◌≡◌, ◌≢◌, ◌↔◌, ◌⊎◌, ◌+◌, ◌<◌, ◌^◌, [], reverse, Err, Some, None, option_map, map, IfOk, IfErr, IsOk, IsOkUnless, IsSome, IsTrue, OnOk, OnErr};
 ghost use Rattle.tt_data.specs.Forest.{size, front};
 ghost use Rattle.tt.specs.BuilderTokens.{start_of, begins_invisible, moved_back, alone_token};
-ghost use Rattle.tt_data.specs.declared.fault.TtFault.TheVariants as fault;
+ghost use Rattle.tt_data.specs.fault.TtFault.TheVariants as fault;
 
-use crate::tokens::{append_copies, is_later_end, is_one_group};
+use crate::iter::TtIter;
+use crate::tokens::{append_copies, is_later_end};
 use crate::top::TopSubtree;
-use crate::view::{TokenTreesView, TtIter};
+use crate::view::TokenTreesView;
 use std::alloc::Global;
 use std::marker::Model;
 use tt_data::delimiter::{Delimiter, DelimiterKind};
@@ -471,7 +472,10 @@ impl TopSubtreeBuilder {
         if open_groups > 0 {
             return Err((self, TtFault::Place));
         }
-        if !is_one_group(&self.tokens.as_slice()[1..]) {
+        let inside = TokenTreesView {
+            tokens: &self.tokens.as_slice()[1..],
+        };
+        if !inside.is_one_group() {
             return Err((self, TtFault::Malformed));
         }
         let TopSubtreeBuilder {

@@ -1,8 +1,11 @@
 //! How trees are printed.
-ghost use Rattle.std.specs.Prelude.{◌≡◌, [], Some, IfOk, IsOkUnless, string_bytes};
+ghost use Rattle.std.specs.Prelude.{◌≡◌, ◌++◌, [], Some, IfOk, IsOkUnless, OnOk, string_bytes};
 ghost use Rattle.std.specs.Fmt.{WritesOnOk};
-ghost use Rattle.tt_data.specs.declared.fault.TtFault.TheVariants as fault;
-ghost use Rattle.tt.specs.Styles.{touches_in, space_if};
+ghost use Rattle.tt_data.specs.fault.TtFault.TheVariants as fault;
+ghost use Rattle.tt_data.specs.Displayed.{displayed_leaf};
+ghost use Rattle.tt_data.specs.Walk.{walk};
+ghost use Rattle.tt.specs.Building.{is_invisible};
+ghost use Rattle.tt.specs.Styles.{touches_in, space_if, space_behind};
 ghost use Rattle.tt.specs.Texts.{opening_text, closing_text, space_after, text_after, pretty_text};
 ghost use Rattle.tt.specs.Views.{forest};
 
@@ -30,7 +33,7 @@ impl fmt::Display for TokenTreesView<'_> {
     ghost output = { λ trees. Some (displayed_text (forest trees)) };
 
     fn fmt<W: fmt::Write>(&self, f: &mut fmt::Formatter<W>) -> fmt::Result {
-        write_trees(self.iter(), Style::Displayed, f)
+        write_all(*self, Style::Displayed, f)
     }
 }
 
@@ -67,12 +70,12 @@ impl fmt::Display for Prettily<'_> {
     ghost output = { λ pretty. Some (pretty_text (forest pretty.trees)) };
 
     fn fmt<W: fmt::Write>(&self, f: &mut fmt::Formatter<W>) -> fmt::Result {
-        write_trees(self.trees.iter(), Style::Pretty, f)
+        write_all(self.trees, Style::Pretty, f)
     }
 }
 
-/// The text of these trees, in which a space follows each tree but the last of its list and a `Joint`
-/// punct.
+/// The text of these trees: their tokens with a space between two of them, but none right inside
+/// brackets and none behind a `Joint` punct. Invisible brackets are no tokens.
 ///
 /// `Memory` is its only error.
 pub fn pretty(alloc: Global, tkns: TokenTreesView<'_>) -> Result<String, TtFault>
@@ -84,30 +87,70 @@ pub fn pretty(alloc: Global, tkns: TokenTreesView<'_>) -> Result<String, TtFault
 }
 
 // Writes the text of these trees.
-fn write_trees<W: fmt::Write>(
-    trees: TtIter<'_>,
+fn write_all<W: fmt::Write>(
+    trees: TokenTreesView<'_>,
     style: Style,
     f: &mut fmt::Formatter<W>,
 ) -> fmt::Result
-    ensures { WritesOnOk W.write_str_gives f.old result (text_after (touches_in style) [] trees.entry) f.new }
+    ensures { WritesOnOk W.write_str_gives f.old result (text_after (touches_in style) [] (walk (forest trees.entry))) f.new }
 {
     let mut spaced = false;
+    write_trees(trees.iter(), style, &mut spaced, f)
+}
+
+// Writes the text of these trees behind a token: `spaced` is whether a space stands before the first
+// token of theirs, and then whether one stands before the next.
+fn write_trees<W: fmt::Write>(
+    trees: TtIter<'_>,
+    style: Style,
+    spaced: &mut bool,
+    f: &mut fmt::Formatter<W>,
+) -> fmt::Result
+    ensures text { WritesOnOk W.write_str_gives f.old result (text_after (touches_in style) (space_if spaced.old) (walk trees.entry)) f.new }
+    ensures behind { OnOk result (space_if spaced.new ≡ space_behind (touches_in style) (space_if spaced.old) (walk trees.entry)) }
+{
     for tree in trees {
-        f.write_str(space_if(spaced))?;
         match tree {
-            TtElement::Leaf(leaf) => {
-                leaf.fmt(f)?;
-                spaced = is_spaced(&leaf, style);
-            }
+            TtElement::Leaf(leaf) => write_leaf(leaf, style, spaced, f)?,
             TtElement::Subtree(head, inside) => {
-                f.write_str(opening(head.delimiter.kind))?;
-                write_trees(inside, style, f)?;
-                f.write_str(closing(head.delimiter.kind))?;
-                spaced = true;
+                let kind = head.delimiter.kind;
+                if is_bare(kind) {
+                    write_trees(inside, style, spaced, f)?;
+                } else {
+                    f.write_str(space_if(*spaced))?;
+                    f.write_str(opening(kind))?;
+                    *spaced = false;
+                    write_trees(inside, style, spaced, f)?;
+                    f.write_str(closing(kind))?;
+                    *spaced = true;
+                }
             }
         }
     }
     Ok(())
+}
+
+// Writes one leaf so.
+fn write_leaf<W: fmt::Write>(
+    leaf: Leaf,
+    style: Style,
+    spaced: &mut bool,
+    f: &mut fmt::Formatter<W>,
+) -> fmt::Result
+    ensures text { WritesOnOk W.write_str_gives f.old result (space_if spaced.old ++ displayed_leaf leaf) f.new }
+    ensures behind { OnOk result (space_if spaced.new ≡ space_after (touches_in style) leaf) }
+{
+    f.write_str(space_if(*spaced))?;
+    leaf.fmt(f)?;
+    *spaced = is_spaced(&leaf, style);
+    Ok(())
+}
+
+// Whether brackets of this sort are no tokens.
+fn is_bare(kind: DelimiterKind) -> bool
+    ensures { result ≡ is_invisible kind }
+{
+    matches!(kind, DelimiterKind::Invisible)
 }
 
 // A space, or nothing.
@@ -117,7 +160,7 @@ fn space_if(spaced: bool) -> &'static str
     if spaced { " " } else { "" }
 }
 
-// Whether a space stands between a leaf and the tree after it.
+// Whether a space stands between a leaf and the token after it.
 fn is_spaced(leaf: &Leaf, style: Style) -> bool
     ensures { space_if result ≡ space_after (touches_in style) leaf.now }
 {

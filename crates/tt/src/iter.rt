@@ -1,6 +1,7 @@
 //! Walks over a list of trees, tree by tree.
 ghost use Rattle.std.specs.Prelude.{◌≡◌, ⊤, IsTrue, ◌↔◌};
 
+use crate::tokens::same_leaf;
 use crate::view::TokenTreesView;
 use std::alloc::AllocError;
 use std::marker::Model;
@@ -57,12 +58,7 @@ impl<'a> Clone for TtElement<'a> {
     /// The same tree. It is never refused.
     fn clone(&self) -> Result<TtElement<'a>, AllocError> {
         match self {
-            TtElement::Leaf(leaf) => {
-                let Ok(leaf) = leaf.clone() else {
-                    unreachable!()
-                };
-                Ok(TtElement::Leaf(leaf))
-            }
+            TtElement::Leaf(leaf) => Ok(TtElement::Leaf(same_leaf(leaf))),
             TtElement::Subtree(subtree, inner) => {
                 Ok(TtElement::Subtree(*subtree, inner.remaining().iter()))
             }
@@ -97,10 +93,7 @@ impl<'a> Iterator for TtIter<'a> {
         match first {
             TokenTree::Leaf(leaf) => {
                 self.tokens = more;
-                let Ok(leaf) = leaf.clone() else {
-                    unreachable!()
-                };
-                Some(TtElement::Leaf(leaf))
+                Some(TtElement::Leaf(same_leaf(leaf)))
             }
             TokenTree::Subtree(subtree) => {
                 let (inner, rest) = more.split_at(subtree.len as usize);
@@ -128,8 +121,15 @@ impl<'a> TtIter<'a> {
     pub fn peek(&self) -> Option<TtElement<'a>>
         ensures { result ≡ first_element self.now }
     {
-        let mut ahead = self.remaining().iter();
-        ahead.next()
+        let tokens = self.tokens;
+        let (first, more) = tokens.split_first()?;
+        match first {
+            TokenTree::Leaf(leaf) => Some(TtElement::Leaf(same_leaf(leaf))),
+            TokenTree::Subtree(subtree) => {
+                let (inner, _) = more.split_at(subtree.len as usize);
+                Some(TtElement::Subtree(*subtree, TtIter { tokens: inner }))
+            }
+        }
     }
 
     /// The place where the next tree begins: none where no trees are left.

@@ -3,7 +3,8 @@ ghost use Rattle.std.specs.Prelude.{◌≡◌, Some};
 ghost use Rattle.tt.specs.Views.{forest};
 ghost use Rattle.tt.specs.Splitting.{Cuts, split_steps, pieces_left};
 
-use crate::view::{TokenTreesView, TtElement, TtIter};
+use crate::iter::{TtElement, TtIter};
+use crate::view::TokenTreesView;
 
 /// The pieces of a list of trees, between the trees for which a test is true.
 #[derive(Drop)]

@@ -3,9 +3,21 @@ ghost use Rattle.std.specs.Prelude.{◌≡◌, ◌↔◌, ◌++◌, ◌≤◌, �
 ghost use Rattle.tt_data.specs.Forest.{size, front, IsPreorder};
 ghost use Rattle.tt.specs.Tops.{IsOneGroup};
 
-use crate::view::{TokenTreesView, TtElement, TtIter};
+use crate::iter::{TtElement, TtIter};
+use crate::view::TokenTreesView;
 use std::alloc::AllocError;
+use tt_data::leaf::Leaf;
 use tt_data::tree::TokenTree;
+
+// The leaf once more. Its text gets one more owner, and so it is never refused.
+pub(crate) fn same_leaf(leaf: &Leaf) -> Leaf
+    ensures { result ≡ leaf.now }
+{
+    let Ok(leaf) = leaf.clone() else {
+        unreachable!()
+    };
+    leaf
+}
 
 // Puts copies of these tokens after those of `list`, which stays as it was where memory runs out.
 pub(crate) fn append_copies(

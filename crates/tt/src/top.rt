@@ -1,9 +1,10 @@
 //! Whole trees.
-ghost use Rattle.std.specs.Prelude.{◌≡◌, ◌↔◌, ◌⊎◌, ◌<◌, Err, IfOk, IfErr, IsOk, IsOkUnless, IsTrue, OnOk, OnErr};
-ghost use Rattle.tt_data.specs.declared.fault.TtFault.TheVariants as fault;
+ghost use Rattle.std.specs.Prelude.{◌≡◌, ◌↔◌, ◌⊎◌, ◌<◌, Err, IfOk, IfErr, IsOkUnless, OnOk, OnErr, false};
+ghost use Rattle.tt_data.specs.fault.TtFault.TheVariants as fault;
 
+use crate::iter::TtIter;
 use crate::tokens::{append_copies, is_one_group};
-use crate::view::{SubtreeView, TokenTreesView, TtIter};
+use crate::view::{SubtreeView, TokenTreesView};
 use std::alloc::Global;
 use std::hash::{Hash, Hasher};
 use std::marker::Model;
@@ -102,12 +103,16 @@ impl TopSubtree {
 
     /// The tree whose tokens these are: the head of a group, and then all that is inside.
     ///
-    /// Where the list is not that of one group, and only there, it comes back, with `Malformed`. It
-    /// takes no memory.
-    pub fn from_serialized(tts: Vec<TokenTree>) -> Result<TopSubtree, (Vec<TokenTree>, TtFault)>
+    /// It may take memory from `alloc`, for a form of its own. Where the list is not that of one group,
+    /// and only there, it comes back with `Malformed`; it comes back with `Memory` too, and that is its
+    /// one other error.
+    pub fn from_serialized(
+        _alloc: Global,
+        tts: Vec<TokenTree>,
+    ) -> Result<TopSubtree, (Vec<TokenTree>, TtFault)>
         ensures ok { IfOk result (λ t. tokens_of t ≡ tts.items) }
-        ensures err { IfErr result (λ e. (e.0 ≡ tts) × (e.1 ≡ fault.Malformed)) }
-        ensures whole { ((t : Top) → tokens_of t ≡ tts.items → IsOk result) }
+        ensures err { IfErr result (λ e. (e.0 ≡ tts) × ((e.1 ≡ fault.Memory) ⊎ (e.1 ≡ fault.Malformed))) }
+        ensures malformed { IfErr result (λ e. e.1 ≡ fault.Malformed → (t : Top) → tokens_of t ≡ tts.items → ⊥) }
     {
         if !is_one_group(tts.as_slice()) {
             return Err((tts, TtFault::Malformed));
@@ -147,14 +152,12 @@ impl TopSubtree {
     /// Another tree that is equal to this one.
     ///
     /// `Memory` is its only error.
-    pub fn try_clone(&self) -> Result<TopSubtree, TtFault>
+    pub fn try_clone(&self, alloc: Global) -> Result<TopSubtree, TtFault>
         ensures ok { IfOk result (λ t. t ≡ self.now) }
         ensures memory { IsOkUnless result fault.Memory }
     {
-        let mut tokens = Vec::new(*self.tokens.allocator());
-        let Ok(()) = append_copies(&mut tokens, self.tokens.as_slice()) else {
-            return Err(TtFault::Memory);
-        };
+        let mut tokens = Vec::new(alloc);
+        append_copies(&mut tokens, self.tokens.as_slice())?;
         Ok(TopSubtree { tokens })
     }
 
@@ -190,12 +193,13 @@ impl TopSubtree {
     /// Puts a leaf in place of another: `idx` is that one's place among all tokens, the group's own
     /// being 0.
     ///
-    /// It answers `Place` where no leaf stands there, and only there. It takes no memory.
-    pub fn set_token(&mut self, idx: usize, leaf: Leaf) -> Result<(), TtFault>
+    /// It answers `Place` where no leaf stands there, and only there. It may take memory from `alloc`,
+    /// for the leaf's text, and its one other error is `Memory`.
+    pub fn set_token(&mut self, _alloc: Global, idx: usize, leaf: Leaf) -> Result<(), TtFault>
         ensures ok { OnOk result (tokens_of self.new ≡ set (tokens_of self.old) idx (token.Leaf leaf)) }
         ensures err { OnErr result (self.new ≡ self.old) }
-        ensures place { IsOkUnless result fault.Place }
-        ensures there { IsOk result ↔ IsTrue (has_leaf_at idx (tokens_of self.old)) }
+        ensures place { (result ≡ Err fault.Place) ↔ (has_leaf_at idx (tokens_of self.old) ≡ false) }
+        ensures faults { IfErr result (λ e. (e ≡ fault.Memory) ⊎ (e ≡ fault.Place)) }
     {
         let Some(old) = self.tokens.get(idx) else {
             return Err(TtFault::Place);

@@ -2,7 +2,7 @@
 ghost use Rattle.std.specs.Prelude.{◌≡◌, ◌<◌, ◌⊎◌, List, Err, Some, None, is_none, IfOk, IfErr, OnOk, OnErr};
 ghost use Rattle.std.specs.List.{FoldsTo};
 ghost use Rattle.tt_data.specs.Forest.{Forest, empty, size};
-ghost use Rattle.tt_data.specs.declared.fault.TtFault.TheVariants as fault;
+ghost use Rattle.tt_data.specs.fault.TtFault.TheVariants as fault;
 ghost use Rattle.tt_data.specs.declared.tree.TokenTree.TheVariants as token;
 ghost use Rattle.tt.specs.Building.{count_of, most_tokens};
 ghost use Rattle.tt.specs.Rewriting.{Call, IsAnswered, IsRewritten, IsStarted, LeavesOneGroup, replacement, with_answer};
@@ -45,6 +45,7 @@ impl<'a> TransformTtAction<'a> {
 /// only where the tree would have more than `u32::MAX` tokens below its top, whatever the callback
 /// were to say of the tokens left; and else only `Memory`. The tree is then as it was.
 pub fn transform_tt<'b, F: FnMut(&TokenTree) -> TransformTtAction<'b>>(
+    alloc: Global,
     tt: &mut TopSubtree,
     callback: F,
 ) -> Result<(), TtFault>
@@ -60,12 +61,13 @@ pub fn transform_tt<'b, F: FnMut(&TokenTree) -> TransformTtAction<'b>>(
         × IsAnswered F.FnMut callback c next × LeavesOneGroup tt.old c) }
     ensures faults { IfErr result (λ e. (e ≡ fault.Memory) ⊎ (e ≡ fault.Tokens) ⊎ (e ≡ fault.Malformed)) }
 {
-    *tt = transformed(tt, callback)?;
+    *tt = transformed(alloc, tt, callback)?;
     Ok(())
 }
 
 // The tree that the callback makes of this one.
 fn transformed<'b, F: FnMut(&TokenTree) -> TransformTtAction<'b>>(
+    alloc: Global,
     tt: &TopSubtree,
     mut callback: F,
 ) -> Result<TopSubtree, TtFault>
@@ -80,7 +82,6 @@ fn transformed<'b, F: FnMut(&TokenTree) -> TransformTtAction<'b>>(
         × IsAnswered F.FnMut callback c next × LeavesOneGroup tt.now c) }
     ensures faults { IfErr result (λ e. (e ≡ fault.Memory) ⊎ (e ≡ fault.Tokens) ⊎ (e ≡ fault.Malformed)) }
 {
-    let alloc = *tt.tokens.allocator();
     let head = tt.top_subtree();
     match callback(&TokenTree::Subtree(head)) {
         TransformTtAction::Keep => rewritten(alloc, head.delimiter, tt.iter(), callback),

@@ -1,11 +1,11 @@
 //! Lists of trees that are borrowed.
-ghost use Rattle.std.specs.Prelude.{◌≡◌, IsTrue, ◌↔◌, true};
+ghost use Rattle.std.specs.Prelude.{◌≡◌, IsSome, IsTrue, ◌↔◌, true};
 ghost use Rattle.tt_data.specs.Forest.{IsPreorder, forest_of};
 ghost use Rattle.tt.specs.Groups.{is_one_group};
 
 use crate::buffer::Cursor;
 use crate::flat::FlatTokens;
-pub use crate::iter::{TtElement, TtIter};
+use crate::iter::TtIter;
 use tt_data::delimiter::DelimiterKind;
 use tt_data::span::Span;
 use tt_data::tree::{Subtree, TokenTree};
@@ -109,6 +109,13 @@ impl<'a> TokenTreesView<'a> {
             ),
             TokenTree::Subtree(_) => None,
         }
+    }
+
+    // Whether the list is one group.
+    pub(crate) fn is_one_group(self) -> bool
+        ensures { IsTrue result ↔ IsSome (only_group (forest self.entry)) }
+    {
+        self.try_into_subtree().is_some()
     }
 
     /// The trees inside, where the list is one invisible group, and else the list as it is.

@@ -1,5 +1,6 @@
 -- Equality by `==` is that of values.
-use Rattle.std.proofs.Common.{rules, ◌≡◌, ◌↔◌, ◌∙◌, Bool, true, ap, refl, nat_eq, List, ℕ}
+use Rattle.std.proofs.Common.{rules, ◌≡◌, ◌↔◌, ◌∙◌, Bool, true, ap, refl, sym, nat_eq, List, ℕ, ◌++◌, length, take, drop, arith, length-append}
+use Rattle.std.proofs.Math.Seq.{take-append_seam, drop-append_seam}
 use Rattle.std.proofs.lemmas.Bool.{false≢true, eqb-true}
 use Rattle.std.specs.Cmp.{first_so, second_so}
 use Rattle.std.specs.Cmp.Lexicographic.{pointwise}
@@ -63,22 +64,31 @@ heads a b = (
   λ e. rw (← e) (subtree_laws.laws-law.refl a),
 )
 
--- a literal's fields in turn
-fields_same : (a b : Literal) → a.text_and_suffix ≡ b.text_and_suffix → a.suffix_len ≡ b.suffix_len → a.kind ≡ b.kind → a.span ≡ b.span → a ≡ b
-fields_same a b t n k s =
-    ap (λ x. record a { text_and_suffix = x }) t ∙ ap (λ x. record { text_and_suffix = b.text_and_suffix; span = a.span; kind = a.kind; suffix_len = x }) n
-    ∙ ap (λ x. record { text_and_suffix = b.text_and_suffix; span = a.span; kind = x; suffix_len = b.suffix_len }) k
-    ∙ ap (λ x. record { text_and_suffix = b.text_and_suffix; span = x; kind = b.kind; suffix_len = b.suffix_len }) s
+-- a literal's parts in turn
+parts_same : (a b : Literal) → a.text ≡ b.text → a.suffix ≡ b.suffix → a.kind ≡ b.kind → a.span ≡ b.span → a ≡ b
+parts_same a b t n k s =
+    ap (λ x. record a { text = x }) t ∙ ap (λ x. record { text = b.text; suffix = x; kind = a.kind; span = a.span }) n
+    ∙ ap (λ x. record { text = b.text; suffix = b.suffix; kind = x; span = a.span }) k
+    ∙ ap (λ x. record { text = b.text; suffix = b.suffix; kind = b.kind; span = x }) s
 
 texts : (a b : List ℕ) → pointwise nat_eq a b ≡ true → a ≡ b
 texts a b e = search rules
 
+-- two texts that are cut as long before their ends have the same parts
+cut_alike : (x y u v : List ℕ) → x ++ y ≡ u ++ v → length y ≡ length v → (x ≡ u) × (y ≡ v)
+cut_alike x y u v same long =
+    let at : length x ≡ length u = omega (arith, ap length same, length-append x y, length-append u v) in (
+      sym (take-append_seam x y) ∙ ap (take (length x)) same ∙ ap (λ n. take n (u ++ v)) at ∙ take-append_seam u v,
+      sym (drop-append_seam x y) ∙ ap (drop (length x)) same ∙ ap (λ n. drop n (u ++ v)) at ∙ drop-append_seam u v,
+    )
+
 literal_same : (a b : Literal) → of_literal.ghosts.eq a b ≡ true → a ≡ b
 literal_same a b e =
-    let text : a.text_and_suffix ≡ b.text_and_suffix = texts _ _ (first_so (pointwise nat_eq a.text_and_suffix b.text_and_suffix) _ e) in
+    let all : a.text ++ a.suffix ≡ b.text ++ b.suffix = texts _ _ (first_so (pointwise nat_eq (a.text ++ a.suffix) (b.text ++ b.suffix)) _ e) in
     let rest = second_so _ _ e in
     let more = second_so _ _ rest in
-    fields_same a b text (eqb-true _ _ (first_so _ _ rest)) ((kinds a.kind b.kind).0 (first_so _ _ more)) ((spans a.span b.span).0 (second_so _ _ more))
+    let cut = cut_alike a.text a.suffix b.text b.suffix all (eqb-true _ _ (first_so _ _ rest)) in
+    parts_same a b cut.0 cut.1 ((kinds a.kind b.kind).0 (first_so _ _ more)) ((spans a.span b.span).0 (second_so _ _ more))
 
 literal_self : (a b : Literal) → a ≡ b → of_literal.ghosts.eq a b ≡ true
 literal_self a b e = rw (← e) (literal_laws.laws-law.refl a)

@@ -15,7 +15,8 @@ use Rattle.tt_data.specs.Elements.{alone, within}
 use Rattle.tt_data.specs.Displayed.{displayed_leaf, literal_text}
 use Rattle.tt_data.specs.Elements as elements
 use Rattle.tt_data.specs.Forest.{Forest, empty, leaf, group, joined, size, preorder, front, back, forest_of, head_of, IsPreorder, map_spans, shape}
-use Rattle.tt_data.specs.Literals.{literal_of, text_of, suffix_of}
+use Rattle.tt_data.specs.declared.leaf.Literal.{Literal}
+use Rattle.tt_data.specs.declared.leaf.LitKind.{LitKind}
 use Rattle.tt_data.specs.Names.{ident_of}
 use Rattle.tt_data.specs.Spans.{first_span_of}
 use Rattle.tt_data.specs.Walk.{at_leaf, opens, closes, walk}
@@ -26,6 +27,9 @@ at n = record { range = record { start = n; «end» = n + 1 }; anchor = 0; ctx =
 
 abbrev name : List ℕ → Span → Leaf
 name text span = as_leaf.Ident (ident_of text span)
+
+abbrev literal : List ℕ → List ℕ → LitKind → Literal
+literal text suffix kind = record { text = text; suffix = suffix; kind = kind; span = at 0 }
 
 abbrev comma : Span → Leaf
 comma span = as_leaf.Punct (record { char = 44; spacing = Alone; span = span })
@@ -141,21 +145,6 @@ raw_name = refl
 plain_name : ident_of (codes "r") (at 0) ≡ record { sym = codes "r"; span = at 0; is_raw = is_raw.No }
 plain_name = refl
 
--- `1u8`
-suffix_row : suffix_of (literal_of (codes "1") (codes "u8") Integer (at 0)) ≡ codes "u8"
-suffix_row = refl
-
-text_row : text_of (literal_of (codes "1") (codes "u8") Integer (at 0)) ≡ codes "1"
-text_row = refl
-
--- `aé`, whose second letter has two bytes: a suffix that would begin inside a character is none
-no_suffix_inside : suffix_of (record { text_and_suffix = 97 ∷ 195 ∷ 169 ∷ []; suffix_len = 1; kind = Integer; span = at 0 }) ≡ []
-no_suffix_inside = refl
-
--- a suffix longer than all is all
-long_suffix : suffix_of (record { text_and_suffix = codes "u8"; suffix_len = 9; kind = Integer; span = at 0 }) ≡ codes "u8"
-long_suffix = refl
-
 -- the trees of `a ( b , ) c` are three
 three_trees :
     elements.trees trees
@@ -173,14 +162,14 @@ displayed_comma : displayed_leaf (comma (at 0)) ≡ codes ","
 unfolding lib.Utf8.encode
 displayed_comma = refl
 
-displayed_number : literal_text (literal_of (codes "1") (codes "u8") Integer (at 0)) ≡ codes "1u8"
+displayed_number : literal_text (literal (codes "1") (codes "u8") Integer) ≡ codes "1u8"
 displayed_number = refl
 
-displayed_char : literal_text (literal_of (codes "a") [] Char (at 0)) ≡ codes "'a'"
+displayed_char : literal_text (literal (codes "a") [] Char) ≡ codes "'a'"
 displayed_char = refl
 
-displayed_string : literal_text (literal_of (codes "a") (codes "x") Str (at 0)) ≡ codes "\"a\"x"
+displayed_string : literal_text (literal (codes "a") (codes "x") Str) ≡ codes "\"a\"x"
 displayed_string = refl
 
-displayed_raw_string : literal_text (literal_of (codes "a") [] (ByteStrRaw 2) (at 0)) ≡ codes "br##\"a\"##"
+displayed_raw_string : literal_text (literal (codes "a") [] (ByteStrRaw 2)) ≡ codes "br##\"a\"##"
 displayed_raw_string = refl

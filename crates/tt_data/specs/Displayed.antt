@@ -7,7 +7,6 @@ use Rattle.tt_data.specs.declared.leaf.LitKind.{LitKind}
 use Rattle.tt_data.specs.declared.leaf.LitKind.TheVariants.{Byte, Char, Str, StrRaw, ByteStr, ByteStrRaw, CStr, CStrRaw}
 use Rattle.tt_data.specs.declared.leaf.Literal.{Literal}
 use Rattle.tt_data.specs.declared.leaf.Punct.{Punct}
-use Rattle.tt_data.specs.Literals.{text_of, suffix_of}
 use Rattle.tt_data.specs.Names.{prefix_of}
 
 -- the letters before a literal of this form
@@ -42,7 +41,7 @@ form_hashes kind = []
 -- a literal: letters, hashes and quote, its text, quote and hashes, and its suffix
 abbrev pub literal_text : Literal → List ℕ
 literal_text l =
-    (form_letters l.kind ++ form_hashes l.kind ++ form_quote l.kind) ++ text_of l ++ (form_quote l.kind ++ form_hashes l.kind) ++ suffix_of l
+    (form_letters l.kind ++ form_hashes l.kind ++ form_quote l.kind) ++ l.text ++ (form_quote l.kind ++ form_hashes l.kind) ++ l.suffix
 
 -- a name, with its `r#` where it is raw
 abbrev pub ident_text : Ident → List ℕ

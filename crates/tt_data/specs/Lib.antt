@@ -7,7 +7,8 @@ pub mod Names
 pub mod Literals
 pub mod Displayed
 pub mod Editions
-pub mod Outcome
 -- a forest and its flat list give each other back
 pub mod Flat
 pub mod Coded
+-- why a call is refused
+pub use Rattle.symbols.specs.declared.fault

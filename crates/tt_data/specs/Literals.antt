@@ -1,28 +1,20 @@
 -- Literals: the text between the quotes, and the suffix right after it.
-use Rattle.std.specs.Prelude.{ℕ, ◌-◌, List, [], ◌∷◌, ◌++◌, length, take, drop, nat_lt, nat_le, ◌||◌, Bool, true, if◌then◌else◌}
+use Rattle.std.specs.Prelude.{◌≡◌, ℕ, ◌-◌, ◌≤◌, List, ◌++◌, length, take, drop}
+use Rattle.std.proofs.Common.{◌∙◌, ap, arith, length-drop}
+use Rattle.std.proofs.lemmas.List.{take-append-drop}
 use Rattle.tt_data.specs.declared.span.Span.{Span}
 use Rattle.tt_data.specs.declared.leaf.LitKind.{LitKind}
-use Rattle.tt_data.specs.declared.leaf.Literal.{Literal}
 
--- a character begins with these bytes, or none are left
-abbrev pub begins_character : List ℕ → Bool
-begins_character [] = true
-begins_character (b ∷ more) = nat_lt b 128 || nat_le 192 b
+-- what a literal is: the text between its quotes, its suffix (empty where it has none), the form that it is written in, and its place
+pub record LiteralParts : Type 0 where
+  pub text : List ℕ
+  pub suffix : List ℕ
+  pub kind : LitKind
+  pub span : Span
 
--- where the suffix begins: as many bytes before the end as it has; where that is inside a character there is no suffix
-abbrev pub suffix_start : Literal → ℕ
-suffix_start l =
-    let at = length l.text_and_suffix - l.suffix_len in
-    if begins_character (drop at l.text_and_suffix) then at else length l.text_and_suffix
-
--- the text of a literal
-abbrev pub text_of : Literal → List ℕ
-text_of l = take (suffix_start l) l.text_and_suffix
-
--- the suffix of a literal, empty where it has none
-abbrev pub suffix_of : Literal → List ℕ
-suffix_of l = drop (suffix_start l) l.text_and_suffix
-
--- the literal with this text and this suffix
-abbrev pub literal_of : List ℕ → List ℕ → LitKind → Span → Literal
-literal_of text suffix kind span = record { text_and_suffix = text ++ suffix; suffix_len = length suffix; kind = kind; span = span }
+-- a text cut so many bytes before its end is put together again
+pub put_together : {R : Type 0} (make : List ℕ → ℕ → R) (all : List ℕ) (n : ℕ) → n ≤ length all
+    → make (take (length all - n) all ++ drop (length all - n) all) (length (drop (length all - n) all)) ≡ make all n
+put_together make all n fits =
+    let counted : length (drop (length all - n) all) ≡ n = omega (arith, length-drop (length all - n) all) in
+    ap (λ t. make t (length (drop (length all - n) all))) (take-append-drop (length all - n) all) ∙ ap (make all) counted

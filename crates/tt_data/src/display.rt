@@ -51,9 +51,9 @@ impl fmt::Display for Literal {
     ghost output = { λ literal. Some (literal_text literal) };
 
     fn fmt<W: fmt::Write>(&self, f: &mut fmt::Formatter<W>) -> fmt::Result {
-        write_opening(self.kind, f)?;
+        write_opening(self.kind(), f)?;
         f.write_str(self.text())?;
-        write_closing(self.kind, f)?;
+        write_closing(self.kind(), f)?;
         f.write_str(self.suffix())
     }
 }

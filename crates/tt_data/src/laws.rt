@@ -1,15 +1,18 @@
 //! Laws of forests, for proofs above this crate. A call does nothing: it only states.
 ghost use Rattle.std.specs.Prelude.{◌≡◌, ◌↔◌, true, ℕ, ◌+◌, List, ◌∷◌, ◌++◌, length, map};
-ghost use Rattle.std.specs.Str.{IsUtf8};
 ghost use Rattle.tt_data.specs.Flat.{Parts};
 ghost use Rattle.tt_data.specs.Forest.{Forest, empty, group, joined, size, preorder, front, back, forest_of, head_of, IsPreorder, map_spans, shape};
-ghost use Rattle.tt_data.specs.Literals.{literal_of, text_of, suffix_of};
-ghost use Rattle.tt_data.specs.Spans.{token_with};
+ghost use Rattle.tt_data.specs.Spans.{token_with, no_span};
 ghost use Rattle.tt_data.specs.Walk.{walk, step_with};
 ghost use Rattle.tt_data.specs.declared.delimiter.Delimiter.{Delimiter};
 ghost use Rattle.tt_data.specs.declared.leaf.Leaf.{Leaf};
 ghost use Rattle.tt_data.specs.declared.leaf.LitKind.{LitKind};
+ghost use Rattle.tt_data.specs.declared.leaf.Spacing.{Spacing};
+ghost use Rattle.tt_data.specs.declared.leaf.Spacing.TheVariants.{Alone};
 ghost use Rattle.tt_data.specs.declared.span.Span.{Span};
+ghost use Rattle.tt_data.specs.declared.span.SyntaxContext.{SyntaxContext};
+ghost use Rattle.tt_data.specs.declared.span.SyntaxContext.TheVariants.{Written};
+ghost use Rattle.tt_data.specs.declared.span.TextRange.{TextRange};
 ghost use Rattle.tt_data.specs.declared.tree.Subtree.{Subtree};
 ghost use Rattle.tt_data.specs.declared.tree.TokenTree.{TokenTree};
 ghost use Rattle.tt_data.specs.declared.tree.TokenTree.TheVariants as token;
@@ -18,8 +21,8 @@ ghost use Rattle.tt_data.specs.declared.leaf.Literal.{Literal};
 ghost use Rattle.tt_data.specs.declared.leaf.Punct.{Punct};
 
 use crate::delimiter::Delimiter;
-use crate::leaf::{Ident, Leaf, LitKind, Literal, Punct};
-use crate::span::Span;
+use crate::leaf::{Ident, Leaf, LitKind, Literal, Punct, Spacing};
+use crate::span::{Span, SyntaxContext, TextRange};
 use crate::tree::{Subtree, TokenTree};
 use symbols::Symbol;
 
@@ -86,14 +89,6 @@ pub fn spans_mapped()
     ensures shapes { (m : Span → Span) (f : Forest) → shape (map_spans m f) ≡ shape f }
 {}
 
-/// A literal that is put together of a text and a suffix has this text and this suffix.
-pub fn literals_read_back()
-    ensures text { (text suffix : List ℕ) (kind : LitKind) (span : Span) →
-        IsUtf8 suffix → text_of (literal_of text suffix kind span) ≡ text }
-    ensures suffix { (text suffix : List ℕ) (kind : LitKind) (span : Span) →
-        IsUtf8 suffix → suffix_of (literal_of text suffix kind span) ≡ suffix }
-{}
-
 /// Two tokens are equal by `==` exactly where they are the same, places included.
 pub fn equal_tokens()
     ensures spans { (a b : Span) → (⟦<Span as PartialEq>⟧.eq a b ≡ true) ↔ (a ≡ b) }
@@ -106,4 +101,13 @@ pub fn equal_tokens()
     ensures leaves { (a b : Leaf) → (⟦<Leaf as PartialEq>⟧.eq a b ≡ true) ↔ (a ≡ b) }
     ensures heads { (a b : Subtree) → (⟦<Subtree as PartialEq>⟧.eq a b ≡ true) ↔ (a ≡ b) }
     ensures tokens { (a b : TokenTree) → (⟦<TokenTree as PartialEq>⟧.eq a b ≡ true) ↔ (a ≡ b) }
+{}
+
+/// By `Default` a place is that of nothing, written by hand, and a punct stands alone there.
+pub fn defaults()
+    ensures ranges { (r : TextRange) → ⟦<TextRange as Default>⟧.is_default r → r ≡ record { start = 0; «end» = 0 } }
+    ensures contexts { (c : SyntaxContext) → ⟦<SyntaxContext as Default>⟧.is_default c → c ≡ Written }
+    ensures spans { (s : Span) → ⟦<Span as Default>⟧.is_default s → s ≡ no_span }
+    ensures spacings { (s : Spacing) → ⟦<Spacing as Default>⟧.is_default s → s ≡ Alone }
+    ensures puncts { (p : Punct) → ⟦<Punct as Default>⟧.is_default p → p ≡ record { char = 0; spacing = Alone; span = no_span } }
 {}

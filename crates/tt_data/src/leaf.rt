@@ -1,29 +1,28 @@
 //! The tokens that hold no other tokens: literals, puncts and identifiers.
-ghost use Rattle.std.specs.Prelude.{◌≡◌, ◌^◌, ◌<◌, ◌++◌, ◌↔◌, [], length, IfErr, IsTrue};
-ghost use Rattle.std.specs.Str.{IsCharBoundary};
-ghost use Rattle.tt_data.specs.Literals.{literal_of, text_of, suffix_of, suffix_start};
+ghost use Rattle.std.specs.Prelude.{◌≡◌, ◌^◌, ◌<◌, ◌++◌, ◌↔◌, ⊤, [], length, IfOk, IsOkUnless, IsTrue};
 ghost use Rattle.tt_data.specs.Names.{prefix_of, rawness, bare_name, ident_of};
-ghost use Rattle.tt_data.specs.Outcome.{Gives};
 ghost use Rattle.tt_data.specs.Spans.{span_of};
-ghost use Rattle.tt_data.specs.declared.fault.TtFault.TheVariants as fault;
+ghost use Rattle.symbols.specs.declared.fault.TtFault.TheVariants as fault;
 ghost use Rattle.tt_data.specs.declared.leaf.IdentIsRaw.TheVariants.{No, Yes};
 ghost use Rattle.tt_data.specs.declared.leaf.Leaf.TheVariants as as_leaf;
 
 use crate::fault::TtFault;
 use crate::span::Span;
 use crate::symbol::Symbol;
-use std::alloc::Global;
+use std::alloc::{AllocError, Global};
+use std::marker::Model;
 
 /// Whether a punct stands right before another one.
-#[derive(Clone, Copy, PartialEq, Eq, Hash, Debug)]
+#[derive(Clone, Copy, Default, PartialEq, Eq, Hash, Debug)]
 pub enum Spacing {
+    #[default]
     Alone,
     Joint,
     JointHidden,
 }
 
 /// One character of punctuation.
-#[derive(Clone, Copy, PartialEq, Eq, Hash, Debug)]
+#[derive(Clone, Copy, Default, PartialEq, Eq, Hash, Debug)]
 pub struct Punct {
     pub char: char,
     pub spacing: Spacing,
@@ -86,8 +85,8 @@ pub struct Ident {
 impl Ident {
     /// The identifier that is written `text`: a leading `r#` makes it raw and is no part of its name.
     pub fn new(alloc: Global, text: &str, span: Span) -> Result<Ident, TtFault>
-        ensures ident { Gives (λ i. i) result (ident_of text.now span) }
-        ensures memory { IfErr result (λ e. e ≡ fault.Memory) }
+        ensures ident { IfOk result (λ i. i ≡ ident_of text.now span) }
+        ensures memory { IsOkUnless result fault.Memory }
     {
         let (is_raw, name) = IdentIsRaw::split_from_symbol(text);
         Ok(Ident {
@@ -123,14 +122,53 @@ pub struct Lit {
 }
 
 /// A literal: what stands between its quotes, its suffix, and the form that it is written in.
-#[derive(Clone, PartialEq, Eq, Hash, Debug, Drop)]
+#[derive(PartialEq, Eq, Hash, Debug, Drop)]
 pub struct Literal {
-    /// The text and right after it the suffix.
-    pub text_and_suffix: Symbol,
-    /// The number of bytes of the suffix.
-    pub suffix_len: u32,
-    pub kind: LitKind,
-    pub span: Span,
+    // The text and right after it the suffix.
+    text_and_suffix: Symbol,
+    // The number of bytes of the suffix.
+    suffix_len: u32,
+    kind: LitKind,
+    span: Span,
+}
+
+impl Model for Literal {
+    ghost use Rattle.std.specs.Prelude.{◌≤◌, ◌-◌, ◌++◌, length, take, drop};
+    ghost use Rattle.std.specs.Str.{IsCharBoundary};
+    ghost use Rattle.tt_data.specs.Literals.{LiteralParts, put_together};
+
+    ghost Value = { LiteralParts };
+
+    ghost view = { λ l. record {
+      text = take (length l.text_and_suffix - l.suffix_len) l.text_and_suffix;
+      suffix = drop (length l.text_and_suffix - l.suffix_len) l.text_and_suffix;
+      kind = l.kind;
+      span = l.span;
+    } };
+
+    ghost invariant = { λ l. (l.suffix_len ≤ length l.text_and_suffix)
+        × IsCharBoundary l.text_and_suffix (length l.text_and_suffix - l.suffix_len) };
+
+    ghost inverse = { λ v. record { text_and_suffix = v.text ++ v.suffix; suffix_len = length v.suffix; kind = v.kind; span = v.span } };
+
+    ghost inverse_ok = { λ l whole. put_together (λ all n. record { text_and_suffix = all; suffix_len = n; kind = l.kind; span = l.span })
+        l.text_and_suffix l.suffix_len whole.0 };
+}
+
+impl Clone for Literal {
+    ghost is_clone = { λ literal copy. copy ≡ literal };
+
+    ghost is_infallible = { λ _. ⊤ };
+
+    /// The same literal, of which the text has one more owner. It is never refused.
+    fn clone(&self) -> Result<Literal, AllocError> {
+        Ok(Literal {
+            text_and_suffix: self.text_and_suffix.clone()?,
+            suffix_len: self.suffix_len,
+            kind: self.kind,
+            span: self.span,
+        })
+    }
 }
 
 impl Literal {
@@ -143,10 +181,8 @@ impl Literal {
         suffix: &str,
     ) -> Result<Literal, TtFault>
         requires suffix_fits { length suffix.now < 2 ^ 32 }
-        ensures literal { Gives (λ l. l) result (literal_of text.now suffix.now kind span) }
-        ensures text { Gives text_of result text.now }
-        ensures suffix { Gives suffix_of result suffix.now }
-        ensures memory { IfErr result (λ e. e ≡ fault.Memory) }
+        ensures literal { IfOk result (λ l. l ≡ record { text = text.now; suffix = suffix.now; kind = kind; span = span }) }
+        ensures memory { IsOkUnless result fault.Memory }
     {
         let mut all = String::from_str(alloc, text)?;
         all.push_str(suffix)?;
@@ -165,48 +201,31 @@ impl Literal {
         span: Span,
         kind: LitKind,
     ) -> Result<Literal, TtFault>
-        ensures literal { Gives (λ l. l) result (literal_of text.now [] kind span) }
-        ensures text { Gives text_of result text.now }
-        ensures suffix { Gives suffix_of result [] }
-        ensures memory { IfErr result (λ e. e ≡ fault.Memory) }
+        ensures literal { IfOk result (λ l. l ≡ record { text = text.now; suffix = []; kind = kind; span = span }) }
+        ensures memory { IsOkUnless result fault.Memory }
     {
         Literal::new(alloc, text, span, kind, "")
     }
 
-    // Where the suffix begins.
-    fn suffix_start(&self) -> usize
-        ensures start { result ≡ suffix_start self.now }
-        ensures boundary { IsCharBoundary self.now.text_and_suffix result }
-    {
-        let all = self.text_and_suffix.as_str();
-        let start = all.len().saturating_sub(self.suffix_len as usize);
-        if all.is_char_boundary(start) {
-            start
-        } else {
-            all.len()
-        }
-    }
-
     /// The text and the suffix, which is empty where there is none.
     pub fn text_and_suffix(&self) -> (&str, &str)
-        ensures text { result.0.now ≡ text_of self.now }
-        ensures suffix { result.1.now ≡ suffix_of self.now }
+        ensures text { result.0.now ≡ self.now.text }
+        ensures suffix { result.1.now ≡ self.now.suffix }
     {
-        let start = self.suffix_start();
         let all = self.text_and_suffix.as_str();
-        (&all[..start], &all[start..])
+        all.split_at(all.len() - self.suffix_len as usize)
     }
 
     /// The text without the suffix.
     pub fn text(&self) -> &str
-        ensures { result.now ≡ text_of self.now }
+        ensures { result.now ≡ self.now.text }
     {
         self.text_and_suffix().0
     }
 
     /// The suffix, which is empty where there is none.
     pub fn suffix(&self) -> &str
-        ensures { result.now ≡ suffix_of self.now }
+        ensures { result.now ≡ self.now.suffix }
     {
         self.text_and_suffix().1
     }
@@ -224,6 +243,15 @@ impl Literal {
     {
         self.span
     }
+
+    /// The same literal at another place.
+    pub fn with_span(self, span: Span) -> Literal
+        ensures { result ≡ record self { span = span } }
+    {
+        let mut moved = self;
+        moved.span = span;
+        moved
+    }
 }
 
 /// A token that holds no other tokens.
@@ -240,7 +268,7 @@ impl Leaf {
         ensures { result ≡ span_of self.now }
     {
         match self {
-            Leaf::Literal(literal) => literal.span,
+            Leaf::Literal(literal) => literal.span(),
             Leaf::Punct(punct) => punct.span,
             Leaf::Ident(ident) => ident.span,
         }

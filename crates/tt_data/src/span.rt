@@ -4,21 +4,22 @@
 pub type TextSize = u32;
 
 /// The bytes of a text from `start` on and before `end`.
-#[derive(Clone, Copy, PartialEq, Eq, Hash, Debug)]
+#[derive(Clone, Copy, Default, PartialEq, Eq, Hash, Debug)]
 pub struct TextRange {
     pub start: TextSize,
     pub end: TextSize,
 }
 
 /// Whether a token was written by hand or put in by an expansion.
-#[derive(Clone, Copy, PartialEq, Eq, Hash, Debug)]
+#[derive(Clone, Copy, Default, PartialEq, Eq, Hash, Debug)]
 pub enum SyntaxContext {
+    #[default]
     Written,
     Made,
 }
 
 /// The place of a token: a range that counts from the place that `anchor` names, and the token's context.
-#[derive(Clone, Copy, PartialEq, Eq, Hash, Debug)]
+#[derive(Clone, Copy, Default, PartialEq, Eq, Hash, Debug)]
 pub struct Span {
     pub range: TextRange,
     pub anchor: u32,

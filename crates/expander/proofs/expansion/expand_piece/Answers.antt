@@ -6,7 +6,7 @@ use Rattle.expander.specs.ScopeTable.{definitions_of}
 use Rattle.expander.proofs.FreeLemmas.{free_behind_colons}
 use Rattle.expander.proofs.TurnLemmas.{behind_passed, call_passed, kept_turn, left_more}
 use Rattle.std.specs.Prelude.{Err}
-use Rattle.tt_data.specs.declared.fault.TtFault.TheVariants.{Tokens}
+use Rattle.tt_data.specs.fault.TtFault.TheVariants.{Tokens}
 use Rattle.expander.proofs.RoomLemmas.{handed}
 use Rattle.expander.proofs.TooManyLemmas.{passed_more}
 use Rattle.expander.proofs.expansion.expand_piece.Goals as goal

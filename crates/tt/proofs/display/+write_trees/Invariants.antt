@@ -1,7 +1,8 @@
-use Rattle.std.proofs.Common.{◌≡◌, ℕ, List, [], ◌++◌, ◌≤◌}
+use Rattle.std.proofs.Common.{◌≡◌, ℕ, List, ◌++◌, ◌≤◌}
 use Rattle.std.specs.Fmt.{HasWritten, IsPlainFormatter}
 use Rattle.tt_data.specs.Forest.{size}
-use Rattle.tt.specs.Styles.{touches_in, space_if}
+use Rattle.tt_data.specs.Walk.{walk}
+use Rattle.tt.specs.Styles.{touches_in, space_if, space_behind}
 use Rattle.tt.specs.Texts.{text_after}
 use Rattle.tt.proofs.display.+write_trees.Given as goal
 
@@ -15,5 +16,6 @@ invariant-loop-tree g l =
     (goal.iterator-loop-tree g).can_next l.tree-iterator
     × (goal.iterator-loop-tree g).is_finite l.tree-iterator
     × (size l.tree-iterator ≤ size l.fn.trees)
+    × (space_behind (touches_in l.fn.style) (space_if l.spaced) (walk l.tree-iterator) ≡ space_behind (touches_in l.fn.style) (space_if l.fn.spaced) (walk l.fn.trees))
     × (IsPlainFormatter l.fn.f → (done : List ℕ) × HasWritten g.W.Write.write_str_gives l.fn.f done l.f
-    × (done ++ text_after (touches_in l.style) (space_if l.spaced) l.tree-iterator ≡ text_after (touches_in l.fn.style) [] l.fn.trees))
+    × (done ++ text_after (touches_in l.fn.style) (space_if l.spaced) (walk l.tree-iterator) ≡ text_after (touches_in l.fn.style) (space_if l.fn.spaced) (walk l.fn.trees)))

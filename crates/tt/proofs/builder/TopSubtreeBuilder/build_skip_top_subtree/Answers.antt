@@ -1,36 +1,75 @@
-use Rattle.std.proofs.Common.{◌≡◌, ◌-◌, [], refl, arith, length, take, drop, IsTrue, false}
-use Rattle.std.proofs.lemmas.List.{nil_from_length, take_rest}
-use Rattle.std.specs.Vec.{vec_len}
-use Rattle.tt.specs.Tops.{IsOneGroup}
+-- Where no group is open the trees inside the top are whole, and one group where their forest is.
+use Rattle.std.proofs.Common.{◌≡◌, ◌-◌, List, [], refl, arith, length, take, drop, reverse, IsTrue, false, IsSome}
+use Rattle.std.proofs.lemmas.List.{nil_from_length, take_rest, length-drop}
+use Rattle.tt_data.specs.Forest.{forest_of, IsPreorder}
+use Rattle.tt_data.specs.declared.tree.TokenTree.{TokenTree}
+use Rattle.tt.specs.BuilderTokens.{IsHeld}
+use Rattle.tt.specs.Tops.{IsOneGroup, only_group}
+use Rattle.tt.specs.Views.{forest}
+use Rattle.tt.specs.declared.builder.Opening.{Opening}
 use Rattle.tt.proofs.Groups.{only_of_one, one_of_only}
 use Rattle.tt.proofs.builder.TopSubtreeBuilder.build_skip_top_subtree.Goals as goal
 
+-- the tokens behind the top's own
+abbrev behind : List TokenTree → List TokenTree
+behind read = take (length read - 1) (drop 1 read)
+
+module _ (tokens read : List TokenTree) (openings : List Opening) (same : read ≡ tokens) (held : IsHeld tokens (reverse openings)) (none : openings ≡ []) where
+  behind_is : behind read ≡ drop 1 tokens
+  behind_is = rw same (take_rest tokens 1)
+
+  whole : IsPreorder (drop 1 tokens)
+  whole = (rw none at held).1
+
+  whole_behind : IsPreorder (behind read)
+  whole_behind = rw behind_is whole
+
+  one : IsSome (only_group (forest_of (behind read))) → IsOneGroup (drop 1 tokens)
+  one some = one_of_only (drop 1 tokens) whole (rw behind_is at some)
+
+pub invariant_of-inside : goal.invariant_of-inside
+invariant_of-inside c =
+    let none : c.self.inside.openings.items ≡ [] =
+    nil_from_length _ (omega (arith, c.if-open_groups-gt0.false, c.len-open_groups.ensures, c.self.inside.openings.ok.0)) in
+    record { whole = whole_behind c.self.inside.tokens.items _ c.self.inside.openings.items c.as_slice.ensures.value c.self.invariant.0 none }
+
 pub returns-then-not-is_one_group-clause-built : goal.returns-then-not-is_one_group-clause-built
+unfolding forest
 returns-then-not-is_one_group-clause-built c =
-    let tokens = c.self.inside.tokens.items in
-    let counted : vec_len c.self.inside.openings ≡ 0 = omega (arith, c.if-open_groups-gt0.false, c.len-open_groups.ensures) in
-    let none : c.self.inside.openings.items ≡ [] = nil_from_length _ (omega (arith, counted, c.self.inside.openings.ok.0)) in
-    let held = rw none at c.self.invariant.0 in
-    let refused : IsOneGroup (take (length tokens - 1) (drop 1 tokens)) → IsTrue false = rw c.as_slice.ensures.value at c.if-not-is_one_group.ensures.one.1 in (
+    let none : c.self.inside.openings.items ≡ [] =
+    nil_from_length _ (omega (arith, c.if-open_groups-gt0.false, c.len-open_groups.ensures, c.self.inside.openings.ok.0)) in
+    let refused : IsSome (only_group (forest_of (behind c.as_slice.result.now))) → IsTrue false = c.if-not-is_one_group.ensures.1 in
+    let is = behind_is c.self.inside.tokens.items c.as_slice.result.now c.self.inside.openings.items c.as_slice.ensures.value c.self.invariant.0 none in (
       λ e. absurd (grind (arith, e)),
-      λ both. refused (rw (take_rest tokens 1) (one_of_only (drop 1 tokens) held.1 (rw (← c.self.view_is, none) at both.1))),
+      λ both. refused (rw is (rw (← c.self.view_is, none) at both.1)),
     )
 
--- no group is open, and the trees inside the top are one group
-one_there : (c : goal.After-drop-self-inside) → (c.self.inside.openings.items ≡ []) × IsOneGroup (drop 1 c.self.inside.tokens.items)
-one_there c =
+pub invariant_of-result : goal.invariant_of-result
+unfolding forest
+invariant_of-result c =
     let tokens = c.self.inside.tokens.items in
-    let counted : vec_len c.self.inside.openings ≡ 0 = omega (arith, c.if-open_groups-gt0.false, c.len-open_groups.ensures) in
-    let passed : IsOneGroup (take (length tokens - 1) (drop 1 tokens)) = rw c.as_slice.ensures.value at (c.if-not-is_one_group.ensures.one.0 refl) in
-    (nil_from_length _ (omega (arith, counted, c.self.inside.openings.ok.0)), rw (take_rest tokens 1) at passed)
+    let none : c.self.inside.openings.items ≡ [] =
+    nil_from_length _ (omega (arith, c.if-open_groups-gt0.false, c.len-open_groups.ensures, c.self.inside.openings.ok.0)) in
+    let passed : IsSome (only_group (forest_of (behind c.as_slice.result.now))) = c.if-not-is_one_group.ensures.0 refl in
+    let is_one = one tokens c.as_slice.result.now c.self.inside.openings.items c.as_slice.ensures.value c.self.invariant.0 none passed in
+    (rw c.remove.ensures.items is_one, rw c.remove.ensures.items (omega (arith, c.self.invariant.1, length-drop 1 tokens)))
 
 pub returns-clause-ok : goal.returns-clause-ok
+unfolding forest
 returns-clause-ok c =
-    let all = one_there c in
-    rw (← c.self.view_is, all.0, c.remove.ensures.items) (only_of_one (drop 1 c.self.inside.tokens.items) all.1)
+    let tokens = c.self.inside.tokens.items in
+    let none : c.self.inside.openings.items ≡ [] =
+    nil_from_length _ (omega (arith, c.if-open_groups-gt0.false, c.len-open_groups.ensures, c.self.inside.openings.ok.0)) in
+    let passed : IsSome (only_group (forest_of (behind c.as_slice.result.now))) = c.if-not-is_one_group.ensures.0 refl in
+    let is_one = one tokens c.as_slice.result.now c.self.inside.openings.items c.as_slice.ensures.value c.self.invariant.0 none passed in
+    rw (← c.self.view_is, none, c.remove.ensures.items) (only_of_one (drop 1 tokens) is_one)
 
 pub returns-clause-built : goal.returns-clause-built
+unfolding forest
 returns-clause-built c =
-    let all = one_there c in
-    let only = only_of_one (drop 1 c.self.inside.tokens.items) all.1 in
-    (λ _. (rw (← c.self.view_is, all.0) refl, rw (← c.self.view_is, all.0, only) refl), λ _. refl)
+    let tokens = c.self.inside.tokens.items in
+    let none : c.self.inside.openings.items ≡ [] =
+    nil_from_length _ (omega (arith, c.if-open_groups-gt0.false, c.len-open_groups.ensures, c.self.inside.openings.ok.0)) in
+    let passed : IsSome (only_group (forest_of (behind c.as_slice.result.now))) = c.if-not-is_one_group.ensures.0 refl in
+    let is_one = one tokens c.as_slice.result.now c.self.inside.openings.items c.as_slice.ensures.value c.self.invariant.0 none passed in
+    (λ _. (rw (← c.self.view_is, none) refl, rw (← c.self.view_is, none, only_of_one (drop 1 tokens) is_one) refl), λ _. refl)

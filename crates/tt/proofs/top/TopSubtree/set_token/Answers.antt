@@ -1,5 +1,5 @@
-use Rattle.std.proofs.Common.{◌≡◌, ◌∙◌, ap, sym, refl, true, set}
-use Rattle.std.proofs.lemmas.Bool.{ltb-true}
+use Rattle.std.proofs.Common.{◌≡◌, arith, ◌∙◌, ap, sym, true, set}
+use Rattle.std.proofs.lemmas.Bool.{ltb-true, false≢true}
 use Rattle.std.proofs.lemmas.List.{length-set}
 use Rattle.tt_data.specs.declared.tree.TokenTree.TheVariants as token
 use Rattle.tt.specs.Tops.{IsOneGroup, tokens_of, has_leaf_at}
@@ -25,5 +25,7 @@ kept c = ap tokens_of (sym c.self.view_is) ∙ c.self.invariant.0
 pub returns-in-Leaf-clause-ok : goal.returns-in-Leaf-clause-ok
 returns-in-Leaf-clause-ok c = still_one c ∙ ap (λ t. set t c.args.idx (token.Leaf c.args.leaf)) (sym (kept c))
 
-pub returns-in-Leaf-clause-there : goal.returns-in-Leaf-clause-there
-returns-in-Leaf-clause-there c = (λ _. ap (has_leaf_at c.args.idx) (kept c) ∙ there c, λ _. refl)
+pub returns-in-Leaf-clause-place : goal.returns-in-Leaf-clause-place
+returns-in-Leaf-clause-place c =
+    let found = ap (has_leaf_at c.args.idx) (kept c) ∙ there c in
+    (λ e. absurd (grind (arith, e)), λ none. absurd (false≢true (sym none ∙ found)))

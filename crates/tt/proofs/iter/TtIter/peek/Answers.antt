@@ -1,0 +1,26 @@
+-- The tree that comes next, of a group with what it has inside.
+use Rattle.std.proofs.Common.{◌≡◌, ◌∷◌, ap, sym, ◌∙◌, Some}
+use Rattle.tt_data.specs.Forest.{Forest, group, size}
+use Rattle.tt_data.specs.declared.tree.Subtree.{Subtree}
+use Rattle.tt.specs.Elements.{first_element}
+use Rattle.tt.specs.declared.iter.TtElement.TheVariants as element
+use Rattle.tt.proofs.Steps.{Step, step, fits}
+use Rattle.tt.proofs.iter.TtIter.peek.Goals as goal
+
+first_of : (s : Subtree) (f inner rest : Forest) → f ≡ group s.delimiter inner rest → s.len ≡ size inner → Some (element.Subtree s inner) ≡ first_element f
+first_of s f inner rest all counted = rw all (ap (λ n. Some (element.Subtree (record { delimiter = s.delimiter; len = n }) inner)) counted)
+
+pub split_at-requires : goal.split_at-requires
+split_at-requires c = fits _ _ _ c.self.invariant (c.in_ok-first.ensures.cases.0 ∙ ap (λ t. t ∷ c.in_ok-first.more.now) c.in-Subtree.is)
+
+-- the group begins the list, with what it has inside
+ahead : (c : goal.After-result-1) → Step c.in-Subtree.subtree c.self.inside.tokens.now c.split_at.result.0.now c.split_at.result.1.now
+ahead c =
+    let all = c.in_ok-first.ensures.cases.0 ∙ ap (λ t. t ∷ c.in_ok-first.more.now) c.in-Subtree.is in
+    step _ _ _ _ _ c.self.invariant all c.split_at.ensures.front c.split_at.ensures.back
+
+pub invariant_of-result : goal.invariant_of-result
+invariant_of-result c = (ahead c).inner_whole
+
+pub returns-in-Subtree : goal.returns-in-Subtree
+returns-in-Subtree c = first_of _ _ _ _ (sym c.self.view_is ∙ (ahead c).next.0) (ahead c).next.1
