@@ -44,7 +44,7 @@ impl<'a> TtIter<'a> {
         let (first, more) = self.tokens.split_first()?;
         match first {
             TokenTree::Leaf(Leaf::Literal(literal)) => {
-                Some((literal.kind, TtIter { tokens: more }))
+                Some((literal.kind(), TtIter { tokens: more }))
             }
             _ => None,
         }
