@@ -87,7 +87,8 @@ fn cuts_texts_into_tokens(rt: HostRuntime) -> Result<(), Fail> {
 }
 
 // A character of each category but the surrogates'.
-const CHARACTERS: &str = "Éß\u{1c5}\u{2b0}\u{3042}\u{301}\u{903}\u{20dd}\u{663}\u{2160}²\u{203f}\u{2013}\u{2045}\u{2046}«»¡×€¨©\u{a0}\u{2028}\u{2029}\u{85}\u{200e}\u{e000}\u{378}";
+const CHARACTERS: &str =
+    "Éß\u{1c5}\u{2b0}\u{3042}\u{301}\u{903}\u{20dd}\u{663}\u{2160}²\u{203f}\u{2013}\u{2045}\u{2046}«»¡×€¨©\u{a0}\u{2028}\u{2029}\u{85}\u{200e}\u{e000}\u{378}";
 
 // Their categories and tokens.
 const CATEGORIES: &str = "

@@ -65,7 +65,47 @@ flags a b e = search rules
 
 kind_same : (a b : TokenKind) → of_kind.ghosts.eq a b ≡ true → a ≡ b
 kind_same a b h =
-    values_one the_kind.enum a b (same_choice the_kind.enum.parts _ (λ x y e. ap (λ v. (v, tt)) (styles x.0 y.0 e), (λ x y e. ap (λ v. (v, x.1)) (styles x.0 y.0 (first_so _ _ e)) ∙ ap (λ v. (y.0, (v, tt))) (flags x.1.0 y.1.0 (second_so _ _ e)), (λ x y e. refl, (λ x y e. refl, (λ x y e. refl, (λ x y e. refl, (λ x y e. refl, (λ x y e. refl, (λ x y e. refl, (λ x y e. refl, (λ x y e. refl, (λ x y e. ap (λ v. (v, x.1)) ((literals x.0 y.0).0 (first_so _ _ e)) ∙ ap (λ v. (y.0, (v, tt))) (eqb-true _ _ (second_so _ _ e)), (λ x y e. ap (λ v. (v, tt)) (flags x.0 y.0 e), points_same (drop 13 the_kind.enum.parts) tt))))))))))))) (the_kind.enum.as_values a) (the_kind.enum.as_values b) h)
+    values_one the_kind.enum a b (same_choice the_kind.enum.parts _ (
+      λ x y e. ap (λ v. (v, tt)) (styles x.0 y.0 e),
+      (
+        λ x y e. ap (λ v. (v, x.1)) (styles x.0 y.0 (first_so _ _ e)) ∙ ap (λ v. (y.0, (v, tt))) (flags x.1.0 y.1.0 (second_so _ _ e)),
+        (
+          λ x y e. refl,
+          (
+            λ x y e. refl,
+            (
+              λ x y e. refl,
+              (
+                λ x y e. refl,
+                (
+                  λ x y e. refl,
+                  (
+                    λ x y e. refl,
+                    (
+                      λ x y e. refl,
+                      (
+                        λ x y e. refl,
+                        (
+                          λ x y e. refl,
+                          (
+                            λ x y e. ap (λ v. (v, x.1)) ((literals x.0 y.0).0 (first_so _ _ e)) ∙ ap (λ v. (y.0, (v, tt))) (eqb-true _ _ (second_so _ _ e)),
+                            (
+                              λ x y e. ap (λ v. (v, tt)) (flags x.0 y.0 e),
+                              points_same (drop 13 the_kind.enum.parts) tt,
+                            ),
+                          ),
+                        ),
+                      ),
+                    ),
+                  ),
+                ),
+              ),
+            ),
+          ),
+        ),
+      ),
+    )
+    (the_kind.enum.as_values a) (the_kind.enum.as_values b) h)
 
 pub kinds : IsEquality of_kind.ghosts.eq
 kinds a b = (kind_same a b, λ e. rw (← e) (kind_laws.laws-law.refl a))

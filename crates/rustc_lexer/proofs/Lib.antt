@@ -36,3 +36,4 @@ mod NameLemmas
 mod ShapeLemmas
 mod ByteShapeLemmas
 mod EqualityLemmas
+mod WordLemmas

@@ -9,7 +9,7 @@ use Rattle.std.proofs.lemmas.Str.{IsUtf8-drop}
 use Rattle.std.proofs.Math.Seq.{take-length, take-add, drop-append-add}
 use Rattle.rustc_lexer.specs.Edit.{boundaries_from, boundaries, edited, front_of, is_clear_of, is_moved_boundary, kept, moves_to}
 use Rattle.rustc_lexer.specs.Lexing.{tokens_of}
-use Rattle.rustc_lexer.specs.Mending.{total, count_to_meeting}
+use Rattle.rustc_lexer.specs.Mending.{IsScan, count_to_meeting, total}
 use Rattle.rustc_lexer.proofs.BoundaryLemmas.{ends_length, boundaries_drop, moved_boundaries, all_move, same_position}
 use Rattle.rustc_lexer.proofs.FrontLemmas.{IsFront, front_kept}
 use Rattle.rustc_lexer.proofs.StandingLemmas.{token_places, lengths_positive, lengths_whole}
@@ -84,13 +84,6 @@ pub record IsFound (text new : List ℕ) (start stop moved : ℕ) (ts : List Tok
   pub meets : at + total fresh ≡ bound - stop + moved + total (take met (drop passed (drop k ts)))
   pub within : k + passed + met ≤ length ts
 
--- what `first_from` finds among the tokens `old`
-pub record IsScan (at stop passed bound : ℕ) (old : List Token) : Type 0 where
-  pub place : bound ≡ at + total (take passed old)
-  pub within : passed ≤ length old
-  pub behind : stop ≤ bound
-  pub moves : (m p : ℕ) → list_any (moves_to stop m p) (boundaries_from at old) ≡ list_any (moves_to stop m p) (boundaries_from bound (drop passed old))
-
 -- what `relex` lexes of `rest`, and finds among the tokens `old`
 pub record IsLexed (at to met : ℕ) (fresh : List Token) (rest : List ℕ) (old : List Token) : Type 0 where
   pub read : fresh ≡ take (count_to_meeting at (tokens_of (chars rest)) to old) (tokens_of (chars rest))
@@ -119,9 +112,9 @@ found text new start stop moved ts k at passed bound met fresh rest behind walke
     }
 
 -- the tokens behind `at` reach to the end of the text
-pub reach : (text : List ℕ) (ts behind : List Token) (k at : ℕ) → IsUtf8 text → ts ≡ tokens_of (chars text) → behind ≡ drop k ts → at ≡ total (take k ts) →
+pub to_text_end : (text : List ℕ) (ts behind : List Token) (k at : ℕ) → IsUtf8 text → ts ≡ tokens_of (chars text) → behind ≡ drop k ts → at ≡ total (take k ts) →
     at + total behind ≡ length text
-reach text ts behind k at u f is_behind e =
+to_text_end text ts behind k at u f is_behind e =
     let whole : total ts ≡ length text = ap total f ∙ lengths_whole text u in
     let rest = ap total is_behind in
     omega (arith, whole, rest, e, total_split k ts)

@@ -1,14 +1,14 @@
 -- Old and mended tokens, side by side.
-use Rattle.std.proofs.Common.{◌≡◌, ℕ, ◌+◌, ◌-◌, ◌≤◌, ◌<◌, ◌^◌, true, Fits, w64, List, ◌++◌, length, take, drop, refl, sym, ◌∙◌, ap, subst, arith, append_assoc, chars, IsUtf8, IsCharBoundary, length-append}
+use Rattle.std.proofs.Common.{◌≡◌, ℕ, ◌+◌, ◌-◌, ◌≤◌, ◌<◌, ◌^◌, Fits, w64, List, ◌++◌, length, take, drop, refl, sym, ◌∙◌, ap, subst, arith, append_assoc, chars, IsUtf8, IsCharBoundary, length-append}
 use Rattle.std.specs.List.{replace_range, splice}
 use Rattle.std.proofs.lemmas.List.{drop-drop, length-drop, length-take-le, take-append-drop, take-append-le}
 use Rattle.std.proofs.lemmas.Str.{IsCharBoundary-at_seam, IsUtf8-append, IsUtf8-drop}
 use Rattle.std.proofs.Math.Seq.{take-length, drop-append-add}
-use Rattle.rustc_lexer.specs.Edit.{edited, front_of, is_clear_of, kept}
+use Rattle.rustc_lexer.specs.Edit.{edited, kept}
 use Rattle.rustc_lexer.specs.Lexing.{tokens_of}
-use Rattle.rustc_lexer.specs.Mending.{IsMark, IsMended, count_to_meeting, lexed_again, total}
+use Rattle.rustc_lexer.specs.Mending.{IsBegun, IsMark, IsMended, IsRelexed, IsScan, count_to_meeting, lexed_again, total}
 use Rattle.rustc_lexer.proofs.FrontLemmas.{IsFront}
-use Rattle.rustc_lexer.proofs.MendedLemmas.{IsFound, IsScan, edited_behind, edited_size, found, front_found, mended_counts, mended_tokens, old_end, reach, to_the_end, total_append, total_split}
+use Rattle.rustc_lexer.proofs.MendedLemmas.{IsFound, edited_behind, edited_size, found, front_found, mended_counts, mended_tokens, old_end, to_text_end, total_append, total_split}
 use Rattle.rustc_lexer.specs.declared.lexed.Kept.{Kept}
 use Rattle.rustc_lexer.specs.declared.marks.Mark.{Mark}
 use Rattle.rustc_lexer.specs.declared.marks.Mended.{Mended}
@@ -50,25 +50,12 @@ spliced ts new fresh m e f b count place =
 
 -- ---- what is found before the text is changed
 
--- the first k tokens are those well before `start`, and end at `at`
-pub record IsBegun (text : List ℕ) (ts : List Token) (start k at : ℕ) : Type 0 where
-  pub count : k ≡ front_of text start
-  pub is_at : at ≡ total (take k ts)
-  pub clear : 0 < k → is_clear_of text start at ≡ true
-  pub within : k ≤ length ts
+pub begun : (text bytes : List ℕ) (ts items : List Token) (start k at : ℕ) → bytes ≡ text → items ≡ ts → IsBegun bytes items start k at → IsBegun text ts start k at
+begun text bytes ts items start k at e f w = subst (λ bs. IsBegun bs ts start k at) e (subst (λ xs. IsBegun bytes xs start k at) f w)
 
-pub begun : (text bytes : List ℕ) (ts items : List Token) (start k at : ℕ) → bytes ≡ text → items ≡ ts → k ≡ front_of bytes start →
-    at ≡ total (take k items) → (0 < k → is_clear_of bytes start at ≡ true) → k ≤ length items → IsBegun text ts start k at
-begun text bytes ts items start k at e f count is_at clear within = record {
-  count = count ∙ ap (λ bs. front_of bs start) e;
-  is_at = is_at ∙ ap (λ xs. total (take k xs)) f;
-  clear = λ l. subst (λ bs. is_clear_of bs start at ≡ true) e (clear l);
-  within = subst (λ xs. k ≤ length xs) f within;
-}
-
-pub scanned : (ts items : List Token) (k at stop passed bound : ℕ) → items ≡ ts →
-    IsScan at stop passed bound (take (length items - k) (drop k items)) → IsScan at stop passed bound (drop k ts)
-scanned ts items k at stop passed bound f s = subst (IsScan at stop passed bound) (to_the_end k items ∙ ap (drop k) f) s
+pub scanned : (ts items : List Token) (k at stop passed bound : ℕ) → items ≡ ts → IsScan at stop passed bound (drop k items) →
+    IsScan at stop passed bound (drop k ts)
+scanned ts items k at stop passed bound f s = subst (λ xs. IsScan at stop passed bound (drop k xs)) f s
 
 -- ---- the text, changed and changed back
 
@@ -102,23 +89,29 @@ undone text new gone start stop replacement e is_gone o l =
 
 -- ---- what is found behind it, in the changed text
 
--- what `relex_into` gives
-pub record IsRelexed (new : List ℕ) (ts tokens : List Token) (k at stop to behind : ℕ) (m : Mark) : Type 0 where
-  pub placed : tokens ≡ splice ts k behind (lexed_again new at to (drop stop ts))
-  pub count : length (lexed_again new at to (drop stop ts)) ≡ count_to_meeting at (tokens_of (chars (drop at new))) to (drop stop ts)
-  pub lexed : m.tokens ≡ k + length (lexed_again new at to (drop stop ts))
-  pub place : m.place ≡ at + total (lexed_again new at to (drop stop ts))
-  pub met : m.place ≡ to + total (take (behind - stop) (drop stop ts))
-  pub order : stop ≤ behind
-  pub within : behind ≤ length ts
-
-pub put_in : (tokens ts walked xs fresh : List Token) (text rest : List ℕ) (k behind at to stop : ℕ) → tokens ≡ splice ts k behind xs → xs ≡ fresh →
-    fresh ≡ take (count_to_meeting at (tokens_of (chars rest)) to walked) (tokens_of (chars rest)) → rest ≡ drop at text → walked ≡ drop stop ts →
-    tokens ≡ splice ts k behind (lexed_again text at to (drop stop ts))
-put_in tokens ts walked xs fresh text rest k behind at to stop e f g is_rest is_walked =
-    e ∙ ap (splice ts k behind) (f ∙ g
-    ∙ ap (λ bs. take (count_to_meeting at (tokens_of (chars bs)) to walked) (tokens_of (chars bs))) is_rest
-    ∙ ap (λ old. take (count_to_meeting at (tokens_of (chars (drop at text))) to old) (tokens_of (chars (drop at text)))) is_walked)
+pub relexed : (ts tokens walked fresh : List Token) (text rest : List ℕ) (k at to stop met place size : ℕ) → size ≡ length fresh → tokens ≡ splice ts k (stop + met) fresh →
+    fresh ≡ take (count_to_meeting at (tokens_of (chars rest)) to walked) (tokens_of (chars rest)) →
+    length fresh ≡ count_to_meeting at (tokens_of (chars rest)) to walked → met ≤ length walked → at + total fresh ≡ place →
+    to + total (take met walked) ≡ place → rest ≡ drop at text → walked ≡ drop stop ts → stop ≤ length ts →
+    IsRelexed text ts tokens k at stop to (stop + met) (record { tokens = k + size; place = place })
+relexed ts tokens walked fresh text rest k at to stop met place size is_size put read count within here there is_rest is_walked l =
+    let as_read : List ℕ → List Token → Type 0 = λ bs old. fresh ≡ take (count_to_meeting at (tokens_of (chars bs)) to old) (tokens_of (chars bs)) in
+    let counted : List ℕ → List Token → Type 0 = λ bs old. length fresh ≡ count_to_meeting at (tokens_of (chars bs)) to old in
+    let again : fresh ≡ lexed_again text at to (drop stop ts) = subst (as_read (drop at text)) is_walked (subst (λ bs. as_read bs walked) is_rest read) in
+    let many = subst (counted (drop at text)) is_walked (subst (λ bs. counted bs walked) is_rest count) in
+    let left = ap length is_walked in
+    let back : stop + met - stop ≡ met = omega arith in
+    let met_there = ap (λ xs. total (take met xs)) is_walked in
+    let same = ap (λ n. total (take n (drop stop ts))) back in
+    record {
+      placed = put ∙ ap (splice ts k (stop + met)) again;
+      count = ap length (sym again) ∙ many;
+      lexed = ap (λ n. k + n) (is_size ∙ ap length again);
+      place = (let bytes = ap total again in omega (arith, bytes, here));
+      met = omega (arith, same, met_there, there);
+      order = omega arith;
+      within = omega (arith, left, within, length-drop stop ts, l);
+    }
 
 pub relexed_of : (new bytes : List ℕ) (ts tokens : List Token) (k at stop to behind : ℕ) (m : Mark) → bytes ≡ new →
     IsRelexed bytes ts tokens k at stop to behind m → IsRelexed new ts tokens k at stop to behind m
@@ -141,7 +134,7 @@ module _ (text new : List ℕ) (start stop : ℕ) (replacement : List ℕ) (ts :
   pub to_the_same_end : length new ≡ bound - stop + (start + length replacement) + total (drop (k + passed) ts)
   to_the_same_end =
       let size = ap length e ∙ edited_size text start stop replacement b.0 c.0 in
-      let all = reach text ts (drop k ts) k at u f refl w.is_at in
+      let all = to_text_end text ts (drop k ts) k at u f refl w.is_at in
       let rest = ap total behind_front in
       omega (arith, size, all, rest, total_split passed (drop k ts), s.place, s.behind, c.0, o)
 

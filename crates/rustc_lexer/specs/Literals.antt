@@ -20,7 +20,8 @@ abbrev pub literal : Bool → LiteralKind → ℕ → List ℕ → Stretch Token
 literal whole kind n cs = if whole then with_suffix kind n cs else bare kind n cs
 
 -- what is left of a character: up to and with the next `'`, where `\` takes the next character along (`escaped` tells
--- that it did); it isn't terminated where the text ends, or before a `/`, or before a line feed without a `'` behind it
+-- that it did); it isn't terminated where the text ends, or before a `/`, or before a line feed without a `'` behind it: no
+-- rule of the Reference, but rustc's recovery from a missing quote
 abbrev pub quoted_rest : Bool → List ℕ → Stretch Bool
 quoted_rest escaped [] = record { value = false; size = 0 }
 quoted_rest true (c ∷ cs) = further 1 (quoted_rest false cs)

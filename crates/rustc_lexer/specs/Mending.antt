@@ -1,7 +1,7 @@
 -- How the tokens of an edited text are mended.
-use Rattle.std.specs.Prelude.{◌≡◌, ◌==◌, ◌<◌, ◌≤◌, ◌+◌, ◌-◌, ◌^◌, ℕ, nat_le, List, sum_by, length, take, drop, chars, if◌then◌else◌}
-use Rattle.std.specs.List.{position_or_len, list_any}
-use Rattle.rustc_lexer.specs.Edit.{boundaries_from}
+use Rattle.std.specs.Prelude.{◌≡◌, ◌==◌, ◌<◌, ◌≤◌, ◌+◌, ◌-◌, ◌^◌, ℕ, true, nat_le, List, sum_by, length, take, drop, chars, if◌then◌else◌}
+use Rattle.std.specs.List.{position_or_len, list_any, splice}
+use Rattle.rustc_lexer.specs.Edit.{boundaries_from, front_of, is_clear_of, moves_to}
 use Rattle.rustc_lexer.specs.Lexing.{tokens_of}
 use Rattle.rustc_lexer.specs.declared.marks.Mark.{Mark}
 use Rattle.rustc_lexer.specs.declared.marks.Mended.{Mended}
@@ -27,6 +27,32 @@ IsMark ts m = (m.tokens ≤ length ts) × (m.place ≡ total (take m.tokens ts))
 -- the mark can be in a text
 abbrev pub IsPlace : Mark → Type 0
 IsPlace m = (m.tokens < 2 ^ 32) × (m.place < 2 ^ 32)
+
+-- the first k tokens are those well before `start`, and end at `at`
+pub record IsBegun (text : List ℕ) (ts : List Token) (start k at : ℕ) : Type 0 where
+  pub count : k ≡ front_of text start
+  pub is_at : at ≡ total (take k ts)
+  pub clear : 0 < k → is_clear_of text start at ≡ true
+  pub within : k ≤ length ts
+
+-- of the tokens `old`, which begin at `at`, the first `passed` end at `bound`, which is not in front of `stop`, and the boundaries
+-- that an edit moves are those from there on
+pub record IsScan (at stop passed bound : ℕ) (old : List Token) : Type 0 where
+  pub place : bound ≡ at + total (take passed old)
+  pub within : passed ≤ length old
+  pub behind : stop ≤ bound
+  pub moves : (m p : ℕ) → list_any (moves_to stop m p) (boundaries_from at old) ≡ list_any (moves_to stop m p) (boundaries_from bound (drop passed old))
+
+-- behind the first k of the tokens `ts`, which end at `at`, and up to the first `behind`, those of the new text stand that are lexed
+-- until they meet a boundary of the old ones, which begin at `to` behind `stop` tokens; the mark is this boundary
+pub record IsRelexed (new : List ℕ) (ts tokens : List Token) (k at stop to behind : ℕ) (m : Mark) : Type 0 where
+  pub placed : tokens ≡ splice ts k behind (lexed_again new at to (drop stop ts))
+  pub count : length (lexed_again new at to (drop stop ts)) ≡ count_to_meeting at (tokens_of (chars (drop at new))) to (drop stop ts)
+  pub lexed : m.tokens ≡ k + length (lexed_again new at to (drop stop ts))
+  pub place : m.place ≡ at + total (lexed_again new at to (drop stop ts))
+  pub met : m.place ≡ to + total (take (behind - stop) (drop stop ts))
+  pub order : stop ≤ behind
+  pub within : behind ≤ length ts
 
 -- the old and the new tokens agree in front of the one boundary and behind the other
 pub record IsMended (old new : List Token) (m : Mended) : Type 0 where

@@ -2,6 +2,7 @@
 ghost use Rattle.std.specs.Prelude.{◌≡◌, ◌<◌, ◌^◌, length, chars, IsUtf8};
 ghost use Rattle.rustc_lexer.specs.Lexeme.{lexeme, string, one_char_kind, begins_guarded, numeral, white_space};
 ghost use Rattle.rustc_lexer.specs.Stretch.{IsRead};
+ghost use Rattle.rustc_lexer.specs.Words.{sign};
 ghost use Rattle.rustc_lexer.specs.declared.token.LiteralKind.TheVariants.{Str};
 
 use crate::character::{is_id_start, is_whitespace};
@@ -30,14 +31,23 @@ pub fn first_lexeme(text: &str) -> (TokenKind, &str)
         word(text)
     } else if is_digit(c) {
         numeral(text)
-    } else if begins_guarded(text) {
-        (TokenKind::GuardedStrPrefix, behind(behind(text)))
-    } else if c == '\'' {
-        quote(text)
-    } else if c == '"' {
-        string(text)
     } else {
-        (one_char_kind(c), behind(text))
+        sign(text)
+    }
+}
+
+// What begins with neither white space, nor a letter, nor a digit, and is no comment.
+fn sign(text: &str) -> (TokenKind, &str)
+    requires { length text.now < 2 ^ 32 }
+    ensures { IsRead (sign (chars text.now)) text.now result.0 result.1.now }
+{
+    if begins_guarded(text) {
+        return (TokenKind::GuardedStrPrefix, behind(behind(text)));
+    }
+    match first(text) {
+        '\'' => quote(text),
+        '"' => string(text),
+        c => (one_char_kind(c), behind(text)),
     }
 }
 

@@ -3,7 +3,7 @@ ghost use Rattle.std.specs.Prelude.{◌≡◌, ◌+◌, ◌-◌, ◌<◌, ◌≤
 ghost use Rattle.std.specs.List.{splice};
 ghost use Rattle.rustc_lexer.specs.Edit.{edited, front_of, is_clear_of, kept};
 ghost use Rattle.rustc_lexer.specs.Lexing.{tokens_of};
-ghost use Rattle.rustc_lexer.specs.Mending.{IsMark, IsMended, count_to_meeting, lexed_again, total};
+ghost use Rattle.rustc_lexer.specs.Mending.{IsBegun, IsMark, IsMended, IsRelexed, IsScan, count_to_meeting, total};
 
 use crate::clear::is_clear;
 use crate::marks::{Mark, Mended, first_from};
@@ -73,6 +73,22 @@ fn relex(
     Ok((fresh, met, place))
 }
 
+// Puts the tokens in the place of those from `start` to `stop`.
+fn put_in(
+    tokens: &mut Vec<Token>,
+    start: usize,
+    stop: usize,
+    fresh: Vec<Token>,
+) -> Result<(), AllocError>
+    requires order { start ≤ stop }
+    requires within { stop ≤ length tokens.old.items }
+    ensures tokens { OnOk result (tokens.new.items ≡ splice tokens.old.items start stop fresh.items) }
+    ensures err { OnErr result (tokens.new.items ≡ tokens.old.items) }
+{
+    tokens.splice(start..stop, fresh)?;
+    Ok(())
+}
+
 // Lexes the text from the front on, up to the first boundary that is one of the old tokens' too, of which the one behind `stop`
 // tokens is at `to`; and puts these tokens in the place of the old ones up to this boundary. The boundary among the new tokens,
 // and how many old ones are in front of it.
@@ -89,14 +105,7 @@ fn relex_into(
     requires order { front.tokens ≤ stop }
     requires within { stop ≤ length tokens.old.items }
     requires same_end { length text.now ≡ to + total (drop stop tokens.old.items) }
-    ensures tokens { IfOk result (λ r. tokens.new.items
-        ≡ splice tokens.old.items front.tokens r.1 (lexed_again text.now front.place to (drop stop tokens.old.items))) }
-    ensures count { IfOk result (λ r. length (lexed_again text.now front.place to (drop stop tokens.old.items))
-        ≡ count_to_meeting front.place (tokens_of (chars (drop front.place text.now))) to (drop stop tokens.old.items)) }
-    ensures lexed { IfOk result (λ r. r.0.tokens ≡ front.tokens + length (lexed_again text.now front.place to (drop stop tokens.old.items))) }
-    ensures place { IfOk result (λ r. r.0.place ≡ front.place + total (lexed_again text.now front.place to (drop stop tokens.old.items))) }
-    ensures met { IfOk result (λ r. r.0.place ≡ to + total (take (r.1 - stop) (drop stop tokens.old.items))) }
-    ensures within { IfOk result (λ r. (stop ≤ r.1) × (r.1 ≤ length tokens.old.items)) }
+    ensures relexed { IfOk result (λ r. IsRelexed text.now tokens.old.items tokens.new.items front.tokens front.place stop to r.1 r.0) }
     ensures err { OnErr result (tokens.new.items ≡ tokens.old.items) }
 {
     let (fresh, met, place) = relex(
@@ -110,8 +119,64 @@ fn relex_into(
         tokens: front.tokens + fresh.len(),
         place,
     };
-    tokens.splice(front.tokens..stop + met, fresh)?;
-    Ok((new, stop + met))
+    let behind = stop + met;
+    put_in(tokens, front.tokens, behind, fresh)?;
+    Ok((new, behind))
+}
+
+// What stays of the tokens in front of an edit, and where it may meet old boundaries again: so many tokens further on, at the
+// first boundary that is not in front of the edit's end.
+struct Found {
+    front: Mark,
+    passed: usize,
+    boundary: usize,
+}
+
+// What an edit of the bytes from `start` to `stop` finds.
+fn find(text: &str, tokens: &[Token], near: Mark, start: usize, stop: usize) -> Found
+    requires small { length text.now < 2 ^ 32 }
+    requires tokens { tokens.now ≡ tokens_of (chars text.now) }
+    requires near { IsMark tokens.now near }
+    requires clear { 0 < near.tokens → is_clear_of text.now start near.place ≡ true }
+    requires start { IsCharBoundary text.now start }
+    requires stop { IsCharBoundary text.now stop }
+    ensures begun { IsBegun text.now tokens.now start result.front.tokens result.front.place }
+    ensures scan { IsScan result.front.place stop result.passed result.boundary (drop result.front.tokens tokens.now) }
+    ensures fits { result.boundary ≤ length text.now }
+{
+    let (count, at) = front(text, tokens, near, start);
+    let (passed, boundary) = first_from(&tokens[count..], at, stop);
+    let front = Mark {
+        tokens: count,
+        place: at,
+    };
+    Found {
+        front,
+        passed,
+        boundary,
+    }
+}
+
+// Puts the replacement in the place of the text's bytes, and answers what stood there; the text has room for it.
+fn replace(
+    alloc: Global,
+    text: &mut String,
+    start: usize,
+    stop: usize,
+    replacement: &str,
+) -> Result<String, AllocError>
+    requires start { IsCharBoundary (string_bytes text.old) start }
+    requires stop { IsCharBoundary (string_bytes text.old) stop }
+    requires order { start ≤ stop }
+    ensures text { OnOk result (string_bytes text.new ≡ edited (string_bytes text.old) start stop replacement.now) }
+    ensures gone { IfOk result (λ gone. string_bytes gone ≡ take (stop - start) (drop start (string_bytes text.old))) }
+    ensures room { IfOk result (λ gone. string_len text.new + length (string_bytes gone) ≤ string_capacity text.new) }
+    ensures err { OnErr result (string_bytes text.new ≡ string_bytes text.old) }
+{
+    let gone = String::from_str(alloc, &text[start..stop])?;
+    text.reserve(replacement.len())?;
+    text.replace_range(start..stop, replacement)?;
+    Ok(gone)
 }
 
 // Undoes a replacement: the text has room for what was there.
@@ -155,18 +220,15 @@ pub fn mend(
     ensures err { OnErr result (string_bytes text.new ≡ string_bytes text.old) }
     ensures err_tokens { OnErr result (tokens.new.items ≡ tokens.old.items) }
 {
-    let (count, at) = front(text, tokens, near, start);
-    let front = Mark {
-        tokens: count,
-        place: at,
-    };
-    let (passed, boundary) = first_from(&tokens[count..], at, stop);
-    let gone = String::from_str(alloc, &text[start..stop])?;
-    text.reserve(replacement.len())?;
-    text.replace_range(start..stop, replacement)?;
+    let Found {
+        front,
+        passed,
+        boundary,
+    } = find(text, tokens, near, start, stop);
+    let gone = replace(alloc, text, start, stop, replacement)?;
     let end = start + replacement.len();
     let to = boundary - stop + end;
-    match relex_into(alloc, text, tokens, front, count + passed, to) {
+    match relex_into(alloc, text, tokens, front, front.tokens + passed, to) {
         Ok((new, behind)) => {
             let old = Mark {
                 tokens: behind,

@@ -1,8 +1,9 @@
 //! Words, and the forms that begin with one.
 ghost use Rattle.std.specs.Prelude.{◌≡◌, ◌<◌, ◌^◌, ◌==◌, ◌&&◌, ◌||◌, true, codes, slice_index, length, chars};
 ghost use Rattle.rustc_lexer.specs.Character.{char_at, begins, is_id_start};
-ghost use Rattle.rustc_lexer.specs.Lexeme.{plain_word, marked_word, is_prefix_mark, is_prefix_start, prefixed, word, quoted, string, raw_string};
+ghost use Rattle.rustc_lexer.specs.Lexeme.{plain_word, marked_word, word, quoted, string, raw_string};
 ghost use Rattle.rustc_lexer.specs.Stretch.{IsRead};
+ghost use Rattle.rustc_lexer.specs.Words.{b_word, c_word, k_word, r_word, word_kind};
 ghost use Rattle.rustc_lexer.specs.declared.token.LiteralKind.TheVariants.{Byte, ByteStr, CStr, RawStr, RawByteStr, RawCStr};
 
 use crate::character::is_id_start;
@@ -16,19 +17,13 @@ pub fn word(text: &str) -> (TokenKind, &str)
     requires start { is_id_start (char_at (chars text.now) 0) ≡ true }
     ensures { IsRead (word (chars text.now)) text.now result.0 result.1.now }
 {
-    if is_prefix_start(first(text)) {
-        prefixed(text)
-    } else {
-        plain_word(text)
+    match first(text) {
+        'r' => r_word(text),
+        'b' => b_word(text),
+        'c' => c_word(text),
+        'k' => k_word(text),
+        _ => plain_word(text),
     }
-}
-
-// Whether a prefix of identifiers or literals may begin with the character.
-#[inline]
-fn is_prefix_start(c: char) -> bool
-    ensures { result ≡ is_prefix_start c }
-{
-    matches!(c, 'r' | 'b' | 'c' | 'k')
 }
 
 // An identifier, a keyword or an unknown prefix.
@@ -37,42 +32,73 @@ fn plain_word(text: &str) -> (TokenKind, &str)
     ensures { IsRead (plain_word (chars text.now)) text.now result.0 result.1.now }
 {
     let rest = skip_while::<Continue>(behind(text));
-    if is_prefix_mark(first(rest)) {
-        (TokenKind::UnknownPrefix, rest)
-    } else {
-        (TokenKind::Ident, rest)
+    (word_kind(first(rest)), rest)
+}
+
+// The kind of a word where this character follows it: before a mark of literals it is a prefix.
+#[inline]
+fn word_kind(next: char) -> TokenKind
+    ensures { result ≡ word_kind next }
+{
+    match next {
+        '#' | '"' | '\'' => TokenKind::UnknownPrefix,
+        _ => TokenKind::Ident,
     }
 }
 
-// Whether a word is a prefix where this character follows it.
-#[inline]
-fn is_prefix_mark(c: char) -> bool
-    ensures { result ≡ is_prefix_mark c }
-{
-    matches!(c, '#' | '"' | '\'')
-}
-
-// What begins with the letter of a prefix.
-fn prefixed(text: &str) -> (TokenKind, &str)
+// A raw identifier, a raw string, or a word.
+fn r_word(text: &str) -> (TokenKind, &str)
     requires small { length text.now < 2 ^ 32 }
     requires start { is_id_start (char_at (chars text.now) 0) ≡ true }
-    ensures { IsRead (prefixed (chars text.now)) text.now result.0 result.1.now }
+    ensures { IsRead (r_word (chars text.now)) text.now result.0 result.1.now }
 {
     if begins_raw_word(text) {
         marked_word(TokenKind::RawIdent, text)
     } else if begins_raw_string(text) {
         raw_string(text)
-    } else if begins(text, 'b', '\'') {
+    } else {
+        plain_word(text)
+    }
+}
+
+// A byte, a string of bytes, or a word.
+fn b_word(text: &str) -> (TokenKind, &str)
+    requires small { length text.now < 2 ^ 32 }
+    requires start { is_id_start (char_at (chars text.now) 0) ≡ true }
+    ensures { IsRead (b_word (chars text.now)) text.now result.0 result.1.now }
+{
+    if begins(text, 'b', '\'') {
         byte(text)
     } else if begins(text, 'b', '"') {
         byte_string(text)
-    } else if begins(text, 'c', '"') {
-        c_string(text)
     } else if begins_raw_byte_string(text) {
         raw_byte_string(text)
+    } else {
+        plain_word(text)
+    }
+}
+
+// A string of C, or a word.
+fn c_word(text: &str) -> (TokenKind, &str)
+    requires small { length text.now < 2 ^ 32 }
+    requires start { is_id_start (char_at (chars text.now) 0) ≡ true }
+    ensures { IsRead (c_word (chars text.now)) text.now result.0 result.1.now }
+{
+    if begins(text, 'c', '"') {
+        c_string(text)
     } else if begins_raw_c_string(text) {
         raw_c_string(text)
-    } else if begins_forced_keyword(text) {
+    } else {
+        plain_word(text)
+    }
+}
+
+// A forced keyword, or a word.
+fn k_word(text: &str) -> (TokenKind, &str)
+    requires { is_id_start (char_at (chars text.now) 0) ≡ true }
+    ensures { IsRead (k_word (chars text.now)) text.now result.0 result.1.now }
+{
+    if begins_forced_keyword(text) {
         marked_word(TokenKind::ForcedKeywordIdent, text)
     } else {
         plain_word(text)

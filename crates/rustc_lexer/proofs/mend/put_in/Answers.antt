@@ -1,0 +1,11 @@
+use Rattle.std.proofs.Common.{◌∙◌, ap, arith}
+use Rattle.std.specs.List.{splice}
+use Rattle.std.proofs.lemmas.Iterator.Adapters.{YieldsList-from_vec}
+use Rattle.rustc_lexer.proofs.MendedLemmas.{drained}
+use Rattle.rustc_lexer.proofs.mend.put_in.Goals as goal
+
+pub returns-clause-tokens : goal.returns-clause-tokens
+returns-clause-tokens c =
+    let given = c.in_ok-splice.ensures.items in
+    let same = drained given.0 given.1 c.args.fresh.items given.3 (YieldsList-from_vec c.args.fresh.items given.2.0 (omega (arith, given.2.1, c.args.fresh.ok))) in
+    given.4 ∙ ap (splice c.args.tokens.now.items c.args.start c.args.stop) same
