@@ -1,5 +1,5 @@
 -- Each `;` of a tree's own list, put in its place as it stands alone.
-use Rattle.std.proofs.Common.{◌≡◌, ℕ, ◌+◌, ◌≤◌, suc, List, [], ◌∷◌, ◌++◌, length, refl, sym, ap, ◌∙◌, append_assoc, arith, true, false, Bool}
+use Rattle.std.proofs.Common.{◌≡◌, ◌+◌, ◌≤◌, suc, List, [], ◌∷◌, ◌++◌, length, refl, sym, ap, ◌∙◌, append_assoc, arith, true, false, Bool}
 use Rattle.std.specs.Prelude.{set, if◌then◌else◌, Some, None}
 use Rattle.std.proofs.Math.Seq.{set-append_seam}
 use Rattle.tt.specs.Tops.{Top, tokens_of}
@@ -55,8 +55,8 @@ apart_more whole rest tree told puts now same a sets = record {
       ∙ sets head more
       ∙ a.sets head (preorder told ++ more)
       ∙ ap (λ ts. head ∷ ts) (sym (
-        ap (λ f. preorder f ++ more) (separated-joined a.passed tree ∙ ap (joined (separated a.passed)) same)
-        ∙ walked (separated a.passed) told more
+      ap (λ f. preorder f ++ more) (separated-joined a.passed tree ∙ ap (joined (separated a.passed)) same)
+      ∙ walked (separated a.passed) told more
       ));
 }
 

@@ -1,8 +1,8 @@
 -- Trees without a `!`, or with none inside a group: what is taken of them has none either.
-use Rattle.std.proofs.Common.{◌≡◌, ℕ, ◌-◌, [], ◌∷◌, refl, sym, ap, ◌∙◌, Bool, true, false, if◌then◌else◌, nat_lt}
+use Rattle.std.proofs.Common.{◌≡◌, ℕ, ◌-◌, List, [], ◌∷◌, refl, sym, ap, ◌∙◌, Bool, true, false, if◌then◌else◌, nat_lt}
 use Rattle.std.proofs.lemmas.List.Elements.{All-nil, All-cons}
 use Rattle.std.specs.List.{All}
-use Rattle.std.specs.Prelude.{Option, Some, None, ◌&&◌, not, unwrap_or}
+use Rattle.std.specs.Prelude.{Option, Some, None, ◌&&◌, not, unwrap_or, codes}
 use Prim.Native.String.{String}
 use Rattle.tt_data.specs.Forest.{Forest, empty, leaf, group, joined, size, front, back}
 use Rattle.tt_data.specs.declared.delimiter.Delimiter.{Delimiter}
@@ -14,10 +14,10 @@ use Rattle.tt_data.specs.declared.leaf.Punct.{Punct}
 use Rattle.expander.specs.declared.calls.Call.{Call}
 use Rattle.expander.specs.declared.definitions.Definition.{Definition}
 use Rattle.expander.specs.CallSteps.{bare_call, call_behind_colons, crate_call, call_at}
-use Rattle.expander.specs.Definitions.{after_attributes, after_parenthesis, after_pub, ends_definition, macro_rules_of, macro_body, macro_of, or_else, definition_of}
+use Rattle.expander.specs.Definitions.{after_attributes, after_parenthesis, after_word, after_pub, after_macro_rules, ends_definition, macro_rules_of, macro_body, macro_of, or_else, definition_of}
 use Rattle.expander.specs.FirstTrees.{◌>>=◌, ◌>>◌, first_ident, first_punct, first_group, is_empty}
 use Rattle.expander.specs.Pieces.{cut, cut_from, ends_piece, separated, pieces}
-use Rattle.expander.specs.Text.{same_kind, is_word, is_char, is_punct, alone, with_last_alone}
+use Rattle.expander.specs.Text.{same_kind, has_text, is_char, is_punct, alone, with_last_alone}
 use Rattle.expander.specs.Thin.{is_free_of, groups_are_free_of}
 use Rattle.expander.proofs.CallLemmas.{IsBare, IsBehind, is_bare, is_behind, is_of_crate}
 use Rattle.expander.proofs.PatternLemmas.{bind_some, test_some}
@@ -189,27 +189,38 @@ parenthesis_left f g e h =
     let is : first.0.2 ≡ g = cc (test.1) in
     ap (groups_are_free_of "!") (sym is) ∙ (group_left f first.0 first.1 h).1
 
+word_left : (word : List ℕ) (f g : Forest) → after_word word f ≡ Some g → groups_are_free_of "!" f ≡ true → groups_are_free_of "!" g ≡ true
+word_left word f g e h =
+    let first = bind_some (first_ident f) _ _ e in
+    let test = test_some (has_text word first.0.0) _ _ first.2 in
+    let is : first.0.1 ≡ g = cc (test.1) in
+    ap (groups_are_free_of "!") (sym is) ∙ ident_left f first.0 first.1 h
+
 pub_left : (f g : Forest) → after_pub f ≡ Some g → groups_are_free_of "!" f ≡ true → groups_are_free_of "!" g ≡ true
 pub_left f g e h =
-    let first = bind_some (first_ident f) _ _ e in
-    let test = test_some (is_word "pub" first.0.0) _ _ first.2 in
-    let is : unwrap_or (after_parenthesis first.0.1) first.0.1 ≡ g = cc (test.1) in
-    let left = ident_left f first.0 first.1 h in
-    ap (groups_are_free_of "!") (sym is) ∙ left_or (after_parenthesis first.0.1) first.0.1 (λ k is. parenthesis_left first.0.1 k is left) left
+    let rest = bind_some (after_word (codes "pub") f) _ _ e in
+    let is : unwrap_or (after_parenthesis rest.0) rest.0 ≡ g = cc (rest.2) in
+    let left = word_left (codes "pub") f rest.0 rest.1 h in
+    ap (groups_are_free_of "!") (sym is) ∙ left_or (after_parenthesis rest.0) rest.0 (λ k is. parenthesis_left rest.0 k is left) left
+
+macro_rules_left : (f g : Forest) → after_macro_rules f ≡ Some g → groups_are_free_of "!" f ≡ true → groups_are_free_of "!" g ≡ true
+macro_rules_left f g e h =
+    let rest = bind_some (after_word (codes "macro_rules") f) _ _ e in
+    let bang = bind_some (first_punct rest.0) _ _ rest.2 in
+    let is_bang = test_some (is_char "!" bang.0.0) _ _ bang.2 in
+    let is : bang.0.1 ≡ g = cc (is_bang.1) in
+    ap (groups_are_free_of "!") (sym is) ∙ punct_left rest.0 bang.0 bang.1 (word_left (codes "macro_rules") f rest.0 rest.1 h)
 
 -- ---- the body of a definition
 
 rules_body : (piece f : Forest) (d : Definition) → macro_rules_of piece f ≡ Some d → groups_are_free_of "!" f ≡ true → is_free_of "!" d.body ≡ true
 rules_body piece f d e h =
-    let word = bind_some (first_ident f) _ _ e in
-    let is_rules = test_some (is_word "macro_rules" word.0.0) _ _ word.2 in
-    let bang = bind_some (first_punct word.0.1) _ _ is_rules.1 in
-    let is_bang = test_some (is_char "!" bang.0.0) _ _ bang.2 in
-    let name = bind_some (first_ident bang.0.1) _ _ is_bang.1 in
+    let after = bind_some (after_macro_rules f) _ _ e in
+    let name = bind_some (first_ident after.0) _ _ after.2 in
     let body = bind_some (first_group name.0.1) _ _ name.2 in
     let ends = test_some (ends_definition body.0.0 body.0.2) _ _ body.2 in
     let is : record { name = name.0.0; arguments = None; body = body.0.1; is_macro = false; piece = piece } ≡ d = cc (ends.1) in
-    let left = ident_left bang.0.1 name.0 name.1 (punct_left word.0.1 bang.0 bang.1 (ident_left f word.0 word.1 h)) in
+    let left = ident_left after.0 name.0 name.1 (macro_rules_left f after.0 after.1 h) in
     ap (λ (k : Definition). is_free_of "!" k.body) (sym is) ∙ (group_left name.0.1 body.0 body.1 left).0
 
 body_after : (b : Bool) (x : Delimiter × Forest × Forest) (y : Option Forest × Forest) → is_free_of "!" x.1 ≡ true → groups_are_free_of "!" x.2 ≡ true
@@ -235,13 +246,12 @@ macro_body_free f y e h =
 
 macro_free : (piece f : Forest) (d : Definition) → macro_of piece f ≡ Some d → groups_are_free_of "!" f ≡ true → is_free_of "!" d.body ≡ true
 macro_free piece f d e h =
-    let word = bind_some (first_ident f) _ _ e in
-    let is_macro = test_some (is_word "macro" word.0.0) _ _ word.2 in
-    let name = bind_some (first_ident word.0.1) _ _ is_macro.1 in
+    let after = bind_some (after_word (codes "macro") f) _ _ e in
+    let name = bind_some (first_ident after.0) _ _ after.2 in
     let body = bind_some (macro_body name.0.1) _ _ name.2 in
     let is : record { name = name.0.0; arguments = body.0.0; body = body.0.1; is_macro = true; piece = piece } ≡ d = cc (body.2) in
     ap (λ (k : Definition). is_free_of "!" k.body) (sym is)
-    ∙ macro_body_free name.0.1 body.0 body.1 (ident_left word.0.1 name.0 name.1 (ident_left f word.0 word.1 h))
+    ∙ macro_body_free name.0.1 body.0 body.1 (ident_left after.0 name.0 name.1 (word_left (codes "macro") f after.0 after.1 h))
 
 either : {X : Type 0} {P : Type 0} (a b : Option X) (y : X) → or_else a b ≡ Some y → (a ≡ Some y → P) → (b ≡ Some y → P) → P
 either None b y e first second = second e

@@ -76,8 +76,11 @@ unfolding chars is_xid_start is_xid_continue in_ranges xid_start_ranges xid_cont
 printed_puncts = refl
 
 faults_in_order : thin (codes "macro_rules! m { (x) => { macro macro } }" ∷ codes "m!{ y } m!{ x } macro_rules" ∷ codes "macro_rules! n { x }" ∷ [])
-    ≡ (true, gives (lines (codes "m ! { y }" ∷ codes "macro macro macro_rules macro_rules ! n { x }" ∷ []))
-    (fault CannotExpand 42 43 ∷ fault NestedDefinition 50 51 ∷ fault NestedDefinition 50 51 ∷ fault NestedDefinition 58 69 ∷ fault NestedDefinition 70 81 ∷ []))
+    ≡ (
+      true,
+      gives (lines (codes "m ! { y }" ∷ codes "macro macro macro_rules macro_rules ! n { x }" ∷ []))
+          (fault CannotExpand 42 43 ∷ fault NestedDefinition 50 51 ∷ fault NestedDefinition 50 51 ∷ fault NestedDefinition 58 69 ∷ fault NestedDefinition 70 81 ∷ []),
+    )
 unfolding chars is_xid_start is_xid_continue in_ranges xid_start_ranges xid_continue_ranges encode_utf8
 faults_in_order = refl
 

@@ -1,21 +1,19 @@
 -- What stands in a list, a piece or a text whose call would give too many tokens.
 use Rattle.std.proofs.Common.{◌≡◌, ℕ, List, [], ◌∷◌, sym, ap, ◌∙◌, subst, inl, inr}
-use Rattle.std.specs.Prelude.{Option, Some, None, Result, Ok, option_and_then}
+use Rattle.std.specs.Prelude.{Option, Some, None, option_and_then}
 use Rattle.std.proofs.Math.Path.{fun_ext}
 use Rattle.tt_data.proofs.ForestLemmas.{joined_assoc}
 use Rattle.expander.proofs.PieceLemmas.{nearest_first}
 use Rattle.tt_data.specs.Forest.{Forest, joined}
 use Rattle.expander.specs.declared.definitions.Definition.{Definition}
 use Rattle.expander.specs.declared.rules.Rule.{Rule}
-use Rattle.expander.specs.declared.faults.ReadFault.{ReadFault}
 use Rattle.expander.specs.Definitions.{definition_of, nearest}
 use Rattle.expander.specs.Filling.{GivesTooMany}
 use Rattle.expander.specs.Meaning.{with_definition}
-use Rattle.expander.specs.Pieces.{cut, separated}
 use Rattle.expander.specs.Thin.{thin_layers, thin_world, thin_rules}
 use Rattle.expander.specs.ThinFit.{first_fit}
 use Rattle.expander.specs.ScopeTable.{defined}
-use Rattle.expander.specs.TooMany.{CallsTooMuch, HasTooManyAfter, HasTooMany}
+use Rattle.expander.specs.TooMany.{CallsTooMuch, HasTooManyAfter}
 
 -- what a definition gives by its rules
 pub gives_by_rules : (d : Definition) (rs : List Rule) (argument : Forest) → thin_rules d ≡ Some rs → GivesTooMany (first_fit rs argument)
@@ -47,4 +45,3 @@ one_more all more before piece behind = λ later. behind (inr later)
 pub here_too_many : {depth : ℕ} (all more : List Forest) (before : List Definition) (piece : Forest) → IsBehind depth all before (piece ∷ more)
     → definition_of piece ≡ None → CallsTooMuch (nearest before) depth piece → HasTooManyAfter depth [] all
 here_too_many all more before piece behind plain much = behind (inl (plain, much))
-

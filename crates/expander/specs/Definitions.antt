@@ -1,12 +1,12 @@
 -- Definition pieces, and what a name finds. (The Rust Reference, "Macros By Example": syntax and textual scope.)
-use Rattle.std.specs.Prelude.{ℕ, Bool, true, false, ◌&&◌, ◌||◌, List, if◌then◌else◌, Option, Some, None, find, unwrap_or, is_some}
+use Rattle.std.specs.Prelude.{ℕ, Bool, true, false, ◌&&◌, ◌||◌, List, if◌then◌else◌, Option, Some, None, find, unwrap_or, is_some, codes}
 use Rattle.tt_data.specs.Forest.{Forest, leaf, group}
 use Rattle.tt_data.specs.declared.delimiter.Delimiter.{Delimiter}
 use Rattle.tt_data.specs.declared.delimiter.DelimiterKind.TheVariants.{Parenthesis, Brace, Bracket}
 use Rattle.tt_data.specs.declared.leaf.Leaf.TheVariants as as_leaf
 use Rattle.expander.specs.declared.definitions.Definition.{Definition}
 use Rattle.expander.specs.FirstTrees.{◌>>=◌, ◌>>◌, first_ident, first_punct, first_group, is_empty}
-use Rattle.expander.specs.Text.{same_text, same_kind, is_word, is_char}
+use Rattle.expander.specs.Text.{same_text, same_kind, has_text, is_char}
 
 -- what follows an outer attribute at the beginning
 abbrev pub after_attribute : Forest → Option Forest
@@ -31,11 +31,17 @@ after_parenthesis f = do
   same_kind d.kind Parenthesis
   Some rest
 
+-- what follows this word, which isn't raw, at the beginning
+abbrev pub after_word : List ℕ → Forest → Option Forest
+after_word word f = do
+  (w, rest) ← first_ident f
+  has_text word w
+  Some rest
+
 -- what follows a `pub`, with its parenthesis group, at the beginning
 abbrev pub after_pub : Forest → Option Forest
 after_pub f = do
-  (w, rest) ← first_ident f
-  is_word "pub" w
+  rest ← after_word (codes "pub") f
   Some (unwrap_or (after_parenthesis rest) rest)
 
 -- nothing but a `;`
@@ -51,14 +57,19 @@ ends_definition d f =
     (same_kind d.kind Brace && is_empty f)
     || ((same_kind d.kind Parenthesis || same_kind d.kind Bracket) && is_semicolon f)
 
+-- what follows `macro_rules !` at the beginning
+abbrev pub after_macro_rules : Forest → Option Forest
+after_macro_rules f = do
+  rest ← after_word (codes "macro_rules") f
+  (bang, after_bang) ← first_punct rest
+  is_char "!" bang
+  Some after_bang
+
 -- `macro_rules ! name { .. }`
 abbrev pub macro_rules_of : Forest → Forest → Option Definition
 macro_rules_of piece f = do
-  (w, after_word) ← first_ident f
-  is_word "macro_rules" w
-  (bang, after_bang) ← first_punct after_word
-  is_char "!" bang
-  (name, after_name) ← first_ident after_bang
+  after ← after_macro_rules f
+  (name, after_name) ← first_ident after
   (d, body, rest) ← first_group after_name
   ends_definition d rest
   Some (record { name = name; arguments = None; body = body; is_macro = false; piece = piece })
@@ -76,9 +87,8 @@ macro_body f = do
 -- `macro name { .. }` or `macro name(..) { .. }`
 abbrev pub macro_of : Forest → Forest → Option Definition
 macro_of piece f = do
-  (w, after_word) ← first_ident f
-  is_word "macro" w
-  (name, after_name) ← first_ident after_word
+  after ← after_word (codes "macro") f
+  (name, after_name) ← first_ident after
   (arguments, body) ← macro_body after_name
   Some (record { name = name; arguments = arguments; body = body; is_macro = true; piece = piece })
 

@@ -1,6 +1,6 @@
 // Definition pieces.
 ghost use Rattle.std.specs.Prelude.{◌≡◌, Option, option_map, unwrap_or};
-ghost use Rattle.expander.specs.Definitions.{after_attribute, after_attributes, after_parenthesis, after_pub, is_semicolon, ends_definition, macro_rules_of, macro_body, macro_of, definition_of};
+ghost use Rattle.expander.specs.Definitions.{after_attribute, after_attributes, after_parenthesis, after_word, after_pub, after_macro_rules, is_semicolon, ends_definition, macro_rules_of, macro_body, macro_of, definition_of};
 ghost use Rattle.expander.specs.Text.{has_text};
 
 use crate::first_trees::{again, first_group, first_ident, first_punct};
@@ -67,14 +67,23 @@ fn after_parenthesis<'a>(trees: &TtIter<'a>) -> Option<TtIter<'a>>
     }
 }
 
+// What follows this word, which isn't raw, at the beginning.
+fn after_word<'a>(trees: &TtIter<'a>, word: &str) -> Option<TtIter<'a>>
+    ensures { result ≡ after_word word.now trees.now }
+{
+    let (name, rest) = first_ident(trees)?;
+    if is_word(&name, word) {
+        Some(rest)
+    } else {
+        None
+    }
+}
+
 // What follows a `pub`, with its parenthesis group, at the beginning.
 fn after_pub<'a>(trees: &TtIter<'a>) -> Option<TtIter<'a>>
     ensures { result ≡ after_pub trees.now }
 {
-    let (word, rest) = first_ident(trees)?;
-    if !is_word(&word, "pub") {
-        return None;
-    }
+    let rest = after_word(trees, "pub")?;
     match after_parenthesis(&rest) {
         Some(after) => Some(after),
         None => Some(rest),
@@ -101,19 +110,25 @@ fn ends_definition(brackets: Delimiter, rest: &TtIter<'_>) -> bool
     }
 }
 
+// What follows `macro_rules !` at the beginning.
+fn after_macro_rules<'a>(trees: &TtIter<'a>) -> Option<TtIter<'a>>
+    ensures { result ≡ after_macro_rules trees.now }
+{
+    let rest = after_word(trees, "macro_rules")?;
+    let (bang, after_bang) = first_punct(&rest)?;
+    if bang.char == '!' {
+        Some(after_bang)
+    } else {
+        None
+    }
+}
+
 // `macro_rules ! name { .. }`.
 fn macro_rules_of<'a>(piece: &TtIter<'a>, trees: &TtIter<'a>) -> Option<Definition<'a>>
     ensures { result ≡ macro_rules_of piece.now trees.now }
 {
-    let (word, after_word) = first_ident(trees)?;
-    if !is_word(&word, "macro_rules") {
-        return None;
-    }
-    let (bang, after_bang) = first_punct(&after_word)?;
-    if bang.char != '!' {
-        return None;
-    }
-    let (name, after_name) = first_ident(&after_bang)?;
+    let after = after_macro_rules(trees)?;
+    let (name, after_name) = first_ident(&after)?;
     let (brackets, body, rest) = first_group(&after_name)?;
     if !ends_definition(brackets, &rest) {
         return None;
@@ -154,11 +169,8 @@ fn macro_body<'a>(trees: &TtIter<'a>) -> Option<(Option<TtIter<'a>>, TtIter<'a>)
 fn macro_of<'a>(piece: &TtIter<'a>, trees: &TtIter<'a>) -> Option<Definition<'a>>
     ensures { result ≡ macro_of piece.now trees.now }
 {
-    let (word, after_word) = first_ident(trees)?;
-    if !is_word(&word, "macro") {
-        return None;
-    }
-    let (name, after_name) = first_ident(&after_word)?;
+    let after = after_word(trees, "macro")?;
+    let (name, after_name) = first_ident(&after)?;
     let (arguments, body) = macro_body(&after_name)?;
     Some(Definition {
         name,

@@ -29,9 +29,21 @@ fn expansion_of(rt: &impl Abort, alloc: Global, text: &str, depth: u8) -> Result
 fn shows(rt: &impl Abort, alloc: Global, row: Row<'_>) -> Result<(), Fail> {
     let (text, depth, printed, faults, expanded, tokens) = row;
     let found = expansion_of(rt, alloc, text, depth)?;
-    assert!(rt; found.printed() == printed, "{:?} of {text:?}", found.printed());
-    assert!(rt; found.faults() == faults, "{:?} of {text:?}", found.faults());
-    assert!(rt; found.expanded() == expanded, "{} of {text:?}", found.expanded());
+    assert!(rt;
+        found.printed() == printed,
+        "{:?} of {text:?}",
+        found.printed()
+    );
+    assert!(rt;
+        found.faults() == faults,
+        "{:?} of {text:?}",
+        found.faults()
+    );
+    assert!(rt;
+        found.expanded() == expanded,
+        "{} of {text:?}",
+        found.expanded()
+    );
     assert!(rt; found.tokens() == tokens, "{} of {text:?}", found.tokens());
     if found.tokens() > 0 {
         assert!(rt; found.origin(0).is_none());
@@ -79,7 +91,10 @@ fn texts(rt: HostRuntime) -> Result<(), Fail> {
             "macro_rules! s { a }\ns!{c} t!{}\n",
             0,
             "s ! { c }\nt ! { }\n",
-            &[fault(BrokenDefinition, 13, 14), fault(BrokenDefinition, 21, 22)],
+            &[
+                fault(BrokenDefinition, 13, 14),
+                fault(BrokenDefinition, 21, 22),
+            ],
             2,
             9,
         ),

@@ -1,12 +1,10 @@
-use Rattle.std.proofs.Common.{ap, ◌∙◌, ◌≡◌, ◌≢◌, sym, refl, true, false}
+use Rattle.std.proofs.Common.{◌∙◌, ◌≡◌, ◌≢◌, sym, refl, true, false}
 use Rattle.std.specs.Prelude.{None}
 use Rattle.tt_data.specs.Forest.{empty}
 use Rattle.expander.specs.CallSteps.{call_at, call_behind_colons}
 use Rattle.expander.specs.ScopeTable.{definitions_of}
 use Rattle.expander.proofs.FreeLemmas.{free_behind_colons}
 use Rattle.expander.proofs.TurnLemmas.{behind_passed, call_passed, kept_turn, left_more}
-use Rattle.std.specs.Prelude.{Err}
-use Rattle.tt_data.specs.fault.TtFault.TheVariants.{Tokens}
 use Rattle.expander.proofs.RoomLemmas.{handed}
 use Rattle.expander.proofs.TooManyLemmas.{passed_more}
 use Rattle.expander.proofs.expansion.expand_piece.Goals as goal

@@ -4,8 +4,6 @@ use Rattle.expander.specs.Pieces.{cut}
 use Rattle.expander.specs.Definitions.{definition_of}
 use Rattle.expander.specs.Meaning.{with_definition}
 use Rattle.expander.specs.Thin.{thin_layers}
-use Rattle.std.specs.Prelude.{Err}
-use Rattle.tt_data.specs.fault.TtFault.TheVariants.{Tokens}
 use Rattle.expander.proofs.RoomLemmas.{handed}
 use Rattle.expander.proofs.TooManyLemmas.{one_more, here_too_many}
 use Rattle.expander.proofs.PieceLemmas.{free_cut, pieces_at_first, pieces_more}
