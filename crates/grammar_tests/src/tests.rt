@@ -7,7 +7,8 @@ use std::alloc::Global;
 use std::cell::Cell;
 use std::test::Fail;
 use tt::{TokenTreesView, TopSubtree, TopSubtreeBuilder};
-use tt_data::delimiter::{DelimSpan, Delimiter, DelimiterKind};
+use tt_data::delimiter::{Delimiter, DelimiterKind};
+use tt_data::fault::TtFault;
 use tt_data::leaf::{Ident, Leaf, LitKind, Literal, Punct, Spacing};
 use tt_data::span::{Span, SyntaxContext, TextRange};
 
@@ -19,64 +20,60 @@ fn span() -> Span {
     }
 }
 
-fn punct(char: char, spacing: Spacing) -> Leaf {
-    Leaf::from(Punct {
-        char,
-        spacing,
-        span: span(),
-    })
-}
-
-// The puncts of a word, each joint but the last.
-fn push_puncts(builder: &mut TopSubtreeBuilder, word: &str) -> Result<(), Fail> {
-    let mut chars = word.chars();
-    let Some(mut last) = chars.next() else {
-        return Ok(());
-    };
-    for char in chars {
-        builder.push(punct(last, Spacing::Joint))?;
-        last = char;
-    }
-    builder.push(punct(last, Spacing::Alone))?;
-    Ok(())
-}
-
-fn number(alloc: Global, word: &str) -> Result<Leaf, Fail> {
-    let kind = if word.contains('.') {
-        LitKind::Float
-    } else {
-        LitKind::Integer
-    };
-    Ok(Leaf::from(Literal::new_no_suffix(alloc, word, span(), kind)?))
-}
-
-fn tree(alloc: Global, text: &str) -> Result<TopSubtree, Fail> {
-    let top = Delimiter::invisible_delim_spanned(DelimSpan::from_single(span()));
-    let mut builder = TopSubtreeBuilder::new(alloc, top)?;
+fn tree(alloc: Global, text: &str) -> Result<TopSubtree, TtFault> {
+    let mut builder = TopSubtreeBuilder::new(alloc, Delimiter::invisible_spanned(span()))?;
     for word in text.split_whitespace() {
-        match word {
-            "(" => builder.open(DelimiterKind::Parenthesis, span())?,
-            "{" => builder.open(DelimiterKind::Brace, span())?,
-            "[" => builder.open(DelimiterKind::Bracket, span())?,
-            ")" | "}" | "]" => builder.close(span())?,
-            _ => {
-                let Some(first) = word.chars().next() else {
-                    return Err(Fail::new("an empty word"));
-                };
-                if first.is_ascii_digit() {
-                    builder.push(number(alloc, word)?)?;
-                } else if first.is_alphabetic() || first == '_' {
-                    builder.push(Leaf::from(Ident::new(alloc, word, span())?))?;
-                } else {
-                    push_puncts(&mut builder, word)?;
-                }
-            }
-        }
+        put(alloc, &mut builder, word)?;
     }
     match builder.build() {
         Ok(tree) => Ok(tree),
-        Err(_) => Err(Fail::new("a group is open")),
+        Err((_, fault)) => Err(fault),
     }
+}
+
+fn put(alloc: Global, builder: &mut TopSubtreeBuilder, word: &str) -> Result<(), TtFault> {
+    match word {
+        "(" => builder.open(DelimiterKind::Parenthesis, span()),
+        "{" => builder.open(DelimiterKind::Brace, span()),
+        "[" => builder.open(DelimiterKind::Bracket, span()),
+        ")" | "}" | "]" => builder.close(span()),
+        _ => put_word(alloc, builder, word),
+    }
+}
+
+fn put_word(alloc: Global, builder: &mut TopSubtreeBuilder, word: &str) -> Result<(), TtFault> {
+    let first = word.as_bytes().first().copied().unwrap_or(b'_');
+    if first.is_ascii_digit() {
+        let kind = if word.contains('.') {
+            LitKind::Float
+        } else {
+            LitKind::Integer
+        };
+        builder.push(Leaf::from(Literal::new_no_suffix(alloc, word, span(), kind)?))
+    } else if first.is_ascii_alphabetic() {
+        builder.push(Leaf::from(Ident::new(alloc, word, span())?))
+    } else {
+        put_puncts(builder, word.as_bytes())
+    }
+}
+
+// Puncts, each joint but the last.
+fn put_puncts(builder: &mut TopSubtreeBuilder, chars: &[u8]) -> Result<(), TtFault> {
+    let mut left = chars.len();
+    for char in chars {
+        left = left.saturating_sub(1);
+        let spacing = if left == 0 {
+            Spacing::Alone
+        } else {
+            Spacing::Joint
+        };
+        builder.push(Leaf::Punct(Punct {
+            char: char::from(*char),
+            spacing,
+            span: span(),
+        }))?;
+    }
+    Ok(())
 }
 
 fn taken(tokens: usize) -> Prefix {

@@ -9,7 +9,7 @@ use Rattle.tt_data.specs.Forest.{Forest, empty, leaf, group}
 use Rattle.tt_data.specs.Names.{ident_of}
 use Rattle.tt_data.specs.Spans.{no_span}
 use Rattle.tt_data.specs.declared.delimiter.DelimiterKind.{DelimiterKind}
-use Rattle.tt_data.specs.declared.delimiter.DelimiterKind.TheVariants.{Parenthesis, Brace, Bracket}
+use Rattle.tt_data.specs.declared.delimiter.DelimiterKind.TheVariants.{Parenthesis, Brace, Bracket, Invisible}
 use Rattle.tt_data.specs.declared.leaf.Leaf.{Leaf}
 use Rattle.tt_data.specs.declared.leaf.Leaf.TheVariants as as_leaf
 use Rattle.tt_data.specs.declared.leaf.LitKind.TheVariants as lit_kind
@@ -160,11 +160,28 @@ expressions =
     ∷ ("::a::b ! ( )", Some 9)
     ∷ ("a b", Some 1)
     ∷ ("a ... b", Some 1)
+    ∷ ("a < b , c", Some 3)
+    ∷ ("a as ;", Some 1)
+    ∷ ("- ;", None)
+    ∷ ("unsafe ( )", None)
+    ∷ ("m ! a", Some 1)
+    ∷ ("a . + b", Some 1)
+    ∷ ("a . \"s\"", Some 1)
+    ∷ ("::", None)
+    ∷ ("a::+", Some 1)
     ∷ []
 
 expressions-rows : asked entry.Expr expressions ≡ expected expressions
 unfolding lifetime arrow arg generics seg tpath bound type_rule path post atom operand binop expr num pat_rule pat_top meta_item vis rules token_at
 expressions-rows = refl
+
+-- an invisible group fits nothing
+abbrev invisible : Forest
+invisible = group (record { open_span = no_span; close_span = no_span; kind = Invisible }) (trees "a") empty
+
+nothing_invisible : number_of (answer entry.Expr invisible) ≡ None
+unfolding lifetime arrow arg generics seg tpath bound type_rule path post atom operand binop expr num pat_rule pat_top meta_item vis rules token_at
+nothing_invisible = refl
 
 abbrev types : List (String × Option ℕ)
 types =
@@ -202,6 +219,14 @@ types =
     ∷ ("fn F", None)
     ∷ ("a<b = >", Some 1)
     ∷ ("a<b, = c>", Some 1)
+    ∷ ("*const ;", None)
+    ∷ ("dyn A + ;", Some 2)
+    ∷ ("dyn ?;", None)
+    ∷ ("{a}", None)
+    ∷ ("m ! a", Some 1)
+    ∷ ("a<- b>", Some 1)
+    ∷ ("& * const & mut T", Some 6)
+    ∷ ("& * T", None)
     ∷ ("a : : b", Some 1)
     ∷ []
 
@@ -257,6 +282,15 @@ patterns =
     ∷ ("[a, b]", Some 5)
     ∷ ("x @", Some 1)
     ∷ ("\"s\"", Some 1)
+    ∷ ("false", Some 1)
+    ∷ ("...", None)
+    ∷ ("- x", None)
+    ∷ ("ref", None)
+    ∷ ("m ! z", Some 1)
+    ∷ ("& & x @ & y @ ;", Some 6)
+    ∷ ("x @ & ;", Some 1)
+    ∷ ("ref x @ ;", Some 2)
+    ∷ ("mut x @ - y", Some 2)
     ∷ ("{a}", None)
     ∷ ("let", None)
     ∷ []

@@ -23,6 +23,7 @@ infixl 10 ◌>>◌
 abbrev pub ◌>>◌ : {B : Type 0} → Bool → Option B → Option B
 test >> rest = if test then rest else None
 
+-- no trees
 abbrev pub is_empty : Forest → Bool
 is_empty empty = true
 is_empty _ = false
@@ -39,10 +40,12 @@ same_kind Bracket Bracket = true
 same_kind Invisible Invisible = true
 same_kind _ _ = false
 
+-- a punct behind which none stands directly
 abbrev pub is_alone : Spacing → Bool
 is_alone Alone = true
 is_alone _ = false
 
+-- a name written with `r#`
 abbrev pub is_raw_name : Ident → Bool
 is_raw_name i = elim i.is_raw [ is_raw.No ↦ false | is_raw.Yes ↦ true ]
 
@@ -50,5 +53,6 @@ is_raw_name i = elim i.is_raw [ is_raw.No ↦ false | is_raw.Yes ↦ true ]
 abbrev pub has_text : List ℕ → Ident → Bool
 has_text word i = not (is_raw_name i) && same_text i.sym word
 
+-- the same, with the text quoted
 abbrev pub is_word : String → Ident → Bool
 is_word word i = has_text (codes word) i

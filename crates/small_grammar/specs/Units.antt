@@ -35,17 +35,19 @@ abbrev pub is_joint : Spacing → Bool
 is_joint Joint = true
 is_joint _ = false
 
--- two puncts that are glued to one operator, and three
+-- two puncts that are glued to one operator
 abbrev pub is_pair : Punct → Punct → Bool
 is_pair p q = not (is_alone p.spacing) && is_two p.char q.char
 
+-- three puncts that are glued to one operator
 abbrev pub is_triple : Punct → Punct → Punct → Bool
 is_triple p q r = not (is_alone p.spacing) && (is_joint q.spacing && is_three p.char q.char r.char)
 
--- the operator that two puncts begin which stand side by side, and three
+-- the operator that two puncts begin which stand side by side
 abbrev pub operator_of_two : Punct → Punct → Operator
 operator_of_two p q = if is_pair p q then Two p.char q.char else One p.char
 
+-- the operator that three puncts begin
 abbrev pub operator_of_three : Punct → Punct → Punct → Operator
 operator_of_three p q r = if is_triple p q r then Three p.char q.char r.char else operator_of_two p q
 
@@ -54,6 +56,7 @@ abbrev pub operator_third : Punct → Punct → Option (Punct × Forest) → Ope
 operator_third p q None = operator_of_two p q
 operator_third p q (Some (r, rest)) = operator_of_three p q r
 
+-- the operator of a punct and what comes second, where that is a punct
 abbrev pub operator_second : Punct → Option (Punct × Forest) → Operator
 operator_second p None = One p.char
 operator_second p (Some (q, rest)) = operator_third p q (first_punct rest)
