@@ -15,7 +15,8 @@ use Rattle.tt_data.specs.declared.leaf.Punct.{Punct}
 use Rattle.expander.proofs.CuttingLemmas.{joined-cancel}
 use Rattle.expander.proofs.UnitLemmas.{first_punct-is}
 use Rattle.expander.specs.Bound.{behind_unit, behind_fragment, fragment, behind_operator}
-use Rattle.expander.specs.FirstTrees.{◌>>=◌, ◌>>◌, first_ident, first_punct}
+use Rattle.expander.specs.Readings.{◌>>=◌, ◌>>◌}
+use Rattle.tt.specs.FirstTrees.{first_ident, first_punct}
 use Rattle.expander.specs.Text.{same_text}
 use Rattle.expander.specs.ThinFit.{fragment_size, same_operator}
 use Rattle.expander.specs.Units.{operator_at, puncts_of}

@@ -8,7 +8,7 @@ use Rattle.tt_data.specs.declared.leaf.Leaf.{Leaf}
 use Rattle.tt_data.specs.declared.leaf.Punct.{Punct}
 use Rattle.expander.proofs.PatternLemmas.{operator_begins, back-size}
 use Rattle.expander.specs.Bound.{behind_operator}
-use Rattle.expander.specs.FirstTrees.{◌>>=◌, ◌>>◌}
+use Rattle.expander.specs.Readings.{◌>>=◌, ◌>>◌}
 use Rattle.expander.specs.ThinFit.{Bindings, fit_after, same_operator}
 use Rattle.expander.specs.ThinRules.{Pattern, puncts, pattern_of, pattern_after}
 use Rattle.expander.specs.Units.{operator_at, puncts_of, first_operator}

@@ -15,7 +15,8 @@ use Rattle.expander.specs.declared.calls.Call.{Call}
 use Rattle.expander.specs.declared.definitions.Definition.{Definition}
 use Rattle.expander.specs.CallSteps.{bare_call, call_behind_colons, crate_call, call_at}
 use Rattle.expander.specs.Definitions.{after_attributes, after_parenthesis, after_word, after_pub, after_macro_rules, ends_definition, macro_rules_of, macro_body, macro_of, or_else, definition_of}
-use Rattle.expander.specs.FirstTrees.{◌>>=◌, ◌>>◌, first_ident, first_punct, first_group, is_empty}
+use Rattle.expander.specs.Readings.{◌>>=◌, ◌>>◌, is_empty}
+use Rattle.tt.specs.FirstTrees.{first_ident, first_punct, first_group}
 use Rattle.expander.specs.Pieces.{cut, cut_from, ends_piece, separated, pieces}
 use Rattle.expander.specs.Text.{same_kind, has_text, is_char, is_punct, alone, with_last_alone}
 use Rattle.expander.specs.Thin.{is_free_of, groups_are_free_of}

@@ -5,7 +5,7 @@ use Rattle.tt_data.specs.Forest.{Forest, empty, leaf, group, back}
 use Rattle.tt_data.specs.Flat.{back-zero}
 use Rattle.tt_data.specs.declared.leaf.Leaf.TheVariants as as_leaf
 use Rattle.tt_data.specs.declared.leaf.Punct.{Punct}
-use Rattle.expander.specs.FirstTrees.{first_punct}
+use Rattle.tt.specs.FirstTrees.{first_punct}
 
 pub first_punct-is : (f g : Forest) (p : Punct) → first_punct f ≡ Some (p, g) → f ≡ leaf (as_leaf.Punct p) g
 first_punct-is (leaf (as_leaf.Punct q) rest) g p e =

@@ -5,7 +5,7 @@ use Rattle.expander.specs.declared.bindings.Bindings as table
 use Rattle.expander.specs.declared.rules.FragmentKind.{FragmentKind}
 use Rattle.expander.specs.declared.rules.FragmentKind.TheVariants as kind
 use Rattle.expander.specs.declared.units.Operator.{Operator}
-use Rattle.expander.specs.FirstTrees.{◌>>=◌, ◌>>◌}
+use Rattle.expander.specs.Readings.{◌>>=◌, ◌>>◌}
 use Rattle.expander.specs.Names.{index_of}
 use Rattle.expander.specs.ThinFit.{Bindings, fragment_size, same_operator, fit_after}
 use Rattle.expander.specs.ThinRules.{Pattern}

@@ -4,7 +4,8 @@ use Rattle.tt_data.specs.Forest.{Forest}
 use Rattle.expander.specs.declared.calls.Call.{Call}
 use Rattle.expander.specs.Calls.{is_colons, is_dollar_crate}
 use Rattle.expander.specs.Definitions.{or_else}
-use Rattle.expander.specs.FirstTrees.{◌>>=◌, ◌>>◌, first_ident, first_punct, first_group}
+use Rattle.expander.specs.Readings.{◌>>=◌, ◌>>◌}
+use Rattle.tt.specs.FirstTrees.{first_ident, first_punct, first_group}
 use Rattle.expander.specs.Text.{is_char, is_visible}
 
 -- a name, `!` and a visible group

@@ -5,7 +5,8 @@ use Rattle.tt_data.specs.declared.delimiter.Delimiter.{Delimiter}
 use Rattle.tt_data.specs.declared.delimiter.DelimiterKind.TheVariants.{Parenthesis, Brace, Bracket}
 use Rattle.tt_data.specs.declared.leaf.Leaf.TheVariants as as_leaf
 use Rattle.expander.specs.declared.definitions.Definition.{Definition}
-use Rattle.expander.specs.FirstTrees.{◌>>=◌, ◌>>◌, first_ident, first_punct, first_group, is_empty}
+use Rattle.expander.specs.Readings.{◌>>=◌, ◌>>◌, is_empty}
+use Rattle.tt.specs.FirstTrees.{first_ident, first_punct, first_group}
 use Rattle.expander.specs.Text.{same_text, same_kind, has_text, is_char}
 
 -- what follows an outer attribute at the beginning

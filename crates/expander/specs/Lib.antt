@@ -1,6 +1,6 @@
 -- what a text means, in reading order
 pub mod Text
-pub mod FirstTrees
+pub mod Readings
 pub mod Reading
 pub mod Pieces
 pub mod Definitions

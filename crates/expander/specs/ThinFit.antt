@@ -10,7 +10,8 @@ use Rattle.expander.specs.declared.units.Operator.{Operator}
 use Rattle.expander.specs.declared.units.Operator.TheVariants.{One, Two, Three}
 use Rattle.expander.specs.declared.rules.FragmentKind.{FragmentKind}
 use Rattle.expander.specs.declared.rules.FragmentKind.TheVariants as kind
-use Rattle.expander.specs.FirstTrees.{◌>>=◌, ◌>>◌, first_ident, first_group, is_empty}
+use Rattle.expander.specs.Readings.{◌>>=◌, ◌>>◌, is_empty}
+use Rattle.tt.specs.FirstTrees.{first_ident, first_group}
 use Rattle.tt_data.specs.Spans.{leaf_with, delimiter_with}
 use Rattle.expander.specs.Text.{same_text, same_kind, with_last_alone}
 use Rattle.expander.specs.ThinRules.{Pattern, done, variable, word, puncts, within, pattern_of, Template, filled, put, exactly, around, template_of}

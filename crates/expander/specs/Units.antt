@@ -9,7 +9,7 @@ use Rattle.tt_data.specs.declared.leaf.Spacing.{Spacing}
 use Rattle.tt_data.specs.declared.leaf.Spacing.TheVariants.{Joint}
 use Rattle.expander.specs.declared.units.Operator.{Operator}
 use Rattle.expander.specs.declared.units.Operator.TheVariants.{One, Two, Three}
-use Rattle.expander.specs.FirstTrees.{first_punct}
+use Rattle.tt.specs.FirstTrees.{first_punct}
 use Rattle.expander.specs.Text.{is_alone}
 
 -- the character is one of these

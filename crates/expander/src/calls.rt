@@ -3,7 +3,6 @@ ghost use Rattle.std.specs.Prelude.{◌≡◌, Option};
 ghost use Rattle.expander.specs.Calls.{is_colons};
 ghost use Rattle.expander.specs.CallSteps.{bare_call, call_behind_colons, crate_call, call_at};
 
-use crate::first_trees::{first_group, first_ident, first_punct};
 use tt::iter::TtIter;
 use tt_data::delimiter::DelimiterKind;
 use tt_data::leaf::{Ident, Punct, Spacing};
@@ -28,12 +27,12 @@ fn is_colons(first: Punct, second: Punct) -> bool
 fn bare_call<'a>(trees: &TtIter<'a>) -> Option<Call<'a>>
     ensures { result ≡ bare_call trees.now }
 {
-    let (name, after_name) = first_ident(trees)?;
-    let (bang, after_bang) = first_punct(&after_name)?;
+    let (name, after_name) = trees.first_ident()?;
+    let (bang, after_bang) = after_name.first_punct()?;
     if bang.char != '!' {
         return None;
     }
-    let (brackets, argument, rest) = first_group(&after_bang)?;
+    let (brackets, argument, rest) = after_bang.first_group()?;
     if brackets.kind == DelimiterKind::Invisible {
         return None;
     }
@@ -48,8 +47,8 @@ fn bare_call<'a>(trees: &TtIter<'a>) -> Option<Call<'a>>
 pub(crate) fn call_behind_colons<'a>(trees: &TtIter<'a>) -> Option<Call<'a>>
     ensures { result ≡ call_behind_colons trees.now }
 {
-    let (first, after_first) = first_punct(trees)?;
-    let (second, after_colons) = first_punct(&after_first)?;
+    let (first, after_first) = trees.first_punct()?;
+    let (second, after_colons) = after_first.first_punct()?;
     if is_colons(first, second) {
         bare_call(&after_colons)
     } else {
@@ -61,7 +60,7 @@ pub(crate) fn call_behind_colons<'a>(trees: &TtIter<'a>) -> Option<Call<'a>>
 fn crate_call<'a>(trees: &TtIter<'a>) -> Option<Call<'a>>
     ensures { result ≡ crate_call trees.now }
 {
-    let (name, after_name) = first_ident(trees)?;
+    let (name, after_name) = trees.first_ident()?;
     if name.sym.as_str() == "$crate" {
         call_behind_colons(&after_name)
     } else {

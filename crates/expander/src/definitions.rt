@@ -3,7 +3,7 @@ ghost use Rattle.std.specs.Prelude.{◌≡◌, Option, option_map, unwrap_or};
 ghost use Rattle.expander.specs.Definitions.{after_attribute, after_attributes, after_parenthesis, after_word, after_pub, after_macro_rules, is_semicolon, ends_definition, macro_rules_of, macro_body, macro_of, definition_of};
 ghost use Rattle.expander.specs.Text.{has_text};
 
-use crate::first_trees::{again, first_group, first_ident, first_punct};
+use crate::copies::again;
 use tt::iter::TtIter;
 use tt_data::delimiter::{Delimiter, DelimiterKind};
 use tt_data::leaf::{Ident, IdentIsRaw};
@@ -32,11 +32,11 @@ pub(crate) fn is_word(name: &Ident, word: &str) -> bool
 fn after_attribute<'a>(trees: &TtIter<'a>) -> Option<TtIter<'a>>
     ensures { result ≡ after_attribute trees.now }
 {
-    let (pound, after_pound) = first_punct(trees)?;
+    let (pound, after_pound) = trees.first_punct()?;
     if pound.char != '#' {
         return None;
     }
-    let (brackets, _, rest) = first_group(&after_pound)?;
+    let (brackets, _, rest) = after_pound.first_group()?;
     if brackets.kind == DelimiterKind::Bracket {
         Some(rest)
     } else {
@@ -59,7 +59,7 @@ fn after_attributes<'a>(piece: &TtIter<'a>) -> TtIter<'a>
 fn after_parenthesis<'a>(trees: &TtIter<'a>) -> Option<TtIter<'a>>
     ensures { result ≡ after_parenthesis trees.now }
 {
-    let (brackets, _, rest) = first_group(trees)?;
+    let (brackets, _, rest) = trees.first_group()?;
     if brackets.kind == DelimiterKind::Parenthesis {
         Some(rest)
     } else {
@@ -71,7 +71,7 @@ fn after_parenthesis<'a>(trees: &TtIter<'a>) -> Option<TtIter<'a>>
 fn after_word<'a>(trees: &TtIter<'a>, word: &str) -> Option<TtIter<'a>>
     ensures { result ≡ after_word word.now trees.now }
 {
-    let (name, rest) = first_ident(trees)?;
+    let (name, rest) = trees.first_ident()?;
     if is_word(&name, word) {
         Some(rest)
     } else {
@@ -94,7 +94,7 @@ fn after_pub<'a>(trees: &TtIter<'a>) -> Option<TtIter<'a>>
 fn is_semicolon(trees: &TtIter<'_>) -> bool
     ensures { result ≡ is_semicolon trees.now }
 {
-    match first_punct(trees) {
+    match trees.first_punct() {
         Some((punct, rest)) => punct.char == ';' && rest.is_empty(),
         None => false,
     }
@@ -115,7 +115,7 @@ fn after_macro_rules<'a>(trees: &TtIter<'a>) -> Option<TtIter<'a>>
     ensures { result ≡ after_macro_rules trees.now }
 {
     let rest = after_word(trees, "macro_rules")?;
-    let (bang, after_bang) = first_punct(&rest)?;
+    let (bang, after_bang) = rest.first_punct()?;
     if bang.char == '!' {
         Some(after_bang)
     } else {
@@ -128,8 +128,8 @@ fn macro_rules_of<'a>(piece: &TtIter<'a>, trees: &TtIter<'a>) -> Option<Definiti
     ensures { result ≡ macro_rules_of piece.now trees.now }
 {
     let after = after_macro_rules(trees)?;
-    let (name, after_name) = first_ident(&after)?;
-    let (brackets, body, rest) = first_group(&after_name)?;
+    let (name, after_name) = after.first_ident()?;
+    let (brackets, body, rest) = after_name.first_group()?;
     if !ends_definition(brackets, &rest) {
         return None;
     }
@@ -146,7 +146,7 @@ fn macro_rules_of<'a>(piece: &TtIter<'a>, trees: &TtIter<'a>) -> Option<Definiti
 fn macro_body<'a>(trees: &TtIter<'a>) -> Option<(Option<TtIter<'a>>, TtIter<'a>)>
     ensures { result ≡ macro_body trees.now }
 {
-    let (brackets, inner, rest) = first_group(trees)?;
+    let (brackets, inner, rest) = trees.first_group()?;
     if rest.is_empty() {
         return if brackets.kind == DelimiterKind::Brace {
             Some((None, inner))
@@ -157,7 +157,7 @@ fn macro_body<'a>(trees: &TtIter<'a>) -> Option<(Option<TtIter<'a>>, TtIter<'a>)
     if brackets.kind != DelimiterKind::Parenthesis {
         return None;
     }
-    let (braces, body, last) = first_group(&rest)?;
+    let (braces, body, last) = rest.first_group()?;
     if braces.kind == DelimiterKind::Brace && last.is_empty() {
         Some((Some(inner), body))
     } else {
@@ -170,7 +170,7 @@ fn macro_of<'a>(piece: &TtIter<'a>, trees: &TtIter<'a>) -> Option<Definition<'a>
     ensures { result ≡ macro_of piece.now trees.now }
 {
     let after = after_word(trees, "macro")?;
-    let (name, after_name) = first_ident(&after)?;
+    let (name, after_name) = after.first_ident()?;
     let (arguments, body) = macro_body(&after_name)?;
     Some(Definition {
         name,

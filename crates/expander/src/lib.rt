@@ -3,10 +3,10 @@
 
 mod bindings;
 mod calls;
+mod copies;
 mod definitions;
 mod expansion;
 pub mod faults;
-mod first_trees;
 pub mod laws;
 mod matching;
 mod names;

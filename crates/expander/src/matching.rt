@@ -5,7 +5,7 @@ ghost use Rattle.expander.specs.ThinFit.{same_operator};
 ghost use Rattle.expander.specs.ThinRules.{Pattern, pattern_of};
 
 use crate::bindings::Bindings;
-use crate::first_trees::{again, first_group, first_ident, first_punct};
+use crate::copies::again;
 use crate::rules::{FragmentKind, variable_after};
 use crate::units::{Operator, operator_at};
 use std::alloc::{AllocError, Global};
@@ -22,7 +22,7 @@ fn same_operator(first: Operator, second: Operator) -> bool
 fn behind_unit<'a>(trees: &TtIter<'a>) -> Option<TtIter<'a>>
     ensures { result ≡ behind_unit trees.now }
 {
-    if let Some((punct, rest)) = first_punct(trees) {
+    if let Some((punct, rest)) = trees.first_punct() {
         let (_, behind) = operator_at(punct, &rest);
         return Some(behind);
     }
@@ -37,7 +37,7 @@ fn behind_fragment<'a>(kind: FragmentKind, trees: &TtIter<'a>) -> Option<TtIter<
 {
     match kind {
         FragmentKind::Ident => {
-            let (name, rest) = first_ident(trees)?;
+            let (name, rest) = trees.first_ident()?;
             if name.sym.as_str() == "_" {
                 None
             } else {
@@ -61,7 +61,7 @@ fn fragment<'a>(kind: FragmentKind, trees: &TtIter<'a>) -> Option<(TtIter<'a>, T
 fn behind_operator<'a>(operator: Operator, trees: &TtIter<'a>) -> Option<TtIter<'a>>
     ensures { result ≡ behind_operator operator trees.now }
 {
-    let (first, after) = first_punct(trees)?;
+    let (first, after) = trees.first_punct()?;
     let (found, behind) = operator_at(first, &after);
     if same_operator(operator, found) {
         Some(behind)
@@ -85,7 +85,7 @@ pub(crate) fn fit<'a>(
     while let Some(step) = steps.next() {
         match step {
             TtElement::Leaf(Leaf::Ident(word)) => {
-                let Some((name, behind)) = first_ident(&rest) else {
+                let Some((name, behind)) = rest.first_ident() else {
                     return Ok(false);
                 };
                 if name.sym != word.sym {
@@ -115,7 +115,7 @@ pub(crate) fn fit<'a>(
                 }
             }
             TtElement::Subtree(subtree, inner) => {
-                let Some((brackets, held, behind)) = first_group(&rest) else {
+                let Some((brackets, held, behind)) = rest.first_group() else {
                     return Ok(false);
                 };
                 if brackets.kind != subtree.delimiter.kind {

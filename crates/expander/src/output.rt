@@ -4,7 +4,7 @@ ghost use Rattle.tt_data.specs.Walk.{walk};
 ghost use Rattle.expander.specs.Expansion.{placed};
 ghost use Rattle.expander.specs.OutputSteps.{step_of, steps_of_output};
 
-use crate::first_trees::again;
+use crate::copies::again;
 use std::alloc::AllocError;
 use tt::iter::{TtElement, TtIter};
 use tt_data::delimiter::DelimiterKind;

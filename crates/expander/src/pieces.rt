@@ -6,7 +6,6 @@ ghost use Rattle.expander.specs.Pieces.{is_pound_bang, ends_piece, separated};
 ghost use Rattle.expander.specs.Text.{alone, is_punct};
 ghost use Rattle.expander.specs.Cutting.{CutsOff, PassesTree, end_alone, put_all};
 
-use crate::first_trees::first_punct;
 use std::alloc::{AllocError, Global};
 use tt::iter::{TtElement, TtIter};
 use tt::top::TopSubtree;
@@ -18,10 +17,10 @@ use tt_data::leaf::{Leaf, Punct, Spacing};
 fn is_pound_bang(begun: &TtIter<'_>) -> bool
     ensures { result ≡ is_pound_bang begun.now }
 {
-    let Some((pound, after_pound)) = first_punct(begun) else {
+    let Some((pound, after_pound)) = begun.first_punct() else {
         return false;
     };
-    let Some((bang, rest)) = first_punct(&after_pound) else {
+    let Some((bang, rest)) = after_pound.first_punct() else {
         return false;
     };
     pound.char == '#' && bang.char == '!' && rest.is_empty()

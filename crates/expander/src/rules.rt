@@ -3,7 +3,7 @@ ghost use Rattle.std.specs.Prelude.{◌≡◌, Option, is_some, IfOk, option_map
 ghost use Rattle.expander.specs.ThinRules.{kind_of, name_of, variable_after, name_after, pattern_of, template_of, rule_of, rules_of};
 ghost use Rattle.expander.specs.Cutting.{CutsOffPart};
 
-use crate::first_trees::{again, first_group, first_ident, first_punct};
+use crate::copies::again;
 use crate::pieces::ends_statement;
 use crate::units::operator_at;
 use std::alloc::{AllocError, Global};
@@ -53,13 +53,13 @@ fn name_of(name: &Ident) -> Option<Symbol>
 pub(crate) fn variable_after<'a>(trees: &TtIter<'a>) -> Option<(Symbol, FragmentKind, TtIter<'a>)>
     ensures { result ≡ variable_after trees.now }
 {
-    let (name, after_name) = first_ident(trees)?;
+    let (name, after_name) = trees.first_ident()?;
     let name = name_of(&name)?;
-    let (colon, after_colon) = first_punct(&after_name)?;
+    let (colon, after_colon) = after_name.first_punct()?;
     if colon.char != ':' {
         return None;
     }
-    let (kind, rest) = first_ident(&after_colon)?;
+    let (kind, rest) = after_colon.first_ident()?;
     let kind = kind_of(&kind)?;
     Some((name, kind, rest))
 }
@@ -68,7 +68,7 @@ pub(crate) fn variable_after<'a>(trees: &TtIter<'a>) -> Option<(Symbol, Fragment
 pub(crate) fn name_after<'a>(trees: &TtIter<'a>) -> Option<(Symbol, TtIter<'a>)>
     ensures { result ≡ name_after trees.now }
 {
-    let (name, rest) = first_ident(trees)?;
+    let (name, rest) = trees.first_ident()?;
     let name = name_of(&name)?;
     Some((name, rest))
 }
@@ -135,16 +135,16 @@ fn is_template(trees: &TtIter<'_>) -> bool
 fn rule_of<'a>(trees: &TtIter<'a>) -> Option<Rule<'a>>
     ensures { result ≡ rule_of trees.now }
 {
-    let (_, pattern, after_pattern) = first_group(trees)?;
-    let (equals, after_equals) = first_punct(&after_pattern)?;
+    let (_, pattern, after_pattern) = trees.first_group()?;
+    let (equals, after_equals) = after_pattern.first_punct()?;
     if equals.char != '=' {
         return None;
     }
-    let (greater, after_arrow) = first_punct(&after_equals)?;
+    let (greater, after_arrow) = after_equals.first_punct()?;
     if greater.char != '>' {
         return None;
     }
-    let (_, template, rest) = first_group(&after_arrow)?;
+    let (_, template, rest) = after_arrow.first_group()?;
     if rest.is_empty() && is_pattern(&pattern) && is_template(&template) {
         Some(Rule { pattern, template })
     } else {

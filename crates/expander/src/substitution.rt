@@ -9,7 +9,7 @@ ghost use Rattle.expander.specs.ThinFit.{made, itself, value_of, substituted, ru
 ghost use Rattle.expander.specs.ThinRules.{Template, template_of, IsRule};
 
 use crate::bindings::Bindings;
-use crate::first_trees::again;
+use crate::copies::again;
 use crate::matching::fit;
 use crate::pieces::alone;
 use crate::rules::{Rule, name_after};

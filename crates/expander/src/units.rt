@@ -4,7 +4,7 @@ ghost use Rattle.tt_data.specs.Forest.{back};
 ghost use Rattle.expander.specs.Units.{is_two, is_three, is_pair, is_triple, operator_at, puncts_of};
 ghost use Rattle.expander.specs.ThinFit.{same_operator};
 
-use crate::first_trees::{again, first_punct};
+use crate::copies::again;
 use tt::iter::TtIter;
 use tt_data::leaf::{Punct, Spacing};
 
@@ -64,10 +64,10 @@ pub(crate) fn operator_at<'a>(first: Punct, rest: &TtIter<'a>) -> (Operator, TtI
     ensures operator { result.0 ≡ operator_at first rest.now }
     ensures rest { result.1 ≡ back (puncts_of result.0 - 1) rest.now }
 {
-    let Some((second, behind_two)) = first_punct(rest) else {
+    let Some((second, behind_two)) = rest.first_punct() else {
         return (Operator::One(first.char), again(rest));
     };
-    if let Some((third, behind_three)) = first_punct(&behind_two) {
+    if let Some((third, behind_three)) = behind_two.first_punct() {
         if is_triple(first, second, third) {
             return (
                 Operator::Three(first.char, second.char, third.char),

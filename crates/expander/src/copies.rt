@@ -1,0 +1,13 @@
+// The same list of trees again.
+ghost use Rattle.std.specs.Prelude.{◌≡◌};
+
+use tt::iter::TtIter;
+
+pub(crate) fn again<'a>(trees: &TtIter<'a>) -> TtIter<'a>
+    ensures { result ≡ trees.now }
+{
+    let Ok(copy) = trees.clone() else {
+        unreachable!()
+    };
+    copy
+}
