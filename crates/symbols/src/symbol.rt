@@ -10,8 +10,6 @@ ghost use Rattle.std.specs.String.{string_bytes};
 ghost use Rattle.symbols.specs.declared.fault.TtFault.TheVariants as fault;
 
 pub(crate) mod shared;
-#[cfg(test)]
-mod tests;
 
 use crate::fault::TtFault;
 use crate::symbol::shared::{Bare, Block, Shared};

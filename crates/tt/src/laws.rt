@@ -4,14 +4,22 @@ ghost use Rattle.std.specs.List.{count_by};
 ghost use Rattle.std.specs.Option.{unwrap_or};
 ghost use Rattle.tt_data.specs.Forest.{Forest};
 ghost use Rattle.tt_data.specs.Walk.{walk};
-ghost use Rattle.tt.specs.Building.{Building, Reached, point_of, cut_back};
+ghost use Rattle.tt.specs.Building.{Building, Point, Reached, point_of, cut_back};
 ghost use Rattle.tt.specs.Elements.{elements};
 ghost use Rattle.tt.specs.Places.{Place, beginning, IsEnd, moved, steps_before, steps_after, IsStep};
 ghost use Rattle.tt.specs.Splitting.{until_separator, behind_separator, pieces_between};
 ghost use Rattle.tt.specs.Tops.{Top};
 ghost use Rattle.tt.specs.declared.iter.TtElement.{TtElement};
+ghost use Rattle.tt.specs.declared.transform.TransformTtAction.{TransformTtAction};
+ghost use Rattle.tt.specs.declared.view.SubtreeView.{SubtreeView};
+ghost use Rattle.tt.specs.declared.view.TokenTreesView.{TokenTreesView};
 
+use crate::buffer::Cursor;
+use crate::builder::SubtreeBuilderRestorePoint;
+use crate::iter::{TtElement, TtIter};
 use crate::top::TopSubtree;
+use crate::transform::TransformTtAction;
+use crate::view::{SubtreeView, TokenTreesView};
 
 /// A cursor goes over the walk of its list step by step: at the beginning all steps are after it,
 /// each move passes one, and at the end none is left.
@@ -39,4 +47,15 @@ pub fn pieces_of_trees()
 /// Two trees are equal by `==` exactly where they are the same tree, places included.
 pub fn equal_trees()
     ensures { (a b : Top) → (⟦<TopSubtree as PartialEq>⟧.eq a b ≡ true) ↔ (a ≡ b) }
+{}
+
+/// A clone of what borrows trees, of a point and of an action is the same value.
+pub fn clones_are_the_same()
+    ensures views { (v copy : TokenTreesView) → ⟦<TokenTreesView<'static> as Clone>⟧.is_clone v copy → copy ≡ v }
+    ensures groups { (g copy : SubtreeView) → ⟦<SubtreeView<'static> as Clone>⟧.is_clone g copy → copy ≡ g }
+    ensures walks { (f copy : Forest) → ⟦<TtIter<'static> as Clone>⟧.is_clone f copy → copy ≡ f }
+    ensures trees { (t copy : TtElement) → ⟦<TtElement<'static> as Clone>⟧.is_clone t copy → copy ≡ t }
+    ensures cursors { (p copy : Place) → ⟦<Cursor<'static> as Clone>⟧.is_clone p copy → copy ≡ p }
+    ensures points { (p copy : Point) → ⟦<SubtreeBuilderRestorePoint as Clone>⟧.is_clone p copy → copy ≡ p }
+    ensures actions { (a copy : TransformTtAction) → ⟦<TransformTtAction<'static> as Clone>⟧.is_clone a copy → copy ≡ a }
 {}

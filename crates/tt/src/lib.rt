@@ -12,8 +12,6 @@ pub mod flat;
 pub mod iter;
 pub mod laws;
 pub mod split;
-#[cfg(test)]
-mod tests;
 mod tokens;
 pub mod top;
 pub mod transform;

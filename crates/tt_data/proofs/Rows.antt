@@ -7,7 +7,7 @@ use Rattle.tt_data.specs.declared.delimiter.DelimiterKind.TheVariants.{Parenthes
 use Rattle.tt_data.specs.declared.leaf.IdentIsRaw.TheVariants as is_raw
 use Rattle.tt_data.specs.declared.leaf.Leaf.{Leaf}
 use Rattle.tt_data.specs.declared.leaf.Leaf.TheVariants as as_leaf
-use Rattle.tt_data.specs.declared.leaf.LitKind.TheVariants.{Integer, Str, ByteStrRaw, Char}
+use Rattle.tt_data.specs.declared.leaf.LitKind.TheVariants.{Byte, Integer, Float, Str, StrRaw, ByteStr, ByteStrRaw, CStr, CStrRaw, Char}
 use Rattle.tt_data.specs.declared.leaf.Spacing.TheVariants.{Alone}
 use Rattle.tt_data.specs.declared.tree.TokenTree.{TokenTree}
 use Rattle.tt_data.specs.declared.tree.TokenTree.TheVariants as token
@@ -173,3 +173,29 @@ displayed_string = refl
 
 displayed_raw_string : literal_text (literal (codes "a") [] (ByteStrRaw 2)) ≡ codes "br##\"a\"##"
 displayed_raw_string = refl
+
+-- `b'a'`, `1.`, `r"a"`, `b"a"`, `c"a"` and `cr#"a"#`
+displayed_byte : literal_text (literal (codes "a") [] Byte) ≡ codes "b'a'"
+displayed_byte = refl
+
+displayed_float : literal_text (literal (codes "1.") [] Float) ≡ codes "1."
+displayed_float = refl
+
+displayed_without_hashes : literal_text (literal (codes "a") [] (StrRaw 0)) ≡ codes "r\"a\""
+displayed_without_hashes = refl
+
+displayed_byte_string : literal_text (literal (codes "a") [] ByteStr) ≡ codes "b\"a\""
+displayed_byte_string = refl
+
+displayed_c_string : literal_text (literal (codes "a") [] CStr) ≡ codes "c\"a\""
+displayed_c_string = refl
+
+displayed_raw_c_string : literal_text (literal (codes "a") [] (CStrRaw 1)) ≡ codes "cr#\"a\"#"
+displayed_raw_c_string = refl
+
+-- only one `r#` at the very beginning is none of the name
+doubly_raw_name : ident_of (codes "r#r#a") (at 0) ≡ record { sym = codes "r#a"; span = at 0; is_raw = is_raw.Yes }
+doubly_raw_name = refl
+
+turned_name : ident_of (codes "#r") (at 0) ≡ record { sym = codes "#r"; span = at 0; is_raw = is_raw.No }
+turned_name = refl

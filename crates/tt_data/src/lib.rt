@@ -11,8 +11,6 @@ pub mod laws;
 pub mod leaf;
 pub mod span;
 pub mod symbol;
-#[cfg(test)]
-mod tests;
 pub mod tree;
 
 pub use delimiter::{DelimSpan, Delimiter, DelimiterKind};

@@ -1,0 +1,4 @@
+mod WalkLemmas
+mod BuildLemmas
+mod CursorLemmas
+mod Rows

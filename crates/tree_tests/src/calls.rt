@@ -1,0 +1,158 @@
+//! Each call that takes no memory once: what it answers is proved, so a value or two are seen here.
+use crate::samples::{begun, built, byte_at, punct, put_all, shows, tells, tree};
+use crate::walks::{count_leaves, passed, rebuilt};
+use std::alloc::Global;
+use std::hash::{DefaultHasher, Hash, Hasher};
+use std::test::*;
+use tt::{SubtreeView, TokenTreesView, TopSubtree, TopSubtreeBuilder, TtIter};
+use tt_data::{
+    DelimSpan, Delimiter, DelimiterKind, Edition, IdentIsRaw, Subtree, TokenTree, TtFault,
+};
+
+fn data_calls() -> bool {
+    let pair = DelimSpan::from_pair(byte_at(1), byte_at(4));
+    let delimiter = Delimiter::invisible_delim_spanned(pair);
+    let head = Subtree { delimiter, len: 2 };
+    delimiter.delim_span() == pair
+        && DelimSpan::from_single(byte_at(1)).close_span == byte_at(1)
+        && head.count() == head.usize_len()
+        && TokenTree::from(head).first_span() == byte_at(1)
+        && TokenTree::from(punct(',', 3)).first_span() == byte_at(3)
+        && Edition::Edition2021.at_least_2021()
+        && !Edition::Edition2021.at_least_2024()
+        && IdentIsRaw::Yes.yes()
+        && IdentIsRaw::No.no()
+}
+
+// Calls at `+{-[]}`.
+fn list_calls(trees: TokenTreesView<'_>) -> bool {
+    trees.len() == 4
+        && !trees.is_empty()
+        && trees.first_span() == Some(byte_at(0))
+        && trees.last_span() == Some(byte_at(4))
+        && trees.try_into_subtree().is_none()
+        && trees.strip_invisible().len() == 4
+        && trees.iter_flat_tokens().count() == 4
+        && count_leaves(trees) == 2
+}
+
+// Calls at a walk over the same trees.
+fn walk_calls(mut walk: TtIter<'_>) -> Option<bool> {
+    let start = walk.next_span()?;
+    let first = walk.peek()?.first_span();
+    let one = walk.next_as_view()?.len();
+    let _group = walk.next()?;
+    Some(start == first && one == 1 && walk.is_empty() && walk.remaining().is_empty())
+}
+
+// Calls at an invisible group of the same trees.
+fn group_calls(group: SubtreeView<'_>) -> bool {
+    group.top_subtree().len == 4
+        && group.as_token_trees().len() == 5
+        && group.token_trees().len() == 4
+        && group.strip_invisible().len() == 4
+        && !group.iter().is_empty()
+}
+
+// Calls at a cursor in a list that begins with `+{-[`: into the second group and out of it.
+fn cursor_calls(trees: TokenTreesView<'_>) -> bool {
+    let mut cursor = trees.cursor();
+    for _ in 0..4 {
+        if cursor.token_tree().is_none() {
+            return false;
+        }
+        cursor.bump();
+    }
+    if cursor.is_root() || cursor.token_tree().is_some() {
+        return false;
+    }
+    cursor.end().len == 0
+        && cursor.peek_two_leaves().is_none()
+        && passed(trees).len() == trees.len()
+}
+
+// Calls at a builder that has come to `{[`.
+fn builder_calls(builder: &TopSubtreeBuilder) -> bool {
+    let mut expected = builder.expected_delimiters();
+    builder.innermost() == Some((DelimiterKind::Bracket, byte_at(1)))
+        && expected.next() == Some(DelimiterKind::Bracket)
+        && expected.next() == Some(DelimiterKind::Brace)
+        && expected.next().is_none()
+}
+
+// Whether what comes after a point can be taken back, and what is there at last.
+fn goes_back(alloc: Global, before: &str, after: &str, last: &str) -> Result<bool, TtFault> {
+    let mut builder = begun(alloc, before)?;
+    let point = builder.restore_point();
+    put_all(&mut builder, after, 4)?;
+    let _gone = builder.restore(point);
+    shows(alloc, &built(builder)?, last)
+}
+
+fn without_invisible(alloc: Global, text: &str, last: &str) -> Result<bool, TtFault> {
+    let mut builder = begun(alloc, text)?;
+    builder.remove_last_subtree_if_invisible();
+    shows(alloc, &built(builder)?, last)
+}
+
+fn only_group(alloc: Global) -> Result<bool, TtFault> {
+    match begun(alloc, "{[]}")?.build_skip_top_subtree() {
+        Ok(tree) => shows(alloc, &tree, "{[]}"),
+        Err((_, fault)) => Err(fault),
+    }
+}
+
+fn hash_of(tree: &TopSubtree) -> u64 {
+    let mut state = DefaultHasher::new();
+    tree.hash(&mut state);
+    state.finish()
+}
+
+// Calls that change a tree in place.
+fn in_other_brackets(alloc: Global, mut tree: TopSubtree) -> Result<bool, TtFault> {
+    let hash = hash_of(&tree);
+    let pair = DelimSpan::from_pair(byte_at(8), byte_at(9));
+    tree.set_top_subtree_delimiter_kind(DelimiterKind::Brace);
+    tree.set_top_subtree_delimiter_span(pair);
+    Ok(
+        shows(alloc, &tree, "{+ {- []}}")?
+            && tree.top_subtree().delimiter.delim_span() == pair
+            && hash != hash_of(&tree),
+    )
+}
+
+#[test]
+fn of_trees(rt: HostRuntime) -> Result<(), Fail> {
+    let tree = tree(rt.alloc(), "+{-[]}")?;
+    assert!(rt; data_calls());
+    assert!(rt; list_calls(tree.token_trees()));
+    assert!(rt; walk_calls(tree.iter()) == Some(true));
+    assert!(rt; group_calls(tree.view()));
+    assert!(rt; cursor_calls(tree.token_trees()));
+    assert!(rt; rebuilt(rt.alloc(), &tree)? == tree);
+    assert!(rt; in_other_brackets(rt.alloc(), tree)?);
+    Ok(())
+}
+
+#[test]
+fn of_builders(rt: HostRuntime) -> Result<(), Fail> {
+    assert!(rt; builder_calls(&begun(rt.alloc(), "{[")?));
+    assert!(rt; goes_back(rt.alloc(), "+", "{-}", "+")?);
+    assert!(rt; goes_back(rt.alloc(), "+{", "}", "+ {}")?);
+    assert!(rt; without_invisible(rt.alloc(), "+<,>", "+ ,")?);
+    assert!(rt; without_invisible(rt.alloc(), "+{,}", "+ {,}")?);
+    assert!(rt; only_group(rt.alloc())?);
+    Ok(())
+}
+
+// What `{:?}` prints of a tree, and of what borrows it: no clause tells.
+#[test]
+fn tell_what_is_inside(rt: HostRuntime) -> Result<(), Fail> {
+    let alloc = rt.alloc();
+    let tree = tree(alloc, "+")?;
+    assert!(rt; tells(alloc, &tree, "'+'")? && tells(alloc, &tree.view(), "'+'")?);
+    assert!(rt; tells(alloc, &tree.token_trees(), "'+'")? && tells(alloc, &tree.iter(), "'+'")?);
+    assert!(rt; tells(alloc, &tree.iter().peek(), "'+'")?);
+    assert!(rt; tells(alloc, &tree.token_trees().cursor(), "'+'")?);
+    Ok(())
+}

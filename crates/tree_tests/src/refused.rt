@@ -1,0 +1,142 @@
+//! Each call that takes memory, and once more where it was refused: for runs in which one allocation
+//! fails. A refused call leaves what it was called on as it was, so the tree is the one that is due.
+use crate::samples::{begun, built, byte_at, punct, shows, tells, tree};
+use crate::states::rewrite;
+use std::alloc::Global;
+use std::test::*;
+use tt::{TokenTreesView, TopSubtree, TopSubtreeBuilder, pretty};
+use tt_data::{DelimSpan, Ident, Leaf, LitKind, Literal, TtFault};
+
+// Puts trees or leaves into a builder by one of three calls.
+fn extend(
+    builder: &mut TopSubtreeBuilder,
+    call: u8,
+    trees: TokenTreesView<'_>,
+) -> Result<(), TtFault> {
+    match call {
+        0 => builder.extend_with_tt(trees),
+        1 => builder.extend([punct(',', 8), punct(';', 9)]),
+        _ => builder.extend_with_tt_alone(trees),
+    }
+}
+
+// `+{-}`, the trees, two leaves and the trees.
+fn filled(alloc: Global, trees: TokenTreesView<'_>) -> Result<TopSubtree, TtFault> {
+    let mut builder = begun(alloc, "+{-}")?;
+    for call in 0..3 {
+        match extend(&mut builder, call, trees) {
+            Err(TtFault::Memory) => extend(&mut builder, call, trees)?,
+            answer => answer?,
+        }
+    }
+    built(builder)
+}
+
+fn builds(alloc: Global) -> Result<bool, TtFault> {
+    let row = tree(alloc, "*/")?;
+    shows(
+        alloc,
+        &filled(alloc, row.token_trees())?,
+        "+ {-} * / , ; * /",
+    )
+}
+
+#[test]
+fn builders(rt: HostRuntime) -> Result<(), Fail> {
+    let built = match builds(rt.alloc()) {
+        Err(TtFault::Memory) => builds(rt.alloc())?,
+        answer => answer?,
+    };
+    assert!(rt; built);
+    Ok(())
+}
+
+// The tree that the tokens of a tree are.
+fn read_again(alloc: Global, tree: &TopSubtree) -> Result<TopSubtree, TtFault> {
+    let mut tokens = Vec::new(alloc);
+    for token in tree.as_token_trees().iter_flat_tokens() {
+        let Ok(()) = tokens.push(token) else {
+            return Err(TtFault::Memory);
+        };
+    }
+    match TopSubtree::from_serialized(alloc, tokens) {
+        Ok(tree) => Ok(tree),
+        Err((_, fault)) => Err(fault),
+    }
+}
+
+// Whether all copies of a tree are equal to it.
+fn copies(alloc: Global, tree: &TopSubtree) -> Result<bool, TtFault> {
+    let top = tree.top_subtree().delimiter;
+    Ok(
+        tree.try_clone(alloc)? == *tree
+            && read_again(alloc, tree)? == *tree
+            && TopSubtree::from_subtree(alloc, tree.view())? == *tree
+            && TopSubtree::from_token_trees(alloc, top, tree.token_trees())? == *tree,
+    )
+}
+
+fn makes(alloc: Global) -> Result<bool, TtFault> {
+    let tree = tree(alloc, "+{-}")?;
+    let bare = TopSubtree::empty(alloc, DelimSpan::from_single(byte_at(0)))?;
+    Ok(
+        copies(alloc, &tree)?
+            && TopSubtree::invisible_from_leaves(alloc, byte_at(0), [])? == bare
+            && pretty(alloc, tree.token_trees())?.as_str() == "+ {-}",
+    )
+}
+
+fn names(alloc: Global) -> Result<bool, TtFault> {
+    let name = Ident::new(alloc, "r#fn", byte_at(0))?;
+    let number = Literal::new_no_suffix(alloc, "1", byte_at(0), LitKind::Integer)?;
+    let text = Literal::new(alloc, "\"#", byte_at(0), LitKind::StrRaw(2), "é")?;
+    Ok(
+        text.text_and_suffix() == ("\"#", "é")
+            && tells(alloc, &name.sym.clone()?, "\"fn\"")?
+            && shows(alloc, &Leaf::from(name), "r#fn")?
+            && shows(alloc, &number, "1")?
+            && shows(alloc, &text, "r##\"\"#\"##é")?,
+    )
+}
+
+#[test]
+fn makers(rt: HostRuntime) -> Result<(), Fail> {
+    let made = match makes(rt.alloc()) {
+        Err(TtFault::Memory) => makes(rt.alloc())?,
+        answer => answer?,
+    };
+    let named = match names(rt.alloc()) {
+        Err(TtFault::Memory) => names(rt.alloc())?,
+        answer => answer?,
+    };
+    assert!(rt; made && named);
+    Ok(())
+}
+
+// Rewrites the tree, and sets a token of it; once more where memory ran out, if the tree is as before.
+fn changed(alloc: Global, tree: &mut TopSubtree, before: &TopSubtree) -> Result<(), TtFault> {
+    match rewrite(alloc, tree, before.token_trees()) {
+        Err(TtFault::Memory) if *tree == *before => rewrite(alloc, tree, before.token_trees())?,
+        answer => answer?,
+    }
+    match tree.set_token(alloc, 2, punct('?', 3)) {
+        Err(TtFault::Memory) => tree.set_token(alloc, 2, punct('?', 3)),
+        answer => answer,
+    }
+}
+
+fn changes(alloc: Global) -> Result<bool, TtFault> {
+    let mut tree = tree(alloc, "+{-}")?;
+    changed(alloc, &mut tree, &crate::samples::tree(alloc, "+{-}")?)?;
+    shows(alloc, &tree, "{? {-}}")
+}
+
+#[test]
+fn rewriting(rt: HostRuntime) -> Result<(), Fail> {
+    let changed = match changes(rt.alloc()) {
+        Err(TtFault::Memory) => changes(rt.alloc())?,
+        answer => answer?,
+    };
+    assert!(rt; changed);
+    Ok(())
+}

@@ -1,3 +1,0 @@
-mod WalkLemmas
-mod BuildLemmas
-mod Rows
