@@ -204,7 +204,12 @@ impl Literal {
         ensures literal { IfOk result (λ l. l ≡ record { text = text.now; suffix = []; kind = kind; span = span }) }
         ensures memory { IsOkUnless result fault.Memory }
     {
-        Literal::new(alloc, text, span, kind, "")
+        Ok(Literal {
+            text_and_suffix: Symbol::new(alloc, text)?,
+            suffix_len: 0,
+            kind,
+            span,
+        })
     }
 
     /// The text and the suffix, which is empty where there is none.

@@ -6,7 +6,7 @@ use Rattle.expander.proofs.reading.add.Goals as goal
 
 pub returns-in_ok-push-in-Name-clause-takes : goal.returns-in_ok-push-in-Name-clause-takes
 returns-in_ok-push-in-Name-clause-takes c = λ t after same at follows groups here b.
-    let word = c.in_ok-sym-in-Name.ensures in
+    let word = c.in_ok-sym-in-Name.ensures.text in
     adds_name t after groups here c.in-Name.is same at word c.written_at-span.ensures c.in_ok-push-in-Name.ensures.ok b
 
 pub returns-in_ok-push-in-Name-clause-counted : goal.returns-in_ok-push-in-Name-clause-counted
