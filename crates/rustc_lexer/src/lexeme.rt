@@ -37,6 +37,7 @@ pub fn first_lexeme(text: &str) -> (TokenKind, &str)
 }
 
 // What begins with neither white space, nor a letter, nor a digit, and is no comment.
+#[inline(always)]
 fn sign(text: &str) -> (TokenKind, &str)
     requires { length text.now < 2 ^ 32 }
     ensures { IsRead (sign (chars text.now)) text.now result.0 result.1.now }

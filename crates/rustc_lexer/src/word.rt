@@ -12,6 +12,7 @@ use crate::steps::{Continue, begins, behind, first, second, skip_while, third};
 use crate::token::{LiteralKind, TokenKind};
 
 // What begins with a character that may begin an identifier.
+#[inline(always)]
 pub fn word(text: &str) -> (TokenKind, &str)
     requires small { length text.now < 2 ^ 32 }
     requires start { is_id_start (char_at (chars text.now) 0) ≡ true }
