@@ -20,6 +20,8 @@ pub mod Thin
 pub mod State
 pub mod Expanded
 pub mod Refusals
+pub mod CallSteps
+pub mod Filling
 pub mod TooMany
 pub mod Replies
 pub mod Watch
@@ -27,10 +29,8 @@ pub mod Runs
 -- what the functions inside the crate promise each other
 pub mod ReadSteps
 pub mod Cutting
-pub mod CallSteps
 pub mod Names
 pub mod Bound
-pub mod Filling
 pub mod ScopeTable
 pub mod OutputSteps
 pub mod Turns
