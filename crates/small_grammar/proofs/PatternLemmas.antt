@@ -1,5 +1,5 @@
 -- A pattern behind a reference's sign, or behind a name and `@`: which alternatives are left there.
-use Rattle.std.proofs.Common.{◌≡◌, ℕ, Bool, true, false, ◌&&◌, ◌||◌, ◌⊎◌, inl, inr, not, List, [], ◌∷◌, nat_eq, refl, sym, ap, ◌∙◌, codes, Option, Some, None}
+use Rattle.std.proofs.Common.{◌≡◌, ℕ, Bool, true, false, ◌&&◌, ◌||◌, ◌⊎◌, inl, inr, not, List, nat_eq, refl, sym, ap, ◌∙◌, codes, Option, Some, None}
 use Rattle.std.proofs.lemmas.Bool.{eqb-true}
 use Rattle.std.proofs.lemmas.Slice.Eq.{bytes_eq-Decides}
 use Rattle.std.specs.Option.{option_or}
@@ -11,7 +11,7 @@ use Rattle.tt_data.specs.declared.leaf.Leaf.TheVariants as as_leaf
 use Rattle.tt_data.specs.declared.leaf.Punct.{Punct}
 use Rattle.small_grammar.specs.declared.units.Operator.{Operator}
 use Rattle.small_grammar.specs.declared.units.Operator.TheVariants.{One, Two, Three}
-use Rattle.small_grammar.proofs.ChoiceLemmas.{skip, alone, neither, both, or_same, same_otherwise, two_parts, four_parts}
+use Rattle.small_grammar.proofs.ChoiceLemmas.{skip, alone, both, or_same, same_otherwise, two_parts, four_parts}
 use Rattle.small_grammar.proofs.OperatorLemmas.{one_of-is}
 use Rattle.small_grammar.proofs.TakingLemmas.{then_on, then_none}
 use Rattle.small_grammar.specs.Expressions.{a_pattern, Expression, ◌⨾◌, ◌∣◌, many, maybe, Taking, otherwise, after_rounds}

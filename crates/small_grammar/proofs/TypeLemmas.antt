@@ -1,5 +1,5 @@
 -- A type behind `&`, `*const` or `*mut`: where such a sign fits, no other alternative does.
-use Rattle.std.proofs.Common.{◌≡◌, ℕ, Bool, true, false, [], ◌∷◌, nat_eq, refl, sym, ap, ◌∙◌, Option, Some, None}
+use Rattle.std.proofs.Common.{◌≡◌, ℕ, Bool, true, false, [], ◌∷◌, nat_eq, refl, ◌∙◌, Option, Some, None}
 use Rattle.std.proofs.lemmas.Bool.{eqb-true}
 use Rattle.tt_data.specs.Forest.{Forest, empty, leaf, group}
 use Rattle.tt_data.specs.declared.leaf.Leaf.TheVariants as as_leaf
@@ -9,7 +9,7 @@ use Rattle.small_grammar.proofs.TakingLemmas.{then_on, then_none}
 use Rattle.small_grammar.specs.Expressions.{a_type, Expression, ◌⨾◌, ◌∣◌, maybe, otherwise}
 use Rattle.small_grammar.specs.Rules.{rule-is}
 use Rattle.small_grammar.specs.Signs.{type_sign, bare_type}
-use Rattle.small_grammar.specs.SmallGrammar.{takes, type, type_rule, seg, tpath, bound, lifetime, arrow, single, word}
+use Rattle.small_grammar.specs.SmallGrammar.{takes, type, type_rule, seg, tpath, lifetime, single, word}
 use Rattle.small_grammar.specs.Tokens.{token_at, puncts}
 use Rattle.small_grammar.specs.Text.{◌>>◌}
 

@@ -1,6 +1,6 @@
 -- What an expression takes are trees at the beginning of the list, and at least so many tokens of them.
 use Rattle.std.proofs.Common.{◌≡◌, ℕ, suc, zero, ◌+◌, ◌≤◌, min, Bool, true, false, not, ◌&&◌, List, [], ◌∷◌, refl, sym, ap, ◌∙◌, subst, arith, Option, Some, None}
-use Rattle.std.specs.Prelude.{option_map, option_and_then, unwrap_or, nat_eq, if◌then◌else◌}
+use Rattle.std.specs.Prelude.{option_map, option_and_then, unwrap_or, nat_eq}
 use Rattle.tt_data.specs.Forest.{Forest, empty, leaf, group, joined, size, front, back}
 use Rattle.tt_data.proofs.ForestLemmas.{joined_assoc, size-joined, joined-front-back}
 use Rattle.tt_data.specs.declared.delimiter.Delimiter.{Delimiter}

@@ -1,13 +1,10 @@
 -- Words that the definitions share: readings one after another, texts, kinds of brackets.
-use Rattle.std.specs.Prelude.{ℕ, Bool, true, false, ◌&&◌, not, List, codes, Option, Some, None, option_and_then, if◌then◌else◌}
+use Rattle.std.specs.Prelude.{ℕ, Bool, true, false, ◌&&◌, not, List, codes, Option, None, option_and_then, if◌then◌else◌}
 use Rattle.std.specs.Str.{bytes_eq}
 use Prim.Native.String.{String}
 use Rattle.tt_data.specs.Forest.{Forest, empty}
 use Rattle.tt_data.specs.declared.leaf.Ident.{Ident}
 use Rattle.tt_data.specs.declared.leaf.IdentIsRaw.TheVariants as is_raw
-use Rattle.tt_data.specs.declared.leaf.Leaf.{Leaf}
-use Rattle.tt_data.specs.declared.leaf.Leaf.TheVariants as as_leaf
-use Rattle.tt_data.specs.declared.leaf.Punct.{Punct}
 use Rattle.tt_data.specs.declared.leaf.Spacing.{Spacing}
 use Rattle.tt_data.specs.declared.leaf.Spacing.TheVariants.{Alone}
 use Rattle.tt_data.specs.declared.delimiter.DelimiterKind.{DelimiterKind}

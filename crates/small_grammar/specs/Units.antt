@@ -1,5 +1,5 @@
 -- Units: what stands at one place of a list of trees. (The Rust Reference, "Tokens": punctuation.)
-use Rattle.std.specs.Prelude.{ℕ, ◌+◌, Bool, true, false, ◌&&◌, ◌||◌, not, nat_eq, codes, if◌then◌else◌, Option, Some, None}
+use Rattle.std.specs.Prelude.{ℕ, Bool, true, false, ◌&&◌, ◌||◌, not, nat_eq, codes, if◌then◌else◌, Option, Some, None}
 use Rattle.std.specs.List.{list_any}
 use Prim.Native.String.{String}
 use Rattle.tt_data.specs.Forest.{Forest, leaf}

@@ -1,9 +1,8 @@
-use Rattle.std.proofs.Common.{sym, ap, ◌∙◌, arith, ◌≡◌, None}
+use Rattle.std.proofs.Common.{sym, ap, ◌∙◌, arith}
 use Rattle.std.specs.Option.{option_or}
 use Rattle.small_grammar.proofs.PatternLemmas.{fallback, next_name, last_name}
 use Rattle.small_grammar.proofs.TakingLemmas.{shorter}
-use Rattle.small_grammar.specs.Signs.{binding_sign, bare_pattern}
-use Rattle.small_grammar.specs.SmallGrammar.{takes}
+use Rattle.small_grammar.specs.Signs.{binding_sign}
 use Rattle.small_grammar.proofs.patterns.pat.Goals as goal
 
 pub loop-next-smaller : goal.loop-next-smaller
