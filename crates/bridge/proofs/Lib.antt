@@ -1,0 +1,10 @@
+mod Rows
+mod ReadingLemmas
+mod SeamLaws
+mod WordLemmas
+mod SpelledLemmas
+mod BackLemmas
+mod ForestBackLemmas
+mod AgainLemmas
+mod AloneLemmas
+mod SpanLemmas
