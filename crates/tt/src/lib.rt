@@ -11,6 +11,7 @@ pub mod display;
 pub mod flat;
 pub mod iter;
 pub mod laws;
+pub mod literals;
 pub mod split;
 #[cfg(test)]
 mod tests;
@@ -24,6 +25,7 @@ pub use builder::{ExpectedDelimiters, SubtreeBuilderRestorePoint, TopSubtreeBuil
 pub use display::pretty;
 pub use flat::FlatTokens;
 pub use iter::{TtElement, TtIter};
+pub use literals::token_to_literal;
 pub use split::Split;
 pub use top::TopSubtree;
 pub use transform::{TransformTtAction, transform_tt};
