@@ -1,5 +1,10 @@
 mod Rows
 mod ReadingLemmas
+mod AddingLemmas
+mod CutLemmas
+mod EscapeLemmas
+mod ReadStepLemmas
+mod ReadTokensLemmas
 mod SeamLaws
 mod WordLemmas
 mod SpelledLemmas

@@ -84,7 +84,7 @@ reading-fault steps fault (closer_at groups here kind span more e h) =
 reading-fault steps fault (left_open o outer here e) =
     ap reading (e ∙ sym (append-nil (map step (walk_open (o ∷ outer) here)))) ∙ read_from-walk_open (o ∷ outer) here []
 
-walk_open-joined : (groups : List Opened) (here g : Forest) → walk_open groups (joined here g) ≡ walk_open groups here ++ walk g
+pub walk_open-joined : (groups : List Opened) (here g : Forest) → walk_open groups (joined here g) ≡ walk_open groups here ++ walk g
 walk_open-joined [] here g = walk-joined here g
 walk_open-joined (o ∷ outer) here g =
     ap (λ s. walk_open outer o.before ++ (opens o.kind o.open_span ∷ s)) (walk-joined here g)
@@ -98,7 +98,7 @@ moved so_far s now more e =
     ∙ ap (λ w. w ++ more) (map-append step so_far (s ∷ []))
     ∙ append_assoc (map step so_far) (step s ∷ []) more)
 
-closed_walk : (o : Opened) (outer : List Opened) (here : Forest) (kind : DelimiterKind) (span : Span) → o.kind ≡ kind
+pub closed_walk : (o : Opened) (outer : List Opened) (here : Forest) (kind : DelimiterKind) (span : Span) → o.kind ≡ kind
     → walk_open outer (closed o here span) ≡ walk_open (o ∷ outer) here ++ (closes kind span ∷ [])
 closed_walk o outer here kind span same =
     walk_open-joined outer o.before (group (record { open_span = o.open_span; close_span = span; kind = o.kind }) here empty)
