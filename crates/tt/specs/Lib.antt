@@ -9,6 +9,7 @@ pub mod Groups
 pub mod Building
 pub mod Rewriting
 pub mod Texts
+pub mod TokenLiterals
 -- what the functions inside the crate promise each other
 pub mod BuilderTokens
 pub mod CursorTokens

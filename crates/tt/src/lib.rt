@@ -12,6 +12,7 @@ mod first_trees;
 pub mod flat;
 pub mod iter;
 pub mod laws;
+pub mod literals;
 pub mod split;
 mod tokens;
 pub mod top;
@@ -23,6 +24,7 @@ pub use builder::{ExpectedDelimiters, SubtreeBuilderRestorePoint, TopSubtreeBuil
 pub use display::pretty;
 pub use flat::FlatTokens;
 pub use iter::{TtElement, TtIter};
+pub use literals::token_to_literal;
 pub use split::Split;
 pub use top::TopSubtree;
 pub use transform::{TransformTtAction, transform_tt};

@@ -12,6 +12,10 @@ pub record LiteralParts : Type 0 where
   pub kind : LitKind
   pub span : Span
 
+-- the literal of these parts
+abbrev pub literal_of : List ℕ → List ℕ → LitKind → Span → LiteralParts
+literal_of text suffix kind span = record { text = text; suffix = suffix; kind = kind; span = span }
+
 -- a text cut so many bytes before its end is put together again
 pub put_together : {R : Type 0} (make : List ℕ → ℕ → R) (all : List ℕ) (n : ℕ) → n ≤ length all
     → make (take (length all - n) all ++ drop (length all - n) all) (length (drop (length all - n) all)) ≡ make all n

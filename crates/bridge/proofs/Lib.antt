@@ -1,0 +1,15 @@
+mod Rows
+mod ReadingLemmas
+mod AddingLemmas
+mod CutLemmas
+mod EscapeLemmas
+mod ReadStepLemmas
+mod ReadTokensLemmas
+mod SeamLaws
+mod WordLemmas
+mod SpelledLemmas
+mod BackLemmas
+mod ForestBackLemmas
+mod AgainLemmas
+mod AloneLemmas
+mod SpanLemmas

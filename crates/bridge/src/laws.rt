@@ -1,0 +1,53 @@
+//! Laws of reading and printing, for proofs. A call does nothing: it only states.
+ghost use Rattle.std.specs.Prelude.{◌≡◌, ◌↔◌, true, List, Ok, Err};
+ghost use Rattle.bridge.specs.Printing.{print_of, visible};
+ghost use Rattle.bridge.specs.Reading.{IsFault, IsReading, TextStep, reading};
+ghost use Rattle.bridge.specs.ReadsBack.{PrintsAgain, ReadsBack};
+ghost use Rattle.bridge.specs.declared.fault.ReadFault.{ReadFault};
+ghost use Rattle.bridge.specs.declared.fault.ReadFaultKind.{ReadFaultKind};
+ghost use Rattle.tt_data.specs.Forest.{Forest, map_spans};
+ghost use Rattle.tt_data.specs.Walk.{walk};
+ghost use Rattle.tt_data.specs.declared.span.Span.{Span};
+
+use crate::fault::{ReadFault, ReadFaultKind};
+
+/// The reading that is computed is the one that is defined: the forest whose walk the steps are, or
+/// the first fault. So no steps have two forests, two first faults, or one of each.
+pub fn reading_is_a_relation()
+    ensures walk { (steps : List TextStep) (f : Forest) → reading steps ≡ Ok f → IsReading steps f }
+    ensures read { (steps : List TextStep) (f : Forest) → IsReading steps f → reading steps ≡ Ok f }
+    ensures fault { (steps : List TextStep) (fault : ReadFault) → reading steps ≡ Err fault → IsFault steps fault }
+    ensures told { (steps : List TextStep) (fault : ReadFault) → IsFault steps fault → reading steps ≡ Err fault }
+{}
+
+/// The text that is printed of any trees has no reading fault, and is read as just the printed
+/// tokens, in order. The same text is printed of what is read, and nothing is left out.
+pub fn printed_text_reads_back()
+    ensures back { (f : Forest) → ReadsBack (visible (walk f)) }
+    ensures again { (f : Forest) → PrintsAgain (visible (walk f)) }
+{
+    rustc_lexer::laws::whole_token();
+    rustc_lexer::laws::whole_token_begins();
+    rustc_lexer::laws::blank_token();
+    rustc_lexer::laws::one_character();
+    rustc_lexer::laws::quoted_name();
+    rustc_lexer::laws::token_lengths();
+}
+
+/// What is printed does not hang on places.
+pub fn places_do_not_print()
+    ensures text { (h : Span → Span) (f : Forest) → (print_of (walk (map_spans h f))).text ≡ (print_of (walk f)).text }
+    ensures left_out { (h : Span → Span) (f : Forest) → (print_of (walk (map_spans h f))).left_out ≡ (print_of (walk f)).left_out }
+{}
+
+/// Two faults are equal by `==` exactly where they are the same, places included.
+pub fn equal_faults()
+    ensures kinds { (a b : ReadFaultKind) → (⟦<ReadFaultKind as PartialEq>⟧.eq a b ≡ true) ↔ (a ≡ b) }
+    ensures faults { (a b : ReadFault) → (⟦<ReadFault as PartialEq>⟧.eq a b ≡ true) ↔ (a ≡ b) }
+{}
+
+/// A clone of a fault is the same fault.
+pub fn cloned_faults()
+    ensures kinds { (a b : ReadFaultKind) → ⟦<ReadFaultKind as Clone>⟧.is_clone a b → b ≡ a }
+    ensures faults { (a b : ReadFault) → ⟦<ReadFault as Clone>⟧.is_clone a b → b ≡ a }
+{}

@@ -1,0 +1,182 @@
+//! Reading: the tokens of a text as trees.
+ghost use Rattle.std.specs.Prelude.{◌≡◌, ◌+◌, ◌<◌, ◌^◌, ℕ, List, length, chars, IfOk, IfErr, IsOk, OnOk};
+ghost use Rattle.bridge.specs.ReadSteps.{IsRefusal, IsStepRefusal, MayCut, Takes, first_kind, spacing_at, steps_in, trees_of};
+ghost use Rattle.bridge.specs.ReadText.{IsRead, IsReadRefusal, text_top};
+ghost use Rattle.bridge.specs.Reading.{PlacedToken, placed_from, range_of};
+ghost use Rattle.bridge.specs.TokenSteps.{is_mark, sort_of, steps_of_sort, text_steps};
+ghost use Rattle.bridge.specs.declared.sort.Sort.TheVariants.{Closing};
+ghost use Rattle.rustc_lexer.specs.Lexing.{tokens_of};
+ghost use Rattle.tt.specs.Building.{count_of, extended};
+ghost use Rattle.tt_data.specs.Forest.{size};
+
+use crate::doc_comment::{add_doc, doc_text};
+use crate::fault::{ReadFault, ReadFaultKind};
+use crate::leaves::{
+    add_literal, add_mark, add_name, add_quoted_name, name_in, open_group, written_at,
+};
+use crate::outcome::Read;
+use crate::sort::{Sort, sort_of};
+use rustc_lexer::{Token, TokenKind, laws};
+use std::alloc::Global;
+use tt::builder::TopSubtreeBuilder;
+use tt_data::delimiter::{Delimiter, DelimiterKind};
+use tt_data::fault::TtFault;
+use tt_data::leaf::Spacing;
+use tt_data::span::TextRange;
+
+// Whether a token of this kind is read as a punct.
+fn is_mark(kind: TokenKind) -> bool
+    ensures { result ≡ is_mark (sort_of kind) }
+{
+    matches!(sort_of(kind), Sort::Mark(_))
+}
+
+// How a punct stands before the next token.
+fn spacing_at(next: Option<TokenKind>) -> Spacing
+    ensures { result ≡ spacing_at next }
+{
+    match next {
+        Some(kind) if is_mark(kind) => Spacing::Joint,
+        _ => Spacing::Alone,
+    }
+}
+
+// Puts in what a token is read as that is no bracket.
+fn add_trees(
+    alloc: Global,
+    builder: &mut TopSubtreeBuilder,
+    sort: Sort,
+    text: &str,
+    range: TextRange,
+    next: Option<TokenKind>,
+) -> Result<(), TtFault>
+    requires some { range.start < range.«end» }
+    requires short { length text.now < 2 ^ 32 }
+    requires cut { MayCut sort text.now }
+    ensures ok { OnOk result (builder.new.tree ≡ extended builder.old.tree (trees_of sort text.now range next)) }
+    ensures refused { IfErr result (IsRefusal (count_of builder.old.tree + size (trees_of sort text.now range next))) }
+{
+    let span = written_at(range);
+    match sort {
+        Sort::Name(is_raw) => add_name(alloc, builder, name_in(is_raw, text), is_raw, span),
+        Sort::Mark(char) => add_mark(builder, char, spacing_at(next), span),
+        Sort::QuotedName => add_quoted_name(alloc, builder, text, range),
+        Sort::Doc { style, is_block } => {
+            add_doc(alloc, builder, style, doc_text(is_block, text), span)
+        }
+        Sort::Value { form, suffix_start } => {
+            add_literal(alloc, builder, form, suffix_start, text, span)
+        }
+        _ => Ok(()),
+    }
+}
+
+// Closes the innermost open group by a bracket of this kind, or answers the fault where it does not fit.
+fn close(
+    builder: &mut TopSubtreeBuilder,
+    kind: DelimiterKind,
+    range: TextRange,
+) -> Result<Option<ReadFault>, TtFault>
+    ensures takes { IfOk result (λ fault. (t : PlacedToken) (after : List PlacedToken) → range_of t ≡ range →
+        Takes (steps_of_sort (Closing kind) t after) builder.old.tree builder.new.tree fault) }
+    ensures ok { IsOk result }
+{
+    match builder.innermost() {
+        Some((open, _)) if open == kind => {
+            builder.close(written_at(range))?;
+            Ok(None)
+        }
+        _ => Ok(Some(ReadFault {
+            kind: ReadFaultKind::CloserDoesNotFit,
+            range,
+        })),
+    }
+}
+
+// Puts in what a token is read as, before a token of the next kind, or answers the fault.
+fn add(
+    alloc: Global,
+    builder: &mut TopSubtreeBuilder,
+    sort: Sort,
+    text: &str,
+    range: TextRange,
+    next: Option<TokenKind>,
+) -> Result<Option<ReadFault>, TtFault>
+    requires some { range.start < range.«end» }
+    requires short { length text.now < 2 ^ 32 }
+    requires cut { MayCut sort text.now }
+    ensures takes { IfOk result (λ fault. (t : PlacedToken) (after : List PlacedToken) →
+        t.text ≡ text.now → range_of t ≡ range → first_kind after ≡ next →
+        Takes (steps_of_sort sort t after) builder.old.tree builder.new.tree fault) }
+    ensures refused { IfErr result (λ e. (t : PlacedToken) (after : List PlacedToken) →
+        t.text ≡ text.now → range_of t ≡ range → first_kind after ≡ next →
+        IsStepRefusal (steps_of_sort sort t after) builder.old.tree e) }
+{
+    match sort {
+        Sort::Opening(kind) => open_group(builder, kind, written_at(range))?,
+        Sort::Closing(kind) => return close(builder, kind, range),
+        Sort::Neither => {
+            let kind = ReadFaultKind::BadToken;
+            return Ok(Some(ReadFault { kind, range }));
+        }
+        _ => add_trees(alloc, builder, sort, text, range, next)?,
+    }
+    Ok(None)
+}
+
+// The trees of all tokens, or the innermost group that is left open.
+fn whole(builder: TopSubtreeBuilder) -> Read
+    requires { builder.tree.top ≡ text_top }
+    ensures { IsRead (steps_in builder.tree) result }
+{
+    if let Some((_, open_span)) = builder.innermost() {
+        return Read::Fault(ReadFault {
+            kind: ReadFaultKind::GroupLeftOpen,
+            range: open_span.range,
+        });
+    }
+    match builder.build() {
+        Ok(tree) => Read::Tree(tree),
+        Err(_) => unreachable!("no group is open"),
+    }
+}
+
+// The kind of the first of the tokens, where there is one.
+fn first_kind(tokens: &[Token]) -> Option<TokenKind>
+    ensures { (start : ℕ) (text : List ℕ) → first_kind (placed_from start text tokens.now) ≡ result }
+{
+    let first = tokens.first()?;
+    Some(first.kind)
+}
+
+/// What the text with these tokens is read as.
+///
+/// It answers `Tokens` only where the tree read so far would have more than `u32::MAX` tokens, which
+/// doc comments alone can bring about; its one other error is `Memory`.
+pub fn read(alloc: Global, text: &str, tokens: &[Token]) -> Result<Read, TtFault>
+    requires small { length text.now < 2 ^ 32 }
+    requires tokens { tokens.now ≡ tokens_of (chars text.now) }
+    ensures read { IfOk result (IsRead (text_steps text.now)) }
+    ensures refused { IfErr result (IsReadRefusal (text_steps text.now)) }
+{
+    laws::tokens_begin();
+    laws::next_token();
+    laws::token_shapes();
+    laws::suffix_starts();
+    let start_of_text = written_at(TextRange { start: 0, end: 0 });
+    let mut builder = TopSubtreeBuilder::new(alloc, Delimiter::invisible_spanned(start_of_text))?;
+    let mut start: u32 = 0;
+    let mut rest = tokens;
+    while let Some((token, more)) = rest.split_first() {
+        let end = start + token.len;
+        let word = &text[start as usize..end as usize];
+        let range = TextRange { start, end };
+        let sort = sort_of(token.kind);
+        if let Some(fault) = add(alloc, &mut builder, sort, word, range, first_kind(more))? {
+            return Ok(Read::Fault(fault));
+        }
+        start = end;
+        rest = more;
+    }
+    Ok(whole(builder))
+}

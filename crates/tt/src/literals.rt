@@ -1,0 +1,60 @@
+//! Literals of whole tokens.
+ghost use Rattle.std.specs.Prelude.{◌≡◌, ◌<◌, ◌≤◌, ◌^◌, length, IfErr};
+ghost use Rattle.std.specs.Str.{IsCharBoundary};
+ghost use Rattle.tt.specs.TokenLiterals.{IsLiteralToken, form_begin, form_end, literal_in};
+ghost use Rattle.tt_data.specs.Outcome.{Gives};
+ghost use Rattle.tt_data.specs.fault.TtFault.TheVariants.{Memory};
+
+use std::alloc::Global;
+use tt_data::fault::TtFault;
+use tt_data::leaf::{LitKind, Literal};
+use tt_data::span::Span;
+
+// How many bytes of letters, hashes and a quote stand before the text.
+fn begin_len(kind: LitKind) -> usize
+    ensures { result ≡ length (form_begin kind) }
+{
+    match kind {
+        LitKind::Integer | LitKind::Float | LitKind::Err(_) => 0,
+        LitKind::Char | LitKind::Str => 1,
+        LitKind::Byte | LitKind::ByteStr | LitKind::CStr => 2,
+        LitKind::StrRaw(hashes) => 2 + hashes as usize,
+        LitKind::ByteStrRaw(hashes) | LitKind::CStrRaw(hashes) => 3 + hashes as usize,
+    }
+}
+
+// How many bytes of a quote and hashes stand behind the text.
+fn end_len(kind: LitKind) -> usize
+    ensures { result ≡ length (form_end kind) }
+{
+    match kind {
+        LitKind::Integer | LitKind::Float | LitKind::Err(_) => 0,
+        LitKind::StrRaw(hashes) | LitKind::ByteStrRaw(hashes) | LitKind::CStrRaw(hashes) => {
+            1 + hashes as usize
+        }
+        _ => 1,
+    }
+}
+
+/// The literal that the whole token `text` is: what stands between its quotes, and the suffix, which
+/// starts at the byte `suffix_start`. A number, and what was no literal, has all before its suffix
+/// as its text.
+///
+/// `Memory` is its only error.
+pub fn token_to_literal(
+    alloc: Global,
+    text: &str,
+    span: Span,
+    kind: LitKind,
+    suffix_start: u32,
+) -> Result<Literal, TtFault>
+    requires short { length text.now < 2 ^ 32 }
+    requires boundary { IsCharBoundary text.now suffix_start }
+    requires token { IsLiteralToken kind suffix_start text.now }
+    ensures literal { Gives (λ l. l) result (literal_in kind suffix_start text.now span) }
+    ensures memory { IfErr result (λ e. e ≡ Memory) }
+{
+    let start = suffix_start as usize;
+    let inside = &text[begin_len(kind)..start - end_len(kind)];
+    Literal::new(alloc, inside, span, kind, &text[start..])
+}
