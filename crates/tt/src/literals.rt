@@ -1,8 +1,7 @@
 //! Literals of whole tokens.
-ghost use Rattle.std.specs.Prelude.{◌≡◌, ◌<◌, ◌≤◌, ◌^◌, length, IfErr};
+ghost use Rattle.std.specs.Prelude.{◌≡◌, ◌<◌, ◌≤◌, ◌^◌, length, IfOk, IsOkUnless};
 ghost use Rattle.std.specs.Str.{IsCharBoundary};
 ghost use Rattle.tt.specs.TokenLiterals.{IsLiteralToken, form_begin, form_end, literal_in};
-ghost use Rattle.tt_data.specs.Outcome.{Gives};
 ghost use Rattle.tt_data.specs.fault.TtFault.TheVariants.{Memory};
 
 use std::alloc::Global;
@@ -51,8 +50,8 @@ pub fn token_to_literal(
     requires short { length text.now < 2 ^ 32 }
     requires boundary { IsCharBoundary text.now suffix_start }
     requires token { IsLiteralToken kind suffix_start text.now }
-    ensures literal { Gives (λ l. l) result (literal_in kind suffix_start text.now span) }
-    ensures memory { IfErr result (λ e. e ≡ Memory) }
+    ensures literal { IfOk result (λ l. l ≡ literal_in kind suffix_start text.now span) }
+    ensures memory { IsOkUnless result Memory }
 {
     let start = suffix_start as usize;
     let inside = &text[begin_len(kind)..start - end_len(kind)];
