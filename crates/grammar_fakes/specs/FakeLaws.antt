@@ -6,7 +6,6 @@ use Rattle.tt_data.specs.Forest.{Forest, empty, leaf, group, shape}
 use Rattle.tt_data.specs.Spans.{no_span}
 use Rattle.tt_data.specs.Walk.{walk, step_with}
 use Rattle.fragment_grammar.specs.Steps.{steps}
-use Rattle.fragment_grammar.specs.declared.fragment.Prefix.{Prefix}
 use Rattle.fragment_grammar.specs.declared.fragment.PrefixEntryPoint.{PrefixEntryPoint}
 use Rattle.fragment_grammar.specs.declared.fragment.PrefixEntryPoint.TheVariants.{Vis}
 use Rattle.grammar_fakes.specs.Fakes.{is_vis, one_step, all_steps, a_fault}
