@@ -3,6 +3,7 @@ mod ReadingLemmas
 mod AddingLemmas
 mod CutLemmas
 mod EscapeLemmas
+mod FrontLemmas
 mod ReadStepLemmas
 mod ReadTokensLemmas
 mod SeamLaws
@@ -13,3 +14,4 @@ mod ForestBackLemmas
 mod AgainLemmas
 mod AloneLemmas
 mod SpanLemmas
+mod ShapeLemmas

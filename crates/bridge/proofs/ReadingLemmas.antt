@@ -39,7 +39,7 @@ differs j k h = by_test (same_kind j k) refl
     by_test false e = e
 
 -- after the walk of a forest, that forest has been read
-read_from-walk : (f : Forest) (more : List TextStep) (groups : List Opened) (here : Forest)
+pub read_from-walk : (f : Forest) (more : List TextStep) (groups : List Opened) (here : Forest)
     → read_from (map step (walk f) ++ more) groups here ≡ read_from more groups (joined here f)
 read_from-walk empty more groups here = rw (joined-empty here) refl
 read_from-walk (leaf l rest) more groups here =

@@ -1,12 +1,15 @@
 //! Laws of reading and printing, for proofs. A call does nothing: it only states.
-ghost use Rattle.std.specs.Prelude.{◌≡◌, ◌↔◌, true, List, Ok, Err};
-ghost use Rattle.bridge.specs.Printing.{print_of, visible};
-ghost use Rattle.bridge.specs.Reading.{IsFault, IsReading, TextStep, reading};
+ghost use Rattle.std.specs.Prelude.{◌≡◌, ◌↔◌, ◌++◌, List, [], ◌∷◌, map, true, false, IsSome, Ok, Err};
+ghost use Rattle.bridge.specs.Printing.{is_quote, print_of, visible};
+ghost use Rattle.bridge.specs.Reading.{IsFault, IsReading, TextStep, reading, step, with_front};
 ghost use Rattle.bridge.specs.ReadsBack.{PrintsAgain, ReadsBack};
 ghost use Rattle.bridge.specs.declared.fault.ReadFault.{ReadFault};
 ghost use Rattle.bridge.specs.declared.fault.ReadFaultKind.{ReadFaultKind};
 ghost use Rattle.tt_data.specs.Forest.{Forest, map_spans};
-ghost use Rattle.tt_data.specs.Walk.{walk};
+ghost use Rattle.bridge.specs.Spelling.{spelling};
+ghost use Rattle.bridge.specs.Text.{is_visible};
+ghost use Rattle.tt_data.specs.Walk.{Step, opens, closes, step_with, walk};
+ghost use Rattle.tt_data.specs.declared.delimiter.DelimiterKind.{DelimiterKind};
 ghost use Rattle.tt_data.specs.declared.span.Span.{Span};
 
 use crate::fault::{ReadFault, ReadFaultKind};
@@ -18,6 +21,21 @@ pub fn reading_is_a_relation()
     ensures read { (steps : List TextStep) (f : Forest) → IsReading steps f → reading steps ≡ Ok f }
     ensures fault { (steps : List TextStep) (fault : ReadFault) → reading steps ≡ Err fault → IsFault steps fault }
     ensures told { (steps : List TextStep) (fault : ReadFault) → IsFault steps fault → reading steps ≡ Err fault }
+{}
+
+/// What stands behind whole trees is read as if it stood alone, faults too.
+pub fn reading_behind()
+    ensures { (f : Forest) (more : List TextStep) → reading (map step (walk f) ++ more) ≡ with_front f (reading more) }
+{}
+
+/// A spelling hangs on no place. That of a quote hangs on the next visible token, and no other on
+/// any token but its own. Visible brackets always have one.
+pub fn spelling_hangs_on_shapes()
+    ensures places { (h : Span → Span) (s : Step) (more : List Step) → spelling (step_with h s) (map (step_with h) more) ≡ spelling s more }
+    ensures next { (s t : Step) (more : List Step) → spelling s (t ∷ more) ≡ spelling s (t ∷ []) }
+    ensures other { (s : Step) (more : List Step) → is_quote s ≡ false → spelling s more ≡ spelling s [] }
+    ensures opening { (kind : DelimiterKind) (span : Span) (more : List Step) → is_visible kind ≡ true → IsSome (spelling (opens kind span) more) }
+    ensures closing { (kind : DelimiterKind) (span : Span) (more : List Step) → is_visible kind ≡ true → IsSome (spelling (closes kind span) more) }
 {}
 
 /// The text that is printed of any trees has no reading fault, and is read as just the printed
