@@ -17,9 +17,9 @@ ghost use Rattle.expander.specs.Turns.{deeper_at, searched, Adds, Turn, Tries, A
 ghost use Rattle.expander.specs.declared.definitions.Definition.{Definition};
 
 use crate::calls::{Call, call_at, call_behind_colons};
+use crate::copies::again;
 use crate::definitions::definition_of;
 use crate::faults::{Fault, FaultKind};
-use crate::copies::again;
 use crate::output::{PlacedStep, push_walk};
 use crate::pieces::next_piece;
 use crate::scope::{Known, Scope};
