@@ -1,10 +1,10 @@
 -- Where a token's text may be cut, by what its kind begins and ends with.
-use Rattle.std.proofs.Common.{◌≡◌, ℕ, ◌+◌, ◌-◌, ◌<◌, ◌≤◌, List, [], ◌∷◌, ◌++◌, true, false, length, take, drop, get_or, refl, sym, ap, ◌∙◌, append_assoc, arith}
+use Rattle.std.proofs.Common.{◌≡◌, ℕ, ◌+◌, ◌-◌, ◌<◌, ◌≤◌, List, [], ◌∷◌, ◌++◌, true, false, length, take, drop, get_or, refl, ap, ◌∙◌, arith}
 use Rattle.std.proofs.Math.Seq.{get_or-append_seam}
 use Rattle.std.proofs.lemmas.List.{get_or-drop, get_or-take, length-append, length-drop, length-take-le}
 use Rattle.std.proofs.lemmas.Str.{IsCharBoundary-after_ascii, IsCharBoundary-before_ascii}
 use Rattle.std.specs.List.{slice_range}
-use Rattle.std.specs.Prelude.{Some, None, codes}
+use Rattle.std.specs.Prelude.{Some, None}
 use Rattle.std.specs.Str.{IsCharBoundary, IsUtf8}
 use Rattle.rustc_lexer.specs.Cursors.{suffix_of}
 use Rattle.rustc_lexer.specs.Shapes.{HasByteShape, is_ended}
@@ -12,7 +12,7 @@ use Rattle.rustc_lexer.specs.declared.token.DocStyle.TheVariants.{Outer, Inner}
 use Rattle.rustc_lexer.specs.declared.token.LiteralKind.TheVariants as literal
 use Rattle.rustc_lexer.specs.declared.token.TokenKind.{TokenKind}
 use Rattle.rustc_lexer.specs.declared.token.TokenKind.TheVariants as kind
-use Rattle.bridge.specs.ReadSteps.{EndsBlock, MayCut}
+use Rattle.bridge.specs.ReadSteps.{MayCut}
 use Rattle.bridge.specs.TokenSteps.{sort_of}
 
 -- behind the character of one byte that ends the first of two parts
@@ -41,7 +41,7 @@ block_cut bs inner suffix a b c u small none e =
     let n : length bs ≡ length {A = ℕ} (a ∷ (b ∷ (c ∷ inner))) + 2 = ap length split ∙ length-append (a ∷ (b ∷ (c ∷ inner))) (42 ∷ 47 ∷ []) in
     (line_cut bs _ a b c u small e, (omega (arith, n), before_two bs (a ∷ (b ∷ (c ∷ inner))) 42 47 (omega arith) split))
 
--- a literal: what it begins and ends with are just those of its form
+-- a token can be cut as one of its sort is: a literal begins and ends just as its form does
 pub may_cut : (k : TokenKind) (bs : List ℕ) → IsUtf8 bs → (is_ended k ≡ true → HasByteShape k bs) → IsCharBoundary bs (suffix_of k) → MayCut (sort_of k) bs
 may_cut kind.RawIdent bs u h b = let s = h refl in behind bs (114 ∷ []) _ 35 u (omega arith) s.is
 may_cut (kind.Lifetime false) bs u h b = let s = h refl in behind bs [] _ 39 u (omega arith) s.is

@@ -1,24 +1,24 @@
 -- What one token adds to the steps of a tree under construction.
-use Rattle.std.proofs.Common.{◌≡◌, ℕ, ◌+◌, ◌<◌, List, [], ◌∷◌, ◌++◌, Bool, true, false, inl, inr, refl, sym, ap, ◌∙◌, append_assoc, arith, map}
-use Rattle.std.proofs.lemmas.List.{append-nil, map-append}
-use Rattle.std.specs.Prelude.{◌⊎◌, Option, Some, None, if◌then◌else◌}
+use Rattle.std.proofs.Common.{◌≡◌, ℕ, ◌+◌, List, [], ◌∷◌, ◌++◌, Bool, inl, inr, refl, sym, ap, ◌∙◌, arith, map}
+use Rattle.std.proofs.lemmas.List.{map-append}
+use Rattle.std.specs.Prelude.{Option, Some, None}
 use Rattle.rustc_lexer.specs.declared.token.DocStyle.{DocStyle}
 use Rattle.rustc_lexer.specs.declared.token.TokenKind.{TokenKind}
 use Rattle.rustc_lexer.specs.declared.token.DocStyle.TheVariants.{Outer, Inner}
-use Rattle.tt.specs.Building.{Building, Opened, closed, count_of, extended, innermost_group, most_tokens, opened}
+use Rattle.tt.specs.Building.{Building, Opened, closed, count_of, extended, innermost_group, opened}
 use Rattle.tt_data.specs.Flat.{joined-empty}
 use Rattle.tt_data.specs.declared.leaf.IdentIsRaw.{IdentIsRaw}
 use Rattle.tt_data.specs.declared.leaf.LitKind.{LitKind}
 use Rattle.tt_data.specs.Forest.{Forest, empty, size}
-use Rattle.tt_data.specs.Walk.{Step, closes, opens, walk}
+use Rattle.tt_data.specs.Walk.{closes, opens, walk}
 use Rattle.tt_data.specs.declared.delimiter.DelimiterKind.{DelimiterKind}
 use Rattle.tt_data.specs.fault.TtFault.{TtFault}
 use Rattle.tt_data.specs.declared.span.Span.{Span}
 use Rattle.tt_data.specs.declared.span.TextRange.{TextRange}
 use Rattle.bridge.proofs.AddingLemmas.{count-extended}
 use Rattle.bridge.proofs.ReadingLemmas.{closed_walk, walk_open-joined}
-use Rattle.bridge.specs.ReadSteps.{IsRefusal, IsStepRefusal, Overfills, Takes, first_kind, spacing_at, steps_in, trees_of}
-use Rattle.bridge.specs.Reading.{DoesNotFit, IsFault, PlacedToken, TextStep, bad, bad_at, closer_at, left_open, range_of, step, walk_open, written_at}
+use Rattle.bridge.specs.ReadSteps.{IsRefusal, IsStepRefusal, Takes, first_kind, spacing_at, steps_in, trees_of}
+use Rattle.bridge.specs.Reading.{DoesNotFit, IsFault, PlacedToken, TextStep, bad, bad_at, closer_at, left_open, range_of, step, walk_open}
 use Rattle.bridge.specs.TokenSteps.{spacing_before, steps_of_sort}
 use Rattle.bridge.specs.declared.fault.ReadFault.{ReadFault}
 use Rattle.bridge.specs.declared.fault.ReadFaultKind.TheVariants.{BadToken, CloserDoesNotFit, GroupLeftOpen}

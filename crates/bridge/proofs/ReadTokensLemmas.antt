@@ -1,16 +1,15 @@
 -- The text read token by token: what was read, and what is left.
-use Rattle.std.proofs.Common.{◌≡◌, ℕ, ◌+◌, ◌-◌, ◌<◌, ◌≤◌, List, [], ◌∷◌, ◌++◌, length, take, drop, refl, sym, ap, ◌∙◌, append_assoc, arith, inl, inr, map, chars, subst}
+use Rattle.std.proofs.Common.{◌≡◌, ℕ, ◌+◌, ◌-◌, ◌≤◌, List, [], ◌∷◌, ◌++◌, length, take, drop, refl, sym, ap, ◌∙◌, append_assoc, arith, inl, inr, chars, subst}
 use Rattle.std.proofs.lemmas.List.{append-nil, drop-drop, length-drop, length-take-le}
 use Rattle.std.specs.List.{slice_range}
-use Rattle.std.specs.Prelude.{◌⊎◌, Option, Some, None}
+use Rattle.std.specs.Prelude.{Option, Some, None}
 use Rattle.rustc_lexer.specs.Lexing.{tokens_of}
 use Rattle.rustc_lexer.specs.declared.token.Token.{Token}
 use Rattle.rustc_lexer.specs.declared.token.TokenKind.{TokenKind}
-use Rattle.tt.specs.Building.{Building, count_of}
+use Rattle.tt.specs.Building.{Building}
 use Rattle.tt_data.specs.Forest.{empty}
 use Rattle.tt_data.specs.fault.TtFault.{TtFault}
-use Rattle.tt_data.specs.declared.span.TextRange.{TextRange}
-use Rattle.bridge.specs.ReadSteps.{IsStepRefusal, Overfills, Takes, first_kind, steps_in}
+use Rattle.bridge.specs.ReadSteps.{IsStepRefusal, Takes, first_kind, steps_in}
 use Rattle.bridge.specs.ReadText.{IsReadRefusal, text_top}
 use Rattle.bridge.specs.Reading.{IsFault, PlacedToken, TextStep, placed_from, range_of}
 use Rattle.bridge.specs.TokenSteps.{sort_of, steps_of, steps_of_sort, text_steps}

@@ -6,7 +6,7 @@ use Rattle.rustc_lexer.specs.declared.token.DocStyle.TheVariants.{Outer, Inner}
 use Rattle.rustc_lexer.specs.declared.token.TokenKind.{TokenKind}
 use Rattle.tt.specs.Building.{Building, count_of, most_tokens}
 use Rattle.tt.specs.TokenLiterals.{IsLiteralToken, literal_in}
-use Rattle.tt_data.specs.Forest.{Forest, empty, leaf, group, joined, size}
+use Rattle.tt_data.specs.Forest.{Forest, empty, leaf, group, joined}
 use Rattle.tt_data.specs.Literals.{literal_of}
 use Rattle.tt_data.specs.declared.delimiter.DelimiterKind.TheVariants.{Bracket}
 use Rattle.tt_data.specs.fault.TtFault.{TtFault}
@@ -20,7 +20,7 @@ use Rattle.tt_data.specs.declared.span.Span.{Span}
 use Rattle.tt_data.specs.declared.span.TextRange.{TextRange}
 use Rattle.bridge.specs.declared.fault.ReadFault.{ReadFault}
 use Rattle.bridge.specs.declared.sort.Sort.{Sort}
-use Rattle.bridge.specs.declared.sort.Sort.TheVariants.{Blank, Name, Mark, Opening, Closing, QuotedName, Doc, Value, Neither}
+use Rattle.bridge.specs.declared.sort.Sort.TheVariants.{Name, Mark, QuotedName, Doc, Value}
 use Rattle.bridge.specs.Reading.{IsFault, PlacedToken, TextStep, step, walk_open, written_at}
 use Rattle.bridge.specs.Text.{char}
 use Rattle.bridge.specs.TokenSteps.{doc_text, escaped, is_mark, mark_leaf, name_in, name_leaf, sort_of}

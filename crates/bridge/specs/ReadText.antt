@@ -1,5 +1,5 @@
 -- What `read` answers: the tree of a text, or its first fault.
-use Rattle.std.specs.Prelude.{◌≡◌, ◌⊎◌, ℕ, ◌+◌, ◌<◌, List, ◌++◌, map}
+use Rattle.std.specs.Prelude.{◌≡◌, ◌⊎◌, ◌+◌, ◌<◌, List, ◌++◌, map}
 use Rattle.tt.specs.Building.{Opened, count_in, most_tokens}
 use Rattle.tt_data.specs.Forest.{Forest, size}
 use Rattle.tt_data.specs.declared.delimiter.Delimiter.{Delimiter}

@@ -1,5 +1,5 @@
 -- The name, the `=` and the literal, one after another.
-use Rattle.std.proofs.Common.{arith, [], codes}
+use Rattle.std.proofs.Common.{arith, codes}
 use Rattle.tt_data.specs.Forest.{Forest, empty, leaf}
 use Rattle.tt_data.specs.declared.leaf.IdentIsRaw.TheVariants as is_raw
 use Rattle.tt_data.specs.declared.leaf.Leaf.TheVariants as as_leaf

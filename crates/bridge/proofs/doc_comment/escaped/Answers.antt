@@ -2,7 +2,6 @@
 use Rattle.std.proofs.Common.{◌≡◌, ℕ, ◌+◌, List, ◌++◌, ◌∷◌, [], take, ◌∙◌, ap, sym, subst, Some, None, string_bytes, rules}
 use Rattle.std.specs.List.{slice_range}
 use Rattle.memchr.specs.Find.{IsFirstByte, is_byte2}
-use Rattle.bridge.specs.TokenSteps.{escaped}
 use Rattle.bridge.proofs.EscapeLemmas.{after_marked, escapes_none, escapes_one}
 use Rattle.bridge.proofs.doc_comment.escaped.Goals as goal
 

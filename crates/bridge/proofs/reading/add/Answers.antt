@@ -1,5 +1,5 @@
 -- One token: brackets, trees, or a fault.
-use Rattle.std.proofs.Common.{refl, rules}
+use Rattle.std.proofs.Common.{refl}
 use Rattle.bridge.proofs.AddingLemmas.{handed_on, no_value, passed_ok}
 use Rattle.bridge.proofs.ReadStepLemmas.{faults_bad, plain_at, refuses_opening, refuses_trees, takes_trees}
 use Rattle.bridge.proofs.reading.add.Goals as goal
