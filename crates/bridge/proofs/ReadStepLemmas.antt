@@ -51,7 +51,6 @@ spacing_before-is [] = refl
 spacing_before-is (t ∷ more) = refl
 
 -- a token that is no bracket is read as its trees
-
 plain_steps : (sort : Sort) (t : PlacedToken) (after : List PlacedToken) → ((k : DelimiterKind) → sort ≡ Opening k → ⊥)
     → ((k : DelimiterKind) → sort ≡ Closing k → ⊥) → (sort ≡ Neither → ⊥)
     → steps_of_sort sort t after ≡ map step (walk (trees_of sort t.text (range_of t) (first_kind after)))

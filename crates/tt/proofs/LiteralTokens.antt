@@ -1,12 +1,11 @@
 -- Where a token that is a literal may be cut: behind its first quote, and before its last one.
-use Rattle.std.proofs.Common.{◌≡◌, ℕ, ◌+◌, ◌-◌, ◌<◌, List, [], ◌∷◌, ◌++◌, length, get_or, refl, sym, ap, ◌∙◌, append_assoc, arith}
+use Rattle.std.proofs.Common.{◌≡◌, ℕ, ◌+◌, ◌-◌, ◌<◌, List, [], ◌∷◌, ◌++◌, length, get_or, sym, ap, ◌∙◌, append_assoc, arith}
 use Rattle.std.proofs.Math.Seq.{get_or-append_seam}
 use Rattle.std.proofs.lemmas.List.{length-append}
 use Rattle.std.proofs.lemmas.Str.{IsCharBoundary-start, IsCharBoundary-after_ascii, IsCharBoundary-before_ascii}
 use Rattle.std.specs.Prelude.{codes, replicate}
 use Rattle.std.specs.Str.{IsCharBoundary, IsUtf8}
 use Rattle.tt.specs.TokenLiterals.{IsLiteralToken, form_begin, form_end}
-use Rattle.tt_data.specs.Displayed.{form_letters, form_hashes, form_quote}
 use Rattle.tt_data.specs.declared.leaf.LitKind.{LitKind}
 use Rattle.tt_data.specs.declared.leaf.LitKind.TheVariants.{Byte, Char, Integer, Float, Str, StrRaw, ByteStr, ByteStrRaw, CStr, CStrRaw, Err}
 
