@@ -6,7 +6,6 @@ use Rattle.tt.specs.Tops.{Top, forest_of_top, tokens_of}
 use Rattle.tt_data.specs.Flat.{forest_of-preorder}
 use Rattle.tt_data.specs.Forest.{Forest, empty, leaf, group, forest_of, head_of, map_spans, preorder, size}
 use Rattle.tt_data.specs.Spans.{delimiter_with, leaf_with, token_with}
-use Rattle.tt_data.specs.declared.leaf.Leaf.{Leaf}
 use Rattle.tt_data.specs.declared.leaf.Leaf.TheVariants as as_leaf
 use Rattle.tt_data.specs.declared.span.Span.{Span}
 use Rattle.tt_data.specs.declared.tree.TokenTree.{TokenTree}
@@ -14,7 +13,7 @@ use Rattle.tt_data.specs.declared.tree.TokenTree.TheVariants as token
 use Rattle.tt_data.specs.fault.TtFault.{TtFault}
 use Rattle.tt_data.specs.fault.TtFault.TheVariants.{Memory, Tokens}
 use Rattle.bridge.specs.PieceTokens.{alone_token, ends_in_leaf, last_token_alone}
-use Rattle.bridge.specs.Pieces.{alone, first_start, moved_back, piece_of, relative, with_last_alone}
+use Rattle.bridge.specs.Pieces.{first_start, moved_back, piece_of, relative, with_last_alone}
 use Rattle.bridge.specs.ReadText.{text_top}
 
 no : {X : Type 0} → false ≡ true → X

@@ -5,7 +5,6 @@ use Rattle.std.specs.Prelude.{All}
 use Rattle.tt.specs.Views.{forest}
 use Rattle.tt_data.specs.Forest.{preorder, size}
 use Rattle.tt_data.specs.Spans.{token_with}
-use Rattle.tt_data.specs.declared.tree.TokenTree.{TokenTree}
 use Rattle.bridge.specs.Pieces.{StandsFrom, first_start, moved_back}
 use Rattle.bridge.proofs.PieceLemmas.{moved_begin, moved_on}
 use Rattle.bridge.proofs.piece_tree.moved_tokens.Goals as goal

@@ -3,7 +3,7 @@ use Rattle.std.specs.Prelude.{All}
 use Rattle.tt.specs.Tops.{tokens_of}
 use Rattle.tt.specs.Views.{forest}
 use Rattle.tt_data.specs.Spans.{token_with}
-use Rattle.bridge.specs.Pieces.{StandsFrom, first_start, moved_back, relative}
+use Rattle.bridge.specs.Pieces.{StandsFrom, moved_back, relative}
 use Rattle.bridge.specs.ReadText.{text_top}
 use Rattle.bridge.proofs.piece_tree.moved_tokens.Given as goal
 
