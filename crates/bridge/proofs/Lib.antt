@@ -15,3 +15,4 @@ mod AgainLemmas
 mod AloneLemmas
 mod SpanLemmas
 mod ShapeLemmas
+mod PieceLemmas

@@ -5,4 +5,6 @@
 #![tactic(auto)]
 
 #[cfg(test)]
+mod pieces;
+#[cfg(test)]
 mod texts;
