@@ -1,0 +1,14 @@
+-- the rules of a definition, in reading order
+pub mod Text
+pub mod Glued
+pub mod Trees
+pub mod Items
+pub mod Parsed
+pub mod Repetitions
+pub mod Expressions
+pub mod Patterns
+pub mod Parsing
+-- what the program's rules stand for, when two are equal, and the same rules at other places
+pub mod Ops
+pub mod Likeness
+pub mod Relabelling

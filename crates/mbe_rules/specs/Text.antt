@@ -1,0 +1,62 @@
+-- Words that the definitions share: texts, single characters, kinds of brackets.
+use Rattle.std.specs.Prelude.{ℕ, Bool, true, false, ◌||◌, List, [], ◌∷◌, nat_eq, slice_index, codes}
+use Rattle.std.specs.Str.{bytes_eq}
+use Prim.Native.String.{String}
+use Rattle.tt_data.specs.declared.leaf.Ident.{Ident}
+use Rattle.tt_data.specs.declared.leaf.Punct.{Punct}
+use Rattle.tt_data.specs.declared.leaf.Spacing.{Spacing}
+use Rattle.tt_data.specs.declared.leaf.Spacing.TheVariants.{Alone, Joint}
+use Rattle.tt_data.specs.declared.delimiter.DelimiterKind.{DelimiterKind}
+use Rattle.tt_data.specs.declared.delimiter.DelimiterKind.TheVariants.{Parenthesis, Brace, Bracket, Invisible}
+
+-- two texts are equal
+abbrev pub same_text : List ℕ → List ℕ → Bool
+same_text = bytes_eq
+
+-- the text is the word that is written
+abbrev pub is : String → List ℕ → Bool
+is word text = same_text text (codes word)
+
+-- the text is one of these
+abbrev pub is_one_of : List (List ℕ) → List ℕ → Bool
+is_one_of [] text = false
+is_one_of (w ∷ ws) text = same_text text w || is_one_of ws text
+
+-- `true` or `false`
+abbrev pub is_truth : List ℕ → Bool
+is_truth text = is "true" text || is "false" text
+
+-- the identifier is the word that is written; whether it is raw doesn't count
+abbrev pub is_word : String → Ident → Bool
+is_word word i = is word i.sym
+
+-- the character is the one that is written
+abbrev pub is_character : String → ℕ → Bool
+is_character written c = nat_eq c (slice_index (codes written) 0)
+
+-- the punct is this character
+abbrev pub is_char : String → Punct → Bool
+is_char written p = is_character written p.char
+
+-- a punct behind which none stands directly
+abbrev pub is_alone : Spacing → Bool
+is_alone Alone = true
+is_alone _ = false
+
+-- a punct right behind which another stands
+abbrev pub is_joint : Spacing → Bool
+is_joint Joint = true
+is_joint _ = false
+
+-- two brackets are of one kind
+abbrev pub same_kind : DelimiterKind → DelimiterKind → Bool
+same_kind Parenthesis Parenthesis = true
+same_kind Brace Brace = true
+same_kind Bracket Bracket = true
+same_kind Invisible Invisible = true
+same_kind _ _ = false
+
+-- nothing in a list
+abbrev pub is_nil : {A : Type 0} → List A → Bool
+is_nil [] = true
+is_nil _ = false

@@ -1,0 +1,15 @@
+//! The rules of a macro's definition: what is read of them, and the faults that are told.
+#![tactic(auto)]
+
+pub mod copies;
+pub mod errors;
+pub mod laws;
+pub mod macro_call_style;
+pub mod parser;
+pub mod rules;
+pub mod validation;
+
+pub use errors::ParseError;
+pub use macro_call_style::MacroCallStyle;
+pub use parser::{ConcatElement, MetaVarKind, Op, RepeatKind, Separator};
+pub use rules::{Rule, Rules};

@@ -1,0 +1,161 @@
+//! Patterns and templates, as they are kept.
+ghost use Rattle.std.specs.Prelude.{◌≡◌};
+ghost use Rattle.std.specs.Str.{bytes_eq};
+ghost use Rattle.std.proofs.Common.{rules};
+ghost use Rattle.mbe_rules.specs.Trees.{characters};
+
+use symbols::Symbol;
+use tt_data::delimiter::Delimiter;
+use tt_data::leaf::{Ident, Literal, Punct};
+use tt_data::span::Span;
+
+/// What a variable of a pattern takes.
+#[derive(Clone, Copy, PartialEq, Eq, Debug)]
+pub enum MetaVarKind {
+    Path,
+    Ty,
+    Pat,
+    PatParam,
+    Stmt,
+    Block,
+    Meta,
+    Item,
+    Vis,
+    Expr,
+    Expr2021,
+    Ident,
+    Tt,
+    Lifetime,
+    Literal,
+}
+
+/// How often a repetition may repeat.
+#[derive(Clone, Copy, PartialEq, Eq, Debug)]
+pub enum RepeatKind {
+    /// `*`
+    ZeroOrMore,
+    /// `+`
+    OneOrMore,
+    /// `?`
+    ZeroOrOne,
+}
+
+/// What stands between the rounds of a repetition.
+#[derive(Debug, Drop)]
+pub enum Separator {
+    Literal(Literal),
+    Ident(Ident),
+    Lifetime(Punct, Ident),
+    /// One to three puncts.
+    Puncts(Vec<Punct>),
+}
+
+// Whether two runs of puncts have the same characters.
+fn same_characters(first: &[Punct], second: &[Punct]) -> bool
+    ensures { result ≡ bytes_eq (characters first.now) (characters second.now) }
+{
+    let Some((a, more)) = first.split_first() else {
+        return match second.split_first() {
+            None => true,
+            Some(_) => false,
+        };
+    };
+    let Some((b, others)) = second.split_first() else {
+        return false;
+    };
+    if a.char != b.char {
+        return false;
+    }
+    same_characters(more, others)
+}
+
+/// Separators are equal by their texts: places, spacing, rawness and the forms of literals don't count.
+impl PartialEq for Separator {
+    ghost use Rattle.std.specs.Cmp.Rules.{comparing};
+    ghost use Rattle.mbe_rules.specs.Likeness.{same_separator};
+
+    ghost eq = { same_separator };
+
+    ghost laws = { Prim.search (comparing, rules) };
+
+    fn eq(&self, other: &Separator) -> bool {
+        match (self, other) {
+            (Separator::Literal(a), Separator::Literal(b)) => {
+                a.text() == b.text() && a.suffix() == b.suffix()
+            }
+            (Separator::Ident(a), Separator::Ident(b)) => a.sym == b.sym,
+            (Separator::Lifetime(_, a), Separator::Lifetime(_, b)) => a.sym == b.sym,
+            (Separator::Puncts(a), Separator::Puncts(b)) => same_characters(a, b),
+            _ => false,
+        }
+    }
+}
+
+impl Eq for Separator {
+    ghost use Rattle.std.specs.Cmp.Rules.{comparing};
+
+    ghost laws = { Prim.search (comparing, rules) };
+}
+
+/// A part of `${concat(..)}`.
+#[derive(PartialEq, Eq, Debug, Drop)]
+pub enum ConcatElement {
+    /// A word or a literal, by its text.
+    Text(Symbol),
+    /// `$name`
+    Var(Symbol),
+}
+
+/// An item of a pattern or a template. `id` is the place of the `$` that begins it.
+#[derive(PartialEq, Eq, Debug, Drop)]
+pub enum Op {
+    /// `$name:kind`, and `$name` in a template.
+    Var {
+        name: Symbol,
+        kind: Option<MetaVarKind>,
+        id: Span,
+    },
+    /// `${count($name, depth)}`
+    Count {
+        name: Symbol,
+        depth: usize,
+        id: Span,
+    },
+    /// `${index(depth)}`
+    Index {
+        depth: usize,
+        id: Span,
+    },
+    /// `${len(depth)}`
+    Len {
+        depth: usize,
+        id: Span,
+    },
+    /// `${ignore($name)}`
+    Ignore {
+        name: Symbol,
+        id: Span,
+    },
+    /// `${concat(..)}`
+    Concat {
+        elements: Vec<ConcatElement>,
+        id: Span,
+    },
+    /// `$(..) sep op`
+    Repeat {
+        tokens: Vec<Op>,
+        separator: Option<Separator>,
+        kind: RepeatKind,
+    },
+    /// A group.
+    Subtree {
+        tokens: Vec<Op>,
+        delimiter: Delimiter,
+    },
+    Literal(Literal),
+    Ident(Ident),
+    /// One to three puncts that are glued to one.
+    Punct(Vec<Punct>),
+    /// In a pattern, a quote and its name.
+    Lifetime(Punct, Ident),
+}
