@@ -1,11 +1,13 @@
 -- Rows worked out by hand, by computation: `a(,)b` under construction, and tree by tree.
-use Rattle.std.proofs.Common.{◌≡◌, ℕ, ◌+◌, List, [], ◌∷◌, refl, codes, Some, None, true, false}
+use Rattle.std.proofs.Common.{◌≡◌, ℕ, ◌+◌, List, [], ◌∷◌, refl, codes, length, option_map, Some, None, true, false}
 use Rattle.tt_data.specs.declared.span.Span.{Span}
 use Rattle.tt_data.specs.declared.span.SyntaxContext.TheVariants.{Written}
 use Rattle.tt_data.specs.declared.delimiter.Delimiter.{Delimiter}
 use Rattle.tt_data.specs.declared.delimiter.DelimiterKind.TheVariants.{Parenthesis, Brace, Invisible}
 use Rattle.tt_data.specs.declared.leaf.Leaf.{Leaf}
 use Rattle.tt_data.specs.declared.leaf.Leaf.TheVariants as as_leaf
+use Rattle.tt_data.specs.declared.leaf.Punct.{Punct}
+use Rattle.tt_data.specs.declared.leaf.Spacing.{Spacing}
 use Rattle.tt_data.specs.declared.leaf.Spacing.TheVariants.{Alone, Joint, JointHidden}
 use Rattle.tt_data.specs.declared.tree.TokenTree.{TokenTree}
 use Rattle.tt_data.specs.declared.tree.TokenTree.TheVariants as token
@@ -17,6 +19,8 @@ use Rattle.tt.specs.declared.iter.TtElement.TheVariants as element
 use Rattle.tt.specs.BuilderTokens.{here_of, groups_of, begins_invisible, moved_back, alone_token}
 use Rattle.tt.specs.Building.{Building, pushed, opened, closed, extended, leaves, last_alone, Reached, itself, by_open, innermost_group, count_of, most_tokens, point_of, list_in, cut_back, unwrapped_at}
 use Rattle.tt.specs.Elements.{elements, first_element, first_place, first_alone, after_first, last_place, IsNext}
+use Rattle.tt.specs.FirstTrees.{first_subtree, first_name, first_literal_leaf, is_among, behind_punct}
+use Rattle.tt.specs.Glued.{first_glued}
 use Rattle.tt.specs.Groups.{stripped}
 use Rattle.tt.specs.CursorTokens.{place_of}
 use Rattle.tt.specs.Places.{Around, beginning, moved, IsEnd, first_token, innermost_head, two_leaves, steps_before, steps_after}
@@ -474,3 +478,52 @@ given_way_row :
     (record { token = token.Subtree (record { delimiter = round 1 3; len = 1 }); put = Some (leaf (comma 2) empty) } ∷ [])
     (leaf (comma 2) empty)
 given_way_row = group_gives_way _ _ _ (leaf (comma 2) empty) _ _ nothing
+
+-- a punct of this character, in front of these trees
+abbrev in_front : ℕ → Spacing → Forest → Forest
+in_front c spacing f = leaf (as_leaf.Punct (record { char = c; spacing = spacing; span = at 0 })) f
+
+-- `...`, `..=`, `<<=` and `>>=` are operators of three, where the second punct is joint
+three_dots_row : option_map (λ (g : List Punct × Forest). length g.0) (first_glued (in_front 46 Joint (in_front 46 Joint (in_front 46 Alone empty)))) ≡ Some 3
+three_dots_row = refl
+
+hidden_row : option_map (λ (g : List Punct × Forest). length g.0) (first_glued (in_front 46 Joint (in_front 46 JointHidden (in_front 46 Alone empty)))) ≡ Some 2
+hidden_row = refl
+
+shift_row : option_map (λ (g : List Punct × Forest). length g.0) (first_glued (in_front 62 JointHidden (in_front 62 Joint (in_front 61 Joint (in_front 61 Alone empty))))) ≡ Some 3
+shift_row = refl
+
+-- `->` is one of two, `=>` too, and what is behind them is left
+arrow_row : first_glued (in_front 45 Joint (in_front 62 Alone (in_front 59 Alone empty)))
+    ≡ Some (record { char = 45; spacing = Joint; span = at 0 } ∷ record { char = 62; spacing = Alone; span = at 0 } ∷ [], in_front 59 Alone empty)
+arrow_row = refl
+
+-- puncts that stand apart, or make no operator, come one by one
+apart_row : option_map (λ (g : List Punct × Forest). length g.0) (first_glued (in_front 61 Alone (in_front 61 Alone empty))) ≡ Some 1
+apart_row = refl
+
+unknown_row : option_map (λ (g : List Punct × Forest). length g.0) (first_glued (in_front 36 Joint (in_front 40 Alone empty))) ≡ Some 1
+unknown_row = refl
+
+-- a name but `_`; a literal, as `true` is
+underscore_row : first_name (leaf (name (codes "_") 0) empty) ≡ None
+underscore_row = refl
+
+name_row : first_name (leaf (name (codes "a") 0) empty) ≡ Some (ident_of (codes "a") (at 0), empty)
+name_row = refl
+
+true_row : first_literal_leaf (leaf (name (codes "true") 0) empty) ≡ Some (name (codes "true") 0, empty)
+true_row = refl
+
+not_true_row : first_literal_leaf (leaf (name (codes "truth") 0) empty) ≡ None
+not_true_row = refl
+
+-- a comma, of a comma and a semicolon, and no bar; a group with what it counts
+among_row : behind_punct (is_among (codes ",;")) (in_front 44 Alone empty) ≡ Some empty
+among_row = refl
+
+not_among_row : behind_punct (is_among (codes ",;")) (in_front 124 Alone empty) ≡ None
+not_among_row = refl
+
+group_first_row : first_subtree (group (round 1 3) (leaf (comma 2) empty) empty) ≡ Some (record { delimiter = round 1 3; len = 1 }, leaf (comma 2) empty, empty)
+group_first_row = refl

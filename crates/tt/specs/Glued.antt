@@ -1,5 +1,5 @@
--- Puncts that are glued to one. (The Rust Reference, "Tokens": punctuation.)
-use Rattle.std.specs.Prelude.{ℕ, Bool, true, false, ◌&&◌, ◌||◌, not, nat_eq, codes, if◌then◌else◌}
+-- Puncts that are glued to one operator. (The Rust Reference, "Tokens": punctuation.)
+use Rattle.std.specs.Prelude.{ℕ, Bool, true, false, ◌&&◌, ◌||◌, not, nat_eq, codes, if◌then◌else◌, List, [], ◌∷◌, Option, Some, None}
 use Rattle.std.specs.List.{list_any}
 use Prim.Native.String.{String}
 use Rattle.tt_data.specs.Forest.{Forest, leaf}
@@ -7,6 +7,25 @@ use Rattle.tt_data.specs.declared.leaf.Leaf.TheVariants as as_leaf
 use Rattle.tt_data.specs.declared.leaf.Punct.{Punct}
 use Rattle.tt_data.specs.declared.leaf.Spacing.{Spacing}
 use Rattle.tt_data.specs.declared.leaf.Spacing.TheVariants.{Alone, Joint}
+use Rattle.tt.specs.FirstTrees.{first_punct}
+
+-- the character is one of these
+abbrev pub is_one_of : String → ℕ → Bool
+is_one_of cs c = list_any (λ d. nat_eq c d) (codes cs)
+
+-- two characters that make one operator
+abbrev pub is_two : ℕ → ℕ → Bool
+is_two a b =
+    (is_one_of "=" b && is_one_of "-!*/&%^+<=>|" a)
+    || ((is_one_of ">" b && is_one_of "-=>" a) || ((is_one_of "-" b && is_one_of "<" a)
+    || ((is_one_of ":" b && is_one_of ":" a) || ((is_one_of "." b && is_one_of "." a)
+    || ((is_one_of "&" b && is_one_of "&" a) || ((is_one_of "<" b && is_one_of "<" a) || (is_one_of "|" b && is_one_of "|" a)))))))
+
+-- three characters that make one operator: `...`, `..=`, `<<=`, `>>=`
+abbrev pub is_three : ℕ → ℕ → ℕ → Bool
+is_three a b c =
+    (is_one_of "." a && (is_one_of "." b && is_one_of ".=" c))
+    || ((is_one_of "<" a && (is_one_of "<" b && is_one_of "=" c)) || (is_one_of ">" a && (is_one_of ">" b && is_one_of "=" c)))
 
 -- a punct behind which none stands directly
 abbrev pub is_alone : Spacing → Bool
@@ -18,31 +37,37 @@ abbrev pub is_joint : Spacing → Bool
 is_joint Joint = true
 is_joint _ = false
 
--- the character is one of these
-abbrev pub is_among : String → ℕ → Bool
-is_among written c = list_any (λ d. nat_eq c d) (codes written)
-
--- two characters that make one operator
-abbrev pub is_two : ℕ → ℕ → Bool
-is_two a b =
-    (is_among "=" b && is_among "-!*/&%^+<=>|" a)
-    || ((is_among ">" b && is_among "-=>" a) || ((is_among "-" b && is_among "<" a)
-    || ((is_among ":" b && is_among ":" a) || ((is_among "." b && is_among "." a)
-    || ((is_among "&" b && is_among "&" a) || ((is_among "<" b && is_among "<" a) || (is_among "|" b && is_among "|" a)))))))
-
--- three characters that make one operator: `...`, `..=`, `<<=`, `>>=`
-abbrev pub is_three : ℕ → ℕ → ℕ → Bool
-is_three a b c =
-    (is_among "." a && (is_among "." b && is_among ".=" c))
-    || ((is_among "<" a && (is_among "<" b && is_among "=" c)) || (is_among ">" a && (is_among ">" b && is_among "=" c)))
-
--- two puncts that are glued
+-- two puncts that are glued to one operator
 abbrev pub is_pair : Punct → Punct → Bool
 is_pair p q = not (is_alone p.spacing) && is_two p.char q.char
 
--- three puncts that are glued
+-- three puncts that are glued to one operator
 abbrev pub is_triple : Punct → Punct → Punct → Bool
 is_triple p q r = not (is_alone p.spacing) && (is_joint q.spacing && is_three p.char q.char r.char)
+
+-- what two puncts begin with that stand side by side, with the trees behind it: an operator of both, or the first punct
+abbrev pub glued_two : Punct → Forest → Punct → Forest → List Punct × Forest
+glued_two p behind_one q behind_two = if is_pair p q then (p ∷ q ∷ [], behind_two) else (p ∷ [], behind_one)
+
+-- the same, where a third punct may stand behind them
+abbrev pub glued_third : Punct → Forest → Punct → Forest → Option (Punct × Forest) → List Punct × Forest
+glued_third p behind_one q behind_two None = glued_two p behind_one q behind_two
+glued_third p behind_one q behind_two (Some (r, rest)) =
+    if is_triple p q r then (p ∷ q ∷ r ∷ [], rest) else glued_two p behind_one q behind_two
+
+-- the longest operator that a punct begins, where a second may stand behind it
+abbrev pub glued_second : Punct → Forest → Option (Punct × Forest) → List Punct × Forest
+glued_second p rest None = (p ∷ [], rest)
+glued_second p rest (Some (q, behind)) = glued_third p rest q behind (first_punct behind)
+
+-- the longest operator that a punct begins before these trees, with the trees behind it
+abbrev pub glued_at : Punct → Forest → List Punct × Forest
+glued_at p rest = glued_second p rest (first_punct rest)
+
+-- the operator that a list of trees begins with, with the trees behind it
+abbrev pub first_glued : Forest → Option (List Punct × Forest)
+first_glued (leaf (as_leaf.Punct p) rest) = Some (glued_at p rest)
+first_glued _ = None
 
 -- how many puncts at the head of a list are glued to one: none where it begins with another tree
 abbrev pub glued_count : Forest → ℕ

@@ -8,6 +8,7 @@
 pub mod buffer;
 pub mod builder;
 pub mod display;
+mod expect;
 mod first_trees;
 pub mod flat;
 pub mod iter;
@@ -22,6 +23,7 @@ pub mod view;
 pub use buffer::Cursor;
 pub use builder::{ExpectedDelimiters, SubtreeBuilderRestorePoint, TopSubtreeBuilder};
 pub use display::pretty;
+pub use expect::MAX_GLUED_PUNCT_LEN;
 pub use flat::FlatTokens;
 pub use iter::{TtElement, TtIter};
 pub use literals::token_to_literal;

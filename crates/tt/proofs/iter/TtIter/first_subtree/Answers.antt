@@ -1,7 +1,8 @@
-use Rattle.std.proofs.Common.{◌∷◌, ap, sym, ◌∙◌}
-use Rattle.tt.specs.FirstTrees.{first_group}
+use Rattle.std.proofs.Common.{ℕ, ◌∷◌, Some, ap, sym, ◌∙◌}
+use Rattle.tt_data.specs.Forest.{forest_of}
+use Rattle.tt.specs.FirstTrees.{first_subtree}
 use Rattle.tt.proofs.Steps.{step, fits}
-use Rattle.tt.proofs.iter.TtIter.first_group.Goals as goal
+use Rattle.tt.proofs.iter.TtIter.first_subtree.Goals as goal
 
 pub split_at-requires : goal.split_at-requires
 split_at-requires c = fits _ _ _ c.self.invariant (c.in_ok-first.ensures.cases.0 ∙ ap (λ t. t ∷ c.in_ok-first.more.now) c.in-Subtree.is)
@@ -19,4 +20,7 @@ invariant_of-result-in-Subtree c =
 pub returns-in-Subtree : goal.returns-in-Subtree
 returns-in-Subtree c =
     let all = c.in_ok-first.ensures.cases.0 ∙ ap (λ t. t ∷ c.in_ok-first.more.now) c.in-Subtree.is in
-    sym (ap first_group (sym c.self.view_is ∙ (step _ _ _ _ _ c.self.invariant all c.split_at.ensures.front c.split_at.ensures.back).next.0))
+    let next = (step _ _ _ _ _ c.self.invariant all c.split_at.ensures.front c.split_at.ensures.back).next in
+    let s = c.in-Subtree.subtree in
+    ap (λ (n : ℕ). Some (record { delimiter = s.delimiter; len = n }, forest_of c.split_at.result.0.now, forest_of c.split_at.result.1.now)) next.1
+    ∙ sym (ap first_subtree (sym c.self.view_is ∙ next.0))
