@@ -11,7 +11,7 @@ use Rattle.expander.specs.declared.calls.Call.{Call}
 use Rattle.expander.specs.CallSteps.{bare_call, call_behind_colons, crate_call}
 use Rattle.expander.specs.Calls.{bare, from_crate, other, Marked, token, inside, call, is_colons, is_dollar_crate, is_bang_group, mark_leaf, marked}
 use Rattle.expander.specs.Readings.{◌>>◌}
-use Rattle.expander.specs.Text.{is_char, is_visible}
+use Rattle.bridge.specs.Text.{is_char, is_visible}
 
 -- ---- a test that was passed on the way to an answer
 

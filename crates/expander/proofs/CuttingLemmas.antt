@@ -6,7 +6,7 @@ use Rattle.tt_data.specs.declared.delimiter.Delimiter.{Delimiter}
 use Rattle.tt_data.specs.declared.leaf.Leaf.{Leaf}
 use Rattle.expander.specs.Pieces.{cut, cut_from, ends_piece}
 use Rattle.expander.specs.Cutting.{PassesTree}
-use Rattle.expander.specs.Text.{is_punct}
+use Rattle.bridge.specs.Text.{is_punct}
 use Rattle.std.specs.Prelude.{Some, None}
 
 pub joined-assoc : (f g h : Forest) → joined (joined f g) h ≡ joined f (joined g h)

@@ -14,7 +14,8 @@ use Rattle.tt_data.specs.declared.span.Span.{Span}
 use Rattle.expander.specs.declared.rules.Rule.{Rule}
 use Rattle.expander.specs.Readings.{is_empty}
 use Rattle.tt.specs.FirstTrees.{first_ident, first_punct, first_group}
-use Rattle.expander.specs.Text.{same_text, same_kind, is_char, is_punct}
+use Rattle.bridge.specs.Text.{same_kind, is_char, is_punct}
+use Rattle.expander.specs.Text.{same_text}
 use Rattle.expander.specs.Thin.{is_free_of}
 use Rattle.expander.specs.ThinFit.{Bindings, unbound, bound, fragment_size, same_operator, fit_after, fit, made, value_of, substituted, rule_fit, or_later, first_fit}
 use Rattle.expander.specs.ThinRules.{Pattern, done, variable, word, puncts, within, pattern_of, Template, filled, put, exactly, around, name_after, put_template, around_template, template_after, template_of, parts, parts_from, rule_of, all_rules, rules_of}

@@ -18,7 +18,8 @@ use Rattle.expander.specs.Definitions.{after_attributes, after_parenthesis, afte
 use Rattle.expander.specs.Readings.{◌>>=◌, ◌>>◌, is_empty}
 use Rattle.tt.specs.FirstTrees.{first_ident, first_punct, first_group}
 use Rattle.expander.specs.Pieces.{cut, cut_from, ends_piece, separated, pieces}
-use Rattle.expander.specs.Text.{same_kind, has_text, is_char, is_punct, alone, with_last_alone}
+use Rattle.bridge.specs.Text.{same_kind, is_char, is_punct}
+use Rattle.expander.specs.Text.{has_text, alone, with_last_alone}
 use Rattle.expander.specs.Thin.{is_free_of, groups_are_free_of}
 use Rattle.expander.proofs.CallLemmas.{IsBare, IsBehind, is_bare, is_behind, is_of_crate}
 use Rattle.expander.proofs.PatternLemmas.{bind_some, test_some}

@@ -17,9 +17,6 @@ mod RunRows
 mod MarkLemmas
 mod CallLemmas
 mod CountLemmas
-pub mod ReadStepLemmas
-pub mod ReadTokensLemmas
-pub mod ReadingLemmas
 pub mod BindingLemmas
 mod BehindLemmas
 mod FillingLemmas

@@ -10,7 +10,7 @@ use Rattle.tt_data.specs.declared.leaf.Leaf.TheVariants as as_leaf
 use Rattle.tt_data.specs.declared.span.Span.{Span}
 use Rattle.expander.specs.Calls.{bare, from_crate, other, Marked, none, token, inside, call, is_colons, is_dollar_crate, is_bang_group, mark_leaf, marked, unmarked}
 use Rattle.expander.specs.Expansion.{World, Outcome, Deeper, just, followed_by, grouped, search_calls}
-use Rattle.expander.specs.Text.{is_char}
+use Rattle.bridge.specs.Text.{is_char}
 use Rattle.expander.specs.Thin.{is_free_of}
 
 -- a leaf in front is there again when the marks are taken off

@@ -3,7 +3,7 @@ use Rattle.std.proofs.Common.{◌≡◌, ◌≢◌, ◌<◌, List, [], ◌∷◌
 use Rattle.tt_data.specs.Forest.{Forest, empty, leaf, group, joined, size}
 use Rattle.tt_data.specs.declared.delimiter.Delimiter.{Delimiter}
 use Rattle.tt_data.specs.declared.leaf.Leaf.{Leaf}
-use Rattle.expander.specs.Text.{is_punct}
+use Rattle.bridge.specs.Text.{is_punct}
 use Rattle.expander.specs.ThinRules.{parts, parts_from}
 use Rattle.expander.proofs.CuttingLemmas.{joined-assoc, joined-cancel, left_size}
 

@@ -9,7 +9,7 @@ use Rattle.tt_data.specs.declared.leaf.Punct.{Punct}
 use Rattle.expander.specs.declared.rules.FragmentKind.{FragmentKind}
 use Rattle.expander.specs.declared.units.Operator.TheVariants.{One, Two, Three}
 use Rattle.expander.specs.Readings.{◌>>=◌, ◌>>◌}
-use Rattle.expander.specs.Text.{is_char}
+use Rattle.bridge.specs.Text.{is_char}
 use Rattle.expander.specs.ThinRules.{name_of, kind_of, variable_after, name_after, pattern_after, variable_pattern, variable, puncts, template_after, put_template, put, exactly}
 use Rattle.expander.specs.Units.{operator_at, puncts_of, is_pair, is_triple}
 

@@ -8,11 +8,12 @@ use Rattle.std.proofs.lemmas.Bool.{eqb-true, eq-eqb}
 use Rattle.std.proofs.lemmas.Str.{encode_ascii, encode_same}
 use Rattle.tt_data.specs.Walk.{Step, at_leaf, opens, closes}
 use Rattle.tt_data.specs.declared.delimiter.DelimiterKind.TheVariants.{Parenthesis, Brace, Bracket, Invisible}
-use Rattle.tt_data.specs.declared.leaf.Leaf.TheVariants as as_leaf
 use Rattle.tt_data.specs.declared.span.Span.{Span}
 use Rattle.expander.specs.Expansion.{PlacedStep}
 use Rattle.expander.specs.OutputSteps.{token_of, token_at, text_of_step, is_spelled, gap_after}
-use Rattle.expander.specs.Printing.{PrintedToken, visible, printed, is_kept_apart, gap, text_from, depth_after}
+use Rattle.bridge.specs.Printing as bare_printing
+use Rattle.bridge.specs.Printing.{is_kept_apart, gap, text_from, depth_after}
+use Rattle.expander.specs.Printing.{PrintedToken, visible, printed, left_out}
 use Rattle.expander.specs.Thin.{thin_spelling}
 
 -- two tests that hold alike are one
@@ -55,7 +56,7 @@ apart a b =
     rw (pair_text a b 47 47 (omega arith) (omega arith), pair_text a b 47 42 (omega arith) (omega arith), pair_text a b 35 35 (omega arith) (omega arith)) refl
 
 -- the text of tokens that follow the step printed last
-abbrev pub continued : ℕ → Option Step → List PrintedToken → List ℕ
+abbrev pub continued : ℕ → Option Step → List bare_printing.PrintedToken → List ℕ
 continued depth None tokens = text_from depth tokens
 continued depth (Some last) [] = codes "\n"
 continued depth (Some last) (b ∷ more) = gap depth (token_at last) b ++ text_from depth (b ∷ more)
@@ -68,9 +69,7 @@ token_first s more e = go s.step s.outer more e
   where
     go : (s : Step) (outer : Option Span) (more : List PlacedStep) → is_spelled s ≡ true
         → tokens_from (record { step = s; outer = outer } ∷ more) ≡ token_of (record { step = s; outer = outer }) ∷ tokens_from more
-    go (at_leaf (as_leaf.Ident i)) outer more e = refl
-    go (at_leaf (as_leaf.Punct p)) outer more e = refl
-    go (at_leaf (as_leaf.Literal l)) outer more e = cc
+    go (at_leaf l) outer more e = refl
     go (opens Parenthesis span) outer more e = refl
     go (opens Brace span) outer more e = refl
     go (opens Bracket span) outer more e = refl
@@ -85,9 +84,7 @@ token_none s more e = go s.step s.outer more e
   where
     go : (s : Step) (outer : Option Span) (more : List PlacedStep) → is_spelled s ≡ false
         → tokens_from (record { step = s; outer = outer } ∷ more) ≡ tokens_from more
-    go (at_leaf (as_leaf.Ident i)) outer more e = cc
-    go (at_leaf (as_leaf.Punct p)) outer more e = cc
-    go (at_leaf (as_leaf.Literal l)) outer more e = refl
+    go (at_leaf l) outer more e = cc
     go (opens Parenthesis span) outer more e = cc
     go (opens Brace span) outer more e = cc
     go (opens Bracket span) outer more e = cc
@@ -97,14 +94,31 @@ token_none s more e = go s.step s.outer more e
     go (closes Bracket span) outer more e = cc
     go (closes Invisible span) outer more e = refl
 
-first_text : (depth : ℕ) (s : PlacedStep) (more : List PrintedToken)
-    → text_from depth (token_of s ∷ more) ≡ text_of_step s.step ++ continued (depth_after depth s.step) (Some s.step) more
+-- no visible step is left out
+pub none_left_out : (steps : List PlacedStep) → left_out thin_spelling (visible steps) ≡ []
+none_left_out [] = refl
+none_left_out (s ∷ more) = go s.step s.outer more (none_left_out more)
+  where
+    go : (s : Step) (outer : Option Span) (more : List PlacedStep) → left_out thin_spelling (visible more) ≡ []
+        → left_out thin_spelling (visible (record { step = s; outer = outer } ∷ more)) ≡ []
+    go (at_leaf l) outer more e = e
+    go (opens Parenthesis span) outer more e = e
+    go (opens Brace span) outer more e = e
+    go (opens Bracket span) outer more e = e
+    go (opens Invisible span) outer more e = e
+    go (closes Parenthesis span) outer more e = e
+    go (closes Brace span) outer more e = e
+    go (closes Bracket span) outer more e = e
+    go (closes Invisible span) outer more e = e
+
+first_text : (depth : ℕ) (s : PlacedStep) (more : List bare_printing.PrintedToken)
+    → text_from depth (token_at s.step ∷ more) ≡ text_of_step s.step ++ continued (depth_after depth s.step) (Some s.step) more
 first_text depth s [] = refl
 first_text depth s (b ∷ more) = refl
 
 -- one token is printed
-pub more_text : (text all : List ℕ) (depth : ℕ) (last : Option Step) (s : PlacedStep) (more : List PrintedToken)
-    → text ++ continued depth last (token_of s ∷ more) ≡ all
+pub more_text : (text all : List ℕ) (depth : ℕ) (last : Option Step) (s : PlacedStep) (more : List bare_printing.PrintedToken)
+    → text ++ continued depth last (token_at s.step ∷ more) ≡ all
     → ((text ++ gap_after depth last s.step) ++ text_of_step s.step) ++ continued (depth_after depth s.step) (Some s.step) more ≡ all
 more_text text all depth None s more e =
     rw (append-nil, append_assoc) (ap (λ t. text ++ t) (sym (first_text depth s more)) ∙ e)

@@ -1,26 +1,31 @@
 -- From the output of a text's pieces to its meaning.
-use Rattle.std.proofs.Common.{◌≡◌, ℕ, List, [], ◌∷◌, ◌++◌, length, refl, sym, ap, ◌∙◌, Bool, true, false, subst}
+use Rattle.std.proofs.Common.{◌≡◌, ℕ, List, [], ◌∷◌, ◌++◌, length, refl, sym, ap, ◌∙◌, Bool, true, false, subst, inl, inr}
 use Rattle.std.specs.Prelude.{IsTrue, None, Result, Ok, Err, ◌&&◌, not, filter, flat_map}
 use Rattle.std.specs.List.{list_any}
 use Rattle.tt_data.specs.Forest.{Forest}
-use Rattle.tt.specs.Tops.{Top}
-use Rattle.expander.specs.declared.reading.Read.TheVariants as read
-use Rattle.expander.specs.ReadSteps.{IsRead}
 use Rattle.expander.specs.declared.expansion.Output.{Output}
-use Rattle.expander.specs.declared.faults.ReadFault.{ReadFault}
+use Rattle.tt_data.specs.fault.TtFault.{TtFault}
+use Rattle.bridge.specs.ReadText.{IsReadRefusal}
+use Rattle.bridge.specs.TokenSteps.{text_reading, text_steps}
+use Rattle.bridge.specs.declared.fault.ReadFault.{ReadFault}
+use Rattle.expander.specs.declared.session.Refusal.TheVariants as refusal
+use Rattle.expander.specs.Refusals.{refusal_of}
+use Rattle.expander.specs.TooMany.{HasTooMany, NeedsTooMany}
 use Rattle.expander.specs.declared.session.Reply.TheVariants.{Read, Unread}
 use Rattle.expander.specs.Count.{Looked, is_same, expanded_count, looked_of}
 use Rattle.expander.specs.Expanded.{Expanded}
 use Rattle.expander.specs.Expansion.{PlacedStep}
 use Rattle.expander.specs.Faults.{nested, unspellable, in_order}
-use Rattle.expander.specs.Meaning.{Member, meaning_of, meaning_from, meaning, members, output_of}
+use Rattle.expander.specs.Meaning.{Member, meaning_of, meaning_from, meaning, members, member_faults, output_of}
 use Rattle.expander.specs.PieceTurns.{IsOutputOf}
 use Rattle.expander.specs.Pieces.{cut, pieces, separated}
-use Rattle.expander.specs.Printing.{visible, printed, left_out, text_of}
+use Rattle.expander.specs.Printing.{visible, printed, text_of}
 use Rattle.expander.specs.Replies.{IsExpansionOf, IsMeant, IsReadAs, IsReplyTo}
 use Rattle.expander.specs.Shown.{ShowsOutput}
 use Rattle.expander.specs.Thin.{thin_layers, thin_spelling, is_thin, is_thin_reading, is_thin_forest, groups_are_free_of}
-use Rattle.expander.specs.ThinReading.{thin_reading}
+use Rattle.std.proofs.lemmas.List.{append-nil}
+use Rattle.expander.specs.declared.faults.Fault.{Fault}
+use Rattle.expander.proofs.PrintingLemmas.{none_left_out}
 use Rattle.expander.proofs.FreeLemmas.{groups_free_separated}
 
 every_one : (ps : List Looked) → filter (λ p. not (list_any (is_same p) [])) ps ≡ ps
@@ -40,9 +45,9 @@ first true b e = refl
 first false b e = cc
 
 -- a thin text that is read has no `!` inside a group
-pub thin_groups : (text : List ℕ) (f : Forest) → is_thin text ≡ true → thin_reading text ≡ Ok f → groups_are_free_of "!" f ≡ true
+pub thin_groups : (text : List ℕ) (f : Forest) → is_thin text ≡ true → text_reading text ≡ Ok f → groups_are_free_of "!" f ≡ true
 thin_groups text f thin is_read =
-    let forest_thin : is_thin_forest f ≡ true = ap is_thin_reading (sym is_read) ∙ second _ (is_thin_reading (thin_reading text)) thin in
+    let forest_thin : is_thin_forest f ≡ true = ap is_thin_reading (sym is_read) ∙ second _ (is_thin_reading (text_reading text)) thin in
     first (groups_are_free_of "!" f) _ forest_thin
 
 -- the output of a text's pieces, shown, is what the text means
@@ -51,17 +56,19 @@ pub means_output : (depth : ℕ) (f : Forest) (out : Output) (e : Expanded) → 
 means_output depth f out e is shows =
     let ms : List Member = members thin_layers depth f in
     let steps : List PlacedStep = flat_map (output_of thin_layers depth) ms in
+    let told : List Fault = nested (printed thin_spelling (visible steps)) in
     record {
       printed = shows.printed ∙ ap (λ s. text_of (printed thin_spelling (visible s))) is.steps;
       faults = shows.faults
-          ∙ ap (λ s. in_order (out.faults.items ++ (nested (printed thin_spelling (visible s)) ++ unspellable (left_out thin_spelling (visible s))))) is.steps
-          ∙ ap (λ fs. in_order (fs ++ (nested (printed thin_spelling (visible steps)) ++ unspellable (left_out thin_spelling (visible steps))))) is.faults;
+          ∙ ap (λ s. in_order (out.faults.items ++ nested (printed thin_spelling (visible s)))) is.steps
+          ∙ ap (λ fs. in_order (fs ++ told)) is.faults
+          ∙ sym (ap (λ fs. in_order (flat_map (member_faults thin_layers depth) ms ++ fs)) (ap (λ l. told ++ unspellable l) (none_left_out steps) ∙ append-nil told));
       tokens = shows.tokens ∙ ap (λ s. length (printed thin_spelling (visible s))) is.steps;
       expanded = shows.expanded ∙ is.plain ∙ sym (all_count (looked_of ms));
     }
 
 -- a text that was read
-pub means_read : (depth : ℕ) (text : List ℕ) (f inner trees : Forest) (out : Output) (e : Expanded) → is_thin text ≡ true → thin_reading text ≡ Ok f
+pub means_read : (depth : ℕ) (text : List ℕ) (f inner trees : Forest) (out : Output) (e : Expanded) → is_thin text ≡ true → text_reading text ≡ Ok f
     → inner ≡ separated f → trees ≡ inner → (groups_are_free_of "!" trees ≡ true → IsOutputOf depth (cut trees) out) → ShowsOutput out e
     → IsMeant thin_layers depth (meaning thin_layers depth text) (Read e)
 means_read depth text f inner trees out e thin is_read inner_is trees_is gives shows =
@@ -71,30 +78,25 @@ means_read depth text f inner trees out e thin is_read inner_is trees_is gives s
     let Q : Result Forest ReadFault → Type 0 = λ r. IsMeant thin_layers depth (meaning_from thin_layers depth r) (Read e) in
     subst Q (sym is_read) (means_output depth f out e (subst P is_f (gives free)) shows)
 
--- a text that cannot be read
-pub means_fault : (depth : ℕ) (text : List ℕ) (fault told : ReadFault) → thin_reading text ≡ Err fault → told ≡ fault
-    → IsMeant thin_layers depth (meaning thin_layers depth text) (Unread told)
-means_fault depth text fault told is_read same =
-    let Q : Result Forest ReadFault → Type 0 = λ r. IsMeant thin_layers depth (meaning_from thin_layers depth r) (Unread told) in
-    subst Q (sym is_read) same
-
-pub read_by : (r : Result Forest ReadFault) (t : Top) → IsRead r (read.Tree t) → (f : Forest) × ((r ≡ Ok f) × (t.inner ≡ f))
-read_by (Ok f) t h = (f, (refl, h))
-read_by (Err fault) t h = absurd h
-
 -- the reply to a text that was read
-pub reply_read : (text : List ℕ) (depth : ℕ) (f : Forest) (e : Expanded) → thin_reading text ≡ Ok f
+pub reply_read : (text : List ℕ) (depth : ℕ) (f : Forest) (e : Expanded) → text_reading text ≡ Ok f
     → (IsTrue (is_thin text) → IsMeant thin_layers depth (meaning thin_layers depth text) (Read e)) → IsReplyTo (record { text = text; depth = depth }) (Read e)
 reply_read text depth f e is_read meant =
     let Q : Result Forest ReadFault → Type 0 = λ r. IsReadAs r (Read e) in
     record { is_read = subst Q (sym is_read) tt; meant = meant }
 
 -- the reply to a text that cannot be read
-pub reply_fault : (text : List ℕ) (depth : ℕ) (told : ReadFault) → IsRead (thin_reading text) (read.Fault told) → IsReplyTo (record { text = text; depth = depth }) (Unread told)
-reply_fault text depth told h = by_reading (thin_reading text) refl h
-  where
-    by_reading : (r : Result Forest ReadFault) → thin_reading text ≡ r → IsRead r (read.Fault told) → IsReplyTo (record { text = text; depth = depth }) (Unread told)
-    by_reading (Err fault) e g =
-        let Q : Result Forest ReadFault → Type 0 = λ r. IsReadAs r (Unread told) in
-        record { is_read = subst Q (sym e) g; meant = λ thin. means_fault depth text fault told e g }
-    by_reading (Ok f) e g = absurd g
+pub reply_fault : (text : List ℕ) (depth : ℕ) (fault : ReadFault) → text_reading text ≡ Err fault → IsReplyTo (record { text = text; depth = depth }) (Unread fault)
+reply_fault text depth fault is_read =
+    let P : Result Forest ReadFault → Type 0 = λ r. IsReadAs r (Unread fault) in
+    let Q : Result Forest ReadFault → Type 0 = λ r. IsMeant thin_layers depth (meaning_from thin_layers depth r) (Unread fault) in
+    record { is_read = subst P (sym is_read) refl; meant = λ thin. subst Q (sym is_read) refl }
+
+-- why a text that was read, or was not, is refused for want of tokens
+pub refused_read : (depth : ℕ) (text : List ℕ) (e : TtFault) → IsReadRefusal (text_steps text) e → refusal_of e ≡ refusal.Tokens → NeedsTooMany depth text
+refused_read depth text e (inl memory) tokens =
+    let no : refusal.Memory ≡ refusal.Tokens = subst (λ (x : TtFault). refusal_of x ≡ refusal.Tokens) memory tokens in absurd (cc no)
+refused_read depth text e (inr (is, many)) tokens = inl many
+
+pub refused_later : (depth : ℕ) (text : List ℕ) (f : Forest) → text_reading text ≡ Ok f → HasTooMany depth (Ok f) → NeedsTooMany depth text
+refused_later depth text f is_read many = inr (subst (HasTooMany depth) (sym is_read) many)

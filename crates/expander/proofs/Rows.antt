@@ -10,8 +10,8 @@ use Rattle.ucd_table.specs.Rows.{in_ranges}
 use Rattle.expander.specs.declared.faults.Fault.{Fault}
 use Rattle.expander.specs.declared.faults.FaultKind.{FaultKind}
 use Rattle.expander.specs.declared.faults.FaultKind.TheVariants.{CannotExpand, BrokenDefinition, RecursionLimit, NestedDefinition}
-use Rattle.expander.specs.declared.faults.ReadFault.{ReadFault}
-use Rattle.expander.specs.declared.faults.ReadFaultKind.TheVariants.{BadToken, CloserDoesNotFit, GroupLeftOpen}
+use Rattle.bridge.specs.declared.fault.ReadFault.{ReadFault}
+use Rattle.bridge.specs.declared.fault.ReadFaultKind.TheVariants.{BadToken, CloserDoesNotFit, GroupLeftOpen}
 use Rattle.expander.specs.Meaning.{meaning, ReadMeaning}
 use Rattle.expander.specs.Thin.{thin_layers, is_thin}
 
@@ -149,13 +149,13 @@ puncts_are_glued_is_thin : is_thin (lines (codes "macro_rules! m { ($a:tt) => { 
 unfolding chars is_xid_start is_xid_continue in_ranges xid_start_ranges xid_continue_ranges encode_utf8
 puncts_are_glued_is_thin = refl
 
-comment_free_operator : of (codes "x+ =y" ∷ []) ≡ gives (lines (codes "x + = y" ∷ [])) ([])
+operator_apart : of (codes "x+/* = */=y // z" ∷ []) ≡ gives (lines (codes "x + = y" ∷ [])) ([])
 unfolding chars is_xid_start is_xid_continue in_ranges xid_start_ranges xid_continue_ranges encode_utf8
-comment_free_operator = refl
+operator_apart = refl
 
-comment_free_operator_is_thin : is_thin (lines (codes "x+ =y" ∷ [])) ≡ true
+operator_apart_is_thin : is_thin (lines (codes "x+/* = */=y // z" ∷ [])) ≡ true
 unfolding chars is_xid_start is_xid_continue in_ranges xid_start_ranges xid_continue_ranges encode_utf8
-comment_free_operator_is_thin = refl
+operator_apart_is_thin = refl
 
 unbound_name : of (codes "macro_rules! m { () => { $y } }" ∷ codes "m!{}" ∷ []) ≡ gives (lines (codes "$ y" ∷ [])) ([])
 unfolding chars is_xid_start is_xid_continue in_ranges xid_start_ranges xid_continue_ranges encode_utf8
@@ -189,7 +189,7 @@ closer : shown (meaning thin_layers 128 (codes "(]")) ≡ unread (record { kind 
 unfolding chars is_xid_start is_xid_continue in_ranges xid_start_ranges xid_continue_ranges encode_utf8
 closer = refl
 
-bad : shown (meaning thin_layers 128 (codes "x \"ab\"")) ≡ unread (record { kind = BadToken; range = record { start = 2; «end» = 6 } })
+bad : shown (meaning thin_layers 128 (codes "x \"ab")) ≡ unread (record { kind = BadToken; range = record { start = 2; «end» = 5 } })
 unfolding chars is_xid_start is_xid_continue in_ranges xid_start_ranges xid_continue_ranges encode_utf8
 bad = refl
 

@@ -11,7 +11,7 @@ use Rattle.expander.specs.declared.units.Operator.{Operator}
 use Rattle.expander.specs.declared.rules.Rule.{Rule}
 use Rattle.expander.specs.Readings.{is_empty}
 use Rattle.tt.specs.FirstTrees.{first_punct, first_group}
-use Rattle.expander.specs.Text.{is_char}
+use Rattle.bridge.specs.Text.{is_char}
 use Rattle.expander.specs.ThinRules.{puncts, pattern_of, template_of, parts, rule_of, all_rules, rules_of, IsRule}
 use Rattle.expander.specs.Units.{operator_at, puncts_of}
 use Rattle.expander.proofs.PatternLemmas.{bind_some, test_some, back-size, operator_begins}

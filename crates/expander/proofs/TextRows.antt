@@ -99,3 +99,10 @@ macros_are_broken : thin (codes "macro k($a:ident) { $a } pub(a) macro l { () =>
     ≡ (false, gives (lines (codes "k ! { z }" ∷ [])) (fault BrokenDefinition 6 7 ∷ fault BrokenDefinition 38 39 ∷ fault BrokenDefinition 54 55 ∷ []))
 unfolding chars is_xid_start is_xid_continue in_ranges xid_start_ranges xid_continue_ranges encode_utf8
 macros_are_broken = refl
+
+-- ---- texts of other lexemes are not thin yet
+
+other_lexemes : thin (codes "r#x = (\"a\", 'b', 1u8); f::<'c>() // d" ∷ [])
+    ≡ (false, gives (lines (codes "r#x = ( \"a\" , 'b' , 1u8 ) ;" ∷ codes "f ::< 'c > ( )" ∷ [])) [])
+unfolding chars is_xid_start is_xid_continue in_ranges xid_start_ranges xid_continue_ranges encode_utf8
+other_lexemes = refl

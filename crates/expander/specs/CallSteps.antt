@@ -6,7 +6,7 @@ use Rattle.expander.specs.Calls.{is_colons, is_dollar_crate}
 use Rattle.expander.specs.Definitions.{or_else}
 use Rattle.expander.specs.Readings.{◌>>=◌, ◌>>◌}
 use Rattle.tt.specs.FirstTrees.{first_ident, first_punct, first_group}
-use Rattle.expander.specs.Text.{is_char, is_visible}
+use Rattle.bridge.specs.Text.{is_char, is_visible}
 
 -- a name, `!` and a visible group
 abbrev pub bare_call : Forest → Option Call

@@ -6,7 +6,8 @@ use Rattle.tt_data.specs.declared.leaf.Ident.{Ident}
 use Rattle.tt_data.specs.declared.leaf.Leaf.{Leaf}
 use Rattle.tt_data.specs.declared.leaf.Leaf.TheVariants as as_leaf
 use Rattle.tt_data.specs.declared.leaf.Punct.{Punct}
-use Rattle.expander.specs.Text.{same_text, is_visible, is_alone, is_char}
+use Rattle.bridge.specs.Text.{is_visible, is_alone, is_char}
+use Rattle.expander.specs.Text.{same_text}
 
 -- what stands before a name that `!` and a visible group follow: nothing that counts, `$crate ::`, which goes
 -- with the call, or another `::`, after which there is no call

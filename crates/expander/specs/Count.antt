@@ -15,7 +15,8 @@ use Rattle.tt_data.specs.declared.span.Span.{Span}
 use Rattle.expander.specs.declared.definitions.Definition.{Definition}
 use Rattle.expander.specs.Meaning.{Member, plain, defining}
 use Rattle.expander.specs.Pieces.{relative}
-use Rattle.expander.specs.Text.{same_text, same_kind}
+use Rattle.bridge.specs.Text.{same_kind}
+use Rattle.expander.specs.Text.{same_text}
 
 -- a plain piece's tree, and each name that was looked up in it with the definition found or none; places are counted
 -- from each tree's first token

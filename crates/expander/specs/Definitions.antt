@@ -7,7 +7,8 @@ use Rattle.tt_data.specs.declared.leaf.Leaf.TheVariants as as_leaf
 use Rattle.expander.specs.declared.definitions.Definition.{Definition}
 use Rattle.expander.specs.Readings.{◌>>=◌, ◌>>◌, is_empty}
 use Rattle.tt.specs.FirstTrees.{first_ident, first_punct, first_group}
-use Rattle.expander.specs.Text.{same_text, same_kind, has_text, is_char}
+use Rattle.bridge.specs.Text.{same_kind, is_char}
+use Rattle.expander.specs.Text.{same_text, has_text}
 
 -- what follows an outer attribute at the beginning
 abbrev pub after_attribute : Forest → Option Forest

@@ -1,20 +1,15 @@
 -- The faults of a text: their places and their order. (Of this project.)
 use Rattle.std.specs.Prelude.{ℕ, List, [], ◌∷◌, Bool, false, ◌&&◌, ◌||◌, nat_eq, nat_lt, if◌then◌else◌, unwrap_or, map, filter}
-use Rattle.tt_data.specs.Walk.{Step, at_leaf, opens, closes}
+use Rattle.tt_data.specs.Walk.{Step, at_leaf}
 use Rattle.tt_data.specs.declared.leaf.Leaf.TheVariants as as_leaf
 use Rattle.tt_data.specs.declared.span.Span.{Span}
 use Rattle.expander.specs.declared.faults.Fault.{Fault}
 use Rattle.expander.specs.declared.faults.FaultKind.{FaultKind}
 use Rattle.expander.specs.declared.faults.FaultKind.TheVariants.{CannotExpand, BrokenDefinition, RecursionLimit, NestedDefinition, Unspellable}
 use Rattle.expander.specs.Expansion.{PlacedStep}
-use Rattle.tt_data.specs.Spans.{span_of}
+use Rattle.bridge.specs.Printing.{step_span}
 use Rattle.expander.specs.Printing.{PrintedToken}
 use Rattle.expander.specs.Text.{is_word}
-
-abbrev pub step_span : Step → Span
-step_span (at_leaf l) = span_of l
-step_span (opens kind span) = span
-step_span (closes kind span) = span
 
 -- where a fault of an output token is told: at the token itself, or at the name of the outermost expanded call
 abbrev pub place : PlacedStep → Span

@@ -1,7 +1,6 @@
 -- what a text means, in reading order
 pub mod Text
 pub mod Readings
-pub mod Reading
 pub mod Pieces
 pub mod Definitions
 pub mod Calls
@@ -11,7 +10,6 @@ pub mod Faults
 pub mod Meaning
 pub mod Count
 -- the thin layers, and the texts that they are enough for
-pub mod ThinReading
 pub mod Units
 pub mod ThinRules
 pub mod ThinFit
@@ -27,7 +25,6 @@ pub mod Replies
 pub mod Watch
 pub mod Runs
 -- what the functions inside the crate promise each other
-pub mod ReadSteps
 pub mod Cutting
 pub mod Names
 pub mod Bound

@@ -4,7 +4,7 @@ use Rattle.tt_data.specs.Forest.{Forest}
 use Rattle.tt_data.specs.Walk.{Step}
 use Rattle.expander.specs.declared.faults.Fault.{Fault}
 use Rattle.expander.specs.declared.faults.FaultKind.TheVariants.{BrokenDefinition}
-use Rattle.expander.specs.declared.faults.ReadFault.{ReadFault}
+use Rattle.bridge.specs.declared.fault.ReadFault.{ReadFault}
 use Rattle.expander.specs.Pieces.{pieces}
 use Rattle.expander.specs.Definitions.{definition_of, nearest}
 use Rattle.expander.specs.declared.definitions.Definition.{Definition}

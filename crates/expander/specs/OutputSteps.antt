@@ -1,11 +1,12 @@
 -- The output of an expansion as the code keeps it, and what its steps are printed as.
-use Rattle.std.specs.Prelude.{ℕ, List, [], Option, Some, None, Bool, ◌&&◌, ◌||◌, not, is_some, map, unwrap_or}
+use Rattle.std.specs.Prelude.{ℕ, List, [], Option, Some, None, Bool, is_some, map, unwrap_or}
 use Rattle.tt_data.specs.Walk.{Step, at_leaf, opens, closes}
 use Rattle.expander.specs.declared.output.PlacedStep as declared
 use Rattle.expander.specs.declared.output.Step as kept
 use Rattle.expander.specs.declared.output.Step.TheVariants as as_step
 use Rattle.expander.specs.Expansion.{PlacedStep}
-use Rattle.expander.specs.Printing.{PrintedToken, is_visible_step, visible, printed, left_out, is_quote, is_joined, is_punct_but_quote, is_kept_apart, gap}
+use Rattle.bridge.specs.Printing as printing
+use Rattle.expander.specs.Printing.{PrintedToken, visible, printed}
 use Rattle.expander.specs.Thin.{thin_spelling}
 
 -- a step of the code as a step of a walk
@@ -26,10 +27,6 @@ steps_of_output steps = map placed_of steps
 abbrev pub tokens_of_output : List declared.PlacedStep → List PrintedToken
 tokens_of_output steps = printed thin_spelling (visible (steps_of_output steps))
 
--- the visible steps of an output that have no spelling
-abbrev pub left_out_of_output : List declared.PlacedStep → List PlacedStep
-left_out_of_output steps = left_out thin_spelling (visible (steps_of_output steps))
-
 -- a step's spelling: no text where it has none
 abbrev pub text_of_step : Step → List ℕ
 text_of_step s = unwrap_or (thin_spelling s []) []
@@ -38,24 +35,15 @@ text_of_step s = unwrap_or (thin_spelling s []) []
 abbrev pub is_spelled : Step → Bool
 is_spelled s = is_some (thin_spelling s [])
 
--- whether the step is visible without a spelling
-abbrev pub is_left_out : Step → Bool
-is_left_out s = is_visible_step s && not (is_spelled s)
-
 -- the step as a token that is printed
 abbrev pub token_of : PlacedStep → PrintedToken
 token_of s = record { token = s; text = text_of_step s.step }
 
--- the same for a step at no place
-abbrev pub token_at : Step → PrintedToken
-token_at s = token_of (record { step = s; outer = None })
-
--- nothing stands between two tokens on one line
-abbrev pub are_joined : PrintedToken → PrintedToken → Bool
-are_joined a b =
-    is_quote a.token.step || (is_joined a.token.step && is_punct_but_quote b.token.step && not (is_kept_apart a.text b.text))
+-- the same without its place
+abbrev pub token_at : Step → printing.PrintedToken
+token_at s = record { step = s; text = text_of_step s }
 
 -- what stands before a token, after the step printed last, if any
 abbrev pub gap_after : ℕ → Option Step → Step → List ℕ
 gap_after depth None s = []
-gap_after depth (Some last) s = gap depth (token_at last) (token_at s)
+gap_after depth (Some last) s = printing.gap depth (token_at last) (token_at s)

@@ -5,7 +5,8 @@ use Rattle.tt_data.specs.declared.delimiter.Delimiter.{Delimiter}
 use Rattle.tt_data.specs.declared.delimiter.DelimiterKind.TheVariants.{Brace, Bracket}
 use Rattle.tt_data.specs.declared.span.Span.{Span}
 use Rattle.tt_data.specs.Spans.{span_of}
-use Rattle.expander.specs.Text.{same_kind, is_punct, alone}
+use Rattle.bridge.specs.Text.{same_kind, is_punct}
+use Rattle.expander.specs.Text.{alone}
 
 -- exactly `#` and `!`
 abbrev pub is_pound_bang : Forest → Bool

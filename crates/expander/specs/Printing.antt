@@ -1,17 +1,11 @@
--- The printed text of a list of steps. (Of this project; a text that reads back is the aim.)
-use Rattle.std.specs.Prelude.{ℕ, ◌+◌, ◌-◌, List, [], ◌∷◌, ◌++◌, Bool, true, false, Option, Some, None, codes, nat_eq, if◌then◌else◌, ◌||◌, ◌&&◌, not}
-use Rattle.tt_data.specs.Walk.{Step, at_leaf, opens, closes}
-use Rattle.tt_data.specs.declared.leaf.Leaf.TheVariants as as_leaf
-use Rattle.tt_data.specs.declared.delimiter.DelimiterKind.TheVariants.{Brace}
+-- The printed tokens of a list of steps, each with its place, and those that are left out. (Of this project.)
+use Rattle.std.specs.Prelude.{ℕ, List, [], ◌∷◌, ◌++◌, Option, Some, None, map, if◌then◌else◌}
+use Rattle.tt_data.specs.Walk.{Step}
+use Rattle.bridge.specs.Printing as printing
+use Rattle.bridge.specs.Printing.{is_visible_step}
 use Rattle.expander.specs.Expansion.{PlacedStep}
-use Rattle.expander.specs.Text.{same_text, same_kind, is_visible, is_alone, is_punct}
 
--- leaves and the brackets of visible groups
-abbrev pub is_visible_step : Step → Bool
-is_visible_step (at_leaf l) = true
-is_visible_step (opens kind span) = is_visible kind
-is_visible_step (closes kind span) = is_visible kind
-
+-- the visible ones of the steps
 abbrev pub visible : List PlacedStep → List PlacedStep
 visible [] = []
 visible (s ∷ more) = if is_visible_step s.step then s ∷ visible more else visible more
@@ -21,52 +15,13 @@ pub record PrintedToken : Type 0 where
   pub token : PlacedStep
   pub text : List ℕ
 
-abbrev pub is_quote : Step → Bool
-is_quote (at_leaf l) = is_punct "'" l
-is_quote _ = false
+-- the same without its place
+abbrev pub bare : PrintedToken → printing.PrintedToken
+bare t = record { step = t.token.step; text = t.text }
 
--- a punct that isn't `Alone`
-abbrev pub is_joined : Step → Bool
-is_joined (at_leaf (as_leaf.Punct p)) = not (is_alone p.spacing)
-is_joined _ = false
-
-abbrev pub is_punct_but_quote : Step → Bool
-is_punct_but_quote (at_leaf (as_leaf.Punct p)) = not (is_punct "'" (as_leaf.Punct p))
-is_punct_but_quote _ = false
-
--- two puncts that side by side would begin a comment or a guarded string
-abbrev pub is_kept_apart : List ℕ → List ℕ → Bool
-is_kept_apart a b = same_text (a ++ b) (codes "//") || same_text (a ++ b) (codes "/*") || same_text (a ++ b) (codes "##")
-
--- how many visible groups are open after a token
-abbrev pub depth_after : ℕ → Step → ℕ
-depth_after depth (opens kind span) = depth + 1
-depth_after depth (closes kind span) = depth - 1
-depth_after depth (at_leaf l) = depth
-
--- a line ends after `;` and after a closing brace
-abbrev pub ends_line : Step → Bool
-ends_line (closes kind span) = same_kind kind Brace
-ends_line (at_leaf l) = is_punct ";" l
-ends_line _ = false
-
--- what stands between two printed tokens, after the first of which so many visible groups are open
-abbrev pub gap : ℕ → PrintedToken → PrintedToken → List ℕ
-gap depth a b =
-    if nat_eq depth 0 && ends_line a.token.step then codes "\n"
-    else if is_quote a.token.step then []
-    else if is_joined a.token.step && is_punct_but_quote b.token.step && not (is_kept_apart a.text b.text) then []
-    else codes " "
-
--- the text of printed tokens, before the first of which so many visible groups are open; a newline ends it
-abbrev pub text_from : ℕ → List PrintedToken → List ℕ
-text_from depth [] = []
-text_from depth (a ∷ []) = a.text ++ codes "\n"
-text_from depth (a ∷ b ∷ more) =
-    a.text ++ (gap (depth_after depth a.token.step) a b ++ text_from (depth_after depth a.token.step) (b ∷ more))
-
+-- the text of printed tokens
 abbrev pub text_of : List PrintedToken → List ℕ
-text_of = text_from 0
+text_of tokens = printing.text_of (map bare tokens)
 
 -- `spelling` gives a visible token's text, before those that follow, or none where it has no spelling
 module _ (spelling : Step → List PlacedStep → Option (List ℕ)) where

@@ -1,5 +1,5 @@
 -- Readings one after another.
-use Rattle.std.specs.Prelude.{Bool, true, false, Option, Some, None, option_and_then, if◌then◌else◌}
+use Rattle.std.specs.Prelude.{Bool, true, false, Option, None, option_and_then, if◌then◌else◌}
 use Rattle.tt_data.specs.Forest.{Forest, empty}
 
 -- one step of a reading after another; none where a step gives none

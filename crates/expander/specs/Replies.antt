@@ -1,7 +1,7 @@
 -- What a session replies: the meaning of its text.
 use Rattle.std.specs.Prelude.{◌≡◌, ℕ, length, None, Result, Ok, Err, IsTrue}
 use Rattle.tt_data.specs.Forest.{Forest}
-use Rattle.expander.specs.declared.faults.ReadFault.{ReadFault}
+use Rattle.bridge.specs.declared.fault.ReadFault.{ReadFault}
 use Rattle.expander.specs.declared.session.Reply.{Reply}
 use Rattle.expander.specs.declared.session.Reply.TheVariants.{Read, Unread}
 use Rattle.expander.specs.Count.{expanded_count, looked_of}
@@ -30,8 +30,7 @@ IsReadAs (Ok f) (Read e) = Unit {0}
 IsReadAs (Err fault) (Unread told) = told ≡ fault
 IsReadAs _ _ = ⊥
 
--- what a session may reply: every text is read by the thin layers, or has their reading fault; and a thin text's reply is
--- what it means
+-- what a session may reply: every text is read, or has its reading fault; and a thin text's reply is what it means
 pub record IsReplyTo (state : State) (reply : Reply) : Type 0 where
   pub is_read : IsReadAs (thin_layers.read state.text) reply
   pub meant : IsTrue (is_thin state.text) → IsMeant thin_layers state.depth (meaning thin_layers state.depth state.text) reply

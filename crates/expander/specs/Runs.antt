@@ -3,8 +3,7 @@ use Rattle.std.specs.Prelude.{◌≡◌, ℕ, ◌≤◌, ◌<◌, ◌^◌, Bool,
 use Rattle.expander.specs.State.{State}
 use Rattle.expander.specs.Expanded.{Expanded}
 use Rattle.expander.specs.Replies.{IsReplyTo}
-use Rattle.expander.specs.Thin.{thin_layers}
-use Rattle.expander.specs.TooMany.{HasTooMany}
+use Rattle.expander.specs.TooMany.{NeedsTooMany}
 use Rattle.expander.specs.Watch.{Watch}
 use Rattle.expander.specs.declared.faults.Fault.{Fault}
 use Rattle.expander.specs.declared.session.Refusal.TheVariants.{Memory, Tokens, Numbers}
@@ -75,7 +74,7 @@ Stops TooLong input depth = IfSome input (λ bytes. 2 ^ 32 ≤ length bytes)
 Stops ReadFailed input depth = ⊤
 Stops WriteFailed input depth = ⊤
 Stops (Refused Memory) input depth = ⊤
-Stops (Refused Tokens) input depth = (text : List ℕ) × IsInput input text × HasTooMany depth (thin_layers.read text)
+Stops (Refused Tokens) input depth = (text : List ℕ) × IsInput input text × NeedsTooMany depth text
 Stops (Refused Numbers) input depth = ⊥
 
 -- A writer that failed has taken a front of the text that was to be printed.

@@ -1,26 +1,26 @@
 -- The thin layers, and the texts that they are enough for.
-use Rattle.std.specs.Prelude.{ℕ, Bool, true, false, ◌&&◌, ◌||◌, not, List, codes, if◌then◌else◌, Option, Some, None, Result, Ok, Err, option_and_then, is_some, is_none, encode_utf8, chars}
+use Rattle.std.specs.Prelude.{ℕ, Bool, true, false, ◌&&◌, ◌||◌, not, List, if◌then◌else◌, Option, Some, None, Result, Ok, Err, option_and_then, is_some, is_none, chars}
 use Rattle.std.specs.List.{list_all}
 use Prim.Native.String.{String}
 use Rattle.rustc_lexer.specs.Lexing.{tokens_of}
 use Rattle.rustc_lexer.specs.declared.token.Token.{Token}
+use Rattle.rustc_lexer.specs.declared.token.TokenKind.{TokenKind}
+use Rattle.rustc_lexer.specs.declared.token.TokenKind.TheVariants.{RawIdent, Lifetime, Literal, LineComment, BlockComment}
 use Rattle.tt_data.specs.Forest.{Forest, empty, leaf, group}
 use Rattle.tt_data.specs.Walk.{Step, at_leaf, opens, closes}
-use Rattle.tt_data.specs.declared.delimiter.DelimiterKind.{DelimiterKind}
-use Rattle.tt_data.specs.declared.delimiter.DelimiterKind.TheVariants.{Parenthesis, Brace, Bracket, Invisible}
+use Rattle.tt_data.specs.Displayed.{displayed_leaf}
 use Rattle.tt_data.specs.declared.leaf.Leaf.{Leaf}
 use Rattle.tt_data.specs.declared.leaf.Leaf.TheVariants as as_leaf
-use Rattle.expander.specs.declared.faults.ReadFault.{ReadFault}
+use Rattle.bridge.specs.declared.fault.ReadFault.{ReadFault}
+use Rattle.bridge.specs.Spelling.{open_text, close_text}
+use Rattle.bridge.specs.TokenSteps.{text_reading}
 use Rattle.expander.specs.Definitions.{definition_of}
 use Rattle.expander.specs.declared.definitions.Definition.{Definition}
 use Rattle.expander.specs.Expansion.{World, PlacedStep}
 use Rattle.expander.specs.Meaning.{Layers}
 use Rattle.expander.specs.Pieces.{pieces}
-use Rattle.expander.specs.Text.{is_punct}
+use Rattle.bridge.specs.Text.{is_punct}
 use Rattle.expander.specs.ThinFit.{first_fit}
-use Rattle.expander.specs.ThinReading.{sort_of, thin_reading}
-use Rattle.expander.specs.declared.reading.Sort.{Sort}
-use Rattle.expander.specs.declared.reading.Sort.TheVariants.{Neither}
 use Rattle.expander.specs.ThinRules.{rules_of}
 use Rattle.expander.specs.declared.rules.Rule.{Rule}
 
@@ -34,31 +34,14 @@ thin_world = record {
   fit = λ d argument. option_and_then (λ rules. first_fit rules argument) (thin_rules d);
 }
 
-abbrev pub open_text : DelimiterKind → Option (List ℕ)
-open_text Parenthesis = Some (codes "(")
-open_text Brace = Some (codes "{")
-open_text Bracket = Some (codes "[")
-open_text Invisible = None
-
-abbrev pub close_text : DelimiterKind → Option (List ℕ)
-close_text Parenthesis = Some (codes ")")
-close_text Brace = Some (codes "}")
-close_text Bracket = Some (codes "]")
-close_text Invisible = None
-
-abbrev pub leaf_text : Leaf → Option (List ℕ)
-leaf_text (as_leaf.Ident i) = Some i.sym
-leaf_text (as_leaf.Punct p) = Some (encode_utf8 p.char)
-leaf_text (as_leaf.Literal l) = None
-
--- identifiers, puncts and brackets are spelled as they are
+-- leaves and visible brackets are spelled as they are displayed
 abbrev pub thin_spelling : Step → List PlacedStep → Option (List ℕ)
-thin_spelling (at_leaf l) more = leaf_text l
+thin_spelling (at_leaf l) more = Some (displayed_leaf l)
 thin_spelling (opens kind span) more = open_text kind
 thin_spelling (closes kind span) more = close_text kind
 
 abbrev pub thin_layers : Layers
-thin_layers = record { read = thin_reading; world = thin_world; spelling = thin_spelling }
+thin_layers = record { read = text_reading; world = thin_world; spelling = thin_spelling }
 
 -- ---- thin texts
 
@@ -98,12 +81,16 @@ abbrev pub is_thin_reading : Result Forest ReadFault → Bool
 is_thin_reading (Ok f) = is_thin_forest f
 is_thin_reading (Err fault) = true
 
-abbrev pub is_known : Sort → Bool
-is_known Neither = false
+-- all kinds of tokens but raw identifiers, lifetimes, literals and doc comments
+abbrev pub is_known : TokenKind → Bool
+is_known RawIdent = false
+is_known (Lifetime starts_with_number) = false
+is_known (Literal kind suffix_start) = false
+is_known (LineComment (Some style)) = false
+is_known (BlockComment (Some style) terminated) = false
 is_known _ = true
 
--- every lexeme is white space, an identifier or one character of the known ones, no `!` stands inside a group, and
--- every definition is within the limits
+-- every lexeme is of these kinds, no `!` stands inside a group, and every definition is within the limits
 abbrev pub is_thin : List ℕ → Bool
 is_thin text =
-    list_all (λ (t : Token). is_known (sort_of t.kind)) (tokens_of (chars text)) && is_thin_reading (thin_reading text)
+    list_all (λ (t : Token). is_known t.kind) (tokens_of (chars text)) && is_thin_reading (text_reading text)

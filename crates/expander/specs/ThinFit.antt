@@ -13,7 +13,8 @@ use Rattle.expander.specs.declared.rules.FragmentKind.TheVariants as kind
 use Rattle.expander.specs.Readings.{◌>>=◌, ◌>>◌, is_empty}
 use Rattle.tt.specs.FirstTrees.{first_ident, first_group}
 use Rattle.tt_data.specs.Spans.{leaf_with, delimiter_with}
-use Rattle.expander.specs.Text.{same_text, same_kind, with_last_alone}
+use Rattle.bridge.specs.Text.{same_kind}
+use Rattle.expander.specs.Text.{same_text, with_last_alone}
 use Rattle.expander.specs.ThinRules.{Pattern, done, variable, word, puncts, within, pattern_of, Template, filled, put, exactly, around, template_of}
 use Rattle.expander.specs.Units.{unit_size, first_operator, puncts_of}
 use Rattle.expander.specs.declared.rules.Rule.{Rule}

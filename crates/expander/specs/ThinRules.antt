@@ -15,7 +15,8 @@ use Rattle.expander.specs.declared.rules.FragmentKind.{FragmentKind}
 use Rattle.expander.specs.declared.rules.FragmentKind.TheVariants as kind
 use Rattle.expander.specs.Readings.{◌>>=◌, ◌>>◌, is_empty}
 use Rattle.tt.specs.FirstTrees.{first_ident, first_punct, first_group}
-use Rattle.expander.specs.Text.{same_text, is_char, is_punct}
+use Rattle.bridge.specs.Text.{is_char, is_punct}
+use Rattle.expander.specs.Text.{same_text}
 use Rattle.expander.specs.Units.{operator_at, puncts_of}
 
 -- ---- patterns

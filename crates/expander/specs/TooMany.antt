@@ -1,9 +1,12 @@
--- Which texts have a call whose result would have more tokens than a tree may have, with so many levels of calls.
+-- Which texts are read as a tree with more tokens than a tree may have, or have a call with such a result, with so many
+-- levels of calls.
 use Rattle.std.specs.Prelude.{◌≡◌, ◌<◌, ◌⊎◌, ℕ, List, [], ◌∷◌, Option, Some, None, Result, Ok, Err}
 use Rattle.tt_data.specs.Forest.{Forest, joined}
 use Rattle.expander.specs.declared.calls.Call.{Call}
 use Rattle.expander.specs.declared.definitions.Definition.{Definition}
-use Rattle.expander.specs.declared.faults.ReadFault.{ReadFault}
+use Rattle.bridge.specs.ReadText as reading
+use Rattle.bridge.specs.TokenSteps.{text_reading, text_steps}
+use Rattle.bridge.specs.declared.fault.ReadFault.{ReadFault}
 use Rattle.expander.specs.CallSteps.{call_at}
 use Rattle.expander.specs.Definitions.{definition_of, nearest}
 use Rattle.expander.specs.Filling.{GivesTooMany}
@@ -39,3 +42,8 @@ HasTooManyAfter depth before (p ∷ ps) =
 abbrev pub HasTooMany : ℕ → Result Forest ReadFault → Type 0
 HasTooMany depth (Ok f) = HasTooManyAfter depth [] (pieces f)
 HasTooMany depth (Err fault) = ⊥
+
+-- why no reply comes for want of tokens: what is read of the text has too many, which doc comments alone can bring about,
+-- or it has such a call
+abbrev pub NeedsTooMany : ℕ → List ℕ → Type 0
+NeedsTooMany depth text = reading.HasTooMany (text_steps text) ⊎ HasTooMany depth (text_reading text)

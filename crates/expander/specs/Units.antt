@@ -10,7 +10,7 @@ use Rattle.tt_data.specs.declared.leaf.Spacing.TheVariants.{Joint}
 use Rattle.expander.specs.declared.units.Operator.{Operator}
 use Rattle.expander.specs.declared.units.Operator.TheVariants.{One, Two, Three}
 use Rattle.tt.specs.FirstTrees.{first_punct}
-use Rattle.expander.specs.Text.{is_alone}
+use Rattle.bridge.specs.Text.{is_alone}
 
 -- the character is one of these
 abbrev pub is_one_of : String → ℕ → Bool

@@ -1,7 +1,7 @@
 // Faults of a text.
 ghost use Rattle.std.specs.Prelude.{◌≡◌, ◌++◌, OnOk};
-ghost use Rattle.expander.specs.Faults.{place, fault_at, is_definition_word, nested, unspellable, in_order};
-ghost use Rattle.expander.specs.OutputSteps.{step_of, placed_of, is_left_out, tokens_of_output, left_out_of_output};
+ghost use Rattle.expander.specs.Faults.{place, fault_at, is_definition_word, nested, in_order};
+ghost use Rattle.expander.specs.OutputSteps.{step_of, placed_of, tokens_of_output};
 
 use crate::definitions::is_word;
 use crate::output::{PlacedStep, Step};
@@ -20,7 +20,7 @@ pub enum FaultKind {
     RecursionLimit,
     /// The words `macro_rules` or `macro` are in the output.
     NestedDefinition,
-    /// A token has no spelling and was left out of the output.
+    /// A token has no spelling and was left out of the output. It is not told yet.
     Unspellable,
 }
 
@@ -28,24 +28,6 @@ pub enum FaultKind {
 #[derive(Clone, Copy, Debug, PartialEq, Eq)]
 pub struct Fault {
     pub kind: FaultKind,
-    pub range: TextRange,
-}
-
-/// Why a text cannot be read as trees.
-#[derive(Clone, Copy, Debug, PartialEq, Eq)]
-pub enum ReadFaultKind {
-    /// A token that has no meaning.
-    BadToken,
-    /// A closing bracket that does not fit the innermost open one, or meets none.
-    CloserDoesNotFit,
-    /// A group that is open at the end of the text.
-    GroupLeftOpen,
-}
-
-/// The first fault of a text that cannot be read, with its bytes.
-#[derive(Clone, Copy, Debug, PartialEq, Eq)]
-pub struct ReadFault {
-    pub kind: ReadFaultKind,
     pub range: TextRange,
 }
 
@@ -82,15 +64,8 @@ fn is_definition_word(step: &Step) -> bool
     }
 }
 
-// Whether the token has no spelling. An invisible bracket is no token.
-fn is_left_out(step: &Step) -> bool
-    ensures { result ≡ is_left_out (step_of step.now) }
-{
-    matches!(step, Step::Leaf(Leaf::Literal(_)))
-}
-
-// Adds a fault for each printed word that begins a definition.
-fn push_nested(faults: &mut Vec<Fault>, steps: &[PlacedStep]) -> Result<(), AllocError>
+/// Adds a fault for each printed word that begins a definition.
+pub(crate) fn push_nested(faults: &mut Vec<Fault>, steps: &[PlacedStep]) -> Result<(), AllocError>
     ensures { OnOk result (faults.new.items ≡ faults.old.items ++ nested (tokens_of_output steps.now)) }
 {
     for placed in steps {
@@ -99,31 +74,6 @@ fn push_nested(faults: &mut Vec<Fault>, steps: &[PlacedStep]) -> Result<(), Allo
         }
     }
     Ok(())
-}
-
-// Adds a fault for each token that is left out of the printed text.
-fn push_unspellable(faults: &mut Vec<Fault>, steps: &[PlacedStep]) -> Result<(), AllocError>
-    ensures { OnOk result (faults.new.items ≡ faults.old.items ++ unspellable (left_out_of_output steps.now)) }
-{
-    for placed in steps {
-        if is_left_out(&placed.step) {
-            faults.push(fault_at(FaultKind::Unspellable, placed))?;
-        }
-    }
-    Ok(())
-}
-
-/// Adds the faults of the output's tokens: those of the printed ones, then those of the ones left out.
-pub(crate) fn push_output_faults(
-    faults: &mut Vec<Fault>,
-    steps: &[PlacedStep],
-) -> Result<(), AllocError>
-    ensures { OnOk result
-        (faults.new.items
-        ≡ faults.old.items ++ (nested (tokens_of_output steps.now) ++ unspellable (left_out_of_output steps.now))) }
-{
-    push_nested(faults, steps)?;
-    push_unspellable(faults, steps)
 }
 
 /// Puts the faults in order of start, end and kind.

@@ -14,7 +14,6 @@ mod output;
 mod pieces;
 mod printing;
 pub mod program;
-mod reading;
 mod rules;
 mod scope;
 pub mod session;
@@ -22,7 +21,8 @@ mod substitution;
 mod units;
 pub mod watched;
 
-pub use faults::{Fault, FaultKind, ReadFault, ReadFaultKind};
+pub use bridge::{ReadFault, ReadFaultKind};
+pub use faults::{Fault, FaultKind};
 pub use program::{Status, Stop, run};
 pub use session::{Expansion, Refusal, Reply, Session};
 pub use tt_data::span::TextRange;

@@ -1,11 +1,14 @@
 // Printing: the text of the output's visible tokens.
 ghost use Rattle.std.specs.Prelude.{◌≡◌, ◌<◌, ◌^◌, ◌+◌, ◌++◌, OnOk, IfOk, length, encode_utf8, option_map, string_bytes};
-ghost use Rattle.expander.specs.OutputSteps.{step_of, is_spelled, text_of_step, token_at, are_joined, gap_after, tokens_of_output};
-ghost use Rattle.expander.specs.Printing.{depth_after, ends_line, gap, is_kept_apart, text_of};
-ghost use Rattle.expander.specs.Thin.{open_text, close_text};
+ghost use Rattle.bridge.specs.Printing.{are_joined, depth_after, ends_line, gap, is_kept_apart};
+ghost use Rattle.bridge.specs.Spelling.{open_text, close_text};
+ghost use Rattle.expander.specs.OutputSteps.{step_of, is_spelled, text_of_step, token_at, gap_after, tokens_of_output};
+ghost use Rattle.expander.specs.Printing.{text_of};
+ghost use Rattle.tt_data.specs.Displayed.{displayed_leaf};
 
 use crate::output::{PlacedStep, Step};
 use std::alloc::{AllocError, Global};
+use std::fmt::Write;
 use tt_data::delimiter::DelimiterKind;
 use tt_data::leaf::{Leaf, Spacing};
 
@@ -34,8 +37,22 @@ fn has_spelling(step: &Step) -> bool
     ensures { result ≡ is_spelled (step_of step.now) }
 {
     match step {
-        Step::Leaf(leaf) => !matches!(leaf, Leaf::Literal(_)),
+        Step::Leaf(_) => true,
         Step::Opens(kind, _) | Step::Closes(kind, _) => *kind != DelimiterKind::Invisible,
+    }
+}
+
+// Adds a leaf as it is displayed.
+fn push_leaf(text: &mut String, leaf: &Leaf) -> Result<(), AllocError>
+    ensures { OnOk result (string_bytes text.new ≡ string_bytes text.old ++ displayed_leaf leaf.now) }
+{
+    match leaf {
+        Leaf::Ident(ident) => {
+            text.push_str(ident.is_raw.as_str())?;
+            text.push_str(ident.sym.as_str())
+        }
+        Leaf::Punct(punct) => text.push(punct.char),
+        Leaf::Literal(literal) => write!(text, "{literal}"),
     }
 }
 
@@ -44,9 +61,7 @@ fn push_spelling(text: &mut String, step: &Step) -> Result<(), AllocError>
     ensures { OnOk result (string_bytes text.new ≡ string_bytes text.old ++ text_of_step (step_of step.now)) }
 {
     match step {
-        Step::Leaf(Leaf::Ident(ident)) => text.push_str(ident.sym.as_str()),
-        Step::Leaf(Leaf::Punct(punct)) => text.push(punct.char),
-        Step::Leaf(Leaf::Literal(_)) => Ok(()),
+        Step::Leaf(leaf) => push_leaf(text, leaf),
         Step::Opens(kind, _) => match brackets(*kind) {
             Some((open, _)) => text.push(open),
             None => Ok(()),

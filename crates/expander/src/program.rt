@@ -3,8 +3,7 @@ ghost use Rattle.std.specs.Prelude.{◌≡◌, ◌≢◌, ℕ, Err, ◌^◌, ◌
 ghost use Rattle.std.specs.Io.KnownBytes.{Appends};
 ghost use Rattle.expander.specs.Replies.{IsReplyTo};
 ghost use Rattle.expander.specs.Runs.{IsAllOf, Runs, opened, status_by};
-ghost use Rattle.expander.specs.Thin.{thin_layers};
-ghost use Rattle.expander.specs.TooMany.{HasTooMany};
+ghost use Rattle.expander.specs.TooMany.{NeedsTooMany};
 ghost use Rattle.expander.specs.Steps.{Puts, Replied, StopsEarly, StopsReading};
 
 use crate::faults::Fault;
@@ -81,7 +80,7 @@ fn reply_to_input<R: Read>(alloc: Global, reader: &mut Watched<R>, depth: u8) ->
 fn reply_to(alloc: Global, text: &str, depth: u8) -> Result<Reply, Refusal>
     requires { length text.now < 2 ^ 32 }
     ensures reply { IfOk result (λ reply. IsReplyTo (opened text.now depth) reply) }
-    ensures tokens { result ≡ Err Refusal.Tokens → HasTooMany depth (thin_layers.read text.now) }
+    ensures tokens { result ≡ Err Refusal.Tokens → NeedsTooMany depth text.now }
     ensures numbers { result ≢ Err Refusal.Numbers }
 {
     match Session::new(alloc, text, depth) {

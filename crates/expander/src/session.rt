@@ -3,16 +3,15 @@ ghost use Rattle.std.specs.Prelude.{◌≡◌, ◌≢◌, ℕ, ◌<◌, ◌^◌,
 ghost use Rattle.expander.specs.State.{State};
 ghost use Rattle.expander.specs.Refusals.{refusal_of};
 ghost use Rattle.expander.specs.Replies.{IsReplyTo};
-ghost use Rattle.expander.specs.Thin.{thin_layers};
-ghost use Rattle.expander.specs.TooMany.{HasTooMany};
+ghost use Rattle.expander.specs.TooMany.{NeedsTooMany};
 ghost use Rattle.expander.specs.declared.session.Refusal.TheVariants.{Memory};
 ghost use Rattle.expander.specs.Shown.{ShowsOutput};
 
 use crate::expansion::{Output, expand_pieces};
-use crate::faults::{Fault, ReadFault, push_output_faults, sort_faults};
+use crate::faults::{Fault, push_nested, sort_faults};
 use crate::pieces::set_apart;
 use crate::printing::print;
-use crate::reading::{Read, read_tokens};
+use bridge::{Read, ReadFault};
 use rustc_lexer::{FrontmatterAllowed, Token, tokenize};
 use std::alloc::{AllocError, Global};
 use std::marker::Model;
@@ -151,12 +150,13 @@ impl Session {
         self.text.as_str()
     }
 
-    /// The expansion of the text, or its reading fault. Refused where there is no memory left, or where a call's result
-    /// would have more than `u32::MAX` tokens; that never where no level of calls is left.
+    /// The expansion of the text, or its reading fault. Refused where there is no memory left, where what is read of the
+    /// text has more than `u32::MAX` tokens, which doc comments alone can bring about, or where a call's result would
+    /// have so many; that never where no level of calls is left.
     pub fn expansion(&mut self) -> Result<Reply, Refusal>
         ensures reply { IfOk result (λ reply. IsReplyTo self.old reply) }
         ensures same { self.new ≡ self.old }
-        ensures tokens { result ≡ Err Refusal.Tokens → HasTooMany self.old.depth (thin_layers.read self.old.text) }
+        ensures tokens { result ≡ Err Refusal.Tokens → NeedsTooMany self.old.depth self.old.text }
         ensures numbers { result ≢ Err Refusal.Numbers }
     {
         reply_to_text(self.alloc, self.text.as_str(), self.depth)
@@ -167,11 +167,12 @@ impl Session {
 fn reply_to_text(alloc: Global, text: &str, depth: u8) -> Result<Reply, Refusal>
     requires { length text.now < 2 ^ 32 }
     ensures reply { IfOk result (IsReplyTo (record { text = text.now; depth = depth })) }
-    ensures tokens { result ≡ Err Refusal.Tokens → HasTooMany depth (thin_layers.read text.now) }
+    ensures tokens { result ≡ Err Refusal.Tokens → NeedsTooMany depth text.now }
     ensures numbers { result ≢ Err Refusal.Numbers }
 {
+    bridge::laws::reading_is_a_relation();
     let tokens: Vec<Token> = tokenize(text, FrontmatterAllowed::No).collect(alloc)?;
-    match read_tokens(alloc, text, tokens.as_slice())? {
+    match bridge::read(alloc, text, tokens.as_slice())? {
         Read::Fault(fault) => Ok(Reply::Unread(fault)),
         Read::Tree(mut tree) => {
             set_apart(alloc, &mut tree)?;
@@ -190,7 +191,7 @@ fn expansion_of(alloc: Global, output: Output) -> Result<Expansion, AllocError>
         mut faults,
         plain,
     } = output;
-    push_output_faults(&mut faults, steps.as_slice())?;
+    push_nested(&mut faults, steps.as_slice())?;
     sort_faults(&mut faults)?;
     let printed = print(alloc, steps.as_slice())?;
     Ok(Expansion {

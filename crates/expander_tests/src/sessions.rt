@@ -53,7 +53,7 @@ fn shows(rt: &impl Abort, alloc: Global, row: Row<'_>) -> Result<(), Fail> {
 
 #[test]
 fn texts(rt: HostRuntime) -> Result<(), Fail> {
-    let rows: [Row<'_>; 13] = [
+    let rows: [Row<'_>; 14] = [
         ("", 128, "", &[], 0, 0),
         (
             "macro_rules! p { ($a:ident $b:tt) => { $b $a } }\np!{ x y }\n",
@@ -101,6 +101,8 @@ fn texts(rt: HostRuntime) -> Result<(), Fail> {
         // A `;` that is joined to what follows ends its piece all the same.
         ("a;;b;#[c];", 128, "a ;\n;\nb ;\n# [ c ] ;\n", &[], 4, 10),
         ("x;+y", 128, "x ;\n+ y\n", &[], 2, 4),
+        // Comments are nothing.
+        ("x/* ; */;+// z\ny", 128, "x ;\n+ y\n", &[], 2, 4),
         // What stands in a group is no definition.
         (
             "mod a { macro_rules! m { () => { x } } }\nm!{}\n",
@@ -160,12 +162,11 @@ fn texts_that_are_not_read(rt: HostRuntime) -> Result<(), Fail> {
         ("(]", CloserDoesNotFit, 1, 2),
         ("([)", CloserDoesNotFit, 2, 3),
         ("é)", CloserDoesNotFit, 2, 3),
-        ("x \"ab\"", BadToken, 2, 6),
-        ("x 7 \"", BadToken, 2, 3),
-        ("a // b", BadToken, 2, 6),
-        ("/* a */", BadToken, 0, 7),
-        ("&'a T", BadToken, 1, 3),
-        ("r#fn )", BadToken, 0, 4),
+        ("x \"ab", BadToken, 2, 5),
+        ("x 7 \"", BadToken, 4, 5),
+        ("a /* b", BadToken, 2, 6),
+        ("&'1 T", BadToken, 1, 3),
+        ("'a r#fn // (\n )", CloserDoesNotFit, 14, 15),
         ("( 😀 ]", BadToken, 2, 6),
     ];
     for (text, kind, start, end) in cases {

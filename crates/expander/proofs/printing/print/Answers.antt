@@ -1,5 +1,6 @@
 use Rattle.std.proofs.Common.{◌≡◌, ◌+◌, ◌++◌, ◌∷◌, length, drop, sym, ap, ◌∙◌, arith}
-use Rattle.std.specs.Prelude.{option_map, string_bytes}
+use Rattle.std.specs.Prelude.{map, option_map, string_bytes}
+use Rattle.expander.specs.Printing.{bare}
 use Rattle.expander.specs.OutputSteps.{step_of, placed_of, steps_of_output, tokens_of_output, token_of}
 use Rattle.expander.proofs.PrintingLemmas.{continued, next_dropped, token_first, token_none, more_text, depth_after-le}
 use Rattle.expander.proofs.printing.print.Goals as goal
@@ -15,9 +16,9 @@ loop-placed-preserved c =
       | then-has_spelling+in_ok-push_step w ↦
           let tokens : tokens_of_output (drop i steps) ≡ token_of s ∷ tokens_of_output (drop (i + 1) steps) =
           next ∙ token_first s (steps_of_output (drop (i + 1) steps)) (sym c.has_spelling.ensures ∙ w.if-has_spelling.true) in
-          let more = tokens_of_output (drop (i + 1) steps) in
+          let more = map bare (tokens_of_output (drop (i + 1) steps)) in
           let text = more_text (string_bytes c.loop-placed.text) _ c.loop-placed.depth (option_map (λ s. step_of s.now) c.loop-placed.last) s more
-          (ap (λ t. string_bytes c.loop-placed.text ++ continued c.loop-placed.depth (option_map (λ s. step_of s.now) c.loop-placed.last) t) (sym tokens)
+          (ap (λ t. string_bytes c.loop-placed.text ++ continued c.loop-placed.depth (option_map (λ s. step_of s.now) c.loop-placed.last) (map bare t)) (sym tokens)
           ∙ c.loop-placed.invariant.printed) in
           record {
             depth_fits = omega (arith, w.depth-is, w.depth_after-depth.ensures, depth_after-le c.loop-placed.depth s.step, c.loop-placed.invariant.depth_fits);
