@@ -1,4 +1,5 @@
 -- what the public contracts rest on
+pub mod Records
 pub mod Views
 pub mod Elements
 pub mod FirstTrees

@@ -1,5 +1,6 @@
 -- What a borrowed list of trees shows, and what a borrowed group.
 use Rattle.tt_data.specs.Forest.{Forest, forest_of}
+use Rattle.tt.specs.Records.{items}
 use Rattle.tt.specs.declared.view.SubtreeView.{SubtreeView}
 use Rattle.tt.specs.declared.view.TokenTreesView.{TokenTreesView}
 use Rattle.tt.specs.Groups.{group_in}
@@ -7,8 +8,8 @@ use Rattle.tt.specs.Tops.{Top}
 
 -- the list's trees
 unfoldable pub forest : TokenTreesView → Forest
-forest v = forest_of v.tokens.now
+forest v = forest_of (items v.tokens)
 
 -- the group: its delimiter, and the trees inside
 unfoldable pub top_of : SubtreeView → Top
-top_of v = group_in (forest_of v.tokens.now)
+top_of v = group_in (forest_of (items v.tokens))

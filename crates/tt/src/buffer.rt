@@ -2,6 +2,7 @@
 ghost use Rattle.tt.specs.CursorTokens.{BeginsListOf, IsNextOut, Reaches};
 ghost use Rattle.std.specs.Prelude.{◌≡◌, ◌≢◌, ⊤, IsTrue, ◌↔◌, ◌<◌, ◌≤◌, ◌++◌, ◌∷◌, ℕ, List, length, [], Some, IsNone};
 
+use crate::records::Tokens;
 use crate::tokens::same_leaf;
 use crate::view::TokenTreesView;
 use arrayvec::ArrayVec;
@@ -124,7 +125,7 @@ impl<'a> Cursor<'a> {
         ensures { result ≡ beginning (forest origin.entry) }
     {
         Cursor {
-            tokens: origin.tokens,
+            tokens: origin.tokens.as_slice(),
             start: 0,
             at: 0,
             nearest: ArrayVec::new(),
@@ -137,10 +138,14 @@ impl<'a> Cursor<'a> {
     {
         let (_, ahead) = self.tokens.split_at(self.at);
         let Some(group) = self.head() else {
-            return TokenTreesView { tokens: ahead };
+            return TokenTreesView {
+                tokens: Tokens::of(ahead),
+            };
         };
         let (list, _) = ahead.split_at(group.usize_len() - (self.at - self.start));
-        TokenTreesView { tokens: list }
+        TokenTreesView {
+            tokens: Tokens::of(list),
+        }
     }
 
     // The head of the innermost group.
@@ -172,7 +177,7 @@ impl<'a> Cursor<'a> {
         ensures token { result ≡ first_token self.now.after }
         ensures at_end { IsNone result ↔ (self.now.after ≡ empty) }
     {
-        let Ok(token) = self.after().tokens.first()?.clone() else {
+        let Ok(token) = self.after().tokens.as_slice().first()?.clone() else {
             unreachable!()
         };
         Some(token)
@@ -197,7 +202,7 @@ impl<'a> Cursor<'a> {
         requires { self.old.after ≢ empty }
         ensures { self.new ≡ bumped self.old }
     {
-        match self.after().tokens.first() {
+        match self.after().tokens.as_slice().first() {
             Some(TokenTree::Leaf(_)) => self.at += 1,
             Some(TokenTree::Subtree(_)) => {
                 self.at += 1;
@@ -225,7 +230,7 @@ impl<'a> Cursor<'a> {
     pub fn peek_two_leaves(&self) -> Option<[Leaf; 2]>
         ensures { result ≡ two_leaves self.now.after }
     {
-        let (first, more) = self.after().tokens.split_first()?;
+        let (first, more) = self.after().tokens.as_slice().split_first()?;
         let TokenTree::Leaf(first) = first else {
             return None;
         };
@@ -241,6 +246,8 @@ impl<'a> Cursor<'a> {
         ensures { forest result ≡ self.now.before }
     {
         let (before, _) = self.tokens.split_at(self.at);
-        TokenTreesView { tokens: before }
+        TokenTreesView {
+            tokens: Tokens::of(before),
+        }
     }
 }

@@ -5,6 +5,7 @@ ghost use Rattle.tt.specs.BuilderTokens.{start_of, begins_invisible, moved_back,
 ghost use Rattle.tt_data.specs.fault.TtFault.TheVariants as fault;
 
 use crate::iter::TtIter;
+use crate::records::Tokens;
 use crate::tokens::{append_copies, is_later_end};
 use crate::top::TopSubtree;
 use crate::view::TokenTreesView;
@@ -412,7 +413,7 @@ impl TopSubtreeBuilder {
         }
         let start = list_start(openings);
         let trees = TokenTreesView {
-            tokens: &tokens[start..],
+            tokens: Tokens::of(&tokens[start..]),
         };
         Some((start, trees.iter()))
     }
@@ -473,7 +474,7 @@ impl TopSubtreeBuilder {
             return Err((self, TtFault::Place));
         }
         let inside = TokenTreesView {
-            tokens: &self.tokens.as_slice()[1..],
+            tokens: Tokens::of(&self.tokens.as_slice()[1..]),
         };
         if !inside.is_one_group() {
             return Err((self, TtFault::Malformed));

@@ -5,75 +5,50 @@ ghost use Rattle.std.specs.Prelude.{◌≡◌};
 ghost use Rattle.tt.specs.FirstTrees.{first_ident, first_leaf, first_literal, first_punct, first_group, first_subtree};
 
 use crate::iter::TtIter;
-use crate::tokens::same_leaf;
 use tt_data::delimiter::Delimiter;
 use tt_data::leaf::{Ident, Leaf, LitKind, Punct};
-use tt_data::tree::{Subtree, TokenTree};
+use tt_data::tree::Subtree;
 
 impl<'a> TtIter<'a> {
     /// The punct that comes next.
     pub fn first_punct(&self) -> Option<(Punct, TtIter<'a>)>
         ensures { result ≡ first_punct self.now }
     {
-        let (first, more) = self.tokens.split_first()?;
-        match first {
-            TokenTree::Leaf(Leaf::Punct(punct)) => Some((*punct, TtIter { tokens: more })),
-            _ => None,
-        }
+        let (punct, more) = self.tokens.split_punct()?;
+        Some((punct, TtIter { tokens: more }))
     }
 
     /// The identifier that comes next.
     pub fn first_ident(&self) -> Option<(Ident, TtIter<'a>)>
         ensures { result ≡ first_ident self.now }
     {
-        let (first, more) = self.tokens.split_first()?;
-        match first {
-            TokenTree::Leaf(Leaf::Ident(ident)) => {
-                let Ok(ident) = ident.clone() else {
-                    unreachable!()
-                };
-                Some((ident, TtIter { tokens: more }))
-            }
-            _ => None,
-        }
+        let (ident, more) = self.tokens.split_ident()?;
+        Some((ident, TtIter { tokens: more }))
     }
 
     /// The kind of the literal that comes next.
     pub fn first_literal(&self) -> Option<(LitKind, TtIter<'a>)>
         ensures { result ≡ first_literal self.now }
     {
-        let (first, more) = self.tokens.split_first()?;
-        match first {
-            TokenTree::Leaf(Leaf::Literal(literal)) => {
-                Some((literal.kind(), TtIter { tokens: more }))
-            }
-            _ => None,
-        }
+        let (kind, more) = self.tokens.split_literal()?;
+        Some((kind, TtIter { tokens: more }))
     }
 
     // The leaf that comes next.
     pub(crate) fn first_leaf(&self) -> Option<(Leaf, TtIter<'a>)>
         ensures { result ≡ first_leaf self.now }
     {
-        let (first, more) = self.tokens.split_first()?;
-        match first {
-            TokenTree::Leaf(leaf) => Some((same_leaf(leaf), TtIter { tokens: more })),
-            TokenTree::Subtree(_) => None,
-        }
+        let (leaf, more) = self.tokens.split_leaf()?;
+        Some((leaf, TtIter { tokens: more }))
     }
 
     // The head of the group that comes next, and a walk over the trees inside.
     pub(crate) fn first_subtree(&self) -> Option<(Subtree, TtIter<'a>, TtIter<'a>)>
         ensures { result ≡ first_subtree self.now }
     {
-        let (first, more) = self.tokens.split_first()?;
-        match first {
-            TokenTree::Subtree(subtree) => {
-                let (inner, rest) = more.split_at(subtree.len as usize);
-                Some((*subtree, TtIter { tokens: inner }, TtIter { tokens: rest }))
-            }
-            TokenTree::Leaf(_) => None,
-        }
+        let (head, more) = self.tokens.split_head()?;
+        let (inner, rest) = more.split_at(head.len as usize);
+        Some((head, TtIter { tokens: inner }, TtIter { tokens: rest }))
     }
 
     /// The brackets of the group that comes next, and a walk over the trees inside.

@@ -1,20 +1,22 @@
 //! The tokens of a list of trees, one by one.
+use crate::records::Tokens;
 use std::marker::Model;
 use tt_data::tree::TokenTree;
 
 /// A walk over all tokens of a list of trees, each group's head before what it has inside.
 #[derive(Drop)]
 pub struct FlatTokens<'a> {
-    pub(crate) tokens: &'a [TokenTree],
+    pub(crate) tokens: Tokens<'a>,
 }
 
 impl<'a> Model for FlatTokens<'a> {
     ghost use Rattle.std.specs.Prelude.{List};
+    ghost use Rattle.tt.specs.Records.{items};
     ghost use Rattle.tt_data.specs.declared.tree.TokenTree.{TokenTree};
 
     ghost Value = { List TokenTree };
 
-    ghost view = { λ it. it.tokens.now };
+    ghost view = { λ it. items it.tokens };
 }
 
 impl<'a> Iterator for FlatTokens<'a> {
@@ -30,9 +32,6 @@ impl<'a> Iterator for FlatTokens<'a> {
     fn next(&mut self) -> Option<TokenTree> {
         let (first, more) = self.tokens.split_first()?;
         self.tokens = more;
-        let Ok(token) = first.clone() else {
-            unreachable!()
-        };
-        Some(token)
+        Some(first)
     }
 }

@@ -1,6 +1,7 @@
 //! Walks over a list of trees, tree by tree.
 ghost use Rattle.std.specs.Prelude.{◌≡◌, ⊤, IsTrue, ◌↔◌};
 
+use crate::records::Tokens;
 use crate::tokens::same_leaf;
 use crate::view::TokenTreesView;
 use std::alloc::AllocError;
@@ -12,20 +13,21 @@ use tt_data::tree::{Subtree, TokenTree};
 /// A walk over a list of trees. It stands before the trees that are left.
 #[derive(Debug, Drop)]
 pub struct TtIter<'a> {
-    pub(crate) tokens: &'a [TokenTree],
+    pub(crate) tokens: Tokens<'a>,
 }
 
 impl<'a> Model for TtIter<'a> {
     ghost use Rattle.tt_data.specs.Coded.{forest_code};
     ghost use Rattle.tt_data.specs.Forest.{Forest, forest_of, IsPreorder};
+    ghost use Rattle.tt.specs.Records.{items};
 
     ghost Value = { Forest };
 
     ghost coded = { forest_code };
 
-    ghost view = { λ it. forest_of it.tokens.now };
+    ghost view = { λ it. forest_of (items it.tokens) };
 
-    ghost invariant = { λ it. IsPreorder it.tokens.now };
+    ghost invariant = { λ it. IsPreorder (items it.tokens) };
 }
 
 /// One tree of a list.
@@ -93,12 +95,12 @@ impl<'a> Iterator for TtIter<'a> {
         match first {
             TokenTree::Leaf(leaf) => {
                 self.tokens = more;
-                Some(TtElement::Leaf(same_leaf(leaf)))
+                Some(TtElement::Leaf(leaf))
             }
             TokenTree::Subtree(subtree) => {
                 let (inner, rest) = more.split_at(subtree.len as usize);
                 self.tokens = rest;
-                Some(TtElement::Subtree(*subtree, TtIter { tokens: inner }))
+                Some(TtElement::Subtree(subtree, TtIter { tokens: inner }))
             }
         }
     }
@@ -124,10 +126,10 @@ impl<'a> TtIter<'a> {
         let tokens = self.tokens;
         let (first, more) = tokens.split_first()?;
         match first {
-            TokenTree::Leaf(leaf) => Some(TtElement::Leaf(same_leaf(leaf))),
+            TokenTree::Leaf(leaf) => Some(TtElement::Leaf(leaf)),
             TokenTree::Subtree(subtree) => {
                 let (inner, _) = more.split_at(subtree.len as usize);
-                Some(TtElement::Subtree(*subtree, TtIter { tokens: inner }))
+                Some(TtElement::Subtree(subtree, TtIter { tokens: inner }))
             }
         }
     }
@@ -136,7 +138,7 @@ impl<'a> TtIter<'a> {
     pub fn next_span(&self) -> Option<Span>
         ensures { result ≡ first_place self.now }
     {
-        Some(self.tokens.first()?.first_span())
+        self.tokens.first_span()
     }
 
     /// The trees that are left.
@@ -167,8 +169,7 @@ impl<'a> TtIter<'a> {
         ensures { forest then.entry ≡ joined (forest result) self.now }
     {
         let count = then.tokens.len() - self.tokens.len();
-        TokenTreesView {
-            tokens: &then.tokens[..count],
-        }
+        let (passed, _) = then.tokens.split_at(count);
+        TokenTreesView { tokens: passed }
     }
 }

@@ -14,6 +14,7 @@ pub mod flat;
 pub mod iter;
 pub mod laws;
 pub mod literals;
+mod records;
 pub mod split;
 mod tokens;
 pub mod top;

@@ -1,9 +1,11 @@
 //! Flat lists of tokens.
 ghost use Rattle.std.specs.Prelude.{◌≡◌, ◌↔◌, ◌++◌, ◌≤◌, ◌^◌, length, IsTrue, OnOk, OnErr};
 ghost use Rattle.tt_data.specs.Forest.{size, front, IsPreorder};
+ghost use Rattle.tt.specs.Records.{items};
 ghost use Rattle.tt.specs.Tops.{IsOneGroup};
 
 use crate::iter::{TtElement, TtIter};
+use crate::records::Tokens;
 use crate::view::TokenTreesView;
 use std::alloc::AllocError;
 use tt_data::leaf::Leaf;
@@ -20,14 +22,11 @@ pub(crate) fn same_leaf(leaf: &Leaf) -> Leaf
 }
 
 // Puts copies of these tokens after those of `list`, which stays as it was where memory runs out.
-pub(crate) fn append_copies(
-    list: &mut Vec<TokenTree>,
-    tokens: &[TokenTree],
-) -> Result<(), AllocError>
-    ensures ok { OnOk result (list.new.items ≡ list.old.items ++ tokens.now) }
+pub(crate) fn append_copies(list: &mut Vec<TokenTree>, tokens: Tokens<'_>) -> Result<(), AllocError>
+    ensures ok { OnOk result (list.new.items ≡ list.old.items ++ items tokens.entry) }
     ensures err { OnErr result (list.new.items ≡ list.old.items) }
 {
-    list.extend_with_clones(tokens)
+    list.extend_with_clones(tokens.as_slice())
 }
 
 // Whether a flat list holds trees: each group counts what whole trees after it have.
@@ -39,7 +38,7 @@ pub(crate) fn is_flat(tokens: &[TokenTree]) -> bool
         at -= 1;
         if let TokenTree::Subtree(head) = &tokens[at] {
             let after = TokenTreesView {
-                tokens: &tokens[at + 1..],
+                tokens: Tokens::of(&tokens[at + 1..]),
             };
             if !is_tree_end(after.iter(), head.usize_len()) {
                 return false;
@@ -90,8 +89,7 @@ pub(crate) fn is_later_end(trees: TtIter<'_>, known: usize, count: usize) -> boo
     if known > count || known > trees.tokens.len() {
         return is_tree_end(trees, count);
     }
-    let later = TtIter {
-        tokens: &trees.tokens[known..],
-    };
+    let (_, behind) = trees.tokens.split_at(known);
+    let later = TtIter { tokens: behind };
     is_tree_end(later, count - known)
 }

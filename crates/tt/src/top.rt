@@ -3,6 +3,7 @@ ghost use Rattle.std.specs.Prelude.{◌≡◌, ◌↔◌, ◌⊎◌, ◌<◌, Er
 ghost use Rattle.tt_data.specs.fault.TtFault.TheVariants as fault;
 
 use crate::iter::TtIter;
+use crate::records::Tokens;
 use crate::tokens::{append_copies, is_one_group};
 use crate::view::{SubtreeView, TokenTreesView};
 use std::alloc::Global;
@@ -157,18 +158,15 @@ impl TopSubtree {
         ensures memory { IsOkUnless result fault.Memory }
     {
         let mut tokens = Vec::new(alloc);
-        append_copies(&mut tokens, self.tokens.as_slice())?;
+        append_copies(&mut tokens, Tokens::of(self.tokens.as_slice()))?;
         Ok(TopSubtree { tokens })
     }
 
     /// The trees inside the group.
-    #[tactic(auto, unfolding(crate::specs::Views::forest))]
     pub fn token_trees(&self) -> TokenTreesView<'_>
         ensures { forest result ≡ self.now.inner }
     {
-        TokenTreesView {
-            tokens: &self.tokens.as_slice()[1..],
-        }
+        self.view().token_trees()
     }
 
     /// Gives the group brackets of another sort. It takes no memory.
@@ -218,18 +216,15 @@ impl TopSubtree {
     pub fn view(&self) -> SubtreeView<'_>
         ensures { top_of result ≡ self.now }
     {
-        let tokens = self.tokens.as_slice();
+        let tokens = Tokens::of(self.tokens.as_slice());
         SubtreeView { tokens }
     }
 
     /// The tree as a list of one group.
-    #[tactic(auto, unfolding(crate::specs::Views::forest))]
     pub fn as_token_trees(&self) -> TokenTreesView<'_>
         ensures { forest result ≡ forest_of_top self.now }
     {
-        TokenTreesView {
-            tokens: self.tokens.as_slice(),
-        }
+        self.view().as_token_trees()
     }
 
     /// A walk over the trees inside the group.

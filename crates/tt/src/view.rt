@@ -1,11 +1,13 @@
 //! Lists of trees that are borrowed.
 ghost use Rattle.std.specs.Prelude.{◌≡◌, IsSome, IsTrue, ◌↔◌, true, ◌<◌, ◌^◌};
 ghost use Rattle.tt_data.specs.Forest.{IsPreorder, forest_of};
+ghost use Rattle.tt.specs.Records.{items};
 ghost use Rattle.tt.specs.Groups.{is_one_group};
 
 use crate::buffer::Cursor;
 use crate::flat::FlatTokens;
 use crate::iter::TtIter;
+use crate::records::Tokens;
 use tt_data::delimiter::DelimiterKind;
 use tt_data::span::Span;
 use tt_data::tree::{Subtree, TokenTree};
@@ -13,8 +15,8 @@ use tt_data::tree::{Subtree, TokenTree};
 /// A list of trees.
 #[derive(Clone, Copy, Debug)]
 pub struct TokenTreesView<'a> {
-    pub(crate) tokens: &'a [TokenTree],
-    ghost whole: { IsPreorder tokens.now },
+    pub(crate) tokens: Tokens<'a>,
+    ghost whole: { IsPreorder (items tokens) },
 }
 
 impl<'a> TokenTreesView<'a> {
@@ -31,7 +33,9 @@ impl<'a> TokenTreesView<'a> {
     pub fn empty() -> TokenTreesView<'a>
         ensures { forest result ≡ empty }
     {
-        TokenTreesView { tokens: &[] }
+        TokenTreesView {
+            tokens: Tokens::empty(),
+        }
     }
 
     /// A walk over the trees, before the first.
@@ -102,16 +106,13 @@ impl<'a> TokenTreesView<'a> {
     pub fn try_into_subtree(self) -> Option<SubtreeView<'a>>
         ensures { option_map top_of result ≡ only_group (forest self.entry) }
     {
-        let (first, inside) = self.tokens.split_first()?;
-        match first {
-            TokenTree::Leaf(_) => None,
-            TokenTree::Subtree(subtree) if subtree.usize_len() == inside.len() => Some(
-                SubtreeView {
-                    tokens: self.tokens,
-                },
-            ),
-            TokenTree::Subtree(_) => None,
+        let (head, inside) = self.tokens.split_head()?;
+        if head.usize_len() != inside.len() {
+            return None;
         }
+        Some(SubtreeView {
+            tokens: self.tokens,
+        })
     }
 
     // Whether the list is one group.
@@ -135,9 +136,9 @@ impl<'a> TokenTreesView<'a> {
 /// One group.
 #[derive(Clone, Copy, Debug)]
 pub struct SubtreeView<'a> {
-    pub(crate) tokens: &'a [TokenTree],
-    ghost whole: { IsPreorder tokens.now },
-    ghost one: { is_one_group (forest_of tokens.now) ≡ true },
+    pub(crate) tokens: Tokens<'a>,
+    ghost whole: { IsPreorder (items tokens) },
+    ghost one: { is_one_group (forest_of (items tokens)) ≡ true },
 }
 
 impl<'a> SubtreeView<'a> {
@@ -160,8 +161,9 @@ impl<'a> SubtreeView<'a> {
     pub fn token_trees(&self) -> TokenTreesView<'a>
         ensures { forest result ≡ (top_of self.now).inner }
     {
-        TokenTreesView {
-            tokens: &self.tokens[1..],
+        match self.tokens.split_head() {
+            Some((_, inside)) => TokenTreesView { tokens: inside },
+            None => unreachable!(),
         }
     }
 
@@ -177,9 +179,9 @@ impl<'a> SubtreeView<'a> {
     pub fn top_subtree(&self) -> Subtree
         ensures { result ≡ head_of (top_of self.now) }
     {
-        match self.tokens.first() {
-            Some(TokenTree::Subtree(subtree)) => *subtree,
-            _ => unreachable!(),
+        match self.tokens.split_head() {
+            Some((head, _)) => head,
+            None => unreachable!(),
         }
     }
 

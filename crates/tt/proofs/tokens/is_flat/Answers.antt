@@ -10,7 +10,7 @@ unfolding forest
 returns-then-not-is_tree_end c =
     let tokens = c.args.tokens.now in
     let at : ℕ = c.loop-at.at - 1 in
-    let shown : c.iter.result ≡ forest_of (take (length tokens - (at + 1)) (drop (at + 1) tokens)) = c.iter.ensures in
+    let shown : c.iter.result ≡ forest_of (take (length tokens - (at + 1)) (drop (at + 1) tokens)) = c.iter.ensures ∙ ap forest_of c.of.ensures in
     let walk : c.iter.result ≡ forest_of (drop (at + 1) tokens) = shown ∙ ap forest_of (take_rest tokens (at + 1)) in (
       λ no_end. absurd (grind (arith, no_end)),
       λ whole. c.if-not-is_tree_end.ensures.1 (rw (c.usize_len.ensures, walk)
@@ -22,7 +22,7 @@ unfolding forest
 loop-at-preserved-else-not-is_tree_end c =
     let tokens = c.args.tokens.now in
     let at : ℕ = c.loop-at.at - 1 in
-    let shown : c.iter.result ≡ forest_of (take (length tokens - (at + 1)) (drop (at + 1) tokens)) = c.iter.ensures in
+    let shown : c.iter.result ≡ forest_of (take (length tokens - (at + 1)) (drop (at + 1) tokens)) = c.iter.ensures ∙ ap forest_of c.of.ensures in
     let walk : c.iter.result ≡ forest_of (drop (at + 1) tokens) = shown ∙ ap forest_of (take_rest tokens (at + 1)) in
     let counts = rw (c.usize_len.ensures, walk) at (c.if-not-is_tree_end.ensures.0 refl) in
     let next : at + 1 ≡ c.loop-at.at = omega (arith, c.loop-at-test.true) in (

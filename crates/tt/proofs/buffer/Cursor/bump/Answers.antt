@@ -16,7 +16,7 @@ overflow_add-self c = omega (arith, fits _ _ _ _ (stood _ _ _ _ c.self.view_is c
 leaf_first : (c : goal.After-self-1) → Some (token.Leaf c.in-Some-Leaf.field-0-0) ≡ first_token c.args.self.now.after
 unfolding forest
 leaf_first c =
-    ap Some (sym c.in-Some-Leaf.field-0-is) ∙ (c.in-Some-Leaf.ensures.value ∙ (first_is _ c.after.result.whole ∙ ap first_token c.after.ensures))
+    ap Some (sym c.in-Some-Leaf.field-0-is) ∙ ((rw c.as_slice.ensures at c.in-Some-Leaf.ensures.value) ∙ (first_is _ c.after.result.whole ∙ ap first_token c.after.ensures))
 
 -- past the leaf
 past : (c : goal.After-self-1) → Stands c.self.inside.tokens.now c.self.inside.start (c.self.inside.at + 1) (bumped c.args.self.now)
@@ -36,7 +36,7 @@ overflow_add-self-in-Some-Subtree c = omega (arith, fits _ _ _ _ (stood _ _ _ _ 
 group_first : (c : goal.After-self-in-Some-Subtree-2-1) → Some (token.Subtree c.in-Some-Subtree.field-0-0) ≡ first_token c.args.self.now.after
 unfolding forest
 group_first c =
-    ap Some (sym c.in-Some-Subtree.field-0-is) ∙ (c.in-Some-Subtree.ensures.value ∙ (first_is _ c.after.result.whole ∙ ap first_token c.after.ensures))
+    ap Some (sym c.in-Some-Subtree.field-0-is) ∙ ((rw c.as_slice.ensures at c.in-Some-Subtree.ensures.value) ∙ (first_is _ c.after.result.whole ∙ ap first_token c.after.ensures))
 
 -- into the group
 into : (c : goal.After-self-in-Some-Subtree-2-1)
@@ -58,4 +58,4 @@ returns-in-Some-Subtree c = found _ _ _ _ (into c)
 pub unreachable-requires : goal.unreachable-requires
 unfolding forest
 unreachable-requires c =
-    c.requires (none_first _ (c.in-None.ensures.value ∙ (first_is _ c.after.result.whole ∙ ap first_token c.after.ensures)))
+    c.requires (none_first _ ((rw c.as_slice.ensures at c.in-None.ensures.value) ∙ (first_is _ c.after.result.whole ∙ ap first_token c.after.ensures)))

@@ -40,28 +40,28 @@ module _ (tokens : List TokenTree) (after : Forest) (trees : forest_of tokens �
 
 pub returns-in_err-first : goal.returns-in_err-first
 unfolding forest
-returns-in_err-first c = c.from_residual.ensures ∙ no_token _ _ c.after.ensures c.in_err-first.ensures.cases
+returns-in_err-first c = c.from_residual.ensures ∙ no_token _ _ c.after.ensures (rw c.as_slice.ensures at c.in_err-first.ensures.cases)
 
 pub returns-in_default : goal.returns-in_default
 unfolding forest
 returns-in_default c =
-    group_first _ _ c.after.ensures _ _ (c.in_ok-first.ensures.cases.0 ∙ ap (λ t. t ∷ c.in_ok-first.more.now) c.in_default.is)
+    group_first _ _ c.after.ensures _ _ (sym c.as_slice.ensures ∙ c.in_ok-first.ensures.cases.0 ∙ ap (λ t. t ∷ c.in_ok-first.more.now) c.in_default.is)
 
 pub returns-in_err-second : goal.returns-in_err-second
 unfolding forest
 returns-in_err-second c =
-    let all = c.in_ok-first.ensures.cases.0 ∙ ap (λ t. t ∷ c.in_ok-first.more.now) c.in-Leaf.is in
+    let all = sym c.as_slice.ensures ∙ c.in_ok-first.ensures.cases.0 ∙ ap (λ t. t ∷ c.in_ok-first.more.now) c.in-Leaf.is in
     c.from_residual-in_err-second.ensures ∙ leaf_alone _ _ c.after.ensures _ _ all c.in_err-second.ensures.value
 
 pub returns-in_default-2 : goal.returns-in_default-2
 unfolding forest
 returns-in_default-2 c =
-    let all = c.in_ok-first.ensures.cases.0 ∙ ap (λ t. t ∷ c.in_ok-first.more.now) c.in-Leaf.is in
+    let all = sym c.as_slice.ensures ∙ c.in_ok-first.ensures.cases.0 ∙ ap (λ t. t ∷ c.in_ok-first.more.now) c.in-Leaf.is in
     group_second _ _ c.after.ensures _ _ _ all (ap Some (sym c.in_default-2.is) ∙ c.in_ok-second.ensures.value)
 
 pub returns : goal.returns
 unfolding forest
 returns c =
-    let all = c.in_ok-first.ensures.cases.0 ∙ ap (λ t. t ∷ c.in_ok-first.more.now) c.in-Leaf.is in
+    let all = sym c.as_slice.ensures ∙ c.in_ok-first.ensures.cases.0 ∙ ap (λ t. t ∷ c.in_ok-first.more.now) c.in-Leaf.is in
     ap (λ a. Some (a ∷ c.same_leaf-2.result ∷ [])) c.same_leaf.ensures ∙ ap (λ b. Some (c.in-Leaf.first ∷ b ∷ [])) c.same_leaf-2.ensures
     ∙ both _ _ c.after.ensures _ _ _ all (ap Some (sym c.in-Leaf-2.is) ∙ c.in_ok-second.ensures.value)

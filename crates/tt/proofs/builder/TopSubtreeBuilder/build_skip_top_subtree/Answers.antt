@@ -31,14 +31,14 @@ pub invariant_of-inside : goal.invariant_of-inside
 invariant_of-inside c =
     let none : c.self.inside.openings.items ≡ [] =
     nil_from_length _ (omega (arith, c.if-open_groups-gt0.false, c.len-open_groups.ensures, c.self.inside.openings.ok.0)) in
-    record { whole = whole_behind c.self.inside.tokens.items _ c.self.inside.openings.items c.as_slice.ensures.value c.self.invariant.0 none }
+    rw c.of.ensures (record { whole = whole_behind c.self.inside.tokens.items _ c.self.inside.openings.items c.as_slice.ensures.value c.self.invariant.0 none })
 
 pub returns-then-not-is_one_group-clause-built : goal.returns-then-not-is_one_group-clause-built
 unfolding forest
 returns-then-not-is_one_group-clause-built c =
     let none : c.self.inside.openings.items ≡ [] =
     nil_from_length _ (omega (arith, c.if-open_groups-gt0.false, c.len-open_groups.ensures, c.self.inside.openings.ok.0)) in
-    let refused : IsSome (only_group (forest_of (behind c.as_slice.result.now))) → IsTrue false = c.if-not-is_one_group.ensures.1 in
+    let refused : IsSome (only_group (forest_of (behind c.as_slice.result.now))) → IsTrue false = rw c.of.ensures at c.if-not-is_one_group.ensures.1 in
     let is = behind_is c.self.inside.tokens.items c.as_slice.result.now c.self.inside.openings.items c.as_slice.ensures.value c.self.invariant.0 none in (
       λ e. absurd (grind (arith, e)),
       λ both. refused (rw is (rw (← c.self.view_is, none) at both.1)),
@@ -50,7 +50,7 @@ invariant_of-result c =
     let tokens = c.self.inside.tokens.items in
     let none : c.self.inside.openings.items ≡ [] =
     nil_from_length _ (omega (arith, c.if-open_groups-gt0.false, c.len-open_groups.ensures, c.self.inside.openings.ok.0)) in
-    let passed : IsSome (only_group (forest_of (behind c.as_slice.result.now))) = c.if-not-is_one_group.ensures.0 refl in
+    let passed : IsSome (only_group (forest_of (behind c.as_slice.result.now))) = rw c.of.ensures at (c.if-not-is_one_group.ensures.0 refl) in
     let is_one = one tokens c.as_slice.result.now c.self.inside.openings.items c.as_slice.ensures.value c.self.invariant.0 none passed in
     (rw c.remove.ensures.items is_one, rw c.remove.ensures.items (omega (arith, c.self.invariant.1, length-drop 1 tokens)))
 
@@ -60,7 +60,7 @@ returns-clause-ok c =
     let tokens = c.self.inside.tokens.items in
     let none : c.self.inside.openings.items ≡ [] =
     nil_from_length _ (omega (arith, c.if-open_groups-gt0.false, c.len-open_groups.ensures, c.self.inside.openings.ok.0)) in
-    let passed : IsSome (only_group (forest_of (behind c.as_slice.result.now))) = c.if-not-is_one_group.ensures.0 refl in
+    let passed : IsSome (only_group (forest_of (behind c.as_slice.result.now))) = rw c.of.ensures at (c.if-not-is_one_group.ensures.0 refl) in
     let is_one = one tokens c.as_slice.result.now c.self.inside.openings.items c.as_slice.ensures.value c.self.invariant.0 none passed in
     rw (← c.self.view_is, none, c.remove.ensures.items) (only_of_one (drop 1 tokens) is_one)
 
@@ -70,6 +70,6 @@ returns-clause-built c =
     let tokens = c.self.inside.tokens.items in
     let none : c.self.inside.openings.items ≡ [] =
     nil_from_length _ (omega (arith, c.if-open_groups-gt0.false, c.len-open_groups.ensures, c.self.inside.openings.ok.0)) in
-    let passed : IsSome (only_group (forest_of (behind c.as_slice.result.now))) = c.if-not-is_one_group.ensures.0 refl in
+    let passed : IsSome (only_group (forest_of (behind c.as_slice.result.now))) = rw c.of.ensures at (c.if-not-is_one_group.ensures.0 refl) in
     let is_one = one tokens c.as_slice.result.now c.self.inside.openings.items c.as_slice.ensures.value c.self.invariant.0 none passed in
     (λ _. (rw (← c.self.view_is, none) refl, rw (← c.self.view_is, none, only_of_one (drop 1 tokens) is_one) refl), λ _. refl)

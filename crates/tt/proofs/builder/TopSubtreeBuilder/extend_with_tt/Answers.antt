@@ -1,5 +1,6 @@
 use Rattle.std.proofs.Common.{◌≡◌, ◌≤◌, ◌++◌, ◌∙◌, refl, arith, reverse, length, length-append}
 use Rattle.tt_data.specs.Forest.{forest_of}
+use Rattle.tt.specs.Records.{items}
 use Rattle.tt.specs.Views.{forest}
 use Rattle.tt.proofs.Closings.{IsTreeAt-append}
 use Rattle.tt.proofs.Held.{IsHeld-append, here_of-append, groups_of-append}
@@ -11,20 +12,20 @@ pub invariant_of-self-2 : goal.invariant_of-self-2
 unfolding forest
 invariant_of-self-2 c =
     let tokens = c.self.inside.tokens.items in
-    let counts : c.len-2.result ≡ length c.args.tt.tokens.now = c.len-2.ensures.len ∙ size-whole c.args.tt.tokens.now c.args.tt.whole in
-    let fits : length (tokens ++ c.args.tt.tokens.now) ≤ 4294967296 =
-    omega (arith, c.if-room-len.false, c.len.ensures, c.self.inside.tokens.ok.0, counts, length-append tokens c.args.tt.tokens.now, c.self.invariant.1) in
-    let held = rw c.args.tt.whole at (IsHeld-append tokens (reverse c.self.inside.openings.items) (forest_of c.args.tt.tokens.now) c.self.invariant.0) in
+    let counts : c.len-2.result ≡ length (items c.args.tt.tokens) = c.len-2.ensures.len ∙ size-whole (items c.args.tt.tokens) c.args.tt.whole in
+    let fits : length (tokens ++ items c.args.tt.tokens) ≤ 4294967296 =
+    omega (arith, c.if-room-len.false, c.len.ensures, c.self.inside.tokens.ok.0, counts, length-append tokens (items c.args.tt.tokens), c.self.invariant.1) in
+    let held = rw c.args.tt.whole at (IsHeld-append tokens (reverse c.self.inside.openings.items) (forest_of (items c.args.tt.tokens)) c.self.invariant.0) in
     let settled =
-    rw c.args.tt.whole at (IsSettled-append c.self.inside.settled tokens (reverse c.self.inside.openings.items) (forest_of c.args.tt.tokens.now) c.self.invariant.0 c.self.invariant.3) in
+    rw c.args.tt.whole at (IsSettled-append c.self.inside.settled tokens (reverse c.self.inside.openings.items) (forest_of (items c.args.tt.tokens)) c.self.invariant.0 c.self.invariant.3) in
     rw c.in-Ok.ensures.ok
     (held, fits, IsTreeAt-append c.self.inside.last_closed _ _ _ c.self.invariant.0 c.self.invariant.2, settled, c.self.invariant.4)
 
 pub returns-clause-ok : goal.returns-clause-ok
 unfolding forest
 returns-clause-ok c =
-    let h = rw c.args.tt.whole at (here_of-append c.self.inside.tokens.items (reverse c.self.inside.openings.items) (forest_of c.args.tt.tokens.now) c.self.invariant.0) in
-    let g = rw c.args.tt.whole at (groups_of-append c.self.inside.tokens.items (reverse c.self.inside.openings.items) (forest_of c.args.tt.tokens.now) c.self.invariant.0) in
+    let h = rw c.args.tt.whole at (here_of-append c.self.inside.tokens.items (reverse c.self.inside.openings.items) (forest_of (items c.args.tt.tokens)) c.self.invariant.0) in
+    let g = rw c.args.tt.whole at (groups_of-append c.self.inside.tokens.items (reverse c.self.inside.openings.items) (forest_of (items c.args.tt.tokens)) c.self.invariant.0) in
     rw (← c.self.view_is, c.in-Ok.ensures.ok) (rw (h, g) refl)
 
 pub returns-then-room-len-clause-tokens : goal.returns-then-room-len-clause-tokens

@@ -34,7 +34,7 @@ returns c =
     let start : c.list_start-start.result ≡ 1 + count_in (groups_of tokens (reverse openings)) =
     c.list_start-start.ensures ∙ start_counts tokens (reverse openings) c.loop-openings.invariant.0 in
     let start_at : ℕ = c.list_start-start.result in
-    let shown : c.iter.result ≡ forest_of (take (length tokens - start_at) (drop start_at tokens)) = c.iter.ensures in
+    let shown : c.iter.result ≡ forest_of (take (length tokens - start_at) (drop start_at tokens)) = c.iter.ensures ∙ ap forest_of c.of.ensures in
     let walk : c.iter.result ≡ here_of tokens (reverse openings) =
     shown ∙ ap forest_of (take_rest tokens start_at) ∙ ap (λ n. forest_of (drop n tokens)) c.list_start-start.ensures ∙ sym (here_is tokens (reverse openings)) in
     rw (← c.loop-openings.invariant.2, list, start, walk) refl

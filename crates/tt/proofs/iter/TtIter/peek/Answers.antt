@@ -4,6 +4,7 @@ use Rattle.tt_data.specs.Forest.{Forest, group, size}
 use Rattle.tt_data.specs.declared.tree.Subtree.{Subtree}
 use Rattle.tt.specs.Elements.{first_element}
 use Rattle.tt.specs.declared.iter.TtElement.TheVariants as element
+use Rattle.tt.specs.Records.{items}
 use Rattle.tt.proofs.Steps.{Step, step, fits}
 use Rattle.tt.proofs.iter.TtIter.peek.Goals as goal
 
@@ -11,12 +12,12 @@ first_of : (s : Subtree) (f inner rest : Forest) → f ≡ group s.delimiter inn
 first_of s f inner rest all counted = rw all (ap (λ n. Some (element.Subtree (record { delimiter = s.delimiter; len = n }) inner)) counted)
 
 pub split_at-requires : goal.split_at-requires
-split_at-requires c = fits _ _ _ c.self.invariant (c.in_ok-first.ensures.cases.0 ∙ ap (λ t. t ∷ c.in_ok-first.more.now) c.in-Subtree.is)
+split_at-requires c = fits _ _ _ c.self.invariant (c.in_ok-first.ensures ∙ ap (λ t. t ∷ items c.in_ok-first.more) c.in-Subtree.is)
 
 -- the group begins the list, with what it has inside
-ahead : (c : goal.After-result-1) → Step c.in-Subtree.subtree c.self.inside.tokens.now c.split_at.result.0.now c.split_at.result.1.now
+ahead : (c : goal.After-inner-1) → Step c.in-Subtree.subtree (items c.self.inside.tokens) (items c.split_at.result.0) (items c.split_at.result.1)
 ahead c =
-    let all = c.in_ok-first.ensures.cases.0 ∙ ap (λ t. t ∷ c.in_ok-first.more.now) c.in-Subtree.is in
+    let all = c.in_ok-first.ensures ∙ ap (λ t. t ∷ items c.in_ok-first.more) c.in-Subtree.is in
     step _ _ _ _ _ c.self.invariant all c.split_at.ensures.front c.split_at.ensures.back
 
 pub invariant_of-result : goal.invariant_of-result

@@ -1,15 +1,16 @@
 use Rattle.std.proofs.Common.{◌∷◌, length, arith, ap, sym, ◌∙◌}
 use Rattle.tt.specs.Elements.{elements}
+use Rattle.tt.specs.Records.{items}
 use Rattle.tt.proofs.Steps.{Step, step, fits}
 use Rattle.tt.proofs.iter.TtIterIterator.next.Goals as goal
 
 pub split_at-requires : goal.split_at-requires
-split_at-requires c = fits _ _ _ c.self.invariant (c.in_ok-first.ensures.cases.0 ∙ ap (λ t. t ∷ c.in_ok-first.more.now) c.in-Subtree.is)
+split_at-requires c = fits _ _ _ c.self.invariant (c.in_ok-first.ensures ∙ ap (λ t. t ∷ items c.in_ok-first.more) c.in-Subtree.is)
 
 -- the group was passed, with what it has inside
-taken : (c : goal.After-result-1) → Step c.in-Subtree.subtree c.self.inside.tokens.now c.split_at.result.0.now c.split_at.result.1.now
+taken : (c : goal.After-self-in-Subtree-1) → Step c.in-Subtree.subtree (items c.self.inside.tokens) (items c.split_at.result.0) (items c.split_at.result.1)
 taken c =
-    let all = c.in_ok-first.ensures.cases.0 ∙ ap (λ t. t ∷ c.in_ok-first.more.now) c.in-Subtree.is in
+    let all = c.in_ok-first.ensures ∙ ap (λ t. t ∷ items c.in_ok-first.more) c.in-Subtree.is in
     step _ _ _ _ _ c.self.invariant all c.split_at.ensures.front c.split_at.ensures.back
 
 pub invariant_of-result : goal.invariant_of-result

@@ -1,5 +1,6 @@
 use Rattle.std.proofs.Common.{◌≡◌, ◌∷◌, ◌++◌, [], ◌∙◌, ap, refl, arith, length}
 use Rattle.tt_data.specs.Forest.{head_of}
+use Rattle.tt.specs.Records.{items}
 use Rattle.tt.specs.Views.{forest}
 use Rattle.tt.proofs.Groups.{grouped}
 use Rattle.tt.proofs.Limits.{size-whole}
@@ -7,10 +8,10 @@ use Rattle.tt.proofs.top.TopSubtree.from_token_trees.Goals as goal
 
 -- the group's own token, and then those of the trees
 all_is : (c : goal.In-Ok-append_copies)
-    → c.append_copies.new.list.items ≡ head_of c.args.delimiter (length c.args.token_trees.tokens.now) ∷ c.args.token_trees.tokens.now
+    → c.append_copies.new.list.items ≡ head_of c.args.delimiter (length (items c.args.token_trees.tokens)) ∷ items c.args.token_trees.tokens
 unfolding forest
 all_is c =
-    let tokens = c.args.token_trees.tokens.now in
+    let tokens = items c.args.token_trees.tokens in
     let counts : c.in-Ok.len ≡ length tokens =
     c.in-Ok.ensures.1 ∙ (c.len.ensures.len ∙ size-whole tokens c.args.token_trees.whole) in
     c.in-Ok-append_copies.ensures.ok
@@ -20,7 +21,7 @@ all_is c =
 pub invariant_of-result : goal.invariant_of-result
 unfolding forest
 invariant_of-result c =
-    let tokens = c.args.token_trees.tokens.now in
+    let tokens = items c.args.token_trees.tokens in
     let counts : c.in-Ok.len ≡ length tokens = c.in-Ok.ensures.1 ∙ (c.len.ensures.len ∙ size-whole tokens c.args.token_trees.whole) in
     rw (all_is c) (grouped c.args.delimiter tokens c.args.token_trees.whole, omega (arith, counts))
 

@@ -1,0 +1,40 @@
+-- What a borrowed run of tokens holds.
+use Rattle.std.specs.Prelude.{List, ◌∷◌, Option, Some, None}
+use Rattle.tt_data.specs.declared.leaf.Ident.{Ident}
+use Rattle.tt_data.specs.declared.leaf.Leaf.{Leaf}
+use Rattle.tt_data.specs.declared.leaf.Leaf.TheVariants as as_leaf
+use Rattle.tt_data.specs.declared.leaf.LitKind.{LitKind}
+use Rattle.tt_data.specs.declared.leaf.Punct.{Punct}
+use Rattle.tt_data.specs.declared.tree.Subtree.{Subtree}
+use Rattle.tt_data.specs.declared.tree.TokenTree.{TokenTree}
+use Rattle.tt_data.specs.declared.tree.TokenTree.TheVariants as token
+use Rattle.tt.specs.declared.records.Tokens.{Tokens}
+
+-- its tokens, one after the other
+unfoldable pub items : Tokens → List TokenTree
+items t = t.records.now
+
+-- the first token, where it is the head of a group, and those behind it
+abbrev pub head_in : List TokenTree → Option (Subtree × List TokenTree)
+head_in (token.Subtree s ∷ more) = Some (s, more)
+head_in _ = None
+
+-- the first token, where it is a leaf
+abbrev pub leaf_in : List TokenTree → Option (Leaf × List TokenTree)
+leaf_in (token.Leaf l ∷ more) = Some (l, more)
+leaf_in _ = None
+
+-- the first token, where it is a punct
+abbrev pub punct_in : List TokenTree → Option (Punct × List TokenTree)
+punct_in (token.Leaf (as_leaf.Punct p) ∷ more) = Some (p, more)
+punct_in _ = None
+
+-- the first token, where it is an identifier
+abbrev pub ident_in : List TokenTree → Option (Ident × List TokenTree)
+ident_in (token.Leaf (as_leaf.Ident i) ∷ more) = Some (i, more)
+ident_in _ = None
+
+-- the kind of the first token, where it is a literal
+abbrev pub literal_in : List TokenTree → Option (LitKind × List TokenTree)
+literal_in (token.Leaf (as_leaf.Literal l) ∷ more) = Some (l.kind, more)
+literal_in _ = None
