@@ -5,3 +5,4 @@ pub mod CopyLemmas
 pub mod ErrorLemmas
 mod Written
 mod Rows
+mod ErrorRows

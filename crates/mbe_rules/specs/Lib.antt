@@ -16,3 +16,4 @@ pub mod Relabelling
 pub mod Messages
 pub mod Styles
 pub mod Clones
+pub mod PlacedErrors

@@ -2,6 +2,11 @@
 use Rattle.std.specs.Prelude.{ℕ, List, [], ◌∷◌, codes}
 use Rattle.mbe_rules.specs.declared.macro_call_style.MacroCallStyle.{MacroCallStyle}
 use Rattle.mbe_rules.specs.declared.macro_call_style.MacroCallStyle.TheVariants.{FnLike, Attr, Derive}
+use Rattle.mbe_rules.specs.declared.macro_call_style.MacroCallStyles.{MacroCallStyles}
+
+-- the bits of a set
+abbrev pub bits_of : MacroCallStyles → ℕ
+bits_of styles = styles.0
 
 -- the set of one style alone
 abbrev pub style_bit : MacroCallStyle → ℕ

@@ -72,9 +72,12 @@ impl Clone for ExpandError {
 }
 
 impl PartialEq for ExpandError {
-    ghost eq = { ⟦<(Span, ExpandErrorKind) as PartialEq>⟧.eq };
+    ghost use Rattle.std.specs.Cmp.{partial_equiv_from_equiv};
+    ghost use Rattle.mbe_rules.specs.PlacedErrors.{same_error, same_error_equiv};
 
-    ghost laws = { ⟦<(Span, ExpandErrorKind) as PartialEq>⟧.laws };
+    ghost eq = { same_error };
+
+    ghost laws = { partial_equiv_from_equiv same_error_equiv };
 
     /// Whether the places and the kinds are the same.
     fn eq(&self, other: &ExpandError) -> bool {
@@ -83,7 +86,9 @@ impl PartialEq for ExpandError {
 }
 
 impl Eq for ExpandError {
-    ghost laws = { ⟦<(Span, ExpandErrorKind) as Eq>⟧.laws };
+    ghost use Rattle.mbe_rules.specs.PlacedErrors.{same_error_equiv};
+
+    ghost laws = { same_error_equiv };
 }
 
 impl Hash for ExpandError {

@@ -1,6 +1,7 @@
 //! How a macro is called.
 ghost use Rattle.std.specs.Prelude.{⊤, ◌≡◌};
 ghost use Rattle.std.specs.Int.RustNames.{bit_or};
+ghost use Rattle.mbe_rules.specs.Styles.{bits_of, style_bit, style_names};
 
 use bitflags::{Flag, Flags};
 
@@ -44,22 +45,20 @@ impl MacroCallStyles {
 
     /// The styles of either set.
     pub fn union(self, other: MacroCallStyles) -> MacroCallStyles
-        ensures { result.0 ≡ bit_or self.0 other.0 }
+        ensures { bits_of result ≡ bit_or (bits_of self) (bits_of other) }
     {
         MacroCallStyles(self.0 | other.0)
     }
 }
 
 impl Flags for MacroCallStyles {
-    ghost use Rattle.mbe_rules.specs.Styles.{style_names};
-
     type Bits = u8;
 
     ghost exact = { ⊤ };
 
     ghost table = { style_names };
 
-    ghost set_of = { λ styles. styles.0 };
+    ghost set_of = { bits_of };
 
     fn flags<'a>() -> &'a [Flag<MacroCallStyles>] {
         MacroCallStyles::FLAGS
@@ -75,9 +74,7 @@ impl Flags for MacroCallStyles {
 }
 
 impl From<MacroCallStyle> for MacroCallStyles {
-    ghost use Rattle.mbe_rules.specs.Styles.{style_bit};
-
-    ghost from_gives = { λ style styles. styles.0 ≡ style_bit style };
+    ghost from_gives = { λ style styles. bits_of styles ≡ style_bit style };
 
     /// The set of this style alone.
     fn from(style: MacroCallStyle) -> MacroCallStyles {

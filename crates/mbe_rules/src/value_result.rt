@@ -64,9 +64,10 @@ impl<T, E> ValueResult<T, E> {
         ensures value { F.post f self.value result.value }
         ensures err { result.err ≡ self.err }
     {
+        let ValueResult { value, err } = self;
         ValueResult {
-            value: f(self.value),
-            err: self.err,
+            value: f(value),
+            err,
         }
     }
 
@@ -130,10 +131,9 @@ impl<T, E> ValueResult<T, E> {
         ensures memory { IsOkUnless result fault.Memory }
         ensures answered { T.is_infallible self.now.value → ForSome self.now.err E.is_infallible → IsOk result }
     {
-        Ok(ValueResult {
-            value: self.value.clone()?,
-            err: self.err.clone()?,
-        })
+        let value = self.value.clone()?;
+        let err = self.err.clone()?;
+        Ok(ValueResult { value, err })
     }
 }
 
