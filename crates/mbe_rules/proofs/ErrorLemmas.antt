@@ -1,5 +1,5 @@
 -- Equality by `==` of an error with its place.
-use Rattle.std.proofs.Common.{rules, ◌≡◌, ◌↔◌, ◌∙◌, Bool, true, ap, refl}
+use Rattle.std.proofs.Common.{◌≡◌, ◌↔◌, ◌∙◌, Bool, true, ap, refl}
 use Rattle.std.specs.Prelude.{◌&&◌}
 use Rattle.std.specs.Cmp.{first_so, second_so}
 

@@ -2,10 +2,10 @@
 use Rattle.std.proofs.Common.{◌≡◌, refl, Some, codes, bit_or}
 use Rattle.bitflags.proofs.OnLiterals.{bitflags_on_literals}
 use Rattle.bitflags.specs.Sets.{known_bits, find_name}
-use Rattle.mbe_rules.specs.declared.errors.CountError.TheVariants.{OutOfBounds, Misplaced}
+use Rattle.mbe_rules.specs.declared.errors.CountError.TheVariants.{OutOfBounds}
 use Rattle.mbe_rules.specs.declared.errors.ExpandErrorKind.TheVariants as kind
 use Rattle.mbe_rules.specs.declared.errors.ParseError.TheVariants.{Expected, InvalidRepeat}
-use Rattle.mbe_rules.specs.declared.macro_call_style.MacroCallStyle.TheVariants.{FnLike, Attr, Derive}
+use Rattle.mbe_rules.specs.declared.macro_call_style.MacroCallStyle.TheVariants.{FnLike, Derive}
 use Rattle.mbe_rules.specs.Messages.{parse_message, expand_message, count_message}
 use Rattle.mbe_rules.specs.Styles.{style_bit, style_names}
 

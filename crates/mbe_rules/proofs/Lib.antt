@@ -3,6 +3,6 @@ pub mod ParsingLemmas
 pub mod OpsLemmas
 pub mod CopyLemmas
 pub mod ErrorLemmas
-mod Written
+pub mod Written
 mod Rows
 mod ErrorRows
