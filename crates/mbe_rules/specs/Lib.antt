@@ -11,3 +11,8 @@ pub mod Parsing
 pub mod Ops
 pub mod Likeness
 pub mod Relabelling
+-- errors' texts, styles of calls as bits, and what a clone has to be
+pub mod Messages
+pub mod Styles
+pub mod Clones
+pub mod PlacedErrors

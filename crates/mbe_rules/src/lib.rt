@@ -3,13 +3,17 @@
 
 pub mod copies;
 pub mod errors;
+pub mod expand_error;
 pub mod laws;
 pub mod macro_call_style;
 pub mod parser;
 pub mod rules;
 pub mod validation;
+pub mod value_result;
 
-pub use errors::ParseError;
-pub use macro_call_style::MacroCallStyle;
+pub use errors::{CountError, ExpandErrorKind, ParseError};
+pub use expand_error::ExpandError;
+pub use macro_call_style::{MacroCallStyle, MacroCallStyles};
 pub use parser::{ConcatElement, MetaVarKind, Op, RepeatKind, Separator};
 pub use rules::{Rule, Rules};
+pub use value_result::{ExpandResult, MatchedArmIndex, ValueResult};

@@ -1,0 +1,18 @@
+-- Equality by `==` of an error with its place.
+use Rattle.std.proofs.Common.{◌≡◌, ◌↔◌, ◌∙◌, Bool, true, ap, refl}
+use Rattle.std.specs.Prelude.{◌&&◌}
+use Rattle.std.specs.Cmp.{first_so, second_so}
+
+-- a test that is true exactly of a value and itself
+abbrev pub IsEquality : {A : Type 0} → (A → A → Bool) → Type 0
+IsEquality {A} E = (a b : A) → (E a b ≡ true) ↔ (a ≡ b)
+
+-- so is the test of both parts of a pair
+pub pairs : {A B : Type 0} (E : A → A → Bool) (F : B → B → Bool) → IsEquality E → IsEquality F → IsEquality {A = A × B} (λ a b. E a.0 b.0 && F a.1 b.1)
+pairs E F e f a b = (
+  λ both.
+      let first = (e a.0 b.0).0 (first_so (E a.0 b.0) _ both) in
+      let second = (f a.1 b.1).0 (second_so (E a.0 b.0) _ both) in
+      ap (λ x. (x, a.1)) first ∙ ap (λ y. (b.0, y)) second,
+  λ same. rw (← same) (rw ((e a.0 a.0).1 refl) ((f a.1 a.1).1 refl)),
+)

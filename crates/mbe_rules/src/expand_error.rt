@@ -1,0 +1,115 @@
+//! Why a call cannot be expanded, and where.
+ghost use Rattle.std.specs.Prelude.{◌≡◌, IfOk, IsOkUnless};
+ghost use Rattle.std.specs.Cmp.Rules.{hashing};
+ghost use Rattle.std.proofs.Common.{rules};
+ghost use Rattle.symbols.specs.declared.fault.TtFault.TheVariants as fault;
+
+use crate::errors::ExpandErrorKind;
+use std::alloc::{AllocError, Global};
+use std::fmt;
+use std::hash::{Hash, Hasher};
+use std::marker::Model;
+use std::rc::Rc;
+use symbols::TtFault;
+use tt_data::span::Span;
+
+/// Why a call cannot be expanded, and the place where this shows. Its clones share one block of memory.
+#[derive(Debug, Drop)]
+pub struct ExpandError {
+    /// The place and the kind.
+    pub inner: Rc<(Span, ExpandErrorKind)>,
+}
+
+impl Model for ExpandError {
+    ghost use Rattle.mbe_rules.specs.declared.errors.ExpandErrorKind.{ExpandErrorKind};
+    ghost use Rattle.tt_data.specs.declared.span.Span.{Span};
+
+    ghost Value = { Span × ExpandErrorKind };
+
+    ghost view = { λ e. e.inner.value };
+}
+
+impl ExpandError {
+    /// The error of this kind at this place. It takes one block of memory.
+    ///
+    /// # Errors
+    ///
+    /// `Memory` if `alloc` has no room for it. It is the only error.
+    pub fn new(alloc: Global, span: Span, kind: ExpandErrorKind) -> Result<ExpandError, TtFault>
+        ensures error { IfOk result (λ e. e ≡ (span, kind)) }
+        ensures memory { IsOkUnless result fault.Memory }
+    {
+        match Rc::new(alloc, (span, kind)) {
+            Ok(inner) => Ok(ExpandError { inner }),
+            Err(_refused) => Err(TtFault::Memory),
+        }
+    }
+
+    /// The place where the error shows.
+    pub fn span(&self) -> Span
+        ensures { result ≡ self.now.0 }
+    {
+        self.inner.as_ref().0
+    }
+
+    /// The kind of the error.
+    pub fn kind(&self) -> &ExpandErrorKind
+        ensures { result.now ≡ self.now.1 }
+    {
+        &self.inner.as_ref().1
+    }
+}
+
+impl Clone for ExpandError {
+    ghost is_clone = { λ e copy. copy ≡ e };
+
+    /// One more owner of the same error. It takes no memory.
+    fn clone(&self) -> Result<ExpandError, AllocError> {
+        Ok(ExpandError {
+            inner: self.inner.clone()?,
+        })
+    }
+}
+
+impl PartialEq for ExpandError {
+    ghost use Rattle.std.specs.Cmp.{partial_equiv_from_equiv};
+    ghost use Rattle.mbe_rules.specs.PlacedErrors.{same_error, same_error_equiv};
+
+    ghost eq = { same_error };
+
+    ghost laws = { partial_equiv_from_equiv same_error_equiv };
+
+    /// Whether the places and the kinds are the same.
+    fn eq(&self, other: &ExpandError) -> bool {
+        self.inner == other.inner
+    }
+}
+
+impl Eq for ExpandError {
+    ghost use Rattle.mbe_rules.specs.PlacedErrors.{same_error_equiv};
+
+    ghost laws = { same_error_equiv };
+}
+
+impl Hash for ExpandError {
+    ghost hash_input = { ⟦<(Span, ExpandErrorKind) as Hash>⟧.hash_input };
+
+    ghost respects_eq = { Prim.search (hashing, rules) };
+
+    /// Feeds the place and the kind.
+    fn hash<H: Hasher>(&self, state: &mut H) {
+        self.inner.hash(state);
+    }
+}
+
+impl fmt::Display for ExpandError {
+    ghost use Rattle.std.specs.Prelude.{Some};
+    ghost use Rattle.mbe_rules.specs.Messages.{expand_message};
+
+    ghost output = { λ error. Some (expand_message error.1) };
+
+    /// Writes the text of the kind.
+    fn fmt<W: fmt::Write>(&self, f: &mut fmt::Formatter<W>) -> fmt::Result {
+        self.kind().fmt(f)
+    }
+}
