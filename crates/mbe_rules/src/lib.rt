@@ -3,6 +3,7 @@
 
 pub mod copies;
 pub mod errors;
+mod expressions;
 pub mod laws;
 pub mod macro_call_style;
 pub mod parser;
