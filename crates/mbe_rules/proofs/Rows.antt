@@ -107,6 +107,7 @@ expressions : List (String × Option Dollar)
 expressions =
     ("count($x)", Some (count_of (codes "x") 0))
     ∷ ("count($x,)", Some (count_of (codes "x") 0))
+    ∷ ("count($x, 2)", Some (count_of (codes "x") 2))
     ∷ ("count($x, 2) $y, 3", Some (count_of (codes "x") 2))
     ∷ ("r#count($r#x)", Some (count_of (codes "x") 0))
     ∷ ("index()", Some (index_of 0))
