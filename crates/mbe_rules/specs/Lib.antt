@@ -10,6 +10,7 @@ pub mod Patterns
 pub mod Parsing
 -- what the program's rules stand for, when two are equal, and the same rules at other places
 pub mod Ops
-pub mod Steps
 pub mod Likeness
 pub mod Relabelling
+-- what the functions inside the crate promise each other
+pub mod Steps

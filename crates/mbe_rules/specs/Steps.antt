@@ -1,4 +1,4 @@
--- What a program answers for a part of a template, in the words of the definitions.
+-- What the program answers for `${..}` and its parts, in the words of the definitions.
 use Rattle.std.specs.Prelude.{ℕ, Bool, if◌then◌else◌, List, map, Option, Some, None, option_map}
 use Rattle.std.specs.declared.vec.Vec.{Vec}
 use Rattle.std.specs.declared.alloc.Global.{Global}
