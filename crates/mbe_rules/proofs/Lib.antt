@@ -3,6 +3,7 @@ pub mod ParsingLemmas
 pub mod OpsLemmas
 pub mod CopyLemmas
 pub mod ErrorLemmas
+pub mod ExpressionLemmas
 pub mod Written
 mod Rows
 mod ErrorRows

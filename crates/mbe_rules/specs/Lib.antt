@@ -16,3 +16,5 @@ pub mod Messages
 pub mod Styles
 pub mod Clones
 pub mod PlacedErrors
+-- what the functions inside the crate promise each other
+pub mod Steps

@@ -4,6 +4,7 @@
 pub mod copies;
 pub mod errors;
 pub mod expand_error;
+mod expressions;
 pub mod laws;
 pub mod macro_call_style;
 pub mod parser;
