@@ -1,8 +1,7 @@
 -- Rows: what is read of a definition, by computation.
-use Rattle.std.proofs.Common.{◌≡◌, refl, ℕ, List, [], ◌∷◌, Option, Some, None, option_map, codes, length, map, Bool, true, false, Ok, Err}
+use Rattle.std.proofs.Common.{◌≡◌, refl, List, [], ◌∷◌, Option, Some, None, codes, map, Ok}
 use Rattle.std.specs.Prelude.{slice_index}
 use Prim.Native.String.{String}
-use Rattle.tt_data.specs.Forest.{Forest}
 use Rattle.tt_data.specs.Names.{ident_of}
 use Rattle.tt_data.specs.Spans.{no_span}
 use Rattle.tt_data.specs.declared.delimiter.DelimiterKind.TheVariants.{Bracket}
@@ -19,10 +18,10 @@ use Rattle.mbe_rules.specs.declared.macro_call_style.MacroCallStyle.TheVariants.
 use Rattle.mbe_rules.specs.declared.parser.MetaVarKind.{MetaVarKind}
 use Rattle.mbe_rules.specs.declared.parser.MetaVarKind.TheVariants as kind
 use Rattle.mbe_rules.specs.declared.parser.RepeatKind.TheVariants.{ZeroOrMore, OneOrMore, ZeroOrOne}
-use Rattle.mbe_rules.specs.Items.{itself, value_of, Dollar, variable, count_of, index_of, len_of, ignore_of, concat_of, word, puncts, lifetime, dollar, literal_between, ident_between, lifetime_between, puncts_between, Items, done, item, group_of, repetition, Rules, variables}
+use Rattle.mbe_rules.specs.Items.{itself, value_of, Dollar, variable, count_of, index_of, len_of, ignore_of, concat_of, word, puncts, lifetime, dollar, literal_between, ident_between, lifetime_between, puncts_between, Items, done, item, group_of, repetition, Rules}
 use Rattle.mbe_rules.specs.Expressions.{expression_in}
 use Rattle.mbe_rules.specs.Parsed.{Parsed}
-use Rattle.mbe_rules.specs.Patterns.{Mode, in_pattern, in_template, items_of}
+use Rattle.mbe_rules.specs.Patterns.{in_pattern, in_template, items_of}
 use Rattle.mbe_rules.specs.Parsing.{macro_rules_of, macro_of}
 use Rattle.mbe_rules.proofs.Written.{trees, word_of, number_of}
 

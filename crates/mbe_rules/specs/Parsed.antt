@@ -1,5 +1,5 @@
 -- What readings answer, and one reading after another.
-use Rattle.std.specs.Prelude.{List, codes, Option, Some, None, Result, Ok, Err}
+use Rattle.std.specs.Prelude.{codes, Option, Some, None, Result, Ok, Err}
 use Prim.Native.String.{String}
 use Rattle.mbe_rules.specs.declared.errors.ParseError.{ParseError}
 use Rattle.mbe_rules.specs.declared.errors.ParseError.TheVariants.{UnexpectedToken, Expected}
