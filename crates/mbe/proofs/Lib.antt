@@ -16,3 +16,7 @@ pub mod AdvanceLemmas
 pub mod FallingLemmas
 pub mod MoveLemmas
 pub mod MatchingLemmas
+pub mod PlaceLemmas
+pub mod OpsLemmas
+pub mod SettlingLemmas
+pub mod TheLoopLemmas

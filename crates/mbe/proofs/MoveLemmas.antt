@@ -1,11 +1,11 @@
 -- What each move of a pattern's reading does to place, bound and goodness
-use Rattle.std.proofs.Common.{◌≡◌, ◌⊎◌, inl, inr, refl, ap, subst, ℕ, zero, suc, ◌+◌, ◌≤◌, ◌<◌, Bool, true, false, List, [], ◌∷◌, ◌++◌, Option, Some, None, if◌then◌else◌, arith}
+use Rattle.std.proofs.Common.{◌≡◌, ◌⊎◌, inl, inr, refl, ap, subst, ℕ, zero, suc, ◌+◌, ◌≤◌, ◌<◌, ◌||◌, Bool, true, false, List, [], ◌∷◌, ◌++◌, Option, Some, None, if◌then◌else◌, arith}
 use Rattle.tt_data.specs.Forest.{Forest, empty, leaf, group}
 use Rattle.tt_data.specs.declared.leaf.Leaf.{Leaf}
 use Rattle.tt_data.specs.declared.leaf.Leaf.TheVariants as as_leaf
 use Rattle.tt_data.specs.declared.leaf.Punct.{Punct}
 use Rattle.tt_data.specs.declared.span.Span.{Span}
-use Rattle.mbe_rules.specs.Glued.{glued_count}
+use Rattle.tt.specs.Glued.{glued_count}
 use Rattle.mbe_rules.specs.Items.{Separator, literal_between, Item, word, puncts, lifetime, dollar, variable, Items, done, item, group_of, repetition, may_skip, has_empty_round, variables}
 use Rattle.mbe_rules.specs.Trees.{past, before}
 use Rattle.mbe_rules.specs.declared.parser.MetaVarKind.{MetaVarKind}
@@ -13,7 +13,7 @@ use Rattle.mbe_rules.specs.declared.parser.MetaVarKind.TheVariants as kind
 use Rattle.mbe_rules.specs.declared.parser.MetaVarKind.TheVariants.{Vis}
 use Rattle.mbe_rules.specs.declared.parser.RepeatKind.{RepeatKind}
 use Rattle.mbe.specs.Fragments.{taken}
-use Rattle.mbe.specs.Grammar.{Grammar, trees_of_steps}
+use Rattle.mbe.specs.Grammar.{Grammar, reach}
 use Rattle.fragment_grammar.specs.Steps.{steps}
 use Rattle.mbe.proofs.StepLemmas.{steps-group}
 use Rattle.mbe.specs.Paths.{IsAmong, when}
@@ -89,7 +89,7 @@ one-of-two : (b : Bool) → 1 ≤ (if b then 2 else 1)
 one-of-two true = omega arith
 one-of-two false = omega arith
 
-glued-one : (p : Punct) (rest : Forest) → 1 ≤ glued_count (leaf (as_leaf.Punct p) rest)
+pub glued-one : (p : Punct) (rest : Forest) → 1 ≤ glued_count (leaf (as_leaf.Punct p) rest)
 glued-one p (leaf (as_leaf.Punct q) (leaf (as_leaf.Punct r) rest)) = one-of-three _ _
 glued-one p (leaf (as_leaf.Punct q) rest) = one-of-two _
 glued-one p _ = omega arith
@@ -132,13 +132,10 @@ separator-somewhere s (place (group d inner rest) outer) e = refl
 
 -- ---- fragments lower the steps left
 
-steps-nothing : (n i : ℕ) → trees_of_steps empty n ≡ Some (suc i) → ⊥
-steps-nothing zero i e = let k : 0 ≡ suc i = cc in omega arith
-steps-nothing (suc n) i e = cc
-
-asked-nothing : (b : Bool) (n i : ℕ) → (if b then None else trees_of_steps empty n) ≡ Some (suc i) → ⊥
+asked-nothing : (b : Bool) (n i : ℕ) → (if b || (reach empty n).1 then None else Some (reach empty n).0) ≡ Some (suc i) → ⊥
 asked-nothing true n i e = cc
-asked-nothing false n i e = steps-nothing n i e
+asked-nothing false zero i e = let k : 0 ≡ suc i = cc in omega arith
+asked-nothing false (suc n) i e = cc
 
 nothing-taken : (g : Grammar) (k : MetaVarKind) (i : ℕ) → taken g k empty ≡ Some (suc i) → ⊥
 nothing-taken g kind.Ident i e = cc

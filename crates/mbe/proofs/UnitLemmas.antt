@@ -5,7 +5,7 @@ use Rattle.tt_data.specs.Spans.{delimiter_with}
 use Rattle.tt_data.specs.declared.leaf.Leaf.TheVariants as as_leaf
 use Rattle.tt_data.specs.declared.leaf.Punct.{Punct}
 use Rattle.tt_data.specs.declared.span.Span.{Span}
-use Rattle.mbe_rules.specs.Glued.{glued_count}
+use Rattle.tt.specs.Glued.{glued_count}
 use Rattle.mbe_rules.specs.Items.{Item, word, puncts, Separator, literal_between, puncts_between}
 use Rattle.mbe_rules.specs.Relabelling.{punct_with, item_with, separator_with}
 use Rattle.mbe_rules.specs.Trees.{characters}
@@ -13,7 +13,7 @@ use Rattle.mbe_rules.specs.declared.parser.MetaVarKind.{MetaVarKind}
 use Rattle.mbe_rules.specs.declared.parser.MetaVarKind.TheVariants as kind
 use Rattle.mbe_rules.proofs.RelabelLemmas.{past-map, glued_count-map}
 use Rattle.mbe.specs.Fragments.{ident_trees, lifetime_trees, unsigned_trees, literal_trees, tree_trees, is_refused, is_refused_2021, taken}
-use Rattle.mbe.specs.Grammar.{Grammar, trees_of_steps, asked}
+use Rattle.mbe.specs.Grammar.{Grammar, reach, asked}
 use Rattle.fragment_grammar.specs.Steps.{steps}
 use Rattle.mbe.proofs.StepLemmas.{steps-group}
 use Rattle.mbe.specs.Units.{UnitAt, a_name, glued, same_unit, unit_of, is_separator, Place, place, first_characters, punct_unit, unit_at, unit_trees, after_unit, left, is_end}
@@ -37,16 +37,16 @@ module _ (f : Span → Span) where
   steps-map (group d inner rest) =
       steps-group (delimiter_with f d) (map_spans f inner) (map_spans f rest) ∙ rw (steps-map inner, steps-map rest) (sym (steps-group d inner rest))
 
-  pub trees_of_steps-map : (x : Forest) (n : ℕ) → trees_of_steps (map_spans f x) n ≡ trees_of_steps x n
-  trees_of_steps-map empty zero = refl
-  trees_of_steps-map empty (suc n) = refl
-  trees_of_steps-map (leaf l rest) zero = refl
-  trees_of_steps-map (leaf l rest) (suc n) = rw (trees_of_steps-map rest n)
-  trees_of_steps-map (group d inner rest) zero = refl
-  trees_of_steps-map (group d inner rest) (suc n) = rw (steps-map inner, trees_of_steps-map rest (n - suc (steps inner)))
+  pub reach-map : (x : Forest) (n : ℕ) → reach (map_spans f x) n ≡ reach x n
+  reach-map empty zero = refl
+  reach-map empty (suc n) = refl
+  reach-map (leaf l rest) zero = refl
+  reach-map (leaf l rest) (suc n) = rw (reach-map rest n)
+  reach-map (group d inner rest) zero = refl
+  reach-map (group d inner rest) (suc n) = rw (steps-map inner, reach-map rest (n - suc (steps inner)))
 
   pub asked-map : (g : Grammar) (e : PrefixEntryPoint) (x : Forest) → asked g e (map_spans f x) ≡ asked g e x
-  asked-map g e x = rw (shape-map x, trees_of_steps-map x (g e (shape x)).tokens)
+  asked-map g e x = rw (shape-map x, reach-map x (g e (shape x)).tokens)
 
   -- ---- units
 

@@ -4,7 +4,7 @@ use Rattle.tt_data.specs.Forest.{Forest, empty, leaf}
 use Rattle.tt_data.specs.declared.leaf.Ident.{Ident}
 use Rattle.tt_data.specs.declared.leaf.IdentIsRaw.TheVariants as is_raw
 use Rattle.tt_data.specs.declared.leaf.Leaf.TheVariants as as_leaf
-use Rattle.mbe_rules.specs.Glued.{glued_count}
+use Rattle.tt.specs.Glued.{glued_count}
 use Rattle.mbe_rules.specs.Text.{is_truth, is_word, is_char}
 use Rattle.mbe_rules.specs.declared.parser.MetaVarKind.{MetaVarKind}
 use Rattle.mbe_rules.specs.declared.parser.MetaVarKind.TheVariants as kind

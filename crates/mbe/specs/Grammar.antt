@@ -1,5 +1,5 @@
 -- A grammar of fragments, as a function: what it is asked for, and the trees without their places.
-use Rattle.std.specs.Prelude.{ℕ, zero, suc, ◌+◌, ◌-◌, Option, Some, None, option_map, nat_le, if◌then◌else◌}
+use Rattle.std.specs.Prelude.{ℕ, zero, suc, ◌-◌, Bool, true, false, ◌||◌, Option, Some, None, nat_le, if◌then◌else◌}
 use Rattle.tt_data.specs.Forest.{Forest, empty, leaf, group, shape}
 use Rattle.fragment_grammar.specs.Steps.{steps}
 use Rattle.fragment_grammar.specs.declared.fragment.Prefix.{Prefix}
@@ -9,17 +9,25 @@ use Rattle.fragment_grammar.specs.declared.fragment.PrefixEntryPoint.{PrefixEntr
 abbrev pub Grammar : Type 0
 Grammar = PrefixEntryPoint → Forest → Prefix
 
--- how many trees the first n steps are; none where these stop inside a group, or are not there
-abbrev pub trees_of_steps : Forest → ℕ → Option ℕ
-trees_of_steps f zero = Some 0
-trees_of_steps empty (suc n) = None
-trees_of_steps (leaf l rest) (suc n) = option_map suc (trees_of_steps rest n)
-trees_of_steps (group d inner rest) (suc n) =
-    if nat_le (suc (steps inner)) n then option_map suc (trees_of_steps rest (n - suc (steps inner))) else None
+-- one tree more
+abbrev pub one_further : ℕ × Bool → ℕ × Bool
+one_further r = (suc r.0, r.1)
 
--- how many trees a prefix has; none where it is faulty
+-- how many trees the first n steps reach, and whether these stop inside the last of them, or are more than there are
+abbrev pub reach : Forest → ℕ → ℕ × Bool
+reach f zero = (0, false)
+reach empty (suc n) = (0, true)
+reach (leaf l rest) (suc n) = one_further (reach rest n)
+reach (group d inner rest) (suc n) =
+    if nat_le (suc (steps inner)) n then one_further (reach rest (n - suc (steps inner))) else (1, true)
+
+-- what the grammar takes is no fragment: it is faulty, or stops inside a group
+abbrev pub is_no_fragment : Forest → Prefix → Bool
+is_no_fragment f p = p.fault || (reach f p.tokens).1
+
+-- how many trees a prefix has; none where it is no fragment
 abbrev pub trees_of_prefix : Forest → Prefix → Option ℕ
-trees_of_prefix f p = if p.fault then None else trees_of_steps f p.tokens
+trees_of_prefix f p = if is_no_fragment f p then None else Some (reach f p.tokens).0
 
 -- how many trees the grammar takes at the head of a list, if any: it sees no places
 abbrev pub asked : Grammar → PrefixEntryPoint → Forest → Option ℕ

@@ -9,3 +9,5 @@ pub mod Filling
 pub mod Fit
 -- what the functions inside the crate promise each other
 pub mod Waiting
+pub mod Places
+pub mod Threads
