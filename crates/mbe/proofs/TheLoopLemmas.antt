@@ -1,0 +1,134 @@
+-- A turn of the main loop, over the program's threads
+use Rattle.std.proofs.Common.{◌≡◌, ◌⊎◌, inl, inr, refl, sym, ap, subst, ◌∙◌, ℕ, zero, suc, ◌+◌, ◌≤◌, ◌<◌, Bool, true, false, List, [], ◌∷◌, ◌++◌, map, Option, Some, None, length, get_or, arith, rules}
+use Rattle.std.specs.List.{flat_map}
+use Rattle.tt_data.specs.Forest.{Forest}
+use Rattle.mbe_rules.specs.Items.{Items, has_empty_round}
+use Rattle.mbe_rules.specs.Text.{is_nil}
+use Rattle.mbe.specs.Grammar.{Grammar}
+use Rattle.mbe.specs.Paths.{only, clash}
+use Rattle.mbe.specs.Places as q
+use Rattle.mbe.specs.Readings as r
+use Rattle.mbe.specs.Threads as t
+use Rattle.mbe.specs.Units as u
+use Rattle.mbe.specs.Waiting.{Waiting, ended, pending, prefixed, finished, settled_at, Good, Each, heads, advanced_by, IsFrom, IsTo, unless}
+use Rattle.mbe.specs.declared.place.Taken.{Taken}
+use Rattle.mbe.specs.declared.matcher.Waiting as d
+use Rattle.mbe.specs.declared.matcher.Waiting.TheVariants.{Ended, Pending}
+use Rattle.mbe.proofs.MatchingLemmas.{outcome_at, outcome_later, AllFrom, AllTo, advance-at, from-advanced-at, one_place-at, from-settled-at, over-at, begun-at, good-start}
+
+abbrev pub P : Type 0
+P = u.Place
+
+-- the waiting threads lead to the only reading
+pub record Held (gr : Grammar) (pattern : Items) (argument : Forest) (p : P) (ws : List t.Waits) : Type 0 where
+  pub same : outcome_at gr (r.room pattern) ws ≡ r.the_reading gr pattern argument
+  pub here : AllFrom gr (r.room pattern) p ws
+
+same-heads : (p : P) (ws : List d.Waiting) → flat_map heads (t.waits p ws) ≡ flat_map t.takings_of ws
+same-heads p [] = refl
+same-heads p (Ended ms ∷ ws) = same-heads p ws
+same-heads p (Pending h k ∷ ws) = ap (λ x. t.is_trees (Some k) ∷ x) (same-heads p ws)
+
+no-prefix : (ws : List t.Waits) → map (prefixed []) ws ≡ ws
+no-prefix [] = refl
+no-prefix (ended ms ∷ ws) = ap (λ x. ended ms ∷ x) (no-prefix ws)
+no-prefix (pending ms b s ∷ ws) = ap (λ x. pending ms b s ∷ x) (no-prefix ws)
+
+at-place : (s : u.Place) (h : _) (p : P) → r.place_of (t.state_of h s) ≡ p → t.state_of h s ≡ t.state_of h p
+at-place s h p e = ap (t.state_of h) e
+
+same-waits : (gr : Grammar) → (N b : ℕ) (p s : P) (ws : List d.Waiting) → AllTo gr N b s (t.waits p ws) → t.waits p ws ≡ t.waits_at s ws
+same-waits gr N b p s [] a = refl
+same-waits gr N b p s (Ended ms ∷ ws) a = ap (λ x. ended (t.moves_of ms) ∷ x) (same-waits gr N b p s ws a.1)
+same-waits gr N b p s (Pending h k ∷ ws) a =
+    let e = at-place (q.place_after p (Some k)) h s a.0.2 in
+    let i = same-waits gr N b p s ws a.1 in
+    let f = ap (λ x. pending (t.moves_of h.moves) (t.is_trees (Some k)) x) e in cc
+
+head-place : (gr : Grammar) → (N b : ℕ) (p s : P) (ws : List d.Waiting) (k : Taken) → AllTo gr N b s (t.waits p ws) → t.head_taken ws ≡ Some k →
+    (q.place_after p (Some k) ≡ s) × (u.left s < b)
+head-place gr N b p s [] k a e = absurd (cc e)
+head-place gr N b p s (Ended ms ∷ ws) k a e = head-place gr N b p s ws k a.1 e
+head-place gr N b p s (Pending h j ∷ ws) k a e =
+    let i : j ≡ k = cc in
+    (ap (λ x. q.place_after p (Some x)) (sym i) ∙ a.0.2, subst (λ x. u.left x < b) a.0.2 a.0.1)
+
+good-waits : (gr : Grammar) → (N b : ℕ) (s : P) (us : List t.Waits) → AllTo gr N b s us → Each t.IsGoodAt us
+good-waits gr N b s [] a = tt
+good-waits gr N b s (ended ms ∷ us) a = (tt, good-waits gr N b s us a.1)
+good-waits gr N b s (pending ms m x ∷ us) a = ((N, a.0.0), good-waits gr N b s us a.1)
+
+pub start-held : (gr : Grammar) → (pattern : Items) (argument : Forest) (p : P) → has_empty_round pattern ≡ false → p ≡ u.place argument [] →
+    (ws : List t.Waits) → ws ≡ map (prefixed []) (settled_at gr (r.at pattern [] p)) → Held gr pattern argument p ws
+start-held gr pattern argument p e i ws h =
+    let k = h ∙ no-prefix (settled_at gr (r.at pattern [] p)) ∙ ap (λ x. settled_at gr (r.at pattern [] x)) i in
+    record {
+      same = ap (outcome_at gr (r.room pattern)) k ∙ sym (begun-at gr pattern argument e);
+      here = rw (k, i) (from-settled-at gr (r.room pattern) (r.start pattern argument) (good-start pattern argument e));
+    }
+
+-- what a turn gr without a clash does
+pub record Turn (gr : Grammar) (pattern : Items) (argument : Forest) (p s : P) (ws : List d.Waiting) : Type 0 where
+  pub good : Each t.IsGoodAt (t.waits_at s ws)
+  pub lower : u.left s < u.left p
+  pub held : (us : List t.Waits) → us ≡ flat_map (advanced_by (settled_at gr)) (t.waits_at s ws) → Held gr pattern argument s us
+
+pub turn : (gr : Grammar) → (pattern : Items) (argument : Forest) (p : P) (ws : List d.Waiting) (k : Taken) →
+    Held gr pattern argument p (t.waits p ws) → false ≡ clash (flat_map t.takings_of ws) → Some k ≡ t.head_taken ws →
+    (s : P) → s ≡ q.place_after p (Some k) → Turn gr pattern argument p s ws
+turn gr pattern argument p ws k h c e s i =
+    let N = r.room pattern in
+    let n : clash (flat_map heads (t.waits p ws)) ≡ false = ap clash (same-heads p ws) ∙ sym c in
+    let o = one_place-at gr N p (t.waits p ws) h.here n in
+    let f = head-place gr N (u.left p) p o.0 ws k o.1 (sym e) in
+    let g : o.0 ≡ s = sym f.0 ∙ sym i in
+    let a : AllTo gr N (u.left p) s (t.waits p ws) = subst (λ x. AllTo gr N (u.left p) x (t.waits p ws)) g o.1 in
+    let w = same-waits gr N (u.left p) p s ws a in
+    record {
+      good = subst (Each t.IsGoodAt) w (good-waits gr N (u.left p) s (t.waits p ws) a);
+      lower = subst (λ x. u.left x < u.left p) g f.1;
+      held = λ us eq. record {
+        same = ap (outcome_at gr N) (eq ∙ ap (flat_map (advanced_by (settled_at gr))) (sym w))
+            ∙ sym (advance-at gr N (u.left p) s (t.waits p ws) a n) ∙ h.same;
+        here = subst (AllFrom gr N s) (ap (flat_map (advanced_by (settled_at gr))) w ∙ sym eq)
+            (from-advanced-at gr N (u.left p) s (t.waits p ws) a);
+      };
+    }
+
+pub clash-none : (gr : Grammar) → (pattern : Items) (argument : Forest) (p : P) (ws : List d.Waiting) →
+    Held gr pattern argument p (t.waits p ws) → true ≡ clash (flat_map t.takings_of ws) → None ≡ r.the_reading gr pattern argument
+clash-none gr pattern argument p ws h c =
+    go (clash (flat_map heads (t.waits p ws))) (c ∙ ap clash (sym (same-heads p ws))) ∙ h.same
+  where
+    go : (b : Bool) → true ≡ b → None ≡ unless b (outcome_later gr (r.room pattern) (t.waits p ws))
+    go true e = refl
+    go false e = absurd (cc e)
+
+none-waits : (p : P) (ws : List d.Waiting) → t.head_taken ws ≡ None → is_nil (flat_map heads (t.waits p ws)) ≡ true
+none-waits p [] e = refl
+none-waits p (Ended ms ∷ ws) e = none-waits p ws e
+none-waits p (Pending h k ∷ ws) e = absurd (cc e)
+
+pub ended-only : (gr : Grammar) → (pattern : Items) (argument : Forest) (p : P) (ws : List d.Waiting) →
+    Held gr pattern argument p (t.waits p ws) → t.head_taken ws ≡ None →
+    only (flat_map finished (t.waits p ws)) ≡ r.the_reading gr pattern argument
+ended-only gr pattern argument p ws h e =
+    sym (over-at gr (r.room pattern) (t.waits p ws) (none-waits p ws e)) ∙ h.same
+
+pub not-one : (p : P) (ws : List d.Waiting) → t.head_taken ws ≡ None → (length ws ≡ 1 → ⊥) → None ≡ only (flat_map finished (t.waits p ws))
+not-one p [] e n = refl
+not-one p (Ended a ∷ []) e n = absurd (n refl)
+not-one p (Ended a ∷ Ended b ∷ ws) e n = refl
+not-one p (Ended a ∷ Pending h k ∷ ws) e n = absurd (cc e)
+not-one p (Pending h k ∷ ws) e n = absurd (cc e)
+
+pub just-one : (p : P) (ws : List d.Waiting) (w : d.Waiting) (ms : _) → length ws ≡ 1 → w ≡ get_or ws 0 w → w ≡ Ended ms →
+    Some (t.moves_of ms) ≡ only (flat_map finished (t.waits p ws))
+just-one p [] w ms e f h = absurd (omega (arith, e))
+just-one p (x ∷ y ∷ ws) w ms e f h = absurd (omega (arith, e))
+just-one p (x ∷ []) w ms e f h = ap (λ v. only (flat_map finished (t.waits p (v ∷ [])))) (sym h ∙ f)
+
+pub not-pending : (ws : List d.Waiting) (w : d.Waiting) (h : _) (k : Taken) → length ws ≡ 1 → w ≡ get_or ws 0 w → w ≡ Pending h k →
+    t.head_taken ws ≡ None → ⊥
+not-pending [] w h k e f i n = absurd (omega (arith, e))
+not-pending (x ∷ ws) w h k e f i n = let j : t.head_taken (Pending h k ∷ ws) ≡ None = subst (λ v. t.head_taken (v ∷ ws) ≡ None) (sym f ∙ i) n in cc

@@ -1,0 +1,16 @@
+use Rattle.std.proofs.Common.{◌≡◌, sym, ap, ◌∙◌}
+use Rattle.tt_data.specs.Forest.{joined}
+use Rattle.mbe_rules.specs.Trees.{before, past}
+use Rattle.mbe.proofs.PlaceLemmas.{before-past, joined-cancel}
+use Rattle.mbe.proofs.place.before.Goals as goal
+
+pub passed_since-requires : goal.passed_since-requires
+passed_since-requires c = (
+  before c.args.count c.args.trees.now,
+  c.remaining.ensures ∙ before-past c.args.count c.args.trees.now ∙ ap (λ f. joined (before c.args.count c.args.trees.now) f) (sym c.past-rest.ensures),
+)
+
+pub returns : goal.returns
+returns c =
+    joined-cancel _ _ (past c.args.count c.args.trees.now)
+    (ap (joined _) (sym c.past-rest.ensures) ∙ sym c.passed_since.ensures ∙ c.remaining.ensures ∙ before-past c.args.count c.args.trees.now)

@@ -1,0 +1,13 @@
+-- which rule fits an argument, and what it gives, in reading order
+pub mod Grammar
+pub mod Units
+pub mod Fragments
+pub mod Paths
+pub mod Readings
+pub mod Bindings
+pub mod Filling
+pub mod Fit
+-- what the functions inside the crate promise each other
+pub mod Waiting
+pub mod Places
+pub mod Threads

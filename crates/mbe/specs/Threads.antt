@@ -1,0 +1,136 @@
+-- What the matcher's threads stand for
+use Rattle.std.specs.Prelude.{◌≡◌, ℕ, suc, ◌+◌, ◌*◌, if◌then◌else◌, Bool, true, false, List, [], ◌∷◌, ◌++◌, map, reverse, option_map, Option, Some, None}
+use Rattle.std.specs.List.{flat_map}
+use Rattle.tt.specs.Views.{forest}
+use Rattle.std.specs.Borrow.{Bor}
+use Rattle.mbe_rules.specs.Items as i
+use Rattle.mbe_rules.specs.Items.{variables}
+use Rattle.mbe_rules.specs.declared.parser.Separator.{Separator}
+use Rattle.mbe_rules.specs.Ops.{items_of, separator_of}
+use Rattle.mbe.specs.Grammar.{Grammar}
+use Rattle.mbe.specs.Places.{place_after}
+use Rattle.mbe.specs.Readings as r
+use Rattle.mbe.specs.Units as u
+use Rattle.mbe.specs.Waiting as w
+use Rattle.mbe.specs.declared.place.Taken.{Taken}
+use Rattle.mbe.specs.declared.place.Taken.TheVariants.{Unit as takes_unit, Fragment as takes_trees}
+use Rattle.mbe.specs.declared.matcher.Entry.{Entry, Entry', Held-Entry-before, None', Some'}
+use Rattle.mbe.specs.declared.matcher.Frame.{Frame}
+use Rattle.mbe.specs.declared.matcher.Frame.TheVariants.{InGroup, InRound, Parted}
+use Rattle.mbe.specs.declared.matcher.Move.{Move}
+use Rattle.mbe.specs.declared.matcher.Move.TheVariants.{Unit as unit, Fragment, Nothing, Enter, Skip, Leave, Separator as separator, NextRound}
+use Rattle.mbe.specs.declared.matcher.Thread.{Thread}
+use Rattle.mbe.specs.declared.matcher.Choice.{Choice}
+use Rattle.mbe.specs.declared.matcher.Waiting.{Waiting}
+use Rattle.mbe.specs.declared.matcher.Waiting.TheVariants.{Ended, Pending}
+
+abbrev pub between_of : Option (Bor Separator) → Option i.Separator
+between_of None = None
+between_of (Some s) = Some (separator_of s.now)
+
+abbrev pub frame_of : Frame → r.Frame
+frame_of (InGroup after) = r.in_group (items_of after.now)
+frame_of (InRound body sep k after) = r.in_round (items_of body.now) (between_of sep) k (items_of after.now)
+frame_of (Parted body sep k after) = r.parted (items_of body.now) (between_of sep) k (items_of after.now)
+
+abbrev pub move_of : Move → r.Move
+move_of unit = r.unit_move
+move_of (Fragment n k trees) = r.fragment_move n.now k (forest trees)
+move_of (Nothing n) = r.nothing_move n.now
+move_of Enter = r.enter
+move_of (Skip body) = r.skip (variables (items_of body.now))
+move_of Leave = r.leave
+move_of separator = r.separator_move
+move_of NextRound = r.next_round
+
+-- the last of a vector of frames is the innermost
+abbrev pub frames_of : List Frame → List r.Frame
+frames_of fs = map frame_of (reverse fs)
+
+-- the moves up to an entry of the log
+abbrev mutual
+  pub moves_to : Entry → List r.Move
+  moves_to (Entry' made before) = moves_before before ++ (move_of made ∷ [])
+
+  pub moves_before : Held-Entry-before → List r.Move
+  moves_before None' = []
+  moves_before (Some' p e) = moves_to e
+
+abbrev pub moves_of : Option (Bor Entry) → List r.Move
+moves_of None = []
+moves_of (Some e) = moves_to e.now
+
+abbrev pub state_of : Thread → u.Place → r.State
+state_of t p = r.at (items_of t.items.now) (frames_of t.frames.items) p
+
+-- the moves up to and with the last one, whether it takes something, whether that is a fragment, and the state after it
+abbrev pub Made : Type 0
+Made = List r.Move × Bool × Bool × r.State
+
+abbrev pub is_some_taken : Option Taken → Bool
+is_some_taken None = false
+is_some_taken (Some t) = true
+
+abbrev pub is_trees : Option Taken → Bool
+is_trees (Some (takes_trees n)) = true
+is_trees _ = false
+
+abbrev pub made_of : u.Place → Choice → Made
+made_of p c = (moves_of c.thread.moves, is_some_taken c.taken, is_trees c.taken, state_of c.thread (place_after p c.taken))
+
+abbrev pub given : u.Place → Option Choice → List Made
+given p None = []
+given p (Some c) = made_of p c ∷ []
+
+abbrev pub extended : List r.Move → r.Choice → Made
+extended ms d = (ms ++ (d.0 ∷ []), r.takes d.0, r.is_fragment d.0, d.1)
+
+abbrev pub Waits : Type 0
+Waits = w.Waiting r.Move r.State
+
+-- the waiting paths that a choice leads to
+abbrev pub contributes : Grammar → Made → List Waits
+contributes g m = elim m.1 [ true ↦ w.pending m.0 m.2 m.3 ∷ [] | false ↦ map (w.prefixed m.0) (w.settled_at g m.3) ]
+
+abbrev pub waiting_of : u.Place → Waiting → Waits
+waiting_of p (Ended ms) = w.ended (moves_of ms)
+waiting_of p (Pending t k) = w.pending (moves_of t.moves) (is_trees (Some k)) (state_of t (place_after p (Some k)))
+
+abbrev pub waits : u.Place → List Waiting → List Waits
+waits p xs = map (waiting_of p) xs
+
+abbrev pub IsGood : r.State → Type 0
+IsGood s = (N : ℕ) × w.Good N s
+
+-- a choice whose move takes nothing leads to a good state
+abbrev pub IsVisited : u.Place → Option Choice → Type 0
+IsVisited p None = Unit {0}
+IsVisited p (Some c) = is_some_taken c.taken ≡ false → IsGood (state_of c.thread p)
+
+-- bounds what a choice leaves to do
+abbrev pub measure_of : u.Place → Option Choice → ℕ
+measure_of p None = 0
+measure_of p (Some c) = if is_some_taken c.taken then 0 else 2 * w.empties_at (state_of c.thread p) + 2
+
+-- the same where each move leads to the place p
+abbrev pub waiting_at : u.Place → Waiting → Waits
+waiting_at p (Ended ms) = w.ended (moves_of ms)
+waiting_at p (Pending t k) = w.pending (moves_of t.moves) (is_trees (Some k)) (state_of t p)
+
+abbrev pub waits_at : u.Place → List Waiting → List Waits
+waits_at p xs = map (waiting_at p) xs
+
+-- whether its last move takes a fragment
+abbrev pub takings_of : Waiting → List Bool
+takings_of (Ended ms) = []
+takings_of (Pending t k) = is_trees (Some k) ∷ []
+
+abbrev pub IsGoodAt : Waits → Type 0
+IsGoodAt (w.ended ms) = Unit {0}
+IsGoodAt (w.pending ms b s) = IsGood s
+
+-- what the first waiting path takes
+abbrev pub head_taken : List Waiting → Option Taken
+head_taken [] = None
+head_taken (Ended ms ∷ ws) = head_taken ws
+head_taken (Pending t k ∷ ws) = Some k

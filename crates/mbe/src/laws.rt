@@ -1,0 +1,36 @@
+//! Laws of the definitions, for proofs above this crate. A call does nothing: it only states.
+ghost use Rattle.std.specs.Prelude.{◌≡◌, ℕ, Bool, List, Option, option_map, map};
+ghost use Rattle.tt_data.specs.Forest.{Forest, map_spans};
+ghost use Rattle.tt_data.specs.declared.edition.Edition.{Edition};
+ghost use Rattle.tt_data.specs.declared.span.Span.{Span};
+ghost use Rattle.tt_data.specs.declared.span.SyntaxContext.{SyntaxContext};
+ghost use Rattle.mbe_rules.specs.Items.{Rule};
+ghost use Rattle.mbe_rules.specs.Parsing.{macro_rules_of, macro_of};
+ghost use Rattle.mbe_rules.specs.Relabelling.{rule_with};
+ghost use Rattle.mbe_rules.specs.declared.macro_call_style.MacroCallStyle.{MacroCallStyle};
+ghost use Rattle.mbe.specs.Fit.{fit, fit_with};
+ghost use Rattle.mbe.specs.Grammar.{Grammar};
+
+use mbe_rules::macro_call_style::MacroCallStyle;
+use tt_data::edition::Edition;
+use tt_data::span::{Span, SyntaxContext};
+
+/// Where the places of rules and of an argument change by a function that commutes with the marker,
+/// the same rule fits, and what it gives changes in its places alone. So it is of definitions, where
+/// no place comes into another edition.
+pub fn fit_at_other_places()
+    ensures rules { (f : Span → Span) (is_identifier : List ℕ → Bool) (grammar : Grammar) (mark : Span → Span) →
+        ((s : Span) → f (mark s) ≡ mark (f s)) → (list : List Rule) (style : MacroCallStyle) (argument : Forest) →
+        fit is_identifier grammar mark (map (rule_with f) list) style (map_spans f argument)
+        ≡ fit_with f (fit is_identifier grammar mark list style argument) }
+    ensures macro_rules { (f : Span → Span) (is_identifier : List ℕ → Bool) (grammar : Grammar) (mark : Span → Span) →
+        ((s : Span) → f (mark s) ≡ mark (f s)) → (edition : SyntaxContext → Edition) → ((s : Span) → edition (f s).ctx ≡ edition s.ctx) →
+        (body : Forest) (style : MacroCallStyle) (argument : Forest) →
+        fit is_identifier grammar mark (macro_rules_of edition (map_spans f body)).list style (map_spans f argument)
+        ≡ fit_with f (fit is_identifier grammar mark (macro_rules_of edition body).list style argument) }
+    ensures macros { (f : Span → Span) (is_identifier : List ℕ → Bool) (grammar : Grammar) (mark : Span → Span) →
+        ((s : Span) → f (mark s) ≡ mark (f s)) → (edition : SyntaxContext → Edition) → ((s : Span) → edition (f s).ctx ≡ edition s.ctx) →
+        (arguments : Option Forest) (body : Forest) (style : MacroCallStyle) (argument : Forest) →
+        fit is_identifier grammar mark (macro_of edition (option_map (map_spans f) arguments) (map_spans f body)).list style (map_spans f argument)
+        ≡ fit_with f (fit is_identifier grammar mark (macro_of edition arguments body).list style argument) }
+{}

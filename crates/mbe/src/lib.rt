@@ -1,0 +1,10 @@
+//! Macros by example: which rule of a definition fits an argument.
+#![tactic(auto)]
+
+pub mod fragment;
+mod glued;
+pub mod laws;
+pub mod matcher;
+mod place;
+
+pub use fragment_grammar::{FragmentGrammar, Prefix, PrefixEntryPoint};

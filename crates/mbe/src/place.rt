@@ -1,0 +1,427 @@
+//! Places of an argument, what stands there, and what is taken there.
+ghost use Rattle.std.specs.Prelude.{◌≡◌, IfOk, Some, option_map, nat_le, if◌then◌else◌, ◌-◌, suc, ◌++◌, ◌+◌};
+ghost use Rattle.tt.specs.Views.{forest};
+ghost use Rattle.tt_data.specs.Forest.{shape};
+ghost use Rattle.mbe_rules.specs.Ops.{separator_of};
+ghost use Rattle.mbe_rules.specs.Text.{same_text, is_truth};
+ghost use Rattle.mbe_rules.specs.Trees.{before, past, characters};
+ghost use Rattle.mbe.specs.Fragments.{taken, ident_trees, lifetime_trees, unsigned_trees, literal_trees, tree_trees, is_refused, is_refused_2021};
+ghost use Rattle.mbe.specs.Grammar.{asked, reach};
+ghost use Rattle.mbe.specs.Units as u;
+ghost use Rattle.mbe.specs.Units.{same_unit, a_name, a_literal, glued, a_lifetime, opening, closing, first_characters, is_separator, unit_at, unit_trees};
+ghost use Rattle.mbe.specs.Places.{place_of, place_after, quoted_name, is_named_truth, left_after};
+
+use crate::glued::{again, glued_count};
+use fragment_grammar::{FragmentGrammar, PrefixEntryPoint, steps};
+use mbe_rules::{MetaVarKind, Separator};
+use std::alloc::AllocError;
+use symbols::Symbol;
+use tt::{DelimiterKind, Leaf, Literal, Punct, TokenTreesView, TtElement, TtIter};
+
+// A place in the argument: the trees left in the innermost open group, and those after each open group.
+#[derive(Drop)]
+pub(crate) struct Place<'a> {
+    pub(crate) rest: TtIter<'a>,
+    pub(crate) outer: Vec<TtIter<'a>>,
+}
+
+// What a move takes.
+#[derive(Clone, Copy, Drop)]
+pub(crate) enum Taken {
+    Unit,
+    // A fragment of so many trees.
+    Fragment(usize),
+}
+
+// The trees after the first ones.
+pub(crate) fn past<'a>(trees: &TtIter<'a>, count: usize) -> TtIter<'a>
+    ensures { result ≡ past count trees.now }
+{
+    let mut rest = again(trees);
+    let mut left = count;
+    while left > 0 {
+        let _tree = rest.next();
+        left -= 1;
+    }
+    rest
+}
+
+// The first trees.
+pub(crate) fn before<'a>(trees: &TtIter<'a>, count: usize) -> TokenTreesView<'a>
+    ensures { forest result ≡ before count trees.now }
+{
+    let rest = past(trees, count);
+    rest.passed_since(trees.remaining())
+}
+
+// The name behind a quote at the head of a list.
+fn quoted(trees: &TtIter<'_>) -> Option<Symbol>
+    ensures { result ≡ quoted_name trees.now }
+{
+    let mut rest = again(trees);
+    let Some(TtElement::Leaf(Leaf::Punct(quote))) = rest.next() else {
+        return None;
+    };
+    if quote.char != '\'' {
+        return None;
+    }
+    match rest.next() {
+        Some(TtElement::Leaf(Leaf::Ident(name))) => Some(name.sym),
+        _ => None,
+    }
+}
+
+// Whether the first trees, as far as they are puncts, have the characters of these.
+#[tactic(auto, using(crate::proofs::PlaceLemmas::no_punct, crate::proofs::PlaceLemmas::a_punct))]
+fn same_puncts(puncts: &[Punct], trees: &TtIter<'_>, count: usize) -> bool
+    ensures { result ≡ same_text (characters puncts.now) (first_characters count trees.now) }
+{
+    let Some((punct, more)) = puncts.split_first() else {
+        return count == 0 || trees.first_punct().is_none();
+    };
+    if count == 0 {
+        return false;
+    }
+    let Some((here, rest)) = trees.first_punct() else {
+        return false;
+    };
+    if punct.char != here.char {
+        return false;
+    }
+    same_puncts(more, &rest, count - 1)
+}
+
+impl<'a> Place<'a> {
+    pub(crate) fn is_end(&self) -> bool
+        ensures { result ≡ u.is_end (place_of self.now) }
+    {
+        if !self.rest.is_empty() {
+            return false;
+        }
+        self.outer.is_empty()
+    }
+
+    pub(crate) fn is_closing(&self) -> bool
+        ensures { result ≡ same_unit closing (unit_at (place_of self.now)) }
+    {
+        if !self.rest.is_empty() {
+            return false;
+        }
+        !self.outer.is_empty()
+    }
+
+    pub(crate) fn is_opening(&self, kind: DelimiterKind) -> bool
+        ensures { result ≡ same_unit (opening kind) (unit_at (place_of self.now)) }
+    {
+        match self.rest.peek() {
+            Some(TtElement::Subtree(subtree, _)) => subtree.delimiter.kind == kind,
+            _ => false,
+        }
+    }
+
+    pub(crate) fn is_name(&self, name: &Symbol) -> bool
+        ensures { result ≡ same_unit (a_name name.now) (unit_at (place_of self.now)) }
+    {
+        match self.rest.peek() {
+            Some(TtElement::Leaf(Leaf::Ident(here))) => name.as_str() == here.sym.as_str(),
+            _ => false,
+        }
+    }
+
+    pub(crate) fn is_literal(&self, literal: &Literal) -> bool
+        ensures { result ≡ same_unit (a_literal literal.now.text literal.now.suffix) (unit_at (place_of self.now)) }
+    {
+        match self.rest.peek() {
+            Some(TtElement::Leaf(Leaf::Literal(here))) => {
+                literal.text() == here.text() && literal.suffix() == here.suffix()
+            }
+            _ => false,
+        }
+    }
+
+    pub(crate) fn is_lifetime(&self, name: &Symbol) -> bool
+        ensures { result ≡ same_unit (a_lifetime name.now) (unit_at (place_of self.now)) }
+    {
+        match quoted(&self.rest) {
+            Some(here) => name.as_str() == here.as_str(),
+            None => false,
+        }
+    }
+
+    pub(crate) fn is_puncts(&self, puncts: &[Punct]) -> bool
+        ensures { result ≡ same_unit (glued (characters puncts.now)) (unit_at (place_of self.now)) }
+    {
+        if let Some(_name) = quoted(&self.rest) {
+            return false;
+        }
+        let Some(TtElement::Leaf(Leaf::Punct(_))) = self.rest.peek() else {
+            return false;
+        };
+        let count = glued_count(&self.rest);
+        same_puncts(puncts, &self.rest, count)
+    }
+
+    // Whether a literal without suffix is the name here, which is `true` or `false`.
+    fn is_truth(&self, literal: &Literal) -> bool
+        ensures { result ≡ is_named_truth literal.now.text literal.now.suffix (unit_at (place_of self.now)) }
+    {
+        match self.rest.peek() {
+            Some(TtElement::Leaf(Leaf::Ident(here))) => {
+                let name = here.sym.as_str();
+                literal.suffix().is_empty()
+                    && literal.text() == name
+                    && (name == "true" || name == "false")
+            }
+            _ => false,
+        }
+    }
+
+    pub(crate) fn is_between(&self, separator: &Separator) -> bool
+        ensures { result ≡ is_separator (separator_of separator.now) (unit_at (place_of self.now)) }
+    {
+        match separator {
+            Separator::Literal(literal) => self.is_truth(literal) || self.is_literal(literal),
+            Separator::Ident(ident) => self.is_name(&ident.sym),
+            Separator::Lifetime(_, ident) => self.is_lifetime(&ident.sym),
+            Separator::Puncts(puncts) => self.is_puncts(puncts),
+        }
+    }
+
+    /// The place after a move.
+    pub(crate) fn after(self, taken: Taken) -> Result<Place<'a>, AllocError>
+        ensures { IfOk result (λ p. place_of p ≡ place_after (place_of self.entry) (Some taken)) }
+    {
+        let mut outer = self.outer;
+        let mut rest = self.rest;
+        match taken {
+            Taken::Fragment(count) => {
+                let rest = past(&rest, count);
+                Ok(Place { rest, outer })
+            }
+            Taken::Unit => match rest.peek() {
+                None => match outer.pop() {
+                    None => Ok(Place { rest, outer }),
+                    Some(rest) => Ok(Place { rest, outer }),
+                },
+                Some(TtElement::Leaf(_leaf)) => {
+                    let count = unit_trees(&rest);
+                    let rest = past(&rest, count);
+                    Ok(Place { rest, outer })
+                }
+                Some(TtElement::Subtree(_subtree, inner)) => {
+                    let more = past(&rest, 1);
+                    outer.push(more)?;
+                    Ok(Place { rest: inner, outer })
+                }
+            },
+        }
+    }
+}
+
+// How many trees the unit has at the head of a list.
+fn unit_trees(trees: &TtIter<'_>) -> usize
+    ensures { result ≡ unit_trees trees.now }
+{
+    if let Some(_name) = quoted(trees) {
+        return 2;
+    }
+    let count = glued_count(trees);
+    if count == 0 { 1 } else { count }
+}
+
+fn ident_trees(trees: &TtIter<'_>) -> Option<usize>
+    ensures { result ≡ ident_trees trees.now }
+{
+    match trees.peek() {
+        Some(TtElement::Leaf(Leaf::Ident(name))) => {
+            if name.sym.as_str() == "_" {
+                return None;
+            }
+            Some(1)
+        }
+        _ => None,
+    }
+}
+
+fn lifetime_trees(trees: &TtIter<'_>) -> Option<usize>
+    ensures { result ≡ lifetime_trees trees.now }
+{
+    match quoted(trees) {
+        Some(_name) => Some(2),
+        None => None,
+    }
+}
+
+fn unsigned_trees(trees: &TtIter<'_>) -> Option<usize>
+    ensures { result ≡ unsigned_trees trees.now }
+{
+    match trees.peek() {
+        Some(TtElement::Leaf(Leaf::Literal(_))) => Some(1),
+        Some(TtElement::Leaf(Leaf::Ident(name))) => {
+            let name = name.sym.as_str();
+            if name == "true" || name == "false" {
+                return Some(1);
+            }
+            None
+        }
+        _ => None,
+    }
+}
+
+fn literal_trees(trees: &TtIter<'_>) -> Option<usize>
+    ensures { result ≡ literal_trees trees.now }
+{
+    let mut rest = again(trees);
+    let Some(TtElement::Leaf(Leaf::Punct(minus))) = rest.next() else {
+        return unsigned_trees(trees);
+    };
+    if minus.char != '-' {
+        return None;
+    }
+    match unsigned_trees(&rest) {
+        Some(_) => Some(2),
+        None => None,
+    }
+}
+
+fn tree_trees(trees: &TtIter<'_>) -> Option<usize>
+    ensures { result ≡ tree_trees trees.now }
+{
+    match trees.peek() {
+        None => None,
+        Some(TtElement::Leaf(Leaf::Punct(punct))) => {
+            if punct.char == '\'' {
+                return lifetime_trees(trees);
+            }
+            Some(glued_count(trees))
+        }
+        _ => Some(1),
+    }
+}
+
+fn is_refused(trees: &TtIter<'_>) -> bool
+    ensures { result ≡ is_refused trees.now }
+{
+    match trees.peek() {
+        Some(TtElement::Leaf(Leaf::Ident(name))) => name.sym.as_str() == "let",
+        _ => false,
+    }
+}
+
+fn is_refused_2021(trees: &TtIter<'_>) -> bool
+    ensures { result ≡ is_refused_2021 trees.now }
+{
+    match trees.peek() {
+        Some(TtElement::Leaf(Leaf::Ident(name))) => {
+            let word = name.sym.as_str();
+            if word == "let" {
+                return true;
+            }
+            if name.is_raw.yes() {
+                return false;
+            }
+            word == "_" || word == "const"
+        }
+        _ => false,
+    }
+}
+
+// What is left of a number after the steps of a tree: none where it is less.
+fn without_tree(tree: &TtElement<'_>, number: usize) -> Option<usize>
+    ensures { result ≡ left_after tree.now number }
+{
+    match tree {
+        TtElement::Leaf(_) => {
+            if number == 0 {
+                return None;
+            }
+            Some(number - 1)
+        }
+        TtElement::Subtree(_, inner) => {
+            let inside = steps(inner.remaining());
+            if number < 2 {
+                return None;
+            }
+            if number - 2 < inside {
+                return None;
+            }
+            Some(number - 2 - inside)
+        }
+    }
+}
+
+// How many trees the first steps of a list reach, and whether these stop inside the last of them.
+pub(crate) fn reached(trees: &TtIter<'_>, number: usize) -> (usize, bool)
+    ensures { result ≡ reach trees.now number }
+{
+    let mut rest = again(trees);
+    let mut left = number;
+    let mut count = 0;
+    while left > 0 {
+        let Some(tree) = rest.next() else {
+            return (count, true);
+        };
+        let Some(after) = without_tree(&tree, left) else {
+            return (count + 1, true);
+        };
+        left = after;
+        count += 1;
+    }
+    (count, false)
+}
+
+// How many trees the grammar takes at the head of a list, if any.
+fn asked<G: FragmentGrammar>(
+    grammar: &G,
+    entry: PrefixEntryPoint,
+    trees: &TtIter<'_>,
+) -> Option<usize>
+    ensures { result ≡ asked (G.answer grammar.now) entry trees.now }
+{
+    let prefix = grammar.prefix(entry, trees.remaining());
+    if prefix.fault {
+        return None;
+    }
+    let (count, is_inside) = reached(trees, prefix.tokens);
+    if is_inside {
+        return None;
+    }
+    Some(count)
+}
+
+/// How many trees a variable of a kind takes at the head of a list, if any.
+pub(crate) fn fragment_trees<G: FragmentGrammar>(
+    grammar: &G,
+    kind: MetaVarKind,
+    trees: &TtIter<'_>,
+) -> Option<usize>
+    ensures { result ≡ taken (G.answer grammar.now) kind trees.now }
+{
+    match kind {
+        MetaVarKind::Ident => ident_trees(trees),
+        MetaVarKind::Tt => tree_trees(trees),
+        MetaVarKind::Lifetime => lifetime_trees(trees),
+        MetaVarKind::Literal => literal_trees(trees),
+        MetaVarKind::Expr => {
+            if is_refused(trees) {
+                return None;
+            }
+            asked(grammar, PrefixEntryPoint::Expr, trees)
+        }
+        MetaVarKind::Expr2021 => {
+            if is_refused_2021(trees) {
+                return None;
+            }
+            asked(grammar, PrefixEntryPoint::Expr, trees)
+        }
+        MetaVarKind::Path => asked(grammar, PrefixEntryPoint::Path, trees),
+        MetaVarKind::Ty => asked(grammar, PrefixEntryPoint::Ty, trees),
+        MetaVarKind::Pat => asked(grammar, PrefixEntryPoint::PatTop, trees),
+        MetaVarKind::PatParam => asked(grammar, PrefixEntryPoint::Pat, trees),
+        MetaVarKind::Stmt => asked(grammar, PrefixEntryPoint::Stmt, trees),
+        MetaVarKind::Block => asked(grammar, PrefixEntryPoint::Block, trees),
+        MetaVarKind::Meta => asked(grammar, PrefixEntryPoint::MetaItem, trees),
+        MetaVarKind::Item => asked(grammar, PrefixEntryPoint::Item, trees),
+        MetaVarKind::Vis => asked(grammar, PrefixEntryPoint::Vis, trees),
+    }
+}
