@@ -77,6 +77,12 @@ walk_room at new to old fresh left place boundary met w l = by_left (drop met ol
     by_left [] e = absurd (let none : total (drop met old) ≡ 0 = ap total e in omega (arith, none, w.ends))
     by_left (t ∷ ts) e = (let some : length (drop met old) ≡ suc (length ts) = ap length e in omega (arith, some, length-drop met old))
 
+-- before the boundary a token is left
+pub walk_left : (at : ℕ) (new : List Token) (to : ℕ) (old fresh left : List Token) (place boundary met : ℕ) →
+    Walks at new to old fresh left place boundary met → place < boundary → 0 < length left
+walk_left at new to old fresh [] place boundary met w l = absurd (omega (arith, l, w.ends))
+walk_left at new to old fresh (t ∷ ts) place boundary met w l = omega arith
+
 -- where the boundaries meet
 pub walk_ends : (at : ℕ) (new : List Token) (to : ℕ) (old fresh left : List Token) (place boundary met : ℕ) →
     Walks at new to old fresh left place boundary met → place ≡ boundary →

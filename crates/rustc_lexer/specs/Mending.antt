@@ -1,5 +1,5 @@
 -- How the tokens of an edited text are mended.
-use Rattle.std.specs.Prelude.{◌≡◌, ◌==◌, ◌<◌, ◌≤◌, ◌+◌, ◌-◌, ◌^◌, ℕ, true, nat_le, List, sum_by, length, take, drop, chars, if◌then◌else◌}
+use Rattle.std.specs.Prelude.{◌≡◌, ◌==◌, ◌<◌, ◌≤◌, ◌+◌, ◌-◌, ◌^◌, ℕ, true, nat_le, List, [], ◌∷◌, ◌++◌, sum_by, length, take, drop, chars, if◌then◌else◌}
 use Rattle.std.specs.List.{position_or_len, list_any, splice}
 use Rattle.rustc_lexer.specs.Edit.{boundaries_from, front_of, is_clear_of, moves_to}
 use Rattle.rustc_lexer.specs.Lexing.{tokens_of}
@@ -15,6 +15,10 @@ total ts = sum_by (λ t. t.len) ts
 -- begin at `to`
 unfoldable pub count_to_meeting : ℕ → List Token → ℕ → List Token → ℕ
 count_to_meeting at new to old = position_or_len (λ place. list_any (λ b. b == place) (boundaries_from to old)) (boundaries_from at new)
+
+-- the first of the tokens that were left stands behind the fresh ones, and takes so many bytes
+abbrev pub LexesOne : List Token → List Token → List Token → List Token → ℕ → Type 0
+LexesOne old new fresh more len = (t : Token) × (old ≡ t ∷ new) × (more ≡ fresh ++ t ∷ []) × (len ≡ t.len)
 
 -- the tokens of the text from `at` on, up to the first boundary that is one of the old tokens' too, which begin at `to`
 abbrev pub lexed_again : List ℕ → ℕ → ℕ → List Token → List Token

@@ -1,7 +1,7 @@
 -- The first lexeme of a text, by its first character.
 use Rattle.std.specs.Prelude.{ℕ, ◌||◌, ◌&&◌, List, if◌then◌else◌}
-use Rattle.rustc_lexer.specs.Character.{char_at, begins, is, is_id_start}
-use Rattle.rustc_lexer.specs.Lexeme.{Lexeme, lexeme_of, quoted, string, raw_string, is_prefix_mark, marked_word, plain_word, begins_guarded, quote, one_char_kind}
+use Rattle.rustc_lexer.specs.Character.{char_at, begins, is, is_whitespace, is_id_start, is_digit}
+use Rattle.rustc_lexer.specs.Lexeme.{Lexeme, lexeme_of, quoted, string, raw_string, is_prefix_mark, marked_word, plain_word, begins_guarded, quote, one_char_kind, white_space, word, numeral}
 use Rattle.rustc_lexer.specs.declared.token.LiteralKind.TheVariants.{Byte, Str, ByteStr, CStr, RawStr, RawByteStr, RawCStr}
 use Rattle.rustc_lexer.specs.declared.token.TokenKind.{TokenKind}
 use Rattle.rustc_lexer.specs.declared.token.TokenKind.TheVariants.{Ident, RawIdent, ForcedKeywordIdent, UnknownPrefix, GuardedStrPrefix}
@@ -43,3 +43,11 @@ sign cs =
     else if is "'" (char_at cs 0) then quote cs
     else if is "\"" (char_at cs 0) then string Str 1 cs
     else lexeme_of (one_char_kind (char_at cs 0)) 1
+
+-- what begins no comment
+abbrev pub uncommented : List ℕ → Lexeme
+uncommented cs =
+    if is_whitespace (char_at cs 0) then white_space cs
+    else if is_id_start (char_at cs 0) then word cs
+    else if is_digit (char_at cs 0) then numeral cs
+    else sign cs

@@ -2,7 +2,7 @@
 ghost use Rattle.std.specs.Prelude.{◌≡◌, ◌<◌, ◌^◌, length, chars, IsUtf8};
 ghost use Rattle.rustc_lexer.specs.Lexeme.{lexeme, string, one_char_kind, begins_guarded, numeral, white_space};
 ghost use Rattle.rustc_lexer.specs.Stretch.{IsRead};
-ghost use Rattle.rustc_lexer.specs.Words.{sign};
+ghost use Rattle.rustc_lexer.specs.Words.{sign, uncommented};
 ghost use Rattle.rustc_lexer.specs.declared.token.LiteralKind.TheVariants.{Str};
 
 use crate::character::{is_id_start, is_whitespace};
@@ -20,12 +20,23 @@ pub fn first_lexeme(text: &str) -> (TokenKind, &str)
     ensures utf8 { IsUtf8 text.now }
     ensures read { IsRead (lexeme (chars text.now)) text.now result.0 result.1.now }
 {
-    let c = first(text);
     if begins(text, '/', '/') {
         line_comment(text)
     } else if begins(text, '/', '*') {
         block_comment(text)
-    } else if is_whitespace(c) {
+    } else {
+        uncommented(text)
+    }
+}
+
+// What begins no comment.
+#[inline(always)]
+fn uncommented(text: &str) -> (TokenKind, &str)
+    requires { length text.now < 2 ^ 32 }
+    ensures { IsRead (uncommented (chars text.now)) text.now result.0 result.1.now }
+{
+    let c = first(text);
+    if is_whitespace(c) {
         (TokenKind::Whitespace, skip_while::<White>(text))
     } else if is_id_start(c) {
         word(text)

@@ -3,12 +3,14 @@ ghost use Rattle.std.specs.Prelude.{◌≡◌, ◌+◌, ◌-◌, ◌<◌, ◌≤
 ghost use Rattle.std.specs.List.{splice};
 ghost use Rattle.rustc_lexer.specs.Edit.{edited, front_of, is_clear_of, kept};
 ghost use Rattle.rustc_lexer.specs.Lexing.{tokens_of};
-ghost use Rattle.rustc_lexer.specs.Mending.{IsBegun, IsMark, IsMended, IsRelexed, IsScan, count_to_meeting, total};
+ghost use Rattle.rustc_lexer.specs.Mending.{IsBegun, IsMark, IsMended, IsRelexed, IsScan, LexesOne, count_to_meeting, total};
+ghost use Rattle.rustc_lexer.specs.Remaining.{tokens_left};
 
 use crate::clear::is_clear;
 use crate::marks::{Mark, Mended, first_from};
 use crate::token::{FrontmatterAllowed, Token};
 use crate::tokenize;
+use crate::tokens::Tokens;
 use std::alloc::{AllocError, Global};
 
 // How many tokens of the text end at least two characters before `start`, and where the last of them ends. The walk begins at
@@ -35,6 +37,21 @@ fn front(text: &str, tokens: &[Token], near: Mark, start: usize) -> (usize, usiz
     (tokens.len(), at)
 }
 
+// Puts the next token, of those left, behind the fresh ones, and answers how many bytes it takes.
+fn lex_one(tokens: &mut Tokens<'_>, fresh: &mut Vec<Token>) -> Result<usize, AllocError>
+    requires { 0 < length (tokens_left tokens.old) }
+    ensures lexed { IfOk result (λ len. LexesOne (tokens_left tokens.old) (tokens_left tokens.new) fresh.old.items fresh.new.items len) }
+    ensures short { IfOk result (λ len. len < 2 ^ 32) }
+{
+    match tokens.next() {
+        Some(token) => {
+            fresh.push(token)?;
+            Ok(token.len as usize)
+        }
+        None => unreachable!(),
+    }
+}
+
 // The tokens of the text, which begins at `at`, up to the first boundary that is one of the old tokens' too, of which the
 // first begins at `to`; how many old tokens lie in front of this boundary; and the boundary.
 fn relex(
@@ -58,13 +75,7 @@ fn relex(
     let mut met = 0;
     while place != boundary {
         if place < boundary {
-            match tokens.next() {
-                Some(token) => {
-                    place += token.len as usize;
-                    fresh.push(token)?;
-                }
-                None => unreachable!(),
-            }
+            place += lex_one(&mut tokens, &mut fresh)?;
         } else {
             boundary += old[met].len as usize;
             met += 1;
@@ -157,7 +168,25 @@ fn find(text: &str, tokens: &[Token], near: Mark, start: usize, stop: usize) -> 
     }
 }
 
-// Puts the replacement in the place of the text's bytes, and answers what stood there; the text has room for it.
+// Puts the replacement in the place of the text's bytes, with room for them kept.
+fn put_over(
+    text: &mut String,
+    start: usize,
+    stop: usize,
+    replacement: &str,
+) -> Result<(), AllocError>
+    requires start { IsCharBoundary (string_bytes text.old) start }
+    requires stop { IsCharBoundary (string_bytes text.old) stop }
+    requires order { start ≤ stop }
+    ensures text { OnOk result (string_bytes text.new ≡ edited (string_bytes text.old) start stop replacement.now) }
+    ensures room { OnOk result (string_len text.new + (stop - start) ≤ string_capacity text.new) }
+    ensures err { OnErr result (string_bytes text.new ≡ string_bytes text.old) }
+{
+    text.reserve(replacement.len())?;
+    text.replace_range(start..stop, replacement)
+}
+
+// The same, and answers what stood there, for which the text has room.
 fn replace(
     alloc: Global,
     text: &mut String,
@@ -174,8 +203,7 @@ fn replace(
     ensures err { OnErr result (string_bytes text.new ≡ string_bytes text.old) }
 {
     let gone = String::from_str(alloc, &text[start..stop])?;
-    text.reserve(replacement.len())?;
-    text.replace_range(start..stop, replacement)?;
+    put_over(text, start, stop, replacement)?;
     Ok(gone)
 }
 

@@ -2,7 +2,7 @@ use Rattle.std.proofs.Common.{◌≡◌, ◌<◌, length, chars, arith}
 use Rattle.rustc_lexer.specs.Lexing.{tokens_of}
 use Rattle.rustc_lexer.specs.Mending.{total}
 use Rattle.rustc_lexer.proofs.StandingLemmas.{lengths_whole}
-use Rattle.rustc_lexer.proofs.MeetingLemmas.{walk_begins, walk_new, walk_old, walk_room, walk_ends}
+use Rattle.rustc_lexer.proofs.MeetingLemmas.{walk_begins, walk_left, walk_new, walk_old, walk_room, walk_ends}
 use Rattle.rustc_lexer.proofs.mend.relex.Goals as goal
 
 pub loop-place-init : goal.loop-place-init
@@ -10,9 +10,13 @@ loop-place-init c =
     let whole : total (tokens_of (chars c.args.text.now)) ≡ length c.args.text.now = lengths_whole c.args.text.now c.utf8.text in
     walk_begins _ _ _ _ _ _ (omega (arith, whole, c.requires.same_end)) c.new-fresh.ensures.items c.tokenize-tokens.ensures
 
-pub loop-place-preserved-in-Continue-1 : goal.loop-place-preserved-in-Continue-1
-loop-place-preserved-in-Continue-1 c =
-    walk_new _ _ _ _ _ _ _ _ _ _ _ _ c.loop-place.invariant c.if-place-boundary.true c.in-Some.ensures.steps c.in_ok-push-in-Some.ensures.items
+pub lex_one-requires : goal.lex_one-requires
+lex_one-requires c = walk_left _ _ _ _ _ _ _ _ _ c.loop-place.invariant c.if-place-boundary.true
+
+pub loop-place-preserved-then-place-boundary : goal.loop-place-preserved-then-place-boundary
+loop-place-preserved-then-place-boundary c =
+    let one = c.in_ok-place.ensures.lexed in
+    rw one.3 (walk_new _ _ _ _ _ _ _ _ _ _ _ _ c.loop-place.invariant c.if-place-boundary.true one.1 one.2)
 
 pub loop-place-preserved : goal.loop-place-preserved
 loop-place-preserved c =
