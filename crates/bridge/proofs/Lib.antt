@@ -16,3 +16,6 @@ mod AloneLemmas
 mod SpanLemmas
 mod ShapeLemmas
 mod PieceLemmas
+mod SpellingLemmas
+mod EdgeLemmas
+mod PrintStepLemmas
