@@ -19,3 +19,4 @@ mod PieceLemmas
 mod SpellingLemmas
 mod EdgeLemmas
 mod PrintStepLemmas
+mod OrderLemmas
