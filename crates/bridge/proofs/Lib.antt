@@ -16,3 +16,7 @@ mod AloneLemmas
 mod SpanLemmas
 mod ShapeLemmas
 mod PieceLemmas
+mod SpellingLemmas
+mod EdgeLemmas
+mod PrintStepLemmas
+mod OrderLemmas

@@ -1,13 +1,16 @@
 //! Laws of reading and printing, for proofs. A call does nothing: it only states.
-ghost use Rattle.std.specs.Prelude.{◌≡◌, ◌↔◌, ◌++◌, List, [], ◌∷◌, map, true, false, IsSome, Ok, Err};
+ghost use Rattle.std.specs.Prelude.{◌≡◌, ◌↔◌, ◌++◌, ℕ, IsUtf8, List, [], ◌∷◌, map, true, false, IsSome, Ok, Err};
+ghost use Rattle.bridge.specs.Order.{FollowOneAnother};
+ghost use Rattle.bridge.specs.Pieces.{StandsBehindFirst};
 ghost use Rattle.bridge.specs.Printing.{is_quote, print_of, visible};
 ghost use Rattle.bridge.specs.Reading.{IsFault, IsReading, TextStep, reading, step, with_front};
 ghost use Rattle.bridge.specs.ReadsBack.{PrintsAgain, ReadsBack};
 ghost use Rattle.bridge.specs.declared.fault.ReadFault.{ReadFault};
 ghost use Rattle.bridge.specs.declared.fault.ReadFaultKind.{ReadFaultKind};
-ghost use Rattle.tt_data.specs.Forest.{Forest, map_spans};
+ghost use Rattle.tt_data.specs.Forest.{Forest, joined, map_spans};
 ghost use Rattle.bridge.specs.Spelling.{spelling};
 ghost use Rattle.bridge.specs.Text.{is_visible};
+ghost use Rattle.bridge.specs.TokenSteps.{text_steps};
 ghost use Rattle.tt_data.specs.Walk.{Step, opens, closes, step_with, walk};
 ghost use Rattle.tt_data.specs.declared.delimiter.DelimiterKind.{DelimiterKind};
 ghost use Rattle.tt_data.specs.declared.span.Span.{Span};
@@ -27,6 +30,16 @@ pub fn reading_is_a_relation()
 pub fn reading_behind()
     ensures { (f : Forest) (more : List TextStep) → reading (map step (walk f) ++ more) ≡ with_front f (reading more) }
 {}
+
+/// The tokens of a text follow one another: none starts or ends before one that was met. So do those
+/// of trees that stand side by side in a list of such trees, which may therefore be cut out as a piece.
+pub fn tokens_follow_one_another()
+    ensures text { (text : List ℕ) (f : Forest) → IsUtf8 text → IsReading (text_steps text) f → FollowOneAnother (walk f) }
+    ensures part { (before p after : Forest) → FollowOneAnother (walk (joined before (joined p after))) → FollowOneAnother (walk p) }
+    ensures piece { (p : Forest) → FollowOneAnother (walk p) → StandsBehindFirst p }
+{
+    rustc_lexer::laws::token_lengths();
+}
 
 /// A spelling hangs on no place. That of a quote hangs on the next visible token, and no other on
 /// any token but its own. Visible brackets always have one.

@@ -1,0 +1,48 @@
+-- What a printed token is to its neighbours: all that the text between two of them hangs on.
+use Rattle.std.specs.Prelude.{ℕ, List, [], Bool, true, false, codes, nat_eq, if◌then◌else◌, ◌||◌, ◌&&◌, not}
+use Rattle.tt_data.specs.Walk.{Step, at_leaf, opens, closes}
+use Rattle.tt_data.specs.declared.delimiter.DelimiterKind.{DelimiterKind}
+use Rattle.tt_data.specs.declared.delimiter.DelimiterKind.TheVariants.{Brace}
+use Rattle.tt_data.specs.declared.leaf.Leaf.{Leaf}
+use Rattle.tt_data.specs.declared.leaf.Leaf.TheVariants as as_leaf
+use Rattle.bridge.specs.Text.{char, is_alone}
+use Rattle.bridge.specs.declared.edge.Edge.{Edge}
+use Rattle.bridge.specs.declared.edge.Edge.TheVariants.{Mark, ClosingBrace, Other}
+
+abbrev pub leaf_edge : Leaf → Edge
+leaf_edge (as_leaf.Punct p) = Mark p.char (not (is_alone p.spacing))
+leaf_edge l = Other
+
+abbrev pub closing_edge : DelimiterKind → Edge
+closing_edge Brace = ClosingBrace
+closing_edge kind = Other
+
+abbrev pub edge_of : Step → Edge
+edge_of (at_leaf l) = leaf_edge l
+edge_of (opens kind span) = Other
+edge_of (closes kind span) = closing_edge kind
+
+-- a line ends behind it, outside all groups
+abbrev pub ends_line : Edge → Bool
+ends_line (Mark c joined) = nat_eq c (char ";")
+ends_line ClosingBrace = true
+ends_line Other = false
+
+-- the two characters begin a comment or a guarded string
+abbrev pub is_comment_or_guard : ℕ → ℕ → Bool
+is_comment_or_guard c d =
+    (nat_eq c (char "/") && nat_eq d (char "/")) || (nat_eq c (char "/") && nat_eq d (char "*")) || (nat_eq c (char "#") && nat_eq d (char "#"))
+
+-- nothing stands between two tokens on one line
+abbrev pub are_joined : Edge → Edge → Bool
+are_joined (Mark c joined) (Mark d other) =
+    nat_eq c (char "'") || (joined && (not (nat_eq d (char "'")) && not (is_comment_or_guard c d)))
+are_joined (Mark c joined) next = nat_eq c (char "'")
+are_joined last next = false
+
+-- what stands between two tokens, behind the first of which so many visible groups are open
+abbrev pub gap_between : ℕ → Edge → Edge → List ℕ
+gap_between depth last next =
+    if nat_eq depth 0 && ends_line last then codes "\n"
+    else if are_joined last next then []
+    else codes " "

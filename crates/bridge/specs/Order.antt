@@ -1,0 +1,15 @@
+-- Tokens that follow one another in a text: none is before one that was met.
+use Rattle.std.specs.Prelude.{ℕ, List, [], ◌∷◌}
+use Rattle.tt_data.specs.Walk.{Step}
+use Rattle.bridge.specs.Pieces.{IsFrom}
+use Rattle.bridge.specs.Printing.{step_span}
+
+-- none of these steps starts or ends before n
+abbrev pub AreFrom : ℕ → List Step → Type 0
+AreFrom n [] = Unit {0}
+AreFrom n (s ∷ more) = IsFrom n (step_span s) × AreFrom n more
+
+-- none starts or ends before the start of one that was met
+abbrev pub FollowOneAnother : List Step → Type 0
+FollowOneAnother [] = Unit {0}
+FollowOneAnother (s ∷ more) = IsFrom (step_span s).range.start (step_span s) × AreFrom (step_span s).range.start more × FollowOneAnother more

@@ -1,0 +1,7 @@
+-- What a printer answers, as the definition of printed text has it.
+use Rattle.std.specs.Prelude.{string_bytes}
+use Rattle.bridge.specs.Printing.{Print}
+use Rattle.bridge.specs.declared.printing.Printed.{Printed}
+
+abbrev pub print_in : Printed → Print
+print_in p = record { text = string_bytes p.text; tokens = p.tokens.items; left_out = p.left_out.items }

@@ -1,0 +1,76 @@
+// What stands between two printed tokens.
+ghost use Rattle.std.specs.Prelude.{◌≡◌};
+ghost use Rattle.bridge.specs.Edges.{are_joined, closing_edge, ends_line, gap_between, is_comment_or_guard, leaf_edge};
+
+use tt_data::delimiter::DelimiterKind;
+use tt_data::leaf::{Leaf, Spacing};
+
+/// What a printed token is to the one before it and to the one behind it.
+#[derive(Clone, Copy)]
+pub(crate) enum Edge {
+    /// A punct of this character, and whether it isn't `Alone`.
+    Mark(char, bool),
+    ClosingBrace,
+    Other,
+}
+
+pub(crate) fn leaf_edge(leaf: &Leaf) -> Edge
+    ensures { result ≡ leaf_edge leaf.now }
+{
+    match leaf {
+        Leaf::Punct(punct) => Edge::Mark(punct.char, punct.spacing != Spacing::Alone),
+        _ => Edge::Other,
+    }
+}
+
+pub(crate) fn closing_edge(kind: DelimiterKind) -> Edge
+    ensures { result ≡ closing_edge kind }
+{
+    match kind {
+        DelimiterKind::Brace => Edge::ClosingBrace,
+        _ => Edge::Other,
+    }
+}
+
+// Whether a line ends behind the token, outside all groups.
+fn ends_line(edge: Edge) -> bool
+    ensures { result ≡ ends_line edge }
+{
+    match edge {
+        Edge::Mark(char, _) => char == ';',
+        Edge::ClosingBrace => true,
+        Edge::Other => false,
+    }
+}
+
+// Whether two puncts side by side would begin a comment or a guarded string.
+fn is_comment_or_guard(first: char, second: char) -> bool
+    ensures { result ≡ is_comment_or_guard first second }
+{
+    (first == '/' && second == '/')
+        || (first == '/' && second == '*')
+        || (first == '#' && second == '#')
+}
+
+// Whether nothing stands between two tokens on one line.
+fn are_joined(last: Edge, next: Edge) -> bool
+    ensures { result ≡ are_joined last next }
+{
+    match (last, next) {
+        (Edge::Mark(first, is_joined), Edge::Mark(second, _)) => {
+            first == '\'' || (is_joined && (second != '\'' && !is_comment_or_guard(first, second)))
+        }
+        (Edge::Mark(first, _), _) => first == '\'',
+        _ => false,
+    }
+}
+
+/// What stands between two tokens, behind the first of which so many groups are open.
+pub(crate) fn gap_between(depth: usize, last: Edge, next: Edge) -> &'static str
+    ensures { result.now ≡ gap_between depth last next }
+{
+    if depth == 0 && ends_line(last) {
+        return "\n";
+    }
+    if are_joined(last, next) { "" } else { " " }
+}

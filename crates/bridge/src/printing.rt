@@ -1,0 +1,97 @@
+//! Printing: trees as text that reads back.
+ghost use Rattle.std.specs.Prelude.{◌≡◌, ◌++◌, [], List, OnOk, OnErr, IfOk, IfErr, IsOkUnless};
+ghost use Rattle.bridge.specs.Printing.{print_of};
+ghost use Rattle.tt_data.specs.Walk.{Step, walk};
+ghost use Rattle.tt.specs.Views.{forest};
+ghost use Rattle.tt_data.specs.fault.TtFault.TheVariants.{Memory};
+
+use crate::output::{Output, end, nothing, restore, save};
+use crate::trees_put::put_trees;
+use std::alloc::Global;
+use std::marker::Model;
+use tt::view::TokenTreesView;
+use tt_data::fault::TtFault;
+use tt_data::span::Span;
+
+/// What is printed of trees.
+#[derive(Drop)]
+pub struct Printed {
+    /// The text, which is read as just the printed tokens.
+    pub text: String,
+    /// The places of the printed tokens, in order.
+    pub tokens: Vec<Span>,
+    /// The numbers, from 0 on among all visible tokens, of those that have no spelling.
+    pub left_out: Vec<usize>,
+}
+
+/// A text under construction: lists of trees are put one after another, and printed as one list.
+///
+/// A call that is refused changes nothing; `Memory` is the only reason.
+#[derive(Drop)]
+pub struct Printer {
+    out: Output,
+}
+
+impl Model for Printer {
+    ghost use Rattle.bridge.specs.Printers.{PrinterState};
+
+    ghost Value = { PrinterState };
+
+    ghost use Rattle.bridge.specs.Outputs.{Fits, state_of};
+
+    ghost view = { λ p. state_of p.out };
+
+    ghost invariant = { λ p. Fits (state_of p.out) };
+}
+
+impl Printer {
+    ghost use Rattle.bridge.specs.Printers.{HasPut};
+    ghost use Rattle.bridge.specs.PrintedTrees.{print_in};
+
+    /// A printer to which nothing was put.
+    pub fn new(alloc: Global) -> Printer
+        ensures { HasPut result [] }
+    {
+        Printer {
+            out: nothing(alloc),
+        }
+    }
+
+    /// Prints these trees behind what was put before. A quote that is last waits for the next call.
+    pub fn put(&mut self, view: TokenTreesView<'_>) -> Result<(), TtFault>
+        ensures ok { OnOk result ((steps : List Step) → HasPut self.old steps → HasPut self.new (steps ++ walk (forest view.entry))) }
+        ensures err { OnErr result (self.new ≡ self.old) }
+        ensures memory { IsOkUnless result Memory }
+    {
+        let alloc = *self.out.tokens.allocator();
+        let before = save(&self.out);
+        match put_trees(alloc, &mut self.out, view) {
+            Ok(()) => Ok(()),
+            Err(fault) => {
+                restore(&mut self.out, before);
+                Err(fault)
+            }
+        }
+    }
+
+    /// The text of all that was put, with the places of its tokens and the numbers of those that are
+    /// left out. A refused call gives the printer back as it was.
+    pub fn finish(self) -> Result<Printed, (Printer, TtFault)>
+        ensures ok { IfOk result (λ p. (steps : List Step) → HasPut self steps → print_in p ≡ print_of steps) }
+        ensures err { IfErr result (λ e. (e.0 ≡ self) × (e.1 ≡ Memory)) }
+    {
+        let mut out = self.out;
+        let before = save(&out);
+        match end(&mut out) {
+            Ok(()) => Ok(Printed {
+                text: out.text,
+                tokens: out.tokens,
+                left_out: out.left_out,
+            }),
+            Err(fault) => {
+                restore(&mut out, before);
+                Err((Printer { out }, fault))
+            }
+        }
+    }
+}

@@ -1,0 +1,165 @@
+// How a leaf is spelled: by its displayed text, where that is one token that is read as the leaf.
+ghost use Rattle.std.specs.Prelude.{◌≡◌, ◌<◌, ◌^◌, List, [], ◌∷◌, Some, None, chars, length, codes, IfOk, IsOkUnless, option_map, string_bytes, if◌then◌else◌};
+ghost use Rattle.bridge.specs.ReadSteps.{MayCut};
+ghost use Rattle.bridge.specs.Reading.{PlacedToken};
+ghost use Rattle.bridge.specs.Spelling.{is_plain_name, is_text_of, is_that_leaf, leaf_spelling, same_form, same_leaf, same_rawness};
+ghost use Rattle.bridge.specs.TokenSteps.{steps_of_sort};
+ghost use Rattle.rustc_lexer.specs.Lexing.{tokens_of};
+ghost use Rattle.tt.specs.TokenLiterals.{IsLiteralToken, literal_in};
+ghost use Rattle.tt_data.specs.Displayed.{displayed_leaf};
+ghost use Rattle.tt_data.specs.fault.TtFault.TheVariants.{Memory};
+ghost use Rattle.tt_data.specs.declared.leaf.Leaf.TheVariants as as_leaf;
+ghost use Rattle.tt_data.specs.declared.span.Span.{Span};
+ghost use Rattle.std.specs.Str.{IsCharBoundary};
+
+use crate::leaves::name_in;
+use crate::sort::{Sort, sort_of};
+use rustc_lexer::{FrontmatterAllowed, Token, tokenize};
+use std::alloc::Global;
+use tt::literals::token_to_literal;
+use tt_data::fault::TtFault;
+use tt_data::leaf::{Ident, IdentIsRaw, Leaf, LitKind, Literal};
+use tt_data::symbol::Symbol;
+
+// Whether two literals are of one form. What is no literal has none.
+fn are_of_one_form(first: LitKind, second: LitKind) -> bool
+    ensures { result ≡ same_form first second }
+{
+    match (first, second) {
+        (LitKind::Byte, LitKind::Byte) => true,
+        (LitKind::Char, LitKind::Char) => true,
+        (LitKind::Integer, LitKind::Integer) => true,
+        (LitKind::Float, LitKind::Float) => true,
+        (LitKind::Str, LitKind::Str) => true,
+        (LitKind::ByteStr, LitKind::ByteStr) => true,
+        (LitKind::CStr, LitKind::CStr) => true,
+        (LitKind::StrRaw(m), LitKind::StrRaw(n)) => m == n,
+        (LitKind::ByteStrRaw(m), LitKind::ByteStrRaw(n)) => m == n,
+        (LitKind::CStrRaw(m), LitKind::CStrRaw(n)) => m == n,
+        _ => false,
+    }
+}
+
+// Whether both names are raw, or neither.
+fn are_alike_raw(first: IdentIsRaw, second: IdentIsRaw) -> bool
+    ensures { result ≡ same_rawness first second }
+{
+    match first {
+        IdentIsRaw::No => second.no(),
+        IdentIsRaw::Yes => second.yes(),
+    }
+}
+
+// Whether the literal is the one that the whole token is.
+fn is_literal(
+    alloc: Global,
+    literal: &Literal,
+    form: LitKind,
+    suffix_start: u32,
+    text: &str,
+) -> Result<bool, TtFault>
+    requires short { length text.now < 2 ^ 32 }
+    requires boundary { IsCharBoundary text.now suffix_start }
+    requires token { IsLiteralToken form suffix_start text.now }
+    ensures is { IfOk result (λ b. (span : Span) → b ≡ same_leaf (as_leaf.Literal literal.now) (as_leaf.Literal (literal_in form suffix_start text.now span))) }
+    ensures memory { IsOkUnless result Memory }
+{
+    let read = token_to_literal(alloc, text, literal.span(), form, suffix_start)?;
+    Ok(
+        are_of_one_form(literal.kind(), form)
+            && literal.text() == read.text()
+            && literal.suffix() == read.suffix(),
+    )
+}
+
+// Whether the leaf is what the whole token is read as, spans and spacing aside.
+fn is_read_as(alloc: Global, leaf: &Leaf, sort: Sort, text: &str) -> Result<bool, TtFault>
+    requires short { length text.now < 2 ^ 32 }
+    requires cut { MayCut sort text.now }
+    ensures is { IfOk result (λ b. (t : PlacedToken) (more : List PlacedToken) →
+        t.text ≡ text.now → b ≡ is_that_leaf leaf.now (steps_of_sort sort t more)) }
+    ensures memory { IsOkUnless result Memory }
+{
+    match (leaf, sort) {
+        (Leaf::Ident(ident), Sort::Name(is_raw)) => {
+            let name = name_in(is_raw, text);
+            Ok(are_alike_raw(ident.is_raw, is_raw) && ident.sym.as_str() == name)
+        }
+        (Leaf::Punct(punct), Sort::Mark(char)) => Ok(punct.char == char),
+        (Leaf::Literal(literal), Sort::Value { form, suffix_start }) => {
+            is_literal(alloc, literal, form, suffix_start, text)
+        }
+        _ => Ok(false),
+    }
+}
+
+// Whether the leaf is what the text is read as, which is this one token.
+fn is_token_of(alloc: Global, leaf: &Leaf, token: Token, text: &str) -> Result<bool, TtFault>
+    requires short { length text.now < 2 ^ 32 }
+    requires one { tokens_of (chars text.now) ≡ token ∷ [] }
+    ensures is { IfOk result (λ b. b ≡ is_text_of leaf.now text.now) }
+    ensures memory { IsOkUnless result Memory }
+{
+    rustc_lexer::laws::tokens_begin();
+    rustc_lexer::laws::next_token();
+    rustc_lexer::laws::token_lengths();
+    rustc_lexer::laws::token_shapes();
+    rustc_lexer::laws::suffix_starts();
+    is_read_as(alloc, leaf, sort_of(token.kind), text)
+}
+
+// Whether the text is one token, which is read as the leaf.
+fn is_text_of(alloc: Global, leaf: &Leaf, text: &str) -> Result<bool, TtFault>
+    ensures is { IfOk result (λ b. b ≡ is_text_of leaf.now text.now) }
+    ensures memory { IsOkUnless result Memory }
+{
+    if text.len() > u32::MAX as usize {
+        return Ok(false);
+    }
+    let mut tokens = tokenize(text, FrontmatterAllowed::No);
+    let Some(token) = tokens.next() else {
+        return Ok(false);
+    };
+    if tokens.next().is_some() {
+        return Ok(false);
+    }
+    is_token_of(alloc, leaf, token, text)
+}
+
+// The displayed text of the leaf, where it is one token that is read as the leaf.
+fn own_text(alloc: Global, leaf: &Leaf) -> Result<Option<String>, TtFault>
+    ensures some { IfOk result (λ o. option_map string_bytes o ≡
+        (if is_text_of leaf.now (displayed_leaf leaf.now) then Some (displayed_leaf leaf.now) else None)) }
+    ensures memory { IsOkUnless result Memory }
+{
+    let text = format!(in alloc; "{leaf}")?;
+    if is_text_of(alloc, leaf, text.as_str())? {
+        Ok(Some(text))
+    } else {
+        Ok(None)
+    }
+}
+
+// Whether the name is `$crate`.
+fn is_dollar_crate(ident: &Ident) -> bool
+    ensures { result ≡ is_plain_name (codes "$crate") ident.now }
+{
+    ident.is_raw.no() && ident.sym.as_str() == "$crate"
+}
+
+/// The text that the leaf is spelled by, where it has one: `$crate` is spelled `crate`. `Memory` is
+/// the only error.
+pub(crate) fn leaf_spelling(alloc: Global, leaf: &Leaf) -> Result<Option<String>, TtFault>
+    ensures spelling { IfOk result (λ o. option_map string_bytes o ≡ leaf_spelling leaf.now) }
+    ensures memory { IsOkUnless result Memory }
+{
+    match leaf {
+        Leaf::Ident(ident) if is_dollar_crate(ident) => {
+            let sym = Symbol::new(alloc, "crate")?;
+            let span = ident.span;
+            let is_raw = ident.is_raw;
+            own_text(alloc, &Leaf::Ident(Ident { sym, span, is_raw }))
+        }
+        _ => own_text(alloc, leaf),
+    }
+}
