@@ -1,5 +1,5 @@
 -- What a borrowed run of tokens holds.
-use Rattle.std.specs.Prelude.{List, ◌∷◌, Option, Some, None}
+use Rattle.std.specs.Prelude.{ℕ, List, ◌∷◌, Option, Some, None, option_and_then, slice_get}
 use Rattle.tt_data.specs.declared.leaf.Ident.{Ident}
 use Rattle.tt_data.specs.declared.leaf.Leaf.{Leaf}
 use Rattle.tt_data.specs.declared.leaf.Leaf.TheVariants as as_leaf
@@ -38,3 +38,12 @@ ident_in _ = None
 abbrev pub literal_in : List TokenTree → Option (LitKind × List TokenTree)
 literal_in (token.Leaf (as_leaf.Literal l) ∷ more) = Some (l.kind, more)
 literal_in _ = None
+
+-- the head that a token is, where it is one
+abbrev pub as_head : TokenTree → Option Subtree
+as_head (token.Subtree s) = Some s
+as_head (token.Leaf l) = None
+
+-- the head of a group that stands at a place, where one does
+abbrev pub head_at : List TokenTree → ℕ → Option Subtree
+head_at tokens at = option_and_then as_head (slice_get tokens at)

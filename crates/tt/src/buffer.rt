@@ -1,9 +1,10 @@
 //! A place in a list of trees that walks through it, leaf by leaf and bracket by bracket.
 ghost use Rattle.tt.specs.CursorTokens.{BeginsListOf, IsNextOut, Reaches};
-ghost use Rattle.std.specs.Prelude.{◌≡◌, ◌≢◌, ⊤, IsTrue, ◌↔◌, ◌<◌, ◌≤◌, ◌++◌, ◌∷◌, ℕ, List, length, [], Some, IsNone};
+ghost use Rattle.tt.specs.Records.{items, as_head};
+ghost use Rattle.tt_data.specs.declared.tree.TokenTree.{TokenTree};
+ghost use Rattle.std.specs.Prelude.{◌≡◌, ◌≢◌, ⊤, IsTrue, ◌↔◌, ◌+◌, ◌<◌, ◌≤◌, ◌++◌, ◌∷◌, ℕ, List, length, [], Some, IsNone};
 
 use crate::records::Tokens;
-use crate::tokens::same_leaf;
 use crate::view::TokenTreesView;
 use arrayvec::ArrayVec;
 use std::alloc::AllocError;
@@ -18,7 +19,7 @@ use tt_data::tree::{Subtree, TokenTree};
 /// through last; leaving a group for one that is further out looks back over that list's tokens.
 #[derive(Debug, Drop)]
 pub struct Cursor<'a> {
-    tokens: &'a [TokenTree],
+    tokens: Tokens<'a>,
     // Where the innermost list begins: 0 in no group, else just after the group's head.
     start: usize,
     at: usize,
@@ -32,14 +33,15 @@ const NEAREST: usize = 16;
 impl<'a> Model for Cursor<'a> {
     ghost use Rattle.tt.specs.Places.{Place, place_code};
     ghost use Rattle.tt.specs.CursorTokens.{place_of, IsPlaced, AreNearest};
+    ghost use Rattle.tt.specs.Records.{items};
 
     ghost Value = { Place };
 
     ghost coded = { place_code };
 
-    ghost view = { λ c. place_of c.tokens.now c.start c.at };
+    ghost view = { λ c. place_of (items c.tokens) c.start c.at };
 
-    ghost invariant = { λ c. IsPlaced c.tokens.now c.start c.at × AreNearest c.nearest.items (place_of c.tokens.now c.start c.at).around };
+    ghost invariant = { λ c. IsPlaced (items c.tokens) c.start c.at × AreNearest c.nearest.items (place_of (items c.tokens) c.start c.at).around };
 }
 
 impl<'a> Clone for Cursor<'a> {
@@ -78,25 +80,34 @@ fn push_nearest(nearest: &mut ArrayVec<usize, NEAREST>, start: usize)
     nearest.push(start);
 }
 
-// Whether the token just before `start` is the head of a group that has the token at `head` inside.
-fn has_inside(token: &TokenTree, start: usize, head: usize) -> bool
+// Whether a group whose inside begins at `start` has the token at `head` inside.
+fn reaches(group: Subtree, start: usize, head: usize) -> bool
     requires { start ≤ head }
-    ensures { IsTrue result ↔ Reaches token.now start head }
+    ensures { IsTrue result ↔ (head < start + group.len) }
 {
-    match token {
-        TokenTree::Leaf(_) => false,
-        TokenTree::Subtree(group) => head - start < group.usize_len(),
+    head - start < group.usize_len()
+}
+
+// Whether the token just before `start` is the head of a group, this one, that has the token at `head`
+// inside.
+fn has_inside(group: Option<Subtree>, start: usize, head: usize) -> bool
+    requires { start ≤ head }
+    ensures { (t : TokenTree) → as_head t ≡ group → (IsTrue result ↔ Reaches t start head) }
+{
+    match group {
+        None => false,
+        Some(group) => reaches(group, start, head),
     }
 }
 
 // Where the list begins that the group with its head at `head` is a tree of.
-fn list_around(tokens: &[TokenTree], head: usize) -> usize
-    requires { head ≤ length tokens.now }
-    ensures { BeginsListOf tokens.now head result }
+fn list_around(tokens: Tokens<'_>, head: usize) -> usize
+    requires { head ≤ length (items tokens) }
+    ensures { BeginsListOf (items tokens.entry) head result }
 {
     let mut start = head;
     while start > 0 {
-        if has_inside(&tokens[start - 1], start, head) {
+        if has_inside(tokens.head_at(start - 1), start, head) {
             return start;
         }
         start -= 1;
@@ -105,9 +116,9 @@ fn list_around(tokens: &[TokenTree], head: usize) -> usize
 }
 
 // The same, where the last of the nearest places, if there are any, is that one, which goes.
-fn next_out(nearest: &mut ArrayVec<usize, NEAREST>, tokens: &[TokenTree], head: usize) -> usize
-    requires { head ≤ length tokens.now }
-    ensures { IsNextOut tokens.now head nearest.old.items nearest.new.items result }
+fn next_out(nearest: &mut ArrayVec<usize, NEAREST>, tokens: Tokens<'_>, head: usize) -> usize
+    requires { head ≤ length (items tokens) }
+    ensures { IsNextOut (items tokens.entry) head nearest.old.items nearest.new.items result }
 {
     match nearest.pop() {
         Some(start) => start,
@@ -125,7 +136,7 @@ impl<'a> Cursor<'a> {
         ensures { result ≡ beginning (forest origin.entry) }
     {
         Cursor {
-            tokens: origin.tokens.as_slice(),
+            tokens: origin.tokens,
             start: 0,
             at: 0,
             nearest: ArrayVec::new(),
@@ -138,24 +149,17 @@ impl<'a> Cursor<'a> {
     {
         let (_, ahead) = self.tokens.split_at(self.at);
         let Some(group) = self.head() else {
-            return TokenTreesView {
-                tokens: Tokens::of(ahead),
-            };
+            return TokenTreesView { tokens: ahead };
         };
         let (list, _) = ahead.split_at(group.usize_len() - (self.at - self.start));
-        TokenTreesView {
-            tokens: Tokens::of(list),
-        }
+        TokenTreesView { tokens: list }
     }
 
     // The head of the innermost group.
     fn head(&self) -> Option<Subtree>
         ensures { result ≡ innermost_head self.now }
     {
-        match self.tokens.get(self.start.checked_sub(1)?)? {
-            TokenTree::Subtree(group) => Some(*group),
-            TokenTree::Leaf(_) => None,
-        }
+        self.tokens.head_at(self.start.checked_sub(1)?)
     }
 
     /// Whether it is after the last tree, in no group.
@@ -177,10 +181,7 @@ impl<'a> Cursor<'a> {
         ensures token { result ≡ first_token self.now.after }
         ensures at_end { IsNone result ↔ (self.now.after ≡ empty) }
     {
-        let Ok(token) = self.after().tokens.as_slice().first()?.clone() else {
-            unreachable!()
-        };
-        Some(token)
+        self.after().tokens.first()
     }
 
     /// Leaves the innermost group, at whose end it is, and answers the head of that group.
@@ -202,14 +203,13 @@ impl<'a> Cursor<'a> {
         requires { self.old.after ≢ empty }
         ensures { self.new ≡ bumped self.old }
     {
-        match self.after().tokens.as_slice().first() {
-            Some(TokenTree::Leaf(_)) => self.at += 1,
-            Some(TokenTree::Subtree(_)) => {
+        match self.after().tokens.head_at(0) {
+            None => self.at += 1,
+            Some(_head) => {
                 self.at += 1;
                 push_nearest(&mut self.nearest, self.start);
                 self.start = self.at;
             }
-            None => unreachable!(),
         }
     }
 
@@ -230,14 +230,9 @@ impl<'a> Cursor<'a> {
     pub fn peek_two_leaves(&self) -> Option<[Leaf; 2]>
         ensures { result ≡ two_leaves self.now.after }
     {
-        let (first, more) = self.after().tokens.as_slice().split_first()?;
-        let TokenTree::Leaf(first) = first else {
-            return None;
-        };
-        let TokenTree::Leaf(second) = more.first()? else {
-            return None;
-        };
-        Some([same_leaf(first), same_leaf(second)])
+        let (first, more) = self.after().tokens.split_leaf()?;
+        let (second, _) = more.split_leaf()?;
+        Some([first, second])
     }
 
     /// The trees before the place, which is in no group.
@@ -246,8 +241,6 @@ impl<'a> Cursor<'a> {
         ensures { forest result ≡ self.now.before }
     {
         let (before, _) = self.tokens.split_at(self.at);
-        TokenTreesView {
-            tokens: Tokens::of(before),
-        }
+        TokenTreesView { tokens: before }
     }
 }

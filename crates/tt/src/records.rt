@@ -18,7 +18,7 @@ pub(crate) struct Tokens<'a> {
 
 #[tactic(auto, unfolding(crate::specs::Records::items))]
 impl<'a> Tokens<'a> {
-    ghost use Rattle.tt.specs.Records.{items, head_in, leaf_in, punct_in, ident_in, literal_in};
+    ghost use Rattle.tt.specs.Records.{items, head_at, head_in, leaf_in, punct_in, ident_in, literal_in};
 
     /// No tokens.
     pub(crate) fn empty() -> Tokens<'a>
@@ -72,6 +72,23 @@ impl<'a> Tokens<'a> {
     {
         let (front, back) = self.records.split_at(count);
         (Tokens { records: front }, Tokens { records: back })
+    }
+
+    /// The head of a group that stands at a place, where one does.
+    pub(crate) fn head_at(self, at: usize) -> Option<Subtree>
+        ensures { result ≡ head_at (items self.entry) at }
+    {
+        match self.records.get(at)? {
+            TokenTree::Subtree(head) => Some(*head),
+            TokenTree::Leaf(_) => None,
+        }
+    }
+
+    /// The first token.
+    pub(crate) fn first(self) -> Option<TokenTree>
+        ensures { result ≡ slice_get (items self.entry) 0 }
+    {
+        Some(same_token(self.records.first()?))
     }
 
     /// The last token.

@@ -1,18 +1,28 @@
-use Rattle.std.proofs.Common.{arith, refl}
+use Rattle.std.proofs.Common.{ℕ, ◌-◌, ◌∙◌, arith, refl, sym}
 use Rattle.std.proofs.lemmas.Bool.{false≢true}
+use Rattle.tt_data.specs.declared.tree.TokenTree.{TokenTree}
+use Rattle.tt.specs.Records.{items}
 use Rattle.tt.proofs.CursorLemmas.{stops, goes_on}
+use Rattle.tt.proofs.CursorReads.{ReadAt, read_at}
 use Rattle.tt.proofs.buffer.list_around.Goals as goal
 
 pub returns-then-has_inside : goal.returns-then-has_inside
 returns-then-has_inside c = λ start tree.
-    stops _ _ _ start _ tree c.loop-start-test.true c.loop-start.invariant.0 (c.loop-start.invariant.1 start tree) c.index-tokens-start.is
-    (c.if-has_inside.ensures.0 refl)
+    let tokens = items c.args.tokens in
+    let at : ℕ = c.loop-start.start - 1 in
+    let r : (t : TokenTree) × ReadAt tokens at t = read_at tokens at (omega (arith, c.loop-start-test.true, c.loop-start.invariant.0, c.requires)) in
+    stops tokens _ _ start r.0 tree c.loop-start-test.true c.loop-start.invariant.0 (c.loop-start.invariant.1 start tree) r.1.read
+    ((c.if-has_inside.ensures r.0 (sym (c.head_at.ensures ∙ r.1.head))).0 refl)
 
 pub loop-start-preserved : goal.loop-start-preserved
 loop-start-preserved c = (
   omega arith,
   λ start tree.
-      goes_on _ _ _ start _ tree c.loop-start-test.true (c.loop-start.invariant.1 start tree) c.index-tokens-start.is (λ r. false≢true (c.if-has_inside.ensures.1 r)),
+      let tokens = items c.args.tokens in
+      let at : ℕ = c.loop-start.start - 1 in
+      let r : (t : TokenTree) × ReadAt tokens at t = read_at tokens at (omega (arith, c.loop-start-test.true, c.loop-start.invariant.0, c.requires)) in
+      goes_on tokens _ _ start r.0 tree c.loop-start-test.true (c.loop-start.invariant.1 start tree) r.1.read
+      (λ reached. false≢true ((c.if-has_inside.ensures r.0 (sym (c.head_at.ensures ∙ r.1.head))).1 reached)),
 )
 
 pub returns : goal.returns

@@ -1,61 +1,58 @@
-use Rattle.std.proofs.Common.{◌≡◌, ◌+◌, ◌∙◌, arith, ap, sym, Some}
+use Rattle.std.proofs.Common.{◌≡◌, ◌+◌, arith, Some}
+use Rattle.tt_data.specs.declared.leaf.Leaf.{Leaf}
 use Rattle.tt_data.specs.declared.tree.TokenTree.TheVariants as token
+use Rattle.tt.specs.Records.{items}
 use Rattle.tt.specs.Views.{forest}
 use Rattle.tt.specs.Places.{first_token, bumped}
 use Rattle.tt.specs.CursorTokens.{Stands}
-use Rattle.tt.proofs.CursorLemmas.{stood, first_is, past_leaf, into_group, none_first}
+use Rattle.tt.proofs.CursorLemmas.{stood, past_leaf, into_group}
+use Rattle.tt.proofs.CursorReads.{leaf_first, group_first}
 use Rattle.tt.proofs.NearestLemmas.{near, held, nearest_past_leaf, nearest_into_group}
 use Rattle.tt.proofs.PlaceLemmas.{found}
 use Rattle.tt.proofs.FrameLemmas.{fits}
 use Rattle.tt.proofs.buffer.Cursor.bump.Goals as goal
 
 pub overflow_add-self : goal.overflow_add-self
+unfolding items
 overflow_add-self c = omega (arith, fits _ _ _ _ (stood _ _ _ _ c.self.view_is c.self.invariant.0))
 
--- the leaf comes first
-leaf_first : (c : goal.After-self-1) → Some (token.Leaf c.in-Some-Leaf.field-0-0) ≡ first_token c.args.self.now.after
+-- the leaf that comes first
+first : (c : goal.After-self-1) → (l : Leaf) × (Some (token.Leaf l) ≡ first_token c.args.self.now.after)
 unfolding forest
-leaf_first c =
-    ap Some (sym c.in-Some-Leaf.field-0-is) ∙ ((rw c.as_slice.ensures at c.in-Some-Leaf.ensures.value) ∙ (first_is _ c.after.result.whole ∙ ap first_token c.after.ensures))
+first c = leaf_first (items c.after.result.tokens) c.args.self.now.after c.after.ensures c.in-None.ensures c.requires
 
 -- past the leaf
-past : (c : goal.After-self-1) → Stands c.self.inside.tokens.now c.self.inside.start (c.self.inside.at + 1) (bumped c.args.self.now)
-past c = past_leaf _ _ _ _ c.in-Some-Leaf.field-0-0 (stood _ _ _ _ c.self.view_is c.self.invariant.0) (leaf_first c)
+past : (c : goal.After-self-1) → Stands (items c.self.inside.tokens) c.self.inside.start (c.self.inside.at + 1) (bumped c.args.self.now)
+past c = past_leaf _ _ _ _ (first c).0 (stood _ _ _ _ c.self.view_is c.self.invariant.0) (first c).1
 
 pub invariant_of-self : goal.invariant_of-self
-invariant_of-self c = held _ _ _ _ _ (past c) (nearest_past_leaf _ _ c.in-Some-Leaf.field-0-0 (leaf_first c)
-    (near c.self.inside.tokens.now c.self.inside.start c.self.inside.at _ _ c.self.view_is c.self.invariant.1))
+invariant_of-self c = held _ _ _ _ _ (past c) (nearest_past_leaf _ _ (first c).0 (first c).1
+    (near (items c.self.inside.tokens) c.self.inside.start c.self.inside.at _ _ c.self.view_is c.self.invariant.1))
 
-pub returns-in-Some-Leaf : goal.returns-in-Some-Leaf
-returns-in-Some-Leaf c = found _ _ _ _ (past c)
+pub returns-in-None : goal.returns-in-None
+returns-in-None c = found _ _ _ _ (past c)
 
-pub overflow_add-self-in-Some-Subtree : goal.overflow_add-self-in-Some-Subtree
-overflow_add-self-in-Some-Subtree c = omega (arith, fits _ _ _ _ (stood _ _ _ _ c.self.view_is c.self.invariant.0))
+pub overflow_add-self-in-Some : goal.overflow_add-self-in-Some
+unfolding items
+overflow_add-self-in-Some c = omega (arith, fits _ _ _ _ (stood _ _ _ _ c.self.view_is c.self.invariant.0))
 
 -- the group comes first
-group_first : (c : goal.After-self-in-Some-Subtree-2-1) → Some (token.Subtree c.in-Some-Subtree.field-0-0) ≡ first_token c.args.self.now.after
+group : (c : goal.After-self-in-Some-2-1) → Some (token.Subtree c.in-Some._head) ≡ first_token c.args.self.now.after
 unfolding forest
-group_first c =
-    ap Some (sym c.in-Some-Subtree.field-0-is) ∙ ((rw c.as_slice.ensures at c.in-Some-Subtree.ensures.value) ∙ (first_is _ c.after.result.whole ∙ ap first_token c.after.ensures))
+group c = group_first (items c.after.result.tokens) c.in-Some._head c.args.self.now.after c.after.result.whole c.after.ensures c.in-Some.ensures
 
 -- into the group
-into : (c : goal.After-self-in-Some-Subtree-2-1)
-    → Stands c.self.inside.tokens.now (c.self.inside.at + 1) (c.self.inside.at + 1) (bumped c.args.self.now)
-into c =
-    into_group _ c.self.inside.start _ _ c.in-Some-Subtree.field-0-0 (stood _ _ _ _ c.self.view_is c.self.invariant.0) (group_first c)
+into : (c : goal.After-self-in-Some-2-1)
+    → Stands (items c.self.inside.tokens) (c.self.inside.at + 1) (c.self.inside.at + 1) (bumped c.args.self.now)
+into c = into_group _ c.self.inside.start _ _ c.in-Some._head (stood _ _ _ _ c.self.view_is c.self.invariant.0) (group c)
 
-pub invariant_of-self-in-Some-Subtree : goal.invariant_of-self-in-Some-Subtree
-invariant_of-self-in-Some-Subtree c =
+pub invariant_of-self-in-Some : goal.invariant_of-self-in-Some
+invariant_of-self-in-Some c =
     let latest = c.push_nearest.ensures in
     held _ _ _ _ _ (into c)
-    (nearest_into_group c.self.inside.tokens.now c.self.inside.start c.self.inside.at _ c.in-Some-Subtree.field-0-0 _ latest.0 _
-    (stood _ _ _ _ c.self.view_is c.self.invariant.0) (group_first c)
-    (near c.self.inside.tokens.now c.self.inside.start c.self.inside.at _ _ c.self.view_is c.self.invariant.1) latest.1)
+    (nearest_into_group (items c.self.inside.tokens) c.self.inside.start c.self.inside.at _ c.in-Some._head _ latest.0 _
+    (stood _ _ _ _ c.self.view_is c.self.invariant.0) (group c)
+    (near (items c.self.inside.tokens) c.self.inside.start c.self.inside.at _ _ c.self.view_is c.self.invariant.1) latest.1)
 
-pub returns-in-Some-Subtree : goal.returns-in-Some-Subtree
-returns-in-Some-Subtree c = found _ _ _ _ (into c)
-
-pub unreachable-requires : goal.unreachable-requires
-unfolding forest
-unreachable-requires c =
-    c.requires (none_first _ ((rw c.as_slice.ensures at c.in-None.ensures.value) ∙ (first_is _ c.after.result.whole ∙ ap first_token c.after.ensures)))
+pub returns-in-Some : goal.returns-in-Some
+returns-in-Some c = found _ _ _ _ (into c)

@@ -1,6 +1,7 @@
 use Rattle.std.proofs.Common.{arith}
 use Rattle.tt.specs.Places.{ended}
 use Rattle.tt.specs.CursorTokens.{Stands}
+use Rattle.tt.specs.Records.{items}
 use Rattle.tt.proofs.CursorLemmas.{stood, left}
 use Rattle.tt.proofs.FrameLemmas.{fits}
 use Rattle.tt.proofs.NearestLemmas.{NextOut, next_out, near, held}
@@ -13,12 +14,12 @@ next_out-self-inside-requires c = omega (arith, fits _ _ _ _ (stood _ _ _ _ c.se
 -- where the list around begins, and what is kept of those around it
 around : (c : goal.After-self-1) → NextOut c.next_out-self-inside.new.nearest.items c.next_out-self-inside.result c.args.self.now
 around c =
-    next_out c.self.inside.tokens.now c.self.inside.start c.self.inside.at _ c.self.inside.nearest.items _ _
+    next_out (items c.self.inside.tokens) c.self.inside.start c.self.inside.at _ c.self.inside.nearest.items _ _
     (stood _ _ _ _ c.self.view_is c.self.invariant.0) c.requires.inside
-    (near c.self.inside.tokens.now c.self.inside.start c.self.inside.at _ _ c.self.view_is c.self.invariant.1) c.next_out-self-inside.ensures
+    (near (items c.self.inside.tokens) c.self.inside.start c.self.inside.at _ _ c.self.view_is c.self.invariant.1) c.next_out-self-inside.ensures
 
 -- out of the group
-out : (c : goal.After-self-1) → Stands c.self.inside.tokens.now c.next_out-self-inside.result c.self.inside.at (ended c.args.self.now)
+out : (c : goal.After-self-1) → Stands (items c.self.inside.tokens) c.next_out-self-inside.result c.self.inside.at (ended c.args.self.now)
 out c = left _ _ _ _ _ (stood _ _ _ _ c.self.view_is c.self.invariant.0) c.requires.inside c.requires.at_end (around c).start
 
 pub invariant_of-self : goal.invariant_of-self

@@ -6,8 +6,8 @@ use Rattle.tt.proofs.PlaceLemmas.{found}
 use Rattle.tt.proofs.buffer.Cursor.new.Goals as goal
 
 pub invariant_of-result : goal.invariant_of-result
-invariant_of-result c = held _ _ _ _ _ (rw (← c.as_slice.ensures) at (at_beginning _ c.args.origin.whole)) ([], sym c.new.ensures)
+invariant_of-result c = held _ _ _ _ _ (at_beginning _ c.args.origin.whole) ([], sym c.new.ensures)
 
 pub returns : goal.returns
 unfolding forest
-returns c = rw c.as_slice.ensures (found _ _ _ _ (at_beginning _ c.args.origin.whole))
+returns c = found _ _ _ _ (at_beginning _ c.args.origin.whole)
