@@ -19,4 +19,8 @@ pub mod MatchingLemmas
 pub mod PlaceLemmas
 pub mod OpsLemmas
 pub mod SettlingLemmas
+pub mod PositionLemmas
+pub mod ThinLemmas
+pub mod SoundLemmas
+pub mod LikeLemmas
 pub mod TheLoopLemmas

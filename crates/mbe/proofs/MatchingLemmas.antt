@@ -2,15 +2,14 @@
 use Rattle.std.proofs.Common.{◌≡◌, inl, refl, ap, ◌∙◌, ℕ, zero, suc, ◌+◌, ◌*◌, ◌≤◌, ◌<◌, Bool, true, false, List, [], ◌∷◌, ◌++◌, map, Option, Some, None, if◌then◌else◌, arith}
 use Rattle.std.specs.List.{flat_map}
 use Rattle.mbe.proofs.PathListLemmas.{only-path}
-use Rattle.mbe_rules.specs.Text.{is_nil}
-use Rattle.mbe.specs.Paths.{IsAmong, IsPath, when, only, clash, has_clash, paths_from, takings_from}
+use Rattle.mbe.specs.Paths.{IsAmong, IsPath, when, only, has_clash, paths_from, takings_from}
 use Rattle.tt_data.specs.Forest.{Forest}
 use Rattle.mbe.specs.Grammar.{Grammar}
 use Rattle.fragment_grammar.specs.Steps.{steps}
 use Rattle.mbe_rules.specs.Items.{Items, has_empty_round}
-use Rattle.mbe.specs.Units.{Place, left, after_unit}
+use Rattle.mbe.specs.Units.{left, after_unit}
 use Rattle.mbe.specs.Readings.{State, Move, Choice, start, place_of, next, has_used_up, takes, is_fragment, room, most_moves, readings, takings, the_reading}
-use Rattle.mbe.specs.Waiting.{gather, Waiting, ended, finished, unless, settled_one, settled_at, Good, empties_at, Each, heads, advanced_by, IsFrom, IsTo}
+use Rattle.mbe.specs.Waiting.{gather, Waiting, ended, unless, settled_one, settled_at, Good, empties_at}
 use Rattle.mbe.proofs.GatherLemmas.{gather-enough, flat_map-among}
 use Rattle.mbe.proofs.FallingLemmas.{bound, within}
 use Rattle.mbe.proofs.MoveLemmas.{does, falls}
@@ -63,51 +62,6 @@ module _ (g : Grammar) (N : ℕ) where
 
   lowers : (s : State) (c : Choice) → Good N s → IsAmong c (next g s) → takes c.0 ≡ true → left (place_of c.1) < left (place_of s)
   lowers s c h a e = (does g N s c a).lowers e
-
-  -- waiting paths whose moves were made at p
-  abbrev pub AllFrom : Place → List (Waiting Move State) → Type 0
-  AllFrom p ws = Each (IsFrom (Good N) (λ s. left (place_of s)) place_of left after_unit p) ws
-
-  -- waiting paths whose moves lead to r, which is below q
-  abbrev pub AllTo : ℕ → Place → List (Waiting Move State) → Type 0
-  AllTo q r ws = Each (IsTo (Good N) (λ s. left (place_of s)) place_of q r) ws
-
-  pub advance-at : (q : ℕ) (r : Place) (ws : List (Waiting Move State)) → AllTo q r ws →
-      clash (flat_map heads ws) ≡ false → outcome_at ws ≡ outcome_at (flat_map (advanced_by (settled_at g)) ws)
-  unfolding settled_at
-  advance-at q r ws h e =
-      loop.advance (next g) has_used_up takes is_fragment (λ s. left (place_of s)) (bound N) (λ s. suc (empties_at s))
-      (Good N) (λ s c h a. falls g N s c h a) (λ s. omega arith) (λ s. omega arith) enough keeps lowers
-      place_of after_unit left (λ s. refl) stays unit q r ws h e
-
-  pub from-advanced-at : (q : ℕ) (r : Place) (ws : List (Waiting Move State)) → AllTo q r ws →
-      AllFrom r (flat_map (advanced_by (settled_at g)) ws)
-  unfolding settled_at
-  from-advanced-at q r ws h =
-      loop.from-advanced (next g) has_used_up takes is_fragment (λ s. left (place_of s)) (bound N) (λ s. suc (empties_at s))
-      (Good N) (λ s c h a. falls g N s c h a) (λ s. omega arith) (λ s. omega arith) enough keeps lowers
-      place_of after_unit left (λ s. refl) stays unit q r ws h
-
-  pub one_place-at : (p : Place) (ws : List (Waiting Move State)) → AllFrom p ws → clash (flat_map heads ws) ≡ false →
-      (r : Place) × AllTo (left p) r ws
-  unfolding settled_at
-  one_place-at p ws h e =
-      loop.one_place (next g) has_used_up takes is_fragment (λ s. left (place_of s)) (bound N) (λ s. suc (empties_at s))
-      (Good N) (λ s c h a. falls g N s c h a) (λ s. omega arith) (λ s. omega arith) enough keeps lowers
-      place_of after_unit left (λ s. refl) stays unit p ws h e
-
-  pub from-settled-at : (s : State) → Good N s → AllFrom (place_of s) (settled_at g s)
-  unfolding settled_at
-  from-settled-at s h =
-      loop.from-settled (next g) has_used_up takes is_fragment (λ s. left (place_of s)) (bound N) (λ s. suc (empties_at s))
-      (Good N) (λ s c h a. falls g N s c h a) (λ s. omega arith) (λ s. omega arith) enough keeps lowers
-      place_of after_unit left (λ s. refl) stays unit s h
-
-  pub over-at : (ws : List (Waiting Move State)) → is_nil (flat_map heads ws) ≡ true → outcome_at ws ≡ only (flat_map finished ws)
-  over-at ws e =
-      loop.over (next g) has_used_up takes is_fragment (λ s. left (place_of s)) (bound N) (λ s. suc (empties_at s))
-      (Good N) (λ s c h a. falls g N s c h a) (λ s. omega arith) (λ s. omega arith) enough keeps lowers
-      place_of after_unit left (λ s. refl) stays unit ws e
 
   readings-at : (n : ℕ) (s : State) → Good N s → bound N s ≤ n →
       paths_from (next g) has_used_up n s ≡ gather (next g) (λ t. when (has_used_up t) []) (λ t c r. map (λ ms. c.0 ∷ ms) r) (bound N s) s

@@ -1,6 +1,6 @@
 -- What threads hold, one by one.
-use Rattle.std.proofs.Common.{◌≡◌, refl, sym, ap, ◌∙◌, Bool, true, false, Option, Some, None, List, [], ◌∷◌, ◌++◌, map, reverse}
-use Rattle.std.proofs.lemmas.List.{map-append, reverse-append}
+use Rattle.std.proofs.Common.{◌≡◌, refl, sym, ap, ◌∙◌, Bool, true, false, Some, None, List, [], ◌∷◌, ◌++◌, map}
+use Rattle.std.proofs.lemmas.List.{reverse-append}
 use Rattle.std.specs.Borrow.{Bor}
 use Rattle.mbe_rules.specs.Items.{Items, done}
 use Rattle.mbe_rules.specs.Ops.{items_of, separator_of}
@@ -18,9 +18,7 @@ use Rattle.mbe.specs.Units.{is_separator}
 use Rattle.mbe.specs.declared.place.Taken.TheVariants.{Unit as takes_unit}
 use Rattle.mbe.specs.declared.matcher.Frame.{Frame}
 use Rattle.mbe.specs.declared.matcher.Frame.TheVariants.{InRound, Parted}
-use Rattle.mbe.specs.declared.matcher.Move.TheVariants.{Leave, Separator as separator, NextRound}
 use Rattle.mbe.specs.declared.matcher.Thread.{Thread}
-use Rattle.mbe.specs.declared.matcher.Move.{Move}
 
 pub frames-push : (gs fs : List Frame) (f : Frame) → gs ≡ fs ++ (f ∷ []) → frames_of gs ≡ frame_of f ∷ frames_of fs
 frames-push gs fs f e = ap frames_of e ∙ ap (map frame_of) (reverse-append fs (f ∷ []))

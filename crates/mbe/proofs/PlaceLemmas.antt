@@ -1,5 +1,5 @@
 -- Lists of trees, by their number.
-use Rattle.std.proofs.Common.{◌≡◌, refl, sym, ap, ◌∙◌, ℕ, zero, suc, ◌+◌, ◌-◌, ◌≤◌, ◌<◌, subst, Bool, true, false, List, [], ◌∷◌, nat_le, Option, Some, None, if◌then◌else◌, arith}
+use Rattle.std.proofs.Common.{◌≡◌, refl, sym, ap, ◌∙◌, ℕ, zero, suc, ◌+◌, ◌-◌, ◌≤◌, ◌<◌, subst, Bool, true, false, [], ◌∷◌, nat_le, Option, Some, None, if◌then◌else◌, arith}
 use Rattle.mbe.specs.Grammar.{one_further, reach}
 use Rattle.fragment_grammar.specs.Steps.{steps}
 use Rattle.mbe.specs.Places.{left_after}

@@ -1,13 +1,13 @@
 -- What a thread's choices contribute, and why settling ends
-use Rattle.std.proofs.Common.{◌≡◌, ◌⊎◌, inl, inr, refl, sym, ap, subst, ◌∙◌, ℕ, zero, suc, ◌+◌, ◌*◌, ◌≤◌, ◌<◌, Bool, true, false, List, [], ◌∷◌, ◌++◌, map, Option, Some, None, if◌then◌else◌, append_assoc, append-nil, arith, rules}
+use Rattle.std.proofs.Common.{◌≡◌, inl, inr, refl, sym, ap, subst, ◌∙◌, ◌+◌, ◌*◌, ◌<◌, Bool, true, false, List, [], ◌∷◌, ◌++◌, map, Option, Some, None, if◌then◌else◌, append_assoc, append-nil, arith}
 use Rattle.std.specs.List.{flat_map}
 use Rattle.std.proofs.lemmas.List.{map-append}
-use Rattle.mbe_rules.specs.Items.{Items, done, item, group_of, repetition}
+use Rattle.mbe_rules.specs.Items.{done, item, group_of, repetition}
 use Rattle.mbe.specs.Grammar.{Grammar}
 use Rattle.mbe.specs.Paths.{IsAmong, when}
 use Rattle.mbe.specs.Places.{place_after}
 use Rattle.mbe.specs.Readings as r
-use Rattle.mbe.specs.Threads.{Waits, Made, contributes, extended, made_of, given, state_of, is_some_taken, IsGood, IsVisited, measure_of}
+use Rattle.mbe.specs.Threads.{Made, contributes, extended, made_of, given, state_of, is_some_taken, IsGood, IsVisited, measure_of}
 use Rattle.mbe.specs.Units as u
 use Rattle.mbe.specs.Waiting.{Waiting, ended, pending, prefixed, settled_one, settled_at, Good, empties_at}
 use Rattle.mbe.specs.declared.place.Taken.{Taken}

@@ -1,5 +1,5 @@
 -- The steps of a group.
-use Rattle.std.proofs.Common.{◌≡◌, ap, ℕ, suc, ◌+◌, ◌∷◌, length-append}
+use Rattle.std.proofs.Common.{◌≡◌, ap, suc, ◌+◌, ◌∷◌, length-append}
 use Rattle.tt_data.specs.Forest.{Forest, group}
 use Rattle.tt_data.specs.Walk.{walk, closes}
 use Rattle.tt_data.specs.declared.delimiter.Delimiter.{Delimiter}

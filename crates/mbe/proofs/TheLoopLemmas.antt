@@ -1,5 +1,5 @@
 -- A turn of the main loop, over the program's threads
-use Rattle.std.proofs.Common.{◌≡◌, ◌⊎◌, inl, inr, refl, sym, ap, subst, ◌∙◌, ℕ, zero, suc, ◌+◌, ◌≤◌, ◌<◌, Bool, true, false, List, [], ◌∷◌, ◌++◌, map, Option, Some, None, length, get_or, arith, rules}
+use Rattle.std.proofs.Common.{◌≡◌, refl, sym, ap, subst, ◌∙◌, ℕ, ◌<◌, Bool, true, false, List, [], ◌∷◌, map, Some, None, length, get_or, arith}
 use Rattle.std.specs.List.{flat_map}
 use Rattle.tt_data.specs.Forest.{Forest}
 use Rattle.mbe_rules.specs.Items.{Items, has_empty_round}
@@ -9,12 +9,15 @@ use Rattle.mbe.specs.Paths.{only, clash}
 use Rattle.mbe.specs.Places as q
 use Rattle.mbe.specs.Readings as r
 use Rattle.mbe.specs.Threads as t
+use Rattle.mbe.specs.Thinned.{thin}
 use Rattle.mbe.specs.Units as u
-use Rattle.mbe.specs.Waiting.{Waiting, ended, pending, prefixed, finished, settled_at, Good, Each, heads, advanced_by, IsFrom, IsTo, unless}
+use Rattle.mbe.specs.Waiting.{ended, pending, prefixed, finished, settled_at, Each, heads, advanced_by, unless}
 use Rattle.mbe.specs.declared.place.Taken.{Taken}
 use Rattle.mbe.specs.declared.matcher.Waiting as d
 use Rattle.mbe.specs.declared.matcher.Waiting.TheVariants.{Ended, Pending}
-use Rattle.mbe.proofs.MatchingLemmas.{outcome_at, outcome_later, AllFrom, AllTo, advance-at, from-advanced-at, one_place-at, from-settled-at, over-at, begun-at, good-start}
+use Rattle.mbe.proofs.MatchingLemmas.{outcome_at, outcome_later, begun-at}
+use Rattle.mbe.proofs.SoundLemmas.{AllFrom, AllTo, advance-at, from-advanced-at, one_place-at, from-settled-at, over-at, sound-start}
+use Rattle.mbe.proofs.LikeLemmas.{thin-from, thin-same}
 
 abbrev pub P : Type 0
 P = u.Place
@@ -22,7 +25,7 @@ P = u.Place
 -- the waiting threads lead to the only reading
 pub record Held (gr : Grammar) (pattern : Items) (argument : Forest) (p : P) (ws : List t.Waits) : Type 0 where
   pub same : outcome_at gr (r.room pattern) ws ≡ r.the_reading gr pattern argument
-  pub here : AllFrom gr (r.room pattern) p ws
+  pub here : AllFrom gr pattern p ws
 
 same-heads : (p : P) (ws : List d.Waiting) → flat_map heads (t.waits p ws) ≡ flat_map t.takings_of ws
 same-heads p [] = refl
@@ -37,26 +40,26 @@ no-prefix (pending ms b s ∷ ws) = ap (λ x. pending ms b s ∷ x) (no-prefix w
 at-place : (s : u.Place) (h : _) (p : P) → r.place_of (t.state_of h s) ≡ p → t.state_of h s ≡ t.state_of h p
 at-place s h p e = ap (t.state_of h) e
 
-same-waits : (gr : Grammar) → (N b : ℕ) (p s : P) (ws : List d.Waiting) → AllTo gr N b s (t.waits p ws) → t.waits p ws ≡ t.waits_at s ws
-same-waits gr N b p s [] a = refl
-same-waits gr N b p s (Ended ms ∷ ws) a = ap (λ x. ended (t.moves_of ms) ∷ x) (same-waits gr N b p s ws a.1)
-same-waits gr N b p s (Pending h k ∷ ws) a =
+same-waits : (gr : Grammar) → (pattern : Items) (b : ℕ) (p s : P) (ws : List d.Waiting) → AllTo gr pattern b s (t.waits p ws) → t.waits p ws ≡ t.waits_at s ws
+same-waits gr pattern b p s [] a = refl
+same-waits gr pattern b p s (Ended ms ∷ ws) a = ap (λ x. ended (t.moves_of ms) ∷ x) (same-waits gr pattern b p s ws a.1)
+same-waits gr pattern b p s (Pending h k ∷ ws) a =
     let e = at-place (q.place_after p (Some k)) h s a.0.2 in
-    let i = same-waits gr N b p s ws a.1 in
+    let i = same-waits gr pattern b p s ws a.1 in
     let f = ap (λ x. pending (t.moves_of h.moves) (t.is_trees (Some k)) x) e in cc
 
-head-place : (gr : Grammar) → (N b : ℕ) (p s : P) (ws : List d.Waiting) (k : Taken) → AllTo gr N b s (t.waits p ws) → t.head_taken ws ≡ Some k →
+head-place : (gr : Grammar) → (pattern : Items) (b : ℕ) (p s : P) (ws : List d.Waiting) (k : Taken) → AllTo gr pattern b s (t.waits p ws) → t.head_taken ws ≡ Some k →
     (q.place_after p (Some k) ≡ s) × (u.left s < b)
-head-place gr N b p s [] k a e = absurd (cc e)
-head-place gr N b p s (Ended ms ∷ ws) k a e = head-place gr N b p s ws k a.1 e
-head-place gr N b p s (Pending h j ∷ ws) k a e =
+head-place gr pattern b p s [] k a e = absurd (cc e)
+head-place gr pattern b p s (Ended ms ∷ ws) k a e = head-place gr pattern b p s ws k a.1 e
+head-place gr pattern b p s (Pending h j ∷ ws) k a e =
     let i : j ≡ k = cc in
     (ap (λ x. q.place_after p (Some x)) (sym i) ∙ a.0.2, subst (λ x. u.left x < b) a.0.2 a.0.1)
 
-good-waits : (gr : Grammar) → (N b : ℕ) (s : P) (us : List t.Waits) → AllTo gr N b s us → Each t.IsGoodAt us
-good-waits gr N b s [] a = tt
-good-waits gr N b s (ended ms ∷ us) a = (tt, good-waits gr N b s us a.1)
-good-waits gr N b s (pending ms m x ∷ us) a = ((N, a.0.0), good-waits gr N b s us a.1)
+good-waits : (gr : Grammar) → (pattern : Items) (b : ℕ) (s : P) (us : List t.Waits) → AllTo gr pattern b s us → Each t.IsGoodAt us
+good-waits gr pattern b s [] a = tt
+good-waits gr pattern b s (ended ms ∷ us) a = (tt, good-waits gr pattern b s us a.1)
+good-waits gr pattern b s (pending ms m x ∷ us) a = ((r.room pattern, a.0.0.0), good-waits gr pattern b s us a.1)
 
 pub start-held : (gr : Grammar) → (pattern : Items) (argument : Forest) (p : P) → has_empty_round pattern ≡ false → p ≡ u.place argument [] →
     (ws : List t.Waits) → ws ≡ map (prefixed []) (settled_at gr (r.at pattern [] p)) → Held gr pattern argument p ws
@@ -64,7 +67,7 @@ start-held gr pattern argument p e i ws h =
     let k = h ∙ no-prefix (settled_at gr (r.at pattern [] p)) ∙ ap (λ x. settled_at gr (r.at pattern [] x)) i in
     record {
       same = ap (outcome_at gr (r.room pattern)) k ∙ sym (begun-at gr pattern argument e);
-      here = rw (k, i) (from-settled-at gr (r.room pattern) (r.start pattern argument) (good-start pattern argument e));
+      here = rw (k, i) (from-settled-at gr pattern (r.start pattern argument) (sound-start gr pattern argument e));
     }
 
 -- what a turn gr without a clash does
@@ -79,19 +82,19 @@ pub turn : (gr : Grammar) → (pattern : Items) (argument : Forest) (p : P) (ws 
 turn gr pattern argument p ws k h c e s i =
     let N = r.room pattern in
     let n : clash (flat_map heads (t.waits p ws)) ≡ false = ap clash (same-heads p ws) ∙ sym c in
-    let o = one_place-at gr N p (t.waits p ws) h.here n in
-    let f = head-place gr N (u.left p) p o.0 ws k o.1 (sym e) in
+    let o = one_place-at gr pattern p (t.waits p ws) h.here n in
+    let f = head-place gr pattern (u.left p) p o.0 ws k o.1 (sym e) in
     let g : o.0 ≡ s = sym f.0 ∙ sym i in
-    let a : AllTo gr N (u.left p) s (t.waits p ws) = subst (λ x. AllTo gr N (u.left p) x (t.waits p ws)) g o.1 in
-    let w = same-waits gr N (u.left p) p s ws a in
+    let a : AllTo gr pattern (u.left p) s (t.waits p ws) = subst (λ x. AllTo gr pattern (u.left p) x (t.waits p ws)) g o.1 in
+    let w = same-waits gr pattern (u.left p) p s ws a in
     record {
-      good = subst (Each t.IsGoodAt) w (good-waits gr N (u.left p) s (t.waits p ws) a);
+      good = subst (Each t.IsGoodAt) w (good-waits gr pattern (u.left p) s (t.waits p ws) a);
       lower = subst (λ x. u.left x < u.left p) g f.1;
       held = λ us eq. record {
         same = ap (outcome_at gr N) (eq ∙ ap (flat_map (advanced_by (settled_at gr))) (sym w))
-            ∙ sym (advance-at gr N (u.left p) s (t.waits p ws) a n) ∙ h.same;
-        here = subst (AllFrom gr N s) (ap (flat_map (advanced_by (settled_at gr))) w ∙ sym eq)
-            (from-advanced-at gr N (u.left p) s (t.waits p ws) a);
+            ∙ sym (advance-at gr pattern (u.left p) s (t.waits p ws) a n) ∙ h.same;
+        here = subst (AllFrom gr pattern s) (ap (flat_map (advanced_by (settled_at gr))) w ∙ sym eq)
+            (from-advanced-at gr pattern (u.left p) s (t.waits p ws) a);
       };
     }
 
@@ -113,7 +116,7 @@ pub ended-only : (gr : Grammar) → (pattern : Items) (argument : Forest) (p : P
     Held gr pattern argument p (t.waits p ws) → t.head_taken ws ≡ None →
     only (flat_map finished (t.waits p ws)) ≡ r.the_reading gr pattern argument
 ended-only gr pattern argument p ws h e =
-    sym (over-at gr (r.room pattern) (t.waits p ws) (none-waits p ws e)) ∙ h.same
+    sym (over-at gr pattern (t.waits p ws) (none-waits p ws e)) ∙ h.same
 
 pub not-one : (p : P) (ws : List d.Waiting) → t.head_taken ws ≡ None → (length ws ≡ 1 → ⊥) → None ≡ only (flat_map finished (t.waits p ws))
 not-one p [] e n = refl
@@ -132,3 +135,12 @@ pub not-pending : (ws : List d.Waiting) (w : d.Waiting) (h : _) (k : Taken) → 
     t.head_taken ws ≡ None → ⊥
 not-pending [] w h k e f i n = absurd (omega (arith, e))
 not-pending (x ∷ ws) w h k e f i n = let j : t.head_taken (Pending h k ∷ ws) ≡ None = subst (λ v. t.head_taken (v ∷ ws) ≡ None) (sym f ∙ i) n in cc
+
+-- the threads that are kept lead to the same
+pub thin-held : (gr : Grammar) → (pattern : Items) (argument : Forest) (p : P) (ws us : List d.Waiting) →
+    Held gr pattern argument p (t.waits p ws) → us ≡ thin t.is_like [] ws → Held gr pattern argument p (t.waits p us)
+thin-held gr pattern argument p ws us h e =
+    subst (λ x. Held gr pattern argument p (t.waits p x)) (sym e) (record {
+      same = thin-same gr pattern p ws h.here ∙ h.same;
+      here = thin-from gr pattern p ws h.here;
+    })

@@ -9,5 +9,7 @@ pub mod Filling
 pub mod Fit
 -- what the functions inside the crate promise each other
 pub mod Waiting
+pub mod Positions
+pub mod Thinned
 pub mod Places
 pub mod Threads

@@ -1,6 +1,5 @@
 -- What the matcher's threads stand for
-use Rattle.std.specs.Prelude.{◌≡◌, ℕ, suc, ◌+◌, ◌*◌, if◌then◌else◌, Bool, true, false, List, [], ◌∷◌, ◌++◌, map, reverse, option_map, Option, Some, None}
-use Rattle.std.specs.List.{flat_map}
+use Rattle.std.specs.Prelude.{◌≡◌, ◌==◌, ◌&&◌, length, ℕ, ◌+◌, ◌*◌, if◌then◌else◌, Bool, true, false, List, [], ◌∷◌, ◌++◌, map, reverse, Option, Some, None}
 use Rattle.tt.specs.Views.{forest}
 use Rattle.std.specs.Borrow.{Bor}
 use Rattle.mbe_rules.specs.Items as i
@@ -134,3 +133,22 @@ abbrev pub head_taken : List Waiting → Option Taken
 head_taken [] = None
 head_taken (Ended ms ∷ ws) = head_taken ws
 head_taken (Pending t k ∷ ws) = Some k
+
+-- two frames are of one sort, and as many items come after them
+abbrev pub same_mark : Frame → Frame → Bool
+same_mark (InGroup a) (InGroup b) = length a.now == length b.now
+same_mark (InRound x s k a) (InRound y t j b) = length a.now == length b.now
+same_mark (Parted x s k a) (Parted y t j b) = length a.now == length b.now
+same_mark _ _ = false
+
+-- the same of all frames of two threads
+abbrev pub same_marks : List Frame → List Frame → Bool
+same_marks [] [] = true
+same_marks (f ∷ fs) (g ∷ gs) = same_mark f g && same_marks fs gs
+same_marks _ _ = false
+
+-- two threads that wait after a unit, told by the same numbers: they are in one state
+abbrev pub is_like : Waiting → Waiting → Bool
+is_like (Pending t takes_unit) (Pending u takes_unit) =
+    (length t.items.now == length u.items.now) && same_marks t.frames.items u.frames.items
+is_like _ _ = false

@@ -12,7 +12,8 @@ ghost use Rattle.mbe.specs.Places.{place_of};
 ghost use Rattle.mbe.specs.Readings as r;
 ghost use Rattle.mbe.specs.Units as u;
 ghost use Rattle.mbe.specs.Waiting.{prefixed, settled_at, advanced_by, finished, Each};
-ghost use Rattle.mbe.specs.Threads.{state_of, frames_of, moves_of, move_of, given, extended, contributes, waits, waits_at, waiting_at, takings_of, head_taken, is_trees, between_of, IsVisited, IsGood, IsGoodAt};
+ghost use Rattle.mbe.specs.Threads.{state_of, frames_of, moves_of, move_of, given, extended, contributes, waits, waits_at, waiting_at, takings_of, head_taken, is_trees, between_of, same_mark, same_marks, is_like, IsVisited, IsGood, IsGoodAt};
+ghost use Rattle.mbe.specs.Thinned.{twice, thin};
 ghost use Rattle.mbe.specs.declared.matcher.Frame.{Frame};
 ghost use Rattle.mbe.specs.declared.matcher.Move.{Move};
 
@@ -636,6 +637,82 @@ fn advanced<'a, G: FragmentGrammar>(
     Ok(next)
 }
 
+// Whether two frames are of one sort, with as many items after them.
+fn is_same_mark(first: Frame<'_>, second: Frame<'_>) -> bool
+    ensures { result ≡ same_mark first.entry second.entry }
+{
+    match (first, second) {
+        (Frame::InGroup { after: a }, Frame::InGroup { after: b }) => a.len() == b.len(),
+        (Frame::InRound { after: a, .. }, Frame::InRound { after: b, .. }) => a.len() == b.len(),
+        (Frame::Parted { after: a, .. }, Frame::Parted { after: b, .. }) => a.len() == b.len(),
+        _ => false,
+    }
+}
+
+// Whether two threads are in the same groups and rounds.
+fn are_same_marks(first: &[Frame<'_>], second: &[Frame<'_>]) -> bool
+    ensures { result ≡ same_marks first.now second.now }
+{
+    let Some((a, more)) = first.split_first() else {
+        return second.is_empty();
+    };
+    let Some((b, others)) = second.split_first() else {
+        return false;
+    };
+    is_same_mark(*a, *b) && are_same_marks(more, others)
+}
+
+// Whether two threads wait in one state, after a unit.
+fn is_like(first: &Waiting<'_>, second: &Waiting<'_>) -> bool
+    ensures { result ≡ is_like first.now second.now }
+{
+    let Waiting::Pending {
+        thread: a,
+        taken: Taken::Unit,
+    } = first
+    else {
+        return false;
+    };
+    let Waiting::Pending {
+        thread: b,
+        taken: Taken::Unit,
+    } = second
+    else {
+        return false;
+    };
+    a.items.len() == b.items.len() && are_same_marks(&a.frames, &b.frames)
+}
+
+// Whether two of these wait in the state of another.
+fn has_two_like(waiting: &[Waiting<'_>], other: &Waiting<'_>) -> bool
+    ensures { result ≡ twice (is_like other.now) waiting.now }
+{
+    let mut one = false;
+    for w in waiting {
+        if is_like(other, w) {
+            if one {
+                return true;
+            }
+            one = true;
+        }
+    }
+    false
+}
+
+// The threads but those that wait in a state where two others do: two are enough to tell that no
+// reading that goes through it is the only one.
+fn thinned<'a>(alloc: Global, waiting: Vec<Waiting<'a>>) -> Result<Vec<Waiting<'a>>, AllocError>
+    ensures { IfOk result (λ v. v.items ≡ thin is_like [] waiting.entry.items) }
+{
+    let mut kept = Vec::new(alloc);
+    for w in waiting {
+        if !has_two_like(&kept, &w) {
+            kept.push(w)?;
+        }
+    }
+    Ok(kept)
+}
+
 // What the first waiting thread takes.
 fn first_taken(waiting: &[Waiting<'_>]) -> Option<Taken>
     ensures { result ≡ head_taken waiting.now }
@@ -693,6 +770,7 @@ pub fn match_pattern<'a, G: FragmentGrammar>(
             return Ok(only_ended(&waiting));
         };
         place = place.after(taken)?;
-        waiting = advanced(alloc, arena, grammar, &waiting, &place)?;
+        let all = advanced(alloc, arena, grammar, &waiting, &place)?;
+        waiting = thinned(alloc, all)?;
     }
 }

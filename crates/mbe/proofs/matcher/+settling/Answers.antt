@@ -1,10 +1,9 @@
-use Rattle.std.proofs.Common.{◌≡◌, refl, sym, ap, subst, ◌∙◌, ◌<◌, List, [], ◌∷◌, ◌++◌, map, append_assoc, append-nil, arith, rules}
+use Rattle.std.proofs.Common.{sym, ap, subst, ◌∙◌, ◌<◌, [], ◌++◌, append_assoc, append-nil}
 use Rattle.std.specs.List.{flat_map}
 use Rattle.std.proofs.lemmas.List.{map-append}
 use Rattle.std.proofs.lemmas.Grind.{flat_map-append}
 use Rattle.mbe.specs.Places.{place_of}
 use Rattle.mbe.specs.Threads.{waits, waiting_of, state_of, moves_of, given, contributes, measure_of}
-use Rattle.mbe.specs.Waiting.{ended}
 use Rattle.mbe.proofs.SettlingLemmas.{settled-ended, settled-goes_on, visit-asks}
 use Rattle.mbe.proofs.matcher.+settling.Goals as goal
 

@@ -1,8 +1,8 @@
-use Rattle.std.proofs.Common.{◌≡◌, refl, sym, ap, ◌∙◌, ◌++◌, subst, get_or, take, arith, rules}
+use Rattle.std.proofs.Common.{sym, ap, ◌∙◌, ◌++◌, subst, take}
 use Rattle.std.specs.List.{flat_map}
 use Rattle.mbe.specs.Waiting.{settled_at, advanced_by}
 use Rattle.mbe.specs.Places.{place_of}
-use Rattle.mbe.specs.Threads.{waits, waits_at, waiting_at, IsGoodAt}
+use Rattle.mbe.specs.Threads.{waits_at, waiting_at, IsGoodAt}
 use Rattle.mbe.proofs.AdvanceLemmas.{each-at, flat_map-take}
 use Rattle.mbe.proofs.matcher.advanced.Goals as goal
 

@@ -1,4 +1,4 @@
-use Rattle.std.proofs.Common.{◌≡◌, sym}
+use Rattle.std.proofs.Common.{sym}
 use Rattle.std.specs.List.{flat_map}
 use Rattle.mbe.specs.Threads.{takings_of}
 use Rattle.mbe.proofs.ClashPassLemmas.{clash-passes}

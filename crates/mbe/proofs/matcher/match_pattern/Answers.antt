@@ -1,4 +1,4 @@
-use Rattle.std.proofs.Common.{◌≡◌, refl, sym, ap, ◌∙◌, subst, map, reverse, [], ◌++◌, List, Result, Ok, Err, IfOk, rules}
+use Rattle.std.proofs.Common.{◌≡◌, sym, ap, ◌∙◌, subst, map, reverse, [], ◌++◌, Result, Ok, Err, IfOk}
 use Rattle.std.specs.List.{flat_map}
 use Rattle.mbe.specs.Paths.{clash, only}
 use Rattle.mbe.specs.Waiting.{prefixed, finished, settled_at, advanced_by, Each}
@@ -7,8 +7,8 @@ use Rattle.mbe.specs.Units as u
 use Rattle.tt.specs.Views.{forest}
 use Rattle.mbe_rules.specs.Ops.{items_of}
 use Rattle.mbe.specs.Places.{place_of}
-use Rattle.mbe.specs.Threads.{waits, waits_at, frames_of, moves_of, takings_of, head_taken, IsGoodAt}
-use Rattle.mbe.proofs.TheLoopLemmas.{Held, Turn, start-held, turn, clash-none, ended-only}
+use Rattle.mbe.specs.Threads.{waits, waits_at, frames_of, takings_of, head_taken, IsGoodAt}
+use Rattle.mbe.proofs.TheLoopLemmas.{start-held, turn, thin-held, clash-none, ended-only}
 use Rattle.mbe.proofs.matcher.match_pattern.Goals as goal
 
 pub loop-alloc-init : goal.loop-alloc-init
@@ -48,7 +48,9 @@ loop-alloc-preserved g c =
     (sym c.if-has_clash.false ∙ c.has_clash.ensures ∙ ap (λ ws. clash (flat_map takings_of ws)) c.deref.ensures.value)
     (sym c.in-Some.is ∙ c.first_taken.ensures ∙ ap head_taken c.deref-in-loop-alloc.ensures.value)
     (place_of c.in_ok-place.place) c.in_ok-place.ensures in
-    t.held _ (c.in_ok-waiting.ensures ∙ ap (λ ws. flat_map (advanced_by (settled_at (g.G.FragmentGrammar.answer c.args.grammar.now))) (waits_at (place_of c.in_ok-place.place) ws)) c.deref-in-loop-alloc-2.ensures.value)
+    let all =
+    t.held _ (c.in_ok-all.ensures ∙ ap (λ ws. flat_map (advanced_by (settled_at (g.G.FragmentGrammar.answer c.args.grammar.now))) (waits_at (place_of c.in_ok-place.place) ws)) c.deref-in-loop-alloc-2.ensures.value) in
+    thin-held (g.G.FragmentGrammar.answer c.args.grammar.now) (items_of c.args.pattern.now) (forest c.args.argument) (place_of c.in_ok-place.place) c.in_ok-all.all.items c.in_ok-waiting.waiting.items all c.in_ok-waiting.ensures
 
 same-ok : {A B E : Type 0} (f : A → B) (x y : B) (o : Result A E) → IfOk o (λ a. f a ≡ x) → x ≡ y → IfOk o (λ a. f a ≡ y)
 same-ok f x y (Ok a) h e = h ∙ e

@@ -1,4 +1,3 @@
-use Rattle.std.proofs.Common.{◌≡◌, refl, sym, ap, ◌∙◌, subst, rules}
 use Rattle.mbe.proofs.TheLoopLemmas.{not-one}
 use Rattle.mbe.proofs.matcher.only_ended.Goals as goal
 

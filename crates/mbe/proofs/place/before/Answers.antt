@@ -1,4 +1,4 @@
-use Rattle.std.proofs.Common.{◌≡◌, sym, ap, ◌∙◌}
+use Rattle.std.proofs.Common.{sym, ap, ◌∙◌}
 use Rattle.tt_data.specs.Forest.{joined}
 use Rattle.mbe_rules.specs.Trees.{before, past}
 use Rattle.mbe.proofs.PlaceLemmas.{before-past, joined-cancel}

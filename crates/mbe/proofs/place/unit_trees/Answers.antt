@@ -1,4 +1,4 @@
-use Rattle.std.proofs.Common.{◌≡◌, sym, ◌∙◌}
+use Rattle.std.proofs.Common.{sym, ◌∙◌}
 use Rattle.mbe.proofs.PlaceLemmas.{no-glue}
 use Rattle.mbe.proofs.place.unit_trees.Goals as goal
 

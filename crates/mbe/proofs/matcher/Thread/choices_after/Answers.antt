@@ -1,4 +1,4 @@
-use Rattle.std.proofs.Common.{◌≡◌, sym, ap, ◌∙◌, Some, None, ◌++◌, ◌∷◌, []}
+use Rattle.std.proofs.Common.{sym, ap, ◌∙◌, ◌++◌, ◌∷◌, []}
 use Rattle.mbe.specs.Places.{place_of}
 use Rattle.mbe.specs.Threads.{moves_of}
 use Rattle.mbe.specs.declared.matcher.Frame.TheVariants.{InRound, Parted}

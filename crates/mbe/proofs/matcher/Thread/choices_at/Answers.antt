@@ -1,6 +1,6 @@
-use Rattle.std.proofs.Common.{◌≡◌, sym, ap, ◌∙◌, ◌∷◌, map, option_map}
+use Rattle.std.proofs.Common.{sym, ap, ◌∙◌, ◌∷◌, map}
 use Rattle.mbe_rules.specs.Items.{repetition}
-use Rattle.mbe_rules.specs.Ops.{put_op, items_of, separator_of}
+use Rattle.mbe_rules.specs.Ops.{put_op, items_of}
 use Rattle.mbe_rules.proofs.OpsLemmas.{put-Repeat, put-Subtree}
 use Rattle.mbe.specs.Paths.{when}
 use Rattle.mbe.specs.Places.{place_of}

@@ -1,4 +1,4 @@
-use Rattle.std.proofs.Common.{◌≡◌, refl, sym, ap, subst, ◌∙◌, List, [], ◌∷◌, Option, Some, None, false, rules}
+use Rattle.std.proofs.Common.{◌≡◌, refl, List, [], ◌∷◌, Some, false}
 use Rattle.std.specs.List.{slice_get}
 use Rattle.mbe_rules.specs.Ops.{items_of}
 use Rattle.mbe_rules.specs.declared.parser.Op.{Op, Var, Count, Index, Len, Ignore, Concat, Literal, Ident, Punct, Lifetime, Repeat', Subtree'}
