@@ -12,3 +12,6 @@ pub mod Parsing
 pub mod Ops
 pub mod Likeness
 pub mod Relabelling
+-- what the functions inside the crate promise each other
+pub mod Steps
+pub mod Reading

@@ -2,10 +2,16 @@
 #![tactic(auto)]
 
 pub mod copies;
+mod editions;
 pub mod errors;
+mod expressions;
+mod heads;
+mod items;
+mod kinds;
 pub mod laws;
 pub mod macro_call_style;
 pub mod parser;
+mod repetitions;
 pub mod rules;
 pub mod validation;
 
