@@ -2,5 +2,5 @@ pub mod RelabelLemmas
 pub mod ParsingLemmas
 pub mod OpsLemmas
 pub mod CopyLemmas
-mod Written
+pub mod Written
 mod Rows

@@ -4,7 +4,7 @@ use Rattle.tt_data.specs.Forest.{Forest, empty, leaf, group, map_spans}
 use Rattle.tt_data.specs.Spans.{leaf_with, delimiter_with}
 use Rattle.tt_data.specs.declared.leaf.Leaf.TheVariants as as_leaf
 use Rattle.tt_data.specs.declared.span.Span.{Span}
-use Rattle.mbe_rules.specs.Glued.{glued_count}
+use Rattle.tt.specs.Glued.{glued_count}
 use Rattle.mbe_rules.specs.Items.{dollar, variable, Items, done, item, group_of, repetition, variables, can_match_nothing, has_empty_round}
 use Rattle.mbe_rules.specs.Relabelling.{punct_with, items_with}
 use Rattle.mbe_rules.specs.Trees.{before, past, first_puncts, inside, signs}

@@ -1,6 +1,5 @@
 -- the rules of a definition, in reading order
 pub mod Text
-pub mod Glued
 pub mod Trees
 pub mod Items
 pub mod Parsed

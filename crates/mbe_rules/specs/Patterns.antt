@@ -17,7 +17,7 @@ use Rattle.mbe_rules.specs.declared.parser.MetaVarKind.{MetaVarKind}
 use Rattle.mbe_rules.specs.declared.parser.MetaVarKind.TheVariants as kind
 use Rattle.mbe_rules.specs.declared.parser.RepeatKind.{RepeatKind}
 use Rattle.mbe_rules.specs.Text.{same_kind, is_nil, is_truth, is_word, is_char}
-use Rattle.mbe_rules.specs.Glued.{glued_count}
+use Rattle.tt.specs.Glued.{glued_count}
 use Rattle.mbe_rules.specs.Trees.{first_puncts}
 use Rattle.mbe_rules.specs.Items.{Dollar, variable, Item, word, puncts, lifetime, dollar, Items, done, item, group_of, repetition}
 use Rattle.mbe_rules.specs.Parsed.{Parsed, ◌>>=◌, unexpected, expected, or_fault}

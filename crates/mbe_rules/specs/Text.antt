@@ -4,8 +4,6 @@ use Rattle.std.specs.Str.{bytes_eq}
 use Prim.Native.String.{String}
 use Rattle.tt_data.specs.declared.leaf.Ident.{Ident}
 use Rattle.tt_data.specs.declared.leaf.Punct.{Punct}
-use Rattle.tt_data.specs.declared.leaf.Spacing.{Spacing}
-use Rattle.tt_data.specs.declared.leaf.Spacing.TheVariants.{Alone, Joint}
 use Rattle.tt_data.specs.declared.delimiter.DelimiterKind.{DelimiterKind}
 use Rattle.tt_data.specs.declared.delimiter.DelimiterKind.TheVariants.{Parenthesis, Brace, Bracket, Invisible}
 
@@ -37,16 +35,6 @@ is_character written c = nat_eq c (slice_index (codes written) 0)
 -- the punct is this character
 abbrev pub is_char : String → Punct → Bool
 is_char written p = is_character written p.char
-
--- a punct behind which none stands directly
-abbrev pub is_alone : Spacing → Bool
-is_alone Alone = true
-is_alone _ = false
-
--- a punct right behind which another stands
-abbrev pub is_joint : Spacing → Bool
-is_joint Joint = true
-is_joint _ = false
 
 -- two brackets are of one kind
 abbrev pub same_kind : DelimiterKind → DelimiterKind → Bool

@@ -161,7 +161,7 @@ fn copy_ops(alloc: Global, ops: &[Op]) -> Result<Vec<Op>, AllocError>
 }
 
 impl Rule {
-    /// The same rule.
+    /// The same rule, separators and all, in vectors of its own. `Err`: memory was refused.
     pub fn try_clone(&self, alloc: Global) -> Result<Rule, AllocError>
         ensures { IfOk result (λ r. rule_of r ≡ rule_of self.now) }
     {
@@ -176,7 +176,7 @@ impl Rule {
 }
 
 impl Rules {
-    /// The same rules.
+    /// The same rules, separators and all, in vectors of their own. `Err`: memory was refused.
     pub fn try_clone(&self, alloc: Global) -> Result<Rules, AllocError>
         ensures { IfOk result (λ r. rules_of r ≡ rules_of self.now) }
     {

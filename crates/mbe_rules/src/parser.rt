@@ -9,23 +9,39 @@ use tt_data::delimiter::Delimiter;
 use tt_data::leaf::{Ident, Literal, Punct};
 use tt_data::span::Span;
 
-/// What a variable of a pattern takes.
+/// What a variable of a pattern takes, by the word after its colon. (The Rust Reference, "Macros By
+/// Example": metavariables.)
 #[derive(Clone, Copy, PartialEq, Eq, Debug)]
 pub enum MetaVarKind {
+    /// `path`
     Path,
+    /// `ty`
     Ty,
+    /// `pat`, since edition 2021: a pattern, or several with `|` between them.
     Pat,
+    /// `pat_param`, and `pat` before edition 2021: one pattern.
     PatParam,
+    /// `stmt`
     Stmt,
+    /// `block`
     Block,
+    /// `meta`
     Meta,
+    /// `item`
     Item,
+    /// `vis`
     Vis,
+    /// `expr`, since edition 2024.
     Expr,
+    /// `expr_2021`, and `expr` before edition 2024: neither `_` nor a `const` block begins it.
     Expr2021,
+    /// `ident`
     Ident,
+    /// `tt`
     Tt,
+    /// `lifetime`
     Lifetime,
+    /// `literal`
     Literal,
 }
 
@@ -43,10 +59,13 @@ pub enum RepeatKind {
 /// What stands between the rounds of a repetition.
 #[derive(Debug, Drop)]
 pub enum Separator {
+    /// A literal.
     Literal(Literal),
+    /// An identifier.
     Ident(Ident),
+    /// A quote and its name.
     Lifetime(Punct, Ident),
-    /// One to three puncts.
+    /// One to three puncts, glued or not.
     Puncts(Vec<Punct>),
 }
 
@@ -106,10 +125,11 @@ pub enum ConcatElement {
     Var(Symbol),
 }
 
-/// An item of a pattern or a template. `id` is the place of the `$` that begins it.
+/// An item of a pattern or a template. `id` is the place of the `$` that begins it. A depth counts
+/// levels of repetitions.
 #[derive(PartialEq, Eq, Debug, Drop)]
 pub enum Op {
-    /// `$name:kind`, and `$name` in a template.
+    /// `$name:kind`, where `kind` is `None` if the word names none; and `$name` in a template, without one.
     Var {
         name: Symbol,
         kind: Option<MetaVarKind>,
@@ -152,7 +172,9 @@ pub enum Op {
         tokens: Vec<Op>,
         delimiter: Delimiter,
     },
+    /// A literal.
     Literal(Literal),
+    /// An identifier.
     Ident(Ident),
     /// One to three puncts that are glued to one.
     Punct(Vec<Punct>),

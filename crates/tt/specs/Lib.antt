@@ -2,6 +2,7 @@
 pub mod Views
 pub mod Elements
 pub mod FirstTrees
+pub mod Glued
 pub mod Tops
 pub mod Places
 pub mod Splitting

@@ -1,12 +1,22 @@
 -- Puncts that are glued to one. (The Rust Reference, "Tokens": punctuation.)
-use Rattle.std.specs.Prelude.{ℕ, Bool, ◌&&◌, ◌||◌, not, codes, if◌then◌else◌}
+use Rattle.std.specs.Prelude.{ℕ, Bool, true, false, ◌&&◌, ◌||◌, not, nat_eq, codes, if◌then◌else◌}
 use Rattle.std.specs.List.{list_any}
 use Prim.Native.String.{String}
-use Rattle.std.specs.Prelude.{nat_eq}
 use Rattle.tt_data.specs.Forest.{Forest, leaf}
 use Rattle.tt_data.specs.declared.leaf.Leaf.TheVariants as as_leaf
 use Rattle.tt_data.specs.declared.leaf.Punct.{Punct}
-use Rattle.mbe_rules.specs.Text.{is_alone, is_joint}
+use Rattle.tt_data.specs.declared.leaf.Spacing.{Spacing}
+use Rattle.tt_data.specs.declared.leaf.Spacing.TheVariants.{Alone, Joint}
+
+-- a punct behind which none stands directly
+abbrev pub is_alone : Spacing → Bool
+is_alone Alone = true
+is_alone _ = false
+
+-- a punct right behind which another stands
+abbrev pub is_joint : Spacing → Bool
+is_joint Joint = true
+is_joint _ = false
 
 -- the character is one of these
 abbrev pub is_among : String → ℕ → Bool
