@@ -2,5 +2,9 @@ pub mod RelabelLemmas
 pub mod ParsingLemmas
 pub mod OpsLemmas
 pub mod CopyLemmas
+pub mod HeadLemmas
+pub mod ItemLemmas
+pub mod ShapeLemmas
+pub mod DefinitionLemmas
 pub mod Written
 mod Rows

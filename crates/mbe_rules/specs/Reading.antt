@@ -1,8 +1,8 @@
 -- What the parser's functions answer, in the words of the definitions.
-use Rattle.std.specs.Prelude.{ℕ, ◌≤◌, ◌+◌, ◌&&◌, not, if◌then◌else◌, List, Option, Some, None, option_map, Result, Ok, Err}
+use Rattle.std.specs.Prelude.{ℕ, ◌≤◌, ◌+◌, ◌&&◌, not, if◌then◌else◌, List, ◌++◌, Option, Some, None, option_map, Result, Ok, Err}
 use Rattle.std.specs.declared.vec.Vec.{Vec}
 use Rattle.std.specs.declared.alloc.Global.{Global}
-use Rattle.tt_data.specs.Forest.{Forest, leaf, group, size}
+use Rattle.tt_data.specs.Forest.{Forest, empty, leaf, group, size}
 use Rattle.tt_data.specs.declared.edition.Edition.{Edition}
 use Rattle.tt_data.specs.declared.leaf.Leaf.TheVariants as as_leaf
 use Rattle.tt_data.specs.declared.leaf.Punct.{Punct}
@@ -12,20 +12,27 @@ use Rattle.tt_data.specs.declared.span.SyntaxContext.TheVariants.{Written, Made}
 use Rattle.mbe_rules.specs.Expressions.{expression_in}
 use Rattle.mbe_rules.specs.Items as spec
 use Rattle.mbe_rules.specs.Items.{variable, dollar, Items, done, item, group_of, repetition}
+use Rattle.mbe_rules.specs.Ops as ops
 use Rattle.mbe_rules.specs.Ops.{put_op, items_of, separator_of}
 use Rattle.mbe_rules.specs.Parsed.{Parsed, ◌>>=◌, unexpected, or_fault}
+use Rattle.mbe_rules.specs.Parsing.{Delimiting, by_semicolon, by_semicolon_or_comma, rule_of}
 use Rattle.mbe_rules.specs.Patterns as patterns
 use Rattle.mbe_rules.specs.Patterns.{Mode, in_pattern, in_template, Head, trees_of, item_of, kind_of, is_repetition}
 use Rattle.mbe_rules.specs.Repetitions.{Between, trees_between, separator_in, operator_of}
 use Rattle.mbe_rules.specs.Text.{is_char, is_word}
-use Rattle.mbe_rules.specs.Trees.{past}
+use Rattle.mbe_rules.specs.Trees.{past, inside}
+use Rattle.mbe_rules.specs.declared.definitions.Delimiting as definitions
+use Rattle.mbe_rules.specs.declared.definitions.Delimiting.TheVariants.{Semicolon, SemicolonOrComma}
 use Rattle.mbe_rules.specs.declared.editions.Editions.{Editions}
 use Rattle.mbe_rules.specs.declared.errors.ParseError.{ParseError}
-use Rattle.mbe_rules.specs.declared.heads.Mode as declared_mode
+use Rattle.mbe_rules.specs.declared.heads.Mode as heads
 use Rattle.mbe_rules.specs.declared.heads.Mode.TheVariants.{Pattern, Template}
+use Rattle.mbe_rules.specs.declared.macro_call_style.MacroCallStyle.{MacroCallStyle}
 use Rattle.mbe_rules.specs.declared.parser.Op.{Op}
 use Rattle.mbe_rules.specs.declared.parser.RepeatKind.{RepeatKind}
 use Rattle.mbe_rules.specs.declared.parser.Separator.{Separator}
+use Rattle.mbe_rules.specs.declared.rules.Rule.{Rule}
+use Rattle.mbe_rules.specs.declared.shapes.RuleParts.{RuleParts}
 
 -- ---- what is asked
 
@@ -35,7 +42,7 @@ edition_in e Written = e.written
 edition_in e Made = e.made
 
 -- whether a pattern or a template is read
-abbrev pub mode_of : declared_mode.Mode → Mode
+abbrev pub mode_of : heads.Mode → Mode
 mode_of Pattern = in_pattern
 mode_of Template = in_template
 
@@ -114,3 +121,39 @@ Shortens f (Err e) = Unit {0}
 abbrev pub repetition_parts : Punct → Forest → Option (Forest × Forest)
 repetition_parts p (group d inner rest) = if is_repetition p d then Some (inner, rest) else None
 repetition_parts p _ = None
+
+-- ---- rules
+
+-- the parts of the rule at the head of a list, where its style is known, and the number of trees before its pattern
+abbrev pub parts_read : Forest → Parsed (MacroCallStyle × ℕ) → Parsed RuleParts
+parts_read f shape =
+    shape >>= λ s. Ok (record { style = s.0; pattern = inside (past s.1 f); template = inside (past (s.1 + 3) f); rest = past (s.1 + 4) f })
+
+-- a rule of the program
+abbrev pub rule_read : Result Rule ParseError → Parsed spec.Rule
+rule_read (Ok r) = Ok (ops.rule_of r)
+rule_read (Err e) = Err e
+
+-- a rule of the program, and the trees after it
+abbrev pub rule_and_rest : Result (Rule × Forest) ParseError → Parsed (spec.Rule × Forest)
+rule_and_rest (Ok r) = Ok (ops.rule_of r.0, r.1)
+rule_and_rest (Err e) = Err e
+
+-- the rule of these parts, and the trees after it
+abbrev pub rule_in : (SyntaxContext → Edition) → Parsed RuleParts → Parsed (spec.Rule × Forest)
+rule_in edition parts = parts >>= λ p. rule_of edition p.style p.pattern p.template >>= λ r. Ok (r, p.rest)
+
+-- rules before others
+abbrev pub rules_before : List spec.Rule → spec.Rules → spec.Rules
+rules_before rs more = record { list = rs ++ more.list; err = more.err }
+
+-- what may stand between rules
+abbrev pub delimiting_of : definitions.Delimiting → Delimiting
+delimiting_of Semicolon = by_semicolon
+delimiting_of SemicolonOrComma = by_semicolon_or_comma
+
+-- the trees after what stands between rules; none are needed where none are left
+abbrev pub after_delimiter : Delimiting → Forest → Option Forest
+after_delimiter between empty = Some empty
+after_delimiter between (leaf (as_leaf.Punct p) rest) = if between.is_between p.char then Some rest else None
+after_delimiter between _ = None

@@ -15,7 +15,7 @@ pub(crate) fn expression(
     trees: TtIter<'_>,
     span: Span,
 ) -> Result<Option<Op>, TtFault>
-    ensures expression { IfOk result (λ r. meaning r ≡ standing_at span (expression_in trees)) }
+    ensures expression { IfOk result (λ r. meaning r ≡ standing_at span (expression_in trees.entry)) }
     ensures memory { IsOkUnless result fault.Memory }
 {
     Err(TtFault::Memory)

@@ -4,7 +4,7 @@ ghost use Rattle.tt_data.specs.Forest.{leaf, group};
 ghost use Rattle.tt_data.specs.declared.edition.Edition.{Edition};
 ghost use Rattle.tt_data.specs.declared.leaf.Leaf.TheVariants as as_leaf;
 ghost use Rattle.tt_data.specs.declared.span.SyntaxContext.{SyntaxContext};
-ghost use Rattle.mbe_rules.specs.Glued.{is_two, is_three, is_pair, is_triple, glued_count};
+ghost use Rattle.tt.specs.Glued.{is_two, is_three, is_pair, is_triple, glued_count};
 ghost use Rattle.mbe_rules.specs.Items.{word, done, item};
 ghost use Rattle.mbe_rules.specs.Ops.{put_op};
 ghost use Rattle.mbe_rules.specs.Text.{is_truth, is_nil};
@@ -242,19 +242,21 @@ fn dollar_group<'a>(
     ensures { IfOk result (λ r. (edition : SyntaxContext → Edition) → op_read r ≡ head_read sign (group delimiter inner.entry rest.entry)
         (dollar_head edition (mode_of mode) (group delimiter inner.entry rest.entry))) }
 {
-    if delimiter.kind != DelimiterKind::Brace {
-        let e = expected(alloc, "expected `$()` repetition or `${}` expression")?;
-        return Ok(Err(e));
-    }
-    match mode {
-        Mode::Pattern => {
-            let text = "`${}` metavariable expressions are not allowed in matchers";
-            let e = unexpected(alloc, text)?;
+    match delimiter.kind {
+        DelimiterKind::Brace => match mode {
+            Mode::Pattern => {
+                let text = "`${}` metavariable expressions are not allowed in matchers";
+                let e = unexpected(alloc, text)?;
+                Ok(Err(e))
+            }
+            Mode::Template => {
+                let read = braces(alloc, sign, inner, rest)?;
+                Ok(read)
+            }
+        },
+        _ => {
+            let e = expected(alloc, "expected `$()` repetition or `${}` expression")?;
             Ok(Err(e))
-        }
-        Mode::Template => {
-            let read = braces(alloc, sign, inner, rest)?;
-            Ok(read)
         }
     }
 }

@@ -2,6 +2,7 @@
 #![tactic(auto)]
 
 pub mod copies;
+mod definitions;
 mod editions;
 pub mod errors;
 mod expressions;
@@ -13,8 +14,10 @@ pub mod macro_call_style;
 pub mod parser;
 mod repetitions;
 pub mod rules;
+mod shapes;
 pub mod validation;
 
+pub use definitions::{parse_macro_rules, parse_macro2};
 pub use errors::ParseError;
 pub use macro_call_style::MacroCallStyle;
 pub use parser::{ConcatElement, MetaVarKind, Op, RepeatKind, Separator};
