@@ -1,5 +1,5 @@
 -- The rules of a list of trees, one after another.
-use Rattle.std.proofs.Common.{◌≡◌, refl, sym, ap, ◌∙◌, ℕ, zero, suc, ◌+◌, ◌≤◌, ◌<◌, Bool, true, false, List, [], ◌∷◌, ◌++◌, map, Option, Some, None, Ok, Err, if◌then◌else◌, ⊥, absurd, arith}
+use Rattle.std.proofs.Common.{◌≡◌, refl, sym, ap, ◌∙◌, ℕ, zero, suc, ◌+◌, ◌≤◌, ◌<◌, Bool, true, false, List, [], ◌∷◌, ◌++◌, map, Option, Some, None, Ok, Err, if◌then◌else◌, arith}
 use Rattle.tt_data.specs.Forest.{Forest, empty, leaf, group, size}
 use Rattle.tt_data.specs.declared.edition.Edition.{Edition}
 use Rattle.tt_data.specs.declared.leaf.Leaf.TheVariants as as_leaf
@@ -7,11 +7,12 @@ use Rattle.tt_data.specs.declared.span.SyntaxContext.{SyntaxContext}
 use Rattle.mbe_rules.specs.Items as spec
 use Rattle.mbe_rules.specs.Ops as ops
 use Rattle.mbe_rules.specs.Parsed.{Parsed, ◌>>=◌}
-use Rattle.mbe_rules.specs.Parsing.{Delimiting, no_rules, with_rule, delimited, rule_then, rule_shape, rule_of, rule_at, rules_with, rules_after}
+use Rattle.mbe_rules.specs.Parsing.{Delimiting, no_rules, with_rule, delimited, rule_then, rule_shape, rule_of, rule_at, rules_with, rules_after, ending, macro_of}
 use Rattle.mbe_rules.specs.Reading.{parts_read, rule_in, rule_and_rest, rules_before, after_delimiter}
 use Rattle.mbe_rules.specs.Trees.{past, signs}
 use Rattle.mbe_rules.specs.declared.errors.ParseError.{ParseError}
 use Rattle.mbe_rules.specs.declared.macro_call_style.MacroCallStyle.{MacroCallStyle}
+use Rattle.mbe_rules.specs.declared.macro_call_style.MacroCallStyle.TheVariants.{FnLike}
 use Rattle.mbe_rules.specs.declared.rules.Rule.{Rule}
 
 append-nil : {A : Type 0} (xs : List A) → (xs ++ []) ≡ xs
@@ -44,15 +45,19 @@ past-shorter n (leaf l rest) some = let i = past-size n rest in omega arith
 past-shorter n (group d inner rest) some = let i = past-size n rest in omega arith
 
 delimiter-shorter : (between : Delimiting) (f g : Forest) → after_delimiter between f ≡ Some g → size g ≤ size f
-delimiter-shorter between empty g h = let s : size empty ≡ size g = ap size (cc h) in omega (arith, s)
+delimiter-shorter between empty g h = let same : empty ≡ g = cc h in let s = ap size same in omega (arith, s)
 delimiter-shorter between (leaf (as_leaf.Punct p) rest) g h = go (between.is_between p.char) h
   where
     go : (b : Bool) → (if b then Some rest else None) ≡ Some g → size g ≤ size (leaf (as_leaf.Punct p) rest)
-    go true k = let s : size rest ≡ size g = ap size (cc k) in omega (arith, s)
+    go true k = let same : rest ≡ g = cc k in let s = ap size same in omega (arith, s)
     go false k = absurd (cc k)
 delimiter-shorter between (leaf (as_leaf.Ident i) rest) g h = absurd (cc h)
 delimiter-shorter between (leaf (as_leaf.Literal l) rest) g h = absurd (cc h)
 delimiter-shorter between (group d inner rest) g h = absurd (cc h)
+
+-- a rule and the trees after it
+abbrev with_rest : Forest → spec.Rule → Parsed (spec.Rule × Forest)
+with_rest f r = Ok (r, f)
 
 module _ (edition : SyntaxContext → Edition) where
   rest-shorter : (f g : Forest) (r : spec.Rule) (shape : Parsed (MacroCallStyle × ℕ)) → (f ≡ empty → ⊥) →
@@ -60,12 +65,13 @@ module _ (edition : SyntaxContext → Edition) where
   rest-shorter f g r (Err e) some h = absurd (cc h)
   rest-shorter f g r (Ok s) some h = go (rule_at edition f s) h
     where
-      go : (p : Parsed spec.Rule) → (p >>= λ x. Ok (x, past (s.1 + 4) f)) ≡ Ok (r, g) → size g < size f
+      go : (p : Parsed spec.Rule) → (p >>= with_rest (past (s.1 + 4) f)) ≡ Ok (r, g) → size g < size f
       go (Err e) k = absurd (cc k)
       go (Ok x) k =
           let same : past (s.1 + 4) f ≡ g = cc k in
-          let less : size (past (suc (s.1 + 3)) f) < size f = past-shorter (s.1 + 3) f some in
-          let s' : size (past (s.1 + 4) f) ≡ size g = ap size same in omega (arith, less, s')
+          let count : suc (s.1 + 3) ≡ s.1 + 4 = omega arith in
+          let less = past-shorter (s.1 + 3) f some in
+          let whole = ap (λ n. size (past n f)) count ∙ ap size same in omega (arith, less, whole)
 
   module _ (between : Delimiting) where
     skipped : (n : ℕ) (f : Forest) → rules_after edition between n f ≡ rules_after edition between 0 (past n f)
@@ -108,7 +114,7 @@ module _ (edition : SyntaxContext → Edition) where
 
         go : (p : Parsed spec.Rule) →
             rule_then p (delimited between (signs (past (s.1 + 4) f)) (rules_after edition between (s.1 + 4) tail))
-            ≡ by_first (p >>= λ r. Ok (r, past (s.1 + 4) f))
+            ≡ by_first (p >>= with_rest (past (s.1 + 4) f))
         go (Err e) = refl
         go (Ok r) = ap (with_rule r) (ap (delimited between (signs (past (s.1 + 4) f))) passed ∙ delimited-next (past (s.1 + 4) f))
 
@@ -137,13 +143,14 @@ module _ (edition : SyntaxContext → Edition) where
         ∙ ap (λ (us : List spec.Rule). record { list = us; err = Some e }) (append-nil (map ops.rule_of rs)))
 
     -- a rule, and after it what may not stand there
-    pub at_no_delimiter : (rs news : List Rule) (r : Rule) (trees rest behind : Forest) → (rest ≡ empty → ⊥) → news ≡ rs ++ (r ∷ []) →
+    pub at_no_delimiter : (rs news : List Rule) (r : Rule) (e : ParseError) (trees rest behind : Forest) → (rest ≡ empty → ⊥) → news ≡ rs ++ (r ∷ []) →
         rules_after edition between 0 trees ≡ rules_before (map ops.rule_of rs) (rules_after edition between 0 rest) →
         Ok (ops.rule_of r, behind) ≡ rule_in edition (parts_read rest (rule_shape (signs rest))) →
-        after_delimiter between behind ≡ None →
-        record { list = map ops.rule_of news; err = Some between.fault } ≡ rules_after edition between 0 trees
-    at_no_delimiter rs news r trees rest behind some pushed all read none =
-        sym (all ∙ ap (rules_before (map ops.rule_of rs)) (rules-first rest some ∙ ap by_first (sym read) ∙ ap (λ o. with_rule (ops.rule_of r) (next_rules o)) none)
+        after_delimiter between behind ≡ None → e ≡ between.fault →
+        record { list = map ops.rule_of news; err = Some e } ≡ rules_after edition between 0 trees
+    at_no_delimiter rs news r e trees rest behind some pushed all read none told =
+        ap (λ (x : ParseError). record { list = map ops.rule_of news; err = Some x }) told
+        ∙ sym (all ∙ ap (rules_before (map ops.rule_of rs)) (rules-first rest some ∙ ap by_first (sym read) ∙ ap (λ o. with_rule (ops.rule_of r) (next_rules o)) none)
         ∙ ap (λ (us : List spec.Rule). record { list = us; err = Some between.fault }) (sym (map-push rs r) ∙ ap (map ops.rule_of) (sym pushed)))
 
     -- a rule, and the trees after what stands behind it
@@ -160,3 +167,18 @@ module _ (edition : SyntaxContext → Edition) where
       let less = rest-shorter rest behind (ops.rule_of r) (rule_shape (signs rest)) some (sym read) in
       let fewer = delimiter-shorter between behind next there in omega (arith, less, fewer),
     )
+
+
+-- ---- whole definitions
+
+pub rules-read : (e edition : SyntaxContext → Edition) (between : Delimiting) (f walked : Forest) (r u : spec.Rules) → e ≡ edition → walked ≡ f →
+    r ≡ rules_after e between 0 walked → u ≡ ending r → u ≡ ending (rules_after edition between 0 f)
+rules-read e edition between f walked r u same is read ended =
+    ended ∙ ap ending (read ∙ ap (λ x. rules_after x between 0 walked) same ∙ ap (rules_after edition between 0) is)
+
+pub one_rule-read : (e edition : SyntaxContext → Edition) (p q walked_p walked_q : Forest) (r u : spec.Rules) → e ≡ edition → walked_p ≡ p → walked_q ≡ q →
+    r ≡ rule_then (rule_of e FnLike walked_p walked_q) (no_rules None) → u ≡ ending r → u ≡ macro_of edition (Some p) q
+one_rule-read e edition p q walked_p walked_q r u same is_p is_q read ended =
+    ended ∙ ap ending (read ∙ ap (λ x. rule_then (rule_of x FnLike walked_p walked_q) (no_rules None)) same
+    ∙ ap (λ x. rule_then (rule_of edition FnLike x walked_q) (no_rules None)) is_p
+    ∙ ap (λ x. rule_then (rule_of edition FnLike p x) (no_rules None)) is_q)

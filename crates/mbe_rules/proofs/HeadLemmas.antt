@@ -1,5 +1,5 @@
 -- What a `$` before braces begins.
-use Rattle.std.proofs.Common.{◌≡◌, refl, ap, Bool, true, false, Option, Some, None, option_map, if◌then◌else◌, absurd}
+use Rattle.std.proofs.Common.{◌≡◌, refl, ap, Bool, true, false, Option, Some, None, option_map, if◌then◌else◌}
 use Rattle.tt_data.specs.Forest.{Forest, group}
 use Rattle.tt_data.specs.declared.delimiter.Delimiter.{Delimiter}
 use Rattle.tt_data.specs.declared.delimiter.DelimiterKind.{DelimiterKind}

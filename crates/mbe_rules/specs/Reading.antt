@@ -1,5 +1,5 @@
 -- What the parser's functions answer, in the words of the definitions.
-use Rattle.std.specs.Prelude.{ℕ, ◌≤◌, ◌+◌, ◌&&◌, not, if◌then◌else◌, List, ◌++◌, Option, Some, None, option_map, Result, Ok, Err}
+use Rattle.std.specs.Prelude.{ℕ, ◌≤◌, ◌+◌, ◌&&◌, not, nat_eq, if◌then◌else◌, List, ◌++◌, Option, Some, None, option_map, Result, Ok, Err}
 use Rattle.std.specs.declared.vec.Vec.{Vec}
 use Rattle.std.specs.declared.alloc.Global.{Global}
 use Rattle.tt_data.specs.Forest.{Forest, empty, leaf, group, size}
@@ -123,6 +123,16 @@ repetition_parts p (group d inner rest) = if is_repetition p d then Some (inner,
 repetition_parts p _ = None
 
 -- ---- rules
+
+-- what the group at the head of a list has inside, and the trees after it
+abbrev pub group_next : Forest → Option (Forest × Forest)
+group_next (group d inner rest) = Some (inner, rest)
+group_next _ = None
+
+-- the trees after this character
+abbrev pub after_char : ℕ → Forest → Option Forest
+after_char c (leaf (as_leaf.Punct p) rest) = if nat_eq p.char c then Some rest else None
+after_char c _ = None
 
 -- the parts of the rule at the head of a list, where its style is known, and the number of trees before its pattern
 abbrev pub parts_read : Forest → Parsed (MacroCallStyle × ℕ) → Parsed RuleParts

@@ -182,7 +182,7 @@ fn is_endless(list: &[Rule]) -> bool
 
 // The same rules, with the fault that comes before all others where one of them can go round without end.
 fn ending(rules: Rules) -> Rules
-    ensures { rules_of result ≡ parsing.ending (rules_of rules.entry) }
+    ensures { rules_of result ≡ parsing.ending (rules_of rules) }
 {
     if is_endless(&rules.list) {
         return Rules {
@@ -226,7 +226,7 @@ pub fn parse_macro2<F: Fn(SyntaxContext) -> Edition>(
 ) -> Result<Rules, TtFault>
     requires { F.IsAlwaysCallable ctx_edition }
     ensures ok { (edition : SyntaxContext → Edition) → IsAnsweredBy (F.post ctx_edition) edition →
-        IfOk result (λ r. rules_of r ≡ macro_of edition (option_map (λ t. t.now.inner) args) body.now.inner) }
+        IfOk result (λ r. rules_of r ≡ macro_of edition (option_map (λ t. t.now.inner) args.entry) body.now.inner) }
     ensures memory { IsOkUnless result fault.Memory }
 {
     let editions = Editions::of(ctx_edition);

@@ -1,7 +1,7 @@
 //! The shape of a rule: its style, its pattern and its template, by the signs between them.
 ghost use Rattle.std.specs.Prelude.{◌≡◌, IfOk, Err};
 ghost use Rattle.mbe_rules.specs.Parsing.{arms, with_parentheses, styled, rule_shape};
-ghost use Rattle.mbe_rules.specs.Reading.{parts_read};
+ghost use Rattle.mbe_rules.specs.Reading.{group_next, after_char, parts_read};
 ghost use Rattle.mbe_rules.specs.Trees.{signs};
 ghost use Rattle.mbe_rules.specs.declared.errors.ParseError.TheVariants as error;
 
@@ -10,7 +10,6 @@ use crate::macro_call_style::MacroCallStyle;
 use crate::repetitions::again;
 use std::alloc::{AllocError, Global};
 use tt::iter::{TtElement, TtIter};
-use tt_data::leaf::Leaf;
 
 // A rule's style, what its pattern and its template have inside, and the trees after it.
 #[derive(Drop)]
@@ -29,7 +28,30 @@ fn missing<'a>(alloc: Global, text: &str) -> Result<Parsed<RuleParts<'a>>, Alloc
     Ok(Err(e))
 }
 
+// What the group at the head of a list has inside, and the trees after it.
+fn group_next<'a>(trees: &TtIter<'a>) -> Option<(TtIter<'a>, TtIter<'a>)>
+    ensures { result ≡ group_next trees.now }
+{
+    let mut rest = again(trees);
+    match rest.next()? {
+        TtElement::Subtree(_subtree, inner) => Some((inner, rest)),
+        TtElement::Leaf(_leaf) => None,
+    }
+}
+
+// The trees after this character.
+fn after_char<'a>(c: char, trees: &TtIter<'a>) -> Option<TtIter<'a>>
+    ensures { result ≡ after_char c trees.now }
+{
+    let (punct, rest) = trees.first_punct()?;
+    if punct.char != c {
+        return None;
+    }
+    Some(rest)
+}
+
 // A pattern, `=>` and a template.
+#[tactic(auto, using(crate::proofs::ShapeLemmas::arms_steps))]
 fn arms<'a>(
     alloc: Global,
     style: MacroCallStyle,
@@ -37,23 +59,16 @@ fn arms<'a>(
 ) -> Result<Parsed<RuleParts<'a>>, AllocError>
     ensures { IfOk result (λ r. r ≡ parts_read trees.now (arms style 0 (signs trees.now))) }
 {
-    let mut rest = again(trees);
-    let Some(TtElement::Subtree(_, pattern)) = rest.next() else {
+    let Some((pattern, behind)) = group_next(trees) else {
         return missing(alloc, "expected subtree");
     };
-    let Some(TtElement::Leaf(Leaf::Punct(equals))) = rest.next() else {
+    let Some(arrow) = after_char('=', &behind) else {
         return missing(alloc, "expected `=`");
     };
-    if equals.char != '=' {
-        return missing(alloc, "expected `=`");
-    }
-    let Some(TtElement::Leaf(Leaf::Punct(greater))) = rest.next() else {
+    let Some(right) = after_char('>', &arrow) else {
         return missing(alloc, "expected `>`");
     };
-    if greater.char != '>' {
-        return missing(alloc, "expected `>`");
-    }
-    let Some(TtElement::Subtree(_, template)) = rest.next() else {
+    let Some((template, rest)) = group_next(&right) else {
         return missing(alloc, "expected subtree");
     };
     Ok(Ok(RuleParts {
@@ -65,6 +80,7 @@ fn arms<'a>(
 }
 
 // A rule after the word for its style: a group has to stand before its pattern.
+#[tactic(auto, using(crate::proofs::ShapeLemmas::parentheses_steps))]
 fn with_parentheses<'a>(
     alloc: Global,
     style: MacroCallStyle,
@@ -72,34 +88,38 @@ fn with_parentheses<'a>(
 ) -> Result<Parsed<RuleParts<'a>>, AllocError>
     ensures { IfOk result (λ r. r ≡ parts_read trees.now (with_parentheses style 0 (signs trees.now))) }
 {
-    let mut rest = again(trees);
-    let Some(TtElement::Subtree(_, _)) = rest.next() else {
+    let Some((_inner, rest)) = group_next(trees) else {
         return missing(alloc, "expected `()`");
     };
     arms(alloc, style, &rest)
 }
 
 // A rule of one of the styles.
+#[tactic(auto, using(crate::proofs::ShapeLemmas::styled_steps))]
 fn styled<'a>(alloc: Global, trees: &TtIter<'a>) -> Result<Parsed<RuleParts<'a>>, AllocError>
     ensures { IfOk result (λ r. r ≡ parts_read trees.now (styled 0 (signs trees.now))) }
 {
-    let mut rest = again(trees);
-    let Some(TtElement::Leaf(Leaf::Ident(word))) = rest.next() else {
+    let Some((word, rest)) = trees.first_ident() else {
         return arms(alloc, MacroCallStyle::FnLike, trees);
     };
-    match word.sym.as_str() {
-        "attr" => with_parentheses(alloc, MacroCallStyle::Attr, &rest),
-        "derive" => with_parentheses(alloc, MacroCallStyle::Derive, &rest),
-        _ => arms(alloc, MacroCallStyle::FnLike, trees),
+    if word.sym.as_str() == "attr" {
+        return with_parentheses(alloc, MacroCallStyle::Attr, &rest);
     }
+    if word.sym.as_str() == "derive" {
+        return with_parentheses(alloc, MacroCallStyle::Derive, &rest);
+    }
+    arms(alloc, MacroCallStyle::FnLike, trees)
 }
 
 // The parts of the rule at the head of a list. An `unsafe` before it all changes nothing.
-pub(crate) fn parts<'a>(alloc: Global, trees: &TtIter<'a>) -> Result<Parsed<RuleParts<'a>>, AllocError>
+#[tactic(auto, using(crate::proofs::ShapeLemmas::shape_steps))]
+pub(crate) fn parts<'a>(
+    alloc: Global,
+    trees: &TtIter<'a>,
+) -> Result<Parsed<RuleParts<'a>>, AllocError>
     ensures { IfOk result (λ r. r ≡ parts_read trees.now (rule_shape (signs trees.now))) }
 {
-    let mut rest = again(trees);
-    let Some(TtElement::Leaf(Leaf::Ident(word))) = rest.next() else {
+    let Some((word, rest)) = trees.first_ident() else {
         return styled(alloc, trees);
     };
     if word.sym.as_str() == "unsafe" {
