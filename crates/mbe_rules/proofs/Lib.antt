@@ -2,6 +2,7 @@ pub mod RelabelLemmas
 pub mod ParsingLemmas
 pub mod OpsLemmas
 pub mod CopyLemmas
+pub mod ExpressionLemmas
 pub mod EditionLemmas
 pub mod HeadLemmas
 pub mod ItemLemmas

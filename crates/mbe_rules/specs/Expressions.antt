@@ -1,16 +1,16 @@
 -- Expressions over variables: what stands in `${..}`.
 -- (Rust's unstable book, `macro_metavar_expr` and `macro_metavar_expr_concat`.)
-use Rattle.std.specs.Prelude.{ℕ, ◌^◌, ◌&&◌, not, List, [], ◌∷◌, if◌then◌else◌, Option, Some, None, option_map, nat_lt}
+use Rattle.std.specs.Prelude.{ℕ, ◌^◌, ◌&&◌, not, List, [], ◌∷◌, if◌then◌else◌, Option, Some, None, option_map, option_and_then, nat_lt}
 use Rattle.std.specs.Str.{all_ascii_digits}
 use Rattle.std.specs.Str.Parse.{digits_value, without_leading_plus}
 use Rattle.tt_data.specs.Forest.{Forest, leaf, group}
 use Rattle.tt_data.specs.declared.delimiter.DelimiterKind.TheVariants.{Parenthesis}
 use Rattle.tt_data.specs.declared.leaf.Leaf.TheVariants as as_leaf
-use Rattle.mbe_rules.specs.Text.{same_kind, is, is_character}
+use Rattle.mbe_rules.specs.Text.{same_kind, is, is_character, is_nil}
 use Rattle.mbe_rules.specs.Trees.{Sign, name, literal, punct, signs}
 use Rattle.mbe_rules.specs.Items.{Part, itself, value_of, Dollar, count_of, index_of, len_of, ignore_of, concat_of}
 
--- the number that these decimal digits spell, one or more, where it is below 2 ^ 64
+-- the number that these decimal digits spell, one or more, where a `usize` has room for it: it has 64 bits
 abbrev pub number_of_digits : List ℕ → Option ℕ
 number_of_digits [] = None
 number_of_digits ds = if all_ascii_digits ds && nat_lt (digits_value 10 ds) (2 ^ 64) then Some (digits_value 10 ds) else None
@@ -22,36 +22,46 @@ number_in text = number_of_digits (without_leading_plus text)
 -- a depth: a literal without suffix that spells a number, of whatever form it is; nothing stands for 0
 abbrev pub depth_in : List Sign → Option ℕ
 depth_in [] = Some 0
-depth_in (literal text [] ∷ []) = number_in text
+depth_in (literal text suffix ∷ []) = if is_nil suffix then number_in text else None
 depth_in _ = None
+
+-- `$name`, and the signs after it
+abbrev pub variable_in : List Sign → Option (List ℕ × List Sign)
+variable_in (punct d ∷ name n ∷ more) = if is_character "$" d && not (is "_" n) then Some (n, more) else None
+variable_in _ = None
+
+-- a depth after a comma; nothing stands for 0
+abbrev pub depth_after : List Sign → Option ℕ
+depth_after [] = Some 0
+depth_after (punct c ∷ more) = if is_character "," c then depth_in more else None
+depth_after _ = None
 
 -- `$name`, and after a comma a depth
 abbrev pub count_in : List Sign → Option Dollar
-count_in (punct d ∷ name n ∷ []) = if is_character "$" d && not (is "_" n) then Some (count_of n 0) else None
-count_in (punct d ∷ name n ∷ punct c ∷ more) =
-    if is_character "$" d && (not (is "_" n) && is_character "," c) then option_map (count_of n) (depth_in more) else None
-count_in _ = None
+count_in ss = option_and_then (λ (v : List ℕ × List Sign). option_map (count_of v.0) (depth_after v.1)) (variable_in ss)
 
--- `$name`
+-- `$name` alone
 abbrev pub ignore_in : List Sign → Option Dollar
-ignore_in (punct d ∷ name n ∷ []) = if is_character "$" d && not (is "_" n) then Some (ignore_of n) else None
-ignore_in _ = None
+ignore_in ss = option_and_then (λ (v : List ℕ × List Sign). if is_nil v.1 then Some (ignore_of v.0) else None) (variable_in ss)
 
 -- a part before the parts after it
 abbrev pub with_part : Part → Option (List Part) → Option (List Part)
 with_part p ps = option_map (λ qs. p ∷ qs) ps
 
--- parts with commas between them, and perhaps one after the last: a literal, a name or `_`, or `$name`
-abbrev pub parts_in : List Sign → Option (List Part)
-parts_in [] = Some []
-parts_in (literal text suffix ∷ []) = Some (itself text ∷ [])
-parts_in (literal text suffix ∷ punct c ∷ more) = if is_character "," c then with_part (itself text) (parts_in more) else None
-parts_in (name n ∷ []) = Some (itself n ∷ [])
-parts_in (name n ∷ punct c ∷ more) = if is_character "," c then with_part (itself n) (parts_in more) else None
-parts_in (punct d ∷ name n ∷ []) = if is_character "$" d then Some (value_of n ∷ []) else None
-parts_in (punct d ∷ name n ∷ punct c ∷ more) =
-    if is_character "$" d && is_character "," c then with_part (value_of n) (parts_in more) else None
-parts_in _ = None
+-- parts with commas between them, and perhaps one after the last: a literal, a name or `_`, or `$` and such a name
+abbrev mutual
+  pub parts_in : List Sign → Option (List Part)
+  parts_in [] = Some []
+  parts_in (literal text suffix ∷ more) = part_then (itself text) more
+  parts_in (name n ∷ more) = part_then (itself n) more
+  parts_in (punct d ∷ name n ∷ more) = if is_character "$" d then part_then (value_of n) more else None
+  parts_in _ = None
+
+  -- a part, and after a comma the others
+  pub part_then : Part → List Sign → Option (List Part)
+  part_then p [] = Some (p ∷ [])
+  part_then p (punct c ∷ more) = if is_character "," c then with_part p (parts_in more) else None
+  part_then p _ = None
 
 -- two parts or more
 abbrev pub concat_in : Option (List Part) → Option Dollar
