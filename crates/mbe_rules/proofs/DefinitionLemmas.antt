@@ -59,19 +59,24 @@ delimiter-shorter between (group d inner rest) g h = absurd (cc h)
 abbrev with_rest : Forest → spec.Rule → Parsed (spec.Rule × Forest)
 with_rest f r = Ok (r, f)
 
+abbrev rest_of : Parsed (spec.Rule × Forest) → Forest
+rest_of (Ok r) = r.1
+rest_of (Err e) = empty
+
+read-shorter : (n : ℕ) (f g : Forest) (r : spec.Rule) (p : Parsed spec.Rule) → (f ≡ empty → ⊥) →
+    (p >>= with_rest (past (n + 4) f)) ≡ Ok (r, g) → size g < size f
+read-shorter n f g r (Err e) some h = absurd (cc h)
+read-shorter n f g r (Ok x) some h =
+    let same : past (n + 4) f ≡ g = ap rest_of h in
+    let count : suc (n + 3) ≡ n + 4 = omega arith in
+    let less = past-shorter (n + 3) f some in
+    let whole = ap (λ k. size (past k f)) count ∙ ap size same in omega (arith, less, whole)
+
 module _ (edition : SyntaxContext → Edition) where
   rest-shorter : (f g : Forest) (r : spec.Rule) (shape : Parsed (MacroCallStyle × ℕ)) → (f ≡ empty → ⊥) →
       rule_in edition (parts_read f shape) ≡ Ok (r, g) → size g < size f
   rest-shorter f g r (Err e) some h = absurd (cc h)
-  rest-shorter f g r (Ok s) some h = go (rule_at edition f s) h
-    where
-      go : (p : Parsed spec.Rule) → (p >>= with_rest (past (s.1 + 4) f)) ≡ Ok (r, g) → size g < size f
-      go (Err e) k = absurd (cc k)
-      go (Ok x) k =
-          let same : past (s.1 + 4) f ≡ g = cc k in
-          let count : suc (s.1 + 3) ≡ s.1 + 4 = omega arith in
-          let less = past-shorter (s.1 + 3) f some in
-          let whole = ap (λ n. size (past n f)) count ∙ ap size same in omega (arith, less, whole)
+  rest-shorter f g r (Ok s) some h = read-shorter s.1 f g r (rule_at edition f s) some h
 
   module _ (between : Delimiting) where
     skipped : (n : ℕ) (f : Forest) → rules_after edition between n f ≡ rules_after edition between 0 (past n f)
@@ -162,12 +167,11 @@ module _ (edition : SyntaxContext → Edition) where
     one-more rs news r trees rest behind next some pushed all read there = (
       all ∙ ap (rules_before (map ops.rule_of rs)) (rules-first rest some ∙ ap by_first (sym read) ∙ ap (λ o. with_rule (ops.rule_of r) (next_rules o)) there)
           ∙ ap (λ us. record { list = us; err = (rules_after edition between 0 next).err })
-              (sym (append-grouping (map ops.rule_of rs) (ops.rule_of r ∷ []) (rules_after edition between 0 next).list)
-              ∙ ap (λ us. us ++ (rules_after edition between 0 next).list) (sym (map-push rs r) ∙ ap (map ops.rule_of) (sym pushed))),
+          (sym (append-grouping (map ops.rule_of rs) (ops.rule_of r ∷ []) (rules_after edition between 0 next).list)
+          ∙ ap (λ us. us ++ (rules_after edition between 0 next).list) (sym (map-push rs r) ∙ ap (map ops.rule_of) (sym pushed))),
       let less = rest-shorter rest behind (ops.rule_of r) (rule_shape (signs rest)) some (sym read) in
-      let fewer = delimiter-shorter between behind next there in omega (arith, less, fewer),
+          let fewer = delimiter-shorter between behind next there in omega (arith, less, fewer),
     )
-
 
 -- ---- whole definitions
 

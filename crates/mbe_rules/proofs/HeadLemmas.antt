@@ -21,8 +21,8 @@ braces-head edition p d inner rest is_brace = go (same_kind d.kind Brace) (ap (�
     go : (b : Bool) → b ≡ true → (o : Option Dollar) →
         or_fault (option_map (λ x. (item (dollar x p.span) done, rest)) o) (unexpected "invalid metavariable expression")
         ≡ head_read p (group d inner rest)
-            (if b then or_fault (option_map (λ x. begun x 1) o) (unexpected "invalid metavariable expression")
-             else expected "expected `$()` repetition or `${}` expression")
+        (if b then or_fault (option_map (λ x. begun x 1) o) (unexpected "invalid metavariable expression")
+        else expected "expected `$()` repetition or `${}` expression")
     go true h None = refl
     go true h (Some x) = refl
     go false h o = absurd (cc h)

@@ -37,9 +37,9 @@ equals_then style n ts = an_equals ts >>= λ more. greater_then style n more
 arms-further : (style : MacroCallStyle) (n : ℕ) (ts : List Sign) → arms style (suc n) ts ≡ further (arms style n ts)
 arms-further style n ts =
     then-further (a_group ts) (equals_then style n) (equals_then style (suc n)) (λ a.
-        then-further (an_equals a) (greater_then style n) (greater_then style (suc n)) (λ b.
-            then-further (a_greater b) (template_then style n) (template_then style (suc n)) (λ c.
-                then-further (a_group c) (λ rest. Ok (style, n)) (λ rest. Ok (style, suc n)) (λ d. refl))))
+    then-further (an_equals a) (greater_then style n) (greater_then style (suc n)) (λ b.
+    then-further (a_greater b) (template_then style n) (template_then style (suc n)) (λ c.
+    then-further (a_group c) (λ rest. Ok (style, n)) (λ rest. Ok (style, suc n)) (λ d. refl))))
 
 with_parentheses-further : (style : MacroCallStyle) (n : ℕ) (ts : List Sign) → with_parentheses style (suc n) ts ≡ further (with_parentheses style n ts)
 with_parentheses-further style n [] = refl
@@ -57,9 +57,9 @@ styled-further n (name w ∷ more) = by_word (is "attr" w) (is "derive" w)
   where
     by_word : (attr derive : Bool) →
         (if attr then with_parentheses Attr (suc (suc n)) more
-         else if derive then with_parentheses Derive (suc (suc n)) more else arms FnLike (suc n) (name w ∷ more))
+        else if derive then with_parentheses Derive (suc (suc n)) more else arms FnLike (suc n) (name w ∷ more))
         ≡ further (if attr then with_parentheses Attr (suc n) more
-         else if derive then with_parentheses Derive (suc n) more else arms FnLike n (name w ∷ more))
+        else if derive then with_parentheses Derive (suc n) more else arms FnLike n (name w ∷ more))
     by_word true b = with_parentheses-further Attr (suc n) more
     by_word false true = with_parentheses-further Derive (suc n) more
     by_word false false = arms-further FnLike n (name w ∷ more)
@@ -111,7 +111,7 @@ module _ (style : MacroCallStyle) (d : Delimiter) (inner : Forest) where
     where
       by_sign : (b : Bool) →
           parts_read (group d inner (leaf (as_leaf.Punct p) (leaf (as_leaf.Punct q) f)))
-            ((if b then Ok (signs f) else expected "expected `>`") >>= λ more. template_then style 0 more)
+          ((if b then Ok (signs f) else expected "expected `>`") >>= λ more. template_then style 0 more)
           ≡ (or_fault (if b then Some f else None) (expected "expected `>`") >>= λ g. template_read style inner g)
       by_sign true = after_arrow p q f
       by_sign false = refl
@@ -125,7 +125,7 @@ module _ (style : MacroCallStyle) (d : Delimiter) (inner : Forest) where
     where
       by_sign : (b : Bool) →
           parts_read (group d inner (leaf (as_leaf.Punct p) f))
-            ((if b then Ok (signs f) else expected "expected `=`") >>= λ more. greater_then style 0 more)
+          ((if b then Ok (signs f) else expected "expected `=`") >>= λ more. greater_then style 0 more)
           ≡ (or_fault (if b then Some f else None) (expected "expected `=`") >>= λ g. greater_read style inner g)
       by_sign true = after_equals p f
       by_sign false = refl
@@ -170,11 +170,11 @@ styled_steps (leaf (as_leaf.Ident i) f) = by_word (is "attr" i.sym) (is "derive"
 
     by_word : (attr derive : Bool) →
         parts_read (leaf (as_leaf.Ident i) f)
-          (if attr then with_parentheses Attr 1 (signs f)
-           else if derive then with_parentheses Derive 1 (signs f) else arms FnLike 0 (name i.sym ∷ signs f))
+        (if attr then with_parentheses Attr 1 (signs f)
+        else if derive then with_parentheses Derive 1 (signs f) else arms FnLike 0 (name i.sym ∷ signs f))
         ≡ (if attr then parts_read f (with_parentheses Attr 0 (signs f))
-           else if derive then parts_read f (with_parentheses Derive 0 (signs f))
-           else parts_read (leaf (as_leaf.Ident i) f) (arms FnLike 0 (name i.sym ∷ signs f)))
+        else if derive then parts_read f (with_parentheses Derive 0 (signs f))
+        else parts_read (leaf (as_leaf.Ident i) f) (arms FnLike 0 (name i.sym ∷ signs f)))
     by_word true b = parentheses Attr
     by_word false true = parentheses Derive
     by_word false false = refl

@@ -95,7 +95,13 @@ fn rule<'a>(
     match parts(alloc, trees)? {
         Err(e) => Ok(Err(e)),
         Ok(parts) => {
-            match rule_of(alloc, editions, parts.style, &parts.pattern, &parts.template)? {
+            match rule_of(
+                alloc,
+                editions,
+                parts.style,
+                &parts.pattern,
+                &parts.template,
+            )? {
                 Err(e) => Ok(Err(e)),
                 Ok(rule) => Ok(Ok((rule, parts.rest))),
             }

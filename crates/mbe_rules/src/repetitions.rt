@@ -121,7 +121,10 @@ fn after_one<'a>(
 }
 
 // The separator and the operator at the head of a list, as they stand after `$(..)`.
-pub(crate) fn repeat<'a>(alloc: Global, trees: &TtIter<'a>) -> Result<Option<Repeat<'a>>, AllocError>
+pub(crate) fn repeat<'a>(
+    alloc: Global,
+    trees: &TtIter<'a>,
+) -> Result<Option<Repeat<'a>>, AllocError>
     ensures { IfOk result (λ r. repeat_of r ≡ taken_from trees.now (between_and_operator (signs trees.now))) }
 {
     let mut rest = again(trees);
