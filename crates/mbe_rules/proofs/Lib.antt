@@ -4,6 +4,11 @@ pub mod OpsLemmas
 pub mod CopyLemmas
 pub mod ErrorLemmas
 pub mod ExpressionLemmas
+pub mod EditionLemmas
+pub mod HeadLemmas
+pub mod ItemLemmas
+pub mod ShapeLemmas
+pub mod DefinitionLemmas
 pub mod Written
 mod Rows
 mod ErrorRows

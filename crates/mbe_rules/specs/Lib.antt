@@ -7,6 +7,7 @@ pub mod Repetitions
 pub mod Expressions
 pub mod Patterns
 pub mod Parsing
+pub mod Editions
 -- what the program's rules stand for, when two are equal, and the same rules at other places
 pub mod Ops
 pub mod Likeness
@@ -18,3 +19,4 @@ pub mod Clones
 pub mod PlacedErrors
 -- what the functions inside the crate promise each other
 pub mod Steps
+pub mod Reading

@@ -2,16 +2,24 @@
 #![tactic(auto)]
 
 pub mod copies;
+mod definitions;
+mod editions;
 pub mod errors;
 pub mod expand_error;
 mod expressions;
+mod heads;
+mod items;
+mod kinds;
 pub mod laws;
 pub mod macro_call_style;
 pub mod parser;
+mod repetitions;
 pub mod rules;
+mod shapes;
 pub mod validation;
 pub mod value_result;
 
+pub use definitions::{parse_macro_rules, parse_macro2};
 pub use errors::{CountError, ExpandErrorKind, ParseError};
 pub use expand_error::ExpandError;
 pub use macro_call_style::{MacroCallStyle, MacroCallStyles};

@@ -1,0 +1,251 @@
+-- The items of a list of trees, one after another.
+use Rattle.std.proofs.Common.{◌≡◌, refl, sym, ap, ◌∙◌, ℕ, zero, suc, ◌+◌, ◌≤◌, Bool, true, false, List, [], ◌∷◌, ◌++◌, Option, Some, None, option_map, Ok, Err, if◌then◌else◌, arith}
+use Rattle.std.specs.declared.vec.Vec.{Vec}
+use Rattle.std.specs.declared.alloc.Global.{Global}
+use Rattle.tt_data.specs.Forest.{Forest, empty, leaf, group, size}
+use Rattle.tt_data.specs.declared.delimiter.Delimiter.{Delimiter}
+use Rattle.tt_data.specs.declared.edition.Edition.{Edition}
+use Rattle.tt_data.specs.declared.leaf.Leaf.TheVariants as as_leaf
+use Rattle.tt_data.specs.declared.leaf.Punct.{Punct}
+use Rattle.tt_data.specs.declared.span.SyntaxContext.{SyntaxContext}
+use Rattle.mbe_rules.specs.Items as spec
+use Rattle.mbe_rules.specs.Items.{Item, word, Items, done, item, group_of, repetition}
+use Rattle.mbe_rules.specs.Ops as ops
+use Rattle.mbe_rules.specs.Ops.{put_op, separator_of}
+use Rattle.mbe_rules.specs.Parsed.{Parsed, ◌>>=◌, or_fault}
+use Rattle.mbe_rules.specs.Patterns.{Mode, in_pattern, in_template, Head, trees_of, item_of, head_at, with_item, with_group, with_head, with_repetition, is_repetition, items_after, items_of}
+use Rattle.mbe_rules.specs.Reading.{head_read, joined_items, behind, continued, Shortens, repetition_parts, taken_from}
+use Rattle.mbe_rules.specs.Repetitions.{Between, trees_between, separator_in, between_and_operator, repeated}
+use Rattle.mbe_rules.specs.Trees.{past, signs}
+use Rattle.mbe_rules.specs.declared.errors.ParseError.{ParseError}
+use Rattle.mbe_rules.specs.declared.errors.ParseError.TheVariants.{InvalidRepeat}
+use Rattle.mbe_rules.specs.declared.parser.Op.{Op, Repeat, Subtree, Repeat', Subtree'}
+use Rattle.mbe_rules.specs.declared.parser.RepeatKind.{RepeatKind}
+use Rattle.mbe_rules.specs.declared.parser.Separator.{Separator}
+use Rattle.mbe_rules.proofs.OpsLemmas.{put-Repeat, put-Subtree}
+
+joined_items-done : (is : Items) → joined_items is done ≡ is
+joined_items-done done = refl
+joined_items-done (item i rest) = ap (item i) (joined_items-done rest)
+joined_items-done (group_of d inner rest) = ap (group_of d inner) (joined_items-done rest)
+joined_items-done (repetition body sep op rest) = ap (repetition body sep op) (joined_items-done rest)
+
+joined_items-grouping : (is js ks : Items) → joined_items (joined_items is js) ks ≡ joined_items is (joined_items js ks)
+joined_items-grouping done js ks = refl
+joined_items-grouping (item i rest) js ks = ap (item i) (joined_items-grouping rest js ks)
+joined_items-grouping (group_of d inner rest) js ks = ap (group_of d inner) (joined_items-grouping rest js ks)
+joined_items-grouping (repetition body sep op rest) js ks = ap (repetition body sep op) (joined_items-grouping rest js ks)
+
+-- items behind items behind items
+pub behind-behind : (is js : Items) (r : Parsed Items) → behind is (behind js r) ≡ behind (joined_items is js) r
+behind-behind is js (Ok ks) = ap Ok (sym (joined_items-grouping is js ks))
+behind-behind is js (Err e) = refl
+
+pub behind-done : (is : Items) → behind is (Ok done) ≡ Ok is
+behind-done is = ap Ok (joined_items-done is)
+
+put-behind : (o : Op) (rest : Items) → put_op o rest ≡ joined_items (put_op o done) rest
+put-behind (Repeat' shape row sep kind) rest = refl
+put-behind (Subtree' shape row d) rest = refl
+put-behind _ rest = refl
+
+-- one more item
+pub items_of-push : (os : List Op) (o : Op) → ops.items_of (os ++ (o ∷ [])) ≡ joined_items (ops.items_of os) (put_op o done)
+items_of-push [] o = refl
+items_of-push (p ∷ os) o =
+    ap (put_op p) (items_of-push os o) ∙ put-behind p (joined_items (ops.items_of os) (put_op o done))
+    ∙ sym (joined_items-grouping (put_op p done) (ops.items_of os) (put_op o done))
+    ∙ ap (λ is. joined_items is (put_op o done)) (sym (put-behind p (ops.items_of os)))
+
+past-size : (n : ℕ) (f : Forest) → size (past n f) ≤ size f
+past-size zero f = omega arith
+past-size (suc n) empty = omega arith
+past-size (suc n) (leaf l rest) = let i = past-size n rest in omega arith
+past-size (suc n) (group d inner rest) = let i = past-size n rest in omega arith
+
+with_item-behind : (i : Item) (r : Parsed Items) → with_item i r ≡ behind (item i done) r
+with_item-behind i (Ok js) = refl
+with_item-behind i (Err e) = refl
+
+module _ (edition : SyntaxContext → Edition) (m : Mode) where
+  -- trees that are skipped
+  skipped : (n : ℕ) (f : Forest) → items_after edition m n f ≡ items_of edition m (past n f)
+  skipped zero f = refl
+  skipped (suc n) empty = refl
+  skipped (suc n) (leaf l rest) = skipped n rest
+  skipped (suc n) (group d inner rest) = skipped n rest
+
+  -- ---- a leaf that is no punct, and a group
+
+  pub ident-first : (i : _) (rest : Forest) → items_of edition m (leaf (as_leaf.Ident i) rest) ≡ behind (item (word (as_leaf.Ident i)) done) (items_of edition m rest)
+  ident-first i rest = with_item-behind (word (as_leaf.Ident i)) (items_of edition m rest)
+
+  pub literal-first : (l : _) (rest : Forest) → items_of edition m (leaf (as_leaf.Literal l) rest) ≡ behind (item (word (as_leaf.Literal l)) done) (items_of edition m rest)
+  literal-first l rest = with_item-behind (word (as_leaf.Literal l)) (items_of edition m rest)
+
+  with_group-behind : (d : Delimiter) (is : Items) (r : Parsed Items) → with_group d (Ok is) r ≡ behind (group_of d is done) r
+  with_group-behind d is (Ok js) = refl
+  with_group-behind d is (Err f) = refl
+
+  pub group-first : (d : Delimiter) (inner rest : Forest) (is : Items) → items_of edition m inner ≡ Ok is →
+      items_of edition m (group d inner rest) ≡ behind (group_of d is done) (items_of edition m rest)
+  group-first d inner rest is h = rw h (with_group-behind d is (items_of edition m rest))
+
+  pub group-fault : (d : Delimiter) (inner rest : Forest) (f : ParseError) → items_of edition m inner ≡ Err f →
+      items_of edition m (group d inner rest) ≡ Err f
+  group-fault d inner rest f h = rw h refl
+
+  -- ---- a punct that begins no repetition
+
+  head-continued : (p : Punct) (f : Forest) (h : Parsed Head) →
+      (h >>= with_head p f (λ n. items_after edition m n f)) ≡ continued edition m (head_read p f h)
+  head-continued p f (Ok x) =
+      ap (with_item (item_of x p f)) (skipped (trees_of x) f) ∙ with_item-behind (item_of x p f) (items_of edition m (past (trees_of x) f))
+  head-continued p f (Err x) = refl
+
+  -- what a punct before a group gives, by whether it begins a repetition
+  abbrev before_group : Punct → Delimiter → Forest → Forest → Bool → Parsed Items
+  before_group p d inner rest b =
+      elim b as (λ _. Parsed Items) [
+        | true ↦ repeated rest >>= with_repetition rest (items_after edition m 0 inner) (λ n. items_after edition m n rest)
+        | false ↦ head_at edition m p (group d inner rest)
+            >>= with_head p (group d inner rest) (λ n. items_after edition m n (group d inner rest))
+      ]
+
+  no-parts : (b : Bool) (x : Forest × Forest) → (if b then Some x else None) ≡ None → b ≡ false
+  no-parts true x h = absurd (cc h)
+  no-parts false x h = refl
+
+  pub head-first : (p : Punct) (f : Forest) → repetition_parts p f ≡ None →
+      items_of edition m (leaf (as_leaf.Punct p) f) ≡ continued edition m (head_read p f (head_at edition m p f))
+  head-first p empty h = head-continued p empty (head_at edition m p empty)
+  head-first p (leaf l rest) h = head-continued p (leaf l rest) (head_at edition m p (leaf l rest))
+  head-first p (group d inner rest) h =
+      ap (before_group p d inner rest) (no-parts (is_repetition p d) (inner, rest) h)
+      ∙ head-continued p (group d inner rest) (head_at edition m p (group d inner rest))
+
+  pub head-shortens : (p : Punct) (f : Forest) (h : Parsed Head) → Shortens f (head_read p f h)
+  head-shortens p f (Ok x) = past-size (trees_of x) f
+  head-shortens p f (Err x) = tt
+
+  -- ---- a repetition
+
+  record Parts (p : Punct) (f inner rest : Forest) : Type 0 where
+    pub d : Delimiter
+    pub is : f ≡ group d inner rest
+    pub holds : is_repetition p d ≡ true
+
+  parts : (p : Punct) (f inner rest : Forest) → repetition_parts p f ≡ Some (inner, rest) → Parts p f inner rest
+  parts p empty inner rest h = absurd (cc h)
+  parts p (leaf l more) inner rest h = absurd (cc h)
+  parts p (group d i r) inner rest h = go (is_repetition p d) refl h
+    where
+      both : Forest × Forest
+      both = (i, r)
+
+      wanted : Forest × Forest
+      wanted = (inner, rest)
+
+      go : (b : Bool) → is_repetition p d ≡ b → (if b then Some both else None) ≡ Some wanted → Parts p (group d i r) inner rest
+      go true k h = let same : both ≡ wanted = cc in record { d = d; is = ap (λ (x : Forest × Forest). group d x.0 x.1) same; holds = k }
+      go false k h = absurd (cc h)
+
+  repetition-first : (p : Punct) (f inner rest : Forest) → repetition_parts p f ≡ Some (inner, rest) →
+      items_of edition m (leaf (as_leaf.Punct p) f)
+      ≡ (repeated rest >>= with_repetition rest (items_of edition m inner) (λ n. items_after edition m n rest))
+  repetition-first p f inner rest h =
+      let q = parts p f inner rest h in
+      ap (λ x. items_of edition m (leaf (as_leaf.Punct p) x)) q.is ∙ ap (before_group p q.d inner rest) q.holds
+
+  repetition-size : (p : Punct) (f inner rest : Forest) → repetition_parts p f ≡ Some (inner, rest) → size f ≡ suc (size inner + size rest)
+  repetition-size p f inner rest h = let q = parts p f inner rest h in ap size q.is ∙ omega arith
+
+  pub inner-shorter : (p : Punct) (f inner rest : Forest) → repetition_parts p f ≡ Some (inner, rest) → suc (size inner + size rest) ≤ size f
+  inner-shorter p f inner rest h = let q = repetition-size p f inner rest h in omega (arith, q)
+
+  pub no-operator : (p : Punct) (f inner rest : Forest) → repetition_parts p f ≡ Some (inner, rest) →
+      taken_from rest (between_and_operator (signs rest)) ≡ None → items_of edition m (leaf (as_leaf.Punct p) f) ≡ Err InvalidRepeat
+  no-operator p f inner rest h none = repetition-first p f inner rest h ∙ go (between_and_operator (signs rest)) none
+    where
+      go : (o : Option (Between × RepeatKind)) → taken_from rest o ≡ None →
+          (or_fault o (Err InvalidRepeat) >>= with_repetition rest (items_of edition m inner) (λ n. items_after edition m n rest)) ≡ Err InvalidRepeat
+      go None k = refl
+      go (Some b) k = absurd (cc k)
+
+  pub inner-fault : (p : Punct) (f inner rest : Forest) (x : Option spec.Separator × RepeatKind × Forest) (g : ParseError) → repetition_parts p f ≡ Some (inner, rest) →
+      taken_from rest (between_and_operator (signs rest)) ≡ Some x → items_of edition m inner ≡ Err g →
+      items_of edition m (leaf (as_leaf.Punct p) f) ≡ Err g
+  inner-fault p f inner rest x g h some fault = repetition-first p f inner rest h ∙ rw fault (go (between_and_operator (signs rest)) some)
+    where
+      go : (o : Option (Between × RepeatKind)) → taken_from rest o ≡ Some x →
+          (or_fault o (Err InvalidRepeat) >>= with_repetition rest (Err g) (λ n. items_after edition m n rest)) ≡ Err g
+      go None k = absurd (cc k)
+      go (Some b) k = refl
+
+  then-behind : (is : Items) (sep : Option spec.Separator) (op : RepeatKind) (r : Parsed Items) →
+      (r >>= λ j. Ok (repetition is sep op j)) ≡ behind (repetition is sep op done) r
+  then-behind is sep op (Ok js) = refl
+  then-behind is sep op (Err f) = refl
+
+  pub repetition-read : (p : Punct) (f inner rest : Forest) (x : Option spec.Separator × RepeatKind × Forest) (is : Items) → repetition_parts p f ≡ Some (inner, rest) →
+      taken_from rest (between_and_operator (signs rest)) ≡ Some x → items_of edition m inner ≡ Ok is →
+      (items_of edition m (leaf (as_leaf.Punct p) f) ≡ behind (repetition is x.0 x.1 done) (items_of edition m x.2)) × (size x.2 ≤ size f)
+  repetition-read p f inner rest x is h some good =
+      let q = repetition-size p f inner rest h in
+      let g = go (between_and_operator (signs rest)) some in
+      (repetition-first p f inner rest h ∙ rw good g.0, let k = g.1 in omega (arith, q, k))
+    where
+      go : (o : Option (Between × RepeatKind)) → taken_from rest o ≡ Some x →
+          ((or_fault o (Err InvalidRepeat) >>= with_repetition rest (Ok is) (λ n. items_after edition m n rest)) ≡ behind (repetition is x.0 x.1 done) (items_of edition m x.2))
+          × (size x.2 ≤ size rest)
+      go None k = absurd (cc k)
+      go (Some b) k =
+          let same : (separator_in b.0 rest, b.1, past (trees_between b.0 + 1) rest) ≡ x = cc in
+          let s = past-size (trees_between b.0 + 1) rest in (
+            rw (skipped (trees_between b.0 + 1) rest) (then-behind is (separator_in b.0 rest) b.1 (items_of edition m (past (trees_between b.0 + 1) rest)))
+                ∙ ap (λ y. behind (repetition is y.0 y.1 done) (items_of edition m y.2)) same,
+            rw (← same) s,
+          )
+
+  -- ---- a loop over a list
+
+  -- one item more was read
+  pub one-more : (os news : List Op) (o : Op) (trees old rest : Forest) → news ≡ os ++ (o ∷ []) →
+      items_of edition m trees ≡ behind (ops.items_of os) (items_of edition m old) → size old ≤ size trees →
+      (items_of edition m old ≡ behind (put_op o done) (items_of edition m rest)) × (size rest ≤ size old) →
+      (items_of edition m trees ≡ behind (ops.items_of news) (items_of edition m rest)) × (size rest ≤ size trees)
+  one-more os news o trees old rest pushed all less step = (
+    all ∙ ap (behind (ops.items_of os)) step.0 ∙ behind-behind (ops.items_of os) (put_op o done) (items_of edition m rest)
+        ∙ ap (λ is. behind is (items_of edition m rest)) (sym (items_of-push os o) ∙ ap ops.items_of (sym pushed)),
+    let s = step.1 in omega (arith, less, s),
+  )
+
+  pub ident-step : (i : _) (old rest : Forest) → old ≡ leaf (as_leaf.Ident i) rest →
+      (items_of edition m old ≡ behind (item (word (as_leaf.Ident i)) done) (items_of edition m rest)) × (size rest ≤ size old)
+  ident-step i old rest h = (ap (items_of edition m) h ∙ ident-first i rest, let s = ap size h in omega (arith, s))
+
+  pub literal-step : (l : _) (old rest : Forest) → old ≡ leaf (as_leaf.Literal l) rest →
+      (items_of edition m old ≡ behind (item (word (as_leaf.Literal l)) done) (items_of edition m rest)) × (size rest ≤ size old)
+  literal-step l old rest h = (ap (items_of edition m) h ∙ literal-first l rest, let s = ap size h in omega (arith, s))
+
+  pub group-step : (d : Delimiter) (v : Vec Op Global) (old inner rest : Forest) → old ≡ group d inner rest → items_of edition m inner ≡ Ok (ops.items_of v.items) →
+      (items_of edition m old ≡ behind (put_op (Subtree v d) done) (items_of edition m rest)) × (size rest ≤ size old)
+  group-step d v old inner rest h good = (
+    ap (items_of edition m) h ∙ group-first d inner rest (ops.items_of v.items) good
+        ∙ ap (λ is. behind is (items_of edition m rest)) (sym (put-Subtree v d done)),
+    let s = ap size h in omega (arith, s),
+  )
+
+  pub punct-step : (p : Punct) (o : Op) (old rest after : Forest) → old ≡ leaf (as_leaf.Punct p) rest →
+      items_of edition m (leaf (as_leaf.Punct p) rest) ≡ continued edition m (Ok (put_op o done, after)) → size after ≤ size rest →
+      (items_of edition m old ≡ behind (put_op o done) (items_of edition m after)) × (size after ≤ size old)
+  punct-step p o old rest after h read less = (ap (items_of edition m) h ∙ read, let s = ap size h in omega (arith, s, less))
+
+  pub repeat-step : (p : Punct) (f inner rest after : Forest) (v : Vec Op Global) (sep : Option Separator) (op : RepeatKind) →
+      repetition_parts p f ≡ Some (inner, rest) → taken_from rest (between_and_operator (signs rest)) ≡ Some (option_map separator_of sep, op, after) →
+      items_of edition m inner ≡ Ok (ops.items_of v.items) →
+      (items_of edition m (leaf (as_leaf.Punct p) f) ≡ continued edition m (Ok (put_op (Repeat v sep op) done, after))) × (size after ≤ size f)
+  repeat-step p f inner rest after v sep op h some good =
+      let x : Option spec.Separator × RepeatKind × Forest = (option_map separator_of sep, op, after) in
+      let r = repetition-read p f inner rest x (ops.items_of v.items) h some good in
+      (r.0 ∙ ap (λ is. behind is (items_of edition m after)) (sym (put-Repeat v sep op done)), r.1)

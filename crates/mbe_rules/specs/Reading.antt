@@ -1,0 +1,169 @@
+-- What the parser's functions answer, in the words of the definitions.
+use Rattle.std.specs.Prelude.{ℕ, ◌≤◌, ◌+◌, ◌&&◌, not, nat_eq, if◌then◌else◌, List, ◌++◌, Option, Some, None, option_map, Result, Ok, Err}
+use Rattle.std.specs.declared.vec.Vec.{Vec}
+use Rattle.std.specs.declared.alloc.Global.{Global}
+use Rattle.tt_data.specs.Forest.{Forest, empty, leaf, group, size}
+use Rattle.tt_data.specs.declared.edition.Edition.{Edition}
+use Rattle.tt_data.specs.declared.leaf.Leaf.TheVariants as as_leaf
+use Rattle.tt_data.specs.declared.leaf.Punct.{Punct}
+use Rattle.tt_data.specs.declared.span.Span.{Span}
+use Rattle.tt_data.specs.declared.span.SyntaxContext.{SyntaxContext}
+use Rattle.tt_data.specs.declared.span.SyntaxContext.TheVariants.{Written, Made}
+use Rattle.mbe_rules.specs.Expressions.{expression_in}
+use Rattle.mbe_rules.specs.Items as spec
+use Rattle.mbe_rules.specs.Items.{variable, dollar, Items, done, item, group_of, repetition}
+use Rattle.mbe_rules.specs.Ops as ops
+use Rattle.mbe_rules.specs.Ops.{put_op, items_of, separator_of}
+use Rattle.mbe_rules.specs.Parsed.{Parsed, ◌>>=◌, unexpected, or_fault}
+use Rattle.mbe_rules.specs.Parsing.{Delimiting, by_semicolon, by_semicolon_or_comma, rule_of}
+use Rattle.mbe_rules.specs.Patterns as patterns
+use Rattle.mbe_rules.specs.Patterns.{Mode, in_pattern, in_template, Head, trees_of, item_of, kind_of, is_repetition}
+use Rattle.mbe_rules.specs.Repetitions.{Between, trees_between, separator_in, operator_of}
+use Rattle.mbe_rules.specs.Text.{is_char, is_word}
+use Rattle.mbe_rules.specs.Trees.{past, inside}
+use Rattle.mbe_rules.specs.declared.definitions.Delimiting as definitions
+use Rattle.mbe_rules.specs.declared.definitions.Delimiting.TheVariants.{Semicolon, SemicolonOrComma}
+use Rattle.mbe_rules.specs.declared.editions.Editions.{Editions}
+use Rattle.mbe_rules.specs.declared.errors.ParseError.{ParseError}
+use Rattle.mbe_rules.specs.declared.heads.Mode as heads
+use Rattle.mbe_rules.specs.declared.heads.Mode.TheVariants.{Pattern, Template}
+use Rattle.mbe_rules.specs.declared.macro_call_style.MacroCallStyle.{MacroCallStyle}
+use Rattle.mbe_rules.specs.declared.parser.Op.{Op}
+use Rattle.mbe_rules.specs.declared.parser.RepeatKind.{RepeatKind}
+use Rattle.mbe_rules.specs.declared.parser.Separator.{Separator}
+use Rattle.mbe_rules.specs.declared.rules.Rule.{Rule}
+use Rattle.mbe_rules.specs.declared.shapes.RuleParts.{RuleParts}
+
+-- ---- what is asked
+
+-- the edition of a context
+abbrev pub edition_in : Editions → SyntaxContext → Edition
+edition_in e Written = e.written
+edition_in e Made = e.made
+
+-- whether a pattern or a template is read
+abbrev pub mode_of : heads.Mode → Mode
+mode_of Pattern = in_pattern
+mode_of Template = in_template
+
+-- ---- separators and operators
+
+-- a separator, an operator, and the trees after them
+abbrev pub repeat_of : Option (Option Separator × RepeatKind × Forest) → Option (Option spec.Separator × RepeatKind × Forest)
+repeat_of r = option_map (λ (x : Option Separator × RepeatKind × Forest). (option_map separator_of x.0, x.1, x.2)) r
+
+-- the separator of this form and the operator at the head of a list, and the trees after them
+abbrev pub taken_from : Forest → Option (Between × RepeatKind) → Option (Option spec.Separator × RepeatKind × Forest)
+taken_from f b = option_map (λ (x : Between × RepeatKind). (separator_in x.0 f, x.1, past (trees_between x.0 + 1) f)) b
+
+-- the operator at the head of a list, and the trees after it
+abbrev pub operator_next : Forest → Option (RepeatKind × Forest)
+operator_next (leaf (as_leaf.Punct p) rest) = option_map (λ op. (op, rest)) (operator_of p.char)
+operator_next _ = None
+
+-- ---- items
+
+-- an item as a list of one, and the trees after it
+abbrev pub Read : Type 0
+Read = Items × Forest
+
+-- an item of the program
+abbrev pub op_read : Result (Op × Forest) ParseError → Parsed Read
+op_read (Ok r) = Ok (put_op r.0 done, r.1)
+op_read (Err e) = Err e
+
+-- a list of items of the program
+abbrev pub ops_read : Result (Vec Op Global) ParseError → Parsed Items
+ops_read (Ok v) = Ok (items_of v.items)
+ops_read (Err e) = Err e
+
+-- the item that a punct begins, where the form of what it begins is known
+abbrev pub head_read : Punct → Forest → Parsed Head → Parsed Read
+head_read p f h = h >>= λ x. Ok (item (item_of x p f) done, past (trees_of x) f)
+
+-- a variable of this name and place, by the trees after the name
+abbrev pub variable_read : (SyntaxContext → Edition) → Mode → Span → List ℕ → Forest → Parsed Read
+variable_read edition in_template s n f = Ok (item (dollar (variable n None) s) done, f)
+variable_read edition in_pattern s n (leaf (as_leaf.Punct c) (leaf (as_leaf.Ident k) rest)) =
+    if is_char ":" c && not (is_word "_" k)
+    then Ok (item (dollar (variable n (kind_of edition k)) s) done, rest)
+    else unexpected "missing fragment specifier"
+variable_read edition in_pattern s n _ = unexpected "missing fragment specifier"
+
+-- the expression that a `$` and braces are, and the trees after it
+abbrev pub expression_read : Punct → Forest → Forest → Parsed Read
+expression_read p inner rest =
+    or_fault (option_map (λ x. (item (dollar x p.span) done, rest)) (expression_in inner)) (unexpected "invalid metavariable expression")
+
+-- items before others
+abbrev pub joined_items : Items → Items → Items
+joined_items done js = js
+joined_items (item i rest) js = item i (joined_items rest js)
+joined_items (group_of d inner rest) js = group_of d inner (joined_items rest js)
+joined_items (repetition body sep op rest) js = repetition body sep op (joined_items rest js)
+
+-- items before what is read after them
+abbrev pub behind : Items → Parsed Items → Parsed Items
+behind is (Ok js) = Ok (joined_items is js)
+behind is (Err e) = Err e
+
+-- an item before those of the trees after it
+abbrev pub continued : (SyntaxContext → Edition) → Mode → Parsed Read → Parsed Items
+continued edition m (Ok r) = behind r.0 (patterns.items_of edition m r.1)
+continued edition m (Err f) = Err f
+
+-- the trees after an item are no more than those that it was read from
+abbrev pub Shortens : Forest → Parsed Read → Type 0
+Shortens f (Ok r) = size r.1 ≤ size f
+Shortens f (Err e) = Unit {0}
+
+-- what a repetition that begins with a punct has inside, and the trees after its parenthesis
+abbrev pub repetition_parts : Punct → Forest → Option (Forest × Forest)
+repetition_parts p (group d inner rest) = if is_repetition p d then Some (inner, rest) else None
+repetition_parts p _ = None
+
+-- ---- rules
+
+-- what the group at the head of a list has inside, and the trees after it
+abbrev pub group_next : Forest → Option (Forest × Forest)
+group_next (group d inner rest) = Some (inner, rest)
+group_next _ = None
+
+-- the trees after this character
+abbrev pub after_char : ℕ → Forest → Option Forest
+after_char c (leaf (as_leaf.Punct p) rest) = if nat_eq p.char c then Some rest else None
+after_char c _ = None
+
+-- the parts of the rule at the head of a list, where its style is known, and the number of trees before its pattern
+abbrev pub parts_read : Forest → Parsed (MacroCallStyle × ℕ) → Parsed RuleParts
+parts_read f shape =
+    shape >>= λ s. Ok (record { style = s.0; pattern = inside (past s.1 f); template = inside (past (s.1 + 3) f); rest = past (s.1 + 4) f })
+
+-- a rule of the program
+abbrev pub rule_read : Result Rule ParseError → Parsed spec.Rule
+rule_read (Ok r) = Ok (ops.rule_of r)
+rule_read (Err e) = Err e
+
+-- a rule of the program, and the trees after it
+abbrev pub rule_and_rest : Result (Rule × Forest) ParseError → Parsed (spec.Rule × Forest)
+rule_and_rest (Ok r) = Ok (ops.rule_of r.0, r.1)
+rule_and_rest (Err e) = Err e
+
+-- the rule of these parts, and the trees after it
+abbrev pub rule_in : (SyntaxContext → Edition) → Parsed RuleParts → Parsed (spec.Rule × Forest)
+rule_in edition parts = parts >>= λ p. rule_of edition p.style p.pattern p.template >>= λ r. Ok (r, p.rest)
+
+-- rules before others
+abbrev pub rules_before : List spec.Rule → spec.Rules → spec.Rules
+rules_before rs more = record { list = rs ++ more.list; err = more.err }
+
+-- what may stand between rules
+abbrev pub delimiting_of : definitions.Delimiting → Delimiting
+delimiting_of Semicolon = by_semicolon
+delimiting_of SemicolonOrComma = by_semicolon_or_comma
+
+-- the trees after what stands between rules; none are needed where none are left
+abbrev pub after_delimiter : Delimiting → Forest → Option Forest
+after_delimiter between empty = Some empty
+after_delimiter between (leaf (as_leaf.Punct p) rest) = if between.is_between p.char then Some rest else None
+after_delimiter between _ = None

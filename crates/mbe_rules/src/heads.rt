@@ -1,0 +1,432 @@
+//! What a punct begins, but for repetitions.
+ghost use Rattle.std.specs.Prelude.{◌≡◌, ◌&&◌, IfOk, Ok};
+ghost use Rattle.tt_data.specs.Forest.{leaf, group};
+ghost use Rattle.tt_data.specs.declared.edition.Edition.{Edition};
+ghost use Rattle.tt_data.specs.declared.leaf.Leaf.TheVariants as as_leaf;
+ghost use Rattle.tt_data.specs.declared.span.SyntaxContext.{SyntaxContext};
+ghost use Rattle.tt.specs.Glued.{is_two, is_three, is_pair, is_triple, glued_count};
+ghost use Rattle.mbe_rules.specs.Items.{word, done, item};
+ghost use Rattle.mbe_rules.specs.Ops.{put_op};
+ghost use Rattle.mbe_rules.specs.Text.{is_truth, is_nil};
+ghost use Rattle.mbe_rules.specs.Patterns.{dollar_head, punct_head, head_at, in_pattern, glued, crate_at};
+ghost use Rattle.mbe_rules.specs.Reading.{edition_in, mode_of, op_read, head_read, variable_read, expression_read};
+ghost use Rattle.mbe_rules.specs.declared.errors.ParseError.TheVariants as error;
+
+use crate::editions::Editions;
+use crate::errors::ParseError;
+use crate::expressions::expression;
+use crate::kinds::kind_of;
+use crate::parser::Op;
+use crate::repetitions::again;
+use std::alloc::{AllocError, Global};
+use symbols::Symbol;
+use tt::iter::{TtElement, TtIter};
+use tt_data::delimiter::{Delimiter, DelimiterKind};
+use tt_data::leaf::{Ident, IdentIsRaw, Leaf, Literal, Punct, Spacing};
+use tt_data::span::Span;
+
+// Whether a pattern or a template is read.
+#[derive(Clone, Copy, PartialEq, Eq)]
+pub(crate) enum Mode {
+    Pattern,
+    Template,
+}
+
+// What is read, or the first fault.
+pub(crate) type Parsed<T> = Result<T, ParseError>;
+
+// An item, and the trees after it.
+pub(crate) type Read<'a> = (Op, TtIter<'a>);
+
+// A text, which is refused for want of memory alone.
+fn symbol(alloc: Global, text: &str) -> Result<Symbol, AllocError>
+    ensures { IfOk result (λ s. s ≡ text.now) }
+{
+    match Symbol::new(alloc, text) {
+        Ok(symbol) => Ok(symbol),
+        Err(_) => Err(AllocError),
+    }
+}
+
+// The fault that a token stands where it may not.
+pub(crate) fn unexpected(alloc: Global, text: &str) -> Result<ParseError, AllocError>
+    ensures { IfOk result (λ e. e ≡ error.UnexpectedToken text.now) }
+{
+    Ok(ParseError::UnexpectedToken(symbol(alloc, text)?))
+}
+
+// The fault that something is missing.
+pub(crate) fn expected(alloc: Global, text: &str) -> Result<ParseError, AllocError>
+    ensures { IfOk result (λ e. e ≡ error.Expected text.now) }
+{
+    Ok(ParseError::Expected(symbol(alloc, text)?))
+}
+
+// A variable of a pattern: after its name a colon and a word for what it takes have to stand.
+fn typed_variable<'a>(
+    alloc: Global,
+    editions: Editions,
+    id: Span,
+    name: Symbol,
+    trees: &TtIter<'a>,
+) -> Result<Parsed<Read<'a>>, AllocError>
+    ensures { IfOk result (λ r. op_read r ≡ variable_read (edition_in editions) in_pattern id name trees.now) }
+{
+    let mut rest = again(trees);
+    let Some(TtElement::Leaf(Leaf::Punct(colon))) = rest.next() else {
+        let e = unexpected(alloc, "missing fragment specifier")?;
+        return Ok(Err(e));
+    };
+    let Some(TtElement::Leaf(Leaf::Ident(word))) = rest.next() else {
+        let e = unexpected(alloc, "missing fragment specifier")?;
+        return Ok(Err(e));
+    };
+    if colon.char != ':' {
+        let e = unexpected(alloc, "missing fragment specifier")?;
+        return Ok(Err(e));
+    }
+    if word.sym.as_str() == "_" {
+        let e = unexpected(alloc, "missing fragment specifier")?;
+        return Ok(Err(e));
+    }
+    let kind = kind_of(&word, editions);
+    Ok(Ok((Op::Var { name, kind, id }, rest)))
+}
+
+// A variable of this name.
+fn variable<'a>(
+    alloc: Global,
+    editions: Editions,
+    mode: Mode,
+    id: Span,
+    name: Symbol,
+    trees: &TtIter<'a>,
+) -> Result<Parsed<Read<'a>>, AllocError>
+    ensures { IfOk result (λ r. op_read r ≡ variable_read (edition_in editions) (mode_of mode) id name trees.now) }
+{
+    match mode {
+        Mode::Pattern => {
+            let read = typed_variable(alloc, editions, id, name, trees)?;
+            Ok(read)
+        }
+        Mode::Template => {
+            let kind = None;
+            Ok(Ok((Op::Var { name, kind, id }, again(trees))))
+        }
+    }
+}
+
+// `$crate`, as an identifier at the place of its `$`.
+fn crate_at(alloc: Global, span: Span) -> Result<Op, AllocError>
+    ensures { IfOk result (λ o. put_op o done ≡ item (word (crate_at span)) done) }
+{
+    let sym = symbol(alloc, "$crate")?;
+    let is_raw = IdentIsRaw::No;
+    Ok(Op::Ident(Ident { sym, span, is_raw }))
+}
+
+// What a `$` before a name begins.
+fn dollar_name<'a>(
+    alloc: Global,
+    editions: Editions,
+    mode: Mode,
+    sign: Punct,
+    name: Ident,
+    rest: TtIter<'a>,
+) -> Result<Parsed<Read<'a>>, AllocError>
+    ensures { IfOk result (λ r. op_read r ≡ head_read sign (leaf (as_leaf.Ident name) rest.entry)
+        (dollar_head (edition_in editions) (mode_of mode) (leaf (as_leaf.Ident name) rest.entry))) }
+{
+    if name.sym.as_str() == "crate" {
+        let op = crate_at(alloc, sign.span)?;
+        return Ok(Ok((op, rest)));
+    }
+    let read = variable(alloc, editions, mode, sign.span, name.sym, &rest)?;
+    Ok(read)
+}
+
+// Whether a literal can be a name.
+fn is_name(literal: &Literal) -> bool
+    ensures { result ≡ (is_truth literal.now.text && is_nil literal.now.suffix) }
+{
+    let text = literal.text();
+    if text == "true" {
+        return literal.suffix().is_empty();
+    }
+    if text == "false" {
+        return literal.suffix().is_empty();
+    }
+    false
+}
+
+// What a `$` before a literal begins.
+fn dollar_literal<'a>(
+    alloc: Global,
+    editions: Editions,
+    mode: Mode,
+    sign: Punct,
+    literal: &Literal,
+    rest: TtIter<'a>,
+) -> Result<Parsed<Read<'a>>, AllocError>
+    ensures { IfOk result (λ r. op_read r ≡ head_read sign (leaf (as_leaf.Literal literal.now) rest.entry)
+        (dollar_head (edition_in editions) (mode_of mode) (leaf (as_leaf.Literal literal.now) rest.entry))) }
+{
+    if !is_name(literal) {
+        let e = expected(alloc, "expected ident")?;
+        return Ok(Err(e));
+    }
+    let name = symbol(alloc, literal.text())?;
+    let read = variable(alloc, editions, mode, sign.span, name, &rest)?;
+    Ok(read)
+}
+
+// What a `$` before a punct begins: in a template the second of two stays.
+fn dollar_punct<'a>(
+    alloc: Global,
+    mode: Mode,
+    sign: Punct,
+    second: Punct,
+    rest: TtIter<'a>,
+) -> Result<Parsed<Read<'a>>, AllocError>
+    ensures { IfOk result (λ r. (edition : SyntaxContext → Edition) → op_read r ≡ head_read sign (leaf (as_leaf.Punct second) rest.entry)
+        (dollar_head edition (mode_of mode) (leaf (as_leaf.Punct second) rest.entry))) }
+{
+    if second.char != '$' {
+        let e = expected(alloc, "expected ident")?;
+        return Ok(Err(e));
+    }
+    match mode {
+        Mode::Pattern => {
+            let e = unexpected(alloc, "`$$` is not allowed on the pattern side")?;
+            Ok(Err(e))
+        }
+        Mode::Template => {
+            let mut puncts = Vec::new(alloc);
+            puncts.push(second)?;
+            Ok(Ok((Op::Punct(puncts), rest)))
+        }
+    }
+}
+
+// The expression that `${..}` is.
+fn braces<'a>(
+    alloc: Global,
+    sign: Punct,
+    inner: TtIter<'a>,
+    rest: TtIter<'a>,
+) -> Result<Parsed<Read<'a>>, AllocError>
+    ensures { IfOk result (λ r. op_read r ≡ expression_read sign inner.entry rest.entry) }
+{
+    // It is refused for want of memory alone.
+    let Ok(read) = expression(alloc, inner, sign.span) else {
+        return Err(AllocError);
+    };
+    match read {
+        Some(op) => Ok(Ok((op, rest))),
+        None => {
+            let e = unexpected(alloc, "invalid metavariable expression")?;
+            Ok(Err(e))
+        }
+    }
+}
+
+// What a `$` before a group begins, which is no repetition.
+fn dollar_group<'a>(
+    alloc: Global,
+    mode: Mode,
+    sign: Punct,
+    delimiter: Delimiter,
+    inner: TtIter<'a>,
+    rest: TtIter<'a>,
+) -> Result<Parsed<Read<'a>>, AllocError>
+    ensures { IfOk result (λ r. (edition : SyntaxContext → Edition) → op_read r ≡ head_read sign (group delimiter inner.entry rest.entry)
+        (dollar_head edition (mode_of mode) (group delimiter inner.entry rest.entry))) }
+{
+    match delimiter.kind {
+        DelimiterKind::Brace => match mode {
+            Mode::Pattern => {
+                let text = "`${}` metavariable expressions are not allowed in matchers";
+                let e = unexpected(alloc, text)?;
+                Ok(Err(e))
+            }
+            Mode::Template => {
+                let read = braces(alloc, sign, inner, rest)?;
+                Ok(read)
+            }
+        },
+        _ => {
+            let e = expected(alloc, "expected `$()` repetition or `${}` expression")?;
+            Ok(Err(e))
+        }
+    }
+}
+
+// What a `$` begins, but for a repetition.
+fn dollar<'a>(
+    alloc: Global,
+    editions: Editions,
+    mode: Mode,
+    sign: Punct,
+    trees: &TtIter<'a>,
+) -> Result<Parsed<Read<'a>>, AllocError>
+    ensures { IfOk result (λ r. op_read r ≡ head_read sign trees.now (dollar_head (edition_in editions) (mode_of mode) trees.now)) }
+{
+    let mut rest = again(trees);
+    match rest.next() {
+        None => {
+            let mut puncts = Vec::new(alloc);
+            puncts.push(sign)?;
+            Ok(Ok((Op::Punct(puncts), rest)))
+        }
+        Some(TtElement::Leaf(Leaf::Ident(name))) => {
+            let read = dollar_name(alloc, editions, mode, sign, name, rest)?;
+            Ok(read)
+        }
+        Some(TtElement::Leaf(Leaf::Literal(literal))) => {
+            let read = dollar_literal(alloc, editions, mode, sign, &literal, rest)?;
+            Ok(read)
+        }
+        Some(TtElement::Leaf(Leaf::Punct(second))) => {
+            let read = dollar_punct(alloc, mode, sign, second, rest)?;
+            Ok(read)
+        }
+        Some(TtElement::Subtree(subtree, inner)) => {
+            let read = dollar_group(alloc, mode, sign, subtree.delimiter, inner, rest)?;
+            Ok(read)
+        }
+    }
+}
+
+// Whether two characters make one operator.
+fn is_two(first: char, second: char) -> bool
+    ensures { result ≡ is_two first second }
+{
+    match second {
+        '=' => matches!(
+            first,
+            '-' | '!' | '*' | '/' | '&' | '%' | '^' | '+' | '<' | '=' | '>' | '|'
+        ),
+        '>' => matches!(first, '-' | '=' | '>'),
+        '-' => first == '<',
+        ':' | '.' | '&' | '<' | '|' => first == second,
+        _ => false,
+    }
+}
+
+// Whether three characters make one operator: `...`, `..=`, `<<=`, `>>=`.
+fn is_three(first: char, second: char, third: char) -> bool
+    ensures { result ≡ is_three first second third }
+{
+    match (first, second, third) {
+        ('.', '.', '.' | '=') | ('<', '<', '=') | ('>', '>', '=') => true,
+        _ => false,
+    }
+}
+
+// Whether two puncts that stand side by side are glued.
+fn is_pair(first: Punct, second: Punct) -> bool
+    ensures { result ≡ is_pair first second }
+{
+    first.spacing != Spacing::Alone && is_two(first.char, second.char)
+}
+
+// Whether three are.
+fn is_triple(first: Punct, second: Punct, third: Punct) -> bool
+    ensures { result ≡ is_triple first second third }
+{
+    first.spacing != Spacing::Alone
+        && second.spacing == Spacing::Joint
+        && is_three(first.char, second.char, third.char)
+}
+
+// The one to three puncts that are glued to one, and the trees after them.
+fn glued<'a>(
+    alloc: Global,
+    first: Punct,
+    trees: &TtIter<'a>,
+) -> Result<(Op, TtIter<'a>), AllocError>
+    ensures { IfOk result (λ r. Ok (put_op r.0 done, r.1)
+        ≡ head_read first trees.now (Ok (glued (glued_count (leaf (as_leaf.Punct first) trees.now))))) }
+{
+    let mut puncts = Vec::new(alloc);
+    puncts.push(first)?;
+    let mut rest = again(trees);
+    let Some(TtElement::Leaf(Leaf::Punct(second))) = rest.next() else {
+        return Ok((Op::Punct(puncts), again(trees)));
+    };
+    let mut last = again(&rest);
+    if let Some(TtElement::Leaf(Leaf::Punct(third))) = last.next() {
+        if is_triple(first, second, third) {
+            puncts.push(second)?;
+            puncts.push(third)?;
+            return Ok((Op::Punct(puncts), last));
+        }
+    }
+    if is_pair(first, second) {
+        puncts.push(second)?;
+        return Ok((Op::Punct(puncts), rest));
+    }
+    Ok((Op::Punct(puncts), again(trees)))
+}
+
+// What a quote of a pattern begins: it has to have its name.
+fn named_quote<'a>(
+    alloc: Global,
+    sign: Punct,
+    trees: &TtIter<'a>,
+) -> Result<Parsed<Read<'a>>, AllocError>
+    requires { sign.char ≡ 39 }
+    ensures { IfOk result (λ r. op_read r ≡ head_read sign trees.now (punct_head in_pattern sign trees.now)) }
+{
+    let mut rest = again(trees);
+    match rest.next() {
+        Some(TtElement::Leaf(Leaf::Ident(name))) => Ok(Ok((Op::Lifetime(sign, name), rest))),
+        _ => {
+            let e = unexpected(alloc, "quote without a name")?;
+            Ok(Err(e))
+        }
+    }
+}
+
+// What another punct than a `$` begins.
+fn punct<'a>(
+    alloc: Global,
+    mode: Mode,
+    sign: Punct,
+    trees: &TtIter<'a>,
+) -> Result<Parsed<Read<'a>>, AllocError>
+    ensures { IfOk result (λ r. op_read r ≡ head_read sign trees.now (punct_head (mode_of mode) sign trees.now)) }
+{
+    match mode {
+        Mode::Pattern => {
+            if sign.char == '\'' {
+                let read = named_quote(alloc, sign, trees)?;
+                return Ok(read);
+            }
+            let read = glued(alloc, sign, trees)?;
+            Ok(Ok(read))
+        }
+        Mode::Template => {
+            let read = glued(alloc, sign, trees)?;
+            Ok(Ok(read))
+        }
+    }
+}
+
+// What a punct begins, but for a repetition.
+pub(crate) fn head<'a>(
+    alloc: Global,
+    editions: Editions,
+    mode: Mode,
+    sign: Punct,
+    trees: &TtIter<'a>,
+) -> Result<Parsed<Read<'a>>, AllocError>
+    ensures { IfOk result (λ r. op_read r ≡ head_read sign trees.now (head_at (edition_in editions) (mode_of mode) sign trees.now)) }
+{
+    if sign.char == '$' {
+        let read = dollar(alloc, editions, mode, sign, trees)?;
+        return Ok(read);
+    }
+    let read = punct(alloc, mode, sign, trees)?;
+    Ok(read)
+}
