@@ -1,7 +1,7 @@
 //! Flat lists of tokens, as they are held.
 //!
-//! What borrows tokens reads them by these calls alone. They answer tokens by value, so that no other
-//! part of the crate knows how a token is stored.
+//! What borrows tokens reads them by these calls alone, which answer them by value: how a token is stored
+//! is known here, and in `top.rt`, `builder.rt` and `tokens.rt`, where a vector owns it.
 ghost use Rattle.std.specs.Prelude.{◌≡◌, ◌↔◌, ◌<◌, ◌≤◌, ◌^◌, ◌-◌, ◌∷◌, [], IsTrue, MatchOption, length, take, drop, option_map, slice_get};
 ghost use Rattle.tt_data.specs.Spans.{first_span_of};
 
