@@ -8,7 +8,7 @@ use Rattle.mbe_rules.specs.Items as spec
 use Rattle.mbe_rules.specs.Ops as ops
 use Rattle.mbe_rules.specs.Parsed.{Parsed, ◌>>=◌}
 use Rattle.mbe_rules.specs.Parsing.{Delimiting, no_rules, with_rule, delimited, rule_then, rule_shape, rule_of, rule_at, rules_with, rules_after, ending, macro_of}
-use Rattle.mbe_rules.specs.Reading.{parts_read, rule_in, rule_and_rest, rules_before, after_delimiter}
+use Rattle.mbe_rules.specs.Reading.{parts_read, rule_in, rules_before, after_delimiter}
 use Rattle.mbe_rules.specs.Trees.{past, signs}
 use Rattle.mbe_rules.specs.declared.errors.ParseError.{ParseError}
 use Rattle.mbe_rules.specs.declared.macro_call_style.MacroCallStyle.{MacroCallStyle}

@@ -13,7 +13,7 @@ use Rattle.mbe_rules.specs.Items.{Item, word, Items, done, item, group_of, repet
 use Rattle.mbe_rules.specs.Ops as ops
 use Rattle.mbe_rules.specs.Ops.{put_op, separator_of}
 use Rattle.mbe_rules.specs.Parsed.{Parsed, ◌>>=◌, or_fault}
-use Rattle.mbe_rules.specs.Patterns.{Mode, in_pattern, in_template, Head, trees_of, item_of, head_at, with_item, with_group, with_head, with_repetition, is_repetition, items_after, items_of}
+use Rattle.mbe_rules.specs.Patterns.{Mode, Head, trees_of, item_of, head_at, with_item, with_group, with_head, with_repetition, is_repetition, items_after, items_of}
 use Rattle.mbe_rules.specs.Reading.{head_read, joined_items, behind, continued, Shortens, repetition_parts, taken_from}
 use Rattle.mbe_rules.specs.Repetitions.{Between, trees_between, separator_in, between_and_operator, repeated}
 use Rattle.mbe_rules.specs.Trees.{past, signs}

@@ -1,4 +1,4 @@
-use Rattle.std.proofs.Common.{◌≡◌, sym, ap, ◌∙◌, Option, option_map}
+use Rattle.std.proofs.Common.{sym, ap, ◌∙◌, option_map}
 use Rattle.tt_data.specs.declared.span.SyntaxContext.TheVariants.{Written, Made}
 use Rattle.mbe_rules.specs.Ops.{rules_of}
 use Rattle.mbe_rules.specs.Parsing.{by_semicolon_or_comma, macro_of}

@@ -1,5 +1,4 @@
 use Rattle.std.proofs.Common.{◌≡◌, sym, ◌∙◌, true, false}
-use Rattle.tt_data.specs.Forest.{empty}
 use Rattle.mbe_rules.specs.Reading.{edition_in, delimiting_of}
 use Rattle.mbe_rules.proofs.DefinitionLemmas.{at_fault, at_no_delimiter, one-more}
 use Rattle.mbe_rules.proofs.definitions.rules_of.Goals as goal

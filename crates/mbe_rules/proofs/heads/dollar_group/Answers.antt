@@ -1,4 +1,4 @@
-use Rattle.std.proofs.Common.{◌≡◌, ap, ◌∙◌, sym}
+use Rattle.std.proofs.Common.{ap, ◌∙◌, sym}
 use Rattle.tt_data.specs.Forest.{group}
 use Rattle.mbe_rules.specs.Patterns.{dollar_head}
 use Rattle.mbe_rules.specs.Reading.{mode_of, head_read}
