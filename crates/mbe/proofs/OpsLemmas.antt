@@ -18,6 +18,7 @@ use Rattle.mbe.specs.Units.{is_separator}
 use Rattle.mbe.specs.declared.place.Taken.TheVariants.{Unit as takes_unit}
 use Rattle.mbe.specs.declared.matcher.Frame.{Frame}
 use Rattle.mbe.specs.declared.matcher.Frame.TheVariants.{InRound, Parted}
+use Rattle.mbe.specs.declared.matcher.Round.{Round}
 use Rattle.mbe.specs.declared.matcher.Thread.{Thread}
 
 pub frames-push : (gs fs : List Frame) (f : Frame) → gs ≡ fs ++ (f ∷ []) → frames_of gs ≡ frame_of f ∷ frames_of fs
@@ -31,36 +32,44 @@ ap2 : {A B C : Type 0} (f : A → B → C) {a b : A} {x y : B} → a ≡ b → x
 ap2 f e h = cc
 
 -- after a round: its separator, and leaving
-pub round-apart : (gr : Grammar) (p : u.Place) (ms : List r.Move) (is : List Op) (frames fs : List Frame) (body after : Bor (List Op)) (sep : Bor Separator) (k : RepeatKind) (a b : Thread) →
-    is ≡ [] → frames ≡ fs ++ (InRound body (Some sep) k after ∷ []) → is_separator (separator_of sep.now) (u.unit_at p) ≡ true →
-    a.items.now ≡ after.now → a.frames.items ≡ fs → t.moves_of a.moves ≡ ms ++ (r.leave ∷ []) →
-    b.items.now ≡ is → b.frames.items ≡ fs ++ (Parted body (Some sep) k after ∷ []) → t.moves_of b.moves ≡ ms ++ (r.separator_move ∷ []) →
+pub round-apart : (gr : Grammar) (p : u.Place) (ms : List r.Move) (is : List Op) (frames fs : List Frame) (x : Round) (sep : Bor Separator) (a b : Thread) →
+    is ≡ [] → frames ≡ fs ++ (InRound x ∷ []) → x.separator ≡ Some sep → is_separator (separator_of sep.now) (u.unit_at p) ≡ true →
+    a.items.now ≡ x.after.now → a.frames.items ≡ fs → t.moves_of a.moves ≡ ms ++ (r.leave ∷ []) →
+    b.items.now ≡ is → b.frames.items ≡ fs ++ (Parted x ∷ []) → t.moves_of b.moves ≡ ms ++ (r.separator_move ∷ []) →
     made_of p (record { thread = b; taken = Some takes_unit }) ∷ made_of p (record { thread = a; taken = None }) ∷ []
     ≡ map (extended ms) (r.next gr (r.at (items_of is) (frames_of frames) p))
-round-apart gr p ms is frames fs body after sep k a b over f here ai af am bi bf bm =
+round-apart gr p ms is frames fs x sep a b over f some here ai af am bi bf bm =
+    let body = items_of x.body.now in
+    let after = items_of x.after.now in
+    let last : r.Choice = (r.leave, r.at after (frames_of fs) p) in
+    let first : r.Choice = (r.separator_move, r.at done (r.parted body (Some (separator_of sep.now)) x.kind after ∷ frames_of fs) (u.after_unit p)) in
     ap2 (λ x y. x ∷ y ∷ [])
-    (same-made _ (ms ++ (r.separator_move ∷ [])) true false _ done _ (r.parted (items_of body.now) (Some (separator_of sep.now)) k (items_of after.now) ∷ frames_of fs) (u.after_unit p)
-    bm (ap items_of (bi ∙ over)) (frames-push _ fs _ bf))
-    (same-made _ (ms ++ (r.leave ∷ [])) false false _ (items_of after.now) _ (frames_of fs) p
-    am (ap items_of ai) (ap frames_of af))
-    ∙ ap (λ b. map (extended ms) (when b (r.separator_move, r.at done (r.parted (items_of body.now) (Some (separator_of sep.now)) k (items_of after.now) ∷ frames_of fs) (u.after_unit p)) ++ ((r.leave, r.at (items_of after.now) (frames_of fs) p) ∷ []))) (sym here)
+    (same-made _ (ms ++ (r.separator_move ∷ [])) true false _ done _ (r.parted body (Some (separator_of sep.now)) x.kind after ∷ frames_of fs) (u.after_unit p)
+    bm (ap items_of (bi ∙ over)) (frames-push _ fs _ bf ∙ ap (λ s. r.parted body (t.between_of s) x.kind after ∷ frames_of fs) some))
+    (same-made _ (ms ++ (r.leave ∷ [])) false false _ after _ (frames_of fs) p am (ap items_of ai) (ap frames_of af))
+    ∙ ap (λ b. map (extended ms) (when b first ++ (last ∷ []))) (sym here)
+    ∙ ap (λ s. map (extended ms) (r.next gr (r.at done (r.in_round body (t.between_of s) x.kind after ∷ frames_of fs) p))) (sym some)
     ∙ ap (λ x. map (extended ms) (r.next gr (r.at done x p))) (sym (frames-push frames fs _ f))
     ∙ ap (λ x. map (extended ms) (r.next gr (r.at (items_of x) (frames_of frames) p))) (sym over)
 
 -- after a round without separator: the next round, and leaving
-pub round-again : (gr : Grammar) (p : u.Place) (ms : List r.Move) (is : List Op) (frames fs : List Frame) (body after : Bor (List Op)) (k : RepeatKind) (a b : Thread) →
-    is ≡ [] → frames ≡ fs ++ (InRound body None k after ∷ []) → r.may_repeat k ≡ true →
-    a.items.now ≡ after.now → a.frames.items ≡ fs → t.moves_of a.moves ≡ ms ++ (r.leave ∷ []) →
-    b.items.now ≡ body.now → b.frames.items ≡ fs ++ (InRound body None k after ∷ []) → t.moves_of b.moves ≡ ms ++ (r.next_round ∷ []) →
+pub round-again : (gr : Grammar) (p : u.Place) (ms : List r.Move) (is : List Op) (frames fs : List Frame) (x : Round) (a b : Thread) →
+    is ≡ [] → frames ≡ fs ++ (InRound x ∷ []) → x.separator ≡ None → r.may_repeat x.kind ≡ true →
+    a.items.now ≡ x.after.now → a.frames.items ≡ fs → t.moves_of a.moves ≡ ms ++ (r.leave ∷ []) →
+    b.items.now ≡ x.body.now → b.frames.items ≡ fs ++ (InRound x ∷ []) → t.moves_of b.moves ≡ ms ++ (r.next_round ∷ []) →
     made_of p (record { thread = b; taken = None }) ∷ made_of p (record { thread = a; taken = None }) ∷ []
     ≡ map (extended ms) (r.next gr (r.at (items_of is) (frames_of frames) p))
-round-again gr p ms is frames fs body after k a b over f here ai af am bi bf bm =
+round-again gr p ms is frames fs x a b over f none here ai af am bi bf bm =
+    let body = items_of x.body.now in
+    let after = items_of x.after.now in
+    let last : r.Choice = (r.leave, r.at after (frames_of fs) p) in
+    let first : r.Choice = (r.next_round, r.at body (r.in_round body None x.kind after ∷ frames_of fs) p) in
     ap2 (λ x y. x ∷ y ∷ [])
-    (same-made _ (ms ++ (r.next_round ∷ [])) false false _ (items_of body.now) _ (r.in_round (items_of body.now) None k (items_of after.now) ∷ frames_of fs) p
-    bm (ap items_of bi) (frames-push _ fs _ bf))
-    (same-made _ (ms ++ (r.leave ∷ [])) false false _ (items_of after.now) _ (frames_of fs) p
-    am (ap items_of ai) (ap frames_of af))
-    ∙ ap (λ b. map (extended ms) (when b (r.next_round, r.at (items_of body.now) (r.in_round (items_of body.now) None k (items_of after.now) ∷ frames_of fs) p) ++ ((r.leave, r.at (items_of after.now) (frames_of fs) p) ∷ []))) (sym here)
+    (same-made _ (ms ++ (r.next_round ∷ [])) false false _ body _ (r.in_round body None x.kind after ∷ frames_of fs) p
+    bm (ap items_of bi) (frames-push _ fs _ bf ∙ ap (λ s. r.in_round body (t.between_of s) x.kind after ∷ frames_of fs) none))
+    (same-made _ (ms ++ (r.leave ∷ [])) false false _ after _ (frames_of fs) p am (ap items_of ai) (ap frames_of af))
+    ∙ ap (λ b. map (extended ms) (when b first ++ (last ∷ []))) (sym here)
+    ∙ ap (λ s. map (extended ms) (r.next gr (r.at done (r.in_round body (t.between_of s) x.kind after ∷ frames_of fs) p))) (sym none)
     ∙ ap (λ x. map (extended ms) (r.next gr (r.at done x p))) (sym (frames-push frames fs _ f))
     ∙ ap (λ x. map (extended ms) (r.next gr (r.at (items_of x) (frames_of frames) p))) (sym over)
 

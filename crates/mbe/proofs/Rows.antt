@@ -100,6 +100,12 @@ of_one_step =
     ∷ ("($($($x:ident)*;)*) => { $([$($x)*])* }", ("a b; ; c;", Some (0, "[a b] [] [c]")))
     ∷ ("($x:tt $($y:tt)*) => { $($y $($x)*)* }", ("1 a b", Some (0, "a b")))
     ∷ ("($($a:ident)true*) => { $($a)* }", ("a true b", Some (0, "a b")))
+    ∷ ("($($a:ident)*) => { $($a) , * }", ("a b c", Some (0, "a, b, c")))
+    ∷ ("($($a:ident)*) => { $($a)? }", ("a b", Some (0, "a")))
+    ∷ ("($($a:ident)?) => { $($a)* f }", ("", Some (0, "f")))
+    ∷ ("($($a:ident)*) => { $(${ignore($a)} f)* }", ("a b", Some (0, "f f")))
+    ∷ ("($x:ident $x:ident) => { $x }", ("a b", Some (0, "b")))
+    ∷ ("($x:literal) => { ${concat(a, $x)} }", ("1", Some (0, "a1")))
     ∷ []
 
 of_one_step-rows : asked Edition2024 one_step of_one_step ≡ wanted of_one_step
@@ -134,6 +140,11 @@ faults =
     ∷ ("($($x:ident)*) => { $x }", ("a", None))
     ∷ ("($($x:ident)*) => { $x }; (a) => { b }", ("a", Some (1, "b")))
     ∷ ("($x:tt) => { $($x)* }", ("1", None))
+    ∷ ("($x:tt) => { ${concat(a, $x)} }", ("(b)", None))
+    ∷ ("($x:ty) => { ${concat(a, $x)} }", ("b", Some (0, "ab")))
+    ∷ ("($x:path) => { ${concat(a, $x)} }", ("b", None))
+    ∷ ("() => { ${count($x)} }", ("", None))
+    ∷ ("($($a:ident)?) => { ${ignore($a)} }", ("", None))
     ∷ []
 
 faults-rows : asked Edition2024 one_step faults ≡ wanted faults
@@ -145,6 +156,8 @@ numbers : List Row
 numbers =
     ("($($x:ident),*) => { ${count($x)} $(${concat(get_, $x)} ${index()})* }", ("a, b", Some (0, "2 get_a 0 get_b 1")))
     ∷ ("() => { ${index(1)} ${len()} }", ("", Some (0, "0 0")))
+    ∷ ("($($($x:ident)*;)*) => { ${count($x)} ${count($x, 1)} }", ("a b; c;", Some (0, "2 3")))
+    ∷ ("($($x:ident)?) => { ${count($x)} }", ("", Some (0, "0")))
     ∷ []
 
 numbers-rows : asked Edition2024 one_step numbers ≡ wanted numbers
@@ -201,6 +214,10 @@ the_crate = refl
 reserved_word_is_raw : run Edition2024 one_step (trees "() => { ${concat(f, n)} }") empty
     ≡ Some (0, leaf (as_leaf.Ident (record { sym = codes "fn"; span = no_span; is_raw = Yes })) empty)
 reserved_word_is_raw = refl
+
+-- a text that is no identifier
+no_identifier : fit (λ text. false) one_step made (rules_in Edition2024 (trees "() => { ${concat(a, b)} }")).list FnLike empty ≡ None
+no_identifier = refl
 
 -- a style that no rule has
 other_style : fit any_text one_step made (rules_in Edition2024 (trees "() => {}")).list Derive empty ≡ None

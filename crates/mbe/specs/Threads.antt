@@ -18,6 +18,7 @@ use Rattle.mbe.specs.declared.matcher.Frame.{Frame}
 use Rattle.mbe.specs.declared.matcher.Frame.TheVariants.{InGroup, InRound, Parted}
 use Rattle.mbe.specs.declared.matcher.Move.{Move}
 use Rattle.mbe.specs.declared.matcher.Move.TheVariants.{Unit as unit, Fragment, Nothing, Enter, Skip, Leave, Separator as separator, NextRound}
+use Rattle.mbe.specs.declared.matcher.Round.{Round}
 use Rattle.mbe.specs.declared.matcher.Thread.{Thread}
 use Rattle.mbe.specs.declared.matcher.Choice.{Choice}
 use Rattle.mbe.specs.declared.matcher.Waiting.{Waiting}
@@ -29,8 +30,12 @@ between_of (Some s) = Some (separator_of s.now)
 
 abbrev pub frame_of : Frame → r.Frame
 frame_of (InGroup after) = r.in_group (items_of after.now)
-frame_of (InRound body sep k after) = r.in_round (items_of body.now) (between_of sep) k (items_of after.now)
-frame_of (Parted body sep k after) = r.parted (items_of body.now) (between_of sep) k (items_of after.now)
+frame_of (InRound x) = r.in_round (items_of x.body.now) (between_of x.separator) x.kind (items_of x.after.now)
+frame_of (Parted x) = r.parted (items_of x.body.now) (between_of x.separator) x.kind (items_of x.after.now)
+
+-- a repetition before what comes after it
+abbrev pub repetition_of : Round → i.Items
+repetition_of x = i.repetition (items_of x.body.now) (between_of x.separator) x.kind (items_of x.after.now)
 
 abbrev pub move_of : Move → r.Move
 move_of unit = r.unit_move
@@ -137,8 +142,8 @@ head_taken (Pending t k ∷ ws) = Some k
 -- two frames are of one sort, and as many items come after them
 abbrev pub same_mark : Frame → Frame → Bool
 same_mark (InGroup a) (InGroup b) = length a.now == length b.now
-same_mark (InRound x s k a) (InRound y t j b) = length a.now == length b.now
-same_mark (Parted x s k a) (Parted y t j b) = length a.now == length b.now
+same_mark (InRound x) (InRound y) = length x.after.now == length y.after.now
+same_mark (Parted x) (Parted y) = length x.after.now == length y.after.now
 same_mark _ _ = false
 
 -- the same of all frames of two threads

@@ -8,10 +8,7 @@ use tt::{Leaf, Punct, Spacing, TtElement, TtIter};
 pub(crate) fn again<'a>(trees: &TtIter<'a>) -> TtIter<'a>
     ensures { result ≡ trees.now }
 {
-    let Ok(copy) = trees.clone() else {
-        unreachable!()
-    };
-    copy
+    trees.remaining().iter()
 }
 
 // Whether two characters make one operator.

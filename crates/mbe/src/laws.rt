@@ -1,15 +1,17 @@
 //! Laws of the definitions, for proofs above this crate. A call does nothing: it only states.
-ghost use Rattle.std.specs.Prelude.{◌≡◌, ℕ, Bool, List, Option, option_map, map};
+ghost use Rattle.std.specs.Prelude.{◌≡◌, ℕ, Bool, true, false, List, Option, Some, option_map, map};
 ghost use Rattle.tt_data.specs.Forest.{Forest, map_spans};
 ghost use Rattle.tt_data.specs.declared.edition.Edition.{Edition};
 ghost use Rattle.tt_data.specs.declared.span.Span.{Span};
 ghost use Rattle.tt_data.specs.declared.span.SyntaxContext.{SyntaxContext};
-ghost use Rattle.mbe_rules.specs.Items.{Rule};
+ghost use Rattle.mbe_rules.specs.Items.{Rule, Items, has_empty_round};
 ghost use Rattle.mbe_rules.specs.Parsing.{macro_rules_of, macro_of};
 ghost use Rattle.mbe_rules.specs.Relabelling.{rule_with};
 ghost use Rattle.mbe_rules.specs.declared.macro_call_style.MacroCallStyle.{MacroCallStyle};
 ghost use Rattle.mbe.specs.Fit.{fit, fit_with};
 ghost use Rattle.mbe.specs.Grammar.{Grammar};
+ghost use Rattle.mbe.specs.Paths.{IsPath, has_clash};
+ghost use Rattle.mbe.specs.Readings.{Move, State, start, next, has_used_up, takings, the_reading};
 
 use mbe_rules::macro_call_style::MacroCallStyle;
 use tt_data::edition::Edition;
@@ -33,4 +35,14 @@ pub fn fit_at_other_places()
         (arguments : Option Forest) (body : Forest) (style : MacroCallStyle) (argument : Forest) →
         fit is_identifier grammar mark (macro_of edition (option_map (map_spans f) arguments) (map_spans f body)).list style (map_spans f argument)
         ≡ fit_with f (fit is_identifier grammar mark (macro_of edition arguments body).list style argument) }
+{}
+
+/// What is told as the reading of a pattern is a list of valid moves that uses up the argument, and no
+/// other list of moves does. Nowhere on the ways that begin so is a fragment taken, and something else too.
+pub fn only_reading()
+    ensures { (grammar : Grammar) (pattern : Items) (argument : Forest) (moves : List Move) →
+        has_empty_round pattern ≡ false → the_reading grammar pattern argument ≡ Some moves →
+        (has_clash (takings grammar pattern argument) ≡ false)
+        × ((last : State) × IsPath (next grammar) (start pattern argument) moves last × (has_used_up last ≡ true))
+        × ((others : List Move) (last : State) → IsPath (next grammar) (start pattern argument) others last → has_used_up last ≡ true → others ≡ moves) }
 {}

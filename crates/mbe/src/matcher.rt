@@ -12,9 +12,10 @@ ghost use Rattle.mbe.specs.Places.{place_of};
 ghost use Rattle.mbe.specs.Readings as r;
 ghost use Rattle.mbe.specs.Units as u;
 ghost use Rattle.mbe.specs.Waiting.{prefixed, settled_at, advanced_by, finished, Each};
-ghost use Rattle.mbe.specs.Threads.{state_of, frames_of, moves_of, move_of, given, extended, contributes, waits, waits_at, waiting_at, takings_of, head_taken, is_trees, between_of, same_mark, same_marks, is_like, IsVisited, IsGood, IsGoodAt};
+ghost use Rattle.mbe.specs.Threads.{state_of, frames_of, moves_of, move_of, given, extended, contributes, waits, waits_at, waiting_at, takings_of, head_taken, is_trees, between_of, repetition_of, same_mark, same_marks, is_like, IsVisited, IsGood, IsGoodAt};
 ghost use Rattle.mbe.specs.Thinned.{twice, thin};
 ghost use Rattle.mbe.specs.declared.matcher.Frame.{Frame};
+ghost use Rattle.mbe.specs.declared.matcher.Frame.TheVariants.{InGroup, InRound, Parted};
 ghost use Rattle.mbe.specs.declared.matcher.Move.{Move};
 
 use crate::place::{Place, Taken, before, fragment_trees};
@@ -25,33 +26,32 @@ use std::alloc::{AllocError, Global};
 use symbols::Symbol;
 use tt::TokenTreesView;
 
+// A repetition that a thread is in, and what comes after it.
+#[derive(Clone, Copy)]
+struct Round<'a> {
+    body: &'a [Op],
+    separator: Option<&'a Separator>,
+    kind: RepeatKind,
+    after: &'a [Op],
+}
+
 // What goes on after the present list of items.
 #[derive(Clone, Copy)]
 enum Frame<'a> {
     // After a group's closing.
-    InGroup {
-        after: &'a [Op],
-    },
+    InGroup { after: &'a [Op] },
     // After a round.
-    InRound {
-        body: &'a [Op],
-        separator: Option<&'a Separator>,
-        kind: RepeatKind,
-        after: &'a [Op],
-    },
+    InRound(Round<'a>),
     // After a separator, behind which only another round may come.
-    Parted {
-        body: &'a [Op],
-        separator: Option<&'a Separator>,
-        kind: RepeatKind,
-        after: &'a [Op],
-    },
+    Parted(Round<'a>),
 }
 
 /// A move of a reading.
 #[derive(Clone, Copy, Drop)]
 pub enum Move<'a> {
+    /// Over a word, a glued punct, a lifetime or a bracket.
     Unit,
+    /// Over the trees that a variable takes.
     Fragment {
         name: &'a Symbol,
         kind: MetaVarKind,
@@ -61,16 +61,21 @@ pub enum Move<'a> {
     Nothing {
         name: &'a Symbol,
     },
+    /// Into the first round of a repetition.
     Enter,
+    /// Past a repetition, whose body this is.
     Skip {
         body: &'a [Op],
     },
+    /// Out of a repetition, after a round.
     Leave,
+    /// Over a separator.
     Separator,
+    /// Into another round.
     NextRound,
 }
 
-/// A move of the log, and the entry of the move before it.
+/// A move of the log, and the entry of the move before it. Entries are shared by the threads that came by them.
 #[derive(Clone, Copy, Drop)]
 pub struct Entry<'a> {
     made: Move<'a>,
@@ -269,40 +274,25 @@ impl<'a> Thread<'a> {
     }
 
     // The threads after entering a repetition and after skipping it.
-    fn repetitions(
-        &self,
-        arena: &'a Bump,
-        body: &'a [Op],
-        separator: Option<&'a Separator>,
-        kind: RepeatKind,
-        after: &'a [Op],
-    ) -> Result<Choices<'a>, AllocError>
+    fn repetitions(&self, arena: &'a Bump, round: Round<'a>) -> Result<Choices<'a>, AllocError>
         ensures { (g : Grammar) (p : u.Place) → IfOk result (λ cs. given p cs.0 ++ given p cs.1
             ≡ map (extended (moves_of self.now.moves))
-            (r.next g (r.at (repetition (items_of body.now) (between_of separator.entry) kind (items_of after.now)) (frames_of self.now.frames.items) p))) }
+            (r.next g (r.at (repetition_of round.entry) (frames_of self.now.frames.items) p))) }
     {
-        let frame = Frame::InRound {
-            body,
-            separator,
-            kind,
-            after,
-        };
-        let thread = self.entered(arena, body, frame, Move::Enter)?;
+        let thread = self.entered(arena, round.body, Frame::InRound(round), Move::Enter)?;
         let first = Some(Choice {
             thread,
             taken: None,
         });
-        if kind == RepeatKind::OneOrMore {
+        if round.kind == RepeatKind::OneOrMore {
             return Ok((first, None));
         }
-        let thread = self.moved(arena, after, Move::Skip { body })?;
-        Ok((
-            first,
-            Some(Choice {
-                thread,
-                taken: None,
-            }),
-        ))
+        let thread = self.moved(arena, round.after, Move::Skip { body: round.body })?;
+        let second = Some(Choice {
+            thread,
+            taken: None,
+        });
+        Ok((first, second))
     }
 
     // The thread after a group's opening, where that is here.
@@ -344,7 +334,10 @@ impl<'a> Thread<'a> {
             Some((op, rest)) => self.choices_at(arena, grammar, op, rest, place),
             None => match self.frames.last() {
                 None => Ok((None, None)),
-                Some(&frame) => self.choices_after(arena, grammar, frame, place),
+                Some(&frame) => {
+                    let choices = self.choices_after(arena, frame, place)?;
+                    Ok(choices)
+                }
             },
         }
     }
@@ -397,113 +390,145 @@ impl<'a> Thread<'a> {
                 separator,
                 kind,
             } => {
-                let choices = self.repetitions(arena, tokens, borrowed(separator), *kind, rest)?;
+                let round = Round {
+                    body: tokens,
+                    separator: borrowed(separator),
+                    kind: *kind,
+                    after: rest,
+                };
+                let choices = self.repetitions(arena, round)?;
                 Ok(choices)
             }
             _ => Ok((None, None)),
         }
     }
 
-    fn choices_after<G: FragmentGrammar>(
+    fn choices_after(
         &self,
         arena: &'a Bump,
-        grammar: &G,
         frame: Frame<'a>,
         place: &Place<'a>,
     ) -> Result<Choices<'a>, AllocError>
         requires items { self.now.items.now ≡ [] }
         requires frames { (fs : List Frame) × (self.now.frames.items ≡ fs ++ (frame ∷ [])) }
-        ensures { let p = place_of place.now in
+        ensures { (g : Grammar) → let p = place_of place.now in
             IfOk result (λ cs. given p cs.0 ++ given p cs.1
-            ≡ map (extended (moves_of self.now.moves)) (r.next (G.answer grammar.now) (state_of self.now p))) }
+            ≡ map (extended (moves_of self.now.moves)) (r.next g (state_of self.now p))) }
     {
         match frame {
             Frame::InGroup { after } => {
-                if !place.is_closing() {
-                    return Ok((None, None));
-                }
-                let thread = self.left(arena, after, Move::Unit)?;
-                Ok((
-                    Some(Choice {
-                        thread,
-                        taken: Some(Taken::Unit),
-                    }),
-                    None,
-                ))
+                let choices = self.after_group(arena, after, place)?;
+                Ok(choices)
             }
-            Frame::Parted {
-                body,
-                separator,
-                kind,
-                after,
-            } => {
-                if kind == RepeatKind::ZeroOrOne {
-                    return Ok((None, None));
+            Frame::Parted(round) => {
+                let choices = self.after_separator(arena, round, place)?;
+                Ok(choices)
+            }
+            Frame::InRound(round) => {
+                let choices = self.after_round(arena, round, place)?;
+                Ok(choices)
+            }
+        }
+    }
+
+    // The thread after a group's closing, where that is here.
+    fn after_group(
+        &self,
+        arena: &'a Bump,
+        after: &'a [Op],
+        place: &Place<'a>,
+    ) -> Result<Choices<'a>, AllocError>
+        requires items { self.now.items.now ≡ [] }
+        requires frames { (fs : List Frame) × (self.now.frames.items ≡ fs ++ (InGroup after ∷ [])) }
+        ensures { (g : Grammar) → let p = place_of place.now in
+            IfOk result (λ cs. given p cs.0 ++ given p cs.1
+            ≡ map (extended (moves_of self.now.moves)) (r.next g (state_of self.now p))) }
+    {
+        if !place.is_closing() {
+            return Ok((None, None));
+        }
+        let thread = self.left(arena, after, Move::Unit)?;
+        let choice = Choice {
+            thread,
+            taken: Some(Taken::Unit),
+        };
+        Ok((Some(choice), None))
+    }
+
+    // The thread in the next round, where there may be one.
+    fn after_separator(
+        &self,
+        arena: &'a Bump,
+        round: Round<'a>,
+        place: &Place<'a>,
+    ) -> Result<Choices<'a>, AllocError>
+        requires items { self.now.items.now ≡ [] }
+        requires frames { (fs : List Frame) × (self.now.frames.items ≡ fs ++ (Parted round ∷ [])) }
+        ensures { (g : Grammar) → let p = place_of place.now in
+            IfOk result (λ cs. given p cs.0 ++ given p cs.1
+            ≡ map (extended (moves_of self.now.moves)) (r.next g (state_of self.now p))) }
+    {
+        if round.kind == RepeatKind::ZeroOrOne {
+            return Ok((None, None));
+        }
+        let thread = self.swapped(arena, round.body, Frame::InRound(round), Move::NextRound)?;
+        let choice = Choice {
+            thread,
+            taken: None,
+        };
+        Ok((Some(choice), None))
+    }
+
+    // The threads after the separator or in the next round, and after the repetition.
+    fn after_round(
+        &self,
+        arena: &'a Bump,
+        round: Round<'a>,
+        place: &Place<'a>,
+    ) -> Result<Choices<'a>, AllocError>
+        requires items { self.now.items.now ≡ [] }
+        requires frames { (fs : List Frame) × (self.now.frames.items ≡ fs ++ (InRound round ∷ [])) }
+        ensures { (g : Grammar) → let p = place_of place.now in
+            IfOk result (λ cs. given p cs.0 ++ given p cs.1
+            ≡ map (extended (moves_of self.now.moves)) (r.next g (state_of self.now p))) }
+    {
+        let thread = self.left(arena, round.after, Move::Leave)?;
+        let last = Some(Choice {
+            thread,
+            taken: None,
+        });
+        match round.separator {
+            Some(between) => {
+                if !place.is_between(between) {
+                    return Ok((None, last));
                 }
                 let thread = self.swapped(
                     arena,
-                    body,
-                    Frame::InRound {
-                        body,
-                        separator,
-                        kind,
-                        after,
-                    },
+                    self.items,
+                    Frame::Parted(round),
+                    Move::Separator,
+                )?;
+                let first = Choice {
+                    thread,
+                    taken: Some(Taken::Unit),
+                };
+                Ok((Some(first), last))
+            }
+            None => {
+                if round.kind == RepeatKind::ZeroOrOne {
+                    return Ok((None, last));
+                }
+                let thread = self.swapped(
+                    arena,
+                    round.body,
+                    Frame::InRound(round),
                     Move::NextRound,
                 )?;
-                Ok((
-                    Some(Choice {
-                        thread,
-                        taken: None,
-                    }),
-                    None,
-                ))
-            }
-            Frame::InRound {
-                body,
-                separator,
-                kind,
-                after,
-            } => {
-                let thread = self.left(arena, after, Move::Leave)?;
-                let last = Some(Choice {
+                let first = Choice {
                     thread,
                     taken: None,
-                });
-                match separator {
-                    Some(between) => {
-                        if !place.is_between(between) {
-                            return Ok((None, last));
-                        }
-                        let frame = Frame::Parted {
-                            body,
-                            separator,
-                            kind,
-                            after,
-                        };
-                        let thread = self.swapped(arena, self.items, frame, Move::Separator)?;
-                        Ok((
-                            Some(Choice {
-                                thread,
-                                taken: Some(Taken::Unit),
-                            }),
-                            last,
-                        ))
-                    }
-                    None => {
-                        if kind == RepeatKind::ZeroOrOne {
-                            return Ok((None, last));
-                        }
-                        let thread = self.swapped(arena, body, frame, Move::NextRound)?;
-                        Ok((
-                            Some(Choice {
-                                thread,
-                                taken: None,
-                            }),
-                            last,
-                        ))
-                    }
-                }
+                };
+                Ok((Some(first), last))
             }
         }
     }
@@ -643,8 +668,8 @@ fn is_same_mark(first: Frame<'_>, second: Frame<'_>) -> bool
 {
     match (first, second) {
         (Frame::InGroup { after: a }, Frame::InGroup { after: b }) => a.len() == b.len(),
-        (Frame::InRound { after: a, .. }, Frame::InRound { after: b, .. }) => a.len() == b.len(),
-        (Frame::Parted { after: a, .. }, Frame::Parted { after: b, .. }) => a.len() == b.len(),
+        (Frame::InRound(a), Frame::InRound(b)) => a.after.len() == b.after.len(),
+        (Frame::Parted(a), Frame::Parted(b)) => a.after.len() == b.after.len(),
         _ => false,
     }
 }
@@ -739,7 +764,16 @@ fn only_ended<'a>(waiting: &[Waiting<'a>]) -> Option<Option<&'a Entry<'a>>>
     }
 }
 
-/// The moves of the only reading, where there is exactly one and no local ambiguity.
+/// The moves of the one way in which a pattern uses up an argument: the last entry of the log, none in it
+/// where there are no moves. There is no such way where no list of moves uses up the argument, where more
+/// than one does, or where at some place a fragment is taken on one way and something else on another.
+/// (The Rust Reference, "Macros By Example": metavariables, forwarding a fragment.)
+///
+/// From token to token at most two threads of one state go on, however many lists of moves lead to it.
+///
+/// # Errors
+///
+/// `AllocError` if memory is refused.
 pub fn match_pattern<'a, G: FragmentGrammar>(
     alloc: Global,
     arena: &'a Bump,

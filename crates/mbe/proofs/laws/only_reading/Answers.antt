@@ -1,0 +1,5 @@
+use Rattle.mbe.proofs.MatchingLemmas.{the_reading-only}
+use Rattle.mbe.proofs.laws.only_reading.Goals as goal
+
+pub returns : goal.returns
+returns c = the_reading-only
