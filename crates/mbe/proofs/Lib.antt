@@ -20,3 +20,6 @@ pub mod PlaceLemmas
 pub mod OpsLemmas
 pub mod SettlingLemmas
 pub mod TheLoopLemmas
+pub mod BoundLemmas
+pub mod CollectingLemmas
+pub mod SkippedLemmas

@@ -11,3 +11,5 @@ pub mod Fit
 pub mod Waiting
 pub mod Places
 pub mod Threads
+pub mod Bound
+pub mod Collecting
