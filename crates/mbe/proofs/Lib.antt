@@ -24,3 +24,7 @@ pub mod ThinLemmas
 pub mod SoundLemmas
 pub mod LikeLemmas
 pub mod TheLoopLemmas
+pub mod BoundLemmas
+pub mod CollectingLemmas
+pub mod SkippedLemmas
+pub mod PuttingLemmas

@@ -13,3 +13,7 @@ pub mod Positions
 pub mod Thinned
 pub mod Places
 pub mod Threads
+pub mod Bound
+pub mod Collecting
+pub mod Room
+pub mod Putting
