@@ -24,3 +24,6 @@ pub mod ThinLemmas
 pub mod SoundLemmas
 pub mod LikeLemmas
 pub mod TheLoopLemmas
+pub mod BoundLemmas
+pub mod CollectingLemmas
+pub mod SkippedLemmas

@@ -13,3 +13,5 @@ pub mod Positions
 pub mod Thinned
 pub mod Places
 pub mod Threads
+pub mod Bound
+pub mod Collecting

@@ -1,6 +1,8 @@
 //! Macros by example: which rule of a definition fits an argument.
 #![tactic(auto)]
 
+pub mod bindings;
+pub mod collecting;
 pub mod fragment;
 mod glued;
 pub mod laws;

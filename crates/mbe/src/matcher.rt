@@ -78,8 +78,8 @@ pub enum Move<'a> {
 /// A move of the log, and the entry of the move before it. Entries are shared by the threads that came by them.
 #[derive(Clone, Copy, Drop)]
 pub struct Entry<'a> {
-    made: Move<'a>,
-    before: Option<&'a Entry<'a>>,
+    pub(crate) made: Move<'a>,
+    pub(crate) before: Option<&'a Entry<'a>>,
 }
 
 // The log with one more move.

@@ -1,0 +1,10 @@
+-- The entries that are left give what all gave at first.
+use Rattle.std.proofs.Common.{◌≡◌}
+use Rattle.mbe.specs.Bindings.{bind_round}
+use Rattle.mbe.specs.Bound.{entries_of, map_of}
+use Rattle.mbe.proofs.bindings.Bindings.bind_round.Given as goal
+
+abbrev pub invariant-loop-bound : goal.invariant-loop-bound
+invariant-loop-bound l =
+    bind_round l.number (entries_of l.bound-iterator.rest.items) (map_of l.self)
+    ≡ bind_round l.number (entries_of l.initial.bound-iterator.rest.items) (map_of l.initial.self)

@@ -1,0 +1,48 @@
+-- Bindings as they come about, move by move.
+use Rattle.std.specs.Prelude.{ℕ, suc, List, [], ◌∷◌, map, reverse}
+use Rattle.tt_data.specs.Forest.{empty}
+use Rattle.mbe_rules.specs.declared.parser.MetaVarKind.TheVariants.{Vis}
+use Rattle.mbe.specs.Bindings.{Map, fragment, bind, bind_skipped, bind_round}
+use Rattle.mbe.specs.Bound.{map_of}
+use Rattle.mbe.specs.Readings.{Move, fragment_move, nothing_move, enter, skip, leave, next_round}
+use Rattle.mbe.specs.declared.collecting.Collected.{Collected}
+use Rattle.mbe.specs.declared.collecting.Open.{Open}
+
+-- what is bound in the present round, and around each open repetition, inward out, together with the values of its finished rounds and their number
+abbrev pub Collecting : Type 0
+Collecting = Map × List (Map × ℕ)
+
+-- a round has ended, and another begins
+abbrev pub round_ended : Map → List (Map × ℕ) → Collecting
+round_ended m [] = (m, [])
+round_ended m (o ∷ opens) = ([], (bind_round o.1 m o.0, suc o.1) ∷ opens)
+
+-- the last round has ended
+abbrev pub repetition_ended : Map → List (Map × ℕ) → Collecting
+repetition_ended m [] = (m, [])
+repetition_ended m (o ∷ opens) = (bind_round o.1 m o.0, opens)
+
+-- after one more move
+abbrev pub after : Move → Collecting → Collecting
+after (fragment_move n k f) s = (bind n (fragment k f) s.0, s.1)
+after (nothing_move n) s = (bind n (fragment Vis empty) s.0, s.1)
+after (skip ns) s = (bind_skipped ns s.0, s.1)
+after enter s = ([], (s.0, 0) ∷ s.1)
+after next_round s = round_ended s.0 s.1
+after leave s = repetition_ended s.0 s.1
+after _ s = s
+
+-- after these moves
+abbrev pub after_all : List Move → Collecting → Collecting
+after_all [] s = s
+after_all (m ∷ ms) s = after_all ms (after m s)
+
+-- what a program has collected
+abbrev pub open_of : Open → Map × ℕ
+open_of o = (map_of o.around, o.rounds)
+
+abbrev pub opens_of : List Open → List (Map × ℕ)
+opens_of os = map open_of (reverse os)
+
+abbrev pub collected_of : Collected → Collecting
+collected_of c = (map_of c.here, opens_of c.opens.items)

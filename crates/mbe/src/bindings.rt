@@ -1,0 +1,191 @@
+//! What the variables of a pattern stand for.
+ghost use Rattle.std.specs.Prelude.{◌≡◌, ◌≤◌, length, None, Some, OnOk, IfOk};
+ghost use Rattle.mbe.specs.Bindings as spec;
+ghost use Rattle.mbe.specs.Bindings.{value_put, with_round};
+ghost use Rattle.mbe.specs.Bound.{standing_for, values_of};
+
+use mbe_rules::MetaVarKind;
+use std::alloc::{AllocError, Global};
+use std::mem;
+use symbols::Symbol;
+use tt::TokenTreesView;
+
+/// What a name stands for.
+#[derive(Drop)]
+pub enum Binding<'a> {
+    /// The trees of a fragment.
+    Fragment {
+        kind: MetaVarKind,
+        trees: TokenTreesView<'a>,
+    },
+    /// A value for each round of a repetition.
+    Rounds(Vec<Binding<'a>>),
+    /// Nothing, where a repetition was skipped.
+    Skipped,
+}
+
+// A name with what it stands for.
+#[derive(Drop)]
+struct Bound<'a> {
+    name: &'a Symbol,
+    binding: Binding<'a>,
+}
+
+/// What each name stands for.
+#[derive(Drop)]
+pub struct Bindings<'a> {
+    bound: Vec<Bound<'a>>,
+}
+
+// Puts empty lists at the end, for the rounds before this one that have no value.
+fn fill_up<'a>(values: &mut Vec<Binding<'a>>, round: usize) -> Result<(), AllocError>
+    ensures filled { OnOk result (round ≤ length values.new.items) }
+    ensures same { OnOk result ((b : spec.Binding) → value_put round b (values_of values.new.items) ≡ value_put round b (values_of values.old.items)) }
+{
+    while values.len() < round {
+        let none = Vec::new(*values.allocator());
+        values.push(Binding::Rounds(none))?;
+    }
+    Ok(())
+}
+
+// Puts the value of a round at the end, after empty lists for the rounds before it that have none.
+fn put_value<'a>(
+    values: &mut Vec<Binding<'a>>,
+    round: usize,
+    value: Binding<'a>,
+) -> Result<(), AllocError>
+    ensures { OnOk result (values_of values.new.items ≡ value_put round (standing_for value.entry) (values_of values.old.items)) }
+{
+    fill_up(values, round)?;
+    values.push(value)?;
+    Ok(())
+}
+
+// What a name stands for after a round: one that holds no list keeps what it has.
+fn with_round<'a>(
+    binding: Binding<'a>,
+    round: usize,
+    value: Binding<'a>,
+) -> Result<Binding<'a>, AllocError>
+    ensures { IfOk result (λ b. standing_for b ≡ with_round round (standing_for value.entry) (Some (standing_for binding.entry))) }
+{
+    match binding {
+        Binding::Rounds(mut values) => {
+            put_value(&mut values, round, value)?;
+            Ok(Binding::Rounds(values))
+        }
+        kept => Ok(kept),
+    }
+}
+
+// What a name stands for after a round, if it stood for nothing before.
+fn first_of<'a>(alloc: Global, round: usize, value: Binding<'a>) -> Result<Binding<'a>, AllocError>
+    ensures { IfOk result (λ b. standing_for b ≡ with_round round (standing_for value.entry) None) }
+{
+    let binding = with_round(Binding::Rounds(Vec::new(alloc)), round, value)?;
+    Ok(binding)
+}
+
+impl<'a> Bound<'a> {
+    // The name has its value of a round.
+    fn add_round(&mut self, round: usize, value: Binding<'a>) -> Result<(), AllocError>
+        ensures name { OnOk result (self.new.name.now ≡ self.old.name.now) }
+        ensures binding { OnOk result (standing_for self.new.binding ≡ with_round round (standing_for value.entry) (Some (standing_for self.old.binding))) }
+    {
+        let before = mem::replace(&mut self.binding, Binding::Skipped);
+        self.binding = with_round(before, round, value)?;
+        Ok(())
+    }
+}
+
+impl<'a> Bindings<'a> {
+    ghost use Rattle.std.specs.Prelude.{[], option_map};
+    ghost use Rattle.mbe.specs.Bindings.{bind, binding_of, bind_round};
+    ghost use Rattle.mbe.specs.Bound.{map_of, place_among};
+
+    /// No name stands for anything.
+    pub(crate) fn new(alloc: Global) -> Bindings<'a>
+        ensures { map_of result ≡ [] }
+    {
+        Bindings {
+            bound: Vec::new(alloc),
+        }
+    }
+
+    // Where a name stands.
+    fn position(&self, name: &Symbol) -> Option<usize>
+        ensures { result ≡ place_among name.now self.now.bound.items }
+    {
+        for (i, bound) in self.bound.iter().enumerate() {
+            if *name == *bound.name {
+                return Some(i);
+            }
+        }
+        None
+    }
+
+    /// What the name stands for: none where it is not bound.
+    pub fn get(&self, name: &Symbol) -> Option<&Binding<'a>>
+        ensures { option_map (λ b. standing_for b.now) result ≡ binding_of name.now (map_of self.now) }
+    {
+        match self.position(name) {
+            Some(i) => Some(&self.bound[i].binding),
+            None => None,
+        }
+    }
+
+    /// The name stands for this, in place of what it stood for.
+    pub(crate) fn bind(&mut self, name: &'a Symbol, binding: Binding<'a>) -> Result<(), AllocError>
+        ensures { OnOk result (map_of self.new ≡ bind name.now (standing_for binding.entry) (map_of self.old)) }
+    {
+        let bound = Bound { name, binding };
+        match self.position(name) {
+            Some(i) => {
+                self.bound[i] = bound;
+                Ok(())
+            }
+            None => {
+                self.bound.push(bound)?;
+                Ok(())
+            }
+        }
+    }
+
+    // The name has this value in a round; one that holds no list keeps what it has.
+    fn bind_in_round(
+        &mut self,
+        round: usize,
+        name: &'a Symbol,
+        value: Binding<'a>,
+    ) -> Result<(), AllocError>
+        ensures { OnOk result (map_of self.new
+            ≡ bind name.now (with_round round (standing_for value.entry) (binding_of name.now (map_of self.old))) (map_of self.old)) }
+    {
+        match self.position(name) {
+            Some(i) => {
+                self.bound[i].add_round(round, value)?;
+                Ok(())
+            }
+            None => {
+                let binding = first_of(*self.bound.allocator(), round, value)?;
+                self.bound.push(Bound { name, binding })?;
+                Ok(())
+            }
+        }
+    }
+
+    /// The names that are bound in a round have their values of it.
+    pub(crate) fn bind_round(
+        &mut self,
+        number: usize,
+        round: Bindings<'a>,
+    ) -> Result<(), AllocError>
+        ensures { OnOk result (map_of self.new ≡ bind_round number (map_of round.entry) (map_of self.old)) }
+    {
+        for bound in round.bound {
+            self.bind_in_round(number, bound.name, bound.binding)?;
+        }
+        Ok(())
+    }
+}

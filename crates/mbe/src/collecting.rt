@@ -1,0 +1,173 @@
+//! What the variables of a pattern stand for after the moves of a reading.
+ghost use Rattle.std.specs.Prelude.{◌≡◌, [], OnOk, IfOk, map, reverse};
+ghost use Rattle.mbe_rules.specs.Items.{done, variables};
+ghost use Rattle.mbe_rules.specs.Ops.{items_of, put_op};
+ghost use Rattle.mbe.specs.Bindings.{bind_skipped, bindings};
+ghost use Rattle.mbe.specs.Bound.{map_of};
+ghost use Rattle.mbe.specs.Threads.{move_of, moves_of};
+
+use crate::bindings::{Binding, Bindings};
+use crate::matcher::{Entry, Move};
+use mbe_rules::{MetaVarKind, Op};
+use std::alloc::{AllocError, Global};
+use std::mem;
+use tt::TokenTreesView;
+
+// Each variable of an item stands for nothing.
+#[cycle(skipping)]
+fn skip_op<'a>(here: &mut Bindings<'a>, op: &'a Op) -> Result<(), AllocError>
+    ensures { OnOk result (map_of here.new ≡ bind_skipped (variables (put_op op.now done)) (map_of here.old)) }
+{
+    match op {
+        Op::Var { name, .. } => here.bind(name, Binding::Skipped),
+        Op::Repeat { tokens, .. } => skip(here, tokens),
+        Op::Subtree { tokens, .. } => skip(here, tokens),
+        _ => Ok(()),
+    }
+}
+
+// Each variable of these items stands for nothing.
+#[cycle(skipping)]
+fn skip<'a>(here: &mut Bindings<'a>, ops: &'a [Op]) -> Result<(), AllocError>
+    ensures { OnOk result (map_of here.new ≡ bind_skipped (variables (items_of ops.now)) (map_of here.old)) }
+{
+    for op in ops {
+        skip_op(here, op)?;
+    }
+    Ok(())
+}
+
+// An open repetition: what is bound around it and in its finished rounds, and how many these are.
+#[derive(Drop)]
+struct Open<'a> {
+    around: Bindings<'a>,
+    rounds: usize,
+}
+
+// What is bound in the present round, and the repetitions that are open, the innermost last.
+#[derive(Drop)]
+struct Collected<'a> {
+    here: Bindings<'a>,
+    opens: Vec<Open<'a>>,
+}
+
+impl<'a> Open<'a> {
+    ghost use Rattle.std.specs.Prelude.{suc};
+    ghost use Rattle.mbe.specs.Bindings.{bind_round};
+    ghost use Rattle.mbe.specs.Collecting.{open_of};
+
+    // One round more has ended.
+    fn with_round(self, round: Bindings<'a>) -> Result<Open<'a>, AllocError>
+        ensures { IfOk result (λ o. open_of o ≡ (bind_round self.entry.rounds (map_of round.entry) (map_of self.entry.around), suc self.entry.rounds)) }
+    {
+        let Open { mut around, rounds } = self;
+        around.bind_round(rounds, round)?;
+        match rounds.checked_add(1) {
+            Some(rounds) => Ok(Open { around, rounds }),
+            None => Err(AllocError),
+        }
+    }
+}
+
+impl<'a> Collected<'a> {
+    ghost use Rattle.mbe.specs.Collecting.{collected_of, after};
+    ghost use Rattle.mbe.specs.Readings as r;
+
+    // Before any move.
+    fn new(alloc: Global) -> Collected<'a>
+        ensures { collected_of result ≡ ([], []) }
+    {
+        Collected {
+            here: Bindings::new(alloc),
+            opens: Vec::new(alloc),
+        }
+    }
+
+    // A repetition begins.
+    fn enter(&mut self, alloc: Global) -> Result<(), AllocError>
+        ensures { OnOk result (collected_of self.new ≡ after r.enter (collected_of self.old)) }
+    {
+        let around = mem::replace(&mut self.here, Bindings::new(alloc));
+        self.opens.push(Open { around, rounds: 0 })?;
+        Ok(())
+    }
+
+    // A round ends, and another begins.
+    fn end_round(&mut self, alloc: Global) -> Result<(), AllocError>
+        ensures { OnOk result (collected_of self.new ≡ after r.next_round (collected_of self.old)) }
+    {
+        let Some(open) = self.opens.pop() else {
+            return Ok(());
+        };
+        let round = mem::replace(&mut self.here, Bindings::new(alloc));
+        let open = open.with_round(round)?;
+        self.opens.push(open)?;
+        Ok(())
+    }
+
+    // A repetition ends.
+    fn leave(&mut self, alloc: Global) -> Result<(), AllocError>
+        ensures { OnOk result (collected_of self.new ≡ after r.leave (collected_of self.old)) }
+    {
+        let Some(open) = self.opens.pop() else {
+            return Ok(());
+        };
+        let round = mem::replace(&mut self.here, Bindings::new(alloc));
+        let Open { mut around, rounds } = open;
+        around.bind_round(rounds, round)?;
+        self.here = around;
+        Ok(())
+    }
+
+    // One more move is made.
+    fn add(&mut self, alloc: Global, made: Move<'a>) -> Result<(), AllocError>
+        ensures { OnOk result (collected_of self.new ≡ after (move_of made.entry) (collected_of self.old)) }
+    {
+        match made {
+            Move::Fragment { name, kind, trees } => {
+                self.here.bind(name, Binding::Fragment { kind, trees })
+            }
+            Move::Nothing { name } => {
+                let trees = TokenTreesView::empty();
+                let kind = MetaVarKind::Vis;
+                self.here.bind(name, Binding::Fragment { kind, trees })
+            }
+            Move::Skip { body } => skip(&mut self.here, body),
+            Move::Enter => self.enter(alloc),
+            Move::Leave => self.leave(alloc),
+            Move::NextRound => self.end_round(alloc),
+            Move::Unit | Move::Separator => Ok(()),
+        }
+    }
+}
+
+// The moves up to an entry of the log, the last first.
+fn moves_back<'a>(alloc: Global, last: Option<&'a Entry<'a>>) -> Result<Vec<Move<'a>>, AllocError>
+    ensures { IfOk result (λ v. map move_of (reverse v.items) ≡ moves_of last.entry) }
+{
+    let mut moves = Vec::new(alloc);
+    let mut next = last;
+    while let Some(entry) = next {
+        moves.push(entry.made)?;
+        next = entry.before;
+    }
+    Ok(moves)
+}
+
+/// What the variables of a pattern stand for after the moves up to an entry of the log.
+///
+/// The trees of fragments are not copied. Its one error is want of memory.
+pub fn bindings_of<'a>(
+    alloc: Global,
+    last: Option<&'a Entry<'a>>,
+) -> Result<Bindings<'a>, AllocError>
+    ensures { IfOk result (λ b. map_of b ≡ bindings (moves_of last.entry)) }
+{
+    let mut moves = moves_back(alloc, last)?;
+    let mut collected = Collected::new(alloc);
+    while let Some(made) = moves.pop() {
+        collected.add(alloc, made)?;
+    }
+    let Collected { here, opens: _ } = collected;
+    Ok(here)
+}
