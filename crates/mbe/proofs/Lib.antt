@@ -27,3 +27,4 @@ pub mod TheLoopLemmas
 pub mod BoundLemmas
 pub mod CollectingLemmas
 pub mod SkippedLemmas
+pub mod PuttingLemmas

@@ -15,6 +15,7 @@ abbrev mutual
   standing_for (Rounds' shape row) = b.rounds (row_values row)
   standing_for Skipped = b.skipped
 
+  -- values of rounds, as a list holds them
   pub row_values : {m : _} → Row_of-Binding m → Values
   row_values end_of-Binding = no_more
   row_values (more_of-Binding x row) = value (standing_for x) (row_values row)
@@ -32,6 +33,7 @@ entry_of x = (x.name.now, standing_for x.binding)
 abbrev pub entries_of : List Bound → Map
 entries_of xs = map entry_of xs
 
+-- all that is bound
 abbrev pub map_of : Bindings → Map
 map_of b = entries_of b.bound.items
 

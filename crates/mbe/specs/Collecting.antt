@@ -37,12 +37,14 @@ abbrev pub after_all : List Move → Collecting → Collecting
 after_all [] s = s
 after_all (m ∷ ms) s = after_all ms (after m s)
 
--- what a program has collected
+-- an open repetition that a program keeps
 abbrev pub open_of : Open → Map × ℕ
 open_of o = (map_of o.around, o.rounds)
 
+-- open repetitions, of which the innermost stands last
 abbrev pub opens_of : List Open → List (Map × ℕ)
 opens_of os = map open_of (reverse os)
 
+-- what a program has collected
 abbrev pub collected_of : Collected → Collecting
 collected_of c = (map_of c.here, opens_of c.opens.items)

@@ -15,3 +15,5 @@ pub mod Places
 pub mod Threads
 pub mod Bound
 pub mod Collecting
+pub mod Room
+pub mod Putting

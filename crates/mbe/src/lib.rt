@@ -8,5 +8,6 @@ mod glued;
 pub mod laws;
 pub mod matcher;
 mod place;
+mod transcriber;
 
 pub use fragment_grammar::{FragmentGrammar, Prefix, PrefixEntryPoint};

@@ -1,5 +1,5 @@
 -- The name stands at its place, or nowhere.
-use Rattle.std.proofs.Common.{◌≡◌, ◌∙◌, sym, ap, arith, Some}
+use Rattle.std.proofs.Common.{◌∙◌, sym, ap, arith, Some}
 use Rattle.mbe.specs.Bound.{standing_for}
 use Rattle.mbe.proofs.BoundLemmas.{place-within, binding-at, binding-none}
 use Rattle.mbe.proofs.bindings.Bindings.get.Goals as goal
