@@ -7,4 +7,6 @@
 #[cfg(test)]
 mod pieces;
 #[cfg(test)]
+mod prints;
+#[cfg(test)]
 mod texts;

@@ -12,9 +12,11 @@ use Rattle.mbe.specs.declared.place.Place.{Place}
 use Rattle.mbe.specs.declared.place.Taken.{Taken}
 use Rattle.mbe.specs.declared.place.Taken.TheVariants.{Unit as takes_unit, Fragment as takes_trees}
 
+-- the place of an argument that a program's place stands for
 abbrev pub place_of : Place → u.Place
 place_of p = u.place p.rest (reverse p.outer.items)
 
+-- the place after a move that takes this, or nothing
 abbrev pub place_after : u.Place → Option Taken → u.Place
 place_after p None = p
 place_after p (Some takes_unit) = u.after_unit p

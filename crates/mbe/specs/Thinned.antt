@@ -6,6 +6,7 @@ abbrev pub once : {A : Type 0} → (A → Bool) → List A → Bool
 once p [] = false
 once p (x ∷ xs) = p x || once p xs
 
+-- the test holds of two elements
 abbrev pub twice : {A : Type 0} → (A → Bool) → List A → Bool
 twice p [] = false
 twice p (x ∷ xs) = if p x then once p xs else twice p xs

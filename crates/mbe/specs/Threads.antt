@@ -24,10 +24,12 @@ use Rattle.mbe.specs.declared.matcher.Choice.{Choice}
 use Rattle.mbe.specs.declared.matcher.Waiting.{Waiting}
 use Rattle.mbe.specs.declared.matcher.Waiting.TheVariants.{Ended, Pending}
 
+-- a separator, where there is one
 abbrev pub between_of : Option (Bor Separator) → Option i.Separator
 between_of None = None
 between_of (Some s) = Some (separator_of s.now)
 
+-- what a frame goes on with
 abbrev pub frame_of : Frame → r.Frame
 frame_of (InGroup after) = r.in_group (items_of after.now)
 frame_of (InRound x) = r.in_round (items_of x.body.now) (between_of x.separator) x.kind (items_of x.after.now)
@@ -37,6 +39,7 @@ frame_of (Parted x) = r.parted (items_of x.body.now) (between_of x.separator) x.
 abbrev pub repetition_of : Round → i.Items
 repetition_of x = i.repetition (items_of x.body.now) (between_of x.separator) x.kind (items_of x.after.now)
 
+-- a move of a reading
 abbrev pub move_of : Move → r.Move
 move_of unit = r.unit_move
 move_of (Fragment n k trees) = r.fragment_move n.now k (forest trees)
@@ -60,10 +63,12 @@ abbrev mutual
   moves_before None' = []
   moves_before (Some' p e) = moves_to e
 
+-- the moves up to the last entry
 abbrev pub moves_of : Option (Bor Entry) → List r.Move
 moves_of None = []
 moves_of (Some e) = moves_to e.now
 
+-- the state that a thread is in at a place
 abbrev pub state_of : Thread → u.Place → r.State
 state_of t p = r.at (items_of t.items.now) (frames_of t.frames.items) p
 
@@ -71,24 +76,30 @@ state_of t p = r.at (items_of t.items.now) (frames_of t.frames.items) p
 abbrev pub Made : Type 0
 Made = List r.Move × Bool × Bool × r.State
 
+-- something is taken
 abbrev pub is_some_taken : Option Taken → Bool
 is_some_taken None = false
 is_some_taken (Some t) = true
 
+-- a fragment is taken
 abbrev pub is_trees : Option Taken → Bool
 is_trees (Some (takes_trees n)) = true
 is_trees _ = false
 
+-- what a thread's choice has made
 abbrev pub made_of : u.Place → Choice → Made
 made_of p c = (moves_of c.thread.moves, is_some_taken c.taken, is_trees c.taken, state_of c.thread (place_after p c.taken))
 
+-- the same of a choice that may not be there
 abbrev pub given : u.Place → Option Choice → List Made
 given p None = []
 given p (Some c) = made_of p c ∷ []
 
+-- a move after others
 abbrev pub extended : List r.Move → r.Choice → Made
 extended ms d = (ms ++ (d.0 ∷ []), r.takes d.0, r.is_fragment d.0, d.1)
 
+-- a path that waits at a place
 abbrev pub Waits : Type 0
 Waits = w.Waiting r.Move r.State
 
@@ -96,13 +107,16 @@ Waits = w.Waiting r.Move r.State
 abbrev pub contributes : Grammar → Made → List Waits
 contributes g m = elim m.1 [ true ↦ w.pending m.0 m.2 m.3 ∷ [] | false ↦ map (w.prefixed m.0) (w.settled_at g m.3) ]
 
+-- the path that a waiting thread stands for, whose last move was made at the place p
 abbrev pub waiting_of : u.Place → Waiting → Waits
 waiting_of p (Ended ms) = w.ended (moves_of ms)
 waiting_of p (Pending t k) = w.pending (moves_of t.moves) (is_trees (Some k)) (state_of t (place_after p (Some k)))
 
+-- the same of all waiting threads
 abbrev pub waits : u.Place → List Waiting → List Waits
 waits p xs = map (waiting_of p) xs
 
+-- a state of a pattern in which no repetition goes round without end
 abbrev pub IsGood : r.State → Type 0
 IsGood s = (N : ℕ) × w.Good N s
 
@@ -121,6 +135,7 @@ abbrev pub waiting_at : u.Place → Waiting → Waits
 waiting_at p (Ended ms) = w.ended (moves_of ms)
 waiting_at p (Pending t k) = w.pending (moves_of t.moves) (is_trees (Some k)) (state_of t p)
 
+-- the same of all waiting threads
 abbrev pub waits_at : u.Place → List Waiting → List Waits
 waits_at p xs = map (waiting_at p) xs
 
@@ -129,6 +144,7 @@ abbrev pub takings_of : Waiting → List Bool
 takings_of (Ended ms) = []
 takings_of (Pending t k) = is_trees (Some k) ∷ []
 
+-- the state that a path goes on with is good
 abbrev pub IsGoodAt : Waits → Type 0
 IsGoodAt (w.ended ms) = Unit {0}
 IsGoodAt (w.pending ms b s) = IsGood s

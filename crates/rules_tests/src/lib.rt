@@ -7,6 +7,8 @@
 #[cfg(test)]
 mod errors;
 #[cfg(test)]
+mod parsing;
+#[cfg(test)]
 mod styles;
 #[cfg(test)]
 mod value_results;
