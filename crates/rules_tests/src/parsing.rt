@@ -105,6 +105,11 @@ fn has_items(rules: &Rules, pattern: usize, template: usize) -> bool {
     }
 }
 
+// The one rule of a macro with these arguments.
+fn one_rule(rt: &HostRuntime, args: &TopSubtree, body: &TopSubtree) -> Result<Rules, Fail> {
+    Ok(parse_macro2(rt.alloc(), Some(args), body, at_2024)?)
+}
+
 #[test]
 fn of_macros(rt: HostRuntime) -> Result<(), Fail> {
     let body = trees(&rt, "(a) => {b}, (c) => {d}; (e) => {f}")?;
@@ -115,10 +120,10 @@ fn of_macros(rt: HostRuntime) -> Result<(), Fail> {
     assert!(rt; gives(&rules, 1, "expected `;` or `,` to delimit rules"));
     let arguments = trees(&rt, "$x:expr")?;
     let body = trees(&rt, "$x + 1")?;
-    let rules = parse_macro2(rt.alloc(), Some(&arguments), &body, at_2024)?;
+    let rules = one_rule(&rt, &arguments, &body)?;
     assert!(rt; gives(&rules, 1, ""));
     assert!(rt; has_items(&rules, 1, 3));
-    let rules = parse_macro2(rt.alloc(), Some(&body), &body, at_2024)?;
+    let rules = one_rule(&rt, &body, &body)?;
     assert!(rt; gives(&rules, 0, "missing fragment specifier"));
     Ok(())
 }

@@ -10,13 +10,15 @@ pub struct FlatTokens<'a> {
 }
 
 impl<'a> Model for FlatTokens<'a> {
-    ghost use Rattle.std.specs.Prelude.{List};
+    ghost use Rattle.std.specs.Prelude.{List, ◌<◌, ◌^◌, length};
     ghost use Rattle.tt.specs.Records.{items};
     ghost use Rattle.tt_data.specs.declared.tree.TokenTree.{TokenTree};
 
     ghost Value = { List TokenTree };
 
     ghost view = { λ it. items it.tokens };
+
+    ghost invariant = { λ it. length (items it.tokens) < 2 ^ 63 };
 }
 
 impl<'a> Iterator for FlatTokens<'a> {

@@ -60,6 +60,8 @@ impl<'a> TokenTreesView<'a> {
         ensures { result ≡ preorder (forest self.now) }
     {
         let flat = self.tokens;
+        // that they can be counted is what the walk promises of itself
+        let _count = flat.len();
         FlatTokens { tokens: flat }
     }
 
