@@ -1,4 +1,4 @@
-use Rattle.std.proofs.Common.{◌≡◌, sym, ap, ◌∙◌, ◌++◌, ◌∷◌, []}
+use Rattle.std.proofs.Common.{sym, ◌∙◌}
 use Rattle.mbe.specs.Places.{place_of}
 use Rattle.mbe.specs.Threads.{moves_of}
 use Rattle.mbe.proofs.OpsLemmas.{round-apart, round-again, repeats}
