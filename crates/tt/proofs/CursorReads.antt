@@ -1,5 +1,5 @@
 -- What a cursor reads of its tokens.
-use Rattle.std.proofs.Common.{◌≡◌, ◌↔◌, ℕ, zero, suc, ◌+◌, ◌-◌, ◌<◌, Bool, IsTrue, false, List, [], ◌∷◌, length, ap, refl, sym, ◌∙◌, arith, Option, Some, None, option_map, slice_index_or}
+use Rattle.std.proofs.Common.{◌≡◌, ◌↔◌, ℕ, ◌+◌, ◌-◌, ◌<◌, Bool, IsTrue, false, List, [], ◌∷◌, ap, refl, sym, ◌∙◌, arith, Option, Some, None, option_map}
 use Rattle.std.proofs.lemmas.Bool.{false≢true}
 use Rattle.tt_data.specs.Forest.{Forest, empty, leaf, IsPreorder, forest_of}
 use Rattle.tt_data.specs.declared.leaf.Leaf.{Leaf}
@@ -9,20 +9,9 @@ use Rattle.tt_data.specs.declared.tree.TokenTree.TheVariants as token
 use Rattle.tt.specs.CursorTokens.{Stands, Reaches}
 use Rattle.tt.specs.Places.{Place, first_token, innermost_head, two_leaves}
 use Rattle.tt.specs.Records.{as_head, head_at, leaf_in}
+use Rattle.tt.proofs.RecordLemmas.{ReadAt, read_at}
 use Rattle.tt.proofs.CursorLemmas.{head_read, first_is}
 use Rattle.tt.proofs.FrameLemmas.{fits}
-
--- the token at a place, as it is read there
-pub record ReadAt (tokens : List TokenTree) (i : ℕ) (t : TokenTree) : Type 0 where
-  pub read : t ≡ slice_index_or tokens i t
-  pub head : head_at tokens i ≡ as_head t
-
-pub read_at : (tokens : List TokenTree) (i : ℕ) → i < length tokens → (t : TokenTree) × ReadAt tokens i t
-read_at [] i lt = absurd (omega (arith, lt))
-read_at (x ∷ xs) zero lt = (x, record { read = refl; head = refl })
-read_at (x ∷ xs) (suc i) lt =
-    let r : (t : TokenTree) × ReadAt xs i t = read_at xs i (omega (arith, lt)) in
-    (r.0, record { read = r.1.read; head = r.1.head })
 
 -- a token that is no head has nothing inside
 pub reach_none : (t : TokenTree) (start n : ℕ) → as_head t ≡ None → IsTrue false ↔ Reaches t start n

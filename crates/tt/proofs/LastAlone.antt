@@ -10,7 +10,8 @@ use Rattle.tt_data.specs.declared.tree.TokenTree.{TokenTree}
 use Rattle.tt_data.specs.declared.tree.TokenTree.TheVariants as token
 use Rattle.tt.specs.declared.builder.Opening.{Opening}
 use Rattle.tt.specs.Building.{last_alone}
-use Rattle.tt.specs.BuilderTokens.{start_of, here_of, groups_of, IsHeld, IsCut, IsTreeAt, alone_token}
+use Rattle.tt.specs.BuilderTokens.{start_of, here_of, groups_of, IsHeld, IsCut, IsTreeAt}
+use Rattle.tt.specs.Records.{alone_token}
 use Rattle.tt.proofs.Points.{here_is}
 
 -- a list of tokens with the last not joined to what follows

@@ -1,12 +1,10 @@
 -- A leaf of a flat list, put in place of another.
-use Rattle.std.proofs.Common.{◌≡◌, ℕ, zero, suc, ◌+◌, ◌-◌, ◌<◌, ◌≤◌, get_or, length, List, [], ◌∷◌, map, set, ap, sym, refl, ◌∙◌, arith, nat_lt, Bool, true, false, if◌then◌else◌}
+use Rattle.std.proofs.Common.{◌≡◌, ℕ, zero, suc, ◌+◌, ◌-◌, List, [], ◌∷◌, map, set, ap, sym, refl, ◌∙◌, arith, nat_lt, Bool, true, false, if◌then◌else◌}
 use Rattle.std.proofs.lemmas.List.{length-set}
-use Rattle.std.proofs.lemmas.Option.{slice_get_read, slice_get_past}
 use Rattle.tt_data.specs.Forest.{Forest, empty, leaf, group, size, front, back, forest_of, IsPreorder}
 use Rattle.tt_data.specs.Flat.{IsPreorder-leaf, parts}
 use Rattle.tt_data.proofs.FlatLemmas.{IsPreorder-leaf_before}
 use Rattle.tt_data.specs.declared.leaf.Leaf.{Leaf}
-use Rattle.tt_data.specs.declared.tree.Subtree.{Subtree}
 use Rattle.tt_data.specs.declared.tree.TokenTree.{TokenTree}
 use Rattle.tt_data.specs.declared.tree.TokenTree.TheVariants as token
 use Rattle.tt.specs.Tops.{IsOneGroup, has_leaf_at}
@@ -95,15 +93,3 @@ set_one l zero (token.Subtree s ∷ more) there one = absurd (grind (arith, ther
 set_one l (suc i) (token.Subtree s ∷ more) there one =
     one_from s (set more i (token.Leaf l)) (one_counts s more one ∙ sym (length-set more i (token.Leaf l)))
     (set_whole l i more there (group_of (token.Subtree s ∷ more) one).inside_whole)
-
--- what a look at the place found
-pub leaf_there : (tokens : List TokenTree) (i : ℕ) (x : TokenTree) (l : Leaf) → i < length tokens → x ≡ get_or tokens i x → x ≡ token.Leaf l
-    → has_leaf_at i tokens ≡ true
-leaf_there tokens i x l below read is = rw (slice_get_read tokens (length tokens) i x refl below read, is) refl
-
-pub group_there : (tokens : List TokenTree) (i : ℕ) (x : TokenTree) (s : Subtree) → i < length tokens → x ≡ get_or tokens i x → x ≡ token.Subtree s
-    → has_leaf_at i tokens ≡ false
-group_there tokens i x s below read is = rw (slice_get_read tokens (length tokens) i x refl below read, is) refl
-
-pub none_there : (tokens : List TokenTree) (i : ℕ) → length tokens ≤ i → has_leaf_at i tokens ≡ false
-none_there tokens i past = rw (slice_get_past tokens i past) refl

@@ -326,6 +326,11 @@ pub handed : {A B : Type 0} (r : Result A TtFault) (came : TtFault) {fault : TtF
 handed (Ok a) came is e = absurd is
 handed (Err x) came is e = cc
 
+pub handed_back : {A B : Type 0} (r : Result A TtFault) (came : TtFault) {fault : TtFault} → IsErrAnd r (λ e. e ≡ came)
+    → ◌≡◌ {A = Result B TtFault} (Err came) (Err fault) → r ≡ Err fault
+handed_back (Ok a) came is e = absurd is
+handed_back (Err x) came is e = cc
+
 -- the top stays, or gives way
 module _ (t : Top) where
   pub top_kept : (calls : List Call) (f : Forest) → IsRewritten t.inner calls f

@@ -16,7 +16,8 @@ use Rattle.tt_data.specs.Names.{ident_of}
 use Rattle.tt_data.specs.Walk.{at_leaf, opens, closes}
 use Rattle.tt.specs.declared.builder.Opening.{Opening}
 use Rattle.tt.specs.declared.iter.TtElement.TheVariants as element
-use Rattle.tt.specs.BuilderTokens.{here_of, groups_of, begins_invisible, moved_back, alone_token}
+use Rattle.tt.specs.BuilderTokens.{here_of, groups_of, begins_invisible, moved_back}
+use Rattle.tt.specs.Records.{alone_token}
 use Rattle.tt.specs.Building.{Building, pushed, opened, closed, extended, leaves, last_alone, Reached, itself, by_open, innermost_group, count_of, most_tokens, point_of, list_in, cut_back, unwrapped_at}
 use Rattle.tt.specs.Elements.{elements, first_element, first_place, first_alone, after_first, last_place, IsNext}
 use Rattle.tt.specs.FirstTrees.{first_subtree, first_name, first_literal_leaf, is_among, behind_punct}

@@ -4,7 +4,7 @@ use Rattle.tt_data.specs.declared.tree.TokenTree.{TokenTree}
 use Rattle.tt_data.specs.declared.tree.TokenTree.TheVariants as token
 use Rattle.tt.specs.declared.builder.Opening.{Opening}
 use Rattle.tt_data.specs.Forest.{Forest, forest_of, IsPreorder, size, front}
-use Rattle.tt.specs.Building.{Opened, count_in, is_invisible, alone}
+use Rattle.tt.specs.Building.{Opened, count_in, is_invisible}
 
 -- how many tokens stand before those trees that are in the innermost list; openings come innermost first
 abbrev pub start_of : List Opening → ℕ
@@ -52,8 +52,3 @@ begins_invisible (token.Leaf l) = false
 -- an opening, once the token at a place is taken out
 abbrev pub moved_back : ℕ → Opening → Opening
 moved_back at o = record { at = if nat_lt at o.at then o.at - 1 else o.at; kind = o.kind; open_span = o.open_span }
-
--- a token that is not joined to what follows
-abbrev pub alone_token : TokenTree → TokenTree
-alone_token (token.Leaf l) = token.Leaf (alone l)
-alone_token (token.Subtree s) = token.Subtree s

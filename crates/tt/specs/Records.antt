@@ -1,4 +1,4 @@
--- What a borrowed run of tokens holds.
+-- What a run of tokens holds.
 use Rattle.std.specs.Prelude.{ℕ, List, ◌∷◌, Option, Some, None, option_and_then, slice_get}
 use Rattle.tt_data.specs.declared.leaf.Ident.{Ident}
 use Rattle.tt_data.specs.declared.leaf.Leaf.{Leaf}
@@ -9,6 +9,7 @@ use Rattle.tt_data.specs.declared.tree.Subtree.{Subtree}
 use Rattle.tt_data.specs.declared.tree.TokenTree.{TokenTree}
 use Rattle.tt_data.specs.declared.tree.TokenTree.TheVariants as token
 use Rattle.tt.specs.declared.records.Tokens.{Tokens}
+use Rattle.tt.specs.Building.{alone}
 
 -- its tokens, one after the other
 unfoldable pub items : Tokens → List TokenTree
@@ -47,3 +48,8 @@ as_head (token.Leaf l) = None
 -- the head of a group that stands at a place, where one does
 abbrev pub head_at : List TokenTree → ℕ → Option Subtree
 head_at tokens at = option_and_then as_head (slice_get tokens at)
+
+-- a token that is not joined to what follows
+abbrev pub alone_token : TokenTree → TokenTree
+alone_token (token.Leaf l) = token.Leaf (alone l)
+alone_token (token.Subtree s) = token.Subtree s

@@ -1,19 +1,24 @@
 //! Trees under construction.
-ghost use Rattle.std.specs.Prelude.{◌≡◌, ◌≢◌, ◌↔◌, ◌⊎◌, ◌+◌, ◌<◌, ◌^◌, [], reverse, Err, Some, None, option_map, map, IfOk, IfErr, IsOk, IsOkUnless, IsSome, IsTrue, OnOk, OnErr};
+ghost use Rattle.std.specs.Prelude.{◌≡◌, ◌≢◌, ◌↔◌, ◌⊎◌, ◌+◌, ◌<◌, ◌^◌, ◌≤◌, ◌++◌, ◌∷◌, [], reverse, length, take, List, Err, Some, None, option_map, map, IfOk, IfErr, IsOk, IsOkUnless, IsSome, IsTrue, OnOk, OnErr};
 ghost use Rattle.tt_data.specs.Forest.{size, front};
-ghost use Rattle.tt.specs.BuilderTokens.{start_of, begins_invisible, moved_back, alone_token};
+ghost use Rattle.tt.specs.BuilderTokens.{start_of, begins_invisible, moved_back};
 ghost use Rattle.tt_data.specs.fault.TtFault.TheVariants as fault;
+ghost use Rattle.tt_data.specs.declared.leaf.Leaf.{Leaf};
+ghost use Rattle.tt_data.specs.declared.tree.TokenTree.{TokenTree};
+ghost use Rattle.tt_data.specs.declared.tree.TokenTree.TheVariants as token;
+ghost use Rattle.tt.specs.Records.{as_head};
+ghost use Rattle.std.specs.Iterator.{Drains, Yields, IsFinite};
 
 use crate::iter::TtIter;
-use crate::records::Tokens;
-use crate::tokens::{append_copies, is_later_end};
+use crate::records::TokenBuffer;
+use crate::tokens::is_later_end;
 use crate::top::TopSubtree;
 use crate::view::TokenTreesView;
 use std::alloc::Global;
 use std::marker::Model;
 use tt_data::delimiter::{Delimiter, DelimiterKind};
 use tt_data::fault::TtFault;
-use tt_data::leaf::{Leaf, Spacing};
+use tt_data::leaf::Leaf;
 use tt_data::span::Span;
 use tt_data::tree::{Subtree, TokenTree};
 
@@ -102,7 +107,7 @@ impl<'a> Iterator for ExpectedDelimiters<'a> {
 pub struct TopSubtreeBuilder {
     top: Delimiter,
     // The top's token, and those below it. The top and an open group count nothing yet.
-    tokens: Vec<TokenTree>,
+    tokens: TokenBuffer,
     // The open groups, the innermost last.
     openings: Vec<Opening>,
     // Where the token of the group closed last stands.
@@ -124,25 +129,22 @@ impl Model for TopSubtreeBuilder {
     ghost view = { λ b. record {
       tree = record {
         top = b.top;
-        groups = groups_of b.tokens.items (reverse b.openings.items);
-        here = here_of b.tokens.items (reverse b.openings.items);
+        groups = groups_of b.tokens (reverse b.openings.items);
+        here = here_of b.tokens (reverse b.openings.items);
       };
       last_closed = b.last_closed;
     } };
 
-    ghost invariant = { λ b. IsHeld b.tokens.items (reverse b.openings.items) × (length b.tokens.items ≤ 2 ^ 32)
-        × IsTreeAt b.last_closed b.tokens.items (reverse b.openings.items)
-        × IsSettled b.settled (groups_of b.tokens.items (reverse b.openings.items)) (here_of b.tokens.items (reverse b.openings.items))
+    ghost invariant = { λ b. IsHeld b.tokens (reverse b.openings.items) × (length b.tokens ≤ 2 ^ 32)
+        × IsTreeAt b.last_closed b.tokens (reverse b.openings.items)
+        × IsSettled b.settled (groups_of b.tokens (reverse b.openings.items)) (here_of b.tokens (reverse b.openings.items))
         × IfSome b.last_closed (λ at. b.settled ≤ at) };
 }
 
 impl TopSubtreeBuilder {
     ghost use Rattle.tt_data.specs.Forest.{empty};
-    ghost use Rattle.std.specs.Prelude.{List, length};
-    ghost use Rattle.std.specs.Iterator.{Drains, Yields, IsFinite};
     ghost use Rattle.tt.specs.Views.{forest};
     ghost use Rattle.tt.specs.Building.{leaves as leaves_of};
-    ghost use Rattle.tt_data.specs.declared.leaf.Leaf.{Leaf};
     ghost use Rattle.tt.specs.Tops.{only_group};
     ghost use Rattle.tt.specs.Building.{pushed, extended, last_alone, opened, closed, count_of, count_in, most_tokens, innermost_group, point_of, list_in, cut_back, unwrapped_at};
 
@@ -153,7 +155,7 @@ impl TopSubtreeBuilder {
         ensures ok { IfOk result (λ b. b ≡ record { tree = record { top = top; groups = []; here = empty }; last_closed = None }) }
         ensures memory { IsOkUnless result fault.Memory }
     {
-        let mut tokens = Vec::new(alloc);
+        let mut tokens = TokenBuffer::new(alloc);
         let first = TokenTree::Subtree(Subtree {
             delimiter: top,
             len: 0,
@@ -181,12 +183,7 @@ impl TopSubtreeBuilder {
         ensures tokens { (result ≡ Err fault.Tokens) ↔ (count_of self.old.tree ≡ most_tokens) }
         ensures faults { IfErr result (λ e. (e ≡ fault.Memory) ⊎ (e ≡ fault.Tokens)) }
     {
-        if self.tokens.len() > MOST_TOKENS {
-            return Err(TtFault::Tokens);
-        }
-        let Ok(()) = self.tokens.push(TokenTree::Leaf(leaf)) else {
-            return Err(TtFault::Memory);
-        };
+        put_leaf(&mut self.tokens, leaf)?;
         Ok(())
     }
 
@@ -205,7 +202,7 @@ impl TopSubtreeBuilder {
         if room < tt.len() {
             return Err(TtFault::Tokens);
         }
-        let Ok(()) = append_copies(&mut self.tokens, tt.tokens) else {
+        let Ok(()) = self.tokens.extend(tt.tokens) else {
             return Err(TtFault::Memory);
         };
         Ok(())
@@ -223,20 +220,14 @@ impl TopSubtreeBuilder {
         ensures tokens { result ≡ Err fault.Tokens → (all : I.IntoIter) × (ls : List Leaf) × (rest : I.IntoIter) × I.into_iter_gives leaves all × Yields I.IntoIter.next_gives all ls rest × (most_tokens < count_of self.old.tree + length ls) }
         ensures faults { IfErr result (λ e. (e ≡ fault.Memory) ⊎ (e ≡ fault.Tokens)) }
     {
-        let room = MOST_TOKENS + 1 - self.tokens.len();
-        let mut more = Vec::new(*self.tokens.allocator());
-        for leaf in leaves {
-            if more.len() == room {
-                return Err(TtFault::Tokens);
+        let count = self.tokens.len();
+        match put_leaves(&mut self.tokens, leaves) {
+            Ok(()) => Ok(()),
+            Err(fault) => {
+                self.tokens.truncate(count);
+                Err(fault)
             }
-            let Ok(()) = more.push(TokenTree::Leaf(leaf)) else {
-                return Err(TtFault::Memory);
-            };
         }
-        let Ok(()) = self.tokens.append(&mut more) else {
-            return Err(TtFault::Memory);
-        };
-        Ok(())
     }
 
     /// Puts these trees there, with the very last token, be it inside a last group, `Alone` where it
@@ -264,7 +255,7 @@ impl TopSubtreeBuilder {
         ensures { self.new ≡ record self.old { tree = record self.old.tree { here = last_alone self.old.tree.here } } }
     {
         let last = self.tokens.len() - 1;
-        set_alone(&mut self.tokens[last]);
+        self.tokens.set_alone(last);
     }
 
     /// Opens a group after the last tree of the innermost open group. It is the innermost one now,
@@ -343,7 +334,8 @@ impl TopSubtreeBuilder {
             kind: opening.kind,
         };
         let len = (self.tokens.len() - opening.at - 1) as u32;
-        self.tokens[opening.at] = TokenTree::Subtree(Subtree { delimiter, len });
+        let head = Subtree { delimiter, len };
+        self.tokens.set(opening.at, TokenTree::Subtree(head));
         self.last_closed = Some(opening.at);
         self.settled = self.settled.min(opening.at);
         Ok(())
@@ -358,8 +350,8 @@ impl TopSubtreeBuilder {
         let Some(at) = self.last_closed.take() else {
             return;
         };
-        if is_invisible_head(&self.tokens[at]) {
-            let _ = self.tokens.remove(at);
+        if is_invisible_head(self.tokens.tokens().head_at(at)) {
+            self.tokens.remove(at);
             move_back(&mut self.openings, at);
         }
     }
@@ -401,21 +393,19 @@ impl TopSubtreeBuilder {
     fn list_at(&self, depth: usize) -> Option<(usize, TtIter<'_>)>
         ensures { result ≡ option_map (λ l. (1 + count_in l.0, l.1)) (list_in depth self.now.tree.groups self.now.tree.here) }
     {
-        let mut tokens = self.tokens.as_slice();
+        let mut tokens = self.tokens.tokens();
         let mut openings = self.openings.as_slice();
         while openings.len() > depth {
             let last = openings.len() - 1;
-            tokens = &tokens[..openings[last].at];
+            tokens = tokens.split_at(openings[last].at).0;
             openings = &openings[..last];
         }
         if openings.len() < depth {
             return None;
         }
         let start = list_start(openings);
-        let trees = TokenTreesView {
-            tokens: Tokens::of(&tokens[start..]),
-        };
-        Some((start, trees.iter()))
+        let (_, inside) = tokens.split_at(start);
+        Some((start, TtIter { tokens: inside }))
     }
 
     // Whether a point stands.
@@ -451,10 +441,11 @@ impl TopSubtreeBuilder {
             settled: _,
         } = self;
         let len = (tokens.len() - 1) as u32;
-        tokens[0] = TokenTree::Subtree(Subtree {
+        let head = Subtree {
             delimiter: top,
             len,
-        });
+        };
+        tokens.set(0, TokenTree::Subtree(head));
         Ok(TopSubtree { tokens })
     }
 
@@ -473,9 +464,8 @@ impl TopSubtreeBuilder {
         if open_groups > 0 {
             return Err((self, TtFault::Place));
         }
-        let inside = TokenTreesView {
-            tokens: Tokens::of(&self.tokens.as_slice()[1..]),
-        };
+        let (_, tokens) = self.tokens.tokens().split_at(1);
+        let inside = TokenTreesView { tokens };
         if !inside.is_one_group() {
             return Err((self, TtFault::Malformed));
         }
@@ -486,32 +476,53 @@ impl TopSubtreeBuilder {
             last_closed: _,
             settled: _,
         } = self;
-        let _ = tokens.remove(0);
+        tokens.remove(0);
         Ok(TopSubtree { tokens })
     }
 }
 
-// A punct is no longer joined to what follows.
-fn set_alone(token: &mut TokenTree)
-    ensures { token.new ≡ alone_token token.old }
+// Puts a leaf after the other tokens, where there is room below the top.
+fn put_leaf(tokens: &mut TokenBuffer, leaf: Leaf) -> Result<(), TtFault>
+    ensures ok { OnOk result (tokens.new ≡ tokens.old ++ token.Leaf leaf ∷ []) }
+    ensures err { OnErr result (tokens.new ≡ tokens.old) }
+    ensures tokens { (result ≡ Err fault.Tokens) ↔ (2 ^ 32 ≤ length tokens.old) }
+    ensures room { OnOk result (length tokens.old < 2 ^ 32) }
+    ensures faults { IfErr result (λ e. (e ≡ fault.Memory) ⊎ (e ≡ fault.Tokens)) }
 {
-    if let TokenTree::Leaf(leaf) = token {
-        if let Leaf::Punct(punct) = leaf {
-            punct.spacing = Spacing::Alone;
-        }
+    if tokens.len() > MOST_TOKENS {
+        return Err(TtFault::Tokens);
     }
+    let Ok(()) = tokens.push(TokenTree::Leaf(leaf)) else {
+        return Err(TtFault::Memory);
+    };
+    Ok(())
 }
 
-// Whether a token begins an invisible group.
-fn is_invisible_head(token: &TokenTree) -> bool
-    ensures { result ≡ begins_invisible token.now }
+// Puts leaves after the other tokens. Where it is refused, some of them may stand there.
+fn put_leaves<I: IntoIterator<Item = Leaf>>(
+    tokens: &mut TokenBuffer,
+    leaves: I,
+) -> Result<(), TtFault>
+    requires finite { (all : I.IntoIter) → I.into_iter_gives leaves all → I.IntoIter.can_next all × IsFinite (I.IntoIter.remaining all) }
+    requires room { length tokens.old ≤ 2 ^ 32 }
+    ensures ok { OnOk result ((all : I.IntoIter) × (ls : List Leaf) × I.into_iter_gives leaves all × Drains I.IntoIter.next_gives all ls × (tokens.new ≡ tokens.old ++ map token.Leaf ls) × (length tokens.new ≤ 2 ^ 32)) }
+    ensures err { OnErr result (take (length tokens.old) tokens.new ≡ tokens.old) }
+    ensures tokens { result ≡ Err fault.Tokens → (all : I.IntoIter) × (ls : List Leaf) × (rest : I.IntoIter) × I.into_iter_gives leaves all × Yields I.IntoIter.next_gives all ls rest × (2 ^ 32 < length tokens.old + length ls) }
+    ensures faults { IfErr result (λ e. (e ≡ fault.Memory) ⊎ (e ≡ fault.Tokens)) }
 {
-    match token {
-        TokenTree::Subtree(subtree) => match subtree.delimiter.kind {
-            DelimiterKind::Invisible => true,
-            _ => false,
-        },
-        TokenTree::Leaf(_) => false,
+    for leaf in leaves {
+        put_leaf(tokens, leaf)?;
+    }
+    Ok(())
+}
+
+// Whether the token whose head this is, if it has one, begins an invisible group.
+fn is_invisible_head(head: Option<Subtree>) -> bool
+    ensures { (t : TokenTree) → as_head t ≡ head → result ≡ begins_invisible t }
+{
+    match head {
+        Some(head) => head.delimiter.kind == DelimiterKind::Invisible,
+        None => false,
     }
 }
 

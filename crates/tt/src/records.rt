@@ -1,12 +1,18 @@
 //! Flat lists of tokens, as they are held.
 //!
-//! What borrows tokens reads them by these calls alone, which answer them by value: how a token is stored
-//! is known here, and in `top.rt`, `builder.rt` and `tokens.rt`, where a vector owns it.
-ghost use Rattle.std.specs.Prelude.{◌≡◌, ◌↔◌, ◌<◌, ◌≤◌, ◌^◌, ◌-◌, ◌∷◌, [], IsTrue, MatchOption, length, take, drop, option_map, slice_get};
+//! How a token is stored is known here alone: what borrows tokens reads them by value through `Tokens`, and
+//! what owns them puts them in and takes them out through `TokenBuffer`.
+ghost use Rattle.std.specs.Prelude.{◌≡◌, ◌↔◌, ◌<◌, ◌≤◌, ◌^◌, ◌+◌, ◌-◌, ◌∷◌, ◌++◌, [], IfErr, IfOk, IsOk, IsTrue, MatchOption, OnErr, OnOk, length, take, drop, option_map, set, slice_get, slice_index_or};
+ghost use Rattle.tt.specs.Records.{items, alone_token};
+ghost use Rattle.tt.specs.Tops.{IsOneGroup, has_leaf_at};
+ghost use Rattle.tt_data.specs.declared.tree.TokenTree.{TokenTree};
 ghost use Rattle.tt_data.specs.Spans.{first_span_of};
 
-use crate::tokens::same_leaf;
-use tt_data::leaf::{Ident, Leaf, LitKind, Punct};
+use crate::tokens::{is_one_group, same_leaf};
+use std::alloc::{AllocError, Global};
+use std::hash::{Hash, Hasher};
+use std::marker::Model;
+use tt_data::leaf::{Ident, Leaf, LitKind, Punct, Spacing};
 use tt_data::span::Span;
 use tt_data::tree::{Subtree, TokenTree};
 
@@ -18,27 +24,13 @@ pub(crate) struct Tokens<'a> {
 
 #[tactic(auto, unfolding(crate::specs::Records::items))]
 impl<'a> Tokens<'a> {
-    ghost use Rattle.tt.specs.Records.{items, head_at, head_in, leaf_in, punct_in, ident_in, literal_in};
+    ghost use Rattle.tt.specs.Records.{head_at, head_in, leaf_in, punct_in, ident_in, literal_in};
 
     /// No tokens.
     pub(crate) fn empty() -> Tokens<'a>
         ensures { items result ≡ [] }
     {
         Tokens { records: &[] }
-    }
-
-    /// The tokens of a slice.
-    pub(crate) fn of(records: &'a [TokenTree]) -> Tokens<'a>
-        ensures { items result ≡ records.now }
-    {
-        Tokens { records }
-    }
-
-    /// The tokens as a slice.
-    pub(crate) fn as_slice(self) -> &'a [TokenTree]
-        ensures { result.now ≡ items self.entry }
-    {
-        self.records
     }
 
     /// How many they are: less than half of the numbers that fit.
@@ -82,6 +74,14 @@ impl<'a> Tokens<'a> {
             TokenTree::Subtree(head) => Some(*head),
             TokenTree::Leaf(_) => None,
         }
+    }
+
+    /// Whether a leaf stands at a place.
+    pub(crate) fn is_leaf_at(self, at: usize) -> bool
+        ensures leaf { result ≡ has_leaf_at at (items self.entry) }
+        ensures within { IsTrue result → at < length (items self.entry) }
+    {
+        matches!(self.records.get(at), Some(TokenTree::Leaf(_)))
     }
 
     /// The first token.
@@ -173,4 +173,143 @@ fn same_token(token: &TokenTree) -> TokenTree
         unreachable!()
     };
     token
+}
+
+/// A run of tokens that is owned.
+#[derive(Debug, Drop)]
+pub(crate) struct TokenBuffer {
+    records: Vec<TokenTree>,
+}
+
+impl Model for TokenBuffer {
+    ghost use Rattle.std.specs.Prelude.{List};
+    ghost use Rattle.tt_data.specs.declared.tree.TokenTree.{TokenTree};
+
+    ghost Value = { List TokenTree };
+
+    ghost view = { λ b. b.records.items };
+}
+
+impl TokenBuffer {
+    ghost use Rattle.std.specs.Prelude.{fold};
+    ghost use Rattle.std.specs.Hash as fed;
+    ghost use Rattle.std.specs.Cmp.Lexicographic.{pointwise};
+
+    /// No tokens.
+    pub(crate) fn new(alloc: Global) -> TokenBuffer
+        ensures { result ≡ [] }
+    {
+        TokenBuffer {
+            records: Vec::new(alloc),
+        }
+    }
+
+    /// The tokens of a vector that holds one group. Where it doesn't, it comes back.
+    #[tactic(auto, unfolding(crate::specs::Records::items))]
+    pub(crate) fn of_group(tts: Vec<TokenTree>) -> Result<TokenBuffer, Vec<TokenTree>>
+        ensures ok { IfOk result (λ b. (b ≡ tts.items) × (length b ≤ 2 ^ 32)) }
+        ensures err { IfErr result (λ v. v ≡ tts) }
+        ensures one { IsOk result ↔ IsOneGroup tts.items }
+    {
+        let tokens = Tokens {
+            records: tts.as_slice(),
+        };
+        if !is_one_group(tokens) {
+            return Err(tts);
+        }
+        Ok(TokenBuffer { records: tts })
+    }
+
+    /// How many they are.
+    pub(crate) fn len(&self) -> usize
+        ensures { result ≡ length self.now }
+    {
+        self.records.len()
+    }
+
+    /// The tokens, to be read.
+    #[tactic(auto, unfolding(crate::specs::Records::items))]
+    pub(crate) fn tokens(&self) -> Tokens<'_>
+        ensures { items result ≡ self.now }
+    {
+        Tokens {
+            records: self.records.as_slice(),
+        }
+    }
+
+    /// Puts a token after the others.
+    pub(crate) fn push(&mut self, token: TokenTree) -> Result<(), AllocError>
+        ensures ok { OnOk result (self.new ≡ self.old ++ token ∷ []) }
+        ensures err { OnErr result (self.new ≡ self.old) }
+    {
+        let Ok(()) = self.records.push(token) else {
+            return Err(AllocError);
+        };
+        Ok(())
+    }
+
+    /// Puts copies of these tokens after the others.
+    #[tactic(auto, unfolding(crate::specs::Records::items))]
+    pub(crate) fn extend(&mut self, tokens: Tokens<'_>) -> Result<(), AllocError>
+        ensures ok { OnOk result (self.new ≡ self.old ++ items tokens.entry) }
+        ensures err { OnErr result (self.new ≡ self.old) }
+    {
+        self.records.extend_with_clones(tokens.records)
+    }
+
+    /// Puts a token in place of another.
+    pub(crate) fn set(&mut self, at: usize, token: TokenTree)
+        requires { at < length self.old }
+        ensures { self.new ≡ set self.old at token }
+    {
+        self.records[at] = token;
+    }
+
+    /// The token there, where it is a punct, is no longer joined to what follows.
+    pub(crate) fn set_alone(&mut self, at: usize)
+        requires { at < length self.old }
+        ensures { (t : TokenTree) × (t ≡ slice_index_or self.old at t) × (self.new ≡ set self.old at (alone_token t)) }
+    {
+        set_alone(&mut self.records[at]);
+    }
+
+    /// Takes out a token.
+    pub(crate) fn remove(&mut self, at: usize)
+        requires { at < length self.old }
+        ensures { self.new ≡ take at self.old ++ drop (at + 1) self.old }
+    {
+        let _ = self.records.remove(at);
+    }
+
+    /// Whether each token is equal to the one at its place in the other run, and there are no more.
+    pub(crate) fn is_equal(&self, other: &TokenBuffer) -> bool
+        ensures { result ≡ pointwise ⟦<TokenTree as PartialEq>⟧.eq self.now other.now }
+    {
+        self.records == other.records
+    }
+
+    /// Feeds the tokens to a hasher.
+    pub(crate) fn feed<H: Hasher>(&self, state: &mut H)
+        ensures { state.new ≡ fold H.write state.old (fed.slice ⟦<TokenTree as Hash>⟧.hash_input self.now) }
+    {
+        self.records.hash(state);
+    }
+
+    /// Takes away all tokens but the first ones, as many as are asked for.
+    pub(crate) fn truncate(&mut self, count: usize)
+        ensures { self.new ≡ take count self.old }
+    {
+        self.records.truncate(count);
+    }
+}
+
+// A punct is no longer joined to what follows.
+fn set_alone(token: &mut TokenTree)
+    ensures { token.new ≡ alone_token token.old }
+{
+    if let TokenTree::Leaf(leaf) = token {
+        if let Leaf::Punct(punct) = leaf {
+            punct.spacing = Spacing::Alone;
+        }
+    }
 }

@@ -1,15 +1,12 @@
 //! Flat lists of tokens.
-ghost use Rattle.std.specs.Prelude.{◌≡◌, ◌↔◌, ◌++◌, ◌≤◌, ◌^◌, length, IsTrue, OnOk, OnErr};
+ghost use Rattle.std.specs.Prelude.{◌≡◌, ◌↔◌, ◌≤◌, ◌^◌, length, IsTrue};
 ghost use Rattle.tt_data.specs.Forest.{size, front, IsPreorder};
 ghost use Rattle.tt.specs.Records.{items};
 ghost use Rattle.tt.specs.Tops.{IsOneGroup};
 
 use crate::iter::{TtElement, TtIter};
 use crate::records::Tokens;
-use crate::view::TokenTreesView;
-use std::alloc::AllocError;
 use tt_data::leaf::Leaf;
-use tt_data::tree::TokenTree;
 
 // The leaf once more. Its text gets one more owner, and so it is never refused.
 pub(crate) fn same_leaf(leaf: &Leaf) -> Leaf
@@ -21,26 +18,16 @@ pub(crate) fn same_leaf(leaf: &Leaf) -> Leaf
     leaf
 }
 
-// Puts copies of these tokens after those of `list`, which stays as it was where memory runs out.
-pub(crate) fn append_copies(list: &mut Vec<TokenTree>, tokens: Tokens<'_>) -> Result<(), AllocError>
-    ensures ok { OnOk result (list.new.items ≡ list.old.items ++ items tokens.entry) }
-    ensures err { OnErr result (list.new.items ≡ list.old.items) }
-{
-    list.extend_with_clones(tokens.as_slice())
-}
-
 // Whether a flat list holds trees: each group counts what whole trees after it have.
-pub(crate) fn is_flat(tokens: &[TokenTree]) -> bool
-    ensures { IsTrue result ↔ IsPreorder tokens.now }
+pub(crate) fn is_flat(tokens: Tokens<'_>) -> bool
+    ensures { IsTrue result ↔ IsPreorder (items tokens.entry) }
 {
     let mut at = tokens.len();
     while at > 0 {
         at -= 1;
-        if let TokenTree::Subtree(head) = &tokens[at] {
-            let after = TokenTreesView {
-                tokens: Tokens::of(&tokens[at + 1..]),
-            };
-            if !is_tree_end(after.iter(), head.usize_len()) {
+        if let Some(head) = tokens.head_at(at) {
+            let (_, behind) = tokens.split_at(at + 1);
+            if !is_tree_end(TtIter { tokens: behind }, head.usize_len()) {
                 return false;
             }
         }
@@ -49,16 +36,13 @@ pub(crate) fn is_flat(tokens: &[TokenTree]) -> bool
 }
 
 // Whether a flat list holds one group.
-pub(crate) fn is_one_group(tokens: &[TokenTree]) -> bool
-    ensures one { IsTrue result ↔ IsOneGroup tokens.now }
-    ensures room { IsTrue result → length tokens.now ≤ 2 ^ 32 }
+pub(crate) fn is_one_group(tokens: Tokens<'_>) -> bool
+    ensures one { IsTrue result ↔ IsOneGroup (items tokens.entry) }
+    ensures room { IsTrue result → length (items tokens.entry) ≤ 2 ^ 32 }
 {
-    match tokens.split_first() {
-        Some((TokenTree::Subtree(head), inside)) => {
-            let len = head.len as usize;
-            len == inside.len() && is_flat(inside)
-        }
-        _ => false,
+    match tokens.split_head() {
+        Some((head, inside)) => head.usize_len() == inside.len() && is_flat(inside),
+        None => false,
     }
 }
 

@@ -3,8 +3,7 @@ ghost use Rattle.std.specs.Prelude.{◌≡◌, ◌↔◌, ◌⊎◌, ◌<◌, Er
 ghost use Rattle.tt_data.specs.fault.TtFault.TheVariants as fault;
 
 use crate::iter::TtIter;
-use crate::records::Tokens;
-use crate::tokens::{append_copies, is_one_group};
+use crate::records::TokenBuffer;
 use crate::view::{SubtreeView, TokenTreesView};
 use std::alloc::Global;
 use std::hash::{Hash, Hasher};
@@ -19,7 +18,7 @@ use tt_data::tree::{Subtree, TokenTree};
 #[derive(Debug, Drop)]
 pub struct TopSubtree {
     // The group's own token, and those inside.
-    pub(crate) tokens: Vec<TokenTree>,
+    pub(crate) tokens: TokenBuffer,
 }
 
 impl Model for TopSubtree {
@@ -30,9 +29,9 @@ impl Model for TopSubtree {
 
     ghost coded = { top_code };
 
-    ghost view = { λ t. tree_of t.tokens.items };
+    ghost view = { λ t. tree_of t.tokens };
 
-    ghost invariant = { λ t. IsOneGroup t.tokens.items × (length t.tokens.items ≤ 2 ^ 32) };
+    ghost invariant = { λ t. IsOneGroup t.tokens × (length t.tokens ≤ 2 ^ 32) };
 }
 
 impl TopSubtree {
@@ -78,11 +77,11 @@ impl TopSubtree {
         let Ok(len) = u32::try_from(token_trees.len()) else {
             return Err(TtFault::Tokens);
         };
-        let mut tokens = Vec::new(alloc);
+        let mut tokens = TokenBuffer::new(alloc);
         let Ok(()) = tokens.push(TokenTree::Subtree(Subtree { delimiter, len })) else {
             return Err(TtFault::Memory);
         };
-        let Ok(()) = append_copies(&mut tokens, token_trees.tokens) else {
+        let Ok(()) = tokens.extend(token_trees.tokens) else {
             return Err(TtFault::Memory);
         };
         Ok(TopSubtree { tokens })
@@ -115,10 +114,10 @@ impl TopSubtree {
         ensures err { IfErr result (λ e. (e.0 ≡ tts) × ((e.1 ≡ fault.Memory) ⊎ (e.1 ≡ fault.Malformed))) }
         ensures malformed { IfErr result (λ e. e.1 ≡ fault.Malformed → (t : Top) → tokens_of t ≡ tts.items → ⊥) }
     {
-        if !is_one_group(tts.as_slice()) {
-            return Err((tts, TtFault::Malformed));
+        match TokenBuffer::of_group(tts) {
+            Ok(tokens) => Ok(TopSubtree { tokens }),
+            Err(tts) => Err((tts, TtFault::Malformed)),
         }
-        Ok(TopSubtree { tokens: tts })
     }
 
     /// The tree with no brackets, of which both ends stand at `delim_span`, and these leaves inside.
@@ -138,7 +137,7 @@ impl TopSubtree {
             return Err(TtFault::Tokens);
         };
         let delimiter = Delimiter::invisible_spanned(delim_span);
-        let mut tokens = Vec::new(alloc);
+        let mut tokens = TokenBuffer::new(alloc);
         let Ok(()) = tokens.push(TokenTree::Subtree(Subtree { delimiter, len })) else {
             return Err(TtFault::Memory);
         };
@@ -157,8 +156,8 @@ impl TopSubtree {
         ensures ok { IfOk result (λ t. t ≡ self.now) }
         ensures memory { IsOkUnless result fault.Memory }
     {
-        let mut tokens = Vec::new(alloc);
-        append_copies(&mut tokens, Tokens::of(self.tokens.as_slice()))?;
+        let mut tokens = TokenBuffer::new(alloc);
+        tokens.extend(self.tokens.tokens())?;
         Ok(TopSubtree { tokens })
     }
 
@@ -175,7 +174,7 @@ impl TopSubtree {
     {
         let mut head = self.top_subtree();
         head.delimiter.kind = kind;
-        self.tokens[0] = TokenTree::Subtree(head);
+        self.tokens.set(0, TokenTree::Subtree(head));
     }
 
     /// Puts the group's brackets elsewhere. It takes no memory.
@@ -185,7 +184,7 @@ impl TopSubtree {
         let mut head = self.top_subtree();
         head.delimiter.open_span = span.open_span;
         head.delimiter.close_span = span.close_span;
-        self.tokens[0] = TokenTree::Subtree(head);
+        self.tokens.set(0, TokenTree::Subtree(head));
     }
 
     /// Puts a leaf in place of another: `idx` is that one's place among all tokens, the group's own
@@ -199,16 +198,11 @@ impl TopSubtree {
         ensures place { (result ≡ Err fault.Place) ↔ (has_leaf_at idx (tokens_of self.old) ≡ false) }
         ensures faults { IfErr result (λ e. (e ≡ fault.Memory) ⊎ (e ≡ fault.Place)) }
     {
-        let Some(old) = self.tokens.get(idx) else {
+        if !self.tokens.tokens().is_leaf_at(idx) {
             return Err(TtFault::Place);
-        };
-        match old {
-            TokenTree::Subtree(_) => Err(TtFault::Place),
-            TokenTree::Leaf(_) => {
-                self.tokens[idx] = TokenTree::Leaf(leaf);
-                Ok(())
-            }
         }
+        self.tokens.set(idx, TokenTree::Leaf(leaf));
+        Ok(())
     }
 
     /// The tree as a borrowed group.
@@ -216,7 +210,7 @@ impl TopSubtree {
     pub fn view(&self) -> SubtreeView<'_>
         ensures { top_of result ≡ self.now }
     {
-        let tokens = Tokens::of(self.tokens.as_slice());
+        let tokens = self.tokens.tokens();
         SubtreeView { tokens }
     }
 
@@ -238,10 +232,10 @@ impl TopSubtree {
     pub fn top_subtree(&self) -> Subtree
         ensures { result ≡ head_of self.now }
     {
-        match self.tokens.first() {
-            Some(TokenTree::Subtree(head)) => *head,
-            _ => unreachable!(),
-        }
+        let Some(head) = self.tokens.tokens().head_at(0) else {
+            unreachable!()
+        };
+        head
     }
 }
 
@@ -257,7 +251,7 @@ impl PartialEq for TopSubtree {
     ghost laws = { on_per tokens_of (lists_per token_laws.laws-law) };
 
     fn eq(&self, other: &TopSubtree) -> bool {
-        self.tokens == other.tokens
+        self.tokens.is_equal(&other.tokens)
     }
 }
 
@@ -282,6 +276,6 @@ impl Hash for TopSubtree {
     ghost respects_eq = { (on_Alike tokens_of (items_Alike {E = ⟦<TokenTree as PartialEq>⟧.eq} {F = ⟦<TokenTree as Hash>⟧.hash_input} (record { fed = Prim.search (hashing, rules) }))).fed };
 
     fn hash<H: Hasher>(&self, state: &mut H) {
-        self.tokens.hash(state);
+        self.tokens.feed(state);
     }
 }

@@ -3,7 +3,7 @@ use Rattle.std.proofs.lemmas.Bool.{false≢true}
 use Rattle.tt_data.specs.declared.tree.TokenTree.{TokenTree}
 use Rattle.tt.specs.Records.{items}
 use Rattle.tt.proofs.CursorLemmas.{stops, goes_on}
-use Rattle.tt.proofs.CursorReads.{ReadAt, read_at}
+use Rattle.tt.proofs.RecordLemmas.{ReadAt, read_at}
 use Rattle.tt.proofs.buffer.list_around.Goals as goal
 
 pub returns-then-has_inside : goal.returns-then-has_inside

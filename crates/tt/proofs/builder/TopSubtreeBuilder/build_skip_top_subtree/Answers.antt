@@ -1,6 +1,6 @@
 -- Where no group is open the trees inside the top are whole, and one group where their forest is.
-use Rattle.std.proofs.Common.{◌≡◌, ◌-◌, List, [], refl, arith, length, take, drop, reverse, IsTrue, false, IsSome}
-use Rattle.std.proofs.lemmas.List.{nil_from_length, take_rest, length-drop}
+use Rattle.std.proofs.Common.{◌≡◌, List, [], refl, arith, drop, reverse, IsTrue, false, IsSome}
+use Rattle.std.proofs.lemmas.List.{nil_from_length, length-drop}
 use Rattle.tt_data.specs.Forest.{forest_of, IsPreorder}
 use Rattle.tt_data.specs.declared.tree.TokenTree.{TokenTree}
 use Rattle.tt.specs.BuilderTokens.{IsHeld}
@@ -10,66 +10,52 @@ use Rattle.tt.specs.declared.builder.Opening.{Opening}
 use Rattle.tt.proofs.Groups.{only_of_one, one_of_only}
 use Rattle.tt.proofs.builder.TopSubtreeBuilder.build_skip_top_subtree.Goals as goal
 
--- the tokens behind the top's own
-abbrev behind : List TokenTree → List TokenTree
-behind read = take (length read - 1) (drop 1 read)
-
-module _ (tokens read : List TokenTree) (openings : List Opening) (same : read ≡ tokens) (held : IsHeld tokens (reverse openings)) (none : openings ≡ []) where
-  behind_is : behind read ≡ drop 1 tokens
-  behind_is = rw same (take_rest tokens 1)
-
+module _ (tokens : List TokenTree) (openings : List Opening) (held : IsHeld tokens (reverse openings)) (none : openings ≡ []) where
   whole : IsPreorder (drop 1 tokens)
   whole = (rw none at held).1
 
-  whole_behind : IsPreorder (behind read)
-  whole_behind = rw behind_is whole
-
-  one : IsSome (only_group (forest_of (behind read))) → IsOneGroup (drop 1 tokens)
-  one some = one_of_only (drop 1 tokens) whole (rw behind_is at some)
+  one : IsSome (only_group (forest_of (drop 1 tokens))) → IsOneGroup (drop 1 tokens)
+  one some = one_of_only (drop 1 tokens) whole some
 
 pub invariant_of-inside : goal.invariant_of-inside
 invariant_of-inside c =
     let none : c.self.inside.openings.items ≡ [] =
     nil_from_length _ (omega (arith, c.if-open_groups-gt0.false, c.len-open_groups.ensures, c.self.inside.openings.ok.0)) in
-    rw c.of.ensures (record { whole = whole_behind c.self.inside.tokens.items _ c.self.inside.openings.items c.as_slice.ensures.value c.self.invariant.0 none })
+    rw (c.split_at.ensures.back, c.tokens.ensures) (record { whole = whole c.self.inside.tokens _ c.self.invariant.0 none })
 
 pub returns-then-not-is_one_group-clause-built : goal.returns-then-not-is_one_group-clause-built
 unfolding forest
 returns-then-not-is_one_group-clause-built c =
     let none : c.self.inside.openings.items ≡ [] =
     nil_from_length _ (omega (arith, c.if-open_groups-gt0.false, c.len-open_groups.ensures, c.self.inside.openings.ok.0)) in
-    let refused : IsSome (only_group (forest_of (behind c.as_slice.result.now))) → IsTrue false = rw c.of.ensures at c.if-not-is_one_group.ensures.1 in
-    let is = behind_is c.self.inside.tokens.items c.as_slice.result.now c.self.inside.openings.items c.as_slice.ensures.value c.self.invariant.0 none in (
-      λ e. absurd (grind (arith, e)),
-      λ both. refused (rw is (rw (← c.self.view_is, none) at both.1)),
-    )
+    let refused : IsSome (only_group (forest_of (drop 1 c.self.inside.tokens))) → IsTrue false =
+    rw (c.split_at.ensures.back, c.tokens.ensures) at c.if-not-is_one_group.ensures.1 in
+    (λ e. absurd (grind (arith, e)), λ both. refused (rw (← c.self.view_is, none) at both.1))
 
 pub invariant_of-result : goal.invariant_of-result
 unfolding forest
 invariant_of-result c =
-    let tokens = c.self.inside.tokens.items in
+    let tokens = c.self.inside.tokens in
     let none : c.self.inside.openings.items ≡ [] =
     nil_from_length _ (omega (arith, c.if-open_groups-gt0.false, c.len-open_groups.ensures, c.self.inside.openings.ok.0)) in
-    let passed : IsSome (only_group (forest_of (behind c.as_slice.result.now))) = rw c.of.ensures at (c.if-not-is_one_group.ensures.0 refl) in
-    let is_one = one tokens c.as_slice.result.now c.self.inside.openings.items c.as_slice.ensures.value c.self.invariant.0 none passed in
-    (rw c.remove.ensures.items is_one, rw c.remove.ensures.items (omega (arith, c.self.invariant.1, length-drop 1 tokens)))
+    let passed : IsSome (only_group (forest_of (drop 1 tokens))) = rw (c.split_at.ensures.back, c.tokens.ensures) at (c.if-not-is_one_group.ensures.0 refl) in
+    rw c.remove.ensures (one tokens _ c.self.invariant.0 none passed, omega (arith, c.self.invariant.1, length-drop 1 tokens))
 
 pub returns-clause-ok : goal.returns-clause-ok
 unfolding forest
 returns-clause-ok c =
-    let tokens = c.self.inside.tokens.items in
+    let tokens = c.self.inside.tokens in
     let none : c.self.inside.openings.items ≡ [] =
     nil_from_length _ (omega (arith, c.if-open_groups-gt0.false, c.len-open_groups.ensures, c.self.inside.openings.ok.0)) in
-    let passed : IsSome (only_group (forest_of (behind c.as_slice.result.now))) = rw c.of.ensures at (c.if-not-is_one_group.ensures.0 refl) in
-    let is_one = one tokens c.as_slice.result.now c.self.inside.openings.items c.as_slice.ensures.value c.self.invariant.0 none passed in
-    rw (← c.self.view_is, none, c.remove.ensures.items) (only_of_one (drop 1 tokens) is_one)
+    let passed : IsSome (only_group (forest_of (drop 1 tokens))) = rw (c.split_at.ensures.back, c.tokens.ensures) at (c.if-not-is_one_group.ensures.0 refl) in
+    rw (← c.self.view_is, none, c.remove.ensures) (only_of_one (drop 1 tokens) (one tokens _ c.self.invariant.0 none passed))
 
 pub returns-clause-built : goal.returns-clause-built
 unfolding forest
 returns-clause-built c =
-    let tokens = c.self.inside.tokens.items in
+    let tokens = c.self.inside.tokens in
     let none : c.self.inside.openings.items ≡ [] =
     nil_from_length _ (omega (arith, c.if-open_groups-gt0.false, c.len-open_groups.ensures, c.self.inside.openings.ok.0)) in
-    let passed : IsSome (only_group (forest_of (behind c.as_slice.result.now))) = rw c.of.ensures at (c.if-not-is_one_group.ensures.0 refl) in
-    let is_one = one tokens c.as_slice.result.now c.self.inside.openings.items c.as_slice.ensures.value c.self.invariant.0 none passed in
+    let passed : IsSome (only_group (forest_of (drop 1 tokens))) = rw (c.split_at.ensures.back, c.tokens.ensures) at (c.if-not-is_one_group.ensures.0 refl) in
+    let is_one = one tokens _ c.self.invariant.0 none passed in
     (λ _. (rw (← c.self.view_is, none) refl, rw (← c.self.view_is, none, only_of_one (drop 1 tokens) is_one) refl), λ _. refl)

@@ -4,4 +4,4 @@ use Rattle.tt.proofs.builder.TopSubtreeBuilder.expected_delimiters.Goals as goal
 
 pub returns : goal.returns
 returns c =
-    rw (← c.self.view_is, c.as_slice.ensures.value, kinds_of c.self.inside.tokens.items (reverse c.self.inside.openings.items)) refl
+    rw (← c.self.view_is, c.as_slice.ensures.value, kinds_of c.self.inside.tokens (reverse c.self.inside.openings.items)) refl

@@ -11,10 +11,10 @@ use Rattle.tt.proofs.builder.TopSubtreeBuilder.extend_with_tt.Goals as goal
 pub invariant_of-self-2 : goal.invariant_of-self-2
 unfolding forest
 invariant_of-self-2 c =
-    let tokens = c.self.inside.tokens.items in
+    let tokens = c.self.inside.tokens in
     let counts : c.len-2.result ≡ length (items c.args.tt.tokens) = c.len-2.ensures.len ∙ size-whole (items c.args.tt.tokens) c.args.tt.whole in
     let fits : length (tokens ++ items c.args.tt.tokens) ≤ 4294967296 =
-    omega (arith, c.if-room-len.false, c.len.ensures, c.self.inside.tokens.ok.0, counts, length-append tokens (items c.args.tt.tokens), c.self.invariant.1) in
+    omega (arith, c.if-room-len.false, c.len.ensures, counts, length-append tokens (items c.args.tt.tokens), c.self.invariant.1) in
     let held = rw c.args.tt.whole at (IsHeld-append tokens (reverse c.self.inside.openings.items) (forest_of (items c.args.tt.tokens)) c.self.invariant.0) in
     let settled =
     rw c.args.tt.whole at (IsSettled-append c.self.inside.settled tokens (reverse c.self.inside.openings.items) (forest_of (items c.args.tt.tokens)) c.self.invariant.0 c.self.invariant.3) in
@@ -24,23 +24,23 @@ invariant_of-self-2 c =
 pub returns-clause-ok : goal.returns-clause-ok
 unfolding forest
 returns-clause-ok c =
-    let h = rw c.args.tt.whole at (here_of-append c.self.inside.tokens.items (reverse c.self.inside.openings.items) (forest_of (items c.args.tt.tokens)) c.self.invariant.0) in
-    let g = rw c.args.tt.whole at (groups_of-append c.self.inside.tokens.items (reverse c.self.inside.openings.items) (forest_of (items c.args.tt.tokens)) c.self.invariant.0) in
+    let h = rw c.args.tt.whole at (here_of-append c.self.inside.tokens (reverse c.self.inside.openings.items) (forest_of (items c.args.tt.tokens)) c.self.invariant.0) in
+    let g = rw c.args.tt.whole at (groups_of-append c.self.inside.tokens (reverse c.self.inside.openings.items) (forest_of (items c.args.tt.tokens)) c.self.invariant.0) in
     rw (← c.self.view_is, c.in-Ok.ensures.ok) (rw (h, g) refl)
 
 pub returns-then-room-len-clause-tokens : goal.returns-then-room-len-clause-tokens
 returns-then-room-len-clause-tokens c =
     let all = counted _ _ c.self.invariant.0 in
-    (λ _. rw (← c.self.view_is) (omega (arith, all, c.if-room-len.true, c.len.ensures, c.len-2.ensures.len, c.self.inside.tokens.ok.0)), λ _. refl)
+    (λ _. rw (← c.self.view_is) (omega (arith, all, c.if-room-len.true, c.len.ensures, c.len-2.ensures.len)), λ _. refl)
 
 pub returns-in_default-clause-tokens : goal.returns-in_default-clause-tokens
 returns-in_default-clause-tokens c =
     let all = counted _ _ c.self.invariant.0 in
     rw (← c.self.view_is)
-    (room_for _ _ refl (omega (arith, all, c.if-room-len.false, c.len.ensures, c.len-2.ensures.len, c.self.inside.tokens.ok.0, c.self.invariant.1)))
+    (room_for _ _ refl (omega (arith, all, c.if-room-len.false, c.len.ensures, c.len-2.ensures.len, c.self.invariant.1)))
 
 pub returns-clause-tokens : goal.returns-clause-tokens
 returns-clause-tokens c =
     let all = counted _ _ c.self.invariant.0 in
     rw (← c.self.view_is)
-    (room_for _ _ refl (omega (arith, all, c.if-room-len.false, c.len.ensures, c.len-2.ensures.len, c.self.inside.tokens.ok.0, c.self.invariant.1)))
+    (room_for _ _ refl (omega (arith, all, c.if-room-len.false, c.len.ensures, c.len-2.ensures.len, c.self.invariant.1)))

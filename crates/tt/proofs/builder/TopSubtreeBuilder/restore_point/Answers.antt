@@ -9,10 +9,10 @@ use Rattle.tt.proofs.builder.TopSubtreeBuilder.restore_point.Goals as goal
 
 pub returns : goal.returns
 returns c =
-    let tokens = c.self.inside.tokens.items in
+    let tokens = c.self.inside.tokens in
     let openings = reverse c.self.inside.openings.items in
     let below : c.len.result - 1 ≡ size (here_of tokens openings) + count_in (groups_of tokens openings) =
-    omega (arith, c.len.ensures, c.self.inside.tokens.ok.0, counted tokens openings c.self.invariant.0) in
+    omega (arith, c.len.ensures, counted tokens openings c.self.invariant.0) in
     let depth : c.len-2.result ≡ length (groups_of tokens openings) =
     omega (arith, c.len-2.ensures, c.self.inside.openings.ok.0, length-reverse c.self.inside.openings.items, length-groups_of tokens openings) in
     rw (← c.self.view_is, below, depth) refl

@@ -1,18 +1,12 @@
-use Rattle.std.proofs.Common.{List, subst, refl, IsTrue, false}
+use Rattle.std.proofs.Common.{List, subst, IsTrue, false}
 use Rattle.std.proofs.lemmas.Bool.{false≢true}
 use Rattle.tt_data.specs.declared.tree.TokenTree.{TokenTree}
 use Rattle.tt.specs.Tops.{IsOneGroup}
 use Rattle.tt.proofs.Groups.{one_of_top}
 use Rattle.tt.proofs.top.TopSubtree.from_serialized.Goals as goal
 
-pub returns-then-not-is_one_group-clause-malformed : goal.returns-then-not-is_one_group-clause-malformed
-returns-then-not-is_one_group-clause-malformed c =
-    let refused : IsOneGroup c.args.tts.items → IsTrue false = rw c.as_slice.ensures.value at c.if-not-is_one_group.ensures.one.1 in
+pub returns-in-Err-clause-malformed : goal.returns-in-Err-clause-malformed
+returns-in-Err-clause-malformed c =
+    let refused : IsOneGroup c.args.tts.items → IsTrue false = c.in-Err.ensures.one.1 in
     let P : List TokenTree → Type 0 = λ tokens. IsOneGroup tokens in
     λ _ t same. absurd (false≢true (refused (subst P same (one_of_top t))))
-
-pub invariant_of-result : goal.invariant_of-result
-invariant_of-result c =
-    let one = rw c.as_slice.ensures.value at (c.if-not-is_one_group.ensures.one.0 refl) in
-    let room = rw c.as_slice.ensures.value at (c.if-not-is_one_group.ensures.room refl) in
-    (one, room)

@@ -14,9 +14,9 @@ use Rattle.tt.proofs.top.TopSubtree.invisible_from_leaves.Goals as goal
 pub loop-leaf-preserved : goal.loop-leaf-preserved
 loop-leaf-preserved g c =
     let left : List token.the_data = map token.Leaf (array_into_iter_items c.next.new.self) in
-    ap (λ ts. ts ++ left) c.in-Ok-push-2.ensures.items
-    ∙ append_assoc c.loop-leaf.tokens.items (token.Leaf c.in-Some.leaf ∷ []) left
-    ∙ ap (λ ls. c.loop-leaf.tokens.items ++ map token.Leaf ls) (sym c.in-Some.ensures.steps)
+    ap (λ ts. ts ++ left) c.in-Ok-push-2.ensures.ok
+    ∙ append_assoc c.loop-leaf.tokens (token.Leaf c.in-Some.leaf ∷ []) left
+    ∙ ap (λ ls. c.loop-leaf.tokens ++ map token.Leaf ls) (sym c.in-Some.ensures.steps)
     ∙ c.loop-leaf.invariant
 
 none : (ls : List Leaf) → length ls ≡ 0 → ls ≡ []
@@ -31,17 +31,17 @@ count_is g c =
 
 -- the group's own token, and then those of the leaves
 all_is : (g : Over) (c : goal.After-drop-leaf-iterator-2 g)
-    → c.loop-leaf.tokens.items ≡ head_of c.invisible_spanned-delimiter.result (length (preorder (leaves c.args.leaves))) ∷ preorder (leaves c.args.leaves)
+    → c.loop-leaf.tokens ≡ head_of c.invisible_spanned-delimiter.result (length (preorder (leaves c.args.leaves))) ∷ preorder (leaves c.args.leaves)
 all_is g c =
     let ls = c.args.leaves in
     let tokens : List token.the_data = preorder (leaves ls) in
-    sym (append-nil c.loop-leaf.tokens.items)
-    ∙ ap (λ xs. c.loop-leaf.tokens.items ++ map token.Leaf xs) (sym (none (array_into_iter_items c.loop-leaf.leaf-iterator) c.in-None.ensures.steps.0))
+    sym (append-nil c.loop-leaf.tokens)
+    ∙ ap (λ xs. c.loop-leaf.tokens ++ map token.Leaf xs) (sym (none (array_into_iter_items c.loop-leaf.leaf-iterator) c.in-None.ensures.steps.0))
     ∙ c.loop-leaf.invariant
-    ∙ ap (λ xs. c.push.new.self.items ++ map token.Leaf xs) c.into_iter-leaf-iterator.ensures.into_iter_gives.0
-    ∙ ap (λ ts. c.push.new.self.items ++ ts) (sym (preorder-leaves ls))
+    ∙ ap (λ xs. c.push.new.self ++ map token.Leaf xs) c.into_iter-leaf-iterator.ensures.into_iter_gives.0
+    ∙ ap (λ ts. c.push.new.self ++ ts) (sym (preorder-leaves ls))
     ∙ ap (λ ts. ts ++ tokens)
-    (c.in-Ok-push.ensures.items ∙ ap (λ ts. ts ++ head_of c.invisible_spanned-delimiter.result c.in-Ok.len ∷ []) c.new-tokens.ensures.items)
+    (c.in-Ok-push.ensures.ok ∙ ap (λ ts. ts ++ head_of c.invisible_spanned-delimiter.result c.in-Ok.len ∷ []) c.new-tokens.ensures)
     ∙ ap (λ n. head_of c.invisible_spanned-delimiter.result n ∷ tokens) (c.in-Ok.ensures.1 ∙ sym (count_is g c))
 
 pub invariant_of-result : goal.invariant_of-result

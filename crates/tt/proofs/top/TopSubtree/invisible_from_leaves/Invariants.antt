@@ -6,5 +6,5 @@ use Rattle.tt.proofs.top.TopSubtree.invisible_from_leaves.Given as goal
 -- the tokens so far, and those of the leaves that are left
 abbrev pub invariant-loop-leaf : goal.invariant-loop-leaf
 invariant-loop-leaf g l =
-    l.tokens.items ++ map token.Leaf (array_into_iter_items l.leaf-iterator)
-    ≡ l.initial.tokens.items ++ map token.Leaf (array_into_iter_items l.initial.leaf-iterator)
+    l.tokens ++ map token.Leaf (array_into_iter_items l.leaf-iterator)
+    ≡ l.initial.tokens ++ map token.Leaf (array_into_iter_items l.initial.leaf-iterator)
