@@ -1,5 +1,6 @@
 -- Where a walk that rewrites trees stands, and what a step of it does.
 use Rattle.std.specs.Prelude.{◌≡◌, List, ◌∷◌, reverse, is_none, if◌then◌else◌}
+use Rattle.tt_data.specs.declared.span.Span.{Span}
 use Rattle.tt_data.specs.declared.tree.Subtree.{Subtree}
 use Rattle.tt_data.specs.Forest.{Forest}
 use Rattle.tt.specs.declared.transform.Around.{Around}
@@ -16,6 +17,11 @@ pub record Standing : Type 0 where
 -- the same of the code's walk
 abbrev pub standing : Walk → Standing
 standing w = record { tree = w.tree.tree; left = w.left; around = reverse w.outer.items }
+
+-- a group that stays was passed: the walk goes on over these trees, which are inside it
+abbrev pub gone_inside : Span → Forest → Standing → Standing
+gone_inside close_span inside s =
+    record { tree = s.tree; left = inside; around = record { close_span = close_span; rest = s.left } ∷ s.around }
 
 -- the callback was asked about a group with these trees inside, which was passed: the walk goes on inside it where it stays, and else after it
 abbrev pub entered : Call → Subtree → Forest → Standing → Standing

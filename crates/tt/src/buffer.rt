@@ -1,6 +1,8 @@
 //! A place in a list of trees that walks through it, leaf by leaf and bracket by bracket.
 ghost use Rattle.tt.specs.CursorTokens.{BeginsListOf, IsNextOut, Reaches};
+ghost use Rattle.tt.specs.Places.{two_leaves};
 ghost use Rattle.tt.specs.Records.{items, as_head};
+ghost use Rattle.tt.specs.Views.{forest};
 ghost use Rattle.tt_data.specs.declared.tree.TokenTree.{TokenTree};
 ghost use Rattle.std.specs.Prelude.{◌≡◌, ◌≢◌, ⊤, IsTrue, ◌↔◌, ◌+◌, ◌<◌, ◌≤◌, ◌++◌, ◌∷◌, ℕ, List, length, [], Some, IsNone};
 
@@ -126,10 +128,18 @@ fn next_out(nearest: &mut ArrayVec<usize, NEAREST>, tokens: Tokens<'_>, head: us
     }
 }
 
+// The first two trees, where both are leaves.
+fn leaf_pair(trees: TokenTreesView<'_>) -> Option<[Leaf; 2]>
+    ensures { result ≡ two_leaves (forest trees.entry) }
+{
+    let (first, more) = trees.tokens.split_leaf()?;
+    let (second, _) = more.split_leaf()?;
+    Some([first, second])
+}
+
 impl<'a> Cursor<'a> {
     ghost use Rattle.tt_data.specs.Forest.{empty};
-    ghost use Rattle.tt.specs.Places.{beginning, IsEnd, first_token, bumped, ended, moved, innermost_head, two_leaves};
-    ghost use Rattle.tt.specs.Views.{forest};
+    ghost use Rattle.tt.specs.Places.{beginning, IsEnd, first_token, bumped, ended, moved, innermost_head};
 
     /// Before the first tree of the list.
     pub fn new(origin: TokenTreesView<'a>) -> Cursor<'a>
@@ -230,9 +240,7 @@ impl<'a> Cursor<'a> {
     pub fn peek_two_leaves(&self) -> Option<[Leaf; 2]>
         ensures { result ≡ two_leaves self.now.after }
     {
-        let (first, more) = self.after().tokens.split_leaf()?;
-        let (second, _) = more.split_leaf()?;
-        Some([first, second])
+        leaf_pair(self.after())
     }
 
     /// The trees before the place, which is in no group.

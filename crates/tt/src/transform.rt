@@ -7,13 +7,13 @@ ghost use Rattle.tt_data.specs.declared.tree.TokenTree.TheVariants as token;
 ghost use Rattle.tt.specs.Building.{count_of, most_tokens};
 ghost use Rattle.tt.specs.Rewriting.{Call, IsAnswered, IsRewritten, IsStarted, LeavesOneGroup, replacement, with_answer};
 ghost use Rattle.tt.specs.Tops.{Top, forest_of_top, only_group};
-ghost use Rattle.tt.specs.Walking.{LeavesGroup, entered, standing};
+ghost use Rattle.tt.specs.Walking.{LeavesGroup, entered, gone_inside, standing};
 
 use crate::builder::TopSubtreeBuilder;
 use crate::iter::{TtElement, TtIter};
 use crate::top::TopSubtree;
 use crate::view::TokenTreesView;
-use std::alloc::Global;
+use std::alloc::{AllocError, Global};
 use std::mem::replace;
 use tt_data::delimiter::Delimiter;
 use tt_data::fault::TtFault;
@@ -115,8 +115,14 @@ fn put_leaf<'b, F: FnMut(&TokenTree) -> TransformTtAction<'b>>(
         × (most_tokens < count_of (with_answer c tree.old.tree)) }
     ensures faults { IfErr result (λ e. (e ≡ fault.Memory) ⊎ (e ≡ fault.Tokens)) }
 {
-    match callback(&TokenTree::Leaf(leaf.clone()?)) {
-        TransformTtAction::Keep => tree.push(leaf),
+    let token = TokenTree::Leaf(leaf);
+    match callback(&token) {
+        TransformTtAction::Keep => {
+            let TokenTree::Leaf(leaf) = token else {
+                unreachable!()
+            };
+            tree.push(leaf)
+        }
         TransformTtAction::ReplaceWith(trees) => tree.extend_with_tt(trees),
     }
 }
@@ -158,6 +164,24 @@ struct Walk<'a> {
     outer: Vec<Around<'a>>,
 }
 
+// The walk goes on over the trees inside a group that was passed, and after it comes back behind it.
+fn go_inside<'a>(
+    walk: &mut Walk<'a>,
+    close_span: Span,
+    inside: TtIter<'a>,
+) -> Result<(), AllocError>
+    ensures { OnOk result (standing walk.new ≡ gone_inside close_span inside.entry (standing walk.old)) }
+{
+    let around = Around {
+        close_span,
+        rest: replace(&mut walk.left, inside),
+    };
+    let Ok(()) = walk.outer.push(around) else {
+        return Err(AllocError);
+    };
+    Ok(())
+}
+
 // Asks about a group that was passed. Where it stays, the walk goes on inside it.
 fn enter<'a, 'b, F: FnMut(&TokenTree) -> TransformTtAction<'b>>(
     walk: &mut Walk<'a>,
@@ -174,13 +198,7 @@ fn enter<'a, 'b, F: FnMut(&TokenTree) -> TransformTtAction<'b>>(
     ensures faults { IfErr result (λ e. (e ≡ fault.Memory) ⊎ (e ≡ fault.Tokens)) }
 {
     if put_head(&mut walk.tree, head, callback)? {
-        let around = Around {
-            close_span: head.delimiter.close_span,
-            rest: replace(&mut walk.left, inside),
-        };
-        let Ok(()) = walk.outer.push(around) else {
-            return Err(TtFault::Memory);
-        };
+        go_inside(walk, head.delimiter.close_span, inside)?;
     }
     Ok(())
 }
