@@ -8,11 +8,11 @@ ghost use Rattle.rustc_lexer.specs.declared.token.LiteralKind.TheVariants.{Byte,
 
 use crate::character::is_id_start;
 use crate::literal::{literal, quoted_body, raw_form, string_body};
-use crate::steps::{Continue, begins, behind, first, second, skip_while, third};
+use crate::steps::{Continue, begins, behind, first, first_byte, skip_while, third};
 use crate::token::{LiteralKind, TokenKind};
 
 // What begins with a character that may begin an identifier.
-#[inline(always)]
+#[inline]
 pub fn word(text: &str) -> (TokenKind, &str)
     requires small { length text.now < 2 ^ 32 }
     requires start { is_id_start (char_at (chars text.now) 0) ≡ true }
@@ -32,17 +32,17 @@ fn plain_word(text: &str) -> (TokenKind, &str)
     requires { is_id_start (char_at (chars text.now) 0) ≡ true }
     ensures { IsRead (plain_word (chars text.now)) text.now result.0 result.1.now }
 {
-    let rest = skip_while::<Continue>(behind(text));
-    (word_kind(first(rest)), rest)
+    let rest = skip_while::<Continue>(text);
+    (word_kind(first_byte(rest)), rest)
 }
 
-// The kind of a word where this character follows it: before a mark of literals it is a prefix.
+// The kind of a word where a character that begins with this byte follows it: before a mark of literals it is a prefix.
 #[inline]
-fn word_kind(next: char) -> TokenKind
+fn word_kind(next: u8) -> TokenKind
     ensures { result ≡ word_kind next }
 {
     match next {
-        '#' | '"' | '\'' => TokenKind::UnknownPrefix,
+        b'#' | b'"' | b'\'' => TokenKind::UnknownPrefix,
         _ => TokenKind::Ident,
     }
 }
