@@ -27,12 +27,8 @@ pub by_sign : (cs : List ℕ) (c : ℕ) → char_at cs 0 ≡ c → is_whitespace
     uncommented cs ≡ sign cs
 by_sign cs c e w s h = rw (e, w, s, h) refl
 
-pub no_comment : (cs : List ℕ) (b : ℕ) → (b < 128 → char_at cs 0 ≡ b) → (128 ≤ b → 128 ≤ char_at cs 0) → (b == 47) ≡ false → lexeme cs ≡ uncommented cs
-no_comment cs b low high other = rw (is_other (nat_lt b 128) refl) refl
-  where
-    is_other : (t : Bool) → nat_lt b 128 ≡ t → (char_at cs 0 == 47) ≡ false
-    is_other true e = (let l : b < 128 = grind (arith, nat_tests) in rw (low l) other)
-    is_other false e = (let l : 128 ≤ char_at cs 0 = high (grind (arith, nat_tests)) in grind (arith, nat_tests))
+pub no_comment : (cs : List ℕ) → (char_at cs 0 == 47) ≡ false → lexeme cs ≡ uncommented cs
+no_comment cs other = rw other refl
 
 pub slash_line : (cs : List ℕ) → char_at cs 0 ≡ 47 → char_at cs 1 ≡ 47 → lexeme cs ≡ line_comment cs
 slash_line cs e f = rw (e, f) refl

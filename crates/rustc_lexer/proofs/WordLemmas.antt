@@ -31,6 +31,32 @@ pub begins_other : (cs : List ℕ) → (char_at cs 0 == 0x72) ≡ false → (cha
     (char_at cs 0 == 0x6b) ≡ false → word cs ≡ plain_word cs
 begins_other cs r b c k = rw (r, b, c, k) refl
 
+either_left : (x y : Bool) → (x || y) ≡ false → x ≡ false
+either_left false y e = refl
+either_left true y e = e
+
+either_right : (x y : Bool) → (x || y) ≡ false → y ≡ false
+either_right false y e = e
+either_right true y e = absurd (let no : true ≡ false = e in cc)
+
+-- a byte that differs tells of a character that does
+other_first : (w c b : ℕ) → w < 128 → (b < 128 → c ≡ b) → (128 ≤ b → 128 ≤ c) → (b == w) ≡ false → (c == w) ≡ false
+other_first w c b l low high other = by_test (nat_lt b 128) refl
+  where
+    by_test : (t : Bool) → nat_lt b 128 ≡ t → (c == w) ≡ false
+    by_test true e = (let h : b < 128 = grind (arith, nat_tests) in rw (low h) other)
+    by_test false e = (let h : 128 ≤ c = high (grind (arith, nat_tests)) in grind (arith, nat_tests))
+
+pub no_prefix : (cs : List ℕ) (b : ℕ) → (b < 128 → char_at cs 0 ≡ b) → (128 ≤ b → 128 ≤ char_at cs 0) →
+    ((b == 0x72 || b == 0x62) || (b == 0x63 || b == 0x6b)) ≡ false → word cs ≡ plain_word cs
+no_prefix cs b low high none =
+    let two = either_left (b == 0x72 || b == 0x62) (b == 0x63 || b == 0x6b) none in
+    let more = either_right (b == 0x72 || b == 0x62) (b == 0x63 || b == 0x6b) none in
+    begins_other cs (other_first 0x72 (char_at cs 0) b (omega arith) low high (either_left (b == 0x72) (b == 0x62) two))
+    (other_first 0x62 (char_at cs 0) b (omega arith) low high (either_right (b == 0x72) (b == 0x62) two))
+    (other_first 0x63 (char_at cs 0) b (omega arith) low high (either_left (b == 0x63) (b == 0x6b) more))
+    (other_first 0x6b (char_at cs 0) b (omega arith) low high (either_right (b == 0x63) (b == 0x6b) more))
+
 -- ---- the rows of each letter
 
 pub r_marked : (cs : List ℕ) → (begins "r#" cs && is_id_start (char_at cs 2)) ≡ true → r_word cs ≡ marked_word RawIdent cs

@@ -11,7 +11,7 @@ use crate::comment::{block_comment, line_comment};
 use crate::literal::{literal, string_body, with_suffix};
 use crate::number::number;
 use crate::quote::quote;
-use crate::steps::{White, begins, behind, first, first_byte, is_digit, second, skip_while};
+use crate::steps::{White, begins, behind, first, is_digit, second, skip_while};
 use crate::token::{LiteralKind, TokenKind};
 use crate::word::word;
 
@@ -21,10 +21,11 @@ pub fn first_lexeme(text: &str) -> (TokenKind, &str)
     ensures utf8 { IsUtf8 text.now }
     ensures read { IsRead (lexeme (chars text.now)) text.now result.0 result.1.now }
 {
-    if first_byte(text) == b'/' {
+    let c = first(text);
+    if c == '/' {
         slash(text)
     } else {
-        uncommented(text)
+        begun_by(c, text)
     }
 }
 
@@ -43,30 +44,7 @@ fn slash(text: &str) -> (TokenKind, &str)
     }
 }
 
-// What begins no comment.
-#[inline(always)]
-fn uncommented(text: &str) -> (TokenKind, &str)
-    requires { length text.now < 2 ^ 32 }
-    ensures { IsRead (uncommented (chars text.now)) text.now result.0 result.1.now }
-{
-    let b = first_byte(text);
-    if b < 128 {
-        begun_by(b as char, text)
-    } else {
-        begun_by_any(text)
-    }
-}
-
-// The same, where the first character may be any.
-#[inline(never)]
-fn begun_by_any(text: &str) -> (TokenKind, &str)
-    requires { length text.now < 2 ^ 32 }
-    ensures { IsRead (uncommented (chars text.now)) text.now result.0 result.1.now }
-{
-    begun_by(first(text), text)
-}
-
-// The same, where the first character is this one.
+// What begins no comment, by its first character.
 #[inline(always)]
 fn begun_by(c: char, text: &str) -> (TokenKind, &str)
     requires small { length text.now < 2 ^ 32 }
