@@ -1,6 +1,5 @@
 -- The first lexeme, by the first character.
-use Rattle.std.proofs.Common.{◌≡◌, ℕ, ◌≤◌, ◌<◌, ◌==◌, Bool, true, false, nat_lt, List, refl, sym, subst, arith}
-use Rattle.std.proofs.lemmas.Bool.Decides.{nat_tests}
+use Rattle.std.proofs.Common.{◌≡◌, ℕ, ◌==◌, true, false, List, refl, sym, subst, arith}
 use Rattle.unicode_ident.proofs.IdentLemmas.{is_xid_start-ascii}
 use Rattle.rustc_lexer.specs.Character.{char_at, is_whitespace, is_id_start, is_digit}
 use Rattle.rustc_lexer.specs.Comments.{line_comment, block_comment}
