@@ -5,7 +5,7 @@ use Rattle.std.specs.Option.{is_some}
 use Rattle.rustc_lexer.specs.Character.{char_at, begins, is, is_whitespace, is_id_start, is_digit, continues, identifier_len}
 use Rattle.rustc_lexer.specs.Stretch.{Stretch, further}
 use Rattle.rustc_lexer.specs.Literals.{literal, quoted_body, string_body, raw_form}
-use Rattle.rustc_lexer.specs.Lexeme.{Lexeme, lexeme, quoted, string, raw_string, one_char_kind, plain_word, prefixed, is_prefix_start, is_prefix_mark, lifetime, begins_lifetime, begins_guarded}
+use Rattle.rustc_lexer.specs.Lexeme.{Lexeme, lexeme, quoted, string, raw_string, one_char_kind, plain_word, word, is_prefix_mark, lifetime, begins_lifetime, begins_guarded}
 use Rattle.rustc_lexer.specs.declared.token.LiteralKind.{LiteralKind}
 use Rattle.rustc_lexer.specs.declared.token.LiteralKind.TheVariants.{Byte, Char, Str, ByteStr, CStr, RawStr, RawByteStr, RawCStr}
 use Rattle.rustc_lexer.specs.declared.token.TokenKind.{TokenKind}
@@ -46,7 +46,7 @@ plain_inside cs = by_mark (is_prefix_mark (char_at cs (identifier_len cs)))
     by_mark true = refl
     by_mark false = refl
 
-prefixed_inside : (t : List ℕ) → IsInside (prefixed t)
+prefixed_inside : (t : List ℕ) → IsInside (word t)
 unfolding IsInside
 prefixed_inside t =
     choice IsInside (begins "r#" t && is_id_start (char_at t 2)) _ _ (λ _. refl)
@@ -75,7 +75,7 @@ lexeme_inside t =
     (λ _. choice IsInside (begins "/*" t) _ _ (λ _. refl)
     (λ _. choice IsInside (is_whitespace c) _ _ (λ _. refl)
     (λ _. choice IsInside (is_id_start c) _ _
-    (λ _. choice IsInside (is_prefix_start c) _ _ (λ _. prefixed_inside t) (λ _. plain_inside t))
+    (λ _. prefixed_inside t)
     (λ _. choice IsInside (is_digit c) _ _ (λ _. refl)
     (λ _. choice IsInside (begins_guarded t) _ _ (λ _. refl)
     (λ _. choice IsInside (is "'" c) _ _

@@ -1,4 +1,5 @@
 mod RunLemmas
+mod AsciiLemmas
 mod PositiveLemmas
 mod TokenLemmas
 mod CutLemmas
@@ -37,3 +38,4 @@ mod ShapeLemmas
 mod ByteShapeLemmas
 mod EqualityLemmas
 mod WordLemmas
+mod FrontRowLemmas

@@ -3,7 +3,7 @@ use Rattle.std.proofs.Common.{◌≡◌, ℕ, ◌+◌, ◌≤◌, ◌<◌, ◌==
 use Rattle.std.proofs.lemmas.Bool.Decides.{nat_tests}
 use Rattle.rustc_lexer.specs.Character.{char_at, begins, is, is_whitespace, is_id_start, is_id_continue, is_digit, is_hex_digit, continues, identifier_len, utf8_len}
 use Rattle.rustc_lexer.specs.Comments.{line_style, line_comment, block_style, block_body, block_comment}
-use Rattle.rustc_lexer.specs.Lexeme.{Lexeme, lexeme_of, white_space, quoted, string, raw_string, numeral, plain_word, marked_word, is_prefix_start, prefixed, word, lifetime, begins_lifetime, quote, one_char_kind, begins_guarded, lexeme}
+use Rattle.rustc_lexer.specs.Lexeme.{Lexeme, lexeme_of, white_space, quoted, string, raw_string, numeral, plain_word, marked_word, word, lifetime, begins_lifetime, quote, one_char_kind, begins_guarded, lexeme}
 use Rattle.std.specs.Option.{is_some}
 use Rattle.rustc_lexer.specs.Literals.{with_suffix, bare, literal, quoted_rest, quoted_body, string_body, raw_form}
 use Rattle.rustc_lexer.specs.Numbers.{run, sign_len, is_exponent_mark, exponent, after_fraction, fraction, begins_fraction, after_run, based, number}
@@ -237,8 +237,8 @@ marked_row kind cs ds h a =
     let b : Agree (2 + (continues (drop 2 cs) + 2)) cs ds = agree_less _ a (omega arith) in
     ap (λ n. lexeme_of kind (2 + n)) (prefix_len_local is_id_continue _ (drop 2 cs) (drop 2 ds) (agree_drop 2 b) (omega arith))
 
-prefixed_row : (cs ds : List ℕ) → Local 1 prefixed cs ds
-prefixed_row cs ds =
+word_row : (cs ds : List ℕ) → Local 1 word cs ds
+word_row cs ds =
     local_if 1 cs ds (λ xs. begins "r#" xs && is_id_start (char_at xs 2)) _ _
     (λ a. rw (agree_at 0 a (omega arith), agree_at 1 a (omega arith), agree_at 2 a (omega arith))) (λ h. marked_row RawIdent cs ds)
     (λ h. local_if 1 cs ds (λ xs. begins "r#" xs || begins "r\"" xs) _ _
@@ -256,11 +256,6 @@ prefixed_row cs ds =
     (λ h. local_if 1 cs ds (λ xs. begins "k#" xs && is_id_start (char_at xs 2)) _ _
     (λ a. rw (agree_at 0 a (omega arith), agree_at 1 a (omega arith), agree_at 2 a (omega arith))) (λ h. marked_row ForcedKeywordIdent cs ds)
     (λ h. plain_row cs ds))))))))
-
-word_row : (cs ds : List ℕ) → Local 1 word cs ds
-word_row cs ds =
-    local_if 1 cs ds (λ xs. is_prefix_start (char_at xs 0)) _ _ (λ a. ap is_prefix_start (agree_at 0 a (omega arith)))
-    (λ h. prefixed_row cs ds) (λ h. plain_row cs ds)
 
 -- ---- what begins with `'`
 

@@ -7,7 +7,7 @@ use Rattle.rustc_lexer.specs.Character.{char_at, begins, is, is_whitespace, is_i
 use Rattle.rustc_lexer.specs.Stretch.{Stretch, further}
 use Rattle.rustc_lexer.specs.Literals.{literal, quoted_body, string_body, raw_form}
 use Rattle.rustc_lexer.specs.Numbers.{number}
-use Rattle.rustc_lexer.specs.Lexeme.{lexeme, quoted, string, raw_string, plain_word, prefixed, is_prefix_start, lifetime, begins_lifetime, begins_guarded}
+use Rattle.rustc_lexer.specs.Lexeme.{lexeme, quoted, string, raw_string, plain_word, word, lifetime, begins_lifetime, begins_guarded}
 use Rattle.rustc_lexer.specs.declared.token.LiteralKind.{LiteralKind}
 use Rattle.rustc_lexer.specs.declared.token.LiteralKind.TheVariants.{Byte, Char, Str, ByteStr, CStr, RawStr, RawByteStr, RawCStr}
 
@@ -50,7 +50,7 @@ plain_positive : (c : ℕ) (cs : List ℕ) → is_id_start c ≡ true → HasCha
 unfolding HasCharacters
 plain_positive c cs h = rw h (omega arith)
 
-prefixed_positive : (c : ℕ) (cs : List ℕ) → is_id_start c ≡ true → HasCharacters (prefixed (c ∷ cs))
+prefixed_positive : (c : ℕ) (cs : List ℕ) → is_id_start c ≡ true → HasCharacters (word (c ∷ cs))
 unfolding HasCharacters
 prefixed_positive c cs h =
     let t : List ℕ = c ∷ cs in
@@ -84,7 +84,7 @@ lexeme_positive c cs =
     (λ _. choice HasCharacters (begins "/*" t) _ _ (λ _. omega arith)
     (λ _. choice HasCharacters (is_whitespace c) _ _ (λ h. rw h (omega arith))
     (λ _. choice HasCharacters (is_id_start c) _ _
-    (λ h. choice HasCharacters (is_prefix_start c) _ _ (λ _. prefixed_positive c cs h) (λ _. plain_positive c cs h))
+    (λ h. prefixed_positive c cs h)
     (λ _. choice HasCharacters (is_digit c) _ _ (λ h. (let p = number_positive c cs h in omega (arith, p)))
     (λ _. choice HasCharacters (begins_guarded t) _ _ (λ _. omega arith)
     (λ _. choice HasCharacters (is "'" c) _ _

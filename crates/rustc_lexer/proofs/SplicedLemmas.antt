@@ -6,7 +6,7 @@ use Rattle.std.proofs.lemmas.Str.{IsCharBoundary-at_seam, IsUtf8-append, IsUtf8-
 use Rattle.std.proofs.Math.Seq.{take-length, drop-append-add}
 use Rattle.rustc_lexer.specs.Edit.{edited, kept}
 use Rattle.rustc_lexer.specs.Lexing.{tokens_of}
-use Rattle.rustc_lexer.specs.Mending.{IsBegun, IsMark, IsMended, IsRelexed, IsScan, count_to_meeting, lexed_again, total}
+use Rattle.rustc_lexer.specs.Mending.{IsBegun, IsChanged, IsMark, IsMended, IsRelexed, IsScan, count_to_meeting, lexed_again, total}
 use Rattle.rustc_lexer.proofs.FrontLemmas.{IsFront}
 use Rattle.rustc_lexer.proofs.MendedLemmas.{IsFound, edited_behind, edited_size, found, front_found, mended_counts, mended_tokens, old_end, to_text_end, total_append, total_split}
 use Rattle.rustc_lexer.specs.declared.lexed.Kept.{Kept}
@@ -178,3 +178,56 @@ module _ (text new : List ℕ) (start stop : ℕ) (replacement : List ℕ) (ts :
         let old_place : m.place - (start + length replacement) + stop ≡ total (take behind ts) = omega (arith, ends, same, rest, r.met, s.behind) in
         spliced ts tokens fresh (record { front = record { tokens = k; place = at }; old = record { tokens = behind; place = m.place - (start + length replacement) + stop }; new = m })
         r.placed (w.within, w.is_at) (r.within, old_place) r.lexed r.place
+
+-- ---- the same of a text that was edited
+
+unfoldable pub changed : (text bytes new edited_bytes : List ℕ) (start stop : ℕ) (replacement : List ℕ) (ts items : List Token) (k at passed bound : ℕ) →
+    IsUtf8 bytes → bytes ≡ text → edited_bytes ≡ new → items ≡ ts → IsCharBoundary text start → IsCharBoundary text stop → start ≤ stop →
+    length text < 2 ^ 32 → new ≡ edited text start stop replacement → ts ≡ tokens_of (chars text) → IsBegun bytes items start k at →
+    IsScan at stop passed bound (drop k items) → IsChanged edited_bytes ts k at passed bound stop (start + length replacement)
+changed text bytes new edited_bytes start stop replacement ts items k at passed bound u same_text same_new same_tokens b c o small e f begins scans = record {
+  old = text;
+  start = start;
+  replacement = replacement;
+  utf8 = subst IsUtf8 same_text u;
+  begins = b;
+  ends = c;
+  order = o;
+  small = small;
+  text = same_new ∙ e;
+  place = refl;
+  tokens = f;
+  begun = begun text bytes ts items start k at same_text same_tokens begins;
+  scan = scanned ts items k at stop passed bound same_tokens scans;
+}
+
+module _ (new : List ℕ) (ts : List Token) (k at passed bound stop moved : ℕ) (v : IsUtf8 new) (w : IsChanged new ts k at passed bound stop moved) where
+  pub front_boundary : IsCharBoundary new at
+  front_boundary = (front_is w.old new w.start stop w.replacement ts k at passed bound w.utf8 v w.begins w.ends w.order w.text w.tokens w.begun w.scan).boundary
+
+  pub same_length : length new ≡ bound - stop + moved + total (drop (k + passed) ts)
+  same_length =
+      to_the_same_end w.old new w.start stop w.replacement ts k at passed bound w.utf8 v w.begins w.ends w.order w.text w.tokens w.begun w.scan
+      ∙ ap (λ n. bound - stop + n + total (drop (k + passed) ts)) (sym w.place)
+
+  module _ (tokens : List Token) (behind : ℕ) (m : Mark) (r : IsRelexed new ts tokens k at (k + passed) (bound - stop + moved) behind m) where
+    again : IsRelexed new ts tokens k at (k + passed) (bound - stop + (w.start + length w.replacement)) behind m
+    again = subst (λ n. IsRelexed new ts tokens k at (k + passed) (bound - stop + n) behind m) w.place r
+
+    pub changed_tokens : tokens ≡ tokens_of (chars new)
+    changed_tokens =
+        tokens_mended w.old new w.start stop w.replacement ts k at passed bound w.utf8 v w.begins w.ends w.order w.text w.tokens w.begun w.scan tokens behind m again
+
+    pub changed_counts : kept w.old w.start stop w.replacement ≡ record { front = k; lexed = m.tokens - k; back = length ts - behind }
+    changed_counts =
+        counts_mended w.old new w.start stop w.replacement ts k at passed bound w.utf8 v w.begins w.ends w.order w.text w.tokens w.begun w.scan tokens behind m again
+
+    pub changed_marks : IsMended ts tokens (record { front = record { tokens = k; place = at }; old = record { tokens = behind; place = m.place - moved + stop }; new = m })
+    changed_marks =
+        let marks = marks_mended w.old new w.start stop w.replacement ts k at passed bound w.utf8 v w.begins w.ends w.order w.text w.tokens w.begun w.scan tokens behind m again in
+        subst (λ n. IsMended ts tokens (record { front = record { tokens = k; place = at }; old = record { tokens = behind; place = m.place - n + stop }; new = m })) (sym w.place) marks
+
+    pub changed_fits : Fits w64 (m.place - moved + stop)
+    changed_fits =
+        let whole = to_text_end w.old ts (drop k ts) k at w.utf8 w.tokens refl w.begun.is_at in
+        old_fits w.old ts _ behind at k changed_marks.back w.begun.is_at whole w.small

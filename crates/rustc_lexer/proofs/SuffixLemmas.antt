@@ -9,7 +9,7 @@ use Rattle.rustc_lexer.specs.Character.{char_at, begins, is, is_whitespace, is_i
 use Rattle.rustc_lexer.specs.Stretch.{Stretch, further}
 use Rattle.rustc_lexer.specs.Cursors.{suffix_of}
 use Rattle.rustc_lexer.specs.Literals.{literal, quoted_body, string_body, raw_form}
-use Rattle.rustc_lexer.specs.Lexeme.{Lexeme, lexeme, lexeme_of, quoted, string, raw_string, one_char_kind, plain_word, prefixed, is_prefix_start, is_prefix_mark, lifetime, begins_lifetime, begins_guarded}
+use Rattle.rustc_lexer.specs.Lexeme.{Lexeme, lexeme, lexeme_of, quoted, string, raw_string, one_char_kind, plain_word, word, is_prefix_mark, lifetime, begins_lifetime, begins_guarded}
 use Rattle.rustc_lexer.specs.Numbers.{number}
 use Rattle.rustc_lexer.specs.Standing.{IsTokenAt}
 use Rattle.rustc_lexer.specs.declared.token.Token.{Token}
@@ -60,7 +60,7 @@ plain_suffix cs = no_suffix cs (plain_word cs) (by_mark (is_prefix_mark (char_at
     by_mark true = refl
     by_mark false = refl
 
-prefixed_suffix : (t : List ℕ) → SuffixInside t (prefixed t)
+prefixed_suffix : (t : List ℕ) → SuffixInside t (word t)
 unfolding SuffixInside
 prefixed_suffix t =
     choice (SuffixInside t) (begins "r#" t && is_id_start (char_at t 2)) _ _ (λ _. (0, omega arith, refl))
@@ -89,7 +89,7 @@ suffix_behind t =
     (λ _. choice (SuffixInside t) (begins "/*" t) _ _ (λ _. (0, omega arith, refl))
     (λ _. choice (SuffixInside t) (is_whitespace c) _ _ (λ _. (0, omega arith, refl))
     (λ _. choice (SuffixInside t) (is_id_start c) _ _
-    (λ _. choice (SuffixInside t) (is_prefix_start c) _ _ (λ _. prefixed_suffix t) (λ _. plain_suffix t))
+    (λ _. prefixed_suffix t)
     (λ _. choice (SuffixInside t) (is_digit c) _ _ (λ _. ((number t).size, omega arith, refl))
     (λ _. choice (SuffixInside t) (begins_guarded t) _ _ (λ _. (0, omega arith, refl))
     (λ _. choice (SuffixInside t) (is "'" c) _ _

@@ -1,6 +1,6 @@
 -- The characters of a text and their classes, as the Rust Reference's chapters "Whitespace" and "Identifiers" have them
 -- by way of Unicode's properties. A character is its code point, and a text the list of its characters.
-use Rattle.std.specs.Prelude.{ℕ, suc, ◌+◌, Bool, true, false, ◌||◌, ◌&&◌, ◌==◌, List, [], ◌∷◌, drop, slice_index, codes, nat_le, if◌then◌else◌}
+use Rattle.std.specs.Prelude.{ℕ, suc, ◌+◌, Bool, true, false, ◌||◌, ◌&&◌, ◌==◌, List, [], ◌∷◌, drop, slice_index, codes, nat_le, nat_lt, if◌then◌else◌}
 use Rattle.std.specs.Char.{len_utf8}
 use Rattle.std.specs.List.{prefix_len, list_all}
 use Rattle.unicode_ident.specs.Ident.{is_xid_start, is_xid_continue}
@@ -64,6 +64,10 @@ identifier_len cs = if is_id_start (char_at cs 0) then 1 + continues (drop 1 cs)
 abbrev pub is_ident : List ℕ → Bool
 is_ident [] = false
 is_ident (c ∷ cs) = is_id_start c && list_all is_id_continue cs
+
+-- the byte is a character of ASCII, and passes
+abbrev pub ascii_part : (ℕ → Bool) → ℕ → Bool
+ascii_part passes b = nat_lt b 128 && passes b
 
 -- how many bytes the characters take in UTF-8
 abbrev pub utf8_len : List ℕ → ℕ

@@ -62,13 +62,10 @@ plain_word cs = lexeme_of (if is_prefix_mark (char_at cs (identifier_len cs)) th
 abbrev pub marked_word : TokenKind → List ℕ → Lexeme
 marked_word kind cs = lexeme_of kind (2 + continues (drop 2 cs))
 
--- a prefix of identifiers or literals may begin with the character
-abbrev pub is_prefix_start : ℕ → Bool
-is_prefix_start c = is "r" c || is "b" c || is "c" c || is "k" c
-
--- what may begin with one of these: raw identifiers and strings, bytes, strings of bytes and of C, forced keywords; or a word
-abbrev pub prefixed : List ℕ → Lexeme
-prefixed cs =
+-- what begins with a character that may begin an identifier: raw identifiers and strings, bytes, strings of bytes and of C,
+-- forced keywords; or a plain word
+abbrev pub word : List ℕ → Lexeme
+word cs =
     if begins "r#" cs && is_id_start (char_at cs 2) then marked_word RawIdent cs
     else if begins "r#" cs || begins "r\"" cs then raw_string RawStr 1 cs
     else if begins "b'" cs then quoted Byte 2 cs
@@ -78,10 +75,6 @@ prefixed cs =
     else if begins "cr#" cs || begins "cr\"" cs then raw_string RawCStr 2 cs
     else if begins "k#" cs && is_id_start (char_at cs 2) then marked_word ForcedKeywordIdent cs
     else plain_word cs
-
--- what begins with a character that may begin an identifier
-abbrev pub word : List ℕ → Lexeme
-word cs = if is_prefix_start (char_at cs 0) then prefixed cs else plain_word cs
 
 -- ---- what begins with `'`
 

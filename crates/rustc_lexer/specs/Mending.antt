@@ -1,7 +1,7 @@
 -- How the tokens of an edited text are mended.
-use Rattle.std.specs.Prelude.{◌≡◌, ◌==◌, ◌<◌, ◌≤◌, ◌+◌, ◌-◌, ◌^◌, ℕ, true, nat_le, List, [], ◌∷◌, ◌++◌, sum_by, length, take, drop, chars, if◌then◌else◌}
+use Rattle.std.specs.Prelude.{◌≡◌, ◌==◌, ◌<◌, ◌≤◌, ◌+◌, ◌-◌, ◌^◌, ℕ, true, nat_le, List, [], ◌∷◌, ◌++◌, sum_by, length, take, drop, chars, IsUtf8, IsCharBoundary, if◌then◌else◌}
 use Rattle.std.specs.List.{position_or_len, list_any, splice}
-use Rattle.rustc_lexer.specs.Edit.{boundaries_from, front_of, is_clear_of, moves_to}
+use Rattle.rustc_lexer.specs.Edit.{boundaries_from, edited, front_of, is_clear_of, moves_to}
 use Rattle.rustc_lexer.specs.Lexing.{tokens_of}
 use Rattle.rustc_lexer.specs.declared.marks.Mark.{Mark}
 use Rattle.rustc_lexer.specs.declared.marks.Mended.{Mended}
@@ -57,6 +57,23 @@ pub record IsRelexed (new : List ℕ) (ts tokens : List Token) (k at stop to beh
   pub met : m.place ≡ to + total (take (behind - stop) (drop stop ts))
   pub order : stop ≤ behind
   pub within : behind ≤ length ts
+
+-- the text is an edited one, and `ts` are the tokens of the old: the first k of them are those well before the edit and end at
+-- `at`; `passed` more end at `bound`, which is not in front of the edit's end; what lay at `stop` lies at `moved` now
+pub record IsChanged (new : List ℕ) (ts : List Token) (k at passed bound stop moved : ℕ) : Type 0 where
+  pub old : List ℕ
+  pub start : ℕ
+  pub replacement : List ℕ
+  pub utf8 : IsUtf8 old
+  pub begins : IsCharBoundary old start
+  pub ends : IsCharBoundary old stop
+  pub order : start ≤ stop
+  pub small : length old < 2 ^ 32
+  pub text : new ≡ edited old start stop replacement
+  pub place : moved ≡ start + length replacement
+  pub tokens : ts ≡ tokens_of (chars old)
+  pub begun : IsBegun old ts start k at
+  pub scan : IsScan at stop passed bound (drop k ts)
 
 -- the old and the new tokens agree in front of the one boundary and behind the other
 pub record IsMended (old new : List Token) (m : Mended) : Type 0 where

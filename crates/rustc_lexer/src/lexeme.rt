@@ -1,5 +1,6 @@
 //! The first lexeme of a text.
 ghost use Rattle.std.specs.Prelude.{◌≡◌, ◌<◌, ◌^◌, length, chars, IsUtf8};
+ghost use Rattle.rustc_lexer.specs.Character.{char_at};
 ghost use Rattle.rustc_lexer.specs.Lexeme.{lexeme, string, one_char_kind, begins_guarded, numeral, white_space};
 ghost use Rattle.rustc_lexer.specs.Stretch.{IsRead};
 ghost use Rattle.rustc_lexer.specs.Words.{sign, uncommented};
@@ -10,7 +11,7 @@ use crate::comment::{block_comment, line_comment};
 use crate::literal::{literal, string_body, with_suffix};
 use crate::number::number;
 use crate::quote::quote;
-use crate::steps::{White, begins, behind, first, is_digit, skip_while};
+use crate::steps::{White, begins, behind, first, is_digit, second, skip_while};
 use crate::token::{LiteralKind, TokenKind};
 use crate::word::word;
 
@@ -20,22 +21,36 @@ pub fn first_lexeme(text: &str) -> (TokenKind, &str)
     ensures utf8 { IsUtf8 text.now }
     ensures read { IsRead (lexeme (chars text.now)) text.now result.0 result.1.now }
 {
-    if begins(text, '/', '/') {
-        line_comment(text)
-    } else if begins(text, '/', '*') {
-        block_comment(text)
+    let c = first(text);
+    if c == '/' {
+        slash(text)
     } else {
-        uncommented(text)
+        begun_by(c, text)
     }
 }
 
-// What begins no comment.
+// What begins with `/`: a comment, or the character alone.
+fn slash(text: &str) -> (TokenKind, &str)
+    requires { char_at (chars text.now) 0 ≡ 47 }
+    ensures { IsRead (lexeme (chars text.now)) text.now result.0 result.1.now }
+{
+    let next = second(text);
+    if next == '/' {
+        line_comment(text)
+    } else if next == '*' {
+        block_comment(text)
+    } else {
+        (TokenKind::Slash, behind(text))
+    }
+}
+
+// What begins no comment, by its first character.
 #[inline(always)]
-fn uncommented(text: &str) -> (TokenKind, &str)
-    requires { length text.now < 2 ^ 32 }
+fn begun_by(c: char, text: &str) -> (TokenKind, &str)
+    requires small { length text.now < 2 ^ 32 }
+    requires first { char_at (chars text.now) 0 ≡ c }
     ensures { IsRead (uncommented (chars text.now)) text.now result.0 result.1.now }
 {
-    let c = first(text);
     if is_whitespace(c) {
         (TokenKind::Whitespace, skip_while::<White>(text))
     } else if is_id_start(c) {

@@ -3,7 +3,7 @@ ghost use Rattle.std.specs.Prelude.{◌≡◌, ◌+◌, ◌-◌, ◌<◌, ◌≤
 ghost use Rattle.std.specs.List.{splice};
 ghost use Rattle.rustc_lexer.specs.Edit.{edited, front_of, is_clear_of, kept};
 ghost use Rattle.rustc_lexer.specs.Lexing.{tokens_of};
-ghost use Rattle.rustc_lexer.specs.Mending.{IsBegun, IsMark, IsMended, IsRelexed, IsScan, LexesOne, count_to_meeting, total};
+ghost use Rattle.rustc_lexer.specs.Mending.{IsBegun, IsChanged, IsMark, IsMended, IsRelexed, IsScan, LexesOne, count_to_meeting, total};
 ghost use Rattle.rustc_lexer.specs.Remaining.{tokens_left};
 
 use crate::clear::is_clear;
@@ -137,6 +137,7 @@ fn relex_into(
 
 // What stays of the tokens in front of an edit, and where it may meet old boundaries again: so many tokens further on, at the
 // first boundary that is not in front of the edit's end.
+#[derive(Clone, Copy)]
 struct Found {
     front: Mark,
     passed: usize,
@@ -221,6 +222,39 @@ fn put_back(text: &mut String, start: usize, stop: usize, gone: &str)
     }
 }
 
+// Mends the tokens of a text that was edited: what lay at `stop` lies at `end` now.
+fn mend_tokens(
+    alloc: Global,
+    text: &str,
+    tokens: &mut Vec<Token>,
+    found: Found,
+    stop: usize,
+    end: usize,
+) -> Result<Mended, AllocError>
+    requires small { length text.now < 2 ^ 32 }
+    requires changed { IsChanged text.now tokens.old.items found.front.tokens found.front.place found.passed found.boundary stop «end» }
+    ensures tokens { OnOk result (tokens.new.items ≡ tokens_of (chars text.now)) }
+    ensures mended { IfOk result (IsMended tokens.old.items tokens.new.items) }
+    ensures kept { IfOk result (λ m.
+        (w : IsChanged text.now tokens.old.items found.front.tokens found.front.place found.passed found.boundary stop «end») →
+        kept w.old w.start stop w.replacement
+        ≡ record { front = m.front.tokens; lexed = m.new.tokens - m.front.tokens; back = length tokens.old.items - m.old.tokens }) }
+    ensures err { OnErr result (tokens.new.items ≡ tokens.old.items) }
+{
+    let Found {
+        front,
+        passed,
+        boundary,
+    } = found;
+    let to = boundary - stop + end;
+    let (new, behind) = relex_into(alloc, text, tokens, front, front.tokens + passed, to)?;
+    let old = Mark {
+        tokens: behind,
+        place: new.place - end + stop,
+    };
+    Ok(Mended { front, old, new })
+}
+
 /// Puts the replacement in place of the text's bytes from `start` to `stop`, and mends the text's tokens, of which the mark is a
 /// boundary. Where there is no memory, the text and the tokens stay.
 pub fn mend(
@@ -248,22 +282,11 @@ pub fn mend(
     ensures err { OnErr result (string_bytes text.new ≡ string_bytes text.old) }
     ensures err_tokens { OnErr result (tokens.new.items ≡ tokens.old.items) }
 {
-    let Found {
-        front,
-        passed,
-        boundary,
-    } = find(text, tokens, near, start, stop);
+    let found = find(text, tokens, near, start, stop);
     let gone = replace(alloc, text, start, stop, replacement)?;
     let end = start + replacement.len();
-    let to = boundary - stop + end;
-    match relex_into(alloc, text, tokens, front, front.tokens + passed, to) {
-        Ok((new, behind)) => {
-            let old = Mark {
-                tokens: behind,
-                place: new.place - end + stop,
-            };
-            Ok(Mended { front, old, new })
-        }
+    match mend_tokens(alloc, text, tokens, found, stop, end) {
+        Ok(mended) => Ok(mended),
         Err(e) => {
             put_back(text, start, end, &gone);
             Err(e)

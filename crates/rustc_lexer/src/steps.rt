@@ -1,10 +1,21 @@
 //! Steps over the characters of a text: each takes the text that is left and gives what is left then.
-ghost use Rattle.std.specs.Prelude.{◌≡◌, ◌<◌, ◌^◌, ◌==◌, ◌&&◌, ◌||◌, ℕ, Bool, drop, ◌∷◌, [], ◌++◌, length, chars, encode_utf8, MatchOption, IfSome, IsUtf8};
+ghost use Rattle.std.specs.Prelude.{◌≡◌, ◌<◌, ◌≤◌, ◌^◌, ◌==◌, ◌&&◌, ◌||◌, ℕ, Bool, drop, ◌∷◌, [], ◌++◌, length, chars, encode_utf8, MatchOption, IfSome, IsTrue, IsUtf8, get_or};
 ghost use Rattle.std.specs.List.{prefix_len, position_or_len};
-ghost use Rattle.rustc_lexer.specs.Character.{char_at, is, is_whitespace, is_id_continue, is_digit, is_hex_digit};
+ghost use Rattle.rustc_lexer.specs.Character.{ascii_part, char_at, is, is_whitespace, is_id_continue, is_digit, is_hex_digit};
 
 use crate::character::{is_id_continue, is_whitespace};
 use memchr::{memchr, memchr2};
+
+// Each character of ASCII that an identifier may go on with stands at its own place, and a comma at every other.
+static CONTINUES: [u8; 256] = *b"\
+    ,,,,,,,,,,,,,,,,,,,,,,,,,,,,,,,,\
+    ,,,,,,,,,,,,,,,,0123456789,,,,,,\
+    ,ABCDEFGHIJKLMNOPQRSTUVWXYZ,,,,_\
+    ,abcdefghijklmnopqrstuvwxyz,,,,,\
+    ,,,,,,,,,,,,,,,,,,,,,,,,,,,,,,,,\
+    ,,,,,,,,,,,,,,,,,,,,,,,,,,,,,,,,\
+    ,,,,,,,,,,,,,,,,,,,,,,,,,,,,,,,,\
+    ,,,,,,,,,,,,,,,,,,,,,,,,,,,,,,,,";
 
 // A test of a character.
 pub trait CharTest {
@@ -12,6 +23,14 @@ pub trait CharTest {
 
     fn test(c: char) -> bool
         ensures { result ≡ passes c };
+
+    // The same of a byte that is a character of ASCII, and of no other byte.
+    #[inline]
+    fn test_byte(b: u8) -> bool
+        ensures { result ≡ ascii_part passes b }
+    {
+        b < 128 && Self::test(b as char)
+    }
 }
 
 pub struct White;
@@ -33,6 +52,11 @@ impl CharTest for Continue {
     #[inline]
     fn test(c: char) -> bool {
         is_id_continue(c)
+    }
+
+    #[inline]
+    fn test_byte(b: u8) -> bool {
+        CONTINUES[b as usize] != b','
     }
 }
 
@@ -112,9 +136,34 @@ pub fn split_first(text: &str) -> Option<(char, &str)>
     }
 }
 
+// The first byte, or 0 at the end.
+#[inline(always)]
+pub fn first_byte(text: &str) -> u8
+    ensures ascii { result < 128 → char_at (chars text.now) 0 ≡ result }
+    ensures beyond { 128 ≤ result → 128 ≤ char_at (chars text.now) 0 }
+{
+    let bytes = text.as_bytes();
+    if bytes.is_empty() {
+        return 0;
+    }
+    bytes[0]
+}
+
 // The first character, or U+0000 at the end.
 #[inline(always)]
 pub fn first(text: &str) -> char
+    ensures { result ≡ char_at (chars text.now) 0 }
+{
+    let b = first_byte(text);
+    if b < 128 {
+        return b as char;
+    }
+    decoded(text)
+}
+
+// The first character, where it may be any.
+#[inline(never)]
+fn decoded(text: &str) -> char
     ensures { result ≡ char_at (chars text.now) 0 }
 {
     text.chars().next().unwrap_or('\0')
@@ -141,6 +190,26 @@ pub fn third(text: &str) -> char
 pub fn behind(text: &str) -> &str
     ensures { chars result.now ≡ drop 1 (chars text.now) }
 {
+    if begins_ascii(text) {
+        return &text[1..];
+    }
+    behind_any(text)
+}
+
+// The first character is one of ASCII.
+#[inline(always)]
+fn begins_ascii(text: &str) -> bool
+    ensures { IsTrue result → (0 < length text.now) × (get_or text.now 0 0 < 128) }
+{
+    let bytes = text.as_bytes();
+    !bytes.is_empty() && bytes[0] < 128
+}
+
+// What follows the first character, where it may be any.
+#[inline(never)]
+fn behind_any(text: &str) -> &str
+    ensures { chars result.now ≡ drop 1 (chars text.now) }
+{
     match split_first(text) {
         Some((_, after)) => after,
         None => text,
@@ -158,6 +227,31 @@ pub fn begins(text: &str, a: char, b: char) -> bool
 // What follows all characters at the front that pass the test.
 #[inline]
 pub fn skip_while<'a, T: CharTest>(text: &'a str) -> &'a str
+    ensures { chars result.now ≡ drop (prefix_len T.passes (chars text.now)) (chars text.now) }
+{
+    let rest = &text[ascii_run::<T>(text)..];
+    if first_byte(rest) < 128 {
+        return rest;
+    }
+    skip_chars::<T>(rest)
+}
+
+// How many bytes at the front are characters of ASCII that pass the test.
+#[inline(always)]
+fn ascii_run<T: CharTest>(text: &str) -> usize
+    ensures { result ≡ prefix_len (ascii_part T.passes) text.now }
+{
+    let bytes = text.as_bytes();
+    let mut i = 0;
+    while i < bytes.len() && T::test_byte(bytes[i]) {
+        i += 1;
+    }
+    i
+}
+
+// The same as `skip_while`, character by character.
+#[inline(never)]
+fn skip_chars<'a, T: CharTest>(text: &'a str) -> &'a str
     ensures { chars result.now ≡ drop (prefix_len T.passes (chars text.now)) (chars text.now) }
 {
     let mut rest = text;

@@ -8,12 +8,33 @@ ghost use Rattle.rustc_lexer.specs.declared.token.LiteralKind.TheVariants.{Byte,
 
 use crate::character::is_id_start;
 use crate::literal::{literal, quoted_body, raw_form, string_body};
-use crate::steps::{Continue, begins, behind, first, second, skip_while, third};
+use crate::steps::{Continue, begins, behind, first, first_byte, skip_while, third};
 use crate::token::{LiteralKind, TokenKind};
 
 // What begins with a character that may begin an identifier.
 #[inline(always)]
 pub fn word(text: &str) -> (TokenKind, &str)
+    requires small { length text.now < 2 ^ 32 }
+    requires start { is_id_start (char_at (chars text.now) 0) ≡ true }
+    ensures { IsRead (word (chars text.now)) text.now result.0 result.1.now }
+{
+    if begins_prefix(first_byte(text)) {
+        prefixed(text)
+    } else {
+        plain_word(text)
+    }
+}
+
+// A prefix may begin with the byte.
+#[inline(always)]
+fn begins_prefix(b: u8) -> bool
+    ensures { result ≡ ((b == 0x72 || b == 0x62) || (b == 0x63 || b == 0x6b)) }
+{
+    matches!(b, b'r' | b'b' | b'c' | b'k')
+}
+
+// A word that may have a prefix.
+fn prefixed(text: &str) -> (TokenKind, &str)
     requires small { length text.now < 2 ^ 32 }
     requires start { is_id_start (char_at (chars text.now) 0) ≡ true }
     ensures { IsRead (word (chars text.now)) text.now result.0 result.1.now }
@@ -32,17 +53,17 @@ fn plain_word(text: &str) -> (TokenKind, &str)
     requires { is_id_start (char_at (chars text.now) 0) ≡ true }
     ensures { IsRead (plain_word (chars text.now)) text.now result.0 result.1.now }
 {
-    let rest = skip_while::<Continue>(behind(text));
-    (word_kind(first(rest)), rest)
+    let rest = skip_while::<Continue>(text);
+    (word_kind(first_byte(rest)), rest)
 }
 
-// The kind of a word where this character follows it: before a mark of literals it is a prefix.
+// The kind of a word where a character that begins with this byte follows it: before a mark of literals it is a prefix.
 #[inline]
-fn word_kind(next: char) -> TokenKind
+fn word_kind(next: u8) -> TokenKind
     ensures { result ≡ word_kind next }
 {
     match next {
-        '#' | '"' | '\'' => TokenKind::UnknownPrefix,
+        b'#' | b'"' | b'\'' => TokenKind::UnknownPrefix,
         _ => TokenKind::Ident,
     }
 }

@@ -1,19 +1,16 @@
-use Rattle.std.proofs.Common.{◌≡◌, ◌∙◌, sym, true, false, rules}
-use Rattle.std.proofs.lemmas.Str.{IsUtf8-past_char}
-use Rattle.rustc_lexer.proofs.RunLemmas.{skip_more, skip_stops, skip_ends}
+use Rattle.std.proofs.Common.{sym, subst, IsCharBoundary}
+use Rattle.rustc_lexer.proofs.AsciiLemmas.{ascii_run, run_stopped, run_on}
 use Rattle.rustc_lexer.proofs.steps.skip_while.Goals as goal
 
-pub returns-then-not-test : goal.returns-then-not-test
-returns-then-not-test g c =
-    let fails : g.T.CharTest.passes c.in-Some.c ≡ false = search rules in
-    sym (skip_stops g.T.CharTest.passes _ _ _ c.in-Some.ensures.chars fails) ∙ c.loop-c.invariant.1
+pub range_from-rest-requires : goal.range_from-rest-requires
+range_from-rest-requires g c =
+    let run = ascii_run g.T.CharTest.passes c.args.text.now c.utf8.text in
+    λ _. subst (IsCharBoundary c.args.text.now) (sym c.ascii_run.ensures) run.boundary
 
-pub returns-in_default : goal.returns-in_default
-returns-in_default g c = sym (skip_ends g.T.CharTest.passes _ c.in_default.ensures.chars) ∙ c.loop-c.invariant.1
+pub returns-then-first_byte-lt128 : goal.returns-then-first_byte-lt128
+returns-then-first_byte-lt128 g c =
+    let low = c.if-first_byte-lt128.true in
+    run_stopped g.T.CharTest.passes c.args.text.now _ _ _ c.utf8.text c.ascii_run.ensures c.range_from-rest.ensures.value low (c.first_byte.ensures.ascii low)
 
-pub loop-c-preserved : goal.loop-c-preserved
-loop-c-preserved g c =
-    let passes : g.T.CharTest.passes c.in-Some.c ≡ true = search rules in (
-      IsUtf8-past_char _ _ _ c.loop-c.invariant.0 c.in-Some.ensures.bytes,
-      sym (skip_more g.T.CharTest.passes _ _ _ c.in-Some.ensures.chars passes) ∙ c.loop-c.invariant.1,
-    )
+pub returns : goal.returns
+returns g c = run_on g.T.CharTest.passes c.args.text.now _ _ _ c.utf8.text c.ascii_run.ensures c.range_from-rest.ensures.value c.skip_chars.ensures

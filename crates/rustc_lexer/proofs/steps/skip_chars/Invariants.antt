@@ -2,7 +2,7 @@ use Rattle.std.proofs.Common.{◌≡◌, length, drop, chars}
 use Rattle.std.specs.List.{prefix_len}
 use denote.Shadow.{shadow}
 use denote.Text.{Utf8}
-use Rattle.rustc_lexer.proofs.steps.skip_while.Given as goal
+use Rattle.rustc_lexer.proofs.steps.skip_chars.Given as goal
 
 abbrev pub invariant-loop-c : goal.invariant-loop-c
 invariant-loop-c g l =
