@@ -1,8 +1,9 @@
 -- Small runs and calls, worked by hand.
 use Rattle.std.proofs.Common.{◌≡◌, ℕ, List, [], ◌∷◌, ◌++◌, Option, Some, true, false, refl, ap, arith, inl, inr}
-use Rattle.std.specs.Prelude.{Ok, Err, codes}
+use Rattle.std.specs.Prelude.{Ok, Err, codes, decimal}
+use Rattle.std.proofs.lemmas.Fmt.{decimal_digit}
 use Rattle.expander.specs.Watch.{Watch, is_bad_write}
-use Rattle.expander.specs.Lines.{column_at, fault_lines, fault_words, line_at, line_of}
+use Rattle.expander.specs.Lines.{column_at, fault_words, line, line_at}
 use Rattle.expander.specs.Runs.{Refuses, Runs, Stops, status, status_by}
 use Rattle.expander.specs.declared.program.Status.{Status}
 use Rattle.expander.specs.declared.program.Stop.{Stop}
@@ -15,8 +16,7 @@ use Rattle.expander.specs.Thin.{thin_layers}
 use Rattle.expander.specs.TooMany.{HasTooManyAfter}
 use Rattle.tt_data.specs.Forest.{Forest}
 use Rattle.expander.specs.declared.faults.Fault.{Fault}
-use Rattle.expander.specs.declared.faults.FaultKind.TheVariants.{CannotExpand, RecursionLimit, Unspellable}
-use Rattle.tt_data.specs.declared.span.TextRange.{TextRange}
+use Rattle.expander.specs.declared.faults.FaultKind.TheVariants.{RecursionLimit}
 
 -- a byte of which nothing was taken is a write that failed
 nothing_taken : is_bad_write {E = ℕ} (120 ∷ []) (Ok 0) ≡ true
@@ -60,7 +60,7 @@ read_failed depth = record {
 
 -- ---- places in `a`, a line feed, `bc`
 
-two_lines : List ℕ
+abbrev two_lines : List ℕ
 two_lines = 97 ∷ 10 ∷ 98 ∷ 99 ∷ []
 
 first_byte : (line_at two_lines 0 ≡ 1) × (column_at two_lines 0 ≡ 1)
@@ -88,14 +88,11 @@ by_bytes = refl
 carriage_return : line_at (13 ∷ 120 ∷ []) 1 ≡ 1
 carriage_return = refl
 
-told_line : line_of two_lines 2 (fault_words RecursionLimit) ≡ codes "line 2, byte column 1: recursion limit reached" ++ (10 ∷ [])
-told_line = refl
-
--- two faults, two lines
-told_lines : (a b : TextRange) → a.start ≡ 0 → b.start ≡ 3
-    → fault_lines two_lines (record { kind = CannotExpand; range = a } ∷ record { kind = Unspellable; range = b } ∷ [])
-    ≡ codes "line 1, byte column 1: no rule matches this call" ++ (10 ∷ (codes "line 2, byte column 2: token without a spelling" ++ (10 ∷ [])))
-told_lines a b at_0 at_3 = rw (at_0, at_3) refl
+told_line : line 2 1 (fault_words RecursionLimit) ≡ codes "line 2, byte column 1: recursion limit reached" ++ (10 ∷ [])
+told_line =
+    let two : decimal 2 ≡ 50 ∷ [] = decimal_digit 2 (omega arith) in
+    let one : decimal 1 ≡ 49 ∷ [] = decimal_digit 1 (omega arith) in
+    rw (two, one) refl
 
 -- no run stops for numbers
 never_for_numbers : (input : Option (List ℕ)) (depth : ℕ) → Stops (Refused Numbers) input depth → ⊥
