@@ -12,6 +12,7 @@ mod PrintingLemmas
 mod OrderLemmas
 mod SortLemmas
 mod KnownLemmas
+mod LineLemmas
 mod RunLemmas
 mod RunRows
 mod MarkLemmas

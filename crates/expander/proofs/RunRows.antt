@@ -1,7 +1,9 @@
 -- Small runs and calls, worked by hand.
-use Rattle.std.proofs.Common.{◌≡◌, ℕ, List, [], ◌∷◌, Option, Some, true, false, refl, ap, arith, inl, inr}
-use Rattle.std.specs.Prelude.{Ok, Err}
+use Rattle.std.proofs.Common.{◌≡◌, ℕ, List, [], ◌∷◌, ◌++◌, Option, Some, true, false, refl, ap, arith, inl, inr}
+use Rattle.std.specs.Prelude.{Ok, Err, codes, decimal}
+use Rattle.std.proofs.lemmas.Fmt.{decimal_digit}
 use Rattle.expander.specs.Watch.{Watch, is_bad_write}
+use Rattle.expander.specs.Lines.{column_at, fault_words, line, line_at}
 use Rattle.expander.specs.Runs.{Refuses, Runs, Stops, status, status_by}
 use Rattle.expander.specs.declared.program.Status.{Status}
 use Rattle.expander.specs.declared.program.Stop.{Stop}
@@ -14,6 +16,7 @@ use Rattle.expander.specs.Thin.{thin_layers}
 use Rattle.expander.specs.TooMany.{HasTooManyAfter}
 use Rattle.tt_data.specs.Forest.{Forest}
 use Rattle.expander.specs.declared.faults.Fault.{Fault}
+use Rattle.expander.specs.declared.faults.FaultKind.TheVariants.{RecursionLimit}
 
 -- a byte of which nothing was taken is a write that failed
 nothing_taken : is_bad_write {E = ℕ} (120 ∷ []) (Ok 0) ≡ true
@@ -38,14 +41,58 @@ with_faults : (fault : Fault) (faults : List Fault) → status_by (fault ∷ fau
 with_faults fault faults = refl
 
 -- a run that stops never has status 0
-never_0 : {R W : Type 0} (stop : Stop) (input : Option (List ℕ)) (depth : ℕ) (writes : List ℕ → Type 0) (reader : Watch R) (writer : Watch W)
-    → Refuses stop input depth writes reader writer (status 0) → ⊥
-never_0 stop input depth writes reader writer h = omega (arith, ap (λ (s : Status). s.0) h.status)
+never_0 : {R W E : Type 0} (stop : Stop) (input : Option (List ℕ)) (depth : ℕ) (writes tells : List ℕ → Type 0)
+    (reader : Watch R) (writer : Watch W) (faults : Watch E) → Refuses stop input depth writes tells reader writer faults (status 0) → ⊥
+never_0 stop input depth writes tells reader writer faults h = omega (arith, ap (λ (s : Status). s.0) h.status)
 
--- a reader that failed in mid-stream: nothing is written
-read_failed : (depth : ℕ) → Runs {R = ℕ} {W = ℕ} (Some ReadFailed) (Some (120 ∷ 121 ∷ [])) depth (λ bytes. bytes ≡ [])
-    (record { inner = 0; failed = true; flushed = false }) (record { inner = 0; failed = false; flushed = false }) (status 1)
-read_failed depth = record { cause = tt; left = refl; status = refl; of_reader = refl; of_writer = refl }
+-- a reader that failed in mid-stream: nothing is written, and that is told
+read_failed : (depth : ℕ) → Runs {R = ℕ} {W = ℕ} {E = ℕ} (Some ReadFailed) (Some (120 ∷ 121 ∷ [])) depth (λ bytes. bytes ≡ [])
+    (λ bytes. bytes ≡ codes "read failed" ++ (10 ∷ [])) (record { inner = 0; failed = true; flushed = false })
+    (record { inner = 0; failed = false; flushed = false }) (record { inner = 0; failed = false; flushed = true }) (status 1)
+read_failed depth = record {
+  cause = tt;
+  left = refl;
+  told = record { taken = 12; written = refl; whole = λ fresh. refl; flushed = λ fresh some. refl };
+  status = refl;
+  of_reader = refl;
+  of_writer = refl;
+}
+
+-- ---- places in `a`, a line feed, `bc`
+
+abbrev two_lines : List ℕ
+two_lines = 97 ∷ 10 ∷ 98 ∷ 99 ∷ []
+
+first_byte : (line_at two_lines 0 ≡ 1) × (column_at two_lines 0 ≡ 1)
+first_byte = (refl, refl)
+
+-- a line feed ends its line
+line_feed : (line_at two_lines 1 ≡ 1) × (column_at two_lines 1 ≡ 2)
+line_feed = (refl, refl)
+
+behind_line_feed : (line_at two_lines 2 ≡ 2) × (column_at two_lines 2 ≡ 1)
+behind_line_feed = (refl, refl)
+
+last_byte : (line_at two_lines 3 ≡ 2) × (column_at two_lines 3 ≡ 2)
+last_byte = (refl, refl)
+
+-- the end is behind the last byte
+text_end : (line_at two_lines 9 ≡ 2) × (column_at two_lines 9 ≡ 3)
+text_end = (refl, refl)
+
+-- a character of two bytes is two columns
+by_bytes : column_at (195 ∷ 169 ∷ 120 ∷ []) 2 ≡ 3
+by_bytes = refl
+
+-- a carriage return ends no line
+carriage_return : line_at (13 ∷ 120 ∷ []) 1 ≡ 1
+carriage_return = refl
+
+told_line : line 2 1 (fault_words RecursionLimit) ≡ codes "line 2, byte column 1: recursion limit reached" ++ (10 ∷ [])
+told_line =
+    let two : decimal 2 ≡ 50 ∷ [] = decimal_digit 2 (omega arith) in
+    let one : decimal 1 ≡ 49 ∷ [] = decimal_digit 1 (omega arith) in
+    rw (two, one) refl
 
 -- no run stops for numbers
 never_for_numbers : (input : Option (List ℕ)) (depth : ℕ) → Stops (Refused Numbers) input depth → ⊥

@@ -23,6 +23,7 @@ pub mod Filling
 pub mod TooMany
 pub mod Replies
 pub mod Watch
+pub mod Lines
 pub mod Runs
 -- what the functions inside the crate promise each other
 pub mod Cutting
@@ -33,4 +34,5 @@ pub mod OutputSteps
 pub mod Turns
 pub mod PieceTurns
 pub mod Shown
+pub mod Spots
 pub mod Steps

@@ -2,6 +2,7 @@
 use Rattle.std.specs.Prelude.{◌≡◌, ℕ, ◌≤◌, ◌<◌, ◌^◌, Bool, true, false, List, [], ◌∷◌, length, take, Option, Some, None, IfSome, IsUtf8, ⊤}
 use Rattle.expander.specs.State.{State}
 use Rattle.expander.specs.Expanded.{Expanded}
+use Rattle.expander.specs.Lines.{report, stop_line}
 use Rattle.expander.specs.Replies.{IsReplyTo}
 use Rattle.expander.specs.TooMany.{NeedsTooMany}
 use Rattle.expander.specs.Watch.{Watch}
@@ -57,6 +58,13 @@ abbrev pub IsFlushed : {W : Type 0} → Reply → Watch W → Type 0
 IsFlushed (Read e) writer = writer.flushed ≡ true
 IsFlushed (Unread fault) writer = ⊤
 
+-- What a run tells of faults: all of it and flushed last, or a front of it where that writer failed; where nothing is told, nothing is asked of it.
+pub record Tells {E : Type 0} (told : List ℕ) (tells : List ℕ → Type 0) (faults : Watch E) : Type 0 where
+  pub taken : ℕ
+  pub written : tells (take taken told)
+  pub whole : faults.failed ≡ false → take taken told ≡ told
+  pub flushed : faults.failed ≡ false → 0 < length told → faults.flushed ≡ true
+
 -- whether a run stops because its reader failed
 abbrev pub is_of_reader : Stop → Bool
 is_of_reader ReadFailed = true
@@ -91,29 +99,31 @@ abbrev pub LeavesAt : Stop → Option (List ℕ) → ℕ → (List ℕ → Type 
 LeavesAt WriteFailed input depth writes = BreaksOff input depth writes
 LeavesAt _ input depth writes = writes []
 
--- A run that answers: what a reply to its whole input prints is written, and the status is the reply's.
-pub record Finishes {R W : Type 0} (input : Option (List ℕ)) (depth : ℕ) (writes : List ℕ → Type 0)
-    (reader : Watch R) (writer : Watch W) (result : Status) : Type 0 where
+-- A run that answers: what a reply to its whole input prints is written, its faults are told, and the status is the reply's.
+pub record Finishes {R W E : Type 0} (input : Option (List ℕ)) (depth : ℕ) (writes tells : List ℕ → Type 0)
+    (reader : Watch R) (writer : Watch W) (faults : Watch E) (result : Status) : Type 0 where
   pub text : List ℕ
   pub is_input : IsInput input text
   pub reply : Reply
   pub is_reply : IsReplyTo (opened text depth) reply
   pub written : writes (printed_of reply)
   pub flushed : IsFlushed reply writer
+  pub told : Tells (report text reply) tells faults
   pub status : result ≡ status_of reply
   pub read_all : reader.failed ≡ false
   pub took_all : writer.failed ≡ false
 
--- A run that stops: it has a cause, and its status is 1.
-pub record Refuses {R W : Type 0} (stop : Stop) (input : Option (List ℕ)) (depth : ℕ) (writes : List ℕ → Type 0)
-    (reader : Watch R) (writer : Watch W) (result : Status) : Type 0 where
+-- A run that stops: it has a cause, which is told, and its status is 1.
+pub record Refuses {R W E : Type 0} (stop : Stop) (input : Option (List ℕ)) (depth : ℕ) (writes tells : List ℕ → Type 0)
+    (reader : Watch R) (writer : Watch W) (faults : Watch E) (result : Status) : Type 0 where
   pub cause : Stops stop input depth
   pub left : LeavesAt stop input depth writes
+  pub told : Tells (stop_line stop) tells faults
   pub status : result ≡ status 1
   pub of_reader : reader.failed ≡ is_of_reader stop
   pub of_writer : writer.failed ≡ is_of_writer stop
 
--- A run over what its reader had left, with what its writer took, and the two after it.
-abbrev pub Runs : {R W : Type 0} → Option Stop → Option (List ℕ) → ℕ → (List ℕ → Type 0) → Watch R → Watch W → Status → Type 0
-Runs None input depth writes reader writer result = Finishes input depth writes reader writer result
-Runs (Some stop) input depth writes reader writer result = Refuses stop input depth writes reader writer result
+-- A run over what its reader had left, with what its two writers took, and the three after it.
+abbrev pub Runs : {R W E : Type 0} → Option Stop → Option (List ℕ) → ℕ → (writes tells : List ℕ → Type 0) → Watch R → Watch W → Watch E → Status → Type 0
+Runs None input depth writes tells reader writer faults result = Finishes input depth writes tells reader writer faults result
+Runs (Some stop) input depth writes tells reader writer faults result = Refuses stop input depth writes tells reader writer faults result

@@ -1,11 +1,14 @@
 -- What the steps of a run promise each other.
 use Rattle.std.specs.Prelude.{◌≡◌, ℕ, ◌≤◌, ◌^◌, Bool, true, false, List, length, take, Option, IfSome}
 use Rattle.std.specs.Io.KnownBytes.{Appends}
+use Rattle.expander.specs.Lines.{report}
 use Rattle.expander.specs.Replies.{IsReplyTo}
-use Rattle.expander.specs.Runs.{IsInput, Stops, opened, is_of_reader, is_of_writer}
+use Rattle.expander.specs.Runs.{IsFlushed, IsInput, Stops, opened, is_of_reader, is_of_writer, printed_of}
 use Rattle.expander.specs.Watch.{Watch}
 use Rattle.expander.specs.declared.session.Refusal.TheVariants.{Memory}
+use Rattle.expander.specs.Expanded.{Expanded}
 use Rattle.expander.specs.declared.session.Reply.{Reply}
+use Rattle.expander.specs.declared.session.Reply.TheVariants.{Read}
 use Rattle.expander.specs.declared.program.Stop.{Stop}
 use Rattle.expander.specs.declared.program.Stop.TheVariants.{TooLong, ReadFailed, Refused}
 
@@ -16,11 +19,12 @@ StopsReading ReadFailed input failed = failed ≡ true
 StopsReading (Refused Memory) input failed = failed ≡ false
 StopsReading _ input failed = ⊥
 
--- a reply to the whole input
-pub record Replied (input : Option (List ℕ)) (depth : ℕ) (reply : Reply) : Type 0 where
+-- a reply to the whole input, and what is told of it
+pub record Replied (input : Option (List ℕ)) (depth : ℕ) (reply : Reply) (told : List ℕ) : Type 0 where
   pub text : List ℕ
   pub is_input : IsInput input text
   pub is_reply : IsReplyTo (opened text depth) reply
+  pub is_told : told ≡ report text reply
 
 -- why there is no reply, and whether the reader failed
 pub record StopsEarly (stop : Stop) (input : Option (List ℕ)) (depth : ℕ) (failed : Bool) : Type 0 where
@@ -32,3 +36,9 @@ pub record StopsEarly (stop : Stop) (input : Option (List ℕ)) (depth : ℕ) (f
 abbrev pub Puts : {W : Type 0} → Option (List ℕ) → Option (List ℕ) → Watch W → List ℕ → Bool → Type 0
 Puts old new writer bytes true = Appends old new bytes × (writer.flushed ≡ true) × (writer.failed ≡ false)
 Puts old new writer bytes false = ((k : ℕ) × Appends old new (take k bytes)) × (writer.failed ≡ true)
+
+-- what a reply prints is written, or a front of it and the writer failed
+abbrev pub PutsReply : {W : Type 0} → Option (List ℕ) → Option (List ℕ) → Watch W → Reply → Bool → Type 0
+PutsReply old new writer reply true = Appends old new (printed_of reply) × IsFlushed reply writer × (writer.failed ≡ false)
+PutsReply old new writer reply false =
+    (e : Expanded) × (reply ≡ Read e) × ((k : ℕ) × Appends old new (take k e.printed)) × (writer.failed ≡ true)

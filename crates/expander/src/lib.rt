@@ -8,6 +8,7 @@ mod definitions;
 mod expansion;
 pub mod faults;
 pub mod laws;
+mod lines;
 mod matching;
 mod names;
 mod output;

@@ -1,15 +1,16 @@
-//! The run of a program: it reads a text, expands it and writes what that prints.
-ghost use Rattle.std.specs.Prelude.{◌≡◌, ◌≢◌, ℕ, Err, ◌^◌, ◌<◌, false, List, length, take, Option, IfOk, IfErr};
+//! The run of a program: it reads a text, expands it, writes what that prints and tells its faults.
+ghost use Rattle.std.specs.Prelude.{◌≡◌, ◌≢◌, ℕ, Err, ◌^◌, ◌<◌, false, List, length, take, Option, IfOk, IfErr, string_bytes};
 ghost use Rattle.std.specs.Io.KnownBytes.{Appends};
 ghost use Rattle.expander.specs.Replies.{IsReplyTo};
-ghost use Rattle.expander.specs.Runs.{IsAllOf, Runs, opened, status_by};
+ghost use Rattle.expander.specs.Lines.{report};
+ghost use Rattle.expander.specs.Runs.{IsAllOf, Runs, Tells, opened, status, status_of};
 ghost use Rattle.expander.specs.TooMany.{NeedsTooMany};
-ghost use Rattle.expander.specs.Steps.{Puts, Replied, StopsEarly, StopsReading};
+ghost use Rattle.expander.specs.Steps.{Puts, PutsReply, Replied, StopsEarly, StopsReading};
 
-use crate::faults::Fault;
+use crate::lines::{report, stop_line};
 use crate::session::{Refusal, Reply, Session};
 use crate::watched::Watched;
-use std::alloc::{AllocError, Global};
+use std::alloc::Global;
 use std::io::{Read, Write};
 
 /// The status that a program ends with.
@@ -31,12 +32,13 @@ pub enum Stop {
     Refused(Refusal),
 }
 
-/// Reads a text to its end, expands it with `depth` levels, and writes and flushes what that prints.
+/// Reads a text to its end, expands it with `depth` levels, writes and flushes what that prints, and tells its faults.
 ///
 /// The status is 0 where nothing was refused and the text has no fault, else 1. Nothing is written where
 /// the text is not read or the run is refused, but by a write that fails, which leaves a front of the
-/// printed text. An error of any kind ends the run: nothing is tried again. Nothing is written to
-/// `faults` yet.
+/// printed text. Then `faults` gets a line for each fault, as `line 2, byte column 1: recursion limit reached`
+/// (both numbers from 1), or one line for why the run stops, as `read failed`, and is flushed. An error of any
+/// kind of a reader or a writer is the last that is asked of it: nothing is tried again.
 pub fn run<R: Read, W: Write, E: Write>(
     alloc: Global,
     reader: &mut Watched<R>,
@@ -48,45 +50,56 @@ pub fn run<R: Read, W: Write, E: Write>(
     requires writer_fresh { writer.old.failed ≡ false }
     requires faults_fresh { faults.old.failed ≡ false }
     ensures runs { (stop : Option Stop) × Runs stop (R.remaining reader.old.inner) depth
-        (Appends (W.contents writer.old.inner) (W.contents writer.new.inner)) reader.new writer.new result }
-    ensures untold { faults.new ≡ faults.old }
+        (Appends (W.contents writer.old.inner) (W.contents writer.new.inner))
+        (Appends (E.contents faults.old.inner) (E.contents faults.new.inner)) reader.new writer.new faults.new result }
+    ensures untold { result ≡ status 0 → faults.new ≡ faults.old }
 {
-    match reply_to_input(alloc, reader, depth) {
-        Ok(Reply::Read(expansion)) => {
-            if put(writer, expansion.printed().as_bytes()) {
-                status_by(expansion.faults())
+    match answer_input(alloc, reader, depth) {
+        Ok((reply, told)) => {
+            if put_reply(writer, &reply) {
+                tell(faults, told.as_str());
+                status_of(&reply)
             } else {
+                tell(faults, stop_line(Stop::WriteFailed));
                 Status(1)
             }
         }
-        Ok(Reply::Unread(_)) => Status(1),
-        Err(_) => Status(1),
+        Err(stop) => {
+            tell(faults, stop_line(stop));
+            Status(1)
+        }
     }
 }
 
-// The session's reply to the whole input.
-fn reply_to_input<R: Read>(alloc: Global, reader: &mut Watched<R>, depth: u8) -> Result<Reply, Stop>
+// The session's reply to the whole input, and what is told of it.
+fn answer_input<R: Read>(
+    alloc: Global,
+    reader: &mut Watched<R>,
+    depth: u8,
+) -> Result<(Reply, String), Stop>
     requires { reader.old.failed ≡ false }
-    ensures replied { IfOk result (λ reply. Replied (R.remaining reader.old.inner) depth reply) }
-    ensures read { IfOk result (λ reply. reader.new.failed ≡ false) }
+    ensures replied { IfOk result (λ answer. Replied (R.remaining reader.old.inner) depth answer.0 (string_bytes answer.1)) }
+    ensures read { IfOk result (λ answer. reader.new.failed ≡ false) }
     ensures stopped { IfErr result (λ stop. StopsEarly stop (R.remaining reader.old.inner) depth reader.new.failed) }
 {
     let bytes = read_all(alloc, reader)?;
     let text = std::str::from_utf8(bytes.as_slice()).map_err(|_| Stop::NotUtf8)?;
-    reply_to(alloc, text, depth).map_err(Stop::Refused)
+    answer(alloc, text, depth).map_err(Stop::Refused)
 }
 
-// The reply of a session over this text.
-fn reply_to(alloc: Global, text: &str, depth: u8) -> Result<Reply, Refusal>
+// The reply of a session over this text, and what is told of it. The lines are made before anything is
+// written, so that want of memory is told alone.
+fn answer(alloc: Global, text: &str, depth: u8) -> Result<(Reply, String), Refusal>
     requires { length text.now < 2 ^ 32 }
-    ensures reply { IfOk result (λ reply. IsReplyTo (opened text.now depth) reply) }
+    ensures reply { IfOk result (λ answer. IsReplyTo (opened text.now depth) answer.0) }
+    ensures told { IfOk result (λ answer. string_bytes answer.1 ≡ report text.now answer.0) }
     ensures tokens { result ≡ Err Refusal.Tokens → NeedsTooMany depth text.now }
     ensures numbers { result ≢ Err Refusal.Numbers }
 {
-    match Session::new(alloc, text, depth) {
-        Ok(mut session) => session.expansion(),
-        Err(AllocError) => Err(Refusal::Memory),
-    }
+    let mut session = Session::new(alloc, text, depth)?;
+    let reply = session.expansion()?;
+    let told = report(alloc, text, &reply)?;
+    Ok((reply, told))
 }
 
 // All bytes to the end, or why not.
@@ -129,13 +142,40 @@ fn put<W: Write>(writer: &mut Watched<W>, bytes: &[u8]) -> bool
     writer.flush().is_ok()
 }
 
-// 0 where there is no fault.
-fn status_by(faults: &[Fault]) -> Status
-    ensures { result ≡ status_by faults.now }
+// Whether what a reply prints was written and flushed.
+fn put_reply<W: Write>(writer: &mut Watched<W>, reply: &Reply) -> bool
+    requires { writer.old.failed ≡ false }
+    ensures { PutsReply (W.contents writer.old.inner) (W.contents writer.new.inner) writer.new reply.now result }
 {
-    if faults.is_empty() {
-        Status(0)
-    } else {
-        Status(1)
+    match reply {
+        Reply::Read(expansion) => put(writer, expansion.printed().as_bytes()),
+        Reply::Unread(_) => true,
+    }
+}
+
+// Tells this, if it is something.
+fn tell<E: Write>(faults: &mut Watched<E>, told: &str)
+    requires { faults.old.failed ≡ false }
+    ensures told { Tells told.now (Appends (E.contents faults.old.inner) (E.contents faults.new.inner)) faults.new }
+    ensures untold { length told.now ≡ 0 → faults.new ≡ faults.old }
+{
+    if !told.is_empty() {
+        put(faults, told.as_bytes());
+    }
+}
+
+// 0 where the text is read and has no fault.
+fn status_of(reply: &Reply) -> Status
+    ensures { result ≡ status_of reply.now }
+{
+    match reply {
+        Reply::Read(expansion) => {
+            if expansion.faults().is_empty() {
+                Status(0)
+            } else {
+                Status(1)
+            }
+        }
+        Reply::Unread(_) => Status(1),
     }
 }

@@ -93,7 +93,7 @@ pub(crate) fn wide(alloc: Global) -> Narrow {
     Narrow {
         got: Vec::new(alloc),
         most: 3,
-        room: 100,
+        room: 200,
         end: End::TakesNothing,
         flushes: 0,
         flush_fails: None,

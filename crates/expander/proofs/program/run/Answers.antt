@@ -1,14 +1,17 @@
-use Rattle.std.proofs.Common.{Some, ◌∙◌}
+use Rattle.std.proofs.Common.{Some}
 use Rattle.expander.proofs.RunLemmas.{runs_broken_off, runs_stopped}
 use Rattle.expander.specs.declared.program.Stop.TheVariants.{WriteFailed}
 use Rattle.expander.proofs.program.run.Goals as goal
 
-pub returns-in-Ok-Read-clause-runs : goal.returns-in-Ok-Read-clause-runs
-returns-in-Ok-Read-clause-runs g c = (
+pub returns-in-Ok-clause-runs : goal.returns-in-Ok-clause-runs
+returns-in-Ok-clause-runs g c = (
   Some WriteFailed,
-  runs_broken_off _ _ _ _ c.in-Ok-Read.field-0 c.in-Ok-Read.expansion _ _ _ _ c.in-Ok-Read.ensures.replied c.in-Ok-Read.field-0-is
-      c.in-Ok-Read.ensures.read (c.as_bytes.ensures.value ∙ c.printed.ensures) c.put.ensures c.if-put.false,
+  runs_broken_off _ _ _ _ _ _ _ _ _ _ _ c.in-Ok.ensures.replied c.in-Ok.ensures.read c.put_reply.ensures c.if-put_reply.false
+      _ c.stop_line.ensures c.tell-else-put_reply.ensures.told,
 )
 
 pub returns-clause-runs : goal.returns-clause-runs
-returns-clause-runs g c = (Some c.in-Err.field-0, runs_stopped _ _ _ _ _ _ c.in-Err.ensures.stopped c.requires.writer_fresh)
+returns-clause-runs g c = (
+  Some c.in-Err.stop,
+  runs_stopped _ _ _ _ _ _ _ _ c.in-Err.ensures.stopped c.requires.writer_fresh _ c.stop_line-in-Err.ensures c.tell-in-Err.ensures.told,
+)
