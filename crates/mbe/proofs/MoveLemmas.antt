@@ -5,7 +5,7 @@ use Rattle.tt_data.specs.declared.leaf.Leaf.{Leaf}
 use Rattle.tt_data.specs.declared.leaf.Leaf.TheVariants as as_leaf
 use Rattle.tt_data.specs.declared.leaf.Punct.{Punct}
 use Rattle.tt_data.specs.declared.span.Span.{Span}
-use Rattle.tt.specs.Glued.{glued_count}
+use Rattle.tt.proofs.GluedLemmas.{glued-one}
 use Rattle.mbe_rules.specs.Items.{Separator, literal_between, Item, word, puncts, lifetime, dollar, variable, Items, done, item, group_of, repetition, may_skip, has_empty_round, variables}
 use Rattle.mbe_rules.specs.Trees.{past, before}
 use Rattle.mbe_rules.specs.declared.parser.MetaVarKind.{MetaVarKind}
@@ -80,19 +80,9 @@ past-lt : (n : ℕ) (l : Leaf) (rest : Forest) → 1 ≤ n → steps (past n (le
 past-lt zero l rest h = absurd (omega arith)
 past-lt (suc n) l rest h = let i = past-le n rest in omega arith
 
-one-of-three : (a b : Bool) → 1 ≤ (if a then 3 else (if b then 2 else 1))
-one-of-three true b = omega arith
-one-of-three false true = omega arith
-one-of-three false false = omega arith
-
 one-of-two : (b : Bool) → 1 ≤ (if b then 2 else 1)
 one-of-two true = omega arith
 one-of-two false = omega arith
-
-pub glued-one : (p : Punct) (rest : Forest) → 1 ≤ glued_count (leaf (as_leaf.Punct p) rest)
-glued-one p (leaf (as_leaf.Punct q) (leaf (as_leaf.Punct r) rest)) = one-of-three _ _
-glued-one p (leaf (as_leaf.Punct q) rest) = one-of-two _
-glued-one p _ = omega arith
 
 unit-one : (l : Leaf) (rest : Forest) → 1 ≤ unit_trees (leaf l rest)
 unit-one (as_leaf.Punct p) (leaf (as_leaf.Ident i) rest) = one-of-two _

@@ -15,7 +15,7 @@ use Rattle.tt.specs.Glued.{glued_count}
 use Rattle.tt.specs.FirstTrees.{first_punct}
 use Rattle.tt_data.specs.declared.leaf.Punct.{Punct}
 use Rattle.mbe.specs.Units.{unit_trees, first_characters}
-use Rattle.mbe.proofs.MoveLemmas.{glued-one}
+use Rattle.tt.proofs.GluedLemmas.{glued-one}
 use Rattle.std.proofs.lemmas.List.{append_cancel_right}
 use Rattle.tt_data.specs.Flat.{forest_of-preorder, preorder-joined}
 use Rattle.tt_data.specs.Forest.{Forest, empty, leaf, group, joined, forest_of, preorder}

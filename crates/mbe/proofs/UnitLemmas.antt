@@ -5,13 +5,13 @@ use Rattle.tt_data.specs.Spans.{delimiter_with}
 use Rattle.tt_data.specs.declared.leaf.Leaf.TheVariants as as_leaf
 use Rattle.tt_data.specs.declared.leaf.Punct.{Punct}
 use Rattle.tt_data.specs.declared.span.Span.{Span}
+use Rattle.tt.proofs.GluedLemmas.{glued_count-map, characters-map}
 use Rattle.tt.specs.Glued.{glued_count}
 use Rattle.mbe_rules.specs.Items.{Item, word, puncts, Separator, literal_between, puncts_between}
 use Rattle.mbe_rules.specs.Relabelling.{punct_with, item_with, separator_with}
-use Rattle.mbe_rules.specs.Trees.{characters}
 use Rattle.mbe_rules.specs.declared.parser.MetaVarKind.{MetaVarKind}
 use Rattle.mbe_rules.specs.declared.parser.MetaVarKind.TheVariants as kind
-use Rattle.mbe_rules.proofs.RelabelLemmas.{past-map, glued_count-map}
+use Rattle.mbe_rules.proofs.RelabelLemmas.{past-map}
 use Rattle.mbe.specs.Fragments.{ident_trees, lifetime_trees, unsigned_trees, literal_trees, tree_trees, is_refused, is_refused_2021, taken}
 use Rattle.mbe.specs.Grammar.{Grammar, reach, asked}
 use Rattle.fragment_grammar.specs.Steps.{steps}
@@ -88,12 +88,8 @@ module _ (f : Span → Span) where
   is_end-map (place empty (x ∷ outer)) = refl
   is_end-map _ = refl
 
-  characters-map : (ps : List Punct) → characters (map (punct_with f) ps) ≡ characters ps
-  characters-map [] = refl
-  characters-map (p ∷ ps) = rw (characters-map ps)
-
   pub unit_of-map : (i : Item) → unit_of (item_with f i) ≡ unit_of i
-  unit_of-map (puncts ps) = rw (characters-map ps)
+  unit_of-map (puncts ps) = rw (characters-map f ps)
   unit_of-map (word (as_leaf.Ident i)) = refl
   unit_of-map (word (as_leaf.Literal l)) = refl
   unit_of-map (word (as_leaf.Punct p)) = refl
@@ -101,7 +97,7 @@ module _ (f : Span → Span) where
 
   pub is_separator-map : (s : Separator) (u : UnitAt) → is_separator (separator_with f s) u ≡ is_separator s u
   is_separator-map (literal_between l) (a_name n) = refl
-  is_separator-map (puncts_between ps) u = ap (λ cs. same_unit (glued cs) u) (characters-map ps)
+  is_separator-map (puncts_between ps) u = ap (λ cs. same_unit (glued cs) u) (characters-map f ps)
   is_separator-map _ _ = refl
 
   -- ---- fragments

@@ -4,10 +4,10 @@ use Rattle.tt_data.specs.Forest.{Forest, empty, leaf, group}
 use Rattle.tt_data.specs.declared.delimiter.DelimiterKind.{DelimiterKind}
 use Rattle.tt_data.specs.declared.leaf.Leaf.TheVariants as as_leaf
 use Rattle.tt_data.specs.declared.leaf.Punct.{Punct}
-use Rattle.tt.specs.Glued.{glued_count}
+use Rattle.tt.specs.Glued.{glued_count, characters}
 use Rattle.mbe_rules.specs.Items.{Item, word, puncts, lifetime, dollar, Separator, literal_between, ident_between, lifetime_between, puncts_between}
 use Rattle.mbe_rules.specs.Text.{same_text, same_kind, is_nil, is_truth, is_char}
-use Rattle.mbe_rules.specs.Trees.{past, characters}
+use Rattle.mbe_rules.specs.Trees.{past}
 use Rattle.fragment_grammar.specs.Steps.{steps}
 
 -- what stands at a place, places of tokens aside; rawness and the form of a literal don't count

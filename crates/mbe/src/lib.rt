@@ -4,7 +4,6 @@
 pub mod bindings;
 pub mod collecting;
 pub mod fragment;
-mod glued;
 pub mod laws;
 pub mod matcher;
 mod place;

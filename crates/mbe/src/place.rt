@@ -4,14 +4,14 @@ ghost use Rattle.tt.specs.Views.{forest};
 ghost use Rattle.tt_data.specs.Forest.{shape};
 ghost use Rattle.mbe_rules.specs.Ops.{separator_of};
 ghost use Rattle.mbe_rules.specs.Text.{same_text, is_truth};
-ghost use Rattle.mbe_rules.specs.Trees.{before, past, characters};
+ghost use Rattle.mbe_rules.specs.Trees.{before, past};
+ghost use Rattle.tt.specs.Glued.{characters};
 ghost use Rattle.mbe.specs.Fragments.{taken, ident_trees, lifetime_trees, unsigned_trees, literal_trees, tree_trees, is_refused, is_refused_2021};
 ghost use Rattle.mbe.specs.Grammar.{asked, reach};
 ghost use Rattle.mbe.specs.Units as u;
 ghost use Rattle.mbe.specs.Units.{same_unit, a_name, a_literal, glued, a_lifetime, opening, closing, first_characters, is_separator, unit_at, unit_trees};
 ghost use Rattle.mbe.specs.Places.{place_of, place_after, quoted_name, is_named_truth, left_after};
 
-use crate::glued::{again, glued_count};
 use fragment_grammar::{FragmentGrammar, PrefixEntryPoint, steps};
 use mbe_rules::{MetaVarKind, Separator};
 use std::alloc::AllocError;
@@ -31,6 +31,13 @@ pub(crate) enum Taken {
     Unit,
     // A fragment of so many trees.
     Fragment(usize),
+}
+
+// The same list again.
+fn again<'a>(trees: &TtIter<'a>) -> TtIter<'a>
+    ensures { result ≡ trees.now }
+{
+    trees.remaining().iter()
 }
 
 // The trees after the first ones.
@@ -157,7 +164,7 @@ impl<'a> Place<'a> {
         let Some(TtElement::Leaf(Leaf::Punct(_))) = self.rest.peek() else {
             return false;
         };
-        let count = glued_count(&self.rest);
+        let count = self.rest.glued_count();
         same_puncts(puncts, &self.rest, count)
     }
 
@@ -225,7 +232,7 @@ fn unit_trees(trees: &TtIter<'_>) -> usize
     if let Some(_name) = quoted(trees) {
         return 2;
     }
-    let count = glued_count(trees);
+    let count = trees.glued_count();
     if count == 0 { 1 } else { count }
 }
 
@@ -293,7 +300,7 @@ fn tree_trees(trees: &TtIter<'_>) -> Option<usize>
             if punct.char == '\'' {
                 return lifetime_trees(trees);
             }
-            Some(glued_count(trees))
+            Some(trees.glued_count())
         }
         _ => Some(1),
     }

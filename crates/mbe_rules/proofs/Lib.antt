@@ -5,6 +5,7 @@ pub mod CopyLemmas
 pub mod ErrorLemmas
 pub mod ExpressionLemmas
 pub mod EditionLemmas
+pub mod GluedLemmas
 pub mod HeadLemmas
 pub mod ItemLemmas
 pub mod ShapeLemmas

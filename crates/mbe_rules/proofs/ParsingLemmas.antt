@@ -10,6 +10,7 @@ use Rattle.tt_data.specs.declared.leaf.Leaf.TheVariants as as_leaf
 use Rattle.tt_data.specs.declared.leaf.Punct.{Punct}
 use Rattle.tt_data.specs.declared.span.Span.{Span}
 use Rattle.tt_data.specs.declared.span.SyntaxContext.{SyntaxContext}
+use Rattle.tt.proofs.GluedLemmas.{glued_count-map}
 use Rattle.mbe_rules.specs.Items.{Item, word, Items, Rule, Rules, has_empty_round}
 use Rattle.mbe_rules.specs.Parsed.{Parsed, ◌>>=◌}
 use Rattle.mbe_rules.specs.Repetitions.{Between, a_literal, an_ident, a_lifetime, some_puncts, trees_between, repeated, separator_in}
@@ -23,7 +24,7 @@ use Rattle.mbe_rules.specs.declared.errors.ParseError.TheVariants.{RepetitionEmp
 use Rattle.mbe_rules.specs.declared.parser.RepeatKind.{RepeatKind}
 use Rattle.mbe_rules.specs.declared.macro_call_style.MacroCallStyle.{MacroCallStyle}
 use Rattle.mbe_rules.specs.declared.macro_call_style.MacroCallStyle.TheVariants.{FnLike}
-use Rattle.mbe_rules.proofs.RelabelLemmas.{signs-map, past-map, first_puncts-map, inside-map, glued_count-map, has_empty_round-map}
+use Rattle.mbe_rules.proofs.RelabelLemmas.{signs-map, past-map, first_puncts-map, inside-map, has_empty_round-map}
 
 -- what is read, changed by h; a fault as it is
 abbrev pub read_as : {A B : Type 0} → (A → B) → Parsed A → Parsed B

@@ -4,7 +4,6 @@ use Rattle.tt_data.specs.Forest.{Forest, empty, leaf, group, map_spans}
 use Rattle.tt_data.specs.Spans.{leaf_with, delimiter_with}
 use Rattle.tt_data.specs.declared.leaf.Leaf.TheVariants as as_leaf
 use Rattle.tt_data.specs.declared.span.Span.{Span}
-use Rattle.tt.specs.Glued.{glued_count}
 use Rattle.mbe_rules.specs.Items.{dollar, variable, Items, done, item, group_of, repetition, variables, can_match_nothing, has_empty_round}
 use Rattle.mbe_rules.specs.Relabelling.{punct_with, items_with}
 use Rattle.mbe_rules.specs.Trees.{before, past, first_puncts, inside, signs}
@@ -35,10 +34,6 @@ module _ (f : Span → Span) where
   pub inside-map : (x : Forest) → inside (map_spans f x) ≡ map_spans f (inside x)
   inside-map (group d inner rest) = refl
   inside-map _ = refl
-
-  pub glued_count-map : (x : Forest) → glued_count (map_spans f x) ≡ glued_count x
-  glued_count-map (leaf (as_leaf.Punct p) (leaf (as_leaf.Punct q) (leaf (as_leaf.Punct r) rest))) = refl
-  glued_count-map _ = refl
 
   -- ---- items
 

@@ -2,7 +2,7 @@
 -- and the forms of literals don't count.
 use Rattle.std.specs.Prelude.{ℕ, Bool, ◌&&◌, ◌==◌, List, []}
 use Rattle.std.specs.Str.{bytes_eq}
-use Rattle.mbe_rules.specs.Trees.{characters}
+use Rattle.tt.specs.Glued.{characters}
 use Rattle.mbe_rules.specs.declared.parser.Separator.{Separator}
 use Rattle.mbe_rules.specs.declared.parser.Separator.TheVariants as separator
 

@@ -22,11 +22,6 @@ abbrev pub first_puncts : ℕ → Forest → List Punct
 first_puncts (suc n) (leaf (as_leaf.Punct p) rest) = p ∷ first_puncts n rest
 first_puncts _ f = []
 
--- their characters
-abbrev pub characters : List Punct → List ℕ
-characters [] = []
-characters (p ∷ ps) = p.char ∷ characters ps
-
 -- what a list's first group has inside
 abbrev pub inside : Forest → Forest
 inside (group d inner rest) = inner

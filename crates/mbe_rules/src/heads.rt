@@ -4,7 +4,7 @@ ghost use Rattle.tt_data.specs.Forest.{leaf, group};
 ghost use Rattle.tt_data.specs.declared.edition.Edition.{Edition};
 ghost use Rattle.tt_data.specs.declared.leaf.Leaf.TheVariants as as_leaf;
 ghost use Rattle.tt_data.specs.declared.span.SyntaxContext.{SyntaxContext};
-ghost use Rattle.tt.specs.Glued.{is_two, is_three, is_pair, is_triple, glued_count};
+ghost use Rattle.tt.specs.Glued.{glued_count};
 ghost use Rattle.mbe_rules.specs.Items.{word, done, item};
 ghost use Rattle.mbe_rules.specs.Ops.{put_op};
 ghost use Rattle.mbe_rules.specs.Text.{is_truth, is_nil};
@@ -22,7 +22,7 @@ use std::alloc::{AllocError, Global};
 use symbols::Symbol;
 use tt::iter::{TtElement, TtIter};
 use tt_data::delimiter::{Delimiter, DelimiterKind};
-use tt_data::leaf::{Ident, IdentIsRaw, Leaf, Literal, Punct, Spacing};
+use tt_data::leaf::{Ident, IdentIsRaw, Leaf, Literal, Punct};
 use tt_data::span::Span;
 
 // Whether a pattern or a template is read.
@@ -297,48 +297,6 @@ fn dollar<'a>(
     }
 }
 
-// Whether two characters make one operator.
-fn is_two(first: char, second: char) -> bool
-    ensures { result ≡ is_two first second }
-{
-    match second {
-        '=' => matches!(
-            first,
-            '-' | '!' | '*' | '/' | '&' | '%' | '^' | '+' | '<' | '=' | '>' | '|'
-        ),
-        '>' => matches!(first, '-' | '=' | '>'),
-        '-' => first == '<',
-        ':' | '.' | '&' | '<' | '|' => first == second,
-        _ => false,
-    }
-}
-
-// Whether three characters make one operator: `...`, `..=`, `<<=`, `>>=`.
-fn is_three(first: char, second: char, third: char) -> bool
-    ensures { result ≡ is_three first second third }
-{
-    match (first, second, third) {
-        ('.', '.', '.' | '=') | ('<', '<', '=') | ('>', '>', '=') => true,
-        _ => false,
-    }
-}
-
-// Whether two puncts that stand side by side are glued.
-fn is_pair(first: Punct, second: Punct) -> bool
-    ensures { result ≡ is_pair first second }
-{
-    first.spacing != Spacing::Alone && is_two(first.char, second.char)
-}
-
-// Whether three are.
-fn is_triple(first: Punct, second: Punct, third: Punct) -> bool
-    ensures { result ≡ is_triple first second third }
-{
-    first.spacing != Spacing::Alone
-        && second.spacing == Spacing::Joint
-        && is_three(first.char, second.char, third.char)
-}
-
 // The one to three puncts that are glued to one, and the trees after them.
 fn glued<'a>(
     alloc: Global,
@@ -348,25 +306,10 @@ fn glued<'a>(
     ensures { IfOk result (λ r. Ok (put_op r.0 done, r.1)
         ≡ head_read first trees.now (Ok (glued (glued_count (leaf (as_leaf.Punct first) trees.now))))) }
 {
+    let (glued, rest) = again(trees).glued_to(first);
     let mut puncts = Vec::new(alloc);
-    puncts.push(first)?;
-    let mut rest = again(trees);
-    let Some(TtElement::Leaf(Leaf::Punct(second))) = rest.next() else {
-        return Ok((Op::Punct(puncts), again(trees)));
-    };
-    let mut last = again(&rest);
-    if let Some(TtElement::Leaf(Leaf::Punct(third))) = last.next() {
-        if is_triple(first, second, third) {
-            puncts.push(second)?;
-            puncts.push(third)?;
-            return Ok((Op::Punct(puncts), last));
-        }
-    }
-    if is_pair(first, second) {
-        puncts.push(second)?;
-        return Ok((Op::Punct(puncts), rest));
-    }
-    Ok((Op::Punct(puncts), again(trees)))
+    puncts.extend_from_slice(glued.as_slice())?;
+    Ok((Op::Punct(puncts), rest))
 }
 
 // What a quote of a pattern begins: it has to have its name.

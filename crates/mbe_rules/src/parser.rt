@@ -2,7 +2,7 @@
 ghost use Rattle.std.specs.Prelude.{◌≡◌};
 ghost use Rattle.std.specs.Str.{bytes_eq};
 ghost use Rattle.std.proofs.Common.{rules};
-ghost use Rattle.mbe_rules.specs.Trees.{characters};
+ghost use Rattle.tt.specs.Glued.{characters};
 
 use symbols::Symbol;
 use tt_data::delimiter::Delimiter;

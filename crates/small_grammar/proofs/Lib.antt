@@ -1,5 +1,4 @@
 mod UnitLemmas
-mod TokenLemmas
 mod TakingLemmas
 mod ChoiceLemmas
 mod OperatorLemmas

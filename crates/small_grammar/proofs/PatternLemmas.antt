@@ -5,10 +5,11 @@ use Rattle.std.proofs.lemmas.Slice.Eq.{bytes_eq-Decides}
 use Rattle.std.specs.Option.{option_or}
 use Rattle.std.specs.Prelude.{option_and_then, unwrap_or}
 use Rattle.std.specs.Str.{bytes_eq}
-use Rattle.tt_data.specs.Forest.{Forest, empty, leaf, group, size, back}
+use Rattle.tt_data.specs.Forest.{Forest, empty, leaf, group, size}
 use Rattle.tt_data.specs.declared.leaf.Ident.{Ident}
 use Rattle.tt_data.specs.declared.leaf.Leaf.TheVariants as as_leaf
 use Rattle.tt_data.specs.declared.leaf.Punct.{Punct}
+use Rattle.tt.specs.Glued.{characters, glued_at}
 use Rattle.small_grammar.specs.declared.units.Operator.{Operator}
 use Rattle.small_grammar.specs.declared.units.Operator.TheVariants.{One, Two, Three}
 use Rattle.small_grammar.proofs.ChoiceLemmas.{skip, alone, both, or_same, same_otherwise, two_parts, four_parts}
@@ -18,9 +19,8 @@ use Rattle.small_grammar.specs.Expressions.{a_pattern, Expression, ◌⨾◌, �
 use Rattle.small_grammar.specs.Rules.{rule-is}
 use Rattle.small_grammar.specs.Signs.{reference_sign, binding_sign, bare_pattern}
 use Rattle.small_grammar.specs.SmallGrammar.{takes, pat, pat_rule, num, path, name, literal, word, generics, glued, paren, brace, bracket, group as any_group}
-use Rattle.small_grammar.specs.Text.{has_text, is_raw_name, ◌>>◌}
-use Rattle.small_grammar.specs.Tokens.{token_at, is_name, is_among, reserved, path_words, is_operator, operator_where, words}
-use Rattle.small_grammar.specs.Units.{operator_at, puncts_of}
+use Rattle.small_grammar.specs.Text.{has_text, is_raw_name, ◌>>=◌, ◌>>◌}
+use Rattle.small_grammar.specs.Tokens.{token_at, is_name, is_among, reserved, path_words, is_operator, operator_of, operator_where, passing, words}
 
 -- ---- the alternatives
 
@@ -131,18 +131,22 @@ module _ (p : Punct) (rest : Forest) where
       refl refl
       ∙ alone referent below_reference at_punct (below_none colons)
 
-  by_sign : (operator_at p rest ≡ One 38) ⊎ (operator_at p rest ≡ Two 38 38) → takes pat_rule at_punct ≡ takes referent at_punct
+  by_sign : (operator_of (characters (glued_at p rest).0) ≡ Some (One 38)) ⊎ (operator_of (characters (glued_at p rest).0) ≡ Some (Two 38 38)) → takes pat_rule at_punct ≡ takes referent at_punct
   unfolding token_at
   by_sign (inl one) = only_referent (rw one refl) (rw one refl) (rw one refl)
   by_sign (inr two) = only_referent (rw two refl) (rw two refl) (rw two refl)
 
-which_sign : (op : Operator) → is_operator "& &&" op ≡ true → (op ≡ One 38) ⊎ (op ≡ Two 38 38)
-which_sign (One a) e = inl (ap One (sym (eqb-true 38 a (or_false (nat_eq 38 a) e))))
-which_sign (Two a b) e =
+sign_of : (op : Operator) → is_operator "& &&" op ≡ true → (Some op ≡ Some (One 38)) ⊎ (Some op ≡ Some (Two 38 38))
+sign_of (One a) e = inl (ap (λ x. Some (One x)) (sym (eqb-true 38 a (or_false (nat_eq 38 a) e))))
+sign_of (Two a b) e =
     let first = eqb-true 38 a (left (nat_eq 38 a) (nat_eq 38 b) e) in
     let second = eqb-true 38 b (right (nat_eq 38 a) (nat_eq 38 b) e) in
-    inr (ap (λ x. Two x b) (sym first) ∙ ap (Two 38) (sym second))
-which_sign (Three a b c) e = absurd cc
+    inr (ap (λ x. Some (Two x b)) (sym first) ∙ ap (λ x. Some (Two 38 x)) (sym second))
+sign_of (Three a b c) e = absurd cc
+
+which_sign : (o : Option Operator) (g h : Forest) → passing (is_operator "& &&") (o >>= λ op. Some (op, g)) ≡ Some h → (o ≡ Some (One 38)) ⊎ (o ≡ Some (Two 38 38))
+which_sign None g h e = absurd cc
+which_sign (Some op) g h e = sign_of op (passes (is_operator "& &&" op) g h e)
 
 only_reference : (f h : Forest) → operator_where (is_operator "& &&") f ≡ Some h → takes pat_rule f ≡ takes referent f
 only_reference empty h e = absurd cc
@@ -150,7 +154,7 @@ only_reference (leaf (as_leaf.Ident i) rest) h e = absurd cc
 only_reference (leaf (as_leaf.Literal l) rest) h e = absurd cc
 only_reference (group d inner rest) h e = absurd cc
 only_reference (leaf (as_leaf.Punct p) rest) h e =
-    by_sign p rest (which_sign (operator_at p rest) (passes (is_operator "& &&" (operator_at p rest)) (back (puncts_of (operator_at p rest)) (leaf (as_leaf.Punct p) rest)) h e))
+    by_sign p rest (which_sign (operator_of (characters (glued_at p rest).0)) (glued_at p rest).1 h e)
 
 -- behind a reference's sign there is a pattern just where one stands behind the sign
 pub pattern_behind_reference : (f g : Forest) → takes reference_sign f ≡ Some g → takes pat f ≡ takes pat g

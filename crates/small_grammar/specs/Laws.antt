@@ -3,8 +3,8 @@
 use Rattle.std.proofs.Common.{◌≡◌, ◌≢◌, ℕ, suc, zero, ◌+◌, ◌-◌, ◌≤◌, Bool, true, false, not, ◌&&◌, List, [], ◌∷◌, length, refl, sym, ap, ◌∙◌, arith, Option, Some, None, length-append}
 use Rattle.std.proofs.lemmas.List.{length-map}
 use Rattle.std.specs.Prelude.{option_map, option_and_then, unwrap_or, nat_eq}
-use Rattle.tt_data.proofs.ForestLemmas.{walk-joined, size-map_spans, back-map_spans, walk-map_spans}
-use Rattle.tt_data.specs.Forest.{Forest, empty, leaf, group, joined, size, back, map_spans, shape}
+use Rattle.tt_data.proofs.ForestLemmas.{walk-joined, size-map_spans, walk-map_spans}
+use Rattle.tt_data.specs.Forest.{Forest, empty, leaf, group, joined, size, map_spans, shape}
 use Rattle.tt_data.specs.Walk.{walk, step_with, closes}
 use Rattle.tt_data.specs.Spans.{no_span}
 use Rattle.tt_data.specs.declared.delimiter.DelimiterKind.{DelimiterKind}
@@ -13,13 +13,14 @@ use Rattle.tt_data.specs.declared.leaf.Leaf.TheVariants as as_leaf
 use Rattle.tt_data.specs.declared.leaf.LitKind.{LitKind}
 use Rattle.tt_data.specs.declared.leaf.Punct.{Punct}
 use Rattle.tt_data.specs.declared.span.Span.{Span}
+use Rattle.tt.proofs.GluedLemmas.{glued_with, first_glued-map, characters-map}
+use Rattle.tt.specs.Glued.{is_alone, characters, first_glued}
 use Rattle.fragment_grammar.specs.declared.fragment.Prefix.{Prefix}
 use Rattle.fragment_grammar.specs.declared.fragment.PrefixEntryPoint.{PrefixEntryPoint}
 use Rattle.fragment_grammar.specs.declared.fragment.PrefixEntryPoint.TheVariants.{Vis, Block, Stmt, Pat, PatTop, Ty, Expr, Path, Item, MetaItem}
 use Rattle.small_grammar.specs.declared.units.Operator.{Operator}
-use Rattle.small_grammar.specs.Text.{is_alone, is_empty, ◌>>◌}
-use Rattle.small_grammar.specs.Units.{operator_at, puncts_of}
-use Rattle.small_grammar.specs.Tokens.{ident_where, literal_where, group_where, is_restriction, puncts_in_turn, operator_where, Token, a_word, a_name, an_identifier, a_literal, a_number, a_group, a_restriction, puncts, operator, token_at}
+use Rattle.small_grammar.specs.Text.{is_empty, ◌>>=◌, ◌>>◌}
+use Rattle.small_grammar.specs.Tokens.{ident_where, literal_where, group_where, is_restriction, puncts_in_turn, operator_of, operator_before, operator_where, passing, Token, a_word, a_name, an_identifier, a_literal, a_number, a_group, a_restriction, puncts, operator, token_at}
 use Rattle.small_grammar.specs.Expressions.{Name, Expression, never, token, ◌⨾◌, ◌∣◌, many, maybe, rule, Taking, otherwise, after_rounds, taken}
 use Rattle.small_grammar.specs.Passing.{Passed, least}
 use Rattle.small_grammar.specs.Rules.{takes-least}
@@ -90,27 +91,20 @@ module _ (m : Span → Span) where
   puncts-moved (c ∷ b ∷ cs) (leaf (as_leaf.Literal l) rest) = refl
   puncts-moved (c ∷ b ∷ cs) (group d inner rest) = refl
 
-  operator_at-moved : (p : Punct) (f : Forest) → operator_at (record p { span = m p.span }) (map_spans m f) ≡ operator_at p f
-  operator_at-moved p empty = refl
-  operator_at-moved p (leaf (as_leaf.Ident i) rest) = refl
-  operator_at-moved p (leaf (as_leaf.Literal l) rest) = refl
-  operator_at-moved p (group d inner rest) = refl
-  operator_at-moved p (leaf (as_leaf.Punct q) empty) = refl
-  operator_at-moved p (leaf (as_leaf.Punct q) (leaf (as_leaf.Ident i) rest)) = refl
-  operator_at-moved p (leaf (as_leaf.Punct q) (leaf (as_leaf.Literal i) rest)) = refl
-  operator_at-moved p (leaf (as_leaf.Punct q) (leaf (as_leaf.Punct r) rest)) = refl
-  operator_at-moved p (leaf (as_leaf.Punct q) (group d inner rest)) = refl
+  chosen-moved : (passes : Operator → Bool) (o : Option Operator) (g : Forest) →
+      passing passes (o >>= λ op. Some (op, map_spans m g)) ≡ option_map (map_spans m) (passing passes (o >>= λ op. Some (op, g)))
+  chosen-moved passes None g = refl
+  chosen-moved passes (Some op) g = passes_moved (passes op) g
+
+  glued-moved : (passes : Operator → Bool) (o : Option (List Punct × Forest)) →
+      passing passes (option_map (glued_with m) o >>= operator_before) ≡ option_map (map_spans m) (passing passes (o >>= operator_before))
+  glued-moved passes None = refl
+  glued-moved passes (Some glued) =
+      ap (λ cs. passing passes (operator_of cs >>= λ op. Some (op, map_spans m glued.1))) (characters-map m glued.0)
+      ∙ chosen-moved passes (operator_of (characters glued.0)) glued.1
 
   operator-moved : (passes : Operator → Bool) → Moves (operator_where passes)
-  operator-moved passes empty = refl
-  operator-moved passes (leaf (as_leaf.Ident i) rest) = refl
-  operator-moved passes (leaf (as_leaf.Literal l) rest) = refl
-  operator-moved passes (group d inner rest) = refl
-  operator-moved passes (leaf (as_leaf.Punct p) rest) =
-      let op : Operator = operator_at p rest in
-      rw (operator_at-moved p rest)
-      (ap (λ g. passes op >> Some g) (back-map_spans m (puncts_of op) (leaf (as_leaf.Punct p) rest))
-      ∙ passes_moved (passes op) (back (puncts_of op) (leaf (as_leaf.Punct p) rest)))
+  operator-moved passes f = ap (λ o. passing passes (o >>= operator_before)) (first_glued-map m f) ∙ glued-moved passes (first_glued f)
 
   token-moved : (t : Token) → Moves (token_at t)
   unfolding token_at

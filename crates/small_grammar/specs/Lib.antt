@@ -1,6 +1,5 @@
 -- what the contracts rest on, in reading order
 pub mod Text
-pub mod Units
 pub mod Tokens
 pub mod Expressions
 pub mod SmallGrammar

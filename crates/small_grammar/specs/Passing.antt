@@ -1,19 +1,20 @@
 -- What an expression takes are trees at the beginning of the list, and at least so many tokens of them.
 use Rattle.std.proofs.Common.{◌≡◌, ℕ, suc, zero, ◌+◌, ◌≤◌, min, Bool, true, false, not, ◌&&◌, List, [], ◌∷◌, refl, sym, ap, ◌∙◌, subst, arith, Option, Some, None}
 use Rattle.std.specs.Prelude.{option_map, option_and_then, unwrap_or, nat_eq}
-use Rattle.tt_data.specs.Forest.{Forest, empty, leaf, group, joined, size, front, back}
-use Rattle.tt_data.proofs.ForestLemmas.{joined_assoc, size-joined, joined-front-back}
+use Rattle.tt_data.specs.Forest.{Forest, empty, leaf, group, joined, size}
+use Rattle.tt_data.proofs.ForestLemmas.{joined_assoc, size-joined}
 use Rattle.tt_data.specs.declared.delimiter.Delimiter.{Delimiter}
 use Rattle.tt_data.specs.declared.delimiter.DelimiterKind.{DelimiterKind}
 use Rattle.tt_data.specs.declared.leaf.Ident.{Ident}
 use Rattle.tt_data.specs.declared.leaf.Leaf.{Leaf}
 use Rattle.tt_data.specs.declared.leaf.Leaf.TheVariants as as_leaf
 use Rattle.tt_data.specs.declared.leaf.LitKind.{LitKind}
+use Rattle.tt_data.specs.declared.leaf.Punct.{Punct}
+use Rattle.tt.proofs.GluedLemmas.{punct_trees, size-puncts, glued-in_front, glued-one}
+use Rattle.tt.specs.Glued.{is_alone, characters, glued_at}
 use Rattle.small_grammar.specs.declared.units.Operator.{Operator}
-use Rattle.small_grammar.specs.declared.units.Operator.TheVariants.{One, Two, Three}
-use Rattle.small_grammar.specs.Text.{is_alone, ◌>>◌}
-use Rattle.small_grammar.specs.Units.{operator_at, puncts_of}
-use Rattle.small_grammar.specs.Tokens.{ident_where, literal_where, group_where, puncts_in_turn, operator_where, Token, a_word, a_name, an_identifier, a_literal, a_number, a_group, a_restriction, puncts, operator, token_at}
+use Rattle.small_grammar.specs.Text.{◌>>=◌, ◌>>◌}
+use Rattle.small_grammar.specs.Tokens.{ident_where, literal_where, group_where, puncts_in_turn, operator_of, operator_where, passing, Token, a_word, a_name, an_identifier, a_literal, a_number, a_group, a_restriction, puncts, operator, token_at}
 use Rattle.small_grammar.specs.Expressions.{Name, Expression, never, token, ◌⨾◌, ◌∣◌, many, maybe, rule, Taking, one_after_other, otherwise, first_that_fits, once_where_it_fits, after_rounds, as_often_as_it_fits, taken}
 
 -- the second list is what is left of the first behind at least n tokens
@@ -90,16 +91,21 @@ puncts-take (c ∷ b ∷ cs) (leaf (as_leaf.Ident i) rest) g e = absurd cc
 puncts-take (c ∷ b ∷ cs) (leaf (as_leaf.Literal i) rest) g e = absurd cc
 puncts-take (c ∷ b ∷ cs) (group d inner rest) g e = absurd cc
 
-behind_puncts : (op : Operator) (l : Leaf) (rest g : Forest) → back (puncts_of op) (leaf l rest) ≡ g → Passed 1 (leaf l rest) g
-behind_puncts (One a) l rest g e = (leaf l (front 0 rest), ap (leaf l) (sym (joined-front-back 0 rest)) ∙ ap (λ h. leaf l (joined (front 0 rest) h)) e, omega arith)
-behind_puncts (Two a b) l rest g e = (leaf l (front 1 rest), ap (leaf l) (sym (joined-front-back 1 rest)) ∙ ap (λ h. leaf l (joined (front 1 rest) h)) e, omega arith)
-behind_puncts (Three a b c) l rest g e = (leaf l (front 2 rest), ap (leaf l) (sym (joined-front-back 2 rest)) ∙ ap (λ h. leaf l (joined (front 2 rest) h)) e, omega arith)
+behind_glued : (p : Punct) (rest : Forest) → Passed 1 (leaf (as_leaf.Punct p) rest) (glued_at p rest).1
+behind_glued p rest =
+    let one = glued-one p rest in
+    let all = size-puncts (glued_at p rest).0 in
+    (punct_trees (glued_at p rest).0, sym (glued-in_front p rest), omega (arith, one, all))
+
+behind_operator : (passes : Operator → Bool) (f rest g : Forest) (o : Option Operator) → Passed 1 f rest →
+    passing passes (o >>= λ op. Some (op, rest)) ≡ Some g → Passed 1 f g
+behind_operator passes f rest g None passed e = absurd cc
+behind_operator passes f rest g (Some op) passed e = if_passes (passes op) f rest g (λ same. subst (Passed 1 f) same passed) e
 
 operator-takes : (passes : Operator → Bool) → TakesAtLeast 1 (operator_where passes)
 operator-takes passes empty g e = absurd cc
 operator-takes passes (leaf (as_leaf.Punct p) rest) g e =
-    if_passes (passes (operator_at p rest)) (leaf (as_leaf.Punct p) rest) (back (puncts_of (operator_at p rest)) (leaf (as_leaf.Punct p) rest)) g
-    (behind_puncts (operator_at p rest) (as_leaf.Punct p) rest g) e
+    behind_operator passes (leaf (as_leaf.Punct p) rest) (glued_at p rest).1 g (operator_of (characters (glued_at p rest).0)) (behind_glued p rest) e
 operator-takes passes (leaf (as_leaf.Ident i) rest) g e = absurd cc
 operator-takes passes (leaf (as_leaf.Literal i) rest) g e = absurd cc
 operator-takes passes (group d inner rest) g e = absurd cc

@@ -5,8 +5,6 @@ use Prim.Native.String.{String}
 use Rattle.tt_data.specs.Forest.{Forest, empty}
 use Rattle.tt_data.specs.declared.leaf.Ident.{Ident}
 use Rattle.tt_data.specs.declared.leaf.IdentIsRaw.TheVariants as is_raw
-use Rattle.tt_data.specs.declared.leaf.Spacing.{Spacing}
-use Rattle.tt_data.specs.declared.leaf.Spacing.TheVariants.{Alone}
 use Rattle.tt_data.specs.declared.delimiter.DelimiterKind.{DelimiterKind}
 use Rattle.tt_data.specs.declared.delimiter.DelimiterKind.TheVariants.{Parenthesis, Brace, Bracket, Invisible}
 
@@ -36,11 +34,6 @@ same_kind Brace Brace = true
 same_kind Bracket Bracket = true
 same_kind Invisible Invisible = true
 same_kind _ _ = false
-
--- a punct behind which none stands directly
-abbrev pub is_alone : Spacing → Bool
-is_alone Alone = true
-is_alone _ = false
 
 -- a name written with `r#`
 abbrev pub is_raw_name : Ident → Bool

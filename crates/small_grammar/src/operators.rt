@@ -1,18 +1,10 @@
 // Operators whose puncts are glued, several at once.
-ghost use Rattle.std.specs.Prelude.{◌≡◌, ◌-◌};
+ghost use Rattle.std.specs.Prelude.{◌≡◌};
 ghost use Rattle.small_grammar.specs.SmallGrammar.{takes, glued, binop};
-ghost use Rattle.small_grammar.specs.Tokens.{first_glued, is_operator};
+ghost use Rattle.small_grammar.specs.Tokens.{is_operator};
 
-use crate::units::{Operator, operator_at};
+use crate::units::{Operator, first_operator};
 use tt::TtIter;
-
-// The operator at the beginning, and the trees behind it.
-fn first_glued<'a>(trees: &TtIter<'a>) -> Option<(Operator, TtIter<'a>)>
-    ensures { result ≡ first_glued trees.now }
-{
-    let (first, after) = trees.first_punct()?;
-    Some(operator_at(first, &after))
-}
 
 fn is_sign(operator: Operator) -> bool
     ensures { result ≡ is_operator "- ! *" operator }
@@ -58,7 +50,7 @@ fn is_binop(operator: Operator) -> bool
 pub(crate) fn sign<'a>(trees: &TtIter<'a>) -> Option<TtIter<'a>>
     ensures { result ≡ takes (glued "- ! *") trees.now }
 {
-    let (operator, rest) = first_glued(trees)?;
+    let (operator, rest) = first_operator(trees)?;
     if is_sign(operator) { Some(rest) } else { None }
 }
 
@@ -66,7 +58,7 @@ pub(crate) fn sign<'a>(trees: &TtIter<'a>) -> Option<TtIter<'a>>
 pub(crate) fn reference<'a>(trees: &TtIter<'a>) -> Option<TtIter<'a>>
     ensures { result ≡ takes (glued "& &&") trees.now }
 {
-    let (operator, rest) = first_glued(trees)?;
+    let (operator, rest) = first_operator(trees)?;
     if is_reference(operator) {
         Some(rest)
     } else {
@@ -78,7 +70,7 @@ pub(crate) fn reference<'a>(trees: &TtIter<'a>) -> Option<TtIter<'a>>
 pub(crate) fn range<'a>(trees: &TtIter<'a>) -> Option<TtIter<'a>>
     ensures { result ≡ takes (glued "..= ..") trees.now }
 {
-    let (operator, rest) = first_glued(trees)?;
+    let (operator, rest) = first_operator(trees)?;
     if is_range(operator) { Some(rest) } else { None }
 }
 
@@ -86,6 +78,6 @@ pub(crate) fn range<'a>(trees: &TtIter<'a>) -> Option<TtIter<'a>>
 pub(crate) fn binop<'a>(trees: &TtIter<'a>) -> Option<TtIter<'a>>
     ensures { result ≡ takes binop trees.now }
 {
-    let (operator, rest) = first_glued(trees)?;
+    let (operator, rest) = first_operator(trees)?;
     if is_binop(operator) { Some(rest) } else { None }
 }

@@ -3,7 +3,7 @@ ghost use Rattle.std.specs.Prelude.{◌≡◌, [], ◌∷◌};
 ghost use Rattle.small_grammar.specs.SmallGrammar.{takes, group, lifetime};
 ghost use Rattle.small_grammar.specs.Tokens.{token_at, a_word, an_identifier, a_literal, a_number, a_group, puncts, operator, same_operator};
 
-use crate::units::{Operator, operator_at};
+use crate::units::{Operator, first_operator};
 use tt::TtIter;
 use tt_data::delimiter::DelimiterKind;
 use tt_data::leaf::{IdentIsRaw, LitKind, Spacing};
@@ -122,8 +122,7 @@ fn same_operator(first: Operator, second: Operator) -> bool
 pub(crate) fn glued<'a>(trees: &TtIter<'a>, wanted: Operator) -> Option<TtIter<'a>>
     ensures { result ≡ token_at (operator wanted) trees.now }
 {
-    let (first, after) = trees.first_punct()?;
-    let (found, rest) = operator_at(first, &after);
+    let (found, rest) = first_operator(trees)?;
     if same_operator(wanted, found) {
         Some(rest)
     } else {

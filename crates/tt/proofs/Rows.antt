@@ -1,5 +1,5 @@
 -- Rows worked out by hand, by computation: `a(,)b` under construction, and tree by tree.
-use Rattle.std.proofs.Common.{◌≡◌, ℕ, ◌+◌, List, [], ◌∷◌, refl, codes, length, option_map, Some, None, true, false}
+use Rattle.std.proofs.Common.{◌≡◌, ℕ, ◌+◌, List, [], ◌∷◌, refl, codes, Some, None, true, false}
 use Rattle.tt_data.specs.declared.span.Span.{Span}
 use Rattle.tt_data.specs.declared.span.SyntaxContext.TheVariants.{Written}
 use Rattle.tt_data.specs.declared.delimiter.Delimiter.{Delimiter}
@@ -21,7 +21,7 @@ use Rattle.tt.specs.Records.{alone_token}
 use Rattle.tt.specs.Building.{Building, pushed, opened, closed, extended, leaves, last_alone, Reached, itself, by_open, innermost_group, count_of, most_tokens, point_of, list_in, cut_back, unwrapped_at}
 use Rattle.tt.specs.Elements.{elements, first_element, first_place, first_alone, after_first, last_place, IsNext}
 use Rattle.tt.specs.FirstTrees.{first_subtree, first_name, first_literal_leaf, is_among, behind_punct}
-use Rattle.tt.specs.Glued.{first_glued}
+use Rattle.tt.specs.Glued.{first_glued, glued_count}
 use Rattle.tt.specs.Groups.{stripped}
 use Rattle.tt.specs.CursorTokens.{place_of}
 use Rattle.tt.specs.Places.{Around, beginning, moved, IsEnd, first_token, innermost_head, two_leaves, steps_before, steps_after}
@@ -485,13 +485,13 @@ abbrev in_front : ℕ → Spacing → Forest → Forest
 in_front c spacing f = leaf (as_leaf.Punct (record { char = c; spacing = spacing; span = at 0 })) f
 
 -- `...`, `..=`, `<<=` and `>>=` are operators of three, where the second punct is joint
-three_dots_row : option_map (λ (g : List Punct × Forest). length g.0) (first_glued (in_front 46 Joint (in_front 46 Joint (in_front 46 Alone empty)))) ≡ Some 3
+three_dots_row : glued_count (in_front 46 Joint (in_front 46 Joint (in_front 46 Alone empty))) ≡ 3
 three_dots_row = refl
 
-hidden_row : option_map (λ (g : List Punct × Forest). length g.0) (first_glued (in_front 46 Joint (in_front 46 JointHidden (in_front 46 Alone empty)))) ≡ Some 2
+hidden_row : glued_count (in_front 46 Joint (in_front 46 JointHidden (in_front 46 Alone empty))) ≡ 2
 hidden_row = refl
 
-shift_row : option_map (λ (g : List Punct × Forest). length g.0) (first_glued (in_front 62 JointHidden (in_front 62 Joint (in_front 61 Joint (in_front 61 Alone empty))))) ≡ Some 3
+shift_row : glued_count (in_front 62 JointHidden (in_front 62 Joint (in_front 61 Joint (in_front 61 Alone empty)))) ≡ 3
 shift_row = refl
 
 -- `->` is one of two, `=>` too, and what is behind them is left
@@ -500,11 +500,14 @@ arrow_row : first_glued (in_front 45 Joint (in_front 62 Alone (in_front 59 Alone
 arrow_row = refl
 
 -- puncts that stand apart, or make no operator, come one by one
-apart_row : option_map (λ (g : List Punct × Forest). length g.0) (first_glued (in_front 61 Alone (in_front 61 Alone empty))) ≡ Some 1
+apart_row : glued_count (in_front 61 Alone (in_front 61 Alone empty)) ≡ 1
 apart_row = refl
 
-unknown_row : option_map (λ (g : List Punct × Forest). length g.0) (first_glued (in_front 36 Joint (in_front 40 Alone empty))) ≡ Some 1
+unknown_row : glued_count (in_front 36 Joint (in_front 40 Alone empty)) ≡ 1
 unknown_row = refl
+
+name_first_row : glued_count (leaf (name (codes "a") 0) (in_front 46 Joint empty)) ≡ 0
+name_first_row = refl
 
 -- a name but `_`; a literal, as `true` is
 underscore_row : first_name (leaf (name (codes "_") 0) empty) ≡ None

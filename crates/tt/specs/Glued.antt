@@ -1,5 +1,5 @@
 -- Puncts that are glued to one operator. (The Rust Reference, "Tokens": punctuation.)
-use Rattle.std.specs.Prelude.{ℕ, Bool, true, false, ◌&&◌, ◌||◌, not, nat_eq, codes, if◌then◌else◌, List, [], ◌∷◌, Option, Some, None}
+use Rattle.std.specs.Prelude.{ℕ, Bool, true, false, ◌&&◌, ◌||◌, not, nat_eq, codes, if◌then◌else◌, List, [], ◌∷◌, length, Option, Some, None}
 use Rattle.std.specs.List.{list_any}
 use Prim.Native.String.{String}
 use Rattle.tt_data.specs.Forest.{Forest, leaf}
@@ -69,10 +69,16 @@ abbrev pub first_glued : Forest → Option (List Punct × Forest)
 first_glued (leaf (as_leaf.Punct p) rest) = Some (glued_at p rest)
 first_glued _ = None
 
+-- how many puncts are glued, where some are
+abbrev pub punct_count : Option (List Punct × Forest) → ℕ
+punct_count None = 0
+punct_count (Some glued) = length glued.0
+
 -- how many puncts at the head of a list are glued to one: none where it begins with another tree
 abbrev pub glued_count : Forest → ℕ
-glued_count (leaf (as_leaf.Punct p) (leaf (as_leaf.Punct q) (leaf (as_leaf.Punct r) rest))) =
-    if is_triple p q r then 3 else if is_pair p q then 2 else 1
-glued_count (leaf (as_leaf.Punct p) (leaf (as_leaf.Punct q) rest)) = if is_pair p q then 2 else 1
-glued_count (leaf (as_leaf.Punct p) rest) = 1
-glued_count _ = 0
+glued_count f = punct_count (first_glued f)
+
+-- their characters
+abbrev pub characters : List Punct → List ℕ
+characters [] = []
+characters (p ∷ ps) = p.char ∷ characters ps

@@ -4,7 +4,7 @@
 //! nothing, it answers `Err(())`, and the walk stays where it was.
 ghost use Rattle.std.specs.Prelude.{◌≡◌, nat_eq, Some, None, IfOk, OnOk, OnErr};
 ghost use Rattle.tt.specs.FirstTrees.{behind_punct, first_ident, first_leaf, first_literal_leaf, first_name, first_punct, first_subtree, is_among, is_literal};
-ghost use Rattle.tt.specs.Glued.{first_glued, glued_at, is_pair, is_three, is_triple, is_two};
+ghost use Rattle.tt.specs.Glued.{first_glued, glued_at, glued_count, is_pair, is_three, is_triple, is_two};
 
 use crate::iter::TtIter;
 use arrayvec::ArrayVec;
@@ -54,32 +54,6 @@ fn is_triple(first: Punct, second: Punct, third: Punct) -> bool
     first.spacing != Spacing::Alone
         && second.spacing == Spacing::Joint
         && is_three(first.char, second.char, third.char)
-}
-
-// The longest operator that a punct begins before these trees, and the trees behind it.
-fn glued_at<'a>(
-    first: Punct,
-    rest: TtIter<'a>,
-) -> (ArrayVec<Punct, MAX_GLUED_PUNCT_LEN>, TtIter<'a>)
-    ensures { (result.0.items, result.1) ≡ glued_at first rest.entry }
-{
-    let mut glued = ArrayVec::new();
-    glued.push(first);
-    let Some((second, behind_two)) = rest.first_punct() else {
-        return (glued, rest);
-    };
-    if let Some((third, behind_three)) = behind_two.first_punct() {
-        if is_triple(first, second, third) {
-            glued.push(second);
-            glued.push(third);
-            return (glued, behind_three);
-        }
-    }
-    if is_pair(first, second) {
-        glued.push(second);
-        return (glued, behind_two);
-    }
-    (glued, rest)
 }
 
 // Whether a character is one of these.
@@ -221,6 +195,40 @@ impl<'a> TtIter<'a> {
         Ok(punct)
     }
 
+    /// The longest operator that a punct begins which stood right before these trees, one to three puncts,
+    /// and the trees behind it. What is glued is told at `expect_glued_punct`.
+    pub fn glued_to(self, first: Punct) -> (ArrayVec<Punct, MAX_GLUED_PUNCT_LEN>, TtIter<'a>)
+        ensures { (result.0.items, result.1) ≡ glued_at first self.entry }
+    {
+        let mut glued = ArrayVec::new();
+        glued.push(first);
+        let Some((second, behind_two)) = self.first_punct() else {
+            return (glued, self);
+        };
+        if let Some((third, behind_three)) = behind_two.first_punct() {
+            if is_triple(first, second, third) {
+                glued.push(second);
+                glued.push(third);
+                return (glued, behind_three);
+            }
+        }
+        if is_pair(first, second) {
+            glued.push(second);
+            return (glued, behind_two);
+        }
+        (glued, self)
+    }
+
+    /// How many puncts come next that are glued to one operator: none where another tree comes first.
+    pub fn glued_count(&self) -> usize
+        ensures { result ≡ glued_count self.now }
+    {
+        match self.first_punct() {
+            None => 0,
+            Some((first, rest)) => rest.glued_to(first).0.len(),
+        }
+    }
+
     /// Takes the puncts that are glued to the longest operator, one to three of them. All but the last
     /// stand right before another token, and of three the second stands right before the third.
     pub fn expect_glued_punct(&mut self) -> Result<ArrayVec<Punct, MAX_GLUED_PUNCT_LEN>, ()>
@@ -230,7 +238,7 @@ impl<'a> TtIter<'a> {
         let Some((first, rest)) = self.first_punct() else {
             return Err(());
         };
-        let (glued, rest) = glued_at(first, rest);
+        let (glued, rest) = rest.glued_to(first);
         *self = rest;
         Ok(glued)
     }
