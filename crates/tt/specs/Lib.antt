@@ -2,6 +2,7 @@
 pub mod Records
 pub mod Views
 pub mod Elements
+pub mod Savepoints
 pub mod FirstTrees
 pub mod Glued
 pub mod Tops

@@ -154,7 +154,7 @@ impl<'a> Cursor<'a> {
     }
 
     // The trees after the place in the innermost list.
-    fn after(&self) -> TokenTreesView<'a>
+    pub(crate) fn after(&self) -> TokenTreesView<'a>
         ensures { forest result ≡ self.now.after }
     {
         let (_, ahead) = self.tokens.split_at(self.at);
