@@ -7,6 +7,7 @@ pub mod ExpressionLemmas
 pub mod EditionLemmas
 pub mod HeadLemmas
 pub mod ItemLemmas
+pub mod ListLemmas
 pub mod ShapeLemmas
 pub mod DefinitionLemmas
 pub mod Written
