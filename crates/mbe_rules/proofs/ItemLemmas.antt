@@ -1,7 +1,5 @@
 -- The items of a list of trees, one after another.
-use Rattle.std.proofs.Common.{◌≡◌, refl, sym, ap, ◌∙◌, ℕ, zero, suc, ◌+◌, ◌≤◌, Bool, true, false, List, [], ◌∷◌, ◌++◌, Option, Some, None, option_map, Ok, Err, if◌then◌else◌, arith}
-use Rattle.std.specs.declared.vec.Vec.{Vec}
-use Rattle.std.specs.declared.alloc.Global.{Global}
+use Rattle.std.proofs.Common.{◌≡◌, refl, sym, ap, subst, ◌∙◌, ℕ, zero, suc, ◌+◌, ◌<◌, ◌≤◌, Bool, true, false, List, [], ◌∷◌, ◌++◌, Option, Some, None, Ok, Err, if◌then◌else◌, arith}
 use Rattle.tt_data.specs.Forest.{Forest, empty, leaf, group, size}
 use Rattle.tt_data.specs.declared.delimiter.Delimiter.{Delimiter}
 use Rattle.tt_data.specs.declared.edition.Edition.{Edition}
@@ -14,15 +12,12 @@ use Rattle.mbe_rules.specs.Ops as ops
 use Rattle.mbe_rules.specs.Ops.{put_op, separator_of}
 use Rattle.mbe_rules.specs.Parsed.{Parsed, ◌>>=◌, or_fault}
 use Rattle.mbe_rules.specs.Patterns.{Mode, Head, trees_of, item_of, head_at, with_item, with_group, with_head, with_repetition, is_repetition, items_after, items_of}
-use Rattle.mbe_rules.specs.Reading.{head_read, joined_items, behind, continued, Shortens, repetition_parts, taken_from}
+use Rattle.mbe_rules.specs.Reading.{head_read, joined_items, behind, continued, repetition_parts, taken_from}
 use Rattle.mbe_rules.specs.Repetitions.{Between, trees_between, separator_in, between_and_operator, repeated}
 use Rattle.mbe_rules.specs.Trees.{past, signs}
-use Rattle.mbe_rules.specs.declared.errors.ParseError.{ParseError}
 use Rattle.mbe_rules.specs.declared.errors.ParseError.TheVariants.{InvalidRepeat}
-use Rattle.mbe_rules.specs.declared.parser.Op.{Op, Repeat, Subtree, Repeat', Subtree'}
+use Rattle.mbe_rules.specs.declared.parser.Op.{Op, Repeat', Subtree'}
 use Rattle.mbe_rules.specs.declared.parser.RepeatKind.{RepeatKind}
-use Rattle.mbe_rules.specs.declared.parser.Separator.{Separator}
-use Rattle.mbe_rules.proofs.OpsLemmas.{put-Repeat, put-Subtree}
 
 joined_items-done : (is : Items) → joined_items is done ≡ is
 joined_items-done done = refl
@@ -87,13 +82,13 @@ module _ (edition : SyntaxContext → Edition) (m : Mode) where
   with_group-behind d is (Ok js) = refl
   with_group-behind d is (Err f) = refl
 
-  pub group-first : (d : Delimiter) (inner rest : Forest) (is : Items) → items_of edition m inner ≡ Ok is →
-      items_of edition m (group d inner rest) ≡ behind (group_of d is done) (items_of edition m rest)
-  group-first d inner rest is h = rw h (with_group-behind d is (items_of edition m rest))
-
-  pub group-fault : (d : Delimiter) (inner rest : Forest) (f : ParseError) → items_of edition m inner ≡ Err f →
-      items_of edition m (group d inner rest) ≡ Err f
-  group-fault d inner rest f h = rw h refl
+  pub group-read : (d : Delimiter) (inner rest : Forest) →
+      items_of edition m (group d inner rest) ≡ (items_of edition m inner >>= λ is. behind (group_of d is done) (items_of edition m rest))
+  group-read d inner rest = go (items_of edition m inner)
+    where
+      go : (r : Parsed Items) → with_group d r (items_of edition m rest) ≡ (r >>= λ is. behind (group_of d is done) (items_of edition m rest))
+      go (Ok is) = with_group-behind d is (items_of edition m rest)
+      go (Err e) = refl
 
   -- ---- a punct that begins no repetition
 
@@ -124,9 +119,13 @@ module _ (edition : SyntaxContext → Edition) (m : Mode) where
       ap (before_group p d inner rest) (no-parts (is_repetition p d) (inner, rest) h)
       ∙ head-continued p (group d inner rest) (head_at edition m p (group d inner rest))
 
-  pub head-shortens : (p : Punct) (f : Forest) (h : Parsed Head) → Shortens f (head_read p f h)
-  head-shortens p f (Ok x) = past-size (trees_of x) f
-  head-shortens p f (Err x) = tt
+  -- it leaves no more trees than there are after the punct
+  pub head-size : (p : Punct) (f : Forest) (h : Parsed Head) (r : Items × Forest) → Ok r ≡ head_read p f h → size r.1 ≤ size f
+  head-size p f (Ok x) r e =
+      let k : r.1 ≡ past (trees_of x) f = cc in
+      let i = past-size (trees_of x) f in
+      rw k i
+  head-size p f (Err x) r e = absurd (cc e)
 
   -- ---- a repetition
 
@@ -160,9 +159,6 @@ module _ (edition : SyntaxContext → Edition) (m : Mode) where
   repetition-size : (p : Punct) (f inner rest : Forest) → repetition_parts p f ≡ Some (inner, rest) → size f ≡ suc (size inner + size rest)
   repetition-size p f inner rest h = let q = parts p f inner rest h in ap size q.is ∙ omega arith
 
-  pub inner-shorter : (p : Punct) (f inner rest : Forest) → repetition_parts p f ≡ Some (inner, rest) → suc (size inner + size rest) ≤ size f
-  inner-shorter p f inner rest h = let q = repetition-size p f inner rest h in omega (arith, q)
-
   pub no-operator : (p : Punct) (f inner rest : Forest) → repetition_parts p f ≡ Some (inner, rest) →
       taken_from rest (between_and_operator (signs rest)) ≡ None → items_of edition m (leaf (as_leaf.Punct p) f) ≡ Err InvalidRepeat
   no-operator p f inner rest h none = repetition-first p f inner rest h ∙ go (between_and_operator (signs rest)) none
@@ -172,80 +168,38 @@ module _ (edition : SyntaxContext → Edition) (m : Mode) where
       go None k = refl
       go (Some b) k = absurd (cc k)
 
-  pub inner-fault : (p : Punct) (f inner rest : Forest) (x : Option spec.Separator × RepeatKind × Forest) (g : ParseError) → repetition_parts p f ≡ Some (inner, rest) →
-      taken_from rest (between_and_operator (signs rest)) ≡ Some x → items_of edition m inner ≡ Err g →
-      items_of edition m (leaf (as_leaf.Punct p) f) ≡ Err g
-  inner-fault p f inner rest x g h some fault = repetition-first p f inner rest h ∙ rw fault (go (between_and_operator (signs rest)) some)
+  -- after a repetition's parenthesis: what is inside, before what follows the operator
+  after-operator : (f : Forest) (r : Parsed Items) (b : Between × RepeatKind) →
+      with_repetition f r (λ n. items_after edition m n f) b
+      ≡ (r >>= λ is. behind (repetition is (separator_in b.0 f) b.1 done) (items_of edition m (past (trees_between b.0 + 1) f)))
+  after-operator f (Err g) b = refl
+  after-operator f (Ok is) b =
+      ap (λ x. x >>= λ js. Ok (repetition is (separator_in b.0 f) b.1 js)) (skipped (trees_between b.0 + 1) f)
+      ∙ go (items_of edition m (past (trees_between b.0 + 1) f))
     where
-      go : (o : Option (Between × RepeatKind)) → taken_from rest o ≡ Some x →
-          (or_fault o (Err InvalidRepeat) >>= with_repetition rest (Err g) (λ n. items_after edition m n rest)) ≡ Err g
-      go None k = absurd (cc k)
-      go (Some b) k = refl
+      go : (r : Parsed Items) → (r >>= λ js. Ok (repetition is (separator_in b.0 f) b.1 js)) ≡ behind (repetition is (separator_in b.0 f) b.1 done) r
+      go (Ok js) = refl
+      go (Err g) = refl
 
-  then-behind : (is : Items) (sep : Option spec.Separator) (op : RepeatKind) (r : Parsed Items) →
-      (r >>= λ j. Ok (repetition is sep op j)) ≡ behind (repetition is sep op done) r
-  then-behind is sep op (Ok js) = refl
-  then-behind is sep op (Err f) = refl
-
-  pub repetition-read : (p : Punct) (f inner rest : Forest) (x : Option spec.Separator × RepeatKind × Forest) (is : Items) → repetition_parts p f ≡ Some (inner, rest) →
-      taken_from rest (between_and_operator (signs rest)) ≡ Some x → items_of edition m inner ≡ Ok is →
-      (items_of edition m (leaf (as_leaf.Punct p) f) ≡ behind (repetition is x.0 x.1 done) (items_of edition m x.2)) × (size x.2 ≤ size f)
-  repetition-read p f inner rest x is h some good =
+  -- the items of a repetition inside, before those after its operator, and how many trees these are
+  pub repetition-read : (p : Punct) (f inner rest : Forest) (x : Option spec.Separator × RepeatKind × Forest) → repetition_parts p f ≡ Some (inner, rest) →
+      taken_from rest (between_and_operator (signs rest)) ≡ Some x →
+      (items_of edition m (leaf (as_leaf.Punct p) f) ≡ (items_of edition m inner >>= λ is. behind (repetition is x.0 x.1 done) (items_of edition m x.2)))
+      × (size inner + size x.2 < size f)
+  repetition-read p f inner rest x h some =
       let q = repetition-size p f inner rest h in
       let g = go (between_and_operator (signs rest)) some in
-      (repetition-first p f inner rest h ∙ rw good g.0, let k = g.1 in omega (arith, q, k))
+      (repetition-first p f inner rest h ∙ g.0, let k = g.1 in omega (arith, q, k))
     where
       go : (o : Option (Between × RepeatKind)) → taken_from rest o ≡ Some x →
-          ((or_fault o (Err InvalidRepeat) >>= with_repetition rest (Ok is) (λ n. items_after edition m n rest)) ≡ behind (repetition is x.0 x.1 done) (items_of edition m x.2))
+          ((or_fault o (Err InvalidRepeat) >>= with_repetition rest (items_of edition m inner) (λ n. items_after edition m n rest))
+          ≡ (items_of edition m inner >>= λ is. behind (repetition is x.0 x.1 done) (items_of edition m x.2)))
           × (size x.2 ≤ size rest)
       go None k = absurd (cc k)
       go (Some b) k =
           let same : (separator_in b.0 rest, b.1, past (trees_between b.0 + 1) rest) ≡ x = cc in
           let s = past-size (trees_between b.0 + 1) rest in (
-            rw (skipped (trees_between b.0 + 1) rest) (then-behind is (separator_in b.0 rest) b.1 (items_of edition m (past (trees_between b.0 + 1) rest)))
-                ∙ ap (λ y. behind (repetition is y.0 y.1 done) (items_of edition m y.2)) same,
-            rw (← same) s,
+            after-operator rest (items_of edition m inner) b
+                ∙ ap (λ (y : Option spec.Separator × RepeatKind × Forest). items_of edition m inner >>= λ is. behind (repetition is y.0 y.1 done) (items_of edition m y.2)) same,
+            subst (λ (y : Option spec.Separator × RepeatKind × Forest). size y.2 ≤ size rest) same s,
           )
-
-  -- ---- a loop over a list
-
-  -- one item more was read
-  pub one-more : (os news : List Op) (o : Op) (trees old rest : Forest) → news ≡ os ++ (o ∷ []) →
-      items_of edition m trees ≡ behind (ops.items_of os) (items_of edition m old) → size old ≤ size trees →
-      (items_of edition m old ≡ behind (put_op o done) (items_of edition m rest)) × (size rest ≤ size old) →
-      (items_of edition m trees ≡ behind (ops.items_of news) (items_of edition m rest)) × (size rest ≤ size trees)
-  one-more os news o trees old rest pushed all less step = (
-    all ∙ ap (behind (ops.items_of os)) step.0 ∙ behind-behind (ops.items_of os) (put_op o done) (items_of edition m rest)
-        ∙ ap (λ is. behind is (items_of edition m rest)) (sym (items_of-push os o) ∙ ap ops.items_of (sym pushed)),
-    let s = step.1 in omega (arith, less, s),
-  )
-
-  pub ident-step : (i : _) (old rest : Forest) → old ≡ leaf (as_leaf.Ident i) rest →
-      (items_of edition m old ≡ behind (item (word (as_leaf.Ident i)) done) (items_of edition m rest)) × (size rest ≤ size old)
-  ident-step i old rest h = (ap (items_of edition m) h ∙ ident-first i rest, let s = ap size h in omega (arith, s))
-
-  pub literal-step : (l : _) (old rest : Forest) → old ≡ leaf (as_leaf.Literal l) rest →
-      (items_of edition m old ≡ behind (item (word (as_leaf.Literal l)) done) (items_of edition m rest)) × (size rest ≤ size old)
-  literal-step l old rest h = (ap (items_of edition m) h ∙ literal-first l rest, let s = ap size h in omega (arith, s))
-
-  pub group-step : (d : Delimiter) (v : Vec Op Global) (old inner rest : Forest) → old ≡ group d inner rest → items_of edition m inner ≡ Ok (ops.items_of v.items) →
-      (items_of edition m old ≡ behind (put_op (Subtree v d) done) (items_of edition m rest)) × (size rest ≤ size old)
-  group-step d v old inner rest h good = (
-    ap (items_of edition m) h ∙ group-first d inner rest (ops.items_of v.items) good
-        ∙ ap (λ is. behind is (items_of edition m rest)) (sym (put-Subtree v d done)),
-    let s = ap size h in omega (arith, s),
-  )
-
-  pub punct-step : (p : Punct) (o : Op) (old rest after : Forest) → old ≡ leaf (as_leaf.Punct p) rest →
-      items_of edition m (leaf (as_leaf.Punct p) rest) ≡ continued edition m (Ok (put_op o done, after)) → size after ≤ size rest →
-      (items_of edition m old ≡ behind (put_op o done) (items_of edition m after)) × (size after ≤ size old)
-  punct-step p o old rest after h read less = (ap (items_of edition m) h ∙ read, let s = ap size h in omega (arith, s, less))
-
-  pub repeat-step : (p : Punct) (f inner rest after : Forest) (v : Vec Op Global) (sep : Option Separator) (op : RepeatKind) →
-      repetition_parts p f ≡ Some (inner, rest) → taken_from rest (between_and_operator (signs rest)) ≡ Some (option_map separator_of sep, op, after) →
-      items_of edition m inner ≡ Ok (ops.items_of v.items) →
-      (items_of edition m (leaf (as_leaf.Punct p) f) ≡ continued edition m (Ok (put_op (Repeat v sep op) done, after))) × (size after ≤ size f)
-  repeat-step p f inner rest after v sep op h some good =
-      let x : Option spec.Separator × RepeatKind × Forest = (option_map separator_of sep, op, after) in
-      let r = repetition-read p f inner rest x (ops.items_of v.items) h some good in
-      (r.0 ∙ ap (λ is. behind is (items_of edition m after)) (sym (put-Repeat v sep op done)), r.1)

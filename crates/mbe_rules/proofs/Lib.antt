@@ -8,6 +8,7 @@ pub mod EditionLemmas
 pub mod GluedLemmas
 pub mod HeadLemmas
 pub mod ItemLemmas
+pub mod ListLemmas
 pub mod ShapeLemmas
 pub mod DefinitionLemmas
 pub mod Written

@@ -20,3 +20,4 @@ pub mod PlacedErrors
 -- what the functions inside the crate promise each other
 pub mod Steps
 pub mod Reading
+pub mod Lists

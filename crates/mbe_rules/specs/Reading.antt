@@ -1,8 +1,8 @@
 -- What the parser's functions answer, in the words of the definitions.
-use Rattle.std.specs.Prelude.{ℕ, ◌≤◌, ◌+◌, ◌&&◌, not, nat_eq, if◌then◌else◌, List, ◌++◌, Option, Some, None, option_map, Result, Ok, Err}
+use Rattle.std.specs.Prelude.{ℕ, ◌+◌, Bool, true, false, ◌&&◌, ◌||◌, not, nat_eq, if◌then◌else◌, List, ◌++◌, Option, Some, None, option_map, Result, Ok, Err}
 use Rattle.std.specs.declared.vec.Vec.{Vec}
 use Rattle.std.specs.declared.alloc.Global.{Global}
-use Rattle.tt_data.specs.Forest.{Forest, empty, leaf, group, size}
+use Rattle.tt_data.specs.Forest.{Forest, empty, leaf, group}
 use Rattle.tt_data.specs.declared.edition.Edition.{Edition}
 use Rattle.tt_data.specs.declared.leaf.Leaf.TheVariants as as_leaf
 use Rattle.tt_data.specs.declared.leaf.Punct.{Punct}
@@ -11,7 +11,7 @@ use Rattle.tt_data.specs.declared.span.SyntaxContext.{SyntaxContext}
 use Rattle.tt_data.specs.declared.span.SyntaxContext.TheVariants.{Written, Made}
 use Rattle.mbe_rules.specs.Expressions.{expression_in}
 use Rattle.mbe_rules.specs.Items as spec
-use Rattle.mbe_rules.specs.Items.{variable, dollar, Items, done, item, group_of, repetition}
+use Rattle.mbe_rules.specs.Items.{variable, dollar, Items, done, item, group_of, repetition, may_skip, can_match_nothing, has_empty_round}
 use Rattle.mbe_rules.specs.Ops as ops
 use Rattle.mbe_rules.specs.Ops.{put_op, items_of, separator_of}
 use Rattle.mbe_rules.specs.Parsed.{Parsed, ◌>>=◌, unexpected, or_fault}
@@ -112,11 +112,6 @@ abbrev pub continued : (SyntaxContext → Edition) → Mode → Parsed Read → 
 continued edition m (Ok r) = behind r.0 (patterns.items_of edition m r.1)
 continued edition m (Err f) = Err f
 
--- the trees after an item are no more than those that it was read from
-abbrev pub Shortens : Forest → Parsed Read → Type 0
-Shortens f (Ok r) = size r.1 ≤ size f
-Shortens f (Err e) = Unit {0}
-
 -- what a repetition that begins with a punct has inside, and the trees after its parenthesis
 abbrev pub repetition_parts : Punct → Forest → Option (Forest × Forest)
 repetition_parts p (group d inner rest) = if is_repetition p d then Some (inner, rest) else None
@@ -167,3 +162,14 @@ abbrev pub after_delimiter : Delimiting → Forest → Option Forest
 after_delimiter between empty = Some empty
 after_delimiter between (leaf (as_leaf.Punct p) rest) = if between.is_between p.char then Some rest else None
 after_delimiter between _ = None
+
+-- ---- rounds of nothing
+
+-- whether items can match nothing; none where a repetition in them has an empty round
+abbrev pub rounds_of : Items → Option Bool
+rounds_of is = if has_empty_round is then None else Some (can_match_nothing is)
+
+-- the same of a repetition, by whether its rounds are kept apart, and whether its body can match nothing
+abbrev pub round_of : Bool → RepeatKind → Bool → Option Bool
+round_of false k true = None
+round_of _ k b = Some (may_skip k || b)

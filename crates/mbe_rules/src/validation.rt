@@ -2,6 +2,7 @@
 ghost use Rattle.std.specs.Prelude.{◌≡◌};
 ghost use Rattle.mbe_rules.specs.Items.{done, can_match_nothing, has_empty_round};
 ghost use Rattle.mbe_rules.specs.Ops.{put_op, items_of};
+ghost use Rattle.mbe_rules.specs.Reading.{round_of, rounds_of};
 
 use crate::parser::{MetaVarKind, Op, RepeatKind};
 
@@ -33,34 +34,55 @@ pub fn can_match_nothing(ops: &[Op]) -> bool
     true
 }
 
-// Whether a repetition in an item, or the item itself, can match nothing in a round.
+// Whether a repetition can match nothing, by whether its round can: none where it could go round without
+// end, since nothing stands apart its rounds.
+fn round(is_apart: bool, kind: RepeatKind, nothing: bool) -> Option<bool>
+    ensures { result ≡ round_of is_apart kind nothing }
+{
+    if nothing && !is_apart {
+        return None;
+    }
+    Some(nothing || kind != RepeatKind::OneOrMore)
+}
+
+// Whether an item can match nothing: none where it has an empty round.
 #[cycle(rounds)]
-fn op_has_empty_round(op: &Op) -> bool
-    ensures { result ≡ has_empty_round (put_op op.now done) }
+fn op_rounds(op: &Op) -> Option<bool>
+    ensures { result ≡ rounds_of (put_op op.now done) }
 {
     match op {
-        Op::Subtree { tokens, .. } => has_empty_round(tokens),
+        Op::Var { kind, .. } => Some(matches!(kind, Some(MetaVarKind::Vis))),
+        Op::Subtree { tokens, .. } => {
+            let _nothing = rounds(tokens)?;
+            Some(false)
+        }
         Op::Repeat {
             tokens,
             separator,
-            ..
-        } => match separator {
-            None => can_match_nothing(tokens) || has_empty_round(tokens),
-            Some(_) => has_empty_round(tokens),
-        },
-        _ => false,
+            kind,
+        } => {
+            let nothing = rounds(tokens)?;
+            round(separator.is_some(), *kind, nothing)
+        }
+        _ => Some(false),
     }
 }
 
-/// Whether a repetition without separator, anywhere in a list of items, can match nothing in a round.
+// Whether a list of items can match nothing: none where it has an empty round. Each item is seen once.
 #[cycle(rounds)]
+fn rounds(ops: &[Op]) -> Option<bool>
+    ensures { result ≡ rounds_of (items_of ops.now) }
+{
+    let mut nothing = true;
+    for op in ops {
+        nothing &= op_rounds(op)?;
+    }
+    Some(nothing)
+}
+
+/// Whether a repetition without separator, anywhere in a list of items, can match nothing in a round.
 pub fn has_empty_round(ops: &[Op]) -> bool
     ensures { result ≡ has_empty_round (items_of ops.now) }
 {
-    for op in ops {
-        if op_has_empty_round(op) {
-            return true;
-        }
-    }
-    false
+    rounds(ops).is_none()
 }
