@@ -37,3 +37,4 @@ mod ShapeLemmas
 mod ByteShapeLemmas
 mod EqualityLemmas
 mod WordLemmas
+mod PlainLemmas
