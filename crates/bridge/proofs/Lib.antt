@@ -20,3 +20,4 @@ mod SpellingLemmas
 mod EdgeLemmas
 mod PrintStepLemmas
 mod OrderLemmas
+mod PlainLemmas

@@ -13,6 +13,7 @@ ghost use Rattle.tt_data.specs.declared.leaf.Leaf.TheVariants as as_leaf;
 ghost use Rattle.tt_data.specs.fault.TtFault.TheVariants.{Memory};
 
 use crate::edge::{Edge, closing_edge, gap_between, leaf_edge};
+use crate::plain::plain_text;
 use crate::spelling::leaf_spelling;
 use crate::steps::WalkStep;
 use std::alloc::{AllocError, Global};
@@ -205,6 +206,9 @@ fn put_leaf(alloc: Global, out: &mut Output, leaf: &Leaf) -> Result<(), TtFault>
         if punct.char == '\'' {
             return put_quote(out, *punct);
         }
+    }
+    if let Some(text) = plain_text(leaf) {
+        return put_spelled(out, leaf, text);
     }
     match leaf_spelling(alloc, leaf)? {
         Some(text) => put_spelled(out, leaf, text.as_str()),

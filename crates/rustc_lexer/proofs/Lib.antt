@@ -39,3 +39,4 @@ mod ByteShapeLemmas
 mod EqualityLemmas
 mod WordLemmas
 mod FrontRowLemmas
+mod PlainLemmas

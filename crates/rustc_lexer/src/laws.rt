@@ -10,8 +10,8 @@
 //! [`whole_token`], [`blank_token`], [`one_character`] and [`quoted_name`] give them one by one, and
 //! [`token_shapes`] what each begins and ends with.
 ghost use Rattle.std.specs.Prelude.{◌≡◌, ◌≤◌, ◌+◌, ◌++◌, ◌↔◌, ℕ, List, [], ◌∷◌, true, false, length, chars, IsUtf8, All, sum_by, take, drop, IsCharBoundary};
-ghost use Rattle.std.specs.List.{slice_range};
-ghost use Rattle.rustc_lexer.specs.Character.{utf8_len};
+ghost use Rattle.std.specs.List.{list_all, slice_range};
+ghost use Rattle.rustc_lexer.specs.Character.{is_digit, is_ident, utf8_len};
 ghost use Rattle.rustc_lexer.specs.Cursors.{suffix_of};
 ghost use Rattle.rustc_lexer.specs.Lexeme.{lexeme, one_char_kind};
 ghost use Rattle.rustc_lexer.specs.Lexing.{place, reach, token_of, tokens_of};
@@ -19,11 +19,13 @@ ghost use Rattle.rustc_lexer.specs.Seams.{begins_longer, begins_white, ends_here
 ghost use Rattle.rustc_lexer.specs.Shapes.{HasByteShape, HasShape, is_ended};
 ghost use Rattle.rustc_lexer.specs.Standing.{AreTokensFrom, IsTokenAt};
 ghost use Rattle.rustc_lexer.specs.declared.lexed.Kept.{Kept};
+ghost use Rattle.rustc_lexer.specs.declared.token.Base.TheVariants.{Decimal};
 ghost use Rattle.rustc_lexer.specs.declared.token.GuardedStr.{GuardedStr};
 ghost use Rattle.rustc_lexer.specs.declared.token.LiteralKind.{LiteralKind};
+ghost use Rattle.rustc_lexer.specs.declared.token.LiteralKind.TheVariants.{Int};
 ghost use Rattle.rustc_lexer.specs.declared.token.Token.{Token};
 ghost use Rattle.rustc_lexer.specs.declared.token.TokenKind.{TokenKind};
-ghost use Rattle.rustc_lexer.specs.declared.token.TokenKind.TheVariants.{Eof, Ident, Lifetime, Whitespace};
+ghost use Rattle.rustc_lexer.specs.declared.token.TokenKind.TheVariants.{Eof, Ident, Lifetime, Literal, Whitespace};
 
 use crate::lexed::Kept;
 use crate::token::{GuardedStr, LiteralKind, Token, TokenKind};
@@ -123,6 +125,17 @@ pub fn one_character()
 pub fn quoted_name()
     ensures { (cs : List ℕ) (t : Token) → tokens_of cs ≡ t ∷ [] → t.kind ≡ Ident →
         tokens_of (39 ∷ cs) ≡ record { kind = Lifetime false; len = t.len + 1 } ∷ [] }
+{}
+
+/// A text that is an identifier is one token.
+pub fn one_identifier()
+    ensures { (cs : List ℕ) → is_ident cs ≡ true → tokens_of cs ≡ record { kind = Ident; len = utf8_len cs } ∷ [] }
+{}
+
+/// A text of digits is one whole number in base ten.
+pub fn one_number()
+    ensures { (c : ℕ) (cs : List ℕ) → list_all is_digit (c ∷ cs) ≡ true →
+        tokens_of (c ∷ cs) ≡ record { kind = Literal (Int Decimal false) (utf8_len (c ∷ cs)); len = utf8_len (c ∷ cs) } ∷ [] }
 {}
 
 /// A token that is terminated begins and ends as its kind does, and the suffix of a literal follows

@@ -1,0 +1,77 @@
+// Leaves that show how they are spelled: their text needs no lexing.
+ghost use Rattle.std.specs.Prelude.{◌≡◌, ◌↔◌, ◌<◌, ◌^◌, ◌∷◌, [], true, IfSome, IsTrue, Some, length};
+ghost use Rattle.bridge.specs.PlainTexts.{is_mark_char};
+ghost use Rattle.bridge.specs.Spelling.{leaf_spelling};
+ghost use Rattle.tt_data.specs.declared.leaf.Leaf.TheVariants as as_leaf;
+
+use rustc_lexer::{is_ident, laws};
+use tt_data::leaf::{Ident, Leaf, Punct};
+
+// Whether a text is no longer than a text may be that has tokens.
+fn is_short(text: &str) -> bool
+    ensures { IsTrue result ↔ (length text.now < 2 ^ 32) }
+{
+    text.len() <= u32::MAX as usize
+}
+
+// The text of a character that is a punct in a text, but for the quote.
+fn mark_text(char: char) -> Option<&'static str>
+    ensures text { IfSome result (λ t. t.now ≡ char ∷ []) }
+    ensures mark { IfSome result (λ t. is_mark_char char ≡ true) }
+{
+    match char {
+        ';' => Some(";"),
+        ',' => Some(","),
+        '.' => Some("."),
+        '@' => Some("@"),
+        '#' => Some("#"),
+        '~' => Some("~"),
+        '?' => Some("?"),
+        ':' => Some(":"),
+        '$' => Some("$"),
+        '=' => Some("="),
+        '!' => Some("!"),
+        '<' => Some("<"),
+        '>' => Some(">"),
+        '-' => Some("-"),
+        '&' => Some("&"),
+        '|' => Some("|"),
+        '+' => Some("+"),
+        '*' => Some("*"),
+        '/' => Some("/"),
+        '^' => Some("^"),
+        '%' => Some("%"),
+        _ => None,
+    }
+}
+
+fn punct_text(punct: &Punct) -> Option<&'static str>
+    ensures { IfSome result (λ t. leaf_spelling (as_leaf.Punct punct.now) ≡ Some t.now) }
+{
+    mark_text(punct.char)
+}
+
+// The name where it is not raw and an identifier.
+fn name_text(ident: &Ident) -> Option<&str>
+    ensures { IfSome result (λ t. leaf_spelling (as_leaf.Ident ident.now) ≡ Some t.now) }
+{
+    laws::token_lengths();
+    laws::one_identifier();
+    let name = ident.sym.as_str();
+    if ident.is_raw.no() && is_short(name) && is_ident(name) {
+        Some(name)
+    } else {
+        None
+    }
+}
+
+/// How the leaf is spelled, where its kind and its text show that.
+pub(crate) fn plain_text(leaf: &Leaf) -> Option<&str>
+    ensures { IfSome result (λ t. leaf_spelling leaf.now ≡ Some t.now) }
+{
+    match leaf {
+        Leaf::Ident(ident) => name_text(ident),
+        Leaf::Punct(punct) => punct_text(punct),
+        Leaf::Literal(_) => None,
+    }
+}
