@@ -17,3 +17,4 @@ pub mod Bound
 pub mod Collecting
 pub mod Room
 pub mod Putting
+pub mod Uses

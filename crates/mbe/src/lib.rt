@@ -8,6 +8,7 @@ mod glued;
 pub mod laws;
 pub mod matcher;
 mod place;
-mod transcriber;
+mod putting;
+mod uses;
 
 pub use fragment_grammar::{FragmentGrammar, Prefix, PrefixEntryPoint};
