@@ -29,3 +29,6 @@ pub mod CollectingLemmas
 pub mod SkippedLemmas
 pub mod PuttingLemmas
 pub mod UsesLemmas
+pub mod CountLemmas
+pub mod LeafLemmas
+pub mod TextLemmas

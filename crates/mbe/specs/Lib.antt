@@ -7,6 +7,7 @@ pub mod Readings
 pub mod Bindings
 pub mod Filling
 pub mod Fit
+pub mod Output
 -- what the functions inside the crate promise each other
 pub mod Waiting
 pub mod Positions
@@ -18,3 +19,4 @@ pub mod Collecting
 pub mod Room
 pub mod Putting
 pub mod Uses
+pub mod Given
