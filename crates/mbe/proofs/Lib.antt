@@ -28,3 +28,7 @@ pub mod BoundLemmas
 pub mod CollectingLemmas
 pub mod SkippedLemmas
 pub mod PuttingLemmas
+pub mod UsesLemmas
+pub mod CountLemmas
+pub mod LeafLemmas
+pub mod TextLemmas

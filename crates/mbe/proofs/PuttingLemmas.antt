@@ -18,7 +18,7 @@ use Rattle.mbe.specs.Filling.{stands_alone, in_parentheses, begins_generics, pun
 use Rattle.mbe.specs.Putting.{begins_ident, before_more}
 use Rattle.mbe.specs.Room.{LacksRoom}
 
-joined-assoc : (f g h : Forest) → joined (joined f g) h ≡ joined f (joined g h)
+pub joined-assoc : (f g h : Forest) → joined (joined f g) h ≡ joined f (joined g h)
 joined-assoc empty g h = refl
 joined-assoc (leaf l f) g h = ap (leaf l) (joined-assoc f g h)
 joined-assoc (group d inner f) g h = ap (group d inner) (joined-assoc f g h)
@@ -46,7 +46,7 @@ wrapped-added b one two out s f e first second third =
 -- ---- room
 
 -- the tokens that there are with more trees
-count-extended : (b : Building) (f : Forest) → count_of (extended b f) ≡ count_of b + size f
+pub count-extended : (b : Building) (f : Forest) → count_of (extended b f) ≡ count_of b + size f
 count-extended b f = let k = size-joined b.here f in omega (arith, k)
 
 pub alone-lacks : (b : Building) (f : Forest) → most_tokens < count_of b + size f → LacksRoom b (last_alone f)

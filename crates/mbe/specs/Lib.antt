@@ -7,6 +7,7 @@ pub mod Readings
 pub mod Bindings
 pub mod Filling
 pub mod Fit
+pub mod Output
 -- what the functions inside the crate promise each other
 pub mod Waiting
 pub mod Positions
@@ -17,3 +18,5 @@ pub mod Bound
 pub mod Collecting
 pub mod Room
 pub mod Putting
+pub mod Uses
+pub mod Given

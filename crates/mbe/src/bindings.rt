@@ -113,6 +113,11 @@ impl<'a> Bindings<'a> {
         }
     }
 
+    /// Where the memory for what is bound comes from.
+    pub(crate) fn allocator(&self) -> Global {
+        *self.bound.allocator()
+    }
+
     // Where a name stands.
     fn position(&self, name: &Symbol) -> Option<usize>
         ensures { result ≡ place_among name.now self.now.bound.items }

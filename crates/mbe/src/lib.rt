@@ -3,10 +3,12 @@
 
 pub mod bindings;
 pub mod collecting;
+mod expressions;
 pub mod fragment;
 pub mod laws;
 pub mod matcher;
 mod place;
-mod transcriber;
+mod putting;
+mod uses;
 
 pub use fragment_grammar::{FragmentGrammar, Prefix, PrefixEntryPoint};

@@ -4,7 +4,7 @@ use Rattle.tt.specs.Building.{extended}
 use Rattle.tt.specs.Views.{forest}
 use Rattle.mbe.specs.Filling.{with_colons}
 use Rattle.mbe.proofs.PuttingLemmas.{left-added, left-lacks, all-added, none-left, handed}
-use Rattle.mbe.proofs.transcriber.put_path.Goals as goal
+use Rattle.mbe.proofs.putting.put_path.Goals as goal
 
 pub loop-tree-init : goal.loop-tree-init
 loop-tree-init c = ap (λ f. extended c.args.out.now.tree (with_colons c.args.span f)) c.iter-rest.ensures

@@ -4,7 +4,7 @@ use Rattle.tt_data.specs.Forest.{size}
 use Rattle.tt.specs.Building.{extended}
 use Rattle.tt.specs.Views.{forest}
 use Rattle.mbe.specs.Filling.{with_colons}
-use Rattle.mbe.proofs.transcriber.put_path.Given as goal
+use Rattle.mbe.proofs.putting.put_path.Given as goal
 
 abbrev pub invariant-loop-tree : goal.invariant-loop-tree
 invariant-loop-tree l = extended l.out.tree (with_colons l.span l.rest) ≡ extended l.initial.out.tree (with_colons l.span (forest l.fn.trees))

@@ -1,6 +1,6 @@
 use Rattle.std.proofs.lemmas.Result.{on_ok_weaker}
 use Rattle.mbe.proofs.PuttingLemmas.{colons-added, colons-lack}
-use Rattle.mbe.proofs.transcriber.put_colons.Goals as goal
+use Rattle.mbe.proofs.putting.put_colons.Goals as goal
 
 pub returns-clause-added : goal.returns-clause-added
 returns-clause-added c =

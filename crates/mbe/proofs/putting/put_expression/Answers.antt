@@ -2,7 +2,7 @@ use Rattle.std.proofs.Common.{◌∙◌, sym}
 use Rattle.std.proofs.lemmas.Result.{on_ok_weaker}
 use Rattle.tt.specs.Views.{forest}
 use Rattle.mbe.proofs.PuttingLemmas.{bare-added, bare-lacks, full-lacks, handed}
-use Rattle.mbe.proofs.transcriber.put_expression.Goals as goal
+use Rattle.mbe.proofs.putting.put_expression.Goals as goal
 
 pub returns-then-stands_alone-clause-added : goal.returns-then-stands_alone-clause-added
 returns-then-stands_alone-clause-added c =

@@ -2,7 +2,7 @@ use Rattle.std.proofs.Common.{◌∙◌, sym}
 use Rattle.std.proofs.lemmas.Result.{on_ok_weaker}
 use Rattle.tt.specs.Views.{forest}
 use Rattle.mbe.proofs.PuttingLemmas.{not-between, between, between-lacks, next-lacks, handed}
-use Rattle.mbe.proofs.transcriber.put_next.Goals as goal
+use Rattle.mbe.proofs.putting.put_next.Goals as goal
 
 pub returns-in_err-extend_with_tt-clause-tokens : goal.returns-in_err-extend_with_tt-clause-tokens
 returns-in_err-extend_with_tt-clause-tokens c = λ e.
