@@ -28,3 +28,4 @@ pub mod BoundLemmas
 pub mod CollectingLemmas
 pub mod SkippedLemmas
 pub mod PuttingLemmas
+pub mod MacroLemmas

@@ -7,6 +7,9 @@ pub mod Readings
 pub mod Bindings
 pub mod Filling
 pub mod Fit
+pub mod Kept
+pub mod Macros
+pub mod MacroEquality
 -- what the functions inside the crate promise each other
 pub mod Waiting
 pub mod Positions

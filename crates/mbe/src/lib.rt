@@ -3,11 +3,20 @@
 
 pub mod bindings;
 pub mod collecting;
+mod declarative;
 pub mod fragment;
 mod glued;
+mod kept;
 pub mod laws;
 pub mod matcher;
 mod place;
 mod transcriber;
 
+pub use fragment::expect_fragment;
 pub use fragment_grammar::{FragmentGrammar, Prefix, PrefixEntryPoint};
+pub use kept::DeclarativeMacro;
+pub use mbe_rules::{
+    CountError, ExpandError, ExpandErrorKind, ExpandResult, MacroCallStyle, MacroCallStyles,
+    MatchedArmIndex, ParseError, ValueResult,
+};
+pub use tt::{Delimiter, DelimiterKind, Punct};
