@@ -32,3 +32,4 @@ pub mod UsesLemmas
 pub mod CountLemmas
 pub mod LeafLemmas
 pub mod TextLemmas
+pub mod MacroLemmas

@@ -8,6 +8,9 @@ pub mod Bindings
 pub mod Filling
 pub mod Fit
 pub mod Output
+pub mod Kept
+pub mod Macros
+pub mod MacroEquality
 -- what the functions inside the crate promise each other
 pub mod Waiting
 pub mod Positions

@@ -3,12 +3,21 @@
 
 pub mod bindings;
 pub mod collecting;
+mod declarative;
 mod expressions;
 pub mod fragment;
+mod kept;
 pub mod laws;
 pub mod matcher;
 mod place;
 mod putting;
 mod uses;
 
+pub use fragment::expect_fragment;
 pub use fragment_grammar::{FragmentGrammar, Prefix, PrefixEntryPoint};
+pub use kept::DeclarativeMacro;
+pub use mbe_rules::{
+    CountError, ExpandError, ExpandErrorKind, ExpandResult, MacroCallStyle, MacroCallStyles,
+    MatchedArmIndex, ParseError, ValueResult,
+};
+pub use tt::{Delimiter, DelimiterKind, Punct};
