@@ -7,7 +7,7 @@ use tt::{Edition, SyntaxContext, TopSubtree};
 
 // The trees of a text.
 fn trees(rt: &HostRuntime, text: &str) -> Result<TopSubtree, Fail> {
-    if text.len() >= 1000 {
+    if text.len() >= 1_000_000 {
         return Err(Fail::new("a text is long"));
     }
     let held = LexedText::new(rt.alloc(), text)?;
@@ -94,6 +94,16 @@ fn of_macro_rules(rt: HostRuntime) -> Result<(), Fail> {
             rules.err
         );
     }
+    Ok(())
+}
+
+#[test]
+fn of_lists_ten_thousand_deep(rt: HostRuntime) -> Result<(), Fail> {
+    let begun = "$([".repeat(rt.alloc(), 10_000)?;
+    let ended = "])+".repeat(rt.alloc(), 10_000)?;
+    let text = format!(in rt.alloc(); "({begun}x{ended}) => {{{begun}x{ended}}}")?;
+    let rules = parse_macro_rules(rt.alloc(), &trees(&rt, text.as_str())?, at_2024)?;
+    assert!(rt; gives(&rules, 1, ""));
     Ok(())
 }
 
