@@ -10,7 +10,7 @@ use Rattle.ucd_derived.specs.XidStartRanges.{xid_start_ranges}
 use Rattle.ucd_table.specs.Rows.{in_ranges}
 use Rattle.unicode_ident.proofs.IdentLemmas.{is_xid_start-ascii}
 use Rattle.rustc_lexer.specs.Character.{begins, char_at, continues, identifier_len, is, is_digit, is_ident, is_id_continue, is_id_start, is_in, is_whitespace, utf8_len}
-use Rattle.rustc_lexer.specs.Lexeme.{Lexeme, is_prefix_mark, is_prefix_start, lexeme, lexeme_of, numeral, plain_word, prefixed, word}
+use Rattle.rustc_lexer.specs.Lexeme.{Lexeme, is_prefix_mark, lexeme, lexeme_of, numeral, plain_word, word}
 use Rattle.rustc_lexer.specs.Lexing.{tokens_of, token_of}
 use Rattle.rustc_lexer.specs.Literals.{with_suffix}
 use Rattle.rustc_lexer.specs.Numbers.{after_run, decimal, number, run}
@@ -144,8 +144,8 @@ module _ (c : ℕ) (cs : List ℕ) (s : is_id_start c ≡ true) (h : list_all is
       ap (λ n. lexeme_of (if is_prefix_mark (char_at (c ∷ cs) n) then UnknownPrefix else Ident) n) size
       ∙ ap (λ d. lexeme_of (if is_prefix_mark d then UnknownPrefix else Ident) (1 + continues cs)) ends
 
-  prefixed_whole : prefixed (c ∷ cs) ≡ whole_word
-  prefixed_whole =
+  word_whole : word (c ∷ cs) ≡ whole_word
+  word_whole =
       let t : List ℕ = c ∷ cs in
       let r_hash : begins "r#" t ≡ false = second (c == 114) _ (no_hash 0) in
       let r_double : begins "r\"" t ≡ false = second (c == 114) _ (no_double 0) in
@@ -158,9 +158,6 @@ module _ (c : ℕ) (cs : List ℕ) (s : is_id_start c ≡ true) (h : list_all is
       let cr_double : begins "cr\"" t ≡ false = second (c == 99) _ (second (char_at cs 0 == 114) _ (no_double 1)) in
       let k_hash : begins "k#" t ≡ false = second (c == 107) _ (no_hash 0) in
       rw (r_hash, r_double, b_quote, b_double, c_double, br_hash, br_double, cr_hash, cr_double, k_hash) plain_whole
-
-  word_whole : word (c ∷ cs) ≡ whole_word
-  word_whole = choice (λ w. w ≡ whole_word) (is_prefix_start c) _ _ (λ _. prefixed_whole) (λ _. plain_whole)
 
   ident_lexeme : lexeme (c ∷ cs) ≡ whole_word
   ident_lexeme =
