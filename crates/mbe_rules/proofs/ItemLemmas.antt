@@ -11,7 +11,7 @@ use Rattle.mbe_rules.specs.Items.{Item, word, Items, done, item, group_of, repet
 use Rattle.mbe_rules.specs.Ops as ops
 use Rattle.mbe_rules.specs.Ops.{put_op, separator_of}
 use Rattle.mbe_rules.specs.Parsed.{Parsed, ◌>>=◌, or_fault}
-use Rattle.mbe_rules.specs.Patterns.{Mode, Head, trees_of, item_of, head_at, with_item, with_group, with_head, with_repetition, is_repetition, items_after, items_of}
+use Rattle.mbe_rules.specs.Patterns.{Mode, Head, trees_of, item_of, head_at, with_item, with_head, with_repetition, is_repetition, items_after, items_of}
 use Rattle.mbe_rules.specs.Reading.{head_read, joined_items, behind, continued, repetition_parts, taken_from}
 use Rattle.mbe_rules.specs.Repetitions.{Between, trees_between, separator_in, between_and_operator, repeated}
 use Rattle.mbe_rules.specs.Trees.{past, signs}
@@ -69,26 +69,6 @@ module _ (edition : SyntaxContext → Edition) (m : Mode) where
   skipped (suc n) empty = refl
   skipped (suc n) (leaf l rest) = skipped n rest
   skipped (suc n) (group d inner rest) = skipped n rest
-
-  -- ---- a leaf that is no punct, and a group
-
-  pub ident-first : (i : _) (rest : Forest) → items_of edition m (leaf (as_leaf.Ident i) rest) ≡ behind (item (word (as_leaf.Ident i)) done) (items_of edition m rest)
-  ident-first i rest = with_item-behind (word (as_leaf.Ident i)) (items_of edition m rest)
-
-  pub literal-first : (l : _) (rest : Forest) → items_of edition m (leaf (as_leaf.Literal l) rest) ≡ behind (item (word (as_leaf.Literal l)) done) (items_of edition m rest)
-  literal-first l rest = with_item-behind (word (as_leaf.Literal l)) (items_of edition m rest)
-
-  with_group-behind : (d : Delimiter) (is : Items) (r : Parsed Items) → with_group d (Ok is) r ≡ behind (group_of d is done) r
-  with_group-behind d is (Ok js) = refl
-  with_group-behind d is (Err f) = refl
-
-  pub group-read : (d : Delimiter) (inner rest : Forest) →
-      items_of edition m (group d inner rest) ≡ (items_of edition m inner >>= λ is. behind (group_of d is done) (items_of edition m rest))
-  group-read d inner rest = go (items_of edition m inner)
-    where
-      go : (r : Parsed Items) → with_group d r (items_of edition m rest) ≡ (r >>= λ is. behind (group_of d is done) (items_of edition m rest))
-      go (Ok is) = with_group-behind d is (items_of edition m rest)
-      go (Err e) = refl
 
   -- ---- a punct that begins no repetition
 
@@ -158,15 +138,6 @@ module _ (edition : SyntaxContext → Edition) (m : Mode) where
 
   repetition-size : (p : Punct) (f inner rest : Forest) → repetition_parts p f ≡ Some (inner, rest) → size f ≡ suc (size inner + size rest)
   repetition-size p f inner rest h = let q = parts p f inner rest h in ap size q.is ∙ omega arith
-
-  pub no-operator : (p : Punct) (f inner rest : Forest) → repetition_parts p f ≡ Some (inner, rest) →
-      taken_from rest (between_and_operator (signs rest)) ≡ None → items_of edition m (leaf (as_leaf.Punct p) f) ≡ Err InvalidRepeat
-  no-operator p f inner rest h none = repetition-first p f inner rest h ∙ go (between_and_operator (signs rest)) none
-    where
-      go : (o : Option (Between × RepeatKind)) → taken_from rest o ≡ None →
-          (or_fault o (Err InvalidRepeat) >>= with_repetition rest (items_of edition m inner) (λ n. items_after edition m n rest)) ≡ Err InvalidRepeat
-      go None k = refl
-      go (Some b) k = absurd (cc k)
 
   -- after a repetition's parenthesis: what is inside, before what follows the operator
   after-operator : (f : Forest) (r : Parsed Items) (b : Between × RepeatKind) →

@@ -81,10 +81,6 @@ both-more n b None = refl
 both-more true b (Some c) = refl
 both-more false b (Some c) = refl
 
--- no item more
-pub both-last : (n : Bool) → both (Some n) (Some true) ≡ Some n
-both-last n = ap Some (and-true n)
-
 side_by_side : (k : RepeatKind) (e c : Bool) →
     (if c || (e || false) then None else Some ((may_skip k || c) && true)) ≡ option_and_then (round_of false k) (if e then None else Some c)
 side_by_side k true true = refl

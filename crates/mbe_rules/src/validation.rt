@@ -34,8 +34,8 @@ pub fn can_match_nothing(ops: &[Op]) -> bool
     true
 }
 
-// Whether a repetition can match nothing, by whether its round can: none where it could go round without
-// end, since nothing stands apart its rounds.
+// Whether a repetition can match nothing, by whether its round can: none where nothing stands between such
+// rounds, which would have no end.
 fn round(is_apart: bool, kind: RepeatKind, nothing: bool) -> Option<bool>
     ensures { result ≡ round_of is_apart kind nothing }
 {
