@@ -3,6 +3,7 @@
 
 pub mod bindings;
 pub mod collecting;
+mod failure;
 pub mod fragment;
 mod glued;
 pub mod laws;
