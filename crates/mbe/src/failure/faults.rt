@@ -1,7 +1,6 @@
 //! What is told of an item of a pattern that is not here.
 use crate::failure::values::Partial;
 use crate::fragment::pass_fragment;
-use crate::glued::again;
 use crate::place::{is_refused, is_refused_2021};
 use fragment_grammar::{FragmentGrammar, PrefixEntryPoint};
 use mbe_rules::{ExpandErrorKind, MetaVarKind, Op};
@@ -118,7 +117,7 @@ pub(crate) fn partial_at<'a, G: FragmentGrammar>(
     let kind = *kind;
     let trees = match entry_of(kind) {
         Some(entry) if !is_no_expression(kind, trees) => {
-            let mut rest = again(trees);
+            let mut rest = trees.remaining().iter();
             pass_fragment(grammar, &mut rest, entry).trees
         }
         _ => TokenTreesView::empty(),
