@@ -26,15 +26,15 @@ pub enum Binding<'a> {
 
 // A name with what it stands for.
 #[derive(Drop)]
-struct Bound<'a> {
-    name: &'a Symbol,
-    binding: Binding<'a>,
+pub(crate) struct Bound<'a> {
+    pub(crate) name: &'a Symbol,
+    pub(crate) binding: Binding<'a>,
 }
 
 /// What each name stands for.
 #[derive(Drop)]
 pub struct Bindings<'a> {
-    bound: Vec<Bound<'a>>,
+    pub(crate) bound: Vec<Bound<'a>>,
 }
 
 // Puts empty lists at the end, for the rounds before this one that have no value.

@@ -5,6 +5,7 @@ pub mod bindings;
 pub mod collecting;
 mod declarative;
 mod expressions;
+mod failure;
 pub mod fragment;
 mod kept;
 pub mod laws;

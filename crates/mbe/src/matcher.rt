@@ -28,7 +28,7 @@ use tt::TokenTreesView;
 
 // A repetition that a thread is in, and what comes after it.
 #[derive(Clone, Copy)]
-struct Round<'a> {
+pub(crate) struct Round<'a> {
     body: &'a [Op],
     separator: Option<&'a Separator>,
     kind: RepeatKind,
@@ -37,7 +37,7 @@ struct Round<'a> {
 
 // What goes on after the present list of items.
 #[derive(Clone, Copy)]
-enum Frame<'a> {
+pub(crate) enum Frame<'a> {
     // After a group's closing.
     InGroup { after: &'a [Op] },
     // After a round.
@@ -98,20 +98,20 @@ fn extended<'a>(
 
 // A partial reading: the items that it goes on with, the groups and rounds that it is in, and its moves.
 #[derive(Drop)]
-struct Thread<'a> {
-    items: &'a [Op],
-    frames: Vec<Frame<'a>>,
-    moves: Option<&'a Entry<'a>>,
+pub(crate) struct Thread<'a> {
+    pub(crate) items: &'a [Op],
+    pub(crate) frames: Vec<Frame<'a>>,
+    pub(crate) moves: Option<&'a Entry<'a>>,
 }
 
 // A thread after one more move, and what that move takes.
 #[derive(Drop)]
-struct Choice<'a> {
-    thread: Thread<'a>,
-    taken: Option<Taken>,
+pub(crate) struct Choice<'a> {
+    pub(crate) thread: Thread<'a>,
+    pub(crate) taken: Option<Taken>,
 }
 
-type Choices<'a> = (Option<Choice<'a>>, Option<Choice<'a>>);
+pub(crate) type Choices<'a> = (Option<Choice<'a>>, Option<Choice<'a>>);
 
 // A thread that waits for the others: at the end, or after a move that takes something.
 #[derive(Drop)]
@@ -320,7 +320,7 @@ impl<'a> Thread<'a> {
     }
 
     // The next moves, at most two, each with the thread after it.
-    fn choices<G: FragmentGrammar>(
+    pub(crate) fn choices<G: FragmentGrammar>(
         &self,
         arena: &'a Bump,
         grammar: &G,
@@ -675,7 +675,7 @@ fn is_same_mark(first: Frame<'_>, second: Frame<'_>) -> bool
 }
 
 // Whether two threads are in the same groups and rounds.
-fn are_same_marks(first: &[Frame<'_>], second: &[Frame<'_>]) -> bool
+pub(crate) fn are_same_marks(first: &[Frame<'_>], second: &[Frame<'_>]) -> bool
     ensures { result ≡ same_marks first.now second.now }
 {
     let Some((a, more)) = first.split_first() else {

@@ -306,7 +306,7 @@ fn tree_trees(trees: &TtIter<'_>) -> Option<usize>
     }
 }
 
-fn is_refused(trees: &TtIter<'_>) -> bool
+pub(crate) fn is_refused(trees: &TtIter<'_>) -> bool
     ensures { result ≡ is_refused trees.now }
 {
     match trees.peek() {
@@ -315,7 +315,7 @@ fn is_refused(trees: &TtIter<'_>) -> bool
     }
 }
 
-fn is_refused_2021(trees: &TtIter<'_>) -> bool
+pub(crate) fn is_refused_2021(trees: &TtIter<'_>) -> bool
     ensures { result ≡ is_refused_2021 trees.now }
 {
     match trees.peek() {

@@ -1,0 +1,173 @@
+//! What is answered of a call that no rule fits: which rule comes nearest, why it does not fit, and what its
+//! template gives all the same.
+//!
+//! Nothing is promised of these answers but that they come, unless memory is refused. Calls that a rule fits
+//! don't come here.
+ghost use Rattle.std.specs.Prelude.{IsOkUnless};
+ghost use Rattle.symbols.specs.declared.fault.TtFault.TheVariants as fault;
+
+mod attempt;
+mod faults;
+mod filling;
+mod leaves;
+mod values;
+
+use crate::failure::attempt::{Attempt, Call, attempted};
+use crate::failure::filling::Filler;
+use crate::failure::values::Values;
+use bumpalo::Bump;
+use fragment_grammar::FragmentGrammar;
+use mbe_rules::{ExpandError, ExpandErrorKind, MacroCallStyle, MatchedArmIndex, Op, Rule};
+use std::alloc::Global;
+use tt::{DelimSpan, Delimiter, Span, TopSubtree, TopSubtreeBuilder, TtFault};
+
+// A rule, by its place among all rules, and how far its pattern reads the argument.
+#[derive(Drop)]
+struct Candidate<'a> {
+    index: usize,
+    template: &'a [Op],
+    attempt: Attempt<'a>,
+}
+
+// The nearer of two rules, the first where they are as near.
+fn nearer<'a>(first: Option<Candidate<'a>>, second: Candidate<'a>) -> Candidate<'a> {
+    match first {
+        Some(first) => {
+            if second.attempt.is_nearer(&first.attempt) {
+                second
+            } else {
+                first
+            }
+        }
+        None => second,
+    }
+}
+
+// The rule of this style that comes nearest, if any has it.
+fn nearest<'a, G: FragmentGrammar>(
+    alloc: Global,
+    arena: &'a Bump,
+    grammar: &G,
+    rules: &'a [Rule],
+    style: MacroCallStyle,
+    call: Call<'a>,
+) -> Result<Option<Candidate<'a>>, TtFault> {
+    let mut best = None;
+    for (index, rule) in rules.iter().enumerate() {
+        if rule.style == style {
+            let attempt = attempted(alloc, arena, grammar, &rule.pattern, call)?;
+            let candidate = Candidate {
+                index,
+                template: &rule.template,
+                attempt,
+            };
+            best = Some(nearer(best, candidate));
+        }
+    }
+    Ok(best)
+}
+
+// The tree that the template gives, and its first fault.
+fn filled<M: Fn(Span) -> Span>(
+    alloc: Global,
+    values: &Values<'_>,
+    template: &[Op],
+    marker: &M,
+    call_site: Span,
+) -> Result<(TopSubtree, Option<ExpandError>), TtFault>
+    requires { M.IsAlwaysCallable marker.now }
+{
+    let mut out = TopSubtreeBuilder::new(alloc, Delimiter::invisible_spanned(call_site))?;
+    let filler = Filler {
+        alloc,
+        values,
+        marker,
+        call_site,
+    };
+    let mut rounds = Vec::new(alloc);
+    let error = filler.fill(&mut out, &mut rounds, template)?;
+    match out.build() {
+        Ok(tree) => Ok((tree, error)),
+        Err((_, fault)) => Err(fault),
+    }
+}
+
+type Answer = (TopSubtree, MatchedArmIndex, ExpandError);
+
+// An empty tree, where no template gives one.
+fn nothing(
+    alloc: Global,
+    index: MatchedArmIndex,
+    error: ExpandError,
+    call_site: Span,
+) -> Result<Answer, TtFault>
+    ensures { IsOkUnless result fault.Memory }
+{
+    let tree = TopSubtree::empty(alloc, DelimSpan::from_single(call_site))?;
+    Ok((tree, index, error))
+}
+
+/// What is answered of a call that no rule of its style fits: a tree, the rule that it is of, and why that
+/// does not fit. The rule is the one that leaves the fewest tokens unread in the group where its reading
+/// stopped, then that which binds most, then the first.
+///
+/// Where no rule has the style, or the tree would have too many tokens, the tree is empty. `Memory` is its
+/// only error.
+pub(crate) fn failure<G: FragmentGrammar, M: Fn(Span) -> Span>(
+    alloc: Global,
+    grammar: &G,
+    rules: &[Rule],
+    style: MacroCallStyle,
+    argument: &TopSubtree,
+    marker: &M,
+    call_site: Span,
+) -> Result<Answer, TtFault>
+    requires { M.IsAlwaysCallable marker.now }
+    ensures { IsOkUnless result fault.Memory }
+{
+    let arena = Bump::new(alloc);
+    let call = Call {
+        argument: argument.token_trees(),
+        ends: argument.top_subtree().delimiter.delim_span(),
+    };
+    let found = match nearest(alloc, &arena, grammar, rules, style, call) {
+        Ok(found) => found,
+        Err(_) => return Err(TtFault::Memory),
+    };
+    let no_rule = ExpandError::new(alloc, call_site, ExpandErrorKind::NoMatchingRule)?;
+    let Some(candidate) = found else {
+        return nothing(alloc, None, no_rule, call_site);
+    };
+    answer(alloc, candidate, no_rule, marker, call_site)
+}
+
+// What the nearest rule gives.
+fn answer<M: Fn(Span) -> Span>(
+    alloc: Global,
+    candidate: Candidate<'_>,
+    no_rule: ExpandError,
+    marker: &M,
+    call_site: Span,
+) -> Result<Answer, TtFault>
+    requires { M.IsAlwaysCallable marker.now }
+    ensures { IsOkUnless result fault.Memory }
+{
+    let Candidate {
+        index,
+        template,
+        attempt,
+    } = candidate;
+    let index = u32::try_from(index).ok();
+    let filled = filled(alloc, &attempt.values, template, marker, call_site);
+    let unread = attempt.error;
+    let (tree, error) = match filled {
+        Ok(filled) => filled,
+        Err(fault) => {
+            if fault == TtFault::Memory {
+                return Err(TtFault::Memory);
+            }
+            return nothing(alloc, index, unread.unwrap_or(no_rule), call_site);
+        }
+    };
+    Ok((tree, index, unread.or(error).unwrap_or(no_rule)))
+}
