@@ -2,6 +2,7 @@
 #![tactic(auto)]
 
 pub mod bindings;
+mod choices;
 pub mod collecting;
 mod declarative;
 pub mod fragment;
@@ -10,6 +11,7 @@ mod kept;
 pub mod laws;
 pub mod matcher;
 mod place;
+pub mod threads;
 mod transcriber;
 
 pub use fragment::expect_fragment;
