@@ -4,7 +4,7 @@ use Rattle.std.proofs.lemmas.List.{length-append, reverse-append}
 use Rattle.mbe.specs.Bindings.{Map, Open, bind, bind_skipped, bind_round, bind_rounds, bindings_from, bindings, fragment}
 use Rattle.mbe.specs.Collecting.{Collecting, after, after_all}
 use Rattle.mbe.specs.Threads.{move_of}
-use Rattle.mbe.specs.declared.matcher.Move.{Move as Made}
+use Rattle.mbe.specs.declared.threads.Move.{Move as Made}
 use Rattle.mbe.specs.Readings.{Move, unit_move, fragment_move, nothing_move, enter, skip, leave, separator_move, next_round}
 
 -- rounds after others

@@ -12,8 +12,8 @@ use Rattle.mbe.specs.Thinned.{thin}
 use Rattle.mbe.specs.Threads.{frame_of, frames_of, same_mark, same_marks, is_like, moves_of, state_of, waiting_of, waits}
 use Rattle.mbe.specs.Units as u
 use Rattle.mbe.specs.Waiting.{pending, Each, IsFrom}
-use Rattle.mbe.specs.declared.matcher.Frame.{Frame}
-use Rattle.mbe.specs.declared.matcher.Frame.TheVariants.{InGroup, InRound, Parted}
+use Rattle.mbe.specs.declared.threads.Frame.{Frame}
+use Rattle.mbe.specs.declared.threads.Frame.TheVariants.{InGroup, InRound, Parted}
 use Rattle.mbe.specs.declared.matcher.Waiting as d
 use Rattle.mbe.specs.declared.matcher.Waiting.TheVariants.{Ended, Pending}
 use Rattle.mbe.specs.declared.place.Taken.TheVariants.{Unit as takes_unit, Fragment as takes_trees}

@@ -16,10 +16,10 @@ use Rattle.mbe.specs.Threads as t
 use Rattle.mbe.specs.Units as u
 use Rattle.mbe.specs.Units.{is_separator}
 use Rattle.mbe.specs.declared.place.Taken.TheVariants.{Unit as takes_unit}
-use Rattle.mbe.specs.declared.matcher.Frame.{Frame}
-use Rattle.mbe.specs.declared.matcher.Frame.TheVariants.{InRound, Parted}
-use Rattle.mbe.specs.declared.matcher.Round.{Round}
-use Rattle.mbe.specs.declared.matcher.Thread.{Thread}
+use Rattle.mbe.specs.declared.threads.Frame.{Frame}
+use Rattle.mbe.specs.declared.threads.Frame.TheVariants.{InRound, Parted}
+use Rattle.mbe.specs.declared.threads.Round.{Round}
+use Rattle.mbe.specs.declared.threads.Thread.{Thread}
 
 pub frames-push : (gs fs : List Frame) (f : Frame) → gs ≡ fs ++ (f ∷ []) → frames_of gs ≡ frame_of f ∷ frames_of fs
 frames-push gs fs f e = ap frames_of e ∙ ap (map frame_of) (reverse-append fs (f ∷ []))

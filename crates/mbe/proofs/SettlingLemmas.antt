@@ -11,7 +11,7 @@ use Rattle.mbe.specs.Threads.{Made, contributes, extended, made_of, given, state
 use Rattle.mbe.specs.Units as u
 use Rattle.mbe.specs.Waiting.{Waiting, ended, pending, prefixed, settled_one, settled_at, Good, empties_at}
 use Rattle.mbe.specs.declared.place.Taken.{Taken}
-use Rattle.mbe.specs.declared.matcher.Choice.{Choice}
+use Rattle.mbe.specs.declared.choices.Choice.{Choice}
 use Rattle.mbe.proofs.MatchingLemmas.{settled-at}
 use Rattle.mbe.proofs.MoveLemmas.{does}
 

@@ -13,14 +13,14 @@ use Rattle.mbe.specs.Units as u
 use Rattle.mbe.specs.Waiting as w
 use Rattle.mbe.specs.declared.place.Taken.{Taken}
 use Rattle.mbe.specs.declared.place.Taken.TheVariants.{Unit as takes_unit, Fragment as takes_trees}
-use Rattle.mbe.specs.declared.matcher.Entry.{Entry, Entry', Held-Entry-before, None', Some'}
-use Rattle.mbe.specs.declared.matcher.Frame.{Frame}
-use Rattle.mbe.specs.declared.matcher.Frame.TheVariants.{InGroup, InRound, Parted}
-use Rattle.mbe.specs.declared.matcher.Move.{Move}
-use Rattle.mbe.specs.declared.matcher.Move.TheVariants.{Unit as unit, Fragment, Nothing, Enter, Skip, Leave, Separator as separator, NextRound}
-use Rattle.mbe.specs.declared.matcher.Round.{Round}
-use Rattle.mbe.specs.declared.matcher.Thread.{Thread}
-use Rattle.mbe.specs.declared.matcher.Choice.{Choice}
+use Rattle.mbe.specs.declared.threads.Entry.{Entry, Entry', Held-Entry-before, None', Some'}
+use Rattle.mbe.specs.declared.threads.Frame.{Frame}
+use Rattle.mbe.specs.declared.threads.Frame.TheVariants.{InGroup, InRound, Parted}
+use Rattle.mbe.specs.declared.threads.Move.{Move}
+use Rattle.mbe.specs.declared.threads.Move.TheVariants.{Unit as unit, Fragment, Nothing, Enter, Skip, Leave, Separator as separator, NextRound}
+use Rattle.mbe.specs.declared.threads.Round.{Round}
+use Rattle.mbe.specs.declared.threads.Thread.{Thread}
+use Rattle.mbe.specs.declared.choices.Choice.{Choice}
 use Rattle.mbe.specs.declared.matcher.Waiting.{Waiting}
 use Rattle.mbe.specs.declared.matcher.Waiting.TheVariants.{Ended, Pending}
 

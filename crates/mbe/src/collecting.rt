@@ -7,7 +7,7 @@ ghost use Rattle.mbe.specs.Bound.{map_of};
 ghost use Rattle.mbe.specs.Threads.{move_of, moves_of};
 
 use crate::bindings::{Binding, Bindings};
-use crate::matcher::{Entry, Move};
+use crate::threads::{Entry, Move};
 use mbe_rules::{MetaVarKind, Op};
 use std::alloc::{AllocError, Global};
 use std::mem;

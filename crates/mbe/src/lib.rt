@@ -2,6 +2,7 @@
 #![tactic(auto)]
 
 pub mod bindings;
+mod choices;
 pub mod collecting;
 mod declarative;
 mod expressions;
@@ -12,6 +13,7 @@ pub mod laws;
 pub mod matcher;
 mod place;
 mod putting;
+pub mod threads;
 mod uses;
 
 pub use fragment::expect_fragment;

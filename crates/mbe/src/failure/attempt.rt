@@ -2,8 +2,10 @@
 use crate::collecting::bindings_of;
 use crate::failure::faults::{fault_at, partial_at};
 use crate::failure::values::{Partial, Values};
-use crate::matcher::{Choice, Entry, Thread, are_same_marks};
+use crate::choices::Choice;
+use crate::matcher::are_same_marks;
 use crate::place::{Place, Taken};
+use crate::threads::{Entry, Thread};
 use bumpalo::Bump;
 use fragment_grammar::FragmentGrammar;
 use mbe_rules::{ExpandError, ExpandErrorKind, Op};

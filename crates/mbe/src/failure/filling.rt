@@ -2,7 +2,7 @@
 use crate::failure::faults::binding_error;
 use crate::failure::leaves::{add_text, punct, put_missing, put_number, put_separator, word};
 use crate::failure::values::{Found, Usage, Value, Values};
-use crate::transcriber::put_in;
+use crate::putting::put_in;
 use mbe_rules::{ConcatElement, ExpandError, ExpandErrorKind, Op, RepeatKind, Separator};
 use rustc_lexer::is_ident;
 use std::alloc::{AllocError, Global};

@@ -4,7 +4,7 @@ use Rattle.mbe_rules.specs.Ops.{items_of}
 use Rattle.mbe_rules.specs.declared.parser.Op.{Op, Var, Count, Index, Len, Ignore, Concat, Literal, Ident, Punct, Lifetime, Repeat', Subtree'}
 use Rattle.mbe.specs.Readings as r
 use Rattle.mbe.specs.Units as u
-use Rattle.mbe.proofs.matcher.Thread.has_ended.Goals as goal
+use Rattle.mbe.proofs.threads.Thread.has_ended.Goals as goal
 
 goes_on : (os : List Op) (fs : List r.Frame) (p : u.Place) (o : Op) → Some o ≡ slice_get os 0 → false ≡ r.has_used_up (r.at (items_of os) fs p)
 goes_on [] fs p o e = absurd (cc e)

@@ -2,7 +2,7 @@ use Rattle.std.proofs.Common.{sym, ◌∙◌}
 use Rattle.mbe.specs.Places.{place_of}
 use Rattle.mbe.specs.Threads.{moves_of}
 use Rattle.mbe.proofs.OpsLemmas.{round-apart, round-again, repeats}
-use Rattle.mbe.proofs.matcher.Thread.after_round.Goals as goal
+use Rattle.mbe.proofs.threads.Thread.after_round.Goals as goal
 
 pub returns-in_ok-thread-in-Some : goal.returns-in_ok-thread-in-Some
 returns-in_ok-thread-in-Some c gr =

@@ -7,7 +7,7 @@ use Rattle.mbe.specs.Places.{place_of}
 use Rattle.mbe.specs.Readings as r
 use Rattle.mbe.specs.Threads.{frames_of, moves_of, extended, between_of}
 use Rattle.mbe.specs.Units as u
-use Rattle.mbe.proofs.matcher.Thread.choices_at.Goals as goal
+use Rattle.mbe.proofs.threads.Thread.choices_at.Goals as goal
 
 pub returns-in_ok-choices-in-Subtree : goal.returns-in_ok-choices-in-Subtree
 returns-in_ok-choices-in-Subtree g c =

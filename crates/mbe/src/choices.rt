@@ -1,0 +1,365 @@
+//! The next moves of a partial reading.
+ghost use Rattle.std.specs.Prelude.{◌≡◌, List, [], ◌∷◌, ◌++◌, map, option_map, IfOk};
+ghost use Rattle.mbe_rules.specs.Ops.{items_of, separator_of};
+ghost use Rattle.mbe.specs.Grammar.{Grammar};
+ghost use Rattle.mbe.specs.Paths.{when};
+ghost use Rattle.mbe.specs.Places.{place_of};
+ghost use Rattle.mbe.specs.Readings as r;
+ghost use Rattle.mbe.specs.Units as u;
+ghost use Rattle.mbe.specs.Threads.{state_of, frames_of, moves_of, given, extended, between_of, repetition_of};
+ghost use Rattle.mbe.specs.declared.threads.Frame.{Frame};
+ghost use Rattle.mbe.specs.declared.threads.Frame.TheVariants.{InGroup, InRound, Parted};
+
+use crate::place::{Place, Taken, before, fragment_trees};
+use crate::threads::{Frame, Move, Round, Thread};
+use bumpalo::Bump;
+use fragment_grammar::FragmentGrammar;
+use mbe_rules::{MetaVarKind, Op, RepeatKind, Separator};
+use std::alloc::AllocError;
+use symbols::Symbol;
+
+// A thread after one more move, and what that move takes.
+#[derive(Drop)]
+pub(crate) struct Choice<'a> {
+    pub(crate) thread: Thread<'a>,
+    pub(crate) taken: Option<Taken>,
+}
+
+pub(crate) type Choices<'a> = (Option<Choice<'a>>, Option<Choice<'a>>);
+
+fn borrowed<'a>(separator: &'a Option<Separator>) -> Option<&'a Separator>
+    ensures { between_of result ≡ option_map separator_of separator.now }
+{
+    match separator {
+        Some(between) => Some(between),
+        None => None,
+    }
+}
+
+impl<'a> Thread<'a> {
+    // The thread after a unit of the pattern, where that is here.
+    fn units(
+        &self,
+        arena: &'a Bump,
+        is_here: bool,
+        items: &'a [Op],
+    ) -> Result<Choices<'a>, AllocError>
+        ensures { (p : u.Place) → IfOk result (λ cs. given p cs.0 ++ given p cs.1
+            ≡ map (extended (moves_of self.now.moves)) (when is_here (r.unit_move, r.at (items_of items.now) (frames_of self.now.frames.items) (u.after_unit p)))) }
+    {
+        if !is_here {
+            return Ok((None, None));
+        }
+        let thread = self.moved(arena, items, Move::Unit)?;
+        Ok((
+            Some(Choice {
+                thread,
+                taken: Some(Taken::Unit),
+            }),
+            None,
+        ))
+    }
+
+    // The thread after a fragment, where one is here.
+    fn fragments(
+        &self,
+        arena: &'a Bump,
+        name: &'a Symbol,
+        kind: MetaVarKind,
+        count: Option<usize>,
+        items: &'a [Op],
+        place: &Place<'a>,
+    ) -> Result<Choices<'a>, AllocError>
+        ensures { let p = place_of place.now in
+            IfOk result (λ cs. given p cs.0 ++ given p cs.1
+            ≡ map (extended (moves_of self.now.moves)) (r.fragment_moves name.now kind count (items_of items.now) (frames_of self.now.frames.items) p)) }
+    {
+        match count {
+            None => Ok((None, None)),
+            Some(0) => {
+                if kind != MetaVarKind::Vis {
+                    return Ok((None, None));
+                }
+                let thread = self.moved(arena, items, Move::Nothing { name })?;
+                Ok((
+                    Some(Choice {
+                        thread,
+                        taken: None,
+                    }),
+                    None,
+                ))
+            }
+            Some(count) => {
+                let trees = before(&place.rest, count);
+                let thread = self.moved(arena, items, Move::Fragment { name, kind, trees })?;
+                Ok((
+                    Some(Choice {
+                        thread,
+                        taken: Some(Taken::Fragment(count)),
+                    }),
+                    None,
+                ))
+            }
+        }
+    }
+
+    // The threads after entering a repetition and after skipping it.
+    fn repetitions(&self, arena: &'a Bump, round: Round<'a>) -> Result<Choices<'a>, AllocError>
+        ensures { (g : Grammar) (p : u.Place) → IfOk result (λ cs. given p cs.0 ++ given p cs.1
+            ≡ map (extended (moves_of self.now.moves))
+            (r.next g (r.at (repetition_of round.entry) (frames_of self.now.frames.items) p))) }
+    {
+        let thread = self.entered(arena, round.body, Frame::InRound(round), Move::Enter)?;
+        let first = Some(Choice {
+            thread,
+            taken: None,
+        });
+        if round.kind == RepeatKind::OneOrMore {
+            return Ok((first, None));
+        }
+        let thread = self.moved(arena, round.after, Move::Skip { body: round.body })?;
+        let second = Some(Choice {
+            thread,
+            taken: None,
+        });
+        Ok((first, second))
+    }
+
+    // The thread after a group's opening, where that is here.
+    fn openings(
+        &self,
+        arena: &'a Bump,
+        is_here: bool,
+        inner: &'a [Op],
+        after: &'a [Op],
+    ) -> Result<Choices<'a>, AllocError>
+        ensures { (p : u.Place) → IfOk result (λ cs. given p cs.0 ++ given p cs.1
+            ≡ map (extended (moves_of self.now.moves)) (when is_here (r.unit_move, r.at (items_of inner.now) (r.in_group (items_of after.now) ∷ frames_of self.now.frames.items) (u.after_unit p)))) }
+    {
+        if !is_here {
+            return Ok((None, None));
+        }
+        let thread = self.entered(arena, inner, Frame::InGroup { after }, Move::Unit)?;
+        Ok((
+            Some(Choice {
+                thread,
+                taken: Some(Taken::Unit),
+            }),
+            None,
+        ))
+    }
+
+    // The next moves, at most two, each with the thread after it.
+    pub(crate) fn choices<G: FragmentGrammar>(
+        &self,
+        arena: &'a Bump,
+        grammar: &G,
+        place: &Place<'a>,
+    ) -> Result<Choices<'a>, AllocError>
+        ensures { let p = place_of place.now in
+            IfOk result (λ cs. given p cs.0 ++ given p cs.1
+            ≡ map (extended (moves_of self.now.moves)) (r.next (G.answer grammar.now) (state_of self.now p))) }
+    {
+        match self.items.split_first() {
+            Some((op, rest)) => self.choices_at(arena, grammar, op, rest, place),
+            None => match self.frames.last() {
+                None => Ok((None, None)),
+                Some(&frame) => {
+                    let choices = self.choices_after(arena, frame, place)?;
+                    Ok(choices)
+                }
+            },
+        }
+    }
+
+    fn choices_at<G: FragmentGrammar>(
+        &self,
+        arena: &'a Bump,
+        grammar: &G,
+        op: &'a Op,
+        rest: &'a [Op],
+        place: &Place<'a>,
+    ) -> Result<Choices<'a>, AllocError>
+        requires { self.now.items.now ≡ op.now ∷ rest.now }
+        ensures { let p = place_of place.now in
+            IfOk result (λ cs. given p cs.0 ++ given p cs.1
+            ≡ map (extended (moves_of self.now.moves)) (r.next (G.answer grammar.now) (state_of self.now p))) }
+    {
+        match op {
+            Op::Literal(literal) => {
+                let choices = self.units(arena, place.is_literal(literal), rest)?;
+                Ok(choices)
+            }
+            Op::Ident(ident) => {
+                let choices = self.units(arena, place.is_name(&ident.sym), rest)?;
+                Ok(choices)
+            }
+            Op::Punct(puncts) => {
+                let choices = self.units(arena, place.is_puncts(puncts), rest)?;
+                Ok(choices)
+            }
+            Op::Lifetime(_, ident) => {
+                let choices = self.units(arena, place.is_lifetime(&ident.sym), rest)?;
+                Ok(choices)
+            }
+            Op::Subtree { tokens, delimiter } => {
+                let choices = self.openings(arena, place.is_opening(delimiter.kind), tokens, rest)?;
+                Ok(choices)
+            }
+            Op::Var {
+                name,
+                kind: Some(kind),
+                ..
+            } => {
+                let count = fragment_trees(grammar, *kind, &place.rest);
+                let choices = self.fragments(arena, name, *kind, count, rest, place)?;
+                Ok(choices)
+            }
+            Op::Repeat {
+                tokens,
+                separator,
+                kind,
+            } => {
+                let round = Round {
+                    body: tokens,
+                    separator: borrowed(separator),
+                    kind: *kind,
+                    after: rest,
+                };
+                let choices = self.repetitions(arena, round)?;
+                Ok(choices)
+            }
+            _ => Ok((None, None)),
+        }
+    }
+
+    fn choices_after(
+        &self,
+        arena: &'a Bump,
+        frame: Frame<'a>,
+        place: &Place<'a>,
+    ) -> Result<Choices<'a>, AllocError>
+        requires items { self.now.items.now ≡ [] }
+        requires frames { (fs : List Frame) × (self.now.frames.items ≡ fs ++ (frame ∷ [])) }
+        ensures { (g : Grammar) → let p = place_of place.now in
+            IfOk result (λ cs. given p cs.0 ++ given p cs.1
+            ≡ map (extended (moves_of self.now.moves)) (r.next g (state_of self.now p))) }
+    {
+        match frame {
+            Frame::InGroup { after } => {
+                let choices = self.after_group(arena, after, place)?;
+                Ok(choices)
+            }
+            Frame::Parted(round) => {
+                let choices = self.after_separator(arena, round, place)?;
+                Ok(choices)
+            }
+            Frame::InRound(round) => {
+                let choices = self.after_round(arena, round, place)?;
+                Ok(choices)
+            }
+        }
+    }
+
+    // The thread after a group's closing, where that is here.
+    fn after_group(
+        &self,
+        arena: &'a Bump,
+        after: &'a [Op],
+        place: &Place<'a>,
+    ) -> Result<Choices<'a>, AllocError>
+        requires items { self.now.items.now ≡ [] }
+        requires frames { (fs : List Frame) × (self.now.frames.items ≡ fs ++ (InGroup after ∷ [])) }
+        ensures { (g : Grammar) → let p = place_of place.now in
+            IfOk result (λ cs. given p cs.0 ++ given p cs.1
+            ≡ map (extended (moves_of self.now.moves)) (r.next g (state_of self.now p))) }
+    {
+        if !place.is_closing() {
+            return Ok((None, None));
+        }
+        let thread = self.left(arena, after, Move::Unit)?;
+        let choice = Choice {
+            thread,
+            taken: Some(Taken::Unit),
+        };
+        Ok((Some(choice), None))
+    }
+
+    // The thread in the next round, where there may be one.
+    fn after_separator(
+        &self,
+        arena: &'a Bump,
+        round: Round<'a>,
+        place: &Place<'a>,
+    ) -> Result<Choices<'a>, AllocError>
+        requires items { self.now.items.now ≡ [] }
+        requires frames { (fs : List Frame) × (self.now.frames.items ≡ fs ++ (Parted round ∷ [])) }
+        ensures { (g : Grammar) → let p = place_of place.now in
+            IfOk result (λ cs. given p cs.0 ++ given p cs.1
+            ≡ map (extended (moves_of self.now.moves)) (r.next g (state_of self.now p))) }
+    {
+        if round.kind == RepeatKind::ZeroOrOne {
+            return Ok((None, None));
+        }
+        let thread = self.swapped(arena, round.body, Frame::InRound(round), Move::NextRound)?;
+        let choice = Choice {
+            thread,
+            taken: None,
+        };
+        Ok((Some(choice), None))
+    }
+
+    // The threads after the separator or in the next round, and after the repetition.
+    fn after_round(
+        &self,
+        arena: &'a Bump,
+        round: Round<'a>,
+        place: &Place<'a>,
+    ) -> Result<Choices<'a>, AllocError>
+        requires items { self.now.items.now ≡ [] }
+        requires frames { (fs : List Frame) × (self.now.frames.items ≡ fs ++ (InRound round ∷ [])) }
+        ensures { (g : Grammar) → let p = place_of place.now in
+            IfOk result (λ cs. given p cs.0 ++ given p cs.1
+            ≡ map (extended (moves_of self.now.moves)) (r.next g (state_of self.now p))) }
+    {
+        let thread = self.left(arena, round.after, Move::Leave)?;
+        let last = Some(Choice {
+            thread,
+            taken: None,
+        });
+        match round.separator {
+            Some(between) => {
+                if !place.is_between(between) {
+                    return Ok((None, last));
+                }
+                let thread = self.swapped(
+                    arena,
+                    self.items,
+                    Frame::Parted(round),
+                    Move::Separator,
+                )?;
+                let first = Choice {
+                    thread,
+                    taken: Some(Taken::Unit),
+                };
+                Ok((Some(first), last))
+            }
+            None => {
+                if round.kind == RepeatKind::ZeroOrOne {
+                    return Ok((None, last));
+                }
+                let thread = self.swapped(
+                    arena,
+                    round.body,
+                    Frame::InRound(round),
+                    Move::NextRound,
+                )?;
+                let first = Choice {
+                    thread,
+                    taken: None,
+                };
+                Ok((Some(first), last))
+            }
+        }
+    }
+}
