@@ -1,8 +1,8 @@
 //! How far a pattern reads an argument that it does not fit.
+use crate::choices::Choice;
 use crate::collecting::bindings_of;
 use crate::failure::faults::{fault_at, partial_at};
 use crate::failure::values::{Partial, Values};
-use crate::choices::Choice;
 use crate::matcher::are_same_marks;
 use crate::place::{Place, Taken};
 use crate::threads::{Entry, Thread};
