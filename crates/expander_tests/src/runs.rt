@@ -96,7 +96,7 @@ fn a_read_that_fails_is_the_last_and_writes_nothing(rt: HostRuntime) {
             assert_eq!(rt; seen.status, Status(1), "at {cut}");
             assert!(rt; seen.read_failed && !seen.asked_again && !seen.write_failed);
             assert!(rt; seen.writer.got.is_empty());
-            assert_eq!(rt; seen.told.got.as_slice(), b"read failed\n");
+            assert_eq!(rt; seen.told.got.as_slice(), b"read failed\n".as_slice());
         }
     }
 }
@@ -119,7 +119,7 @@ fn a_write_that_fails_leaves_a_front(rt: HostRuntime) {
             assert_eq!(rt; seen.status, Status(1), "at {room}");
             assert!(rt; seen.write_failed && !seen.read_failed);
             assert_eq!(rt; seen.writer.got.as_slice(), &TEXT.as_bytes()[..room]);
-            assert_eq!(rt; seen.told.got.as_slice(), b"write failed\n");
+            assert_eq!(rt; seen.told.got.as_slice(), b"write failed\n".as_slice());
         }
     }
 }
