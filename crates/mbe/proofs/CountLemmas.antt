@@ -1,10 +1,10 @@
 -- How many values there are, and other expressions.
-use Rattle.std.proofs.Common.{◌≡◌, refl, sym, ap, ◌∙◌, ℕ, zero, suc, ◌+◌, ◌-◌, ◌<◌, ◌≤◌, List, [], ◌∷◌, ◌++◌, length, get_or, drop, drop-cons, arith, reverse}
-use Rattle.std.proofs.lemmas.List.{drop_all, reverse-append}
+use Rattle.std.proofs.Common.{◌≡◌, refl, sym, ap, ◌∙◌, ℕ, zero, suc, ◌+◌, ◌<◌, ◌≤◌, List, [], ◌∷◌, length, get_or, drop, drop-cons, arith}
+use Rattle.std.proofs.lemmas.List.{drop_all}
 use Rattle.std.specs.declared.vec.Vec.{Vec}
 use Rattle.std.specs.declared.alloc.Global.{Global}
 use Rattle.mbe.specs.Bound.{standing_for, values_of}
-use Rattle.mbe.specs.Filling.{count_in, count_values, number_at}
+use Rattle.mbe.specs.Filling.{count_in, count_values}
 use Rattle.mbe.specs.declared.bindings.Binding.{Binding, Rounds}
 use Rattle.mbe.proofs.BoundLemmas.{standing-Rounds}
 

@@ -3,7 +3,6 @@ use Rattle.std.proofs.Common.{◌≡◌, ◌⊎◌, inl, inr, refl, ap, subst, �
 use Rattle.tt_data.specs.Forest.{Forest, empty, leaf, group}
 use Rattle.tt_data.specs.declared.leaf.Leaf.{Leaf}
 use Rattle.tt_data.specs.declared.leaf.Leaf.TheVariants as as_leaf
-use Rattle.tt_data.specs.declared.leaf.Punct.{Punct}
 use Rattle.tt_data.specs.declared.span.Span.{Span}
 use Rattle.tt.proofs.GluedLemmas.{glued-one}
 use Rattle.mbe_rules.specs.Items.{Separator, literal_between, Item, word, puncts, lifetime, dollar, variable, Items, done, item, group_of, repetition, may_skip, has_empty_round, variables}

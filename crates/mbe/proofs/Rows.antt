@@ -15,16 +15,19 @@ use Rattle.tt_data.specs.declared.span.SyntaxContext.TheVariants.{Written, Made}
 use Rattle.fragment_grammar.specs.Steps.{steps}
 use Rattle.fragment_grammar.specs.declared.fragment.Prefix.{Prefix}
 use Rattle.fragment_grammar.specs.declared.fragment.PrefixEntryPoint.TheVariants.{Vis}
-use Rattle.mbe_rules.specs.Items.{Rules}
+use Rattle.mbe_rules.specs.Items.{Rule, Rules}
 use Rattle.mbe_rules.specs.Parsing.{macro_rules_of}
 use Rattle.mbe_rules.specs.Text.{is_char}
 use Rattle.mbe_rules.specs.declared.macro_call_style.MacroCallStyle.TheVariants.{FnLike, Derive}
 use Rattle.mbe_rules.specs.declared.parser.MetaVarKind.{MetaVarKind}
 use Rattle.mbe_rules.specs.declared.parser.MetaVarKind.TheVariants as kind
 use Rattle.mbe_rules.proofs.Written.{trees}
-use Rattle.mbe.specs.Fit.{fit}
+use Rattle.mbe.specs.Bindings.{bindings}
+use Rattle.mbe.specs.Fit.{fit, most_rounds}
 use Rattle.mbe.specs.Fragments.{taken}
 use Rattle.mbe.specs.Grammar.{Grammar}
+use Rattle.mbe.specs.Output.{output}
+use Rattle.mbe.specs.Readings.{the_reading}
 
 -- ---- grammars of the rows
 
@@ -312,3 +315,30 @@ places_of_expressions = refl
 places_of_colons : places_of to_comma "($p:path) => { $p }" "V<a>"
     ≡ Some (written 100 ∷ marked 8 ∷ marked 8 ∷ written 101 ∷ written 102 ∷ written 103 ∷ [])
 places_of_colons = refl
+
+-- ---- how many tokens the template of the first rule puts out, up to the first fault
+
+abbrev first_output : Forest → List Rule → Option ℕ
+first_output argument [] = None
+first_output argument (r ∷ rs) =
+    option_map (λ ms. output any_text most_rounds made (bindings ms) r.template) (the_reading one_step r.pattern argument)
+
+abbrev puts_out : String → String → Option ℕ
+puts_out body argument = first_output (trees argument) (rules_in Edition2024 (trees body)).list
+
+-- all that it gives
+output_of_all : puts_out "($($x:tt)*) => { f [ $($x),* ] ${count($x)} $y }" "a b" ≡ Some 8
+unfolding digits
+output_of_all = refl
+
+-- a variable that is still a list is a fault: what is before it counts, and the group around it
+output_to_a_fault : puts_out "($($x:tt)*) => { f [ g $x ] h }" "a b" ≡ Some 3
+output_to_a_fault = refl
+
+-- a repetition that has to have a round
+output_to_no_round : puts_out "($($x:tt)*) => { f $($x)+ h }" "" ≡ Some 1
+output_to_no_round = refl
+
+-- the second round is a fault, after its separator
+output_to_a_round : puts_out "($($($x:ident)*;)*) => { f $($($x)+),* h }" "a b;;" ≡ Some 4
+output_to_a_round = refl

@@ -36,6 +36,11 @@ Fills r old new o = IfOk r (λ b. ended b new ≡ option_map (extended old) o)
 abbrev pub IsBurstBy : Result Bool TtFault → Building → ℕ → Type 0
 IsBurstBy r b n = r ≡ Err Tokens → most_tokens < count_of b + n
 
+-- the place of the `$` that the first item begins with, where one does
+abbrev pub dollar_place : Items → Option Span
+dollar_place (item (dollar d s) rest) = Some s
+dollar_place _ = None
+
 module _ (mark : Span → Span) (bound : Map) where
   -- what a template gives, and how much it puts out
   abbrev pub gives : List ℕ → Items → Option Forest

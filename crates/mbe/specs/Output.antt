@@ -1,10 +1,10 @@
 -- How many tokens a template puts out, up to the first fault where it has one.
-use Rattle.std.specs.Prelude.{ℕ, suc, zero, ◌+◌, ◌-◌, Bool, true, false, List, [], ◌∷◌, ◌++◌, Option, Some, None, option_map}
+use Rattle.std.specs.Prelude.{ℕ, suc, zero, ◌+◌, ◌-◌, Bool, true, false, List, [], ◌∷◌, ◌++◌, Option, Some, None}
 use Rattle.tt_data.specs.Forest.{Forest, size}
 use Rattle.tt_data.specs.declared.span.Span.{Span}
-use Rattle.mbe_rules.specs.Items.{Item, Separator, Items, done, item, group_of, repetition}
+use Rattle.mbe_rules.specs.Items.{Items, done, item, group_of, repetition}
 use Rattle.mbe_rules.specs.declared.parser.RepeatKind.{RepeatKind}
-use Rattle.mbe_rules.specs.declared.parser.RepeatKind.TheVariants.{ZeroOrMore, OneOrMore, ZeroOrOne}
+use Rattle.mbe_rules.specs.declared.parser.RepeatKind.TheVariants.{ZeroOrOne}
 use Rattle.mbe.specs.Bindings.{Map}
 use Rattle.mbe.specs.Filling.{item_in, round_stands, filled_in, rounds_of, separator_leaves}
 

@@ -1,6 +1,5 @@
 -- How a round uses its variables, taken together
 use Rattle.std.specs.Prelude.{ℕ, Bool, true, false, List, [], ◌∷◌, map}
-use Rattle.mbe_rules.specs.Items.{Items}
 use Rattle.mbe.specs.Bindings.{Map, binding_of}
 use Rattle.mbe.specs.Filling as f
 use Rattle.mbe.specs.Filling.{use_in, names}

@@ -14,6 +14,7 @@ pub mod matcher;
 mod place;
 mod putting;
 pub mod threads;
+mod transcriber;
 mod uses;
 
 pub use fragment::expect_fragment;

@@ -1,10 +1,10 @@
 -- One item after the other.
-use Rattle.std.proofs.Common.{◌∙◌, sym, ap, arith}
+use Rattle.std.proofs.Common.{◌∙◌, ap, arith}
 use Rattle.mbe_rules.specs.Ops.{items_of}
 use Rattle.mbe.specs.Bound.{map_of}
 use Rattle.mbe.specs.Filling.{names}
 use Rattle.mbe.specs.Uses.{together, use_of, uses_of}
-use Rattle.mbe.proofs.UsesLemmas.{op-used, ops-used, names-Concat, names-Repeat, names-Subtree}
+use Rattle.mbe.proofs.UsesLemmas.{op-used, ops-used, names-Repeat, names-Subtree}
 use Rattle.mbe.proofs.uses.+using.Goals as goal
 
 pub use_of_all-loop-op-preserved : goal.use_of_all-loop-op-preserved

@@ -2,7 +2,7 @@ use Rattle.std.proofs.Common.{◌∙◌, ap, ◌++◌, ◌∷◌, []}
 use Rattle.mbe_rules.specs.Ops.{items_of}
 use Rattle.mbe.specs.Bound.{map_of}
 use Rattle.mbe.specs.Filling.{names}
-use Rattle.mbe.specs.Uses.{has_it, together, use_of, uses_of}
+use Rattle.mbe.specs.Uses.{together, use_of, uses_of}
 use Rattle.mbe.proofs.UsesLemmas.{stands-by}
 use Rattle.mbe.proofs.uses.round_stands.Goals as goal
 

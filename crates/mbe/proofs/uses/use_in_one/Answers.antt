@@ -1,7 +1,6 @@
 use Rattle.std.proofs.Common.{◌∙◌, ap}
 use Rattle.mbe.specs.Bindings.{value_at}
 use Rattle.mbe.specs.Bound.{values_of}
-use Rattle.mbe.specs.Filling.{use_of_member}
 use Rattle.mbe.proofs.UsesLemmas.{use-last}
 use Rattle.mbe.proofs.uses.use_in_one.Goals as goal
 
