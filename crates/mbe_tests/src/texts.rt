@@ -6,7 +6,7 @@ use std::test::Fail;
 use tt::{Edition, Span, SyntaxContext, TextRange, TopSubtree};
 
 /// The trees of a text.
-pub fn trees(alloc: Global, text: &str) -> Result<TopSubtree, Fail> {
+pub(crate) fn trees(alloc: Global, text: &str) -> Result<TopSubtree, Fail> {
     if text.len() >= 100_000 {
         return Err(Fail::new("a text is long"));
     }
@@ -18,16 +18,16 @@ pub fn trees(alloc: Global, text: &str) -> Result<TopSubtree, Fail> {
 }
 
 /// All words are of this edition.
-pub fn at_2021(_context: SyntaxContext) -> Edition {
+pub(crate) fn at_2021(_context: SyntaxContext) -> Edition {
     Edition::Edition2021
 }
 
-pub fn at_2024(_context: SyntaxContext) -> Edition {
+pub(crate) fn at_2024(_context: SyntaxContext) -> Edition {
     Edition::Edition2024
 }
 
 /// The place of the calls.
-pub fn call_site() -> Span {
+pub(crate) fn call_site() -> Span {
     Span {
         range: TextRange { start: 7, end: 9 },
         anchor: 3,
