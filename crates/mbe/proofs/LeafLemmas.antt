@@ -15,7 +15,8 @@ use Rattle.mbe_rules.specs.Relabelling.{punct_with}
 use Rattle.mbe_rules.specs.Items.{Items, done, item, group_of, repetition, word, puncts, lifetime, dollar}
 use Rattle.mbe.specs.Bindings.{Map}
 use Rattle.mbe.specs.Fit.{most_rounds}
-use Rattle.mbe.specs.Given.{Fills, IsBurstBy, ended, dollar_gives, dollar_place, plain_gives, is_name}
+use Rattle.mbe.specs.Given.{Fills, IsBurstBy, ended, dollar_gives, dollar_place, plain_gives}
+use Rattle.mbe.specs.Markers.{is_name}
 use Rattle.mbe.proofs.PuttingLemmas.{extended-more, count-extended}
 
 unsome : {A : Type 0} {a b : A} → Some a ≡ Some b → a ≡ b

@@ -31,5 +31,7 @@ pub mod PuttingLemmas
 pub mod UsesLemmas
 pub mod CountLemmas
 pub mod LeafLemmas
+pub mod FillLemmas
+pub mod FirstFitLemmas
 pub mod TextLemmas
 pub mod MacroLemmas

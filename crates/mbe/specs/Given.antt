@@ -1,6 +1,5 @@
 -- What filling does to a tree under construction, item by item
-use Rattle.std.specs.Prelude.{◌≡◌, ◌<◌, ◌+◌, ℕ, suc, Bool, true, false, List, [], ◌∷◌, ◌++◌, Option, Some, None, option_map, Result, Err, IfOk, chars}
-use Rattle.rustc_lexer.specs.Character.{is_ident}
+use Rattle.std.specs.Prelude.{◌≡◌, ◌<◌, ◌+◌, ℕ, suc, Bool, true, false, List, [], ◌∷◌, ◌++◌, Option, Some, None, option_map, Result, Err, IfOk}
 use Rattle.tt.specs.Building.{Building, extended, count_of, most_tokens}
 use Rattle.tt_data.specs.Forest.{Forest, empty, group, size}
 use Rattle.tt_data.specs.Spans.{delimiter_with}
@@ -10,18 +9,12 @@ use Rattle.tt_data.specs.fault.TtFault.{TtFault}
 use Rattle.tt_data.specs.fault.TtFault.TheVariants.{Tokens}
 use Rattle.mbe_rules.specs.Items.{Item, dollar, Separator, Items, done, item, group_of, repetition}
 use Rattle.mbe_rules.specs.declared.parser.RepeatKind.{RepeatKind}
+use Rattle.mbe_rules.specs.declared.parser.RepeatKind.TheVariants.{OneOrMore, ZeroOrOne}
 use Rattle.mbe.specs.Bindings.{Map}
 use Rattle.mbe.specs.Filling.{dollar_in, item_in, round_stands, filled_in, rounds_from, rounds_of, separator_leaves}
 use Rattle.mbe.specs.Fit.{most_rounds}
+use Rattle.mbe.specs.Markers.{is_name}
 use Rattle.mbe.specs.Output.{output_in, output_from, output_of_rounds, size_of}
-
--- a text is one identifier
-abbrev pub is_name : List ℕ → Bool
-is_name text = is_ident (chars text)
-
--- the answers of a closure about places are those of a function
-abbrev pub IsMarkedBy : (Span → Span → Type 0) → (Span → Span) → Type 0
-IsMarkedBy answered mark = (s t : Span) → answered s t → t ≡ mark s
 
 -- a tree under construction after filling; none after a fault
 abbrev pub ended : Bool → Building → Option Building
@@ -35,6 +28,21 @@ Fills r old new o = IfOk r (λ b. ended b new ≡ option_map (extended old) o)
 -- a tree is refused for its size only where it would have more tokens than it may with so many more
 abbrev pub IsBurstBy : Result Bool TtFault → Building → ℕ → Type 0
 IsBurstBy r b n = r ≡ Err Tokens → most_tokens < count_of b + n
+
+-- a repetition may have no round
+abbrev pub may_be_empty : RepeatKind → Bool
+may_be_empty OneOrMore = false
+may_be_empty _ = true
+
+-- a repetition has one round at most
+abbrev pub is_single : RepeatKind → Bool
+is_single ZeroOrOne = true
+is_single _ = false
+
+-- the first item holds no others
+abbrev pub is_plain : Items → Bool
+is_plain (item i rest) = true
+is_plain _ = false
 
 -- the place of the `$` that the first item begins with, where one does
 abbrev pub dollar_place : Items → Option Span

@@ -7,10 +7,14 @@ pub mod Readings
 pub mod Bindings
 pub mod Filling
 pub mod Fit
-pub mod Output
 pub mod Kept
 pub mod Macros
 pub mod MacroEquality
+-- what a call gives, and when it gives too much
+pub mod Markers
+pub mod Answers
+pub mod Output
+pub mod Bursts
 -- what the functions inside the crate promise each other
 pub mod Waiting
 pub mod Positions

@@ -12,7 +12,8 @@ ghost use Rattle.mbe.specs.Bindings.{Map, binding_of};
 ghost use Rattle.mbe.specs.Bound.{map_of, standing_for, values_of};
 ghost use Rattle.mbe.specs.Filling.{count_in, count_values, dollar_in, fragment_in, identifier, ignored, integer, joined_text, number_at, put_in, rawness_of, reserved_words, text_in, text_of_value, unbound, value_in, variable_in};
 ghost use Rattle.mbe.specs.Fit.{most_rounds};
-ghost use Rattle.mbe.specs.Given.{Fills, IsBurstBy, is_name};
+ghost use Rattle.mbe.specs.Given.{Fills, IsBurstBy};
+ghost use Rattle.mbe.specs.Markers.{is_name};
 ghost use Rattle.mbe.specs.Output.{size_of};
 ghost use Rattle.mbe.specs.Room.{IsWantOfRoom};
 

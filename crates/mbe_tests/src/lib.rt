@@ -1,10 +1,18 @@
-//! Tests of the public calls of `mbe`, in a crate of their own so that it is proved once. Texts are read
-//! by `bridge`.
+//! Tests of the public calls of `mbe`, in a crate of their own so that it is proved once.
+//!
+//! Most are run from text: a definition and a call are read by `bridge`, and what the call gives is printed
+//! by it. Expected values were worked out by hand.
 #![tactic(auto)]
 
+#[cfg(test)]
+mod calls;
+#[cfg(test)]
+mod failures;
 #[cfg(test)]
 mod fragments;
 #[cfg(test)]
 mod macros;
+#[cfg(test)]
+mod refused;
 #[cfg(test)]
 mod texts;

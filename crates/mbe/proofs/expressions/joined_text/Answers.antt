@@ -3,7 +3,7 @@ use Rattle.std.proofs.Common.{arith}
 use Rattle.std.specs.Prelude.{string_bytes}
 use Rattle.mbe.specs.Bound.{map_of}
 use Rattle.mbe.specs.Fit.{most_rounds}
-use Rattle.mbe.specs.Given.{is_name}
+use Rattle.mbe.specs.Markers.{is_name}
 use Rattle.mbe.proofs.TextLemmas.{part-put, part-fault, parts-put, told-fault, told-text}
 use Rattle.mbe.proofs.expressions.joined_text.Goals as goal
 

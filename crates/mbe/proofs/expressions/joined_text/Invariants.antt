@@ -2,7 +2,7 @@ use Rattle.std.specs.Prelude.{string_bytes}
 use Rattle.tt_data.specs.declared.span.Span.{Span}
 use Rattle.mbe.specs.Bound.{map_of}
 use Rattle.mbe.specs.Fit.{most_rounds}
-use Rattle.mbe.specs.Given.{is_name}
+use Rattle.mbe.specs.Markers.{is_name}
 use Rattle.mbe.proofs.TextLemmas.{TextFrom}
 use Rattle.mbe.proofs.expressions.joined_text.Given as goal
 

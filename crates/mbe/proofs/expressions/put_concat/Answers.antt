@@ -4,7 +4,8 @@ use Rattle.tt.specs.Building.{extended}
 use Rattle.mbe.specs.Bound.{map_of}
 use Rattle.mbe.specs.Filling.{identifier}
 use Rattle.mbe.specs.Fit.{most_rounds}
-use Rattle.mbe.specs.Given.{Fills, IsBurstBy, is_name}
+use Rattle.mbe.specs.Given.{Fills, IsBurstBy}
+use Rattle.mbe.specs.Markers.{is_name}
 use Rattle.mbe.specs.Output.{size_of}
 use Rattle.mbe.proofs.expressions.put_concat.Goals as goal
 

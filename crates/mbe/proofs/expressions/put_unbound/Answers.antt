@@ -5,7 +5,8 @@ use Rattle.tt_data.specs.declared.leaf.Leaf.TheVariants as as_leaf
 use Rattle.tt_data.specs.declared.leaf.Spacing.TheVariants.{Alone}
 use Rattle.mbe.specs.Filling.{punct_at, unbound}
 use Rattle.mbe.specs.Fit.{most_rounds}
-use Rattle.mbe.specs.Given.{Fills, is_name}
+use Rattle.mbe.specs.Given.{Fills}
+use Rattle.mbe.specs.Markers.{is_name}
 use Rattle.mbe.proofs.LeafLemmas.{fills-after, burst-after}
 use Rattle.mbe.proofs.expressions.put_unbound.Goals as goal
 

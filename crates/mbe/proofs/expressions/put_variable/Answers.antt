@@ -2,7 +2,8 @@ use Rattle.std.proofs.Common.{subst}
 use Rattle.mbe.specs.Bound.{map_of}
 use Rattle.mbe.specs.Filling.{fragment_in, variable_in}
 use Rattle.mbe.specs.Fit.{most_rounds}
-use Rattle.mbe.specs.Given.{Fills, IsBurstBy, is_name}
+use Rattle.mbe.specs.Given.{Fills, IsBurstBy}
+use Rattle.mbe.specs.Markers.{is_name}
 use Rattle.mbe.specs.Output.{size_of}
 use Rattle.mbe.proofs.expressions.put_variable.Goals as goal
 

@@ -1,6 +1,6 @@
 use Rattle.tt_data.specs.declared.span.Span.{Span}
 use Rattle.mbe_rules.specs.Relabelling.{punct_with}
-use Rattle.mbe.specs.Given.{IsMarkedBy}
+use Rattle.mbe.specs.Markers.{IsMarkedBy}
 use Rattle.mbe.proofs.LeafLemmas.{PunctsFrom}
 use Rattle.mbe.proofs.transcriber.put_marked_puncts.Given as goal
 

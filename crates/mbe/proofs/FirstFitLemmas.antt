@@ -1,0 +1,71 @@
+-- Going through rules for the first that fits.
+use Rattle.std.proofs.Common.{◌≡◌, refl, sym, ap, ◌∙◌, ℕ, zero, suc, ◌<◌, Bool, true, false, ◌||◌, List, [], ◌∷◌, map, length, get_or, drop, drop-cons, Option, Some, None, option_map, arith}
+use Rattle.std.specs.List.{list_any}
+use Rattle.tt.specs.Tops.{Top}
+use Rattle.tt_data.specs.Forest.{Forest}
+use Rattle.tt_data.specs.declared.delimiter.Delimiter.{Delimiter}
+use Rattle.mbe.specs.Answers.{within}
+use Rattle.tt_data.specs.declared.span.Span.{Span}
+use Rattle.mbe_rules.specs.Ops.{rule_of}
+use Rattle.mbe_rules.specs.declared.macro_call_style.MacroCallStyle.{MacroCallStyle}
+use Rattle.mbe_rules.specs.declared.rules.Rule.{Rule}
+use Rattle.mbe.specs.Bursts.{bursts}
+use Rattle.mbe.specs.Fit.{styled_fit, or_later, fit_from}
+use Rattle.mbe.specs.Grammar.{Grammar}
+
+or-false : (a b : Bool) → (a || b) ≡ false → (a ≡ false) × (b ≡ false)
+or-false true b e = absurd (cc e)
+or-false false b e = (refl, e)
+
+-- what holds of no element doesn't hold of one of them
+pub none-at : {A B : Type 0} (p : B → Bool) (f : A → B) (xs : List A) (i : ℕ) (x : A) → list_any p (map f xs) ≡ false → i < length xs → x ≡ get_or xs i x →
+    p (f x) ≡ false
+none-at p f [] i x h k e = absurd (omega arith)
+none-at p f (y ∷ xs) zero x h k e = ap (λ z. p (f z)) e ∙ (or-false (p (f y)) (list_any p (map f xs)) h).0
+none-at p f (y ∷ xs) (suc i) x h k e = none-at p f xs i x (or-false (p (f y)) (list_any p (map f xs)) h).1 (omega arith) e
+
+-- a rule's number and the tree that it gives
+abbrev numbered : ℕ → Top → Option (ℕ × Top)
+numbered i t = Some (i, t)
+
+-- what is given, inside brackets
+abbrev all_within : Delimiter → Option (ℕ × Forest) → Option (ℕ × Top)
+all_within top o = option_map (λ r. (r.0, within top r.1)) o
+
+module _ (is_identifier : List ℕ → Bool) (grammar : Grammar) (mark : Span → Span) (style : MacroCallStyle) (argument : Forest) where
+  -- the first that fits is among the rules that are left, or there is none
+  abbrev pub FitsFrom : List Rule → ℕ → Type 0
+  FitsFrom rs i =
+      fit_from is_identifier grammar mark style argument i (map rule_of (drop i rs))
+      ≡ fit_from is_identifier grammar mark style argument 0 (map rule_of rs)
+
+  at-rule : (rs : List Rule) (i : ℕ) (x : Rule) (o : Option Forest) → i < length rs → x ≡ get_or rs i x →
+      o ≡ styled_fit is_identifier grammar mark style (rule_of x) argument → FitsFrom rs i →
+      or_later i o (fit_from is_identifier grammar mark style argument (suc i) (map rule_of (drop (suc i) rs)))
+      ≡ fit_from is_identifier grammar mark style argument 0 (map rule_of rs)
+  at-rule rs i x o h e t from =
+      let d : drop i rs ≡ x ∷ drop (suc i) rs = drop-cons rs i x h ∙ ap (λ y. y ∷ drop (suc i) rs) (sym e) in
+      ap (λ p. or_later i p (fit_from is_identifier grammar mark style argument (suc i) (map rule_of (drop (suc i) rs)))) t
+      ∙ sym (ap (λ l. fit_from is_identifier grammar mark style argument i (map rule_of l)) d) ∙ from
+
+  pub fits-here : (rs : List Rule) (i : ℕ) (x : Rule) (f : Forest) → i < length rs → x ≡ get_or rs i x →
+      Some f ≡ styled_fit is_identifier grammar mark style (rule_of x) argument → FitsFrom rs i →
+      Some (i, f) ≡ fit_from is_identifier grammar mark style argument 0 (map rule_of rs)
+  fits-here rs i x f h e t from = at-rule rs i x (Some f) h e t from
+
+  pub fits-there : (rs : List Rule) (i : ℕ) (x : Rule) (top : Delimiter) (t : Top) → i < length rs → x ≡ get_or rs i x →
+      Some t ≡ option_map (within top) (styled_fit is_identifier grammar mark style (rule_of x) argument) → FitsFrom rs i →
+      numbered i t ≡ all_within top (fit_from is_identifier grammar mark style argument 0 (map rule_of rs))
+  fits-there rs i x top t h e u from = go (styled_fit is_identifier grammar mark style (rule_of x) argument) refl u
+    where
+      go : (o : Option Forest) → o ≡ styled_fit is_identifier grammar mark style (rule_of x) argument → Some t ≡ option_map (within top) o →
+          numbered i t ≡ all_within top (fit_from is_identifier grammar mark style argument 0 (map rule_of rs))
+      go None w v = absurd (cc v)
+      go (Some f) w v =
+          let same : t ≡ within top f = cc v in
+          ap (numbered i) same ∙ ap (all_within top) (fits-here rs i x f h e w from)
+
+  -- what puts out too much is among the rules that are left only if it is among all
+  abbrev pub BurstsFrom : List Rule → ℕ → Type 0
+  BurstsFrom rs i =
+      bursts is_identifier grammar mark (map rule_of (drop i rs)) style argument ≡ true → bursts is_identifier grammar mark (map rule_of rs) style argument ≡ true

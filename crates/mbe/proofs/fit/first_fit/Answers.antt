@@ -1,0 +1,18 @@
+-- Rule by rule.
+use Rattle.std.proofs.Common.{sym, ◌∙◌}
+use Rattle.tt.specs.Views.{forest}
+use Rattle.mbe_rules.specs.Items.{has_empty_round}
+use Rattle.mbe_rules.specs.Ops.{rule_of}
+use Rattle.mbe.specs.Markers.{is_name}
+use Rattle.mbe.proofs.FirstFitLemmas.{none-at, fits-there}
+use Rattle.mbe.proofs.fit.first_fit.Goals as goal
+
+pub styled_fit-requires-clause-pattern : goal.styled_fit-requires-clause-pattern
+styled_fit-requires-clause-pattern g c =
+    none-at (λ r. has_empty_round r.pattern) rule_of c.args.list.now c.loop-number.number c.index-list-number.result c.requires.patterns c.loop-number-test.true c.index-list-number.is
+
+pub returns-in-Some-clause-fit : goal.returns-in-Some-clause-fit
+returns-in-Some-clause-fit g c = λ mark marked.
+    fits-there is_name (g.G.FragmentGrammar.answer c.args.grammar.now) mark c.args.style (forest c.args.argument) c.args.list.now c.loop-number.number
+    c.index-list-number.result c.args.top c.in-Some.tree c.loop-number-test.true c.index-list-number.is
+    (sym c.in-Some.is ∙ c.in_ok-tree.ensures.tree mark marked) (c.loop-number.invariant mark marked).0

@@ -1,0 +1,104 @@
+//! What a call of a macro gives.
+ghost use Rattle.std.specs.Prelude.{◌≡◌, None, Some, Err, true, IfErr, IfOk, IfSome, IsOkUnless, IsSome, MatchOption, option_map};
+ghost use Rattle.tt.specs.Views.{forest};
+ghost use Rattle.mbe.specs.Answers.{within, no_brackets};
+ghost use Rattle.mbe.specs.Fit as spec;
+ghost use Rattle.mbe.specs.Macros.{rules_of};
+ghost use Rattle.mbe.specs.Markers.{IsMarkedBy, is_name};
+ghost use Rattle.mbe.specs.Bursts.{bursts};
+ghost use Rattle.mbe.specs.Room.{IsWantOfRoom};
+ghost use Rattle.tt_data.specs.declared.span.Span.{Span};
+ghost use Rattle.tt_data.specs.fault.TtFault.TheVariants.{Memory, Tokens};
+
+use crate::failure::failure;
+use crate::fit::first_fit;
+use crate::kept::DeclarativeMacro;
+use fragment_grammar::FragmentGrammar;
+use mbe_rules::{ExpandResult, MacroCallStyle, MatchedArmIndex, ValueResult};
+use std::alloc::Global;
+use tt::{Delimiter, Span, TokenTreesView, TopSubtree, TtFault};
+
+impl DeclarativeMacro {
+    /// The first rule that fits a call with this argument, by its place among all rules, and what it
+    /// gives, inside the brackets `top`: none where no rule fits. Nothing is copied of the argument
+    /// but what the rule puts in. (The Rust Reference, "Macros By Example".)
+    ///
+    /// The macro is not broken, `err()` is none, and `marker`, which says where a template's tokens
+    /// stand in what is given, may be called on every place.
+    ///
+    /// # Errors
+    ///
+    /// `Memory`, or `Tokens` where a rule that is tried puts out more tokens than a tree may have, be it
+    /// before a fault.
+    pub fn fit<G: FragmentGrammar, M: Fn(Span) -> Span>(
+        &self,
+        alloc: Global,
+        grammar: &G,
+        argument: TokenTreesView<'_>,
+        marker: &M,
+        call_style: MacroCallStyle,
+        top: Delimiter,
+    ) -> Result<Option<(u32, TopSubtree)>, TtFault>
+        requires whole { (rules_of self.now).err ≡ None }
+        requires marker { M.IsAlwaysCallable marker.now }
+        ensures fit { (mark : Span → Span) → IsMarkedBy (M.post marker.now) mark → IfOk result (λ o. o
+            ≡ option_map (λ r. (r.0, within top r.1)) (spec.fit is_name (G.answer grammar.now) mark (rules_of self.now).list call_style (forest argument.entry))) }
+        ensures faults { IfErr result IsWantOfRoom }
+        ensures tokens { (mark : Span → Span) → IsMarkedBy (M.post marker.now) mark → result ≡ Err Tokens →
+            bursts is_name (G.answer grammar.now) mark (rules_of self.now).list call_style (forest argument.entry) ≡ true }
+    {
+        match first_fit(
+            alloc,
+            grammar,
+            self.list(),
+            call_style,
+            argument,
+            marker,
+            top,
+        )? {
+            Some((number, tree)) => Ok(Some((number as u32, tree))),
+            None => Ok(None),
+        }
+    }
+
+    /// Expands a call. Where a rule fits it answers what the first that does gives, inside no brackets,
+    /// whose ends stand at `call_site`, with that rule's place among all rules and no error. Elsewhere
+    /// there is an error. (The Rust Reference, "Macros By Example".)
+    ///
+    /// The macro is not broken, `err()` is none, and `marker`, which says where a template's tokens
+    /// stand in what is given, may be called on every place.
+    ///
+    /// # Errors
+    ///
+    /// `Memory`, or `Tokens` where a rule that is tried puts out more tokens than a tree may have, be it
+    /// before a fault.
+    pub fn expand<G: FragmentGrammar, M: Fn(Span) -> Span>(
+        &self,
+        alloc: Global,
+        grammar: &G,
+        tt: &TopSubtree,
+        marker: &M,
+        call_style: MacroCallStyle,
+        call_site: Span,
+    ) -> Result<ExpandResult<(TopSubtree, MatchedArmIndex)>, TtFault>
+        requires whole { (rules_of self.now).err ≡ None }
+        requires marker { M.IsAlwaysCallable marker.now }
+        ensures answer { (mark : Span → Span) → IsMarkedBy (M.post marker.now) mark → IfOk result (λ r.
+            MatchOption (spec.fit is_name (G.answer grammar.now) mark (rules_of self.now).list call_style tt.now.inner)
+            (IsSome r.err)
+            (λ f. r ≡ record { value = (within (no_brackets call_site) f.1, Some f.0); err = None })) }
+        ensures faults { IfErr result IsWantOfRoom }
+        ensures tokens { (mark : Span → Span) → IsMarkedBy (M.post marker.now) mark → result ≡ Err Tokens →
+            bursts is_name (G.answer grammar.now) mark (rules_of self.now).list call_style tt.now.inner ≡ true }
+    {
+        let top = Delimiter::invisible_spanned(call_site);
+        match self.fit(alloc, grammar, tt.token_trees(), marker, call_style, top)? {
+            Some((number, tree)) => Ok(ValueResult::ok((tree, Some(number)))),
+            None => {
+                let (tree, number, err) =
+                    failure(alloc, grammar, self.list(), call_style, tt, marker, call_site)?;
+                Ok(ValueResult::new((tree, number), err))
+            }
+        }
+    }
+}
