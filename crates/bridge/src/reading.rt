@@ -1,8 +1,8 @@
 //! Reading: the tokens of a text as trees.
-ghost use Rattle.std.specs.Prelude.{◌≡◌, ◌+◌, ◌<◌, ◌^◌, ℕ, List, length, chars, IfOk, IfErr, IsOk, OnOk};
-ghost use Rattle.bridge.specs.ReadSteps.{IsRefusal, IsStepRefusal, MayCut, Takes, first_kind, spacing_at, steps_in, trees_of};
+ghost use Rattle.std.specs.Prelude.{◌≡◌, ◌≢◌, ◌+◌, ◌<◌, ◌^◌, ℕ, List, [], length, chars, true, false, IfOk, IfErr, OnOk};
+ghost use Rattle.bridge.specs.ReadSteps.{IsClosed, IsRefusal, IsStepRefusal, MayCut, Takes, first_kind, spacing_at, steps_in, trees_of};
 ghost use Rattle.bridge.specs.ReadText.{IsRead, IsReadRefusal, text_top};
-ghost use Rattle.bridge.specs.Reading.{PlacedToken, placed_from, range_of};
+ghost use Rattle.bridge.specs.Reading.{DoesNotFit, IsFault, PlacedToken, placed_from, range_of};
 ghost use Rattle.bridge.specs.TokenSteps.{is_mark, sort_of, steps_of_sort, text_steps};
 ghost use Rattle.bridge.specs.declared.sort.Sort.TheVariants.{Closing};
 ghost use Rattle.rustc_lexer.specs.Lexing.{tokens_of};
@@ -71,26 +71,31 @@ fn add_trees(
     }
 }
 
+// Closes the innermost open group where a bracket of this kind fits it, and answers whether it does.
+fn close_innermost(builder: &mut TopSubtreeBuilder, kind: DelimiterKind, range: TextRange) -> bool
+    ensures closed { result ≡ true → IsClosed kind range builder.old.tree builder.new.tree }
+    ensures kept { result ≡ false → (builder.new.tree ≡ builder.old.tree) × DoesNotFit kind builder.old.tree.groups }
+{
+    match builder.innermost() {
+        Some((open, _)) if open == kind => builder.close(written_at(range)).is_ok(),
+        _ => false,
+    }
+}
+
 // Closes the innermost open group by a bracket of this kind, or answers the fault where it does not fit.
 fn close(
     builder: &mut TopSubtreeBuilder,
     kind: DelimiterKind,
     range: TextRange,
-) -> Result<Option<ReadFault>, TtFault>
-    ensures takes { IfOk result (λ fault. (t : PlacedToken) (after : List PlacedToken) → range_of t ≡ range →
-        Takes (steps_of_sort (Closing kind) t after) builder.old.tree builder.new.tree fault) }
-    ensures ok { IsOk result }
+) -> Option<ReadFault>
+    ensures { (t : PlacedToken) (after : List PlacedToken) → range_of t ≡ range →
+        Takes (steps_of_sort (Closing kind) t after) builder.old.tree builder.new.tree result }
 {
-    match builder.innermost() {
-        Some((open, _)) if open == kind => {
-            builder.close(written_at(range))?;
-            Ok(None)
-        }
-        _ => Ok(Some(ReadFault {
-            kind: ReadFaultKind::CloserDoesNotFit,
-            range,
-        })),
+    if close_innermost(builder, kind, range) {
+        return None;
     }
+    let kind = ReadFaultKind::CloserDoesNotFit;
+    Some(ReadFault { kind, range })
 }
 
 // Puts in what a token is read as, before a token of the next kind, or answers the fault.
@@ -114,7 +119,7 @@ fn add(
 {
     match sort {
         Sort::Opening(kind) => open_group(builder, kind, written_at(range))?,
-        Sort::Closing(kind) => return close(builder, kind, range),
+        Sort::Closing(kind) => return Ok(close(builder, kind, range)),
         Sort::Neither => {
             let kind = ReadFaultKind::BadToken;
             return Ok(Some(ReadFault { kind, range }));
@@ -124,20 +129,28 @@ fn add(
     Ok(None)
 }
 
-// The trees of all tokens, or the innermost group that is left open.
+// The fault of a text at whose end groups are open: the innermost of them, at its bracket.
+fn left_open(builder: TopSubtreeBuilder) -> ReadFault
+    requires { builder.tree.groups ≢ [] }
+    ensures { IsFault (steps_in builder.tree) result }
+{
+    let Some((_, open_span)) = builder.innermost() else {
+        unreachable!("a group is open");
+    };
+    ReadFault {
+        kind: ReadFaultKind::GroupLeftOpen,
+        range: open_span.range,
+    }
+}
+
+// The trees of all tokens, or the fault where a group is left open.
 fn whole(builder: TopSubtreeBuilder) -> Read
     requires { builder.tree.top ≡ text_top }
     ensures { IsRead (steps_in builder.tree) result }
 {
-    if let Some((_, open_span)) = builder.innermost() {
-        return Read::Fault(ReadFault {
-            kind: ReadFaultKind::GroupLeftOpen,
-            range: open_span.range,
-        });
-    }
     match builder.build() {
         Ok(tree) => Read::Tree(tree),
-        Err(_) => unreachable!("no group is open"),
+        Err((builder, _)) => Read::Fault(left_open(builder)),
     }
 }
 
