@@ -14,6 +14,7 @@ use crate::fault::{ReadFault, ReadFaultKind};
 use crate::leaves::{
     add_literal, add_mark, add_name, add_quoted_name, name_in, open_group, written_at,
 };
+use crate::names::Names;
 use crate::outcome::Read;
 use crate::sort::{Sort, sort_of};
 use rustc_lexer::{Token, TokenKind, laws};
@@ -43,7 +44,7 @@ fn spacing_at(next: Option<TokenKind>) -> Spacing
 
 // Puts in what a token is read as that is no bracket.
 fn add_trees(
-    alloc: Global,
+    names: &mut Names,
     builder: &mut TopSubtreeBuilder,
     sort: Sort,
     text: &str,
@@ -58,14 +59,14 @@ fn add_trees(
 {
     let span = written_at(range);
     match sort {
-        Sort::Name(is_raw) => add_name(alloc, builder, name_in(is_raw, text), is_raw, span),
+        Sort::Name(is_raw) => add_name(names, builder, name_in(is_raw, text), is_raw, span),
         Sort::Mark(char) => add_mark(builder, char, spacing_at(next), span),
-        Sort::QuotedName => add_quoted_name(alloc, builder, text, range),
+        Sort::QuotedName => add_quoted_name(names, builder, text, range),
         Sort::Doc { style, is_block } => {
-            add_doc(alloc, builder, style, doc_text(is_block, text), span)
+            add_doc(names, builder, style, doc_text(is_block, text), span)
         }
         Sort::Value { form, suffix_start } => {
-            add_literal(alloc, builder, form, suffix_start, text, span)
+            add_literal(names.alloc, builder, form, suffix_start, text, span)
         }
         _ => Ok(()),
     }
@@ -100,7 +101,7 @@ fn close(
 
 // Puts in what a token is read as, before a token of the next kind, or answers the fault.
 fn add(
-    alloc: Global,
+    names: &mut Names,
     builder: &mut TopSubtreeBuilder,
     sort: Sort,
     text: &str,
@@ -124,7 +125,7 @@ fn add(
             let kind = ReadFaultKind::BadToken;
             return Ok(Some(ReadFault { kind, range }));
         }
-        _ => add_trees(alloc, builder, sort, text, range, next)?,
+        _ => add_trees(names, builder, sort, text, range, next)?,
     }
     Ok(None)
 }
@@ -178,6 +179,7 @@ pub fn read(alloc: Global, text: &str, tokens: &[Token]) -> Result<Read, TtFault
     laws::suffix_starts();
     let start_of_text = written_at(TextRange { start: 0, end: 0 });
     let mut builder = TopSubtreeBuilder::new(alloc, Delimiter::invisible_spanned(start_of_text))?;
+    let mut names = Names::new(alloc);
     let mut start: u32 = 0;
     let mut rest = tokens;
     while let Some((token, more)) = rest.split_first() {
@@ -185,7 +187,14 @@ pub fn read(alloc: Global, text: &str, tokens: &[Token]) -> Result<Read, TtFault
         let word = &text[start as usize..end as usize];
         let range = TextRange { start, end };
         let sort = sort_of(token.kind);
-        if let Some(fault) = add(alloc, &mut builder, sort, word, range, first_kind(more))? {
+        if let Some(fault) = add(
+            &mut names,
+            &mut builder,
+            sort,
+            word,
+            range,
+            first_kind(more),
+        )? {
             return Ok(Read::Fault(fault));
         }
         start = end;
