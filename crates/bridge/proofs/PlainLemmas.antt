@@ -1,21 +1,26 @@
 -- Leaves whose kind and text show how they are spelled: the text is one token, which is read as the leaf.
-use Rattle.std.proofs.Common.{◌≡◌, ℕ, ◌<◌, ◌^◌, Bool, true, false, ◌&&◌, List, [], ◌∷◌, ◌++◌, length, refl, sym, ap, ◌∙◌, arith, IsUtf8, if◌then◌else◌, sum_by}
+use Rattle.std.proofs.Common.{◌≡◌, ◌≢◌, ℕ, ◌<◌, ◌^◌, Bool, true, false, ◌&&◌, List, [], ◌∷◌, ◌++◌, length, take, drop, ◌-◌, refl, sym, ap, ◌∙◌, arith, IsUtf8, if◌then◌else◌, sum_by}
 use Rattle.std.specs.List.{list_all}
 use Rattle.std.specs.Prelude.{codes, Option, Some, None, nat_lt, IfSome}
 use Rattle.std.specs.Char.{encode_utf8}
-use Rattle.std.specs.Str.{bytes_eq, chars, is_utf8}
+use Rattle.std.specs.Str.{IsAscii, bytes_eq, chars, is_utf8}
 use Rattle.std.proofs.lemmas.Bool.Decides.{nat_tests}
 use Rattle.std.proofs.lemmas.Slice.Eq.{bytes_eq-Decides}
-use Rattle.std.proofs.lemmas.Str.{encode_ascii}
+use Rattle.std.proofs.lemmas.List.{append-nil, drop_all, take_all}
+use Rattle.std.proofs.lemmas.Str.{IsUtf8-from_ascii, chars-IsAscii, encode_ascii}
+use Rattle.std.proofs.lemmas.Str.Ascii.{IsAscii-cons, IsAscii-nil}
 use Rattle.ucd_derived.specs.Binary.{is_xid_start, is_xid_continue}
 use Rattle.ucd_derived.specs.XidContinueRanges.{xid_continue_ranges}
 use Rattle.ucd_derived.specs.XidStartRanges.{xid_start_ranges}
 use Rattle.ucd_table.specs.Rows.{in_ranges}
-use Rattle.rustc_lexer.specs.Character.{is_ident, utf8_len}
+use Rattle.rustc_lexer.specs.Character.{is_digit, is_ident, utf8_len}
 use Rattle.rustc_lexer.specs.Lexing.{tokens_of}
+use Rattle.rustc_lexer.specs.declared.token.Base.TheVariants.{Decimal}
+use Rattle.rustc_lexer.specs.declared.token.LiteralKind.TheVariants as literal
 use Rattle.rustc_lexer.specs.declared.token.Token.{Token}
 use Rattle.rustc_lexer.specs.declared.token.TokenKind.TheVariants as kind
 use Rattle.tt_data.specs.Displayed.{displayed_leaf}
+use Rattle.tt_data.specs.Literals.{LiteralParts}
 use Rattle.tt_data.specs.Names.{prefix_of}
 use Rattle.tt_data.specs.Spans.{no_span}
 use Rattle.tt_data.specs.declared.leaf.Ident.{Ident}
@@ -23,14 +28,15 @@ use Rattle.tt_data.specs.declared.leaf.IdentIsRaw.{IdentIsRaw}
 use Rattle.tt_data.specs.declared.leaf.IdentIsRaw.TheVariants as is_raw
 use Rattle.tt_data.specs.declared.leaf.Leaf.{Leaf}
 use Rattle.tt_data.specs.declared.leaf.Leaf.TheVariants as as_leaf
+use Rattle.tt_data.specs.declared.leaf.LitKind.TheVariants as form
 use Rattle.tt_data.specs.declared.leaf.Punct.{Punct}
 use Rattle.tt_data.specs.declared.leaf.Spacing.TheVariants.{Alone}
 use Rattle.bridge.specs.PlainTexts.{is_mark_char}
-use Rattle.bridge.specs.Spelling.{is_one, is_plain_name, is_short_text, is_text_of, leaf_spelling, same_rawness, spelled_leaf}
+use Rattle.bridge.specs.Spelling.{is_one, is_plain_name, is_short_text, is_text_of, leaf_spelling, same_form, same_rawness, spelled_leaf}
 use Rattle.bridge.specs.TokenSteps.{mark_leaf, text_steps}
-use Rattle.bridge.proofs.AgainLemmas.{punct_alike, same_bytes, stays, that_by}
+use Rattle.bridge.proofs.AgainLemmas.{literal_by, punct_alike, same_bytes, stays, that_by}
 use Rattle.bridge.proofs.SpelledLemmas.{told_of_any}
-use Rattle.bridge.proofs.SpellingLemmas.{told_of_one}
+use Rattle.bridge.proofs.SpellingLemmas.{one_len, told_of_one}
 
 spelled_as : (l : Leaf) (text : List ℕ) → spelled_leaf l ≡ l → displayed_leaf l ≡ text → is_text_of l text ≡ true → leaf_spelling l ≡ Some text
 spelled_as l text stays shown told =
@@ -92,3 +98,55 @@ pub marked : {T : Type 0} (p : Punct) (o : Option T) (text_in : T → List ℕ) 
     → IfSome o (λ t. leaf_spelling (as_leaf.Punct p) ≡ Some (text_in t))
 marked p None text_in e h = e
 marked p (Some t) text_in e h = mark_spelled p h ∙ ap Some (sym e)
+
+-- ---- numbers
+
+digit_low : (c : ℕ) → is_digit c ≡ true → c < 128
+digit_low c h = grind (arith, nat_tests)
+
+ascii_digits : (ds : List ℕ) → list_all is_digit ds ≡ true → IsAscii ds
+ascii_digits [] h = IsAscii-nil
+ascii_digits (c ∷ ds) h = IsAscii-cons c ds (digit_low c (both_true (is_digit c) _ h).0) (ascii_digits ds (both_true (is_digit c) _ h).1)
+  where
+    both_true : (a b : Bool) → (a && b) ≡ true → (a ≡ true) × (b ≡ true)
+    both_true true b e = (refl, e)
+    both_true false b e = absurd (cc)
+
+-- what of the whole token is the text of a number without a suffix
+number_in : (text t : List ℕ) (n : ℕ) → t ≡ text → n ≡ length text
+    → (bytes_eq text (take (n - 0 - 0) (drop 0 t)) && bytes_eq [] (drop n t)) ≡ true
+number_in text t n same long =
+    let all : take (n - 0 - 0) t ≡ text = take_all (n - 0 - 0) t (omega (arith, long, ap length same)) ∙ same in
+    let none : drop n t ≡ [] = drop_all n t (omega (arith, long, ap length same)) in
+    ap (λ xs. bytes_eq text xs && bytes_eq [] (drop n t)) all ∙ (ap (λ xs. bytes_eq text text && bytes_eq [] xs) none ∙ ap (λ b. b && true) (same_text text))
+
+number_by : (l : LiteralParts) → l.kind ≡ form.Integer → l.suffix ≡ [] → IsUtf8 l.text → length l.text < 2 ^ 32
+    → sum_by (λ (t : Token). t.len) (tokens_of (chars l.text)) ≡ length l.text
+    → tokens_of (chars l.text) ≡ record { kind = kind.Literal (literal.Int Decimal false) (utf8_len (chars l.text)); len = utf8_len (chars l.text) } ∷ []
+    → leaf_spelling (as_leaf.Literal l) ≡ Some l.text
+number_by l number none u short sum one =
+    let n : ℕ = utf8_len (chars l.text) in
+    let bare : literal_by form.Integer l.text [] ≡ l.text = append-nil (l.text ++ []) ∙ append-nil l.text in
+    let shown : literal_by form.Integer l.text l.suffix ≡ l.text = ap (literal_by form.Integer l.text) none ∙ bare in
+    spelled_as (as_leaf.Literal l) l.text refl (ap (λ f. literal_by f l.text l.suffix) number ∙ shown)
+    (sym (told_of_one l.text _ (as_leaf.Literal l) true u short sum one (λ p more same. sym (
+    ap (λ k. same_form k form.Integer && (bytes_eq l.text (take (n - 0 - 0) (drop 0 p.text)) && bytes_eq l.suffix (drop n p.text))) number
+    ∙ (ap (λ s. bytes_eq l.text (take (n - 0 - 0) (drop 0 p.text)) && bytes_eq s (drop n p.text)) none
+    ∙ number_in l.text p.text n same (one_len l.text _ sum one))))))
+
+-- a text of digits is a whole number in base ten
+pub number_spelled : (l : LiteralParts) → l.kind ≡ form.Integer → l.suffix ≡ [] → length l.text < 2 ^ 32 → l.text ≢ [] → list_all is_digit l.text ≡ true
+    → ((text : List ℕ) → IsUtf8 text → sum_by (λ (t : Token). t.len) (tokens_of (chars text)) ≡ length text)
+    → ((c : ℕ) (cs : List ℕ) → list_all is_digit (c ∷ cs) ≡ true →
+    tokens_of (c ∷ cs) ≡ record { kind = kind.Literal (literal.Int Decimal false) (utf8_len (c ∷ cs)); len = utf8_len (c ∷ cs) } ∷ [])
+    → leaf_spelling (as_leaf.Literal l) ≡ Some l.text
+number_spelled l number none short some digits whole one =
+    let ascii : IsAscii l.text = ascii_digits l.text digits in
+    let same : chars l.text ≡ l.text = chars-IsAscii l.text ascii in
+    let u : IsUtf8 l.text = IsUtf8-from_ascii l.text ascii in
+    number_by l number none u short (whole l.text u) (at_digits (chars l.text) (λ e. some (sym same ∙ e)) (ap (list_all is_digit) same ∙ digits))
+  where
+    at_digits : (cs : List ℕ) → cs ≢ [] → list_all is_digit cs ≡ true
+        → tokens_of cs ≡ record { kind = kind.Literal (literal.Int Decimal false) (utf8_len cs); len = utf8_len cs } ∷ []
+    at_digits [] any h = absurd (any refl)
+    at_digits (c ∷ cs) any h = one c cs h

@@ -17,8 +17,8 @@ use Rattle.tt_data.specs.declared.span.Span.{Span}
 use Rattle.tt_data.specs.declared.span.TextRange.{TextRange}
 use Rattle.bridge.proofs.AddingLemmas.{count-extended}
 use Rattle.bridge.proofs.ReadingLemmas.{closed_walk, walk_open-joined}
-use Rattle.bridge.specs.ReadSteps.{IsRefusal, IsStepRefusal, Takes, first_kind, spacing_at, steps_in, trees_of}
-use Rattle.bridge.specs.Reading.{DoesNotFit, IsFault, PlacedToken, TextStep, bad, bad_at, closer_at, left_open, range_of, step, walk_open}
+use Rattle.bridge.specs.ReadSteps.{IsClosed, IsRefusal, IsStepRefusal, Takes, first_kind, spacing_at, steps_in, trees_of}
+use Rattle.bridge.specs.Reading.{DoesNotFit, IsFault, PlacedToken, TextStep, bad, bad_at, closer_at, left_open, range_of, step, walk_open, written_at}
 use Rattle.bridge.specs.TokenSteps.{spacing_before, steps_of_sort}
 use Rattle.bridge.specs.declared.fault.ReadFault.{ReadFault}
 use Rattle.bridge.specs.declared.fault.ReadFaultKind.TheVariants.{BadToken, CloserDoesNotFit, GroupLeftOpen}
@@ -96,7 +96,7 @@ refuses_opening old e kind span (inr (tokens, many)) =
     )
 
 -- what is told of the innermost open group
-abbrev pub kind_told : DelimiterKind → Option (DelimiterKind × Span) → DelimiterKind
+abbrev kind_told : DelimiterKind → Option (DelimiterKind × Span) → DelimiterKind
 kind_told other None = other
 kind_told other (Some p) = p.0
 
@@ -113,22 +113,16 @@ closes_in (o ∷ outer) old kind open_at span is found =
       rw is refl,
     )
 
-pub takes_closing : (old new : Building) (kind : DelimiterKind) (open_at span : Span) → innermost_group old.groups ≡ Some (kind, open_at)
-    → new ≡ closed old span → Takes (step (closes kind span) ∷ []) old new None
-takes_closing old new kind open_at span found e =
-    let takes = closes_in old.groups old kind open_at span refl found in
+pub takes_closing : (old new : Building) (kind : DelimiterKind) (range : TextRange) → IsClosed kind range old new
+    → Takes (step (closes kind (written_at range)) ∷ []) old new None
+takes_closing old new kind range (open_at, found, e) =
+    let takes = closes_in old.groups old kind open_at (written_at range) refl found in
     (ap steps_in e ∙ takes.0, ap (λ (b : Building). b.top) e ∙ takes.1)
 
 -- a closing bracket of another kind, or where no group is open
-
-does_not_fit : (kind : DelimiterKind) (groups : List Opened) → ((span : Span) → innermost_group groups ≡ Some (kind, span) → ⊥) → DoesNotFit kind groups
-does_not_fit kind [] other = tt
-does_not_fit kind (o ∷ outer) other = λ same. other o.open_span (rw same refl)
-
-pub faults_closing : (old new : Building) (kind : DelimiterKind) (span : Span) (fault : ReadFault) → ((at : Span) → innermost_group old.groups ≡ Some (kind, at) → ⊥)
-    → fault ≡ record { kind = CloserDoesNotFit; range = span.range } → Takes (step (closes kind span) ∷ []) old new (Some fault)
-faults_closing old new kind span fault other is =
-    λ more. rw is (closer_at old.groups old.here kind span more refl (does_not_fit kind old.groups other))
+pub faults_closing : (old new : Building) (kind : DelimiterKind) (span : Span) → DoesNotFit kind old.groups
+    → Takes (step (closes kind span) ∷ []) old new (Some (record { kind = CloserDoesNotFit; range = span.range }))
+faults_closing old new kind span other = λ more. closer_at old.groups old.here kind span more refl other
 
 pub faults_bad : (old new : Building) (range : TextRange) (fault : ReadFault) → fault ≡ record { kind = BadToken; range = range }
     → Takes (bad range ∷ []) old new (Some fault)

@@ -19,7 +19,7 @@ use Rattle.bridge.specs.TokenSteps.{sort_of, steps_of, steps_of_sort, text_steps
 use Rattle.bridge.proofs.CutLemmas.{may_cut}
 
 -- the one token is as long as the text
-one_len : (text : List ℕ) (t : Token) → sum_by (λ (x : Token). x.len) (tokens_of (chars text)) ≡ length text → tokens_of (chars text) ≡ t ∷ [] → t.len ≡ length text
+pub one_len : (text : List ℕ) (t : Token) → sum_by (λ (x : Token). x.len) (tokens_of (chars text)) ≡ length text → tokens_of (chars text) ≡ t ∷ [] → t.len ≡ length text
 one_len text t sum one = omega (arith, sym sum ∙ ap (λ ts. sum_by (λ (x : Token). x.len) ts) one, sum_by-cons (λ (x : Token). x.len) t [])
 
 whole_slice : (text : List ℕ) (n : ℕ) → n ≡ length text → slice_range text 0 (0 + n) ≡ text

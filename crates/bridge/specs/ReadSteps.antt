@@ -4,10 +4,11 @@ use Rattle.std.specs.Str.{IsCharBoundary}
 use Rattle.rustc_lexer.specs.declared.token.DocStyle.{DocStyle}
 use Rattle.rustc_lexer.specs.declared.token.DocStyle.TheVariants.{Outer, Inner}
 use Rattle.rustc_lexer.specs.declared.token.TokenKind.{TokenKind}
-use Rattle.tt.specs.Building.{Building, count_of, most_tokens}
+use Rattle.tt.specs.Building.{Building, closed, count_of, innermost_group, most_tokens}
 use Rattle.tt.specs.TokenLiterals.{IsLiteralToken, literal_in}
 use Rattle.tt_data.specs.Forest.{Forest, empty, leaf, group, joined}
 use Rattle.tt_data.specs.Literals.{literal_of}
+use Rattle.tt_data.specs.declared.delimiter.DelimiterKind.{DelimiterKind}
 use Rattle.tt_data.specs.declared.delimiter.DelimiterKind.TheVariants.{Bracket}
 use Rattle.tt_data.specs.fault.TtFault.{TtFault}
 use Rattle.tt_data.specs.fault.TtFault.TheVariants.{Memory, Tokens}
@@ -96,6 +97,10 @@ steps_in b = map step (walk_open b.groups b.here)
 abbrev pub Takes : List TextStep → Building → Building → Option ReadFault → Type 0
 Takes steps old new None = (steps_in new ≡ steps_in old ++ steps) × (new.top ≡ old.top)
 Takes steps old new (Some fault) = (more : List TextStep) → IsFault (steps_in old ++ (steps ++ more)) fault
+
+-- the innermost open group is of this kind, and a bracket at this place has closed it
+abbrev pub IsClosed : DelimiterKind → TextRange → Building → Building → Type 0
+IsClosed kind range old new = (place : Span) × (innermost_group old.groups ≡ Some (kind, place)) × (new ≡ closed old (written_at range))
 
 -- there is no memory, or no room for so many tokens
 abbrev pub IsRefusal : ℕ → TtFault → Type 0

@@ -7,6 +7,7 @@ ghost use Rattle.tt.specs.Building.{count_of, extended};
 ghost use Rattle.tt_data.specs.Forest.{size};
 
 use crate::leaves::{add_leaf, add_mark, add_name, open_group};
+use crate::names::Names;
 use memchr::memchr2;
 use rustc_lexer::DocStyle;
 use std::alloc::{AllocError, Global};
@@ -73,7 +74,7 @@ fn add_puncts(builder: &mut TopSubtreeBuilder, style: DocStyle, span: Span) -> R
 
 // What stands in the brackets.
 fn add_inside(
-    alloc: Global,
+    names: &mut Names,
     builder: &mut TopSubtreeBuilder,
     text: &str,
     span: Span,
@@ -81,16 +82,16 @@ fn add_inside(
     ensures ok { OnOk result (builder.new.tree ≡ extended builder.old.tree (doc_inside text.now span)) }
     ensures refused { IfErr result (IsRefusal (count_of builder.old.tree + 3)) }
 {
-    let text = escaped(alloc, text)?;
-    let literal = Literal::new_no_suffix(alloc, text.as_str(), span, LitKind::Str)?;
-    add_name(alloc, builder, "doc", IdentIsRaw::No, span)?;
+    let text = escaped(names.alloc, text)?;
+    let literal = Literal::new_no_suffix(names.alloc, text.as_str(), span, LitKind::Str)?;
+    add_name(names, builder, "doc", IdentIsRaw::No, span)?;
     add_mark(builder, '=', Spacing::Alone, span)?;
     add_leaf(builder, Leaf::Literal(literal))
 }
 
 // The attribute that a doc comment of this text is. All its tokens stand where the comment does.
 pub fn add_doc(
-    alloc: Global,
+    names: &mut Names,
     builder: &mut TopSubtreeBuilder,
     style: DocStyle,
     text: &str,
@@ -101,6 +102,6 @@ pub fn add_doc(
 {
     add_puncts(builder, style, span)?;
     open_group(builder, DelimiterKind::Bracket, span)?;
-    add_inside(alloc, builder, text, span)?;
+    add_inside(names, builder, text, span)?;
     builder.close(span)
 }

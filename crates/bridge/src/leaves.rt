@@ -10,6 +10,7 @@ ghost use Rattle.tt_data.specs.Forest.{empty, leaf};
 ghost use Rattle.tt_data.specs.declared.leaf.IdentIsRaw.TheVariants.{Yes};
 ghost use Rattle.tt_data.specs.declared.leaf.Leaf.TheVariants as as_leaf;
 
+use crate::names::Names;
 use std::alloc::Global;
 use tt::builder::TopSubtreeBuilder;
 use tt::literals::token_to_literal;
@@ -17,7 +18,6 @@ use tt_data::delimiter::DelimiterKind;
 use tt_data::fault::TtFault;
 use tt_data::leaf::{Ident, IdentIsRaw, Leaf, LitKind, Punct, Spacing};
 use tt_data::span::{Span, SyntaxContext, TextRange};
-use tt_data::symbol::Symbol;
 
 // A span of the text itself.
 pub fn written_at(range: TextRange) -> Span
@@ -60,7 +60,7 @@ pub fn open_group(
 }
 
 pub fn add_name(
-    alloc: Global,
+    names: &mut Names,
     builder: &mut TopSubtreeBuilder,
     name: &str,
     is_raw: IdentIsRaw,
@@ -69,7 +69,7 @@ pub fn add_name(
     ensures ok { OnOk result (builder.new.tree ≡ extended builder.old.tree (leaf (name_leaf name.now is_raw span) empty)) }
     ensures refused { IfErr result (IsRefusal (count_of builder.old.tree + 1)) }
 {
-    let sym = Symbol::new(alloc, name)?;
+    let sym = names.symbol(name)?;
     add_leaf(builder, Leaf::Ident(Ident { sym, span, is_raw }))
 }
 
@@ -92,7 +92,7 @@ pub fn add_mark(
 
 // A lifetime's quote, joined to the name behind it.
 pub fn add_quoted_name(
-    alloc: Global,
+    names: &mut Names,
     builder: &mut TopSubtreeBuilder,
     text: &str,
     range: TextRange,
@@ -110,7 +110,7 @@ pub fn add_quoted_name(
         end: range.end,
     });
     add_mark(builder, '\'', Spacing::Joint, quote)?;
-    add_name(alloc, builder, &text[1..], IdentIsRaw::No, name)
+    add_name(names, builder, &text[1..], IdentIsRaw::No, name)
 }
 
 pub fn add_literal(

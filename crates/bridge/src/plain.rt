@@ -1,11 +1,13 @@
 // Leaves that show how they are spelled: their text needs no lexing.
 ghost use Rattle.std.specs.Prelude.{◌≡◌, ◌↔◌, ◌<◌, ◌^◌, ◌∷◌, [], true, IfSome, IsTrue, Some, length};
+ghost use Rattle.std.specs.List.{list_all};
 ghost use Rattle.bridge.specs.PlainTexts.{is_mark_char};
 ghost use Rattle.bridge.specs.Spelling.{leaf_spelling};
+ghost use Rattle.rustc_lexer.specs.Character.{is_digit};
 ghost use Rattle.tt_data.specs.declared.leaf.Leaf.TheVariants as as_leaf;
 
 use rustc_lexer::{is_ident, laws};
-use tt_data::leaf::{Ident, Leaf, Punct};
+use tt_data::leaf::{Ident, Leaf, LitKind, Literal, Punct};
 
 // Whether a text is no longer than a text may be that has tokens.
 fn is_short(text: &str) -> bool
@@ -65,6 +67,37 @@ fn name_text(ident: &Ident) -> Option<&str>
     }
 }
 
+// Whether the text has digits alone.
+fn has_digits_alone(text: &str) -> bool
+    ensures { IsTrue result → list_all is_digit text.now ≡ true }
+{
+    for byte in text.as_bytes() {
+        if !byte.is_ascii_digit() {
+            return false;
+        }
+    }
+    true
+}
+
+// The text of a number that is a row of digits without a suffix.
+fn number_text(literal: &Literal) -> Option<&str>
+    ensures { IfSome result (λ t. leaf_spelling (as_leaf.Literal literal.now) ≡ Some t.now) }
+{
+    laws::token_lengths();
+    laws::one_number();
+    let (text, suffix) = literal.text_and_suffix();
+    if literal.kind() == LitKind::Integer
+        && suffix.is_empty()
+        && is_short(text)
+        && !text.is_empty()
+        && has_digits_alone(text)
+    {
+        Some(text)
+    } else {
+        None
+    }
+}
+
 /// How the leaf is spelled, where its kind and its text show that.
 pub(crate) fn plain_text(leaf: &Leaf) -> Option<&str>
     ensures { IfSome result (λ t. leaf_spelling leaf.now ≡ Some t.now) }
@@ -72,6 +105,6 @@ pub(crate) fn plain_text(leaf: &Leaf) -> Option<&str>
     match leaf {
         Leaf::Ident(ident) => name_text(ident),
         Leaf::Punct(punct) => punct_text(punct),
-        Leaf::Literal(_) => None,
+        Leaf::Literal(literal) => number_text(literal),
     }
 }

@@ -1,8 +1,8 @@
 //! Reading: the tokens of a text as trees.
-ghost use Rattle.std.specs.Prelude.{◌≡◌, ◌+◌, ◌<◌, ◌^◌, ℕ, List, length, chars, IfOk, IfErr, IsOk, OnOk};
-ghost use Rattle.bridge.specs.ReadSteps.{IsRefusal, IsStepRefusal, MayCut, Takes, first_kind, spacing_at, steps_in, trees_of};
+ghost use Rattle.std.specs.Prelude.{◌≡◌, ◌≢◌, ◌+◌, ◌<◌, ◌^◌, ℕ, List, [], length, chars, true, false, IfOk, IfErr, OnOk};
+ghost use Rattle.bridge.specs.ReadSteps.{IsClosed, IsRefusal, IsStepRefusal, MayCut, Takes, first_kind, spacing_at, steps_in, trees_of};
 ghost use Rattle.bridge.specs.ReadText.{IsRead, IsReadRefusal, text_top};
-ghost use Rattle.bridge.specs.Reading.{PlacedToken, placed_from, range_of};
+ghost use Rattle.bridge.specs.Reading.{DoesNotFit, IsFault, PlacedToken, placed_from, range_of};
 ghost use Rattle.bridge.specs.TokenSteps.{is_mark, sort_of, steps_of_sort, text_steps};
 ghost use Rattle.bridge.specs.declared.sort.Sort.TheVariants.{Closing};
 ghost use Rattle.rustc_lexer.specs.Lexing.{tokens_of};
@@ -14,6 +14,7 @@ use crate::fault::{ReadFault, ReadFaultKind};
 use crate::leaves::{
     add_literal, add_mark, add_name, add_quoted_name, name_in, open_group, written_at,
 };
+use crate::names::Names;
 use crate::outcome::Read;
 use crate::sort::{Sort, sort_of};
 use rustc_lexer::{Token, TokenKind, laws};
@@ -43,7 +44,7 @@ fn spacing_at(next: Option<TokenKind>) -> Spacing
 
 // Puts in what a token is read as that is no bracket.
 fn add_trees(
-    alloc: Global,
+    names: &mut Names,
     builder: &mut TopSubtreeBuilder,
     sort: Sort,
     text: &str,
@@ -58,16 +59,27 @@ fn add_trees(
 {
     let span = written_at(range);
     match sort {
-        Sort::Name(is_raw) => add_name(alloc, builder, name_in(is_raw, text), is_raw, span),
+        Sort::Name(is_raw) => add_name(names, builder, name_in(is_raw, text), is_raw, span),
         Sort::Mark(char) => add_mark(builder, char, spacing_at(next), span),
-        Sort::QuotedName => add_quoted_name(alloc, builder, text, range),
+        Sort::QuotedName => add_quoted_name(names, builder, text, range),
         Sort::Doc { style, is_block } => {
-            add_doc(alloc, builder, style, doc_text(is_block, text), span)
+            add_doc(names, builder, style, doc_text(is_block, text), span)
         }
         Sort::Value { form, suffix_start } => {
-            add_literal(alloc, builder, form, suffix_start, text, span)
+            add_literal(names.alloc, builder, form, suffix_start, text, span)
         }
         _ => Ok(()),
+    }
+}
+
+// Closes the innermost open group where a bracket of this kind fits it, and answers whether it does.
+fn close_innermost(builder: &mut TopSubtreeBuilder, kind: DelimiterKind, range: TextRange) -> bool
+    ensures closed { result ≡ true → IsClosed kind range builder.old.tree builder.new.tree }
+    ensures kept { result ≡ false → (builder.new.tree ≡ builder.old.tree) × DoesNotFit kind builder.old.tree.groups }
+{
+    match builder.innermost() {
+        Some((open, _)) if open == kind => builder.close(written_at(range)).is_ok(),
+        _ => false,
     }
 }
 
@@ -76,26 +88,20 @@ fn close(
     builder: &mut TopSubtreeBuilder,
     kind: DelimiterKind,
     range: TextRange,
-) -> Result<Option<ReadFault>, TtFault>
-    ensures takes { IfOk result (λ fault. (t : PlacedToken) (after : List PlacedToken) → range_of t ≡ range →
-        Takes (steps_of_sort (Closing kind) t after) builder.old.tree builder.new.tree fault) }
-    ensures ok { IsOk result }
+) -> Option<ReadFault>
+    ensures { (t : PlacedToken) (after : List PlacedToken) → range_of t ≡ range →
+        Takes (steps_of_sort (Closing kind) t after) builder.old.tree builder.new.tree result }
 {
-    match builder.innermost() {
-        Some((open, _)) if open == kind => {
-            builder.close(written_at(range))?;
-            Ok(None)
-        }
-        _ => Ok(Some(ReadFault {
-            kind: ReadFaultKind::CloserDoesNotFit,
-            range,
-        })),
+    if close_innermost(builder, kind, range) {
+        return None;
     }
+    let kind = ReadFaultKind::CloserDoesNotFit;
+    Some(ReadFault { kind, range })
 }
 
 // Puts in what a token is read as, before a token of the next kind, or answers the fault.
 fn add(
-    alloc: Global,
+    names: &mut Names,
     builder: &mut TopSubtreeBuilder,
     sort: Sort,
     text: &str,
@@ -114,30 +120,38 @@ fn add(
 {
     match sort {
         Sort::Opening(kind) => open_group(builder, kind, written_at(range))?,
-        Sort::Closing(kind) => return close(builder, kind, range),
+        Sort::Closing(kind) => return Ok(close(builder, kind, range)),
         Sort::Neither => {
             let kind = ReadFaultKind::BadToken;
             return Ok(Some(ReadFault { kind, range }));
         }
-        _ => add_trees(alloc, builder, sort, text, range, next)?,
+        _ => add_trees(names, builder, sort, text, range, next)?,
     }
     Ok(None)
 }
 
-// The trees of all tokens, or the innermost group that is left open.
+// The fault of a text at whose end groups are open: the innermost of them, at its bracket.
+fn left_open(builder: TopSubtreeBuilder) -> ReadFault
+    requires { builder.tree.groups ≢ [] }
+    ensures { IsFault (steps_in builder.tree) result }
+{
+    let Some((_, open_span)) = builder.innermost() else {
+        unreachable!("a group is open");
+    };
+    ReadFault {
+        kind: ReadFaultKind::GroupLeftOpen,
+        range: open_span.range,
+    }
+}
+
+// The trees of all tokens, or the fault where a group is left open.
 fn whole(builder: TopSubtreeBuilder) -> Read
     requires { builder.tree.top ≡ text_top }
     ensures { IsRead (steps_in builder.tree) result }
 {
-    if let Some((_, open_span)) = builder.innermost() {
-        return Read::Fault(ReadFault {
-            kind: ReadFaultKind::GroupLeftOpen,
-            range: open_span.range,
-        });
-    }
     match builder.build() {
         Ok(tree) => Read::Tree(tree),
-        Err(_) => unreachable!("no group is open"),
+        Err((builder, _)) => Read::Fault(left_open(builder)),
     }
 }
 
@@ -165,6 +179,7 @@ pub fn read(alloc: Global, text: &str, tokens: &[Token]) -> Result<Read, TtFault
     laws::suffix_starts();
     let start_of_text = written_at(TextRange { start: 0, end: 0 });
     let mut builder = TopSubtreeBuilder::new(alloc, Delimiter::invisible_spanned(start_of_text))?;
+    let mut names = Names::new(alloc);
     let mut start: u32 = 0;
     let mut rest = tokens;
     while let Some((token, more)) = rest.split_first() {
@@ -172,7 +187,14 @@ pub fn read(alloc: Global, text: &str, tokens: &[Token]) -> Result<Read, TtFault
         let word = &text[start as usize..end as usize];
         let range = TextRange { start, end };
         let sort = sort_of(token.kind);
-        if let Some(fault) = add(alloc, &mut builder, sort, word, range, first_kind(more))? {
+        if let Some(fault) = add(
+            &mut names,
+            &mut builder,
+            sort,
+            word,
+            range,
+            first_kind(more),
+        )? {
             return Ok(Read::Fault(fault));
         }
         start = end;

@@ -34,7 +34,7 @@ fn prints_texts(rt: HostRuntime) -> Result<(), Fail> {
     let cases = [
         ("", ""),
         ("x+/*c*/=y", "x + = y\n"),
-        ("x+=y", "x += y\n"),
+        ("x+=1", "x += 1\n"),
         ("fn f<'a>(x: &'a T) {}", "fn f < 'a > ( x : & 'a T ) { }\n"),
         (
             "/// a \"b\"\nstruct S;\n",
@@ -153,11 +153,12 @@ fn prints_trees(rt: HostRuntime) -> Result<(), Fail> {
         (".", "0 [0]"),
         ("?\"a", "a\n1 [0, 1]"),
         ("$::a", "crate :: a\n4 []"),
-        ("//a", "/ / a\n3 []"),
+        ("//", "/ /\n2 []"),
         ("/*##", "/ *# #\n4 []"),
         ("a<+>=", "a +=\n3 []"),
         ("<<>>", "0 []"),
         ("a?a'", "a a\n2 [1, 3]"),
+        ("\\a", "a\n1 [0]"),
     ];
     for (text, want) in cases {
         let tree = tree_of(rt.alloc(), text)?;

@@ -41,18 +41,46 @@ fn reads_texts(rt: HostRuntime) -> Result<(), Fail> {
         ("(]", "CloserDoesNotFit 1..2"),
         ("a)", "CloserDoesNotFit 1..2"),
         ("a ## b", "BadToken 2..4"),
-        ("( \"abc", "BadToken 2..6"),
+        ("\"abc", "BadToken 0..4"),
+        ("( b'x", "BadToken 2..5"),
         ("/* /* */", "BadToken 0..8"),
         ("'1", "BadToken 0..2"),
         ("'r#a", "BadToken 0..4"),
         ("a#b", "BadToken 0..1"),
+        ("'a#b", "BadToken 0..2"),
         ("k#a", "BadToken 0..3"),
         ("\u{feff}a", "BadToken 0..3"),
+        ("#\"a\"#", "BadToken 0..2"),
         ("a \0", "BadToken 2..3"),
+        ("a \\", "BadToken 2..3"),
     ];
     for (text, want) in cases {
         let got = shown(&rt, text)?;
         assert!(rt; got.as_str() == want, "{text:?} is read as {got:?}");
     }
+    Ok(())
+}
+
+// A raw string with nothing in it, between so many hashes.
+fn raw_string(rt: &HostRuntime, hashes: usize) -> Result<String, Fail> {
+    let mut text = String::from_str(rt.alloc(), "r")?;
+    for _ in 0..hashes {
+        text.push_str("#")?;
+    }
+    text.push_str("\"\"")?;
+    for _ in 0..hashes {
+        text.push_str("#")?;
+    }
+    Ok(text)
+}
+
+#[test]
+fn reads_many_hashes(rt: HostRuntime) -> Result<(), Fail> {
+    let most = raw_string(&rt, 255)?;
+    let got = shown(&rt, most.as_str())?;
+    assert!(rt; got.as_str() == most.as_str(), "it is read as {got:?}");
+    let more = raw_string(&rt, 256)?;
+    let got = shown(&rt, more.as_str())?;
+    assert!(rt; got.as_str() == "BadToken 0..515", "it is read as {got:?}");
     Ok(())
 }

@@ -1,6 +1,6 @@
 -- One token: brackets, trees, or a fault.
 use Rattle.std.proofs.Common.{refl}
-use Rattle.bridge.proofs.AddingLemmas.{handed_on, no_value, passed_ok}
+use Rattle.bridge.proofs.AddingLemmas.{handed_on, no_value}
 use Rattle.bridge.proofs.ReadStepLemmas.{faults_bad, plain_at, refuses_opening, refuses_trees, takes_trees}
 use Rattle.bridge.proofs.reading.add.Goals as goal
 
@@ -10,7 +10,7 @@ returns-in_err-open_group-in-Opening-clause-refused c =
     (λ t after same at follows. rw c.in-Opening.is (refuses_opening c.args.builder.now.tree _ c.in-Opening.kind _ c.in_err-open_group-in-Opening.ensures.refused))
 
 pub returns-in-Closing-clause-takes : goal.returns-in-Closing-clause-takes
-returns-in-Closing-clause-takes c = rw c.in-Closing.is (passed_ok c.close.result _ _ (λ fault h t after same at follows. h t after at) c.close.ensures.takes)
+returns-in-Closing-clause-takes c = rw c.in-Closing.is (λ t after same at follows. c.close.ensures t after at)
 
 pub returns-in-Neither-clause-takes : goal.returns-in-Neither-clause-takes
 returns-in-Neither-clause-takes c = λ t after same at follows.
