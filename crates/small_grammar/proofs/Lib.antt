@@ -1,4 +1,5 @@
 mod UnitLemmas
+mod WordLemmas
 mod TakingLemmas
 mod ChoiceLemmas
 mod OperatorLemmas

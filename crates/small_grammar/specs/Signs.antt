@@ -1,4 +1,9 @@
 -- Types and patterns by what they begin with: the forms that the code takes in turn.
+use Rattle.std.specs.Prelude.{ℕ, ◌&&◌, not, nat_eq, Option, Some}
+use Rattle.tt.specs.FirstTrees.{first_punct}
+use Rattle.tt.specs.Glued.{is_alone}
+use Rattle.tt_data.specs.Forest.{Forest}
+use Rattle.small_grammar.specs.Text.{◌>>=◌, ◌>>◌}
 use Rattle.small_grammar.specs.Expressions.{Expression, ◌⨾◌, ◌∣◌, many, maybe}
 use Rattle.small_grammar.specs.SmallGrammar.{lifetime, arrow, tpath, bound, num, path, name, word, paren, brace, bracket, group, single, glued}
 
@@ -29,3 +34,10 @@ bare_pattern =
     ∣ paren ∣ bracket
     ∣ (word "ref" ⨾ maybe (word "mut") ∣ word "mut") ⨾ name
     ∣ path ⨾ maybe (paren ∣ brace ∣ glued "!" ⨾ group)
+
+-- a punct of this character that does not stand alone
+abbrev pub joint_punct : ℕ → Forest → Option Forest
+joint_punct c f = do
+  (p, rest) ← first_punct f
+  nat_eq p.char c && not (is_alone p.spacing)
+  Some rest

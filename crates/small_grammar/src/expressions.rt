@@ -6,7 +6,7 @@ ghost use Rattle.small_grammar.specs.SmallGrammar.{takes, path, post, atom, oper
 use crate::copies::again;
 use crate::names::name;
 use crate::operators::{binop, reference, sign};
-use crate::tokens::{glued, group, group_of, literal, number, word};
+use crate::tokens::{glued, group, group_of, literal, number, parts, word};
 use crate::types::{generics, ty};
 use crate::units::Operator;
 use tt::TtIter;
@@ -45,10 +45,7 @@ fn post<'a>(trees: &TtIter<'a>) -> Option<TtIter<'a>>
     if let Some(rest) = glued(trees, Operator::One('?')) {
         return Some(rest);
     }
-    if let Some(rest) = group_of(trees, DelimiterKind::Parenthesis) {
-        return Some(rest);
-    }
-    if let Some(rest) = group_of(trees, DelimiterKind::Bracket) {
+    if let Some(rest) = parts(trees) {
         return Some(rest);
     }
     let rest = glued(trees, Operator::One('.'))?;

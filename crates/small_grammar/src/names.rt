@@ -1,7 +1,7 @@
 // Names, and what restricts a visibility.
-ghost use Rattle.std.specs.Prelude.{◌≡◌, codes};
+ghost use Rattle.std.specs.Prelude.{◌≡◌, ◌&&◌, ◌||◌, codes};
 ghost use Rattle.std.specs.List.{list_any};
-ghost use Rattle.small_grammar.specs.Text.{same_text};
+ghost use Rattle.small_grammar.specs.Text.{same_text, is_word};
 ghost use Rattle.small_grammar.specs.Tokens.{token_at, a_name, a_restriction, is_name, is_among, reserved, path_words, words, is_place};
 ghost use Rattle.tt.specs.FirstTrees.{first_ident};
 
@@ -136,18 +136,32 @@ pub(crate) fn name<'a>(trees: &TtIter<'a>) -> Option<TtIter<'a>>
     if is_name(&ident) { Some(rest) } else { None }
 }
 
-// Whether a visibility may be restricted to what the trees are.
-fn is_place(trees: &TtIter<'_>) -> bool
-    ensures { result ≡ is_place (first_ident trees.now) }
+// Whether a visibility may be restricted to this alone.
+fn is_lone_place(text: &str) -> bool
+    ensures { result ≡ (same_text text.now (codes "crate") || (same_text text.now (codes "self") || same_text text.now (codes "super"))) }
 {
-    let Some((ident, rest)) = trees.first_ident() else {
-        return false;
-    };
+    text == "crate" || text == "self" || text == "super"
+}
+
+// Whether a visibility may be restricted to what begins with this name, or is it alone.
+fn begins_place(ident: &Ident, is_alone: bool) -> bool
+    ensures { result ≡ (is_word "in" ident.now || (is_alone && (is_word "crate" ident.now || (is_word "self" ident.now || is_word "super" ident.now)))) }
+{
     if ident.is_raw == IdentIsRaw::Yes {
         return false;
     }
     let text = ident.sym.as_str();
-    text == "in" || rest.is_empty() && (text == "crate" || text == "self" || text == "super")
+    text == "in" || is_alone && is_lone_place(text)
+}
+
+// Whether a visibility may be restricted to what the trees are.
+fn is_place(trees: &TtIter<'_>) -> bool
+    ensures { result ≡ is_place (first_ident trees.now) }
+{
+    match trees.first_ident() {
+        Some((ident, rest)) => begins_place(&ident, rest.is_empty()),
+        None => false,
+    }
 }
 
 /// A parenthesis group that restricts a visibility.

@@ -9,7 +9,7 @@ use crate::copies::again;
 use crate::expressions::{call, path};
 use crate::names::name;
 use crate::operators::{range, reference};
-use crate::tokens::{glued, group_of, literal, word};
+use crate::tokens::{glued, group_of, literal, parts, word};
 use crate::units::Operator;
 use tt::TtIter;
 use tt_data::delimiter::DelimiterKind;
@@ -47,16 +47,6 @@ fn truth<'a>(trees: &TtIter<'a>) -> Option<TtIter<'a>>
     match word(trees, "true") {
         Some(rest) => Some(rest),
         None => word(trees, "false"),
-    }
-}
-
-// A group in parentheses or square brackets.
-fn parts<'a>(trees: &TtIter<'a>) -> Option<TtIter<'a>>
-    ensures { result ≡ takes (paren ∣ bracket) trees.now }
-{
-    match group_of(trees, DelimiterKind::Parenthesis) {
-        Some(rest) => Some(rest),
-        None => group_of(trees, DelimiterKind::Bracket),
     }
 }
 

@@ -1,12 +1,22 @@
 // Single tokens at the beginning of a list: each function answers the trees behind the token, or none.
 ghost use Rattle.std.specs.Prelude.{◌≡◌, [], ◌∷◌};
-ghost use Rattle.small_grammar.specs.SmallGrammar.{takes, group, lifetime};
+ghost use Rattle.small_grammar.specs.Expressions.{◌∣◌};
+ghost use Rattle.small_grammar.specs.Signs.{joint_punct};
+ghost use Rattle.small_grammar.specs.SmallGrammar.{takes, paren, bracket, group, lifetime};
+ghost use Rattle.small_grammar.specs.Text.{has_text};
 ghost use Rattle.small_grammar.specs.Tokens.{token_at, a_word, an_identifier, a_literal, a_number, a_group, puncts, operator, same_operator};
 
 use crate::units::{Operator, first_operator};
 use tt::TtIter;
 use tt_data::delimiter::DelimiterKind;
-use tt_data::leaf::{IdentIsRaw, LitKind, Spacing};
+use tt_data::leaf::{Ident, IdentIsRaw, LitKind, Spacing};
+
+// Whether the name has this text, and isn't raw.
+fn has_text(ident: &Ident, text: &str) -> bool
+    ensures { result ≡ has_text text.now ident.now }
+{
+    ident.is_raw == IdentIsRaw::No && ident.sym.as_str() == text
+}
 
 /// An identifier of this text that isn't raw.
 #[tactic(auto, unfolding(crate::specs::Tokens::token_at))]
@@ -14,7 +24,7 @@ pub(crate) fn word<'a>(trees: &TtIter<'a>, text: &str) -> Option<TtIter<'a>>
     ensures { result ≡ token_at (a_word text.now) trees.now }
 {
     let (ident, rest) = trees.first_ident()?;
-    if ident.is_raw == IdentIsRaw::No && ident.sym.as_str() == text {
+    if has_text(&ident, text) {
         Some(rest)
     } else {
         None
@@ -64,6 +74,16 @@ pub(crate) fn group_of<'a>(trees: &TtIter<'a>, kind: DelimiterKind) -> Option<Tt
     }
 }
 
+/// A group in parentheses or square brackets.
+pub(crate) fn parts<'a>(trees: &TtIter<'a>) -> Option<TtIter<'a>>
+    ensures { result ≡ takes (paren ∣ bracket) trees.now }
+{
+    match group_of(trees, DelimiterKind::Parenthesis) {
+        Some(rest) => Some(rest),
+        None => group_of(trees, DelimiterKind::Bracket),
+    }
+}
+
 /// A group in visible brackets.
 #[tactic(auto, unfolding(crate::specs::Tokens::token_at))]
 pub(crate) fn group<'a>(trees: &TtIter<'a>) -> Option<TtIter<'a>>
@@ -85,21 +105,24 @@ pub(crate) fn punct<'a>(trees: &TtIter<'a>, char: char) -> Option<TtIter<'a>>
     if punct.char == char { Some(rest) } else { None }
 }
 
+// A punct of this character that doesn't stand alone.
+fn joint_punct<'a>(trees: &TtIter<'a>, char: char) -> Option<TtIter<'a>>
+    ensures { result ≡ joint_punct char trees.now }
+{
+    let (punct, rest) = trees.first_punct()?;
+    if punct.char == char && punct.spacing != Spacing::Alone {
+        Some(rest)
+    } else {
+        None
+    }
+}
+
 /// A punct of the first character that doesn't stand alone, and one of the second.
 #[tactic(auto, unfolding(crate::specs::Tokens::token_at))]
 pub(crate) fn two_puncts<'a>(trees: &TtIter<'a>, first: char, second: char) -> Option<TtIter<'a>>
     ensures { result ≡ token_at (puncts (first ∷ second ∷ [])) trees.now }
 {
-    let (punct, rest) = trees.first_punct()?;
-    if punct.char != first || punct.spacing == Spacing::Alone {
-        return None;
-    }
-    let (punct, rest) = rest.first_punct()?;
-    if punct.char == second {
-        Some(rest)
-    } else {
-        None
-    }
+    punct(&joint_punct(trees, first)?, second)
 }
 
 /// A quote and any identifier.

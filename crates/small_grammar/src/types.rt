@@ -7,7 +7,7 @@ ghost use Rattle.small_grammar.specs.SmallGrammar.{takes, type, arrow, arg, gene
 
 use crate::copies::again;
 use crate::names::name;
-use crate::tokens::{group, group_of, lifetime, literal, punct, two_puncts, word};
+use crate::tokens::{group, group_of, lifetime, literal, parts, punct, two_puncts, word};
 use tt::TtIter;
 use tt_data::delimiter::DelimiterKind;
 
@@ -59,10 +59,7 @@ fn plain_type<'a>(trees: &TtIter<'a>) -> Option<TtIter<'a>>
     if let Some(rest) = punct(trees, '!') {
         return Some(rest);
     }
-    match group_of(trees, DelimiterKind::Parenthesis) {
-        Some(rest) => Some(rest),
-        None => group_of(trees, DelimiterKind::Bracket),
-    }
+    parts(trees)
 }
 
 // `!` and a group, where they are there.
