@@ -16,7 +16,7 @@ bare_call f = do
   is_char "!" bang
   (brackets, argument, rest) ← first_group after_bang
   is_visible brackets.kind
-  Some (record { name = name; argument = argument; rest = rest })
+  Some (record { name = name; from_group = after_bang; argument = argument; rest = rest })
 
 -- what would be a call, but for the `::` before it
 abbrev pub call_behind_colons : Forest → Option Call

@@ -11,7 +11,6 @@ use Rattle.expander.specs.Definitions.{definition_of, nearest}
 use Rattle.expander.specs.Meaning.{Member, plain, defining, member, members_after, with_definition, output_of, member_faults}
 use Rattle.expander.specs.OutputSteps.{steps_of_output}
 use Rattle.expander.specs.Thin.{thin_layers, thin_world}
-use Rattle.expander.specs.Turns.{AreFree}
 
 -- the fault of a definition that is broken
 abbrev pub told_if_broken : Definition → List Fault
@@ -32,7 +31,6 @@ pub record AddsMember (depth : ℕ) (m : Member) (old new : Output) : Type 0 whe
 pub record TakesPiece (depth : ℕ) (before : List Definition) (piece : Forest) (scope : List ℕ → Option Definition) (old new : Output) : Type 0 where
   pub adds : AddsMember depth (member thin_layers depth before piece (definition_of piece)) old new
   pub finds : scope ≡ nearest (with_definition thin_layers depth (definition_of piece) before)
-  pub free : AreFree (nearest (with_definition thin_layers depth (definition_of piece) before))
 
 -- the output of pieces: the steps and faults of all of them, and the number of those that are plain
 pub record IsOutputOf (depth : ℕ) (pieces : List Forest) (out : Output) : Type 0 where
