@@ -29,6 +29,7 @@ mod PassedLemmas
 mod TemplateLemmas
 mod TemplateRoomLemmas
 mod TurnLemmas
+mod FirstCallLemmas
 mod AnswerLemmas
 mod ExpandLemmas
 mod PieceLemmas

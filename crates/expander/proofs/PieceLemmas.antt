@@ -9,13 +9,12 @@ use Rattle.expander.specs.declared.expansion.Output.{Output}
 use Rattle.expander.specs.Count.{looked_of}
 use Rattle.expander.specs.Definitions.{definition_of, nearest}
 use Rattle.expander.specs.Expansion.{Outcome, expansion}
-use Rattle.expander.specs.Layered.{world}
+use Rattle.expander.specs.Layered.{layers, world}
 use Rattle.expander.specs.Meaning.{Member, plain, defining, member, members_after, with_definition, output_of, member_faults}
 use Rattle.expander.specs.OutputSteps.{steps_of_output}
 use Rattle.expander.specs.PieceTurns.{plain_of, TakesPiece, IsOutputOf, told_if_broken}
 use Rattle.expander.specs.ScopeTable.{defined}
 use Rattle.expander.specs.Text.{same_text}
-use Rattle.expander.specs.Thin.{thin_layers}
 use Rattle.expander.specs.TooMany.{bursts}
 use Rattle.expander.specs.Turns.{Adds, searched, told}
 use Rattle.expander.proofs.ExpandLemmas.{expansion_is}
@@ -40,11 +39,11 @@ takes_plain depth before piece scope old mid new none_here finds adds steps faul
 
 pub plain_bursts : (depth : ℕ) (before : List Definition) (piece : Forest) (scope : List ℕ → Option Definition)
     → definition_of piece ≡ None → scope ≡ nearest before → (searched scope depth None piece).bursts ≡ true
-    → bursts (member thin_layers depth before piece (definition_of piece)) ≡ true
+    → bursts (member layers depth before piece (definition_of piece)) ≡ true
 plain_bursts depth before piece scope none_here finds much =
     let is : searched scope depth None piece ≡ expansion world (nearest before) depth None piece =
     ap (λ s. searched s depth None piece) finds ∙ sym (expansion_is (nearest before) depth None piece) in
-    ap (λ d. bursts (member thin_layers depth before piece d)) none_here ∙ ap (λ (o : Outcome Definition). o.bursts) (sym is) ∙ much
+    ap (λ d. bursts (member layers depth before piece d)) none_here ∙ ap (λ (o : Outcome Definition). o.bursts) (sym is) ∙ much
 
 pub nearest_first : (d : Definition) (before : List Definition) (name : List ℕ) → nearest (d ∷ before) name ≡ (if same_text d.name.sym name then Some d else nearest before name)
 nearest_first d before name = refl
@@ -71,20 +70,20 @@ takes_definition depth before piece d scope new_scope old new here finds is_defi
 pub record PiecesLeft (depth : ℕ) (all rest : List Forest) (scope : List ℕ → Option Definition) (out : Output) : Type 0 where
   pub before : List Definition
   pub finds : scope ≡ nearest before
-  pub steps : steps_of_output out.steps.items ++ flat_map (output_of thin_layers depth) (members_after thin_layers depth before rest)
-      ≡ flat_map (output_of thin_layers depth) (members_after thin_layers depth [] all)
-  pub faults : out.faults.items ++ flat_map (member_faults thin_layers depth) (members_after thin_layers depth before rest)
-      ≡ flat_map (member_faults thin_layers depth) (members_after thin_layers depth [] all)
-  pub plain : out.plain + length (looked_of (members_after thin_layers depth before rest)) ≡ length (looked_of (members_after thin_layers depth [] all))
-  pub bursting : list_any bursts (members_after thin_layers depth before rest) ≡ true → list_any bursts (members_after thin_layers depth [] all) ≡ true
+  pub steps : steps_of_output out.steps.items ++ flat_map (output_of layers depth) (members_after layers depth before rest)
+      ≡ flat_map (output_of layers depth) (members_after layers depth [] all)
+  pub faults : out.faults.items ++ flat_map (member_faults layers depth) (members_after layers depth before rest)
+      ≡ flat_map (member_faults layers depth) (members_after layers depth [] all)
+  pub plain : out.plain + length (looked_of (members_after layers depth before rest)) ≡ length (looked_of (members_after layers depth [] all))
+  pub bursting : list_any bursts (members_after layers depth before rest) ≡ true → list_any bursts (members_after layers depth [] all) ≡ true
 
 pub pieces_at_first : (depth : ℕ) (all : List Forest) (scope : List ℕ → Option Definition) (out : Output)
     → scope ≡ (λ name. None) → out.steps.items ≡ [] → out.faults.items ≡ [] → out.plain ≡ 0 → PiecesLeft depth all all scope out
 pieces_at_first depth all scope out none_found steps faults counted = record {
   before = [];
   finds = none_found;
-  steps = ap (λ s. steps_of_output s ++ flat_map (output_of thin_layers depth) (members_after thin_layers depth [] all)) steps;
-  faults = ap (λ s. s ++ flat_map (member_faults thin_layers depth) (members_after thin_layers depth [] all)) faults;
+  steps = ap (λ s. steps_of_output s ++ flat_map (output_of layers depth) (members_after layers depth [] all)) steps;
+  faults = ap (λ s. s ++ flat_map (member_faults layers depth) (members_after layers depth [] all)) faults;
   plain = omega (arith, counted);
   bursting = λ much. much;
 }
@@ -99,15 +98,15 @@ pub pieces_more : (depth : ℕ) (all more : List Forest) (piece : Forest) (scope
     → PiecesLeft depth all more new_scope new
 pieces_more depth all more piece scope new_scope old new l takes =
     let t : TakesPiece depth l.before piece new_scope old new = takes l.before l.finds in
-    let m : Member = member thin_layers depth l.before piece (definition_of piece) in
-    let later : List Member = members_after thin_layers depth (with_definition thin_layers depth (definition_of piece) l.before) more in
+    let m : Member = member layers depth l.before piece (definition_of piece) in
+    let later : List Member = members_after layers depth (with_definition layers depth (definition_of piece) l.before) more in
     record {
-      before = with_definition thin_layers depth (definition_of piece) l.before;
+      before = with_definition layers depth (definition_of piece) l.before;
       finds = t.finds;
-      steps = ap (λ s. s ++ flat_map (output_of thin_layers depth) later) t.adds.steps
-          ∙ append_assoc (steps_of_output old.steps.items) (output_of thin_layers depth m) (flat_map (output_of thin_layers depth) later) ∙ l.steps;
-      faults = ap (λ s. s ++ flat_map (member_faults thin_layers depth) later) t.adds.faults
-          ∙ append_assoc old.faults.items (member_faults thin_layers depth m) (flat_map (member_faults thin_layers depth) later) ∙ l.faults;
+      steps = ap (λ s. s ++ flat_map (output_of layers depth) later) t.adds.steps
+          ∙ append_assoc (steps_of_output old.steps.items) (output_of layers depth m) (flat_map (output_of layers depth) later) ∙ l.steps;
+      faults = ap (λ s. s ++ flat_map (member_faults layers depth) later) t.adds.faults
+          ∙ append_assoc old.faults.items (member_faults layers depth m) (flat_map (member_faults layers depth) later) ∙ l.faults;
       plain = omega (arith, t.adds.plain, l.plain, looked_more m later);
       bursting = λ much. l.bursting (or_later (bursts m) _ much);
     }
@@ -115,8 +114,8 @@ pieces_more depth all more piece scope new_scope old new l takes =
 -- a piece that makes too many tokens
 pub pieces_burst : (depth : ℕ) (all more : List Forest) (piece : Forest) (scope : List ℕ → Option Definition) (out : Output)
     → PiecesLeft depth all (piece ∷ more) scope out
-    → ((before : List Definition) → scope ≡ nearest before → bursts (member thin_layers depth before piece (definition_of piece)) ≡ true)
-    → list_any bursts (members_after thin_layers depth [] all) ≡ true
+    → ((before : List Definition) → scope ≡ nearest before → bursts (member layers depth before piece (definition_of piece)) ≡ true)
+    → list_any bursts (members_after layers depth [] all) ≡ true
 pieces_burst depth all more piece scope out l much = l.bursting (or_first _ _ (much l.before l.finds))
 
 pub pieces_done : (depth : ℕ) (all : List Forest) (scope : List ℕ → Option Definition) (out : Output) → PiecesLeft depth all [] scope out → IsOutputOf depth all out

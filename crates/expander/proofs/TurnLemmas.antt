@@ -22,22 +22,21 @@ use Rattle.expander.proofs.OutcomeLemmas.{IsSearch, followed_assoc}
 -- ---- how the marks of a call begin
 
 -- no `::` before the name ends what would be a call
-is_open : Path → Bool
+abbrev pub is_open : Path → Bool
 is_open (other p q) = false
 is_open _ = true
 
-record IsCall (f : Forest) (c : Call) (open_path : Bool) : Type 0 where
-  path : Path
-  bang : Punct
-  brackets : Delimiter
-  marks : marked f ≡ call path c.name bang brackets (marked c.argument) (marked c.rest)
-  whole : f ≡ joined (whole_call path c.name bang brackets c.argument) c.rest
-  opening : f ≡ joined (before_group path c.name bang) c.from_group
-  group_is : c.from_group ≡ group brackets c.argument c.rest
-  is_so : is_open path ≡ open_path
+pub record IsCall (f : Forest) (c : Call) (open_path : Bool) : Type 0 where
+  pub path : Path
+  pub bang : Punct
+  pub brackets : Delimiter
+  pub marks : marked f ≡ call path c.name bang brackets (marked c.argument) (marked c.rest)
+  pub whole : f ≡ joined (whole_call path c.name bang brackets c.argument) c.rest
+  pub opening : f ≡ joined (before_group path c.name bang) c.from_group
+  pub group_is : c.from_group ≡ group brackets c.argument c.rest
+  pub is_so : is_open path ≡ open_path
 
 bare_is_call : (f : Forest) (c : Call) → IsBare f c → IsCall f c true
-unfolding is_open
 bare_is_call f c b = record {
   path = bare;
   bang = b.bang;
@@ -50,7 +49,6 @@ bare_is_call f c b = record {
 }
 
 behind_is_call : (f : Forest) (c : Call) → IsBehind f c → IsCall f c false
-unfolding is_open
 behind_is_call f c b =
     let k : IsCall b.after c true = bare_is_call b.after c b.call in
     let colons : Forest → Forest = λ g. leaf (as_leaf.Punct b.first) (leaf (as_leaf.Punct b.second) g) in
@@ -66,7 +64,6 @@ behind_is_call f c b =
     }
 
 crate_is_call : (f : Forest) (c : Call) → IsOfCrate f c → IsCall f c true
-unfolding is_open
 crate_is_call f c b =
     let path : Forest → Forest = λ g. leaf (as_leaf.Ident b.crate) (leaf (as_leaf.Punct b.call.first) (leaf (as_leaf.Punct b.call.second) g)) in
     let is : f ≡ path b.call.after = b.is ∙ ap (leaf (as_leaf.Ident b.crate)) b.call.is in
@@ -85,14 +82,14 @@ first_or : (a b : Option Call) (c : Call) → or_else a b ≡ Some c → (a ≡ 
 first_or None b c e = inr e
 first_or (Some x) b c e = inl e
 
-neither : (a b : Option Call) → or_else a b ≡ None → (a ≡ None) × (b ≡ None)
+pub neither : (a b : Option Call) → or_else a b ≡ None → (a ≡ None) × (b ≡ None)
 neither None b e = (refl, e)
 neither (Some x) b e = cc
 
-call_is_call : (f : Forest) (c : Call) → call_at f ≡ Some c → IsCall f c true
+pub call_is_call : (f : Forest) (c : Call) → call_at f ≡ Some c → IsCall f c true
 call_is_call f c e = elim (first_or (crate_call f) (bare_call f) c e) [ inl h ↦ crate_is_call f c (is_of_crate f c h) | inr h ↦ bare_is_call f c (is_bare f c h) ]
 
-colons_is_call : (f : Forest) (c : Call) → call_behind_colons f ≡ Some c → IsCall f c false
+pub colons_is_call : (f : Forest) (c : Call) → call_behind_colons f ≡ Some c → IsCall f c false
 colons_is_call f c e = behind_is_call f c (is_behind f c e)
 
 -- ---- what is passed of a call
@@ -158,13 +155,11 @@ module _ {D : Type 0} (world : World D) (scope : List ℕ → Option D) (deeper 
 
   found_call : (path : Path) (name : Ident) (site : CallSite) (o : Outcome D) → is_open path ≡ true
       → at_call world scope deeper outer path name site o ≡ found name.sym (scope name.sym) (looked_up world (scope name.sym) deeper outer site o)
-  unfolding is_open
   found_call bare name site o e = refl
   found_call (from_crate crate p q) name site o e = refl
   found_call (other p q) name site o e = cc
 
   other_call : (path : Path) (name : Ident) (site : CallSite) (o : Outcome D) → is_open path ≡ false → at_call world scope deeper outer path name site o ≡ o
-  unfolding is_open
   other_call bare name site o e = cc
   other_call (from_crate crate p q) name site o e = cc
   other_call (other p q) name site o e = refl

@@ -7,11 +7,11 @@ ghost use Rattle.expander.specs.CallSteps.{call_at};
 ghost use Rattle.expander.specs.Definitions.{definition_of, nearest};
 ghost use Rattle.expander.specs.Expansion.{just};
 ghost use Rattle.expander.specs.Faults.{fault_at};
+ghost use Rattle.expander.specs.Layered.{layers};
 ghost use Rattle.expander.specs.Meaning.{member, members_after};
 ghost use Rattle.expander.specs.Pieces.{cut};
 ghost use Rattle.expander.specs.PieceTurns.{TakesPiece, IsOutputOf, told_if_broken};
 ghost use Rattle.expander.specs.ScopeTable.{definitions_of};
-ghost use Rattle.expander.specs.Thin.{thin_layers};
 ghost use Rattle.expander.specs.TooMany.{bursts};
 ghost use Rattle.expander.specs.Turns.{answer, makes_too_many, searched, trees_of, Adds, Turn};
 ghost use Rattle.expander.specs.declared.definitions.Definition.{Definition};
@@ -177,7 +177,7 @@ fn take_piece<'a>(
     ensures turn { (before : List Definition) → definitions_of scope.old ≡ nearest before →
         OnOk result (TakesPiece depth before piece.now (definitions_of scope.new) out.old out.new) }
     ensures tokens { (before : List Definition) → definitions_of scope.old ≡ nearest before →
-        result ≡ Err TtFault.Tokens → bursts (member thin_layers depth before piece.now (definition_of piece.now)) ≡ true }
+        result ≡ Err TtFault.Tokens → bursts (member layers depth before piece.now (definition_of piece.now)) ≡ true }
 {
     let Some(definition) = definition_of(piece) else {
         search(alloc, scope, depth, None, out, piece)?;
@@ -193,7 +193,7 @@ fn take_piece<'a>(
 /// Expands the pieces of a text, each under the definitions before it.
 pub(crate) fn expand_pieces(alloc: Global, depth: u8, trees: &TtIter<'_>) -> Result<Output, TtFault>
     ensures output { IfOk result (IsOutputOf depth (cut trees.now)) }
-    ensures tokens { result ≡ Err TtFault.Tokens → list_any bursts (members_after thin_layers depth [] (cut trees.now)) ≡ true }
+    ensures tokens { result ≡ Err TtFault.Tokens → list_any bursts (members_after layers depth [] (cut trees.now)) ≡ true }
 {
     let most = trees.remaining().len();
     let mut scope = Scope::new(alloc);
