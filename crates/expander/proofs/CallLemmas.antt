@@ -1,5 +1,5 @@
 -- A call that a list begins with, or none, and how its marks begin.
-use Rattle.std.proofs.Common.{◌≡◌, refl, ap, ◌∙◌, Bool, true, false, if◌then◌else◌}
+use Rattle.std.proofs.Common.{◌≡◌, refl, ap, subst, ◌∙◌, Bool, true, false, if◌then◌else◌}
 use Rattle.std.specs.Prelude.{Option, Some, None, ◌&&◌}
 use Rattle.tt_data.specs.Forest.{Forest, empty, leaf, group}
 use Rattle.tt_data.specs.declared.delimiter.Delimiter.{Delimiter}
@@ -30,6 +30,7 @@ pub record IsBare (f : Forest) (c : Call) : Type 0 where
   pub bang : Punct
   pub brackets : Delimiter
   pub is : f ≡ leaf (as_leaf.Ident c.name) (leaf (as_leaf.Punct bang) (group brackets c.argument c.rest))
+  pub group_is : c.from_group ≡ group brackets c.argument c.rest
   pub test : is_bang_group bang brackets ≡ true
 
 both_true : (a b : Bool) → a ≡ true → b ≡ true → (a && b) ≡ true
@@ -39,13 +40,14 @@ both_true false b e d = cc
 
 pub is_bare : (f : Forest) (c : Call) → bare_call f ≡ Some c → IsBare f c
 is_bare (leaf (as_leaf.Ident i) (leaf (as_leaf.Punct p) (group d a r))) c e =
-    let bang = passed (is_char "!" p) (is_visible d.kind >> Some (record { name = i; argument = a; rest = r })) c e in
-    let seen = passed (is_visible d.kind) (Some (record { name = i; argument = a; rest = r })) c bang.1 in
-    let same : record { name = i; argument = a; rest = r } ≡ c = cc (seen.1) in
+    let bang = passed (is_char "!" p) (is_visible d.kind >> Some (record { name = i; from_group = group d a r; argument = a; rest = r })) c e in
+    let seen = passed (is_visible d.kind) (Some (record { name = i; from_group = group d a r; argument = a; rest = r })) c bang.1 in
+    let same : record { name = i; from_group = group d a r; argument = a; rest = r } ≡ c = cc (seen.1) in
     record {
       bang = p;
       brackets = d;
       is = ap (λ (x : Call). leaf (as_leaf.Ident x.name) (leaf (as_leaf.Punct p) (group d x.argument x.rest))) same;
+      group_is = subst (λ (x : Call). x.from_group ≡ group d x.argument x.rest) same refl;
       test = both_true _ _ bang.0 seen.0;
     }
 is_bare (leaf (as_leaf.Ident i) (leaf (as_leaf.Punct p) (leaf l r))) c e = absurd_none (is_char "!" p) c e

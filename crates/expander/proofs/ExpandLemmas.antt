@@ -1,62 +1,238 @@
--- What a definition does with a call.
-use Rattle.std.proofs.Common.{◌≡◌, ℕ, zero, suc, List, ◌++◌, refl, sym, ap, ◌∙◌, Bool, true, false, if◌then◌else◌}
-use Rattle.std.specs.Prelude.{Option, Some, None, is_none, option_and_then, All}
-use Rattle.tt_data.specs.Forest.{Forest}
+-- What a call adds to the output.
+use Rattle.std.proofs.Common.{◌≡◌, ℕ, ◌-◌, ◌<◌, zero, suc, List, [], ◌∷◌, ◌++◌, refl, sym, ap, subst, ◌∙◌, append_assoc, append-nil, arith, Bool, true, false, if◌then◌else◌}
+use Rattle.std.specs.Prelude.{Option, Some, None, unwrap_or, Ok, Err, not, ◌&&◌}
+use Rattle.std.proofs.lemmas.List.{map-append}
+use Rattle.tt_data.specs.Forest.{Forest, joined}
 use Rattle.tt_data.specs.Walk.{walk}
+use Rattle.tt_data.specs.declared.span.Span.{Span}
+use Rattle.expander.specs.declared.calls.Call.{Call}
 use Rattle.expander.specs.declared.definitions.Definition.{Definition}
+use Rattle.expander.specs.declared.expansion.Output.{Output}
+use Rattle.expander.specs.declared.faults.FaultKind.{FaultKind}
 use Rattle.expander.specs.declared.faults.FaultKind.TheVariants.{CannotExpand, BrokenDefinition, RecursionLimit}
-use Rattle.expander.specs.declared.rules.Rule.{Rule}
-use Rattle.expander.specs.declared.output.PlacedStep as kept
-use Rattle.expander.specs.OutputSteps.{steps_of_output}
-use Rattle.expander.specs.Expansion.{CallSite, Outcome, placed, just, stays, unbroken, fitted, expansion}
-use Rattle.expander.specs.Thin.{thin_world, thin_rules, is_free_of}
-use Rattle.expander.specs.ThinFit.{first_fit}
-use Rattle.expander.specs.ThinRules.{rules_of, IsRule}
-use Rattle.expander.specs.Turns.{deeper_at, Tries}
-use Rattle.expander.proofs.MarkLemmas.{free_search}
-use Rattle.expander.proofs.RuleLemmas.{rules_of-forms}
+use Rattle.expander.specs.declared.walk.Step as kept
+use Rattle.expander.specs.declared.walk.Walk.{Walk}
+use Rattle.expander.specs.CallSteps.{call_at, call_behind_colons}
+use Rattle.expander.specs.Expansion.{Outcome, CallSite, placed, just, followed_by, bursting, found, stays, unbroken, fitted, expansion}
+use Rattle.expander.specs.Faults.{fault_at}
+use Rattle.expander.specs.Layered.{world}
+use Rattle.expander.specs.OutputSteps.{step_of, steps_of_output}
+use Rattle.expander.specs.WalkSteps.{groups_of, GoesOn}
+use Rattle.expander.specs.Turns.{deeper_at, searched, answer_at, answer, makes_too_many, told, Adds, Turn}
+use Rattle.expander.proofs.OutcomeLemmas.{or_first, or_later, followed_assoc, followed_nil, left, passed_left, step_left, nothing_left, steps_in, work_of}
+use Rattle.expander.proofs.TurnLemmas.{call_smaller, colons_smaller, rest_smaller, is_search, unknown_search, colons_search, known_search, leaf_search}
 
-read_rules : (b : Bool) (o : Option (List Rule)) (rs : List Rule) → (if b then None else o) ≡ Some rs → o ≡ Some rs
-read_rules true o rs e = cc
-read_rules false o rs e = e
+pub expansion_is : (scope : List ℕ → Option Definition) (depth : ℕ) (outer : Option Span) (f : Forest) → expansion world scope depth outer f ≡ searched scope depth outer f
+expansion_is scope zero outer f = refl
+expansion_is scope (suc n) outer f = refl
 
-pub thin_rules-read : (d : Definition) (rs : List Rule) → thin_rules d ≡ Some rs → rules_of d.body ≡ Some rs
-thin_rules-read d rs e = read_rules d.is_macro (rules_of d.body) rs e
+-- ---- what a definition says
 
-pub thin_rules-forms : (d : Definition) (rs : List Rule) → thin_rules d ≡ Some rs → All IsRule rs
-thin_rules-forms d rs e = rules_of-forms d.body rs (thin_rules-read d rs e)
+module _ (scope : List ℕ → Option Definition) (d : Definition) (outer : Option Span) (site : CallSite) where
+  abbrev of_call : Bool → ℕ → Outcome Definition
+  of_call broken depth = unbroken world d broken (deeper_at scope depth) outer site
 
-module _ (scope : List ℕ → Option Definition) (d : Definition) (site : CallSite) where
-  pub broken_call : (depth : ℕ) → thin_rules d ≡ None
-      → unbroken thin_world d (thin_world.broken d) (deeper_at scope depth) None site ≡ stays BrokenDefinition None site
-  broken_call depth e = ap (λ o. unbroken thin_world d (is_none o) (deeper_at scope depth) None site) e
+  stays_at : (broken : Bool) (depth : ℕ) (given : Option Forest) (kind : FaultKind) → world.fit d site.argument ≡ given
+      → (if broken then Err BrokenDefinition else answer_at depth given) ≡ Err kind
+      → (b : Bool) × (of_call broken depth ≡ bursting b (stays kind outer site))
+  stays_at true depth given kind fits e = let is : BrokenDefinition ≡ kind = cc in (false, ap (λ k. stays k outer site) is)
+  stays_at false zero given kind fits e = let is : RecursionLimit ≡ kind = cc in (false, ap (λ k. stays k outer site) is)
+  stays_at false (suc n) None kind fits e =
+      let is : CannotExpand ≡ kind = cc in
+      let b : Bool = world.bursts d site.argument in
+      (b, ap (λ o. bursting b (fitted (expansion world scope n) outer site o)) fits ∙ ap (λ k. bursting b (stays k outer site)) is)
+  stays_at false (suc n) (Some g) kind fits e = absurd (cc e)
 
-  pub stopped_call : (rs : List Rule) → thin_rules d ≡ Some rs
-      → unbroken thin_world d (thin_world.broken d) (deeper_at scope 0) None site ≡ stays RecursionLimit None site
-  stopped_call rs e = ap (λ o. unbroken thin_world d (is_none o) (deeper_at scope 0) None site) e
+  pub stays_is : (depth : ℕ) (kind : FaultKind) → answer d depth site.argument ≡ Err kind
+      → (b : Bool) × (of_call (world.broken d) depth ≡ bursting b (stays kind outer site))
+  stays_is depth kind e = stays_at (world.broken d) depth (world.fit d site.argument) kind refl e
 
-  level : (n : ℕ) (rs : List Rule) → thin_rules d ≡ Some rs
-      → unbroken thin_world d (thin_world.broken d) (deeper_at scope (suc n)) None site ≡ fitted (expansion thin_world scope n) None site (first_fit rs site.argument)
-  level n rs e =
-      ap (λ o. unbroken thin_world d (is_none o) (deeper_at scope (suc n)) None site) e
-      ∙ ap (λ o. fitted (expansion thin_world scope n) None site (option_and_then (λ rules. first_fit rules site.argument) o)) e
+  comes_at : (broken : Bool) (depth : ℕ) (given : Option Forest) (g : Forest) → world.fit d site.argument ≡ given
+      → (if broken then Err BrokenDefinition else answer_at depth given) ≡ Ok g
+      → (0 < depth) × (of_call broken depth ≡ bursting (world.bursts d site.argument) (searched scope (depth - 1) (Some (unwrap_or outer site.at)) g))
+  comes_at true depth given g fits e = absurd (cc e)
+  comes_at false zero given g fits e = absurd (cc e)
+  comes_at false (suc n) None g fits e = absurd (cc e)
+  comes_at false (suc n) (Some h) g fits e =
+      let is : h ≡ g = cc in
+      let b : Bool = world.bursts d site.argument in
+      let at : Option Span = Some (unwrap_or outer site.at) in
+      let less : suc n - 1 ≡ n = omega arith in (
+        omega arith,
+        ap (λ o. bursting b (fitted (expansion world scope n) outer site o)) fits
+            ∙ ap (bursting b) (ap (expansion world scope n at) is ∙ expansion_is scope n at g ∙ ap (λ m. searched scope m at g) (sym less)),
+      )
 
-  pub unfit_call : (n : ℕ) (rs : List Rule) → thin_rules d ≡ Some rs → first_fit rs site.argument ≡ None
-      → unbroken thin_world d (thin_world.broken d) (deeper_at scope (suc n)) None site ≡ stays CannotExpand None site
-  unfit_call n rs e none = level n rs e ∙ ap (fitted (expansion thin_world scope n) None site) none
+  pub comes_is : (depth : ℕ) (g : Forest) → answer d depth site.argument ≡ Ok g
+      → (0 < depth) × (of_call (world.broken d) depth ≡ bursting (world.bursts d site.argument) (searched scope (depth - 1) (Some (unwrap_or outer site.at)) g))
+  comes_is depth g e = comes_at (world.broken d) depth (world.fit d site.argument) g refl e
 
-  expansion_of_free : (n : ℕ) (g : Forest) → is_free_of "!" g ≡ true → expansion thin_world scope n (Some site.at) g ≡ just (Some site.at) (walk g)
-  expansion_of_free zero g free = free_search thin_world scope None (Some site.at) g free
-  expansion_of_free (suc n) g free = free_search thin_world scope (Some (expansion thin_world scope n)) (Some site.at) g free
+  bursts_at : (broken : Bool) (n : ℕ) → (not broken && world.bursts d site.argument) ≡ true → (of_call broken (suc n)).bursts ≡ true
+  bursts_at true n e = absurd (cc e)
+  bursts_at false n e = or_first _ _ e
 
-  pub fit_call : (n : ℕ) (rs : List Rule) (g : Forest) → thin_rules d ≡ Some rs → first_fit rs site.argument ≡ Some g → is_free_of "!" g ≡ true
-      → unbroken thin_world d (thin_world.broken d) (deeper_at scope (suc n)) None site ≡ just (Some site.at) (walk g)
-  fit_call n rs g e some free = level n rs e ∙ ap (fitted (expansion thin_world scope n) None site) some ∙ expansion_of_free n g free
+  pub bursts_is : (depth : ℕ) → makes_too_many d depth site.argument ≡ true → (of_call (world.broken d) depth).bursts ≡ true
+  bursts_is zero e = absurd (cc e)
+  bursts_is (suc n) e = bursts_at (world.broken d) n e
 
-  pub tries_fit : (depth : ℕ) (rs : List Rule) (g : Forest) (old new : List kept.PlacedStep) → thin_rules d ≡ Some rs → (depth ≡ 0 → ⊥)
-      → first_fit rs site.argument ≡ Some g → is_free_of "!" g ≡ true → steps_of_output new ≡ steps_of_output old ++ placed (Some site.at) (walk g)
-      → Tries old new site (unbroken thin_world d (thin_world.broken d) (deeper_at scope depth) None site) None
-  tries_fit zero rs g old new e deep some free steps = absurd (deep refl)
-  tries_fit (suc n) rs g old new e deep some free steps =
-      let is = fit_call n rs g e some free in
-      (ap (λ (o : Outcome Definition). o.faults) is, steps ∙ ap (λ (o : Outcome Definition). steps_of_output old ++ o.steps) (sym is))
+-- a level is left where a result comes
+pub deep : (d : Definition) (depth : ℕ) (argument g : Forest) → answer d depth argument ≡ Ok g → 0 < depth
+deep d depth argument g e =
+    (comes_is (λ name. None) d None (record { at = d.name.span; whole = argument; argument = argument }) depth g e).0
+
+-- ---- what is added
+
+told-append : (xs ys : List (FaultKind × Span)) → told (xs ++ ys) ≡ told xs ++ told ys
+told-append xs ys = map-append (λ f. fault_at f.0 f.1) xs ys
+
+-- one outcome after another
+pub adds_more : (old mid new : Output) (a b : Outcome Definition) → Adds old mid a → Adds mid new b → Adds old new (followed_by a b)
+adds_more old mid new a b first later = record {
+  steps = later.steps ∙ ap (λ s. s ++ b.steps) first.steps ∙ append_assoc (steps_of_output old.steps.items) a.steps b.steps;
+  faults = later.faults ∙ ap (λ fs. fs ++ told b.faults) first.faults ∙ append_assoc old.faults.items (told a.faults) (told b.faults)
+      ∙ ap (λ fs. old.faults.items ++ fs) (sym (told-append a.faults b.faults));
+  plain = later.plain ∙ first.plain;
+}
+
+-- steps alone
+pub adds_just : (old new : Output) (o : Outcome Definition) → o.faults ≡ [] → steps_of_output new.steps.items ≡ steps_of_output old.steps.items ++ o.steps
+    → new.faults.items ≡ old.faults.items → new.plain ≡ old.plain → Adds old new o
+adds_just old new o none_told steps faults plain = record {
+  steps = steps;
+  faults = faults ∙ sym (append-nil old.faults.items) ∙ ap (λ fs. old.faults.items ++ told fs) (sym none_told);
+  plain = plain;
+}
+
+-- a fault is told, and then the call is kept
+pub adds_stays : (old mid new : Output) (kind : FaultKind) (outer : Option Span) (site : CallSite) → mid.steps.items ≡ old.steps.items
+    → mid.faults.items ≡ old.faults.items ++ fault_at kind (unwrap_or outer site.at) ∷ [] → mid.plain ≡ old.plain
+    → Adds mid new (just outer (walk site.whole)) → Adds old new (stays kind outer site)
+adds_stays old mid new kind outer site steps faults plain adds = record {
+  steps = adds.steps ∙ ap (λ s. steps_of_output s ++ placed outer (walk site.whole)) steps;
+  faults = adds.faults ∙ append-nil mid.faults.items ∙ faults;
+  plain = adds.plain ∙ plain;
+}
+
+module _ (scope : List ℕ → Option Definition) (depth : ℕ) (outer : Option Span) (old new : Output) (f : Forest) (c : Call) where
+  -- the call is kept up to its group
+  pub unknown_turn : call_at f ≡ Some c → scope c.name.sym ≡ None → (w : Forest) → f ≡ joined w c.from_group
+      → Adds old new (just outer (walk w)) → Turn (searched scope depth outer) old new f c.from_group
+  unknown_turn e nothing w passed adds = record {
+    outcome = found c.name.sym None (just outer (walk w));
+    is = unknown_search world scope (deeper_at scope depth) outer f c e nothing w passed;
+    adds = record { steps = adds.steps; faults = adds.faults; plain = adds.plain };
+    less = call_smaller f c e;
+  }
+
+  pub colons_turn : call_behind_colons f ≡ Some c → (w : Forest) → f ≡ joined w c.from_group
+      → Adds old new (just outer (walk w)) → Turn (searched scope depth outer) old new f c.from_group
+  colons_turn e w passed adds = record {
+    outcome = just outer (walk w);
+    is = colons_search world scope (deeper_at scope depth) outer f c e w passed;
+    adds = adds;
+    less = colons_smaller f c e;
+  }
+
+  module _ (d : Definition) (e : call_at f ≡ Some c) (finds : scope c.name.sym ≡ Some d) (w : Forest) (passed : f ≡ joined w c.rest) where
+    abbrev site : CallSite
+    site = record { at = c.name.span; whole = w; argument = c.argument }
+
+    known_turn : (o : Outcome Definition) → (b : Bool) → of_call scope d outer site (world.broken d) depth ≡ bursting b o → Adds old new o
+        → Turn (searched scope depth outer) old new f c.rest
+    known_turn o b is adds = record {
+      outcome = found c.name.sym (Some d) (bursting b o);
+      is = known_search world scope (deeper_at scope depth) outer f c d e finds w passed
+          ∙ ap (λ x. followed_by (found c.name.sym (Some d) x) (searched scope depth outer c.rest)) is;
+      adds = record { steps = adds.steps; faults = adds.faults; plain = adds.plain };
+      less = rest_smaller f c e;
+    }
+
+    -- the call stays for a fault
+    pub stays_turn : (kind : FaultKind) → answer d depth c.argument ≡ Err kind → Adds old new (stays kind outer site)
+        → Turn (searched scope depth outer) old new f c.rest
+    stays_turn kind says adds =
+        let is = stays_is scope d outer site depth kind says in
+        known_turn (stays kind outer site) is.0 is.1 adds
+
+    -- the result's own expansion comes in its place
+    pub comes_turn : (g : Forest) → answer d depth c.argument ≡ Ok g → Adds old new (searched scope (depth - 1) (Some (unwrap_or outer c.name.span)) g)
+        → Turn (searched scope depth outer) old new f c.rest
+    comes_turn g says adds =
+        known_turn (searched scope (depth - 1) (Some (unwrap_or outer c.name.span)) g) (world.bursts d c.argument) (comes_is scope d outer site depth g says).1 adds
+
+    -- where the call makes too many tokens, the whole does
+    known_bursts : (of_call scope d outer site (world.broken d) depth).bursts ≡ true → (searched scope depth outer f).bursts ≡ true
+    known_bursts much =
+        ap (λ (o : Outcome Definition). o.bursts) (known_search world scope (deeper_at scope depth) outer f c d e finds w passed) ∙ or_first _ _ much
+
+    pub answer_bursts : makes_too_many d depth c.argument ≡ true → (searched scope depth outer f).bursts ≡ true
+    answer_bursts much = known_bursts (bursts_is scope d outer site depth much)
+
+    pub result_bursts : (g : Forest) → answer d depth c.argument ≡ Ok g → (searched scope (depth - 1) (Some (unwrap_or outer c.name.span)) g).bursts ≡ true
+        → (searched scope depth outer f).bursts ≡ true
+    result_bursts g says much =
+        known_bursts (ap (λ (o : Outcome Definition). o.bursts) (comes_is scope d outer site depth g says).1 ∙ or_later _ _ much)
+
+-- ---- turn by turn
+
+-- what was added so far, and what a walk has left, make the whole
+pub record Going (outer : Option Span) (search : Forest → Outcome Definition) (trees : Forest) (old now : Output) (walk : Walk) : Type 0 where
+  pub done : Outcome Definition
+  pub adds : Adds old now done
+  pub is : search trees ≡ followed_by done (left outer search walk.here (groups_of walk))
+
+pub going_first : (outer : Option Span) (search : Forest → Outcome Definition) (trees : Forest) (out : Output) (w : Walk) → w.here ≡ trees → groups_of w ≡ []
+    → Going outer search trees out out w
+going_first outer search trees out w here groups = record {
+  done = just outer [];
+  adds = adds_just out out (just outer []) refl (sym (append-nil (steps_of_output out.steps.items))) refl refl;
+  is = sym (ap (left outer search w.here) groups ∙ followed_nil outer (search w.here) ∙ ap search here);
+}
+
+going_on : (outer : Option Span) (search : Forest → Outcome Definition) (trees : Forest) (first old new : Output) (before after : Walk) (o : Outcome Definition)
+    → Going outer search trees first old before → Adds old new o
+    → left outer search before.here (groups_of before) ≡ followed_by o (left outer search after.here (groups_of after))
+    → Going outer search trees first new after
+going_on outer search trees first old new before after o g adds is = record {
+  done = followed_by g.done o;
+  adds = adds_more first old new g.done o g.adds adds;
+  is = g.is ∙ ap (followed_by g.done) is ∙ sym (followed_assoc g.done o (left outer search after.here (groups_of after)));
+}
+
+-- trees were passed in the innermost group
+pub turn_more : (outer : Option Span) (search : Forest → Outcome Definition) (trees : Forest) (first old new : Output) (before after : Walk)
+    → Going outer search trees first old before → Turn search old new before.here after.here → groups_of after ≡ groups_of before
+    → Going outer search trees first new after
+turn_more outer search trees first old new before after g t same =
+    going_on outer search trees first old new before after t.outcome g t.adds
+    (passed_left outer search before.here after.here (groups_of before) t.outcome t.is
+    ∙ ap (λ around. followed_by t.outcome (left outer search after.here around)) (sym same))
+
+pub turn_less : (search : Forest → Outcome Definition) (old new : Output) (before after : Walk) → Turn search old new before.here after.here → groups_of after ≡ groups_of before
+    → work_of after.here (groups_of after) < work_of before.here (groups_of before)
+turn_less search old new before after t same = omega (arith, t.less, ap steps_in same)
+
+module _ (scope : List ℕ → Option Definition) (depth : ℕ) (outer : Option Span) where
+  -- a step was made, at which no call begins
+  pub step_more : (trees : Forest) (first old new : Output) (before after : Walk) (s : kept.Step)
+      → Going outer (searched scope depth outer) trees first old before → call_at before.here ≡ None → call_behind_colons before.here ≡ None
+      → GoesOn before (Some s) after → Adds old new (just outer (step_of s ∷ []))
+      → Going outer (searched scope depth outer) trees first new after
+  step_more trees first old new before after s g no_call no_colons goes adds =
+      going_on outer (searched scope depth outer) trees first old new before after (just outer (step_of s ∷ [])) g adds
+      (step_left outer (searched scope depth outer) (is_search world scope (deeper_at scope depth) outer) before after s goes
+      (λ l is. leaf_search world scope (deeper_at scope depth) outer before.here after.here l no_call no_colons is))
+
+  -- nothing is left
+  pub going_done : (trees : Forest) (first now : Output) (before after : Walk) → Going outer (searched scope depth outer) trees first now before
+      → GoesOn before None after → Adds first now (searched scope depth outer trees)
+  going_done trees first now before after g ends =
+      let is : searched scope depth outer trees ≡ g.done =
+      g.is ∙ ap (followed_by g.done) (nothing_left outer (searched scope depth outer) (is_search world scope (deeper_at scope depth) outer) before after ends)
+      ∙ followed_nil outer g.done in
+      subst (Adds first now) (sym is) g.adds
+
+  -- what makes too many tokens in what is left does so in the whole
+  pub going_bursts : (trees : Forest) (first now : Output) (w : Walk) → Going outer (searched scope depth outer) trees first now w
+      → (searched scope depth outer w.here).bursts ≡ true → (searched scope depth outer trees).bursts ≡ true
+  going_bursts trees first now w g much = ap (λ (o : Outcome Definition). o.bursts) g.is ∙ or_later g.done.bursts _ (or_first _ _ much)

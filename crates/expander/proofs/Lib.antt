@@ -16,12 +16,12 @@ mod LineLemmas
 mod RunLemmas
 mod RunRows
 mod MarkLemmas
+mod OutcomeLemmas
 mod CallLemmas
 mod CountLemmas
 pub mod BindingLemmas
 mod BehindLemmas
 mod FillingLemmas
-mod TooManyLemmas
 mod RoomLemmas
 mod FitLemmas
 mod ScopeLemmas
@@ -29,8 +29,8 @@ mod PassedLemmas
 mod TemplateLemmas
 mod TemplateRoomLemmas
 mod TurnLemmas
+mod FirstCallLemmas
+mod AnswerLemmas
 mod ExpandLemmas
-pub mod FreeLemmas
-pub mod FreeFitLemmas
 mod PieceLemmas
 mod ReplyLemmas

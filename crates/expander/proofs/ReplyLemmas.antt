@@ -1,6 +1,6 @@
 -- From the output of a text's pieces to its meaning.
-use Rattle.std.proofs.Common.{◌≡◌, ℕ, List, [], ◌∷◌, ◌++◌, length, refl, sym, ap, ◌∙◌, Bool, true, false, subst, inl, inr}
-use Rattle.std.specs.Prelude.{IsTrue, None, Result, Ok, Err, ◌&&◌, not, filter, flat_map}
+use Rattle.std.proofs.Common.{◌≡◌, ℕ, List, [], ◌∷◌, ◌++◌, length, refl, sym, ap, ◌∙◌, subst, inl, inr}
+use Rattle.std.specs.Prelude.{IsTrue, None, Result, Ok, Err, not, filter, flat_map}
 use Rattle.std.specs.List.{list_any}
 use Rattle.tt_data.specs.Forest.{Forest}
 use Rattle.expander.specs.declared.expansion.Output.{Output}
@@ -22,11 +22,10 @@ use Rattle.expander.specs.Pieces.{cut, pieces, separated}
 use Rattle.expander.specs.Printing.{visible, printed, text_of}
 use Rattle.expander.specs.Replies.{IsExpansionOf, IsMeant, IsReadAs, IsReplyTo}
 use Rattle.expander.specs.Shown.{ShowsOutput}
-use Rattle.expander.specs.Thin.{thin_layers, thin_spelling, is_thin, is_thin_reading, is_thin_forest, groups_are_free_of}
+use Rattle.expander.specs.Thin.{thin_layers, thin_spelling, is_thin}
 use Rattle.std.proofs.lemmas.List.{append-nil}
 use Rattle.expander.specs.declared.faults.Fault.{Fault}
 use Rattle.expander.proofs.PrintingLemmas.{none_left_out}
-use Rattle.expander.proofs.FreeLemmas.{groups_free_separated}
 
 every_one : (ps : List Looked) → filter (λ p. not (list_any (is_same p) [])) ps ≡ ps
 every_one [] = refl
@@ -35,20 +34,6 @@ every_one (p ∷ ps) = ap (λ more. p ∷ more) (every_one ps)
 -- with no earlier text every plain piece counts
 all_count : (ps : List Looked) → expanded_count None ps ≡ length ps
 all_count ps = ap length (every_one ps)
-
-second : (a b : Bool) → (a && b) ≡ true → b ≡ true
-second true b e = e
-second false b e = cc
-
-first : (a b : Bool) → (a && b) ≡ true → a ≡ true
-first true b e = refl
-first false b e = cc
-
--- a thin text that is read has no `!` inside a group
-pub thin_groups : (text : List ℕ) (f : Forest) → is_thin text ≡ true → text_reading text ≡ Ok f → groups_are_free_of "!" f ≡ true
-thin_groups text f thin is_read =
-    let forest_thin : is_thin_forest f ≡ true = ap is_thin_reading (sym is_read) ∙ second _ (is_thin_reading (text_reading text)) thin in
-    first (groups_are_free_of "!" f) _ forest_thin
 
 -- the output of a text's pieces, shown, is what the text means
 pub means_output : (depth : ℕ) (f : Forest) (out : Output) (e : Expanded) → IsOutputOf depth (pieces f) out → ShowsOutput out e
@@ -68,15 +53,13 @@ means_output depth f out e is shows =
     }
 
 -- a text that was read
-pub means_read : (depth : ℕ) (text : List ℕ) (f inner trees : Forest) (out : Output) (e : Expanded) → is_thin text ≡ true → text_reading text ≡ Ok f
-    → inner ≡ separated f → trees ≡ inner → (groups_are_free_of "!" trees ≡ true → IsOutputOf depth (cut trees) out) → ShowsOutput out e
+pub means_read : (depth : ℕ) (text : List ℕ) (f inner trees : Forest) (out : Output) (e : Expanded) → text_reading text ≡ Ok f
+    → inner ≡ separated f → trees ≡ inner → IsOutputOf depth (cut trees) out → ShowsOutput out e
     → IsMeant thin_layers depth (meaning thin_layers depth text) (Read e)
-means_read depth text f inner trees out e thin is_read inner_is trees_is gives shows =
-    let is_f : trees ≡ separated f = trees_is ∙ inner_is in
-    let free : groups_are_free_of "!" trees ≡ true = ap (groups_are_free_of "!") is_f ∙ groups_free_separated f ∙ thin_groups text f thin is_read in
+means_read depth text f inner trees out e is_read inner_is trees_is gives shows =
     let P : Forest → Type 0 = λ g. IsOutputOf depth (cut g) out in
     let Q : Result Forest ReadFault → Type 0 = λ r. IsMeant thin_layers depth (meaning_from thin_layers depth r) (Read e) in
-    subst Q (sym is_read) (means_output depth f out e (subst P is_f (gives free)) shows)
+    subst Q (sym is_read) (means_output depth f out e (subst P (trees_is ∙ inner_is) gives) shows)
 
 -- the reply to a text that was read
 pub reply_read : (text : List ℕ) (depth : ℕ) (f : Forest) (e : Expanded) → text_reading text ≡ Ok f

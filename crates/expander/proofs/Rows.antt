@@ -1,5 +1,5 @@
 -- Worked rows of the definitions, by computation.
-use Rattle.std.proofs.Common.{◌≡◌, ℕ, List, [], ◌∷◌, ◌++◌, refl, true, false}
+use Rattle.std.proofs.Common.{◌≡◌, ℕ, List, [], ◌∷◌, ◌++◌, refl, true}
 use Rattle.std.specs.Prelude.{codes, Result, Ok, Err}
 use Rattle.std.specs.Char.{encode_utf8}
 use Rattle.std.specs.Str.{chars}
@@ -57,7 +57,7 @@ result_is_searched : of (codes "macro_rules! a { () => { b!{} } }" ∷ codes "ma
 unfolding chars is_xid_start is_xid_continue in_ranges xid_start_ranges xid_continue_ranges encode_utf8
 result_is_searched = refl
 
-result_is_searched_is_thin : is_thin (lines (codes "macro_rules! a { () => { b!{} } }" ∷ codes "macro_rules! b { () => { x } }" ∷ codes "a!{}" ∷ [])) ≡ false
+result_is_searched_is_thin : is_thin (lines (codes "macro_rules! a { () => { b!{} } }" ∷ codes "macro_rules! b { () => { x } }" ∷ codes "a!{}" ∷ [])) ≡ true
 unfolding chars is_xid_start is_xid_continue in_ranges xid_start_ranges xid_continue_ranges encode_utf8
 result_is_searched_is_thin = refl
 
@@ -81,7 +81,7 @@ recursion_ends : of (codes "macro_rules! l { () => { l!{} } }" ∷ codes "l!{}" 
 unfolding chars is_xid_start is_xid_continue in_ranges xid_start_ranges xid_continue_ranges encode_utf8
 recursion_ends = refl
 
-recursion_ends_is_thin : is_thin (lines (codes "macro_rules! l { () => { l!{} } }" ∷ codes "l!{}" ∷ [])) ≡ false
+recursion_ends_is_thin : is_thin (lines (codes "macro_rules! l { () => { l!{} } }" ∷ codes "l!{}" ∷ [])) ≡ true
 unfolding chars is_xid_start is_xid_continue in_ranges xid_start_ranges xid_continue_ranges encode_utf8
 recursion_ends_is_thin = refl
 
@@ -97,7 +97,7 @@ argument_is_not_searched_first : of (codes "macro_rules! o { (m!{}) => { x }; (y
 unfolding chars is_xid_start is_xid_continue in_ranges xid_start_ranges xid_continue_ranges encode_utf8
 argument_is_not_searched_first = refl
 
-argument_is_not_searched_first_is_thin : is_thin (lines (codes "macro_rules! o { (m!{}) => { x }; (y) => { z } }" ∷ codes "macro_rules! m { () => { y } }" ∷ codes "o!(m!{});" ∷ [])) ≡ false
+argument_is_not_searched_first_is_thin : is_thin (lines (codes "macro_rules! o { (m!{}) => { x }; (y) => { z } }" ∷ codes "macro_rules! m { () => { y } }" ∷ codes "o!(m!{});" ∷ [])) ≡ true
 unfolding chars is_xid_start is_xid_continue in_ranges xid_start_ranges xid_continue_ranges encode_utf8
 argument_is_not_searched_first_is_thin = refl
 
@@ -105,7 +105,7 @@ failed_call_is_not_searched : of (codes "macro_rules! f { (x) => { y } }" ∷ co
 unfolding chars is_xid_start is_xid_continue in_ranges xid_start_ranges xid_continue_ranges encode_utf8
 failed_call_is_not_searched = refl
 
-failed_call_is_not_searched_is_thin : is_thin (lines (codes "macro_rules! f { (x) => { y } }" ∷ codes "f!(f!(x));" ∷ [])) ≡ false
+failed_call_is_not_searched_is_thin : is_thin (lines (codes "macro_rules! f { (x) => { y } }" ∷ codes "f!(f!(x));" ∷ [])) ≡ true
 unfolding chars is_xid_start is_xid_continue in_ranges xid_start_ranges xid_continue_ranges encode_utf8
 failed_call_is_not_searched_is_thin = refl
 
@@ -113,7 +113,7 @@ groups_are_searched_and_paths_are_no_calls : of (codes "macro_rules! f { () => {
 unfolding chars is_xid_start is_xid_continue in_ranges xid_start_ranges xid_continue_ranges encode_utf8
 groups_are_searched_and_paths_are_no_calls = refl
 
-groups_are_searched_and_paths_are_no_calls_is_thin : is_thin (lines (codes "macro_rules! f { () => { y } }" ∷ codes "vec![f!()];" ∷ codes "a::f!();" ∷ [])) ≡ false
+groups_are_searched_and_paths_are_no_calls_is_thin : is_thin (lines (codes "macro_rules! f { () => { y } }" ∷ codes "vec![f!()];" ∷ codes "a::f!();" ∷ [])) ≡ true
 unfolding chars is_xid_start is_xid_continue in_ranges xid_start_ranges xid_continue_ranges encode_utf8
 groups_are_searched_and_paths_are_no_calls_is_thin = refl
 

@@ -1,6 +1,7 @@
 -- Small runs and calls, worked by hand.
-use Rattle.std.proofs.Common.{◌≡◌, ℕ, List, [], ◌∷◌, ◌++◌, Option, Some, true, false, refl, ap, arith, inl, inr}
-use Rattle.std.specs.Prelude.{Ok, Err, codes, decimal}
+use Rattle.std.proofs.Common.{◌≡◌, ℕ, List, [], ◌∷◌, ◌++◌, Option, Some, Bool, true, false, refl, ap, arith}
+use Rattle.std.specs.Prelude.{Ok, Err, None, ◌||◌, codes, decimal}
+use Rattle.std.specs.List.{list_any}
 use Rattle.std.proofs.lemmas.Fmt.{decimal_digit}
 use Rattle.expander.specs.Watch.{Watch, is_bad_write}
 use Rattle.expander.specs.Lines.{column_at, fault_words, line, line_at}
@@ -10,11 +11,16 @@ use Rattle.expander.specs.declared.program.Stop.{Stop}
 use Rattle.expander.specs.declared.program.Stop.TheVariants.{ReadFailed, Refused}
 use Rattle.expander.specs.declared.session.Refusal.TheVariants.{Numbers}
 use Rattle.expander.specs.declared.definitions.Definition.{Definition}
-use Rattle.expander.specs.Definitions.{definition_of}
-use Rattle.expander.specs.Meaning.{with_definition}
+use Rattle.expander.specs.Calls.{Path, bare, from_crate, other, Marked, none, token, inside, call, marked}
+use Rattle.expander.specs.Definitions.{definition_of, nearest}
+use Rattle.expander.specs.Expansion.{Outcome, CallSite, unbroken, looked_up, at_call, search_calls}
+use Rattle.expander.specs.Layered.{world}
+use Rattle.expander.specs.Meaning.{member, members_after, with_definition}
 use Rattle.expander.specs.Thin.{thin_layers}
-use Rattle.expander.specs.TooMany.{HasTooManyAfter}
+use Rattle.expander.specs.TooMany.{bursts}
 use Rattle.tt_data.specs.Forest.{Forest}
+use Rattle.tt_data.specs.declared.leaf.Ident.{Ident}
+use Rattle.tt_data.specs.declared.span.Span.{Span}
 use Rattle.expander.specs.declared.faults.Fault.{Fault}
 use Rattle.expander.specs.declared.faults.FaultKind.TheVariants.{RecursionLimit}
 
@@ -98,8 +104,38 @@ told_line =
 never_for_numbers : (input : Option (List ℕ)) (depth : ℕ) → Stops (Refused Numbers) input depth → ⊥
 never_for_numbers input depth h = h
 
--- without a level no call asks for a result, so none has too many tokens
-never_without_a_level : (before : List Definition) (ps : List Forest) → HasTooManyAfter 0 before ps → ⊥
-never_without_a_level before [] h = h
-never_without_a_level before (p ∷ ps) (inl (plain, much)) = omega (arith, much.gives.2.0)
-never_without_a_level before (p ∷ ps) (inr later) = never_without_a_level (with_definition thin_layers 0 (definition_of p) before) ps later
+-- ---- without a level no call asks for a result, so none has too many tokens
+
+neither : (a b : Bool) → a ≡ false → b ≡ false → (a || b) ≡ false
+neither false b e d = d
+neither true b e d = cc
+
+module _ (scope : List ℕ → Option Definition) (outer : Option Span) where
+  said : (d : Definition) (broken : Bool) (site : CallSite) → (unbroken world d broken None outer site).bursts ≡ false
+  said d true site = refl
+  said d false site = refl
+
+  looked : (o : Option Definition) (site : CallSite) (kept : Outcome Definition) → kept.bursts ≡ false → (looked_up world o None outer site kept).bursts ≡ false
+  looked None site kept e = e
+  looked (Some d) site kept e = said d (world.broken d) site
+
+  called : (path : Path) (name : Ident) (site : CallSite) (kept : Outcome Definition) → kept.bursts ≡ false
+      → (at_call world scope None outer path name site kept).bursts ≡ false
+  called bare name site kept e = looked (scope name.sym) site kept e
+  called (from_crate crate p q) name site kept e = looked (scope name.sym) site kept e
+  called (other p q) name site kept e = e
+
+  searched_quietly : (m : Marked) → (search_calls world scope None outer m).bursts ≡ false
+  searched_quietly none = refl
+  searched_quietly (token l rest) = searched_quietly rest
+  searched_quietly (inside d a rest) = neither _ _ (searched_quietly a) (searched_quietly rest)
+  searched_quietly (call path name bang d a rest) = neither _ _ (called path name _ _ (searched_quietly a)) (searched_quietly rest)
+
+quiet_member : (before : List Definition) (p : Forest) (d : Option Definition) → bursts (member thin_layers 0 before p d) ≡ false
+quiet_member before p None = searched_quietly (nearest before) None (marked p)
+quiet_member before p (Some d) = refl
+
+never_without_a_level : (before : List Definition) (ps : List Forest) → list_any bursts (members_after thin_layers 0 before ps) ≡ false
+never_without_a_level before [] = refl
+never_without_a_level before (p ∷ ps) =
+    neither _ _ (quiet_member before p (definition_of p)) (never_without_a_level (with_definition thin_layers 0 (definition_of p) before) ps)

@@ -1,8 +1,8 @@
 -- A call as it is met from the left.
-use Rattle.std.specs.Prelude.{Option, Some}
-use Rattle.tt_data.specs.Forest.{Forest}
+use Rattle.std.specs.Prelude.{Option, Some, None}
+use Rattle.tt_data.specs.Forest.{Forest, group}
 use Rattle.expander.specs.declared.calls.Call.{Call}
-use Rattle.expander.specs.Calls.{is_colons, is_dollar_crate}
+use Rattle.expander.specs.Calls.{other, Marked, call, unmarked, is_colons, is_dollar_crate}
 use Rattle.expander.specs.Definitions.{or_else}
 use Rattle.expander.specs.Readings.{◌>>=◌, ◌>>◌}
 use Rattle.tt.specs.FirstTrees.{first_ident, first_punct, first_group}
@@ -16,7 +16,7 @@ bare_call f = do
   is_char "!" bang
   (brackets, argument, rest) ← first_group after_bang
   is_visible brackets.kind
-  Some (record { name = name; argument = argument; rest = rest })
+  Some (record { name = name; from_group = after_bang; argument = argument; rest = rest })
 
 -- what would be a call, but for the `::` before it
 abbrev pub call_behind_colons : Forest → Option Call
@@ -36,3 +36,10 @@ crate_call f = do
 -- the call that a list begins with
 abbrev pub call_at : Forest → Option Call
 call_at f = or_else (crate_call f) (bare_call f)
+
+-- the call that a list's marks begin with
+abbrev pub first_call : Marked → Option Call
+first_call (call (other first second) name bang d a rest) = None
+first_call (call path name bang d a rest) =
+    Some (record { name = name; from_group = group d (unmarked a) (unmarked rest); argument = unmarked a; rest = unmarked rest })
+first_call _ = None

@@ -1,5 +1,5 @@
 -- The expansion of a forest: from the left, the outermost call first. (The Rust Reference, "Macros".)
-use Rattle.std.specs.Prelude.{ℕ, zero, suc, Bool, true, false, List, [], ◌∷◌, ◌++◌, map, Option, Some, None, unwrap_or}
+use Rattle.std.specs.Prelude.{ℕ, zero, suc, Bool, true, false, ◌||◌, List, [], ◌∷◌, ◌++◌, map, Option, Some, None, unwrap_or}
 use Rattle.tt_data.specs.Forest.{Forest, empty, leaf, group}
 use Rattle.tt_data.specs.Walk.{Step, at_leaf, opens, closes, walk}
 use Rattle.tt_data.specs.declared.delimiter.Delimiter.{Delimiter}
@@ -16,10 +16,13 @@ pub record PlacedStep : Type 0 where
   pub step : Step
   pub outer : Option Span
 
--- what definitions mean: which are broken, and the forest that a definition gives for a call's argument, or none
+-- what definitions mean: which are broken, the forest that a definition gives for a call's argument, or none, and
+-- where that makes too many tokens
 pub record World (D : Type 0) : Type 0 where
   pub broken : D → Bool
   pub fit : D → Forest → Option Forest
+  -- whether a call of a definition with this argument makes more tokens than a tree may have
+  pub bursts : D → Forest → Bool
 
 -- what an expansion gives
 pub record Outcome (D : Type 0) : Type 0 where
@@ -28,16 +31,19 @@ pub record Outcome (D : Type 0) : Type 0 where
   pub faults : List (FaultKind × Span)
   -- each name that was looked up, with the definition found or none
   pub finds : List (List ℕ × Option D)
+  -- whether a call made more tokens than a tree may have
+  pub bursts : Bool
 
 abbrev pub placed : Option Span → List Step → List PlacedStep
 placed outer steps = map (λ s. record { step = s; outer = outer }) steps
 
 abbrev pub just : {D : Type 0} → Option Span → List Step → Outcome D
-just outer steps = record { steps = placed outer steps; faults = []; finds = [] }
+just outer steps = record { steps = placed outer steps; faults = []; finds = []; bursts = false }
 
 -- one outcome after another
 abbrev pub followed_by : {D : Type 0} → Outcome D → Outcome D → Outcome D
-followed_by a b = record { steps = a.steps ++ b.steps; faults = a.faults ++ b.faults; finds = a.finds ++ b.finds }
+followed_by a b =
+    record { steps = a.steps ++ b.steps; faults = a.faults ++ b.faults; finds = a.finds ++ b.finds; bursts = a.bursts || b.bursts }
 
 -- an outcome in brackets
 abbrev pub grouped : {D : Type 0} → Option Span → Delimiter → Outcome D → Outcome D
@@ -51,6 +57,9 @@ faulted kind place a = record a { faults = (kind, place) ∷ a.faults }
 
 abbrev pub found : {D : Type 0} → List ℕ → Option D → Outcome D → Outcome D
 found name definition a = record a { finds = (name, definition) ∷ a.finds }
+
+abbrev pub bursting : {D : Type 0} → Bool → Outcome D → Outcome D
+bursting bursts a = record a { bursts = bursts || a.bursts }
 
 -- what results are expanded by, under the name that they are placed at: none where no level is left
 abbrev pub Deeper : Type 0 → Type 0
@@ -74,7 +83,8 @@ fitted deeper outer site (Some result) = deeper (Some (unwrap_or outer site.at))
 -- a call of a definition that isn't broken
 abbrev pub at_level : {D : Type 0} → World D → D → Deeper D → Option Span → CallSite → Outcome D
 at_level world d None outer site = stays RecursionLimit outer site
-at_level world d (Some deeper) outer site = fitted deeper outer site (world.fit d site.argument)
+at_level world d (Some deeper) outer site =
+    bursting (world.bursts d site.argument) (fitted deeper outer site (world.fit d site.argument))
 
 abbrev pub unbroken : {D : Type 0} → World D → D → Bool → Deeper D → Option Span → CallSite → Outcome D
 unbroken world d true deeper outer site = stays BrokenDefinition outer site

@@ -31,6 +31,8 @@ pub mod Names
 pub mod Bound
 pub mod ScopeTable
 pub mod OutputSteps
+pub mod WalkSteps
+pub mod Layered
 pub mod Turns
 pub mod PieceTurns
 pub mod Shown

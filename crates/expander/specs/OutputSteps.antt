@@ -2,8 +2,8 @@
 use Rattle.std.specs.Prelude.{ℕ, List, [], Option, Some, None, Bool, is_some, map, unwrap_or}
 use Rattle.tt_data.specs.Walk.{Step, at_leaf, opens, closes}
 use Rattle.expander.specs.declared.output.PlacedStep as declared
-use Rattle.expander.specs.declared.output.Step as kept
-use Rattle.expander.specs.declared.output.Step.TheVariants as as_step
+use Rattle.expander.specs.declared.walk.Step as kept
+use Rattle.expander.specs.declared.walk.Step.TheVariants as as_step
 use Rattle.expander.specs.Expansion.{PlacedStep}
 use Rattle.bridge.specs.Printing as printing
 use Rattle.expander.specs.Printing.{PrintedToken, visible, printed}

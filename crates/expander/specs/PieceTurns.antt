@@ -10,12 +10,11 @@ use Rattle.expander.specs.Faults.{fault_at}
 use Rattle.expander.specs.Definitions.{definition_of, nearest}
 use Rattle.expander.specs.Meaning.{Member, plain, defining, member, members_after, with_definition, output_of, member_faults}
 use Rattle.expander.specs.OutputSteps.{steps_of_output}
-use Rattle.expander.specs.Thin.{thin_layers, thin_world}
-use Rattle.expander.specs.Turns.{AreFree}
+use Rattle.expander.specs.Layered.{layers, world}
 
 -- the fault of a definition that is broken
 abbrev pub told_if_broken : Definition → List Fault
-told_if_broken d = if thin_world.broken d then fault_at BrokenDefinition d.name.span ∷ [] else []
+told_if_broken d = if world.broken d then fault_at BrokenDefinition d.name.span ∷ [] else []
 
 -- how many plain pieces a piece is
 abbrev pub plain_of : Member → ℕ
@@ -24,18 +23,17 @@ plain_of (defining d) = 0
 
 -- one more member's output
 pub record AddsMember (depth : ℕ) (m : Member) (old new : Output) : Type 0 where
-  pub steps : steps_of_output new.steps.items ≡ steps_of_output old.steps.items ++ output_of thin_layers depth m
-  pub faults : new.faults.items ≡ old.faults.items ++ member_faults thin_layers depth m
+  pub steps : steps_of_output new.steps.items ≡ steps_of_output old.steps.items ++ output_of layers depth m
+  pub faults : new.faults.items ≡ old.faults.items ++ member_faults layers depth m
   pub plain : new.plain ≡ old.plain + plain_of m
 
 -- a piece was taken under the definitions before it: its output is added, and a definition is found from now on
 pub record TakesPiece (depth : ℕ) (before : List Definition) (piece : Forest) (scope : List ℕ → Option Definition) (old new : Output) : Type 0 where
-  pub adds : AddsMember depth (member thin_layers depth before piece (definition_of piece)) old new
-  pub finds : scope ≡ nearest (with_definition thin_layers depth (definition_of piece) before)
-  pub free : AreFree (nearest (with_definition thin_layers depth (definition_of piece) before))
+  pub adds : AddsMember depth (member layers depth before piece (definition_of piece)) old new
+  pub finds : scope ≡ nearest (with_definition layers depth (definition_of piece) before)
 
 -- the output of pieces: the steps and faults of all of them, and the number of those that are plain
 pub record IsOutputOf (depth : ℕ) (pieces : List Forest) (out : Output) : Type 0 where
-  pub steps : steps_of_output out.steps.items ≡ flat_map (output_of thin_layers depth) (members_after thin_layers depth [] pieces)
-  pub faults : out.faults.items ≡ flat_map (member_faults thin_layers depth) (members_after thin_layers depth [] pieces)
-  pub plain : out.plain ≡ length (looked_of (members_after thin_layers depth [] pieces))
+  pub steps : steps_of_output out.steps.items ≡ flat_map (output_of layers depth) (members_after layers depth [] pieces)
+  pub faults : out.faults.items ≡ flat_map (member_faults layers depth) (members_after layers depth [] pieces)
+  pub plain : out.plain ≡ length (looked_of (members_after layers depth [] pieces))

@@ -1,12 +1,13 @@
 -- The thin layers, and the texts that they are enough for.
-use Rattle.std.specs.Prelude.{ℕ, Bool, true, false, ◌&&◌, ◌||◌, not, List, if◌then◌else◌, Option, Some, None, Result, Ok, Err, option_and_then, is_some, is_none, chars}
+use Rattle.std.specs.Prelude.{ℕ, Bool, true, false, ◌&&◌, ◌||◌, not, List, if◌then◌else◌, Option, Some, None, Result, Ok, Err, option_and_then, is_some, is_none, nat_lt, chars}
 use Rattle.std.specs.List.{list_all}
 use Prim.Native.String.{String}
 use Rattle.rustc_lexer.specs.Lexing.{tokens_of}
 use Rattle.rustc_lexer.specs.declared.token.Token.{Token}
 use Rattle.rustc_lexer.specs.declared.token.TokenKind.{TokenKind}
 use Rattle.rustc_lexer.specs.declared.token.TokenKind.TheVariants.{RawIdent, Lifetime, Literal, LineComment, BlockComment}
-use Rattle.tt_data.specs.Forest.{Forest, empty, leaf, group}
+use Rattle.tt.specs.Building.{most_tokens}
+use Rattle.tt_data.specs.Forest.{Forest, empty, leaf, group, size}
 use Rattle.tt_data.specs.Walk.{Step, at_leaf, opens, closes}
 use Rattle.tt_data.specs.Displayed.{displayed_leaf}
 use Rattle.tt_data.specs.declared.leaf.Leaf.{Leaf}
@@ -28,10 +29,19 @@ use Rattle.expander.specs.declared.rules.Rule.{Rule}
 abbrev pub thin_rules : Definition → Option (List Rule)
 thin_rules d = if d.is_macro then None else rules_of d.body
 
+abbrev pub thin_fit : Definition → Forest → Option Forest
+thin_fit d argument = option_and_then (λ rules. first_fit rules argument) (thin_rules d)
+
+-- a result is there that has more tokens than a tree may have
+abbrev pub has_too_many : Option Forest → Bool
+has_too_many None = false
+has_too_many (Some f) = nat_lt most_tokens (size f)
+
 abbrev pub thin_world : World Definition
 thin_world = record {
   broken = λ d. is_none (thin_rules d);
-  fit = λ d argument. option_and_then (λ rules. first_fit rules argument) (thin_rules d);
+  fit = thin_fit;
+  bursts = λ d argument. has_too_many (thin_fit d argument);
 }
 
 -- leaves and visible brackets are spelled as they are displayed
@@ -51,12 +61,6 @@ is_free_of c empty = true
 is_free_of c (leaf l rest) = not (is_punct c l) && is_free_of c rest
 is_free_of c (group d inner rest) = is_free_of c inner && is_free_of c rest
 
--- nor inside a group
-abbrev pub groups_are_free_of : String → Forest → Bool
-groups_are_free_of c empty = true
-groups_are_free_of c (leaf l rest) = groups_are_free_of c rest
-groups_are_free_of c (group d inner rest) = is_free_of c inner && groups_are_free_of c rest
-
 abbrev pub is_name : Leaf → Bool
 is_name (as_leaf.Ident i) = true
 is_name _ = false
@@ -75,7 +79,7 @@ is_within_limits (Some d) =
     not d.is_macro && (is_some (rules_of d.body) || (is_free_of "$" d.body && has_no_name d.body))
 
 abbrev pub is_thin_forest : Forest → Bool
-is_thin_forest f = groups_are_free_of "!" f && list_all (λ p. is_within_limits (definition_of p)) (pieces f)
+is_thin_forest f = list_all (λ p. is_within_limits (definition_of p)) (pieces f)
 
 abbrev pub is_thin_reading : Result Forest ReadFault → Bool
 is_thin_reading (Ok f) = is_thin_forest f
@@ -90,7 +94,7 @@ is_known (LineComment (Some style)) = false
 is_known (BlockComment (Some style) terminated) = false
 is_known _ = true
 
--- every lexeme is of these kinds, no `!` stands inside a group, and every definition is within the limits
+-- every lexeme is of these kinds, and every definition is within the limits
 abbrev pub is_thin : List ℕ → Bool
 is_thin text =
     list_all (λ (t : Token). is_known t.kind) (tokens_of (chars text)) && is_thin_reading (text_reading text)

@@ -11,6 +11,8 @@ use tt_data::leaf::{Ident, Punct, Spacing};
 #[derive(Drop)]
 pub(crate) struct Call<'a> {
     pub name: Ident,
+    /// Its group, and the trees behind it.
+    pub from_group: TtIter<'a>,
     pub argument: TtIter<'a>,
     /// The trees behind it.
     pub rest: TtIter<'a>,
@@ -38,6 +40,7 @@ fn bare_call<'a>(trees: &TtIter<'a>) -> Option<Call<'a>>
     }
     Some(Call {
         name,
+        from_group: after_bang,
         argument,
         rest,
     })

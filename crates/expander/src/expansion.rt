@@ -1,31 +1,33 @@
 // The expansion of a text's pieces.
-ghost use Rattle.std.specs.Prelude.{◌≡◌, ◌<◌, ◌≤◌, ◌+◌, ◌^◌, ◌++◌, ◌∷◌, [], ℕ, List, true, IfOk, OnOk, Some, None, Err, Option};
+ghost use Rattle.std.specs.Prelude.{◌≡◌, ◌<◌, ◌≤◌, ◌+◌, ◌^◌, ◌++◌, ◌∷◌, [], List, true, IfOk, OnOk, Some, Err};
+ghost use Rattle.std.specs.List.{list_any};
+ghost use Rattle.tt_data.specs.Forest.{Forest, joined};
+ghost use Rattle.tt_data.specs.Walk.{walk};
+ghost use Rattle.expander.specs.CallSteps.{call_at};
 ghost use Rattle.expander.specs.Definitions.{definition_of, nearest};
-ghost use Rattle.expander.specs.Meaning.{with_definition};
-ghost use Rattle.expander.specs.TooMany.{FillsTooMuch, IsTooMuch, CallsTooMuch, HasTooManyAfter};
+ghost use Rattle.expander.specs.Expansion.{just};
+ghost use Rattle.expander.specs.Faults.{fault_at};
+ghost use Rattle.expander.specs.Layered.{layers};
+ghost use Rattle.expander.specs.Meaning.{member, members_after};
 ghost use Rattle.expander.specs.Pieces.{cut};
 ghost use Rattle.expander.specs.PieceTurns.{TakesPiece, IsOutputOf, told_if_broken};
-ghost use Rattle.tt_data.specs.Forest.{Forest, joined, size, empty};
-ghost use Rattle.tt_data.specs.Walk.{walk};
-ghost use Rattle.expander.specs.CallSteps.{call_at, call_behind_colons};
-ghost use Rattle.expander.specs.Expansion.{CallSite, placed, unbroken};
-ghost use Rattle.expander.specs.Faults.{fault_at};
-ghost use Rattle.expander.specs.OutputSteps.{steps_of_output};
 ghost use Rattle.expander.specs.ScopeTable.{definitions_of};
-ghost use Rattle.expander.specs.Thin.{thin_layers, thin_world, is_free_of, groups_are_free_of};
-ghost use Rattle.expander.specs.Turns.{deeper_at, searched, Adds, Turn, Tries, AreFree, IsBehindFirst};
+ghost use Rattle.expander.specs.TooMany.{bursts};
+ghost use Rattle.expander.specs.Turns.{answer, makes_too_many, searched, trees_of, Adds, Turn};
 ghost use Rattle.expander.specs.declared.definitions.Definition.{Definition};
 
 use crate::calls::{Call, call_at, call_behind_colons};
 use crate::copies::again;
 use crate::definitions::definition_of;
 use crate::faults::{Fault, FaultKind};
-use crate::output::{PlacedStep, push_walk};
+use crate::output::{PlacedStep, push_step, push_walk};
 use crate::pieces::next_piece;
 use crate::scope::{Known, Scope};
 use crate::substitution::first_fit;
+use crate::walk::Walk;
 use std::alloc::{AllocError, Global};
 use tt::iter::TtIter;
+use tt::top::TopSubtree;
 use tt_data::fault::TtFault;
 use tt_data::span::Span;
 
@@ -48,143 +50,104 @@ fn push_fault(faults: &mut Vec<Fault>, kind: FaultKind, at: Span) -> Result<(), 
 
 // Adds the walk of the trees up to those behind, which are left then.
 fn keep<'a>(
-    steps: &mut Vec<PlacedStep>,
+    alloc: Global,
+    outer: Option<Span>,
+    out: &mut Output,
     trees: &mut TtIter<'a>,
     behind: TtIter<'a>,
 ) -> Result<(), AllocError>
     requires { (passed : Forest) × (trees.old ≡ joined passed behind) }
     ensures rest { OnOk result (trees.new ≡ behind.entry) }
-    ensures steps { (passed : Forest) → trees.old ≡ joined passed behind.entry →
-        OnOk result (steps_of_output steps.new.items ≡ steps_of_output steps.old.items ++ placed None (walk passed)) }
+    ensures adds { (passed : Forest) → trees.old ≡ joined passed behind.entry → OnOk result (Adds out.old out.new (just outer (walk passed))) }
 {
     let kept = behind.passed_since(trees.remaining()).iter();
-    push_walk(steps, &kept, None)?;
+    push_walk(alloc, &mut out.steps, &kept, outer)?;
     *trees = behind;
     Ok(())
 }
 
-// Expands a call by the definition that its name finds, or tells why it stays.
-fn expand_by(
+// What comes in the place of a call of the definition, or the fault for which the call stays.
+fn answer(
     alloc: Global,
-    steps: &mut Vec<PlacedStep>,
     known: &Known<'_>,
     depth: u8,
-    call: &Call<'_>,
-) -> Result<Option<FaultKind>, TtFault>
-    ensures tries { (scope : List ℕ → Option Definition) (site : CallSite) →
-        site.at ≡ call.now.name.span → site.argument ≡ call.now.argument →
-        is_free_of "!" known.now.definition.body ≡ true → is_free_of "!" call.now.argument ≡ true →
-        IfOk result (Tries steps.old.items steps.new.items site
-        (unbroken thin_world known.now.definition (thin_world.broken known.now.definition) (deeper_at scope depth) None site)) }
-    ensures unfit { result ≡ Ok (Some FaultKind.CannotExpand) → thin_world.fit known.now.definition call.now.argument ≡ None }
-    ensures tokens { result ≡ Err TtFault.Tokens → FillsTooMuch known.now.definition depth call.now.argument }
+    argument: &TtIter<'_>,
+) -> Result<Result<TopSubtree, FaultKind>, TtFault>
+    ensures given { IfOk result (λ given. trees_of given ≡ answer known.now.definition depth argument.now) }
+    ensures tokens { result ≡ Err TtFault.Tokens → makes_too_many known.now.definition depth argument.now ≡ true }
 {
     let Some(rules) = &known.rules else {
-        return Ok(Some(FaultKind::BrokenDefinition));
+        return Ok(Err(FaultKind::BrokenDefinition));
     };
     if depth == 0 {
-        return Ok(Some(FaultKind::RecursionLimit));
+        return Ok(Err(FaultKind::RecursionLimit));
     }
-    let Some(result) = first_fit(alloc, rules.as_slice(), &call.argument)? else {
-        return Ok(Some(FaultKind::CannotExpand));
-    };
-    push_walk(steps, &result.token_trees().iter(), Some(call.name.span))?;
-    Ok(None)
+    let result = first_fit(alloc, rules.as_slice(), argument)?;
+    Ok(result.ok_or(FaultKind::CannotExpand))
 }
 
-// Expands a call with which the trees begin by the definition that its name finds, or keeps it with a fault, and passes
-// over it.
-fn expand_known<'a>(
-    alloc: Global,
-    known: &Known<'_>,
-    depth: u8,
-    out: &mut Output,
-    trees: &mut TtIter<'a>,
-    call: Call<'a>,
-) -> Result<(), TtFault>
-    requires { call_at trees.old ≡ Some call }
-    ensures plain { OnOk result (out.new.plain ≡ out.old.plain) }
-    ensures turn { (scope : List ℕ → Option Definition) → scope call.entry.name.sym ≡ Some known.now.definition →
-        groups_are_free_of "!" trees.old ≡ true → is_free_of "!" known.now.definition.body ≡ true →
-        OnOk result (Turn scope depth out.old.steps.items out.new.steps.items out.old.faults.items out.new.faults.items trees.old trees.new) }
-    ensures rest { OnOk result (trees.new ≡ call.entry.rest) }
-    ensures tokens { result ≡ Err TtFault.Tokens → FillsTooMuch known.now.definition depth call.entry.argument }
-{
-    if let Some(kind) = expand_by(alloc, &mut out.steps, known, depth, &call)? {
-        push_fault(&mut out.faults, kind, call.name.span)?;
-        keep(&mut out.steps, trees, call.rest)?;
-        return Ok(());
-    }
-    *trees = call.rest;
-    Ok(())
-}
-
-// Expands a call with which the trees begin, or keeps it where its name finds nothing, and passes over it.
+// Expands the call with which the trees begin, and passes over it: what comes in its place is searched by itself, with a
+// level less. A call that stays for a fault is passed as it is. Where the name finds nothing, what is passed ends before
+// the group, so that the search goes on inside.
+#[cycle(searching)]
 fn expand_call<'a>(
     alloc: Global,
     scope: &Scope<'_>,
     depth: u8,
+    outer: Option<Span>,
     out: &mut Output,
     trees: &mut TtIter<'a>,
     call: Call<'a>,
 ) -> Result<(), TtFault>
     requires { call_at trees.old ≡ Some call }
-    ensures less { OnOk result (size trees.new < size trees.old) }
-    ensures plain { OnOk result (out.new.plain ≡ out.old.plain) }
-    ensures turn { groups_are_free_of "!" trees.old ≡ true → AreFree (definitions_of scope.now) →
-        OnOk result (Turn (definitions_of scope.now) depth out.old.steps.items out.new.steps.items out.old.faults.items out.new.faults.items trees.old trees.new) }
-    ensures rest { OnOk result (trees.new ≡ call.entry.rest) }
-    ensures kept { definitions_of scope.now call.entry.name.sym ≡ None → (passed : Forest) → trees.old ≡ joined passed call.entry.rest →
-        OnOk result (steps_of_output out.new.steps.items ≡ steps_of_output out.old.steps.items ++ placed None (walk passed)) }
-    ensures untold { definitions_of scope.now call.entry.name.sym ≡ None → OnOk result (out.new.faults.items ≡ out.old.faults.items) }
-    ensures tokens { result ≡ Err TtFault.Tokens → IsTooMuch (definitions_of scope.now) depth call.entry }
+    ensures turn { OnOk result (Turn (searched (definitions_of scope.now) depth outer) out.old out.new trees.old trees.new) }
+    ensures tokens { result ≡ Err TtFault.Tokens → (searched (definitions_of scope.now) depth outer trees.old).bursts ≡ true }
 {
     let Some(known) = scope.find(&call.name.sym) else {
-        keep(&mut out.steps, trees, call.rest)?;
+        keep(alloc, outer, out, trees, call.from_group)?;
         return Ok(());
     };
-    expand_known(alloc, known, depth, out, trees, call)
-}
-
-// The trees behind what stays as it is at the beginning: a call behind a `::`, or one tree.
-fn behind_first<'a>(trees: &TtIter<'a>) -> TtIter<'a>
-    ensures { IsBehindFirst trees.now result }
-{
-    match call_behind_colons(trees) {
-        Some(call) => call.rest,
-        None => {
-            let mut behind = again(trees);
-            let _ = behind.next();
-            behind
+    let at = outer.unwrap_or(call.name.span);
+    match answer(alloc, known, depth, &call.argument)? {
+        Ok(result) => {
+            *trees = call.rest;
+            let inside = result.token_trees().iter();
+            search(alloc, scope, depth - 1, Some(at), out, &inside)
+        }
+        Err(kind) => {
+            push_fault(&mut out.faults, kind, at)?;
+            keep(alloc, outer, out, trees, call.rest)?;
+            Ok(())
         }
     }
 }
 
-// Expands the calls of a plain piece's top list.
-fn expand_piece(
+// Searches trees for calls, those in groups too, and expands them with so many levels left. What comes out is placed at
+// the name of the call around, or at none.
+#[cycle(searching)]
+fn search(
     alloc: Global,
     scope: &Scope<'_>,
     depth: u8,
+    outer: Option<Span>,
     out: &mut Output,
-    piece: &TtIter<'_>,
+    trees: &TtIter<'_>,
 ) -> Result<(), TtFault>
-    ensures plain { OnOk result (out.new.plain ≡ out.old.plain) }
-    ensures adds { groups_are_free_of "!" piece.now ≡ true → AreFree (definitions_of scope.now) →
-        OnOk result (Adds out.old.steps.items out.new.steps.items out.old.faults.items out.new.faults.items
-        (searched (definitions_of scope.now) depth piece.now)) }
-    ensures tokens { result ≡ Err TtFault.Tokens → CallsTooMuch (definitions_of scope.now) depth piece.now }
+    ensures adds { OnOk result (Adds out.old out.new (searched (definitions_of scope.now) depth outer trees.now)) }
+    ensures tokens { result ≡ Err TtFault.Tokens → (searched (definitions_of scope.now) depth outer trees.now).bursts ≡ true }
 {
-    let mut rest = again(piece);
-    while !rest.is_empty() {
-        match call_at(&rest) {
-            Some(call) => expand_call(alloc, scope, depth, out, &mut rest, call)?,
-            None => {
-                let behind = behind_first(&rest);
-                keep(&mut out.steps, &mut rest, behind)?;
-            }
+    let mut walk = Walk::new(alloc, trees);
+    'turns: loop {
+        if let Some(call) = call_at(&walk.here) {
+            expand_call(alloc, scope, depth, outer, out, &mut walk.here, call)?;
+        } else if let Some(call) = call_behind_colons(&walk.here) {
+            keep(alloc, outer, out, &mut walk.here, call.from_group)?;
+        } else if let Some(step) = walk.next()? {
+            push_step(&mut out.steps, step, outer)?;
+        } else {
+            return Ok(());
         }
     }
-    Ok(())
 }
 
 // Tells a definition that is broken, at its name.
@@ -211,16 +174,13 @@ fn take_piece<'a>(
 ) -> Result<(), TtFault>
     requires { out.old.plain + 1 < 2 ^ 64 }
     ensures plain { OnOk result (out.new.plain ≤ out.old.plain + 1) }
-    ensures turn { (before : List Definition) → definitions_of scope.old ≡ nearest before → AreFree (nearest before) →
-        groups_are_free_of "!" piece.now ≡ true →
+    ensures turn { (before : List Definition) → definitions_of scope.old ≡ nearest before →
         OnOk result (TakesPiece depth before piece.now (definitions_of scope.new) out.old out.new) }
-    ensures finds { (before : List Definition) → definitions_of scope.old ≡ nearest before →
-        OnOk result (definitions_of scope.new ≡ nearest (with_definition thin_layers 0 (definition_of piece.now) before)) }
-    ensures tokens { result ≡ Err TtFault.Tokens →
-        (definition_of piece.now ≡ None) × CallsTooMuch (definitions_of scope.old) depth piece.now }
+    ensures tokens { (before : List Definition) → definitions_of scope.old ≡ nearest before →
+        result ≡ Err TtFault.Tokens → bursts (member layers depth before piece.now (definition_of piece.now)) ≡ true }
 {
     let Some(definition) = definition_of(piece) else {
-        expand_piece(alloc, scope, depth, out, piece)?;
+        search(alloc, scope, depth, None, out, piece)?;
         out.plain += 1;
         return Ok(());
     };
@@ -232,8 +192,8 @@ fn take_piece<'a>(
 
 /// Expands the pieces of a text, each under the definitions before it.
 pub(crate) fn expand_pieces(alloc: Global, depth: u8, trees: &TtIter<'_>) -> Result<Output, TtFault>
-    ensures output { groups_are_free_of "!" trees.now ≡ true → IfOk result (IsOutputOf depth (cut trees.now)) }
-    ensures tokens { result ≡ Err TtFault.Tokens → HasTooManyAfter depth [] (cut trees.now) }
+    ensures output { IfOk result (IsOutputOf depth (cut trees.now)) }
+    ensures tokens { result ≡ Err TtFault.Tokens → list_any bursts (members_after layers depth [] (cut trees.now)) ≡ true }
 {
     let most = trees.remaining().len();
     let mut scope = Scope::new(alloc);

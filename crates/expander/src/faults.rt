@@ -4,7 +4,8 @@ ghost use Rattle.expander.specs.Faults.{place, fault_at, is_definition_word, nes
 ghost use Rattle.expander.specs.OutputSteps.{step_of, placed_of, tokens_of_output};
 
 use crate::definitions::is_word;
-use crate::output::{PlacedStep, Step};
+use crate::output::PlacedStep;
+use crate::walk::Step;
 use std::alloc::AllocError;
 use tt_data::leaf::Leaf;
 use tt_data::span::{Span, TextRange};

@@ -1,6 +1,7 @@
 //! Laws of the definitions, for those who read them. A call does nothing: it only states.
 ghost use Rattle.std.specs.Prelude.{◌≡◌, ◌↔◌, true};
 ghost use Rattle.expander.specs.Calls.{marked, unmarked};
+ghost use Rattle.expander.specs.CallSteps.{call_at, first_call};
 ghost use Rattle.expander.specs.declared.faults.Fault.{Fault};
 ghost use Rattle.expander.specs.declared.faults.FaultKind.{FaultKind};
 ghost use Rattle.expander.specs.declared.program.Status.{Status};
@@ -15,6 +16,12 @@ use crate::session::Refusal;
 /// A forest's calls are marked and nothing else: the marks taken off give the forest back.
 pub fn marks_taken_off()
     ensures { (f : Forest) → unmarked (marked f) ≡ f }
+{}
+
+/// A list's marks begin with a call just where the list begins with one as it is met from the left: a name, `!` and a
+/// visible group, with its `$crate ::` where that stands before them.
+pub fn calls_are_met_from_the_left()
+    ensures { (f : Forest) → call_at f ≡ first_call (marked f) }
 {}
 
 /// Two answers are equal by `==` exactly where they are the same, places included.

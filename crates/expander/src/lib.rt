@@ -20,6 +20,7 @@ mod scope;
 pub mod session;
 mod substitution;
 mod units;
+mod walk;
 pub mod watched;
 
 pub use bridge::{ReadFault, ReadFaultKind};

@@ -4,20 +4,10 @@ ghost use Rattle.tt_data.specs.Walk.{walk};
 ghost use Rattle.expander.specs.Expansion.{placed};
 ghost use Rattle.expander.specs.OutputSteps.{step_of, steps_of_output};
 
-use crate::copies::again;
-use std::alloc::AllocError;
-use tt::iter::{TtElement, TtIter};
-use tt_data::delimiter::DelimiterKind;
-use tt_data::leaf::Leaf;
+use crate::walk::{Step, Walk};
+use std::alloc::{AllocError, Global};
+use tt::iter::TtIter;
 use tt_data::span::Span;
-
-/// A step of a walk: a leaf, an opening or a closing.
-#[derive(Drop)]
-pub(crate) enum Step {
-    Leaf(Leaf),
-    Opens(DelimiterKind, Span),
-    Closes(DelimiterKind, Span),
-}
 
 /// A step of the output, with the span of the name of the outermost call that was expanded to give it.
 #[derive(Drop)]
@@ -28,33 +18,26 @@ pub(crate) struct PlacedStep {
 
 /// Adds the walk of the trees, placed at the name of a call that was expanded, or at none.
 pub(crate) fn push_walk(
+    alloc: Global,
     steps: &mut Vec<PlacedStep>,
     trees: &TtIter<'_>,
     outer: Option<Span>,
 ) -> Result<(), AllocError>
     ensures { OnOk result (steps_of_output steps.new.items ≡ steps_of_output steps.old.items ++ placed outer (walk trees.now)) }
 {
-    let mut rest = again(trees);
-    while let Some(element) = rest.next() {
-        match element {
-            TtElement::Leaf(leaf) => push_step(steps, Step::Leaf(leaf), outer)?,
-            TtElement::Subtree(subtree, inner) => {
-                let brackets = subtree.delimiter;
-                push_step(steps, Step::Opens(brackets.kind, brackets.open_span), outer)?;
-                push_walk(steps, &inner, outer)?;
-                push_step(
-                    steps,
-                    Step::Closes(brackets.kind, brackets.close_span),
-                    outer,
-                )?;
-            }
-        }
+    let mut rest = Walk::new(alloc, trees);
+    while let Some(step) = rest.next()? {
+        push_step(steps, step, outer)?;
     }
     Ok(())
 }
 
-// Adds one step.
-fn push_step(steps: &mut Vec<PlacedStep>, step: Step, outer: Option<Span>) -> Result<(), AllocError>
+/// Adds one step.
+pub(crate) fn push_step(
+    steps: &mut Vec<PlacedStep>,
+    step: Step,
+    outer: Option<Span>,
+) -> Result<(), AllocError>
     ensures { OnOk result (steps_of_output steps.new.items ≡ steps_of_output steps.old.items ++ placed outer (step_of step ∷ [])) }
 {
     steps.push(PlacedStep { step, outer })?;

@@ -6,7 +6,8 @@ ghost use Rattle.expander.specs.OutputSteps.{step_of, is_spelled, text_of_step, 
 ghost use Rattle.expander.specs.Printing.{text_of};
 ghost use Rattle.tt_data.specs.Displayed.{displayed_leaf};
 
-use crate::output::{PlacedStep, Step};
+use crate::output::PlacedStep;
+use crate::walk::Step;
 use std::alloc::{AllocError, Global};
 use std::fmt::Write;
 use tt_data::delimiter::DelimiterKind;

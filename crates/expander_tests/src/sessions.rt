@@ -2,7 +2,7 @@
 use expander::FaultKind::{BrokenDefinition, CannotExpand, NestedDefinition, RecursionLimit};
 use expander::ReadFaultKind::{BadToken, CloserDoesNotFit, GroupLeftOpen};
 use expander::{Expansion, Fault, FaultKind, ReadFault, Refusal, Reply, Session, TextRange};
-use std::alloc::Global;
+use std::alloc::{AllocError, Global};
 use std::process::Abort;
 use std::test::Fail;
 
@@ -16,7 +16,7 @@ fn fault(kind: FaultKind, start: u32, end: u32) -> Fault {
 
 // The expansion of a text that can be read.
 fn expansion_of(rt: &impl Abort, alloc: Global, text: &str, depth: u8) -> Result<Expansion, Fail> {
-    assert!(rt; text.len() < 10_000);
+    assert!(rt; text.len() < 10_000_000);
     let mut session = Session::new(alloc, text, depth)?;
     assert!(rt; session.text() == text);
     match session.expansion()? {
@@ -53,7 +53,7 @@ fn shows(rt: &impl Abort, alloc: Global, row: Row<'_>) -> Result<(), Fail> {
 
 #[test]
 fn texts(rt: HostRuntime) -> Result<(), Fail> {
-    let rows: [Row<'_>; 14] = [
+    let rows: [Row<'_>; 13] = [
         ("", 128, "", &[], 0, 0),
         (
             "macro_rules! p { ($a:ident $b:tt) => { $b $a } }\np!{ x y }\n",
@@ -138,20 +138,134 @@ fn texts(rt: HostRuntime) -> Result<(), Fail> {
             3,
             9,
         ),
-        // Groups and what a call gives are not searched yet.
+    ];
+    for row in rows {
+        shows(&rt, rt.alloc(), row)?;
+    }
+    Ok(())
+}
+
+#[test]
+fn calls_in_groups_and_results(rt: HostRuntime) -> Result<(), Fail> {
+    let rows: [Row<'_>; 8] = [
+        // Groups and results are searched.
         (
             "macro_rules! f { () => { g!() } }\nmacro_rules! g { () => { x } }\n(f!()) g!() f![];\n",
             128,
-            "( f ! ( ) ) x g ! ( ) ;\n",
+            "( x ) x x ;\n",
             &[],
             1,
-            12,
+            6,
+        ),
+        // The outermost call comes first.
+        (
+            "macro_rules! o { (m!{}) => { x }; (y) => { z } }\nmacro_rules! m { () => { y } }\no!(m!{});\n",
+            128,
+            "x ;\n",
+            &[],
+            1,
+            2,
+        ),
+        // What is no call of a definition is kept with its group searched.
+        (
+            "macro_rules! f { () => { y } }\nvec![f!(), g!(f!())]; a::f!(f!());\n",
+            128,
+            "vec ! [ y , g ! ( y ) ] ;\na :: f ! ( y ) ;\n",
+            &[],
+            2,
+            21,
+        ),
+        // No call is formed across a result's edge.
+        (
+            "macro_rules! n { () => { m } }\nmacro_rules! e { () => { ! () } }\nmacro_rules! m { () => { x } }\nn!() !(); m e!();\n",
+            128,
+            "m ! ( ) ;\nm ! ( ) ;\n",
+            &[],
+            2,
+            10,
+        ),
+        // A call in a result stays for a fault at the outermost call's name.
+        (
+            "macro_rules! f { (x) => { y } }\nmacro_rules! g { ($a:tt) => { f!($a) (f!(x)) } }\ng!(z);\n",
+            128,
+            "f ! ( z ) ( y ) ;\n",
+            &[fault(CannotExpand, 81, 82)],
+            1,
+            9,
+        ),
+        // Each result takes a level.
+        (
+            "macro_rules! i { ($a:tt) => { $a } }\nmacro_rules! y { () => { x } }\ni!{(y!())}\n",
+            2,
+            "( x )\n",
+            &[],
+            1,
+            3,
+        ),
+        (
+            "macro_rules! i { ($a:tt) => { $a } }\nmacro_rules! y { () => { x } }\ni!{(y!())}\n",
+            1,
+            "( y ! ( ) )\n",
+            &[fault(RecursionLimit, 68, 69)],
+            1,
+            6,
+        ),
+        (
+            "macro_rules! i { ($a:tt) => { $a } }\nmacro_rules! y { () => { x } }\ni!{(y!())}\n",
+            0,
+            "i ! { ( y ! ( ) ) }\n",
+            &[fault(RecursionLimit, 68, 69)],
+            1,
+            10,
         ),
     ];
     for row in rows {
         shows(&rt, rt.alloc(), row)?;
     }
     Ok(())
+}
+
+// A call whose result has it again in a group: each level gives a group more.
+#[test]
+fn recursion_ends_by_depth(rt: HostRuntime) -> Result<(), Fail> {
+    let text = "macro_rules! l { () => { (l!{}) } }\nl!{}\n";
+    let faults = [fault(RecursionLimit, 36, 37)];
+    for depth in [0, 3, 255] {
+        let mut printed = String::new(rt.alloc());
+        for _ in 0..depth {
+            printed.push_str("( ")?;
+        }
+        printed.push_str("l ! { }")?;
+        for _ in 0..depth {
+            printed.push_str(" )")?;
+        }
+        printed.push_str("\n")?;
+        let tokens = 2 * usize::from(depth) + 4;
+        shows(
+            &rt,
+            rt.alloc(),
+            (text, depth, printed.as_str(), &faults, 1, tokens),
+        )?;
+    }
+    Ok(())
+}
+
+// Each level doubles the calls: with ten levels 1,024 are left, each with a fault.
+#[test]
+fn results_that_double_end_by_depth(rt: HostRuntime) -> Result<(), Fail> {
+    let text = "macro_rules! d { ($a:tt) => { d!($a) d!($a) } }\nd!(x);\n";
+    let mut printed = String::new(rt.alloc());
+    let mut faults = Vec::new(rt.alloc());
+    for _ in 0..1024 {
+        printed.push_str("d ! ( x ) ")?;
+        faults.push(fault(RecursionLimit, 48, 49))?;
+    }
+    printed.push_str(";\n")?;
+    shows(
+        &rt,
+        rt.alloc(),
+        (text, 10, printed.as_str(), faults.as_slice(), 1, 5121),
+    )
 }
 
 #[test]
@@ -180,28 +294,44 @@ fn texts_that_are_not_read(rt: HostRuntime) -> Result<(), Fail> {
     Ok(())
 }
 
-#[test]
-fn deep_groups(rt: HostRuntime) -> Result<(), Fail> {
-    let definition = "macro_rules! m { ($a:tt) => { $a } }\n";
-    let mut text = String::from_str(rt.alloc(), definition)?;
-    let mut printed = String::new(rt.alloc());
-    text.push_str("m!{")?;
-    for _ in 0..500 {
+// A text of so many groups in one another around a `x`, and what it prints.
+fn nested(
+    alloc: Global,
+    before: &str,
+    levels: u32,
+    after: &str,
+) -> Result<(String, String), AllocError> {
+    let mut text = String::from_str(alloc, before)?;
+    let mut printed = String::new(alloc);
+    for _ in 0..levels {
         text.push_str("(")?;
         printed.push_str("( ")?;
     }
-    for _ in 0..500 {
+    text.push_str("x")?;
+    printed.push_str("x")?;
+    for _ in 0..levels {
         text.push_str(")")?;
-        printed.push_str(") ")?;
+        printed.push_str(" )")?;
     }
-    text.push_str("}")?;
-    let _ = printed.pop();
+    text.push_str(after)?;
     printed.push_str("\n")?;
-    shows(
-        &rt,
-        rt.alloc(),
-        (text.as_str(), 128, printed.as_str(), &[], 1, 1000),
-    )
+    Ok((text, printed))
+}
+
+#[test]
+fn deep_groups(rt: HostRuntime) -> Result<(), Fail> {
+    let call = "macro_rules! m { ($a:tt) => { $a } }\nm!{";
+    let cases = [(call, 500, "}"), ("", 1_000_000, "")];
+    for (before, levels, after) in cases {
+        let (text, printed) = nested(rt.alloc(), before, levels, after)?;
+        let tokens = 2 * levels as usize + 1;
+        shows(
+            &rt,
+            rt.alloc(),
+            (text.as_str(), 128, printed.as_str(), &[], 1, tokens),
+        )?;
+    }
+    Ok(())
 }
 
 // For runs of the tests in which a request for memory is refused: the session is as it was, and answers when it is asked

@@ -14,5 +14,5 @@ returns-clause-reply c =
     let f = c.in-Tree.tree.inner in
     let is_read = c.reading_is_a_relation.ensures.read (text_steps c.args.text.now) f read.1 in
     reply_read c.args.text.now c.args.depth f _ is_read (λ thin.
-    means_read c.args.depth c.args.text.now f c.set_apart.new.tree.inner c.iter.result c.in_ok-output-in-Tree.output _ thin is_read c.in_ok-set_apart-in-Tree.ensures.apart
+    means_read c.args.depth c.args.text.now f c.set_apart.new.tree.inner c.iter.result c.in_ok-output-in-Tree.output _ is_read c.in_ok-set_apart-in-Tree.ensures.apart
     (c.iter.ensures ∙ c.token_trees.ensures) c.in_ok-output-in-Tree.ensures.output c.in_ok-expansion_of-in-Tree.ensures)

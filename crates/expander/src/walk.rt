@@ -1,0 +1,92 @@
+// A walk through trees and the groups in them, step by step.
+ghost use Rattle.std.specs.Prelude.{◌≡◌, [], ◌∷◌, IfOk, OnOk};
+ghost use Rattle.expander.specs.WalkSteps.{GoesOn, GoesOut, groups_of};
+
+use crate::copies::again;
+use std::alloc::{AllocError, Global};
+use std::mem::replace;
+use tt::iter::{TtElement, TtIter};
+use tt_data::delimiter::{Delimiter, DelimiterKind};
+use tt_data::leaf::Leaf;
+use tt_data::span::Span;
+
+/// A step of a walk: a leaf, an opening or a closing.
+#[derive(Drop)]
+pub(crate) enum Step {
+    Leaf(Leaf),
+    Opens(DelimiterKind, Span),
+    Closes(DelimiterKind, Span),
+}
+
+/// A group that a walk is in: how it closes, and the trees behind it.
+#[derive(Drop)]
+pub(crate) struct Around<'a> {
+    kind: DelimiterKind,
+    close_span: Span,
+    behind: TtIter<'a>,
+}
+
+/// A walk through trees. It takes memory for each group that it is in, and no stack.
+#[derive(Drop)]
+pub(crate) struct Walk<'a> {
+    /// The trees that are left of the innermost group.
+    pub here: TtIter<'a>,
+    // The groups that it is in, the innermost last.
+    around: Vec<Around<'a>>,
+}
+
+impl<'a> Walk<'a> {
+    /// Before the first of the trees.
+    pub(crate) fn new(alloc: Global, trees: &TtIter<'a>) -> Self
+        ensures here { result.here ≡ trees.now }
+        ensures groups { groups_of result ≡ [] }
+    {
+        Walk {
+            here: again(trees),
+            around: Vec::new(alloc),
+        }
+    }
+
+    /// The next step, which is made: none at the end.
+    pub(crate) fn next(&mut self) -> Result<Option<Step>, AllocError>
+        ensures { IfOk result (λ step. GoesOn self.old step self.new) }
+    {
+        match self.here.next() {
+            Some(TtElement::Leaf(leaf)) => Ok(Some(Step::Leaf(leaf))),
+            Some(TtElement::Subtree(head, inside)) => {
+                let brackets = head.delimiter;
+                self.enter(brackets, inside)?;
+                Ok(Some(Step::Opens(brackets.kind, brackets.open_span)))
+            }
+            None => Ok(self.leave()),
+        }
+    }
+
+    // Goes on over the trees in a group that was passed, before it does behind it.
+    fn enter(&mut self, brackets: Delimiter, inside: TtIter<'a>) -> Result<(), AllocError>
+        ensures here { OnOk result (self.new.here ≡ inside.entry) }
+        ensures groups { OnOk result (groups_of self.new
+            ≡ record { kind = brackets.kind; close_span = brackets.close_span; behind = self.old.here } ∷ groups_of self.old) }
+    {
+        let behind = replace(&mut self.here, inside);
+        self.around.push(Around {
+            kind: brackets.kind,
+            close_span: brackets.close_span,
+            behind,
+        })?;
+        Ok(())
+    }
+
+    // Goes on behind the innermost group: none where it is in none.
+    fn leave(&mut self) -> Option<Step>
+        ensures { GoesOut self.old result self.new }
+    {
+        let Around {
+            kind,
+            close_span,
+            behind,
+        } = self.around.pop()?;
+        self.here = behind;
+        Some(Step::Closes(kind, close_span))
+    }
+}
