@@ -197,8 +197,7 @@ module _ (mark : Span → Span) (bound : Map) where
       ended b mid ≡ option_map (extended out) (first_gives mark bound ms (put_op d done)) → IsLeft ns ops i out old → IsLeft ns ops (i + 1) mid old
   op-put ns ms ops i d b out mid old h e same holds told l =
       let put : Some mid ≡ option_map (extended out) (first_gives mark bound ns (put_op (get_or ops i d) done)) =
-          ap (λ t. ended t mid) (sym holds) ∙ told ∙ ap (option_map (extended out)) (same-first ns ms ops i d e same) in
-      (
+      ap (λ t. ended t mid) (sym holds) ∙ told ∙ ap (option_map (extended out)) (same-first ns ms ops i d e same) in (
         given-step out mid _ _ _ put (sym (ap (option_map (extended out)) (left-gives ns ops i d h)) ∙ l.0),
         (let k = ap (λ x. count_of out + x) (left-puts ns ops i d h) in
             room-step out mid (first_gives mark bound ns (put_op (get_or ops i d) done)) (first_puts_out mark bound ns (put_op (get_or ops i d) done))

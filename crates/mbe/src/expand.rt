@@ -95,8 +95,15 @@ impl DeclarativeMacro {
         match self.fit(alloc, grammar, tt.token_trees(), marker, call_style, top)? {
             Some((number, tree)) => Ok(ValueResult::ok((tree, Some(number)))),
             None => {
-                let (tree, number, err) =
-                    failure(alloc, grammar, self.list(), call_style, tt, marker, call_site)?;
+                let (tree, number, err) = failure(
+                    alloc,
+                    grammar,
+                    self.list(),
+                    call_style,
+                    tt,
+                    marker,
+                    call_site,
+                )?;
                 Ok(ValueResult::new((tree, number), err))
             }
         }

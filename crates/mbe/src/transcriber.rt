@@ -50,10 +50,7 @@ fn put_lifetime(out: &mut TopSubtreeBuilder, quote: Punct, name: Ident) -> Resul
 }
 
 // Puts in a separator, as it is written.
-fn put_separator(
-    out: &mut TopSubtreeBuilder,
-    separator: Option<&Separator>,
-) -> Result<(), TtFault>
+fn put_separator(out: &mut TopSubtreeBuilder, separator: Option<&Separator>) -> Result<(), TtFault>
     ensures faults { IfErr result IsWantOfRoom }
     ensures added { OnOk result (out.new.tree ≡ extended out.old.tree (separator_leaves (option_map (λ s. separator_of s.now) separator.entry))) }
     ensures tokens { result ≡ Err TtFault.Tokens → LacksRoom out.old.tree (separator_leaves (option_map (λ s. separator_of s.now) separator.entry)) }

@@ -1,108 +1,196 @@
-//! Rules, calls, and what they give.
-use crate::texts::expanded;
+//! Rules, calls, and what they give: a line for each call, with rules, argument and answer. An answer is the number of the
+//! rule and the printed text, in which `⏎` stands for the end of a line; or, of a call that no rule fits, the error, where
+//! it is told, the number of the nearest rule if there is one, and its tree as it is displayed.
+use crate::texts::answered;
 use grammar_fakes::{AllSteps, Faults, OneStep};
 use mbe::FragmentGrammar;
 use small_grammar::SmallGrammar;
 use std::alloc::Global;
+use std::fmt::Write;
 use std::test::Fail;
+use tt::Edition;
 
-// The rules, the argument, and what begins the answer.
-type Case = (&'static str, &'static str, &'static str);
+const WITH_THE_SMALL_GRAMMAR: &str = r#"
+() => {} ¦  ¦ 0
+($a:ident $b:tt) => { $b $a } ¦ x y ¦ 0 y x⏎
+(a) => {0}; (b) => {1}; ($x:ident) => {2} ¦ b ¦ 1 1⏎
+(a) => {0}; ($x:ident) => {2} ¦ c ¦ 1 2⏎
+($x:ident) => {} ¦ _ ¦ none
+($x:ident) => {} ¦  ¦ none
+($x:ident) => {} ¦ a b ¦ none
+($($x:ident),*) => { $($x;)* } ¦ a, b, c ¦ 0 a ;⏎b ;⏎c ;⏎
+($($x:ident),*) => { $($x;)* } ¦ a, b, ¦ none
+($($x:ident),* $(,)?) => { $($x)* } ¦ a, b, ¦ 0 a b⏎
+($($a:tt)* $($b:tt)*) => {} ¦ x ¦ none
+($(a)* $(a)*) => {} ¦ a ¦ none
+($($(a)+)*) => {} ¦ a a a ¦ none
+($($x:ident)* end) => {} ¦ a end ¦ none
+($x:expr) => { ($x) * 2 } ¦ 1 + 2 ¦ 0 ( ( 1 + 2 ) ) * 2⏎
+($x:expr) => { $x } ¦ (1) ¦ 0 ( 1 )⏎
+($x:expr) => { $x } ¦ - 1 ¦ 0 - 1⏎
+($x:expr) => {} ¦ let x = 1 ¦ none
+($x:expr_2021) => {} ¦ _ ¦ none
+($x:expr_2021) => {} ¦ const { 1 } ¦ none
+($x:expr) => {0} ¦ const { 1 } ¦ 0 0⏎
+($v:vis fn) => { $v } ¦ fn ¦ 0
+($v:vis fn) => { $v } ¦ pub(crate) fn ¦ 0 pub ( crate )⏎
+($l:lifetime) => { $l } ¦ 'a ¦ 0 'a⏎
+($l:literal) => { $l } ¦ -1 ¦ 0 - 1⏎
+($l:literal) => { $l } ¦ true ¦ 0 true⏎
+($t:ty) => { $t } ¦ Vec<u8> ¦ 0 Vec < u8 >⏎
+($p:path) => { $p } ¦ a::B<u8> ¦ 0 a :: B :: < u8 >⏎
+($p:pat) => { $p } ¦ A | B ¦ 0 A | B⏎
+($p:pat_param) => { $p } ¦ A | B ¦ none
+({ [ ( $x:tt ) ] }) => { $x } ¦ { [ ( y ) ] } ¦ 0 y⏎
+({ $x:tt }) => { $x } ¦ ( y ) ¦ none
+(1u8) => {} ¦ 1u16 ¦ none
+(0x1) => {0} ¦ 0x1 ¦ 0 0⏎
+(a => $x:tt) => { $x } ¦ a => ..= ¦ 0 ..=⏎
+($x:foo) => {} ¦ a ¦ none
+() => { ${index(1)} ${len()} } ¦  ¦ 0 0 0⏎
+() => { ${concat(f, n)} } ¦  ¦ 0 r#fn⏎
+($x:expr, $y:ty) => { $y $x } ¦ a.0?[1], Vec<Vec<u8>> ¦ 0 Vec < Vec < u8 >> ( a . 0 ? [ 1 ] )⏎
+($($e:expr_2021),* $(,)?) => { $($e);* ; } ¦ 4, "literal", funcall(), future.await, ¦ 0 4 ;⏎"literal" ;⏎( funcall ( ) ) ;⏎( future . await ) ;⏎
+($x:tt $($y:tt)*) => { $( $y $( $x )* )* } ¦ 1 a b ¦ 0 a b⏎
+($($x:ident)*) => { $x } ¦ a ¦ none
+(-1) => {-1}; (- 2) => {- 2}; (- 3.0) => {- 3.0}; (@$lit:literal) => {$lit} ¦ -1 ¦ 0 - 1⏎
+(-1) => {-1}; (- 2) => {- 2}; (- 3.0) => {- 3.0}; (@$lit:literal) => {$lit} ¦ - 1 ¦ 0 - 1⏎
+(-1) => {-1}; (- 2) => {- 2}; (- 3.0) => {- 3.0}; (@$lit:literal) => {$lit} ¦ -2 ¦ 1 - 2⏎
+(-1) => {-1}; (- 2) => {- 2}; (- 3.0) => {- 3.0}; (@$lit:literal) => {$lit} ¦ @1.0 ¦ 3 1.0⏎
+(-1) => {-1}; (- 2) => {- 2}; (- 3.0) => {- 3.0}; (@$lit:literal) => {$lit} ¦ @-1 ¦ 3 - 1⏎
+"#;
 
-// The first case of which something else is answered.
-fn first_wrong<G: FragmentGrammar>(
+// A call that no rule fits.
+const UNFIT: &str = r#"
+(-1) => {-1}; (- 2) => {- 2}; (- 3.0) => {- 3.0}; (@$lit:literal) => {$lit} ¦ @--1.0 ¦ none: expected literal (1..2, 3) missing
+($($e:expr),* $(,)?) => { $($e);* ; } ¦ _, ¦ none: no rule matches input tokens (0..1, 0) ;
+($($e:expr),* $(,)?) => { $($e);* ; } ¦ const { 1 }, ¦ none: no rule matches input tokens (0..5, 0) ;
+(a b) => {x} ¦ a c ¦ none: unexpected token in input (2..3, 0) x
+(a b) => {x} ¦ a ¦ none: expected ident: `b` (0..0, 0) x
+(a 'b) => {x} ¦ a 'c ¦ none: unexpected token in input (2..3, 0) x
+(a 'b) => {x} ¦ a + ¦ none: expected punct: `'` (2..3, 0) x
+(a 1) => {x} ¦ a () ¦ none: expected literal: `1` (2..3, 0) x
+(a "z") => {x} ¦ a () ¦ none: expected literal: `"z"` (2..3, 0) x
+(a r#fn) => {x} ¦ a () ¦ none: expected ident: `r#fn` (2..3, 0) x
+(a ==) => {x} ¦ a + b ¦ none: expected punct: `==` (2..3, 0) x
+(a ==) => {x} ¦ a 'b ¦ none: unexpected token in input (2..3, 0) x
+(a ==) => {x} ¦ a b ¦ none: unexpected token in input (2..3, 0) x
+(a ==) => {x} ¦ a ¦ none: unexpected token in input (0..0, 0) x
+(a (b)) => {x} ¦ a [b] ¦ none: leftover tokens (0..0, 0) x
+(a (b)) => {x} ¦ a (c) ¦ none: unexpected token in input (3..4, 0) x
+(a (b)) => {x} ¦ a (b c) ¦ none: leftover tokens (0..0, 0) x
+(a) => {x} ¦ a b c ¦ none: leftover tokens (0..0, 0) x
+($a:ident) => {$a} ¦ 1 ¦ none: expected ident (0..1, 0) missing
+($a:ident) => {$a} ¦  ¦ none: expected ident (0..0, 0) missing
+($a:tt) => {< $a >} ¦  ¦ none: expected token tree (0..0, 0) < >
+($a:lifetime) => {$a} ¦ x ¦ none: expected lifetime (0..1, 0) 'missing
+($a:literal) => {$a} ¦ x ¦ none: expected literal (0..1, 0) missing
+($a:ty) => {$a} ¦ ; ¦ none: expected Ty (0..1, 0) missing
+($a:pat) => {$a} ¦ ; ¦ none: expected PatTop (0..1, 0) missing
+($a:pat_param) => {$a} ¦ ; ¦ none: expected Pat (0..1, 0) missing
+($a:stmt) => {$a} ¦ x ¦ none: expected Stmt (0..1, 0) ;
+($a:block) => {$a} ¦ x ¦ none: expected Block (0..1, 0) {}
+($a:meta) => {< $a >} ¦ ; ¦ none: expected MetaItem (0..1, 0) < >
+($a:item) => {< $a >} ¦ ; ¦ none: expected Item (0..1, 0) < >
+($a:path) => {< $a >} ¦ ; ¦ none: expected Path (0..1, 0) < missing >
+($a:expr) => {< $a >} ¦ let x ¦ none: no rule matches input tokens (0..3, 0) < missing >
+($a:expr) => {< $a >} ¦ ; ¦ none: expected Expr (0..1, 0) < missing >
+($($a:ident)*) => { ${count($a)} $($a)* $(${count($a)})* } ¦ 1 ¦ none: expected ident (0..1, 0) 1
+($($a:ident)*) => { < $a > } ¦ x y ¦ none: expected simple binding, found nested binding `a` (22..23, 0) < >
+($($a:ident)?) => { < $a > } ¦  ¦ none: expected simple binding, found empty binding `a` (22..23, 0) < >
+($a:ident) => { ${ignore($b)} $a } ¦ x ¦ none: could not find binding b (16..17, 0) x
+($a:ident) => { ${count($b)} $a } ¦ x ¦ none: could not find binding b (16..17, 0) x
+($a:ident) => { ${concat(a, $b)} $a } ¦ x ¦ none: could not find binding b (16..17, 0) a x
+($a:ident) => { ${concat(1, $a)} $a } ¦ x ¦ none: `${concat(..)}` is not generating a valid identifier (16..17, 0) __ra_concat_dummy x
+($a:ty) => { ${concat(a, $a)} $a } ¦ (u8) ¦ none: metavariables of `${concat(..)}` must be of type `ident`, `literal` or `tt` (13..14, 0) a (u8)
+($a:ident) => { $($a)* z } ¦ x ¦ none: Expand exceed limit (77..78, 0) z
+($a:ident) => { $($a)? $($b)+ z } ¦ x ¦ none: unexpected token in input (77..78, 0) x z
+($($a:ident)*) => { $($a)+ z } ¦  ¦ none: unexpected token in input (77..78, 0) z
+($($a:ident $b:ident),*) => { $($a ${concat(1, $b)}),* z } ¦ x y, z w ¦ none: `${concat(..)}` is not generating a valid identifier (35..36, 0) x __ra_concat_dummy z __ra_concat_dummy z
+($($a:ident)* ; $($b:ident)*) => { $( $( ($a $b) )* )* } ¦ x y ; z w ¦ none: Expand exceed limit (77..78, 0)
+($a:expr, $b:expr, $c:path) => { $a $b $c ${count($d)} } ¦ 1 + 2, -3, A<u8> ¦ none: could not find binding d (42..43, 0) (1 + 2) - 3 A :: < u8 >
+($a:ident) => {1 $a}; ($a:ident $b:ident) => {2 $a $b}; ($a:tt ,) => {3 $a} ¦ x 1 ¦ none: expected ident (2..3, 1) 2 x missing
+($a:ident a $b:ident) => {1}; ($a:ident b $b:tt) => {$a $b} ¦ x b ¦ none: expected token tree (0..0, 1) x
+(($a:ident x) y) => {1}; (($a:ident ; $b:ident) y z w) => {$a $b} ¦ (q ; 1) y z w ¦ none: expected ident (5..6, 1) q missing
+(a) => {1}; (b) => {2} ¦ c ¦ none: unexpected token in input (0..1, 0) 1
+ ¦ c ¦ none: no rule matches input tokens (77..78, none)
+attr(a) (b) => {c}; derive() (b) => {d} ¦ e ¦ none: no rule matches input tokens (77..78, none)
+attr(a) (b) => {c}; (b) => {d} ¦ e ¦ none: unexpected token in input (0..1, 1) d
+($($a:tt)* $b:tt) => {1} ¦ c d ¦ none: leftover tokens (0..0, 0) 1
+($($(a)+)*) => {1} ¦ a a a a a a a a a a a a a a a a a a a a a a a a a a a a a a a a a a a a ¦ none: expected ident: `a` (0..0, 0) 1
+($($(a)+)*) => {1} ¦ a a a a a a a a a a a a a a a a a a a a a a a a a a a a a a a a a a a a b ¦ none: unexpected token in input (72..73, 0) 1
+($a:ident, $($b:ident)* ; $c:expr) => {$a $($b)* $c} ¦ x, y z ; let ¦ none: unexpected token in input (3..4, 0) x y z missing
+($($a:ident = $b:ty);*) => {$($a $b)*} ¦ x = u8; y = ; ¦ none: expected Ty (12..13, 0)
+($($a:ident),+ ; $(x)?) => {$($a)*} ¦ q, r ¦ none: expected punct: `;` (1..2, 0) q r
+($($a:ident),+ ; $(x)?) => {$($a)*} ¦ q, r ; x x ¦ none: expected punct: `;` (1..2, 0) q r
+($($a:tt ; $($b:ident),*)|*) => { [$($a [$($b $a),*])|*] } ¦ 1; x, y| 2; z, 3 ¦ none: expected ident (15..16, 0) []
+($a:foo) => {$a} ¦ x ¦ none: leftover tokens (0..0, 0) $ a
+"#;
+
+const WITH_ONE_STEP: &str = r#"
+($x:expr) => { $x } ¦ a ¦ 0 a⏎
+($x:expr) => { $x } ¦ (a) ¦ none
+($x:item) => { $x } ¦  ¦ none
+($($x:ty)*) => { $($x,)* } ¦ a + b ¦ 0 a , + , b ,⏎
+($a:expr) => {< $a >} ¦ (a b) c ¦ none: expected Expr (0..1, 0) < (a b) >
+"#;
+
+const WITH_ALL_STEPS: &str = r#"
+($x:ty) => { $x } ¦ a (b) c ¦ 0 a ( b ) c⏎
+($x:ty ;) => { $x } ¦ a ; ¦ none
+"#;
+
+const WITH_FAULTS: &str = r#"
+($x:ty) => {}; ($x:tt) => { $x } ¦ a ¦ 1 a⏎
+($v:vis) => {}; () => {} ¦  ¦ 1
+($a:vis) => {< $a >} ¦ ; ¦ none: expected Vis (0..1, 0) < >
+($a:expr) => { ${count($a)} < $($a)* > $(${count($a)})? ${concat(a, $a)} ${ignore($a)} } ¦ 1 ¦ none: expected Expr (0..1, 0) 1 < > 1 amissing
+($a:block) => { ${concat(a, $a)} } ¦ 1 ¦ none: expected Block (0..1, 0) a
+"#;
+
+// Fails with the lines of which something else is answered.
+fn run<G: FragmentGrammar>(
     alloc: Global,
     grammar: &G,
-    cases: &[Case],
-) -> Result<Option<String>, Fail> {
-    for (rules, argument, want) in cases {
-        let got = expanded(alloc, grammar, rules, argument)?;
-        if !got.as_str().starts_with(want) {
-            return Ok(Some(
-                format!(in alloc; "{rules} on {argument}: {got}, not {want}")?,
-            ));
+    edition: Edition,
+    lines: &str,
+) -> Result<(), Fail> {
+    let mut wrong = String::new(alloc);
+    for line in lines.lines() {
+        if let Some((rules, call)) = line.split_once('¦') {
+            if let Some((argument, want)) = call.split_once('¦') {
+                let got = answered(alloc, grammar, edition, rules.trim(), argument.trim())?;
+                if !is_wanted(got.as_str().trim(), want.trim()) {
+                    write!(wrong, "{rules} on {argument}: {got}\n")?;
+                }
+            }
         }
     }
-    Ok(None)
+    if wrong.is_empty() {
+        return Ok(());
+    }
+    Err(Fail::new(wrong.as_str()))
+}
+
+// Whether an answer is what was wanted: of one that is `none`, that no rule fits.
+fn is_wanted(got: &str, want: &str) -> bool {
+    got == want || (want == "none" && got.starts_with("none:"))
 }
 
 #[test]
 fn with_the_small_grammar(rt: HostRuntime) -> Result<(), Fail> {
-    let cases = [
-        ("() => {}", "", "0 "),
-        ("($a:ident $b:tt) => { $b $a }", "x y", "0 y x\n"),
-        ("(a) => {0}; (b) => {1}; ($x:ident) => {2}", "b", "1 1\n"),
-        ("(a) => {0}; ($x:ident) => {2}", "c", "1 2\n"),
-        ("($x:ident) => {}", "_", "none"),
-        ("($x:ident) => {}", "", "none"),
-        ("($x:ident) => {}", "a b", "none"),
-        ("($($x:ident),*) => { $($x;)* }", "a, b, c", "0 a ;\nb ;\nc ;\n"),
-        ("($($x:ident),*) => { $($x;)* }", "a, b,", "none"),
-        ("($($x:ident),* $(,)?) => { $($x)* }", "a, b,", "0 a b\n"),
-        // two readings are none
-        ("($($a:tt)* $($b:tt)*) => {}", "x", "none"),
-        ("($(a)* $(a)*) => {}", "a", "none"),
-        ("($($(a)+)*) => {}", "a a a", "none"),
-        // a fragment where a unit may stand too
-        ("($($x:ident)* end) => {}", "a end", "none"),
-        ("($x:expr) => { ($x) * 2 }", "1 + 2", "0 ((1 + 2)) * 2\n"),
-        ("($x:expr) => { $x }", "(1)", "0 (1)\n"),
-        ("($x:expr) => { $x }", "- 1", "0 - 1\n"),
-        ("($x:expr) => {}", "let x = 1", "none"),
-        ("($x:expr_2021) => {}", "_", "none"),
-        ("($x:expr_2021) => {}", "const { 1 }", "none"),
-        ("($x:expr) => {0}", "const { 1 }", "0 0\n"),
-        ("($v:vis fn) => { $v }", "fn", "0 "),
-        ("($v:vis fn) => { $v }", "pub(crate) fn", "0 pub (crate)\n"),
-        ("($l:lifetime) => { $l }", "'a", "0 'a\n"),
-        ("($l:literal) => { $l }", "-1", "0 - 1\n"),
-        ("($l:literal) => { $l }", "true", "0 true\n"),
-        ("($t:ty) => { $t }", "Vec<u8>", "0 Vec < u8 >\n"),
-        ("($p:path) => { $p }", "a::B<u8>", "0 a :: B :: < u8 >\n"),
-        ("($p:pat) => { $p }", "A | B", "0 A | B\n"),
-        ("($p:pat_param) => { $p }", "A | B", "none"),
-        ("({ [ ( $x:tt ) ] }) => { $x }", "{ [ ( y ) ] }", "0 y\n"),
-        ("({ $x:tt }) => { $x }", "( y )", "none"),
-        ("(1u8) => {}", "1u16", "none"),
-        ("(0x1) => {0}", "0x1", "0 0\n"),
-        ("(a => $x:tt) => { $x }", "a => ..=", "0 ..=\n"),
-        ("($x:foo) => {}", "a", "none"),
-    ];
-    if let Some(wrong) = first_wrong(rt.alloc(), &SmallGrammar, &cases)? {
-        return Err(Fail::new(wrong.as_str()));
-    }
-    Ok(())
-}
-
-// With a grammar that takes one step, takes all, or finds a fault in all.
-fn wrong_with_fakes(alloc: Global) -> Result<Option<String>, Fail> {
-    let one = [
-        ("($x:expr) => { $x }", "a", "0 a\n"),
-        ("($x:expr) => { $x }", "(a)", "none"),
-        ("($x:item) => { $x }", "", "none"),
-        ("($($x:ty)*) => { $($x,)* }", "a + b", "0 a , + , b ,\n"),
-    ];
-    if let Some(wrong) = first_wrong(alloc, &OneStep, &one)? {
-        return Ok(Some(wrong));
-    }
-    let all = [
-        ("($x:ty) => { $x }", "a (b) c", "0 a (b) c\n"),
-        ("($x:ty ;) => { $x }", "a ;", "none"),
-    ];
-    if let Some(wrong) = first_wrong(alloc, &AllSteps, &all)? {
-        return Ok(Some(wrong));
-    }
-    let none = [
-        ("($x:ty) => {}; ($x:tt) => { $x }", "a", "1 a\n"),
-        ("($v:vis) => {}; () => {}", "", "1 "),
-    ];
-    first_wrong(alloc, &Faults, &none)
+    run(
+        rt.alloc(),
+        &SmallGrammar,
+        Edition::Edition2024,
+        WITH_THE_SMALL_GRAMMAR,
+    )?;
+    run(rt.alloc(), &SmallGrammar, Edition::Edition2021, UNFIT)
 }
 
 #[test]
 fn with_fake_grammars(rt: HostRuntime) -> Result<(), Fail> {
-    match wrong_with_fakes(rt.alloc())? {
-        Some(wrong) => Err(Fail::new(wrong.as_str())),
-        None => Ok(()),
-    }
+    run(rt.alloc(), &OneStep, Edition::Edition2021, WITH_ONE_STEP)?;
+    run(rt.alloc(), &AllSteps, Edition::Edition2021, WITH_ALL_STEPS)?;
+    run(rt.alloc(), &Faults, Edition::Edition2021, WITH_FAULTS)
 }

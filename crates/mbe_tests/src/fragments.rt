@@ -37,7 +37,7 @@ fn are_passed(rt: HostRuntime) -> Result<(), Fail> {
     let got = passed(alloc, &OneStep, PrefixEntryPoint::Vis, "")?;
     assert!(rt; got.as_str() == " | ", "{got}");
     let got = passed(alloc, &OneStep, PrefixEntryPoint::Item, "")?;
-    assert!(rt; got.as_str() == " |  | expected Item at 7..9", "{got}");
+    assert!(rt; got.as_str() == " |  | expected Item at 77..78", "{got}");
     let got = passed(alloc, &AllSteps, PrefixEntryPoint::Block, "{a} b")?;
     assert!(rt; got.as_str() == "{a} b | ", "{got}");
     let got = passed(alloc, &Faults, PrefixEntryPoint::Vis, "a")?;

@@ -7,8 +7,6 @@
 #[cfg(test)]
 mod calls;
 #[cfg(test)]
-mod failures;
-#[cfg(test)]
 mod fragments;
 #[cfg(test)]
 mod macros;

@@ -1,6 +1,10 @@
 //! What is kept of a definition, and what is told of it.
-use crate::texts::{at_2021, at_2024, trees};
-use mbe::{DeclarativeMacro, MacroCallStyles, ParseError};
+use crate::texts::{at_2021, at_2024, call_site, made, trees};
+use mbe::{
+    DeclarativeMacro, DelimiterKind, ExpandErrorKind, MacroCallStyle, MacroCallStyles, ParseError,
+    ValueResult,
+};
+use small_grammar::SmallGrammar;
 use std::alloc::Global;
 use std::test::Fail;
 
@@ -79,5 +83,43 @@ fn by_the_word_macro(rt: HostRuntime) -> Result<(), Fail> {
     let body = trees(rt.alloc(), "(a) => {b}, (c) => {d}; (e) => {f}")?;
     let found = DeclarativeMacro::parse_macro2(rt.alloc(), None, &body, at_2021)?;
     assert!(rt; found.num_rules() == 3 && found.err().is_none());
+    Ok(())
+}
+
+// Whether nothing fits a call of the style `Derive`, and what is answered is as empty as can be.
+fn derives_nothing(alloc: Global, rules: &str) -> Result<bool, Fail> {
+    let found = macro_rules(alloc, rules)?;
+    if found.err().is_some() {
+        return Err(Fail::new("the definition is broken"));
+    }
+    let argument = trees(alloc, "a")?;
+    let answer = found.expand(
+        alloc,
+        &SmallGrammar,
+        &argument,
+        &made,
+        MacroCallStyle::Derive,
+        call_site(),
+    )?;
+    let ValueResult { value, err } = answer;
+    let (tree, rule) = value;
+    let Some(err) = err else {
+        return Ok(false);
+    };
+    let top = tree.top_subtree();
+    Ok(
+        rule.is_none()
+            && top.len == 0
+            && top.delimiter.kind == DelimiterKind::Invisible
+            && top.delimiter.open_span == call_site()
+            && err.span() == call_site()
+            && *err.kind() == ExpandErrorKind::NoMatchingRule,
+    )
+}
+
+#[test]
+fn by_style(rt: HostRuntime) -> Result<(), Fail> {
+    assert!(rt; derives_nothing(rt.alloc(), "(a) => {b}")?);
+    assert!(rt; !derives_nothing(rt.alloc(), "derive() (a) => {b}")?);
     Ok(())
 }

@@ -1,26 +1,29 @@
 //! Refused requests for memory: `.ci/refused mbe_tests UP_TO` refuses each in turn.
-use crate::texts::{at_2024, call_site, made, trees};
+use crate::texts::{at_2024, call_site, made, trees_of};
 use bridge::print;
 use mbe::{DeclarativeMacro, MacroCallStyle};
 use small_grammar::SmallGrammar;
 use std::alloc::Global;
 use std::test::Fail;
-use tt::{TopSubtree, TtFault};
+use tt::TtFault;
 
-// What a call of this macro prints, as long as no request is refused.
-fn printed(
-    alloc: Global,
-    definition: &TopSubtree,
-    argument: &TopSubtree,
-) -> Result<Option<String>, TtFault> {
-    let found = DeclarativeMacro::parse_macro_rules(alloc, definition, at_2024)?;
+// What a call prints, as long as no request is refused: none where a text is not read, or the
+// definition is broken.
+fn printed(alloc: Global, rules: &str, argument: &str) -> Result<Option<String>, TtFault> {
+    let Some(body) = trees_of(alloc, rules)? else {
+        return Ok(None);
+    };
+    let Some(argument) = trees_of(alloc, argument)? else {
+        return Ok(None);
+    };
+    let found = DeclarativeMacro::parse_macro_rules(alloc, &body, at_2024)?;
     if found.err().is_some() {
         return Ok(None);
     }
     let answer = found.expand(
         alloc,
         &SmallGrammar,
-        argument,
+        &argument,
         &made,
         MacroCallStyle::FnLike,
         call_site(),
@@ -31,17 +34,10 @@ fn printed(
 
 #[test]
 fn refused(rt: HostRuntime) -> Result<(), Fail> {
-    let Ok(definition) = trees(rt.alloc(), "(no) => {}; ($($x:ident = $v:expr),*) => { $($x = $v;)* }") else {
-        return Ok(());
-    };
-    let Ok(argument) = trees(rt.alloc(), "a = 1 + 2, b = 3") else {
-        return Ok(());
-    };
-    match printed(rt.alloc(), &definition, &argument) {
-        Ok(Some(text)) => {
-            assert!(rt; text.as_str() == "a = (1 + 2) ;\nb = 3 ;\n", "{text}");
-        }
-        Ok(None) => return Err(Fail::new("the definition is broken")),
+    let rules = "(no) => {}; ($($x:ident = $v:expr),*) => { $($x = $v;)* }";
+    match printed(rt.alloc(), rules, "a = 1 + 2, b = 3") {
+        Ok(Some(text)) => assert!(rt; text.as_str() == "a = ( 1 + 2 ) ;\nb = 3 ;\n", "{text}"),
+        Ok(None) => return Err(Fail::new("a text is not read")),
         Err(fault) => assert!(rt; fault == TtFault::Memory),
     }
     Ok(())

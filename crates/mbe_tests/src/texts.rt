@@ -1,35 +1,44 @@
 //! A definition and a call, as texts, and what is printed of what the call gives.
 use bridge::{Read, print, read};
-use mbe::{DeclarativeMacro, FragmentGrammar, MacroCallStyle};
+use mbe::{
+    DeclarativeMacro, ExpandResult, FragmentGrammar, MacroCallStyle, MatchedArmIndex, ValueResult,
+};
 use rustc_lexer::LexedText;
 use std::alloc::Global;
-use std::fmt::Write;
 use std::test::Fail;
-use tt::{Edition, Span, SyntaxContext, TextRange, TopSubtree};
+use tt::{Edition, Span, SyntaxContext, TextRange, TopSubtree, TtFault};
 
-/// The trees of a text.
-pub fn trees(alloc: Global, text: &str) -> Result<TopSubtree, Fail> {
+/// The trees of a text: none where it is long, or is not read.
+pub(crate) fn trees_of(alloc: Global, text: &str) -> Result<Option<TopSubtree>, TtFault> {
     if text.len() >= 100_000 {
-        return Err(Fail::new("a text is long"));
+        return Ok(None);
     }
     let held = LexedText::new(alloc, text)?;
     match read(alloc, held.text(), held.tokens())? {
-        Read::Tree(tree) => Ok(tree),
-        Read::Fault(_fault) => Err(Fail::new("a text is not read")),
+        Read::Tree(tree) => Ok(Some(tree)),
+        Read::Fault(_fault) => Ok(None),
+    }
+}
+
+/// The same of a text that is short and is read.
+pub(crate) fn trees(alloc: Global, text: &str) -> Result<TopSubtree, Fail> {
+    match trees_of(alloc, text)? {
+        Some(tree) => Ok(tree),
+        None => Err(Fail::new("a text is not read")),
     }
 }
 
 /// All words are of this edition.
-pub fn at_2021(_context: SyntaxContext) -> Edition {
+pub(crate) fn at_2021(_context: SyntaxContext) -> Edition {
     Edition::Edition2021
 }
 
-pub fn at_2024(_context: SyntaxContext) -> Edition {
+pub(crate) fn at_2024(_context: SyntaxContext) -> Edition {
     Edition::Edition2024
 }
 
 /// A template's tokens stand where they do, but are made.
-pub fn made(span: Span) -> Span {
+pub(crate) fn made(span: Span) -> Span {
     Span {
         range: span.range,
         anchor: span.anchor,
@@ -38,7 +47,7 @@ pub fn made(span: Span) -> Span {
 }
 
 /// The place of the calls.
-pub fn call_site() -> Span {
+pub(crate) fn call_site() -> Span {
     Span {
         range: TextRange { start: 77, end: 78 },
         anchor: 3,
@@ -46,18 +55,50 @@ pub fn call_site() -> Span {
     }
 }
 
-/// What a call gives: the number of its rule and the printed text, or `none` with the error's text.
-pub fn answered<G: FragmentGrammar>(
+// What is answered of a call, in one line.
+fn shown(
+    alloc: Global,
+    answer: ExpandResult<(TopSubtree, MatchedArmIndex)>,
+) -> Result<String, Fail> {
+    let ValueResult { value, err } = answer;
+    let (tree, rule) = value;
+    let number = match rule {
+        Some(number) => format!(in alloc; "{number}")?,
+        None => String::from_str(alloc, "none")?,
+    };
+    let Some(err) = err else {
+        let printed = print(alloc, tree.token_trees())?;
+        let mut line = format!(in alloc; "{number} ")?;
+        for char in printed.text.chars() {
+            line.push(if char == '\n' { '⏎' } else { char })?;
+        }
+        return Ok(line);
+    };
+    let range = err.span().range;
+    let from = range.start;
+    let to = range.end;
+    Ok(format!(in alloc; "none: {err} ({from}..{to}, {number}) {tree}")?)
+}
+
+/// What a call of rules gives, in one line.
+pub(crate) fn answered<G: FragmentGrammar>(
     alloc: Global,
     grammar: &G,
-    definition: &DeclarativeMacro,
+    edition: Edition,
+    rules: &str,
     argument: &str,
 ) -> Result<String, Fail> {
+    let body = trees(alloc, rules)?;
+    let definition = if edition == Edition::Edition2024 {
+        DeclarativeMacro::parse_macro_rules(alloc, &body, at_2024)?
+    } else {
+        DeclarativeMacro::parse_macro_rules(alloc, &body, at_2021)?
+    };
     if definition.err().is_some() {
         return Err(Fail::new("a definition is broken"));
     }
     let argument = trees(alloc, argument)?;
-    let result = definition.expand(
+    let answer = definition.expand(
         alloc,
         grammar,
         &argument,
@@ -65,27 +106,5 @@ pub fn answered<G: FragmentGrammar>(
         MacroCallStyle::FnLike,
         call_site(),
     )?;
-    let mut shown = String::new(alloc);
-    let (tree, index) = result.value;
-    match (result.err, index) {
-        (None, Some(index)) => {
-            let printed = print(alloc, tree.token_trees())?;
-            write!(shown, "{index} {}", printed.text)?;
-        }
-        (Some(err), _) => write!(shown, "none: {err}")?,
-        (None, None) => write!(shown, "no rule, and no error")?,
-    }
-    Ok(shown)
-}
-
-/// What a call of rules gives, in edition 2024.
-pub fn expanded<G: FragmentGrammar>(
-    alloc: Global,
-    grammar: &G,
-    rules: &str,
-    argument: &str,
-) -> Result<String, Fail> {
-    let body = trees(alloc, rules)?;
-    let definition = DeclarativeMacro::parse_macro_rules(alloc, &body, at_2024)?;
-    answered(alloc, grammar, &definition, argument)
+    shown(alloc, answer)
 }
