@@ -13,6 +13,7 @@ ghost use Rattle.tt_data.specs.declared.span.Span.{Span};
 ghost use Rattle.std.specs.Str.{IsCharBoundary};
 
 use crate::leaves::name_in;
+use crate::plain::is_plain_string;
 use crate::sort::{Sort, sort_of};
 use rustc_lexer::{FrontmatterAllowed, Token, tokenize};
 use std::alloc::Global;
@@ -109,6 +110,17 @@ fn is_text_of(leaf: &Leaf, text: &str) -> bool
     is_token_of(leaf, token, text)
 }
 
+// Whether the leaf is what its displayed text is read as, which is that text.
+fn is_own_text(leaf: &Leaf, text: &str) -> bool
+    requires { text.now ≡ displayed_leaf leaf.now }
+    ensures { result ≡ is_text_of leaf.now text.now }
+{
+    match leaf {
+        Leaf::Literal(literal) if is_plain_string(literal) => true,
+        _ => is_text_of(leaf, text),
+    }
+}
+
 // The displayed text of the leaf, where it is one token that is read as the leaf.
 fn own_text(alloc: Global, leaf: &Leaf) -> Result<Option<String>, TtFault>
     ensures some { IfOk result (λ o. option_map string_bytes o ≡
@@ -116,7 +128,7 @@ fn own_text(alloc: Global, leaf: &Leaf) -> Result<Option<String>, TtFault>
     ensures memory { IsOkUnless result Memory }
 {
     let text = format!(in alloc; "{leaf}")?;
-    if is_text_of(leaf, text.as_str()) {
+    if is_own_text(leaf, text.as_str()) {
         Ok(Some(text))
     } else {
         Ok(None)
