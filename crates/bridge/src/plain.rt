@@ -100,7 +100,7 @@ fn number_text(literal: &Literal) -> Option<&str>
 }
 
 // Whether the text is of ASCII, without a quote and without a `\`.
-fn is_plain_text(text: &str) -> bool
+fn stands_for_itself(text: &str) -> bool
     ensures { IsTrue result → list_all is_plain_byte text.now ≡ true }
 {
     for byte in text.as_bytes() {
@@ -119,7 +119,7 @@ pub(crate) fn is_plain_string(literal: &Literal) -> bool
     laws::one_string();
     let (text, suffix) = literal.text_and_suffix();
     if literal.kind() == LitKind::Str && suffix.is_empty() && text.len() < u32::MAX as usize - 2 {
-        return is_plain_text(text);
+        return stands_for_itself(text);
     }
     false
 }

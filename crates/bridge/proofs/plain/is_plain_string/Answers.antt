@@ -13,5 +13,5 @@ returns-then-text c = λ told.
     let string : l.kind ≡ form.Str = search rules in
     let none : l.suffix ≡ [] = sym c.text_and_suffix.ensures.suffix ∙ nil_from_length c.text_and_suffix.result.1.now (search rules) in
     let short : length l.text + 2 < 2 ^ 32 = omega (arith, ap length same, c.if-text.true) in
-    let plain : list_all is_plain_byte l.text ≡ true = subst (λ t. list_all is_plain_byte t ≡ true) same (c.is_plain_text.ensures told) in
+    let plain : list_all is_plain_byte l.text ≡ true = subst (λ t. list_all is_plain_byte t ≡ true) same (c.stands_for_itself.ensures told) in
     string_spelled l string none short plain c.token_lengths.ensures.whole c.one_string.ensures

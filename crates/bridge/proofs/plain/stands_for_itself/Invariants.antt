@@ -1,7 +1,7 @@
 use Rattle.std.proofs.Common.{◌≡◌, drop, true}
 use Rattle.std.specs.List.{list_all}
 use Rattle.bridge.specs.PlainTexts.{is_plain_byte}
-use Rattle.bridge.proofs.plain.is_plain_text.Given as goal
+use Rattle.bridge.proofs.plain.stands_for_itself.Given as goal
 
 -- where the bytes that are left are plain, all are
 abbrev pub invariant-loop-byte : goal.invariant-loop-byte
