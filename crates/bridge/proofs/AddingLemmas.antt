@@ -63,10 +63,6 @@ pub doc_size : (style : DocStyle) (text : List ℕ) (span : Span) → size (doc_
 doc_size style text span = size-joined (doc_puncts style span) _
 
 -- a value that is passed on as it is
-pub passed_ok : {A : Type 0} (r : Result A TtFault) (P Q : A → Type 0) → ((a : A) → P a → Q a) → IfOk r P → IfOk r Q
-passed_ok (Ok a) P Q f h = f a h
-passed_ok (Err x) P Q f h = h
-
 pub no_value : {A : Type 0} (r : Result A TtFault) (P : TtFault → Type 0) (Q : A → Type 0) → IsErrAnd r P → IfOk r Q
 no_value (Ok a) P Q is = absurd is
 no_value (Err x) P Q is = tt

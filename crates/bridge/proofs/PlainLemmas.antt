@@ -1,13 +1,14 @@
 -- Leaves whose kind and text show how they are spelled: the text is one token, which is read as the leaf.
-use Rattle.std.proofs.Common.{◌≡◌, ◌≢◌, ℕ, ◌<◌, ◌^◌, Bool, true, false, ◌&&◌, List, [], ◌∷◌, ◌++◌, length, take, drop, ◌-◌, refl, sym, ap, ◌∙◌, arith, IsUtf8, if◌then◌else◌, sum_by}
+use Rattle.std.proofs.Common.{◌≡◌, ◌≢◌, ℕ, ◌<◌, ◌^◌, Bool, true, false, ◌&&◌, List, [], ◌∷◌, ◌++◌, length, take, drop, ◌-◌, ◌+◌, subst, refl, sym, ap, ◌∙◌, arith, IsUtf8, if◌then◌else◌, sum_by}
 use Rattle.std.specs.List.{list_all}
 use Rattle.std.specs.Prelude.{codes, Option, Some, None, nat_lt, IfSome}
 use Rattle.std.specs.Char.{encode_utf8}
 use Rattle.std.specs.Str.{IsAscii, bytes_eq, chars, is_utf8}
+use Rattle.std.proofs.lemmas.Bool.{and_parts}
 use Rattle.std.proofs.lemmas.Bool.Decides.{nat_tests}
 use Rattle.std.proofs.lemmas.Slice.Eq.{bytes_eq-Decides}
-use Rattle.std.proofs.lemmas.List.{append-nil, drop_all, take_all}
-use Rattle.std.proofs.lemmas.Str.{IsUtf8-from_ascii, chars-IsAscii, encode_ascii}
+use Rattle.std.proofs.lemmas.List.{append-nil, drop_all, length-append, take_all, take_at}
+use Rattle.std.proofs.lemmas.Str.{IsAscii-append, IsUtf8-from_ascii, chars-IsAscii, encode_ascii}
 use Rattle.std.proofs.lemmas.Str.Ascii.{IsAscii-cons, IsAscii-nil}
 use Rattle.ucd_derived.specs.Binary.{is_xid_start, is_xid_continue}
 use Rattle.ucd_derived.specs.XidContinueRanges.{xid_continue_ranges}
@@ -15,6 +16,7 @@ use Rattle.ucd_derived.specs.XidStartRanges.{xid_start_ranges}
 use Rattle.ucd_table.specs.Rows.{in_ranges}
 use Rattle.rustc_lexer.specs.Character.{is_digit, is_ident, utf8_len}
 use Rattle.rustc_lexer.specs.Lexing.{tokens_of}
+use Rattle.rustc_lexer.specs.Literals.{stands_for_itself}
 use Rattle.rustc_lexer.specs.declared.token.Base.TheVariants.{Decimal}
 use Rattle.rustc_lexer.specs.declared.token.LiteralKind.TheVariants as literal
 use Rattle.rustc_lexer.specs.declared.token.Token.{Token}
@@ -31,7 +33,7 @@ use Rattle.tt_data.specs.declared.leaf.Leaf.TheVariants as as_leaf
 use Rattle.tt_data.specs.declared.leaf.LitKind.TheVariants as form
 use Rattle.tt_data.specs.declared.leaf.Punct.{Punct}
 use Rattle.tt_data.specs.declared.leaf.Spacing.TheVariants.{Alone}
-use Rattle.bridge.specs.PlainTexts.{is_mark_char}
+use Rattle.bridge.specs.PlainTexts.{is_mark_char, is_plain_byte}
 use Rattle.bridge.specs.Spelling.{is_one, is_plain_name, is_short_text, is_text_of, leaf_spelling, same_form, same_rawness, spelled_leaf}
 use Rattle.bridge.specs.TokenSteps.{mark_leaf, text_steps}
 use Rattle.bridge.proofs.AgainLemmas.{literal_by, punct_alike, same_bytes, stays, that_by}
@@ -106,11 +108,9 @@ digit_low c h = grind (arith, nat_tests)
 
 ascii_digits : (ds : List ℕ) → list_all is_digit ds ≡ true → IsAscii ds
 ascii_digits [] h = IsAscii-nil
-ascii_digits (c ∷ ds) h = IsAscii-cons c ds (digit_low c (both_true (is_digit c) _ h).0) (ascii_digits ds (both_true (is_digit c) _ h).1)
-  where
-    both_true : (a b : Bool) → (a && b) ≡ true → (a ≡ true) × (b ≡ true)
-    both_true true b e = (refl, e)
-    both_true false b e = absurd (cc)
+ascii_digits (c ∷ ds) h =
+    let parts = and_parts (is_digit c) (list_all is_digit ds) h in
+    IsAscii-cons c ds (digit_low c parts.0) (ascii_digits ds parts.1)
 
 -- what of the whole token is the text of a number without a suffix
 number_in : (text t : List ℕ) (n : ℕ) → t ≡ text → n ≡ length text
@@ -150,3 +150,58 @@ number_spelled l number none short some digits whole one =
         → tokens_of cs ≡ record { kind = kind.Literal (literal.Int Decimal false) (utf8_len cs); len = utf8_len cs } ∷ []
     at_digits [] any h = absurd (any refl)
     at_digits (c ∷ cs) any h = one c cs h
+
+-- ---- strings
+
+plain_ascii : (ds : List ℕ) → list_all is_plain_byte ds ≡ true → IsAscii ds
+plain_ascii [] h = IsAscii-nil
+plain_ascii (c ∷ ds) h =
+    let parts = and_parts (is_plain_byte c) (list_all is_plain_byte ds) h in
+    let low : nat_lt c 128 ≡ true = (and_parts (nat_lt c 128) (stands_for_itself c) parts.0).0 in
+    IsAscii-cons c ds (grind (arith, nat_tests)) (plain_ascii ds parts.1)
+
+plain_stands : (ds : List ℕ) → list_all is_plain_byte ds ≡ true → list_all stands_for_itself ds ≡ true
+plain_stands [] h = refl
+plain_stands (c ∷ ds) h =
+    let parts = and_parts (is_plain_byte c) (list_all is_plain_byte ds) h in
+    let itself : stands_for_itself c ≡ true = (and_parts (nat_lt c 128) (stands_for_itself c) parts.0).1 in
+    ap (λ u. u && list_all stands_for_itself ds) itself ∙ plain_stands ds parts.1
+
+-- a text in quotes
+abbrev quoted : List ℕ → List ℕ
+quoted text = 34 ∷ text ++ 34 ∷ []
+
+-- what of the whole token is the text of a string without a suffix
+string_in : (text t : List ℕ) (n : ℕ) → t ≡ quoted text → n ≡ length (quoted text)
+    → (bytes_eq text (take (n - 1 - 1) (drop 1 t)) && bytes_eq [] (drop n t)) ≡ true
+string_in text t n same long =
+    let count : length text ≡ n - 1 - 1 = omega (arith, long, length-append text (34 ∷ [])) in
+    let inside : take (n - 1 - 1) (drop 1 t) ≡ text = ap (λ x. take (n - 1 - 1) (drop 1 x)) same ∙ take_at text (34 ∷ []) (n - 1 - 1) count in
+    let none : drop n t ≡ [] = drop_all n t (omega (arith, long, ap length same)) in
+    ap (λ xs. bytes_eq text xs && bytes_eq [] (drop n t)) inside ∙ (ap (λ xs. bytes_eq text text && bytes_eq [] xs) none ∙ ap (λ b. b && true) (same_text text))
+
+string_shown : (l : LiteralParts) → l.kind ≡ form.Str → l.suffix ≡ [] → displayed_leaf (as_leaf.Literal l) ≡ quoted l.text
+string_shown l is none =
+    let bare : literal_by form.Str l.text [] ≡ quoted l.text = append-nil (quoted l.text) in
+    ap (λ f. literal_by f l.text l.suffix) is ∙ (ap (literal_by form.Str l.text) none ∙ bare)
+
+-- a string of plain text
+pub string_spelled : (l : LiteralParts) → l.kind ≡ form.Str → l.suffix ≡ [] → length l.text + 2 < 2 ^ 32 → list_all is_plain_byte l.text ≡ true
+    → ((text : List ℕ) → IsUtf8 text → sum_by (λ (t : Token). t.len) (tokens_of (chars text)) ≡ length text)
+    → ((cs : List ℕ) → list_all stands_for_itself cs ≡ true →
+    tokens_of (quoted cs) ≡ record { kind = kind.Literal (literal.Str true) (utf8_len (quoted cs)); len = utf8_len (quoted cs) } ∷ [])
+    → is_text_of (as_leaf.Literal l) (displayed_leaf (as_leaf.Literal l)) ≡ true
+string_spelled l is none short plain whole one =
+    let shown : List ℕ = quoted l.text in
+    let n : ℕ = utf8_len (chars shown) in
+    let ascii : IsAscii shown = IsAscii-cons 34 (l.text ++ 34 ∷ []) (omega arith) (IsAscii-append l.text (34 ∷ []) (plain_ascii l.text plain) (IsAscii-cons 34 [] (omega arith) IsAscii-nil)) in
+    let same : chars shown ≡ shown = chars-IsAscii shown ascii in
+    let u : IsUtf8 shown = IsUtf8-from_ascii shown ascii in
+    let fits : length shown < 2 ^ 32 = omega (arith, short, length-append l.text (34 ∷ [])) in
+    let single : tokens_of (chars shown) ≡ record { kind = kind.Literal (literal.Str true) n; len = n } ∷ [] =
+    subst (λ cs. tokens_of cs ≡ record { kind = kind.Literal (literal.Str true) (utf8_len cs); len = utf8_len cs } ∷ []) (sym same) (one l.text (plain_stands l.text plain)) in
+    ap (is_text_of (as_leaf.Literal l)) (string_shown l is none)
+    ∙ sym (told_of_one shown _ (as_leaf.Literal l) true u fits (whole shown u) single (λ p more at. sym (
+    ap (λ k. same_form k form.Str && (bytes_eq l.text (take (n - 1 - 1) (drop 1 p.text)) && bytes_eq l.suffix (drop n p.text))) is
+    ∙ (ap (λ s. bytes_eq l.text (take (n - 1 - 1) (drop 1 p.text)) && bytes_eq s (drop n p.text)) none
+    ∙ string_in l.text p.text n at (one_len shown _ (whole shown u) single)))))

@@ -1,5 +1,5 @@
 // Names that were read, so that one that is met again shares its text.
-ghost use Rattle.std.specs.Prelude.{◌≡◌, ◌<◌, IfOk, IsOkUnless};
+ghost use Rattle.std.specs.Prelude.{◌≡◌, IfOk, IsOkUnless};
 ghost use Rattle.tt_data.specs.fault.TtFault.TheVariants.{Memory};
 
 use std::alloc::Global;
@@ -13,7 +13,7 @@ const MOST_NAMES: usize = 512;
 #[derive(Drop)]
 pub(crate) struct Names {
     pub(crate) alloc: Global,
-    // Each name at its place, or another that has the same place. Empty before the first name.
+    // At each place the name of that place that was met last, or the very first name; none at first.
     recent: Vec<Symbol>,
 }
 

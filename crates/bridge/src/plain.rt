@@ -1,9 +1,10 @@
 // Leaves that show how they are spelled: their text needs no lexing.
 ghost use Rattle.std.specs.Prelude.{◌≡◌, ◌↔◌, ◌<◌, ◌^◌, ◌∷◌, [], true, IfSome, IsTrue, Some, length};
 ghost use Rattle.std.specs.List.{list_all};
-ghost use Rattle.bridge.specs.PlainTexts.{is_mark_char};
-ghost use Rattle.bridge.specs.Spelling.{leaf_spelling};
+ghost use Rattle.bridge.specs.PlainTexts.{is_mark_char, is_plain_byte};
+ghost use Rattle.bridge.specs.Spelling.{is_text_of, leaf_spelling};
 ghost use Rattle.rustc_lexer.specs.Character.{is_digit};
+ghost use Rattle.tt_data.specs.Displayed.{displayed_leaf};
 ghost use Rattle.tt_data.specs.declared.leaf.Leaf.TheVariants as as_leaf;
 
 use rustc_lexer::{is_ident, laws};
@@ -96,6 +97,31 @@ fn number_text(literal: &Literal) -> Option<&str>
     } else {
         None
     }
+}
+
+// Whether the text is of ASCII, without a quote and without a `\`.
+fn stands_for_itself(text: &str) -> bool
+    ensures { IsTrue result → list_all is_plain_byte text.now ≡ true }
+{
+    for byte in text.as_bytes() {
+        if !byte.is_ascii() || *byte == b'"' || *byte == b'\\' {
+            return false;
+        }
+    }
+    true
+}
+
+/// Whether the literal is a string whose displayed text is seen to be one token.
+pub(crate) fn is_plain_string(literal: &Literal) -> bool
+    ensures { IsTrue result → is_text_of (as_leaf.Literal literal.now) (displayed_leaf (as_leaf.Literal literal.now)) ≡ true }
+{
+    laws::token_lengths();
+    laws::one_string();
+    let (text, suffix) = literal.text_and_suffix();
+    if literal.kind() == LitKind::Str && suffix.is_empty() && text.len() < u32::MAX as usize - 2 {
+        return stands_for_itself(text);
+    }
+    false
 }
 
 /// How the leaf is spelled, where its kind and its text show that.

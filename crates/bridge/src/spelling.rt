@@ -13,10 +13,11 @@ ghost use Rattle.tt_data.specs.declared.span.Span.{Span};
 ghost use Rattle.std.specs.Str.{IsCharBoundary};
 
 use crate::leaves::name_in;
+use crate::plain::is_plain_string;
 use crate::sort::{Sort, sort_of};
 use rustc_lexer::{FrontmatterAllowed, Token, tokenize};
 use std::alloc::Global;
-use tt::literals::token_to_literal;
+use tt::literals::literal_parts;
 use tt_data::fault::TtFault;
 use tt_data::leaf::{Ident, IdentIsRaw, Leaf, LitKind, Literal};
 use tt_data::symbol::Symbol;
@@ -51,79 +52,73 @@ fn are_alike_raw(first: IdentIsRaw, second: IdentIsRaw) -> bool
 }
 
 // Whether the literal is the one that the whole token is.
-fn is_literal(
-    alloc: Global,
-    literal: &Literal,
-    form: LitKind,
-    suffix_start: u32,
-    text: &str,
-) -> Result<bool, TtFault>
-    requires short { length text.now < 2 ^ 32 }
+fn is_literal(literal: &Literal, form: LitKind, suffix_start: u32, text: &str) -> bool
     requires boundary { IsCharBoundary text.now suffix_start }
     requires token { IsLiteralToken form suffix_start text.now }
-    ensures is { IfOk result (λ b. (span : Span) → b ≡ same_leaf (as_leaf.Literal literal.now) (as_leaf.Literal (literal_in form suffix_start text.now span))) }
-    ensures memory { IsOkUnless result Memory }
+    ensures { (span : Span) → result ≡ same_leaf (as_leaf.Literal literal.now) (as_leaf.Literal (literal_in form suffix_start text.now span)) }
 {
-    let read = token_to_literal(alloc, text, literal.span(), form, suffix_start)?;
-    Ok(
-        are_of_one_form(literal.kind(), form)
-            && literal.text() == read.text()
-            && literal.suffix() == read.suffix(),
-    )
+    let (inside, suffix) = literal_parts(text, form, suffix_start);
+    are_of_one_form(literal.kind(), form) && literal.text() == inside && literal.suffix() == suffix
 }
 
 // Whether the leaf is what the whole token is read as, spans and spacing aside.
-fn is_read_as(alloc: Global, leaf: &Leaf, sort: Sort, text: &str) -> Result<bool, TtFault>
-    requires short { length text.now < 2 ^ 32 }
-    requires cut { MayCut sort text.now }
-    ensures is { IfOk result (λ b. (t : PlacedToken) (more : List PlacedToken) →
-        t.text ≡ text.now → b ≡ is_that_leaf leaf.now (steps_of_sort sort t more)) }
-    ensures memory { IsOkUnless result Memory }
+fn is_read_as(leaf: &Leaf, sort: Sort, text: &str) -> bool
+    requires { MayCut sort text.now }
+    ensures { (t : PlacedToken) (more : List PlacedToken) → t.text ≡ text.now → result ≡ is_that_leaf leaf.now (steps_of_sort sort t more) }
 {
     match (leaf, sort) {
         (Leaf::Ident(ident), Sort::Name(is_raw)) => {
             let name = name_in(is_raw, text);
-            Ok(are_alike_raw(ident.is_raw, is_raw) && ident.sym.as_str() == name)
+            are_alike_raw(ident.is_raw, is_raw) && ident.sym.as_str() == name
         }
-        (Leaf::Punct(punct), Sort::Mark(char)) => Ok(punct.char == char),
+        (Leaf::Punct(punct), Sort::Mark(char)) => punct.char == char,
         (Leaf::Literal(literal), Sort::Value { form, suffix_start }) => {
-            is_literal(alloc, literal, form, suffix_start, text)
+            is_literal(literal, form, suffix_start, text)
         }
-        _ => Ok(false),
+        _ => false,
     }
 }
 
 // Whether the leaf is what the text is read as, which is this one token.
-fn is_token_of(alloc: Global, leaf: &Leaf, token: Token, text: &str) -> Result<bool, TtFault>
+fn is_token_of(leaf: &Leaf, token: Token, text: &str) -> bool
     requires short { length text.now < 2 ^ 32 }
     requires one { tokens_of (chars text.now) ≡ token ∷ [] }
-    ensures is { IfOk result (λ b. b ≡ is_text_of leaf.now text.now) }
-    ensures memory { IsOkUnless result Memory }
+    ensures { result ≡ is_text_of leaf.now text.now }
 {
     rustc_lexer::laws::tokens_begin();
     rustc_lexer::laws::next_token();
     rustc_lexer::laws::token_lengths();
     rustc_lexer::laws::token_shapes();
     rustc_lexer::laws::suffix_starts();
-    is_read_as(alloc, leaf, sort_of(token.kind), text)
+    is_read_as(leaf, sort_of(token.kind), text)
 }
 
 // Whether the text is one token, which is read as the leaf.
-fn is_text_of(alloc: Global, leaf: &Leaf, text: &str) -> Result<bool, TtFault>
-    ensures is { IfOk result (λ b. b ≡ is_text_of leaf.now text.now) }
-    ensures memory { IsOkUnless result Memory }
+fn is_text_of(leaf: &Leaf, text: &str) -> bool
+    ensures { result ≡ is_text_of leaf.now text.now }
 {
     if text.len() > u32::MAX as usize {
-        return Ok(false);
+        return false;
     }
     let mut tokens = tokenize(text, FrontmatterAllowed::No);
     let Some(token) = tokens.next() else {
-        return Ok(false);
+        return false;
     };
     if tokens.next().is_some() {
-        return Ok(false);
+        return false;
     }
-    is_token_of(alloc, leaf, token, text)
+    is_token_of(leaf, token, text)
+}
+
+// Whether the leaf is what its displayed text is read as, which is that text.
+fn is_own_text(leaf: &Leaf, text: &str) -> bool
+    requires { text.now ≡ displayed_leaf leaf.now }
+    ensures { result ≡ is_text_of leaf.now text.now }
+{
+    match leaf {
+        Leaf::Literal(literal) if is_plain_string(literal) => true,
+        _ => is_text_of(leaf, text),
+    }
 }
 
 // The displayed text of the leaf, where it is one token that is read as the leaf.
@@ -133,7 +128,7 @@ fn own_text(alloc: Global, leaf: &Leaf) -> Result<Option<String>, TtFault>
     ensures memory { IsOkUnless result Memory }
 {
     let text = format!(in alloc; "{leaf}")?;
-    if is_text_of(alloc, leaf, text.as_str())? {
+    if is_own_text(leaf, text.as_str()) {
         Ok(Some(text))
     } else {
         Ok(None)

@@ -1,8 +1,8 @@
--- Texts that are one token throughout: an identifier, or a row of digits.
-use Rattle.std.proofs.Common.{◌≡◌, ℕ, zero, suc, ◌+◌, ◌≤◌, ◌==◌, Bool, true, false, ◌||◌, ◌&&◌, List, [], ◌∷◌, length, drop, refl, sym, ◌∙◌, ap, arith, if◌then◌else◌}
+-- Texts that are one token throughout: an identifier, a row of digits, or a string.
+use Rattle.std.proofs.Common.{◌≡◌, ℕ, zero, suc, ◌+◌, ◌≤◌, ◌==◌, Bool, true, false, not, ◌||◌, ◌&&◌, List, [], ◌∷◌, ◌++◌, length, drop, refl, sym, ◌∙◌, ap, arith, if◌then◌else◌}
 use Rattle.std.proofs.lemmas.Bool.{and_parts}
 use Rattle.std.proofs.lemmas.Bool.Decides.{nat_tests}
-use Rattle.std.proofs.lemmas.List.{take_all, drop_all}
+use Rattle.std.proofs.lemmas.List.{length-append, take_all, drop_all}
 use Rattle.std.specs.List.{list_all, prefix_len}
 use Rattle.ucd_derived.specs.Binary.{is_xid_start, is_xid_continue}
 use Rattle.ucd_derived.specs.XidContinueRanges.{xid_continue_ranges}
@@ -12,12 +12,12 @@ use Rattle.unicode_ident.proofs.IdentLemmas.{is_xid_start-ascii}
 use Rattle.rustc_lexer.specs.Character.{begins, char_at, continues, identifier_len, is, is_digit, is_ident, is_id_continue, is_id_start, is_in, is_whitespace, utf8_len}
 use Rattle.rustc_lexer.specs.Lexeme.{Lexeme, is_prefix_mark, lexeme, lexeme_of, numeral, plain_word, word}
 use Rattle.rustc_lexer.specs.Lexing.{tokens_of, token_of}
-use Rattle.rustc_lexer.specs.Literals.{with_suffix}
+use Rattle.rustc_lexer.specs.Literals.{literal, stands_for_itself, string_body, with_suffix}
 use Rattle.rustc_lexer.specs.Numbers.{after_run, decimal, number, run}
 use Rattle.rustc_lexer.specs.Stretch.{Stretch, further}
 use Rattle.rustc_lexer.specs.declared.token.Base.TheVariants.{Decimal}
 use Rattle.rustc_lexer.specs.declared.token.LiteralKind.{LiteralKind}
-use Rattle.rustc_lexer.specs.declared.token.LiteralKind.TheVariants.{Int}
+use Rattle.rustc_lexer.specs.declared.token.LiteralKind.TheVariants.{Int, Str}
 use Rattle.rustc_lexer.specs.declared.token.TokenKind.{TokenKind}
 use Rattle.rustc_lexer.specs.declared.token.TokenKind.TheVariants.{Ident, Literal, UnknownPrefix}
 use Rattle.rustc_lexer.proofs.PositiveLemmas.{choice}
@@ -199,6 +199,27 @@ digit_no_start c d = by_test (is_id_start c) refl
     by_test false e = refl
     by_test true e = absurd (let ascii : is_xid_start c ≡ _ = is_xid_start-ascii c (grind (arith, nat_tests)) in grind (arith, nat_tests))
 
+-- a literal that is the whole text has no suffix
+without_suffix : (kind : LiteralKind) (t : List ℕ) → with_suffix kind (length t) t ≡ lexeme_of (Literal kind (utf8_len t)) (length t)
+without_suffix kind t =
+    let none : identifier_len [] ≡ 0 = ap (λ u. if u then 1 + continues [] else 0) nothing_no_start in
+    let same : length t + 0 ≡ length t = omega arith in
+    ap (λ xs. lexeme_of (Literal kind (utf8_len xs)) (length t + identifier_len (drop (length t) t))) (take_all (length t) t (omega arith))
+    ∙ ap (λ xs. lexeme_of (Literal kind (utf8_len t)) (length t + identifier_len xs)) (drop_all (length t) t (omega arith))
+    ∙ ap (λ n. lexeme_of (Literal kind (utf8_len t)) (length t + n)) none
+    ∙ ap (lexeme_of (Literal kind (utf8_len t))) same
+
+-- a text whose first lexeme takes all of it is one token
+one_token : (kind : TokenKind) (c : ℕ) (cs : List ℕ) → lexeme (c ∷ cs) ≡ lexeme_of kind (length (c ∷ cs))
+    → tokens_of (c ∷ cs) ≡ record { kind = kind; len = utf8_len (c ∷ cs) } ∷ []
+one_token kind c cs whole =
+    let t : List ℕ = c ∷ cs in
+    let n : ℕ = length t in
+    first_of_tokens c cs
+    ∙ ap (λ (w : Lexeme). token_of w t ∷ tokens_of (drop w.size t)) whole
+    ∙ ap (λ xs. token_of (lexeme_of kind n) t ∷ tokens_of xs) (drop_all n t (omega arith))
+    ∙ ap (λ xs. record { kind = kind; len = utf8_len xs } ∷ []) (take_all n t (omega arith))
+
 module _ (c : ℕ) (cs : List ℕ) (d : is_digit c ≡ true) (h : list_all is_digit cs ≡ true) where
   no_letter : (w : ℕ) → is_digit w ≡ false → (0 == w) ≡ false → (char_at cs 0 == w) ≡ false
   no_letter w n z = is_never is_digit w cs 0 n z h
@@ -233,15 +254,7 @@ module _ (c : ℕ) (cs : List ℕ) (d : is_digit c ≡ true) (h : list_all is_di
   whole_literal = lexeme_of (Literal (Int Decimal false) (utf8_len (c ∷ cs))) size_of_all
 
   numeral_whole : numeral (c ∷ cs) ≡ whole_literal
-  numeral_whole =
-      let t : List ℕ = c ∷ cs in
-      let none : identifier_len [] ≡ 0 = ap (λ u. if u then 1 + continues [] else 0) nothing_no_start in
-      let same : length t + 0 ≡ length t = omega arith in
-      ap (λ (s : Stretch LiteralKind). with_suffix s.value s.size t) number_whole
-      ∙ ap (λ xs. lexeme_of (Literal (Int Decimal false) (utf8_len xs)) (length t + identifier_len (drop (length t) t))) (take_all (length t) t (omega arith))
-      ∙ ap (λ xs. lexeme_of (Literal (Int Decimal false) (utf8_len t)) (length t + identifier_len xs)) (drop_all (length t) t (omega arith))
-      ∙ ap (λ n. lexeme_of (Literal (Int Decimal false) (utf8_len t)) (length t + n)) none
-      ∙ ap (lexeme_of (Literal (Int Decimal false) (utf8_len t))) same
+  numeral_whole = ap (λ (s : Stretch LiteralKind). with_suffix s.value s.size (c ∷ cs)) number_whole ∙ without_suffix (Int Decimal false) (c ∷ cs)
 
   digits_lexeme : lexeme (c ∷ cs) ≡ whole_literal
   digits_lexeme =
@@ -256,10 +269,42 @@ pub one_number : (c : ℕ) (cs : List ℕ) → list_all is_digit (c ∷ cs) ≡ 
     tokens_of (c ∷ cs) ≡ record { kind = Literal (Int Decimal false) (utf8_len (c ∷ cs)); len = utf8_len (c ∷ cs) } ∷ []
 one_number c cs h =
     let parts = and_parts (is_digit c) (list_all is_digit cs) h in
-    let t : List ℕ = c ∷ cs in
-    let n : ℕ = length t in
-    let kind : TokenKind = Literal (Int Decimal false) (utf8_len t) in
-    first_of_tokens c cs
-    ∙ ap (λ (w : Lexeme). token_of w t ∷ tokens_of (drop w.size t)) (digits_lexeme c cs parts.0 parts.1)
-    ∙ ap (λ xs. token_of (lexeme_of kind n) t ∷ tokens_of xs) (drop_all n t (omega arith))
-    ∙ ap (λ xs. record { kind = kind; len = utf8_len xs } ∷ []) (take_all n t (omega arith))
+    one_token (Literal (Int Decimal false) (utf8_len (c ∷ cs))) c cs (digits_lexeme c cs parts.0 parts.1)
+
+-- ---- a string
+
+double_no_start : is_id_start 34 ≡ false
+unfolding is_xid_start in_ranges xid_start_ranges
+double_no_start = refl
+
+not_true : (u : Bool) → not u ≡ true → u ≡ false
+not_true false e = refl
+not_true true e = absurd (cc)
+
+-- up to the quote
+body_whole : (cs : List ℕ) → list_all stands_for_itself cs ≡ true → string_body false (cs ++ 34 ∷ []) ≡ record { value = true; size = length cs + 1 }
+body_whole [] h = refl
+body_whole (c ∷ cs) h =
+    let parts = and_parts (stands_for_itself c) (list_all stands_for_itself cs) h in
+    let each = and_parts (not (is "\"" c)) (not (is "\\" c)) parts.0 in
+    let no_quote : (c == 34) ≡ false = not_true _ each.0 in
+    let no_escape : (c == 92) ≡ false = not_true _ each.1 in
+    let size : 1 + (length cs + 1) ≡ length (c ∷ cs) + 1 = omega arith in
+    let whole : further 1 (string_body false (cs ++ 34 ∷ [])) ≡ record { value = true; size = length (c ∷ cs) + 1 } =
+    ap (further 1) (body_whole cs parts.1) ∙ ap (λ n. record { value = true; size = n }) size in
+    rw (no_quote, no_escape) whole
+
+string_lexeme : (cs : List ℕ) → list_all stands_for_itself cs ≡ true
+    → lexeme (34 ∷ cs ++ 34 ∷ []) ≡ lexeme_of (Literal (Str true) (utf8_len (34 ∷ cs ++ 34 ∷ []))) (length (34 ∷ cs ++ 34 ∷ []))
+string_lexeme cs h =
+    let t : List ℕ = 34 ∷ cs ++ 34 ∷ [] in
+    let size : 1 + (length cs + 1) ≡ length t = omega (arith, length-append cs (34 ∷ [])) in
+    let no_start = double_no_start in
+    rw no_start (
+    ap (λ (b : Stretch Bool). literal b.value (Str b.value) (1 + b.size) t) (body_whole cs h)
+    ∙ ap (λ n. with_suffix (Str true) n t) size
+    ∙ without_suffix (Str true) t)
+
+pub one_string : (cs : List ℕ) → list_all stands_for_itself cs ≡ true →
+    tokens_of (34 ∷ cs ++ 34 ∷ []) ≡ record { kind = Literal (Str true) (utf8_len (34 ∷ cs ++ 34 ∷ [])); len = utf8_len (34 ∷ cs ++ 34 ∷ []) } ∷ []
+one_string cs h = one_token (Literal (Str true) (utf8_len (34 ∷ cs ++ 34 ∷ []))) 34 (cs ++ 34 ∷ []) (string_lexeme cs h)

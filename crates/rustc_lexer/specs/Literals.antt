@@ -43,6 +43,10 @@ string_body true (c ∷ cs) = further 1 (string_body false cs)
 string_body false (c ∷ cs) =
     if is "\"" c then record { value = true; size = 1 } else further 1 (string_body (is "\\" c) cs)
 
+-- a character of a string that is neither a `"` nor a `\`
+abbrev pub stands_for_itself : ℕ → Bool
+stands_for_itself c = not (is "\"" c) && not (is "\\" c)
+
 -- what follows the first `"` of a raw string: up to and with the first `"` that n hashes follow, and these; or the whole
 -- text, and then it isn't terminated
 abbrev pub raw_body : ℕ → List ℕ → Stretch Bool

@@ -15,6 +15,7 @@ ghost use Rattle.rustc_lexer.specs.Character.{is_digit, is_ident, utf8_len};
 ghost use Rattle.rustc_lexer.specs.Cursors.{suffix_of};
 ghost use Rattle.rustc_lexer.specs.Lexeme.{lexeme, one_char_kind};
 ghost use Rattle.rustc_lexer.specs.Lexing.{place, reach, token_of, tokens_of};
+ghost use Rattle.rustc_lexer.specs.Literals.{stands_for_itself};
 ghost use Rattle.rustc_lexer.specs.Seams.{begins_longer, begins_white, ends_here, is_blank, is_sign, is_whole};
 ghost use Rattle.rustc_lexer.specs.Shapes.{HasByteShape, HasShape, is_ended};
 ghost use Rattle.rustc_lexer.specs.Standing.{AreTokensFrom, IsTokenAt};
@@ -22,7 +23,7 @@ ghost use Rattle.rustc_lexer.specs.declared.lexed.Kept.{Kept};
 ghost use Rattle.rustc_lexer.specs.declared.token.Base.TheVariants.{Decimal};
 ghost use Rattle.rustc_lexer.specs.declared.token.GuardedStr.{GuardedStr};
 ghost use Rattle.rustc_lexer.specs.declared.token.LiteralKind.{LiteralKind};
-ghost use Rattle.rustc_lexer.specs.declared.token.LiteralKind.TheVariants.{Int};
+ghost use Rattle.rustc_lexer.specs.declared.token.LiteralKind.TheVariants.{Int, Str};
 ghost use Rattle.rustc_lexer.specs.declared.token.Token.{Token};
 ghost use Rattle.rustc_lexer.specs.declared.token.TokenKind.{TokenKind};
 ghost use Rattle.rustc_lexer.specs.declared.token.TokenKind.TheVariants.{Eof, Ident, Lifetime, Literal, Whitespace};
@@ -136,6 +137,12 @@ pub fn one_identifier()
 pub fn one_number()
     ensures { (c : ℕ) (cs : List ℕ) → list_all is_digit (c ∷ cs) ≡ true →
         tokens_of (c ∷ cs) ≡ record { kind = Literal (Int Decimal false) (utf8_len (c ∷ cs)); len = utf8_len (c ∷ cs) } ∷ [] }
+{}
+
+/// Characters in quotes, of which none is a quote or a `\`, are one whole string.
+pub fn one_string()
+    ensures { (cs : List ℕ) → list_all stands_for_itself cs ≡ true →
+        tokens_of (34 ∷ cs ++ 34 ∷ []) ≡ record { kind = Literal (Str true) (utf8_len (34 ∷ cs ++ 34 ∷ [])); len = utf8_len (34 ∷ cs ++ 34 ∷ []) } ∷ [] }
 {}
 
 /// A token that is terminated begins and ends as its kind does, and the suffix of a literal follows

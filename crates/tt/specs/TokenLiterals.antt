@@ -21,8 +21,10 @@ pub record IsLiteralToken (form : LitKind) (suffix_start : ℕ) (token : List �
   pub is : token ≡ form_begin form ++ (text ++ (form_end form ++ suffix))
   pub starts : suffix_start ≡ length (form_begin form ++ (text ++ form_end form))
 
+-- what stands in a token between what a literal begins and ends with, where the suffix starts at a place
+abbrev pub inside_of : LitKind → ℕ → List ℕ → List ℕ
+inside_of form suffix_start token = take (suffix_start - length (form_begin form) - length (form_end form)) (drop (length (form_begin form)) token)
+
 -- the literal that a token is, of which the suffix starts at a place
 abbrev pub literal_in : LitKind → ℕ → List ℕ → Span → Literal
-literal_in form suffix_start token span =
-    let begins : ℕ = length (form_begin form) in
-    literal_of (take (suffix_start - begins - length (form_end form)) (drop begins token)) (drop suffix_start token) form span
+literal_in form suffix_start token span = literal_of (inside_of form suffix_start token) (drop suffix_start token) form span

@@ -28,7 +28,7 @@ pub use display::pretty;
 pub use expect::MAX_GLUED_PUNCT_LEN;
 pub use flat::FlatTokens;
 pub use iter::{TtElement, TtIter};
-pub use literals::token_to_literal;
+pub use literals::{literal_parts, token_to_literal};
 pub use savepoint::TtIterSavepoint;
 pub use split::Split;
 pub use top::TopSubtree;

@@ -1,7 +1,7 @@
 //! Literals of whole tokens.
-ghost use Rattle.std.specs.Prelude.{◌≡◌, ◌<◌, ◌≤◌, ◌^◌, length, IfOk, IsOkUnless};
+ghost use Rattle.std.specs.Prelude.{◌≡◌, ◌<◌, ◌≤◌, ◌^◌, length, drop, IfOk, IsOkUnless};
 ghost use Rattle.std.specs.Str.{IsCharBoundary};
-ghost use Rattle.tt.specs.TokenLiterals.{IsLiteralToken, form_begin, form_end, literal_in};
+ghost use Rattle.tt.specs.TokenLiterals.{IsLiteralToken, form_begin, form_end, inside_of, literal_in};
 ghost use Rattle.tt_data.specs.fault.TtFault.TheVariants.{Memory};
 
 use std::alloc::Global;
@@ -35,6 +35,19 @@ fn end_len(kind: LitKind) -> usize
     }
 }
 
+/// What stands between the quotes of the literal that the whole token `text` is, and its suffix, which
+/// starts at the byte `suffix_start`. Of a number, and of what was no literal, it is all before the suffix.
+pub fn literal_parts(text: &str, kind: LitKind, suffix_start: u32) -> (&str, &str)
+    requires boundary { IsCharBoundary text.now suffix_start }
+    requires token { IsLiteralToken kind suffix_start text.now }
+    ensures inside { result.0.now ≡ inside_of kind suffix_start text.now }
+    ensures suffix { result.1.now ≡ drop suffix_start text.now }
+{
+    let start = suffix_start as usize;
+    let inside = &text[begin_len(kind)..start - end_len(kind)];
+    (inside, &text[start..])
+}
+
 /// The literal that the whole token `text` is: what stands between its quotes, and the suffix, which
 /// starts at the byte `suffix_start`. A number, and what was no literal, has all before its suffix
 /// as its text.
@@ -53,7 +66,6 @@ pub fn token_to_literal(
     ensures literal { IfOk result (λ l. l ≡ literal_in kind suffix_start text.now span) }
     ensures memory { IsOkUnless result Memory }
 {
-    let start = suffix_start as usize;
-    let inside = &text[begin_len(kind)..start - end_len(kind)];
-    Literal::new(alloc, inside, span, kind, &text[start..])
+    let (inside, suffix) = literal_parts(text, kind, suffix_start);
+    Literal::new(alloc, inside, span, kind, suffix)
 }

@@ -184,6 +184,9 @@ impl Literal {
         ensures literal { IfOk result (λ l. l ≡ record { text = text.now; suffix = suffix.now; kind = kind; span = span }) }
         ensures memory { IsOkUnless result fault.Memory }
     {
+        if suffix.is_empty() {
+            return Literal::new_no_suffix(alloc, text, span, kind);
+        }
         let mut all = String::from_str(alloc, text)?;
         all.push_str(suffix)?;
         Ok(Literal {

@@ -1,20 +1,17 @@
 -- The one token begins where the text does and is as long.
-use Rattle.bridge.proofs.AddingLemmas.{passed_ok}
 use Rattle.bridge.proofs.SpellingLemmas.{cut_whole, told_of_one}
 use Rattle.bridge.proofs.spelling.is_token_of.Goals as goal
 
-pub is_read_as-requires-clause-cut : goal.is_read_as-requires-clause-cut
-is_read_as-requires-clause-cut c =
+pub is_read_as-requires : goal.is_read_as-requires
+is_read_as-requires c =
     let text = c.args.text.now in
     let at = c.next_token.ensures.here text _ _ _ _ c.utf8.text (c.tokens_begin.ensures text c.utf8.text) c.requires.one in
     rw c.sort_of.ensures
     (cut_whole text c.args.token c.utf8.text (c.token_lengths.ensures.whole text c.utf8.text) c.requires.one
     (λ ended. c.token_shapes.ensures.bytes _ _ _ at ended) (c.suffix_starts.ensures.boundary _ _ _ c.utf8.text at))
 
-pub returns-clause-is : goal.returns-clause-is
-returns-clause-is c =
+pub returns : goal.returns
+returns c =
     let text = c.args.text.now in
-    passed_ok c.is_read_as.result _ _
-    (λ b h. told_of_one text c.args.token c.args.leaf.now b c.utf8.text c.requires.short (c.token_lengths.ensures.whole text c.utf8.text) c.requires.one
-    (λ p more same. rw (← c.sort_of.ensures) (h p more same)))
-    c.is_read_as.ensures.is
+    told_of_one text c.args.token c.args.leaf.now _ c.utf8.text c.requires.short (c.token_lengths.ensures.whole text c.utf8.text) c.requires.one
+    (λ p more same. rw (← c.sort_of.ensures) (c.is_read_as.ensures p more same))

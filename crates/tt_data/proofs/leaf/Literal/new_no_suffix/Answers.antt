@@ -1,5 +1,5 @@
 -- All is the text.
-use Rattle.std.proofs.Common.{◌≡◌, ◌∙◌, ◌++◌, [], sym, append-nil, rules}
+use Rattle.std.proofs.Common.{◌≡◌, ◌∙◌, [], sym, append-nil, rules}
 use Rattle.std.proofs.lemmas.Str.{IsUtf8-nil}
 use Rattle.tt_data.proofs.LiteralLemmas.{inside, cut}
 use Rattle.tt_data.proofs.leaf.Literal.new_no_suffix.Goals as goal

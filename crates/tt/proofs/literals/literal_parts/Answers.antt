@@ -1,6 +1,6 @@
 -- The text is cut behind the first quote and before the last one, each of one byte.
 use Rattle.tt.proofs.LiteralTokens.{begin_boundary, end_boundary}
-use Rattle.tt.proofs.literals.token_to_literal.Goals as goal
+use Rattle.tt.proofs.literals.literal_parts.Goals as goal
 
 pub range-inside-requires-clause-start_boundary : goal.range-inside-requires-clause-start_boundary
 range-inside-requires-clause-start_boundary c =
