@@ -1,8 +1,10 @@
 //! Laws of the definitions, for those who read them. A call does nothing: it only states.
 ghost use Rattle.std.specs.Prelude.{◌≡◌, ◌↔◌, ℕ, true, All, List, [], ◌∷◌, ◌++◌, flat_map, Option, Some, None};
+ghost use Rattle.std.specs.List.Sorted.{IsPermutation, IsSortedBy};
 ghost use Rattle.expander.specs.Calls.{marked, unmarked};
 ghost use Rattle.expander.specs.CallSteps.{call_at, first_call};
 ghost use Rattle.expander.specs.Expansion.{World, expansion, placed};
+ghost use Rattle.expander.specs.Faults.{comes_before, in_order};
 ghost use Rattle.expander.specs.Laws.{AreAllPlain, Fails};
 ghost use Rattle.expander.specs.Meaning.{Layers, member_faults, members_after, output_of};
 ghost use Rattle.expander.specs.Pieces.{cut, put_together};
@@ -52,6 +54,12 @@ pub fn without_definitions_nothing_changes()
         flat_map (output_of layers depth) (members_after layers depth [] (cut f)) ≡ placed None (walk f) }
     ensures faults { (layers : Layers) (depth : ℕ) (f : Forest) → AreAllPlain (cut f) →
         flat_map (member_faults layers depth) (members_after layers depth [] (cut f)) ≡ [] }
+{}
+
+/// Faults put in order are the same faults, and none comes before the one that it follows.
+pub fn faults_are_put_in_order()
+    ensures same { (faults : List Fault) → IsPermutation faults (in_order faults) }
+    ensures sorted { (faults : List Fault) → IsSortedBy comes_before (in_order faults) }
 {}
 
 /// Two answers are equal by `==` exactly where they are the same, places included.
