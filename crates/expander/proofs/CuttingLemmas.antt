@@ -4,10 +4,11 @@ use Rattle.tt_data.specs.Forest.{Forest, empty, leaf, group, joined, size, front
 use Rattle.tt_data.specs.Flat.{front-joined}
 use Rattle.tt_data.specs.declared.delimiter.Delimiter.{Delimiter}
 use Rattle.tt_data.specs.declared.leaf.Leaf.{Leaf}
-use Rattle.expander.specs.Pieces.{cut, cut_from, ends_piece}
+use Rattle.expander.specs.Pieces.{cut, cut_from, ends_piece, put_together}
 use Rattle.expander.specs.Cutting.{PassesTree}
 use Rattle.bridge.specs.Text.{is_punct}
-use Rattle.std.specs.Prelude.{Some, None}
+use Rattle.std.specs.Prelude.{All, Some, None}
+use Rattle.std.proofs.lemmas.List.Elements.{All-nil, All-cons}
 
 pub joined-assoc : (f g h : Forest) → joined (joined f g) h ≡ joined f (joined g h)
 joined-assoc empty g h = refl
@@ -119,3 +120,77 @@ passed_whole old rest new begun b (tree, p) = (joined begun tree, split_more old
 pub goes_on : (old rest new begun : Forest) → IsBegun old rest begun → PassesTree begun rest new (Some false) → (f : Forest) × IsBegun old new f
 goes_on old rest new begun b (tree, p) =
     (joined begun tree, record { split = split_more old rest new begun tree b.split p.0; same = sym p.1 ∙ b.same })
+
+-- ---- all pieces together
+
+joined-nothing : (f : Forest) → joined f empty ≡ f
+joined-nothing empty = refl
+joined-nothing (leaf l rest) = ap (leaf l) (joined-nothing rest)
+joined-nothing (group d inner rest) = ap (group d inner) (joined-nothing rest)
+
+put_or : (b : Bool) (xs ys : List Forest) (f : Forest) → put_together xs ≡ f → put_together ys ≡ f → put_together (if b then xs else ys) ≡ f
+put_or true xs ys f e h = e
+put_or false xs ys f e h = h
+
+put_together-cut_from : (f begun : Forest) → put_together (cut_from f begun) ≡ joined begun f
+put_together-cut_from empty empty = refl
+put_together-cut_from empty (leaf l begun) = refl
+put_together-cut_from empty (group d inner begun) = refl
+put_together-cut_from (leaf l rest) begun =
+    put_or (is_punct ";" l) _ _ (joined begun (leaf l rest))
+    (ap (joined (joined begun (leaf l empty))) (put_together-cut_from rest empty) ∙ joined-assoc begun (leaf l empty) rest)
+    (put_together-cut_from rest (joined begun (leaf l empty)) ∙ joined-assoc begun (leaf l empty) rest)
+put_together-cut_from (group d inner rest) begun =
+    put_or (ends_piece begun d) _ _ (joined begun (group d inner rest))
+    (ap (joined (joined begun (group d inner empty))) (put_together-cut_from rest empty) ∙ joined-assoc begun (group d inner empty) rest)
+    (put_together-cut_from rest (joined begun (group d inner empty)) ∙ joined-assoc begun (group d inner empty) rest)
+
+-- the pieces one after another are the list
+pub put_together-cut : (f : Forest) → put_together (cut f) ≡ f
+put_together-cut f = put_together-cut_from f empty
+
+-- ---- each piece by itself
+
+-- trees met since the last cut: with more behind them they are cut in the same way
+abbrev IsOpen : Forest → Type 0
+IsOpen begun = (more : Forest) → cut (joined begun more) ≡ cut_from more begun
+
+abbrev pub IsCutAlone : Forest → Type 0
+IsCutAlone p = cut p ≡ p ∷ []
+
+-- the tree at which a list goes on ends no piece
+open_more : (begun one : Forest) (before : Forest → Forest) → IsOpen begun → ((more : Forest) → joined one more ≡ before more)
+    → ((more : Forest) → cut_from (before more) begun ≡ cut_from more (joined begun one)) → IsOpen (joined begun one)
+open_more begun one before is_open first goes_on =
+    λ more. ap cut (joined-assoc begun one more ∙ ap (joined begun) (first more)) ∙ is_open (before more) ∙ goes_on more
+
+-- or ends one
+ended_alone : (begun one : Forest) → IsOpen begun → cut_from one begun ≡ joined begun one ∷ [] → IsCutAlone (joined begun one)
+ended_alone begun one is_open ends = is_open one ∙ ends
+
+left_alone : (begun : Forest) → IsOpen begun → cut_from empty begun ≡ begun ∷ [] → IsCutAlone begun
+left_alone begun is_open ends = ap cut (sym (joined-nothing begun)) ∙ is_open empty ∙ ends
+
+all_or : (b : Bool) (x : Forest) (xs ys : List Forest) → (b ≡ true → IsCutAlone x) → All IsCutAlone xs → (b ≡ false → All IsCutAlone ys)
+    → All IsCutAlone (if b then x ∷ xs else ys)
+all_or true x xs ys first more other = All-cons IsCutAlone x xs (first refl) more
+all_or false x xs ys first more other = other refl
+
+all_alone : (f begun : Forest) → IsOpen begun → All IsCutAlone (cut_from f begun)
+all_alone empty empty is_open = All-nil IsCutAlone
+all_alone empty (leaf l begun) is_open = All-cons IsCutAlone (leaf l begun) [] (left_alone (leaf l begun) is_open refl) (All-nil IsCutAlone)
+all_alone empty (group d inner begun) is_open = All-cons IsCutAlone (group d inner begun) [] (left_alone (group d inner begun) is_open refl) (All-nil IsCutAlone)
+all_alone (leaf l rest) begun is_open =
+    all_or (is_punct ";" l) _ _ _
+    (λ e. ended_alone begun (leaf l empty) is_open (cut_leaf (is_punct ";" l) _ _ _ e))
+    (all_alone rest empty (λ more. refl))
+    (λ e. all_alone rest (joined begun (leaf l empty)) (open_more begun (leaf l empty) (leaf l) is_open (λ more. refl) (λ more. not_cut (is_punct ";" l) _ _ e)))
+all_alone (group d inner rest) begun is_open =
+    all_or (ends_piece begun d) _ _ _
+    (λ e. ended_alone begun (group d inner empty) is_open (cut_leaf (ends_piece begun d) _ _ _ e))
+    (all_alone rest empty (λ more. refl))
+    (λ e. all_alone rest (joined begun (group d inner empty)) (open_more begun (group d inner empty) (group d inner) is_open (λ more. refl) (λ more. not_cut (ends_piece begun d) _ _ e)))
+
+-- each piece is one piece: no tree of it but the last ends one
+pub cut_alone : (f : Forest) → All IsCutAlone (cut f)
+cut_alone f = all_alone f empty (λ more. refl)

@@ -30,6 +30,7 @@ mod TemplateLemmas
 mod TemplateRoomLemmas
 mod TurnLemmas
 mod FirstCallLemmas
+mod SearchLemmas
 mod AnswerLemmas
 mod ExpandLemmas
 mod PieceLemmas

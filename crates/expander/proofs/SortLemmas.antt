@@ -1,12 +1,13 @@
 -- Faults in order: a list in order that has the same faults is the one that `in_order` gives.
-use Rattle.std.proofs.Common.{◌≡◌, ℕ, zero, suc, ◌+◌, ◌<◌, List, [], ◌∷◌, length, get_or, refl, sym, ap, ◌∙◌, arith, set, Bool, true, false, if◌then◌else◌, get_or-set_same, get_or-set_other, Bor}
+use Rattle.std.proofs.Common.{◌≡◌, ℕ, zero, suc, ◌+◌, ◌<◌, List, [], ◌∷◌, length, get_or, refl, sym, ap, subst, ◌∙◌, arith, set, Bool, true, false, if◌then◌else◌, get_or-set_same, get_or-set_other, Bor}
 use Rattle.std.specs.Fn.{Called, ComputesKey, Mut}
 use Rattle.std.specs.List.{swap}
+use Rattle.std.specs.Prelude.{⊤}
 use Rattle.std.specs.List.Sorted.{IsPermutation, IsSortedBy, IsSortedByKey}
 use Rattle.std.proofs.lemmas.Fn.{always_returns_same}
 use Rattle.std.proofs.lemmas.List.{length-set}
 use Rattle.std.proofs.lemmas.List.Edits.{swap_is}
-use Rattle.std.proofs.lemmas.List.Sorted.{IsPermutation-keeps}
+use Rattle.std.proofs.lemmas.List.Sorted.{IsPermutation-append_comm, IsPermutation-append_left, IsPermutation-cons, IsPermutation-keeps, IsPermutation-refl, IsPermutation-trans}
 use Rattle.expander.specs.declared.faults.Fault.{Fault}
 use Rattle.expander.specs.declared.faults.FaultKind.TheVariants.{CannotExpand}
 use Rattle.expander.specs.Faults.{comes_before, in_order, put_in_order}
@@ -117,3 +118,63 @@ pub sorted_by_key : {F : Type 0} {g : Mut F (Bor Fault × Unit {0}) Key} {f : F}
 sorted_by_key {g = g} {f = f} old new moved up computes =
     let sorted = up key_of (always_returns_same g (λ a r. r ≡ key_of a.0.now) f computes) in
     sorted_is old new moved (λ k d low high. sym (key_less (get_or new (k + 1) d) (get_or new k d)) ∙ sorted k d low high)
+
+-- ---- what `in_order` gives
+
+put_moved : (f : Fault) (gs : List Fault) → IsPermutation (f ∷ gs) (put_in_order f gs)
+put_moved f [] = IsPermutation-refl (f ∷ [])
+put_moved f (g ∷ gs) = go (put_moved f gs) (comes_before g f) refl
+  where
+    go : IsPermutation (f ∷ gs) (put_in_order f gs) → (p : Bool) → comes_before g f ≡ p → IsPermutation (f ∷ g ∷ gs) (put_in_order f (g ∷ gs))
+    go moved true e =
+        subst (IsPermutation (f ∷ g ∷ gs)) (sym (put_after f g gs e))
+        (IsPermutation-trans (f ∷ g ∷ gs) (g ∷ f ∷ gs) (g ∷ put_in_order f gs)
+        (IsPermutation-append_left gs (f ∷ g ∷ []) (g ∷ f ∷ []) (IsPermutation-append_comm (f ∷ []) (g ∷ [])))
+        (IsPermutation-cons g (f ∷ gs) (put_in_order f gs) moved))
+    go moved false e = subst (IsPermutation (f ∷ g ∷ gs)) (sym (put_before f g gs e)) (IsPermutation-refl (f ∷ g ∷ gs))
+
+pub in_order-same : (fs : List Fault) → IsPermutation fs (in_order fs)
+in_order-same [] = IsPermutation-refl []
+in_order-same (f ∷ fs) =
+    IsPermutation-trans (f ∷ fs) (f ∷ in_order fs) (put_in_order f (in_order fs)) (IsPermutation-cons f fs (in_order fs) (in_order-same fs)) (put_moved f (in_order fs))
+
+-- no fault comes before the one that it follows
+abbrev Rises : List Fault → Type 0
+Rises [] = ⊤
+Rises (x ∷ []) = ⊤
+Rises (x ∷ y ∷ xs) = (comes_before y x ≡ false) × Rises (y ∷ xs)
+
+rises_later : (x : Fault) (xs : List Fault) → Rises (x ∷ xs) → Rises xs
+rises_later x [] up = tt
+rises_later x (y ∷ xs) up = up.1
+
+rises_behind : (f g : Fault) (gs : List Fault) → comes_before g f ≡ true → Rises (g ∷ gs) → Rises (put_in_order f gs) → Rises (g ∷ put_in_order f gs)
+rises_behind f g [] e up later = (before-never g f e, tt)
+rises_behind f g (h ∷ hs) e up later = go (comes_before h f) refl
+  where
+    go : (p : Bool) → comes_before h f ≡ p → Rises (g ∷ put_in_order f (h ∷ hs))
+    go true test = subst (λ l. Rises (g ∷ l)) (sym (put_after f h hs test)) (up.0, subst Rises (put_after f h hs test) later)
+    go false test = subst (λ l. Rises (g ∷ l)) (sym (put_before f h hs test)) (before-never g f e, subst Rises (put_before f h hs test) later)
+
+put_rises : (f : Fault) (gs : List Fault) → Rises gs → Rises (put_in_order f gs)
+put_rises f [] up = tt
+put_rises f (g ∷ gs) up = go (put_rises f gs (rises_later g gs up)) (comes_before g f) refl
+  where
+    go : Rises (put_in_order f gs) → (p : Bool) → comes_before g f ≡ p → Rises (put_in_order f (g ∷ gs))
+    go later true e = subst Rises (sym (put_after f g gs e)) (rises_behind f g gs e up later)
+    go later false e = subst Rises (sym (put_before f g gs e)) (e, up)
+
+in_order_rises : (fs : List Fault) → Rises (in_order fs)
+in_order_rises [] = tt
+in_order_rises (f ∷ fs) = put_rises f (in_order fs) (in_order_rises fs)
+
+sorted_if : (xs : List Fault) → Rises xs → IsSortedBy comes_before xs
+sorted_if [] up k d low high = absurd (omega (arith, high))
+sorted_if (x ∷ []) up k d low high = absurd (omega (arith, high))
+sorted_if (x ∷ y ∷ xs) up zero d low high = up.0
+sorted_if (x ∷ y ∷ xs) up (suc k) d low high =
+    let next : suc k + 1 ≡ suc (k + 1) = omega arith in
+    rw next (sorted_if (y ∷ xs) up.1 k d (omega arith) (omega (arith, high)))
+
+pub in_order-is_sorted : (fs : List Fault) → IsSortedBy comes_before (in_order fs)
+in_order-is_sorted fs = sorted_if (in_order fs) (in_order_rises fs)

@@ -25,6 +25,7 @@ pub mod Replies
 pub mod Watch
 pub mod Lines
 pub mod Runs
+pub mod Laws
 -- what the functions inside the crate promise each other
 pub mod Cutting
 pub mod Names

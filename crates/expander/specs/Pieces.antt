@@ -33,6 +33,11 @@ cut_from (group d inner rest) begun =
 abbrev pub cut : Forest → List Forest
 cut f = cut_from f empty
 
+-- pieces one after another
+abbrev pub put_together : List Forest → Forest
+put_together [] = empty
+put_together (p ∷ ps) = joined p (put_together ps)
+
 -- the list with each `;` in it standing alone: nothing is joined to what ends a piece
 abbrev pub separated : Forest → Forest
 separated empty = empty

@@ -1,0 +1,168 @@
+-- What the search of calls leaves as it is.
+use Rattle.std.proofs.Common.{◌≡◌, ℕ, zero, suc, List, [], ◌∷◌, ◌++◌, refl, sym, ap, ◌∙◌, append_assoc, Bool, true, false, inl, inr}
+use Rattle.std.specs.Prelude.{Option, Some, None, is_none, ◌||◌, ◌&&◌, flat_map, map}
+use Rattle.std.proofs.lemmas.List.{map-append}
+use Rattle.tt_data.specs.Forest.{Forest, leaf, group, joined}
+use Rattle.tt_data.specs.Walk.{Step, at_leaf, opens, closes, walk}
+use Rattle.tt_data.proofs.ForestLemmas.{walk-joined}
+use Rattle.tt_data.specs.declared.delimiter.Delimiter.{Delimiter}
+use Rattle.tt_data.specs.declared.leaf.Ident.{Ident}
+use Rattle.tt_data.specs.declared.leaf.Leaf.TheVariants as as_leaf
+use Rattle.tt_data.specs.declared.leaf.Punct.{Punct}
+use Rattle.tt_data.specs.declared.span.Span.{Span}
+use Rattle.expander.specs.declared.calls.Call.{Call}
+use Rattle.expander.specs.declared.definitions.Definition.{Definition}
+use Rattle.expander.specs.CallSteps.{call_at}
+use Rattle.expander.specs.Calls.{Path, bare, from_crate, other, Marked, none, token, inside, call, marked, unmarked, in_front}
+use Rattle.expander.specs.Definitions.{definition_of}
+use Rattle.expander.specs.Expansion.{World, Outcome, Deeper, CallSite, placed, just, followed_by, grouped, fitted, unbroken, at_call, before_group, search_calls, expansion}
+use Rattle.expander.specs.Faults.{fault_at}
+use Rattle.expander.specs.Laws.{Fails, AreAllPlain}
+use Rattle.expander.specs.Meaning.{Layers, members_after, output_of, member_faults}
+use Rattle.expander.specs.Pieces.{cut, put_together}
+use Rattle.expander.proofs.CuttingLemmas.{put_together-cut}
+use Rattle.expander.proofs.MarkLemmas.{unmarked-marked}
+use Rattle.expander.proofs.TurnLemmas.{known_search}
+
+-- ---- a failed call
+
+module _ {D : Type 0} (world : World D) (d : D) (outer : Option Span) (site : CallSite) where
+  at_no_level : (broken : Bool) → (unbroken world d broken None outer site).steps ≡ placed outer (walk site.whole)
+  at_no_level true = refl
+  at_no_level false = refl
+
+  unfit : (deeper : Option Span → Forest → Outcome D) (o : Option Forest) → o ≡ None → (fitted deeper outer site o).steps ≡ placed outer (walk site.whole)
+  unfit deeper None e = refl
+  unfit deeper (Some g) e = cc
+
+  at_a_level : (broken : Bool) (n : ℕ) (deeper : Option Span → Forest → Outcome D) → Fails broken (suc n) (world.fit d site.argument)
+      → (unbroken world d broken (Some deeper) outer site).steps ≡ placed outer (walk site.whole)
+  at_a_level true n deeper h = refl
+  at_a_level false n deeper (inl e) = cc
+  at_a_level false n deeper (inr (inl e)) = cc
+  at_a_level false n deeper (inr (inr e)) = unfit deeper (world.fit d site.argument) e
+
+module _ {D : Type 0} (world : World D) (scope : List ℕ → Option D) (outer : Option Span) (f passed : Forest) (c : Call) (d : D)
+    (e : call_at f ≡ Some c) (finds : scope c.name.sym ≡ Some d) (is : f ≡ joined passed c.rest) where
+  failed : (deeper : Deeper D) → (unbroken world d (world.broken d) deeper outer (record { at = c.name.span; whole = passed; argument = c.argument })).steps ≡ placed outer (walk passed)
+      → (search_calls world scope deeper outer (marked f)).steps ≡ placed outer (walk passed) ++ (search_calls world scope deeper outer (marked c.rest)).steps
+  failed deeper stays =
+      ap (λ (o : Outcome D). o.steps) (known_search world scope deeper outer f c d e finds passed is)
+      ∙ ap (λ s. s ++ (search_calls world scope deeper outer (marked c.rest)).steps) stays
+
+  pub failed_call_stays : (depth : ℕ) → Fails (world.broken d) depth (world.fit d c.argument)
+      → (expansion world scope depth outer f).steps ≡ placed outer (walk passed) ++ (expansion world scope depth outer c.rest).steps
+  failed_call_stays zero fails = failed None (at_no_level world d outer (record { at = c.name.span; whole = passed; argument = c.argument }) (world.broken d))
+  failed_call_stays (suc n) fails =
+      failed (Some (expansion world scope n))
+      (at_a_level world d outer (record { at = c.name.span; whole = passed; argument = c.argument }) (world.broken d) n (expansion world scope n) fails)
+
+-- ---- where no name finds a definition
+
+-- these steps are put out, no fault is told, and no call makes too many tokens
+pub record IsQuiet {D : Type 0} (outer : Option Span) (steps : List Step) (o : Outcome D) : Type 0 where
+  pub put_out : o.steps ≡ placed outer steps
+  pub untold : o.faults ≡ []
+  pub small : o.bursts ≡ false
+
+neither : (a b : Bool) → a ≡ false → b ≡ false → (a || b) ≡ false
+neither false b p q = q
+neither true b p q = cc
+
+module _ {D : Type 0} (outer : Option Span) where
+  quiet_just : (xs : List Step) → IsQuiet {D = D} outer xs (just outer xs)
+  quiet_just xs = record { put_out = refl; untold = refl; small = refl }
+
+  quiet_more : (xs ys : List Step) (a b : Outcome D) → IsQuiet outer xs a → IsQuiet outer ys b → IsQuiet outer (xs ++ ys) (followed_by a b)
+  quiet_more xs ys a b p q = record {
+    put_out = ap (λ s. s ++ b.steps) p.put_out ∙ ap (λ s. placed outer xs ++ s) q.put_out ∙ sym (map-append (λ s. record { step = s; outer = outer }) xs ys);
+    untold = ap (λ fs. fs ++ b.faults) p.untold ∙ q.untold;
+    small = neither a.bursts b.bursts p.small q.small;
+  }
+
+  quiet_group : (d : Delimiter) (xs : List Step) (a : Outcome D) → IsQuiet outer xs a
+      → IsQuiet outer (opens d.kind d.open_span ∷ (xs ++ (closes d.kind d.close_span ∷ []))) (grouped outer d a)
+  quiet_group d xs a p = record {
+    put_out = ap (λ s. record { step = opens d.kind d.open_span; outer = outer } ∷ s)
+        (ap (λ s. s ++ placed outer (closes d.kind d.close_span ∷ [])) p.put_out ∙ sym (map-append (λ s. record { step = s; outer = outer }) xs (closes d.kind d.close_span ∷ [])));
+    untold = p.untold;
+    small = p.small;
+  }
+
+  quiet_if : (xs ys : List Step) (a : Outcome D) → xs ≡ ys → IsQuiet outer xs a → IsQuiet outer ys a
+  quiet_if xs ys a e p = record { put_out = p.put_out ∙ ap (placed outer) e; untold = p.untold; small = p.small }
+
+call-walk : (path : Path) (name : Ident) (bang : Punct) (d : Delimiter) (a rest : Forest)
+    → (walk (before_group path name bang) ++ (opens d.kind d.open_span ∷ (walk a ++ (closes d.kind d.close_span ∷ [])))) ++ walk rest
+    ≡ walk (in_front path (leaf (as_leaf.Ident name) (leaf (as_leaf.Punct bang) (group d a rest))))
+call-walk path name bang d a rest = in_path path
+  where
+    in_group : at_leaf (as_leaf.Ident name) ∷ at_leaf (as_leaf.Punct bang) ∷ opens d.kind d.open_span ∷ ((walk a ++ (closes d.kind d.close_span ∷ [])) ++ walk rest)
+        ≡ walk (leaf (as_leaf.Ident name) (leaf (as_leaf.Punct bang) (group d a rest)))
+    in_group = ap (λ s. at_leaf (as_leaf.Ident name) ∷ at_leaf (as_leaf.Punct bang) ∷ opens d.kind d.open_span ∷ s) (append_assoc (walk a) (closes d.kind d.close_span ∷ []) (walk rest))
+
+    in_path : (p : Path) → (walk (before_group p name bang) ++ (opens d.kind d.open_span ∷ (walk a ++ (closes d.kind d.close_span ∷ [])))) ++ walk rest
+        ≡ walk (in_front p (leaf (as_leaf.Ident name) (leaf (as_leaf.Punct bang) (group d a rest))))
+    in_path bare = in_group
+    in_path (from_crate crate p q) = ap (λ s. at_leaf (as_leaf.Ident crate) ∷ at_leaf (as_leaf.Punct p) ∷ at_leaf (as_leaf.Punct q) ∷ s) in_group
+    in_path (other p q) = ap (λ s. at_leaf (as_leaf.Punct p) ∷ at_leaf (as_leaf.Punct q) ∷ s) in_group
+
+module _ {D : Type 0} (world : World D) (deeper : Deeper D) (outer : Option Span) where
+  quiet_call : (path : Path) (name : Ident) (site : CallSite) (xs : List Step) (kept : Outcome D) → IsQuiet outer xs kept
+      → IsQuiet outer xs (at_call world (λ name. None) deeper outer path name site kept)
+  quiet_call bare name site xs kept q = record { put_out = q.put_out; untold = q.untold; small = q.small }
+  quiet_call (from_crate crate p s) name site xs kept q = record { put_out = q.put_out; untold = q.untold; small = q.small }
+  quiet_call (other p s) name site xs kept q = q
+
+  quiet_search : (m : Marked) → IsQuiet outer (walk (unmarked m)) (search_calls world (λ name. None) deeper outer m)
+  quiet_search none = quiet_just outer []
+  quiet_search (token l rest) = quiet_more outer (at_leaf l ∷ []) (walk (unmarked rest)) _ _ (quiet_just outer (at_leaf l ∷ [])) (quiet_search rest)
+  quiet_search (inside d a rest) =
+      quiet_if outer _ _ _ (ap (λ s. opens d.kind d.open_span ∷ s) (append_assoc (walk (unmarked a)) (closes d.kind d.close_span ∷ []) (walk (unmarked rest))))
+      (quiet_more outer (opens d.kind d.open_span ∷ (walk (unmarked a) ++ (closes d.kind d.close_span ∷ []))) (walk (unmarked rest)) _ _
+      (quiet_group outer d (walk (unmarked a)) _ (quiet_search a)) (quiet_search rest))
+  quiet_search (call path name bang d a rest) =
+      quiet_if outer _ _ _ (call-walk path name bang d (unmarked a) (unmarked rest))
+      (quiet_more outer _ (walk (unmarked rest)) _ _
+      (quiet_call path name _ _ _
+      (quiet_more outer (walk (before_group path name bang)) _ _ _ (quiet_just outer (walk (before_group path name bang))) (quiet_group outer d (walk (unmarked a)) _ (quiet_search a))))
+      (quiet_search rest))
+
+quiet_expansion : {D : Type 0} → (world : World D) (depth : ℕ) (outer : Option Span) (f : Forest) → IsQuiet outer (walk f) (expansion world (λ name. None) depth outer f)
+quiet_expansion world zero outer f = quiet_if outer _ _ _ (ap walk (unmarked-marked f)) (quiet_search world None outer (marked f))
+quiet_expansion world (suc n) outer f = quiet_if outer _ _ _ (ap walk (unmarked-marked f)) (quiet_search world (Some (expansion world (λ name. None) n)) outer (marked f))
+
+-- ---- pieces of which none is a definition
+
+both : (a b : Bool) → (a && b) ≡ true → (a ≡ true) × (b ≡ true)
+both true b e = (refl, e)
+both false b e = cc
+
+is_plain : (d : Option Definition) → is_none d ≡ true → d ≡ None
+is_plain None e = refl
+is_plain (Some d) e = cc
+
+module _ (layers : Layers) (depth : ℕ) where
+  quiet_steps : (ps : List Forest) → AreAllPlain ps → flat_map (output_of layers depth) (members_after layers depth [] ps) ≡ placed None (walk (put_together ps))
+  quiet_steps [] h = refl
+  quiet_steps (p ∷ ps) h =
+      let plain = both (is_none (definition_of p)) _ h in
+      rw (is_plain (definition_of p) plain.0)
+      (ap (λ s. s ++ flat_map (output_of layers depth) (members_after layers depth [] ps)) (quiet_expansion layers.world depth None p).put_out
+      ∙ ap (λ s. placed None (walk p) ++ s) (quiet_steps ps plain.1)
+      ∙ sym (map-append (λ s. record { step = s; outer = None }) (walk p) (walk (put_together ps)))
+      ∙ ap (placed None) (sym (walk-joined p (put_together ps))))
+
+  quiet_faults : (ps : List Forest) → AreAllPlain ps → flat_map (member_faults layers depth) (members_after layers depth [] ps) ≡ []
+  quiet_faults [] h = refl
+  quiet_faults (p ∷ ps) h =
+      let plain = both (is_none (definition_of p)) _ h in
+      rw (is_plain (definition_of p) plain.0)
+      (ap (λ fs. map (λ f. fault_at f.0 f.1) fs ++ flat_map (member_faults layers depth) (members_after layers depth [] ps)) (quiet_expansion layers.world depth None p).untold
+      ∙ quiet_faults ps plain.1)
+
+  pub plain_output : (f : Forest) → AreAllPlain (cut f) → flat_map (output_of layers depth) (members_after layers depth [] (cut f)) ≡ placed None (walk f)
+  plain_output f h = quiet_steps (cut f) h ∙ ap (λ g. placed None (walk g)) (put_together-cut f)
+
+  pub plain_faults : (f : Forest) → AreAllPlain (cut f) → flat_map (member_faults layers depth) (members_after layers depth [] (cut f)) ≡ []
+  plain_faults f h = quiet_faults (cut f) h
