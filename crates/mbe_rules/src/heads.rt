@@ -9,7 +9,7 @@ ghost use Rattle.mbe_rules.specs.Items.{word, done, item};
 ghost use Rattle.mbe_rules.specs.Ops.{put_op};
 ghost use Rattle.mbe_rules.specs.Text.{is_truth, is_nil};
 ghost use Rattle.mbe_rules.specs.Patterns.{dollar_head, punct_head, head_at, in_pattern, glued, crate_at};
-ghost use Rattle.mbe_rules.specs.Reading.{edition_in, mode_of, op_read, head_read, variable_read, expression_read};
+ghost use Rattle.mbe_rules.specs.Reading.{edition_in, mode_of, op_read, head_read, typing, variable_read, expression_read};
 ghost use Rattle.mbe_rules.specs.declared.errors.ParseError.TheVariants as error;
 
 use crate::editions::Editions;
@@ -62,6 +62,20 @@ pub(crate) fn expected(alloc: Global, text: &str) -> Result<ParseError, AllocErr
     Ok(ParseError::Expected(symbol(alloc, text)?))
 }
 
+// The word behind a colon at the head of a list, and the trees after it: none where no such word stands there.
+fn typing<'a>(trees: &TtIter<'a>) -> Option<(Ident, TtIter<'a>)>
+    ensures { result ≡ typing trees.now }
+{
+    let mut rest = again(trees);
+    let Ok(()) = rest.expect_char(':') else {
+        return None;
+    };
+    match rest.expect_ident() {
+        Ok(word) => Some((word, rest)),
+        Err(()) => None,
+    }
+}
+
 // A variable of a pattern: after its name a colon and a word for what it takes have to stand.
 fn typed_variable<'a>(
     alloc: Global,
@@ -72,23 +86,10 @@ fn typed_variable<'a>(
 ) -> Result<Parsed<Read<'a>>, AllocError>
     ensures { IfOk result (λ r. op_read r ≡ variable_read (edition_in editions) in_pattern id name trees.now) }
 {
-    let mut rest = again(trees);
-    let Some(TtElement::Leaf(Leaf::Punct(colon))) = rest.next() else {
+    let Some((word, rest)) = typing(trees) else {
         let e = unexpected(alloc, "missing fragment specifier")?;
         return Ok(Err(e));
     };
-    let Some(TtElement::Leaf(Leaf::Ident(word))) = rest.next() else {
-        let e = unexpected(alloc, "missing fragment specifier")?;
-        return Ok(Err(e));
-    };
-    if colon.char != ':' {
-        let e = unexpected(alloc, "missing fragment specifier")?;
-        return Ok(Err(e));
-    }
-    if word.sym.as_str() == "_" {
-        let e = unexpected(alloc, "missing fragment specifier")?;
-        return Ok(Err(e));
-    }
     let kind = kind_of(&word, editions);
     Ok(Ok((Op::Var { name, kind, id }, rest)))
 }
