@@ -106,10 +106,7 @@ fn variable<'a>(
     ensures { IfOk result (λ r. op_read r ≡ variable_read (edition_in editions) (mode_of mode) id name trees.now) }
 {
     match mode {
-        Mode::Pattern => {
-            let read = typed_variable(alloc, editions, id, name, trees)?;
-            Ok(read)
-        }
+        Mode::Pattern => typed_variable(alloc, editions, id, name, trees),
         Mode::Template => {
             let kind = None;
             Ok(Ok((Op::Var { name, kind, id }, again(trees))))
@@ -142,8 +139,7 @@ fn dollar_name<'a>(
         let op = crate_at(alloc, sign.span)?;
         return Ok(Ok((op, rest)));
     }
-    let read = variable(alloc, editions, mode, sign.span, name.sym, &rest)?;
-    Ok(read)
+    variable(alloc, editions, mode, sign.span, name.sym, &rest)
 }
 
 // Whether a literal can be a name.
@@ -177,8 +173,7 @@ fn dollar_literal<'a>(
         return Ok(Err(e));
     }
     let name = symbol(alloc, literal.text())?;
-    let read = variable(alloc, editions, mode, sign.span, name, &rest)?;
-    Ok(read)
+    variable(alloc, editions, mode, sign.span, name, &rest)
 }
 
 // What a `$` before a punct begins: in a template the second of two stays.
@@ -250,10 +245,7 @@ fn dollar_group<'a>(
                 let e = unexpected(alloc, text)?;
                 Ok(Err(e))
             }
-            Mode::Template => {
-                let read = braces(alloc, sign, inner, rest)?;
-                Ok(read)
-            }
+            Mode::Template => braces(alloc, sign, inner, rest),
         },
         _ => {
             let e = expected(alloc, "expected `$()` repetition or `${}` expression")?;
@@ -279,22 +271,21 @@ fn dollar<'a>(
             puncts.push(sign)?;
             Ok(Ok((Op::Punct(puncts), rest)))
         }
-        Some(TtElement::Leaf(Leaf::Ident(name))) => {
-            let read = dollar_name(alloc, editions, mode, sign, name, rest)?;
-            Ok(read)
-        }
-        Some(TtElement::Leaf(Leaf::Literal(literal))) => {
-            let read = dollar_literal(alloc, editions, mode, sign, &literal, rest)?;
-            Ok(read)
-        }
-        Some(TtElement::Leaf(Leaf::Punct(second))) => {
-            let read = dollar_punct(alloc, mode, sign, second, rest)?;
-            Ok(read)
-        }
-        Some(TtElement::Subtree(subtree, inner)) => {
-            let read = dollar_group(alloc, mode, sign, subtree.delimiter, inner, rest)?;
-            Ok(read)
-        }
+        Some(TtElement::Leaf(Leaf::Ident(name))) => dollar_name(
+            alloc, editions, mode, sign, name, rest,
+        ),
+        Some(TtElement::Leaf(Leaf::Literal(literal))) => dollar_literal(
+            alloc, editions, mode, sign, &literal, rest,
+        ),
+        Some(TtElement::Leaf(Leaf::Punct(second))) => dollar_punct(alloc, mode, sign, second, rest),
+        Some(TtElement::Subtree(subtree, inner)) => dollar_group(
+            alloc,
+            mode,
+            sign,
+            subtree.delimiter,
+            inner,
+            rest,
+        ),
     }
 }
 
@@ -344,8 +335,7 @@ fn punct<'a>(
     match mode {
         Mode::Pattern => {
             if sign.char == '\'' {
-                let read = named_quote(alloc, sign, trees)?;
-                return Ok(read);
+                return named_quote(alloc, sign, trees);
             }
             let read = glued(alloc, sign, trees)?;
             Ok(Ok(read))
@@ -368,9 +358,7 @@ pub(crate) fn head<'a>(
     ensures { IfOk result (λ r. op_read r ≡ head_read sign trees.now (head_at (edition_in editions) (mode_of mode) sign trees.now)) }
 {
     if sign.char == '$' {
-        let read = dollar(alloc, editions, mode, sign, trees)?;
-        return Ok(read);
+        return dollar(alloc, editions, mode, sign, trees);
     }
-    let read = punct(alloc, mode, sign, trees)?;
-    Ok(read)
+    punct(alloc, mode, sign, trees)
 }

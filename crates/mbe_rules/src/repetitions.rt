@@ -111,10 +111,7 @@ fn after_one<'a>(
                 puncts.push(first)?;
                 Ok(Some((Some(Separator::Puncts(puncts)), operator, rest)))
             }
-            None => {
-                let read = after_two(alloc, first, second, &rest)?;
-                Ok(read)
-            }
+            None => after_two(alloc, first, second, &rest),
         },
         _ => Ok(None),
     }
@@ -141,10 +138,7 @@ pub(crate) fn repeat<'a>(
         },
         Some(TtElement::Leaf(Leaf::Punct(punct))) => match operator_of(punct.char) {
             Some(operator) => Ok(Some((None, operator, rest))),
-            None => {
-                let read = after_one(alloc, punct, &rest)?;
-                Ok(read)
-            }
+            None => after_one(alloc, punct, &rest),
         },
         _ => Ok(None),
     }
