@@ -4,6 +4,7 @@ use Rattle.std.specs.declared.vec.Vec.{Vec}
 use Rattle.std.specs.declared.alloc.Global.{Global}
 use Rattle.tt_data.specs.Forest.{Forest, empty, leaf, group}
 use Rattle.tt_data.specs.declared.edition.Edition.{Edition}
+use Rattle.tt_data.specs.declared.leaf.Ident.{Ident}
 use Rattle.tt_data.specs.declared.leaf.Leaf.TheVariants as as_leaf
 use Rattle.tt_data.specs.declared.leaf.Punct.{Punct}
 use Rattle.tt_data.specs.declared.span.Span.{Span}
@@ -80,6 +81,11 @@ ops_read (Err e) = Err e
 -- the item that a punct begins, where the form of what it begins is known
 abbrev pub head_read : Punct → Forest → Parsed Head → Parsed Read
 head_read p f h = h >>= λ x. Ok (item (item_of x p f) done, past (trees_of x) f)
+
+-- the word behind a colon, and the trees after it
+abbrev pub typing : Forest → Option (Ident × Forest)
+typing (leaf (as_leaf.Punct c) (leaf (as_leaf.Ident k) rest)) = if is_char ":" c && not (is_word "_" k) then Some (k, rest) else None
+typing _ = None
 
 -- a variable of this name and place, by the trees after the name
 abbrev pub variable_read : (SyntaxContext → Edition) → Mode → Span → List ℕ → Forest → Parsed Read

@@ -12,9 +12,7 @@ fn copy_puncts(alloc: Global, puncts: &[Punct]) -> Result<Vec<Punct>, AllocError
     ensures { IfOk result (λ v. v.items ≡ puncts.now) }
 {
     let mut copies = Vec::new(alloc);
-    for punct in puncts {
-        copies.push(*punct)?;
-    }
+    copies.extend_from_slice(puncts)?;
     Ok(copies)
 }
 

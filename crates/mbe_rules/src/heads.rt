@@ -9,7 +9,7 @@ ghost use Rattle.mbe_rules.specs.Items.{word, done, item};
 ghost use Rattle.mbe_rules.specs.Ops.{put_op};
 ghost use Rattle.mbe_rules.specs.Text.{is_truth, is_nil};
 ghost use Rattle.mbe_rules.specs.Patterns.{dollar_head, punct_head, head_at, in_pattern, glued, crate_at};
-ghost use Rattle.mbe_rules.specs.Reading.{edition_in, mode_of, op_read, head_read, variable_read, expression_read};
+ghost use Rattle.mbe_rules.specs.Reading.{edition_in, mode_of, op_read, head_read, typing, variable_read, expression_read};
 ghost use Rattle.mbe_rules.specs.declared.errors.ParseError.TheVariants as error;
 
 use crate::editions::Editions;
@@ -62,6 +62,20 @@ pub(crate) fn expected(alloc: Global, text: &str) -> Result<ParseError, AllocErr
     Ok(ParseError::Expected(symbol(alloc, text)?))
 }
 
+// The word behind a colon at the head of a list, and the trees after it: none where no such word stands there.
+fn typing<'a>(trees: &TtIter<'a>) -> Option<(Ident, TtIter<'a>)>
+    ensures { result ≡ typing trees.now }
+{
+    let mut rest = again(trees);
+    let Ok(()) = rest.expect_char(':') else {
+        return None;
+    };
+    match rest.expect_ident() {
+        Ok(word) => Some((word, rest)),
+        Err(()) => None,
+    }
+}
+
 // A variable of a pattern: after its name a colon and a word for what it takes have to stand.
 fn typed_variable<'a>(
     alloc: Global,
@@ -72,23 +86,10 @@ fn typed_variable<'a>(
 ) -> Result<Parsed<Read<'a>>, AllocError>
     ensures { IfOk result (λ r. op_read r ≡ variable_read (edition_in editions) in_pattern id name trees.now) }
 {
-    let mut rest = again(trees);
-    let Some(TtElement::Leaf(Leaf::Punct(colon))) = rest.next() else {
+    let Some((word, rest)) = typing(trees) else {
         let e = unexpected(alloc, "missing fragment specifier")?;
         return Ok(Err(e));
     };
-    let Some(TtElement::Leaf(Leaf::Ident(word))) = rest.next() else {
-        let e = unexpected(alloc, "missing fragment specifier")?;
-        return Ok(Err(e));
-    };
-    if colon.char != ':' {
-        let e = unexpected(alloc, "missing fragment specifier")?;
-        return Ok(Err(e));
-    }
-    if word.sym.as_str() == "_" {
-        let e = unexpected(alloc, "missing fragment specifier")?;
-        return Ok(Err(e));
-    }
     let kind = kind_of(&word, editions);
     Ok(Ok((Op::Var { name, kind, id }, rest)))
 }
@@ -105,10 +106,7 @@ fn variable<'a>(
     ensures { IfOk result (λ r. op_read r ≡ variable_read (edition_in editions) (mode_of mode) id name trees.now) }
 {
     match mode {
-        Mode::Pattern => {
-            let read = typed_variable(alloc, editions, id, name, trees)?;
-            Ok(read)
-        }
+        Mode::Pattern => typed_variable(alloc, editions, id, name, trees),
         Mode::Template => {
             let kind = None;
             Ok(Ok((Op::Var { name, kind, id }, again(trees))))
@@ -141,8 +139,7 @@ fn dollar_name<'a>(
         let op = crate_at(alloc, sign.span)?;
         return Ok(Ok((op, rest)));
     }
-    let read = variable(alloc, editions, mode, sign.span, name.sym, &rest)?;
-    Ok(read)
+    variable(alloc, editions, mode, sign.span, name.sym, &rest)
 }
 
 // Whether a literal can be a name.
@@ -176,8 +173,7 @@ fn dollar_literal<'a>(
         return Ok(Err(e));
     }
     let name = symbol(alloc, literal.text())?;
-    let read = variable(alloc, editions, mode, sign.span, name, &rest)?;
-    Ok(read)
+    variable(alloc, editions, mode, sign.span, name, &rest)
 }
 
 // What a `$` before a punct begins: in a template the second of two stays.
@@ -249,10 +245,7 @@ fn dollar_group<'a>(
                 let e = unexpected(alloc, text)?;
                 Ok(Err(e))
             }
-            Mode::Template => {
-                let read = braces(alloc, sign, inner, rest)?;
-                Ok(read)
-            }
+            Mode::Template => braces(alloc, sign, inner, rest),
         },
         _ => {
             let e = expected(alloc, "expected `$()` repetition or `${}` expression")?;
@@ -278,22 +271,21 @@ fn dollar<'a>(
             puncts.push(sign)?;
             Ok(Ok((Op::Punct(puncts), rest)))
         }
-        Some(TtElement::Leaf(Leaf::Ident(name))) => {
-            let read = dollar_name(alloc, editions, mode, sign, name, rest)?;
-            Ok(read)
-        }
-        Some(TtElement::Leaf(Leaf::Literal(literal))) => {
-            let read = dollar_literal(alloc, editions, mode, sign, &literal, rest)?;
-            Ok(read)
-        }
-        Some(TtElement::Leaf(Leaf::Punct(second))) => {
-            let read = dollar_punct(alloc, mode, sign, second, rest)?;
-            Ok(read)
-        }
-        Some(TtElement::Subtree(subtree, inner)) => {
-            let read = dollar_group(alloc, mode, sign, subtree.delimiter, inner, rest)?;
-            Ok(read)
-        }
+        Some(TtElement::Leaf(Leaf::Ident(name))) => dollar_name(
+            alloc, editions, mode, sign, name, rest,
+        ),
+        Some(TtElement::Leaf(Leaf::Literal(literal))) => dollar_literal(
+            alloc, editions, mode, sign, &literal, rest,
+        ),
+        Some(TtElement::Leaf(Leaf::Punct(second))) => dollar_punct(alloc, mode, sign, second, rest),
+        Some(TtElement::Subtree(subtree, inner)) => dollar_group(
+            alloc,
+            mode,
+            sign,
+            subtree.delimiter,
+            inner,
+            rest,
+        ),
     }
 }
 
@@ -343,8 +335,7 @@ fn punct<'a>(
     match mode {
         Mode::Pattern => {
             if sign.char == '\'' {
-                let read = named_quote(alloc, sign, trees)?;
-                return Ok(read);
+                return named_quote(alloc, sign, trees);
             }
             let read = glued(alloc, sign, trees)?;
             Ok(Ok(read))
@@ -367,9 +358,7 @@ pub(crate) fn head<'a>(
     ensures { IfOk result (λ r. op_read r ≡ head_read sign trees.now (head_at (edition_in editions) (mode_of mode) sign trees.now)) }
 {
     if sign.char == '$' {
-        let read = dollar(alloc, editions, mode, sign, trees)?;
-        return Ok(read);
+        return dollar(alloc, editions, mode, sign, trees);
     }
-    let read = punct(alloc, mode, sign, trees)?;
-    Ok(read)
+    punct(alloc, mode, sign, trees)
 }

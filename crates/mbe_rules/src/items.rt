@@ -141,10 +141,7 @@ fn at_head<'a>(
         Some(TtElement::Leaf(Leaf::Literal(literal))) => {
             Ok(Ok(Found::Item(Op::Literal(literal), rest)))
         }
-        Some(TtElement::Leaf(Leaf::Punct(sign))) => {
-            let read = at_punct(alloc, editions, mode, sign, &rest)?;
-            Ok(read)
-        }
+        Some(TtElement::Leaf(Leaf::Punct(sign))) => at_punct(alloc, editions, mode, sign, &rest),
         Some(TtElement::Subtree(subtree, inner)) => Ok(Ok(Found::List(
             Enclosing::Group(subtree.delimiter),
             inner,

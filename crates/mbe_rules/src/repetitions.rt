@@ -1,9 +1,11 @@
 //! What stands after `$(..)`: a separator and an operator.
-ghost use Rattle.std.specs.Prelude.{◌≡◌, IfOk};
+ghost use Rattle.std.specs.Prelude.{◌≡◌, Some, IfOk, option_map};
+ghost use Rattle.mbe_rules.specs.Ops.{separator_of};
 ghost use Rattle.mbe_rules.specs.Repetitions.{operator_of, after_one, after_two, between_and_operator};
 ghost use Rattle.mbe_rules.specs.Trees.{signs};
 ghost use Rattle.mbe_rules.specs.Reading.{taken_from, repeat_of, operator_next};
-ghost use Rattle.tt_data.specs.Forest.{leaf};
+ghost use Rattle.mbe_rules.specs.declared.parser.RepeatKind.{RepeatKind};
+ghost use Rattle.tt_data.specs.Forest.{Forest, leaf};
 ghost use Rattle.tt_data.specs.declared.leaf.Leaf.TheVariants as as_leaf;
 
 use crate::parser::{RepeatKind, Separator};
@@ -50,6 +52,14 @@ fn operator_next<'a>(trees: &TtIter<'a>) -> Option<(RepeatKind, TtIter<'a>)>
     }
 }
 
+// A separator and the operator at the head of a list behind it.
+fn followed<'a>(separator: Separator, trees: &TtIter<'a>) -> Option<Repeat<'a>>
+    ensures { repeat_of result ≡ option_map (λ (x : RepeatKind × Forest). (Some (separator_of separator), x.0, x.1)) (operator_next trees.now) }
+{
+    let (operator, after) = operator_next(trees)?;
+    Some((Some(separator), operator, after))
+}
+
 // After two puncts.
 fn after_two<'a>(
     alloc: Global,
@@ -71,12 +81,7 @@ fn after_two<'a>(
         Some(operator) => Ok(Some((Some(Separator::Puncts(puncts)), operator, rest))),
         None => {
             puncts.push(third)?;
-            match operator_next(&rest) {
-                Some((operator, after)) => {
-                    Ok(Some((Some(Separator::Puncts(puncts)), operator, after)))
-                }
-                None => Ok(None),
-            }
+            Ok(followed(Separator::Puncts(puncts), &rest))
         }
     }
 }
@@ -95,12 +100,7 @@ fn after_one<'a>(
             if first.char != '\'' {
                 return Ok(None);
             }
-            match operator_next(&rest) {
-                Some((operator, after)) => {
-                    Ok(Some((Some(Separator::Lifetime(first, name)), operator, after)))
-                }
-                None => Ok(None),
-            }
+            Ok(followed(Separator::Lifetime(first, name), &rest))
         }
         Some(TtElement::Leaf(Leaf::Punct(second))) => match operator_of(second.char) {
             Some(operator) => {
@@ -111,10 +111,7 @@ fn after_one<'a>(
                 puncts.push(first)?;
                 Ok(Some((Some(Separator::Puncts(puncts)), operator, rest)))
             }
-            None => {
-                let read = after_two(alloc, first, second, &rest)?;
-                Ok(read)
-            }
+            None => after_two(alloc, first, second, &rest),
         },
         _ => Ok(None),
     }
@@ -129,22 +126,13 @@ pub(crate) fn repeat<'a>(
 {
     let mut rest = again(trees);
     match rest.next() {
-        Some(TtElement::Leaf(Leaf::Literal(literal))) => match operator_next(&rest) {
-            Some((operator, after)) => {
-                Ok(Some((Some(Separator::Literal(literal)), operator, after)))
-            }
-            None => Ok(None),
-        },
-        Some(TtElement::Leaf(Leaf::Ident(ident))) => match operator_next(&rest) {
-            Some((operator, after)) => Ok(Some((Some(Separator::Ident(ident)), operator, after))),
-            None => Ok(None),
-        },
+        Some(TtElement::Leaf(Leaf::Literal(literal))) => {
+            Ok(followed(Separator::Literal(literal), &rest))
+        }
+        Some(TtElement::Leaf(Leaf::Ident(ident))) => Ok(followed(Separator::Ident(ident), &rest)),
         Some(TtElement::Leaf(Leaf::Punct(punct))) => match operator_of(punct.char) {
             Some(operator) => Ok(Some((None, operator, rest))),
-            None => {
-                let read = after_one(alloc, punct, &rest)?;
-                Ok(read)
-            }
+            None => after_one(alloc, punct, &rest),
         },
         _ => Ok(None),
     }

@@ -1,5 +1,5 @@
 -- Equality by `==` is that of values, and a clone is the value that it was made of.
-use Rattle.std.proofs.Common.{rules, ◌≡◌, ◌↔◌, ◌∙◌, Bool, true, false, refl, ap, List, [], ◌∷◌, drop, Option}
+use Rattle.std.proofs.Common.{rules, ◌≡◌, ◌↔◌, ◌∙◌, ℕ, Bool, true, false, refl, ap, List, [], ◌∷◌, drop, Option}
 use Rattle.std.specs.Bool.{⊤}
 use denote.Enum.Bare.{Bare}
 use denote.Enum.Compared.{Each, by}
@@ -15,6 +15,12 @@ use Rattle.rustc_lexer.specs.contracts.token.GuardedStrPartialEq.TheImpl as of_g
 use Rattle.rustc_lexer.specs.contracts.token.LiteralKindPartialEq.TheImpl as of_literal
 use Rattle.rustc_lexer.specs.contracts.token.TokenKindPartialEq.TheImpl as of_kind
 use Rattle.rustc_lexer.specs.contracts.token.TokenPartialEq.TheImpl as of_token
+use Rattle.rustc_lexer.specs.contracts.token.LiteralKindEq.TheImpl.Laws as literal_laws
+use Rattle.rustc_lexer.specs.contracts.token.BasePartialEq.TheImpl as of_base
+use Rattle.rustc_lexer.specs.contracts.token.LiteralKind as the_literal
+use Rattle.rustc_lexer.specs.declared.token.Base.{Base}
+use Rattle.rustc_lexer.specs.declared.token.LiteralKind.{LiteralKind}
+use Rattle.rustc_lexer.specs.declared.token.LiteralKind.TheVariants as literal
 use Rattle.rustc_lexer.specs.declared.token.TokenKind.{TokenKind}
 use Rattle.rustc_lexer.specs.declared.token.TokenKind.TheVariants as kind
 use Rattle.rustc_lexer.specs.declared.token.DocStyle.{DocStyle}
@@ -32,9 +38,6 @@ kept a b = search rules
 
 pub guarded : IsEquality of_guarded.ghosts.eq
 guarded a b = search rules
-
-pub literals : IsEquality of_literal.ghosts.eq
-literals a b = search rules
 
 -- ---- an enum: where each variant's test is true of the same fields alone, the whole test is
 
@@ -54,6 +57,55 @@ points_same : (Fss : List (List Field)) → Bare Fss → Sames Fss (points true 
 points_same [] bare = tt
 points_same ([] ∷ Fss) bare = (λ x y e. refl, points_same Fss bare)
 points_same ((F ∷ Fs) ∷ Fss) bare = absurd bare
+
+-- ---- kinds of literals
+
+bases : (a b : Base) → of_base.ghosts.eq a b ≡ true → a ≡ b
+bases a b e = search rules
+
+ends : (a b : Bool) → of_literal.ghosts.eq (literal.Char a) (literal.Char b) ≡ true → a ≡ b
+ends a b e = search rules
+
+hashes : (a b : Option ℕ) → of_literal.ghosts.eq (literal.RawStr a) (literal.RawStr b) ≡ true → a ≡ b
+hashes a b e = search rules
+
+literal_same : (a b : LiteralKind) → of_literal.ghosts.eq a b ≡ true → a ≡ b
+literal_same a b h =
+    values_one the_literal.enum a b (same_choice the_literal.enum.parts _ (
+      λ x y e. ap (λ v. (v, x.1)) (bases x.0 y.0 (first_so _ _ e)) ∙ ap (λ v. (y.0, (v, tt))) (ends x.1.0 y.1.0 (second_so _ _ e)),
+      (
+        λ x y e. ap (λ v. (v, x.1)) (bases x.0 y.0 (first_so _ _ e)) ∙ ap (λ v. (y.0, (v, tt))) (ends x.1.0 y.1.0 (second_so _ _ e)),
+        (
+          λ x y e. ap (λ v. (v, tt)) (ends x.0 y.0 e),
+          (
+            λ x y e. ap (λ v. (v, tt)) (ends x.0 y.0 e),
+            (
+              λ x y e. ap (λ v. (v, tt)) (ends x.0 y.0 e),
+              (
+                λ x y e. ap (λ v. (v, tt)) (ends x.0 y.0 e),
+                (
+                  λ x y e. ap (λ v. (v, tt)) (ends x.0 y.0 e),
+                  (
+                    λ x y e. ap (λ v. (v, tt)) (hashes x.0 y.0 e),
+                    (
+                      λ x y e. ap (λ v. (v, tt)) (hashes x.0 y.0 e),
+                      (
+                        λ x y e. ap (λ v. (v, tt)) (hashes x.0 y.0 e),
+                        tt,
+                      ),
+                    ),
+                  ),
+                ),
+              ),
+            ),
+          ),
+        ),
+      ),
+    )
+    (the_literal.enum.as_values a) (the_literal.enum.as_values b) h)
+
+pub literals : IsEquality of_literal.ghosts.eq
+literals a b = (literal_same a b, λ e. rw (← e) (literal_laws.laws-law.refl a))
 
 -- ---- kinds of tokens
 

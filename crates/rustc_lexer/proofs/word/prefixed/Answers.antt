@@ -1,7 +1,7 @@
-use Rattle.std.proofs.Common.{rules, ◌≡◌, sym, subst, chars}
+use Rattle.std.proofs.Common.{rules, ◌≡◌, ◌==◌, false, sym, subst, chars}
 use Rattle.rustc_lexer.specs.Character.{char_at}
 use Rattle.rustc_lexer.specs.Stretch.{IsRead}
-use Rattle.rustc_lexer.proofs.WordLemmas.{begins_r, begins_b, begins_c, begins_k}
+use Rattle.rustc_lexer.proofs.WordLemmas.{begins_r, begins_b, begins_c, begins_k, begins_other}
 use Rattle.rustc_lexer.proofs.word.prefixed.Goals as goal
 
 pub returns-in-r : goal.returns-in-r
@@ -27,3 +27,12 @@ returns-in-k c =
     let cs = chars c.args.text.now in
     let first : char_at cs 0 ≡ 0x6b = search rules in
     subst (λ w. IsRead w c.args.text.now c.k_word.result.0 c.k_word.result.1.now) (sym (begins_k cs first)) c.k_word.ensures
+
+pub returns-in_default : goal.returns-in_default
+returns-in_default c =
+    let cs = chars c.args.text.now in
+    let r : (char_at cs 0 == 0x72) ≡ false = search rules in
+    let b : (char_at cs 0 == 0x62) ≡ false = search rules in
+    let c_too : (char_at cs 0 == 0x63) ≡ false = search rules in
+    let k : (char_at cs 0 == 0x6b) ≡ false = search rules in
+    subst (λ w. IsRead w c.args.text.now c.plain_word.result.0 c.plain_word.result.1.now) (sym (begins_other cs r b c_too k)) c.plain_word.ensures
