@@ -1,20 +1,14 @@
 -- How the code goes over the steps that it prints.
 use Rattle.std.specs.Prelude.{◌≡◌, Bool, false, List, [], ◌∷◌, ◌++◌, Option, Some, None, reverse}
-use Rattle.tt_data.specs.Walk.{Step, at_leaf, opens, closes, walk}
+use Rattle.tt_data.specs.Walk.{Step, closes, walk}
 use Rattle.tt_data.specs.declared.leaf.IdentIsRaw.TheVariants.{No}
 use Rattle.tt_data.specs.declared.leaf.Leaf.{Leaf}
 use Rattle.tt_data.specs.declared.leaf.Leaf.TheVariants as as_leaf
 use Rattle.bridge.specs.Spelling.{same_rawness}
 use Rattle.bridge.specs.declared.steps.Outer.{Outer}
 use Rattle.bridge.specs.declared.steps.Walk.{Walk}
-use Rattle.bridge.specs.declared.steps.WalkStep.{WalkStep}
-use Rattle.bridge.specs.declared.steps.WalkStep.TheVariants as own
-
--- the step that the code holds
-abbrev pub step_of : WalkStep → Step
-step_of (own.Leaf l) = at_leaf l
-step_of (own.Opens kind span) = opens kind span
-step_of (own.Closes kind span) = closes kind span
+use Rattle.bridge.specs.declared.walk_step.WalkStep.{WalkStep}
+use Rattle.bridge.specs.WalkSteps.{step_of}
 
 -- the leaf is a name that isn't raw
 abbrev pub is_name_leaf : Leaf → Bool

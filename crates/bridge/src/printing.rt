@@ -1,12 +1,13 @@
 //! Printing: trees as text that reads back.
-ghost use Rattle.std.specs.Prelude.{◌≡◌, ◌++◌, [], List, OnOk, OnErr, IfOk, IfErr, IsOkUnless};
+ghost use Rattle.std.specs.Prelude.{◌≡◌, ◌++◌, ◌∷◌, [], List, OnOk, OnErr, IfOk, IfErr, IsOkUnless};
 ghost use Rattle.bridge.specs.Printing.{print_of};
 ghost use Rattle.tt_data.specs.Walk.{Step, walk};
 ghost use Rattle.tt.specs.Views.{forest};
 ghost use Rattle.tt_data.specs.fault.TtFault.TheVariants.{Memory};
 
-use crate::output::{Output, end, nothing, restore, save};
+use crate::output::{Output, end, nothing, put_step, restore, save};
 use crate::trees_put::put_trees;
+use crate::walk_step::WalkStep;
 use std::alloc::Global;
 use std::marker::Model;
 use tt::view::TokenTreesView;
@@ -47,6 +48,7 @@ impl Model for Printer {
 impl Printer {
     ghost use Rattle.bridge.specs.Printers.{HasPut};
     ghost use Rattle.bridge.specs.PrintedTrees.{print_in};
+    ghost use Rattle.bridge.specs.WalkSteps.{step_of};
 
     /// A printer to which nothing was put.
     pub fn new(alloc: Global) -> Printer
@@ -66,6 +68,23 @@ impl Printer {
         let alloc = *self.out.tokens.allocator();
         let before = save(&self.out);
         match put_trees(alloc, &mut self.out, view) {
+            Ok(()) => Ok(()),
+            Err(fault) => {
+                restore(&mut self.out, before);
+                Err(fault)
+            }
+        }
+    }
+
+    /// Prints one step of a walk behind what was put before, as `put` prints a whole one.
+    pub fn put_step(&mut self, step: &WalkStep) -> Result<(), TtFault>
+        ensures ok { OnOk result ((steps : List Step) → HasPut self.old steps → HasPut self.new (steps ++ step_of step.now ∷ [])) }
+        ensures err { OnErr result (self.new ≡ self.old) }
+        ensures memory { IsOkUnless result Memory }
+    {
+        let alloc = *self.out.tokens.allocator();
+        let before = save(&self.out);
+        match put_step(alloc, &mut self.out, step) {
             Ok(()) => Ok(()),
             Err(fault) => {
                 restore(&mut self.out, before);

@@ -6,22 +6,14 @@ ghost use Rattle.tt_data.specs.Walk.{closes, walk};
 ghost use Rattle.tt_data.specs.Forest.{empty};
 ghost use Rattle.tt_data.specs.fault.TtFault.TheVariants.{Memory};
 
+use crate::walk_step::WalkStep;
 use std::alloc::Global;
 use std::mem::replace;
 use tt::iter::{TtElement, TtIter};
 use tt::view::TokenTreesView;
 use tt_data::delimiter::{Delimiter, DelimiterKind};
 use tt_data::fault::TtFault;
-use tt_data::leaf::Leaf;
 use tt_data::span::Span;
-
-/// A step of a walk: a leaf, an opening or a closing.
-#[derive(Drop)]
-pub(crate) enum WalkStep {
-    Leaf(Leaf),
-    Opens(DelimiterKind, Span),
-    Closes(DelimiterKind, Span),
-}
 
 /// An open group: its closing bracket, and the trees behind it.
 #[derive(Drop)]

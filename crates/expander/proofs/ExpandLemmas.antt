@@ -10,16 +10,18 @@ use Rattle.expander.specs.declared.definitions.Definition.{Definition}
 use Rattle.expander.specs.declared.expansion.Output.{Output}
 use Rattle.expander.specs.declared.faults.FaultKind.{FaultKind}
 use Rattle.expander.specs.declared.faults.FaultKind.TheVariants.{CannotExpand, BrokenDefinition, RecursionLimit}
-use Rattle.expander.specs.declared.walk.Step as kept
+use Rattle.bridge.specs.declared.walk_step.WalkStep.{WalkStep}
 use Rattle.expander.specs.declared.walk.Walk.{Walk}
 use Rattle.expander.specs.CallSteps.{call_at, call_behind_colons}
 use Rattle.expander.specs.Expansion.{Outcome, CallSite, placed, just, followed_by, bursting, found, stays, unbroken, fitted, expansion}
 use Rattle.expander.specs.Faults.{fault_at}
 use Rattle.expander.specs.Layered.{world}
-use Rattle.expander.specs.OutputSteps.{step_of, steps_of_output}
+use Rattle.bridge.specs.WalkSteps.{step_of}
+use Rattle.expander.specs.OutputSteps.{PutsOut}
 use Rattle.expander.specs.WalkSteps.{groups_of, GoesOn}
 use Rattle.expander.specs.Turns.{deeper_at, searched, answer_at, answer, makes_too_many, told, Adds, Turn}
 use Rattle.expander.proofs.OutcomeLemmas.{or_first, or_later, followed_assoc, followed_nil, left, passed_left, step_left, nothing_left, steps_in, work_of}
+use Rattle.expander.proofs.PrintingLemmas.{puts_none, puts_more}
 use Rattle.expander.proofs.TurnLemmas.{call_smaller, colons_smaller, rest_smaller, is_search, unknown_search, colons_search, known_search, leaf_search}
 
 pub expansion_is : (scope : List ℕ → Option Definition) (depth : ℕ) (outer : Option Span) (f : Forest) → expansion world scope depth outer f ≡ searched scope depth outer f
@@ -88,14 +90,14 @@ told-append xs ys = map-append (λ f. fault_at f.0 f.1) xs ys
 -- one outcome after another
 pub adds_more : (old mid new : Output) (a b : Outcome Definition) → Adds old mid a → Adds mid new b → Adds old new (followed_by a b)
 adds_more old mid new a b first later = record {
-  steps = later.steps ∙ ap (λ s. s ++ b.steps) first.steps ∙ append_assoc (steps_of_output old.steps.items) a.steps b.steps;
+  steps = puts_more old.steps mid.steps new.steps a.steps b.steps first.steps later.steps;
   faults = later.faults ∙ ap (λ fs. fs ++ told b.faults) first.faults ∙ append_assoc old.faults.items (told a.faults) (told b.faults)
       ∙ ap (λ fs. old.faults.items ++ fs) (sym (told-append a.faults b.faults));
   plain = later.plain ∙ first.plain;
 }
 
 -- steps alone
-pub adds_just : (old new : Output) (o : Outcome Definition) → o.faults ≡ [] → steps_of_output new.steps.items ≡ steps_of_output old.steps.items ++ o.steps
+pub adds_just : (old new : Output) (o : Outcome Definition) → o.faults ≡ [] → PutsOut old.steps new.steps o.steps
     → new.faults.items ≡ old.faults.items → new.plain ≡ old.plain → Adds old new o
 adds_just old new o none_told steps faults plain = record {
   steps = steps;
@@ -104,11 +106,11 @@ adds_just old new o none_told steps faults plain = record {
 }
 
 -- a fault is told, and then the call is kept
-pub adds_stays : (old mid new : Output) (kind : FaultKind) (outer : Option Span) (site : CallSite) → mid.steps.items ≡ old.steps.items
+pub adds_stays : (old mid new : Output) (kind : FaultKind) (outer : Option Span) (site : CallSite) → mid.steps ≡ old.steps
     → mid.faults.items ≡ old.faults.items ++ fault_at kind (unwrap_or outer site.at) ∷ [] → mid.plain ≡ old.plain
     → Adds mid new (just outer (walk site.whole)) → Adds old new (stays kind outer site)
 adds_stays old mid new kind outer site steps faults plain adds = record {
-  steps = adds.steps ∙ ap (λ s. steps_of_output s ++ placed outer (walk site.whole)) steps;
+  steps = subst (λ s. PutsOut s new.steps (placed outer (walk site.whole))) steps adds.steps;
   faults = adds.faults ∙ append-nil mid.faults.items ∙ faults;
   plain = adds.plain ∙ plain;
 }
@@ -185,7 +187,7 @@ pub going_first : (outer : Option Span) (search : Forest → Outcome Definition)
     → Going outer search trees out out w
 going_first outer search trees out w here groups = record {
   done = just outer [];
-  adds = adds_just out out (just outer []) refl (sym (append-nil (steps_of_output out.steps.items))) refl refl;
+  adds = adds_just out out (just outer []) refl (puts_none out.steps) refl refl;
   is = sym (ap (left outer search w.here) groups ∙ followed_nil outer (search w.here) ∙ ap search here);
 }
 
@@ -214,7 +216,7 @@ turn_less search old new before after t same = omega (arith, t.less, ap steps_in
 
 module _ (scope : List ℕ → Option Definition) (depth : ℕ) (outer : Option Span) where
   -- a step was made, at which no call begins
-  pub step_more : (trees : Forest) (first old new : Output) (before after : Walk) (s : kept.Step)
+  pub step_more : (trees : Forest) (first old new : Output) (before after : Walk) (s : WalkStep)
       → Going outer (searched scope depth outer) trees first old before → call_at before.here ≡ None → call_behind_colons before.here ≡ None
       → GoesOn before (Some s) after → Adds old new (just outer (step_of s ∷ []))
       → Going outer (searched scope depth outer) trees first new after

@@ -8,11 +8,11 @@ use Rattle.tt_data.specs.declared.delimiter.Delimiter.{Delimiter}
 use Rattle.tt_data.specs.declared.leaf.Leaf.{Leaf}
 use Rattle.tt_data.specs.declared.span.Span.{Span}
 use Rattle.expander.specs.declared.walk.Around.{Around}
-use Rattle.expander.specs.declared.walk.Step as kept
-use Rattle.expander.specs.declared.walk.Step.TheVariants as as_step
+use Rattle.bridge.specs.declared.walk_step.WalkStep.{WalkStep}
+use Rattle.bridge.specs.declared.walk_step.WalkStep.TheVariants as as_step
 use Rattle.expander.specs.declared.walk.Walk.{Walk}
 use Rattle.expander.specs.Expansion.{Outcome, just, followed_by, grouped}
-use Rattle.expander.specs.OutputSteps.{step_of}
+use Rattle.bridge.specs.WalkSteps.{step_of}
 use Rattle.expander.specs.WalkSteps.{groups_of, GoesOn}
 
 or_assoc : (a b c : Bool) → ((a || b) || c) ≡ (a || (b || c))
@@ -84,7 +84,7 @@ module _ {D : Type 0} (outer : Option Span) (search : Forest → Outcome D) wher
       ∙ ap (followed_by opening) (followed_assoc (search inner) closing later)
 
   -- what a step leaves, where a leaf is passed as it is
-  pub step_left : IsSearch outer search → (old new : Walk) (s : kept.Step) → GoesOn old (Some s) new
+  pub step_left : IsSearch outer search → (old new : Walk) (s : WalkStep) → GoesOn old (Some s) new
       → ((l : Leaf) → old.here ≡ leaf l new.here → search old.here ≡ followed_by (just outer (at_leaf l ∷ [])) (search new.here))
       → left old.here (groups_of old) ≡ followed_by (just outer (step_of s ∷ [])) (left new.here (groups_of new))
   step_left is old new (as_step.Leaf l) (first, groups) passes =
@@ -114,7 +114,7 @@ steps_in (a ∷ around) = 1 + 2 * size a.behind + steps_in around
 abbrev pub work_of : Forest → List Around → ℕ
 work_of here around = 2 * size here + steps_in around
 
-pub step_less : (old new : Walk) (s : kept.Step) → GoesOn old (Some s) new → work_of new.here (groups_of new) < work_of old.here (groups_of old)
+pub step_less : (old new : Walk) (s : WalkStep) → GoesOn old (Some s) new → work_of new.here (groups_of new) < work_of old.here (groups_of old)
 unfolding steps_in
 step_less old new (as_step.Leaf l) (first, groups) = omega (arith, ap size first, ap steps_in groups)
 step_less old new (as_step.Opens kind span) e = omega (arith, ap size e.first, ap steps_in e.groups)

@@ -1,5 +1,5 @@
 -- What one piece adds to the output and to the scope.
-use Rattle.std.proofs.Common.{◌≡◌, ℕ, ◌+◌, List, [], ◌∷◌, ◌++◌, length, refl, sym, ap, ◌∙◌, append_assoc, append-nil, arith, true, if◌then◌else◌}
+use Rattle.std.proofs.Common.{◌≡◌, ℕ, ◌+◌, List, [], ◌∷◌, ◌++◌, length, refl, sym, ap, subst, ◌∙◌, append_assoc, append-nil, arith, true, if◌then◌else◌}
 use Rattle.std.specs.Prelude.{Option, Some, None, flat_map}
 use Rattle.std.specs.List.{list_any}
 use Rattle.std.proofs.Math.Path.{fun_ext}
@@ -8,10 +8,10 @@ use Rattle.expander.specs.declared.definitions.Definition.{Definition}
 use Rattle.expander.specs.declared.expansion.Output.{Output}
 use Rattle.expander.specs.Count.{looked_of}
 use Rattle.expander.specs.Definitions.{definition_of, nearest}
-use Rattle.expander.specs.Expansion.{Outcome, expansion}
+use Rattle.expander.specs.Expansion.{Outcome, PlacedStep, expansion}
 use Rattle.expander.specs.Layered.{layers, world}
 use Rattle.expander.specs.Meaning.{Member, plain, defining, member, members_after, with_definition, output_of, member_faults}
-use Rattle.expander.specs.OutputSteps.{steps_of_output}
+use Rattle.expander.specs.OutputSteps.{HasOutput, PutsOut}
 use Rattle.expander.specs.PieceTurns.{plain_of, TakesPiece, IsOutputOf, told_if_broken}
 use Rattle.expander.specs.ScopeTable.{defined}
 use Rattle.expander.specs.Text.{same_text}
@@ -19,18 +19,20 @@ use Rattle.expander.specs.TooMany.{bursts}
 use Rattle.expander.specs.Turns.{Adds, searched, told}
 use Rattle.expander.proofs.ExpandLemmas.{expansion_is}
 use Rattle.expander.proofs.OutcomeLemmas.{or_first, or_later}
+use Rattle.expander.proofs.PrintingLemmas.{puts_none}
 
 -- a plain piece
 pub takes_plain : (depth : ℕ) (before : List Definition) (piece : Forest) (scope : List ℕ → Option Definition) (old mid new : Output)
     → definition_of piece ≡ None → scope ≡ nearest before → Adds old mid (searched scope depth None piece)
-    → new.steps.items ≡ mid.steps.items → new.faults.items ≡ mid.faults.items → new.plain ≡ mid.plain + 1
+    → new.steps ≡ mid.steps → new.faults.items ≡ mid.faults.items → new.plain ≡ mid.plain + 1
     → TakesPiece depth before piece scope old new
 takes_plain depth before piece scope old mid new none_here finds adds steps faults counted =
     let is : searched scope depth None piece ≡ expansion world (nearest before) depth None piece =
     ap (λ s. searched s depth None piece) finds ∙ sym (expansion_is (nearest before) depth None piece) in
     record {
       adds = rw none_here (record {
-        steps = ap steps_of_output steps ∙ adds.steps ∙ ap (λ (o : Outcome Definition). steps_of_output old.steps.items ++ o.steps) is;
+        steps = subst (λ s. PutsOut old.steps s (expansion world (nearest before) depth None piece).steps) (sym steps)
+            (subst (λ (o : Outcome Definition). PutsOut old.steps mid.steps o.steps) is adds.steps);
         faults = faults ∙ adds.faults ∙ ap (λ (o : Outcome Definition). old.faults.items ++ told o.faults) is;
         plain = omega (arith, counted, adds.plain);
       });
@@ -51,13 +53,13 @@ nearest_first d before name = refl
 -- a definition
 pub takes_definition : (depth : ℕ) (before : List Definition) (piece : Forest) (d : Definition) (scope new_scope : List ℕ → Option Definition) (old new : Output)
     → definition_of piece ≡ Some d → scope ≡ nearest before
-    → new_scope ≡ defined d scope → new.steps.items ≡ old.steps.items → new.faults.items ≡ old.faults.items ++ told_if_broken d → new.plain ≡ old.plain
+    → new_scope ≡ defined d scope → new.steps ≡ old.steps → new.faults.items ≡ old.faults.items ++ told_if_broken d → new.plain ≡ old.plain
     → TakesPiece depth before piece new_scope old new
 takes_definition depth before piece d scope new_scope old new here finds is_defined steps faults counted =
     let now : new_scope ≡ nearest (d ∷ before) = is_defined ∙ ap (defined d) finds ∙ fun_ext (λ name. sym (nearest_first d before name)) in
     record {
       adds = rw here (record {
-        steps = ap steps_of_output steps ∙ sym (append-nil (steps_of_output old.steps.items));
+        steps = subst (λ s. PutsOut old.steps s []) (sym steps) (puts_none old.steps);
         faults = faults;
         plain = omega (arith, counted);
       });
@@ -70,7 +72,9 @@ takes_definition depth before piece d scope new_scope old new here finds is_defi
 pub record PiecesLeft (depth : ℕ) (all rest : List Forest) (scope : List ℕ → Option Definition) (out : Output) : Type 0 where
   pub before : List Definition
   pub finds : scope ≡ nearest before
-  pub steps : steps_of_output out.steps.items ++ flat_map (output_of layers depth) (members_after layers depth before rest)
+  pub done : List PlacedStep
+  pub has : HasOutput out.steps done
+  pub steps : done ++ flat_map (output_of layers depth) (members_after layers depth before rest)
       ≡ flat_map (output_of layers depth) (members_after layers depth [] all)
   pub faults : out.faults.items ++ flat_map (member_faults layers depth) (members_after layers depth before rest)
       ≡ flat_map (member_faults layers depth) (members_after layers depth [] all)
@@ -78,11 +82,13 @@ pub record PiecesLeft (depth : ℕ) (all rest : List Forest) (scope : List ℕ �
   pub bursting : list_any bursts (members_after layers depth before rest) ≡ true → list_any bursts (members_after layers depth [] all) ≡ true
 
 pub pieces_at_first : (depth : ℕ) (all : List Forest) (scope : List ℕ → Option Definition) (out : Output)
-    → scope ≡ (λ name. None) → out.steps.items ≡ [] → out.faults.items ≡ [] → out.plain ≡ 0 → PiecesLeft depth all all scope out
-pieces_at_first depth all scope out none_found steps faults counted = record {
+    → scope ≡ (λ name. None) → HasOutput out.steps [] → out.faults.items ≡ [] → out.plain ≡ 0 → PiecesLeft depth all all scope out
+pieces_at_first depth all scope out none_found has faults counted = record {
   before = [];
   finds = none_found;
-  steps = ap (λ s. steps_of_output s ++ flat_map (output_of layers depth) (members_after layers depth [] all)) steps;
+  done = [];
+  has = has;
+  steps = refl;
   faults = ap (λ s. s ++ flat_map (member_faults layers depth) (members_after layers depth [] all)) faults;
   plain = omega (arith, counted);
   bursting = λ much. much;
@@ -103,8 +109,9 @@ pieces_more depth all more piece scope new_scope old new l takes =
     record {
       before = with_definition layers depth (definition_of piece) l.before;
       finds = t.finds;
-      steps = ap (λ s. s ++ flat_map (output_of layers depth) later) t.adds.steps
-          ∙ append_assoc (steps_of_output old.steps.items) (output_of layers depth m) (flat_map (output_of layers depth) later) ∙ l.steps;
+      done = l.done ++ output_of layers depth m;
+      has = t.adds.steps l.done l.has;
+      steps = append_assoc l.done (output_of layers depth m) (flat_map (output_of layers depth) later) ∙ l.steps;
       faults = ap (λ s. s ++ flat_map (member_faults layers depth) later) t.adds.faults
           ∙ append_assoc old.faults.items (member_faults layers depth m) (flat_map (member_faults layers depth) later) ∙ l.faults;
       plain = omega (arith, t.adds.plain, l.plain, looked_more m later);
@@ -120,7 +127,7 @@ pieces_burst depth all more piece scope out l much = l.bursting (or_first _ _ (m
 
 pub pieces_done : (depth : ℕ) (all : List Forest) (scope : List ℕ → Option Definition) (out : Output) → PiecesLeft depth all [] scope out → IsOutputOf depth all out
 pieces_done depth all scope out l = record {
-  steps = sym (append-nil (steps_of_output out.steps.items)) ∙ l.steps;
+  steps = subst (HasOutput out.steps) (sym (append-nil l.done) ∙ l.steps) l.has;
   faults = sym (append-nil out.faults.items) ∙ l.faults;
   plain = omega (arith, l.plain);
 }

@@ -1,139 +1,239 @@
--- The printed text, step by step.
-use Rattle.std.proofs.Common.{◌≡◌, ℕ, ◌<◌, ◌≤◌, ◌+◌, append_assoc, add-one, length, get_or, drop, drop-cons, List, [], ◌∷◌, ◌++◌, refl, sym, ap, ◌∙◌, arith, Bool, true, false, nat_eq}
-use Rattle.std.specs.Prelude.{◌&&◌, ◌||◌, Option, Some, None, codes, encode_utf8}
-use Rattle.std.proofs.lemmas.List.{append-nil}
-use Rattle.std.specs.Str.{bytes_eq}
+-- Steps that are put out, and what is printed of them.
+use Rattle.std.proofs.Common.{◌≡◌, ℕ, ◌+◌, ◌<◌, add-one, drop, drop-cons, get_or, append_assoc, append-nil, length, length-append, subst, List, [], ◌∷◌, ◌++◌, refl, sym, ap, ◌∙◌, arith, Bool, true, false, if◌then◌else◌, cond}
+use Rattle.std.specs.Prelude.{◌&&◌, ◌||◌, Option, Some, None, codes, filter, flat_map, map, is_some, not, slice_get, string_bytes}
+use Rattle.std.specs.Str.{bytes_eq, chars, is_utf8}
+use Rattle.std.specs.Char.{encode_utf8}
+use Rattle.std.proofs.lemmas.List.{length-map, map-append}
+use Rattle.std.proofs.lemmas.List.Elements.{filter-append}
 use Rattle.std.proofs.lemmas.Slice.Eq.{bytes_eq-Decides}
-use Rattle.std.proofs.lemmas.Bool.{eqb-true, eq-eqb}
-use Rattle.std.proofs.lemmas.Str.{encode_ascii, encode_same}
+use Rattle.ucd_derived.specs.Binary.{is_xid_start, is_xid_continue}
+use Rattle.ucd_derived.specs.XidContinueRanges.{xid_continue_ranges}
+use Rattle.ucd_derived.specs.XidStartRanges.{xid_start_ranges}
+use Rattle.ucd_table.specs.Rows.{in_ranges}
 use Rattle.tt_data.specs.Walk.{Step, at_leaf, opens, closes}
-use Rattle.tt_data.specs.declared.delimiter.DelimiterKind.TheVariants.{Parenthesis, Brace, Bracket, Invisible}
+use Rattle.tt_data.specs.declared.leaf.Ident.{Ident}
+use Rattle.tt_data.specs.declared.leaf.IdentIsRaw.{IdentIsRaw}
+use Rattle.tt_data.specs.declared.leaf.IdentIsRaw.TheVariants as is_raw
+use Rattle.tt_data.specs.declared.leaf.Leaf.{Leaf}
+use Rattle.tt_data.specs.declared.leaf.Leaf.TheVariants as as_leaf
 use Rattle.tt_data.specs.declared.span.Span.{Span}
-use Rattle.expander.specs.Expansion.{PlacedStep}
-use Rattle.expander.specs.OutputSteps.{token_of, token_at, text_of_step, is_spelled, gap_after}
+use Rattle.tt_data.specs.declared.span.TextRange.{TextRange}
+use Rattle.bridge.specs.Printers.{HasPut}
 use Rattle.bridge.specs.Printing as bare_printing
-use Rattle.bridge.specs.Printing.{is_kept_apart, gap, text_from, depth_after}
-use Rattle.expander.specs.Printing.{PrintedToken, visible, printed, left_out}
-use Rattle.expander.specs.Thin.{thin_spelling}
+use Rattle.bridge.specs.Printing.{is_visible_step, left_out_from, print_of}
+use Rattle.bridge.specs.Spelling.{leaf_spelling, spelling}
+use Rattle.expander.specs.declared.faults.Fault.{Fault}
+use Rattle.expander.specs.declared.faults.FaultKind.TheVariants.{NestedDefinition, Unspellable}
+use Rattle.expander.specs.declared.output.PlacedSteps.{PlacedSteps}
+use Rattle.expander.specs.Expansion.{PlacedStep}
+use Rattle.expander.specs.Faults.{place, fault_at, is_definition_word, nested, unspellable}
+use Rattle.expander.specs.OutputSteps.{HasOutput, PutsOut, faults_in, places_of, told_in, told_at, tokens_in, words_told}
+use Rattle.expander.specs.Printing.{bare, visible, printed, left_out, spelled, spelling_before, steps_of, text_of, unspelled}
 
--- two tests that hold alike are one
-pub same_tests : (a b : Bool) → (a ≡ true → b ≡ true) → (b ≡ true → a ≡ true) → a ≡ b
-same_tests true true f g = refl
-same_tests false false f g = refl
-same_tests true false f g = sym (f refl)
-same_tests false true f g = g refl
+-- ---- steps are put out one behind the other
 
-both : (a b : Bool) → a ≡ true → b ≡ true → (a && b) ≡ true
-both true b e h = h
-both false b e h = e
-
-first_of_both : (a b : Bool) → (a && b) ≡ true → a ≡ true
-first_of_both true b e = refl
-first_of_both false b e = e
-
-second_of_both : (a b : Bool) → (a && b) ≡ true → b ≡ true
-second_of_both true b e = e
-second_of_both false b e = cc
-
--- two characters are two known ones of one byte each, where their texts are
-pair_text : (a b x y : ℕ) → x < 128 → y < 128 → bytes_eq (encode_utf8 a ++ encode_utf8 b) (x ∷ y ∷ []) ≡ (nat_eq a x && nat_eq b y)
-pair_text a b x y one two =
-    let known : encode_utf8 x ++ encode_utf8 y ≡ x ∷ y ∷ [] = rw (encode_ascii x one, encode_ascii y two) refl in
-    let tells = bytes_eq-Decides (encode_utf8 a ++ encode_utf8 b) (x ∷ y ∷ []) in
-    same_tests _ _
-    (λ h.
-    let first = encode_same a x (encode_utf8 b) (encode_utf8 y) (tells.0 h ∙ sym known) in
-    let second = encode_same b y [] [] (ap (λ (l : List ℕ). l ++ []) first.1) in
-    both (nat_eq a x) (nat_eq b y) (eq-eqb a x first.0) (eq-eqb b y second.0))
-    (λ h.
-    let first : a ≡ x = eqb-true a x (first_of_both (nat_eq a x) (nat_eq b y) h) in
-    let second : b ≡ y = eqb-true b y (second_of_both (nat_eq a x) (nat_eq b y) h) in
-    tells.1 (ap (λ n. encode_utf8 n ++ encode_utf8 b) first ∙ ap (λ n. encode_utf8 x ++ encode_utf8 n) second ∙ known))
-
-pub apart : (a b : ℕ) → is_kept_apart (encode_utf8 a) (encode_utf8 b)
-    ≡ (nat_eq a 47 && nat_eq b 47 || nat_eq a 47 && nat_eq b 42 || nat_eq a 35 && nat_eq b 35)
-apart a b =
-    rw (pair_text a b 47 47 (omega arith) (omega arith), pair_text a b 47 42 (omega arith) (omega arith), pair_text a b 35 35 (omega arith) (omega arith)) refl
-
--- the text of tokens that follow the step printed last
-abbrev pub continued : ℕ → Option Step → List bare_printing.PrintedToken → List ℕ
-continued depth None tokens = text_from depth tokens
-continued depth (Some last) [] = codes "\n"
-continued depth (Some last) (b ∷ more) = gap depth (token_at last) b ++ text_from depth (b ∷ more)
-
-abbrev pub tokens_from : List PlacedStep → List PrintedToken
-tokens_from steps = printed thin_spelling (visible steps)
-
-pub token_first : (s : PlacedStep) (more : List PlacedStep) → is_spelled s.step ≡ true → tokens_from (s ∷ more) ≡ token_of s ∷ tokens_from more
-token_first s more e = go s.step s.outer more e
+pub visible-append : (xs ys : List PlacedStep) → visible (xs ++ ys) ≡ visible xs ++ visible ys
+visible-append [] ys = refl
+visible-append (s ∷ more) ys = go (is_visible_step s.step) (visible-append more ys)
   where
-    go : (s : Step) (outer : Option Span) (more : List PlacedStep) → is_spelled s ≡ true
-        → tokens_from (record { step = s; outer = outer } ∷ more) ≡ token_of (record { step = s; outer = outer }) ∷ tokens_from more
-    go (at_leaf l) outer more e = refl
-    go (opens Parenthesis span) outer more e = refl
-    go (opens Brace span) outer more e = refl
-    go (opens Bracket span) outer more e = refl
-    go (opens Invisible span) outer more e = cc
-    go (closes Parenthesis span) outer more e = refl
-    go (closes Brace span) outer more e = refl
-    go (closes Bracket span) outer more e = refl
-    go (closes Invisible span) outer more e = cc
+    go : (b : Bool) → visible (more ++ ys) ≡ visible more ++ visible ys
+        → (if b then s ∷ visible (more ++ ys) else visible (more ++ ys)) ≡ (if b then s ∷ visible more else visible more) ++ visible ys
+    go true e = ap (λ l. s ∷ l) e
+    go false e = e
 
-pub token_none : (s : PlacedStep) (more : List PlacedStep) → is_spelled s.step ≡ false → tokens_from (s ∷ more) ≡ tokens_from more
-token_none s more e = go s.step s.outer more e
+places_of-append : (xs ys : List PlacedStep) → places_of (xs ++ ys) ≡ places_of xs ++ places_of ys
+places_of-append xs ys =
+    ap (map (λ s. (place s).range)) (visible-append xs ys) ∙ map-append (λ s. (place s).range) (visible xs) (visible ys)
+
+words_told-append : (xs ys : List PlacedStep) → words_told (xs ++ ys) ≡ words_told xs ++ words_told ys
+words_told-append xs ys =
+    let told : PlacedStep → Fault = λ s. fault_at NestedDefinition (place s) in
+    let is_word : PlacedStep → Bool = λ s. is_definition_word s.step in
+    ap (λ l. map told (filter is_word l)) (visible-append xs ys)
+    ∙ ap (map told) (filter-append is_word (visible xs) (visible ys))
+    ∙ map-append told (filter is_word (visible xs)) (filter is_word (visible ys))
+
+-- one step is put out
+pub puts_step : (old new : PlacedSteps) (s : PlacedStep)
+    → ((steps : List Step) → HasPut old.printer steps → HasPut new.printer (steps ++ s.step ∷ []))
+    → new.places.items ≡ old.places.items ++ places_of (s ∷ []) → new.nested.items ≡ old.nested.items ++ words_told (s ∷ [])
+    → PutsOut old new (s ∷ [])
+puts_step old new s puts places told before has = record {
+  printer = subst (HasPut new.printer) (sym (map-append (λ (s : PlacedStep). s.step) before (s ∷ []))) (puts (steps_of before) has.printer);
+  places = places ∙ ap (λ l. l ++ places_of (s ∷ [])) has.places ∙ sym (places_of-append before (s ∷ []));
+  nested = told ∙ ap (λ l. l ++ words_told (s ∷ [])) has.nested ∙ sym (words_told-append before (s ∷ []));
+}
+
+-- an invisible step leaves places and words as they are
+pub invisible_places : (s : PlacedStep) → is_visible_step s.step ≡ false → places_of (s ∷ []) ≡ []
+invisible_places s e = ap (λ (b : Bool). map (λ s. (place s).range) (if b then s ∷ [] else [])) e
+
+pub invisible_words : (s : PlacedStep) → is_visible_step s.step ≡ false → words_told (s ∷ []) ≡ []
+invisible_words s e =
+    ap (λ (b : Bool). map (λ s. fault_at NestedDefinition (place s)) (filter (λ s. is_definition_word s.step) (if b then s ∷ [] else []))) e
+
+pub visible_places : (s : PlacedStep) → is_visible_step s.step ≡ true → places_of (s ∷ []) ≡ (place s).range ∷ []
+visible_places s e = ap (λ (b : Bool). map (λ s. (place s).range) (if b then s ∷ [] else [])) e
+
+pub visible_words : (s : PlacedStep) → is_visible_step s.step ≡ true
+    → words_told (s ∷ []) ≡ (if is_definition_word s.step then fault_at NestedDefinition (place s) ∷ [] else [])
+visible_words s e =
+    ap (λ (b : Bool). map (λ s. fault_at NestedDefinition (place s)) (filter (λ s. is_definition_word s.step) (if b then s ∷ [] else []))) e
+    ∙ go (is_definition_word s.step)
   where
-    go : (s : Step) (outer : Option Span) (more : List PlacedStep) → is_spelled s ≡ false
-        → tokens_from (record { step = s; outer = outer } ∷ more) ≡ tokens_from more
-    go (at_leaf l) outer more e = cc
-    go (opens Parenthesis span) outer more e = cc
-    go (opens Brace span) outer more e = cc
-    go (opens Bracket span) outer more e = cc
-    go (opens Invisible span) outer more e = refl
-    go (closes Parenthesis span) outer more e = cc
-    go (closes Brace span) outer more e = cc
-    go (closes Bracket span) outer more e = cc
-    go (closes Invisible span) outer more e = refl
+    go : (b : Bool) → map (λ s. fault_at NestedDefinition (place s)) (cond b (s ∷ []) []) ≡ (if b then fault_at NestedDefinition (place s) ∷ [] else [])
+    go true = refl
+    go false = refl
 
--- no visible step is left out
-pub none_left_out : (steps : List PlacedStep) → left_out thin_spelling (visible steps) ≡ []
-none_left_out [] = refl
-none_left_out (s ∷ more) = go s.step s.outer more (none_left_out more)
+-- no step, and some steps behind others
+pub puts_none : (out : PlacedSteps) → PutsOut out out []
+puts_none out before has = subst (HasOutput out) (sym (append-nil before)) has
+
+pub puts_more : (old mid new : PlacedSteps) (xs ys : List PlacedStep) → PutsOut old mid xs → PutsOut mid new ys → PutsOut old new (xs ++ ys)
+puts_more old mid new xs ys first later before has =
+    subst (HasOutput new) (append_assoc before xs ys) (later (before ++ xs) (first before has))
+
+-- what was put out, and what is left of the whole
+pub record StillPuts (old now : PlacedSteps) (whole left : List PlacedStep) : Type 0 where
+  pub done : List PlacedStep
+  pub puts : PutsOut old now done
+  pub is : done ++ left ≡ whole
+
+pub still_first : (out : PlacedSteps) (whole left : List PlacedStep) → left ≡ whole → StillPuts out out whole left
+still_first out whole left e = record { done = []; puts = puts_none out; is = e }
+
+pub still_more : (old mid new : PlacedSteps) (whole xs left later : List PlacedStep) → StillPuts old mid whole left → left ≡ xs ++ later → PutsOut mid new xs
+    → StillPuts old new whole later
+still_more old mid new whole xs left later still is puts = record {
+  done = still.done ++ xs;
+  puts = puts_more old mid new still.done xs still.puts puts;
+  is = append_assoc still.done xs later ∙ ap (λ l. still.done ++ l) (sym is) ∙ still.is;
+}
+
+pub still_done : (old now : PlacedSteps) (whole left : List PlacedStep) → StillPuts old now whole left → left ≡ [] → PutsOut old now whole
+still_done old now whole left still none =
+    subst (PutsOut old now) (sym (append-nil still.done) ∙ ap (λ l. still.done ++ l) (sym none) ∙ still.is) still.puts
+
+-- ---- places change nothing of what is printed
+
+pub visible_bare : (xs : List PlacedStep) → steps_of (visible xs) ≡ bare_printing.visible (steps_of xs)
+visible_bare [] = refl
+visible_bare (s ∷ more) = go (is_visible_step s.step) (visible_bare more)
   where
-    go : (s : Step) (outer : Option Span) (more : List PlacedStep) → left_out thin_spelling (visible more) ≡ []
-        → left_out thin_spelling (visible (record { step = s; outer = outer } ∷ more)) ≡ []
-    go (at_leaf l) outer more e = e
-    go (opens Parenthesis span) outer more e = e
-    go (opens Brace span) outer more e = e
-    go (opens Bracket span) outer more e = e
-    go (opens Invisible span) outer more e = e
-    go (closes Parenthesis span) outer more e = e
-    go (closes Brace span) outer more e = e
-    go (closes Bracket span) outer more e = e
-    go (closes Invisible span) outer more e = e
+    go : (b : Bool) → steps_of (visible more) ≡ bare_printing.visible (steps_of more)
+        → steps_of (if b then s ∷ visible more else visible more)
+        ≡ (if b then s.step ∷ bare_printing.visible (steps_of more) else bare_printing.visible (steps_of more))
+    go true e = ap (λ l. s.step ∷ l) e
+    go false e = e
 
-first_text : (depth : ℕ) (s : PlacedStep) (more : List bare_printing.PrintedToken)
-    → text_from depth (token_at s.step ∷ more) ≡ text_of_step s.step ++ continued (depth_after depth s.step) (Some s.step) more
-first_text depth s [] = refl
-first_text depth s (b ∷ more) = refl
+printed_bare : (xs : List PlacedStep) → map bare (printed spelling_before xs) ≡ bare_printing.printed (steps_of xs)
+printed_bare [] = refl
+printed_bare (s ∷ more) = go (spelling_before s.step more) (printed_bare more)
+  where
+    go : (o : Option (List ℕ)) → map bare (printed spelling_before more) ≡ bare_printing.printed (steps_of more)
+        → map bare (spelled spelling_before s o ++ printed spelling_before more) ≡ bare_printing.spelled s.step o ++ bare_printing.printed (steps_of more)
+    go None e = e
+    go (Some text) e = ap (λ l. record { step = s.step; text = text } ∷ l) e
 
--- one token is printed
-pub more_text : (text all : List ℕ) (depth : ℕ) (last : Option Step) (s : PlacedStep) (more : List bare_printing.PrintedToken)
-    → text ++ continued depth last (token_at s.step ∷ more) ≡ all
-    → ((text ++ gap_after depth last s.step) ++ text_of_step s.step) ++ continued (depth_after depth s.step) (Some s.step) more ≡ all
-more_text text all depth None s more e =
-    rw (append-nil, append_assoc) (ap (λ t. text ++ t) (sym (first_text depth s more)) ∙ e)
-more_text text all depth (Some last) s more e =
-    let after = gap depth (token_at last) (token_at s.step) in
-    let rest = continued (depth_after depth s.step) (Some s.step) more in
-    append_assoc (text ++ after) (text_of_step s.step) rest ∙ append_assoc text after (text_of_step s.step ++ rest)
-    ∙ (ap (λ t. text ++ (gap depth (token_at last) (token_at s.step) ++ t)) (sym (first_text depth s more)) ∙ e)
+tokens_bare : (xs : List PlacedStep) → map bare (tokens_in xs) ≡ bare_printing.printed (bare_printing.visible (steps_of xs))
+tokens_bare xs = printed_bare (visible xs) ∙ ap bare_printing.printed (visible_bare xs)
 
--- the element at an index, and those after it
-pub next_dropped : {X : Type 0} (xs : List X) (i : ℕ) (x : X) → i < length xs → x ≡ get_or xs i x → drop i xs ≡ x ∷ drop (i + 1) xs
-next_dropped xs i x below is = drop-cons xs i x below ∙ rw (add-one i, ← is) refl
+pub text_is : (xs : List PlacedStep) → (print_of (steps_of xs)).text ≡ text_of (tokens_in xs)
+text_is xs = ap bare_printing.text_of (sym (tokens_bare xs))
 
--- one step opens at the most one group
-pub depth_after-le : (depth : ℕ) (s : Step) → depth_after depth s ≤ depth + 1
-depth_after-le depth (at_leaf l) = omega arith
-depth_after-le depth (opens kind span) = omega arith
-depth_after-le depth (closes kind span) = omega arith
+pub count_is : (xs : List PlacedStep) → length (print_of (steps_of xs)).tokens ≡ length (tokens_in xs)
+count_is xs =
+    length-map (bare_printing.printed (bare_printing.visible (steps_of xs))) _ ∙ ap length (sym (tokens_bare xs)) ∙ length-map (tokens_in xs) bare
+
+-- ---- the tokens that are left out, by their numbers
+
+-- a number as long as the list is the first behind it
+at_end : {X : Type 0} (xs : List X) (y : X) (ys : List X) → slice_get (xs ++ y ∷ ys) (length xs) ≡ Some y
+at_end [] y ys = refl
+at_end (x ∷ xs) y ys = at_end xs y ys
+
+told_left_out : (places before : List TextRange) (n : ℕ) (xs : List PlacedStep) → places ≡ before ++ map (λ s. (place s).range) xs → length before ≡ n
+    → told_at places (left_out_from n (steps_of xs)) ≡ unspellable (left_out spelling_before xs)
+told_left_out places before n [] is counted = refl
+told_left_out places before n (s ∷ more) is counted =
+    let range : TextRange = (place s).range in
+    let later : List TextRange = map (λ s. (place s).range) more in
+    go (spelling_before s.step more) (ap (λ l. slice_get l n) is ∙ ap (slice_get (before ++ range ∷ later)) (sym counted) ∙ at_end before range later)
+    (told_left_out places (before ++ range ∷ []) (n + 1) more (is ∙ sym (append_assoc before (range ∷ []) later)) (omega (arith, length-append before (range ∷ []), counted)))
+  where
+    go : (o : Option (List ℕ)) → slice_get places n ≡ Some (place s).range
+        → told_at places (left_out_from (n + 1) (steps_of more)) ≡ unspellable (left_out spelling_before more)
+        → told_at places (bare_printing.unspelled n o ++ left_out_from (n + 1) (steps_of more)) ≡ unspellable (unspelled spelling_before s o ++ left_out spelling_before more)
+    go None here e = ap (λ x. told_in x ++ told_at places (left_out_from (n + 1) (steps_of more))) here ∙ ap (λ l. fault_at Unspellable (place s) ∷ l) e
+    go (Some text) here e = e
+
+-- ---- the words that begin a definition are always printed
+
+abbrev word_at : Span → List ℕ → Leaf
+word_at span name = as_leaf.Ident (record { sym = name; span = span; is_raw = is_raw.No })
+
+long_word : (span : Span) → is_some (leaf_spelling (word_at span (codes "macro_rules"))) ≡ true
+unfolding chars is_utf8 encode_utf8 is_xid_start is_xid_continue in_ranges xid_start_ranges xid_continue_ranges
+long_word span = refl
+
+short_word : (span : Span) → is_some (leaf_spelling (word_at span (codes "macro"))) ≡ true
+unfolding chars is_utf8 encode_utf8 is_xid_start is_xid_continue in_ranges xid_start_ranges xid_continue_ranges
+short_word span = refl
+
+spelled_word : (span : Span) (name : List ℕ) → (bytes_eq name (codes "macro_rules") || bytes_eq name (codes "macro")) ≡ true
+    → is_some (leaf_spelling (word_at span name)) ≡ true
+spelled_word span name e = go (bytes_eq name (codes "macro_rules")) (bytes_eq name (codes "macro")) refl refl e
+  where
+    go : (a b : Bool) → bytes_eq name (codes "macro_rules") ≡ a → bytes_eq name (codes "macro") ≡ b → (a || b) ≡ true
+        → is_some (leaf_spelling (word_at span name)) ≡ true
+    go true b first second h =
+        subst (λ n. is_some (leaf_spelling (word_at span n)) ≡ true) (sym ((bytes_eq-Decides name (codes "macro_rules")).0 first)) (long_word span)
+    go false true first second h =
+        subst (λ n. is_some (leaf_spelling (word_at span n)) ≡ true) (sym ((bytes_eq-Decides name (codes "macro")).0 second)) (short_word span)
+    go false false first second h = cc
+
+word_spelled : (s : Step) (more : List Step) → is_definition_word s ≡ true → is_some (spelling s more) ≡ true
+word_spelled (at_leaf (as_leaf.Ident i)) more e = go i.is_raw e
+  where
+    go : (raw : IdentIsRaw) → is_definition_word (at_leaf (as_leaf.Ident (record i { is_raw = raw }))) ≡ true
+        → is_some (leaf_spelling (as_leaf.Ident (record i { is_raw = raw }))) ≡ true
+    go is_raw.No h = spelled_word i.span i.sym h
+    go is_raw.Yes h = cc
+word_spelled (at_leaf (as_leaf.Punct p)) more e = cc
+word_spelled (at_leaf (as_leaf.Literal l)) more e = cc
+word_spelled (opens kind span) more e = cc
+word_spelled (closes kind span) more e = cc
+
+-- a word that begins a definition has a spelling
+word_is_printed : (s : PlacedStep) (more : List PlacedStep) → is_definition_word s.step ≡ true → spelling_before s.step more ≡ None → ⊥
+word_is_printed s more is none = let no : false ≡ true = ap is_some (sym none) ∙ word_spelled s.step (steps_of more) is in cc
+
+nested_are : (xs : List PlacedStep)
+    → nested (printed spelling_before xs) ≡ map (λ s. fault_at NestedDefinition (place s)) (filter (λ s. is_definition_word s.step) xs)
+nested_are [] = refl
+nested_are (s ∷ more) = go (is_definition_word s.step) (spelling_before s.step more) refl refl (nested_are more)
+  where
+    go : (b : Bool) (o : Option (List ℕ)) → is_definition_word s.step ≡ b → spelling_before s.step more ≡ o
+        → nested (printed spelling_before more) ≡ map (λ s. fault_at NestedDefinition (place s)) (filter (λ s. is_definition_word s.step) more)
+        → nested (spelled spelling_before s o ++ printed spelling_before more)
+        ≡ map (λ s. fault_at NestedDefinition (place s)) (filter (λ s. is_definition_word s.step) (s ∷ more))
+    go true None is has rest = absurd (word_is_printed s more is has)
+    go false None is has rest = rw is rest
+    go true (Some text) is has rest = rw is (ap (λ l. fault_at NestedDefinition (place s) ∷ l) rest)
+    go false (Some text) is has rest = rw is rest
+
+-- ---- all faults of the steps that were put out
+
+pub faults_are : (out : PlacedSteps) (all : List PlacedStep) → HasOutput out all
+    → out.nested.items ++ told_at out.places.items (print_of (steps_of all)).left_out ≡ faults_in all
+faults_are out all has =
+    ap (λ l. l ++ told_at out.places.items (print_of (steps_of all)).left_out) (has.nested ∙ sym (nested_are (visible all)))
+    ∙ ap (λ l. nested (tokens_in all) ++ l)
+    (ap (λ steps. told_at out.places.items (left_out_from 0 steps)) (sym (visible_bare all))
+    ∙ told_left_out out.places.items [] 0 (visible all) has.places refl)
+
+-- a number's fault comes before those of the numbers behind it
+pub told_first : (places : List TextRange) (numbers : List ℕ) (i : ℕ) (d : ℕ) (o : Option TextRange) → i < length numbers → o ≡ slice_get places (get_or numbers i d)
+    → told_at places (drop i numbers) ≡ told_in o ++ told_at places (drop (i + 1) numbers)
+told_first places numbers i d o below is =
+    ap (told_at places) (drop-cons numbers i d below) ∙ rw (add-one i, ← is) refl

@@ -15,17 +15,16 @@ use Rattle.expander.specs.declared.session.Reply.TheVariants.{Read, Unread}
 use Rattle.expander.specs.Count.{Looked, is_same, expanded_count, looked_of}
 use Rattle.expander.specs.Expanded.{Expanded}
 use Rattle.expander.specs.Expansion.{PlacedStep}
-use Rattle.expander.specs.Faults.{nested, unspellable, in_order}
+use Rattle.expander.specs.Faults.{in_order}
+use Rattle.expander.specs.OutputSteps.{HasOutput, faults_in, tokens_in}
 use Rattle.expander.specs.Meaning.{Member, meaning_of, meaning_from, meaning, members, member_faults, output_of}
 use Rattle.expander.specs.PieceTurns.{IsOutputOf}
 use Rattle.expander.specs.Pieces.{cut, pieces, separated}
-use Rattle.expander.specs.Printing.{visible, printed, text_of}
+use Rattle.expander.specs.Printing.{text_of}
 use Rattle.expander.specs.Replies.{IsExpansionOf, IsMeant, IsReadAs, IsReplyTo}
 use Rattle.expander.specs.Shown.{ShowsOutput}
-use Rattle.expander.specs.Thin.{thin_layers, thin_spelling, is_thin}
-use Rattle.std.proofs.lemmas.List.{append-nil}
+use Rattle.expander.specs.Thin.{thin_layers, is_thin}
 use Rattle.expander.specs.declared.faults.Fault.{Fault}
-use Rattle.expander.proofs.PrintingLemmas.{none_left_out}
 
 every_one : (ps : List Looked) → filter (λ p. not (list_any (is_same p) [])) ps ≡ ps
 every_one [] = refl
@@ -36,25 +35,24 @@ all_count : (ps : List Looked) → expanded_count None ps ≡ length ps
 all_count ps = ap length (every_one ps)
 
 -- the output of a text's pieces, shown, is what the text means
-pub means_output : (depth : ℕ) (f : Forest) (out : Output) (e : Expanded) → IsOutputOf depth (pieces f) out → ShowsOutput out e
+pub means_output : (depth : ℕ) (f : Forest) (out : Output) (e : Expanded) → IsOutputOf depth (pieces f) out
+    → ((steps : List PlacedStep) → HasOutput out.steps steps → ShowsOutput out steps e)
     → IsExpansionOf thin_layers depth (meaning_of thin_layers depth (members thin_layers depth f)) e
-means_output depth f out e is shows =
+means_output depth f out e is shown =
     let ms : List Member = members thin_layers depth f in
     let steps : List PlacedStep = flat_map (output_of thin_layers depth) ms in
-    let told : List Fault = nested (printed thin_spelling (visible steps)) in
+    let shows : ShowsOutput out steps e = shown steps is.steps in
     record {
-      printed = shows.printed ∙ ap (λ s. text_of (printed thin_spelling (visible s))) is.steps;
-      faults = shows.faults
-          ∙ ap (λ s. in_order (out.faults.items ++ nested (printed thin_spelling (visible s)))) is.steps
-          ∙ ap (λ fs. in_order (fs ++ told)) is.faults
-          ∙ sym (ap (λ fs. in_order (flat_map (member_faults thin_layers depth) ms ++ fs)) (ap (λ l. told ++ unspellable l) (none_left_out steps) ∙ append-nil told));
-      tokens = shows.tokens ∙ ap (λ s. length (printed thin_spelling (visible s))) is.steps;
+      printed = shows.printed;
+      faults = shows.faults ∙ ap (λ fs. in_order (fs ++ faults_in steps)) is.faults;
+      tokens = shows.tokens;
       expanded = shows.expanded ∙ is.plain ∙ sym (all_count (looked_of ms));
     }
 
 -- a text that was read
 pub means_read : (depth : ℕ) (text : List ℕ) (f inner trees : Forest) (out : Output) (e : Expanded) → text_reading text ≡ Ok f
-    → inner ≡ separated f → trees ≡ inner → IsOutputOf depth (cut trees) out → ShowsOutput out e
+    → inner ≡ separated f → trees ≡ inner → IsOutputOf depth (cut trees) out
+    → ((steps : List PlacedStep) → HasOutput out.steps steps → ShowsOutput out steps e)
     → IsMeant thin_layers depth (meaning thin_layers depth text) (Read e)
 means_read depth text f inner trees out e is_read inner_is trees_is gives shows =
     let P : Forest → Type 0 = λ g. IsOutputOf depth (cut g) out in

@@ -1,49 +1,44 @@
--- The output of an expansion as the code keeps it, and what its steps are printed as.
-use Rattle.std.specs.Prelude.{ℕ, List, [], Option, Some, None, Bool, is_some, map, unwrap_or}
-use Rattle.tt_data.specs.Walk.{Step, at_leaf, opens, closes}
-use Rattle.expander.specs.declared.output.PlacedStep as declared
-use Rattle.expander.specs.declared.walk.Step as kept
-use Rattle.expander.specs.declared.walk.Step.TheVariants as as_step
+-- What the code keeps of an output: its steps as they are printed, and where their faults are told.
+use Rattle.std.specs.Prelude.{◌≡◌, ℕ, List, [], ◌∷◌, ◌++◌, Option, Some, None, filter, flat_map, map, slice_get}
+use Rattle.bridge.specs.Printers.{HasPut}
+use Rattle.tt_data.specs.declared.span.TextRange.{TextRange}
+use Rattle.expander.specs.declared.faults.Fault.{Fault}
+use Rattle.expander.specs.declared.faults.FaultKind.TheVariants.{NestedDefinition, Unspellable}
+use Rattle.expander.specs.declared.output.PlacedSteps.{PlacedSteps}
 use Rattle.expander.specs.Expansion.{PlacedStep}
-use Rattle.bridge.specs.Printing as printing
-use Rattle.expander.specs.Printing.{PrintedToken, visible, printed}
-use Rattle.expander.specs.Thin.{thin_spelling}
+use Rattle.expander.specs.Faults.{place, fault_at, is_definition_word, nested, unspellable}
+use Rattle.expander.specs.Printing.{PrintedToken, visible, printed, left_out, spelling_before, steps_of}
 
--- a step of the code as a step of a walk
-abbrev pub step_of : kept.Step → Step
-step_of (as_step.Leaf l) = at_leaf l
-step_of (as_step.Opens kind span) = opens kind span
-step_of (as_step.Closes kind span) = closes kind span
+-- where a fault of each visible step is told
+abbrev pub places_of : List PlacedStep → List TextRange
+places_of steps = map (λ s. (place s).range) (visible steps)
 
--- the same with its place
-abbrev pub placed_of : declared.PlacedStep → PlacedStep
-placed_of p = record { step = step_of p.step; outer = p.outer }
+-- the faults of the visible words that begin a definition
+abbrev pub words_told : List PlacedStep → List Fault
+words_told steps = map (λ s. fault_at NestedDefinition (place s)) (filter (λ s. is_definition_word s.step) (visible steps))
 
--- the steps of an output
-abbrev pub steps_of_output : List declared.PlacedStep → List PlacedStep
-steps_of_output steps = map placed_of steps
+-- just these steps were put out so far
+pub record HasOutput (out : PlacedSteps) (steps : List PlacedStep) : Type 0 where
+  pub printer : HasPut out.printer (steps_of steps)
+  pub places : out.places.items ≡ places_of steps
+  pub nested : out.nested.items ≡ words_told steps
 
--- the tokens that are printed of an output
-abbrev pub tokens_of_output : List declared.PlacedStep → List PrintedToken
-tokens_of_output steps = printed thin_spelling (visible (steps_of_output steps))
+-- these steps were put out behind all that were
+abbrev pub PutsOut : PlacedSteps → PlacedSteps → List PlacedStep → Type 0
+PutsOut old new steps = (before : List PlacedStep) → HasOutput old before → HasOutput new (before ++ steps)
 
--- a step's spelling: no text where it has none
-abbrev pub text_of_step : Step → List ℕ
-text_of_step s = unwrap_or (thin_spelling s []) []
+-- the tokens that are printed of these steps
+abbrev pub tokens_in : List PlacedStep → List PrintedToken
+tokens_in steps = printed spelling_before (visible steps)
 
--- whether the step has a spelling
-abbrev pub is_spelled : Step → Bool
-is_spelled s = is_some (thin_spelling s [])
+-- the faults of the tokens that are printed, and of those that are left out
+abbrev pub faults_in : List PlacedStep → List Fault
+faults_in steps = nested (tokens_in steps) ++ unspellable (left_out spelling_before (visible steps))
 
--- the step as a token that is printed
-abbrev pub token_of : PlacedStep → PrintedToken
-token_of s = record { token = s; text = text_of_step s.step }
+abbrev pub told_in : Option TextRange → List Fault
+told_in None = []
+told_in (Some range) = record { kind = Unspellable; range = range } ∷ []
 
--- the same without its place
-abbrev pub token_at : Step → printing.PrintedToken
-token_at s = record { step = s; text = text_of_step s }
-
--- what stands before a token, after the step printed last, if any
-abbrev pub gap_after : ℕ → Option Step → Step → List ℕ
-gap_after depth None s = []
-gap_after depth (Some last) s = printing.gap depth (token_at last) (token_at s)
+-- the faults of the visible tokens of these numbers, which are left out
+abbrev pub told_at : List TextRange → List ℕ → List Fault
+told_at places numbers = flat_map (λ n. told_in (slice_get places n)) numbers

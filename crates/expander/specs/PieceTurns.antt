@@ -9,7 +9,7 @@ use Rattle.expander.specs.Count.{looked_of}
 use Rattle.expander.specs.Faults.{fault_at}
 use Rattle.expander.specs.Definitions.{definition_of, nearest}
 use Rattle.expander.specs.Meaning.{Member, plain, defining, member, members_after, with_definition, output_of, member_faults}
-use Rattle.expander.specs.OutputSteps.{steps_of_output}
+use Rattle.expander.specs.OutputSteps.{HasOutput, PutsOut}
 use Rattle.expander.specs.Layered.{layers, world}
 
 -- the fault of a definition that is broken
@@ -23,7 +23,7 @@ plain_of (defining d) = 0
 
 -- one more member's output
 pub record AddsMember (depth : ℕ) (m : Member) (old new : Output) : Type 0 where
-  pub steps : steps_of_output new.steps.items ≡ steps_of_output old.steps.items ++ output_of layers depth m
+  pub steps : PutsOut old.steps new.steps (output_of layers depth m)
   pub faults : new.faults.items ≡ old.faults.items ++ member_faults layers depth m
   pub plain : new.plain ≡ old.plain + plain_of m
 
@@ -34,6 +34,6 @@ pub record TakesPiece (depth : ℕ) (before : List Definition) (piece : Forest) 
 
 -- the output of pieces: the steps and faults of all of them, and the number of those that are plain
 pub record IsOutputOf (depth : ℕ) (pieces : List Forest) (out : Output) : Type 0 where
-  pub steps : steps_of_output out.steps.items ≡ flat_map (output_of layers depth) (members_after layers depth [] pieces)
+  pub steps : HasOutput out.steps (flat_map (output_of layers depth) (members_after layers depth [] pieces))
   pub faults : out.faults.items ≡ flat_map (member_faults layers depth) (members_after layers depth [] pieces)
   pub plain : out.plain ≡ length (looked_of (members_after layers depth [] pieces))

@@ -3,6 +3,7 @@ use Rattle.std.specs.Prelude.{ℕ, List, [], ◌∷◌, ◌++◌, Option, Some, 
 use Rattle.tt_data.specs.Walk.{Step}
 use Rattle.bridge.specs.Printing as printing
 use Rattle.bridge.specs.Printing.{is_visible_step}
+use Rattle.bridge.specs.Spelling as spelling
 use Rattle.expander.specs.Expansion.{PlacedStep}
 
 -- the visible ones of the steps
@@ -42,3 +43,11 @@ module _ (spelling : Step → List PlacedStep → Option (List ℕ)) where
   abbrev pub left_out : List PlacedStep → List PlacedStep
   left_out [] = []
   left_out (s ∷ more) = unspelled s (spelling s.step more) ++ left_out more
+
+-- the steps without their places
+abbrev pub steps_of : List PlacedStep → List Step
+steps_of steps = map (λ s. s.step) steps
+
+-- the spelling of a token, which hangs on no place
+abbrev pub spelling_before : Step → List PlacedStep → Option (List ℕ)
+spelling_before s more = spelling.spelling s (steps_of more)

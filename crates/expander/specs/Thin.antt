@@ -1,25 +1,19 @@
 -- The thin layers, and the texts that they are enough for.
-use Rattle.std.specs.Prelude.{ℕ, Bool, true, false, ◌&&◌, ◌||◌, not, List, if◌then◌else◌, Option, Some, None, Result, Ok, Err, option_and_then, is_some, is_none, nat_lt, chars}
+use Rattle.std.specs.Prelude.{ℕ, Bool, true, false, ◌&&◌, ◌||◌, not, List, if◌then◌else◌, Option, Some, None, Result, Ok, Err, option_and_then, is_some, is_none, nat_lt}
 use Rattle.std.specs.List.{list_all}
 use Prim.Native.String.{String}
-use Rattle.rustc_lexer.specs.Lexing.{tokens_of}
-use Rattle.rustc_lexer.specs.declared.token.Token.{Token}
-use Rattle.rustc_lexer.specs.declared.token.TokenKind.{TokenKind}
-use Rattle.rustc_lexer.specs.declared.token.TokenKind.TheVariants.{RawIdent, Lifetime, Literal, LineComment, BlockComment}
 use Rattle.tt.specs.Building.{most_tokens}
 use Rattle.tt_data.specs.Forest.{Forest, empty, leaf, group, size}
-use Rattle.tt_data.specs.Walk.{Step, at_leaf, opens, closes}
-use Rattle.tt_data.specs.Displayed.{displayed_leaf}
 use Rattle.tt_data.specs.declared.leaf.Leaf.{Leaf}
 use Rattle.tt_data.specs.declared.leaf.Leaf.TheVariants as as_leaf
 use Rattle.bridge.specs.declared.fault.ReadFault.{ReadFault}
-use Rattle.bridge.specs.Spelling.{open_text, close_text}
 use Rattle.bridge.specs.TokenSteps.{text_reading}
 use Rattle.expander.specs.Definitions.{definition_of}
 use Rattle.expander.specs.declared.definitions.Definition.{Definition}
-use Rattle.expander.specs.Expansion.{World, PlacedStep}
+use Rattle.expander.specs.Expansion.{World}
 use Rattle.expander.specs.Meaning.{Layers}
 use Rattle.expander.specs.Pieces.{pieces}
+use Rattle.expander.specs.Printing.{spelling_before}
 use Rattle.bridge.specs.Text.{is_punct}
 use Rattle.expander.specs.ThinFit.{first_fit}
 use Rattle.expander.specs.ThinRules.{rules_of}
@@ -44,14 +38,8 @@ thin_world = record {
   bursts = λ d argument. has_too_many (thin_fit d argument);
 }
 
--- leaves and visible brackets are spelled as they are displayed
-abbrev pub thin_spelling : Step → List PlacedStep → Option (List ℕ)
-thin_spelling (at_leaf l) more = Some (displayed_leaf l)
-thin_spelling (opens kind span) more = open_text kind
-thin_spelling (closes kind span) more = close_text kind
-
 abbrev pub thin_layers : Layers
-thin_layers = record { read = text_reading; world = thin_world; spelling = thin_spelling }
+thin_layers = record { read = text_reading; world = thin_world; spelling = spelling_before }
 
 -- ---- thin texts
 
@@ -85,16 +73,6 @@ abbrev pub is_thin_reading : Result Forest ReadFault → Bool
 is_thin_reading (Ok f) = is_thin_forest f
 is_thin_reading (Err fault) = true
 
--- all kinds of tokens but raw identifiers, lifetimes, literals and doc comments
-abbrev pub is_known : TokenKind → Bool
-is_known RawIdent = false
-is_known (Lifetime starts_with_number) = false
-is_known (Literal kind suffix_start) = false
-is_known (LineComment (Some style)) = false
-is_known (BlockComment (Some style) terminated) = false
-is_known _ = true
-
--- every lexeme is of these kinds, and every definition is within the limits
+-- every definition is within the limits
 abbrev pub is_thin : List ℕ → Bool
-is_thin text =
-    list_all (λ (t : Token). is_known t.kind) (tokens_of (chars text)) && is_thin_reading (text_reading text)
+is_thin text = is_thin_reading (text_reading text)

@@ -12,7 +12,7 @@ use Rattle.expander.specs.Calls.{marked}
 use Rattle.expander.specs.Expansion.{Outcome, Deeper, followed_by, search_calls, expansion}
 use Rattle.expander.specs.Faults.{fault_at}
 use Rattle.expander.specs.Layered.{world}
-use Rattle.expander.specs.OutputSteps.{steps_of_output}
+use Rattle.expander.specs.OutputSteps.{PutsOut}
 
 -- what results are expanded by, with so many levels left
 abbrev pub deeper_at : (List ℕ → Option Definition) → ℕ → Deeper Definition
@@ -49,7 +49,7 @@ told faults = map (λ f. fault_at f.0 f.1) faults
 
 -- an outcome is added to the output
 pub record Adds (old new : Output) (o : Outcome Definition) : Type 0 where
-  pub steps : steps_of_output new.steps.items ≡ steps_of_output old.steps.items ++ o.steps
+  pub steps : PutsOut old.steps new.steps o.steps
   pub faults : new.faults.items ≡ old.faults.items ++ told o.faults
   pub plain : new.plain ≡ old.plain
 

@@ -4,8 +4,8 @@ use Rattle.tt_data.specs.Forest.{Forest, empty, leaf, group}
 use Rattle.tt_data.specs.declared.delimiter.Delimiter.{Delimiter}
 use Rattle.tt_data.specs.declared.delimiter.DelimiterKind.{DelimiterKind}
 use Rattle.tt_data.specs.declared.span.Span.{Span}
-use Rattle.expander.specs.declared.walk.Step.{Step}
-use Rattle.expander.specs.declared.walk.Step.TheVariants.{Leaf, Opens, Closes}
+use Rattle.bridge.specs.declared.walk_step.WalkStep.{WalkStep}
+use Rattle.bridge.specs.declared.walk_step.WalkStep.TheVariants.{Leaf, Opens, Closes}
 use Rattle.expander.specs.declared.walk.Around.{Around}
 use Rattle.expander.specs.declared.walk.Walk.{Walk}
 
@@ -23,13 +23,13 @@ pub record Enters (kind : DelimiterKind) (span : Span) (old new : Walk) : Type 0
   pub groups : groups_of new ≡ record { kind = kind; close_span = brackets.close_span; behind = behind } ∷ groups_of old
 
 -- at the end of a list the innermost group is left, where there is one
-abbrev pub GoesOut : Walk → Option Step → Walk → Type 0
+abbrev pub GoesOut : Walk → Option WalkStep → Walk → Type 0
 GoesOut old (Some (Closes kind span)) new = groups_of old ≡ record { kind = kind; close_span = span; behind = new.here } ∷ groups_of new
 GoesOut old None new = groups_of old ≡ []
 GoesOut old _ new = ⊥
 
 -- one step of a walk, or none at its end
-abbrev pub GoesOn : Walk → Option Step → Walk → Type 0
+abbrev pub GoesOn : Walk → Option WalkStep → Walk → Type 0
 GoesOn old (Some (Leaf l)) new = (old.here ≡ leaf l new.here) × (groups_of new ≡ groups_of old)
 GoesOn old (Some (Opens kind span)) new = Enters kind span old new
 GoesOn old out new = (old.here ≡ empty) × GoesOut old out new

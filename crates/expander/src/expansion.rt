@@ -20,7 +20,7 @@ use crate::calls::{Call, call_at, call_behind_colons};
 use crate::copies::again;
 use crate::definitions::definition_of;
 use crate::faults::{Fault, FaultKind};
-use crate::output::{PlacedStep, push_step, push_walk};
+use crate::output::{PlacedSteps, no_steps, push_step, push_walk};
 use crate::pieces::next_piece;
 use crate::scope::{Known, Scope};
 use crate::substitution::first_fit;
@@ -34,7 +34,7 @@ use tt_data::span::Span;
 /// What the pieces of a text give: the steps of the plain ones, the faults met, and how many are plain.
 #[derive(Drop)]
 pub(crate) struct Output {
-    pub steps: Vec<PlacedStep>,
+    pub steps: PlacedSteps,
     pub faults: Vec<Fault>,
     pub plain: usize,
 }
@@ -198,7 +198,7 @@ pub(crate) fn expand_pieces(alloc: Global, depth: u8, trees: &TtIter<'_>) -> Res
     let most = trees.remaining().len();
     let mut scope = Scope::new(alloc);
     let mut out = Output {
-        steps: Vec::new(alloc),
+        steps: no_steps(alloc),
         faults: Vec::new(alloc),
         plain: 0,
     };

@@ -1,11 +1,10 @@
 // Faults of a text.
-ghost use Rattle.std.specs.Prelude.{◌≡◌, ◌++◌, OnOk};
-ghost use Rattle.expander.specs.Faults.{place, fault_at, is_definition_word, nested, in_order};
-ghost use Rattle.expander.specs.OutputSteps.{step_of, placed_of, tokens_of_output};
+ghost use Rattle.std.specs.Prelude.{◌≡◌, OnOk};
+ghost use Rattle.bridge.specs.WalkSteps.{step_of};
+ghost use Rattle.expander.specs.Faults.{place, is_definition_word, in_order};
 
 use crate::definitions::is_word;
-use crate::output::PlacedStep;
-use crate::walk::Step;
+use bridge::WalkStep;
 use std::alloc::AllocError;
 use tt_data::leaf::Leaf;
 use tt_data::span::{Span, TextRange};
@@ -21,7 +20,7 @@ pub enum FaultKind {
     RecursionLimit,
     /// The words `macro_rules` or `macro` are in the output.
     NestedDefinition,
-    /// A token has no spelling and was left out of the output. It is not told yet.
+    /// A token has no spelling and was left out of the output.
     Unspellable,
 }
 
@@ -32,49 +31,27 @@ pub struct Fault {
     pub range: TextRange,
 }
 
-// Where a fault of an output token is told: at the name of the outermost expanded call, or at the token itself.
-fn place(placed: &PlacedStep) -> Span
-    ensures { result ≡ place (placed_of placed.now) }
+/// Where a fault of a step of the output is told: at the name of the outermost expanded call, or at the step itself.
+pub(crate) fn place(step: &WalkStep, outer: Option<Span>) -> Span
+    ensures { result ≡ place (record { step = step_of step.now; outer = outer }) }
 {
-    if let Some(outer) = placed.outer {
+    if let Some(outer) = outer {
         return outer;
     }
-    match &placed.step {
-        Step::Leaf(leaf) => leaf.span(),
-        Step::Opens(_, span) | Step::Closes(_, span) => *span,
+    match step {
+        WalkStep::Leaf(leaf) => leaf.span(),
+        WalkStep::Opens(_, span) | WalkStep::Closes(_, span) => *span,
     }
 }
 
-// The fault of this kind at a token of the output.
-fn fault_at(kind: FaultKind, placed: &PlacedStep) -> Fault
-    ensures { result ≡ fault_at kind (place (placed_of placed.now)) }
-{
-    Fault {
-        kind,
-        range: place(placed).range,
-    }
-}
-
-// Whether the token is a word that begins a definition.
-fn is_definition_word(step: &Step) -> bool
+/// Whether the step is a word that begins a definition.
+pub(crate) fn is_definition_word(step: &WalkStep) -> bool
     ensures { result ≡ is_definition_word (step_of step.now) }
 {
     match step {
-        Step::Leaf(Leaf::Ident(name)) => is_word(name, "macro_rules") || is_word(name, "macro"),
+        WalkStep::Leaf(Leaf::Ident(name)) => is_word(name, "macro_rules") || is_word(name, "macro"),
         _ => false,
     }
-}
-
-/// Adds a fault for each printed word that begins a definition.
-pub(crate) fn push_nested(faults: &mut Vec<Fault>, steps: &[PlacedStep]) -> Result<(), AllocError>
-    ensures { OnOk result (faults.new.items ≡ faults.old.items ++ nested (tokens_of_output steps.now)) }
-{
-    for placed in steps {
-        if is_definition_word(&placed.step) {
-            faults.push(fault_at(FaultKind::NestedDefinition, placed))?;
-        }
-    }
-    Ok(())
 }
 
 /// Puts the faults in order of start, end and kind.

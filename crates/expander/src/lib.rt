@@ -13,7 +13,6 @@ mod matching;
 mod names;
 mod output;
 mod pieces;
-mod printing;
 pub mod program;
 mod rules;
 mod scope;

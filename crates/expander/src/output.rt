@@ -1,29 +1,50 @@
-// The output of an expansion: steps of a walk, each with its place.
-ghost use Rattle.std.specs.Prelude.{◌≡◌, ◌∷◌, [], ◌++◌, OnOk};
+// The output of an expansion: steps of walks, printed as they come, and where their faults are told.
+ghost use Rattle.std.specs.Prelude.{◌≡◌, ◌∷◌, [], ◌++◌, List, true, slice_get, IfOk, OnOk};
+ghost use Rattle.bridge.specs.PrintedTrees.{print_in};
+ghost use Rattle.bridge.specs.Printing.{is_visible_step, print_of};
+ghost use Rattle.bridge.specs.WalkSteps.{step_of};
 ghost use Rattle.tt_data.specs.Walk.{walk};
-ghost use Rattle.expander.specs.Expansion.{placed};
-ghost use Rattle.expander.specs.OutputSteps.{step_of, steps_of_output};
+ghost use Rattle.expander.specs.Expansion.{PlacedStep, placed};
+ghost use Rattle.expander.specs.OutputSteps.{HasOutput, PutsOut, faults_in, places_of, told_at, words_told};
+ghost use Rattle.expander.specs.Printing.{steps_of};
 
-use crate::walk::{Step, Walk};
+use crate::faults::{Fault, FaultKind, is_definition_word, place};
+use crate::walk::Walk;
+use bridge::{Printed, Printer, WalkStep};
 use std::alloc::{AllocError, Global};
 use tt::iter::TtIter;
-use tt_data::span::Span;
+use tt_data::delimiter::DelimiterKind;
+use tt_data::span::{Span, TextRange};
 
-/// A step of the output, with the span of the name of the outermost call that was expanded to give it.
+/// Steps that were put out. They are not kept but printed, so what is kept of a token is its text and its places.
 #[derive(Drop)]
-pub(crate) struct PlacedStep {
-    pub step: Step,
-    pub outer: Option<Span>,
+pub(crate) struct PlacedSteps {
+    printer: Printer,
+    // Where a fault of each visible token is told, printed or left out.
+    places: Vec<TextRange>,
+    // The faults of the words that begin a definition.
+    nested: Vec<Fault>,
+}
+
+/// No step so far.
+pub(crate) fn no_steps(alloc: Global) -> PlacedSteps
+    ensures { HasOutput result [] }
+{
+    PlacedSteps {
+        printer: Printer::new(alloc),
+        places: Vec::new(alloc),
+        nested: Vec::new(alloc),
+    }
 }
 
 /// Adds the walk of the trees, placed at the name of a call that was expanded, or at none.
 pub(crate) fn push_walk(
     alloc: Global,
-    steps: &mut Vec<PlacedStep>,
+    steps: &mut PlacedSteps,
     trees: &TtIter<'_>,
     outer: Option<Span>,
 ) -> Result<(), AllocError>
-    ensures { OnOk result (steps_of_output steps.new.items ≡ steps_of_output steps.old.items ++ placed outer (walk trees.now)) }
+    ensures { OnOk result (PutsOut steps.old steps.new (placed outer (walk trees.now))) }
 {
     let mut rest = Walk::new(alloc, trees);
     while let Some(step) = rest.next()? {
@@ -34,12 +55,83 @@ pub(crate) fn push_walk(
 
 /// Adds one step.
 pub(crate) fn push_step(
-    steps: &mut Vec<PlacedStep>,
-    step: Step,
+    steps: &mut PlacedSteps,
+    step: WalkStep,
     outer: Option<Span>,
 ) -> Result<(), AllocError>
-    ensures { OnOk result (steps_of_output steps.new.items ≡ steps_of_output steps.old.items ++ placed outer (step_of step ∷ [])) }
+    ensures { OnOk result (PutsOut steps.old steps.new (placed outer (step_of step ∷ []))) }
 {
-    steps.push(PlacedStep { step, outer })?;
+    if is_visible(&step) {
+        push_place(steps, &step, outer)?;
+    }
+    match steps.printer.put_step(&step) {
+        Ok(()) => Ok(()),
+        Err(_) => Err(AllocError),
+    }
+}
+
+fn is_visible(step: &WalkStep) -> bool
+    ensures { result ≡ is_visible_step (step_of step.now) }
+{
+    match step {
+        WalkStep::Leaf(_) => true,
+        WalkStep::Opens(kind, _) | WalkStep::Closes(kind, _) => *kind != DelimiterKind::Invisible,
+    }
+}
+
+// Keeps where the faults of a visible step are told, and tells whether it begins a definition.
+fn push_place(
+    steps: &mut PlacedSteps,
+    step: &WalkStep,
+    outer: Option<Span>,
+) -> Result<(), AllocError>
+    requires { is_visible_step (step_of step.now) ≡ true }
+    ensures places { OnOk result (steps.new.places.items ≡ steps.old.places.items ++ places_of (placed outer (step_of step.now ∷ []))) }
+    ensures nested { OnOk result (steps.new.nested.items ≡ steps.old.nested.items ++ words_told (placed outer (step_of step.now ∷ []))) }
+    ensures printer { steps.new.printer ≡ steps.old.printer }
+{
+    let range = place(step, outer).range;
+    steps.places.push(range)?;
+    if is_definition_word(step) {
+        let kind = FaultKind::NestedDefinition;
+        steps.nested.push(Fault { kind, range })?;
+    }
     Ok(())
+}
+
+// Where a fault of the visible token of this number is told.
+fn place_at(places: &[TextRange], number: usize) -> Option<TextRange>
+    ensures { result ≡ slice_get places.now number }
+{
+    places.get(number).copied()
+}
+
+// Adds a fault for each visible token of these numbers.
+fn push_left_out(
+    faults: &mut Vec<Fault>,
+    places: &[TextRange],
+    numbers: &[usize],
+) -> Result<(), AllocError>
+    ensures { OnOk result (faults.new.items ≡ faults.old.items ++ told_at places.now numbers.now) }
+{
+    for number in numbers {
+        if let Some(range) = place_at(places, *number) {
+            let kind = FaultKind::Unspellable;
+            faults.push(Fault { kind, range })?;
+        }
+    }
+    Ok(())
+}
+
+/// What is printed of the steps. The faults of its tokens and of those that are left out are added.
+pub(crate) fn finish(steps: PlacedSteps, faults: &mut Vec<Fault>) -> Result<Printed, AllocError>
+    ensures printed { IfOk result (λ p. (all : List PlacedStep) → HasOutput steps all → print_in p ≡ print_of (steps_of all)) }
+    ensures faults { OnOk result ((all : List PlacedStep) → HasOutput steps all → faults.new.items ≡ faults.old.items ++ faults_in all) }
+{
+    let Ok(printed) = steps.printer.finish() else {
+        return Err(AllocError);
+    };
+    faults.extend_from_slice(steps.nested.as_slice())?;
+    push_left_out(faults, steps.places.as_slice(), printed.left_out.as_slice())?;
+    Ok(printed)
 }

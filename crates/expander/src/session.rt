@@ -1,5 +1,7 @@
 //! A session over a text.
 ghost use Rattle.std.specs.Prelude.{◌≡◌, ◌≢◌, ℕ, ◌<◌, ◌^◌, List, length, string_bytes, IfOk, OnErr, Ok, Err, None};
+ghost use Rattle.expander.specs.Expansion.{PlacedStep};
+ghost use Rattle.expander.specs.OutputSteps.{HasOutput};
 ghost use Rattle.expander.specs.State.{State};
 ghost use Rattle.expander.specs.Refusals.{refusal_of};
 ghost use Rattle.expander.specs.Replies.{IsReplyTo};
@@ -8,10 +10,10 @@ ghost use Rattle.expander.specs.declared.session.Refusal.TheVariants.{Memory};
 ghost use Rattle.expander.specs.Shown.{ShowsOutput};
 
 use crate::expansion::{Output, expand_pieces};
-use crate::faults::{Fault, push_nested, sort_faults};
+use crate::faults::{Fault, sort_faults};
+use crate::output::finish;
 use crate::pieces::set_apart;
-use crate::printing::print;
-use bridge::{Read, ReadFault};
+use bridge::{Printed, Read, ReadFault};
 use rustc_lexer::{FrontmatterAllowed, Token, tokenize};
 use std::alloc::{AllocError, Global};
 use std::marker::Model;
@@ -177,27 +179,26 @@ fn reply_to_text(alloc: Global, text: &str, depth: u8) -> Result<Reply, Refusal>
         Read::Tree(mut tree) => {
             set_apart(alloc, &mut tree)?;
             let output = expand_pieces(alloc, depth, &tree.token_trees().iter())?;
-            Ok(Reply::Read(expansion_of(alloc, output)?))
+            Ok(Reply::Read(expansion_of(output)?))
         }
     }
 }
 
 // What the output of a text's pieces prints, and all faults in order.
-fn expansion_of(alloc: Global, output: Output) -> Result<Expansion, AllocError>
-    ensures { IfOk result (ShowsOutput output) }
+fn expansion_of(output: Output) -> Result<Expansion, AllocError>
+    ensures { IfOk result (λ e. (steps : List PlacedStep) → HasOutput output.steps steps → ShowsOutput output steps e) }
 {
     let Output {
         steps,
         mut faults,
         plain,
     } = output;
-    push_nested(&mut faults, steps.as_slice())?;
+    let Printed { text, tokens, .. } = finish(steps, &mut faults)?;
     sort_faults(&mut faults)?;
-    let printed = print(alloc, steps.as_slice())?;
     Ok(Expansion {
-        printed: printed.text,
+        printed: text,
         faults,
-        tokens: printed.tokens,
+        tokens: tokens.len(),
         expanded: plain,
     })
 }

@@ -3,20 +3,12 @@ ghost use Rattle.std.specs.Prelude.{◌≡◌, [], ◌∷◌, IfOk, OnOk};
 ghost use Rattle.expander.specs.WalkSteps.{GoesOn, GoesOut, groups_of};
 
 use crate::copies::again;
+use bridge::WalkStep;
 use std::alloc::{AllocError, Global};
 use std::mem::replace;
 use tt::iter::{TtElement, TtIter};
 use tt_data::delimiter::{Delimiter, DelimiterKind};
-use tt_data::leaf::Leaf;
 use tt_data::span::Span;
-
-/// A step of a walk: a leaf, an opening or a closing.
-#[derive(Drop)]
-pub(crate) enum Step {
-    Leaf(Leaf),
-    Opens(DelimiterKind, Span),
-    Closes(DelimiterKind, Span),
-}
 
 /// A group that a walk is in: how it closes, and the trees behind it.
 #[derive(Drop)]
@@ -48,15 +40,15 @@ impl<'a> Walk<'a> {
     }
 
     /// The next step, which is made: none at the end.
-    pub(crate) fn next(&mut self) -> Result<Option<Step>, AllocError>
+    pub(crate) fn next(&mut self) -> Result<Option<WalkStep>, AllocError>
         ensures { IfOk result (λ step. GoesOn self.old step self.new) }
     {
         match self.here.next() {
-            Some(TtElement::Leaf(leaf)) => Ok(Some(Step::Leaf(leaf))),
+            Some(TtElement::Leaf(leaf)) => Ok(Some(WalkStep::Leaf(leaf))),
             Some(TtElement::Subtree(head, inside)) => {
                 let brackets = head.delimiter;
                 self.enter(brackets, inside)?;
-                Ok(Some(Step::Opens(brackets.kind, brackets.open_span)))
+                Ok(Some(WalkStep::Opens(brackets.kind, brackets.open_span)))
             }
             None => Ok(self.leave()),
         }
@@ -78,7 +70,7 @@ impl<'a> Walk<'a> {
     }
 
     // Goes on behind the innermost group: none where it is in none.
-    fn leave(&mut self) -> Option<Step>
+    fn leave(&mut self) -> Option<WalkStep>
         ensures { GoesOut self.old result self.new }
     {
         let Around {
@@ -87,6 +79,6 @@ impl<'a> Walk<'a> {
             behind,
         } = self.around.pop()?;
         self.here = behind;
-        Some(Step::Closes(kind, close_span))
+        Some(WalkStep::Closes(kind, close_span))
     }
 }

@@ -1,5 +1,7 @@
 //! Sessions over texts whose expansions were worked out by hand.
-use expander::FaultKind::{BrokenDefinition, CannotExpand, NestedDefinition, RecursionLimit};
+use expander::FaultKind::{
+    BrokenDefinition, CannotExpand, NestedDefinition, RecursionLimit, Unspellable,
+};
 use expander::ReadFaultKind::{BadToken, CloserDoesNotFit, GroupLeftOpen};
 use expander::{Expansion, Fault, FaultKind, ReadFault, Refusal, Reply, Session, TextRange};
 use std::alloc::{AllocError, Global};
@@ -217,6 +219,60 @@ fn calls_in_groups_and_results(rt: HostRuntime) -> Result<(), Fail> {
             &[fault(RecursionLimit, 68, 69)],
             1,
             10,
+        ),
+    ];
+    for row in rows {
+        shows(&rt, rt.alloc(), row)?;
+    }
+    Ok(())
+}
+
+#[test]
+fn spellings(rt: HostRuntime) -> Result<(), Fail> {
+    let rows: [Row<'_>; 7] = [
+        ("x \"ab\"", 128, "x \"ab\"\n", &[], 1, 2),
+        (
+            "let x=(\"ab\",'c',1u8,r#\"d\"#,b'e');",
+            128,
+            "let x = ( \"ab\" , 'c' , 1u8 , r#\"d\"# , b'e' ) ;\n",
+            &[],
+            1,
+            15,
+        ),
+        // A quote stands right before its name.
+        (
+            "fn f<'a>(x: &'a T) {}",
+            128,
+            "fn f < 'a > ( x : & 'a T ) { }\n",
+            &[],
+            1,
+            16,
+        ),
+        ("r#fn r#x;", 128, "r#fn r#x ;\n", &[], 1, 3),
+        (
+            "/// a \"b\"\nstruct S;\n",
+            128,
+            "# [ doc = \" a \\\"b\\\"\" ] struct S ;\n",
+            &[],
+            1,
+            9,
+        ),
+        (
+            "macro_rules! m { ($a:tt) => { $a 'b \"c\" r#d } }\nm!{ 1.0e3 }\n",
+            128,
+            "1.0e3 'b \"c\" r#d\n",
+            &[],
+            1,
+            5,
+        ),
+        // A quote that is left alone has no spelling: that is told at the name of the call.
+        (
+            "macro_rules! m { ($a:tt $b:tt) => { $a + } }\nm!{ 'x }\n",
+            128,
+            "+\n",
+            &[fault(Unspellable, 45, 46)],
+            1,
+            1,
         ),
     ];
     for row in rows {

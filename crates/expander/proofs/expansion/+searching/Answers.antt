@@ -3,7 +3,7 @@ use Rattle.std.specs.Prelude.{Some, Ok, Err}
 use Rattle.std.proofs.lemmas.Result.{on_ok_weaker}
 use Rattle.expander.specs.CallSteps.{call_behind_colons}
 use Rattle.expander.specs.Expansion.{just}
-use Rattle.expander.specs.OutputSteps.{step_of}
+use Rattle.bridge.specs.WalkSteps.{step_of}
 use Rattle.expander.specs.ScopeTable.{definitions_of}
 use Rattle.expander.specs.Turns.{answer, searched}
 use Rattle.expander.specs.WalkSteps.{GoesOn}

@@ -9,7 +9,7 @@ pub loop-piece-init : goal.loop-piece-init
 loop-piece-init c =
     let counted : c.len-most.result ≡ size c.args.trees.now = c.len-most.ensures.len ∙ ap size c.remaining.ensures in (
       omega (arith, counted, ap size c.again-rest.ensures),
-      rw c.again-rest.ensures (pieces_at_first c.args.depth (cut c.args.trees.now) _ _ c.new-scope.ensures c.new.ensures.items c.new-2.ensures.items refl),
+      rw c.again-rest.ensures (pieces_at_first c.args.depth (cut c.args.trees.now) _ _ c.new-scope.ensures c.no_steps.ensures c.new.ensures.items refl),
     )
 
 pub loop-piece-preserved : goal.loop-piece-preserved

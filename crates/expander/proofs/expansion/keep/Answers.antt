@@ -1,8 +1,8 @@
-use Rattle.std.proofs.Common.{◌≡◌, ◌++◌, ap, sym, refl, ◌∙◌}
+use Rattle.std.proofs.Common.{◌≡◌, ap, sym, refl, subst, ◌∙◌}
 use Rattle.tt_data.specs.Forest.{joined}
 use Rattle.tt_data.specs.Walk.{walk}
 use Rattle.expander.specs.Expansion.{just, placed}
-use Rattle.expander.specs.OutputSteps.{steps_of_output}
+use Rattle.expander.specs.OutputSteps.{PutsOut}
 use Rattle.expander.proofs.CuttingLemmas.{joined-cancel}
 use Rattle.expander.proofs.ExpandLemmas.{adds_just}
 use Rattle.expander.proofs.expansion.keep.Goals as goal
@@ -12,4 +12,4 @@ returns-clause-adds c = λ passed e.
     let is : c.iter-kept.result ≡ passed =
     joined-cancel _ passed c.args.behind (ap (λ f. joined f c.args.behind) c.iter-kept.ensures ∙ sym c.passed_since.ensures ∙ c.remaining.ensures ∙ e) in
     adds_just c.args.out.now _ (just c.args.outer (walk passed)) refl
-    (c.in_ok-push_walk.ensures ∙ ap (λ f. steps_of_output c.args.out.now.steps.items ++ placed c.args.outer (walk f)) is) refl refl
+    (subst (λ f. PutsOut c.args.out.now.steps c.push_walk.new.steps (placed c.args.outer (walk f))) is c.in_ok-push_walk.ensures) refl refl

@@ -1,11 +1,12 @@
-use Rattle.std.proofs.Common.{◌++◌, ◌∷◌, [], sym, ap, ◌∙◌, append_assoc}
-use Rattle.std.specs.Prelude.{Some}
+use Rattle.std.proofs.Common.{◌≡◌, ◌∷◌, ◌++◌, [], sym, ap, refl}
+use Rattle.std.specs.Prelude.{Some, None}
 use Rattle.tt_data.specs.Walk.{walk}
+use Rattle.bridge.specs.WalkSteps.{step_of}
 use Rattle.expander.specs.declared.definitions.Definition.{Definition}
 use Rattle.expander.specs.Expansion.{Outcome, just, placed}
-use Rattle.expander.specs.OutputSteps.{step_of, steps_of_output}
-use Rattle.expander.specs.WalkSteps.{groups_of, GoesOn}
-use Rattle.expander.proofs.OutcomeLemmas.{left, step_left, step_less, walk_search}
+use Rattle.expander.specs.WalkSteps.{GoesOn}
+use Rattle.expander.proofs.OutcomeLemmas.{step_left, step_less, nothing_left, walk_search}
+use Rattle.expander.proofs.PrintingLemmas.{still_more, still_done}
 use Rattle.expander.proofs.output.push_walk.Goals as goal
 
 pub loop-rest-smaller : goal.loop-rest-smaller
@@ -16,7 +17,5 @@ loop-rest-preserved c =
     let now : GoesOn c.loop-rest.rest (Some c.in-Some.step) c.next.new.self = rw c.in-Some.is at c.in_ok-step.ensures in
     let is = step_left {D = Definition} c.args.outer (λ f. just c.args.outer (walk f)) (walk_search c.args.outer) c.loop-rest.rest c.next.new.self c.in-Some.step now
     (λ l first. ap (λ f. just c.args.outer (walk f)) first) in
-    ap (λ xs. xs ++ (left {D = Definition} c.args.outer (λ f. just c.args.outer (walk f)) c.next.new.self.here (groups_of c.next.new.self)).steps) c.in_ok-push_step.ensures
-    ∙ append_assoc (steps_of_output c.loop-rest.steps.items) (placed c.args.outer (step_of c.in-Some.step ∷ [])) _
-    ∙ ap (λ (o : Outcome Definition). steps_of_output c.loop-rest.steps.items ++ o.steps) (sym is)
-    ∙ c.loop-rest.invariant
+    still_more _ c.loop-rest.steps _ _ (placed c.args.outer (step_of c.in-Some.step ∷ [])) _ _ c.loop-rest.invariant
+    (ap (λ (o : Outcome Definition). o.steps) is) c.in_ok-push_step.ensures

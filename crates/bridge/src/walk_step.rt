@@ -1,0 +1,12 @@
+//! Steps of a walk over trees.
+use tt_data::delimiter::DelimiterKind;
+use tt_data::leaf::Leaf;
+use tt_data::span::Span;
+
+/// A step of a walk over trees: a leaf, or a bracket of a group that may be invisible.
+#[derive(Drop)]
+pub enum WalkStep {
+    Leaf(Leaf),
+    Opens(DelimiterKind, Span),
+    Closes(DelimiterKind, Span),
+}
