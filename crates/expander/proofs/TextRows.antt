@@ -1,16 +1,27 @@
 -- Worked rows of thin texts, by computation: each is thin, and means this.
 use Rattle.std.proofs.Common.{◌≡◌, ℕ, List, [], ◌∷◌, ◌++◌, map, refl, true, false, Bool}
-use Rattle.std.specs.Prelude.{codes}
+use Rattle.std.specs.Prelude.{codes, Some}
 use Rattle.std.specs.Char.{encode_utf8}
 use Rattle.std.specs.Str.{chars, is_utf8}
 use Rattle.ucd_derived.specs.Binary.{is_xid_start, is_xid_continue}
 use Rattle.ucd_derived.specs.XidContinueRanges.{xid_continue_ranges}
 use Rattle.ucd_derived.specs.XidStartRanges.{xid_start_ranges}
 use Rattle.ucd_table.specs.Rows.{in_ranges}
-use Rattle.expander.specs.declared.faults.FaultKind.TheVariants.{CannotExpand, BrokenDefinition, NestedDefinition}
+use Rattle.expander.specs.declared.faults.FaultKind.TheVariants.{CannotExpand, BrokenDefinition, NestedDefinition, Unspellable}
+use Rattle.tt_data.specs.Walk.{at_leaf}
+use Rattle.tt_data.specs.declared.leaf.Leaf.TheVariants as as_leaf
+use Rattle.tt_data.specs.declared.leaf.Spacing.TheVariants.{Alone, Joint}
+use Rattle.tt_data.specs.declared.span.Span.{Span}
+use Rattle.tt_data.specs.declared.span.SyntaxContext.TheVariants.{Written}
+use Rattle.expander.specs.Expansion.{PlacedStep, placed}
 use Rattle.expander.specs.Meaning.{meaning}
+use Rattle.expander.specs.OutputSteps.{faults_in, tokens_in}
+use Rattle.expander.specs.Printing.{text_of}
 use Rattle.expander.specs.Thin.{thin_layers, is_thin}
 use Rattle.expander.proofs.Rows.{Shown, gives, shown, lines, fault}
+
+abbrev at : ℕ → ℕ → Span
+at start end = record { range = record { start = start; «end» = end }; anchor = 0; ctx = Written }
 
 -- whether the text of these lines is thin, and what it shows
 abbrev thin : List (List ℕ) → Bool × Shown
@@ -104,3 +115,28 @@ other_lexemes : thin (codes "r#x = (\"a\", 'b', 1u8); f::<'c>() // d" ∷ [])
     ≡ (true, gives (lines (codes "r#x = ( \"a\" , 'b' , 1u8 ) ;" ∷ codes "f ::< 'c > ( )" ∷ [])) [])
 unfolding chars is_utf8 is_xid_start is_xid_continue in_ranges xid_start_ranges xid_continue_ranges encode_utf8
 other_lexemes = refl
+
+lifetimes : thin (codes "fn f<'a>(x: &'a T) {}" ∷ []) ≡ (true, gives (lines (codes "fn f < 'a > ( x : & 'a T ) { }" ∷ [])) [])
+unfolding chars is_utf8 is_xid_start is_xid_continue in_ranges xid_start_ranges xid_continue_ranges encode_utf8
+lifetimes = refl
+
+doc_comments : thin (codes "/// a \"b\"" ∷ codes "struct S;" ∷ []) ≡ (true, gives (lines (codes "# [ doc = \" a \\\"b\\\"\" ] struct S ;" ∷ [])) [])
+unfolding chars is_utf8 is_xid_start is_xid_continue in_ranges xid_start_ranges xid_continue_ranges encode_utf8
+doc_comments = refl
+
+-- ---- a quote that is left alone
+
+-- from a call's result: a quote, and a plus behind it
+abbrev lone_quote : List PlacedStep
+lone_quote =
+    placed (Some (at 7 8)) (at_leaf (as_leaf.Punct (record { char = 39; spacing = Joint; span = at 1 2 }))
+    ∷ at_leaf (as_leaf.Punct (record { char = 43; spacing = Alone; span = at 2 3 })) ∷ [])
+
+-- it is left out, which is told at the call's name
+quote_is_left_out : text_of (tokens_in lone_quote) ≡ lines (codes "+" ∷ [])
+unfolding chars is_utf8 is_xid_start is_xid_continue in_ranges xid_start_ranges xid_continue_ranges encode_utf8
+quote_is_left_out = refl
+
+quote_is_told : faults_in lone_quote ≡ fault Unspellable 7 8 ∷ []
+unfolding chars is_utf8 is_xid_start is_xid_continue in_ranges xid_start_ranges xid_continue_ranges encode_utf8
+quote_is_told = refl

@@ -1,4 +1,4 @@
-use Rattle.std.proofs.Common.{◌≡◌, ◌++◌, ap, sym, ◌∙◌, append_assoc}
+use Rattle.std.proofs.Common.{◌++◌, ap, ◌∙◌, append_assoc}
 use Rattle.bridge.specs.Printing.{Print}
 use Rattle.expander.specs.OutputSteps.{told_at}
 use Rattle.expander.specs.Printing.{steps_of}

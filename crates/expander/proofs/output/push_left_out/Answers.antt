@@ -1,4 +1,4 @@
-use Rattle.std.proofs.Common.{◌≡◌, ◌+◌, ◌∷◌, [], ◌++◌, arith, ap, sym, ◌∙◌, append_assoc, drop}
+use Rattle.std.proofs.Common.{◌+◌, ◌∷◌, [], ◌++◌, arith, ap, sym, ◌∙◌, append_assoc, drop}
 use Rattle.expander.specs.declared.faults.Fault.{Fault}
 use Rattle.expander.specs.declared.faults.FaultKind.TheVariants.{Unspellable}
 use Rattle.expander.specs.OutputSteps.{told_in, told_at}

@@ -1,12 +1,12 @@
-use Rattle.std.proofs.Common.{◌≡◌, ◌∷◌, ◌++◌, [], sym, ap, refl}
-use Rattle.std.specs.Prelude.{Some, None}
+use Rattle.std.proofs.Common.{◌∷◌, [], ap}
+use Rattle.std.specs.Prelude.{Some}
 use Rattle.tt_data.specs.Walk.{walk}
 use Rattle.bridge.specs.WalkSteps.{step_of}
 use Rattle.expander.specs.declared.definitions.Definition.{Definition}
 use Rattle.expander.specs.Expansion.{Outcome, just, placed}
 use Rattle.expander.specs.WalkSteps.{GoesOn}
-use Rattle.expander.proofs.OutcomeLemmas.{step_left, step_less, nothing_left, walk_search}
-use Rattle.expander.proofs.PrintingLemmas.{still_more, still_done}
+use Rattle.expander.proofs.OutcomeLemmas.{step_left, step_less, walk_search}
+use Rattle.expander.proofs.PrintingLemmas.{still_more}
 use Rattle.expander.proofs.output.push_walk.Goals as goal
 
 pub loop-rest-smaller : goal.loop-rest-smaller

@@ -1,4 +1,4 @@
-use Rattle.std.proofs.Common.{◌≡◌, ap, refl, ◌∙◌, length}
+use Rattle.std.proofs.Common.{ap, refl, ◌∙◌, length}
 use Rattle.bridge.specs.Printing.{Print}
 use Rattle.expander.specs.Faults.{in_order}
 use Rattle.expander.proofs.PrintingLemmas.{text_is, count_is}
