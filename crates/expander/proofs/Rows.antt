@@ -12,19 +12,23 @@ use Rattle.expander.specs.declared.faults.FaultKind.{FaultKind}
 use Rattle.expander.specs.declared.faults.FaultKind.TheVariants.{CannotExpand, BrokenDefinition, RecursionLimit, NestedDefinition}
 use Rattle.bridge.specs.declared.fault.ReadFault.{ReadFault}
 use Rattle.bridge.specs.declared.fault.ReadFaultKind.TheVariants.{BadToken, CloserDoesNotFit, GroupLeftOpen}
-use Rattle.expander.specs.Meaning.{meaning, ReadMeaning}
-use Rattle.expander.specs.Thin.{thin_layers, is_thin}
+use Rattle.expander.specs.Meaning.{Layers, meaning, ReadMeaning}
+use Rattle.expander.specs.Runs.{run_layers}
+use Rattle.expander.specs.Thin.{is_thin}
 
 -- what a row shows of a text's meaning
 pub data Shown : Type 0 where
   gives : List ℕ → List Fault → Shown
   unread : ReadFault → Shown
 
-abbrev pub shown_at : (depth : ℕ) → Result (ReadMeaning thin_layers depth) ReadFault → Shown
-shown_at depth (Ok m) = gives m.text m.faults
-shown_at depth (Err fault) = unread fault
+abbrev pub shown_of : (layers : Layers) (depth : ℕ) → Result (ReadMeaning layers depth) ReadFault → Shown
+shown_of layers depth (Ok m) = gives m.text m.faults
+shown_of layers depth (Err fault) = unread fault
 
-abbrev pub shown : Result (ReadMeaning thin_layers 128) ReadFault → Shown
+abbrev pub shown_at : (depth : ℕ) → Result (ReadMeaning run_layers depth) ReadFault → Shown
+shown_at depth m = shown_of run_layers depth m
+
+abbrev pub shown : Result (ReadMeaning run_layers 128) ReadFault → Shown
 shown = shown_at 128
 
 abbrev pub lines : List (List ℕ) → List ℕ
@@ -32,7 +36,7 @@ lines [] = []
 lines (l ∷ ls) = l ++ (10 ∷ lines ls)
 
 abbrev of : List (List ℕ) → Shown
-of ls = shown (meaning thin_layers 128 (lines ls))
+of ls = shown (meaning run_layers 128 (lines ls))
 
 abbrev pub fault : FaultKind → ℕ → ℕ → Fault
 fault kind start end = record { kind = kind; range = record { start = start; «end» = end } }
@@ -181,22 +185,22 @@ two_puncts_are_one_tree_is_thin : is_thin (lines (codes "macro_rules! m { ($a:tt
 unfolding chars is_xid_start is_xid_continue in_ranges xid_start_ranges xid_continue_ranges encode_utf8
 two_puncts_are_one_tree_is_thin = refl
 
-left_open : shown (meaning thin_layers 128 (codes "fn f( {")) ≡ unread (record { kind = GroupLeftOpen; range = record { start = 6; «end» = 7 } })
+left_open : shown (meaning run_layers 128 (codes "fn f( {")) ≡ unread (record { kind = GroupLeftOpen; range = record { start = 6; «end» = 7 } })
 unfolding chars is_xid_start is_xid_continue in_ranges xid_start_ranges xid_continue_ranges encode_utf8
 left_open = refl
 
-closer : shown (meaning thin_layers 128 (codes "(]")) ≡ unread (record { kind = CloserDoesNotFit; range = record { start = 1; «end» = 2 } })
+closer : shown (meaning run_layers 128 (codes "(]")) ≡ unread (record { kind = CloserDoesNotFit; range = record { start = 1; «end» = 2 } })
 unfolding chars is_xid_start is_xid_continue in_ranges xid_start_ranges xid_continue_ranges encode_utf8
 closer = refl
 
-bad : shown (meaning thin_layers 128 (codes "x \"ab")) ≡ unread (record { kind = BadToken; range = record { start = 2; «end» = 5 } })
+bad : shown (meaning run_layers 128 (codes "x \"ab")) ≡ unread (record { kind = BadToken; range = record { start = 2; «end» = 5 } })
 unfolding chars is_xid_start is_xid_continue in_ranges xid_start_ranges xid_continue_ranges encode_utf8
 bad = refl
 
-first_of_two_faults : shown (meaning thin_layers 128 (codes ") \"")) ≡ unread (record { kind = CloserDoesNotFit; range = record { start = 0; «end» = 1 } })
+first_of_two_faults : shown (meaning run_layers 128 (codes ") \"")) ≡ unread (record { kind = CloserDoesNotFit; range = record { start = 0; «end» = 1 } })
 unfolding chars is_xid_start is_xid_continue in_ranges xid_start_ranges xid_continue_ranges encode_utf8
 first_of_two_faults = refl
 
-at_depth_zero : shown_at 0 (meaning thin_layers 0 (lines (codes "macro_rules! s { (a) => { b } }" ∷ codes "s!{c}" ∷ []))) ≡ gives (lines (codes "s ! { c }" ∷ [])) (fault RecursionLimit 32 33 ∷ [])
+at_depth_zero : shown_at 0 (meaning run_layers 0 (lines (codes "macro_rules! s { (a) => { b } }" ∷ codes "s!{c}" ∷ []))) ≡ gives (lines (codes "s ! { c }" ∷ [])) (fault RecursionLimit 32 33 ∷ [])
 unfolding chars is_xid_start is_xid_continue in_ranges xid_start_ranges xid_continue_ranges encode_utf8
 at_depth_zero = refl

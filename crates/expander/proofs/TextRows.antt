@@ -9,12 +9,13 @@ use Rattle.ucd_derived.specs.XidStartRanges.{xid_start_ranges}
 use Rattle.ucd_table.specs.Rows.{in_ranges}
 use Rattle.expander.specs.declared.faults.FaultKind.TheVariants.{CannotExpand, BrokenDefinition, NestedDefinition}
 use Rattle.expander.specs.Meaning.{meaning}
-use Rattle.expander.specs.Thin.{thin_layers, is_thin}
+use Rattle.expander.specs.Runs.{run_layers}
+use Rattle.expander.specs.Thin.{is_thin}
 use Rattle.expander.proofs.Rows.{Shown, gives, shown, lines, fault}
 
 -- whether the text of these lines is thin, and what it shows
 abbrev thin : List (List ℕ) → Bool × Shown
-thin ls = (is_thin (lines ls), shown (meaning thin_layers 128 (lines ls)))
+thin ls = (is_thin (lines ls), shown (meaning run_layers 128 (lines ls)))
 
 definitions_in_each_bracket : thin (codes "macro_rules! m ( () => { x } );" ∷ codes "#[a] #[b(c)] macro_rules! n [ () => ( y ); ];" ∷ codes "m!(); n![];" ∷ [])
     ≡ (true, gives (lines (codes "x ;" ∷ codes "y ;" ∷ [])) [])
@@ -84,21 +85,26 @@ faults_in_order : thin (codes "macro_rules! m { (x) => { macro macro } }" ∷ co
 unfolding chars is_xid_start is_xid_continue in_ranges xid_start_ranges xid_continue_ranges encode_utf8
 faults_in_order = refl
 
--- ---- broken definitions, thin or not
+-- ---- definitions by their bodies
 
 abbrev of_body : List ℕ → Shown
-of_body body = shown (meaning thin_layers 128 (codes "macro_rules! m { " ++ (body ++ codes " }")))
+of_body body = shown (meaning run_layers 128 (codes "macro_rules! m { " ++ (body ++ codes " }")))
 
-broken_bodies : map of_body (codes "()" ∷ codes "() -> { }" ∷ codes "() => { } x" ∷ codes "() => { } () => { }" ∷ codes "() => { };;" ∷ codes "() => { $crate }" ∷ codes "() => { $ }"
-    ∷ codes "() => { ($(x)*) }" ∷ codes "($($a:tt)*) => { }" ∷ codes "($a) => { }" ∷ codes "([$a:expr]) => { }" ∷ codes "attr() () => { }" ∷ codes "unsafe () => { }" ∷ [])
-    ≡ map (λ (n : ℕ). gives [] (fault BrokenDefinition 13 14 ∷ [])) (1 ∷ 2 ∷ 3 ∷ 4 ∷ 5 ∷ 6 ∷ 7 ∷ 8 ∷ 9 ∷ 10 ∷ 11 ∷ 12 ∷ 13 ∷ [])
+broken_bodies : map of_body (codes "()" ∷ codes "() -> { }" ∷ codes "() => { } x" ∷ codes "() => { } () => { }" ∷ codes "() => { };;" ∷ codes "($a) => { }"
+    ∷ codes "($($a:vis)*) => { }" ∷ codes "($($a:tt)) => { }" ∷ [])
+    ≡ map (λ (n : ℕ). gives [] (fault BrokenDefinition 13 14 ∷ [])) (1 ∷ 2 ∷ 3 ∷ 4 ∷ 5 ∷ 6 ∷ 7 ∷ 8 ∷ [])
 unfolding chars is_xid_start is_xid_continue in_ranges xid_start_ranges xid_continue_ranges encode_utf8
 broken_bodies = refl
 
-macros_are_broken : thin (codes "macro k($a:ident) { $a } pub(a) macro l { () => { } }" ∷ codes "k!{z}" ∷ [])
-    ≡ (false, gives (lines (codes "k ! { z }" ∷ [])) (fault BrokenDefinition 6 7 ∷ fault BrokenDefinition 38 39 ∷ fault BrokenDefinition 54 55 ∷ []))
+whole_bodies : map of_body (codes "() => { $crate }" ∷ codes "($($a:tt)*) => { }" ∷ codes "([$a:expr]) => { }" ∷ codes "attr() () => { }" ∷ codes "unsafe () => { }" ∷ [])
+    ≡ map (λ (n : ℕ). gives [] []) (1 ∷ 2 ∷ 3 ∷ 4 ∷ 5 ∷ [])
 unfolding chars is_xid_start is_xid_continue in_ranges xid_start_ranges xid_continue_ranges encode_utf8
-macros_are_broken = refl
+whole_bodies = refl
+
+by_the_word_macro : thin (codes "macro k($a:ident) { $a } pub(a) macro l { (x) => { y }, () => { z } }" ∷ codes "k!{w} l!{x} l!{} k!{}" ∷ [])
+    ≡ (true, gives (lines (codes "w y z k ! { }" ∷ [])) (fault CannotExpand 87 88 ∷ []))
+unfolding chars is_xid_start is_xid_continue in_ranges xid_start_ranges xid_continue_ranges encode_utf8
+by_the_word_macro = refl
 
 -- ---- texts of other lexemes are not thin yet
 

@@ -1,5 +1,5 @@
 -- What a session replies: the meaning of its text.
-use Rattle.std.specs.Prelude.{◌≡◌, ℕ, length, None, Result, Ok, Err, IsTrue}
+use Rattle.std.specs.Prelude.{◌≡◌, ℕ, List, length, None, Result, Ok, Err, IsTrue}
 use Rattle.tt_data.specs.Forest.{Forest}
 use Rattle.bridge.specs.declared.fault.ReadFault.{ReadFault}
 use Rattle.expander.specs.declared.session.Reply.{Reply}
@@ -7,8 +7,7 @@ use Rattle.expander.specs.declared.session.Reply.TheVariants.{Read, Unread}
 use Rattle.expander.specs.Count.{expanded_count, looked_of}
 use Rattle.expander.specs.Expanded.{Expanded}
 use Rattle.expander.specs.Meaning.{Layers, ReadMeaning, meaning}
-use Rattle.expander.specs.State.{State}
-use Rattle.expander.specs.Thin.{thin_layers, is_thin}
+use Rattle.expander.specs.Thin.{is_thin}
 
 -- an expansion is what the text means: its printed text, its faults in order, the number of its tokens, and how many of
 -- its pieces were expanded where no earlier text was
@@ -31,6 +30,6 @@ IsReadAs (Err fault) (Unread told) = told ≡ fault
 IsReadAs _ _ = ⊥
 
 -- what a session may reply: every text is read, or has its reading fault; and a thin text's reply is what it means
-pub record IsReplyTo (state : State) (reply : Reply) : Type 0 where
-  pub is_read : IsReadAs (thin_layers.read state.text) reply
-  pub meant : IsTrue (is_thin state.text) → IsMeant thin_layers state.depth (meaning thin_layers state.depth state.text) reply
+pub record IsReplyTo (layers : Layers) (depth : ℕ) (text : List ℕ) (reply : Reply) : Type 0 where
+  pub is_read : IsReadAs (layers.read text) reply
+  pub meant : IsTrue (is_thin text) → IsMeant layers depth (meaning layers depth text) reply

@@ -1,7 +1,7 @@
 use Rattle.std.proofs.Common.{◌++◌, ◌∷◌, [], sym, ap, ◌∙◌, append_assoc}
 use Rattle.std.specs.Prelude.{Some}
 use Rattle.tt_data.specs.Walk.{walk}
-use Rattle.expander.specs.declared.definitions.Definition.{Definition}
+use Rattle.expander.specs.Definitions.{Definition}
 use Rattle.expander.specs.Expansion.{Outcome, just, placed}
 use Rattle.expander.specs.OutputSteps.{step_of, steps_of_output}
 use Rattle.expander.specs.WalkSteps.{groups_of, GoesOn}

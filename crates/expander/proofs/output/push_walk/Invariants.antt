@@ -1,6 +1,6 @@
 use Rattle.std.proofs.Common.{◌≡◌, ◌++◌}
 use Rattle.tt_data.specs.Walk.{walk}
-use Rattle.expander.specs.declared.definitions.Definition.{Definition}
+use Rattle.expander.specs.Definitions.{Definition}
 use Rattle.expander.specs.Expansion.{just, placed}
 use Rattle.expander.specs.OutputSteps.{steps_of_output}
 use Rattle.expander.specs.WalkSteps.{groups_of}
