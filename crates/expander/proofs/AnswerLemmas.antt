@@ -1,56 +1,48 @@
 -- What a definition says to a call, by its rules.
-use Rattle.std.proofs.Common.{◌≡◌, ℕ, zero, suc, List, refl, sym, ap, ◌∙◌, Bool, true, false, if◌then◌else◌, arith}
-use Rattle.std.proofs.lemmas.Bool.Decides.{nat_tests}
-use Rattle.std.specs.Prelude.{Option, Some, None, is_none, option_and_then, option_map, All, Result, Ok, Err, not, ◌&&◌}
+use Rattle.std.proofs.Common.{◌≡◌, ℕ, zero, suc, refl, sym, ap, ◌∙◌, Bool, true, false, if◌then◌else◌}
+use Rattle.std.specs.Prelude.{Option, Some, None, is_some, option_map, Result, Ok, Err, not, ◌&&◌}
 use Rattle.tt.specs.Tops.{Top}
 use Rattle.tt_data.specs.Forest.{Forest}
-use Rattle.expander.specs.declared.definitions.Definition.{Definition}
+use Rattle.tt_data.specs.declared.edition.Edition.{Edition}
+use Rattle.mbe.specs.Bursts as made_by
+use Rattle.mbe.specs.Grammar.{Grammar}
+use Rattle.mbe.specs.Markers.{is_name}
+use Rattle.mbe_rules.specs.Items.{Rules}
+use Rattle.mbe_rules.specs.declared.macro_call_style.MacroCallStyle.TheVariants.{FnLike}
+use Rattle.expander.specs.Definitions.{Definition}
 use Rattle.expander.specs.declared.faults.FaultKind.{FaultKind}
 use Rattle.expander.specs.declared.faults.FaultKind.TheVariants.{CannotExpand, BrokenDefinition, RecursionLimit}
-use Rattle.expander.specs.declared.rules.Rule.{Rule}
-use Rattle.expander.specs.Filling.{GivesTooMany}
-use Rattle.expander.specs.Layered.{world}
-use Rattle.expander.specs.Thin.{thin_rules, has_too_many}
-use Rattle.expander.specs.ThinFit.{first_fit}
-use Rattle.expander.specs.ThinRules.{rules_of, IsRule}
 use Rattle.expander.specs.Turns.{answer_at, answer, makes_too_many, trees_of}
-use Rattle.expander.proofs.RuleLemmas.{rules_of-forms}
+use Rattle.expander.specs.World.{world, rules_in, fit_of, made}
 
-read_rules : (b : Bool) (o : Option (List Rule)) (rs : List Rule) → (if b then None else o) ≡ Some rs → o ≡ Some rs
-read_rules true o rs e = cc
-read_rules false o rs e = e
+-- a definition with the rules that are read of it
+module _ (grammar : Grammar) (edition : Edition) (d : Definition) (argument : Forest) (rules : Rules) (are : rules ≡ rules_in edition d) where
+  answer_by : (broken : Bool) (depth : ℕ) → is_some rules.err ≡ broken
+      → (if broken then Err BrokenDefinition else answer_at depth (fit_of grammar rules argument)) ≡ answer (world grammar edition) d depth argument
+  answer_by broken depth e =
+      ap (λ b. if b then Err BrokenDefinition else answer_at depth (fit_of grammar rules argument)) (sym e)
+      ∙ ap (λ (r : Rules). if is_some r.err then Err BrokenDefinition else answer_at depth (fit_of grammar r argument)) are
 
-pub thin_rules-forms : (d : Definition) (rs : List Rule) → thin_rules d ≡ Some rs → All IsRule rs
-thin_rules-forms d rs e = rules_of-forms d.body rs (read_rules d.is_macro (rules_of d.body) rs e)
+  pub answer_broken : (depth : ℕ) → is_some rules.err ≡ true → Err BrokenDefinition ≡ answer (world grammar edition) d depth argument
+  answer_broken depth e = answer_by true depth e
 
-pub answer_broken : (d : Definition) (depth : ℕ) (argument : Forest) → thin_rules d ≡ None → answer d depth argument ≡ Err BrokenDefinition
-answer_broken d depth argument e = ap (λ o. if is_none o then Err BrokenDefinition else answer_at depth (world.fit d argument)) e
+  pub answer_stopped : is_some rules.err ≡ false → Err RecursionLimit ≡ answer (world grammar edition) d 0 argument
+  answer_stopped e = answer_by false 0 e
 
--- a definition with rules
-module _ (d : Definition) (rs : List Rule) (argument : Forest) (e : thin_rules d ≡ Some rs) where
-  answer_by : (depth : ℕ) → answer d depth argument ≡ answer_at depth (first_fit rs argument)
-  answer_by depth =
-      ap (λ o. if is_none o then Err BrokenDefinition else answer_at depth (world.fit d argument)) e
-      ∙ ap (λ o. answer_at depth (option_and_then (λ rules. first_fit rules argument) o)) e
-
-  pub answer_stopped : answer d 0 argument ≡ Err RecursionLimit
-  answer_stopped = answer_by 0
-
-  given_at : (depth : ℕ) → (depth ≡ 0 → ⊥) → (o : Option Top) → option_map (λ (t : Top). t.inner) o ≡ first_fit rs argument
-      → (r : Result Top FaultKind) → (o ≡ None → r ≡ Err CannotExpand) → ((t : Top) → o ≡ Some t → r ≡ Ok t) → trees_of r ≡ answer_at depth (first_fit rs argument)
+  given_at : (depth : ℕ) → (depth ≡ 0 → ⊥) → (o : Option Top) → option_map (λ (t : Top). t.inner) o ≡ fit_of grammar rules argument
+      → (r : Result Top FaultKind) → (o ≡ None → r ≡ Err CannotExpand) → ((t : Top) → o ≡ Some t → r ≡ Ok t) → trees_of r ≡ answer_at depth (fit_of grammar rules argument)
   given_at zero deep o fits r stays comes = absurd (deep refl)
   given_at (suc n) deep None fits r stays comes = ap trees_of (stays refl) ∙ ap (answer_at (suc n)) fits
   given_at (suc n) deep (Some t) fits r stays comes = ap trees_of (comes t refl) ∙ ap (answer_at (suc n)) fits
 
-  pub answer_given : (depth : ℕ) → (depth ≡ 0 → ⊥) → (o : Option Top) → option_map (λ (t : Top). t.inner) o ≡ first_fit rs argument
-      → (r : Result Top FaultKind) → (o ≡ None → r ≡ Err CannotExpand) → ((t : Top) → o ≡ Some t → r ≡ Ok t) → trees_of r ≡ answer d depth argument
-  answer_given depth deep o fits r stays comes = given_at depth deep o fits r stays comes ∙ sym (answer_by depth)
+  pub answer_given : (depth : ℕ) → (depth ≡ 0 → ⊥) → is_some rules.err ≡ false → (o : Option Top) → option_map (λ (t : Top). t.inner) o ≡ fit_of grammar rules argument
+      → (r : Result Top FaultKind) → (o ≡ None → r ≡ Err CannotExpand) → ((t : Top) → o ≡ Some t → r ≡ Ok t)
+      → trees_of r ≡ answer (world grammar edition) d depth argument
+  answer_given depth deep e o fits r stays comes = given_at depth deep o fits r stays comes ∙ answer_by false depth e
 
-  many : (o : Option Forest) → GivesTooMany o → has_too_many o ≡ true
-  many None much = absurd much
-  many (Some f) much = grind (arith, nat_tests, much)
-
-  pub many_by : (depth : ℕ) → (depth ≡ 0 → ⊥) → GivesTooMany (first_fit rs argument) → makes_too_many d depth argument ≡ true
-  many_by zero deep much = absurd (deep refl)
-  many_by (suc n) deep much =
-      ap (λ o. not (is_none o) && has_too_many (option_and_then (λ rules. first_fit rules argument) o)) e ∙ many (first_fit rs argument) much
+  pub many_by : (depth : ℕ) → (depth ≡ 0 → ⊥) → is_some rules.err ≡ false → made_by.bursts is_name grammar made rules.list FnLike argument ≡ true
+      → makes_too_many (world grammar edition) d depth argument ≡ true
+  many_by zero deep e much = absurd (deep refl)
+  many_by (suc n) deep e much =
+      ap (λ (r : Rules). not (is_some r.err) && made_by.bursts is_name grammar made r.list FnLike argument) (sym are)
+      ∙ ap (λ b. not b && made_by.bursts is_name grammar made rules.list FnLike argument) e ∙ much

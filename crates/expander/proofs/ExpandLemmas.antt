@@ -6,16 +6,15 @@ use Rattle.tt_data.specs.Forest.{Forest, joined}
 use Rattle.tt_data.specs.Walk.{walk}
 use Rattle.tt_data.specs.declared.span.Span.{Span}
 use Rattle.expander.specs.declared.calls.Call.{Call}
-use Rattle.expander.specs.declared.definitions.Definition.{Definition}
+use Rattle.expander.specs.Definitions.{Definition}
 use Rattle.expander.specs.declared.expansion.Output.{Output}
 use Rattle.expander.specs.declared.faults.FaultKind.{FaultKind}
 use Rattle.expander.specs.declared.faults.FaultKind.TheVariants.{CannotExpand, BrokenDefinition, RecursionLimit}
 use Rattle.bridge.specs.declared.walk_step.WalkStep.{WalkStep}
 use Rattle.expander.specs.declared.walk.Walk.{Walk}
 use Rattle.expander.specs.CallSteps.{call_at, call_behind_colons}
-use Rattle.expander.specs.Expansion.{Outcome, CallSite, placed, just, followed_by, bursting, found, stays, unbroken, fitted, expansion}
+use Rattle.expander.specs.Expansion.{World, Outcome, CallSite, placed, just, followed_by, bursting, found, stays, unbroken, fitted, expansion}
 use Rattle.expander.specs.Faults.{fault_at}
-use Rattle.expander.specs.Layered.{world}
 use Rattle.bridge.specs.WalkSteps.{step_of}
 use Rattle.expander.specs.OutputSteps.{PutsOut}
 use Rattle.expander.specs.WalkSteps.{groups_of, GoesOn}
@@ -24,15 +23,15 @@ use Rattle.expander.proofs.OutcomeLemmas.{or_first, or_later, followed_assoc, fo
 use Rattle.expander.proofs.PrintingLemmas.{puts_none, puts_more}
 use Rattle.expander.proofs.TurnLemmas.{call_smaller, colons_smaller, rest_smaller, is_search, unknown_search, colons_search, known_search, leaf_search}
 
-pub expansion_is : (scope : List ℕ → Option Definition) (depth : ℕ) (outer : Option Span) (f : Forest) → expansion world scope depth outer f ≡ searched scope depth outer f
-expansion_is scope zero outer f = refl
-expansion_is scope (suc n) outer f = refl
+pub expansion_is : (world : World Definition) (scope : List ℕ → Option Definition) (depth : ℕ) (outer : Option Span) (f : Forest) → expansion world scope depth outer f ≡ searched world scope depth outer f
+expansion_is world scope zero outer f = refl
+expansion_is world scope (suc n) outer f = refl
 
 -- ---- what a definition says
 
-module _ (scope : List ℕ → Option Definition) (d : Definition) (outer : Option Span) (site : CallSite) where
+module _ (world : World Definition) (scope : List ℕ → Option Definition) (d : Definition) (outer : Option Span) (site : CallSite) where
   abbrev of_call : Bool → ℕ → Outcome Definition
-  of_call broken depth = unbroken world d broken (deeper_at scope depth) outer site
+  of_call broken depth = unbroken world d broken (deeper_at world scope depth) outer site
 
   stays_at : (broken : Bool) (depth : ℕ) (given : Option Forest) (kind : FaultKind) → world.fit d site.argument ≡ given
       → (if broken then Err BrokenDefinition else answer_at depth given) ≡ Err kind
@@ -45,13 +44,13 @@ module _ (scope : List ℕ → Option Definition) (d : Definition) (outer : Opti
       (b, ap (λ o. bursting b (fitted (expansion world scope n) outer site o)) fits ∙ ap (λ k. bursting b (stays k outer site)) is)
   stays_at false (suc n) (Some g) kind fits e = absurd (cc e)
 
-  pub stays_is : (depth : ℕ) (kind : FaultKind) → answer d depth site.argument ≡ Err kind
+  pub stays_is : (depth : ℕ) (kind : FaultKind) → answer world d depth site.argument ≡ Err kind
       → (b : Bool) × (of_call (world.broken d) depth ≡ bursting b (stays kind outer site))
   stays_is depth kind e = stays_at (world.broken d) depth (world.fit d site.argument) kind refl e
 
   comes_at : (broken : Bool) (depth : ℕ) (given : Option Forest) (g : Forest) → world.fit d site.argument ≡ given
       → (if broken then Err BrokenDefinition else answer_at depth given) ≡ Ok g
-      → (0 < depth) × (of_call broken depth ≡ bursting (world.bursts d site.argument) (searched scope (depth - 1) (Some (unwrap_or outer site.at)) g))
+      → (0 < depth) × (of_call broken depth ≡ bursting (world.bursts d site.argument) (searched world scope (depth - 1) (Some (unwrap_or outer site.at)) g))
   comes_at true depth given g fits e = absurd (cc e)
   comes_at false zero given g fits e = absurd (cc e)
   comes_at false (suc n) None g fits e = absurd (cc e)
@@ -62,25 +61,25 @@ module _ (scope : List ℕ → Option Definition) (d : Definition) (outer : Opti
       let less : suc n - 1 ≡ n = omega arith in (
         omega arith,
         ap (λ o. bursting b (fitted (expansion world scope n) outer site o)) fits
-            ∙ ap (bursting b) (ap (expansion world scope n at) is ∙ expansion_is scope n at g ∙ ap (λ m. searched scope m at g) (sym less)),
+            ∙ ap (bursting b) (ap (expansion world scope n at) is ∙ expansion_is world scope n at g ∙ ap (λ m. searched world scope m at g) (sym less)),
       )
 
-  pub comes_is : (depth : ℕ) (g : Forest) → answer d depth site.argument ≡ Ok g
-      → (0 < depth) × (of_call (world.broken d) depth ≡ bursting (world.bursts d site.argument) (searched scope (depth - 1) (Some (unwrap_or outer site.at)) g))
+  pub comes_is : (depth : ℕ) (g : Forest) → answer world d depth site.argument ≡ Ok g
+      → (0 < depth) × (of_call (world.broken d) depth ≡ bursting (world.bursts d site.argument) (searched world scope (depth - 1) (Some (unwrap_or outer site.at)) g))
   comes_is depth g e = comes_at (world.broken d) depth (world.fit d site.argument) g refl e
 
   bursts_at : (broken : Bool) (n : ℕ) → (not broken && world.bursts d site.argument) ≡ true → (of_call broken (suc n)).bursts ≡ true
   bursts_at true n e = absurd (cc e)
   bursts_at false n e = or_first _ _ e
 
-  pub bursts_is : (depth : ℕ) → makes_too_many d depth site.argument ≡ true → (of_call (world.broken d) depth).bursts ≡ true
+  pub bursts_is : (depth : ℕ) → makes_too_many world d depth site.argument ≡ true → (of_call (world.broken d) depth).bursts ≡ true
   bursts_is zero e = absurd (cc e)
   bursts_is (suc n) e = bursts_at (world.broken d) n e
 
 -- a level is left where a result comes
-pub deep : (d : Definition) (depth : ℕ) (argument g : Forest) → answer d depth argument ≡ Ok g → 0 < depth
-deep d depth argument g e =
-    (comes_is (λ name. None) d None (record { at = d.name.span; whole = argument; argument = argument }) depth g e).0
+pub deep : (world : World Definition) (d : Definition) (depth : ℕ) (argument g : Forest) → answer world d depth argument ≡ Ok g → 0 < depth
+deep world d depth argument g e =
+    (comes_is world (λ name. None) d None (record { at = d.name.span; whole = argument; argument = argument }) depth g e).0
 
 -- ---- what is added
 
@@ -115,22 +114,22 @@ adds_stays old mid new kind outer site steps faults plain adds = record {
   plain = adds.plain ∙ plain;
 }
 
-module _ (scope : List ℕ → Option Definition) (depth : ℕ) (outer : Option Span) (old new : Output) (f : Forest) (c : Call) where
+module _ (world : World Definition) (scope : List ℕ → Option Definition) (depth : ℕ) (outer : Option Span) (old new : Output) (f : Forest) (c : Call) where
   -- the call is kept up to its group
   pub unknown_turn : call_at f ≡ Some c → scope c.name.sym ≡ None → (w : Forest) → f ≡ joined w c.from_group
-      → Adds old new (just outer (walk w)) → Turn (searched scope depth outer) old new f c.from_group
+      → Adds old new (just outer (walk w)) → Turn (searched world scope depth outer) old new f c.from_group
   unknown_turn e nothing w passed adds = record {
     outcome = found c.name.sym None (just outer (walk w));
-    is = unknown_search world scope (deeper_at scope depth) outer f c e nothing w passed;
+    is = unknown_search world scope (deeper_at world scope depth) outer f c e nothing w passed;
     adds = record { steps = adds.steps; faults = adds.faults; plain = adds.plain };
     less = call_smaller f c e;
   }
 
   pub colons_turn : call_behind_colons f ≡ Some c → (w : Forest) → f ≡ joined w c.from_group
-      → Adds old new (just outer (walk w)) → Turn (searched scope depth outer) old new f c.from_group
+      → Adds old new (just outer (walk w)) → Turn (searched world scope depth outer) old new f c.from_group
   colons_turn e w passed adds = record {
     outcome = just outer (walk w);
-    is = colons_search world scope (deeper_at scope depth) outer f c e w passed;
+    is = colons_search world scope (deeper_at world scope depth) outer f c e w passed;
     adds = adds;
     less = colons_smaller f c e;
   }
@@ -139,41 +138,41 @@ module _ (scope : List ℕ → Option Definition) (depth : ℕ) (outer : Option 
     abbrev site : CallSite
     site = record { at = c.name.span; whole = w; argument = c.argument }
 
-    known_turn : (o : Outcome Definition) → (b : Bool) → of_call scope d outer site (world.broken d) depth ≡ bursting b o → Adds old new o
-        → Turn (searched scope depth outer) old new f c.rest
+    known_turn : (o : Outcome Definition) → (b : Bool) → of_call world scope d outer site (world.broken d) depth ≡ bursting b o → Adds old new o
+        → Turn (searched world scope depth outer) old new f c.rest
     known_turn o b is adds = record {
       outcome = found c.name.sym (Some d) (bursting b o);
-      is = known_search world scope (deeper_at scope depth) outer f c d e finds w passed
-          ∙ ap (λ x. followed_by (found c.name.sym (Some d) x) (searched scope depth outer c.rest)) is;
+      is = known_search world scope (deeper_at world scope depth) outer f c d e finds w passed
+          ∙ ap (λ x. followed_by (found c.name.sym (Some d) x) (searched world scope depth outer c.rest)) is;
       adds = record { steps = adds.steps; faults = adds.faults; plain = adds.plain };
       less = rest_smaller f c e;
     }
 
     -- the call stays for a fault
-    pub stays_turn : (kind : FaultKind) → answer d depth c.argument ≡ Err kind → Adds old new (stays kind outer site)
-        → Turn (searched scope depth outer) old new f c.rest
+    pub stays_turn : (kind : FaultKind) → answer world d depth c.argument ≡ Err kind → Adds old new (stays kind outer site)
+        → Turn (searched world scope depth outer) old new f c.rest
     stays_turn kind says adds =
-        let is = stays_is scope d outer site depth kind says in
+        let is = stays_is world scope d outer site depth kind says in
         known_turn (stays kind outer site) is.0 is.1 adds
 
     -- the result's own expansion comes in its place
-    pub comes_turn : (g : Forest) → answer d depth c.argument ≡ Ok g → Adds old new (searched scope (depth - 1) (Some (unwrap_or outer c.name.span)) g)
-        → Turn (searched scope depth outer) old new f c.rest
+    pub comes_turn : (g : Forest) → answer world d depth c.argument ≡ Ok g → Adds old new (searched world scope (depth - 1) (Some (unwrap_or outer c.name.span)) g)
+        → Turn (searched world scope depth outer) old new f c.rest
     comes_turn g says adds =
-        known_turn (searched scope (depth - 1) (Some (unwrap_or outer c.name.span)) g) (world.bursts d c.argument) (comes_is scope d outer site depth g says).1 adds
+        known_turn (searched world scope (depth - 1) (Some (unwrap_or outer c.name.span)) g) (world.bursts d c.argument) (comes_is world scope d outer site depth g says).1 adds
 
     -- where the call makes too many tokens, the whole does
-    known_bursts : (of_call scope d outer site (world.broken d) depth).bursts ≡ true → (searched scope depth outer f).bursts ≡ true
+    known_bursts : (of_call world scope d outer site (world.broken d) depth).bursts ≡ true → (searched world scope depth outer f).bursts ≡ true
     known_bursts much =
-        ap (λ (o : Outcome Definition). o.bursts) (known_search world scope (deeper_at scope depth) outer f c d e finds w passed) ∙ or_first _ _ much
+        ap (λ (o : Outcome Definition). o.bursts) (known_search world scope (deeper_at world scope depth) outer f c d e finds w passed) ∙ or_first _ _ much
 
-    pub answer_bursts : makes_too_many d depth c.argument ≡ true → (searched scope depth outer f).bursts ≡ true
-    answer_bursts much = known_bursts (bursts_is scope d outer site depth much)
+    pub answer_bursts : makes_too_many world d depth c.argument ≡ true → (searched world scope depth outer f).bursts ≡ true
+    answer_bursts much = known_bursts (bursts_is world scope d outer site depth much)
 
-    pub result_bursts : (g : Forest) → answer d depth c.argument ≡ Ok g → (searched scope (depth - 1) (Some (unwrap_or outer c.name.span)) g).bursts ≡ true
-        → (searched scope depth outer f).bursts ≡ true
+    pub result_bursts : (g : Forest) → answer world d depth c.argument ≡ Ok g → (searched world scope (depth - 1) (Some (unwrap_or outer c.name.span)) g).bursts ≡ true
+        → (searched world scope depth outer f).bursts ≡ true
     result_bursts g says much =
-        known_bursts (ap (λ (o : Outcome Definition). o.bursts) (comes_is scope d outer site depth g says).1 ∙ or_later _ _ much)
+        known_bursts (ap (λ (o : Outcome Definition). o.bursts) (comes_is world scope d outer site depth g says).1 ∙ or_later _ _ much)
 
 -- ---- turn by turn
 
@@ -214,27 +213,27 @@ pub turn_less : (search : Forest → Outcome Definition) (old new : Output) (bef
     → work_of after.here (groups_of after) < work_of before.here (groups_of before)
 turn_less search old new before after t same = omega (arith, t.less, ap steps_in same)
 
-module _ (scope : List ℕ → Option Definition) (depth : ℕ) (outer : Option Span) where
+module _ (world : World Definition) (scope : List ℕ → Option Definition) (depth : ℕ) (outer : Option Span) where
   -- a step was made, at which no call begins
   pub step_more : (trees : Forest) (first old new : Output) (before after : Walk) (s : WalkStep)
-      → Going outer (searched scope depth outer) trees first old before → call_at before.here ≡ None → call_behind_colons before.here ≡ None
+      → Going outer (searched world scope depth outer) trees first old before → call_at before.here ≡ None → call_behind_colons before.here ≡ None
       → GoesOn before (Some s) after → Adds old new (just outer (step_of s ∷ []))
-      → Going outer (searched scope depth outer) trees first new after
+      → Going outer (searched world scope depth outer) trees first new after
   step_more trees first old new before after s g no_call no_colons goes adds =
-      going_on outer (searched scope depth outer) trees first old new before after (just outer (step_of s ∷ [])) g adds
-      (step_left outer (searched scope depth outer) (is_search world scope (deeper_at scope depth) outer) before after s goes
-      (λ l is. leaf_search world scope (deeper_at scope depth) outer before.here after.here l no_call no_colons is))
+      going_on outer (searched world scope depth outer) trees first old new before after (just outer (step_of s ∷ [])) g adds
+      (step_left outer (searched world scope depth outer) (is_search world scope (deeper_at world scope depth) outer) before after s goes
+      (λ l is. leaf_search world scope (deeper_at world scope depth) outer before.here after.here l no_call no_colons is))
 
   -- nothing is left
-  pub going_done : (trees : Forest) (first now : Output) (before after : Walk) → Going outer (searched scope depth outer) trees first now before
-      → GoesOn before None after → Adds first now (searched scope depth outer trees)
+  pub going_done : (trees : Forest) (first now : Output) (before after : Walk) → Going outer (searched world scope depth outer) trees first now before
+      → GoesOn before None after → Adds first now (searched world scope depth outer trees)
   going_done trees first now before after g ends =
-      let is : searched scope depth outer trees ≡ g.done =
-      g.is ∙ ap (followed_by g.done) (nothing_left outer (searched scope depth outer) (is_search world scope (deeper_at scope depth) outer) before after ends)
+      let is : searched world scope depth outer trees ≡ g.done =
+      g.is ∙ ap (followed_by g.done) (nothing_left outer (searched world scope depth outer) (is_search world scope (deeper_at world scope depth) outer) before after ends)
       ∙ followed_nil outer g.done in
       subst (Adds first now) (sym is) g.adds
 
   -- what makes too many tokens in what is left does so in the whole
-  pub going_bursts : (trees : Forest) (first now : Output) (w : Walk) → Going outer (searched scope depth outer) trees first now w
-      → (searched scope depth outer w.here).bursts ≡ true → (searched scope depth outer trees).bursts ≡ true
+  pub going_bursts : (trees : Forest) (first now : Output) (w : Walk) → Going outer (searched world scope depth outer) trees first now w
+      → (searched world scope depth outer w.here).bursts ≡ true → (searched world scope depth outer trees).bursts ≡ true
   going_bursts trees first now w g much = ap (λ (o : Outcome Definition). o.bursts) g.is ∙ or_later g.done.bursts _ (or_first _ _ much)

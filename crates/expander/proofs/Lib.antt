@@ -1,13 +1,10 @@
 -- lemmas by subject; the worked rows
 mod Rows
 mod TextRows
+mod MacroRows
 mod AttributeLemmas
 mod CuttingLemmas
 mod ApartLemmas
-mod UnitLemmas
-mod PatternLemmas
-mod RuleLemmas
-mod PartLemmas
 mod PrintingLemmas
 mod OrderLemmas
 mod SortLemmas
@@ -18,16 +15,9 @@ mod RunRows
 mod MarkLemmas
 mod OutcomeLemmas
 mod CallLemmas
-mod CountLemmas
-pub mod BindingLemmas
-mod BehindLemmas
-mod FillingLemmas
-mod RoomLemmas
-mod FitLemmas
+mod HandedLemmas
+mod DefinitionLemmas
 mod ScopeLemmas
-mod PassedLemmas
-mod TemplateLemmas
-mod TemplateRoomLemmas
 mod TurnLemmas
 mod FirstCallLemmas
 mod SearchLemmas

@@ -17,13 +17,15 @@ use Rattle.expander.specs.Expanded.{Expanded}
 use Rattle.expander.specs.Expansion.{PlacedStep}
 use Rattle.expander.specs.Faults.{in_order}
 use Rattle.expander.specs.OutputSteps.{HasOutput, faults_in, tokens_in}
-use Rattle.expander.specs.Meaning.{Member, meaning_of, meaning_from, meaning, members, member_faults, output_of}
+use Rattle.expander.specs.Meaning.{Layers, Member, meaning_of, meaning_from, meaning, members, member_faults, output_of}
 use Rattle.expander.specs.PieceTurns.{IsOutputOf}
 use Rattle.expander.specs.Pieces.{cut, pieces, separated}
 use Rattle.expander.specs.Printing.{text_of}
-use Rattle.expander.specs.Replies.{IsExpansionOf, IsMeant, IsReadAs, IsReplyTo}
+use Rattle.expander.specs.Replies.{IsExpansionOf, IsMeant}
 use Rattle.expander.specs.Shown.{ShowsOutput}
-use Rattle.expander.specs.Thin.{thin_layers, is_thin}
+use Rattle.mbe.specs.Grammar.{Grammar}
+use Rattle.tt_data.specs.declared.edition.Edition.{Edition}
+use Rattle.expander.specs.Layered.{layers}
 use Rattle.expander.specs.declared.faults.Fault.{Fault}
 
 every_one : (ps : List Looked) → filter (λ p. not (list_any (is_same p) [])) ps ≡ ps
@@ -34,50 +36,44 @@ every_one (p ∷ ps) = ap (λ more. p ∷ more) (every_one ps)
 all_count : (ps : List Looked) → expanded_count None ps ≡ length ps
 all_count ps = ap length (every_one ps)
 
--- the output of a text's pieces, shown, is what the text means
-pub means_output : (depth : ℕ) (f : Forest) (out : Output) (e : Expanded) → IsOutputOf depth (pieces f) out
-    → ((steps : List PlacedStep) → HasOutput out.steps steps → ShowsOutput out steps e)
-    → IsExpansionOf thin_layers depth (meaning_of thin_layers depth (members thin_layers depth f)) e
-means_output depth f out e is shown =
-    let ms : List Member = members thin_layers depth f in
-    let steps : List PlacedStep = flat_map (output_of thin_layers depth) ms in
-    let shows : ShowsOutput out steps e = shown steps is.steps in
-    record {
-      printed = shows.printed;
-      faults = shows.faults ∙ ap (λ fs. in_order (fs ++ faults_in steps)) is.faults;
-      tokens = shows.tokens;
-      expanded = shows.expanded ∙ is.plain ∙ sym (all_count (looked_of ms));
-    }
+module _ (grammar : Grammar) (edition : Edition) where
+  -- the output of a text's pieces, shown, is what the text means
+  pub means_output : (depth : ℕ) (f : Forest) (out : Output) (e : Expanded) → IsOutputOf (layers grammar edition) depth (pieces f) out
+      → ((steps : List PlacedStep) → HasOutput out.steps steps → ShowsOutput out steps e)
+      → IsExpansionOf (layers grammar edition) depth (meaning_of (layers grammar edition) depth (members (layers grammar edition) depth f)) e
+  means_output depth f out e is shown =
+      let ms : List Member = members (layers grammar edition) depth f in
+      let steps : List PlacedStep = flat_map (output_of (layers grammar edition) depth) ms in
+      let shows : ShowsOutput out steps e = shown steps is.steps in
+      record {
+        printed = shows.printed;
+        faults = shows.faults ∙ ap (λ fs. in_order (fs ++ faults_in steps)) is.faults;
+        tokens = shows.tokens;
+        expanded = shows.expanded ∙ is.plain ∙ sym (all_count (looked_of ms));
+      }
 
--- a text that was read
-pub means_read : (depth : ℕ) (text : List ℕ) (f inner trees : Forest) (out : Output) (e : Expanded) → text_reading text ≡ Ok f
-    → inner ≡ separated f → trees ≡ inner → IsOutputOf depth (cut trees) out
-    → ((steps : List PlacedStep) → HasOutput out.steps steps → ShowsOutput out steps e)
-    → IsMeant thin_layers depth (meaning thin_layers depth text) (Read e)
-means_read depth text f inner trees out e is_read inner_is trees_is gives shows =
-    let P : Forest → Type 0 = λ g. IsOutputOf depth (cut g) out in
-    let Q : Result Forest ReadFault → Type 0 = λ r. IsMeant thin_layers depth (meaning_from thin_layers depth r) (Read e) in
-    subst Q (sym is_read) (means_output depth f out e (subst P (trees_is ∙ inner_is) gives) shows)
+  -- a text that was read
+  pub means_read : (depth : ℕ) (text : List ℕ) (f inner trees : Forest) (out : Output) (e : Expanded) → text_reading text ≡ Ok f
+      → inner ≡ separated f → trees ≡ inner → IsOutputOf (layers grammar edition) depth (cut trees) out
+      → ((steps : List PlacedStep) → HasOutput out.steps steps → ShowsOutput out steps e)
+      → IsMeant (layers grammar edition) depth (meaning (layers grammar edition) depth text) (Read e)
+  means_read depth text f inner trees out e is_read inner_is trees_is gives shows =
+      let P : Forest → Type 0 = λ g. IsOutputOf (layers grammar edition) depth (cut g) out in
+      let Q : Result Forest ReadFault → Type 0 = λ r. IsMeant (layers grammar edition) depth (meaning_from (layers grammar edition) depth r) (Read e) in
+      subst Q (sym is_read) (means_output depth f out e (subst P (trees_is ∙ inner_is) gives) shows)
 
--- the reply to a text that was read
-pub reply_read : (text : List ℕ) (depth : ℕ) (f : Forest) (e : Expanded) → text_reading text ≡ Ok f
-    → (IsTrue (is_thin text) → IsMeant thin_layers depth (meaning thin_layers depth text) (Read e)) → IsReplyTo (record { text = text; depth = depth }) (Read e)
-reply_read text depth f e is_read meant =
-    let Q : Result Forest ReadFault → Type 0 = λ r. IsReadAs r (Read e) in
-    record { is_read = subst Q (sym is_read) tt; meant = meant }
-
--- the reply to a text that cannot be read
-pub reply_fault : (text : List ℕ) (depth : ℕ) (fault : ReadFault) → text_reading text ≡ Err fault → IsReplyTo (record { text = text; depth = depth }) (Unread fault)
-reply_fault text depth fault is_read =
-    let P : Result Forest ReadFault → Type 0 = λ r. IsReadAs r (Unread fault) in
-    let Q : Result Forest ReadFault → Type 0 = λ r. IsMeant thin_layers depth (meaning_from thin_layers depth r) (Unread fault) in
-    record { is_read = subst P (sym is_read) refl; meant = λ thin. subst Q (sym is_read) refl }
+  -- a text that cannot be read
+  pub means_fault : (text : List ℕ) (depth : ℕ) (fault : ReadFault) → text_reading text ≡ Err fault
+      → IsMeant (layers grammar edition) depth (meaning (layers grammar edition) depth text) (Unread fault)
+  means_fault text depth fault is_read =
+      let Q : Result Forest ReadFault → Type 0 = λ r. IsMeant (layers grammar edition) depth (meaning_from (layers grammar edition) depth r) (Unread fault) in
+      subst Q (sym is_read) refl
 
 -- why a text that was read, or was not, is refused for want of tokens
-pub refused_read : (depth : ℕ) (text : List ℕ) (e : TtFault) → IsReadRefusal (text_steps text) e → refusal_of e ≡ refusal.Tokens → NeedsTooMany depth text
-refused_read depth text e (inl memory) tokens =
+pub refused_read : (layers : Layers) (depth : ℕ) (text : List ℕ) (e : TtFault) → IsReadRefusal (text_steps text) e → refusal_of e ≡ refusal.Tokens → NeedsTooMany layers depth text
+refused_read layers depth text e (inl memory) tokens =
     let no : refusal.Memory ≡ refusal.Tokens = subst (λ (x : TtFault). refusal_of x ≡ refusal.Tokens) memory tokens in absurd (cc no)
-refused_read depth text e (inr (is, many)) tokens = inl many
+refused_read layers depth text e (inr (is, many)) tokens = inl many
 
-pub refused_later : (depth : ℕ) (text : List ℕ) (f : Forest) → text_reading text ≡ Ok f → HasTooMany depth (Ok f) → NeedsTooMany depth text
-refused_later depth text f is_read many = inr (subst (HasTooMany depth) (sym is_read) many)
+pub refused_later : (layers : Layers) (depth : ℕ) (text : List ℕ) (f : Forest) → text_reading text ≡ Ok f → HasTooMany layers depth (Ok f) → NeedsTooMany layers depth text
+refused_later layers depth text f is_read many = inr (subst (HasTooMany layers depth) (sym is_read) many)

@@ -12,19 +12,22 @@ use Rattle.expander.specs.declared.faults.FaultKind.{FaultKind}
 use Rattle.expander.specs.declared.faults.FaultKind.TheVariants.{CannotExpand, BrokenDefinition, RecursionLimit, NestedDefinition}
 use Rattle.bridge.specs.declared.fault.ReadFault.{ReadFault}
 use Rattle.bridge.specs.declared.fault.ReadFaultKind.TheVariants.{BadToken, CloserDoesNotFit, GroupLeftOpen}
-use Rattle.expander.specs.Meaning.{meaning, ReadMeaning}
-use Rattle.expander.specs.Thin.{thin_layers, is_thin}
+use Rattle.expander.specs.Meaning.{Layers, meaning, ReadMeaning}
+use Rattle.expander.specs.Runs.{run_layers}
 
 -- what a row shows of a text's meaning
 pub data Shown : Type 0 where
   gives : List ℕ → List Fault → Shown
   unread : ReadFault → Shown
 
-abbrev pub shown_at : (depth : ℕ) → Result (ReadMeaning thin_layers depth) ReadFault → Shown
-shown_at depth (Ok m) = gives m.text m.faults
-shown_at depth (Err fault) = unread fault
+abbrev pub shown_of : (layers : Layers) (depth : ℕ) → Result (ReadMeaning layers depth) ReadFault → Shown
+shown_of layers depth (Ok m) = gives m.text m.faults
+shown_of layers depth (Err fault) = unread fault
 
-abbrev pub shown : Result (ReadMeaning thin_layers 128) ReadFault → Shown
+abbrev pub shown_at : (depth : ℕ) → Result (ReadMeaning run_layers depth) ReadFault → Shown
+shown_at depth m = shown_of run_layers depth m
+
+abbrev pub shown : Result (ReadMeaning run_layers 128) ReadFault → Shown
 shown = shown_at 128
 
 abbrev pub lines : List (List ℕ) → List ℕ
@@ -32,7 +35,7 @@ lines [] = []
 lines (l ∷ ls) = l ++ (10 ∷ lines ls)
 
 abbrev of : List (List ℕ) → Shown
-of ls = shown (meaning thin_layers 128 (lines ls))
+of ls = shown (meaning run_layers 128 (lines ls))
 
 abbrev pub fault : FaultKind → ℕ → ℕ → Fault
 fault kind start end = record { kind = kind; range = record { start = start; «end» = end } }
@@ -41,162 +44,90 @@ empty_text : of ([]) ≡ gives (lines ([])) ([])
 unfolding chars is_utf8 is_xid_start is_xid_continue in_ranges xid_start_ranges xid_continue_ranges encode_utf8
 empty_text = refl
 
-empty_text_is_thin : is_thin (lines ([])) ≡ true
-unfolding chars is_utf8 is_xid_start is_xid_continue in_ranges xid_start_ranges xid_continue_ranges encode_utf8
-empty_text_is_thin = refl
-
 named_twice : of (codes "macro_rules! p { ($a:ident $b:tt) => { $b $a } }" ∷ codes "p!{ x y }" ∷ []) ≡ gives (lines (codes "y x" ∷ [])) ([])
 unfolding chars is_utf8 is_xid_start is_xid_continue in_ranges xid_start_ranges xid_continue_ranges encode_utf8
 named_twice = refl
-
-named_twice_is_thin : is_thin (lines (codes "macro_rules! p { ($a:ident $b:tt) => { $b $a } }" ∷ codes "p!{ x y }" ∷ [])) ≡ true
-unfolding chars is_utf8 is_xid_start is_xid_continue in_ranges xid_start_ranges xid_continue_ranges encode_utf8
-named_twice_is_thin = refl
 
 result_is_searched : of (codes "macro_rules! a { () => { b!{} } }" ∷ codes "macro_rules! b { () => { x } }" ∷ codes "a!{}" ∷ []) ≡ gives (lines (codes "x" ∷ [])) ([])
 unfolding chars is_utf8 is_xid_start is_xid_continue in_ranges xid_start_ranges xid_continue_ranges encode_utf8
 result_is_searched = refl
 
-result_is_searched_is_thin : is_thin (lines (codes "macro_rules! a { () => { b!{} } }" ∷ codes "macro_rules! b { () => { x } }" ∷ codes "a!{}" ∷ [])) ≡ true
-unfolding chars is_utf8 is_xid_start is_xid_continue in_ranges xid_start_ranges xid_continue_ranges encode_utf8
-result_is_searched_is_thin = refl
-
 call_before_its_definition : of (codes "m!{}" ∷ codes "macro_rules! m { () => { x } }" ∷ []) ≡ gives (lines (codes "m ! { }" ∷ [])) ([])
 unfolding chars is_utf8 is_xid_start is_xid_continue in_ranges xid_start_ranges xid_continue_ranges encode_utf8
 call_before_its_definition = refl
-
-call_before_its_definition_is_thin : is_thin (lines (codes "m!{}" ∷ codes "macro_rules! m { () => { x } }" ∷ [])) ≡ true
-unfolding chars is_utf8 is_xid_start is_xid_continue in_ranges xid_start_ranges xid_continue_ranges encode_utf8
-call_before_its_definition_is_thin = refl
 
 definition_across_pieces : of (codes "macro_rules! d { () => { macro_rules } }" ∷ codes "d!{}" ∷ codes "! e { () => { x } }" ∷ []) ≡ gives (lines (codes "macro_rules ! e { ( ) => { x } }" ∷ [])) (fault NestedDefinition 41 42 ∷ [])
 unfolding chars is_utf8 is_xid_start is_xid_continue in_ranges xid_start_ranges xid_continue_ranges encode_utf8
 definition_across_pieces = refl
 
-definition_across_pieces_is_thin : is_thin (lines (codes "macro_rules! d { () => { macro_rules } }" ∷ codes "d!{}" ∷ codes "! e { () => { x } }" ∷ [])) ≡ true
-unfolding chars is_utf8 is_xid_start is_xid_continue in_ranges xid_start_ranges xid_continue_ranges encode_utf8
-definition_across_pieces_is_thin = refl
-
 recursion_ends : of (codes "macro_rules! l { () => { l!{} } }" ∷ codes "l!{}" ∷ []) ≡ gives (lines (codes "l ! { }" ∷ [])) (fault RecursionLimit 34 35 ∷ [])
 unfolding chars is_utf8 is_xid_start is_xid_continue in_ranges xid_start_ranges xid_continue_ranges encode_utf8
 recursion_ends = refl
-
-recursion_ends_is_thin : is_thin (lines (codes "macro_rules! l { () => { l!{} } }" ∷ codes "l!{}" ∷ [])) ≡ true
-unfolding chars is_utf8 is_xid_start is_xid_continue in_ranges xid_start_ranges xid_continue_ranges encode_utf8
-recursion_ends_is_thin = refl
 
 broken_definition : of (codes "macro_rules! m { () }" ∷ codes "m!{}" ∷ []) ≡ gives (lines (codes "m ! { }" ∷ [])) (fault BrokenDefinition 13 14 ∷ fault BrokenDefinition 22 23 ∷ [])
 unfolding chars is_utf8 is_xid_start is_xid_continue in_ranges xid_start_ranges xid_continue_ranges encode_utf8
 broken_definition = refl
 
-broken_definition_is_thin : is_thin (lines (codes "macro_rules! m { () }" ∷ codes "m!{}" ∷ [])) ≡ true
-unfolding chars is_utf8 is_xid_start is_xid_continue in_ranges xid_start_ranges xid_continue_ranges encode_utf8
-broken_definition_is_thin = refl
-
 argument_is_not_searched_first : of (codes "macro_rules! o { (m!{}) => { x }; (y) => { z } }" ∷ codes "macro_rules! m { () => { y } }" ∷ codes "o!(m!{});" ∷ []) ≡ gives (lines (codes "x ;" ∷ [])) ([])
 unfolding chars is_utf8 is_xid_start is_xid_continue in_ranges xid_start_ranges xid_continue_ranges encode_utf8
 argument_is_not_searched_first = refl
-
-argument_is_not_searched_first_is_thin : is_thin (lines (codes "macro_rules! o { (m!{}) => { x }; (y) => { z } }" ∷ codes "macro_rules! m { () => { y } }" ∷ codes "o!(m!{});" ∷ [])) ≡ true
-unfolding chars is_utf8 is_xid_start is_xid_continue in_ranges xid_start_ranges xid_continue_ranges encode_utf8
-argument_is_not_searched_first_is_thin = refl
 
 failed_call_is_not_searched : of (codes "macro_rules! f { (x) => { y } }" ∷ codes "f!(f!(x));" ∷ []) ≡ gives (lines (codes "f ! ( f ! ( x ) ) ;" ∷ [])) (fault CannotExpand 32 33 ∷ [])
 unfolding chars is_utf8 is_xid_start is_xid_continue in_ranges xid_start_ranges xid_continue_ranges encode_utf8
 failed_call_is_not_searched = refl
 
-failed_call_is_not_searched_is_thin : is_thin (lines (codes "macro_rules! f { (x) => { y } }" ∷ codes "f!(f!(x));" ∷ [])) ≡ true
-unfolding chars is_utf8 is_xid_start is_xid_continue in_ranges xid_start_ranges xid_continue_ranges encode_utf8
-failed_call_is_not_searched_is_thin = refl
-
 groups_are_searched_and_paths_are_no_calls : of (codes "macro_rules! f { () => { y } }" ∷ codes "vec![f!()];" ∷ codes "a::f!();" ∷ []) ≡ gives (lines (codes "vec ! [ y ] ;" ∷ codes "a :: f ! ( ) ;" ∷ [])) ([])
 unfolding chars is_utf8 is_xid_start is_xid_continue in_ranges xid_start_ranges xid_continue_ranges encode_utf8
 groups_are_searched_and_paths_are_no_calls = refl
-
-groups_are_searched_and_paths_are_no_calls_is_thin : is_thin (lines (codes "macro_rules! f { () => { y } }" ∷ codes "vec![f!()];" ∷ codes "a::f!();" ∷ [])) ≡ true
-unfolding chars is_utf8 is_xid_start is_xid_continue in_ranges xid_start_ranges xid_continue_ranges encode_utf8
-groups_are_searched_and_paths_are_no_calls_is_thin = refl
 
 group_and_operator : of (codes "macro_rules! s { ($a:tt) => { ($a) x } }" ∷ codes "s!{ + } y;" ∷ []) ≡ gives (lines (codes "( + ) x y ;" ∷ [])) ([])
 unfolding chars is_utf8 is_xid_start is_xid_continue in_ranges xid_start_ranges xid_continue_ranges encode_utf8
 group_and_operator = refl
 
-group_and_operator_is_thin : is_thin (lines (codes "macro_rules! s { ($a:tt) => { ($a) x } }" ∷ codes "s!{ + } y;" ∷ [])) ≡ true
-unfolding chars is_utf8 is_xid_start is_xid_continue in_ranges xid_start_ranges xid_continue_ranges encode_utf8
-group_and_operator_is_thin = refl
-
 no_rule_fits : of (codes "macro_rules! s { (a) => { b } }" ∷ codes "s!{c}" ∷ []) ≡ gives (lines (codes "s ! { c }" ∷ [])) (fault CannotExpand 32 33 ∷ [])
 unfolding chars is_utf8 is_xid_start is_xid_continue in_ranges xid_start_ranges xid_continue_ranges encode_utf8
 no_rule_fits = refl
-
-no_rule_fits_is_thin : is_thin (lines (codes "macro_rules! s { (a) => { b } }" ∷ codes "s!{c}" ∷ [])) ≡ true
-unfolding chars is_utf8 is_xid_start is_xid_continue in_ranges xid_start_ranges xid_continue_ranges encode_utf8
-no_rule_fits_is_thin = refl
 
 slashes_stay_apart : of (codes "macro_rules! m { ($x:tt) => { /$x } }" ∷ codes "m!{/}" ∷ []) ≡ gives (lines (codes "/ /" ∷ [])) ([])
 unfolding chars is_utf8 is_xid_start is_xid_continue in_ranges xid_start_ranges xid_continue_ranges encode_utf8
 slashes_stay_apart = refl
 
-slashes_stay_apart_is_thin : is_thin (lines (codes "macro_rules! m { ($x:tt) => { /$x } }" ∷ codes "m!{/}" ∷ [])) ≡ true
-unfolding chars is_utf8 is_xid_start is_xid_continue in_ranges xid_start_ranges xid_continue_ranges encode_utf8
-slashes_stay_apart_is_thin = refl
-
 puncts_are_glued : of (codes "macro_rules! m { ($a:tt) => { x +$a y } }" ∷ codes "m!{=}" ∷ []) ≡ gives (lines (codes "x += y" ∷ [])) ([])
 unfolding chars is_utf8 is_xid_start is_xid_continue in_ranges xid_start_ranges xid_continue_ranges encode_utf8
 puncts_are_glued = refl
-
-puncts_are_glued_is_thin : is_thin (lines (codes "macro_rules! m { ($a:tt) => { x +$a y } }" ∷ codes "m!{=}" ∷ [])) ≡ true
-unfolding chars is_utf8 is_xid_start is_xid_continue in_ranges xid_start_ranges xid_continue_ranges encode_utf8
-puncts_are_glued_is_thin = refl
 
 operator_apart : of (codes "x+/* = */=y // z" ∷ []) ≡ gives (lines (codes "x + = y" ∷ [])) ([])
 unfolding chars is_utf8 is_xid_start is_xid_continue in_ranges xid_start_ranges xid_continue_ranges encode_utf8
 operator_apart = refl
 
-operator_apart_is_thin : is_thin (lines (codes "x+/* = */=y // z" ∷ [])) ≡ true
-unfolding chars is_utf8 is_xid_start is_xid_continue in_ranges xid_start_ranges xid_continue_ranges encode_utf8
-operator_apart_is_thin = refl
-
 unbound_name : of (codes "macro_rules! m { () => { $y } }" ∷ codes "m!{}" ∷ []) ≡ gives (lines (codes "$ y" ∷ [])) ([])
 unfolding chars is_utf8 is_xid_start is_xid_continue in_ranges xid_start_ranges xid_continue_ranges encode_utf8
 unbound_name = refl
-
-unbound_name_is_thin : is_thin (lines (codes "macro_rules! m { () => { $y } }" ∷ codes "m!{}" ∷ [])) ≡ true
-unfolding chars is_utf8 is_xid_start is_xid_continue in_ranges xid_start_ranges xid_continue_ranges encode_utf8
-unbound_name_is_thin = refl
 
 inner_attribute_is_a_piece : of (codes "#![a]" ∷ codes "macro_rules! e { () => { x } }" ∷ codes "e!{}" ∷ []) ≡ gives (lines (codes "#! [ a ] x" ∷ [])) ([])
 unfolding chars is_utf8 is_xid_start is_xid_continue in_ranges xid_start_ranges xid_continue_ranges encode_utf8
 inner_attribute_is_a_piece = refl
 
-inner_attribute_is_a_piece_is_thin : is_thin (lines (codes "#![a]" ∷ codes "macro_rules! e { () => { x } }" ∷ codes "e!{}" ∷ [])) ≡ true
-unfolding chars is_utf8 is_xid_start is_xid_continue in_ranges xid_start_ranges xid_continue_ranges encode_utf8
-inner_attribute_is_a_piece_is_thin = refl
-
 two_puncts_are_one_tree : of (codes "macro_rules! m { ($a:tt $b:tt) => { $b $a } }" ∷ codes "m!{ ..= x }" ∷ []) ≡ gives (lines (codes "x ..=" ∷ [])) ([])
 unfolding chars is_utf8 is_xid_start is_xid_continue in_ranges xid_start_ranges xid_continue_ranges encode_utf8
 two_puncts_are_one_tree = refl
 
-two_puncts_are_one_tree_is_thin : is_thin (lines (codes "macro_rules! m { ($a:tt $b:tt) => { $b $a } }" ∷ codes "m!{ ..= x }" ∷ [])) ≡ true
-unfolding chars is_utf8 is_xid_start is_xid_continue in_ranges xid_start_ranges xid_continue_ranges encode_utf8
-two_puncts_are_one_tree_is_thin = refl
-
-left_open : shown (meaning thin_layers 128 (codes "fn f( {")) ≡ unread (record { kind = GroupLeftOpen; range = record { start = 6; «end» = 7 } })
+left_open : shown (meaning run_layers 128 (codes "fn f( {")) ≡ unread (record { kind = GroupLeftOpen; range = record { start = 6; «end» = 7 } })
 unfolding chars is_utf8 is_xid_start is_xid_continue in_ranges xid_start_ranges xid_continue_ranges encode_utf8
 left_open = refl
 
-closer : shown (meaning thin_layers 128 (codes "(]")) ≡ unread (record { kind = CloserDoesNotFit; range = record { start = 1; «end» = 2 } })
+closer : shown (meaning run_layers 128 (codes "(]")) ≡ unread (record { kind = CloserDoesNotFit; range = record { start = 1; «end» = 2 } })
 unfolding chars is_utf8 is_xid_start is_xid_continue in_ranges xid_start_ranges xid_continue_ranges encode_utf8
 closer = refl
 
-bad : shown (meaning thin_layers 128 (codes "x \"ab")) ≡ unread (record { kind = BadToken; range = record { start = 2; «end» = 5 } })
+bad : shown (meaning run_layers 128 (codes "x \"ab")) ≡ unread (record { kind = BadToken; range = record { start = 2; «end» = 5 } })
 unfolding chars is_utf8 is_xid_start is_xid_continue in_ranges xid_start_ranges xid_continue_ranges encode_utf8
 bad = refl
 
-first_of_two_faults : shown (meaning thin_layers 128 (codes ") \"")) ≡ unread (record { kind = CloserDoesNotFit; range = record { start = 0; «end» = 1 } })
+first_of_two_faults : shown (meaning run_layers 128 (codes ") \"")) ≡ unread (record { kind = CloserDoesNotFit; range = record { start = 0; «end» = 1 } })
 unfolding chars is_utf8 is_xid_start is_xid_continue in_ranges xid_start_ranges xid_continue_ranges encode_utf8
 first_of_two_faults = refl
 
-at_depth_zero : shown_at 0 (meaning thin_layers 0 (lines (codes "macro_rules! s { (a) => { b } }" ∷ codes "s!{c}" ∷ []))) ≡ gives (lines (codes "s ! { c }" ∷ [])) (fault RecursionLimit 32 33 ∷ [])
+at_depth_zero : shown_at 0 (meaning run_layers 0 (lines (codes "macro_rules! s { (a) => { b } }" ∷ codes "s!{c}" ∷ []))) ≡ gives (lines (codes "s ! { c }" ∷ [])) (fault RecursionLimit 32 33 ∷ [])
 unfolding chars is_utf8 is_xid_start is_xid_continue in_ranges xid_start_ranges xid_continue_ranges encode_utf8
 at_depth_zero = refl

@@ -10,13 +10,10 @@ use Rattle.expander.specs.declared.program.Status.{Status}
 use Rattle.expander.specs.declared.program.Stop.{Stop}
 use Rattle.expander.specs.declared.program.Stop.TheVariants.{ReadFailed, Refused}
 use Rattle.expander.specs.declared.session.Refusal.TheVariants.{Numbers}
-use Rattle.expander.specs.declared.definitions.Definition.{Definition}
 use Rattle.expander.specs.Calls.{Path, bare, from_crate, other, Marked, none, token, inside, call, marked}
-use Rattle.expander.specs.Definitions.{definition_of, nearest}
-use Rattle.expander.specs.Expansion.{Outcome, CallSite, unbroken, looked_up, at_call, search_calls}
-use Rattle.expander.specs.Layered.{world}
-use Rattle.expander.specs.Meaning.{member, members_after, with_definition}
-use Rattle.expander.specs.Thin.{thin_layers}
+use Rattle.expander.specs.Definitions.{Definition, definition_of, nearest}
+use Rattle.expander.specs.Expansion.{World, Outcome, CallSite, unbroken, looked_up, at_call, search_calls}
+use Rattle.expander.specs.Meaning.{Layers, member, members_after, with_definition}
 use Rattle.expander.specs.TooMany.{bursts}
 use Rattle.tt_data.specs.Forest.{Forest}
 use Rattle.tt_data.specs.declared.leaf.Ident.{Ident}
@@ -110,7 +107,7 @@ neither : (a b : Bool) → a ≡ false → b ≡ false → (a || b) ≡ false
 neither false b e d = d
 neither true b e d = cc
 
-module _ (scope : List ℕ → Option Definition) (outer : Option Span) where
+module _ (world : World Definition) (scope : List ℕ → Option Definition) (outer : Option Span) where
   said : (d : Definition) (broken : Bool) (site : CallSite) → (unbroken world d broken None outer site).bursts ≡ false
   said d true site = refl
   said d false site = refl
@@ -131,11 +128,11 @@ module _ (scope : List ℕ → Option Definition) (outer : Option Span) where
   searched_quietly (inside d a rest) = neither _ _ (searched_quietly a) (searched_quietly rest)
   searched_quietly (call path name bang d a rest) = neither _ _ (called path name _ _ (searched_quietly a)) (searched_quietly rest)
 
-quiet_member : (before : List Definition) (p : Forest) (d : Option Definition) → bursts (member thin_layers 0 before p d) ≡ false
-quiet_member before p None = searched_quietly (nearest before) None (marked p)
-quiet_member before p (Some d) = refl
+quiet_member : (layers : Layers) (before : List Definition) (p : Forest) (d : Option Definition) → bursts (member layers 0 before p d) ≡ false
+quiet_member layers before p None = searched_quietly layers.world (nearest before) None (marked p)
+quiet_member layers before p (Some d) = refl
 
-never_without_a_level : (before : List Definition) (ps : List Forest) → list_any bursts (members_after thin_layers 0 before ps) ≡ false
-never_without_a_level before [] = refl
-never_without_a_level before (p ∷ ps) =
-    neither _ _ (quiet_member before p (definition_of p)) (never_without_a_level (with_definition thin_layers 0 (definition_of p) before) ps)
+never_without_a_level : (layers : Layers) (before : List Definition) (ps : List Forest) → list_any bursts (members_after layers 0 before ps) ≡ false
+never_without_a_level layers before [] = refl
+never_without_a_level layers before (p ∷ ps) =
+    neither _ _ (quiet_member layers before p (definition_of p)) (never_without_a_level layers (with_definition layers 0 (definition_of p) before) ps)

@@ -12,7 +12,7 @@ use Rattle.tt_data.specs.declared.leaf.LitKind.TheVariants as lit
 use Rattle.tt_data.specs.declared.leaf.Spacing.{Spacing}
 use Rattle.tt_data.specs.declared.leaf.Spacing.TheVariants.{Alone, Joint, JointHidden}
 use Rattle.tt_data.specs.declared.span.Span.{Span}
-use Rattle.expander.specs.declared.definitions.Definition.{Definition}
+use Rattle.expander.specs.Definitions.{Definition}
 use Rattle.expander.specs.Meaning.{Member, plain, defining}
 use Rattle.expander.specs.Pieces.{relative}
 use Rattle.bridge.specs.Text.{same_kind}

@@ -2,7 +2,6 @@
 use Rattle.std.specs.Prelude.{◌≡◌, ◌<◌, List, [], ◌∷◌, Bool, true, false, MatchOption, Option, Some, None, set, if◌then◌else◌}
 use Rattle.tt_data.specs.Forest.{Forest, empty, joined, size}
 use Rattle.expander.specs.Pieces.{cut, cut_from}
-use Rattle.expander.specs.ThinRules.{parts}
 use Rattle.expander.specs.declared.pieces.Put.{Put}
 use Rattle.bridge.specs.Text.{is_punct}
 use Rattle.expander.specs.Text.{alone}
@@ -31,8 +30,3 @@ PassesTree begun old new (Some true) =
     (tree : Forest) × ((old ≡ joined tree new) × (cut_from old begun ≡ joined begun tree ∷ cut new) × (size new < size old))
 PassesTree begun old new (Some false) =
     (tree : Forest) × ((old ≡ joined tree new) × (cut_from old begun ≡ cut_from new (joined begun tree)) × (size new < size old))
-
--- nothing is left, or the first of the parts between `;`, after which the others are left
-abbrev pub CutsOffPart : Forest → Forest → Option Forest → Type 0
-CutsOffPart old new result =
-    MatchOption result (old ≡ empty) (λ part. (parts old ≡ part ∷ parts new) × (size new < size old))

@@ -1,14 +1,37 @@
 -- Definition pieces, and what a name finds. (The Rust Reference, "Macros By Example": syntax and textual scope.)
-use Rattle.std.specs.Prelude.{ℕ, Bool, true, false, ◌&&◌, ◌||◌, List, if◌then◌else◌, Option, Some, None, find, unwrap_or, is_some, codes}
+use Rattle.std.specs.Prelude.{ℕ, refl, Bool, true, false, ◌&&◌, ◌||◌, List, if◌then◌else◌, Option, Some, None, find, unwrap_or, is_some, codes}
+use Rattle.std.specs.Coded.{Coded, code_by, coded×, coded_bool, coded_option}
+use Rattle.tt_data.specs.Coded.{forest_code}
 use Rattle.tt_data.specs.Forest.{Forest, leaf, group}
 use Rattle.tt_data.specs.declared.delimiter.Delimiter.{Delimiter}
 use Rattle.tt_data.specs.declared.delimiter.DelimiterKind.TheVariants.{Parenthesis, Brace, Bracket}
+use Rattle.tt_data.specs.contracts.leaf.Ident as ident_row
+use Rattle.tt_data.specs.declared.leaf.Ident.{Ident}
 use Rattle.tt_data.specs.declared.leaf.Leaf.TheVariants as as_leaf
-use Rattle.expander.specs.declared.definitions.Definition.{Definition}
 use Rattle.expander.specs.Readings.{◌>>=◌, ◌>>◌, is_empty}
 use Rattle.tt.specs.FirstTrees.{first_ident, first_punct, first_group}
 use Rattle.bridge.specs.Text.{same_kind, is_char}
 use Rattle.expander.specs.Text.{same_text, has_text}
+
+-- a definition of a macro
+pub record Definition : Type 0 where
+  pub name : Ident
+  -- the group before the body, of a `macro` with a single rule
+  pub arguments : Option Forest
+  pub body : Forest
+  -- read by the rules of `macro`, not by those of `macro_rules`
+  pub is_macro : Bool
+  -- all of it, with its attributes
+  pub piece : Forest
+
+-- a definition is stored as its parts
+abbrev pub definition_code : Coded Definition
+definition_code =
+    code_by (Ident × (Option Forest × (Forest × (Bool × Forest))))
+    (coded× ident_row.the_row.coded (coded× (coded_option forest_code) (coded× forest_code (coded× coded_bool forest_code))))
+    (λ d. (d.name, (d.arguments, (d.body, (d.is_macro, d.piece)))))
+    (λ p. record { name = p.0; arguments = p.1.0; body = p.1.1.0; is_macro = p.1.1.1.0; piece = p.1.1.1.1 })
+    (λ _. refl)
 
 -- what follows an outer attribute at the beginning
 abbrev pub after_attribute : Forest → Option Forest

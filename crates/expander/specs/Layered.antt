@@ -1,11 +1,11 @@
--- What the expansion of pieces stands on today: the thin layers.
-use Rattle.expander.specs.Expansion.{World}
+-- What the meaning of a text stands on: how it is read, what its definitions mean, and how tokens are spelled.
+use Rattle.tt_data.specs.declared.edition.Edition.{Edition}
+use Rattle.bridge.specs.TokenSteps.{text_reading}
+use Rattle.mbe.specs.Grammar.{Grammar}
 use Rattle.expander.specs.Meaning.{Layers}
-use Rattle.expander.specs.Thin.{thin_layers}
-use Rattle.expander.specs.declared.definitions.Definition.{Definition}
+use Rattle.expander.specs.Printing.{spelling_before}
+use Rattle.expander.specs.World.{world}
 
-abbrev pub layers : Layers
-layers = thin_layers
-
-abbrev pub world : World Definition
-world = layers.world
+-- the layers for a grammar's answers and an edition
+abbrev pub layers : Grammar → Edition → Layers
+layers grammar edition = record { read = text_reading; world = world grammar edition; spelling = spelling_before }

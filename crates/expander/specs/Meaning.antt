@@ -6,8 +6,7 @@ use Rattle.expander.specs.declared.faults.Fault.{Fault}
 use Rattle.expander.specs.declared.faults.FaultKind.TheVariants.{BrokenDefinition}
 use Rattle.bridge.specs.declared.fault.ReadFault.{ReadFault}
 use Rattle.expander.specs.Pieces.{pieces}
-use Rattle.expander.specs.Definitions.{definition_of, nearest}
-use Rattle.expander.specs.declared.definitions.Definition.{Definition}
+use Rattle.expander.specs.Definitions.{Definition, definition_of, nearest}
 use Rattle.expander.specs.Expansion.{World, Outcome, PlacedStep, expansion}
 use Rattle.expander.specs.Printing.{PrintedToken, visible, printed, left_out, text_of}
 use Rattle.expander.specs.Faults.{fault_at, nested, unspellable, in_order}

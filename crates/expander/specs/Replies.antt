@@ -1,14 +1,11 @@
 -- What a session replies: the meaning of its text.
-use Rattle.std.specs.Prelude.{◌≡◌, ℕ, length, None, Result, Ok, Err, IsTrue}
-use Rattle.tt_data.specs.Forest.{Forest}
+use Rattle.std.specs.Prelude.{◌≡◌, ℕ, List, length, None, Result, Ok, Err}
 use Rattle.bridge.specs.declared.fault.ReadFault.{ReadFault}
 use Rattle.expander.specs.declared.session.Reply.{Reply}
 use Rattle.expander.specs.declared.session.Reply.TheVariants.{Read, Unread}
 use Rattle.expander.specs.Count.{expanded_count, looked_of}
 use Rattle.expander.specs.Expanded.{Expanded}
 use Rattle.expander.specs.Meaning.{Layers, ReadMeaning, meaning}
-use Rattle.expander.specs.State.{State}
-use Rattle.expander.specs.Thin.{thin_layers, is_thin}
 
 -- an expansion is what the text means: its printed text, its faults in order, the number of its tokens, and how many of
 -- its pieces were expanded where no earlier text was
@@ -24,13 +21,6 @@ IsMeant layers depth (Ok m) (Read e) = IsExpansionOf layers depth m e
 IsMeant layers depth (Err fault) (Unread f) = f ≡ fault
 IsMeant layers depth _ _ = ⊥
 
--- a text was read, or has this fault
-abbrev pub IsReadAs : Result Forest ReadFault → Reply → Type 0
-IsReadAs (Ok f) (Read e) = Unit {0}
-IsReadAs (Err fault) (Unread told) = told ≡ fault
-IsReadAs _ _ = ⊥
-
--- what a session may reply: every text is read, or has its reading fault; and a thin text's reply is what it means
-pub record IsReplyTo (state : State) (reply : Reply) : Type 0 where
-  pub is_read : IsReadAs (thin_layers.read state.text) reply
-  pub meant : IsTrue (is_thin state.text) → IsMeant thin_layers state.depth (meaning thin_layers state.depth state.text) reply
+-- what a session replies: what its text means
+abbrev pub IsReplyTo : Layers → ℕ → List ℕ → Reply → Type 0
+IsReplyTo layers depth text reply = IsMeant layers depth (meaning layers depth text) reply

@@ -1,8 +1,11 @@
 -- What a run reads and writes, of this project.
 use Rattle.std.specs.Prelude.{◌≡◌, ℕ, ◌≤◌, ◌<◌, ◌^◌, Bool, true, false, List, [], ◌∷◌, length, take, Option, Some, None, IfSome, IsUtf8, ⊤}
-use Rattle.expander.specs.State.{State}
+use Rattle.tt_data.specs.declared.edition.Edition.TheVariants.{Edition2024}
+use Rattle.small_grammar.specs.Answer.{answer}
 use Rattle.expander.specs.Expanded.{Expanded}
+use Rattle.expander.specs.Layered.{layers}
 use Rattle.expander.specs.Lines.{report, stop_line}
+use Rattle.expander.specs.Meaning.{Layers}
 use Rattle.expander.specs.Replies.{IsReplyTo}
 use Rattle.expander.specs.TooMany.{NeedsTooMany}
 use Rattle.expander.specs.Watch.{Watch}
@@ -31,9 +34,9 @@ pub record IsNoText (input : Option (List ℕ)) (bytes : List ℕ) : Type 0 wher
   pub short : length bytes < 2 ^ 32
   pub not_utf8 : IsUtf8 bytes → ⊥
 
--- a session over a text, of which nothing was asked
-abbrev pub opened : List ℕ → ℕ → State
-opened text depth = record { text = text; depth = depth }
+-- a run expands by the small grammar, and all words are of edition 2024
+abbrev pub run_layers : Layers
+run_layers = layers answer Edition2024
 
 -- what a reply prints: nothing where the text is not read
 abbrev pub printed_of : Reply → List ℕ
@@ -82,7 +85,7 @@ Stops TooLong input depth = IfSome input (λ bytes. 2 ^ 32 ≤ length bytes)
 Stops ReadFailed input depth = ⊤
 Stops WriteFailed input depth = ⊤
 Stops (Refused Memory) input depth = ⊤
-Stops (Refused Tokens) input depth = (text : List ℕ) × IsInput input text × NeedsTooMany depth text
+Stops (Refused Tokens) input depth = (text : List ℕ) × IsInput input text × NeedsTooMany run_layers depth text
 Stops (Refused Numbers) input depth = ⊥
 
 -- A writer that failed has taken a front of the text that was to be printed.
@@ -90,7 +93,7 @@ pub record BreaksOff (input : Option (List ℕ)) (depth : ℕ) (writes : List �
   pub text : List ℕ
   pub is_input : IsInput input text
   pub expansion : Expanded
-  pub is_reply : IsReplyTo (opened text depth) (Read expansion)
+  pub is_reply : IsReplyTo run_layers depth text (Read expansion)
   pub taken : ℕ
   pub written : writes (take taken expansion.printed)
 
@@ -105,7 +108,7 @@ pub record Finishes {R W E : Type 0} (input : Option (List ℕ)) (depth : ℕ) (
   pub text : List ℕ
   pub is_input : IsInput input text
   pub reply : Reply
-  pub is_reply : IsReplyTo (opened text depth) reply
+  pub is_reply : IsReplyTo run_layers depth text reply
   pub written : writes (printed_of reply)
   pub flushed : IsFlushed reply writer
   pub told : Tells (report text reply) tells faults

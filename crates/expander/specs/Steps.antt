@@ -3,7 +3,7 @@ use Rattle.std.specs.Prelude.{◌≡◌, ℕ, ◌≤◌, ◌^◌, Bool, true, fa
 use Rattle.std.specs.Io.KnownBytes.{Appends}
 use Rattle.expander.specs.Lines.{report}
 use Rattle.expander.specs.Replies.{IsReplyTo}
-use Rattle.expander.specs.Runs.{IsFlushed, IsInput, Stops, opened, is_of_reader, is_of_writer, printed_of}
+use Rattle.expander.specs.Runs.{IsFlushed, IsInput, Stops, run_layers, is_of_reader, is_of_writer, printed_of}
 use Rattle.expander.specs.Watch.{Watch}
 use Rattle.expander.specs.declared.session.Refusal.TheVariants.{Memory}
 use Rattle.expander.specs.Expanded.{Expanded}
@@ -23,7 +23,7 @@ StopsReading _ input failed = ⊥
 pub record Replied (input : Option (List ℕ)) (depth : ℕ) (reply : Reply) (told : List ℕ) : Type 0 where
   pub text : List ℕ
   pub is_input : IsInput input text
-  pub is_reply : IsReplyTo (opened text depth) reply
+  pub is_reply : IsReplyTo run_layers depth text reply
   pub is_told : told ≡ report text reply
 
 -- why there is no reply, and whether the reader failed

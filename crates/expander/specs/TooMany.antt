@@ -6,8 +6,7 @@ use Rattle.tt_data.specs.Forest.{Forest}
 use Rattle.bridge.specs.ReadText as reading
 use Rattle.bridge.specs.TokenSteps.{text_reading, text_steps}
 use Rattle.bridge.specs.declared.fault.ReadFault.{ReadFault}
-use Rattle.expander.specs.Meaning.{Member, plain, defining, members}
-use Rattle.expander.specs.Thin.{thin_layers}
+use Rattle.expander.specs.Meaning.{Layers, Member, plain, defining, members}
 
 -- a call in a piece's expansion makes too many tokens
 abbrev pub bursts : Member → Bool
@@ -15,11 +14,11 @@ bursts (plain piece outcome) = outcome.bursts
 bursts (defining d) = false
 
 -- such a call stands in a text that was read
-abbrev pub HasTooMany : ℕ → Result Forest ReadFault → Type 0
-HasTooMany depth (Ok f) = list_any bursts (members thin_layers depth f) ≡ true
-HasTooMany depth (Err fault) = ⊥
+abbrev pub HasTooMany : Layers → ℕ → Result Forest ReadFault → Type 0
+HasTooMany layers depth (Ok f) = list_any bursts (members layers depth f) ≡ true
+HasTooMany layers depth (Err fault) = ⊥
 
 -- why no reply comes for want of tokens: what is read of the text has too many, which doc comments alone can bring about,
 -- or it has such a call
-abbrev pub NeedsTooMany : ℕ → List ℕ → Type 0
-NeedsTooMany depth text = reading.HasTooMany (text_steps text) ⊎ HasTooMany depth (text_reading text)
+abbrev pub NeedsTooMany : Layers → ℕ → List ℕ → Type 0
+NeedsTooMany layers depth text = reading.HasTooMany (text_steps text) ⊎ HasTooMany layers depth (text_reading text)

@@ -4,6 +4,7 @@ ghost use Rattle.expander.specs.Definitions.{after_attribute, after_attributes, 
 ghost use Rattle.expander.specs.Text.{has_text};
 
 use crate::copies::again;
+use std::marker::Model;
 use tt::iter::TtIter;
 use tt_data::delimiter::{Delimiter, DelimiterKind};
 use tt_data::leaf::{Ident, IdentIsRaw};
@@ -19,6 +20,16 @@ pub(crate) struct Definition<'a> {
     pub is_macro: bool,
     /// The whole piece.
     pub piece: TtIter<'a>,
+}
+
+impl<'a> Model for Definition<'a> {
+    ghost use Rattle.expander.specs.Definitions.{Definition, definition_code};
+
+    ghost Value = { Definition };
+
+    ghost coded = { definition_code };
+
+    ghost view = { λ d. record { name = d.name; arguments = d.arguments; body = d.body; is_macro = d.is_macro; piece = d.piece } };
 }
 
 // Whether the name is this word, and isn't raw.

@@ -3,15 +3,17 @@ ghost use Rattle.std.specs.Prelude.{◌≡◌, ◌≢◌, ℕ, Err, ◌^◌, ◌
 ghost use Rattle.std.specs.Io.KnownBytes.{Appends};
 ghost use Rattle.expander.specs.Replies.{IsReplyTo};
 ghost use Rattle.expander.specs.Lines.{report};
-ghost use Rattle.expander.specs.Runs.{IsAllOf, Runs, Tells, opened, status, status_of};
+ghost use Rattle.expander.specs.Runs.{IsAllOf, Runs, Tells, run_layers, status, status_of};
 ghost use Rattle.expander.specs.TooMany.{NeedsTooMany};
 ghost use Rattle.expander.specs.Steps.{Puts, PutsReply, Replied, StopsEarly, StopsReading};
 
 use crate::lines::{report, stop_line};
 use crate::session::{Refusal, Reply, Session};
 use crate::watched::Watched;
+use small_grammar::SmallGrammar;
 use std::alloc::Global;
 use std::io::{Read, Write};
+use tt_data::edition::Edition;
 
 /// The status that a program ends with.
 #[derive(Clone, Copy, Debug, PartialEq, Eq)]
@@ -32,7 +34,7 @@ pub enum Stop {
     Refused(Refusal),
 }
 
-/// Reads a text to its end, expands it with `depth` levels, writes and flushes what that prints, and tells its faults.
+/// Reads a text to its end, expands it with `depth` levels by the small grammar, its words of edition 2024, writes and flushes what that prints, and tells its faults.
 ///
 /// The status is 0 where nothing was refused and the text has no fault, else 1. Nothing is written where
 /// the text is not read or the run is refused, but by a write that fails, which leaves a front of the
@@ -91,12 +93,12 @@ fn answer_input<R: Read>(
 // written, so that want of memory is told alone.
 fn answer(alloc: Global, text: &str, depth: u8) -> Result<(Reply, String), Refusal>
     requires { length text.now < 2 ^ 32 }
-    ensures reply { IfOk result (λ answer. IsReplyTo (opened text.now depth) answer.0) }
+    ensures reply { IfOk result (λ answer. IsReplyTo run_layers depth text.now answer.0) }
     ensures told { IfOk result (λ answer. string_bytes answer.1 ≡ report text.now answer.0) }
-    ensures tokens { result ≡ Err Refusal.Tokens → NeedsTooMany depth text.now }
+    ensures tokens { result ≡ Err Refusal.Tokens → NeedsTooMany run_layers depth text.now }
     ensures numbers { result ≢ Err Refusal.Numbers }
 {
-    let mut session = Session::new(alloc, text, depth)?;
+    let mut session = Session::new(alloc, text, SmallGrammar, Edition::Edition2024, depth)?;
     let reply = session.expansion()?;
     let told = report(alloc, text, &reply)?;
     Ok((reply, told))

@@ -1,8 +1,9 @@
 //! A session over a text.
 ghost use Rattle.std.specs.Prelude.{◌≡◌, ◌≢◌, ℕ, ◌<◌, ◌^◌, List, length, string_bytes, IfOk, OnErr, Ok, Err, None};
 ghost use Rattle.expander.specs.Expansion.{PlacedStep};
+ghost use Rattle.expander.specs.Layered.{layers};
 ghost use Rattle.expander.specs.OutputSteps.{HasOutput};
-ghost use Rattle.expander.specs.State.{State};
+ghost use Rattle.expander.specs.State.{State, layers_of};
 ghost use Rattle.expander.specs.Refusals.{refusal_of};
 ghost use Rattle.expander.specs.Replies.{IsReplyTo};
 ghost use Rattle.expander.specs.TooMany.{NeedsTooMany};
@@ -14,9 +15,11 @@ use crate::faults::{Fault, sort_faults};
 use crate::output::finish;
 use crate::pieces::set_apart;
 use bridge::{Printed, Read, ReadFault};
+use fragment_grammar::FragmentGrammar;
 use rustc_lexer::{FrontmatterAllowed, Token, tokenize};
 use std::alloc::{AllocError, Global};
 use std::marker::Model;
+use tt_data::edition::Edition;
 use tt_data::fault::TtFault;
 use tt_data::span::TextRange;
 
@@ -115,34 +118,49 @@ pub enum Reply {
     Unread(ReadFault),
 }
 
-/// A text, and how many levels of calls are expanded in it.
+/// A text, and what its calls are expanded by: a grammar, an edition, and how many levels of calls are expanded.
 #[derive(Drop)]
-pub struct Session {
+pub struct Session<G> {
     alloc: Global,
     text: String,
+    grammar: G,
+    edition: Edition,
     depth: u8,
 }
 
-impl Model for Session {
+impl<G> Model for Session<G> {
     ghost use Rattle.std.specs.Prelude.{string_bytes, length, ◌<◌, ◌^◌};
     ghost use Rattle.expander.specs.State.{State};
 
-    ghost Value = { State };
+    ghost Value = { State G };
 
-    ghost view = { λ s. record { text = string_bytes s.text; depth = s.depth } };
+    ghost view = { λ s. record { text = string_bytes s.text; grammar = s.grammar; edition = s.edition; depth = s.depth } };
 
     ghost invariant = { λ s. length (string_bytes s.text) < 2 ^ 32 };
 }
 
-impl Session {
-    /// A session over a text of at most `u32::MAX` bytes. Nothing is expanded yet. Refused where there is no memory
+impl<G: FragmentGrammar + Drop> Session<G> {
+    /// A session over a text of at most `u32::MAX` bytes, whose words are of this edition. The grammar says what fragments
+    /// are, and `depth` how many levels of calls are expanded. Nothing is expanded yet. Refused where there is no memory
     /// for a copy of the text.
-    pub fn new(alloc: Global, text: &str, depth: u8) -> Result<Self, AllocError>
+    pub fn new(
+        alloc: Global,
+        text: &str,
+        grammar: G,
+        edition: Edition,
+        depth: u8,
+    ) -> Result<Self, AllocError>
         requires { length text.now < 2 ^ 32 }
-        ensures { IfOk result (λ s. s ≡ record { text = text.now; depth = depth }) }
+        ensures { IfOk result (λ s. s ≡ record { text = text.now; grammar = grammar; edition = edition; depth = depth }) }
     {
         let text = String::from_str(alloc, text)?;
-        Ok(Session { alloc, text, depth })
+        Ok(Session {
+            alloc,
+            text,
+            grammar,
+            edition,
+            depth,
+        })
     }
 
     /// The text.
@@ -156,20 +174,27 @@ impl Session {
     /// text has more than `u32::MAX` tokens, which doc comments alone can bring about, or where a call's result would
     /// have so many; that never where no level of calls is left.
     pub fn expansion(&mut self) -> Result<Reply, Refusal>
-        ensures reply { IfOk result (λ reply. IsReplyTo self.old reply) }
+        ensures reply { IfOk result (λ reply. IsReplyTo (layers_of G.answer self.old) self.old.depth self.old.text reply) }
         ensures same { self.new ≡ self.old }
-        ensures tokens { result ≡ Err Refusal.Tokens → NeedsTooMany self.old.depth self.old.text }
+        ensures tokens { result ≡ Err Refusal.Tokens → NeedsTooMany (layers_of G.answer self.old) self.old.depth self.old.text }
         ensures numbers { result ≢ Err Refusal.Numbers }
     {
-        reply_to_text(self.alloc, self.text.as_str(), self.depth)
+        let text = self.text.as_str();
+        reply_to_text(self.alloc, text, &self.grammar, self.edition, self.depth)
     }
 }
 
 // The expansion of a text, or its reading fault.
-fn reply_to_text(alloc: Global, text: &str, depth: u8) -> Result<Reply, Refusal>
+fn reply_to_text<G: FragmentGrammar>(
+    alloc: Global,
+    text: &str,
+    grammar: &G,
+    edition: Edition,
+    depth: u8,
+) -> Result<Reply, Refusal>
     requires { length text.now < 2 ^ 32 }
-    ensures reply { IfOk result (IsReplyTo (record { text = text.now; depth = depth })) }
-    ensures tokens { result ≡ Err Refusal.Tokens → NeedsTooMany depth text.now }
+    ensures reply { IfOk result (IsReplyTo (layers (G.answer grammar.now) edition) depth text.now) }
+    ensures tokens { result ≡ Err Refusal.Tokens → NeedsTooMany (layers (G.answer grammar.now) edition) depth text.now }
     ensures numbers { result ≢ Err Refusal.Numbers }
 {
     bridge::laws::reading_is_a_relation();
@@ -178,7 +203,7 @@ fn reply_to_text(alloc: Global, text: &str, depth: u8) -> Result<Reply, Refusal>
         Read::Fault(fault) => Ok(Reply::Unread(fault)),
         Read::Tree(mut tree) => {
             set_apart(alloc, &mut tree)?;
-            let output = expand_pieces(alloc, depth, &tree.token_trees().iter())?;
+            let output = expand_pieces(alloc, grammar, edition, depth, &tree.token_trees().iter())?;
             Ok(Reply::Read(expansion_of(output)?))
         }
     }

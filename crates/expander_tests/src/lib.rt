@@ -7,6 +7,8 @@
 #[cfg(test)]
 mod fakes;
 #[cfg(test)]
+mod macros;
+#[cfg(test)]
 mod runs;
 #[cfg(test)]
 mod sessions;

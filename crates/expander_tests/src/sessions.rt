@@ -3,7 +3,9 @@ use expander::FaultKind::{
     BrokenDefinition, CannotExpand, NestedDefinition, RecursionLimit, Unspellable,
 };
 use expander::ReadFaultKind::{BadToken, CloserDoesNotFit, GroupLeftOpen};
-use expander::{Expansion, Fault, FaultKind, ReadFault, Refusal, Reply, Session, TextRange};
+use expander::{
+    Edition, Expansion, Fault, FaultKind, ReadFault, Refusal, Reply, Session, SmallGrammar, TextRange,
+};
 use std::alloc::{AllocError, Global};
 use std::process::Abort;
 use std::test::Fail;
@@ -11,15 +13,20 @@ use std::test::Fail;
 // A text and its levels, what it prints, its faults, how many pieces are expanded and how many tokens printed.
 type Row<'a> = (&'a str, u8, &'a str, &'a [Fault], usize, usize);
 
-fn fault(kind: FaultKind, start: u32, end: u32) -> Fault {
+pub(crate) fn fault(kind: FaultKind, start: u32, end: u32) -> Fault {
     let range = TextRange { start, end };
     Fault { kind, range }
 }
 
 // The expansion of a text that can be read.
-fn expansion_of(rt: &impl Abort, alloc: Global, text: &str, depth: u8) -> Result<Expansion, Fail> {
+pub(crate) fn expansion_of(
+    rt: &impl Abort,
+    alloc: Global,
+    text: &str,
+    depth: u8,
+) -> Result<Expansion, Fail> {
     assert!(rt; text.len() < 10_000_000);
-    let mut session = Session::new(alloc, text, depth)?;
+    let mut session = Session::new(alloc, text, SmallGrammar, Edition::Edition2024, depth)?;
     assert!(rt; session.text() == text);
     match session.expansion()? {
         Reply::Read(expansion) => Ok(expansion),
@@ -340,7 +347,8 @@ fn texts_that_are_not_read(rt: HostRuntime) -> Result<(), Fail> {
         ("( 😀 ]", BadToken, 2, 6),
     ];
     for (text, kind, start, end) in cases {
-        let mut session = Session::new(rt.alloc(), text, 128)?;
+        let mut session =
+            Session::new(rt.alloc(), text, SmallGrammar, Edition::Edition2024, 128)?;
         let Reply::Unread(fault) = session.expansion()? else {
             return Err(Fail::new("the text is read"));
         };
@@ -395,7 +403,9 @@ fn deep_groups(rt: HostRuntime) -> Result<(), Fail> {
 #[test]
 fn a_refused_expansion_can_be_asked_again(rt: HostRuntime) -> Result<(), Fail> {
     let text = "macro_rules! m { ($a:tt) => { ($a) } }\nm!{ x } y;\n";
-    let Ok(mut session) = Session::new(rt.alloc(), text, 128) else {
+    let Ok(mut session) =
+        Session::new(rt.alloc(), text, SmallGrammar, Edition::Edition2024, 128)
+    else {
         return Ok(());
     };
     let reply = match session.expansion() {

@@ -6,93 +6,94 @@ use Rattle.expander.specs.Expansion.{just}
 use Rattle.bridge.specs.WalkSteps.{step_of}
 use Rattle.expander.specs.ScopeTable.{definitions_of}
 use Rattle.expander.specs.Turns.{answer, searched}
+use Rattle.expander.specs.World.{world}
 use Rattle.expander.specs.WalkSteps.{GoesOn}
 use Rattle.expander.proofs.ExpandLemmas.{adds_just, adds_stays, unknown_turn, colons_turn, stays_turn, comes_turn, answer_bursts, result_bursts, going_first, turn_more, step_more, going_bursts}
 use Rattle.expander.proofs.OutcomeLemmas.{step_less}
-use Rattle.expander.proofs.RoomLemmas.{handed}
+use Rattle.expander.proofs.HandedLemmas.{handed}
 use Rattle.expander.proofs.TurnLemmas.{call_opened, call_passed, colons_opened}
 use Rattle.expander.proofs.expansion.+searching.Goals as goal
 
 pub expand_call-keep-requires : goal.expand_call-keep-requires
-expand_call-keep-requires t c = call_opened c.args.trees.now c.args.call c.requires
+expand_call-keep-requires g t c = call_opened c.args.trees.now c.args.call c.requires.call
 
 pub expand_call-returns-in_default-clause-turn : goal.expand_call-returns-in_default-clause-turn
-expand_call-returns-in_default-clause-turn t c =
-    let (w, opened) = call_opened c.args.trees.now c.args.call c.requires in
+expand_call-returns-in_default-clause-turn g t c =
+    let (w, opened) = call_opened c.args.trees.now c.args.call c.requires.call in
     rw c.in_ok-keep.ensures.rest
-    (unknown_turn (definitions_of c.args.scope.now) c.args.depth c.args.outer c.args.out.now _ c.args.trees.now c.args.call c.requires (sym c.in_default.ensures) w opened
+    (unknown_turn (world (g.G.FragmentGrammar.answer c.args.grammar.now) c.args.scope.now.edition) (definitions_of c.args.scope.now) c.args.depth c.args.outer c.args.out.now _ c.args.trees.now c.args.call c.requires.call (sym c.in_default.ensures.found) w opened
     (c.in_ok-keep.ensures.adds w opened))
 
 pub expand_call-returns-in_err-result-clause-tokens : goal.expand_call-returns-in_err-result-clause-tokens
-expand_call-returns-in_err-result-clause-tokens t c = λ e.
-    let (w, passed) = call_passed c.args.trees.now c.args.call c.requires in
-    answer_bursts (definitions_of c.args.scope.now) c.args.depth c.args.outer c.args.out.now c.args.out.now c.args.trees.now c.args.call
-    c.in-Some.known.now.definition c.requires (sym c.in-Some.ensures) w passed
-    (c.in_err-result.ensures.tokens (handed c.from_residual-in_err-result.result _ c.from_residual-in_err-result.ensures.1 e))
+expand_call-returns-in_err-result-clause-tokens g t c = λ e.
+    let (w, passed) = call_passed c.args.trees.now c.args.call c.requires.call in
+    answer_bursts (world (g.G.FragmentGrammar.answer c.args.grammar.now) c.args.scope.now.edition) (definitions_of c.args.scope.now) c.args.depth c.args.outer c.args.out.now c.args.out.now c.args.trees.now c.args.call
+    c.in-Some.known.now.definition c.requires.call (sym c.in-Some.ensures.found) w passed
+    (c.in_err-result.ensures.tokens c.args.scope.now.edition c.in-Some.ensures.rules (handed c.from_residual-in_err-result.result _ c.from_residual-in_err-result.ensures.1 e))
 
 pub expand_call-returns-in-Ok-clause-turn : goal.expand_call-returns-in-Ok-clause-turn
-expand_call-returns-in-Ok-clause-turn t c =
-    let (w, passed) = call_passed c.args.trees.now c.args.call c.requires in
-    let says : answer c.in-Some.known.now.definition c.args.depth c.args.call.argument ≡ Ok c.in-Ok.result.inner = sym (rw c.in-Ok.is at c.in_ok-result.ensures.given) in
-    on_ok_weaker c.search.result (λ adds. comes_turn (definitions_of c.args.scope.now) c.args.depth c.args.outer c.args.out.now c.search.new.out c.args.trees.now c.args.call
-    c.in-Some.known.now.definition c.requires (sym c.in-Some.ensures) w passed c.in-Ok.result.inner says (rw (c.unwrap_or-at.ensures, c.iter-inside.ensures, c.token_trees.ensures) at adds))
+expand_call-returns-in-Ok-clause-turn g t c =
+    let (w, passed) = call_passed c.args.trees.now c.args.call c.requires.call in
+    let says : answer (world (g.G.FragmentGrammar.answer c.args.grammar.now) c.args.scope.now.edition) c.in-Some.known.now.definition c.args.depth c.args.call.argument ≡ Ok c.in-Ok.result.inner = sym ((rw c.in-Ok.is at c.in_ok-result.ensures.given) c.args.scope.now.edition c.in-Some.ensures.rules) in
+    on_ok_weaker c.search.result (λ adds. comes_turn (world (g.G.FragmentGrammar.answer c.args.grammar.now) c.args.scope.now.edition) (definitions_of c.args.scope.now) c.args.depth c.args.outer c.args.out.now c.search.new.out c.args.trees.now c.args.call
+    c.in-Some.known.now.definition c.requires.call (sym c.in-Some.ensures.found) w passed c.in-Ok.result.inner says (rw (c.unwrap_or-at.ensures, c.iter-inside.ensures, c.token_trees.ensures) at adds))
     c.search.ensures.adds
 
 pub expand_call-keep-requires-in-Err : goal.expand_call-keep-requires-in-Err
-expand_call-keep-requires-in-Err t c = call_passed c.args.trees.now c.args.call c.requires
+expand_call-keep-requires-in-Err g t c = call_passed c.args.trees.now c.args.call c.requires.call
 
 pub expand_call-returns-clause-turn : goal.expand_call-returns-clause-turn
-expand_call-returns-clause-turn t c =
-    let (w, passed) = call_passed c.args.trees.now c.args.call c.requires in
-    let says : answer c.in-Some.known.now.definition c.args.depth c.args.call.argument ≡ Err c.in-Err.kind = sym (rw c.in-Err.is at c.in_ok-result.ensures.given) in
+expand_call-returns-clause-turn g t c =
+    let (w, passed) = call_passed c.args.trees.now c.args.call c.requires.call in
+    let says : answer (world (g.G.FragmentGrammar.answer c.args.grammar.now) c.args.scope.now.edition) c.in-Some.known.now.definition c.args.depth c.args.call.argument ≡ Err c.in-Err.kind = sym ((rw c.in-Err.is at c.in_ok-result.ensures.given) c.args.scope.now.edition c.in-Some.ensures.rules) in
     rw c.in_ok-keep-in-Err.ensures.rest
-    (stays_turn (definitions_of c.args.scope.now) c.args.depth c.args.outer c.args.out.now _ c.args.trees.now c.args.call
-    c.in-Some.known.now.definition c.requires (sym c.in-Some.ensures) w passed c.in-Err.kind says
+    (stays_turn (world (g.G.FragmentGrammar.answer c.args.grammar.now) c.args.scope.now.edition) (definitions_of c.args.scope.now) c.args.depth c.args.outer c.args.out.now _ c.args.trees.now c.args.call
+    c.in-Some.known.now.definition c.requires.call (sym c.in-Some.ensures.found) w passed c.in-Err.kind says
     (adds_stays c.args.out.now _ _ c.in-Err.kind c.args.outer (record { at = c.args.call.name.span; whole = w; argument = c.args.call.argument }) refl
     (rw c.unwrap_or-at.ensures at c.in_ok-push_fault-in-Err.ensures) refl (c.in_ok-keep-in-Err.ensures.adds w passed)))
 
 pub search-turns-init : goal.search-turns-init
-search-turns-init t c =
-    going_first c.args.outer (searched (definitions_of c.args.scope.now) c.args.depth c.args.outer) c.args.trees.now c.args.out.now c.new-walk.result
+search-turns-init g t c =
+    going_first c.args.outer (searched (world (g.G.FragmentGrammar.answer c.args.grammar.now) c.args.scope.now.edition) (definitions_of c.args.scope.now) c.args.depth c.args.outer) c.args.trees.now c.args.out.now c.new-walk.result
     c.new-walk.ensures.here c.new-walk.ensures.groups
 
 pub search-turns-preserved-in-Continue-1 : goal.search-turns-preserved-in-Continue-1
-search-turns-preserved-in-Continue-1 t c =
-    turn_more c.args.outer (searched (definitions_of c.args.scope.now) c.args.depth c.args.outer) c.args.trees.now c.args.out.now c.turns.out c.expand_call.new.out
+search-turns-preserved-in-Continue-1 g t c =
+    turn_more c.args.outer (searched (world (g.G.FragmentGrammar.answer c.args.grammar.now) c.args.scope.now.edition) (definitions_of c.args.scope.now) c.args.depth c.args.outer) c.args.trees.now c.args.out.now c.turns.out c.expand_call.new.out
     c.turns.walk _ c.turns.invariant c.in_ok-expand_call.ensures.turn refl
 
 pub search-returns-in_err-expand_call-clause-tokens : goal.search-returns-in_err-expand_call-clause-tokens
-search-returns-in_err-expand_call-clause-tokens t c = λ e.
-    going_bursts (definitions_of c.args.scope.now) c.args.depth c.args.outer c.args.trees.now c.args.out.now c.turns.out c.turns.walk c.turns.invariant
+search-returns-in_err-expand_call-clause-tokens g t c = λ e.
+    going_bursts (world (g.G.FragmentGrammar.answer c.args.grammar.now) c.args.scope.now.edition) (definitions_of c.args.scope.now) c.args.depth c.args.outer c.args.trees.now c.args.out.now c.turns.out c.turns.walk c.turns.invariant
     (c.in_err-expand_call.ensures.tokens (handed c.from_residual.result _ c.from_residual.ensures.1 e))
 
 pub search-keep-requires : goal.search-keep-requires
-search-keep-requires t c = colons_opened c.turns.walk.here c.in-Some-call_behind_colons.call (sym c.in-Some-call_behind_colons.ensures)
+search-keep-requires g t c = colons_opened c.turns.walk.here c.in-Some-call_behind_colons.call (sym c.in-Some-call_behind_colons.ensures)
 
 pub search-turns-preserved-in-Some-call_behind_colons : goal.search-turns-preserved-in-Some-call_behind_colons
-search-turns-preserved-in-Some-call_behind_colons t c =
+search-turns-preserved-in-Some-call_behind_colons g t c =
     let at : call_behind_colons c.turns.walk.here ≡ Some c.in-Some-call_behind_colons.call = sym c.in-Some-call_behind_colons.ensures in
     let (w, opened) = colons_opened c.turns.walk.here c.in-Some-call_behind_colons.call at in
-    turn_more c.args.outer (searched (definitions_of c.args.scope.now) c.args.depth c.args.outer) c.args.trees.now c.args.out.now c.turns.out _
+    turn_more c.args.outer (searched (world (g.G.FragmentGrammar.answer c.args.grammar.now) c.args.scope.now.edition) (definitions_of c.args.scope.now) c.args.depth c.args.outer) c.args.trees.now c.args.out.now c.turns.out _
     c.turns.walk _ c.turns.invariant
     (rw c.in_ok-keep.ensures.rest
-    (colons_turn (definitions_of c.args.scope.now) c.args.depth c.args.outer c.turns.out _ c.turns.walk.here c.in-Some-call_behind_colons.call at w opened
+    (colons_turn (world (g.G.FragmentGrammar.answer c.args.grammar.now) c.args.scope.now.edition) (definitions_of c.args.scope.now) c.args.depth c.args.outer c.turns.out _ c.turns.walk.here c.in-Some-call_behind_colons.call at w opened
     (c.in_ok-keep.ensures.adds w opened))) refl
 
 pub expand_call-returns-in-Ok-clause-tokens : goal.expand_call-returns-in-Ok-clause-tokens
-expand_call-returns-in-Ok-clause-tokens t c = λ e.
-    let (w, passed) = call_passed c.args.trees.now c.args.call c.requires in
-    let says : answer c.in-Some.known.now.definition c.args.depth c.args.call.argument ≡ Ok c.in-Ok.result.inner = sym (rw c.in-Ok.is at c.in_ok-result.ensures.given) in
-    result_bursts (definitions_of c.args.scope.now) c.args.depth c.args.outer c.args.out.now c.args.out.now c.args.trees.now c.args.call
-    c.in-Some.known.now.definition c.requires (sym c.in-Some.ensures) w passed c.in-Ok.result.inner says
+expand_call-returns-in-Ok-clause-tokens g t c = λ e.
+    let (w, passed) = call_passed c.args.trees.now c.args.call c.requires.call in
+    let says : answer (world (g.G.FragmentGrammar.answer c.args.grammar.now) c.args.scope.now.edition) c.in-Some.known.now.definition c.args.depth c.args.call.argument ≡ Ok c.in-Ok.result.inner = sym ((rw c.in-Ok.is at c.in_ok-result.ensures.given) c.args.scope.now.edition c.in-Some.ensures.rules) in
+    result_bursts (world (g.G.FragmentGrammar.answer c.args.grammar.now) c.args.scope.now.edition) (definitions_of c.args.scope.now) c.args.depth c.args.outer c.args.out.now c.args.out.now c.args.trees.now c.args.call
+    c.in-Some.known.now.definition c.requires.call (sym c.in-Some.ensures.found) w passed c.in-Ok.result.inner says
     (rw (c.unwrap_or-at.ensures, c.iter-inside.ensures, c.token_trees.ensures) at (c.search.ensures.tokens e))
 
 pub search-turns-smaller : goal.search-turns-smaller
-search-turns-smaller t c = step_less c.turns.walk c.next.new.self c.in-Some-2.step (rw c.in-Some-2.is at c.in_ok-step.ensures)
+search-turns-smaller g t c = step_less c.turns.walk c.next.new.self c.in-Some-2.step (rw c.in-Some-2.is at c.in_ok-step.ensures)
 
 pub search-turns-preserved : goal.search-turns-preserved
-search-turns-preserved t c =
+search-turns-preserved g t c =
     let goes : GoesOn c.turns.walk (Some c.in-Some-2.step) c.next.new.self = rw c.in-Some-2.is at c.in_ok-step.ensures in
-    step_more (definitions_of c.args.scope.now) c.args.depth c.args.outer c.args.trees.now c.args.out.now c.turns.out _ c.turns.walk c.next.new.self c.in-Some-2.step
+    step_more (world (g.G.FragmentGrammar.answer c.args.grammar.now) c.args.scope.now.edition) (definitions_of c.args.scope.now) c.args.depth c.args.outer c.args.trees.now c.args.out.now c.turns.out _ c.turns.walk c.next.new.self c.in-Some-2.step
     c.turns.invariant (sym c.in_default.ensures) (sym c.in_default-call_behind_colons.ensures) goes
     (adds_just c.turns.out _ (just c.args.outer (step_of c.in-Some-2.step ∷ [])) refl c.in_ok-push_step.ensures refl refl)

@@ -1,19 +1,20 @@
 use Rattle.std.proofs.Common.{◌+◌, ◌*◌}
 use Rattle.expander.specs.ScopeTable.{definitions_of}
 use Rattle.expander.specs.Turns.{searched}
+use Rattle.expander.specs.World.{world}
 use Rattle.expander.specs.WalkSteps.{groups_of}
 use Rattle.expander.proofs.ExpandLemmas.{Going}
 use Rattle.expander.proofs.OutcomeLemmas.{work_of}
 use Rattle.expander.proofs.expansion.+searching.Given as goal
 
 abbrev pub decreases-expand_call : goal.decreases-expand_call
-decreases-expand_call l = 2 * l.depth
+decreases-expand_call g l = 2 * l.depth
 
 abbrev pub decreases-search : goal.decreases-search
-decreases-search l = 2 * l.depth + 1
+decreases-search g l = 2 * l.depth + 1
 
 abbrev pub invariant-search-turns : goal.invariant-search-turns
-invariant-search-turns l = Going l.outer (searched (definitions_of l.scope) l.depth l.outer) l.trees l.initial.out l.out l.walk
+invariant-search-turns g l = Going l.outer (searched (world (g.G.FragmentGrammar.answer l.grammar) l.scope.edition) (definitions_of l.scope) l.depth l.outer) l.trees l.initial.out l.out l.walk
 
 abbrev pub decreases-search-turns : goal.decreases-search-turns
-decreases-search-turns l = work_of l.walk.here (groups_of l.walk)
+decreases-search-turns g l = work_of l.walk.here (groups_of l.walk)

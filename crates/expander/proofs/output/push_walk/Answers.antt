@@ -2,7 +2,7 @@ use Rattle.std.proofs.Common.{◌∷◌, [], ap}
 use Rattle.std.specs.Prelude.{Some}
 use Rattle.tt_data.specs.Walk.{walk}
 use Rattle.bridge.specs.WalkSteps.{step_of}
-use Rattle.expander.specs.declared.definitions.Definition.{Definition}
+use Rattle.expander.specs.Definitions.{Definition}
 use Rattle.expander.specs.Expansion.{Outcome, just, placed}
 use Rattle.expander.specs.WalkSteps.{GoesOn}
 use Rattle.expander.proofs.OutcomeLemmas.{step_left, step_less, walk_search}

@@ -1,5 +1,5 @@
 use Rattle.tt_data.specs.Walk.{walk}
-use Rattle.expander.specs.declared.definitions.Definition.{Definition}
+use Rattle.expander.specs.Definitions.{Definition}
 use Rattle.expander.specs.Expansion.{just}
 use Rattle.expander.specs.WalkSteps.{groups_of}
 use Rattle.expander.proofs.OutcomeLemmas.{left, work_of}
