@@ -4,7 +4,8 @@ use expander::FaultKind::{
 };
 use expander::ReadFaultKind::{BadToken, CloserDoesNotFit, GroupLeftOpen};
 use expander::{
-    Edition, Expansion, Fault, FaultKind, ReadFault, Refusal, Reply, Session, SmallGrammar, TextRange,
+    Edition, Expansion, Fault, FaultKind, ReadFault, Refusal, Reply, Session, SmallGrammar,
+    TextRange,
 };
 use std::alloc::{AllocError, Global};
 use std::process::Abort;
@@ -347,8 +348,7 @@ fn texts_that_are_not_read(rt: HostRuntime) -> Result<(), Fail> {
         ("( 😀 ]", BadToken, 2, 6),
     ];
     for (text, kind, start, end) in cases {
-        let mut session =
-            Session::new(rt.alloc(), text, SmallGrammar, Edition::Edition2024, 128)?;
+        let mut session = Session::new(rt.alloc(), text, SmallGrammar, Edition::Edition2024, 128)?;
         let Reply::Unread(fault) = session.expansion()? else {
             return Err(Fail::new("the text is read"));
         };
@@ -403,8 +403,7 @@ fn deep_groups(rt: HostRuntime) -> Result<(), Fail> {
 #[test]
 fn a_refused_expansion_can_be_asked_again(rt: HostRuntime) -> Result<(), Fail> {
     let text = "macro_rules! m { ($a:tt) => { ($a) } }\nm!{ x } y;\n";
-    let Ok(mut session) =
-        Session::new(rt.alloc(), text, SmallGrammar, Edition::Edition2024, 128)
+    let Ok(mut session) = Session::new(rt.alloc(), text, SmallGrammar, Edition::Edition2024, 128)
     else {
         return Ok(());
     };
