@@ -1,5 +1,5 @@
 //! Trees and the texts that are printed of them.
-use bridge::{Printed, Printer, Read, print, read};
+use bridge::{Printed, Printer, Read, WalkStep, print, read};
 use rustc_lexer::LexedText;
 use std::alloc::Global;
 use std::fmt::Write;
@@ -142,6 +142,33 @@ fn one_by_one(alloc: Global, trees: TokenTreesView<'_>) -> Result<Printed, TtFau
     }
 }
 
+// The step that a character stands for.
+fn step_for(alloc: Global, char: char) -> Result<WalkStep, TtFault> {
+    let span = Span::default();
+    match char {
+        '(' => Ok(WalkStep::Opens(DelimiterKind::Parenthesis, span)),
+        '<' => Ok(WalkStep::Opens(DelimiterKind::Invisible, span)),
+        ')' => Ok(WalkStep::Closes(DelimiterKind::Parenthesis, span)),
+        '>' => Ok(WalkStep::Closes(DelimiterKind::Invisible, span)),
+        _ => Ok(WalkStep::Leaf(leaf_for(alloc, char)?)),
+    }
+}
+
+// What is printed where each step is put by itself; a refused call is made once more.
+fn step_by_step(alloc: Global, text: &str) -> Result<Printed, TtFault> {
+    let mut printer = Printer::new(alloc);
+    for char in text.chars() {
+        let step = step_for(alloc, char)?;
+        if printer.put_step(&step).is_err() {
+            printer.put_step(&step)?;
+        }
+    }
+    match printer.finish() {
+        Ok(printed) => Ok(printed),
+        Err((_, fault)) => Err(fault),
+    }
+}
+
 #[test]
 fn prints_trees(rt: HostRuntime) -> Result<(), Fail> {
     let cases = [
@@ -168,6 +195,11 @@ fn prints_trees(rt: HostRuntime) -> Result<(), Fail> {
         assert!(rt;
             parts.as_str() == want,
             "{text:?} is printed in parts {parts:?}"
+        );
+        let steps = shown(&rt, &step_by_step(rt.alloc(), text)?)?;
+        assert!(rt;
+            steps.as_str() == want,
+            "{text:?} is printed in steps {steps:?}"
         );
     }
     Ok(())

@@ -1,6 +1,6 @@
 -- Steps that are put out, and what is printed of them.
-use Rattle.std.proofs.Common.{◌≡◌, ℕ, ◌+◌, ◌<◌, add-one, drop, drop-cons, get_or, append_assoc, append-nil, length, length-append, subst, List, [], ◌∷◌, ◌++◌, refl, sym, ap, ◌∙◌, arith, Bool, true, false, if◌then◌else◌, cond}
-use Rattle.std.specs.Prelude.{◌&&◌, ◌||◌, Option, Some, None, codes, filter, flat_map, map, is_some, not, slice_get, string_bytes}
+use Rattle.std.proofs.Common.{◌≡◌, ℕ, ◌+◌, ◌<◌, add-one, drop, drop-cons, get_or, append_assoc, append-nil, length, length-append, subst, List, [], ◌∷◌, ◌++◌, refl, sym, ap, ◌∙◌, arith, Bool, true, false, if◌then◌else◌}
+use Rattle.std.specs.Prelude.{◌||◌, Option, Some, None, codes, filter, map, is_some, slice_get}
 use Rattle.std.specs.Str.{bytes_eq, chars, is_utf8}
 use Rattle.std.specs.Char.{encode_utf8}
 use Rattle.std.proofs.lemmas.List.{length-map, map-append}
@@ -11,7 +11,6 @@ use Rattle.ucd_derived.specs.XidContinueRanges.{xid_continue_ranges}
 use Rattle.ucd_derived.specs.XidStartRanges.{xid_start_ranges}
 use Rattle.ucd_table.specs.Rows.{in_ranges}
 use Rattle.tt_data.specs.Walk.{Step, at_leaf, opens, closes}
-use Rattle.tt_data.specs.declared.leaf.Ident.{Ident}
 use Rattle.tt_data.specs.declared.leaf.IdentIsRaw.{IdentIsRaw}
 use Rattle.tt_data.specs.declared.leaf.IdentIsRaw.TheVariants as is_raw
 use Rattle.tt_data.specs.declared.leaf.Leaf.{Leaf}
@@ -72,19 +71,6 @@ pub invisible_words : (s : PlacedStep) → is_visible_step s.step ≡ false → 
 invisible_words s e =
     ap (λ (b : Bool). map (λ s. fault_at NestedDefinition (place s)) (filter (λ s. is_definition_word s.step) (if b then s ∷ [] else []))) e
 
-pub visible_places : (s : PlacedStep) → is_visible_step s.step ≡ true → places_of (s ∷ []) ≡ (place s).range ∷ []
-visible_places s e = ap (λ (b : Bool). map (λ s. (place s).range) (if b then s ∷ [] else [])) e
-
-pub visible_words : (s : PlacedStep) → is_visible_step s.step ≡ true
-    → words_told (s ∷ []) ≡ (if is_definition_word s.step then fault_at NestedDefinition (place s) ∷ [] else [])
-visible_words s e =
-    ap (λ (b : Bool). map (λ s. fault_at NestedDefinition (place s)) (filter (λ s. is_definition_word s.step) (if b then s ∷ [] else []))) e
-    ∙ go (is_definition_word s.step)
-  where
-    go : (b : Bool) → map (λ s. fault_at NestedDefinition (place s)) (cond b (s ∷ []) []) ≡ (if b then fault_at NestedDefinition (place s) ∷ [] else [])
-    go true = refl
-    go false = refl
-
 -- no step, and some steps behind others
 pub puts_none : (out : PlacedSteps) → PutsOut out out []
 puts_none out before has = subst (HasOutput out) (sym (append-nil before)) has
@@ -99,9 +85,6 @@ pub record StillPuts (old now : PlacedSteps) (whole left : List PlacedStep) : Ty
   pub puts : PutsOut old now done
   pub is : done ++ left ≡ whole
 
-pub still_first : (out : PlacedSteps) (whole left : List PlacedStep) → left ≡ whole → StillPuts out out whole left
-still_first out whole left e = record { done = []; puts = puts_none out; is = e }
-
 pub still_more : (old mid new : PlacedSteps) (whole xs left later : List PlacedStep) → StillPuts old mid whole left → left ≡ xs ++ later → PutsOut mid new xs
     → StillPuts old new whole later
 still_more old mid new whole xs left later still is puts = record {
@@ -109,10 +92,6 @@ still_more old mid new whole xs left later still is puts = record {
   puts = puts_more old mid new still.done xs still.puts puts;
   is = append_assoc still.done xs later ∙ ap (λ l. still.done ++ l) (sym is) ∙ still.is;
 }
-
-pub still_done : (old now : PlacedSteps) (whole left : List PlacedStep) → StillPuts old now whole left → left ≡ [] → PutsOut old now whole
-still_done old now whole left still none =
-    subst (PutsOut old now) (sym (append-nil still.done) ∙ ap (λ l. still.done ++ l) (sym none) ∙ still.is) still.puts
 
 -- ---- places change nothing of what is printed
 

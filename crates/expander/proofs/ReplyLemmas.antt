@@ -16,17 +16,15 @@ use Rattle.expander.specs.Count.{Looked, is_same, expanded_count, looked_of}
 use Rattle.expander.specs.Expanded.{Expanded}
 use Rattle.expander.specs.Expansion.{PlacedStep}
 use Rattle.expander.specs.Faults.{in_order}
-use Rattle.expander.specs.OutputSteps.{HasOutput, faults_in, tokens_in}
-use Rattle.expander.specs.Meaning.{Layers, Member, meaning_of, meaning_from, meaning, members, member_faults, output_of}
+use Rattle.expander.specs.OutputSteps.{HasOutput, faults_in}
+use Rattle.expander.specs.Meaning.{Member, meaning_of, meaning_from, meaning, members, output_of}
 use Rattle.expander.specs.PieceTurns.{IsOutputOf}
 use Rattle.expander.specs.Pieces.{cut, pieces, separated}
-use Rattle.expander.specs.Printing.{text_of}
 use Rattle.expander.specs.Replies.{IsExpansionOf, IsMeant}
 use Rattle.expander.specs.Shown.{ShowsOutput}
 use Rattle.mbe.specs.Grammar.{Grammar}
 use Rattle.tt_data.specs.declared.edition.Edition.{Edition}
 use Rattle.expander.specs.Layered.{layers}
-use Rattle.expander.specs.declared.faults.Fault.{Fault}
 
 every_one : (ps : List Looked) → filter (λ p. not (list_any (is_same p) [])) ps ≡ ps
 every_one [] = refl

@@ -16,7 +16,7 @@ use tt::iter::TtIter;
 use tt_data::delimiter::DelimiterKind;
 use tt_data::span::{Span, TextRange};
 
-/// Steps that were put out. They are not kept but printed, so what is kept of a token is its text and its places.
+/// Steps that were put out. They are printed and not kept: a token takes its text and two places.
 #[derive(Drop)]
 pub(crate) struct PlacedSteps {
     printer: Printer,

@@ -266,12 +266,12 @@ fn spellings(rt: HostRuntime) -> Result<(), Fail> {
             9,
         ),
         (
-            "macro_rules! m { ($a:tt) => { $a 'b \"c\" r#d } }\nm!{ 1.0e3 }\n",
+            "macro_rules! m { ($a:tt) => { $a 'b r#d } }\nm!{ 1.0e3 }\n",
             128,
-            "1.0e3 'b \"c\" r#d\n",
+            "1.0e3 'b r#d\n",
             &[],
             1,
-            5,
+            4,
         ),
         // A quote that is left alone has no spelling: that is told at the name of the call.
         (
