@@ -70,10 +70,10 @@ takes_definition depth before piece d scope new_scope old new here finds is_defi
 pub record PiecesLeft (depth : ℕ) (all rest : List Forest) (scope : List ℕ → Option Definition) (out : Output) : Type 0 where
   pub before : List Definition
   pub finds : scope ≡ nearest before
-  pub steps : steps_of_output out.steps.items ++ flat_map (output_of layers depth) (members_after layers depth before rest)
-      ≡ flat_map (output_of layers depth) (members_after layers depth [] all)
-  pub faults : out.faults.items ++ flat_map (member_faults layers depth) (members_after layers depth before rest)
-      ≡ flat_map (member_faults layers depth) (members_after layers depth [] all)
+  pub steps : steps_of_output out.steps.items ++ flat_map output_of (members_after layers depth before rest)
+      ≡ flat_map output_of (members_after layers depth [] all)
+  pub faults : out.faults.items ++ flat_map (member_faults layers) (members_after layers depth before rest)
+      ≡ flat_map (member_faults layers) (members_after layers depth [] all)
   pub plain : out.plain + length (looked_of (members_after layers depth before rest)) ≡ length (looked_of (members_after layers depth [] all))
   pub bursting : list_any bursts (members_after layers depth before rest) ≡ true → list_any bursts (members_after layers depth [] all) ≡ true
 
@@ -82,8 +82,8 @@ pub pieces_at_first : (depth : ℕ) (all : List Forest) (scope : List ℕ → Op
 pieces_at_first depth all scope out none_found steps faults counted = record {
   before = [];
   finds = none_found;
-  steps = ap (λ s. steps_of_output s ++ flat_map (output_of layers depth) (members_after layers depth [] all)) steps;
-  faults = ap (λ s. s ++ flat_map (member_faults layers depth) (members_after layers depth [] all)) faults;
+  steps = ap (λ s. steps_of_output s ++ flat_map output_of (members_after layers depth [] all)) steps;
+  faults = ap (λ s. s ++ flat_map (member_faults layers) (members_after layers depth [] all)) faults;
   plain = omega (arith, counted);
   bursting = λ much. much;
 }
@@ -99,14 +99,14 @@ pub pieces_more : (depth : ℕ) (all more : List Forest) (piece : Forest) (scope
 pieces_more depth all more piece scope new_scope old new l takes =
     let t : TakesPiece depth l.before piece new_scope old new = takes l.before l.finds in
     let m : Member = member layers depth l.before piece (definition_of piece) in
-    let later : List Member = members_after layers depth (with_definition layers depth (definition_of piece) l.before) more in
+    let later : List Member = members_after layers depth (with_definition (definition_of piece) l.before) more in
     record {
-      before = with_definition layers depth (definition_of piece) l.before;
+      before = with_definition (definition_of piece) l.before;
       finds = t.finds;
-      steps = ap (λ s. s ++ flat_map (output_of layers depth) later) t.adds.steps
-          ∙ append_assoc (steps_of_output old.steps.items) (output_of layers depth m) (flat_map (output_of layers depth) later) ∙ l.steps;
-      faults = ap (λ s. s ++ flat_map (member_faults layers depth) later) t.adds.faults
-          ∙ append_assoc old.faults.items (member_faults layers depth m) (flat_map (member_faults layers depth) later) ∙ l.faults;
+      steps = ap (λ s. s ++ flat_map output_of later) t.adds.steps
+          ∙ append_assoc (steps_of_output old.steps.items) (output_of m) (flat_map output_of later) ∙ l.steps;
+      faults = ap (λ s. s ++ flat_map (member_faults layers) later) t.adds.faults
+          ∙ append_assoc old.faults.items (member_faults layers m) (flat_map (member_faults layers) later) ∙ l.faults;
       plain = omega (arith, t.adds.plain, l.plain, looked_more m later);
       bursting = λ much. l.bursting (or_later (bursts m) _ much);
     }

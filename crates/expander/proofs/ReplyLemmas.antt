@@ -37,17 +37,17 @@ all_count ps = ap length (every_one ps)
 
 -- the output of a text's pieces, shown, is what the text means
 pub means_output : (depth : ℕ) (f : Forest) (out : Output) (e : Expanded) → IsOutputOf depth (pieces f) out → ShowsOutput out e
-    → IsExpansionOf thin_layers depth (meaning_of thin_layers depth (members thin_layers depth f)) e
+    → IsExpansionOf (meaning_of thin_layers (members thin_layers depth f)) e
 means_output depth f out e is shows =
     let ms : List Member = members thin_layers depth f in
-    let steps : List PlacedStep = flat_map (output_of thin_layers depth) ms in
+    let steps : List PlacedStep = flat_map output_of ms in
     let told : List Fault = nested (printed thin_spelling (visible steps)) in
     record {
       printed = shows.printed ∙ ap (λ s. text_of (printed thin_spelling (visible s))) is.steps;
       faults = shows.faults
           ∙ ap (λ s. in_order (out.faults.items ++ nested (printed thin_spelling (visible s)))) is.steps
           ∙ ap (λ fs. in_order (fs ++ told)) is.faults
-          ∙ sym (ap (λ fs. in_order (flat_map (member_faults thin_layers depth) ms ++ fs)) (ap (λ l. told ++ unspellable l) (none_left_out steps) ∙ append-nil told));
+          ∙ sym (ap (λ fs. in_order (flat_map (member_faults thin_layers) ms ++ fs)) (ap (λ l. told ++ unspellable l) (none_left_out steps) ∙ append-nil told));
       tokens = shows.tokens ∙ ap (λ s. length (printed thin_spelling (visible s))) is.steps;
       expanded = shows.expanded ∙ is.plain ∙ sym (all_count (looked_of ms));
     }
@@ -55,15 +55,15 @@ means_output depth f out e is shows =
 -- a text that was read
 pub means_read : (depth : ℕ) (text : List ℕ) (f inner trees : Forest) (out : Output) (e : Expanded) → text_reading text ≡ Ok f
     → inner ≡ separated f → trees ≡ inner → IsOutputOf depth (cut trees) out → ShowsOutput out e
-    → IsMeant thin_layers depth (meaning thin_layers depth text) (Read e)
+    → IsMeant (meaning thin_layers depth text) (Read e)
 means_read depth text f inner trees out e is_read inner_is trees_is gives shows =
     let P : Forest → Type 0 = λ g. IsOutputOf depth (cut g) out in
-    let Q : Result Forest ReadFault → Type 0 = λ r. IsMeant thin_layers depth (meaning_from thin_layers depth r) (Read e) in
+    let Q : Result Forest ReadFault → Type 0 = λ r. IsMeant (meaning_from thin_layers depth r) (Read e) in
     subst Q (sym is_read) (means_output depth f out e (subst P (trees_is ∙ inner_is) gives) shows)
 
 -- the reply to a text that was read
 pub reply_read : (text : List ℕ) (depth : ℕ) (f : Forest) (e : Expanded) → text_reading text ≡ Ok f
-    → (IsTrue (is_thin text) → IsMeant thin_layers depth (meaning thin_layers depth text) (Read e)) → IsReplyTo (record { text = text; depth = depth }) (Read e)
+    → (IsTrue (is_thin text) → IsMeant (meaning thin_layers depth text) (Read e)) → IsReplyTo (record { text = text; depth = depth }) (Read e)
 reply_read text depth f e is_read meant =
     let Q : Result Forest ReadFault → Type 0 = λ r. IsReadAs r (Read e) in
     record { is_read = subst Q (sym is_read) tt; meant = meant }
@@ -72,7 +72,7 @@ reply_read text depth f e is_read meant =
 pub reply_fault : (text : List ℕ) (depth : ℕ) (fault : ReadFault) → text_reading text ≡ Err fault → IsReplyTo (record { text = text; depth = depth }) (Unread fault)
 reply_fault text depth fault is_read =
     let P : Result Forest ReadFault → Type 0 = λ r. IsReadAs r (Unread fault) in
-    let Q : Result Forest ReadFault → Type 0 = λ r. IsMeant thin_layers depth (meaning_from thin_layers depth r) (Unread fault) in
+    let Q : Result Forest ReadFault → Type 0 = λ r. IsMeant (meaning_from thin_layers depth r) (Unread fault) in
     record { is_read = subst P (sym is_read) refl; meant = λ thin. subst Q (sym is_read) refl }
 
 -- why a text that was read, or was not, is refused for want of tokens

@@ -138,4 +138,4 @@ quiet_member before p (Some d) = refl
 never_without_a_level : (before : List Definition) (ps : List Forest) → list_any bursts (members_after thin_layers 0 before ps) ≡ false
 never_without_a_level before [] = refl
 never_without_a_level before (p ∷ ps) =
-    neither _ _ (quiet_member before p (definition_of p)) (never_without_a_level (with_definition thin_layers 0 (definition_of p) before) ps)
+    neither _ _ (quiet_member before p (definition_of p)) (never_without_a_level (with_definition (definition_of p) before) ps)

@@ -13,14 +13,13 @@ ghost use Rattle.expander.specs.declared.definitions.Definition.{Definition};
 ghost use Rattle.expander.specs.declared.faults.Fault.{Fault};
 ghost use Rattle.expander.specs.declared.faults.FaultKind.{FaultKind};
 ghost use Rattle.expander.specs.declared.program.Status.{Status};
-ghost use Rattle.expander.specs.declared.program.Stop.{Stop};
 ghost use Rattle.expander.specs.declared.session.Refusal.{Refusal};
 ghost use Rattle.tt_data.specs.Forest.{Forest, joined};
 ghost use Rattle.tt_data.specs.Walk.{walk};
 ghost use Rattle.tt_data.specs.declared.span.Span.{Span};
 
 use crate::faults::{Fault, FaultKind};
-use crate::program::{Status, Stop};
+use crate::program::Status;
 use crate::session::Refusal;
 
 /// A forest's calls are marked and nothing else: the marks taken off give the forest back.
@@ -51,9 +50,9 @@ pub fn a_failed_call_stays()
 /// layers below.
 pub fn without_definitions_nothing_changes()
     ensures output { (layers : Layers) (depth : ℕ) (f : Forest) → AreAllPlain (cut f) →
-        flat_map (output_of layers depth) (members_after layers depth [] (cut f)) ≡ placed None (walk f) }
+        flat_map output_of (members_after layers depth [] (cut f)) ≡ placed None (walk f) }
     ensures faults { (layers : Layers) (depth : ℕ) (f : Forest) → AreAllPlain (cut f) →
-        flat_map (member_faults layers depth) (members_after layers depth [] (cut f)) ≡ [] }
+        flat_map (member_faults layers) (members_after layers depth [] (cut f)) ≡ [] }
 {}
 
 /// Faults put in order are the same faults, and none comes before the one that it follows.
@@ -68,7 +67,6 @@ pub fn equal_answers()
     ensures faults { (a b : Fault) → (⟦<Fault as PartialEq>⟧.eq a b ≡ true) ↔ (a ≡ b) }
     ensures refusals { (a b : Refusal) → (⟦<Refusal as PartialEq>⟧.eq a b ≡ true) ↔ (a ≡ b) }
     ensures statuses { (a b : Status) → (⟦<Status as PartialEq>⟧.eq a b ≡ true) ↔ (a ≡ b) }
-    ensures stops { (a b : Stop) → (⟦<Stop as PartialEq>⟧.eq a b ≡ true) ↔ (a ≡ b) }
 {}
 
 /// A clone of an answer is the same answer.
@@ -77,5 +75,4 @@ pub fn cloned_answers()
     ensures faults { (a b : Fault) → ⟦<Fault as Clone>⟧.is_clone a b → b ≡ a }
     ensures refusals { (a b : Refusal) → ⟦<Refusal as Clone>⟧.is_clone a b → b ≡ a }
     ensures statuses { (a b : Status) → ⟦<Status as Clone>⟧.is_clone a b → b ≡ a }
-    ensures stops { (a b : Stop) → ⟦<Stop as Clone>⟧.is_clone a b → b ≡ a }
 {}

@@ -25,7 +25,7 @@ pub mod watched;
 
 pub use bridge::{ReadFault, ReadFaultKind};
 pub use faults::{Fault, FaultKind};
-pub use program::{Status, Stop, run};
+pub use program::{Status, run};
 pub use session::{Expansion, Refusal, Reply, Session};
 pub use tt_data::span::TextRange;
 pub use watched::Watched;
