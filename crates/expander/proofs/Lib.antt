@@ -31,6 +31,7 @@ mod TemplateRoomLemmas
 mod TurnLemmas
 mod FirstCallLemmas
 mod SearchLemmas
+mod QuietLemmas
 mod AnswerLemmas
 mod ExpandLemmas
 mod PieceLemmas

@@ -5,9 +5,10 @@ ghost use Rattle.expander.specs.Calls.{marked, unmarked};
 ghost use Rattle.expander.specs.CallSteps.{call_at, first_call};
 ghost use Rattle.expander.specs.Expansion.{World, expansion, placed};
 ghost use Rattle.expander.specs.Faults.{comes_before, in_order};
-ghost use Rattle.expander.specs.Laws.{AreAllPlain, Fails};
-ghost use Rattle.expander.specs.Meaning.{Layers, member_faults, members_after, output_of};
-ghost use Rattle.expander.specs.Pieces.{cut, put_together};
+ghost use Rattle.expander.specs.Laws.{AreAllPlain, Fails, HasNoWord};
+ghost use Rattle.expander.specs.Meaning.{Layers, faults_of, member_faults, members, members_after, output, output_of};
+ghost use Rattle.expander.specs.Pieces.{cut, pieces, put_together};
+ghost use Rattle.expander.specs.Printing.{left_out};
 ghost use Rattle.expander.specs.declared.calls.Call.{Call};
 ghost use Rattle.expander.specs.declared.definitions.Definition.{Definition};
 ghost use Rattle.expander.specs.declared.faults.Fault.{Fault};
@@ -53,6 +54,13 @@ pub fn without_definitions_nothing_changes()
         flat_map output_of (members_after layers depth [] (cut f)) ≡ placed None (walk f) }
     ensures faults { (layers : Layers) (depth : ℕ) (f : Forest) → AreAllPlain (cut f) →
         flat_map (member_faults layers) (members_after layers depth [] (cut f)) ≡ [] }
+{}
+
+/// A text that was read has no fault where none of its pieces is a definition, none of its names begins one, and each
+/// token has a spelling.
+pub fn quiet_texts_have_no_fault()
+    ensures { (layers : Layers) (depth : ℕ) (f : Forest) → AreAllPlain (pieces f) → HasNoWord f →
+        left_out layers.spelling (output (members layers depth f)) ≡ [] → faults_of layers (members layers depth f) ≡ [] }
 {}
 
 /// Faults put in order are the same faults, and none comes before the one that it follows.
