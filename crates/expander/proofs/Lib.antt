@@ -21,6 +21,7 @@ mod ScopeLemmas
 mod TurnLemmas
 mod FirstCallLemmas
 mod SearchLemmas
+mod QuietLemmas
 mod AnswerLemmas
 mod ExpandLemmas
 mod PieceLemmas

@@ -16,7 +16,7 @@ use Rattle.expander.specs.declared.faults.FaultKind.TheVariants.{CannotExpand}
 use Rattle.expander.specs.Layered.{layers}
 use Rattle.expander.specs.Meaning.{meaning}
 use Rattle.expander.specs.Runs.{run_layers}
-use Rattle.expander.proofs.Rows.{Shown, gives, shown, shown_of, lines, fault}
+use Rattle.expander.proofs.Rows.{Shown, gives, shown, lines, fault}
 
 abbrev of : List (List ℕ) → Shown
 of ls = shown (meaning run_layers 128 (lines ls))
@@ -59,7 +59,7 @@ an_expression_of_2024 = refl
 
 -- and in an edition before
 abbrev before : List (List ℕ) → Shown
-before ls = shown_of (layers answer Edition2021) 128 (meaning (layers answer Edition2021) 128 (lines ls))
+before ls = shown (meaning (layers answer Edition2021) 128 (lines ls))
 
 no_expression_before : before (codes "macro_rules! e { ($e:expr) => { $e; } }" ∷ codes "e!{ _ }" ∷ [])
     ≡ gives (lines (codes "e ! { _ }" ∷ [])) (fault CannotExpand 40 41 ∷ [])

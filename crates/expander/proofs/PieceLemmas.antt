@@ -72,10 +72,10 @@ pub record PiecesLeft (layers : Layers) (depth : ℕ) (all rest : List Forest) (
   pub finds : scope ≡ nearest before
   pub done : List PlacedStep
   pub has : HasOutput out.steps done
-  pub steps : done ++ flat_map (output_of layers depth) (members_after layers depth before rest)
-      ≡ flat_map (output_of layers depth) (members_after layers depth [] all)
-  pub faults : out.faults.items ++ flat_map (member_faults layers depth) (members_after layers depth before rest)
-      ≡ flat_map (member_faults layers depth) (members_after layers depth [] all)
+  pub steps : done ++ flat_map output_of (members_after layers depth before rest)
+      ≡ flat_map output_of (members_after layers depth [] all)
+  pub faults : out.faults.items ++ flat_map (member_faults layers) (members_after layers depth before rest)
+      ≡ flat_map (member_faults layers) (members_after layers depth [] all)
   pub plain : out.plain + length (looked_of (members_after layers depth before rest)) ≡ length (looked_of (members_after layers depth [] all))
   pub bursting : list_any bursts (members_after layers depth before rest) ≡ true → list_any bursts (members_after layers depth [] all) ≡ true
 
@@ -87,7 +87,7 @@ pieces_at_first layers depth all scope out none_found has faults counted = recor
   done = [];
   has = has;
   steps = refl;
-  faults = ap (λ s. s ++ flat_map (member_faults layers depth) (members_after layers depth [] all)) faults;
+  faults = ap (λ s. s ++ flat_map (member_faults layers) (members_after layers depth [] all)) faults;
   plain = omega (arith, counted);
   bursting = λ much. much;
 }
@@ -103,15 +103,15 @@ pub pieces_more : (layers : Layers) (depth : ℕ) (all more : List Forest) (piec
 pieces_more layers depth all more piece scope new_scope old new l takes =
     let t : TakesPiece layers depth l.before piece new_scope old new = takes l.before l.finds in
     let m : Member = member layers depth l.before piece (definition_of piece) in
-    let later : List Member = members_after layers depth (with_definition layers depth (definition_of piece) l.before) more in
+    let later : List Member = members_after layers depth (with_definition (definition_of piece) l.before) more in
     record {
-      before = with_definition layers depth (definition_of piece) l.before;
+      before = with_definition (definition_of piece) l.before;
       finds = t.finds;
-      done = l.done ++ output_of layers depth m;
+      done = l.done ++ output_of m;
       has = t.adds.steps l.done l.has;
-      steps = append_assoc l.done (output_of layers depth m) (flat_map (output_of layers depth) later) ∙ l.steps;
-      faults = ap (λ s. s ++ flat_map (member_faults layers depth) later) t.adds.faults
-          ∙ append_assoc old.faults.items (member_faults layers depth m) (flat_map (member_faults layers depth) later) ∙ l.faults;
+      steps = append_assoc l.done (output_of m) (flat_map output_of later) ∙ l.steps;
+      faults = ap (λ s. s ++ flat_map (member_faults layers) later) t.adds.faults
+          ∙ append_assoc old.faults.items (member_faults layers m) (flat_map (member_faults layers) later) ∙ l.faults;
       plain = omega (arith, t.adds.plain, l.plain, looked_more m later);
       bursting = λ much. l.bursting (or_later (bursts m) _ much);
     }

@@ -17,7 +17,7 @@ use Rattle.expander.specs.Expanded.{Expanded}
 use Rattle.expander.specs.Expansion.{PlacedStep}
 use Rattle.expander.specs.Faults.{in_order}
 use Rattle.expander.specs.OutputSteps.{HasOutput, faults_in}
-use Rattle.expander.specs.Meaning.{Member, meaning_of, meaning_from, meaning, members, output_of}
+use Rattle.expander.specs.Meaning.{Layers, Member, meaning_of, meaning_from, meaning, members, output_of}
 use Rattle.expander.specs.PieceTurns.{IsOutputOf}
 use Rattle.expander.specs.Pieces.{cut, pieces, separated}
 use Rattle.expander.specs.Replies.{IsExpansionOf, IsMeant}
@@ -38,10 +38,10 @@ module _ (grammar : Grammar) (edition : Edition) where
   -- the output of a text's pieces, shown, is what the text means
   pub means_output : (depth : ℕ) (f : Forest) (out : Output) (e : Expanded) → IsOutputOf (layers grammar edition) depth (pieces f) out
       → ((steps : List PlacedStep) → HasOutput out.steps steps → ShowsOutput out steps e)
-      → IsExpansionOf (layers grammar edition) depth (meaning_of (layers grammar edition) depth (members (layers grammar edition) depth f)) e
+      → IsExpansionOf (meaning_of (layers grammar edition) (members (layers grammar edition) depth f)) e
   means_output depth f out e is shown =
       let ms : List Member = members (layers grammar edition) depth f in
-      let steps : List PlacedStep = flat_map (output_of (layers grammar edition) depth) ms in
+      let steps : List PlacedStep = flat_map output_of ms in
       let shows : ShowsOutput out steps e = shown steps is.steps in
       record {
         printed = shows.printed;
@@ -54,17 +54,17 @@ module _ (grammar : Grammar) (edition : Edition) where
   pub means_read : (depth : ℕ) (text : List ℕ) (f inner trees : Forest) (out : Output) (e : Expanded) → text_reading text ≡ Ok f
       → inner ≡ separated f → trees ≡ inner → IsOutputOf (layers grammar edition) depth (cut trees) out
       → ((steps : List PlacedStep) → HasOutput out.steps steps → ShowsOutput out steps e)
-      → IsMeant (layers grammar edition) depth (meaning (layers grammar edition) depth text) (Read e)
+      → IsMeant (meaning (layers grammar edition) depth text) (Read e)
   means_read depth text f inner trees out e is_read inner_is trees_is gives shows =
       let P : Forest → Type 0 = λ g. IsOutputOf (layers grammar edition) depth (cut g) out in
-      let Q : Result Forest ReadFault → Type 0 = λ r. IsMeant (layers grammar edition) depth (meaning_from (layers grammar edition) depth r) (Read e) in
+      let Q : Result Forest ReadFault → Type 0 = λ r. IsMeant (meaning_from (layers grammar edition) depth r) (Read e) in
       subst Q (sym is_read) (means_output depth f out e (subst P (trees_is ∙ inner_is) gives) shows)
 
   -- a text that cannot be read
   pub means_fault : (text : List ℕ) (depth : ℕ) (fault : ReadFault) → text_reading text ≡ Err fault
-      → IsMeant (layers grammar edition) depth (meaning (layers grammar edition) depth text) (Unread fault)
+      → IsMeant (meaning (layers grammar edition) depth text) (Unread fault)
   means_fault text depth fault is_read =
-      let Q : Result Forest ReadFault → Type 0 = λ r. IsMeant (layers grammar edition) depth (meaning_from (layers grammar edition) depth r) (Unread fault) in
+      let Q : Result Forest ReadFault → Type 0 = λ r. IsMeant (meaning_from (layers grammar edition) depth r) (Unread fault) in
       subst Q (sym is_read) refl
 
 -- why a text that was read, or was not, is refused for want of tokens

@@ -20,15 +20,9 @@ pub data Shown : Type 0 where
   gives : List ℕ → List Fault → Shown
   unread : ReadFault → Shown
 
-abbrev pub shown_of : (layers : Layers) (depth : ℕ) → Result (ReadMeaning layers depth) ReadFault → Shown
-shown_of layers depth (Ok m) = gives m.text m.faults
-shown_of layers depth (Err fault) = unread fault
-
-abbrev pub shown_at : (depth : ℕ) → Result (ReadMeaning run_layers depth) ReadFault → Shown
-shown_at depth m = shown_of run_layers depth m
-
-abbrev pub shown : Result (ReadMeaning run_layers 128) ReadFault → Shown
-shown = shown_at 128
+abbrev pub shown : Result ReadMeaning ReadFault → Shown
+shown (Ok m) = gives m.text m.faults
+shown (Err fault) = unread fault
 
 abbrev pub lines : List (List ℕ) → List ℕ
 lines [] = []
@@ -128,6 +122,6 @@ first_of_two_faults : shown (meaning run_layers 128 (codes ") \"")) ≡ unread (
 unfolding chars is_utf8 is_xid_start is_xid_continue in_ranges xid_start_ranges xid_continue_ranges encode_utf8
 first_of_two_faults = refl
 
-at_depth_zero : shown_at 0 (meaning run_layers 0 (lines (codes "macro_rules! s { (a) => { b } }" ∷ codes "s!{c}" ∷ []))) ≡ gives (lines (codes "s ! { c }" ∷ [])) (fault RecursionLimit 32 33 ∷ [])
+at_depth_zero : shown (meaning run_layers 0 (lines (codes "macro_rules! s { (a) => { b } }" ∷ codes "s!{c}" ∷ []))) ≡ gives (lines (codes "s ! { c }" ∷ [])) (fault RecursionLimit 32 33 ∷ [])
 unfolding chars is_utf8 is_xid_start is_xid_continue in_ranges xid_start_ranges xid_continue_ranges encode_utf8
 at_depth_zero = refl

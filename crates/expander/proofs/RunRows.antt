@@ -135,4 +135,4 @@ quiet_member layers before p (Some d) = refl
 never_without_a_level : (layers : Layers) (before : List Definition) (ps : List Forest) → list_any bursts (members_after layers 0 before ps) ≡ false
 never_without_a_level layers before [] = refl
 never_without_a_level layers before (p ∷ ps) =
-    neither _ _ (quiet_member layers before p (definition_of p)) (never_without_a_level layers (with_definition layers 0 (definition_of p) before) ps)
+    neither _ _ (quiet_member layers before p (definition_of p)) (never_without_a_level layers (with_definition (definition_of p) before) ps)

@@ -11,7 +11,7 @@ use Rattle.tt_data.specs.declared.leaf.Leaf.TheVariants as as_leaf
 use Rattle.tt_data.specs.declared.leaf.Punct.{Punct}
 use Rattle.tt_data.specs.declared.span.Span.{Span}
 use Rattle.expander.specs.declared.calls.Call.{Call}
-use Rattle.expander.specs.declared.definitions.Definition.{Definition}
+use Rattle.expander.specs.Definitions.{Definition}
 use Rattle.expander.specs.CallSteps.{call_at}
 use Rattle.expander.specs.Calls.{Path, bare, from_crate, other, Marked, none, token, inside, call, marked, unmarked, in_front}
 use Rattle.expander.specs.Definitions.{definition_of}
@@ -143,26 +143,26 @@ is_plain None e = refl
 is_plain (Some d) e = cc
 
 module _ (layers : Layers) (depth : ℕ) where
-  quiet_steps : (ps : List Forest) → AreAllPlain ps → flat_map (output_of layers depth) (members_after layers depth [] ps) ≡ placed None (walk (put_together ps))
+  quiet_steps : (ps : List Forest) → AreAllPlain ps → flat_map output_of (members_after layers depth [] ps) ≡ placed None (walk (put_together ps))
   quiet_steps [] h = refl
   quiet_steps (p ∷ ps) h =
       let plain = both (is_none (definition_of p)) _ h in
       rw (is_plain (definition_of p) plain.0)
-      (ap (λ s. s ++ flat_map (output_of layers depth) (members_after layers depth [] ps)) (quiet_expansion layers.world depth None p).put_out
+      (ap (λ s. s ++ flat_map output_of (members_after layers depth [] ps)) (quiet_expansion layers.world depth None p).put_out
       ∙ ap (λ s. placed None (walk p) ++ s) (quiet_steps ps plain.1)
       ∙ sym (map-append (λ s. record { step = s; outer = None }) (walk p) (walk (put_together ps)))
       ∙ ap (placed None) (sym (walk-joined p (put_together ps))))
 
-  quiet_faults : (ps : List Forest) → AreAllPlain ps → flat_map (member_faults layers depth) (members_after layers depth [] ps) ≡ []
+  quiet_faults : (ps : List Forest) → AreAllPlain ps → flat_map (member_faults layers) (members_after layers depth [] ps) ≡ []
   quiet_faults [] h = refl
   quiet_faults (p ∷ ps) h =
       let plain = both (is_none (definition_of p)) _ h in
       rw (is_plain (definition_of p) plain.0)
-      (ap (λ fs. map (λ f. fault_at f.0 f.1) fs ++ flat_map (member_faults layers depth) (members_after layers depth [] ps)) (quiet_expansion layers.world depth None p).untold
+      (ap (λ fs. map (λ f. fault_at f.0 f.1) fs ++ flat_map (member_faults layers) (members_after layers depth [] ps)) (quiet_expansion layers.world depth None p).untold
       ∙ quiet_faults ps plain.1)
 
-  pub plain_output : (f : Forest) → AreAllPlain (cut f) → flat_map (output_of layers depth) (members_after layers depth [] (cut f)) ≡ placed None (walk f)
+  pub plain_output : (f : Forest) → AreAllPlain (cut f) → flat_map output_of (members_after layers depth [] (cut f)) ≡ placed None (walk f)
   plain_output f h = quiet_steps (cut f) h ∙ ap (λ g. placed None (walk g)) (put_together-cut f)
 
-  pub plain_faults : (f : Forest) → AreAllPlain (cut f) → flat_map (member_faults layers depth) (members_after layers depth [] (cut f)) ≡ []
+  pub plain_faults : (f : Forest) → AreAllPlain (cut f) → flat_map (member_faults layers) (members_after layers depth [] (cut f)) ≡ []
   plain_faults f h = quiet_faults (cut f) h

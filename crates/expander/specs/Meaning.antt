@@ -23,35 +23,27 @@ pub data Member : Type 0 where
   plain : Forest → Outcome Definition → Member
   defining : Definition → Member
 
-module _ (layers : Layers) (depth : ℕ) where
-  -- a piece under the definitions before it, which are given nearest first
-  abbrev pub member : List Definition → Forest → Option Definition → Member
-  member before piece (Some d) = defining d
-  member before piece None = plain piece (expansion layers.world (nearest before) depth None piece)
+-- what a text means that was read
+pub record ReadMeaning : Type 0 where
+  pub members : List Member
+  pub tokens : List PrintedToken
+  pub text : List ℕ
+  pub faults : List Fault
 
-  abbrev pub with_definition : Option Definition → List Definition → List Definition
-  with_definition None before = before
-  with_definition (Some d) before = d ∷ before
+abbrev pub with_definition : Option Definition → List Definition → List Definition
+with_definition None before = before
+with_definition (Some d) before = d ∷ before
 
-  abbrev pub members_after : List Definition → List Forest → List Member
-  members_after before [] = []
-  members_after before (p ∷ ps) =
-      let d : Option Definition = definition_of p in
-      member before p d ∷ members_after (with_definition d before) ps
+-- a plain piece's output; a definition has none
+abbrev pub output_of : Member → List PlacedStep
+output_of (plain piece outcome) = outcome.steps
+output_of (defining d) = []
 
-  -- the pieces of a forest in order, each under those before it
-  abbrev pub members : Forest → List Member
-  members f = members_after [] (pieces f)
+-- the visible tokens of all plain pieces, as one list
+abbrev pub output : List Member → List PlacedStep
+output ms = visible (flat_map output_of ms)
 
-  -- a plain piece's output; a definition has none
-  abbrev pub output_of : Member → List PlacedStep
-  output_of (plain piece outcome) = outcome.steps
-  output_of (defining d) = []
-
-  -- the visible tokens of all plain pieces, as one list
-  abbrev pub output : List Member → List PlacedStep
-  output ms = visible (flat_map output_of ms)
-
+module _ (layers : Layers) where
   -- the faults of a piece's expansion, or that of a definition that is broken
   abbrev pub member_faults : Member → List Fault
   member_faults (plain piece outcome) = map (λ f. fault_at f.0 f.1) outcome.faults
@@ -66,20 +58,29 @@ module _ (layers : Layers) (depth : ℕ) where
       in_order (flat_map member_faults ms
       ++ (nested (tokens_of ms) ++ unspellable (left_out layers.spelling (output ms))))
 
-  -- what a text means that was read
-  pub record ReadMeaning : Type 0 where
-    pub members : List Member
-    pub tokens : List PrintedToken
-    pub text : List ℕ
-    pub faults : List Fault
-
   abbrev pub meaning_of : List Member → ReadMeaning
   meaning_of ms = record { members = ms; tokens = tokens_of ms; text = text_of (tokens_of ms); faults = faults_of ms }
+
+module _ (layers : Layers) (depth : ℕ) where
+  -- a piece under the definitions before it, which are given nearest first
+  abbrev pub member : List Definition → Forest → Option Definition → Member
+  member before piece (Some d) = defining d
+  member before piece None = plain piece (expansion layers.world (nearest before) depth None piece)
+
+  abbrev pub members_after : List Definition → List Forest → List Member
+  members_after before [] = []
+  members_after before (p ∷ ps) =
+      let d : Option Definition = definition_of p in
+      member before p d ∷ members_after (with_definition d before) ps
+
+  -- the pieces of a forest in order, each under those before it
+  abbrev pub members : Forest → List Member
+  members f = members_after [] (pieces f)
 
   -- what a text means: no session, no edit and no earlier text is in it
   abbrev pub meaning_from : Result Forest ReadFault → Result ReadMeaning ReadFault
   meaning_from (Err fault) = Err fault
-  meaning_from (Ok f) = Ok (meaning_of (members f))
+  meaning_from (Ok f) = Ok (meaning_of layers (members f))
 
   abbrev pub meaning : List ℕ → Result ReadMeaning ReadFault
   meaning text = meaning_from (layers.read text)

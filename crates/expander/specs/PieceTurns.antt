@@ -21,18 +21,18 @@ module _ (layers : Layers) where
   told_if_broken d = if layers.world.broken d then fault_at BrokenDefinition d.name.span ∷ [] else []
 
   -- one more member's output
-  pub record AddsMember (depth : ℕ) (m : Member) (old new : Output) : Type 0 where
-    pub steps : PutsOut old.steps new.steps (output_of layers depth m)
-    pub faults : new.faults.items ≡ old.faults.items ++ member_faults layers depth m
+  pub record AddsMember (m : Member) (old new : Output) : Type 0 where
+    pub steps : PutsOut old.steps new.steps (output_of m)
+    pub faults : new.faults.items ≡ old.faults.items ++ member_faults layers m
     pub plain : new.plain ≡ old.plain + plain_of m
 
   -- a piece was taken under the definitions before it: its output is added, and a definition is found from now on
   pub record TakesPiece (depth : ℕ) (before : List Definition) (piece : Forest) (scope : List ℕ → Option Definition) (old new : Output) : Type 0 where
-    pub adds : AddsMember depth (member layers depth before piece (definition_of piece)) old new
-    pub finds : scope ≡ nearest (with_definition layers depth (definition_of piece) before)
+    pub adds : AddsMember (member layers depth before piece (definition_of piece)) old new
+    pub finds : scope ≡ nearest (with_definition (definition_of piece) before)
 
   -- the output of pieces: the steps and faults of all of them, and the number of those that are plain
   pub record IsOutputOf (depth : ℕ) (pieces : List Forest) (out : Output) : Type 0 where
-    pub steps : HasOutput out.steps (flat_map (output_of layers depth) (members_after layers depth [] pieces))
-    pub faults : out.faults.items ≡ flat_map (member_faults layers depth) (members_after layers depth [] pieces)
+    pub steps : HasOutput out.steps (flat_map output_of (members_after layers depth [] pieces))
+    pub faults : out.faults.items ≡ flat_map (member_faults layers) (members_after layers depth [] pieces)
     pub plain : out.plain ≡ length (looked_of (members_after layers depth [] pieces))

@@ -9,18 +9,18 @@ use Rattle.expander.specs.Meaning.{Layers, ReadMeaning, meaning}
 
 -- an expansion is what the text means: its printed text, its faults in order, the number of its tokens, and how many of
 -- its pieces were expanded where no earlier text was
-pub record IsExpansionOf (layers : Layers) (depth : ℕ) (m : ReadMeaning layers depth) (e : Expanded) : Type 0 where
+pub record IsExpansionOf (m : ReadMeaning) (e : Expanded) : Type 0 where
   pub printed : e.printed ≡ m.text
   pub faults : e.faults ≡ m.faults
   pub tokens : e.tokens ≡ length m.tokens
   pub expanded : e.expanded ≡ expanded_count None (looked_of m.members)
 
 -- a reply is what a text means: its expansion, or the fault for which it cannot be read
-abbrev pub IsMeant : (layers : Layers) (depth : ℕ) → Result (ReadMeaning layers depth) ReadFault → Reply → Type 0
-IsMeant layers depth (Ok m) (Read e) = IsExpansionOf layers depth m e
-IsMeant layers depth (Err fault) (Unread f) = f ≡ fault
-IsMeant layers depth _ _ = ⊥
+abbrev pub IsMeant : Result ReadMeaning ReadFault → Reply → Type 0
+IsMeant (Ok m) (Read e) = IsExpansionOf m e
+IsMeant (Err fault) (Unread f) = f ≡ fault
+IsMeant _ _ = ⊥
 
 -- what a session replies: what its text means
 abbrev pub IsReplyTo : Layers → ℕ → List ℕ → Reply → Type 0
-IsReplyTo layers depth text reply = IsMeant layers depth (meaning layers depth text) reply
+IsReplyTo layers depth text reply = IsMeant (meaning layers depth text) reply

@@ -5,22 +5,22 @@ ghost use Rattle.expander.specs.Calls.{marked, unmarked};
 ghost use Rattle.expander.specs.CallSteps.{call_at, first_call};
 ghost use Rattle.expander.specs.Expansion.{World, expansion, placed};
 ghost use Rattle.expander.specs.Faults.{comes_before, in_order};
-ghost use Rattle.expander.specs.Laws.{AreAllPlain, Fails};
-ghost use Rattle.expander.specs.Meaning.{Layers, member_faults, members_after, output_of};
-ghost use Rattle.expander.specs.Pieces.{cut, put_together};
+ghost use Rattle.expander.specs.Laws.{AreAllPlain, Fails, HasNoWord};
+ghost use Rattle.expander.specs.Meaning.{Layers, faults_of, member_faults, members, members_after, output, output_of};
+ghost use Rattle.expander.specs.Pieces.{cut, pieces, put_together};
+ghost use Rattle.expander.specs.Printing.{left_out};
 ghost use Rattle.expander.specs.declared.calls.Call.{Call};
-ghost use Rattle.expander.specs.declared.definitions.Definition.{Definition};
+ghost use Rattle.expander.specs.Definitions.{Definition};
 ghost use Rattle.expander.specs.declared.faults.Fault.{Fault};
 ghost use Rattle.expander.specs.declared.faults.FaultKind.{FaultKind};
 ghost use Rattle.expander.specs.declared.program.Status.{Status};
-ghost use Rattle.expander.specs.declared.program.Stop.{Stop};
 ghost use Rattle.expander.specs.declared.session.Refusal.{Refusal};
 ghost use Rattle.tt_data.specs.Forest.{Forest, joined};
 ghost use Rattle.tt_data.specs.Walk.{walk};
 ghost use Rattle.tt_data.specs.declared.span.Span.{Span};
 
 use crate::faults::{Fault, FaultKind};
-use crate::program::{Status, Stop};
+use crate::program::Status;
 use crate::session::Refusal;
 
 /// A forest's calls are marked and nothing else: the marks taken off give the forest back.
@@ -51,9 +51,16 @@ pub fn a_failed_call_stays()
 /// layers below.
 pub fn without_definitions_nothing_changes()
     ensures output { (layers : Layers) (depth : ℕ) (f : Forest) → AreAllPlain (cut f) →
-        flat_map (output_of layers depth) (members_after layers depth [] (cut f)) ≡ placed None (walk f) }
+        flat_map output_of (members_after layers depth [] (cut f)) ≡ placed None (walk f) }
     ensures faults { (layers : Layers) (depth : ℕ) (f : Forest) → AreAllPlain (cut f) →
-        flat_map (member_faults layers depth) (members_after layers depth [] (cut f)) ≡ [] }
+        flat_map (member_faults layers) (members_after layers depth [] (cut f)) ≡ [] }
+{}
+
+/// A text that was read has no fault where none of its pieces is a definition, none of its names begins one, and each
+/// token has a spelling.
+pub fn quiet_texts_have_no_fault()
+    ensures { (layers : Layers) (depth : ℕ) (f : Forest) → AreAllPlain (pieces f) → HasNoWord f →
+        left_out layers.spelling (output (members layers depth f)) ≡ [] → faults_of layers (members layers depth f) ≡ [] }
 {}
 
 /// Faults put in order are the same faults, and none comes before the one that it follows.
@@ -68,7 +75,6 @@ pub fn equal_answers()
     ensures faults { (a b : Fault) → (⟦<Fault as PartialEq>⟧.eq a b ≡ true) ↔ (a ≡ b) }
     ensures refusals { (a b : Refusal) → (⟦<Refusal as PartialEq>⟧.eq a b ≡ true) ↔ (a ≡ b) }
     ensures statuses { (a b : Status) → (⟦<Status as PartialEq>⟧.eq a b ≡ true) ↔ (a ≡ b) }
-    ensures stops { (a b : Stop) → (⟦<Stop as PartialEq>⟧.eq a b ≡ true) ↔ (a ≡ b) }
 {}
 
 /// A clone of an answer is the same answer.
@@ -77,5 +83,4 @@ pub fn cloned_answers()
     ensures faults { (a b : Fault) → ⟦<Fault as Clone>⟧.is_clone a b → b ≡ a }
     ensures refusals { (a b : Refusal) → ⟦<Refusal as Clone>⟧.is_clone a b → b ≡ a }
     ensures statuses { (a b : Status) → ⟦<Status as Clone>⟧.is_clone a b → b ≡ a }
-    ensures stops { (a b : Stop) → ⟦<Stop as Clone>⟧.is_clone a b → b ≡ a }
 {}

@@ -20,7 +20,7 @@ pub mod watched;
 
 pub use bridge::{ReadFault, ReadFaultKind};
 pub use faults::{Fault, FaultKind};
-pub use program::{Status, Stop, run};
+pub use program::{Status, run};
 pub use session::{Expansion, Refusal, Reply, Session};
 pub use small_grammar::SmallGrammar;
 pub use tt_data::edition::Edition;

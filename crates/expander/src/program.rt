@@ -20,8 +20,8 @@ use tt_data::edition::Edition;
 pub struct Status(pub u8);
 
 /// Why a run stops without an answer.
-#[derive(Clone, Copy, Debug, PartialEq, Eq)]
-pub enum Stop {
+#[derive(Clone, Copy)]
+pub(crate) enum Stop {
     /// The input is no UTF-8.
     NotUtf8,
     /// The input has more than `u32::MAX` bytes.

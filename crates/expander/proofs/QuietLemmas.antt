@@ -1,0 +1,106 @@
+-- Texts of which no fault is told.
+use Rattle.std.proofs.Common.{◌≡◌, ℕ, List, [], ◌∷◌, ◌++◌, refl, ap, ◌∙◌, Bool, true, false, if◌then◌else◌}
+use Rattle.std.specs.Prelude.{Option, Some, None, not, ◌&&◌, filter, map}
+use Rattle.std.specs.List.{list_all}
+use Rattle.tt_data.specs.Forest.{Forest, empty, leaf, group}
+use Rattle.tt_data.specs.Walk.{Step, at_leaf, closes, walk}
+use Rattle.tt_data.specs.declared.leaf.Leaf.{Leaf}
+use Rattle.tt_data.specs.declared.leaf.Leaf.TheVariants as as_leaf
+use Rattle.bridge.specs.Printing.{is_visible_step}
+use Rattle.bridge.specs.Text.{is_punct}
+use Rattle.expander.specs.Expansion.{PlacedStep, placed}
+use Rattle.expander.specs.Faults.{fault_at, place, is_definition_word, nested, unspellable, in_order}
+use Rattle.expander.specs.declared.faults.FaultKind.TheVariants.{NestedDefinition}
+use Rattle.expander.specs.Laws.{AreAllPlain, HasNoWord}
+use Rattle.expander.specs.Meaning.{Layers, members, output, tokens_of, faults_of}
+use Rattle.expander.specs.Pieces.{pieces, separated}
+use Rattle.expander.specs.Printing.{PrintedToken, visible, spelled, printed, left_out}
+use Rattle.expander.specs.Text.{alone}
+use Rattle.expander.proofs.SearchLemmas.{plain_output, plain_faults}
+
+-- a step that is no such word
+abbrev is_quiet : Step → Bool
+is_quiet s = not (is_definition_word s)
+
+both : (a b : Bool) → (a && b) ≡ true → (a ≡ true) × (b ≡ true)
+both true b e = (refl, e)
+both false b e = cc
+
+and_true : (a b : Bool) → a ≡ true → b ≡ true → (a && b) ≡ true
+and_true true b e h = h
+and_true false b e h = cc
+
+-- ---- a `;` that stands alone is no word either
+
+quiet_alone : (b : Bool) (l : Leaf) → is_definition_word (at_leaf (if b then alone l else l)) ≡ is_definition_word (at_leaf l)
+quiet_alone true (as_leaf.Punct p) = refl
+quiet_alone true (as_leaf.Ident i) = refl
+quiet_alone true (as_leaf.Literal t) = refl
+quiet_alone false l = refl
+
+quiet_behind : (xs ys zs : List Step) → (list_all is_quiet ys ≡ true → list_all is_quiet zs ≡ true) → list_all is_quiet (xs ++ ys) ≡ true → list_all is_quiet (xs ++ zs) ≡ true
+quiet_behind [] ys zs f h = f h
+quiet_behind (x ∷ xs) ys zs f h = let parts = both (is_quiet x) _ h in and_true (is_quiet x) _ parts.0 (quiet_behind xs ys zs f parts.1)
+
+quiet_separated : (f : Forest) → HasNoWord f → HasNoWord (separated f)
+quiet_separated empty h = refl
+quiet_separated (leaf l rest) h =
+    let parts = both (is_quiet (at_leaf l)) _ h in
+    and_true (is_quiet (at_leaf (if is_punct ";" l then alone l else l))) _ (ap not (quiet_alone (is_punct ";" l) l) ∙ parts.0) (quiet_separated rest parts.1)
+quiet_separated (group d inner rest) h =
+    quiet_behind (walk inner) (closes d.kind d.close_span ∷ walk rest) (closes d.kind d.close_span ∷ walk (separated rest)) (quiet_separated rest) h
+
+-- ---- what is printed of quiet steps
+
+are_quiet : List PlacedStep → Bool
+are_quiet ss = list_all (λ (s : PlacedStep). is_quiet s.step) ss
+
+quiet_placed : (ws : List Step) → list_all is_quiet ws ≡ true → are_quiet (placed None ws) ≡ true
+unfolding are_quiet
+quiet_placed [] h = refl
+quiet_placed (w ∷ ws) h = let parts = both (is_quiet w) _ h in and_true (is_quiet w) _ parts.0 (quiet_placed ws parts.1)
+
+quiet_if : (b : Bool) (s : PlacedStep) (ss : List PlacedStep) → is_quiet s.step ≡ true → are_quiet ss ≡ true → are_quiet (if b then s ∷ ss else ss) ≡ true
+unfolding are_quiet
+quiet_if true s ss e h = and_true (is_quiet s.step) _ e h
+quiet_if false s ss e h = h
+
+quiet_visible : (ss : List PlacedStep) → are_quiet ss ≡ true → are_quiet (visible ss) ≡ true
+unfolding are_quiet
+quiet_visible [] h = refl
+quiet_visible (s ∷ ss) h = let parts = both (is_quiet s.step) _ h in quiet_if (is_visible_step s.step) s (visible ss) parts.0 (quiet_visible ss parts.1)
+
+no_word : (a : Bool) → not a ≡ true → a ≡ false
+no_word true e = cc
+no_word false e = refl
+
+module _ (spelling : Step → List PlacedStep → Option (List ℕ)) where
+  abbrev words : List PrintedToken → List PrintedToken
+  words tokens = filter (λ (t : PrintedToken). is_definition_word t.token.step) tokens
+
+  quiet_spelled : (s : PlacedStep) (o : Option (List ℕ)) (more : List PrintedToken) → is_definition_word s.step ≡ false → words more ≡ []
+      → words (spelled spelling s o ++ more) ≡ []
+  quiet_spelled s None more e h = h
+  quiet_spelled s (Some text) more e h = rw e h
+
+  quiet_printed : (ss : List PlacedStep) → are_quiet ss ≡ true → words (printed spelling ss) ≡ []
+  unfolding are_quiet
+  quiet_printed [] h = refl
+  quiet_printed (s ∷ ss) h =
+      let parts = both (is_quiet s.step) _ h in
+      quiet_spelled s (spelling s.step ss) (printed spelling ss) (no_word (is_definition_word s.step) parts.0) (quiet_printed ss parts.1)
+
+module _ (layers : Layers) (depth : ℕ) (f : Forest) where
+  quiet_output : AreAllPlain (pieces f) → HasNoWord f → are_quiet (output (members layers depth f)) ≡ true
+  quiet_output plain h =
+      ap (λ ss. are_quiet (visible ss)) (plain_output layers depth (separated f) plain)
+      ∙ quiet_visible (placed None (walk (separated f))) (quiet_placed (walk (separated f)) (quiet_separated f h))
+
+  pub quiet_text : AreAllPlain (pieces f) → HasNoWord f → left_out layers.spelling (output (members layers depth f)) ≡ []
+      → faults_of layers (members layers depth f) ≡ []
+  quiet_text plain h none_left =
+      ap (λ fs. in_order (fs ++ (nested (tokens_of layers (members layers depth f)) ++ unspellable (left_out layers.spelling (output (members layers depth f))))))
+      (plain_faults layers depth (separated f) plain)
+      ∙ ap (λ ts. in_order (map (λ (t : PrintedToken). fault_at NestedDefinition (place t.token)) ts ++ unspellable (left_out layers.spelling (output (members layers depth f)))))
+      (quiet_printed layers.spelling (output (members layers depth f)) (quiet_output plain h))
+      ∙ ap (λ ss. in_order (unspellable ss)) none_left
