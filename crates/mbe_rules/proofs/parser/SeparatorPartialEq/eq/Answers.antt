@@ -1,5 +1,5 @@
 use Rattle.std.proofs.Common.{rules}
-use Rattle.tt.proofs.expect.is_triple.Goals as goal
+use Rattle.mbe_rules.proofs.parser.SeparatorPartialEq.eq.Goals as goal
 
 pub returns-then-eq : goal.returns-then-eq
 returns-then-eq c = search rules

@@ -1,5 +1,5 @@
 use Rattle.std.proofs.Common.{rules}
-use Rattle.tt.proofs.view.TokenTreesView.strip_invisible.Goals as goal
+use Rattle.mbe_rules.proofs.value_result.ValueResult.result.Goals as goal
 
 pub returns-in-Some : goal.returns-in-Some
 returns-in-Some c = search rules

@@ -1,8 +1,0 @@
-use Rattle.std.proofs.Common.{rules}
-use Rattle.tt.proofs.buffer.Cursor.eof.Goals as goal
-
-pub returns-then-is_root : goal.returns-then-is_root
-returns-then-is_root c = search rules
-
-pub returns-else-is_root : goal.returns-else-is_root
-returns-else-is_root c = search rules
