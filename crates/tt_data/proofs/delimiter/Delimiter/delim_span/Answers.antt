@@ -1,5 +1,5 @@
 use Rattle.std.proofs.Common.{rules}
-use Rattle.tt.proofs.iter.TtIter.expect_single_punct.Goals as goal
+use Rattle.tt_data.proofs.delimiter.Delimiter.delim_span.Goals as goal
 
 pub returns : goal.returns
 returns c = search rules

@@ -1,5 +1,5 @@
 use Rattle.std.proofs.Common.{rules}
-use Rattle.tt.proofs.builder.is_invisible_head.Goals as goal
+use Rattle.tt_data.proofs.leaf.IdentIsRaw.split_from_symbol.Goals as goal
 
 pub returns-in-Some : goal.returns-in-Some
 returns-in-Some c = search rules
