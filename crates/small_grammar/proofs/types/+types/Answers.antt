@@ -1,4 +1,4 @@
-use Rattle.std.proofs.Common.{sym, ◌∙◌, arith}
+use Rattle.std.proofs.Common.{sym, ◌∙◌, arith, rules}
 use Rattle.small_grammar.specs.Expressions.{◌⨾◌, ◌∣◌, many, maybe}
 use Rattle.small_grammar.specs.SmallGrammar.{arg, generics, seg, bound, lifetime, name, paren, single, word}
 use Rattle.small_grammar.proofs.TakingLemmas.{shorter, maybe_shorter, either_takes, then_on, round_on, rounds_on, parts_begin, parts_on}
@@ -168,3 +168,7 @@ args-loop-after-preserved t c =
       parts_on (single ",") arg (maybe (single ",")) c.loop-after.rest c.in-Some-punct.after c.in-Some-arg.next (omega arith) e d ∙ c.loop-after.invariant.0,
       omega (arith, s, i),
     )
+
+pub generics-returns : goal.generics-returns
+unfolding generics
+generics-returns t c = search rules
