@@ -1,6 +1,6 @@
 -- From the output of a text's pieces to its meaning.
 use Rattle.std.proofs.Common.{◌≡◌, ℕ, List, [], ◌∷◌, ◌++◌, length, refl, sym, ap, ◌∙◌, subst, inl, inr}
-use Rattle.std.specs.Prelude.{IsTrue, None, Result, Ok, Err, not, filter, flat_map}
+use Rattle.std.specs.Prelude.{None, Result, Ok, Err, not, filter, flat_map}
 use Rattle.std.specs.List.{list_any}
 use Rattle.tt_data.specs.Forest.{Forest}
 use Rattle.expander.specs.declared.expansion.Output.{Output}

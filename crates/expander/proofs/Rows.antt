@@ -1,5 +1,5 @@
 -- Worked rows of the definitions, by computation.
-use Rattle.std.proofs.Common.{◌≡◌, ℕ, List, [], ◌∷◌, ◌++◌, refl, true}
+use Rattle.std.proofs.Common.{◌≡◌, ℕ, List, [], ◌∷◌, ◌++◌, refl}
 use Rattle.std.specs.Prelude.{codes, Result, Ok, Err}
 use Rattle.std.specs.Char.{encode_utf8}
 use Rattle.std.specs.Str.{chars, is_utf8}
@@ -12,7 +12,7 @@ use Rattle.expander.specs.declared.faults.FaultKind.{FaultKind}
 use Rattle.expander.specs.declared.faults.FaultKind.TheVariants.{CannotExpand, BrokenDefinition, RecursionLimit, NestedDefinition}
 use Rattle.bridge.specs.declared.fault.ReadFault.{ReadFault}
 use Rattle.bridge.specs.declared.fault.ReadFaultKind.TheVariants.{BadToken, CloserDoesNotFit, GroupLeftOpen}
-use Rattle.expander.specs.Meaning.{Layers, meaning, ReadMeaning}
+use Rattle.expander.specs.Meaning.{meaning, ReadMeaning}
 use Rattle.expander.specs.Runs.{run_layers}
 
 -- what a row shows of a text's meaning
