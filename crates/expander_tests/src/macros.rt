@@ -84,6 +84,14 @@ fn what_calls_give(rt: HostRuntime) -> Result<(), Fail> {
             "macro_rules! e { ($($e:expr_2021),* $(,)?) => { $($e);* ; } }\ne!{ 4, \"literal\", funcall(), future.await, }\n",
             "4 ;\n\"literal\" ;\n( funcall ( ) ) ;\n( future . await ) ;\n",
         ),
+        (
+            "macro_rules! k { () => { $crate::j!{} $crate::z } }\nmacro_rules! j { () => { 7 } }\nk!{}\n",
+            "7 crate :: z\n",
+        ),
+        (
+            "macro_rules! c { () => { ${concat(f, n)} } }\nc!{}\n",
+            "r#fn\n",
+        ),
         // What is defined is found by name, raw or not, in the text order.
         (
             "macro_rules! m { () => { a } }\nr#m!{}\nmacro_rules! m { () => { b } }\nm!{}\n",

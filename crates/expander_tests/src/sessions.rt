@@ -1,7 +1,5 @@
 //! Sessions over texts whose expansions were worked out by hand.
-use expander::FaultKind::{
-    BrokenDefinition, CannotExpand, NestedDefinition, RecursionLimit, Unspellable,
-};
+use expander::FaultKind::{BrokenDefinition, CannotExpand, NestedDefinition, RecursionLimit};
 use expander::ReadFaultKind::{BadToken, CloserDoesNotFit, GroupLeftOpen};
 use expander::{
     Edition, Expansion, Fault, FaultKind, ReadFault, Refusal, Reply, Session, SmallGrammar,
@@ -273,14 +271,14 @@ fn spellings(rt: HostRuntime) -> Result<(), Fail> {
             1,
             4,
         ),
-        // A quote that is left alone has no spelling: that is told at the name of the call.
+        // A quote and its name are one tree.
         (
             "macro_rules! m { ($a:tt $b:tt) => { $a + } }\nm!{ 'x }\n",
             128,
-            "+\n",
-            &[fault(Unspellable, 45, 46)],
+            "m ! { 'x }\n",
+            &[fault(CannotExpand, 45, 46)],
             1,
-            1,
+            6,
         ),
     ];
     for row in rows {
