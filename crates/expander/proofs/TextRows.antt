@@ -113,6 +113,12 @@ by_the_word_macro : of (codes "macro k($a:ident) { $a } pub(a) macro l { (x) => 
 unfolding chars is_utf8 is_xid_start is_xid_continue in_ranges xid_start_ranges xid_continue_ranges encode_utf8
 by_the_word_macro = refl
 
+-- `$crate` is printed as `crate`
+word_of_the_crate : of (codes "macro_rules! k { () => { $crate::j!{} $crate::z } }" ∷ codes "macro_rules! j { () => { 7 } }" ∷ codes "k!{}" ∷ [])
+    ≡ gives (lines (codes "7 crate :: z" ∷ [])) []
+unfolding chars is_utf8 is_xid_start is_xid_continue in_ranges xid_start_ranges xid_continue_ranges encode_utf8
+word_of_the_crate = refl
+
 other_lexemes : of (codes "r#x = (\"a\", 'b', 1u8); f::<'c>() // d" ∷ [])
     ≡ gives (lines (codes "r#x = ( \"a\" , 'b' , 1u8 ) ;" ∷ codes "f ::< 'c > ( )" ∷ [])) []
 unfolding chars is_utf8 is_xid_start is_xid_continue in_ranges xid_start_ranges xid_continue_ranges encode_utf8
