@@ -24,6 +24,6 @@ for shape in 'm a muncher, steps' 't a table of rules' 'b assignments' 'p a long
         all=$(run "y${shape%% *}$size") || exit 2
         read -r count tokens <"$work/out"
         awk -v n="$count" -v k="$tokens" -v t="$(( all - build ))" \
-            'BEGIN { printf "  %d: %.1f million tokens/s\n", n, t > 0 ? k / t / 1000 : 0 }'
+            'BEGIN { printf "  %d: %.1f million tokens/s\n", n, (t > 0 ? k / t / 1000 : 0) }'
     done
 done
