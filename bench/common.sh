@@ -15,7 +15,9 @@ build() {
         mkdir "$work/root/crates/$crate"
         cp -r "$top/crates/$crate"/{src,specs,proofs} "$work/root/crates/$crate" || exit 2
         # what was proved before need not be proved again
-        if [ -d "$top/crates/$crate/out" ]; then cp -r "$top/crates/$crate/out" "$work/root/crates/$crate" || exit 2; fi
+        if [ -d "$top/crates/$crate/out/rlib" ]; then
+            mkdir "$work/root/crates/$crate/out" && cp -r "$top/crates/$crate/out/rlib" "$work/root/crates/$crate/out" || exit 2
+        fi
         grep "^$crate:" "$top/crates.txt" >>"$work/root/crates.txt" || exit 2
     done
     cp "$top/bench/$folder/main.rt.in" "$work/root/crates/$name/src/main.rt" || exit 2

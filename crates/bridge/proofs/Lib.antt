@@ -20,4 +20,5 @@ mod SpellingLemmas
 mod EdgeLemmas
 mod PrintStepLemmas
 mod OrderLemmas
+mod WrittenLemmas
 mod PlainLemmas

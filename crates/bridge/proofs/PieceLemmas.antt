@@ -15,9 +15,7 @@ use Rattle.tt_data.specs.fault.TtFault.TheVariants.{Memory, Tokens}
 use Rattle.bridge.specs.PieceTokens.{alone_token, ends_in_leaf, last_token_alone}
 use Rattle.bridge.specs.Pieces.{first_start, moved_back, piece_of, relative, with_last_alone}
 use Rattle.bridge.specs.ReadText.{text_top}
-
-no : {X : Type 0} → false ≡ true → X
-no e = absurd (cc)
+use Rattle.rustc_lexer.proofs.TestLemmas.{no}
 
 -- a tree is that of its tokens
 pub same_tree : (t u : Top) (ts : List TokenTree) → tokens_of t ≡ ts → tokens_of u ≡ ts → t ≡ u

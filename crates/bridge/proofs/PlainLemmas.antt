@@ -37,8 +37,8 @@ use Rattle.bridge.specs.PlainTexts.{is_mark_char, is_plain_byte}
 use Rattle.bridge.specs.Spelling.{is_one, is_plain_name, is_short_text, is_text_of, leaf_spelling, same_form, same_rawness, spelled_leaf}
 use Rattle.bridge.specs.TokenSteps.{mark_leaf, text_steps}
 use Rattle.bridge.proofs.AgainLemmas.{literal_by, punct_alike, same_bytes, stays, that_by}
-use Rattle.bridge.proofs.SpelledLemmas.{told_of_any}
 use Rattle.bridge.proofs.SpellingLemmas.{one_len, told_of_one}
+use Rattle.rustc_lexer.proofs.TestLemmas.{told_of_any}
 
 spelled_as : (l : Leaf) (text : List ℕ) → spelled_leaf l ≡ l → displayed_leaf l ≡ text → is_text_of l text ≡ true → leaf_spelling l ≡ Some text
 spelled_as l text stays shown told =

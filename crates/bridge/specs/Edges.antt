@@ -7,6 +7,8 @@ use Rattle.tt_data.specs.declared.leaf.Leaf.{Leaf}
 use Rattle.tt_data.specs.declared.leaf.Leaf.TheVariants as as_leaf
 use Rattle.bridge.specs.Text.{char, is_alone}
 use Rattle.bridge.specs.declared.edge.Edge.{Edge}
+use Rattle.bridge.specs.declared.edge.Gap.{Gap}
+use Rattle.bridge.specs.declared.edge.Gap.TheVariants.{Nothing, Space, Line}
 use Rattle.bridge.specs.declared.edge.Edge.TheVariants.{Mark, ClosingBrace, Other}
 
 abbrev pub leaf_edge : Leaf → Edge
@@ -39,6 +41,12 @@ are_joined (Mark c joined) (Mark d other) =
     nat_eq c (char "'") || (joined && (not (nat_eq d (char "'")) && not (is_comment_or_guard c d)))
 are_joined (Mark c joined) next = nat_eq c (char "'")
 are_joined last next = false
+
+-- the text of what stands between two tokens
+abbrev pub gap_text : Gap → List ℕ
+gap_text Nothing = []
+gap_text Space = codes " "
+gap_text Line = codes "\n"
 
 -- what stands between two tokens, behind the first of which so many visible groups are open
 abbrev pub gap_between : ℕ → Edge → Edge → List ℕ

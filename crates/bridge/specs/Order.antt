@@ -1,6 +1,8 @@
 -- Tokens that follow one another in a text: none is before one that was met.
-use Rattle.std.specs.Prelude.{ℕ, List, [], ◌∷◌}
+use Rattle.std.specs.Prelude.{◌≡◌, ℕ, List, [], ◌∷◌}
 use Rattle.tt_data.specs.Walk.{Step}
+use Rattle.tt_data.specs.declared.span.Span.{Span}
+use Rattle.tt_data.specs.declared.span.SyntaxContext.TheVariants.{Written}
 use Rattle.bridge.specs.Pieces.{IsFrom}
 use Rattle.bridge.specs.Printing.{step_span}
 
@@ -13,3 +15,12 @@ AreFrom n (s ∷ more) = IsFrom n (step_span s) × AreFrom n more
 abbrev pub FollowOneAnother : List Step → Type 0
 FollowOneAnother [] = Unit {0}
 FollowOneAnother (s ∷ more) = IsFrom (step_span s).range.start (step_span s) × AreFrom (step_span s).range.start more × FollowOneAnother more
+
+-- a place of the text itself
+abbrev pub IsWritten : Span → Type 0
+IsWritten s = (s.anchor ≡ 0) × (s.ctx ≡ Written)
+
+-- each of these steps stands at such a place
+abbrev pub AreWritten : List Step → Type 0
+AreWritten [] = Unit {0}
+AreWritten (s ∷ more) = IsWritten (step_span s) × AreWritten more

@@ -1,6 +1,6 @@
 // What stands between two printed tokens.
 ghost use Rattle.std.specs.Prelude.{◌≡◌};
-ghost use Rattle.bridge.specs.Edges.{are_joined, closing_edge, ends_line, gap_between, is_comment_or_guard, leaf_edge};
+ghost use Rattle.bridge.specs.Edges.{are_joined, closing_edge, ends_line, gap_between, gap_text, is_comment_or_guard, leaf_edge};
 
 use tt_data::delimiter::DelimiterKind;
 use tt_data::leaf::{Leaf, Spacing};
@@ -14,6 +14,15 @@ pub(crate) enum Edge {
     Other,
 }
 
+/// What stands between two printed tokens.
+#[derive(Clone, Copy)]
+pub(crate) enum Gap {
+    Nothing,
+    Space,
+    Line,
+}
+
+#[inline(always)]
 pub(crate) fn leaf_edge(leaf: &Leaf) -> Edge
     ensures { result ≡ leaf_edge leaf.now }
 {
@@ -33,6 +42,7 @@ pub(crate) fn closing_edge(kind: DelimiterKind) -> Edge
 }
 
 // Whether a line ends behind the token, outside all groups.
+#[inline(always)]
 fn ends_line(edge: Edge) -> bool
     ensures { result ≡ ends_line edge }
 {
@@ -53,6 +63,7 @@ fn is_comment_or_guard(first: char, second: char) -> bool
 }
 
 // Whether nothing stands between two tokens on one line.
+#[inline(always)]
 fn are_joined(last: Edge, next: Edge) -> bool
     ensures { result ≡ are_joined last next }
 {
@@ -66,11 +77,16 @@ fn are_joined(last: Edge, next: Edge) -> bool
 }
 
 /// What stands between two tokens, behind the first of which so many groups are open.
-pub(crate) fn gap_between(depth: usize, last: Edge, next: Edge) -> &'static str
-    ensures { result.now ≡ gap_between depth last next }
+#[inline(always)]
+pub(crate) fn gap_between(depth: usize, last: Edge, next: Edge) -> Gap
+    ensures { gap_text result ≡ gap_between depth last next }
 {
     if depth == 0 && ends_line(last) {
-        return "\n";
+        return Gap::Line;
     }
-    if are_joined(last, next) { "" } else { " " }
+    if are_joined(last, next) {
+        Gap::Nothing
+    } else {
+        Gap::Space
+    }
 }

@@ -1,6 +1,6 @@
 //! Laws of reading and printing, for proofs. A call does nothing: it only states.
 ghost use Rattle.std.specs.Prelude.{◌≡◌, ◌↔◌, ◌++◌, ℕ, IsUtf8, List, [], ◌∷◌, map, true, false, IsSome, Ok, Err};
-ghost use Rattle.bridge.specs.Order.{FollowOneAnother};
+ghost use Rattle.bridge.specs.Order.{AreWritten, FollowOneAnother};
 ghost use Rattle.bridge.specs.Pieces.{StandsBehindFirst};
 ghost use Rattle.bridge.specs.Printing.{is_quote, print_of, visible};
 ghost use Rattle.bridge.specs.Reading.{IsFault, IsReading, TextStep, reading, step, with_front};
@@ -40,6 +40,11 @@ pub fn tokens_follow_one_another()
 {
     rustc_lexer::laws::token_lengths();
 }
+
+/// What is read of a text stands at places of the text itself: it is anchored at 0, and written, not made.
+pub fn tokens_are_written()
+    ensures { (text : List ℕ) (f : Forest) → IsReading (text_steps text) f → AreWritten (walk f) }
+{}
 
 /// A spelling hangs on no place. That of a quote hangs on the next visible token, and no other on
 /// any token but its own. Visible brackets always have one.

@@ -41,6 +41,7 @@ pub fn name_in(is_raw: IdentIsRaw, text: &str) -> &str
     }
 }
 
+#[inline]
 pub fn add_leaf(builder: &mut TopSubtreeBuilder, token: Leaf) -> Result<(), TtFault>
     ensures ok { OnOk result (builder.new.tree ≡ extended builder.old.tree (leaf token empty)) }
     ensures refused { IfErr result (IsRefusal (count_of builder.old.tree + 1)) }

@@ -13,7 +13,7 @@ ghost use Rattle.tt_data.specs.Walk.{Step, at_leaf, opens, closes};
 ghost use Rattle.tt_data.specs.declared.leaf.Leaf.TheVariants as as_leaf;
 ghost use Rattle.tt_data.specs.fault.TtFault.TheVariants.{Memory};
 
-use crate::edge::{Edge, closing_edge, gap_between, leaf_edge};
+use crate::edge::{Edge, Gap, closing_edge, gap_between, leaf_edge};
 use crate::plain::plain_text;
 use crate::spelling::leaf_spelling;
 use crate::walk_step::WalkStep;
@@ -70,6 +70,7 @@ fn is_name(leaf: &Leaf) -> bool
 }
 
 // Adds what stands between the token printed last and the next one.
+#[inline(always)]
 fn push_gap(out: &mut Output, next: Edge) -> Result<(), TtFault>
     ensures text { OnOk result (string_bytes out.new.text ≡ string_bytes out.old.text ++ gap_behind out.old.depth out.old.last next) }
     ensures tokens { out.new.tokens ≡ out.old.tokens }
@@ -79,12 +80,17 @@ fn push_gap(out: &mut Output, next: Edge) -> Result<(), TtFault>
     ensures memory { IsOkUnless result Memory }
 {
     if let Some(last) = out.last {
-        out.text.push_str(gap_between(out.depth, last, next))?;
+        match gap_between(out.depth, last, next) {
+            Gap::Nothing => {}
+            Gap::Space => out.text.push(' ')?,
+            Gap::Line => out.text.push('\n')?,
+        }
     }
     Ok(())
 }
 
 // Prints a token, behind which so many groups are open.
+#[inline(always)]
 fn add(out: &mut Output, edge: Edge, span: Span, text: &str, depth: usize) -> Result<(), TtFault>
     requires fits { depth ≤ length out.old.tokens.items + 1 }
     ensures fits { OnOk result (Fits (state_of out.new)) }
@@ -170,6 +176,7 @@ fn put_quote(out: &mut Output, punct: Punct) -> Result<(), TtFault>
 }
 
 // Puts a leaf that is spelled by this text, and is no quote.
+#[inline(always)]
 fn put_spelled(out: &mut Output, leaf: &Leaf, text: &str) -> Result<(), TtFault>
     requires spelled { (more : List Step) → spelling (at_leaf leaf.now) more ≡ Some text.now }
     requires fits { Fits (state_of out.old) }
@@ -269,7 +276,7 @@ fn put_closing(out: &mut Output, kind: DelimiterKind, span: Span) -> Result<(), 
 }
 
 /// Puts a step of a walk: a leaf, or a bracket of a group that may be invisible.
-pub(crate) fn put_step(alloc: Global, out: &mut Output, step: &WalkStep) -> Result<(), TtFault>
+pub(crate) fn put_step(alloc: Global, out: &mut Output, step: &WalkStep<'_>) -> Result<(), TtFault>
     requires fits { Fits (state_of out.old) }
     ensures fits { OnOk result (Fits (state_of out.new)) }
     ensures puts { OnOk result (PutsAny (state_of out.old) (state_of out.new) (step_of step.now ∷ [])) }

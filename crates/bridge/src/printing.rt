@@ -77,7 +77,7 @@ impl Printer {
     }
 
     /// Prints one step of a walk behind what was put before, as `put` prints a whole one.
-    pub fn put_step(&mut self, step: &WalkStep) -> Result<(), TtFault>
+    pub fn put_step(&mut self, step: &WalkStep<'_>) -> Result<(), TtFault>
         ensures ok { OnOk result ((steps : List Step) → HasPut self.old steps → HasPut self.new (steps ++ step_of step.now ∷ [])) }
         ensures err { OnErr result (self.new ≡ self.old) }
         ensures memory { IsOkUnless result Memory }

@@ -121,13 +121,17 @@ fn is_own_text(leaf: &Leaf, text: &str) -> bool
     }
 }
 
+// Most displayed texts have no more bytes.
+const MOST_TEXTS: usize = 64;
+
 // The displayed text of the leaf, where it is one token that is read as the leaf.
 fn own_text(alloc: Global, leaf: &Leaf) -> Result<Option<String>, TtFault>
     ensures some { IfOk result (λ o. option_map string_bytes o ≡
         (if is_text_of leaf.now (displayed_leaf leaf.now) then Some (displayed_leaf leaf.now) else None)) }
     ensures memory { IsOkUnless result Memory }
 {
-    let text = format!(in alloc; "{leaf}")?;
+    let mut text = String::with_capacity(alloc, MOST_TEXTS)?;
+    write!(text, "{leaf}")?;
     if is_own_text(leaf, text.as_str()) {
         Ok(Some(text))
     } else {

@@ -9,7 +9,7 @@ ghost use Rattle.tt_data.specs.fault.TtFault.TheVariants.{Memory};
 use crate::walk_step::WalkStep;
 use std::alloc::Global;
 use std::mem::replace;
-use tt::iter::{TtElement, TtIter};
+use tt::iter::TtIter;
 use tt::view::TokenTreesView;
 use tt_data::delimiter::{Delimiter, DelimiterKind};
 use tt_data::fault::TtFault;
@@ -58,7 +58,7 @@ fn enter<'a>(left: &mut Walk<'a>, group: Delimiter, inner: TtIter<'a>) -> Result
 }
 
 // Leaves the innermost group, where one is open, and answers its closing bracket.
-fn leave(left: &mut Walk<'_>) -> Option<WalkStep>
+fn leave<'a>(left: &mut Walk<'a>) -> Option<WalkStep<'a>>
     requires { left.old.here ≡ empty }
     ensures { Gives (steps_left left.old) result (steps_left left.new) }
 {
@@ -68,14 +68,17 @@ fn leave(left: &mut Walk<'_>) -> Option<WalkStep>
 }
 
 /// The next step, which the walk goes past: none at the end.
-pub(crate) fn next_step(left: &mut Walk<'_>) -> Result<Option<WalkStep>, TtFault>
+pub(crate) fn next_step<'a>(left: &mut Walk<'a>) -> Result<Option<WalkStep<'a>>, TtFault>
     ensures gives { IfOk result (λ step. Gives (steps_left left.old) step (steps_left left.new)) }
     ensures memory { IsOkUnless result Memory }
 {
-    match left.here.next() {
-        Some(TtElement::Leaf(leaf)) => Ok(Some(WalkStep::Leaf(leaf))),
-        Some(TtElement::Subtree(group, inner)) => {
-            let brackets = group.delimiter;
+    if let Some((leaf, rest)) = left.here.lent_leaf() {
+        left.here = rest;
+        return Ok(Some(WalkStep::Leaf(leaf)));
+    }
+    match left.here.first_group() {
+        Some((brackets, inner, rest)) => {
+            left.here = rest;
             enter(left, brackets, inner)?;
             Ok(Some(WalkStep::Opens(brackets.kind, brackets.open_span)))
         }

@@ -3,10 +3,10 @@ use tt_data::delimiter::DelimiterKind;
 use tt_data::leaf::Leaf;
 use tt_data::span::Span;
 
-/// A step of a walk over trees: a leaf, or a bracket of a group that may be invisible.
+/// A step of a walk over trees: a leaf, which is lent, or a bracket of a group that may be invisible.
 #[derive(Drop)]
-pub enum WalkStep {
-    Leaf(Leaf),
+pub enum WalkStep<'a> {
+    Leaf(&'a Leaf),
     Opens(DelimiterKind, Span),
     Closes(DelimiterKind, Span),
 }

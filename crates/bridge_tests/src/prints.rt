@@ -142,15 +142,15 @@ fn one_by_one(alloc: Global, trees: TokenTreesView<'_>) -> Result<Printed, TtFau
     }
 }
 
-// The step that a character stands for.
-fn step_for(alloc: Global, char: char) -> Result<WalkStep, TtFault> {
+// The step that a character stands for, which is this leaf where it is no bracket.
+fn step_for(char: char, leaf: &Leaf) -> WalkStep<'_> {
     let span = Span::default();
     match char {
-        '(' => Ok(WalkStep::Opens(DelimiterKind::Parenthesis, span)),
-        '<' => Ok(WalkStep::Opens(DelimiterKind::Invisible, span)),
-        ')' => Ok(WalkStep::Closes(DelimiterKind::Parenthesis, span)),
-        '>' => Ok(WalkStep::Closes(DelimiterKind::Invisible, span)),
-        _ => Ok(WalkStep::Leaf(leaf_for(alloc, char)?)),
+        '(' => WalkStep::Opens(DelimiterKind::Parenthesis, span),
+        '<' => WalkStep::Opens(DelimiterKind::Invisible, span),
+        ')' => WalkStep::Closes(DelimiterKind::Parenthesis, span),
+        '>' => WalkStep::Closes(DelimiterKind::Invisible, span),
+        _ => WalkStep::Leaf(leaf),
     }
 }
 
@@ -158,7 +158,8 @@ fn step_for(alloc: Global, char: char) -> Result<WalkStep, TtFault> {
 fn step_by_step(alloc: Global, text: &str) -> Result<Printed, TtFault> {
     let mut printer = Printer::new(alloc);
     for char in text.chars() {
-        let step = step_for(alloc, char)?;
+        let leaf = leaf_for(alloc, char)?;
+        let step = step_for(char, &leaf);
         if printer.put_step(&step).is_err() {
             printer.put_step(&step)?;
         }

@@ -88,8 +88,8 @@ module _ {D : Type 0} (outer : Option Span) (search : Forest → Outcome D) wher
       → ((l : Leaf) → old.here ≡ leaf l new.here → search old.here ≡ followed_by (just outer (at_leaf l ∷ [])) (search new.here))
       → left old.here (groups_of old) ≡ followed_by (just outer (step_of s ∷ [])) (left new.here (groups_of new))
   step_left is old new (as_step.Leaf l) (first, groups) passes =
-      passed_left old.here new.here (groups_of old) (just outer (at_leaf l ∷ [])) (passes l first)
-      ∙ ap (λ around. followed_by (just outer (at_leaf l ∷ [])) (left new.here around)) (sym groups)
+      passed_left old.here new.here (groups_of old) (just outer (at_leaf l.now ∷ [])) (passes l.now first)
+      ∙ ap (λ around. followed_by (just outer (at_leaf l.now ∷ [])) (left new.here around)) (sym groups)
   step_left is old new (as_step.Opens kind span) e passes =
       ap (λ f. left f (groups_of old)) e.first
       ∙ entered_left is e.brackets new.here e.behind (groups_of old)

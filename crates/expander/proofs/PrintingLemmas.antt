@@ -3,7 +3,8 @@ use Rattle.std.proofs.Common.{◌≡◌, ℕ, ◌+◌, ◌<◌, add-one, drop, d
 use Rattle.std.specs.Prelude.{◌||◌, Option, Some, None, codes, filter, map, is_some, slice_get}
 use Rattle.std.specs.Str.{bytes_eq, chars, is_utf8}
 use Rattle.std.specs.Char.{encode_utf8}
-use Rattle.std.proofs.lemmas.List.{length-map, map-append}
+use Rattle.std.proofs.lemmas.List.{map-append}
+use Rattle.std.proofs.lemmas.Simd.{map-map}
 use Rattle.std.proofs.lemmas.List.Elements.{filter-append}
 use Rattle.std.proofs.lemmas.Slice.Eq.{bytes_eq-Decides}
 use Rattle.ucd_derived.specs.Binary.{is_xid_start, is_xid_continue}
@@ -24,6 +25,7 @@ use Rattle.bridge.specs.Spelling.{leaf_spelling, spelling}
 use Rattle.expander.specs.declared.faults.Fault.{Fault}
 use Rattle.expander.specs.declared.faults.FaultKind.TheVariants.{NestedDefinition, Unspellable}
 use Rattle.expander.specs.declared.output.PlacedSteps.{PlacedSteps}
+use Rattle.expander.specs.Expanded.{origin_of}
 use Rattle.expander.specs.Expansion.{PlacedStep}
 use Rattle.expander.specs.Faults.{place, fault_at, is_definition_word, nested, unspellable}
 use Rattle.expander.specs.OutputSteps.{HasOutput, PutsOut, faults_in, places_of, told_in, told_at, tokens_in, words_told}
@@ -114,15 +116,18 @@ printed_bare (s ∷ more) = go (spelling_before s.step more) (printed_bare more)
     go None e = e
     go (Some text) e = ap (λ l. record { step = s.step; text = text } ∷ l) e
 
-tokens_bare : (xs : List PlacedStep) → map bare (tokens_in xs) ≡ bare_printing.printed (bare_printing.visible (steps_of xs))
+pub tokens_bare : (xs : List PlacedStep) → map bare (tokens_in xs) ≡ bare_printing.printed (bare_printing.visible (steps_of xs))
 tokens_bare xs = printed_bare (visible xs) ∙ ap bare_printing.printed (visible_bare xs)
 
 pub text_is : (xs : List PlacedStep) → (print_of (steps_of xs)).text ≡ text_of (tokens_in xs)
 text_is xs = ap bare_printing.text_of (sym (tokens_bare xs))
 
-pub count_is : (xs : List PlacedStep) → length (print_of (steps_of xs)).tokens ≡ length (tokens_in xs)
-count_is xs =
-    length-map (bare_printing.printed (bare_printing.visible (steps_of xs))) _ ∙ ap length (sym (tokens_bare xs)) ∙ length-map (tokens_in xs) bare
+pub origins_are : (xs : List PlacedStep) → map (λ (s : Span). s.range) (print_of (steps_of xs)).tokens ≡ map origin_of (tokens_in xs)
+origins_are xs =
+    let place : bare_printing.PrintedToken → TextRange = λ a. (bare_printing.step_span a.step).range in
+    map-map (λ (s : Span). s.range) (λ (a : bare_printing.PrintedToken). bare_printing.step_span a.step) (bare_printing.printed (bare_printing.visible (steps_of xs)))
+    ∙ ap (map place) (sym (tokens_bare xs))
+    ∙ map-map place bare (tokens_in xs)
 
 -- ---- the tokens that are left out, by their numbers
 

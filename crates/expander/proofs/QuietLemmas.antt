@@ -2,12 +2,9 @@
 use Rattle.std.proofs.Common.{◌≡◌, ℕ, List, [], ◌∷◌, ◌++◌, refl, ap, ◌∙◌, Bool, true, false, if◌then◌else◌}
 use Rattle.std.specs.Prelude.{Option, Some, None, not, ◌&&◌, filter, map}
 use Rattle.std.specs.List.{list_all}
-use Rattle.tt_data.specs.Forest.{Forest, empty, leaf, group}
-use Rattle.tt_data.specs.Walk.{Step, at_leaf, closes, walk}
-use Rattle.tt_data.specs.declared.leaf.Leaf.{Leaf}
-use Rattle.tt_data.specs.declared.leaf.Leaf.TheVariants as as_leaf
+use Rattle.tt_data.specs.Forest.{Forest}
+use Rattle.tt_data.specs.Walk.{Step, walk}
 use Rattle.bridge.specs.Printing.{is_visible_step}
-use Rattle.bridge.specs.Text.{is_punct}
 use Rattle.expander.specs.Expansion.{PlacedStep, placed}
 use Rattle.expander.specs.Faults.{fault_at, place, is_definition_word, nested, unspellable, in_order}
 use Rattle.expander.specs.declared.faults.FaultKind.TheVariants.{NestedDefinition}
@@ -15,8 +12,8 @@ use Rattle.expander.specs.Laws.{AreAllPlain, HasNoWord}
 use Rattle.expander.specs.Meaning.{Layers, members, output, tokens_of, faults_of}
 use Rattle.expander.specs.Pieces.{pieces, separated}
 use Rattle.expander.specs.Printing.{PrintedToken, visible, spelled, printed, left_out}
-use Rattle.expander.specs.Text.{alone}
 use Rattle.expander.proofs.SearchLemmas.{plain_output, plain_faults}
+use Rattle.expander.proofs.WordLemmas.{quiet_plain, quiet_separated}
 
 -- a step that is no such word
 abbrev is_quiet : Step → Bool
@@ -29,26 +26,6 @@ both false b e = cc
 and_true : (a b : Bool) → a ≡ true → b ≡ true → (a && b) ≡ true
 and_true true b e h = h
 and_true false b e h = cc
-
--- ---- a `;` that stands alone is no word either
-
-quiet_alone : (b : Bool) (l : Leaf) → is_definition_word (at_leaf (if b then alone l else l)) ≡ is_definition_word (at_leaf l)
-quiet_alone true (as_leaf.Punct p) = refl
-quiet_alone true (as_leaf.Ident i) = refl
-quiet_alone true (as_leaf.Literal t) = refl
-quiet_alone false l = refl
-
-quiet_behind : (xs ys zs : List Step) → (list_all is_quiet ys ≡ true → list_all is_quiet zs ≡ true) → list_all is_quiet (xs ++ ys) ≡ true → list_all is_quiet (xs ++ zs) ≡ true
-quiet_behind [] ys zs f h = f h
-quiet_behind (x ∷ xs) ys zs f h = let parts = both (is_quiet x) _ h in and_true (is_quiet x) _ parts.0 (quiet_behind xs ys zs f parts.1)
-
-quiet_separated : (f : Forest) → HasNoWord f → HasNoWord (separated f)
-quiet_separated empty h = refl
-quiet_separated (leaf l rest) h =
-    let parts = both (is_quiet (at_leaf l)) _ h in
-    and_true (is_quiet (at_leaf (if is_punct ";" l then alone l else l))) _ (ap not (quiet_alone (is_punct ";" l) l) ∙ parts.0) (quiet_separated rest parts.1)
-quiet_separated (group d inner rest) h =
-    quiet_behind (walk inner) (closes d.kind d.close_span ∷ walk rest) (closes d.kind d.close_span ∷ walk (separated rest)) (quiet_separated rest) h
 
 -- ---- what is printed of quiet steps
 
@@ -96,9 +73,10 @@ module _ (layers : Layers) (depth : ℕ) (f : Forest) where
       ap (λ ss. are_quiet (visible ss)) (plain_output layers depth (separated f) plain)
       ∙ quiet_visible (placed None (walk (separated f))) (quiet_placed (walk (separated f)) (quiet_separated f h))
 
-  pub quiet_text : AreAllPlain (pieces f) → HasNoWord f → left_out layers.spelling (output (members layers depth f)) ≡ []
+  pub quiet_text : HasNoWord f → left_out layers.spelling (output (members layers depth f)) ≡ []
       → faults_of layers (members layers depth f) ≡ []
-  quiet_text plain h none_left =
+  quiet_text h none_left =
+      let plain : AreAllPlain (pieces f) = quiet_plain f h in
       ap (λ fs. in_order (fs ++ (nested (tokens_of layers (members layers depth f)) ++ unspellable (left_out layers.spelling (output (members layers depth f))))))
       (plain_faults layers depth (separated f) plain)
       ∙ ap (λ ts. in_order (map (λ (t : PrintedToken). fault_at NestedDefinition (place t.token)) ts ++ unspellable (left_out layers.spelling (output (members layers depth f)))))

@@ -46,7 +46,7 @@ module _ (grammar : Grammar) (edition : Edition) where
       record {
         printed = shows.printed;
         faults = shows.faults ∙ ap (λ fs. in_order (fs ++ faults_in steps)) is.faults;
-        tokens = shows.tokens;
+        origins = shows.origins;
         expanded = shows.expanded ∙ is.plain ∙ sym (all_count (looked_of ms));
       }
 

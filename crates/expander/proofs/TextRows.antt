@@ -148,3 +148,13 @@ quote_is_left_out = refl
 quote_is_told : faults_in lone_quote ≡ fault Unspellable 7 8 ∷ []
 unfolding chars is_utf8 is_xid_start is_xid_continue in_ranges xid_start_ranges xid_continue_ranges encode_utf8
 quote_is_told = refl
+
+-- what is printed prints itself
+printed_text : of (codes "macro_rules! d { ($($a:tt)*) => { / $( $a )* ; } } d!{ / # # += 'c x }" ∷ [])
+    ≡ gives (lines (codes "/ / # # += 'c x ;" ∷ [])) []
+unfolding chars is_utf8 is_xid_start is_xid_continue in_ranges xid_start_ranges xid_continue_ranges encode_utf8
+printed_text = refl
+
+printed_again : of (codes "/ / # # += 'c x ;" ∷ []) ≡ gives (lines (codes "/ / # # += 'c x ;" ∷ [])) []
+unfolding chars is_utf8 is_xid_start is_xid_continue in_ranges xid_start_ranges xid_continue_ranges encode_utf8
+printed_again = refl

@@ -1,21 +1,12 @@
 -- How many plain pieces of a text have no match in an earlier one. (Of this project.)
-use Rattle.std.specs.Prelude.{ℕ, Bool, true, false, ◌&&◌, not, List, [], Option, Some, None, option_map, map, filter_map, filter, length, nat_eq}
+use Rattle.std.specs.Prelude.{ℕ, Bool, true, false, ◌&&◌, not, List, [], Option, Some, None, option_map, map, filter_map, filter, length}
 use Rattle.std.specs.List.{list_any, list_all}
-use Rattle.tt_data.specs.Forest.{Forest, empty, leaf, group}
-use Rattle.tt_data.specs.declared.delimiter.Delimiter.{Delimiter}
-use Rattle.tt_data.specs.declared.leaf.IdentIsRaw.{IdentIsRaw}
-use Rattle.tt_data.specs.declared.leaf.IdentIsRaw.TheVariants as is_raw
-use Rattle.tt_data.specs.declared.leaf.Leaf.{Leaf}
-use Rattle.tt_data.specs.declared.leaf.Leaf.TheVariants as as_leaf
-use Rattle.tt_data.specs.declared.leaf.LitKind.{LitKind}
-use Rattle.tt_data.specs.declared.leaf.LitKind.TheVariants as lit
-use Rattle.tt_data.specs.declared.leaf.Spacing.{Spacing}
-use Rattle.tt_data.specs.declared.leaf.Spacing.TheVariants.{Alone, Joint, JointHidden}
-use Rattle.tt_data.specs.declared.span.Span.{Span}
+use Rattle.bridge.specs.ReadText.{text_top}
+use Rattle.tt.specs.contracts.top.TopSubtreePartialEq.TheImpl as of_tree
+use Rattle.tt_data.specs.Forest.{Forest}
 use Rattle.expander.specs.Definitions.{Definition}
 use Rattle.expander.specs.Meaning.{Member, plain, defining}
 use Rattle.expander.specs.Pieces.{relative}
-use Rattle.bridge.specs.Text.{same_kind}
 use Rattle.expander.specs.Text.{same_text}
 
 -- a plain piece's tree, and each name that was looked up in it with the definition found or none; places are counted
@@ -35,50 +26,9 @@ looked (defining d) = None
 abbrev pub looked_of : List Member → List Looked
 looked_of ms = filter_map looked ms
 
-abbrev pub same_span : Span → Span → Bool
-same_span a b = nat_eq a.range.start b.range.start && nat_eq a.range.«end» b.range.«end»
-
-abbrev pub same_spacing : Spacing → Spacing → Bool
-same_spacing Alone Alone = true
-same_spacing Joint Joint = true
-same_spacing JointHidden JointHidden = true
-same_spacing _ _ = false
-
-abbrev pub same_raw : IdentIsRaw → IdentIsRaw → Bool
-same_raw is_raw.No is_raw.No = true
-same_raw is_raw.Yes is_raw.Yes = true
-same_raw _ _ = false
-
-abbrev pub same_brackets : Delimiter → Delimiter → Bool
-same_brackets a b = same_kind a.kind b.kind && (same_span a.open_span b.open_span && same_span a.close_span b.close_span)
-
-abbrev pub same_literal_kind : LitKind → LitKind → Bool
-same_literal_kind lit.Byte lit.Byte = true
-same_literal_kind lit.Char lit.Char = true
-same_literal_kind lit.Integer lit.Integer = true
-same_literal_kind lit.Float lit.Float = true
-same_literal_kind lit.Str lit.Str = true
-same_literal_kind (lit.StrRaw m) (lit.StrRaw n) = nat_eq m n
-same_literal_kind lit.ByteStr lit.ByteStr = true
-same_literal_kind (lit.ByteStrRaw m) (lit.ByteStrRaw n) = nat_eq m n
-same_literal_kind lit.CStr lit.CStr = true
-same_literal_kind (lit.CStrRaw m) (lit.CStrRaw n) = nat_eq m n
-same_literal_kind (lit.Err _) (lit.Err _) = true
-same_literal_kind _ _ = false
-
--- two leaves with the same text at the same place
-abbrev pub same_leaf : Leaf → Leaf → Bool
-same_leaf (as_leaf.Ident i) (as_leaf.Ident j) = same_text i.sym j.sym && (same_raw i.is_raw j.is_raw && same_span i.span j.span)
-same_leaf (as_leaf.Punct p) (as_leaf.Punct q) = nat_eq p.char q.char && (same_spacing p.spacing q.spacing && same_span p.span q.span)
-same_leaf (as_leaf.Literal l) (as_leaf.Literal m) =
-    same_literal_kind l.kind m.kind && (same_text l.text m.text && (same_text l.suffix m.suffix && same_span l.span m.span))
-same_leaf _ _ = false
-
+-- two lists of trees are equal by `==` of trees, places included
 abbrev pub same_forest : Forest → Forest → Bool
-same_forest empty empty = true
-same_forest (leaf l f) (leaf m g) = same_leaf l m && same_forest f g
-same_forest (group d a f) (group e b g) = same_brackets d e && (same_forest a b && same_forest f g)
-same_forest _ _ = false
+same_forest f g = of_tree.ghosts.eq (record { delimiter = text_top; inner = f }) (record { delimiter = text_top; inner = g })
 
 abbrev pub same_found : Option Forest → Option Forest → Bool
 same_found None None = true

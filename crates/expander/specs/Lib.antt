@@ -19,10 +19,19 @@ pub mod Refusals
 pub mod CallSteps
 pub mod TooMany
 pub mod Replies
+pub mod Answers
 pub mod Watch
 pub mod Lines
 pub mod Runs
 pub mod Laws
+pub mod FixedPoint
+pub mod Agreement
+pub mod Changes
+pub mod OtherPlaces
+pub mod Held
+pub mod Reuse
+pub mod Numbers
+pub mod TextTurn
 -- what the functions inside the crate promise each other
 pub mod Cutting
 pub mod Names
@@ -34,3 +43,4 @@ pub mod PieceTurns
 pub mod Shown
 pub mod Spots
 pub mod Steps
+pub mod CommandTurns

@@ -30,6 +30,6 @@ GoesOut old _ new = ⊥
 
 -- one step of a walk, or none at its end
 abbrev pub GoesOn : Walk → Option WalkStep → Walk → Type 0
-GoesOn old (Some (Leaf l)) new = (old.here ≡ leaf l new.here) × (groups_of new ≡ groups_of old)
+GoesOn old (Some (Leaf l)) new = (old.here ≡ leaf l.now new.here) × (groups_of new ≡ groups_of old)
 GoesOn old (Some (Opens kind span)) new = Enters kind span old new
 GoesOn old out new = (old.here ≡ empty) × GoesOut old out new

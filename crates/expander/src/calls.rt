@@ -26,10 +26,11 @@ fn is_colons(first: Punct, second: Punct) -> bool
 }
 
 // A name, `!` and a visible group.
+#[inline(always)]
 fn bare_call<'a>(trees: &TtIter<'a>) -> Option<Call<'a>>
     ensures { result ≡ bare_call trees.now }
 {
-    let (name, after_name) = trees.first_ident()?;
+    let (name, after_name) = trees.lent_ident()?;
     let (bang, after_bang) = after_name.first_punct()?;
     if bang.char != '!' {
         return None;
@@ -38,6 +39,9 @@ fn bare_call<'a>(trees: &TtIter<'a>) -> Option<Call<'a>>
     if brackets.kind == DelimiterKind::Invisible {
         return None;
     }
+    let Ok(name) = name.clone() else {
+        unreachable!()
+    };
     Some(Call {
         name,
         from_group: after_bang,
@@ -47,6 +51,7 @@ fn bare_call<'a>(trees: &TtIter<'a>) -> Option<Call<'a>>
 }
 
 /// What would be a call, but stands behind a `::` with which the trees begin.
+#[inline(always)]
 pub(crate) fn call_behind_colons<'a>(trees: &TtIter<'a>) -> Option<Call<'a>>
     ensures { result ≡ call_behind_colons trees.now }
 {
@@ -63,7 +68,7 @@ pub(crate) fn call_behind_colons<'a>(trees: &TtIter<'a>) -> Option<Call<'a>>
 fn crate_call<'a>(trees: &TtIter<'a>) -> Option<Call<'a>>
     ensures { result ≡ crate_call trees.now }
 {
-    let (name, after_name) = trees.first_ident()?;
+    let (name, after_name) = trees.lent_ident()?;
     if name.sym.as_str() == "$crate" {
         call_behind_colons(&after_name)
     } else {

@@ -200,7 +200,7 @@ fn search<G: FragmentGrammar>(
         } else if let Some(call) = call_behind_colons(&walk.here) {
             keep(alloc, outer, out, &mut walk.here, call.from_group)?;
         } else if let Some(step) = walk.next()? {
-            push_step(&mut out.steps, step, outer)?;
+            push_step(&mut out.steps, &step, outer)?;
         } else {
             return Ok(());
         }

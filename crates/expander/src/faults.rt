@@ -32,7 +32,7 @@ pub struct Fault {
 }
 
 /// Where a fault of a step of the output is told: at the name of the outermost expanded call, or at the step itself.
-pub(crate) fn place(step: &WalkStep, outer: Option<Span>) -> Span
+pub(crate) fn place(step: &WalkStep<'_>, outer: Option<Span>) -> Span
     ensures { result ≡ place (record { step = step_of step.now; outer = outer }) }
 {
     if let Some(outer) = outer {
@@ -45,7 +45,7 @@ pub(crate) fn place(step: &WalkStep, outer: Option<Span>) -> Span
 }
 
 /// Whether the step is a word that begins a definition.
-pub(crate) fn is_definition_word(step: &WalkStep) -> bool
+pub(crate) fn is_definition_word(step: &WalkStep<'_>) -> bool
     ensures { result ≡ is_definition_word (step_of step.now) }
 {
     match step {

@@ -1,22 +1,45 @@
 //! Laws of the definitions, for those who read them. A call does nothing: it only states.
-ghost use Rattle.std.specs.Prelude.{◌≡◌, ◌↔◌, ℕ, true, All, List, [], ◌∷◌, ◌++◌, flat_map, Option, Some, None};
+ghost use Rattle.std.specs.Prelude.{◌≡◌, ◌↔◌, ℕ, ◌+◌, true, All, Contains, List, [], ◌∷◌, ◌++◌, filter, filter_map, flat_map, length, map, IsUtf8, Option, Some, None, Ok, option_map};
 ghost use Rattle.std.specs.List.Sorted.{IsPermutation, IsSortedBy};
+ghost use Rattle.expander.specs.Agreement.{FoundIn, scope_of};
+ghost use Rattle.expander.specs.Answers.{AreAnswers, ShowTheSame, last_text};
 ghost use Rattle.expander.specs.Calls.{marked, unmarked};
 ghost use Rattle.expander.specs.CallSteps.{call_at, first_call};
+ghost use Rattle.expander.specs.Changes.{outcome_with};
+ghost use Rattle.expander.specs.Count.{Looked, expanded_count, is_same, looked_of, same_forest};
 ghost use Rattle.expander.specs.Expansion.{World, expansion, placed};
+ghost use Rattle.expander.specs.Expanded.{Expanded};
 ghost use Rattle.expander.specs.Faults.{comes_before, in_order};
+ghost use Rattle.expander.specs.FixedPoint.{IsFixedPoint, RepliesWith};
+ghost use Rattle.expander.specs.Held.{IsMet, Known, Met, TellsApart, definition_trees, kept_after, numbered_scope, numbered_world, present, trees_in};
 ghost use Rattle.expander.specs.Laws.{AreAllPlain, Fails, HasNoWord};
-ghost use Rattle.expander.specs.Meaning.{Layers, faults_of, member_faults, members, members_after, output, output_of};
+ghost use Rattle.expander.specs.Layered.{layers};
+ghost use Rattle.expander.specs.Meaning.{Layers, ReadMeaning, faults_of, meaning, member_faults, members, members_after, output, output_of};
+ghost use Rattle.expander.specs.Numbers.{AreEntries, Numbering, needed, number_in, number_of, tree_of, with_trees};
+ghost use Rattle.expander.specs.OtherPlaces.{CommutesWithMarker, definition_with};
 ghost use Rattle.expander.specs.Pieces.{cut, pieces, put_together};
 ghost use Rattle.expander.specs.Printing.{left_out};
+ghost use Rattle.expander.specs.Replies.{IsReplyTo};
+ghost use Rattle.expander.specs.Reuse.{HeldPiece, IsHeld, looked_at, looked_held, matches};
+ghost use Rattle.expander.specs.TextTurn.{InEntries, IsNext, IsTurn, held_of, is_unmatched, kept_entries, numbering_of, taken_after};
 ghost use Rattle.expander.specs.declared.calls.Call.{Call};
-ghost use Rattle.expander.specs.Definitions.{Definition};
+ghost use Rattle.expander.specs.Definitions.{Definition, definition_of};
+ghost use Rattle.expander.specs.World.{world};
 ghost use Rattle.expander.specs.declared.faults.Fault.{Fault};
 ghost use Rattle.expander.specs.declared.faults.FaultKind.{FaultKind};
+ghost use Rattle.expander.specs.declared.commands.Answer.{Answer};
+ghost use Rattle.expander.specs.declared.commands.Answer.TheVariants.{Reply as Replied};
+ghost use Rattle.expander.specs.declared.commands.Command.{Command};
+ghost use Rattle.expander.specs.declared.commands.Command.TheVariants.{Expand};
 ghost use Rattle.expander.specs.declared.program.Status.{Status};
 ghost use Rattle.expander.specs.declared.session.Refusal.{Refusal};
-ghost use Rattle.tt_data.specs.Forest.{Forest, joined};
+ghost use Rattle.expander.specs.declared.session.Reply.{Reply};
+ghost use Rattle.expander.specs.declared.session.Reply.TheVariants.{Read};
+ghost use Rattle.bridge.specs.TokenSteps.{text_reading};
+ghost use Rattle.mbe.specs.Grammar.{Grammar};
+ghost use Rattle.tt_data.specs.Forest.{Forest, joined, map_spans};
 ghost use Rattle.tt_data.specs.Walk.{walk};
+ghost use Rattle.tt_data.specs.declared.edition.Edition.{Edition};
 ghost use Rattle.tt_data.specs.declared.span.Span.{Span};
 
 use crate::faults::{Fault, FaultKind};
@@ -56,17 +79,187 @@ pub fn without_definitions_nothing_changes()
         flat_map (member_faults layers) (members_after layers depth [] (cut f)) ≡ [] }
 {}
 
-/// A text that was read has no fault where none of its pieces is a definition, none of its names begins one, and each
-/// token has a spelling.
+/// Where no word of a text begins a definition, no piece of it is one.
+pub fn definitions_begin_with_their_words()
+    ensures { (f : Forest) → HasNoWord f → AreAllPlain (pieces f) }
+{}
+
+/// A text that was read has no fault where none of its names begins a definition and each token has a spelling.
 pub fn quiet_texts_have_no_fault()
-    ensures { (layers : Layers) (depth : ℕ) (f : Forest) → AreAllPlain (pieces f) → HasNoWord f →
+    ensures { (layers : Layers) (depth : ℕ) (f : Forest) → HasNoWord f →
         left_out layers.spelling (output (members layers depth f)) ≡ [] → faults_of layers (members layers depth f) ≡ [] }
 {}
+
+/// What is printed of a text that has no fault prints itself: it can be read, none of its pieces is a definition, and with
+/// every grammar, edition and number of levels it means just the same bytes, without a fault.
+pub fn output_without_faults_prints_itself()
+    ensures { (grammar : Grammar) (edition : Edition) (depth : ℕ) (text : List ℕ) (m : ReadMeaning) →
+        meaning (layers grammar edition) depth text ≡ Ok m → m.faults ≡ [] → IsFixedPoint m.text }
+{
+    bridge::laws::reading_is_a_relation();
+    bridge::laws::printed_text_reads_back();
+}
+
+/// What a reply without faults prints, as the text of another session with any grammar, edition and number of levels, has
+/// a reply that prints the same bytes, without a fault.
+pub fn replies_without_faults_print_themselves()
+    ensures { (grammar : Grammar) (edition : Edition) (depth : ℕ) (text : List ℕ) (e : Expanded) →
+        IsReplyTo (layers grammar edition) depth text (Read e) → e.faults ≡ [] →
+        (others : Grammar) (later : Edition) (levels : ℕ) (reply : Reply) → IsReplyTo (layers others later) levels e.printed reply → RepliesWith e.printed reply }
+{
+    output_without_faults_prints_itself();
+}
+
+/// An expansion hangs on what its names find, and on nothing else of a scope: steps, faults and finds are the same under
+/// another scope that finds the same. Its finds are what its scope finds, so it is the same under the scope made of them.
+pub fn an_expansion_hangs_on_its_finds()
+    ensures agreed { (world : World Definition) (scope others : List ℕ → Option Definition) (depth : ℕ) (outer : Option Span) (f : Forest) →
+        FoundIn others (expansion world scope depth outer f).finds → expansion world others depth outer f ≡ expansion world scope depth outer f }
+    ensures found { (world : World Definition) (scope : List ℕ → Option Definition) (depth : ℕ) (outer : Option Span) (f : Forest) →
+        FoundIn scope (expansion world scope depth outer f).finds }
+    ensures kept { (world : World Definition) (scope : List ℕ → Option Definition) (depth : ℕ) (outer : Option Span) (f : Forest) →
+        expansion world (scope_of (expansion world scope depth outer f).finds) depth outer f ≡ expansion world scope depth outer f }
+{}
+
+/// Where the places of a text change by a function that commutes with the marker of templates, a definition stays one, and
+/// an expansion gives the same steps, faults and finds at the changed places, and makes too many tokens where it did.
+pub fn expansions_at_other_places()
+    ensures definitions { (f : Span → Span) (piece : Forest) → definition_of (map_spans f piece) ≡ option_map (definition_with f) (definition_of piece) }
+    ensures expansions { (grammar : Grammar) (edition : Edition) (f : Span → Span) → CommutesWithMarker f →
+        (scope : List ℕ → Option Definition) (depth : ℕ) (outer : Option Span) (g : Forest) →
+        expansion (world grammar edition) (λ name. option_map (definition_with f) (scope name)) depth (option_map f outer) (map_spans f g)
+        ≡ outcome_with f (definition_with f) (expansion (world grammar edition) scope depth outer g) }
+{
+    mbe_rules::laws::rules_at_other_places();
+    mbe::laws::fit_at_other_places();
+    mbe::laws::bursts_at_other_places();
+}
+
+/// The members of a text that was read are its pieces in places of their own, each expanded there under numbered
+/// definitions, and then taken to the text: equal definitions have one number, and different ones different numbers.
+pub fn pieces_in_places_of_their_own()
+    ensures { (grammar : Grammar) (edition : Edition) (depth : ℕ) (text : List ℕ) (f : Forest) (number_of : Forest → ℕ) →
+        IsUtf8 text → text_reading text ≡ Ok f → TellsApart number_of (definition_trees (pieces f)) →
+        members (layers grammar edition) depth f ≡ map present (kept_after (world grammar edition) depth number_of [] (pieces f)) }
+{
+    mbe_rules::laws::rules_at_other_places();
+    mbe::laws::fit_at_other_places();
+    mbe::laws::bursts_at_other_places();
+    bridge::laws::reading_is_a_relation();
+    bridge::laws::tokens_follow_one_another();
+    bridge::laws::tokens_are_written();
+}
+
+/// A held piece with an equal tree, whose names find definitions of the numbers that they found, has the outcome that a new
+/// expansion has; and just then the count sees an equal piece. What is new may be held.
+pub fn held_pieces_are_what_is_new()
+    ensures outcome { (world : World Definition) (depth : ℕ) (number_of : Forest → ℕ) (trees : List Forest) (before : List Met) (tree : Forest) (q : HeldPiece) →
+        TellsApart number_of trees → All (IsMet (Known number_of trees)) before → IsHeld world depth (Known number_of trees) q →
+        matches (numbered_scope before) tree q ≡ true → q.outcome ≡ expansion (numbered_world world) (numbered_scope before) depth None tree }
+    ensures counted { (world : World Definition) (depth : ℕ) (number_of : Forest → ℕ) (trees : List Forest) (before : List Met) (tree : Forest) (q : HeldPiece) →
+        TellsApart number_of trees → All (IsMet (Known number_of trees)) before → IsHeld world depth (Known number_of trees) q →
+        is_same (looked_at tree (expansion (numbered_world world) (numbered_scope before) depth None tree)) (looked_held q) ≡ matches (numbered_scope before) tree q }
+    ensures fresh { (world : World Definition) (depth : ℕ) (number_of : Forest → ℕ) (trees : List Forest) (before : List Met) (tree : Forest) →
+        All (IsMet (Known number_of trees)) before →
+        IsHeld world depth (Known number_of trees) (record { tree = tree; outcome = expansion (numbered_world world) (numbered_scope before) depth None tree }) }
+{
+    equal_pieces();
+}
+
+/// Over whatever is held rightly a text gives its members, with outcomes taken from held pieces that match: `taken`. As many
+/// pieces count as expanded as nothing held matches: `counted`. What is held afterwards is held rightly, and is what the
+/// count sees of the text: `held`, `looked`.
+pub fn a_text_over_what_is_held()
+    ensures taken { (grammar : Grammar) (edition : Edition) (depth : ℕ) (text : List ℕ) (f : Forest) (number_of : Forest → ℕ) (trees : List Forest) (held : List HeldPiece) →
+        IsTurn (world grammar edition) depth text f number_of trees held →
+        members (layers grammar edition) depth f ≡ map present (taken_after (world grammar edition) depth number_of held [] (pieces f)) }
+    ensures counted { (grammar : Grammar) (edition : Edition) (depth : ℕ) (text : List ℕ) (f : Forest) (number_of : Forest → ℕ) (trees : List Forest) (held : List HeldPiece) →
+        IsTurn (world grammar edition) depth text f number_of trees held →
+        expanded_count (Some (map looked_held held)) (looked_of (members (layers grammar edition) depth f))
+        ≡ length (filter (is_unmatched held) (taken_after (world grammar edition) depth number_of held [] (pieces f))) }
+    ensures held { (grammar : Grammar) (edition : Edition) (depth : ℕ) (text : List ℕ) (f : Forest) (number_of : Forest → ℕ) (trees : List Forest) (held : List HeldPiece) →
+        IsTurn (world grammar edition) depth text f number_of trees held →
+        All (IsHeld (world grammar edition) depth (Known number_of trees)) (filter_map held_of (taken_after (world grammar edition) depth number_of held [] (pieces f))) }
+    ensures looked { (grammar : Grammar) (edition : Edition) (depth : ℕ) (text : List ℕ) (f : Forest) (number_of : Forest → ℕ) (trees : List Forest) (held : List HeldPiece) →
+        IsTurn (world grammar edition) depth text f number_of trees held →
+        looked_of (members (layers grammar edition) depth f)
+        ≡ map looked_held (filter_map held_of (taken_after (world grammar edition) depth number_of held [] (pieces f))) }
+{
+    mbe_rules::laws::rules_at_other_places();
+    mbe::laws::fit_at_other_places();
+    mbe::laws::bursts_at_other_places();
+    bridge::laws::reading_is_a_relation();
+    bridge::laws::tokens_follow_one_another();
+    bridge::laws::tokens_are_written();
+    equal_pieces();
+}
+
+/// Against the pieces of the same text no piece counts as expanded.
+pub fn a_text_matches_itself()
+    ensures { (ps : List Looked) → expanded_count (Some ps) ps ≡ 0 }
+{
+    equal_pieces();
+}
+
+/// The definitions of a text's members, in places of their own, are those of its pieces.
+pub fn definitions_are_pieces()
+    ensures { (layers : Layers) (depth : ℕ) (f : Forest) → trees_in (members layers depth f) ≡ definition_trees (pieces f) }
+{}
+
+/// Numbers that are given in turn tell trees apart: each entry has its own number. Trees that get numbers are among the
+/// entries, those that had numbers keep them, and as many new ones are given as are needed.
+pub fn numbers_tell_trees_apart()
+    ensures apart { (n : Numbering) → AreEntries n.given n.entries → TellsApart (number_of n.entries) (map tree_of n.entries) }
+    ensures entries { (n : Numbering) (trees : List Forest) → AreEntries n.given n.entries → AreEntries (with_trees n trees).given (with_trees n trees).entries }
+    ensures known { (n : Numbering) (trees : List Forest) → All (Contains (map tree_of (with_trees n trees).entries)) trees }
+    ensures kept { (n : Numbering) (trees : List Forest) (t : Forest) (k : ℕ) → number_in n.entries t ≡ Some k → number_in (with_trees n trees).entries t ≡ Some k }
+    ensures given { (n : Numbering) (trees : List Forest) → (with_trees n trees).given ≡ n.given + needed (map tree_of n.entries) trees }
+{
+    equal_pieces();
+}
+
+/// From one text that was read to the next: where what is held is right by the numbers given so far, the next text stands
+/// over it rightly by its own numbers, of which those of its definitions are kept; by these what is held afterwards is right.
+pub fn what_is_held_stays_right()
+    ensures turn { (grammar : Grammar) (edition : Edition) (depth : ℕ) (n : Numbering) (held : List HeldPiece) (text : List ℕ) (f : Forest) →
+        IsNext (world grammar edition) depth n held text f →
+        IsTurn (world grammar edition) depth text f (number_of (numbering_of n f).entries) (map tree_of (numbering_of n f).entries) held }
+    ensures held { (grammar : Grammar) (edition : Edition) (depth : ℕ) (n : Numbering) (held : List HeldPiece) (text : List ℕ) (f : Forest) →
+        IsNext (world grammar edition) depth n held text f →
+        All (IsHeld (world grammar edition) depth (InEntries (kept_entries n f)))
+        (filter_map held_of (taken_after (world grammar edition) depth (number_of (numbering_of n f).entries) held [] (pieces f))) }
+    ensures entries { (grammar : Grammar) (edition : Edition) (depth : ℕ) (n : Numbering) (held : List HeldPiece) (text : List ℕ) (f : Forest) →
+        IsNext (world grammar edition) depth n held text f → AreEntries (numbering_of n f).given (kept_entries n f) }
+{
+    mbe_rules::laws::rules_at_other_places();
+    mbe::laws::fit_at_other_places();
+    mbe::laws::bursts_at_other_places();
+    bridge::laws::reading_is_a_relation();
+    bridge::laws::tokens_follow_one_another();
+    bridge::laws::tokens_are_written();
+    equal_pieces();
+}
+
+/// The trees of two pieces are equal by `==` exactly where they are the same, places included.
+pub fn equal_pieces()
+    ensures { (f g : Forest) → (same_forest f g ≡ true) ↔ (f ≡ g) }
+{
+    tt::laws::equal_trees();
+}
 
 /// Faults put in order are the same faults, and none comes before the one that it follows.
 pub fn faults_are_put_in_order()
     ensures same { (faults : List Fault) → IsPermutation faults (in_order faults) }
     ensures sorted { (faults : List Fault) → IsSortedBy comes_before (in_order faults) }
+{}
+
+/// The present text decides. Where two lists of commands lead to one text, whatever came before, and both sessions then
+/// expand it and reply, the replies show the same: printed text, faults and origins, or the same fault of reading.
+pub fn the_text_decides()
+    ensures { (layers : Layers) (depth : ℕ) (one two : List ℕ) (ones twos : List Command) (first second : List Answer) (reply other : Reply) →
+        AreAnswers layers depth one [] (ones ++ Expand ∷ []) (first ++ Replied reply ∷ []) →
+        AreAnswers layers depth two [] (twos ++ Expand ∷ []) (second ++ Replied other ∷ []) →
+        last_text one ones first ≡ last_text two twos second → ShowTheSame reply other }
 {}
 
 /// Two answers are equal by `==` exactly where they are the same, places included.

@@ -2,6 +2,7 @@
 #![tactic(auto)]
 
 mod calls;
+pub mod commands;
 mod copies;
 mod definitions;
 mod expansion;
@@ -19,6 +20,7 @@ mod walk;
 pub mod watched;
 
 pub use bridge::{ReadFault, ReadFaultKind};
+pub use commands::{Answer, Command, replay};
 pub use faults::{Fault, FaultKind};
 pub use program::{Status, run};
 pub use session::{Expansion, Refusal, Reply, Session};

@@ -48,7 +48,7 @@ pub(crate) fn push_walk(
 {
     let mut rest = Walk::new(alloc, trees);
     while let Some(step) = rest.next()? {
-        push_step(steps, step, outer)?;
+        push_step(steps, &step, outer)?;
     }
     Ok(())
 }
@@ -56,21 +56,21 @@ pub(crate) fn push_walk(
 /// Adds one step.
 pub(crate) fn push_step(
     steps: &mut PlacedSteps,
-    step: WalkStep,
+    step: &WalkStep<'_>,
     outer: Option<Span>,
 ) -> Result<(), AllocError>
-    ensures { OnOk result (PutsOut steps.old steps.new (placed outer (step_of step ∷ []))) }
+    ensures { OnOk result (PutsOut steps.old steps.new (placed outer (step_of step.now ∷ []))) }
 {
-    if is_visible(&step) {
-        push_place(steps, &step, outer)?;
+    if is_visible(step) {
+        push_place(steps, step, outer)?;
     }
-    match steps.printer.put_step(&step) {
+    match steps.printer.put_step(step) {
         Ok(()) => Ok(()),
         Err(_) => Err(AllocError),
     }
 }
 
-fn is_visible(step: &WalkStep) -> bool
+fn is_visible(step: &WalkStep<'_>) -> bool
     ensures { result ≡ is_visible_step (step_of step.now) }
 {
     match step {
@@ -82,7 +82,7 @@ fn is_visible(step: &WalkStep) -> bool
 // Keeps where the faults of a visible step are told, and tells whether it begins a definition.
 fn push_place(
     steps: &mut PlacedSteps,
-    step: &WalkStep,
+    step: &WalkStep<'_>,
     outer: Option<Span>,
 ) -> Result<(), AllocError>
     requires { is_visible_step (step_of step.now) ≡ true }

@@ -7,8 +7,9 @@ ghost use Rattle.expander.specs.Runs.{IsAllOf, Runs, Tells, run_layers, status, 
 ghost use Rattle.expander.specs.TooMany.{NeedsTooMany};
 ghost use Rattle.expander.specs.Steps.{Puts, PutsReply, Replied, StopsEarly, StopsReading};
 
+use crate::commands::{Answer, Command, replay};
 use crate::lines::{report, stop_line};
-use crate::session::{Refusal, Reply, Session};
+use crate::session::{Refusal, Reply};
 use crate::watched::Watched;
 use small_grammar::SmallGrammar;
 use std::alloc::Global;
@@ -89,6 +90,23 @@ fn answer_input<R: Read>(
     answer(alloc, text, depth).map_err(Stop::Refused)
 }
 
+// The reply of a session over this text, which has one command: to expand it.
+fn expanded(alloc: Global, text: &str, depth: u8) -> Result<Reply, Refusal>
+    requires { length text.now < 2 ^ 32 }
+    ensures reply { IfOk result (IsReplyTo run_layers depth text.now) }
+    ensures tokens { result ≡ Err Refusal.Tokens → NeedsTooMany run_layers depth text.now }
+    ensures numbers { result ≢ Err Refusal.Numbers }
+{
+    let commands = [Command::Expand];
+    let edition = Edition::Edition2024;
+    let mut answers = replay(alloc, text, SmallGrammar, edition, depth, &commands)?;
+    match answers.pop() {
+        Some(Answer::Reply(reply)) => Ok(reply),
+        Some(Answer::Refused(refusal)) => Err(refusal),
+        _ => unreachable!("a command has an answer"),
+    }
+}
+
 // The reply of a session over this text, and what is told of it. The lines are made before anything is
 // written, so that want of memory is told alone.
 fn answer(alloc: Global, text: &str, depth: u8) -> Result<(Reply, String), Refusal>
@@ -98,8 +116,7 @@ fn answer(alloc: Global, text: &str, depth: u8) -> Result<(Reply, String), Refus
     ensures tokens { result ≡ Err Refusal.Tokens → NeedsTooMany run_layers depth text.now }
     ensures numbers { result ≢ Err Refusal.Numbers }
 {
-    let mut session = Session::new(alloc, text, SmallGrammar, Edition::Edition2024, depth)?;
-    let reply = session.expansion()?;
+    let reply = expanded(alloc, text, depth)?;
     let told = report(alloc, text, &reply)?;
     Ok((reply, told))
 }

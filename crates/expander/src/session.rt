@@ -1,5 +1,7 @@
 //! A session over a text.
-ghost use Rattle.std.specs.Prelude.{◌≡◌, ◌≢◌, ℕ, ◌<◌, ◌^◌, List, length, string_bytes, IfOk, OnErr, Ok, Err, None};
+ghost use Rattle.std.specs.Prelude.{◌≡◌, ◌≢◌, ◌+◌, ◌-◌, ◌<◌, ◌≤◌, ◌^◌, ◌↔◌, List, length, IfOk, OnOk, OnErr, IsTrue, Err, IsCharBoundary, chars, map, slice_get};
+ghost use Rattle.rustc_lexer.specs.Edit.{edited};
+ghost use Rattle.rustc_lexer.specs.Lexing.{tokens_of};
 ghost use Rattle.expander.specs.Expansion.{PlacedStep};
 ghost use Rattle.expander.specs.Layered.{layers};
 ghost use Rattle.expander.specs.OutputSteps.{HasOutput};
@@ -16,12 +18,12 @@ use crate::output::finish;
 use crate::pieces::set_apart;
 use bridge::{Printed, Read, ReadFault};
 use fragment_grammar::FragmentGrammar;
-use rustc_lexer::{FrontmatterAllowed, Token, tokenize};
+use rustc_lexer::{LexedText, Token};
 use std::alloc::{AllocError, Global};
 use std::marker::Model;
 use tt_data::edition::Edition;
 use tt_data::fault::TtFault;
-use tt_data::span::TextRange;
+use tt_data::span::{Span, TextRange};
 
 /// Why there is no reply. The session is as it was.
 #[derive(Clone, Copy, Debug, PartialEq, Eq)]
@@ -53,12 +55,12 @@ impl From<AllocError> for Refusal {
     }
 }
 
-/// The expansion of a text: what is printed, and the faults.
+/// The expansion of a text: what is printed, where it comes from, and the faults.
 #[derive(Drop)]
 pub struct Expansion {
     printed: String,
     faults: Vec<Fault>,
-    tokens: usize,
+    origins: Vec<TextRange>,
     expanded: usize,
 }
 
@@ -68,7 +70,7 @@ impl Model for Expansion {
 
     ghost Value = { Expanded };
 
-    ghost view = { λ e. record { printed = string_bytes e.printed; faults = e.faults.items; tokens = e.tokens; expanded = e.expanded } };
+    ghost view = { λ e. record { printed = string_bytes e.printed; faults = e.faults.items; origins = e.origins.items; expanded = e.expanded } };
 }
 
 impl Expansion {
@@ -95,17 +97,35 @@ impl Expansion {
 
     /// How many tokens are printed.
     pub fn tokens(&self) -> usize
-        ensures { result ≡ self.now.tokens }
+        ensures { result ≡ length self.now.origins }
     {
-        self.tokens
+        self.origins.len()
     }
 
-    /// Where in the text the printed token of this number, from 0, comes from. It is not kept yet: `None`.
+    /// Where in the text the printed token of this number, from 0, comes from. A token that was written in the text, in a
+    /// call's argument too, comes from there, through however many calls it was carried. A token that a template gives
+    /// comes from the template, and what a `$` puts in of itself from this `$`. A doc comment's tokens come from the
+    /// comment.
     pub fn origin(&self, i: usize) -> Option<TextRange>
-        requires { i < self.now.tokens }
-        ensures { result ≡ None }
+        requires { i < length self.now.origins }
+        ensures { result ≡ slice_get self.now.origins i }
     {
-        None
+        Some(self.origins[i])
+    }
+
+    /// An equal expansion. Refused where there is no memory for it.
+    pub fn try_clone(&self, alloc: Global) -> Result<Expansion, AllocError>
+        ensures { IfOk result (λ e. e ≡ self.now) }
+    {
+        let printed = String::from_str(alloc, self.printed())?;
+        let faults = Vec::from_slice(alloc, self.faults())?;
+        let origins = Vec::from_slice(alloc, self.origins.as_slice())?;
+        Ok(Expansion {
+            printed,
+            faults,
+            origins,
+            expanded: self.expanded,
+        })
     }
 }
 
@@ -118,31 +138,32 @@ pub enum Reply {
     Unread(ReadFault),
 }
 
-/// A text, and what its calls are expanded by: a grammar, an edition, and how many levels of calls are expanded.
+/// A text that may be edited, and what its calls are expanded by: a grammar, an edition, and how many levels of calls
+/// are expanded.
 #[derive(Drop)]
 pub struct Session<G> {
     alloc: Global,
-    text: String,
+    text: LexedText,
     grammar: G,
     edition: Edition,
     depth: u8,
 }
 
 impl<G> Model for Session<G> {
-    ghost use Rattle.std.specs.Prelude.{string_bytes, length, ◌<◌, ◌^◌};
+    ghost use Rattle.std.specs.Prelude.{length, ◌<◌, ◌^◌};
     ghost use Rattle.expander.specs.State.{State};
 
     ghost Value = { State G };
 
-    ghost view = { λ s. record { text = string_bytes s.text; grammar = s.grammar; edition = s.edition; depth = s.depth } };
+    ghost view = { λ s. record { text = s.text; grammar = s.grammar; edition = s.edition; depth = s.depth } };
 
-    ghost invariant = { λ s. length (string_bytes s.text) < 2 ^ 32 };
+    ghost invariant = { λ s. length s.text < 2 ^ 32 };
 }
 
 impl<G: FragmentGrammar + Drop> Session<G> {
     /// A session over a text of at most `u32::MAX` bytes, whose words are of this edition. The grammar says what fragments
     /// are, and `depth` how many levels of calls are expanded. Nothing is expanded yet. Refused where there is no memory
-    /// for a copy of the text.
+    /// for a copy of the text and its tokens.
     pub fn new(
         alloc: Global,
         text: &str,
@@ -153,7 +174,7 @@ impl<G: FragmentGrammar + Drop> Session<G> {
         requires { length text.now < 2 ^ 32 }
         ensures { IfOk result (λ s. s ≡ record { text = text.now; grammar = grammar; edition = edition; depth = depth }) }
     {
-        let text = String::from_str(alloc, text)?;
+        let text = LexedText::new(alloc, text)?;
         Ok(Session {
             alloc,
             text,
@@ -167,7 +188,37 @@ impl<G: FragmentGrammar + Drop> Session<G> {
     pub fn text(&self) -> &str
         ensures { result.now ≡ self.now.text }
     {
-        self.text.as_str()
+        self.text.text()
+    }
+
+    /// Whether the byte `at` is at most the text's length, and begins a character or ends the text.
+    pub fn is_boundary(&self, at: usize) -> bool
+        ensures { IsTrue result ↔ IsCharBoundary self.now.text at }
+    {
+        self.text.is_boundary(at)
+    }
+
+    /// Whether the bytes from `start` to `end` are in the text, and it has at most `u32::MAX` bytes once `replacement_len`
+    /// bytes stand in their place.
+    pub fn fits(&self, start: usize, end: usize, replacement_len: usize) -> bool
+        ensures { IsTrue result ↔ ((start ≤ «end») × («end» ≤ length self.now.text)
+            × (length self.now.text - («end» - start) + replacement_len < 2 ^ 32)) }
+    {
+        self.text.fits(start, end, replacement_len)
+    }
+
+    /// Puts the replacement in place of the bytes from `start` to `end`, which are boundaries of the text and fit. Refused
+    /// where there is no memory for the text or its tokens, and then nothing changes.
+    pub fn edit(&mut self, start: usize, end: usize, replacement: &str) -> Result<(), AllocError>
+        requires start { IsCharBoundary self.old.text start }
+        requires stop { IsCharBoundary self.old.text «end» }
+        requires order { start ≤ «end» }
+        requires fits { length self.old.text - («end» - start) + length replacement.now < 2 ^ 32 }
+        ensures ok { OnOk result (self.new ≡ record self.old { text = edited self.old.text start «end» replacement.now }) }
+        ensures err { OnErr result (self.new ≡ self.old) }
+    {
+        self.text.edit(start, end, replacement)?;
+        Ok(())
     }
 
     /// The expansion of the text, or its reading fault. Refused where there is no memory left, where what is read of the
@@ -179,38 +230,54 @@ impl<G: FragmentGrammar + Drop> Session<G> {
         ensures tokens { result ≡ Err Refusal.Tokens → NeedsTooMany (layers_of G.answer self.old) self.old.depth self.old.text }
         ensures numbers { result ≢ Err Refusal.Numbers }
     {
-        let text = self.text.as_str();
-        reply_to_text(self.alloc, text, &self.grammar, self.edition, self.depth)
+        let text = self.text.text();
+        let tokens = self.text.tokens();
+        reply_to_text(
+            self.alloc,
+            text,
+            tokens,
+            &self.grammar,
+            self.edition,
+            self.depth,
+        )
     }
 }
 
-// The expansion of a text, or its reading fault.
+// The expansion of the text with these tokens, or its reading fault.
 fn reply_to_text<G: FragmentGrammar>(
     alloc: Global,
     text: &str,
+    tokens: &[Token],
     grammar: &G,
     edition: Edition,
     depth: u8,
 ) -> Result<Reply, Refusal>
-    requires { length text.now < 2 ^ 32 }
+    requires small { length text.now < 2 ^ 32 }
+    requires tokens { tokens.now ≡ tokens_of (chars text.now) }
     ensures reply { IfOk result (IsReplyTo (layers (G.answer grammar.now) edition) depth text.now) }
     ensures tokens { result ≡ Err Refusal.Tokens → NeedsTooMany (layers (G.answer grammar.now) edition) depth text.now }
     ensures numbers { result ≢ Err Refusal.Numbers }
 {
     bridge::laws::reading_is_a_relation();
-    let tokens: Vec<Token> = tokenize(text, FrontmatterAllowed::No).collect(alloc)?;
-    match bridge::read(alloc, text, tokens.as_slice())? {
+    match bridge::read(alloc, text, tokens)? {
         Read::Fault(fault) => Ok(Reply::Unread(fault)),
         Read::Tree(mut tree) => {
             set_apart(alloc, &mut tree)?;
             let output = expand_pieces(alloc, grammar, edition, depth, &tree.token_trees().iter())?;
-            Ok(Reply::Read(expansion_of(output)?))
+            Ok(Reply::Read(expansion_of(alloc, output)?))
         }
     }
 }
 
-// What the output of a text's pieces prints, and all faults in order.
-fn expansion_of(output: Output) -> Result<Expansion, AllocError>
+// The places of spans.
+fn places_of(alloc: Global, spans: &[Span]) -> Result<Vec<TextRange>, AllocError>
+    ensures { IfOk result (λ places. places.items ≡ map (λ s. s.range) spans.now) }
+{
+    spans.iter().map(|span| span.range).collect(alloc)
+}
+
+// What the output of a text's pieces prints, the places of its tokens, and all faults in order.
+fn expansion_of(alloc: Global, output: Output) -> Result<Expansion, AllocError>
     ensures { IfOk result (λ e. (steps : List PlacedStep) → HasOutput output.steps steps → ShowsOutput output steps e) }
 {
     let Output {
@@ -220,10 +287,11 @@ fn expansion_of(output: Output) -> Result<Expansion, AllocError>
     } = output;
     let Printed { text, tokens, .. } = finish(steps, &mut faults)?;
     sort_faults(&mut faults)?;
+    let origins = places_of(alloc, tokens.as_slice())?;
     Ok(Expansion {
         printed: text,
         faults,
-        tokens: tokens.len(),
+        origins,
         expanded: plain,
     })
 }

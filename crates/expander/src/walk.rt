@@ -6,7 +6,7 @@ use crate::copies::again;
 use bridge::WalkStep;
 use std::alloc::{AllocError, Global};
 use std::mem::replace;
-use tt::iter::{TtElement, TtIter};
+use tt::iter::TtIter;
 use tt_data::delimiter::{Delimiter, DelimiterKind};
 use tt_data::span::Span;
 
@@ -39,14 +39,18 @@ impl<'a> Walk<'a> {
         }
     }
 
-    /// The next step, which is made: none at the end.
-    pub(crate) fn next(&mut self) -> Result<Option<WalkStep>, AllocError>
+    /// The next step, which is made, a leaf lent: none at the end.
+    #[inline(always)]
+    pub(crate) fn next(&mut self) -> Result<Option<WalkStep<'a>>, AllocError>
         ensures { IfOk result (λ step. GoesOn self.old step self.new) }
     {
-        match self.here.next() {
-            Some(TtElement::Leaf(leaf)) => Ok(Some(WalkStep::Leaf(leaf))),
-            Some(TtElement::Subtree(head, inside)) => {
-                let brackets = head.delimiter;
+        if let Some((leaf, rest)) = self.here.lent_leaf() {
+            self.here = rest;
+            return Ok(Some(WalkStep::Leaf(leaf)));
+        }
+        match self.here.first_group() {
+            Some((brackets, inside, rest)) => {
+                self.here = rest;
                 self.enter(brackets, inside)?;
                 Ok(Some(WalkStep::Opens(brackets.kind, brackets.open_span)))
             }
@@ -70,7 +74,7 @@ impl<'a> Walk<'a> {
     }
 
     // Goes on behind the innermost group: none where it is in none.
-    fn leave(&mut self) -> Option<WalkStep>
+    fn leave(&mut self) -> Option<WalkStep<'a>>
         ensures { GoesOut self.old result self.new }
     {
         let Around {

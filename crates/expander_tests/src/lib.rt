@@ -7,7 +7,9 @@
 #[cfg(test)]
 mod fakes;
 #[cfg(test)]
-mod macros;
+mod replays;
+#[cfg(test)]
+mod rows;
 #[cfg(test)]
 mod runs;
 #[cfg(test)]

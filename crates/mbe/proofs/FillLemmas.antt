@@ -10,7 +10,7 @@ use Rattle.std.specs.declared.vec.Vec.{Vec}
 use Rattle.std.specs.declared.alloc.Global.{Global}
 use Rattle.tt.specs.Building.{Building, extended, opened, closed, count_of, most_tokens}
 use Rattle.tt_data.specs.Flat.{joined-empty}
-use Rattle.tt_data.specs.Forest.{Forest, empty, leaf, group, joined, size}
+use Rattle.tt_data.specs.Forest.{Forest, empty, group, joined, size}
 use Rattle.tt_data.proofs.ForestLemmas.{size-joined}
 use Rattle.tt_data.specs.declared.delimiter.Delimiter.{Delimiter}
 use Rattle.tt_data.specs.declared.span.Span.{Span}

@@ -114,7 +114,7 @@ module _ (f : Span → Span) where
         (both-map (map_spans f) (map_spans f) (map_spans f) joined joined (round_at 0) (rounds_from stands_at round_at sep (most - 1) 1) (joined-map f)))
         refl
 
-    rounds_of-map : (most : ℕ) (op : RepeatKind) → rounds_of stands_at' round_at' (map_spans f sep) most op ≡ with_f (rounds_of stands_at round_at sep most op)
+    pub rounds_of-map : (most : ℕ) (op : RepeatKind) → rounds_of stands_at' round_at' (map_spans f sep) most op ≡ with_f (rounds_of stands_at round_at sep most op)
     rounds_of-map most ZeroOrOne = by_test with_f (stands_at 0) (stands_at' 0) (round_at 0) (Some empty) (round_at' 0) (Some empty) (tested 0) (same 0) refl
     rounds_of-map most ZeroOrMore = some_rounds-map most (Some empty)
     rounds_of-map most OneOrMore = some_rounds-map most None
@@ -126,7 +126,7 @@ module _ (f : Span → Span) where
         value_here is_identifier most mark (map_with f bound) ns n ≡ option_map (binding_with f) (value_here is_identifier most mark bound ns n)
     value_here-map ns n = rw (binding_of-map f n bound) (then_in-map (value_in ns) (binding_of n bound) (value_in-map ns))
 
-    round_stands-map : (body : Items) (ns : List ℕ) →
+    pub round_stands-map : (body : Items) (ns : List ℕ) →
         round_stands is_identifier most mark (map_with f bound) (items_with f body) ns ≡ round_stands is_identifier most mark bound body ns
     round_stands-map body ns = rw (names-map body) (ap stands (uses (names body)))
       where
@@ -200,14 +200,14 @@ module _ (f : Span → Span) where
     delimiter_marked : (d : Delimiter) → delimiter_with mark (delimiter_with f d) ≡ delimiter_with f (delimiter_with mark d)
     delimiter_marked d = rw (commutes d.open_span, commutes d.close_span)
 
-    item_in-map : (ns : List ℕ) (i : Item) →
+    pub item_in-map : (ns : List ℕ) (i : Item) →
         item_in is_identifier most mark (map_with f bound) ns (item_with f i) ≡ with_f (item_in is_identifier most mark bound ns i)
     item_in-map ns (word l) = rw (leaf_marked l)
     item_in-map ns (puncts ps) = rw (puncts_marked ps) (ap Some (punct_leaves-map f (map (punct_with mark) ps)))
     item_in-map ns (lifetime p i) = rw (leaf_marked (as_leaf.Punct p), leaf_marked (as_leaf.Ident i))
     item_in-map ns (dollar d s) = rw (← commutes s) (dollar_in-map ns d (mark s))
 
-    filled_in-map : (ns : List ℕ) (i : Items) →
+    pub filled_in-map : (ns : List ℕ) (i : Items) →
         filled_in is_identifier most mark (map_with f bound) ns (items_with f i) ≡ with_f (filled_in is_identifier most mark bound ns i)
     filled_in-map ns done = refl
     filled_in-map ns (item i rest) =

@@ -35,7 +35,7 @@ module _ (f : Span → Span) (is_identifier : List ℕ → Bool) (grammar : Gram
   or_later-map n None later = refl
   or_later-map n (Some x) later = refl
 
-  styled_fit-map : (style : MacroCallStyle) (r : Rule) (argument : Forest) →
+  pub styled_fit-map : (style : MacroCallStyle) (r : Rule) (argument : Forest) →
       styled_fit is_identifier grammar mark style (rule_with f r) (map_spans f argument)
       ≡ option_map (map_spans f) (styled_fit is_identifier grammar mark style r argument)
   styled_fit-map style r argument =

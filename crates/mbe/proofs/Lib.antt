@@ -7,6 +7,7 @@ pub mod BindingLemmas
 pub mod FragmentLemmas
 pub mod FillingLemmas
 pub mod FitLemmas
+pub mod OutputLemmas
 pub mod GatherLemmas
 pub mod ClashLemmas
 pub mod LoopLemmas
@@ -18,11 +19,15 @@ pub mod MoveLemmas
 pub mod MatchingLemmas
 pub mod PlaceLemmas
 pub mod OpsLemmas
+pub mod RungLemmas
 pub mod SettlingLemmas
 pub mod PositionLemmas
 pub mod ThinLemmas
+pub mod KeptLemmas
 pub mod SoundLemmas
 pub mod LikeLemmas
+pub mod DueLemmas
+pub mod TaskLemmas
 pub mod TheLoopLemmas
 pub mod BoundLemmas
 pub mod CollectingLemmas

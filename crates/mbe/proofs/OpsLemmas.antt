@@ -1,6 +1,5 @@
 -- What threads hold, one by one.
-use Rattle.std.proofs.Common.{◌≡◌, refl, sym, ap, ◌∙◌, Bool, true, false, Some, None, List, [], ◌∷◌, ◌++◌, map}
-use Rattle.std.proofs.lemmas.List.{reverse-append}
+use Rattle.std.proofs.Common.{◌≡◌, refl, sym, ap, ◌∙◌, Bool, true, false, Option, Some, None, List, [], ◌∷◌, ◌++◌, map}
 use Rattle.std.specs.Borrow.{Bor}
 use Rattle.mbe_rules.specs.Items.{Items, done}
 use Rattle.mbe_rules.specs.Ops.{items_of, separator_of}
@@ -16,13 +15,10 @@ use Rattle.mbe.specs.Threads as t
 use Rattle.mbe.specs.Units as u
 use Rattle.mbe.specs.Units.{is_separator}
 use Rattle.mbe.specs.declared.place.Taken.TheVariants.{Unit as takes_unit}
-use Rattle.mbe.specs.declared.threads.Frame.{Frame}
 use Rattle.mbe.specs.declared.threads.Frame.TheVariants.{InRound, Parted}
 use Rattle.mbe.specs.declared.threads.Round.{Round}
+use Rattle.mbe.specs.declared.threads.Rung.{Rung}
 use Rattle.mbe.specs.declared.threads.Thread.{Thread}
-
-pub frames-push : (gs fs : List Frame) (f : Frame) → gs ≡ fs ++ (f ∷ []) → frames_of gs ≡ frame_of f ∷ frames_of fs
-frames-push gs fs f e = ap frames_of e ∙ ap (map frame_of) (reverse-append fs (f ∷ []))
 
 pub same-made : (m n : List r.Move) (t b : Bool) (i j : Items) (f h : List r.Frame) (p : u.Place) →
     m ≡ n → i ≡ j → f ≡ h → (let x : Made = (m, t, b, r.at i f p) in x) ≡ (n, t, b, r.at j h p)
@@ -32,10 +28,10 @@ ap2 : {A B C : Type 0} (f : A → B → C) {a b : A} {x y : B} → a ≡ b → x
 ap2 f e h = cc
 
 -- after a round: its separator, and leaving
-pub round-apart : (gr : Grammar) (p : u.Place) (ms : List r.Move) (is : List Op) (frames fs : List Frame) (x : Round) (sep : Bor Separator) (a b : Thread) →
-    is ≡ [] → frames ≡ fs ++ (InRound x ∷ []) → x.separator ≡ Some sep → is_separator (separator_of sep.now) (u.unit_at p) ≡ true →
-    a.items.now ≡ x.after.now → a.frames.items ≡ fs → t.moves_of a.moves ≡ ms ++ (r.leave ∷ []) →
-    b.items.now ≡ is → b.frames.items ≡ fs ++ (Parted x ∷ []) → t.moves_of b.moves ≡ ms ++ (r.separator_move ∷ []) →
+pub round-apart : (gr : Grammar) (p : u.Place) (ms : List r.Move) (is : List Op) (frames fs : Option (Bor Rung)) (x : Round) (sep : Bor Separator) (a b : Thread) →
+    is ≡ [] → t.frames_in frames ≡ InRound x ∷ t.frames_in fs → x.separator ≡ Some sep → is_separator (separator_of sep.now) (u.unit_at p) ≡ true →
+    a.items.now ≡ x.after.now → t.frames_in a.frames ≡ t.frames_in fs → t.moves_of a.moves ≡ ms ++ (r.leave ∷ []) →
+    b.items.now ≡ is → t.frames_in b.frames ≡ Parted x ∷ t.frames_in fs → t.moves_of b.moves ≡ ms ++ (r.separator_move ∷ []) →
     made_of p (record { thread = b; taken = Some takes_unit }) ∷ made_of p (record { thread = a; taken = None }) ∷ []
     ≡ map (extended ms) (r.next gr (r.at (items_of is) (frames_of frames) p))
 round-apart gr p ms is frames fs x sep a b over f some here ai af am bi bf bm =
@@ -45,18 +41,18 @@ round-apart gr p ms is frames fs x sep a b over f some here ai af am bi bf bm =
     let first : r.Choice = (r.separator_move, r.at done (r.parted body (Some (separator_of sep.now)) x.kind after ∷ frames_of fs) (u.after_unit p)) in
     ap2 (λ x y. x ∷ y ∷ [])
     (same-made _ (ms ++ (r.separator_move ∷ [])) true false _ done _ (r.parted body (Some (separator_of sep.now)) x.kind after ∷ frames_of fs) (u.after_unit p)
-    bm (ap items_of (bi ∙ over)) (frames-push _ fs _ bf ∙ ap (λ s. r.parted body (t.between_of s) x.kind after ∷ frames_of fs) some))
-    (same-made _ (ms ++ (r.leave ∷ [])) false false _ after _ (frames_of fs) p am (ap items_of ai) (ap frames_of af))
+    bm (ap items_of (bi ∙ over)) (ap (map frame_of) bf ∙ ap (λ s. r.parted body (t.between_of s) x.kind after ∷ frames_of fs) some))
+    (same-made _ (ms ++ (r.leave ∷ [])) false false _ after _ (frames_of fs) p am (ap items_of ai) (ap (map frame_of) af))
     ∙ ap (λ b. map (extended ms) (when b first ++ (last ∷ []))) (sym here)
     ∙ ap (λ s. map (extended ms) (r.next gr (r.at done (r.in_round body (t.between_of s) x.kind after ∷ frames_of fs) p))) (sym some)
-    ∙ ap (λ x. map (extended ms) (r.next gr (r.at done x p))) (sym (frames-push frames fs _ f))
+    ∙ ap (λ x. map (extended ms) (r.next gr (r.at done x p))) (sym (ap (map frame_of) f))
     ∙ ap (λ x. map (extended ms) (r.next gr (r.at (items_of x) (frames_of frames) p))) (sym over)
 
 -- after a round without separator: the next round, and leaving
-pub round-again : (gr : Grammar) (p : u.Place) (ms : List r.Move) (is : List Op) (frames fs : List Frame) (x : Round) (a b : Thread) →
-    is ≡ [] → frames ≡ fs ++ (InRound x ∷ []) → x.separator ≡ None → r.may_repeat x.kind ≡ true →
-    a.items.now ≡ x.after.now → a.frames.items ≡ fs → t.moves_of a.moves ≡ ms ++ (r.leave ∷ []) →
-    b.items.now ≡ x.body.now → b.frames.items ≡ fs ++ (InRound x ∷ []) → t.moves_of b.moves ≡ ms ++ (r.next_round ∷ []) →
+pub round-again : (gr : Grammar) (p : u.Place) (ms : List r.Move) (is : List Op) (frames fs : Option (Bor Rung)) (x : Round) (a b : Thread) →
+    is ≡ [] → t.frames_in frames ≡ InRound x ∷ t.frames_in fs → x.separator ≡ None → r.may_repeat x.kind ≡ true →
+    a.items.now ≡ x.after.now → t.frames_in a.frames ≡ t.frames_in fs → t.moves_of a.moves ≡ ms ++ (r.leave ∷ []) →
+    b.items.now ≡ x.body.now → t.frames_in b.frames ≡ InRound x ∷ t.frames_in fs → t.moves_of b.moves ≡ ms ++ (r.next_round ∷ []) →
     made_of p (record { thread = b; taken = None }) ∷ made_of p (record { thread = a; taken = None }) ∷ []
     ≡ map (extended ms) (r.next gr (r.at (items_of is) (frames_of frames) p))
 round-again gr p ms is frames fs x a b over f none here ai af am bi bf bm =
@@ -66,11 +62,11 @@ round-again gr p ms is frames fs x a b over f none here ai af am bi bf bm =
     let first : r.Choice = (r.next_round, r.at body (r.in_round body None x.kind after ∷ frames_of fs) p) in
     ap2 (λ x y. x ∷ y ∷ [])
     (same-made _ (ms ++ (r.next_round ∷ [])) false false _ body _ (r.in_round body None x.kind after ∷ frames_of fs) p
-    bm (ap items_of bi) (frames-push _ fs _ bf ∙ ap (λ s. r.in_round body (t.between_of s) x.kind after ∷ frames_of fs) none))
-    (same-made _ (ms ++ (r.leave ∷ [])) false false _ after _ (frames_of fs) p am (ap items_of ai) (ap frames_of af))
+    bm (ap items_of bi) (ap (map frame_of) bf ∙ ap (λ s. r.in_round body (t.between_of s) x.kind after ∷ frames_of fs) none))
+    (same-made _ (ms ++ (r.leave ∷ [])) false false _ after _ (frames_of fs) p am (ap items_of ai) (ap (map frame_of) af))
     ∙ ap (λ b. map (extended ms) (when b first ++ (last ∷ []))) (sym here)
     ∙ ap (λ s. map (extended ms) (r.next gr (r.at done (r.in_round body (t.between_of s) x.kind after ∷ frames_of fs) p))) (sym none)
-    ∙ ap (λ x. map (extended ms) (r.next gr (r.at done x p))) (sym (frames-push frames fs _ f))
+    ∙ ap (λ x. map (extended ms) (r.next gr (r.at done x p))) (sym (ap (map frame_of) f))
     ∙ ap (λ x. map (extended ms) (r.next gr (r.at (items_of x) (frames_of frames) p))) (sym over)
 
 pub repeats : (k : RepeatKind) → (k ≡ ZeroOrOne → ⊥) → r.may_repeat k ≡ true

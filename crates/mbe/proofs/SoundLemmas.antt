@@ -1,5 +1,5 @@
 -- The loop's lemmas at the states of a pattern: they are good, and they are in the pattern.
-use Rattle.std.proofs.Common.{◌≡◌, refl, ap, ℕ, suc, ◌<◌, Bool, true, false, List, [], map, arith}
+use Rattle.std.proofs.Common.{◌≡◌, refl, ap, ℕ, suc, ◌<◌, true, false, List, [], arith}
 use Rattle.std.specs.List.{flat_map}
 use Rattle.tt_data.specs.Forest.{Forest}
 use Rattle.mbe_rules.specs.Items.{Items, has_empty_round}
@@ -8,15 +8,15 @@ use Rattle.mbe.specs.Grammar.{Grammar}
 use Rattle.mbe.specs.Paths.{IsAmong, only, clash}
 use Rattle.mbe.specs.Positions.{IsIn}
 use Rattle.mbe.specs.Readings.{State, Move, Choice, start, place_of, next, has_used_up, takes, is_fragment, room}
-use Rattle.mbe.specs.Thinned.{thin}
+use Rattle.mbe.specs.Settled.{IsKept}
 use Rattle.mbe.specs.Units.{Place, left, after_unit}
 use Rattle.mbe.specs.Waiting.{Waiting, finished, settled_at, Good, empties_at, Each, heads, advanced_by, IsFrom, IsTo}
 use Rattle.mbe.proofs.FallingLemmas.{bound}
+use Rattle.mbe.proofs.KeptLemmas.{kept-same}
 use Rattle.mbe.proofs.LoopLemmas as loop
 use Rattle.mbe.proofs.MatchingLemmas.{outcome_at, good-start}
 use Rattle.mbe.proofs.MoveLemmas.{does, falls}
 use Rattle.mbe.proofs.PositionLemmas.{stays-in, start-in}
-use Rattle.mbe.proofs.ThinLemmas.{Alike, thin-leads}
 
 module _ (g : Grammar) (pattern : Items) where
   abbrev pub Sound : State → Type 0
@@ -91,10 +91,7 @@ module _ (g : Grammar) (pattern : Items) where
   pub sound-start : (argument : Forest) → has_empty_round pattern ≡ false → Sound (start pattern argument)
   sound-start argument e = (good-start pattern argument e, start-in pattern argument)
 
-  -- what is left out changes nothing of the outcome
-  pub thin-at : {A : Type 0} (f : A → Waiting Move State) (same : A → A → Bool) (Q : A → Type 0) →
-      ((v w : A) → Q v → Q w → same w v ≡ true → Alike (f v) (f w)) → (ws : List A) → Each Q ws →
-      outcome_at g (room pattern) (map f (thin same [] ws)) ≡ outcome_at g (room pattern) (map f ws)
-  thin-at f same Q agree ws h =
-      thin-leads (next g) has_used_up takes is_fragment (λ s. left (place_of s)) measure (λ s. suc (empties_at s))
-      f same Q agree [] ws tt h
+  -- what is kept leads to the same
+  pub kept-at : (all kept : List (Waiting Move State)) → IsKept [] all kept → outcome_at g (room pattern) all ≡ outcome_at g (room pattern) kept
+  kept-at all kept k =
+      kept-same (next g) has_used_up takes is_fragment (λ s. left (place_of s)) measure (λ s. suc (empties_at s)) all kept k

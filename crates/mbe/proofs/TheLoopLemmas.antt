@@ -1,5 +1,5 @@
 -- A turn of the main loop, over the program's threads
-use Rattle.std.proofs.Common.{◌≡◌, refl, sym, ap, subst, ◌∙◌, ℕ, ◌<◌, Bool, true, false, List, [], ◌∷◌, map, Some, None, length, get_or, arith}
+use Rattle.std.proofs.Common.{◌≡◌, refl, sym, ap, subst, ◌∙◌, ℕ, ◌<◌, Bool, true, false, List, [], ◌∷◌, ◌++◌, map, Some, None, length, get_or, arith}
 use Rattle.std.specs.List.{flat_map}
 use Rattle.tt_data.specs.Forest.{Forest}
 use Rattle.mbe_rules.specs.Items.{Items, has_empty_round}
@@ -9,15 +9,19 @@ use Rattle.mbe.specs.Paths.{only, clash}
 use Rattle.mbe.specs.Places as q
 use Rattle.mbe.specs.Readings as r
 use Rattle.mbe.specs.Threads as t
-use Rattle.mbe.specs.Thinned.{thin}
+use Rattle.mbe.specs.Settled.{Leads, IsKept, IsSound, IsSoundAt}
 use Rattle.mbe.specs.Units as u
-use Rattle.mbe.specs.Waiting.{ended, pending, prefixed, finished, settled_at, Each, heads, advanced_by, unless}
+use Rattle.mbe.specs.Waiting.{ended, pending, prefixed, finished, settled_at, Each, heads, advanced_by, unless, IsFrom}
 use Rattle.mbe.specs.declared.place.Taken.{Taken}
+use Rattle.mbe.specs.declared.matcher.Seen.{Seen}
+use Rattle.mbe.specs.declared.matcher.Task.TheVariants.{GoOn}
 use Rattle.mbe.specs.declared.matcher.Waiting as d
 use Rattle.mbe.specs.declared.matcher.Waiting.TheVariants.{Ended, Pending}
+use Rattle.mbe.specs.declared.threads.Thread.{Thread}
 use Rattle.mbe.proofs.MatchingLemmas.{outcome_at, outcome_later, begun-at}
-use Rattle.mbe.proofs.SoundLemmas.{AllFrom, AllTo, advance-at, from-advanced-at, one_place-at, from-settled-at, over-at, sound-start}
-use Rattle.mbe.proofs.LikeLemmas.{thin-from, thin-same}
+use Rattle.mbe.proofs.SoundLemmas.{Sound, AllFrom, AllTo, kept-at, advance-at, from-advanced-at, one_place-at, from-settled-at, over-at, sound-start}
+use Rattle.mbe.proofs.DueLemmas.{as_choice, more-due, none-yet}
+use Rattle.mbe.proofs.KeptLemmas.{kept-each}
 
 abbrev pub P : Type 0
 P = u.Place
@@ -56,10 +60,10 @@ head-place gr pattern b p s (Pending h j ∷ ws) k a e =
     let i : j ≡ k = cc in
     (ap (λ x. q.place_after p (Some x)) (sym i) ∙ a.0.2, subst (λ x. u.left x < b) a.0.2 a.0.1)
 
-good-waits : (gr : Grammar) → (pattern : Items) (b : ℕ) (s : P) (us : List t.Waits) → AllTo gr pattern b s us → Each t.IsGoodAt us
+good-waits : (gr : Grammar) → (pattern : Items) (b : ℕ) (s : P) (us : List t.Waits) → AllTo gr pattern b s us → Each (IsSoundAt pattern) us
 good-waits gr pattern b s [] a = tt
 good-waits gr pattern b s (ended ms ∷ us) a = (tt, good-waits gr pattern b s us a.1)
-good-waits gr pattern b s (pending ms m x ∷ us) a = ((r.room pattern, a.0.0.0), good-waits gr pattern b s us a.1)
+good-waits gr pattern b s (pending ms m x ∷ us) a = (a.0.0, good-waits gr pattern b s us a.1)
 
 pub start-held : (gr : Grammar) → (pattern : Items) (argument : Forest) (p : P) → has_empty_round pattern ≡ false → p ≡ u.place argument [] →
     (ws : List t.Waits) → ws ≡ map (prefixed []) (settled_at gr (r.at pattern [] p)) → Held gr pattern argument p ws
@@ -72,7 +76,7 @@ start-held gr pattern argument p e i ws h =
 
 -- what a turn gr without a clash does
 pub record Turn (gr : Grammar) (pattern : Items) (argument : Forest) (p s : P) (ws : List d.Waiting) : Type 0 where
-  pub good : Each t.IsGoodAt (t.waits_at s ws)
+  pub good : Each (IsSoundAt pattern) (t.waits_at s ws)
   pub lower : u.left s < u.left p
   pub held : (us : List t.Waits) → us ≡ flat_map (advanced_by (settled_at gr)) (t.waits_at s ws) → Held gr pattern argument s us
 
@@ -88,7 +92,7 @@ turn gr pattern argument p ws k h c e s i =
     let a : AllTo gr pattern (u.left p) s (t.waits p ws) = subst (λ x. AllTo gr pattern (u.left p) x (t.waits p ws)) g o.1 in
     let w = same-waits gr pattern (u.left p) p s ws a in
     record {
-      good = subst (Each t.IsGoodAt) w (good-waits gr pattern (u.left p) s (t.waits p ws) a);
+      good = subst (Each (IsSoundAt pattern)) w (good-waits gr pattern (u.left p) s (t.waits p ws) a);
       lower = subst (λ x. u.left x < u.left p) g f.1;
       held = λ us eq. record {
         same = ap (outcome_at gr N) (eq ∙ ap (flat_map (advanced_by (settled_at gr))) (sym w))
@@ -136,11 +140,26 @@ pub not-pending : (ws : List d.Waiting) (w : d.Waiting) (h : _) (k : Taken) → 
 not-pending [] w h k e f i n = absurd (omega (arith, e))
 not-pending (x ∷ ws) w h k e f i n = let j : t.head_taken (Pending h k ∷ ws) ≡ None = subst (λ v. t.head_taken (v ∷ ws) ≡ None) (sym f ∙ i) n in cc
 
--- the threads that are kept lead to the same
-pub thin-held : (gr : Grammar) → (pattern : Items) (argument : Forest) (p : P) (ws us : List d.Waiting) →
-    Held gr pattern argument p (t.waits p ws) → us ≡ thin t.is_like [] ws → Held gr pattern argument p (t.waits p us)
-thin-held gr pattern argument p ws us h e =
-    subst (λ x. Held gr pattern argument p (t.waits p x)) (sym e) (record {
-      same = thin-same gr pattern p ws h.here ∙ h.same;
-      here = thin-from gr pattern p ws h.here;
-    })
+-- the threads that settling finds lead to what all lead to
+pub leads-held : (gr : Grammar) → (pattern : Items) (argument : Forest) (p : P) (all : List t.Waits) (ws : List d.Waiting) (seen : List Seen) →
+    Leads gr pattern p all ws seen [] → Held gr pattern argument p all → Held gr pattern argument p (t.waits p ws)
+leads-held gr pattern argument p all ws seen (found, kept, covered, due) h =
+    let k = subst (λ x. IsKept [] x (t.waits p ws)) due kept in
+    record {
+      same = sym (kept-at gr pattern all (t.waits p ws) k) ∙ h.same;
+      here = kept-each (IsFrom (Sound gr pattern) (λ s. u.left (r.place_of s)) r.place_of u.left u.after_unit p) [] all (t.waits p ws) k h.here;
+    }
+
+-- the first thread is settled
+pub first-held : (gr : Grammar) → (pattern : Items) (argument : Forest) (p : P) (h : Thread) → has_empty_round pattern ≡ false → p ≡ u.place argument [] →
+    t.state_of h p ≡ r.at pattern [] p → t.moves_of h.moves ≡ [] → (ws us : List d.Waiting) (seen xs : List Seen) → us ≡ [] → xs ≡ [] →
+    ((all : List t.Waits) → Leads gr pattern p all us xs (GoOn (as_choice h) ∷ []) → Leads gr pattern p all ws seen []) →
+    Held gr pattern argument p (t.waits p ws)
+first-held gr pattern argument p h e i s m ws us seen xs a b f =
+    let all = [] ++ map (prefixed (t.moves_of h.moves)) (settled_at gr (t.state_of h p)) in
+    let sound : IsSound pattern (t.state_of h p) =
+    subst (IsSound pattern) (sym s) (subst (λ x. IsSound pattern (r.at pattern [] x)) (sym i) (sound-start gr pattern argument e)) in
+    let l = more-due gr pattern p [] [] [] h sound (none-yet gr pattern p) in
+    leads-held gr pattern argument p all ws seen
+    (f all (subst (λ x. Leads gr pattern p all us x (GoOn (as_choice h) ∷ [])) (sym b) (subst (λ x. Leads gr pattern p all x [] (GoOn (as_choice h) ∷ [])) (sym a) l)))
+    (start-held gr pattern argument p e i all (ap (λ x. map (prefixed x) (settled_at gr (t.state_of h p))) m ∙ ap (λ x. map (prefixed []) (settled_at gr x)) s))

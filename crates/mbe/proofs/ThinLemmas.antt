@@ -1,14 +1,12 @@
 -- Where two paths wait in a state, a third in that state changes nothing of what the paths lead to.
-use Rattle.std.proofs.Common.{◌≡◌, refl, sym, ap, subst, ◌∙◌, ℕ, ◌&&◌, ◌||◌, ◌==◌, Bool, true, false, List, [], ◌∷◌, ◌++◌, map, append_assoc, append-nil, Option, None, if◌then◌else◌}
+use Rattle.std.proofs.Common.{◌≡◌, refl, sym, ap, ◌∙◌, ℕ, ◌&&◌, ◌||◌, ◌==◌, Bool, true, false, List, [], ◌∷◌, ◌++◌, map, Option, None}
 use Rattle.std.specs.List.{flat_map, list_any}
-use Rattle.std.proofs.lemmas.List.{map-append}
 use Rattle.std.proofs.lemmas.List.Folds.{list_any-append}
 use Rattle.std.proofs.lemmas.Grind.{flat_map-append}
 use Rattle.std.proofs.Math.Bool.{and-true}
 use Rattle.mbe_rules.specs.Text.{is_nil}
 use Rattle.mbe.specs.Paths.{when, only, Takings, takings_at, clash, has_clash}
-use Rattle.mbe.specs.Thinned.{once, twice, thin}
-use Rattle.mbe.specs.Waiting.{Waiting, pending, unless, Each, heads}
+use Rattle.mbe.specs.Waiting.{Waiting, ended, pending, unless, heads}
 use Rattle.mbe.proofs.ClashLemmas.{same_bool, clash-from, clash-to}
 use Rattle.mbe.proofs.LoopLemmas as loop
 
@@ -135,7 +133,7 @@ map-nil f [] = refl
 map-nil f (x ∷ xs) = refl
 
 module _ {M S : Type 0} (step : S → List (M × S)) (ends : S → Bool) (takes is_fragment : M → Bool) (left : S → ℕ) (bound empties : S → ℕ) where
-  abbrev lead_to : List (Waiting M S) → Option (List M)
+  abbrev pub lead_to : List (Waiting M S) → Option (List M)
   lead_to ws = loop.outcome step ends takes is_fragment left bound empties ws
 
   abbrev answers : Waiting M S → List (List M)
@@ -149,7 +147,7 @@ module _ {M S : Type 0} (step : S → List (M × S)) (ends : S → Bool) (takes 
       let r = loop.readings_of step ends takes is_fragment left bound empties t in
       map-nil (λ ks. ns ++ ks) r ∙ sym (map-nil (λ ks. ms ++ ks) r) ∙ e
 
-  third : (xs ys zs vs : List (Waiting M S)) (ms ns ks : List M) (b : Bool) (t : S) →
+  pub third : (xs ys zs vs : List (Waiting M S)) (ms ns ks : List M) (b : Bool) (t : S) →
       lead_to ((xs ++ (pending ns b t ∷ (ys ++ (pending ks b t ∷ zs)))) ++ (pending ms b t ∷ vs))
       ≡ lead_to ((xs ++ (pending ns b t ∷ (ys ++ (pending ks b t ∷ zs)))) ++ vs)
   third xs ys zs vs ms ns ks b t =
@@ -173,120 +171,20 @@ module _ {M S : Type 0} (step : S → List (M × S)) (ends : S → Bool) (takes 
       ∙ ap (λ x. unless (clash (flat_map heads (us ++ vs))) (unless x (only (flat_map answers (us ++ (pending ms b t ∷ vs)))))) later_same
       ∙ ap (λ x. unless (clash (flat_map heads (us ++ vs))) (unless (has_clash (flat_map later (us ++ vs))) x)) answers_same
 
--- ---- what is left out is like two that are kept
-
-pub record Once {A : Type 0} (p : A → Bool) (xs : List A) : Type 0 where
-  pub before : List A
-  pub found : A
-  pub after : List A
-  pub all : xs ≡ before ++ (found ∷ after)
-  pub holds : p found ≡ true
-
-pub record Twice {A : Type 0} (p : A → Bool) (xs : List A) : Type 0 where
-  pub before : List A
-  pub first : A
-  pub between : List A
-  pub second : A
-  pub after : List A
-  pub all : xs ≡ before ++ (first ∷ (between ++ (second ∷ after)))
-  pub first_holds : p first ≡ true
-  pub second_holds : p second ≡ true
-
-pub is-once : {A : Type 0} (p : A → Bool) (xs : List A) → once p xs ≡ true → Once p xs
-is-once p [] e = absurd (cc e)
-is-once p (x ∷ xs) e = go (p x) refl e (is-once p xs)
-  where
-    go : (b : Bool) → p x ≡ b → (b || once p xs) ≡ true → (once p xs ≡ true → Once p xs) → Once p (x ∷ xs)
-    go true h k i = record { before = []; found = x; after = xs; all = refl; holds = h }
-    go false h k i = let o = i k in record { before = x ∷ o.before; found = o.found; after = o.after; all = ap (λ r. x ∷ r) o.all; holds = o.holds }
-
-pub is-twice : {A : Type 0} (p : A → Bool) (xs : List A) → twice p xs ≡ true → Twice p xs
-is-twice p [] e = absurd (cc e)
-is-twice p (x ∷ xs) e = go (p x) refl e (is-twice p xs)
-  where
-    go : (b : Bool) → p x ≡ b → (if b then once p xs else twice p xs) ≡ true → (twice p xs ≡ true → Twice p xs) → Twice p (x ∷ xs)
-    go true h k i =
-        let o = is-once p xs k in
-        record { before = []; first = x; between = o.before; second = o.found; after = o.after; all = ap (λ r. x ∷ r) o.all; first_holds = h; second_holds = o.holds }
-    go false h k i =
-        let o = i k in
-        record {
-          before = x ∷ o.before;
-          first = o.first;
-          between = o.between;
-          second = o.second;
-          after = o.after;
-          all = ap (λ r. x ∷ r) o.all;
-          first_holds = o.first_holds;
-          second_holds = o.second_holds;
-        }
-
--- two paths that wait in one state
-pub record Alike {M S : Type 0} (v w : Waiting M S) : Type 0 where
-  pub first_moves : List M
-  pub second_moves : List M
-  pub takes_fragment : Bool
-  pub state : S
-  pub first : v ≡ pending first_moves takes_fragment state
-  pub second : w ≡ pending second_moves takes_fragment state
-
-each-part : {A : Type 0} (Q : A → Type 0) (xs : List A) (v : A) (ys : List A) → Each Q (xs ++ (v ∷ ys)) → Q v × Each Q ys
-each-part Q [] v ys h = (h.0, h.1)
-each-part Q (x ∷ xs) v ys h = each-part Q xs v ys h.1
-
-each-one-more : {A : Type 0} (Q : A → Type 0) (xs : List A) (w : A) → Each Q xs → Q w → Each Q (xs ++ (w ∷ []))
-each-one-more Q [] w h q = (q, tt)
-each-one-more Q (x ∷ xs) w h q = (h.0, each-one-more Q xs w h.1 q)
-
--- what holds of all holds of those that are kept
-pub thin-each : {A : Type 0} (Q : A → Type 0) (same : A → A → Bool) (kept ws : List A) → Each Q kept → Each Q ws → Each Q (thin same kept ws)
-thin-each Q same kept [] h k = h
-thin-each Q same kept (w ∷ ws) h k =
-    go (twice (same w) kept) (thin-each Q same kept ws h k.1) (thin-each Q same (kept ++ (w ∷ [])) ws (each-one-more Q kept w h k.0) k.1)
-  where
-    go : (b : Bool) → Each Q (thin same kept ws) → Each Q (thin same (kept ++ (w ∷ [])) ws) →
-        Each Q (elim b [ true ↦ thin same kept ws | false ↦ thin same (kept ++ (w ∷ [])) ws ])
-    go true x y = x
-    go false x y = y
-
-module _ {M S A : Type 0} (step : S → List (M × S)) (ends : S → Bool) (takes is_fragment : M → Bool) (left : S → ℕ) (bound empties : S → ℕ)
-    (f : A → Waiting M S) (same : A → A → Bool) (Q : A → Type 0)
-    (agree : (v w : A) → Q v → Q w → same w v ≡ true → Alike (f v) (f w)) where
-  abbrev leads : List A → Option (List M)
-  leads ws = loop.outcome step ends takes is_fragment left bound empties (map f ws)
-
-  left-out : (kept ws : List A) (w : A) → Each Q kept → Q w → Twice (same w) kept → leads (kept ++ ws) ≡ leads (kept ++ (w ∷ ws))
-  left-out kept ws w h q t =
-      let all : Each Q (t.before ++ (t.first ∷ (t.between ++ (t.second ∷ t.after)))) = subst (Each Q) t.all h in
-      let p = each-part Q t.before t.first _ all in
-      let r = each-part Q t.between t.second t.after p.1 in
-      let a = agree t.first w p.0 q t.first_holds in
-      let b = agree t.second w r.0 q t.second_holds in
-      let e : pending b.second_moves b.takes_fragment b.state ≡ pending a.second_moves a.takes_fragment a.state = sym b.second ∙ a.second in
-      let second : f t.second ≡ pending b.first_moves a.takes_fragment a.state = (let s = b.first in cc) in
-      let k : (zs : List A) → map f (kept ++ zs)
-      ≡ (map f t.before ++ (pending a.first_moves a.takes_fragment a.state ∷ (map f t.between ++ (pending b.first_moves a.takes_fragment a.state ∷ map f t.after)))) ++ map f zs
-      = λ zs. ap (λ ks. map f (ks ++ zs)) t.all ∙ parts zs t.before t.between t.after t.first t.second _ _ a.first second in
-      let step_out : (zs : List (Waiting M S)) → List (Waiting M S) = λ zs.
-      (map f t.before ++ (pending a.first_moves a.takes_fragment a.state ∷ (map f t.between ++ (pending b.first_moves a.takes_fragment a.state ∷ map f t.after)))) ++ zs in
-      ap (loop.outcome step ends takes is_fragment left bound empties) (k ws)
-      ∙ sym (third step ends takes is_fragment left bound empties (map f t.before) (map f t.between) (map f t.after) (map f ws) a.second_moves a.first_moves b.first_moves a.takes_fragment a.state)
-      ∙ ap (λ v. loop.outcome step ends takes is_fragment left bound empties (step_out (v ∷ map f ws))) (sym a.second)
-      ∙ ap (loop.outcome step ends takes is_fragment left bound empties) (sym (k (w ∷ ws)))
-    where
-      parts : (zs xs ys us : List A) (v w : A) (x y : Waiting M S) → f v ≡ x → f w ≡ y →
-          map f ((xs ++ (v ∷ (ys ++ (w ∷ us)))) ++ zs) ≡ (map f xs ++ (x ∷ (map f ys ++ (y ∷ map f us)))) ++ map f zs
-      parts zs xs ys us v w x y e g =
-          rw (map-append f (xs ++ (v ∷ (ys ++ (w ∷ us)))) zs, map-append f xs (v ∷ (ys ++ (w ∷ us))), map-append f ys (w ∷ us), e, g) refl
-
-  -- what all lead to is what those lead to that are kept
-  pub thin-leads : (kept ws : List A) → Each Q kept → Each Q ws → leads (thin same kept ws) ≡ leads (kept ++ ws)
-  thin-leads kept [] h k = ap leads (sym (append-nil kept))
-  thin-leads kept (w ∷ ws) h k =
-      go (twice (same w) kept) refl (thin-leads kept ws h k.1) (thin-leads (kept ++ (w ∷ [])) ws (each-one-more Q kept w h k.0) k.1)
-    where
-      go : (b : Bool) → twice (same w) kept ≡ b → leads (thin same kept ws) ≡ leads (kept ++ ws) →
-          leads (thin same (kept ++ (w ∷ [])) ws) ≡ leads ((kept ++ (w ∷ [])) ++ ws) →
-          leads (elim b [ true ↦ thin same kept ws | false ↦ thin same (kept ++ (w ∷ [])) ws ]) ≡ leads (kept ++ (w ∷ ws))
-      go true e x y = x ∙ left-out kept ws w h k.0 (is-twice (same w) kept e)
-      go false e x y = y ∙ ap leads (append_assoc kept (w ∷ []) ws)
+  -- a third path that has ended
+  pub third-ended : (xs ys zs vs : List (Waiting M S)) (ms ns ks : List M) →
+      lead_to ((xs ++ (ended ns ∷ (ys ++ (ended ks ∷ zs)))) ++ (ended ms ∷ vs)) ≡ lead_to ((xs ++ (ended ns ∷ (ys ++ (ended ks ∷ zs)))) ++ vs)
+  third-ended xs ys zs vs ms ns ks =
+      let us = xs ++ (ended ns ∷ (ys ++ (ended ks ∷ zs))) in
+      let heads_same : flat_map heads (us ++ (ended ms ∷ vs)) ≡ flat_map heads (us ++ vs) =
+      flat_map-append heads us (ended ms ∷ vs) ∙ sym (flat_map-append heads us vs) in
+      let later_same : flat_map later (us ++ (ended ms ∷ vs)) ≡ flat_map later (us ++ vs) =
+      flat_map-append later us (ended ms ∷ vs) ∙ sym (flat_map-append later us vs) in
+      let answers_same : only (flat_map answers (us ++ (ended ms ∷ vs))) ≡ only (flat_map answers (us ++ vs)) =
+      ap only (flat-parts answers xs ys zs (ended ms ∷ vs) (ended ns) (ended ks))
+      ∙ drop-only (ms ∷ []) (flat_map answers xs ++ ((ns ∷ []) ++ (flat_map answers ys ++ ((ks ∷ []) ++ flat_map answers zs)))) (flat_map answers vs)
+      (λ e. two-of (flat_map answers xs) (ns ∷ []) (flat_map answers ys) (ks ∷ []) (flat_map answers zs) refl refl)
+      ∙ ap only (sym (flat-parts answers xs ys zs vs (ended ns) (ended ks))) in
+      ap (λ x. unless (clash x) (unless (has_clash (flat_map later (us ++ (ended ms ∷ vs)))) (only (flat_map answers (us ++ (ended ms ∷ vs)))))) heads_same
+      ∙ ap (λ x. unless (clash (flat_map heads (us ++ vs))) (unless (has_clash x) (only (flat_map answers (us ++ (ended ms ∷ vs)))))) later_same
+      ∙ ap (λ x. unless (clash (flat_map heads (us ++ vs))) (unless (has_clash (flat_map later (us ++ vs))) x)) answers_same

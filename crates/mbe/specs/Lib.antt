@@ -18,9 +18,9 @@ pub mod Bursts
 -- what the functions inside the crate promise each other
 pub mod Waiting
 pub mod Positions
-pub mod Thinned
 pub mod Places
 pub mod Threads
+pub mod Settled
 pub mod Bound
 pub mod Collecting
 pub mod Room

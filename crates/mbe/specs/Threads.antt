@@ -1,5 +1,5 @@
 -- What the matcher's threads stand for
-use Rattle.std.specs.Prelude.{◌≡◌, ◌==◌, ◌&&◌, length, ℕ, ◌+◌, ◌*◌, if◌then◌else◌, Bool, true, false, List, [], ◌∷◌, ◌++◌, map, reverse, Option, Some, None}
+use Rattle.std.specs.Prelude.{◌==◌, ◌&&◌, length, Bool, true, false, List, [], ◌∷◌, ◌++◌, map, Option, Some, None}
 use Rattle.tt.specs.Views.{forest}
 use Rattle.std.specs.Borrow.{Bor}
 use Rattle.mbe_rules.specs.Items as i
@@ -12,13 +12,14 @@ use Rattle.mbe.specs.Readings as r
 use Rattle.mbe.specs.Units as u
 use Rattle.mbe.specs.Waiting as w
 use Rattle.mbe.specs.declared.place.Taken.{Taken}
-use Rattle.mbe.specs.declared.place.Taken.TheVariants.{Unit as takes_unit, Fragment as takes_trees}
+use Rattle.mbe.specs.declared.place.Taken.TheVariants.{Fragment as takes_trees}
 use Rattle.mbe.specs.declared.threads.Entry.{Entry, Entry', Held-Entry-before, None', Some'}
 use Rattle.mbe.specs.declared.threads.Frame.{Frame}
 use Rattle.mbe.specs.declared.threads.Frame.TheVariants.{InGroup, InRound, Parted}
 use Rattle.mbe.specs.declared.threads.Move.{Move}
 use Rattle.mbe.specs.declared.threads.Move.TheVariants.{Unit as unit, Fragment, Nothing, Enter, Skip, Leave, Separator as separator, NextRound}
 use Rattle.mbe.specs.declared.threads.Round.{Round}
+use Rattle.mbe.specs.declared.threads.Rung.{Rung, Rung', Held-Rung-around, None' as Outermost', Some' as Around'}
 use Rattle.mbe.specs.declared.threads.Thread.{Thread}
 use Rattle.mbe.specs.declared.choices.Choice.{Choice}
 use Rattle.mbe.specs.declared.matcher.Waiting.{Waiting}
@@ -50,9 +51,23 @@ move_of Leave = r.leave
 move_of separator = r.separator_move
 move_of NextRound = r.next_round
 
--- the last of a vector of frames is the innermost
-abbrev pub frames_of : List Frame → List r.Frame
-frames_of fs = map frame_of (reverse fs)
+-- a frame and those around it, the innermost first
+abbrev mutual
+  pub frames_to : Rung → List Frame
+  frames_to (Rung' f around) = f ∷ frames_around around
+
+  pub frames_around : Held-Rung-around → List Frame
+  frames_around Outermost' = []
+  frames_around (Around' p r) = frames_to r
+
+-- the frames of a thread
+abbrev pub frames_in : Option (Bor Rung) → List Frame
+frames_in None = []
+frames_in (Some r) = frames_to r.now
+
+-- what they go on with
+abbrev pub frames_of : Option (Bor Rung) → List r.Frame
+frames_of fs = map frame_of (frames_in fs)
 
 -- the moves up to an entry of the log
 abbrev mutual
@@ -70,7 +85,7 @@ moves_of (Some e) = moves_to e.now
 
 -- the state that a thread is in at a place
 abbrev pub state_of : Thread → u.Place → r.State
-state_of t p = r.at (items_of t.items.now) (frames_of t.frames.items) p
+state_of t p = r.at (items_of t.items.now) (frames_of t.frames) p
 
 -- the moves up to and with the last one, whether it takes something, whether that is a fragment, and the state after it
 abbrev pub Made : Type 0
@@ -116,20 +131,6 @@ waiting_of p (Pending t k) = w.pending (moves_of t.moves) (is_trees (Some k)) (s
 abbrev pub waits : u.Place → List Waiting → List Waits
 waits p xs = map (waiting_of p) xs
 
--- a state of a pattern in which no repetition goes round without end
-abbrev pub IsGood : r.State → Type 0
-IsGood s = (N : ℕ) × w.Good N s
-
--- a choice whose move takes nothing leads to a good state
-abbrev pub IsVisited : u.Place → Option Choice → Type 0
-IsVisited p None = Unit {0}
-IsVisited p (Some c) = is_some_taken c.taken ≡ false → IsGood (state_of c.thread p)
-
--- bounds what a choice leaves to do
-abbrev pub measure_of : u.Place → Option Choice → ℕ
-measure_of p None = 0
-measure_of p (Some c) = if is_some_taken c.taken then 0 else 2 * w.empties_at (state_of c.thread p) + 2
-
 -- the same where each move leads to the place p
 abbrev pub waiting_at : u.Place → Waiting → Waits
 waiting_at p (Ended ms) = w.ended (moves_of ms)
@@ -143,11 +144,6 @@ waits_at p xs = map (waiting_at p) xs
 abbrev pub takings_of : Waiting → List Bool
 takings_of (Ended ms) = []
 takings_of (Pending t k) = is_trees (Some k) ∷ []
-
--- the state that a path goes on with is good
-abbrev pub IsGoodAt : Waits → Type 0
-IsGoodAt (w.ended ms) = Unit {0}
-IsGoodAt (w.pending ms b s) = IsGood s
 
 -- what the first waiting path takes
 abbrev pub head_taken : List Waiting → Option Taken
@@ -168,8 +164,6 @@ same_marks [] [] = true
 same_marks (f ∷ fs) (g ∷ gs) = same_mark f g && same_marks fs gs
 same_marks _ _ = false
 
--- two threads that wait after a unit, told by the same numbers: they are in one state
-abbrev pub is_like : Waiting → Waiting → Bool
-is_like (Pending t takes_unit) (Pending u takes_unit) =
-    (length t.items.now == length u.items.now) && same_marks t.frames.items u.frames.items
-is_like _ _ = false
+-- two threads are in one state of a pattern, by the same numbers
+abbrev pub same_state : Thread → Thread → Bool
+same_state t u = (length t.items.now == length u.items.now) && same_marks (frames_in t.frames) (frames_in u.frames)

@@ -1,17 +1,16 @@
 //! The next moves of a partial reading.
-ghost use Rattle.std.specs.Prelude.{◌≡◌, List, [], ◌∷◌, ◌++◌, map, option_map, IfOk};
+ghost use Rattle.std.specs.Prelude.{◌≡◌, [], ◌∷◌, ◌++◌, map, option_map, IfOk};
 ghost use Rattle.mbe_rules.specs.Ops.{items_of, separator_of};
 ghost use Rattle.mbe.specs.Grammar.{Grammar};
 ghost use Rattle.mbe.specs.Paths.{when};
 ghost use Rattle.mbe.specs.Places.{place_of};
 ghost use Rattle.mbe.specs.Readings as r;
 ghost use Rattle.mbe.specs.Units as u;
-ghost use Rattle.mbe.specs.Threads.{state_of, frames_of, moves_of, given, extended, between_of, repetition_of};
-ghost use Rattle.mbe.specs.declared.threads.Frame.{Frame};
+ghost use Rattle.mbe.specs.Threads.{state_of, frames_in, frames_of, moves_of, given, extended, between_of, repetition_of};
 ghost use Rattle.mbe.specs.declared.threads.Frame.TheVariants.{InGroup, InRound, Parted};
 
 use crate::place::{Place, Taken, before, fragment_trees};
-use crate::threads::{Frame, Move, Round, Thread};
+use crate::threads::{Frame, Move, Round, Rung, Thread, inside};
 use bumpalo::Bump;
 use fragment_grammar::FragmentGrammar;
 use mbe_rules::{MetaVarKind, Op, RepeatKind, Separator};
@@ -19,7 +18,7 @@ use std::alloc::AllocError;
 use symbols::Symbol;
 
 // A thread after one more move, and what that move takes.
-#[derive(Drop)]
+#[derive(Clone, Copy, Drop)]
 pub(crate) struct Choice<'a> {
     pub(crate) thread: Thread<'a>,
     pub(crate) taken: Option<Taken>,
@@ -45,12 +44,12 @@ impl<'a> Thread<'a> {
         items: &'a [Op],
     ) -> Result<Choices<'a>, AllocError>
         ensures { (p : u.Place) → IfOk result (λ cs. given p cs.0 ++ given p cs.1
-            ≡ map (extended (moves_of self.now.moves)) (when is_here (r.unit_move, r.at (items_of items.now) (frames_of self.now.frames.items) (u.after_unit p)))) }
+            ≡ map (extended (moves_of self.now.moves)) (when is_here (r.unit_move, r.at (items_of items.now) (frames_of self.now.frames) (u.after_unit p)))) }
     {
         if !is_here {
             return Ok((None, None));
         }
-        let thread = self.moved(arena, items, Move::Unit)?;
+        let thread = self.moved(arena, items, self.frames, Move::Unit)?;
         Ok((
             Some(Choice {
                 thread,
@@ -72,7 +71,7 @@ impl<'a> Thread<'a> {
     ) -> Result<Choices<'a>, AllocError>
         ensures { let p = place_of place.now in
             IfOk result (λ cs. given p cs.0 ++ given p cs.1
-            ≡ map (extended (moves_of self.now.moves)) (r.fragment_moves name.now kind count (items_of items.now) (frames_of self.now.frames.items) p)) }
+            ≡ map (extended (moves_of self.now.moves)) (r.fragment_moves name.now kind count (items_of items.now) (frames_of self.now.frames) p)) }
     {
         match count {
             None => Ok((None, None)),
@@ -80,7 +79,7 @@ impl<'a> Thread<'a> {
                 if kind != MetaVarKind::Vis {
                     return Ok((None, None));
                 }
-                let thread = self.moved(arena, items, Move::Nothing { name })?;
+                let thread = self.moved(arena, items, self.frames, Move::Nothing { name })?;
                 Ok((
                     Some(Choice {
                         thread,
@@ -91,7 +90,8 @@ impl<'a> Thread<'a> {
             }
             Some(count) => {
                 let trees = before(&place.rest, count);
-                let thread = self.moved(arena, items, Move::Fragment { name, kind, trees })?;
+                let made = Move::Fragment { name, kind, trees };
+                let thread = self.moved(arena, items, self.frames, made)?;
                 Ok((
                     Some(Choice {
                         thread,
@@ -107,9 +107,10 @@ impl<'a> Thread<'a> {
     fn repetitions(&self, arena: &'a Bump, round: Round<'a>) -> Result<Choices<'a>, AllocError>
         ensures { (g : Grammar) (p : u.Place) → IfOk result (λ cs. given p cs.0 ++ given p cs.1
             ≡ map (extended (moves_of self.now.moves))
-            (r.next g (r.at (repetition_of round.entry) (frames_of self.now.frames.items) p))) }
+            (r.next g (r.at (repetition_of round.entry) (frames_of self.now.frames) p))) }
     {
-        let thread = self.entered(arena, round.body, Frame::InRound(round), Move::Enter)?;
+        let inner = inside(arena, self.frames, Frame::InRound(round))?;
+        let thread = self.moved(arena, round.body, inner, Move::Enter)?;
         let first = Some(Choice {
             thread,
             taken: None,
@@ -117,7 +118,8 @@ impl<'a> Thread<'a> {
         if round.kind == RepeatKind::OneOrMore {
             return Ok((first, None));
         }
-        let thread = self.moved(arena, round.after, Move::Skip { body: round.body })?;
+        let made = Move::Skip { body: round.body };
+        let thread = self.moved(arena, round.after, self.frames, made)?;
         let second = Some(Choice {
             thread,
             taken: None,
@@ -134,12 +136,13 @@ impl<'a> Thread<'a> {
         after: &'a [Op],
     ) -> Result<Choices<'a>, AllocError>
         ensures { (p : u.Place) → IfOk result (λ cs. given p cs.0 ++ given p cs.1
-            ≡ map (extended (moves_of self.now.moves)) (when is_here (r.unit_move, r.at (items_of inner.now) (r.in_group (items_of after.now) ∷ frames_of self.now.frames.items) (u.after_unit p)))) }
+            ≡ map (extended (moves_of self.now.moves)) (when is_here (r.unit_move, r.at (items_of inner.now) (r.in_group (items_of after.now) ∷ frames_of self.now.frames) (u.after_unit p)))) }
     {
         if !is_here {
             return Ok((None, None));
         }
-        let thread = self.entered(arena, inner, Frame::InGroup { after }, Move::Unit)?;
+        let frames = inside(arena, self.frames, Frame::InGroup { after })?;
+        let thread = self.moved(arena, inner, frames, Move::Unit)?;
         Ok((
             Some(Choice {
                 thread,
@@ -162,10 +165,10 @@ impl<'a> Thread<'a> {
     {
         match self.items.split_first() {
             Some((op, rest)) => self.choices_at(arena, grammar, op, rest, place),
-            None => match self.frames.last() {
+            None => match self.frames {
                 None => Ok((None, None)),
-                Some(&frame) => {
-                    let choices = self.choices_after(arena, frame, place)?;
+                Some(rung) => {
+                    let choices = self.choices_after(arena, rung.frame, rung.around, place)?;
                     Ok(choices)
                 }
             },
@@ -237,25 +240,26 @@ impl<'a> Thread<'a> {
         &self,
         arena: &'a Bump,
         frame: Frame<'a>,
+        around: Option<&'a Rung<'a>>,
         place: &Place<'a>,
     ) -> Result<Choices<'a>, AllocError>
         requires items { self.now.items.now ≡ [] }
-        requires frames { (fs : List Frame) × (self.now.frames.items ≡ fs ++ (frame ∷ [])) }
+        requires frames { frames_in self.now.frames ≡ frame ∷ frames_in around }
         ensures { (g : Grammar) → let p = place_of place.now in
             IfOk result (λ cs. given p cs.0 ++ given p cs.1
             ≡ map (extended (moves_of self.now.moves)) (r.next g (state_of self.now p))) }
     {
         match frame {
             Frame::InGroup { after } => {
-                let choices = self.after_group(arena, after, place)?;
+                let choices = self.after_group(arena, after, around, place)?;
                 Ok(choices)
             }
             Frame::Parted(round) => {
-                let choices = self.after_separator(arena, round, place)?;
+                let choices = self.after_separator(arena, round, around, place)?;
                 Ok(choices)
             }
             Frame::InRound(round) => {
-                let choices = self.after_round(arena, round, place)?;
+                let choices = self.after_round(arena, round, around, place)?;
                 Ok(choices)
             }
         }
@@ -266,10 +270,11 @@ impl<'a> Thread<'a> {
         &self,
         arena: &'a Bump,
         after: &'a [Op],
+        around: Option<&'a Rung<'a>>,
         place: &Place<'a>,
     ) -> Result<Choices<'a>, AllocError>
         requires items { self.now.items.now ≡ [] }
-        requires frames { (fs : List Frame) × (self.now.frames.items ≡ fs ++ (InGroup after ∷ [])) }
+        requires frames { frames_in self.now.frames ≡ InGroup after ∷ frames_in around }
         ensures { (g : Grammar) → let p = place_of place.now in
             IfOk result (λ cs. given p cs.0 ++ given p cs.1
             ≡ map (extended (moves_of self.now.moves)) (r.next g (state_of self.now p))) }
@@ -277,7 +282,7 @@ impl<'a> Thread<'a> {
         if !place.is_closing() {
             return Ok((None, None));
         }
-        let thread = self.left(arena, after, Move::Unit)?;
+        let thread = self.moved(arena, after, around, Move::Unit)?;
         let choice = Choice {
             thread,
             taken: Some(Taken::Unit),
@@ -290,10 +295,11 @@ impl<'a> Thread<'a> {
         &self,
         arena: &'a Bump,
         round: Round<'a>,
+        around: Option<&'a Rung<'a>>,
         place: &Place<'a>,
     ) -> Result<Choices<'a>, AllocError>
         requires items { self.now.items.now ≡ [] }
-        requires frames { (fs : List Frame) × (self.now.frames.items ≡ fs ++ (Parted round ∷ [])) }
+        requires frames { frames_in self.now.frames ≡ Parted round ∷ frames_in around }
         ensures { (g : Grammar) → let p = place_of place.now in
             IfOk result (λ cs. given p cs.0 ++ given p cs.1
             ≡ map (extended (moves_of self.now.moves)) (r.next g (state_of self.now p))) }
@@ -301,7 +307,8 @@ impl<'a> Thread<'a> {
         if round.kind == RepeatKind::ZeroOrOne {
             return Ok((None, None));
         }
-        let thread = self.swapped(arena, round.body, Frame::InRound(round), Move::NextRound)?;
+        let frames = inside(arena, around, Frame::InRound(round))?;
+        let thread = self.moved(arena, round.body, frames, Move::NextRound)?;
         let choice = Choice {
             thread,
             taken: None,
@@ -314,15 +321,16 @@ impl<'a> Thread<'a> {
         &self,
         arena: &'a Bump,
         round: Round<'a>,
+        around: Option<&'a Rung<'a>>,
         place: &Place<'a>,
     ) -> Result<Choices<'a>, AllocError>
         requires items { self.now.items.now ≡ [] }
-        requires frames { (fs : List Frame) × (self.now.frames.items ≡ fs ++ (InRound round ∷ [])) }
+        requires frames { frames_in self.now.frames ≡ InRound round ∷ frames_in around }
         ensures { (g : Grammar) → let p = place_of place.now in
             IfOk result (λ cs. given p cs.0 ++ given p cs.1
             ≡ map (extended (moves_of self.now.moves)) (r.next g (state_of self.now p))) }
     {
-        let thread = self.left(arena, round.after, Move::Leave)?;
+        let thread = self.moved(arena, round.after, around, Move::Leave)?;
         let last = Some(Choice {
             thread,
             taken: None,
@@ -332,12 +340,8 @@ impl<'a> Thread<'a> {
                 if !place.is_between(between) {
                     return Ok((None, last));
                 }
-                let thread = self.swapped(
-                    arena,
-                    self.items,
-                    Frame::Parted(round),
-                    Move::Separator,
-                )?;
+                let frames = inside(arena, around, Frame::Parted(round))?;
+                let thread = self.moved(arena, self.items, frames, Move::Separator)?;
                 let first = Choice {
                     thread,
                     taken: Some(Taken::Unit),
@@ -348,12 +352,8 @@ impl<'a> Thread<'a> {
                 if round.kind == RepeatKind::ZeroOrOne {
                     return Ok((None, last));
                 }
-                let thread = self.swapped(
-                    arena,
-                    round.body,
-                    Frame::InRound(round),
-                    Move::NextRound,
-                )?;
+                // the round stays open
+                let thread = self.moved(arena, round.body, self.frames, Move::NextRound)?;
                 let first = Choice {
                     thread,
                     taken: None,

@@ -8,6 +8,7 @@ ghost use Rattle.mbe_rules.specs.Items.{Rule, Items, has_empty_round};
 ghost use Rattle.mbe_rules.specs.Parsing.{macro_rules_of, macro_of};
 ghost use Rattle.mbe_rules.specs.Relabelling.{rule_with};
 ghost use Rattle.mbe_rules.specs.declared.macro_call_style.MacroCallStyle.{MacroCallStyle};
+ghost use Rattle.mbe.specs.Bursts.{bursts};
 ghost use Rattle.mbe.specs.Fit.{fit, fit_with};
 ghost use Rattle.mbe.specs.Grammar.{Grammar};
 ghost use Rattle.mbe.specs.Paths.{IsPath, has_clash};
@@ -35,6 +36,24 @@ pub fn fit_at_other_places()
         (arguments : Option Forest) (body : Forest) (style : MacroCallStyle) (argument : Forest) →
         fit is_identifier grammar mark (macro_of edition (option_map (map_spans f) arguments) (map_spans f body)).list style (map_spans f argument)
         ≡ fit_with f (fit is_identifier grammar mark (macro_of edition arguments body).list style argument) }
+{}
+
+/// Nor does it hang on places whether a rule that is tried puts out more tokens than a tree may have.
+pub fn bursts_at_other_places()
+    ensures rules { (f : Span → Span) (is_identifier : List ℕ → Bool) (grammar : Grammar) (mark : Span → Span) →
+        ((s : Span) → f (mark s) ≡ mark (f s)) → (list : List Rule) (style : MacroCallStyle) (argument : Forest) →
+        bursts is_identifier grammar mark (map (rule_with f) list) style (map_spans f argument)
+        ≡ bursts is_identifier grammar mark list style argument }
+    ensures macro_rules { (f : Span → Span) (is_identifier : List ℕ → Bool) (grammar : Grammar) (mark : Span → Span) →
+        ((s : Span) → f (mark s) ≡ mark (f s)) → (edition : SyntaxContext → Edition) → ((s : Span) → edition (f s).ctx ≡ edition s.ctx) →
+        (body : Forest) (style : MacroCallStyle) (argument : Forest) →
+        bursts is_identifier grammar mark (macro_rules_of edition (map_spans f body)).list style (map_spans f argument)
+        ≡ bursts is_identifier grammar mark (macro_rules_of edition body).list style argument }
+    ensures macros { (f : Span → Span) (is_identifier : List ℕ → Bool) (grammar : Grammar) (mark : Span → Span) →
+        ((s : Span) → f (mark s) ≡ mark (f s)) → (edition : SyntaxContext → Edition) → ((s : Span) → edition (f s).ctx ≡ edition s.ctx) →
+        (arguments : Option Forest) (body : Forest) (style : MacroCallStyle) (argument : Forest) →
+        bursts is_identifier grammar mark (macro_of edition (option_map (map_spans f) arguments) (map_spans f body)).list style (map_spans f argument)
+        ≡ bursts is_identifier grammar mark (macro_of edition arguments body).list style argument }
 {}
 
 /// What is told as the reading of a pattern is a list of valid moves that uses up the argument, and no

@@ -1,31 +1,57 @@
 //! The threads that read a pattern against an argument, together.
-ghost use Rattle.std.specs.Prelude.{◌≡◌, [], ◌++◌, map, option_map, IfOk, Some, None, true, false};
-ghost use Rattle.std.specs.List.{flat_map};
+ghost use Rattle.std.specs.Prelude.{◌≡◌, ◌<◌, ◌≤◌, ◌+◌, ◌&&◌, List, [], ◌∷◌, ◌++◌, option_map, IfOk, OnOk, Some, None, true, false};
+ghost use Rattle.std.specs.List.{flat_map, list_any};
 ghost use Rattle.tt.specs.Views.{forest};
-ghost use Rattle.mbe_rules.specs.Items.{has_empty_round};
+ghost use Rattle.mbe_rules.specs.Items.{Items, has_empty_round};
 ghost use Rattle.mbe_rules.specs.Ops.{items_of};
 ghost use Rattle.mbe.specs.Paths.{clash, only};
 ghost use Rattle.mbe.specs.Places.{place_of};
 ghost use Rattle.mbe.specs.Readings as r;
+ghost use Rattle.mbe.specs.Settled.{Leads, HasEnd, IsGood, IsSoundAt, most_tasks, planned, tasks_of, tasks_of_all};
 ghost use Rattle.mbe.specs.Units as u;
-ghost use Rattle.mbe.specs.Waiting.{prefixed, settled_at, advanced_by, finished, Each};
-ghost use Rattle.mbe.specs.Threads.{state_of, moves_of, given, contributes, waits, waits_at, waiting_at, takings_of, head_taken, is_trees, same_mark, same_marks, is_like, IsVisited, IsGood, IsGoodAt};
-ghost use Rattle.mbe.specs.Thinned.{twice, thin};
+ghost use Rattle.mbe.specs.Waiting.{settled_at, advanced_by, empties_at, finished, Each};
+ghost use Rattle.mbe.specs.Threads.{Waits, frames_in, moves_of, state_of, waits, waits_at, waiting_at, takings_of, head_taken, is_trees, same_mark, same_marks, same_state};
+ghost use Rattle.mbe.specs.declared.matcher.Task.TheVariants.{GoOn};
 
 use crate::choices::Choice;
 use crate::place::{Place, Taken};
-use crate::threads::{Entry, Frame, Thread};
+use crate::threads::{Entry, Frame, Rung, Thread};
 use bumpalo::Bump;
 use fragment_grammar::FragmentGrammar;
 use mbe_rules::Op;
 use std::alloc::{AllocError, Global};
+use std::mem;
 use tt::TokenTreesView;
 
 // A thread that waits for the others: at the end, or after a move that takes something.
-#[derive(Drop)]
+#[derive(Clone, Copy, Drop)]
 pub(crate) enum Waiting<'a> {
     Ended(Option<&'a Entry<'a>>),
     Pending { thread: Thread<'a>, taken: Taken },
+}
+
+// A thread in whose state one was settled at this place, and whether a second one was.
+#[derive(Clone, Copy, Drop)]
+pub(crate) struct Seen<'a> {
+    pub(crate) thread: Thread<'a>,
+    pub(crate) twice: bool,
+}
+
+// What is left to do at a place.
+#[derive(Clone, Copy, Drop)]
+pub(crate) enum Task<'a> {
+    // To go on with a thread, if it has taken nothing.
+    GoOn(Choice<'a>),
+    // All that comes of a thread waits.
+    Note(Seen<'a>),
+}
+
+// The threads that wait at a place, the states that were settled there, and what is left to do, the next last.
+#[derive(Drop)]
+pub(crate) struct Settled<'a> {
+    pub(crate) waiting: Vec<Waiting<'a>>,
+    pub(crate) seen: Vec<Seen<'a>>,
+    pub(crate) tasks: Vec<Task<'a>>,
 }
 
 impl Taken {
@@ -39,55 +65,271 @@ impl Taken {
     }
 }
 
-// Makes the moves of a thread that take nothing, and appends the threads that wait then.
-#[cycle(settling)]
-fn settle<'a, G: FragmentGrammar>(
-    arena: &'a Bump,
-    grammar: &G,
-    thread: &Thread<'a>,
-    place: &Place<'a>,
-    waiting: &mut Vec<Waiting<'a>>,
-) -> Result<(), AllocError>
-    requires { IsGood (state_of thread.now (place_of place.now)) }
-    ensures { let p = place_of place.now in
-        IfOk result (λ u. waits p waiting.new.items
-        ≡ waits p waiting.old.items ++ map (prefixed (moves_of thread.now.moves)) (settled_at (G.answer grammar.now) (state_of thread.now p))) }
+// Whether two frames are of one sort, with as many items after them.
+fn is_same_mark(first: Frame<'_>, second: Frame<'_>) -> bool
+    ensures { result ≡ same_mark first.entry second.entry }
 {
-    if thread.has_ended(place) {
-        waiting.push(Waiting::Ended(thread.moves))?;
-        return Ok(());
+    match (first, second) {
+        (Frame::InGroup { after: a }, Frame::InGroup { after: b }) => a.len() == b.len(),
+        (Frame::InRound(a), Frame::InRound(b)) => a.after.len() == b.after.len(),
+        (Frame::Parted(a), Frame::Parted(b)) => a.after.len() == b.after.len(),
+        _ => false,
     }
-    let (first, second) = thread.choices(arena, grammar, place)?;
-    visit(arena, grammar, first, place, waiting)?;
-    visit(arena, grammar, second, place, waiting)?;
-    Ok(())
 }
 
-// Appends the threads that wait after a choice.
-#[cycle(settling)]
-fn visit<'a, G: FragmentGrammar>(
-    arena: &'a Bump,
-    grammar: &G,
-    choice: Option<Choice<'a>>,
-    place: &Place<'a>,
-    waiting: &mut Vec<Waiting<'a>>,
-) -> Result<(), AllocError>
-    requires { IsVisited (place_of place.now) choice }
-    ensures { let p = place_of place.now in
-        IfOk result (λ u. waits p waiting.new.items ≡ waits p waiting.old.items ++ flat_map (contributes (G.answer grammar.now)) (given p choice.entry)) }
+// Whether two threads are in the same groups and rounds.
+fn are_same_marks<'a>(first: Option<&'a Rung<'a>>, second: Option<&'a Rung<'a>>) -> bool
+    ensures { result ≡ same_marks (frames_in first.entry) (frames_in second.entry) }
 {
-    match choice {
-        None => Ok(()),
-        Some(choice) => match choice.taken {
-            None => settle(arena, grammar, &choice.thread, place, waiting),
-            Some(taken) => {
-                waiting.push(Waiting::Pending {
-                    thread: choice.thread,
-                    taken,
-                })?;
+    let mut one = first;
+    let mut other = second;
+    while let Some(a) = one {
+        let Some(b) = other else {
+            return false;
+        };
+        if !is_same_mark(a.frame, b.frame) {
+            return false;
+        }
+        one = a.around;
+        other = b.around;
+    }
+    match other {
+        Some(_) => false,
+        None => true,
+    }
+}
+
+// Whether two threads are in one state.
+pub(crate) fn is_same_state(first: &Thread<'_>, second: &Thread<'_>) -> bool
+    ensures { result ≡ same_state first.now second.now }
+{
+    first.items.len() == second.items.len() && are_same_marks(first.frames, second.frames)
+}
+
+// Whether a thread was settled in this state.
+pub(crate) fn was_settled(seen: &[Seen<'_>], thread: &Thread<'_>) -> bool
+    ensures { result ≡ list_any (λ x. same_state x.thread thread.now) seen.now }
+{
+    for one in seen {
+        if is_same_state(&one.thread, thread) {
+            return true;
+        }
+    }
+    false
+}
+
+// Whether two were.
+pub(crate) fn was_settled_twice(seen: &[Seen<'_>], thread: &Thread<'_>) -> bool
+    ensures { result ≡ list_any (λ x. x.twice && same_state x.thread thread.now) seen.now }
+{
+    for one in seen {
+        if one.twice && is_same_state(&one.thread, thread) {
+            return true;
+        }
+    }
+    false
+}
+
+impl<'a> Settled<'a> {
+    // Nothing waits, and nothing is left to do.
+    fn new(alloc: Global) -> Settled<'a>
+        ensures waiting { result.waiting.items ≡ [] }
+        ensures seen { result.seen.items ≡ [] }
+        ensures tasks { result.tasks.items ≡ [] }
+    {
+        Settled {
+            waiting: Vec::new(alloc),
+            seen: Vec::new(alloc),
+            tasks: Vec::new(alloc),
+        }
+    }
+
+    // A choice, where there is one, is the next thing to do.
+    fn plan(&mut self, choice: Option<Choice<'a>>) -> Result<(), AllocError>
+        ensures waiting { OnOk result (self.new.waiting.items ≡ self.old.waiting.items) }
+        ensures seen { OnOk result (self.new.seen.items ≡ self.old.seen.items) }
+        ensures tasks { OnOk result (self.new.tasks.items ≡ self.old.tasks.items ++ planned choice.entry) }
+    {
+        match choice {
+            None => Ok(()),
+            Some(choice) => {
+                self.tasks.push(Task::GoOn(choice))?;
                 Ok(())
+            }
+        }
+    }
+
+    // Goes on with a thread that has taken nothing here.
+    fn go_on<G: FragmentGrammar>(
+        &mut self,
+        arena: &'a Bump,
+        grammar: &G,
+        thread: Thread<'a>,
+        place: &Place<'a>,
+    ) -> Result<(), AllocError>
+        requires good { IsGood (state_of thread (place_of place.now)) }
+        requires tasks { Each (HasEnd (place_of place.now)) self.now.tasks.items }
+        ensures all { let p = place_of place.now in let gr = G.answer grammar.now in (pattern : Items) (all : List Waits) →
+            Leads gr pattern p all self.old.waiting.items self.old.seen.items (self.old.tasks.items ++ (GoOn (record { thread = thread.entry; taken = None }) ∷ [])) →
+            OnOk result (Leads gr pattern p all self.new.waiting.items self.new.seen.items self.new.tasks.items) }
+        ensures tasks { OnOk result (Each (HasEnd (place_of place.now)) self.new.tasks.items) }
+        ensures fewer { let p = place_of place.now in
+            OnOk result (tasks_of_all p self.new.tasks.items + 2 ≤ tasks_of_all p self.old.tasks.items + most_tasks (empties_at (state_of thread.entry p))) }
+    {
+        if thread.has_ended(place) {
+            self.waiting.push(Waiting::Ended(thread.moves))?;
+            return Ok(());
+        }
+        let (first, second) = thread.choices(arena, grammar, place)?;
+        self.plan(second)?;
+        self.plan(first)?;
+        Ok(())
+    }
+
+    // The same, unless two threads were settled in its state: these tell that no reading that goes through
+    // it is the only one.
+    fn go_on_twice<G: FragmentGrammar>(
+        &mut self,
+        arena: &'a Bump,
+        grammar: &G,
+        thread: Thread<'a>,
+        place: &Place<'a>,
+    ) -> Result<(), AllocError>
+        requires good { IsGood (state_of thread (place_of place.now)) }
+        requires tasks { Each (HasEnd (place_of place.now)) self.now.tasks.items }
+        ensures all { let p = place_of place.now in let gr = G.answer grammar.now in (pattern : Items) (all : List Waits) →
+            Leads gr pattern p all self.old.waiting.items self.old.seen.items (self.old.tasks.items ++ (GoOn (record { thread = thread.entry; taken = None }) ∷ [])) →
+            OnOk result (Leads gr pattern p all self.new.waiting.items self.new.seen.items self.new.tasks.items) }
+        ensures tasks { OnOk result (Each (HasEnd (place_of place.now)) self.new.tasks.items) }
+        ensures fewer { let p = place_of place.now in
+            OnOk result (tasks_of_all p self.new.tasks.items < tasks_of_all p self.old.tasks.items + most_tasks (empties_at (state_of thread.entry p))) }
+    {
+        let twice = was_settled(&self.seen, &thread);
+        if twice && was_settled_twice(&self.seen, &thread) {
+            return Ok(());
+        }
+        self.tasks.push(Task::Note(Seen { thread, twice }))?;
+        self.go_on(arena, grammar, thread, place)?;
+        Ok(())
+    }
+
+    // Does a task.
+    fn step<G: FragmentGrammar>(
+        &mut self,
+        arena: &'a Bump,
+        grammar: &G,
+        task: Task<'a>,
+        place: &Place<'a>,
+    ) -> Result<(), AllocError>
+        requires task { HasEnd (place_of place.now) task }
+        requires tasks { Each (HasEnd (place_of place.now)) self.now.tasks.items }
+        ensures all { let p = place_of place.now in let gr = G.answer grammar.now in (pattern : Items) (all : List Waits) →
+            Leads gr pattern p all self.old.waiting.items self.old.seen.items (self.old.tasks.items ++ (task.entry ∷ [])) →
+            OnOk result (Leads gr pattern p all self.new.waiting.items self.new.seen.items self.new.tasks.items) }
+        ensures tasks { OnOk result (Each (HasEnd (place_of place.now)) self.new.tasks.items) }
+        ensures fewer { let p = place_of place.now in
+            OnOk result (tasks_of_all p self.new.tasks.items < tasks_of_all p self.old.tasks.items + tasks_of p task.entry) }
+    {
+        match task {
+            Task::Note(seen) => {
+                self.seen.push(seen)?;
+                Ok(())
+            }
+            Task::GoOn(choice) => match choice.taken {
+                Some(taken) => {
+                    let thread = choice.thread;
+                    self.waiting.push(Waiting::Pending { thread, taken })?;
+                    Ok(())
+                }
+                None => {
+                    self.go_on_twice(arena, grammar, choice.thread, place)?;
+                    Ok(())
+                }
             },
-        },
+        }
+    }
+
+    // Makes the moves of a thread that take nothing, and appends the threads that wait then.
+    fn settle<G: FragmentGrammar>(
+        &mut self,
+        arena: &'a Bump,
+        grammar: &G,
+        thread: Thread<'a>,
+        place: &Place<'a>,
+    ) -> Result<(), AllocError>
+        requires tasks { self.now.tasks.items ≡ [] }
+        requires good { IsGood (state_of thread (place_of place.now)) }
+        ensures done { OnOk result (self.new.tasks.items ≡ []) }
+        ensures all { let p = place_of place.now in let gr = G.answer grammar.now in (pattern : Items) (all : List Waits) →
+            Leads gr pattern p all self.old.waiting.items self.old.seen.items (GoOn (record { thread = thread.entry; taken = None }) ∷ []) →
+            OnOk result (Leads gr pattern p all self.new.waiting.items self.new.seen.items self.new.tasks.items) }
+    {
+        self.go_on(arena, grammar, thread, place)?;
+        while let Some(task) = self.tasks.pop() {
+            self.step(arena, grammar, task, place)?;
+        }
+        Ok(())
+    }
+
+    // Appends the threads that wait after one that waited at the place before.
+    fn advance<G: FragmentGrammar>(
+        &mut self,
+        arena: &'a Bump,
+        grammar: &G,
+        w: &Waiting<'a>,
+        place: &Place<'a>,
+    ) -> Result<(), AllocError>
+        requires tasks { self.now.tasks.items ≡ [] }
+        requires sound { (pattern : Items) × IsSoundAt pattern (waiting_at (place_of place.now) w.now) }
+        ensures done { OnOk result (self.new.tasks.items ≡ []) }
+        ensures all { let p = place_of place.now in let gr = G.answer grammar.now in (pattern : Items) (all : List Waits) → IsSoundAt pattern (waiting_at p w.now) →
+            Leads gr pattern p all self.old.waiting.items self.old.seen.items [] →
+            OnOk result (Leads gr pattern p (all ++ advanced_by (settled_at gr) (waiting_at p w.now)) self.new.waiting.items self.new.seen.items []) }
+    {
+        match w {
+            Waiting::Ended(moves) => {
+                self.waiting.push(Waiting::Ended(*moves))?;
+                Ok(())
+            }
+            Waiting::Pending { thread, .. } => {
+                self.settle(arena, grammar, *thread, place)?;
+                Ok(())
+            }
+        }
+    }
+
+    // The threads that wait after these, which waited at the place before.
+    fn advance_all<G: FragmentGrammar>(
+        &mut self,
+        arena: &'a Bump,
+        grammar: &G,
+        waiting: &[Waiting<'a>],
+        place: &Place<'a>,
+    ) -> Result<(), AllocError>
+        requires waiting { self.now.waiting.items ≡ [] }
+        requires seen { self.now.seen.items ≡ [] }
+        requires tasks { self.now.tasks.items ≡ [] }
+        requires sound { (pattern : Items) × Each (IsSoundAt pattern) (waits_at (place_of place.now) waiting.now) }
+        ensures done { OnOk result (self.new.tasks.items ≡ []) }
+        ensures all { let p = place_of place.now in let gr = G.answer grammar.now in (pattern : Items) → Each (IsSoundAt pattern) (waits_at p waiting.now) →
+            OnOk result (Leads gr pattern p (flat_map (advanced_by (settled_at gr)) (waits_at p waiting.now)) self.new.waiting.items self.new.seen.items []) }
+    {
+        for w in waiting {
+            self.advance(arena, grammar, w, place)?;
+        }
+        Ok(())
+    }
+
+    // Hands the threads that wait over, and holds none.
+    fn hand_over(&mut self, waiting: &mut Vec<Waiting<'a>>)
+        ensures handed { waiting.new.items ≡ self.old.waiting.items }
+        ensures waiting { self.new.waiting.items ≡ [] }
+        ensures seen { self.new.seen.items ≡ [] }
+        ensures tasks { self.new.tasks.items ≡ self.old.tasks.items }
+    {
+        mem::swap(waiting, &mut self.waiting);
+        self.waiting.clear();
+        self.seen.clear();
     }
 }
 
@@ -108,122 +350,6 @@ fn has_clash(waiting: &[Waiting<'_>]) -> bool
         }
     }
     false
-}
-
-// Appends the threads that wait at the next place after one that waits here.
-fn advance<'a, G: FragmentGrammar>(
-    arena: &'a Bump,
-    grammar: &G,
-    w: &Waiting<'a>,
-    place: &Place<'a>,
-    next: &mut Vec<Waiting<'a>>,
-) -> Result<(), AllocError>
-    requires { IsGoodAt (waiting_at (place_of place.now) w.now) }
-    ensures { let p = place_of place.now in
-        IfOk result (λ u. waits p next.new.items ≡ waits p next.old.items ++ advanced_by (settled_at (G.answer grammar.now)) (waiting_at p w.now)) }
-{
-    match w {
-        Waiting::Ended(moves) => {
-            next.push(Waiting::Ended(*moves))?;
-            Ok(())
-        },
-        Waiting::Pending { thread, .. } => settle(arena, grammar, thread, place, next),
-    }
-}
-
-// The threads that wait at the next place.
-fn advanced<'a, G: FragmentGrammar>(
-    alloc: Global,
-    arena: &'a Bump,
-    grammar: &G,
-    waiting: &[Waiting<'a>],
-    place: &Place<'a>,
-) -> Result<Vec<Waiting<'a>>, AllocError>
-    requires { Each IsGoodAt (waits_at (place_of place.now) waiting.now) }
-    ensures { let p = place_of place.now in
-        IfOk result (λ v. waits p v.items ≡ flat_map (advanced_by (settled_at (G.answer grammar.now))) (waits_at p waiting.now)) }
-{
-    let mut next = Vec::new(alloc);
-    for w in waiting {
-        advance(arena, grammar, w, place, &mut next)?;
-    }
-    Ok(next)
-}
-
-// Whether two frames are of one sort, with as many items after them.
-fn is_same_mark(first: Frame<'_>, second: Frame<'_>) -> bool
-    ensures { result ≡ same_mark first.entry second.entry }
-{
-    match (first, second) {
-        (Frame::InGroup { after: a }, Frame::InGroup { after: b }) => a.len() == b.len(),
-        (Frame::InRound(a), Frame::InRound(b)) => a.after.len() == b.after.len(),
-        (Frame::Parted(a), Frame::Parted(b)) => a.after.len() == b.after.len(),
-        _ => false,
-    }
-}
-
-// Whether two threads are in the same groups and rounds.
-pub(crate) fn are_same_marks(first: &[Frame<'_>], second: &[Frame<'_>]) -> bool
-    ensures { result ≡ same_marks first.now second.now }
-{
-    let Some((a, more)) = first.split_first() else {
-        return second.is_empty();
-    };
-    let Some((b, others)) = second.split_first() else {
-        return false;
-    };
-    is_same_mark(*a, *b) && are_same_marks(more, others)
-}
-
-// Whether two threads wait in one state, after a unit.
-fn is_like(first: &Waiting<'_>, second: &Waiting<'_>) -> bool
-    ensures { result ≡ is_like first.now second.now }
-{
-    let Waiting::Pending {
-        thread: a,
-        taken: Taken::Unit,
-    } = first
-    else {
-        return false;
-    };
-    let Waiting::Pending {
-        thread: b,
-        taken: Taken::Unit,
-    } = second
-    else {
-        return false;
-    };
-    a.items.len() == b.items.len() && are_same_marks(&a.frames, &b.frames)
-}
-
-// Whether two of these wait in the state of another.
-fn has_two_like(waiting: &[Waiting<'_>], other: &Waiting<'_>) -> bool
-    ensures { result ≡ twice (is_like other.now) waiting.now }
-{
-    let mut one = false;
-    for w in waiting {
-        if is_like(other, w) {
-            if one {
-                return true;
-            }
-            one = true;
-        }
-    }
-    false
-}
-
-// The threads but those that wait in a state where two others do: two are enough to tell that no
-// reading that goes through it is the only one.
-fn thinned<'a>(alloc: Global, waiting: Vec<Waiting<'a>>) -> Result<Vec<Waiting<'a>>, AllocError>
-    ensures { IfOk result (λ v. v.items ≡ thin is_like [] waiting.entry.items) }
-{
-    let mut kept = Vec::new(alloc);
-    for w in waiting {
-        if !has_two_like(&kept, &w) {
-            kept.push(w)?;
-        }
-    }
-    Ok(kept)
 }
 
 // What the first waiting thread takes.
@@ -257,7 +383,7 @@ fn only_ended<'a>(waiting: &[Waiting<'a>]) -> Option<Option<&'a Entry<'a>>>
 /// than one does, or where at some place a fragment is taken on one way and something else on another.
 /// (The Rust Reference, "Macros By Example": metavariables, forwarding a fragment.)
 ///
-/// From token to token at most two threads of one state go on, however many lists of moves lead to it.
+/// At each place at most two threads of one state go on, however many lists of moves lead to it.
 ///
 /// # Errors
 ///
@@ -275,24 +401,25 @@ pub fn match_pattern<'a, G: FragmentGrammar>(
 {
     let thread = Thread {
         items: pattern,
-        frames: Vec::new(alloc),
+        frames: None,
         moves: None,
     };
     let mut place = Place {
         rest: argument.iter(),
         outer: Vec::new(alloc),
     };
+    let mut found = Settled::new(alloc);
     let mut waiting = Vec::new(alloc);
-    settle(arena, grammar, &thread, &place, &mut waiting)?;
+    found.settle(arena, grammar, thread, &place)?;
     loop {
-        if has_clash(&waiting) {
+        if has_clash(&found.waiting) {
             return Ok(None);
         }
-        let Some(taken) = first_taken(&waiting) else {
-            return Ok(only_ended(&waiting));
+        let Some(taken) = first_taken(&found.waiting) else {
+            return Ok(only_ended(&found.waiting));
         };
         place = place.after(taken)?;
-        let all = advanced(alloc, arena, grammar, &waiting, &place)?;
-        waiting = thinned(alloc, all)?;
+        found.hand_over(&mut waiting);
+        found.advance_all(arena, grammar, &waiting, &place)?;
     }
 }

@@ -1,9 +1,8 @@
 //! Partial readings of a pattern, and their moves.
-ghost use Rattle.std.specs.Prelude.{◌≡◌, List, [], ◌∷◌, ◌++◌, IfOk};
+ghost use Rattle.std.specs.Prelude.{◌≡◌, [], ◌∷◌, ◌++◌, IfOk};
 ghost use Rattle.mbe.specs.Places.{place_of};
 ghost use Rattle.mbe.specs.Readings as r;
-ghost use Rattle.mbe.specs.Threads.{state_of, moves_of, move_of, extended};
-ghost use Rattle.mbe.specs.declared.threads.Frame.{Frame};
+ghost use Rattle.mbe.specs.Threads.{state_of, frames_in, moves_of, move_of};
 
 use crate::place::Place;
 use bumpalo::Bump;
@@ -82,27 +81,48 @@ pub(crate) fn extended<'a>(
     Ok(Some(entry))
 }
 
+// A group or round that a thread is in, and the one around it. Those around are shared by all threads in it.
+#[derive(Clone, Copy, Drop)]
+pub(crate) struct Rung<'a> {
+    pub(crate) frame: Frame<'a>,
+    pub(crate) around: Option<&'a Rung<'a>>,
+}
+
+// The groups and rounds with one more inside.
+pub(crate) fn inside<'a>(
+    arena: &'a Bump,
+    around: Option<&'a Rung<'a>>,
+    frame: Frame<'a>,
+) -> Result<Option<&'a Rung<'a>>, AllocError>
+    ensures { IfOk result (λ f. frames_in f ≡ frame.entry ∷ frames_in around.entry) }
+{
+    let Ok(rung) = arena.try_alloc(Rung { frame, around }) else {
+        return Err(AllocError);
+    };
+    Ok(Some(rung))
+}
+
 // A partial reading: the items that it goes on with, the groups and rounds that it is in, and its moves.
-#[derive(Drop)]
+#[derive(Clone, Copy, Drop)]
 pub(crate) struct Thread<'a> {
     pub(crate) items: &'a [Op],
-    pub(crate) frames: Vec<Frame<'a>>,
+    pub(crate) frames: Option<&'a Rung<'a>>,
     pub(crate) moves: Option<&'a Entry<'a>>,
 }
 
 impl<'a> Thread<'a> {
-    // The thread after a move that goes on in the same group or round.
+    // The thread after a move, in these groups and rounds.
     pub(crate) fn moved(
         &self,
         arena: &'a Bump,
         items: &'a [Op],
+        frames: Option<&'a Rung<'a>>,
         made: Move<'a>,
     ) -> Result<Thread<'a>, AllocError>
         ensures items { IfOk result (λ t. t.items.now ≡ items.now) }
-        ensures frames { IfOk result (λ t. t.frames.items ≡ self.now.frames.items) }
+        ensures frames { IfOk result (λ t. frames_in t.frames ≡ frames_in frames.entry) }
         ensures moves { IfOk result (λ t. moves_of t.moves ≡ moves_of self.now.moves ++ (move_of made.entry ∷ [])) }
     {
-        let frames = self.frames.clone()?;
         let moves = extended(arena, self.moves, made)?;
         Ok(Thread {
             items,
@@ -111,63 +131,13 @@ impl<'a> Thread<'a> {
         })
     }
 
-    // The thread after a move into a group or a round.
-    pub(crate) fn entered(
-        &self,
-        arena: &'a Bump,
-        items: &'a [Op],
-        frame: Frame<'a>,
-        made: Move<'a>,
-    ) -> Result<Thread<'a>, AllocError>
-        ensures items { IfOk result (λ t. t.items.now ≡ items.now) }
-        ensures frames { IfOk result (λ t. t.frames.items ≡ self.now.frames.items ++ (frame.entry ∷ [])) }
-        ensures moves { IfOk result (λ t. moves_of t.moves ≡ moves_of self.now.moves ++ (move_of made.entry ∷ [])) }
-    {
-        let mut thread = self.moved(arena, items, made)?;
-        thread.frames.push(frame)?;
-        Ok(thread)
-    }
-
-    // The thread after a move out of its innermost group or round.
-    pub(crate) fn left(
-        &self,
-        arena: &'a Bump,
-        items: &'a [Op],
-        made: Move<'a>,
-    ) -> Result<Thread<'a>, AllocError>
-        ensures items { IfOk result (λ t. t.items.now ≡ items.now) }
-        ensures frames { (fs : List Frame) (f : Frame) → self.now.frames.items ≡ fs ++ (f ∷ []) → IfOk result (λ t. t.frames.items ≡ fs) }
-        ensures moves { IfOk result (λ t. moves_of t.moves ≡ moves_of self.now.moves ++ (move_of made.entry ∷ [])) }
-    {
-        let mut thread = self.moved(arena, items, made)?;
-        thread.frames.pop();
-        Ok(thread)
-    }
-
-    // The thread after a move that changes its innermost frame.
-    pub(crate) fn swapped(
-        &self,
-        arena: &'a Bump,
-        items: &'a [Op],
-        frame: Frame<'a>,
-        made: Move<'a>,
-    ) -> Result<Thread<'a>, AllocError>
-        ensures items { IfOk result (λ t. t.items.now ≡ items.now) }
-        ensures frames { (fs : List Frame) (f : Frame) → self.now.frames.items ≡ fs ++ (f ∷ []) → IfOk result (λ t. t.frames.items ≡ fs ++ (frame.entry ∷ [])) }
-        ensures moves { IfOk result (λ t. moves_of t.moves ≡ moves_of self.now.moves ++ (move_of made.entry ∷ [])) }
-    {
-        let mut thread = self.left(arena, items, made)?;
-        thread.frames.push(frame)?;
-        Ok(thread)
-    }
-
     // Whether the pattern is read to its end.
     pub(crate) fn has_ended(&self, place: &Place<'a>) -> bool
         ensures { result ≡ r.has_used_up (state_of self.now (place_of place.now)) }
     {
         match self.items.first() {
             Some(_) => false,
-            None => match self.frames.last() {
+            None => match self.frames {
                 Some(_) => false,
                 None => place.is_end(),
             },

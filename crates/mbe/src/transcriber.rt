@@ -50,6 +50,7 @@ fn put_lifetime(out: &mut TopSubtreeBuilder, quote: Punct, name: Ident) -> Resul
 }
 
 // Puts in a separator, as it is written.
+#[inline(never)]
 fn put_separator(out: &mut TopSubtreeBuilder, separator: Option<&Separator>) -> Result<(), TtFault>
     ensures faults { IfErr result IsWantOfRoom }
     ensures added { OnOk result (out.new.tree ≡ extended out.old.tree (separator_leaves (option_map (λ s. separator_of s.now) separator.entry))) }
@@ -210,7 +211,9 @@ fn put_item<M: Fn(Span) -> Span>(
     }
 }
 
-// The same of an item that is known to hold no others.
+// The same of an item that is known to hold no others. What it keeps on the stack is not kept while groups
+// and rounds are filled, so that a template may be nested deep.
+#[inline(never)]
 fn put_plain<M: Fn(Span) -> Span>(
     out: &mut TopSubtreeBuilder,
     op: &Op,

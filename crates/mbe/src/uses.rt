@@ -170,6 +170,7 @@ fn use_of_all(ops: &[Op], bindings: &Bindings<'_>, rounds: &[usize]) -> Use
 }
 
 /// Whether a round stands: `rounds` are those around it, and come back as they are.
+#[inline(never)]
 pub(crate) fn round_stands(
     body: &[Op],
     bindings: &Bindings<'_>,

@@ -14,6 +14,7 @@ use Rattle.mbe_rules.specs.declared.errors.ParseError.{ParseError}
 use Rattle.mbe_rules.specs.declared.macro_call_style.MacroCallStyle.{MacroCallStyle}
 use Rattle.mbe_rules.specs.declared.macro_call_style.MacroCallStyle.TheVariants.{FnLike}
 use Rattle.mbe_rules.specs.declared.rules.Rule.{Rule}
+use Rattle.mbe_rules.proofs.ItemLemmas.{past-size}
 
 append-nil : {A : Type 0} (xs : List A) → (xs ++ []) ≡ xs
 append-nil [] = refl
@@ -32,12 +33,6 @@ past-one zero f = refl
 past-one (suc n) empty = refl
 past-one (suc n) (leaf l rest) = past-one n rest
 past-one (suc n) (group d inner rest) = past-one n rest
-
-past-size : (n : ℕ) (f : Forest) → size (past n f) ≤ size f
-past-size zero f = omega arith
-past-size (suc n) empty = omega arith
-past-size (suc n) (leaf l rest) = let i = past-size n rest in omega arith
-past-size (suc n) (group d inner rest) = let i = past-size n rest in omega arith
 
 past-shorter : (n : ℕ) (f : Forest) → (f ≡ empty → ⊥) → size (past (suc n) f) < size f
 past-shorter n empty some = absurd (some refl)

@@ -52,7 +52,7 @@ items_of-push (p ∷ os) o =
     ∙ sym (joined_items-grouping (put_op p done) (ops.items_of os) (put_op o done))
     ∙ ap (λ is. joined_items is (put_op o done)) (sym (put-behind p (ops.items_of os)))
 
-past-size : (n : ℕ) (f : Forest) → size (past n f) ≤ size f
+pub past-size : (n : ℕ) (f : Forest) → size (past n f) ≤ size f
 past-size zero f = omega arith
 past-size (suc n) empty = omega arith
 past-size (suc n) (leaf l rest) = let i = past-size n rest in omega arith

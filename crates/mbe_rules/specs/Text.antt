@@ -2,10 +2,9 @@
 use Rattle.std.specs.Prelude.{ℕ, Bool, true, false, ◌||◌, List, [], ◌∷◌, nat_eq, slice_index, codes}
 use Rattle.std.specs.Str.{bytes_eq}
 use Prim.Native.String.{String}
+pub use Rattle.tt_data.specs.Delimiters.{same_kind}
 use Rattle.tt_data.specs.declared.leaf.Ident.{Ident}
 use Rattle.tt_data.specs.declared.leaf.Punct.{Punct}
-use Rattle.tt_data.specs.declared.delimiter.DelimiterKind.{DelimiterKind}
-use Rattle.tt_data.specs.declared.delimiter.DelimiterKind.TheVariants.{Parenthesis, Brace, Bracket, Invisible}
 
 -- two texts are equal
 abbrev pub same_text : List ℕ → List ℕ → Bool
@@ -35,14 +34,6 @@ is_character written c = nat_eq c (slice_index (codes written) 0)
 -- the punct is this character
 abbrev pub is_char : String → Punct → Bool
 is_char written p = is_character written p.char
-
--- two brackets are of one kind
-abbrev pub same_kind : DelimiterKind → DelimiterKind → Bool
-same_kind Parenthesis Parenthesis = true
-same_kind Brace Brace = true
-same_kind Bracket Bracket = true
-same_kind Invisible Invisible = true
-same_kind _ _ = false
 
 -- nothing in a list
 abbrev pub is_nil : {A : Type 0} → List A → Bool

@@ -9,6 +9,8 @@ mod calls;
 #[cfg(test)]
 mod fragments;
 #[cfg(test)]
+mod groups;
+#[cfg(test)]
 mod macros;
 #[cfg(test)]
 mod refused;

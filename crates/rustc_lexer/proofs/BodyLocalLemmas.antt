@@ -74,7 +74,7 @@ raw_local h (suc n) (c ∷ cs) (d ∷ ds) a l =
     same_test false a l = ap (nat_le h) (prefix_len_local (is "#") n cs ds a (omega (arith, hashes_inside h cs)))
 
 -- a raw form that begins with n hashes
-abbrev form_at : ℕ → List ℕ → Stretch (Option ℕ)
+abbrev pub form_at : ℕ → List ℕ → Stretch (Option ℕ)
 form_at n cs =
     let body : Stretch Bool = further 1 (raw_body n (drop 1 (drop n cs))) in
     if is "\"" (char_at cs n) then further n (record { value = hashes_of body.value n; size = body.size })
@@ -102,7 +102,7 @@ raw_form_local m cs ds a l =
 -- ---- block comments
 
 -- what follows `c` and `d`, where these open a comment, or end one
-abbrev block_step : Bool → Bool → ℕ → ℕ → List ℕ → Stretch Bool
+abbrev pub block_step : Bool → Bool → ℕ → ℕ → List ℕ → Stretch Bool
 block_step opens ends depth d cs =
     elim opens [
       | true ↦ further 2 (block_body (suc depth) cs)

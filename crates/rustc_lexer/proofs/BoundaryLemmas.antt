@@ -1,5 +1,6 @@
 -- The boundaries of tokens, and where those of two lists of tokens meet.
-use Rattle.std.proofs.Common.{◌≡◌, ℕ, zero, suc, ◌+◌, ◌-◌, ◌≤◌, ◌<◌, ◌==◌, Bool, true, false, not, ◌||◌, nat_le, List, [], ◌∷◌, length, take, drop, refl, sym, ◌∙◌, ap, arith, add-zero, All, if◌then◌else◌}
+use Rattle.std.proofs.Common.{◌≡◌, ℕ, zero, suc, ◌+◌, ◌-◌, ◌≤◌, ◌<◌, ◌==◌, Bool, true, false, not, ◌||◌, ◌&&◌, nat_le, List, [], ◌∷◌, length, take, drop, get_or, refl, sym, subst, ◌∙◌, ap, arith, add-zero, All, if◌then◌else◌}
+use Rattle.std.proofs.lemmas.Bool.{ne_eqb}
 use Rattle.std.proofs.lemmas.Bool.Decides.{nat_tests}
 use Rattle.std.proofs.lemmas.List.{take-append-drop}
 use Rattle.std.proofs.lemmas.List.Elements.{All-tail}
@@ -95,6 +96,37 @@ moved_boundaries stop moved place k at ts p l h =
     ∙ list_any-append (moves_to stop moved place) (take k all) (drop k all)
     ∙ ap (λ b. b || list_any (moves_to stop moved place) (drop k all)) (none_moves stop moved place k at ts p l h)
     ∙ ap (list_any (moves_to stop moved place)) (boundaries_drop k at ts l)
+
+-- of all boundaries only the one behind k tokens moves to its new place
+pub moved_at : (stop moved k at : ℕ) (ts : List Token) → All (λ t. 1 ≤ t.len) ts → k ≤ length ts → stop ≤ at + total (take k ts) →
+    position_or_len (moves_to stop moved (at + total (take k ts) - stop + moved)) (boundaries_from at ts) ≡ k
+moved_at stop moved zero at ts p l h =
+    let on : moves_to stop moved (at + 0 - stop + moved) at ≡ true = grind (arith, nat_tests) in
+    rw on refl
+moved_at stop moved (suc k) at [] p l h = absurd (omega arith)
+moved_at stop moved (suc k) at (t ∷ ts) p l h =
+    let long : 1 ≤ t.len = p 0 t (omega arith) in
+    let e = total_cons t (take k ts) in
+    let place : at + t.len + total (take k ts) ≡ at + total (t ∷ take k ts) = omega (arith, e) in
+    let off = not_yet at (at + total (t ∷ take k ts)) (omega (arith, e, long)) h in
+    rw off (ap (λ n. 1 + n) (subst (λ n. position_or_len (moves_to stop moved (n - stop + moved)) (boundaries_from (at + t.len) ts) ≡ k) place
+    (moved_at stop moved k (at + t.len) ts (All-tail (λ x. 1 ≤ x.len) t ts p) (omega arith) (omega (arith, place, h)))) ∙ omega arith)
+  where
+    not_yet : (at place : ℕ) → at < place → stop ≤ place → moves_to stop moved (place - stop + moved) at ≡ false
+    not_yet at place l h = by_test (nat_le stop at) refl
+      where
+        by_test : (u : Bool) → nat_le stop at ≡ u → (u && (at - stop + moved == place - stop + moved)) ≡ false
+        by_test true e =
+            let behind : stop ≤ at = grind (arith, nat_tests) in
+            ne_eqb (at - stop + moved) (place - stop + moved) (λ s. omega (arith, s, l, h, behind))
+        by_test false e = refl
+
+pub boundary_at : (i at : ℕ) (ts : List Token) → i ≤ length ts → get_or (boundaries_from at ts) i 0 ≡ at + total (take i ts)
+boundary_at zero at ts l = omega arith
+boundary_at (suc i) at [] l = absurd (omega arith)
+boundary_at (suc i) at (t ∷ ts) l =
+    let e = total_cons t (take i ts) in
+    boundary_at i (at + t.len) ts (omega arith) ∙ omega (arith, e)
 
 -- a first place is the same by tests that are answered alike
 pub same_position : (f g : ℕ → Bool) → ((x : ℕ) → f x ≡ g x) → (xs : List ℕ) → position_or_len f xs ≡ position_or_len g xs

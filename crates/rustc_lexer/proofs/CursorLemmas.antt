@@ -6,9 +6,9 @@ use Rattle.std.proofs.lemmas.List.Sums.{prefix_len-le-length}
 use Rattle.std.proofs.lemmas.Bool.Decides.{nat_tests}
 use Rattle.std.proofs.lemmas.Str.{encodes-chars}
 use Rattle.rustc_lexer.specs.Character.{char_at, is, identifier_len}
-use Rattle.rustc_lexer.specs.Cursors.{next_token, past_token, next_guarded, past_guarded, pending_past, guarded_of, guarded_body, guarded_string, later_suffix, suffix_of, bytes_of}
+use Rattle.rustc_lexer.specs.Cursors.{next_token, past_token, next_guarded, past_guarded, pending_past, guarded_of, later_suffix, suffix_of, bytes_of}
 use Rattle.rustc_lexer.specs.Lexeme.{Lexeme, lexeme}
-use Rattle.rustc_lexer.specs.Literals.{hashes, string_body}
+use Rattle.rustc_lexer.specs.Literals.{hashes, string_body, guarded_body, guarded_string}
 use Rattle.rustc_lexer.specs.Stretch.{Stretch, further, IsRead}
 use Rattle.rustc_lexer.specs.declared.token.TokenKind.{TokenKind}
 use Rattle.rustc_lexer.proofs.CutLemmas.{behind_chars}

@@ -1,3 +1,4 @@
+pub mod TestLemmas
 mod RunLemmas
 mod AsciiLemmas
 mod PositiveLemmas

@@ -71,7 +71,7 @@ sign_local : (cs ds : List ℕ) → Agree 1 cs ds → sign_len ds ≡ sign_len c
 sign_local cs ds a = ap (λ c. if is "+" c || is "-" c then 1 else 0) (agree_at 0 a (omega arith))
 
 -- an exponent with a sign of n characters and these digits
-abbrev exponent_of : Base → ℕ → Stretch Bool → Stretch LiteralKind
+abbrev pub exponent_of : Base → ℕ → Stretch Bool → Stretch LiteralKind
 exponent_of base n digits = record { value = Float base (not digits.value); size = n + digits.size }
 
 exponent_local : (base : Base) (cs ds : List ℕ) → Local 0 (exponent base) cs ds
@@ -100,7 +100,7 @@ after_run_local base cs ds =
     (λ k. local_further 1 (exponent base) cs ds (exponent_local base (drop 1 cs) (drop 1 ds))) (λ k. local_same 0 _ cs ds))
 
 -- what `based` reads behind the run `digits`
-abbrev behind_base : Base → Stretch Bool → List ℕ → Stretch LiteralKind
+abbrev pub behind_base : Base → Stretch Bool → List ℕ → Stretch LiteralKind
 behind_base base digits cs =
     if digits.value then further digits.size (after_run base (drop digits.size cs)) else record { value = Int base true; size = digits.size }
 
@@ -234,8 +234,8 @@ plain_row cs ds h a =
 marked_row : (kind : TokenKind) (cs ds : List ℕ) → Local 1 (marked_word kind) cs ds
 unfolding Local
 marked_row kind cs ds h a =
-    let b : Agree (2 + (continues (drop 2 cs) + 2)) cs ds = agree_less _ a (omega arith) in
-    ap (λ n. lexeme_of kind (2 + n)) (prefix_len_local is_id_continue _ (drop 2 cs) (drop 2 ds) (agree_drop 2 b) (omega arith))
+    let b : Agree (2 + (identifier_len (drop 2 cs) + 2)) cs ds = agree_less _ a (omega arith) in
+    ap (λ n. lexeme_of kind (2 + n)) (identifier_local _ (drop 2 cs) (drop 2 ds) (agree_drop 2 b) (omega arith))
 
 word_row : (cs ds : List ℕ) → Local 1 word cs ds
 word_row cs ds =

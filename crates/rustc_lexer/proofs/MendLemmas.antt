@@ -3,17 +3,14 @@ use Rattle.std.proofs.Common.{◌≡◌, ℕ, ◌+◌, ◌-◌, ◌*◌, ◌≤�
 use Rattle.std.proofs.lemmas.Bool.Decides.{nat_tests}
 use Rattle.std.proofs.lemmas.List.{get_or-drop, length-drop, length-take-le}
 use Rattle.std.proofs.lemmas.List.Sums.{sum_by_more}
-use Rattle.std.proofs.lemmas.Str.{encodes-chars, len_utf8_bounds, chars-nil, IsUtf8-drop, IsUtf8-take}
+use Rattle.std.proofs.lemmas.Str.{len_utf8_bounds, chars-nil, IsUtf8-drop, IsUtf8-take}
 use Rattle.rustc_lexer.specs.Character.{utf8_len}
 use Rattle.rustc_lexer.specs.Edit.{is_clear_of}
 use Rattle.rustc_lexer.specs.Lexing.{tokens_of}
 use Rattle.rustc_lexer.specs.Mending.{total}
-use Rattle.rustc_lexer.proofs.CutLemmas.{length_encodes}
 use Rattle.rustc_lexer.proofs.StandingLemmas.{token_places}
+use Rattle.rustc_lexer.proofs.TokenLemmas.{length_text}
 use Rattle.rustc_lexer.specs.declared.token.Token.{Token}
-
-pub length_text : (bs : List ℕ) → IsUtf8 bs → length bs ≡ utf8_len (chars bs)
-length_text bs u = ap length (sym (encodes-chars bs u)) ∙ length_encodes (chars bs)
 
 utf8_len_bound : (cs : List ℕ) → utf8_len cs ≤ 4 * length cs
 utf8_len_bound [] = omega arith

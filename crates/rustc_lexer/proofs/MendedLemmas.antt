@@ -1,18 +1,19 @@
 -- The tokens of an edited text, put together of old ones and of those that were lexed again.
-use Rattle.std.proofs.Common.{◌≡◌, ℕ, ◌+◌, ◌-◌, ◌≤◌, ◌<◌, ◌^◌, ◌==◌, true, List, ◌++◌, length, take, drop, refl, sym, ◌∙◌, ap, subst, arith, suc, All, Option, append_assoc, chars, IsUtf8, IsCharBoundary, length-append}
+use Rattle.std.proofs.Common.{◌≡◌, ℕ, ◌+◌, ◌-◌, ◌≤◌, ◌<◌, ◌^◌, ◌==◌, true, List, ◌++◌, length, take, drop, get_or, sym, ◌∙◌, ap, subst, arith, All, Option, append_assoc, chars, IsUtf8, IsCharBoundary, length-append}
 use Rattle.std.specs.Iterator.{Drains}
 use Rattle.std.specs.List.{position_or_len, list_any, splice}
 use Rattle.std.proofs.lemmas.Iterator.{YieldsList, items_from_drains}
-use Rattle.std.proofs.lemmas.List.{map-id, take-append-drop, length-drop, length-take, length-take-le, drop-drop}
+use Rattle.std.proofs.lemmas.List.{map-id, take-append-drop, get_or-drop, length-drop, length-take, length-take-le, drop-drop}
 use Rattle.std.proofs.lemmas.List.Sums.{sum_by-take-drop, sum_by-append}
 use Rattle.std.proofs.lemmas.Str.{IsUtf8-drop}
 use Rattle.std.proofs.Math.Seq.{take-length, take-add, drop-append-add}
 use Rattle.rustc_lexer.specs.Edit.{boundaries_from, boundaries, edited, front_of, is_clear_of, is_moved_boundary, kept, moves_to}
 use Rattle.rustc_lexer.specs.Lexing.{tokens_of}
 use Rattle.rustc_lexer.specs.Mending.{IsScan, count_to_meeting, total}
-use Rattle.rustc_lexer.proofs.BoundaryLemmas.{ends_length, boundaries_drop, moved_boundaries, all_move, same_position}
+use Rattle.rustc_lexer.proofs.BoundaryLemmas.{boundaries_drop, boundary_at, moved_at, moved_boundaries, all_move, same_position}
 use Rattle.rustc_lexer.proofs.FrontLemmas.{IsFront, front_kept}
 use Rattle.rustc_lexer.proofs.StandingLemmas.{token_places, lengths_positive, lengths_whole}
+use Rattle.rustc_lexer.specs.declared.lexed.Kept.{Kept}
 use Rattle.rustc_lexer.specs.declared.token.Token.{Token}
 
 -- ---- slices up to the end
@@ -204,6 +205,27 @@ later_boundaries text new start stop moved ts k at passed bound met fresh f w =
     let here : 0 + total (take k whole) ≡ at = (let e = ap total front in omega (arith, e, w.is_at)) in
     boundaries_drop k 0 whole long ∙ ap (λ n. boundaries_from n (drop k whole)) here ∙ ap (boundaries_from at) (sym w.front.rest)
 
+-- the old boundary that is met stands behind as many tokens
+met_is : (text new : List ℕ) (start stop moved : ℕ) (ts : List Token) (k at passed bound met : ℕ) (fresh : List Token) → IsUtf8 text →
+    ts ≡ tokens_of (chars text) → IsFound text new start stop moved ts k at passed bound met fresh →
+    position_or_len (moves_to stop moved (get_or (boundaries new) (k + length fresh) 0)) (boundaries text) ≡ k + passed + met
+unfolding count_to_meeting
+met_is text new start stop moved ts k at passed bound met fresh u f w =
+    let last : ℕ = k + passed + met in
+    let all : List Token = tokens_of (chars (drop at new)) in
+    let is_fresh : fresh ≡ take (length fresh) all = w.is_fresh ∙ ap (λ n. take n all) (sym w.count) in
+    let inside : length fresh ≤ length all = omega (arith, ap length is_fresh, length-take (length fresh) all) in
+    let at_end = old_end ts k passed met at bound w.is_at w.is_bound in
+    let read : get_or (boundaries new) (k + length fresh) 0 ≡ at + total (take (length fresh) all) =
+    sym (get_or-drop k (boundaries new) (length fresh) 0)
+    ∙ ap (λ xs. get_or xs (length fresh) 0) (later_boundaries text new start stop moved ts k at passed bound met fresh f w)
+    ∙ boundary_at (length fresh) at all inside in
+    let place : get_or (boundaries new) (k + length fresh) 0 ≡ 0 + total (take last ts) - stop + moved =
+    omega (arith, read, ap total is_fresh, w.meets, at_end, w.behind) in
+    ap (λ xs. position_or_len (moves_to stop moved (get_or (boundaries new) (k + length fresh) 0)) (boundaries_from 0 xs)) (sym f)
+    ∙ ap (λ p. position_or_len (moves_to stop moved p) (boundaries_from 0 ts)) place
+    ∙ moved_at stop moved last 0 ts (subst (λ xs. All (λ t. 1 ≤ t.len) xs) (sym f) (lengths_positive text u)) w.within (omega (arith, at_end, w.behind))
+
 pub mended_counts : (text new : List ℕ) (start stop : ℕ) (replacement : List ℕ) (ts : List Token) (k at passed bound met : ℕ) (fresh : List Token) →
     IsUtf8 text → IsUtf8 new → start ≤ stop → start ≤ length text → new ≡ edited text start stop replacement → ts ≡ tokens_of (chars text) →
     k ≡ front_of text start → IsFound text new start stop (start + length replacement) ts k at passed bound met fresh →
@@ -218,19 +240,19 @@ mended_counts text new start stop replacement ts k at passed bound met fresh u v
     (λ place. same_test text new start stop moved ts k at passed bound met fresh place u o f w)
     (boundaries_from at (tokens_of (chars (drop at new))))
     ∙ sym w.count in
-    let parts = mended_tokens text new start stop replacement ts k at passed bound met fresh u v l e f w in
-    let size = ap length (sym parts) ∙ length-append (take k ts) (fresh ++ drop (k + passed + met) ts) in
-    let size_rest = length-append fresh (drop (k + passed + met) ts) in
-    let ends : length (boundaries new) ≡ suc (length (tokens_of (chars new))) = ap suc (ends_length 0 (tokens_of (chars new))) in
-    let back : length (boundaries new) - 1 - (k + length fresh) ≡ length ts - (k + passed + met) =
-    omega (arith, size, size_rest, ends, length-take-le k ts (omega (arith, w.within)), length-drop (k + passed + met) ts) in
-    counts e is_k lexed back
+    ap (λ bs. made bs (front_of text start)) (sym e) ∙ ap (made new) (sym is_k)
+    ∙ ap (λ n. counts n (position_or_len (moves_to stop moved (get_or (boundaries new) (k + n) 0)) (boundaries text)) (tokens_of (chars text))) lexed
+    ∙ ap (λ n. counts (length fresh) n (tokens_of (chars text))) (met_is text new start stop moved ts k at passed bound met fresh u f w)
+    ∙ ap (counts (length fresh) (k + passed + met)) (sym f)
   where
-    counts : new ≡ edited text start stop replacement → k ≡ front_of text start →
-        position_or_len (is_moved_boundary text stop (start + length replacement)) (drop k (boundaries new)) ≡ length fresh →
-        length (boundaries new) - 1 - (k + length fresh) ≡ length ts - (k + passed + met) →
-        kept text start stop replacement ≡ record { front = k; lexed = length fresh; back = length ts - (k + passed + met) }
-    counts e is_k lexed back = rw (← e, ← is_k, lexed, back) refl
+    counts : ℕ → ℕ → List Token → Kept
+    counts n last old = record { front = k; lexed = n; back = length old - last }
+
+    made : List ℕ → ℕ → Kept
+    made bs front =
+        let lexed : ℕ = position_or_len (is_moved_boundary text stop (start + length replacement)) (drop front (boundaries bs)) in
+        let last : ℕ = position_or_len (moves_to stop (start + length replacement) (get_or (boundaries bs) (front + lexed) 0)) (boundaries text) in
+        record { front = front; lexed = lexed; back = length (tokens_of (chars text)) - last }
 
 -- ---- what an iterator gives that is taken to its end
 

@@ -8,7 +8,7 @@ use Rattle.rustc_lexer.specs.Lexing.{tokens_of, token_of, place}
 use Rattle.rustc_lexer.proofs.AgreeLemmas.{Agree, agree_less, agree_drop, agree_end, agree_end_too}
 use Rattle.rustc_lexer.proofs.LocalLemmas.{lexeme_local}
 use Rattle.rustc_lexer.proofs.PositiveLemmas.{lexeme_positive}
-use Rattle.rustc_lexer.proofs.TokenLemmas.{first_of_tokens}
+use Rattle.rustc_lexer.proofs.TokenLemmas.{first_of_tokens, utf8_len_split}
 
 -- ---- what follows a place
 
@@ -23,11 +23,6 @@ rest_of_tokens (suc k) (c ∷ cs) =
     behind n again = ap tokens_of (sym (drop-drop (place k (drop n (c ∷ cs))) n (c ∷ cs))) ∙ again
 
 -- ---- a place in bytes
-
-utf8_len_split : (n : ℕ) (cs : List ℕ) → utf8_len cs ≡ utf8_len (take n cs) + utf8_len (drop n cs)
-utf8_len_split zero cs = omega arith
-utf8_len_split (suc n) [] = refl
-utf8_len_split (suc n) (c ∷ cs) = omega (arith, utf8_len_split n cs)
 
 utf8_len_take : (n m : ℕ) (cs : List ℕ) → utf8_len (take (n + m) cs) ≡ utf8_len (take n cs) + utf8_len (take m (drop n cs))
 utf8_len_take n m cs =

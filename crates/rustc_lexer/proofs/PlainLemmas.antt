@@ -22,9 +22,7 @@ use Rattle.rustc_lexer.specs.declared.token.TokenKind.{TokenKind}
 use Rattle.rustc_lexer.specs.declared.token.TokenKind.TheVariants.{Ident, Literal, UnknownPrefix}
 use Rattle.rustc_lexer.proofs.PositiveLemmas.{choice}
 use Rattle.rustc_lexer.proofs.TokenLemmas.{first_of_tokens}
-
-no : {X : Type 0} → false ≡ true → X
-no e = absurd (let t : false ≡ true = e in cc)
+use Rattle.rustc_lexer.proofs.TestLemmas.{no}
 
 -- ---- characters that all pass a test
 
@@ -52,7 +50,7 @@ is_not p w c n h = by_test (c == w) refl
     by_test false f = refl
     by_test true f = (let same : w ≡ c = grind (arith, nat_tests) in no (sym n ∙ (ap p same ∙ h)))
 
-past_end : (cs : List ℕ) (n : ℕ) → length cs ≤ n → char_at cs n ≡ 0
+pub past_end : (cs : List ℕ) (n : ℕ) → length cs ≤ n → char_at cs n ≡ 0
 past_end [] n l = refl
 past_end (c ∷ cs) zero l = absurd (omega arith)
 past_end (c ∷ cs) (suc n) l = past_end cs n (omega arith)

@@ -4,7 +4,7 @@ use Rattle.std.specs.List.{prefix_len, position_or_len}
 use Rattle.std.proofs.lemmas.Bool.Decides.{nat_tests}
 use Rattle.std.proofs.lemmas.List.{length-take-le, drop-drop, get_or_past}
 use Rattle.std.proofs.lemmas.List.Sums.{prefix_len-le-length}
-use Rattle.std.proofs.lemmas.Str.{encodes-chars, length-le-encodes}
+use Rattle.std.proofs.lemmas.Str.{length-le-encodes}
 use Rattle.memchr.specs.Find.{is_byte}
 use Rattle.rustc_lexer.specs.Character.{char_at, is, utf8_len}
 use Rattle.rustc_lexer.specs.Literals.{hashes, raw_body}
@@ -13,7 +13,7 @@ use Rattle.rustc_lexer.specs.declared.raw.RawStrError.TheVariants.{NoTerminator}
 use Rattle.rustc_lexer.specs.Stretch.{IsRead}
 use Rattle.rustc_lexer.proofs.BodyLemmas.{found_passes}
 use Rattle.rustc_lexer.proofs.CutLemmas.{length_encodes}
-use Rattle.rustc_lexer.proofs.TokenLemmas.{bytes_passed, chars_at_most}
+use Rattle.rustc_lexer.proofs.TokenLemmas.{bytes_passed, chars_at_most, length_text}
 
 -- ---- lengths
 
@@ -23,9 +23,6 @@ pub bytes_behind : (bs ds : List ℕ) (n : ℕ) → IsUtf8 bs → IsUtf8 ds → 
 bytes_behind bs ds n u v e h =
     let front : List ℕ = take n (chars bs) in
     omega (arith, bytes_passed bs ds n u v e, length-le-encodes front, length_encodes front, length-take-le n (chars bs) h)
-
-length_text : (bs : List ℕ) → IsUtf8 bs → length bs ≡ utf8_len (chars bs)
-length_text bs u = ap length (sym (encodes-chars bs u)) ∙ length_encodes (chars bs)
 
 -- ---- how far a search has come
 

@@ -17,8 +17,8 @@ use Rattle.rustc_lexer.specs.declared.token.LiteralKind.{LiteralKind}
 use Rattle.rustc_lexer.specs.declared.token.LiteralKind.TheVariants.{Byte, Char, Str, ByteStr, CStr, RawStr, RawByteStr, RawCStr}
 use Rattle.rustc_lexer.specs.declared.token.TokenKind.TheVariants.{UnknownPrefix, Ident}
 use Rattle.rustc_lexer.proofs.CutLemmas.{behind_chars}
-use Rattle.rustc_lexer.proofs.MendLemmas.{length_text}
 use Rattle.rustc_lexer.proofs.PositiveLemmas.{choice}
+use Rattle.rustc_lexer.proofs.TokenLemmas.{length_text}
 
 -- more characters take no fewer bytes
 more_bytes : (n k : ℕ) (cs : List ℕ) → utf8_len (take n cs) ≤ utf8_len (take (n + k) cs)

@@ -13,10 +13,11 @@ use Rattle.rustc_lexer.specs.declared.token.TokenKind.{TokenKind}
 -- ---- lengths
 
 -- a text has as many bytes as its characters take
-length_text : (bs : List ℕ) → IsUtf8 bs → length bs ≡ utf8_len (chars bs)
+pub length_text : (bs : List ℕ) → IsUtf8 bs → length bs ≡ utf8_len (chars bs)
 length_text bs u = ap length (sym (encodes-chars bs u)) ∙ length_encodes (chars bs)
 
-utf8_len_split : (n : ℕ) (cs : List ℕ) → utf8_len cs ≡ utf8_len (take n cs) + utf8_len (drop n cs)
+-- a text's characters take what those before a place take, and those from there on
+pub utf8_len_split : (n : ℕ) (cs : List ℕ) → utf8_len cs ≡ utf8_len (take n cs) + utf8_len (drop n cs)
 utf8_len_split zero cs = omega arith
 utf8_len_split (suc n) [] = refl
 utf8_len_split (suc n) (c ∷ cs) = omega (arith, utf8_len_split n cs)

@@ -1,9 +1,9 @@
 -- What a cursor over a text has left, and what its calls make of it. Texts are lists of bytes here.
-use Rattle.std.specs.Prelude.{ℕ, ◌+◌, Bool, false, ◌==◌, List, take, drop, min, length, chars, Option, Some, None, if◌then◌else◌}
-use Rattle.rustc_lexer.specs.Character.{char_at, is, utf8_len, identifier_len}
+use Rattle.std.specs.Prelude.{ℕ, ◌+◌, Bool, ◌==◌, List, take, drop, length, chars, Option, Some, None, if◌then◌else◌}
+use Rattle.rustc_lexer.specs.Character.{utf8_len}
 use Rattle.rustc_lexer.specs.Lexeme.{Lexeme, lexeme}
-use Rattle.rustc_lexer.specs.Literals.{hashes, string_body}
-use Rattle.rustc_lexer.specs.Stretch.{Stretch, further}
+use Rattle.rustc_lexer.specs.Literals.{hashes, guarded_string}
+use Rattle.rustc_lexer.specs.Stretch.{Stretch}
 use Rattle.rustc_lexer.specs.declared.token.Token.{Token}
 use Rattle.rustc_lexer.specs.declared.token.TokenKind.{TokenKind}
 use Rattle.rustc_lexer.specs.declared.token.TokenKind.TheVariants.{Literal, Eof}
@@ -41,28 +41,6 @@ abbrev pub past_token : Unread → Unread
 past_token u =
     if length u.rest == 0 then u
     else record { rest = drop (bytes_of (lexeme (chars u.rest)).size u.rest) u.rest; pending = 0 }
-
--- what follows the body of a string that n hashes stand before: at most n hashes, and a suffix
-abbrev pub guard_end : ℕ → List ℕ → ℕ
-guard_end n cs =
-    let closing : ℕ = min n (hashes cs).size in closing + identifier_len (drop closing cs)
-
--- a string that n hashes stand before, from its quote on: whether it is terminated, and what it takes
-abbrev pub guarded_body : ℕ → List ℕ → Stretch Bool
-guarded_body n cs =
-    let body : Stretch Bool = further 1 (string_body false (drop 1 cs)) in
-    record {
-      value = body.value;
-      size = if body.value then body.size + guard_end n (drop body.size cs) else body.size;
-    }
-
--- a guarded string: all hashes at the front and the string behind them, or the hashes alone where none stands there
-abbrev pub guarded_string : List ℕ → Stretch (Option Bool)
-guarded_string cs =
-    let n : ℕ = (hashes cs).size in
-    let body : Stretch Bool = further n (guarded_body n (drop n cs)) in
-    if is "\"" (char_at cs n) then record { value = Some body.value; size = body.size }
-    else record { value = None; size = n }
 
 -- what a guarded string is told as: its hashes, whether it is terminated, and all bytes that it takes
 abbrev pub guarded_of : ℕ → ℕ → ℕ → Option Bool → Option GuardedStr

@@ -1,5 +1,5 @@
 -- What an edit of a text keeps of the text's tokens. Texts are lists of bytes, and places are in bytes.
-use Rattle.std.specs.Prelude.{ℕ, ◌+◌, ◌-◌, Bool, ◌&&◌, ◌==◌, nat_le, List, [], ◌∷◌, ◌++◌, length, take, drop, chars}
+use Rattle.std.specs.Prelude.{ℕ, ◌+◌, ◌-◌, Bool, ◌&&◌, ◌==◌, nat_le, List, [], ◌∷◌, ◌++◌, length, take, drop, get_or, chars}
 use Rattle.std.specs.List.{prefix_len, position_or_len, list_any}
 use Rattle.rustc_lexer.specs.Lexing.{tokens_of}
 use Rattle.rustc_lexer.specs.declared.lexed.Kept.{Kept}
@@ -39,10 +39,12 @@ abbrev pub is_moved_boundary : List ℕ → ℕ → ℕ → ℕ → Bool
 is_moved_boundary text stop moved place = list_any (moves_to stop moved place) (boundaries text)
 
 -- what an edit keeps: the tokens that end at least two characters before `start`; then lexing goes on, up to the first
--- boundary of the new text that is a moved boundary of the old; the tokens behind it
+-- boundary of the new text that is a moved boundary of the old; the old tokens behind this one
 abbrev pub kept : List ℕ → ℕ → ℕ → List ℕ → Kept
 kept text start stop replacement =
     let new : List ℕ = boundaries (edited text start stop replacement) in
+    let moved : ℕ = start + length replacement in
     let front : ℕ = front_of text start in
-    let lexed : ℕ = position_or_len (is_moved_boundary text stop (start + length replacement)) (drop front new) in
-    record { front = front; lexed = lexed; back = length new - 1 - (front + lexed) }
+    let lexed : ℕ = position_or_len (is_moved_boundary text stop moved) (drop front new) in
+    let met : ℕ = position_or_len (moves_to stop moved (get_or new (front + lexed) 0)) (boundaries text) in
+    record { front = front; lexed = lexed; back = length (tokens_of (chars text)) - met }

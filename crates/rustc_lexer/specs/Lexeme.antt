@@ -60,7 +60,7 @@ plain_word cs = lexeme_of (if is_prefix_mark (char_at cs (identifier_len cs)) th
 
 -- an identifier behind two characters
 abbrev pub marked_word : TokenKind → List ℕ → Lexeme
-marked_word kind cs = lexeme_of kind (2 + continues (drop 2 cs))
+marked_word kind cs = lexeme_of kind (2 + identifier_len (drop 2 cs))
 
 -- what begins with a character that may begin an identifier: raw identifiers and strings, bytes, strings of bytes and of C,
 -- forced keywords; or a plain word

@@ -1,5 +1,5 @@
 -- The bodies and suffixes of literals, after the Rust Reference's chapter "Tokens". Texts are lists of characters.
-use Rattle.std.specs.Prelude.{ℕ, ◌+◌, Bool, true, false, not, ◌||◌, ◌&&◌, ◌==◌, nat_le, List, [], ◌∷◌, length, take, drop, Option, Some, None, if◌then◌else◌}
+use Rattle.std.specs.Prelude.{ℕ, ◌+◌, Bool, true, false, not, ◌||◌, ◌&&◌, ◌==◌, nat_le, List, [], ◌∷◌, length, take, drop, min, Option, Some, None, if◌then◌else◌}
 use Rattle.std.specs.List.{prefix_len}
 use Rattle.rustc_lexer.specs.Character.{char_at, begins, is, utf8_len, identifier_len}
 use Rattle.rustc_lexer.specs.Stretch.{Stretch, further}
@@ -70,3 +70,25 @@ raw_form cs =
     let body : Stretch Bool = further 1 (raw_body n (drop 1 (drop n cs))) in
     if is "\"" (char_at cs n) then further n (record { value = hashes_of body.value n; size = body.size })
     else further n (record { value = None; size = length (take 1 (drop n cs)) })
+
+-- what follows the body of a string that n hashes stand before: at most n hashes, and a suffix
+abbrev pub guard_end : ℕ → List ℕ → ℕ
+guard_end n cs =
+    let closing : ℕ = min n (hashes cs).size in closing + identifier_len (drop closing cs)
+
+-- a string that n hashes stand before, from its quote on: whether it is terminated, and what it takes
+abbrev pub guarded_body : ℕ → List ℕ → Stretch Bool
+guarded_body n cs =
+    let body : Stretch Bool = further 1 (string_body false (drop 1 cs)) in
+    record {
+      value = body.value;
+      size = if body.value then body.size + guard_end n (drop body.size cs) else body.size;
+    }
+
+-- a guarded string: all hashes at the front and the string behind them, or the hashes alone where none stands there
+abbrev pub guarded_string : List ℕ → Stretch (Option Bool)
+guarded_string cs =
+    let n : ℕ = (hashes cs).size in
+    let body : Stretch Bool = further n (guarded_body n (drop n cs)) in
+    if is "\"" (char_at cs n) then record { value = Some body.value; size = body.size }
+    else record { value = None; size = n }

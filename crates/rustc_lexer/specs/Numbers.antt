@@ -52,6 +52,11 @@ after_run base cs =
     else if is_exponent_mark (char_at cs 0) then further 1 (exponent base (drop 1 cs))
     else record { value = Int base false; size = 0 }
 
+-- a digit as it is read behind a base's prefix: any decimal one, but for hexadecimal ones
+abbrev pub digit_of : Base → ℕ → Bool
+digit_of Hexadecimal = is_hex_digit
+digit_of base = is_digit
+
 -- what follows the prefix of a base: a run, without a digit in which the number ends
 abbrev pub based : Base → (ℕ → Bool) → List ℕ → Stretch LiteralKind
 based base digit cs =

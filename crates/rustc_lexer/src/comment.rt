@@ -1,14 +1,15 @@
 //! Comments.
-ghost use Rattle.std.specs.Prelude.{◌≡◌, ◌&&◌, chars};
-ghost use Rattle.rustc_lexer.specs.Character.{is};
+ghost use Rattle.std.specs.Prelude.{◌≡◌, ◌&&◌, true, codes, chars};
+ghost use Rattle.rustc_lexer.specs.Character.{begins, is};
 ghost use Rattle.rustc_lexer.specs.Comments.{line_style, line_comment, block_style, block_body, block_comment};
 ghost use Rattle.rustc_lexer.specs.Stretch.{IsRead};
 
-use crate::steps::{begins, behind, first, from_line_feed, second, split_first, third};
+use crate::steps::{behind, first, from_line_feed, second, split_first, third};
 use crate::token::{DocStyle, TokenKind};
 
 // A line comment, up to the end of its line.
 pub fn line_comment(text: &str) -> (TokenKind, &str)
+    requires { begins "//" (chars text.now) ≡ true }
     ensures { IsRead (line_comment (chars text.now)) text.now result.0 result.1.now }
 {
     let doc_style = line_style(text);
@@ -17,11 +18,9 @@ pub fn line_comment(text: &str) -> (TokenKind, &str)
 
 // Whether a line comment documents.
 fn line_style(text: &str) -> Option<DocStyle>
+    requires { begins "//" (chars text.now) ≡ true }
     ensures { result ≡ line_style (chars text.now) }
 {
-    if !begins(text, '/', '/') {
-        return None;
-    }
     match third(text) {
         '!' => Some(DocStyle::Inner),
         '/' if second(behind(behind(text))) != '/' => Some(DocStyle::Outer),
@@ -31,6 +30,7 @@ fn line_style(text: &str) -> Option<DocStyle>
 
 // A block comment, with the comments inside it.
 pub fn block_comment(text: &str) -> (TokenKind, &str)
+    requires { begins "/*" (chars text.now) ≡ true }
     ensures { IsRead (block_comment (chars text.now)) text.now result.0 result.1.now }
 {
     let doc_style = block_style(text);
@@ -46,11 +46,9 @@ pub fn block_comment(text: &str) -> (TokenKind, &str)
 
 // Whether a block comment documents.
 fn block_style(text: &str) -> Option<DocStyle>
+    requires { begins "/*" (chars text.now) ≡ true }
     ensures { result ≡ block_style (chars text.now) }
 {
-    if !begins(text, '/', '*') {
-        return None;
-    }
     match third(text) {
         '!' => Some(DocStyle::Inner),
         '*' if !matches!(second(behind(behind(text))), '*' | '/') => Some(DocStyle::Outer),

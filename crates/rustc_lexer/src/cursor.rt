@@ -93,8 +93,8 @@ impl<'a> Cursor<'a> {
         ensures rest { self.new ≡ past_guarded self.old }
     {
         let text = self.rest;
-        let (n_hashes, _) = count_hashes(text);
-        let (found, rest) = guarded_string(text);
+        let (n_hashes, opening) = count_hashes(text);
+        let (found, rest) = guarded_string(opening, n_hashes);
         let token_len = self.pending + (text.len() - rest.len()) as u32;
         self.rest = rest;
         match found {

@@ -3,7 +3,7 @@ ghost use Rattle.std.specs.Prelude.{◌≡◌, ◌+◌, ◌-◌, ◌<◌, ◌≤
 ghost use Rattle.rustc_lexer.specs.Edit.{edited, kept};
 ghost use Rattle.rustc_lexer.specs.Lexing.{tokens_of};
 
-use crate::marks::{Mark, move_marks, nearest, refine};
+use crate::marks::{Mark, move_marks, refine};
 use crate::mend::mend;
 use crate::token::{FrontmatterAllowed, Token};
 use crate::tokenize;
@@ -105,8 +105,7 @@ impl LexedText {
     {
         let alloc = *self.text.allocator();
         let held = self.tokens.len();
-        refine(&self.text, &mut self.marks, &self.tokens, start)?;
-        let (_, near) = nearest(&self.text, &self.marks, start);
+        let near = refine(&self.text, &mut self.marks, &self.tokens, start)?;
         let mended = mend(
             alloc,
             &mut self.text,

@@ -1,9 +1,8 @@
 //! The bodies and suffixes of literals.
-ghost use Rattle.std.specs.Prelude.{◌≡◌, ◌<◌, ◌≤◌, ◌^◌, ◌-◌, ℕ, Bool, true, false, nat_le, min, drop, length, chars, MatchOption, IsUtf8, IfSome};
+ghost use Rattle.std.specs.Prelude.{◌≡◌, ◌<◌, ◌≤◌, ◌^◌, ◌-◌, ℕ, List, Bool, true, false, nat_le, min, drop, length, chars, MatchOption, IsUtf8, IfSome};
 ghost use Rattle.std.specs.List.{prefix_len};
 ghost use Rattle.rustc_lexer.specs.Character.{is, identifier_len};
-ghost use Rattle.rustc_lexer.specs.Literals.{with_suffix, bare, literal, quoted_body, quoted_rest, string_body, raw_body, raw_form, hashes, hashes_of};
-ghost use Rattle.rustc_lexer.specs.Cursors.{guarded_body, guarded_string};
+ghost use Rattle.rustc_lexer.specs.Literals.{with_suffix, bare, literal, quoted_body, quoted_rest, string_body, raw_body, raw_form, hashes, hashes_of, guarded_body, guarded_string};
 ghost use Rattle.rustc_lexer.specs.Stretch.{IsRead};
 
 use crate::character::is_id_start;
@@ -24,7 +23,7 @@ fn bytes_before(text: &str, rest: &str) -> u32
 
 // What follows an identifier, if one stands at the front.
 #[inline]
-fn skip_identifier(text: &str) -> &str
+pub fn skip_identifier(text: &str) -> &str
     ensures { chars result.now ≡ drop (identifier_len (chars text.now)) (chars text.now) }
 {
     if is_id_start(first(text)) {
@@ -156,7 +155,8 @@ fn raw_body(text: &str, n: usize) -> (bool, &str)
 
 // The hashes at the front: how many, and what follows them.
 pub fn count_hashes(text: &str) -> (usize, &str)
-    ensures { IsRead (hashes (chars text.now)) text.now result.0 result.1.now }
+    ensures utf8 { IsUtf8 text.now }
+    ensures read { IsRead (hashes (chars text.now)) text.now result.0 result.1.now }
 {
     let rest = skip_while::<Hash>(text);
     (text.len().saturating_sub(rest.len()), rest)
@@ -209,12 +209,11 @@ fn guarded_body(text: &str, n: usize) -> (bool, &str)
     (true, skip_identifier(skip_closing(rest, n)))
 }
 
-// A string between hashes: whether it is terminated, or None where no string follows the hashes, and what is left.
-pub fn guarded_string(text: &str) -> (Option<bool>, &str)
-    ensures utf8 { IsUtf8 text.now }
-    ensures read { IsRead (guarded_string (chars text.now)) text.now result.0 result.1.now }
+// What stands behind n hashes: whether a string there is terminated, or None where there is none, and what is left.
+pub fn guarded_string(opening: &str, n: usize) -> (Option<bool>, &str)
+    ensures { (text : List ℕ) → IsRead (hashes (chars text)) text n opening.now →
+        IsRead (guarded_string (chars text)) text result.0 result.1.now }
 {
-    let (n, opening) = count_hashes(text);
     if first(opening) != '"' {
         return (None, opening);
     }

@@ -3,7 +3,7 @@
 //!
 //! Which marks there are is a matter of speed alone. A walk that would be long leaves a mark half-way, and an edit moves the
 //! marks behind it.
-ghost use Rattle.std.specs.Prelude.{◌≡◌, ◌+◌, ◌<◌, ◌≤◌, ◌^◌, ℕ, true, length, map, take, drop, chars, IsCharBoundary};
+ghost use Rattle.std.specs.Prelude.{◌≡◌, ◌+◌, ◌<◌, ◌≤◌, ◌^◌, ℕ, true, length, map, take, drop, chars, IfOk, IsCharBoundary};
 ghost use Rattle.std.specs.List.{All, list_any};
 ghost use Rattle.rustc_lexer.specs.Edit.{boundaries_from, is_clear_of, moves_to};
 ghost use Rattle.rustc_lexer.specs.Lexing.{tokens_of};
@@ -89,32 +89,36 @@ fn thin_out(marks: &mut Vec<Mark>, tokens: &[Token])
     }
 }
 
-/// Leaves a mark half-way to `start` where the nearest one is far from it, unless a single token reaches from there past `start`.
+/// The last mark that is clear of `start`, or the text's begin. Where it is far from there a mark is left half-way first,
+/// unless a single token reaches from there to `start`.
 pub fn refine(
     text: &str,
     marks: &mut Vec<Mark>,
     tokens: &[Token],
     start: usize,
-) -> Result<(), AllocError>
+) -> Result<Mark, AllocError>
     requires marks { All (IsMark tokens.now) marks.old.items }
     requires tokens { tokens.now ≡ tokens_of (chars text.now) }
     requires small { length text.now < 2 ^ 32 }
     requires start { IsCharBoundary text.now start }
-    ensures { All (IsMark tokens.now) marks.new.items }
+    ensures marks { All (IsMark tokens.now) marks.new.items }
+    ensures mark { IfOk result (IsMark tokens.now) }
+    ensures clear { IfOk result (λ m. 0 < m.tokens → is_clear_of text.now start m.place ≡ true) }
 {
     thin_out(marks, tokens);
     let (passed, near) = nearest(text, marks, start);
     if start < near.place || start - near.place < FAR {
-        return Ok(());
+        return Ok(near);
     }
     let half = near.place + (start - near.place) / 2;
     let (walked, place) = first_from(&tokens[near.tokens..], near.place, half);
-    if start < place {
-        return Ok(());
+    if !is_clear(text, place, start) {
+        return Ok(near);
     }
     let tokens = near.tokens + walked;
-    marks.insert(passed, Mark { tokens, place })?;
-    Ok(())
+    let mark = Mark { tokens, place };
+    marks.insert(passed, mark)?;
+    Ok(mark)
 }
 
 // The mark's boundary in the edited text, or the boundary where lexing began, if it is lost.

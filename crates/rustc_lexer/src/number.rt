@@ -1,9 +1,7 @@
 //! Numbers.
 ghost use Rattle.std.specs.Prelude.{◌≡◌, chars};
-ghost use Rattle.rustc_lexer.specs.Character.{is_digit, is_hex_digit};
-ghost use Rattle.rustc_lexer.specs.Numbers.{run, is_exponent_mark, exponent, after_fraction, fraction, begins_fraction, after_run, based, decimal, number};
+ghost use Rattle.rustc_lexer.specs.Numbers.{digit_of, run, is_exponent_mark, exponent, after_fraction, fraction, begins_fraction, after_run, based, decimal, number};
 ghost use Rattle.rustc_lexer.specs.Stretch.{IsRead};
-ghost use Rattle.rustc_lexer.specs.declared.token.Base.TheVariants.{Hexadecimal};
 
 use crate::character::is_id_start;
 use crate::steps::{
@@ -21,7 +19,7 @@ pub fn number(text: &str) -> (LiteralKind, &str)
     match second(text) {
         'b' => based(Base::Binary, behind(behind(text))),
         'o' => based(Base::Octal, behind(behind(text))),
-        'x' => hexadecimal(behind(behind(text))),
+        'x' => based(Base::Hexadecimal, behind(behind(text))),
         _ => decimal(text),
     }
 }
@@ -32,11 +30,11 @@ fn decimal(text: &str) -> (LiteralKind, &str)
     after_run(Base::Decimal, skip_while::<DecimalRun>(text))
 }
 
-// What follows the prefix of a base whose digits are decimal ones.
+// What follows the prefix of a base.
 fn based(base: Base, text: &str) -> (LiteralKind, &str)
-    ensures { IsRead (based base is_digit (chars text.now)) text.now result.0 result.1.now }
+    ensures { IsRead (based base (digit_of base) (chars text.now)) text.now result.0 result.1.now }
 {
-    let (digits, rest) = decimal_run(text);
+    let (digits, rest) = run(base, text);
     if digits {
         return after_run(base, rest);
     }
@@ -44,32 +42,15 @@ fn based(base: Base, text: &str) -> (LiteralKind, &str)
     (LiteralKind::Int { base, empty_int }, rest)
 }
 
-// What follows `0x`.
-fn hexadecimal(text: &str) -> (LiteralKind, &str)
-    ensures { IsRead (based Hexadecimal is_hex_digit (chars text.now)) text.now result.0 result.1.now }
+// A run of the base's digits and `_`: whether a digit is in it, and what follows it.
+fn run(base: Base, text: &str) -> (bool, &str)
+    ensures { IsRead (run (digit_of base) (chars text.now)) text.now result.0 result.1.now }
 {
-    let base = Base::Hexadecimal;
-    let (digits, rest) = hexadecimal_run(text);
-    if digits {
-        return after_run(base, rest);
+    let next = first(skip_while::<Underscore>(text));
+    match base {
+        Base::Hexadecimal => (is_hex_digit(next), skip_while::<HexRun>(text)),
+        _ => (is_digit(next), skip_while::<DecimalRun>(text)),
     }
-    let empty_int = true;
-    (LiteralKind::Int { base, empty_int }, rest)
-}
-
-// A run of digits and `_`: whether a digit is in it, and what follows it.
-fn decimal_run(text: &str) -> (bool, &str)
-    ensures { IsRead (run is_digit (chars text.now)) text.now result.0 result.1.now }
-{
-    let digits = is_digit(first(skip_while::<Underscore>(text)));
-    (digits, skip_while::<DecimalRun>(text))
-}
-
-fn hexadecimal_run(text: &str) -> (bool, &str)
-    ensures { IsRead (run is_hex_digit (chars text.now)) text.now result.0 result.1.now }
-{
-    let digits = is_hex_digit(first(skip_while::<Underscore>(text)));
-    (digits, skip_while::<HexRun>(text))
 }
 
 // What follows the first run of a number.
@@ -147,7 +128,7 @@ fn exponent(base: Base, text: &str) -> (LiteralKind, &str)
     } else {
         text
     };
-    let (digits, rest) = decimal_run(signed);
+    let (digits, rest) = run(Base::Decimal, signed);
     (
         LiteralKind::Float {
             base,

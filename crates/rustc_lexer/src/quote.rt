@@ -12,7 +12,8 @@ use crate::token::{LiteralKind, TokenKind};
 
 // A lifetime or a character.
 pub fn quote(text: &str) -> (TokenKind, &str)
-    requires { length text.now < 2 ^ 32 }
+    requires small { length text.now < 2 ^ 32 }
+    requires mark { char_at (chars text.now) 0 ≡ 39 }
     ensures { IsRead (quote (chars text.now)) text.now result.0 result.1.now }
 {
     if begins_lifetime(text) {
@@ -44,18 +45,17 @@ fn character(text: &str) -> (TokenKind, &str)
 
 // `'r#` and the start of an identifier.
 fn begins_raw_lifetime(text: &str) -> bool
+    requires { char_at (chars text.now) 0 ≡ 39 }
     ensures { result ≡ (begins "'r#" (chars text.now) && is_id_start (char_at (chars text.now) 3)) }
 {
-    if first(text) != '\'' {
-        return false;
-    }
     let name = behind(text);
     begins(name, 'r', '#') && is_id_start(third(name))
 }
 
 // A lifetime, or a character of one letter.
 fn lifetime(text: &str) -> (TokenKind, &str)
-    requires { length text.now < 2 ^ 32 }
+    requires small { length text.now < 2 ^ 32 }
+    requires mark { char_at (chars text.now) 0 ≡ 39 }
     ensures { IsRead (lifetime (chars text.now)) text.now result.0 result.1.now }
 {
     let name = behind(text);

@@ -7,7 +7,7 @@ ghost use Rattle.rustc_lexer.specs.Words.{b_word, c_word, k_word, r_word, word_k
 ghost use Rattle.rustc_lexer.specs.declared.token.LiteralKind.TheVariants.{Byte, ByteStr, CStr, RawStr, RawByteStr, RawCStr};
 
 use crate::character::is_id_start;
-use crate::literal::{literal, quoted_body, raw_form, string_body};
+use crate::literal::{literal, quoted_body, raw_form, skip_identifier, string_body};
 use crate::steps::{Continue, begins, behind, first, first_byte, skip_while, third};
 use crate::token::{LiteralKind, TokenKind};
 
@@ -171,7 +171,7 @@ fn begins_raw_c_string(text: &str) -> bool
 fn marked_word(kind: TokenKind, text: &str) -> (TokenKind, &str)
     ensures { IsRead (marked_word kind (chars text.now)) text.now result.0 result.1.now }
 {
-    (kind, skip_while::<Continue>(behind(behind(text))))
+    (kind, skip_identifier(behind(behind(text))))
 }
 
 // `b'a'`

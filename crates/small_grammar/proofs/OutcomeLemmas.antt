@@ -1,5 +1,6 @@
 -- At each list an expression comes out in one way alone, and that is what it takes.
-use Rattle.std.proofs.Common.{◌≡◌, ℕ, suc, zero, ◌≤◌, ◌<◌, Bool, true, false, ◌&&◌, ◌||◌, inl, inr, refl, sym, ap, ◌∙◌, subst, arith, Option, Some, None}
+use Rattle.std.proofs.Common.{◌≡◌, ℕ, suc, zero, ◌≤◌, ◌<◌, Bool, true, ◌&&◌, ◌||◌, inl, inr, refl, sym, ap, ◌∙◌, subst, arith, Option, Some, None}
+use Rattle.std.proofs.lemmas.Bool.{and_parts}
 use Rattle.std.specs.Prelude.{option_and_then, unwrap_or, nat_lt}
 use Rattle.tt_data.specs.Forest.{Forest, size}
 use Rattle.fragment_grammar.specs.declared.fragment.PrefixEntryPoint.{PrefixEntryPoint}
@@ -41,14 +42,6 @@ entry-finite Path = refl
 entry-finite Item = refl
 entry-finite MetaItem = refl
 
-left : (a b : Bool) → (a && b) ≡ true → a ≡ true
-left true b e = refl
-left false b e = absurd cc
-
-right : (a b : Bool) → (a && b) ≡ true → b ≡ true
-right true b e = e
-right false b e = absurd cc
-
 positive : (n : ℕ) → nat_lt 0 n ≡ true → 1 ≤ n
 positive zero e = absurd cc
 positive (suc n) e = omega arith
@@ -58,15 +51,15 @@ positive (suc n) e = omega arith
 pub comes-once : (e : Expression) (f : Forest) (o : Option Forest) → is_finite e ≡ true → Comes e f o → takes e f ≡ o
 comes-once never f o fin (never_fits g) = refl
 comes-once (token t) f o fin (as_token u g) = refl
-comes-once (a ⨾ b) f o fin (stopped _ _ _ none) = ap (option_and_then (takes b)) (comes-once a f None (left (is_finite a) (is_finite b) fin) none)
+comes-once (a ⨾ b) f o fin (stopped _ _ _ none) = ap (option_and_then (takes b)) (comes-once a f None (and_parts (is_finite a) (is_finite b) fin).0 none)
 comes-once (a ⨾ b) f o fin (went_on _ _ _ g _ some more) =
-    ap (option_and_then (takes b)) (comes-once a f (Some g) (left (is_finite a) (is_finite b) fin) some) ∙ comes-once b g o (right (is_finite a) (is_finite b) fin) more
-comes-once (a ∣ b) f o fin (by_first _ _ _ g some) = ap (λ p. otherwise p (takes b) f) (comes-once a f (Some g) (left (is_finite a) (is_finite b) fin) some)
+    ap (option_and_then (takes b)) (comes-once a f (Some g) (and_parts (is_finite a) (is_finite b) fin).0 some) ∙ comes-once b g o (and_parts (is_finite a) (is_finite b) fin).1 more
+comes-once (a ∣ b) f o fin (by_first _ _ _ g some) = ap (λ p. otherwise p (takes b) f) (comes-once a f (Some g) (and_parts (is_finite a) (is_finite b) fin).0 some)
 comes-once (a ∣ b) f o fin (by_second _ _ _ _ none more) =
-    ap (λ p. otherwise p (takes b) f) (comes-once a f None (left (is_finite a) (is_finite b) fin) none) ∙ comes-once b f o (right (is_finite a) (is_finite b) fin) more
-comes-once (many a) f o fin (no_round _ _ none) = many_none a f (comes-once a f None (right (nat_lt 0 (least a)) (is_finite a) fin) none)
+    ap (λ p. otherwise p (takes b) f) (comes-once a f None (and_parts (is_finite a) (is_finite b) fin).0 none) ∙ comes-once b f o (and_parts (is_finite a) (is_finite b) fin).1 more
+comes-once (many a) f o fin (no_round _ _ none) = many_none a f (comes-once a f None (and_parts (nat_lt 0 (least a)) (is_finite a) fin).1 none)
 comes-once (many a) f o fin (one_round _ _ g _ some more) =
-    many_on a (positive (least a) (left (nat_lt 0 (least a)) (is_finite a) fin)) f g (comes-once a f (Some g) (right (nat_lt 0 (least a)) (is_finite a) fin) some)
+    many_on a (positive (least a) (and_parts (nat_lt 0 (least a)) (is_finite a) fin).0) f g (comes-once a f (Some g) (and_parts (nat_lt 0 (least a)) (is_finite a) fin).1 some)
     ∙ comes-once (many a) g o fin more
 comes-once (maybe a) f o fin (left_out _ _ none) = ap (λ p. Some (unwrap_or p f)) (comes-once a f None fin none)
 comes-once (maybe a) f o fin (put_in _ _ g some) = ap (λ p. Some (unwrap_or p f)) (comes-once a f (Some g) fin some)
@@ -106,14 +99,14 @@ module _ (n : ℕ) (below : (k : Name) (f : Forest) → size f < n → Comes (ru
   comes-from never f fin asks = never_fits f
   comes-from (token t) f fin asks = as_token t f
   comes-from (a ⨾ b) f fin asks =
-      then_comes a b f (takes a f) refl (comes-from a f (left (is_finite a) (is_finite b) fin) (asks-first n (is_guarded a) (nat_lt 0 (least a) || is_guarded b) f asks))
-      (λ g e. comes-from b g (right (is_finite a) (is_finite b) fin)
+      then_comes a b f (takes a f) refl (comes-from a f (and_parts (is_finite a) (is_finite b) fin).0 (asks-first n (is_guarded a) (nat_lt 0 (least a) || is_guarded b) f asks))
+      (λ g e. comes-from b g (and_parts (is_finite a) (is_finite b) fin).1
       (asks-behind n (least a) (is_guarded b) f g (shorter a f g e) (asks-second n (is_guarded a) (nat_lt 0 (least a) || is_guarded b) f asks)))
   comes-from (a ∣ b) f fin asks =
-      either_comes a b f (takes a f) (comes-from a f (left (is_finite a) (is_finite b) fin) (asks-first n (is_guarded a) (is_guarded b) f asks))
-      (comes-from b f (right (is_finite a) (is_finite b) fin) (asks-second n (is_guarded a) (is_guarded b) f asks))
+      either_comes a b f (takes a f) (comes-from a f (and_parts (is_finite a) (is_finite b) fin).0 (asks-first n (is_guarded a) (is_guarded b) f asks))
+      (comes-from b f (and_parts (is_finite a) (is_finite b) fin).1 (asks-second n (is_guarded a) (is_guarded b) f asks))
   comes-from (many a) f fin asks =
-      many_comes a (positive (least a) (left (nat_lt 0 (least a)) (is_finite a) fin)) (λ g. comes-from a g (right (nat_lt 0 (least a)) (is_finite a) fin))
+      many_comes a (positive (least a) (and_parts (nat_lt 0 (least a)) (is_finite a) fin).0) (λ g. comes-from a g (and_parts (nat_lt 0 (least a)) (is_finite a) fin).1)
       (suc (size f)) f (omega arith) asks
   comes-from (maybe a) f fin asks = maybe_comes a f (takes a f) (comes-from a f fin asks)
   comes-from (rule k) f fin (inl (guarded, fits)) = absurd cc

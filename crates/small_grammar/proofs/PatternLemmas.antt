@@ -1,6 +1,6 @@
 -- A pattern behind a reference's sign, or behind a name and `@`: which alternatives are left there.
 use Rattle.std.proofs.Common.{◌≡◌, ℕ, Bool, true, false, ◌&&◌, ◌||◌, ◌⊎◌, inl, inr, not, List, nat_eq, refl, sym, ap, ◌∙◌, codes, Option, Some, None}
-use Rattle.std.proofs.lemmas.Bool.{eqb-true}
+use Rattle.std.proofs.lemmas.Bool.{and_parts, eqb-true}
 use Rattle.std.proofs.lemmas.Slice.Eq.{bytes_eq-Decides}
 use Rattle.std.specs.Option.{option_or}
 use Rattle.std.specs.Prelude.{option_and_then, unwrap_or}
@@ -15,6 +15,7 @@ use Rattle.small_grammar.specs.declared.units.Operator.TheVariants.{One, Two, Th
 use Rattle.small_grammar.proofs.ChoiceLemmas.{skip, alone, both, or_same, same_otherwise, two_parts, four_parts}
 use Rattle.small_grammar.proofs.OperatorLemmas.{one_of-is}
 use Rattle.small_grammar.proofs.TakingLemmas.{then_on, then_none}
+use Rattle.small_grammar.proofs.TypeLemmas.{passes}
 use Rattle.small_grammar.specs.Expressions.{a_pattern, Expression, ◌⨾◌, ◌∣◌, many, maybe, Taking, otherwise, after_rounds}
 use Rattle.small_grammar.specs.Rules.{rule-is}
 use Rattle.small_grammar.specs.Signs.{reference_sign, binding_sign, bare_pattern}
@@ -80,10 +81,6 @@ brackets_same x y f e = or_same paren (bracket ∣ x) (bracket ∣ y) f (or_same
 
 -- ---- small facts
 
-passes : (b : Bool) (rest g : Forest) → (b >> Some rest) ≡ Some g → b ≡ true
-passes true rest g e = refl
-passes false rest g e = absurd cc
-
 or_false : (b : Bool) → (b || false) ≡ true → b ≡ true
 or_false true e = refl
 or_false false e = absurd cc
@@ -91,14 +88,6 @@ or_false false e = absurd cc
 and_false : (b : Bool) → (b && false) ≡ false
 and_false true = refl
 and_false false = refl
-
-left : (a b : Bool) → (a && b) ≡ true → a ≡ true
-left true b e = refl
-left false b e = absurd cc
-
-right : (a b : Bool) → (a && b) ≡ true → b ≡ true
-right true b e = e
-right false b e = absurd cc
 
 not_true : (b : Bool) → not b ≡ true → b ≡ false
 not_true false e = refl
@@ -139,8 +128,8 @@ module _ (p : Punct) (rest : Forest) where
 sign_of : (op : Operator) → is_operator "& &&" op ≡ true → (Some op ≡ Some (One 38)) ⊎ (Some op ≡ Some (Two 38 38))
 sign_of (One a) e = inl (ap (λ x. Some (One x)) (sym (eqb-true 38 a (or_false (nat_eq 38 a) e))))
 sign_of (Two a b) e =
-    let first = eqb-true 38 a (left (nat_eq 38 a) (nat_eq 38 b) e) in
-    let second = eqb-true 38 b (right (nat_eq 38 a) (nat_eq 38 b) e) in
+    let first = eqb-true 38 a (and_parts (nat_eq 38 a) (nat_eq 38 b) e).0 in
+    let second = eqb-true 38 b (and_parts (nat_eq 38 a) (nat_eq 38 b) e).1 in
     inr (ap (λ x. Some (Two x b)) (sym first) ∙ ap (λ x. Some (Two 38 x)) (sym second))
 sign_of (Three a b c) e = absurd cc
 
@@ -170,7 +159,7 @@ pattern_behind_reference f g e =
 -- a word is no other word
 no_other : (i : Ident) (w v : List ℕ) → has_text w i ≡ true → bytes_eq w v ≡ false → has_text v i ≡ false
 no_other i w v e differ =
-    let same : i.sym ≡ w = (bytes_eq-Decides i.sym w).0 (right (not (is_raw_name i)) (bytes_eq i.sym w) e) in
+    let same : i.sym ≡ w = (bytes_eq-Decides i.sym w).0 (and_parts (not (is_raw_name i)) (bytes_eq i.sym w) e).1 in
     ap (λ t. not (is_raw_name i) && bytes_eq t v) same ∙ ap (λ b. not (is_raw_name i) && b) differ ∙ and_false (not (is_raw_name i))
 
 -- whether a word is a name
@@ -179,8 +168,8 @@ may_name v = not (bytes_eq v (codes "_")) && (not (is_among reserved v) || is_am
 
 word_names : (i : Ident) (v : List ℕ) → has_text v i ≡ true → is_name i ≡ may_name v
 word_names i v e =
-    let same : i.sym ≡ v = (bytes_eq-Decides i.sym v).0 (right (not (is_raw_name i)) (bytes_eq i.sym v) e) in
-    let plain : is_raw_name i ≡ false = not_true (is_raw_name i) (left (not (is_raw_name i)) (bytes_eq i.sym v) e) in
+    let same : i.sym ≡ v = (bytes_eq-Decides i.sym v).0 (and_parts (not (is_raw_name i)) (bytes_eq i.sym v) e).1 in
+    let plain : is_raw_name i ≡ false = not_true (is_raw_name i) (and_parts (not (is_raw_name i)) (bytes_eq i.sym v) e).0 in
     ap (λ r. not (bytes_eq i.sym (codes "_")) && (r || (not (is_among reserved i.sym) || is_among path_words i.sym))) plain
     ∙ ap (λ t. not (bytes_eq t (codes "_")) && (not (is_among reserved t) || is_among path_words t)) same
 

@@ -28,7 +28,7 @@ pointed = single "*" ⨾ (word "const" ∣ word "mut") ⨾ type
 
 -- ---- what begins with such a punct
 
-passes : (b : Bool) (rest g : Forest) → (b >> Some rest) ≡ Some g → b ≡ true
+pub passes : (b : Bool) (rest g : Forest) → (b >> Some rest) ≡ Some g → b ≡ true
 passes true rest g e = refl
 passes false rest g e = absurd cc
 

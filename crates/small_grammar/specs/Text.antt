@@ -2,11 +2,10 @@
 use Rattle.std.specs.Prelude.{ℕ, Bool, true, false, ◌&&◌, not, List, codes, Option, None, option_and_then, if◌then◌else◌}
 use Rattle.std.specs.Str.{bytes_eq}
 use Prim.Native.String.{String}
+pub use Rattle.tt_data.specs.Delimiters.{same_kind}
 use Rattle.tt_data.specs.Forest.{Forest, empty}
 use Rattle.tt_data.specs.declared.leaf.Ident.{Ident}
 use Rattle.tt_data.specs.declared.leaf.IdentIsRaw.TheVariants as is_raw
-use Rattle.tt_data.specs.declared.delimiter.DelimiterKind.{DelimiterKind}
-use Rattle.tt_data.specs.declared.delimiter.DelimiterKind.TheVariants.{Parenthesis, Brace, Bracket, Invisible}
 
 -- one step of a reading after another; none where a step gives none
 infixl 10 ◌>>=◌
@@ -26,14 +25,6 @@ is_empty _ = false
 -- two texts are equal
 abbrev pub same_text : List ℕ → List ℕ → Bool
 same_text = bytes_eq
-
--- two brackets are of one kind
-abbrev pub same_kind : DelimiterKind → DelimiterKind → Bool
-same_kind Parenthesis Parenthesis = true
-same_kind Brace Brace = true
-same_kind Bracket Bracket = true
-same_kind Invisible Invisible = true
-same_kind _ _ = false
 
 -- a name written with `r#`
 abbrev pub is_raw_name : Ident → Bool

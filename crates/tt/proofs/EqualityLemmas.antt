@@ -1,12 +1,11 @@
 -- Equality of trees by `==` is that of trees.
-use Rattle.std.proofs.Common.{◌≡◌, ◌∙◌, Bool, true, List, [], ◌∷◌, ap, refl, sym, append-nil}
+use Rattle.std.proofs.Common.{◌≡◌, ◌∙◌, Bool, true, List, [], ◌∷◌, ap, refl, sym}
 use Rattle.std.proofs.lemmas.Bool.{false≢true}
 use Rattle.std.specs.Cmp.{first_so, second_so}
 use Rattle.std.specs.Cmp.Lexicographic.{pointwise}
-use Rattle.tt_data.specs.Forest.{forest_of, preorder}
-use Rattle.tt_data.specs.Flat.{forest_of-preorder}
 use Rattle.tt_data.proofs.EqualityLemmas.{IsEquality, tokens}
-use Rattle.tt.specs.Tops.{Top, tokens_of, tree_of}
+use Rattle.tt.specs.Tops.{tokens_of, tree_of}
+use Rattle.tt.proofs.Groups.{tree_of-tokens_of}
 use Rattle.tt.specs.contracts.top.TopSubtreePartialEq.TheImpl as of_tree
 use Rattle.tt.specs.contracts.top.TopSubtreeEq.TheImpl.Laws as tree_laws
 
@@ -19,13 +18,8 @@ same_items E same (x ∷ xs) (y ∷ ys) e =
     let first : x ≡ y = (same x y).0 (first_so (E x y) _ e) in
     ap (λ z. z ∷ xs) first ∙ ap (λ zs. y ∷ zs) (same_items E same xs ys (second_so (E x y) _ e))
 
--- a tree is that of its tokens
-tree_back : (t : Top) → tree_of (tokens_of t) ≡ t
-tree_back t =
-    ap (λ f. record { delimiter = t.delimiter; inner = f }) (ap forest_of (append-nil (preorder t.inner)) ∙ forest_of-preorder t.inner)
-
 pub trees : IsEquality of_tree.ghosts.eq
 trees a b = (
-  λ e. sym (tree_back a) ∙ ap tree_of (same_items _ tokens (tokens_of a) (tokens_of b) e) ∙ tree_back b,
+  λ e. sym (tree_of-tokens_of a) ∙ ap tree_of (same_items _ tokens (tokens_of a) (tokens_of b) e) ∙ tree_of-tokens_of b,
   λ e. rw (← e) (tree_laws.laws-law.refl a),
 )

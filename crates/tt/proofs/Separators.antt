@@ -8,6 +8,7 @@ use Rattle.std.proofs.lemmas.List.Sums.{sum_by-cons}
 use Rattle.std.specs.Option.{unwrap_or}
 use Rattle.std.specs.Fn.{Mut, Called, AlwaysReturns}
 use Rattle.tt_data.specs.Forest.{Forest, empty, leaf, group, joined, size}
+use Rattle.tt_data.specs.Flat.{joined-empty}
 use Rattle.tt_data.proofs.ForestLemmas.{joined_assoc, size-joined}
 use Rattle.tt.specs.declared.iter.TtElement.{TtElement}
 use Rattle.tt.specs.declared.iter.TtElement.TheVariants as element
@@ -19,11 +20,6 @@ use Rattle.tt.proofs.Steps.{joined-left}
 answers_next : {F X R : Type 0} (g : Mut F X R) (P : X → R → Type 0) (f : F) (a : X) (r : R) (f' : F) → Called g f a r f' → AlwaysReturns g P f
     → P a r × AlwaysReturns g P f'
 answers_next g P f a r f' c h = ((h.at (a ∷ []) r f' c).0, record { at = λ xs. (h.at (a ∷ xs) r f' c).1 })
-
-joined_empty : (f : Forest) → joined f empty ≡ f
-joined_empty empty = refl
-joined_empty (leaf l rest) = ap (leaf l) (joined_empty rest)
-joined_empty (group d inner rest) = ap (group d inner) (joined_empty rest)
 
 -- a tree as a list
 abbrev alone : TtElement → Forest
@@ -97,16 +93,16 @@ module _ {F : Type 0} (g : Mut F (TtElement × Unit {0}) Bool) where
         let s = so.same p h in
         let told = answers_next g (λ a r. r ≡ p a.0) test (t, tt) r after called s.0 in
         let at = stops p t rest new next (sym told.0 ∙ picked) in
-        (told.1, sym (s.1 ∙ ap (joined piece) at.0 ∙ joined_empty piece), sym (s.2 ∙ at.1)),
+        (told.1, sym (s.1 ∙ ap (joined piece) at.0 ∙ joined-empty piece), sym (s.2 ∙ at.1)),
   )
 
   pub ends_all : (all piece rest : Forest) (before test : F) → Passing all before piece rest test → rest ≡ empty → Cuts g all before piece None test
   ends_all all piece rest before test so none =
       let done : Passing all before piece empty test = rw (sym none) so in (
-        done.all_is ∙ joined_empty piece,
-        (done.all_is ∙ joined_empty piece, done.asked),
+        done.all_is ∙ joined-empty piece,
+        (done.all_is ∙ joined-empty piece, done.asked),
         λ p h.
-            let s = done.same p h in (s.0, sym (s.1 ∙ joined_empty piece), sym s.2),
+            let s = done.same p h in (s.0, sym (s.1 ∙ joined-empty piece), sym s.2),
       )
 
 -- a cut at a separator leaves fewer tokens

@@ -160,9 +160,7 @@ impl TopSubtreeBuilder {
             delimiter: top,
             len: 0,
         });
-        let Ok(()) = tokens.push(first) else {
-            return Err(TtFault::Memory);
-        };
+        tokens.push(first)?;
         Ok(TopSubtreeBuilder {
             top,
             tokens,
@@ -176,6 +174,7 @@ impl TopSubtreeBuilder {
     ///
     /// It answers `Tokens` where there are `u32::MAX` tokens below the top already, and only there;
     /// its one other error is `Memory`.
+    #[inline]
     pub fn push(&mut self, leaf: Leaf) -> Result<(), TtFault>
         ensures ok { OnOk result (self.new.tree ≡ pushed self.old.tree leaf) }
         ensures last { self.new.last_closed ≡ self.old.last_closed }
@@ -202,9 +201,7 @@ impl TopSubtreeBuilder {
         if room < tt.len() {
             return Err(TtFault::Tokens);
         }
-        let Ok(()) = self.tokens.extend(tt.tokens) else {
-            return Err(TtFault::Memory);
-        };
+        self.tokens.extend(tt.tokens)?;
         Ok(())
     }
 
@@ -482,6 +479,7 @@ impl TopSubtreeBuilder {
 }
 
 // Puts a leaf after the other tokens, where there is room below the top.
+#[inline(always)]
 fn put_leaf(tokens: &mut TokenBuffer, leaf: Leaf) -> Result<(), TtFault>
     ensures ok { OnOk result (tokens.new ≡ tokens.old ++ token.Leaf leaf ∷ []) }
     ensures err { OnErr result (tokens.new ≡ tokens.old) }
@@ -492,9 +490,7 @@ fn put_leaf(tokens: &mut TokenBuffer, leaf: Leaf) -> Result<(), TtFault>
     if tokens.len() > MOST_TOKENS {
         return Err(TtFault::Tokens);
     }
-    let Ok(()) = tokens.push(TokenTree::Leaf(leaf)) else {
-        return Err(TtFault::Memory);
-    };
+    tokens.push(TokenTree::Leaf(leaf))?;
     Ok(())
 }
 

@@ -1,7 +1,7 @@
 //! The first tree of a list, where it is of the sort that is asked for, with the trees after it.
 //!
 //! Nothing is passed, and nothing is copied where another sort of tree comes first.
-ghost use Rattle.std.specs.Prelude.{◌≡◌};
+ghost use Rattle.std.specs.Prelude.{◌≡◌, option_map};
 ghost use Rattle.tt.specs.FirstTrees.{first_ident, first_leaf, first_literal, first_punct, first_group, first_subtree};
 
 use crate::iter::TtIter;
@@ -24,6 +24,22 @@ impl<'a> TtIter<'a> {
     {
         let (ident, more) = self.tokens.split_ident()?;
         Some((ident, TtIter { tokens: more }))
+    }
+
+    /// The identifier that comes next, lent: its text gets no other owner.
+    pub fn lent_ident(&self) -> Option<(&'a Ident, TtIter<'a>)>
+        ensures { option_map (λ p. (p.0.now, p.1)) result ≡ first_ident self.now }
+    {
+        let (ident, more) = self.tokens.lent_ident()?;
+        Some((ident, TtIter { tokens: more }))
+    }
+
+    /// The leaf that comes next, lent: its text gets no other owner.
+    pub fn lent_leaf(&self) -> Option<(&'a Leaf, TtIter<'a>)>
+        ensures { option_map (λ p. (p.0.now, p.1)) result ≡ first_leaf self.now }
+    {
+        let (leaf, more) = self.tokens.lent_leaf()?;
+        Some((leaf, TtIter { tokens: more }))
     }
 
     /// The kind of the literal that comes next.

@@ -90,6 +90,7 @@ impl<'a> Iterator for TtIter<'a> {
     ghost remaining = { item_count elements };
 
     /// The next tree, which is passed, a group with all that it has inside: none where none are left.
+    #[inline]
     fn next(&mut self) -> Option<TtElement<'a>> {
         let (first, more) = self.tokens.split_first()?;
         match first {
@@ -120,6 +121,7 @@ impl<'a> TtIter<'a> {
     }
 
     /// The next tree, without passing it: none where none are left.
+    #[inline]
     pub fn peek(&self) -> Option<TtElement<'a>>
         ensures { result ≡ first_element self.now }
     {

@@ -125,6 +125,26 @@ impl<'a> Tokens<'a> {
         }
     }
 
+    /// The first token, where it is a leaf, lent, and those behind it.
+    pub(crate) fn lent_leaf(self) -> Option<(&'a Leaf, Tokens<'a>)>
+        ensures { option_map (λ p. (p.0.now, items p.1)) result ≡ leaf_in (items self.entry) }
+    {
+        match self.records.split_first()? {
+            (TokenTree::Leaf(leaf), more) => Some((leaf, Tokens { records: more })),
+            _ => None,
+        }
+    }
+
+    /// The first token, where it is an identifier, lent, and those behind it.
+    pub(crate) fn lent_ident(self) -> Option<(&'a Ident, Tokens<'a>)>
+        ensures { option_map (λ p. (p.0.now, items p.1)) result ≡ ident_in (items self.entry) }
+    {
+        match self.records.split_first()? {
+            (TokenTree::Leaf(Leaf::Ident(ident)), more) => Some((ident, Tokens { records: more })),
+            _ => None,
+        }
+    }
+
     /// The first token, where it is a punct, and those behind it.
     pub(crate) fn split_punct(self) -> Option<(Punct, Tokens<'a>)>
         ensures { option_map (λ p. (p.0, items p.1)) result ≡ punct_in (items self.entry) }
@@ -166,6 +186,7 @@ impl<'a> Tokens<'a> {
 }
 
 // The token once more. A text gets one more owner, and so it is never refused.
+#[inline]
 fn same_token(token: &TokenTree) -> TokenTree
     ensures { result ≡ token.now }
 {
@@ -238,13 +259,12 @@ impl TokenBuffer {
     }
 
     /// Puts a token after the others.
+    #[inline(always)]
     pub(crate) fn push(&mut self, token: TokenTree) -> Result<(), AllocError>
         ensures ok { OnOk result (self.new ≡ self.old ++ token ∷ []) }
         ensures err { OnErr result (self.new ≡ self.old) }
     {
-        let Ok(()) = self.records.push(token) else {
-            return Err(AllocError);
-        };
+        self.records.push(token)?;
         Ok(())
     }
 

@@ -9,6 +9,7 @@ use crate::records::Tokens;
 use tt_data::leaf::Leaf;
 
 // The leaf once more. Its text gets one more owner, and so it is never refused.
+#[inline]
 pub(crate) fn same_leaf(leaf: &Leaf) -> Leaf
     ensures { result ≡ leaf.now }
 {

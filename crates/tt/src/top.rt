@@ -78,12 +78,8 @@ impl TopSubtree {
             return Err(TtFault::Tokens);
         };
         let mut tokens = TokenBuffer::new(alloc);
-        let Ok(()) = tokens.push(TokenTree::Subtree(Subtree { delimiter, len })) else {
-            return Err(TtFault::Memory);
-        };
-        let Ok(()) = tokens.extend(token_trees.tokens) else {
-            return Err(TtFault::Memory);
-        };
+        tokens.push(TokenTree::Subtree(Subtree { delimiter, len }))?;
+        tokens.extend(token_trees.tokens)?;
         Ok(TopSubtree { tokens })
     }
 
@@ -138,13 +134,9 @@ impl TopSubtree {
         };
         let delimiter = Delimiter::invisible_spanned(delim_span);
         let mut tokens = TokenBuffer::new(alloc);
-        let Ok(()) = tokens.push(TokenTree::Subtree(Subtree { delimiter, len })) else {
-            return Err(TtFault::Memory);
-        };
+        tokens.push(TokenTree::Subtree(Subtree { delimiter, len }))?;
         for leaf in leaves {
-            let Ok(()) = tokens.push(TokenTree::Leaf(leaf)) else {
-                return Err(TtFault::Memory);
-            };
+            tokens.push(TokenTree::Leaf(leaf))?;
         }
         Ok(TopSubtree { tokens })
     }

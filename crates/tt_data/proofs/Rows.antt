@@ -11,9 +11,7 @@ use Rattle.tt_data.specs.declared.leaf.LitKind.TheVariants.{Byte, Integer, Float
 use Rattle.tt_data.specs.declared.leaf.Spacing.TheVariants.{Alone}
 use Rattle.tt_data.specs.declared.tree.TokenTree.{TokenTree}
 use Rattle.tt_data.specs.declared.tree.TokenTree.TheVariants as token
-use Rattle.tt_data.specs.Elements.{alone, within}
 use Rattle.tt_data.specs.Displayed.{displayed_leaf, literal_text}
-use Rattle.tt_data.specs.Elements as elements
 use Rattle.tt_data.specs.Forest.{Forest, empty, leaf, group, joined, size, preorder, front, back, forest_of, head_of, IsPreorder, map_spans, shape}
 use Rattle.tt_data.specs.declared.leaf.Literal.{Literal}
 use Rattle.tt_data.specs.declared.leaf.LitKind.{LitKind}
@@ -144,15 +142,6 @@ raw_name = refl
 
 plain_name : ident_of (codes "r") (at 0) ≡ record { sym = codes "r"; span = at 0; is_raw = is_raw.No }
 plain_name = refl
-
--- the trees of `a ( b , ) c` are three
-three_trees :
-    elements.trees trees
-    ≡ alone (name (codes "a") (at 0))
-    ∷ within (round (at 1) (at 4)) (leaf (name (codes "b") (at 2)) (leaf (comma (at 3)) empty))
-    ∷ alone (name (codes "c") (at 5))
-    ∷ []
-three_trees = refl
 
 -- `r#fn`, `,`, `1u8`, `'a'`, `"a"` and `br##"a"##` are displayed as they are written
 displayed_name : displayed_leaf (name (codes "r#fn") (at 0)) ≡ codes "r#fn"

@@ -1,7 +1,7 @@
 -- what the contracts and the definitions of the crates above rest on
 pub mod Forest
 pub mod Walk
-pub mod Elements
+pub mod Delimiters
 pub mod Spans
 pub mod Names
 pub mod Literals

@@ -3,7 +3,7 @@ use crate::choices::Choice;
 use crate::collecting::bindings_of;
 use crate::failure::faults::{fault_at, partial_at};
 use crate::failure::values::{Partial, Values};
-use crate::matcher::are_same_marks;
+use crate::matcher::{Seen, is_same_state, was_settled, was_settled_twice};
 use crate::place::{Place, Taken};
 use crate::threads::{Entry, Thread};
 use bumpalo::Bump;
@@ -53,6 +53,8 @@ struct Stop<'a> {
 struct Step<'a> {
     // Those that can go on without taking anything, the next one last.
     current: Vec<Thread<'a>>,
+    // Those that did.
+    seen: Vec<Seen<'a>>,
     // Those that go on once something is taken, what that is, and whether they don't agree on it.
     waiting: Vec<Thread<'a>>,
     taken: Option<Taken>,
@@ -121,6 +123,7 @@ impl<'a> Reader<'a> {
     ) -> Result<Step<'a>, TtFault> {
         let mut step = Step {
             current,
+            seen: Vec::new(self.alloc),
             waiting: Vec::new(self.alloc),
             taken: None,
             has_clash: false,
@@ -136,6 +139,7 @@ impl<'a> Reader<'a> {
         Ok(step)
     }
 
+    // Goes on with a thread, unless two did in its state.
     fn visit<G: FragmentGrammar>(
         &mut self,
         grammar: &G,
@@ -143,7 +147,13 @@ impl<'a> Reader<'a> {
         thread: Thread<'a>,
         place: &Place<'a>,
     ) -> Result<(), TtFault> {
-        if thread.items.is_empty() && thread.frames.is_empty() {
+        let twice = was_settled(&step.seen, &thread);
+        if twice && was_settled_twice(&step.seen, &thread) {
+            return Ok(());
+        }
+        let seen = Seen { thread, twice };
+        step.seen.push(seen).map_err(AllocError::from)?;
+        if thread.items.is_empty() && thread.frames.is_none() {
             let end = Stop {
                 moves: thread.moves,
                 partial: None,
@@ -220,9 +230,7 @@ impl<'a> Reader<'a> {
 fn second_like(threads: &[Thread<'_>], other: &Thread<'_>) -> Option<usize> {
     let mut one = false;
     for (i, thread) in threads.iter().enumerate() {
-        if other.items.len() == thread.items.len()
-            && are_same_marks(&other.frames, &thread.frames)
-        {
+        if is_same_state(other, thread) {
             if one {
                 return Some(i);
             }
@@ -266,7 +274,7 @@ pub(crate) fn attempted<'a, G: FragmentGrammar>(
     };
     let first = Thread {
         items: pattern,
-        frames: Vec::new(alloc),
+        frames: None,
         moves: None,
     };
     let mut threads = Vec::new(alloc);

@@ -12,7 +12,7 @@ use Rattle.expander.proofs.output.push_step.Goals.{then-is_visible+in_ok-push_pl
 pub returns-in-Ok : goal.returns-in-Ok
 returns-in-Ok c =
     let old = c.args.steps.now in
-    let s : PlacedStep = record { step = step_of c.args.step; outer = c.args.outer } in
+    let s : PlacedStep = record { step = step_of c.args.step.now; outer = c.args.outer } in
     let now = c.if-is_visible.steps in
     let Puts : PrinterState → Type 0 = λ p. (steps : List Step) → HasPut p steps → HasPut c.put_step.new.self (steps ++ s.step ∷ []) in
     elim c.if-is_visible.branch [

@@ -1,7 +1,8 @@
-use Rattle.std.proofs.Common.{ap, refl, ◌∙◌, length}
+use Rattle.std.proofs.Common.{ap, refl, ◌∙◌, map}
+use Rattle.tt_data.specs.declared.span.Span.{Span}
 use Rattle.bridge.specs.Printing.{Print}
 use Rattle.expander.specs.Faults.{in_order}
-use Rattle.expander.proofs.PrintingLemmas.{text_is, count_is}
+use Rattle.expander.proofs.PrintingLemmas.{text_is, origins_are}
 use Rattle.expander.proofs.session.expansion_of.Goals as goal
 
 pub returns : goal.returns
@@ -10,6 +11,6 @@ returns c = λ steps has.
     record {
       printed = ap (λ (p : Print). p.text) shows ∙ text_is steps;
       faults = c.in_ok-sort_faults.ensures ∙ ap in_order (c.in_ok-text.ensures.faults steps has);
-      tokens = c.len.ensures ∙ c.in_ok-text.field-0.tokens.ok.0 ∙ ap (λ (p : Print). length p.tokens) shows ∙ count_is steps;
+      origins = c.in_ok-origins.ensures ∙ ap (map (λ (s : Span). s.range)) c.as_slice.ensures.value ∙ ap (λ (p : Print). map (λ (s : Span). s.range) p.tokens) shows ∙ origins_are steps;
       expanded = refl;
     }

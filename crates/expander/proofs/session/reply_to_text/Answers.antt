@@ -8,8 +8,8 @@ returns-in-Fault-clause-reply g c =
     let fault = rw c.in-Fault.is at c.in_ok-fault.ensures.read in
     means_fault (g.G.FragmentGrammar.answer c.args.grammar.now) c.args.edition c.args.text.now c.args.depth c.in-Fault.fault (c.reading_is_a_relation.ensures.told (text_steps c.args.text.now) c.in-Fault.fault fault)
 
-pub returns-clause-reply : goal.returns-clause-reply
-returns-clause-reply g c =
+pub returns-in_ok-expansion_of-in-Tree-clause-reply : goal.returns-in_ok-expansion_of-in-Tree-clause-reply
+returns-in_ok-expansion_of-in-Tree-clause-reply g c =
     let read = rw c.in-Tree.is at c.in_ok-fault.ensures.read in
     let f = c.in-Tree.tree.inner in
     let is_read = c.reading_is_a_relation.ensures.read (text_steps c.args.text.now) f read.1 in

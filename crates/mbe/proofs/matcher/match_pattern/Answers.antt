@@ -1,65 +1,91 @@
-use Rattle.std.proofs.Common.{◌≡◌, sym, ap, ◌∙◌, subst, map, reverse, [], ◌++◌, Result, Ok, Err, IfOk}
+use Rattle.std.proofs.Common.{sym, ap, subst, ◌∙◌, reverse, refl, [], None}
 use Rattle.std.specs.List.{flat_map}
-use Rattle.mbe.specs.Paths.{clash, only}
-use Rattle.mbe.specs.Waiting.{prefixed, finished, settled_at, advanced_by, Each}
-use Rattle.mbe.specs.Readings as r
-use Rattle.mbe.specs.Units as u
 use Rattle.tt.specs.Views.{forest}
 use Rattle.mbe_rules.specs.Ops.{items_of}
+use Rattle.mbe.specs.Paths.{clash, only}
 use Rattle.mbe.specs.Places.{place_of}
-use Rattle.mbe.specs.Threads.{waits, waits_at, frames_of, takings_of, head_taken, IsGoodAt}
-use Rattle.mbe.proofs.TheLoopLemmas.{start-held, turn, thin-held, clash-none, ended-only}
+use Rattle.mbe.specs.Readings.{at, room}
+use Rattle.mbe.specs.Settled.{Leads, IsSound, IsSoundAt}
+use Rattle.mbe.specs.Threads.{waits, waits_at, takings_of, head_taken}
+use Rattle.mbe.specs.Units as u
+use Rattle.mbe.specs.Waiting.{finished, settled_at, advanced_by, Each}
+use Rattle.mbe.proofs.SoundLemmas.{sound-start}
+use Rattle.mbe.proofs.TheLoopLemmas.{first-held, leads-held, turn, clash-none, ended-only}
 use Rattle.mbe.proofs.matcher.match_pattern.Goals as goal
 
-pub loop-alloc-init : goal.loop-alloc-init
-loop-alloc-init g c =
+pub loop-waiting-init : goal.loop-waiting-init
+loop-waiting-init g c =
+    let gr = g.G.FragmentGrammar.answer c.args.grammar.now in
     let pattern = items_of c.args.pattern.now in
-    let o = ap (λ f. u.place f (reverse c.new-2.result.items)) c.iter.ensures ∙ ap (λ xs. u.place (forest c.args.argument) (reverse xs)) c.new-2.ensures.items in
-    let f = ap frames_of c.new.ensures.items in
-    let p = u.place c.iter.result (reverse c.new-2.result.items) in
-    start-held (g.G.FragmentGrammar.answer c.args.grammar.now) pattern (forest c.args.argument) _ c.requires o _ (c.in_ok-settle.ensures
-    ∙ ap (λ ws. waits p ws ++ map (prefixed []) (settled_at (g.G.FragmentGrammar.answer c.args.grammar.now) (r.at pattern (frames_of c.new.result.items) p))) c.new-waiting.ensures.items
-    ∙ ap (λ fs. map (prefixed []) (settled_at (g.G.FragmentGrammar.answer c.args.grammar.now) (r.at pattern fs p))) f)
+    let p = u.place c.iter.result (reverse c.new.result.items) in
+    let o = ap (λ f. u.place f (reverse c.new.result.items)) c.iter.ensures ∙ ap (λ xs. u.place (forest c.args.argument) (reverse xs)) c.new.ensures.items in (
+      first-held gr pattern (forest c.args.argument) p (record { items = c.args.pattern; frames = None; moves = None }) c.requires o refl refl
+          c.settle.new.self.waiting.items c.new-found.result.waiting.items c.settle.new.self.seen.items c.new-found.result.seen.items
+          c.new-found.ensures.waiting c.new-found.ensures.seen
+          (λ all h. subst (λ ts. Leads gr pattern p all c.settle.new.self.waiting.items c.settle.new.self.seen.items ts) c.in_ok-settle.ensures.done
+          (c.in_ok-settle.ensures.all pattern all h)),
+      c.in_ok-settle.ensures.done,
+    )
 
 pub returns-then-has_clash : goal.returns-then-has_clash
 returns-then-has_clash g c =
-    clash-none (g.G.FragmentGrammar.answer c.args.grammar.now) (items_of c.args.pattern.now) (forest c.args.argument) (place_of c.loop-alloc.place) c.loop-alloc.waiting.items c.loop-alloc.invariant
+    clash-none (g.G.FragmentGrammar.answer c.args.grammar.now) (items_of c.args.pattern.now) (forest c.args.argument) (place_of c.loop-waiting.place)
+    c.loop-waiting.found.waiting.items c.loop-waiting.invariant.0
     (sym c.if-has_clash.true ∙ c.has_clash.ensures ∙ ap (λ ws. clash (flat_map takings_of ws)) c.deref.ensures.value)
-
-pub advanced-requires : goal.advanced-requires
-advanced-requires g c =
-    let t = turn (g.G.FragmentGrammar.answer c.args.grammar.now) (items_of c.args.pattern.now) (forest c.args.argument) (place_of c.loop-alloc.place) c.loop-alloc.waiting.items c.in-Some.taken c.loop-alloc.invariant
-    (sym c.if-has_clash.false ∙ c.has_clash.ensures ∙ ap (λ ws. clash (flat_map takings_of ws)) c.deref.ensures.value)
-    (sym c.in-Some.is ∙ c.first_taken.ensures ∙ ap head_taken c.deref-in-loop-alloc.ensures.value)
-    (place_of c.in_ok-place.place) c.in_ok-place.ensures in
-    subst (λ ws. Each IsGoodAt (waits_at (place_of c.in_ok-place.place) ws)) (sym c.deref-in-loop-alloc-2.ensures.value) t.good
-
-pub loop-alloc-smaller : goal.loop-alloc-smaller
-loop-alloc-smaller g c =
-    let t = turn (g.G.FragmentGrammar.answer c.args.grammar.now) (items_of c.args.pattern.now) (forest c.args.argument) (place_of c.loop-alloc.place) c.loop-alloc.waiting.items c.in-Some.taken c.loop-alloc.invariant
-    (sym c.if-has_clash.false ∙ c.has_clash.ensures ∙ ap (λ ws. clash (flat_map takings_of ws)) c.deref.ensures.value)
-    (sym c.in-Some.is ∙ c.first_taken.ensures ∙ ap head_taken c.deref-in-loop-alloc.ensures.value)
-    (place_of c.in_ok-place.place) c.in_ok-place.ensures in
-    t.lower
-
-pub loop-alloc-preserved : goal.loop-alloc-preserved
-loop-alloc-preserved g c =
-    let t = turn (g.G.FragmentGrammar.answer c.args.grammar.now) (items_of c.args.pattern.now) (forest c.args.argument) (place_of c.loop-alloc.place) c.loop-alloc.waiting.items c.in-Some.taken c.loop-alloc.invariant
-    (sym c.if-has_clash.false ∙ c.has_clash.ensures ∙ ap (λ ws. clash (flat_map takings_of ws)) c.deref.ensures.value)
-    (sym c.in-Some.is ∙ c.first_taken.ensures ∙ ap head_taken c.deref-in-loop-alloc.ensures.value)
-    (place_of c.in_ok-place.place) c.in_ok-place.ensures in
-    let all =
-    t.held _ (c.in_ok-all.ensures ∙ ap (λ ws. flat_map (advanced_by (settled_at (g.G.FragmentGrammar.answer c.args.grammar.now))) (waits_at (place_of c.in_ok-place.place) ws)) c.deref-in-loop-alloc-2.ensures.value) in
-    thin-held (g.G.FragmentGrammar.answer c.args.grammar.now) (items_of c.args.pattern.now) (forest c.args.argument) (place_of c.in_ok-place.place) c.in_ok-all.all.items c.in_ok-waiting.waiting.items all c.in_ok-waiting.ensures
-
-same-ok : {A B E : Type 0} (f : A → B) (x y : B) (o : Result A E) → IfOk o (λ a. f a ≡ x) → x ≡ y → IfOk o (λ a. f a ≡ y)
-same-ok f x y (Ok a) h e = h ∙ e
-same-ok f x y (Err a) h e = h
 
 pub returns-in_default : goal.returns-in_default
 returns-in_default g c =
-    let p = place_of c.loop-alloc.place in
+    let p = place_of c.loop-waiting.place in
     c.only_ended.ensures p
     ∙ ap (λ ws. only (flat_map finished (waits p ws))) c.deref-in_default.ensures.value
-    ∙ ended-only (g.G.FragmentGrammar.answer c.args.grammar.now) (items_of c.args.pattern.now) (forest c.args.argument) p c.loop-alloc.waiting.items c.loop-alloc.invariant
-    (ap head_taken (sym c.deref-in-loop-alloc.ensures.value) ∙ sym c.first_taken.ensures ∙ c.in_default.is)
+    ∙ ended-only (g.G.FragmentGrammar.answer c.args.grammar.now) (items_of c.args.pattern.now) (forest c.args.argument) p
+    c.loop-waiting.found.waiting.items c.loop-waiting.invariant.0
+    (ap head_taken (sym c.deref-in-loop-waiting.ensures.value) ∙ sym c.first_taken.ensures ∙ c.in_default.is)
+
+pub loop-waiting-smaller : goal.loop-waiting-smaller
+loop-waiting-smaller g c =
+    let t = turn (g.G.FragmentGrammar.answer c.args.grammar.now) (items_of c.args.pattern.now) (forest c.args.argument) (place_of c.loop-waiting.place)
+    c.loop-waiting.found.waiting.items c.in-Some.taken c.loop-waiting.invariant.0
+    (sym c.if-has_clash.false ∙ c.has_clash.ensures ∙ ap (λ ws. clash (flat_map takings_of ws)) c.deref.ensures.value)
+    (sym c.in-Some.is ∙ c.first_taken.ensures ∙ ap head_taken c.deref-in-loop-waiting.ensures.value)
+    (place_of c.in_ok-place.place) c.in_ok-place.ensures in
+    t.lower
+
+pub loop-waiting-preserved : goal.loop-waiting-preserved
+loop-waiting-preserved g c =
+    let gr = g.G.FragmentGrammar.answer c.args.grammar.now in
+    let pattern = items_of c.args.pattern.now in
+    let argument = forest c.args.argument in
+    let s = place_of c.in_ok-place.place in
+    let ws = c.loop-waiting.found.waiting.items in
+    let t = turn gr pattern argument (place_of c.loop-waiting.place) ws c.in-Some.taken c.loop-waiting.invariant.0
+    (sym c.if-has_clash.false ∙ c.has_clash.ensures ∙ ap (λ ws. clash (flat_map takings_of ws)) c.deref.ensures.value)
+    (sym c.in-Some.is ∙ c.first_taken.ensures ∙ ap head_taken c.deref-in-loop-waiting.ensures.value)
+    s c.in_ok-place.ensures in
+    let all = flat_map (advanced_by (settled_at gr)) (waits_at s ws) in
+    let e = c.deref-in-loop-waiting-2.ensures.value ∙ c.hand_over.ensures.handed in (
+      leads-held gr pattern argument s all c.advance_all.new.self.waiting.items c.advance_all.new.self.seen.items
+          (subst (λ x. Leads gr pattern s (flat_map (advanced_by (settled_at gr)) (waits_at s x)) c.advance_all.new.self.waiting.items c.advance_all.new.self.seen.items []) e
+          (c.in_ok-advance_all.ensures.all pattern (subst (λ x. Each (IsSoundAt pattern) (waits_at s x)) (sym e) t.good)))
+          (t.held all refl),
+      c.in_ok-advance_all.ensures.done,
+    )
+
+pub settle-requires-clause-good : goal.settle-requires-clause-good
+settle-requires-clause-good g c =
+    let pattern = items_of c.args.pattern.now in
+    let p = u.place c.iter.result (reverse c.new.result.items) in
+    let o = ap (λ f. u.place f (reverse c.new.result.items)) c.iter.ensures ∙ ap (λ xs. u.place (forest c.args.argument) (reverse xs)) c.new.ensures.items in
+    (room pattern, (subst (λ x. IsSound pattern (at pattern [] x)) (sym o) (sound-start (g.G.FragmentGrammar.answer c.args.grammar.now) pattern (forest c.args.argument) c.requires)).0)
+
+pub advance_all-requires-clause-sound : goal.advance_all-requires-clause-sound
+advance_all-requires-clause-sound g c =
+    let gr = g.G.FragmentGrammar.answer c.args.grammar.now in
+    let pattern = items_of c.args.pattern.now in
+    let s = place_of c.in_ok-place.place in
+    let t = turn gr pattern (forest c.args.argument) (place_of c.loop-waiting.place) c.loop-waiting.found.waiting.items c.in-Some.taken c.loop-waiting.invariant.0
+    (sym c.if-has_clash.false ∙ c.has_clash.ensures ∙ ap (λ ws. clash (flat_map takings_of ws)) c.deref.ensures.value)
+    (sym c.in-Some.is ∙ c.first_taken.ensures ∙ ap head_taken c.deref-in-loop-waiting.ensures.value)
+    s c.in_ok-place.ensures in
+    let e = c.deref-in-loop-waiting-2.ensures.value ∙ c.hand_over.ensures.handed in
+    (pattern, subst (λ x. Each (IsSoundAt pattern) (waits_at s x)) (sym e) t.good)

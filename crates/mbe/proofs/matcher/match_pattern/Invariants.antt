@@ -1,3 +1,4 @@
+use Rattle.std.proofs.Common.{◌≡◌, []}
 use Rattle.mbe.specs.Units.{left}
 use Rattle.tt.specs.Views.{forest}
 use Rattle.mbe_rules.specs.Ops.{items_of}
@@ -6,8 +7,10 @@ use Rattle.mbe.specs.Threads.{waits}
 use Rattle.mbe.proofs.TheLoopLemmas.{Held}
 use Rattle.mbe.proofs.matcher.match_pattern.Given as goal
 
-abbrev pub invariant-loop-alloc : goal.invariant-loop-alloc
-invariant-loop-alloc g l = Held (g.G.FragmentGrammar.answer l.grammar) (items_of l.pattern) (forest l.fn.argument) (place_of l.place) (waits (place_of l.place) l.waiting.items)
+abbrev pub invariant-loop-waiting : goal.invariant-loop-waiting
+invariant-loop-waiting g l =
+    Held (g.G.FragmentGrammar.answer l.grammar) (items_of l.pattern) (forest l.fn.argument) (place_of l.place) (waits (place_of l.place) l.found.waiting.items)
+    × (l.found.tasks.items ≡ [])
 
-abbrev pub decreases-loop-alloc : goal.decreases-loop-alloc
-decreases-loop-alloc g l = left (place_of l.place)
+abbrev pub decreases-loop-waiting : goal.decreases-loop-waiting
+decreases-loop-waiting g l = left (place_of l.place)

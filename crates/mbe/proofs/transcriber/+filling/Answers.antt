@@ -1,12 +1,10 @@
 use Rattle.std.specs.Prelude.{Ok}
-use Rattle.std.proofs.Common.{◌∙◌, ◌+◌, ◌-◌, ◌<◌, option_map, arith, subst, refl, sym, ap}
-use Rattle.tt.specs.Building.{count_of, most_tokens}
+use Rattle.std.proofs.Common.{◌∙◌, ◌+◌, ◌-◌, option_map, arith, subst, refl}
 use Rattle.mbe_rules.specs.Items.{done}
 use Rattle.mbe_rules.specs.Ops.{items_of, put_op, separator_of}
 use Rattle.mbe.specs.Bound.{map_of}
 use Rattle.mbe.specs.Given.{Fills, IsBurstBy, first_gives, first_puts_out}
-use Rattle.mbe.proofs.FillLemmas.{op-put, op-fault, op-burst, all-put, err-fills, memory-alone, later-put, later-fault, later-burst, later-end, later-over, round-fills, round-bursts, none-stands, first-fault, first-burst, one-round, more-rounds, more-bursts, on-ok, sub-gives, sub-puts, rep-gives, rep-puts, as-ref}
-use Rattle.mbe.proofs.LeafLemmas.{fills-after, burst-after}
+use Rattle.mbe.proofs.FillLemmas.{op-put, op-fault, op-burst, all-put, err-fills, memory-alone, later-put, later-fault, later-burst, later-end, later-over, round-fills, round-bursts, none-stands, first-fault, first-burst, more-rounds, more-bursts, on-ok, sub-gives, sub-puts, rep-gives, rep-puts, as-ref}
 use Rattle.mbe.proofs.PuttingLemmas.{handed}
 use Rattle.mbe.proofs.transcriber.+filling.Goals as goal
 

@@ -22,4 +22,4 @@ returns-in-x c =
     let digit : char_at (chars c.args.text.now) 0 ≡ 48 = search rules in
     let letter : char_at (chars c.args.text.now) 1 ≡ 120 = search rules in
     let two = two_behind c.args.text.now _ _ c.behind-in-x.ensures c.behind-in-x-2.ensures in
-    read_by 2 (rw (digit, letter, two)) two c.hexadecimal.ensures
+    read_by 2 (rw (digit, letter, two)) two c.based-in-x.ensures

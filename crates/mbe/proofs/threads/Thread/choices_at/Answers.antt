@@ -12,7 +12,7 @@ use Rattle.mbe.proofs.threads.Thread.choices_at.Goals as goal
 pub returns-in_ok-choices-in-Subtree : goal.returns-in_ok-choices-in-Subtree
 returns-in_ok-choices-in-Subtree g c =
     let p = place_of c.args.place.now in
-    let fs = frames_of c.args.self.now.frames.items in
+    let fs = frames_of c.args.self.now.frames in
     let ms = moves_of c.args.self.now.moves in
     let rest = items_of c.args.rest.now in
     let d = c.in-Subtree.delimiter in
@@ -25,7 +25,7 @@ returns-in_ok-choices-in-Subtree g c =
 pub returns-in_ok-choices-in-Repeat : goal.returns-in_ok-choices-in-Repeat
 returns-in_ok-choices-in-Repeat g c =
     let p = place_of c.args.place.now in
-    let fs = frames_of c.args.self.now.frames.items in
+    let fs = frames_of c.args.self.now.frames in
     let ms = moves_of c.args.self.now.moves in
     let rest = items_of c.args.rest.now in
     let gr = g.G.FragmentGrammar.answer c.args.grammar.now in

@@ -6,35 +6,35 @@ use Rattle.rustc_lexer.proofs.cursor.Cursor.guarded_double_quoted_string.Goals a
 
 pub overflow_sub-token_len : goal.overflow_sub-token_len
 overflow_sub-token_len c =
-    let g = guards _ _ _ c.self.inside.pending _ _ c.guarded_string-found.ensures.utf8 c.count_hashes-n_hashes.ensures c.guarded_string-found.ensures.read in
+    let g = guards _ _ _ c.self.inside.pending _ _ c.count_hashes-n_hashes.ensures.utf8 c.count_hashes-n_hashes.ensures.read (c.guarded_string-found.ensures _ c.count_hashes-n_hashes.ensures.read) in
     g.shorter
 
 pub overflow_cast-result : goal.overflow_cast-result
 overflow_cast-result c =
-    let g = guards _ _ _ c.self.inside.pending _ _ c.guarded_string-found.ensures.utf8 c.count_hashes-n_hashes.ensures c.guarded_string-found.ensures.read in
+    let g = guards _ _ _ c.self.inside.pending _ _ c.count_hashes-n_hashes.ensures.utf8 c.count_hashes-n_hashes.ensures.read (c.guarded_string-found.ensures _ c.count_hashes-n_hashes.ensures.read) in
     omega (arith, g.few, c.self.inside.small)
 
 pub invariant_of-self-inside : goal.invariant_of-self-inside
 invariant_of-self-inside c =
-    let g = guards _ _ _ c.self.inside.pending _ _ c.guarded_string-found.ensures.utf8 c.count_hashes-n_hashes.ensures c.guarded_string-found.ensures.read in
+    let g = guards _ _ _ c.self.inside.pending _ _ c.count_hashes-n_hashes.ensures.utf8 c.count_hashes-n_hashes.ensures.read (c.guarded_string-found.ensures _ c.count_hashes-n_hashes.ensures.read) in
     (omega (arith, g.shorter, c.self.inside.small), tt)
 
 pub invariant_of-self-inside-in-None : goal.invariant_of-self-inside-in-None
 invariant_of-self-inside-in-None c =
-    let g = guards _ _ _ c.self.inside.pending _ _ c.guarded_string-found.ensures.utf8 c.count_hashes-n_hashes.ensures c.guarded_string-found.ensures.read in
+    let g = guards _ _ _ c.self.inside.pending _ _ c.count_hashes-n_hashes.ensures.utf8 c.count_hashes-n_hashes.ensures.read (c.guarded_string-found.ensures _ c.count_hashes-n_hashes.ensures.read) in
     (omega (arith, g.shorter, c.self.inside.small), tt)
 
 pub returns-in-Some-clause-guarded : goal.returns-in-Some-clause-guarded
 returns-in-Some-clause-guarded c =
-    let g = guards _ _ _ c.self.inside.pending _ _ c.guarded_string-found.ensures.utf8 c.count_hashes-n_hashes.ensures (retold (sym c.in-Some.is) c.guarded_string-found.ensures.read) in
+    let g = guards _ _ _ c.self.inside.pending _ _ c.count_hashes-n_hashes.ensures.utf8 c.count_hashes-n_hashes.ensures.read (retold (sym c.in-Some.is) (c.guarded_string-found.ensures _ c.count_hashes-n_hashes.ensures.read)) in
     sym g.guarded ∙ ap next_guarded c.self.view_is
 
 pub returns-in-Some-clause-rest : goal.returns-in-Some-clause-rest
 returns-in-Some-clause-rest c =
-    let g = guards _ _ _ c.self.inside.pending _ _ c.guarded_string-found.ensures.utf8 c.count_hashes-n_hashes.ensures (retold (sym c.in-Some.is) c.guarded_string-found.ensures.read) in
+    let g = guards _ _ _ c.self.inside.pending _ _ c.count_hashes-n_hashes.ensures.utf8 c.count_hashes-n_hashes.ensures.read (retold (sym c.in-Some.is) (c.guarded_string-found.ensures _ c.count_hashes-n_hashes.ensures.read)) in
     sym g.past ∙ ap past_guarded c.self.view_is
 
 pub returns-in-None-clause-rest : goal.returns-in-None-clause-rest
 returns-in-None-clause-rest c =
-    let g = guards _ _ _ c.self.inside.pending _ _ c.guarded_string-found.ensures.utf8 c.count_hashes-n_hashes.ensures (retold (sym c.in-None.is) c.guarded_string-found.ensures.read) in
+    let g = guards _ _ _ c.self.inside.pending _ _ c.count_hashes-n_hashes.ensures.utf8 c.count_hashes-n_hashes.ensures.read (retold (sym c.in-None.is) (c.guarded_string-found.ensures _ c.count_hashes-n_hashes.ensures.read)) in
     sym g.past ∙ ap past_guarded c.self.view_is

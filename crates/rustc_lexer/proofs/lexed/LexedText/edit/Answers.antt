@@ -9,7 +9,7 @@ use Rattle.rustc_lexer.proofs.lexed.LexedText.edit.Goals as goal
 pub move_marks-requires-clause-marks : goal.move_marks-requires-clause-marks
 move_marks-requires-clause-marks c =
     let text = c.self.inside.text in
-    let marks = subst (λ ts. All (IsMark ts) c.refine.new.marks.items) c.deref-2.ensures.value c.refine.ensures in
+    let marks = subst (λ ts. All (IsMark ts) c.refine.new.marks.items) c.deref-2.ensures.value c.refine.ensures.marks in
     text_marks_fit (string_bytes text) c.self.inside.tokens.items c.refine.new.marks.items (IsUtf8-string_bytes text) c.self.invariant.0 c.self.invariant.1 marks
 
 pub move_marks-requires-clause-to : goal.move_marks-requires-clause-to
@@ -24,7 +24,7 @@ overflow_sub-result c = c.in_ok-mended.ensures.mended.order
 
 pub invariant_of-self-2 : goal.invariant_of-self-2
 invariant_of-self-2 c =
-    let marks = subst (λ ts. All (IsMark ts) c.refine.new.marks.items) c.deref-2.ensures.value c.refine.ensures in
+    let marks = subst (λ ts. All (IsMark ts) c.refine.new.marks.items) c.deref-2.ensures.value c.refine.ensures.marks in
     let there = marks_moved c.self.inside.tokens.items c.mend.new.tokens.items c.in_ok-mended.mended c.refine.new.marks.items c.in_ok-mended.ensures.mended marks in (
       edited_small _ _ _ _ _ _ c.self.view_is c.in_ok-mended.ensures.text c.requires.order c.requires.stop.0 c.requires.fits,
       c.in_ok-mended.ensures.tokens,

@@ -7,15 +7,15 @@ use Rattle.tt.proofs.Limits.{size-whole}
 use Rattle.tt.proofs.top.TopSubtree.from_token_trees.Goals as goal
 
 -- the group's own token, and then those of the trees
-all_is : (c : goal.In-Ok-extend)
+all_is : (c : goal.In_ok-extend)
     → c.extend.new.self ≡ head_of c.args.delimiter (length (items c.args.token_trees.tokens)) ∷ items c.args.token_trees.tokens
 unfolding forest
 all_is c =
     let tokens = items c.args.token_trees.tokens in
     let counts : c.in-Ok.len ≡ length tokens =
     c.in-Ok.ensures.1 ∙ (c.len.ensures.len ∙ size-whole tokens c.args.token_trees.whole) in
-    c.in-Ok-extend.ensures.ok
-    ∙ ap (λ t. t ++ tokens) (c.in-Ok-push.ensures.ok ∙ ap (λ t. t ++ head_of c.args.delimiter c.in-Ok.len ∷ []) c.new-tokens.ensures)
+    c.in_ok-extend.ensures.ok
+    ∙ ap (λ t. t ++ tokens) (c.in_ok-push.ensures.ok ∙ ap (λ t. t ++ head_of c.args.delimiter c.in-Ok.len ∷ []) c.new-tokens.ensures)
     ∙ ap (λ n. head_of c.args.delimiter n ∷ tokens) counts
 
 pub invariant_of-result : goal.invariant_of-result

@@ -14,7 +14,7 @@ use Rattle.tt.proofs.top.TopSubtree.invisible_from_leaves.Goals as goal
 pub loop-leaf-preserved : goal.loop-leaf-preserved
 loop-leaf-preserved g c =
     let left : List token.the_data = map token.Leaf (array_into_iter_items c.next.new.self) in
-    ap (λ ts. ts ++ left) c.in-Ok-push-2.ensures.ok
+    ap (λ ts. ts ++ left) c.in_ok-push-2.ensures.ok
     ∙ append_assoc c.loop-leaf.tokens (token.Leaf c.in-Some.leaf ∷ []) left
     ∙ ap (λ ls. c.loop-leaf.tokens ++ map token.Leaf ls) (sym c.in-Some.ensures.steps)
     ∙ c.loop-leaf.invariant
@@ -41,7 +41,7 @@ all_is g c =
     ∙ ap (λ xs. c.push.new.self ++ map token.Leaf xs) c.into_iter-leaf-iterator.ensures.into_iter_gives.0
     ∙ ap (λ ts. c.push.new.self ++ ts) (sym (preorder-leaves ls))
     ∙ ap (λ ts. ts ++ tokens)
-    (c.in-Ok-push.ensures.ok ∙ ap (λ ts. ts ++ head_of c.invisible_spanned-delimiter.result c.in-Ok.len ∷ []) c.new-tokens.ensures)
+    (c.in_ok-push.ensures.ok ∙ ap (λ ts. ts ++ head_of c.invisible_spanned-delimiter.result c.in-Ok.len ∷ []) c.new-tokens.ensures)
     ∙ ap (λ n. head_of c.invisible_spanned-delimiter.result n ∷ tokens) (c.in-Ok.ensures.1 ∙ sym (count_is g c))
 
 pub invariant_of-result : goal.invariant_of-result

@@ -1,0 +1,50 @@
+-- What is replied hangs on the present text.
+use Rattle.std.proofs.Common.{◌≡◌, ℕ, List, [], ◌∷◌, ◌++◌, sym, ◌∙◌, subst}
+use Rattle.std.specs.Prelude.{Result, Ok, Err}
+use Rattle.bridge.specs.declared.fault.ReadFault.{ReadFault}
+use Rattle.expander.specs.Answers.{AreAnswers, ShowTheSame, last_text, reads_after, text_after}
+use Rattle.expander.specs.Meaning.{Layers, ReadMeaning, meaning}
+use Rattle.expander.specs.Replies.{IsMeant, IsReplyTo}
+use Rattle.expander.specs.declared.session.Reply.{Reply}
+use Rattle.expander.specs.declared.session.Reply.TheVariants.{Read, Unread}
+use Rattle.expander.specs.declared.commands.Answer.{Answer}
+use Rattle.expander.specs.declared.commands.Answer.TheVariants.{Reply as Replied}
+use Rattle.expander.specs.declared.commands.Command.{Command}
+use Rattle.expander.specs.declared.commands.Command.TheVariants.{Expand}
+
+same_meant : (m : Result ReadMeaning ReadFault) (reply other : Reply) → IsMeant m reply → IsMeant m other → ShowTheSame reply other
+same_meant (Ok m) (Read e) (Read f) h k = (h.printed ∙ sym k.printed, h.faults ∙ sym k.faults, h.origins ∙ sym k.origins)
+same_meant (Ok m) (Read e) (Unread b) h k = absurd k
+same_meant (Ok m) (Unread a) other h k = absurd h
+same_meant (Err fault) (Read e) other h k = absurd h
+same_meant (Err fault) (Unread a) (Read f) h k = absurd k
+same_meant (Err fault) (Unread a) (Unread b) h k = h ∙ sym k
+
+module _ (layers : Layers) (depth : ℕ) where
+  -- no answers for a command more
+  none_left : (text : List ℕ) (reads : List (List ℕ)) (commands : List Command) → AreAnswers layers depth text reads (commands ++ Expand ∷ []) [] → ⊥
+  none_left text reads [] h = h
+  none_left text reads (command ∷ commands) h = h
+
+  -- no command for an answer more
+  none_asked : (text : List ℕ) (reads : List (List ℕ)) (answers : List Answer) (last : Answer) → AreAnswers layers depth text reads [] (answers ++ last ∷ []) → ⊥
+  none_asked text reads [] last h = h
+  none_asked text reads (answer ∷ answers) last h = h
+
+  -- the last reply is one to the text behind all commands before it
+  last_reply : (text : List ℕ) (reads : List (List ℕ)) (commands : List Command) (answers : List Answer) (reply : Reply)
+      → AreAnswers layers depth text reads (commands ++ Expand ∷ []) (answers ++ Replied reply ∷ []) → IsReplyTo layers depth (last_text text commands answers) reply
+  last_reply text reads [] [] reply h = h.0
+  last_reply text reads [] (answer ∷ answers) reply h = absurd (none_asked (text_after text Expand answer) (reads_after text reads answer) answers (Replied reply) h.1)
+  last_reply text reads (command ∷ commands) [] reply h = absurd (none_left (text_after text command (Replied reply)) (reads_after text reads (Replied reply)) commands h.1)
+  last_reply text reads (command ∷ commands) (answer ∷ answers) reply h =
+      last_reply (text_after text command answer) (reads_after text reads answer) commands answers reply h.1
+
+  pub text_decides : (one two : List ℕ) (ones twos : List Command) (first second : List Answer) (reply other : Reply)
+      → AreAnswers layers depth one [] (ones ++ Expand ∷ []) (first ++ Replied reply ∷ []) → AreAnswers layers depth two [] (twos ++ Expand ∷ []) (second ++ Replied other ∷ [])
+      → last_text one ones first ≡ last_text two twos second → ShowTheSame reply other
+  text_decides one two ones twos first second reply other h k same =
+      let text : List ℕ = last_text two twos second in
+      same_meant (meaning layers depth text) reply other
+      (subst (λ (t : List ℕ). IsReplyTo layers depth t reply) same (last_reply one [] ones first reply h))
+      (last_reply two [] twos second other k)

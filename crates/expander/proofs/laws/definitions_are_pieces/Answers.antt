@@ -1,0 +1,7 @@
+use Rattle.std.proofs.Common.{[]}
+use Rattle.expander.specs.Pieces.{pieces}
+use Rattle.expander.proofs.TreeLemmas.{trees_of_members}
+use Rattle.expander.proofs.laws.definitions_are_pieces.Goals as goal
+
+pub returns : goal.returns
+returns c = λ layers depth f. trees_of_members layers depth [] (pieces f)

@@ -1,0 +1,5 @@
+use Rattle.expander.proofs.WordLemmas.{quiet_plain}
+use Rattle.expander.proofs.laws.definitions_begin_with_their_words.Goals as goal
+
+pub returns : goal.returns
+returns c = quiet_plain

@@ -1,0 +1,60 @@
+-- The answers to a list of commands: each by the text at its turn.
+use Rattle.std.specs.Prelude.{◌≡◌, ℕ, ◌+◌, ◌-◌, ◌≤◌, ◌<◌, ◌^◌, List, [], ◌∷◌, length, string_bytes, IsCharBoundary, ⊤}
+use Rattle.rustc_lexer.specs.Edit.{edited}
+use Rattle.expander.specs.declared.session.Refusal.TheVariants.{Memory, Tokens}
+use Rattle.expander.specs.declared.session.Reply.{Reply}
+use Rattle.expander.specs.declared.session.Reply.TheVariants.{Read, Unread}
+use Rattle.expander.specs.declared.commands.Answer.{Answer}
+use Rattle.expander.specs.declared.commands.Answer.TheVariants.{Edited, BadEdit, Reply as Replied, Refused}
+use Rattle.expander.specs.declared.commands.Command.{Command}
+use Rattle.expander.specs.declared.commands.Command.TheVariants.{Edit, Expand}
+use Rattle.expander.specs.Meaning.{Layers}
+use Rattle.expander.specs.Replies.{IsReplyTo}
+use Rattle.expander.specs.TooMany.{NeedsTooMany}
+
+-- both places are boundaries of characters, and the edit fits
+pub record CanEdit (text : List ℕ) (start stop : ℕ) (replacement : List ℕ) : Type 0 where
+  pub from : IsCharBoundary text start
+  pub to : IsCharBoundary text stop
+  pub order : start ≤ stop
+  pub fits : length text - (stop - start) + length replacement < 2 ^ 32
+
+-- an edit that was answered changes the text, and nothing else does
+abbrev pub text_after : List ℕ → Command → Answer → List ℕ
+text_after text (Edit start stop replacement) Edited = edited text start stop (string_bytes replacement)
+text_after text _ _ = text
+
+-- a text that was read is the last one then
+abbrev pub reads_after : List ℕ → List (List ℕ) → Answer → List (List ℕ)
+reads_after text reads (Replied (Read e)) = text ∷ reads
+reads_after text reads _ = reads
+
+-- the text behind all commands, by their answers
+abbrev pub last_text : List ℕ → List Command → List Answer → List ℕ
+last_text text (command ∷ commands) (answer ∷ answers) = last_text (text_after text command answer) commands answers
+last_text text _ _ = text
+
+-- two replies show the same, whatever pieces were expanded for them
+abbrev pub ShowTheSame : Reply → Reply → Type 0
+ShowTheSame (Read e) (Read f) = (e.printed ≡ f.printed) × (e.faults ≡ f.faults) × (e.origins ≡ f.origins)
+ShowTheSame (Unread fault) (Unread other) = fault ≡ other
+ShowTheSame _ _ = ⊥
+
+module _ (layers : Layers) (depth : ℕ) where
+  -- what may answer a command at a text, after these texts that were read, the newest first: no reply hangs on them yet
+  abbrev pub IsAnswer : List ℕ → List (List ℕ) → Command → Answer → Type 0
+  IsAnswer text reads (Edit start stop replacement) Edited = CanEdit text start stop (string_bytes replacement)
+  IsAnswer text reads (Edit start stop replacement) BadEdit = CanEdit text start stop (string_bytes replacement) → ⊥
+  IsAnswer text reads (Edit start stop replacement) (Refused Memory) = CanEdit text start stop (string_bytes replacement)
+  IsAnswer text reads Expand (Replied reply) = IsReplyTo layers depth text reply
+  IsAnswer text reads Expand (Refused Memory) = ⊤
+  IsAnswer text reads Expand (Refused Tokens) = NeedsTooMany layers depth text
+  IsAnswer text reads _ _ = ⊥
+
+  -- each command has one answer, by the text and the texts that were read at its turn
+  abbrev pub AreAnswers : List ℕ → List (List ℕ) → List Command → List Answer → Type 0
+  AreAnswers text reads [] [] = ⊤
+  AreAnswers text reads (command ∷ commands) (answer ∷ answers) =
+      IsAnswer text reads command answer × AreAnswers (text_after text command answer) (reads_after text reads answer) commands answers
+  AreAnswers text reads [] (answer ∷ answers) = ⊥
+  AreAnswers text reads (command ∷ commands) [] = ⊥

@@ -1,0 +1,31 @@
+-- Texts that print themselves.
+use Rattle.std.specs.Prelude.{◌≡◌, ℕ, List, [], Result, Ok, Err}
+use Rattle.bridge.specs.TokenSteps.{text_reading}
+use Rattle.bridge.specs.declared.fault.ReadFault.{ReadFault}
+use Rattle.expander.specs.declared.session.Reply.{Reply}
+use Rattle.expander.specs.declared.session.Reply.TheVariants.{Read, Unread}
+use Rattle.expander.specs.Laws.{AreAllPlain}
+use Rattle.expander.specs.Layered.{layers}
+use Rattle.expander.specs.Meaning.{ReadMeaning, meaning}
+use Rattle.expander.specs.Pieces.{pieces}
+use Rattle.mbe.specs.Grammar.{Grammar}
+use Rattle.tt_data.specs.Forest.{Forest}
+use Rattle.tt_data.specs.declared.edition.Edition.{Edition}
+
+-- what a text means is this very text, without a fault
+abbrev pub PrintsItself : List ℕ → Result ReadMeaning ReadFault → Type 0
+PrintsItself text (Ok m) = (m.text ≡ text) × (m.faults ≡ [])
+PrintsItself text (Err fault) = ⊥
+
+-- a text that can be read, has no definition, and prints itself without a fault, whatever the grammar, the edition and
+-- the number of levels
+pub record IsFixedPoint (text : List ℕ) : Type 0 where
+  pub trees : Forest
+  pub read : text_reading text ≡ Ok trees
+  pub plain : AreAllPlain (pieces trees)
+  pub again : (grammar : Grammar) (edition : Edition) (depth : ℕ) → PrintsItself text (meaning (layers grammar edition) depth text)
+
+-- a reply prints this text and tells no fault
+abbrev pub RepliesWith : List ℕ → Reply → Type 0
+RepliesWith text (Read e) = (e.printed ≡ text) × (e.faults ≡ [])
+RepliesWith text (Unread fault) = ⊥

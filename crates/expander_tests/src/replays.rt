@@ -1,0 +1,163 @@
+//! Commands and their answers, worked out by hand, and where printed tokens come from.
+use crate::sessions::expansion_of;
+use expander::{Answer, Command, Edition, Refusal, Reply, Session, SmallGrammar, replay};
+use std::alloc::{AllocError, Global};
+use std::test::Fail;
+
+// A text and commands, and what answers them. A command is `!`, to expand, or an edit: two places and a replacement.
+// `~` stands for a line feed.
+const REPLAYS: &str = r"
+a;|0 1 b|!|5 5 x|! @ edited|b ;~|bad edit|b ;~
+(|!|1 1 )|! @ GroupLeftOpen 0 1|edited|( )~
+é|1 1 x|! @ bad edit|é~
+ab|2 1 x|0 3 x|! @ bad edit|bad edit|ab~
+let x = 1;#[a] struct S;~|!|10 10  |! @ let x = 1 ;~# [ a ] struct S ;~|edited|let x = 1 ;~# [ a ] struct S ;~
+macro_rules! m { () => { 1 } }~m!{}~fn f() { m!{} }~|!|25 26 2|!|52 52 m!{}|0 0 ~~|! @ 1 fn f ( ) { 1 }~|edited|2 fn f ( ) { 2 }~|edited|edited|2 fn f ( ) { 2 }~2~
+m!{}~|!|0 0 macro_rules! m { () => { 1 } }|!|0 30 |! @ m ! { }~|edited|1~|edited|m ! { }~
+a+b|!|3 3 ;|!|0 0 ~|! @ a + b~|edited|a + b ;~|edited|a + b ;~
+ab;|0 2 c|! @ edited|c ;~
+|0 0 c|1 1 ;|! @ edited|edited|c ;~
+";
+
+// A text, and the places of its printed tokens: one of a template, one of an argument, one that two calls carry, those of
+// a comment, and those that a `$` puts in.
+const ORIGINS: &str = r"
+macro_rules! m { ($a:tt) => { x +$a 1 } }~m!{=}~ @ 30 31|32 33|45 46|36 37
+macro_rules! a { ($x:ident) => { $x y } }~macro_rules! b { ($x:ident) => { a!{$x} z } }~b!{w}~v~ @ 91 92|36 37|82 83|94 95
+macro_rules! s { ($x:tt) => { [$x] } }~s!{ ( a ) } b @ 30 31|43 44|45 46|47 48|33 34|51 52
+macro_rules! p { ($e:expr) => { $e ; } }~p!{1+2}~ @ 32 33|44 45|45 46|46 47|32 33|35 36
+/// d~v @ 0 5|0 5|0 5|0 5|0 5|0 5|6 7
+";
+
+// The text with one character in place of another.
+fn swapped(alloc: Global, text: &str, from: char, to: char) -> Result<String, AllocError> {
+    let mut swapped = String::new(alloc);
+    for c in text.chars() {
+        swapped.push(if c == from { to } else { c })?;
+    }
+    Ok(swapped)
+}
+
+fn command_of(alloc: Global, word: &str) -> Result<Command, Fail> {
+    if word == "!" {
+        return Ok(Command::Expand);
+    }
+    let Some((start, rest)) = word.split_once(' ') else {
+        return Err(Fail::new("no command"));
+    };
+    let Some((end, replacement)) = rest.split_once(' ') else {
+        return Err(Fail::new("no command"));
+    };
+    let (Ok(start), Ok(end)) = (start.parse::<usize>(), end.parse::<usize>()) else {
+        return Err(Fail::new("no place"));
+    };
+    let replacement = swapped(alloc, replacement, '~', '\n')?;
+    Ok(Command::Edit {
+        start,
+        end,
+        replacement,
+    })
+}
+
+// Puts an answer behind others.
+fn push_answer(alloc: Global, all: &mut String, answer: &Answer) -> Result<(), Fail> {
+    if !all.is_empty() {
+        all.push_str("|")?;
+    }
+    match answer {
+        Answer::Edited => all.push_str("edited")?,
+        Answer::BadEdit => all.push_str("bad edit")?,
+        Answer::Reply(Reply::Read(found)) => {
+            all.push_str(swapped(alloc, found.printed(), '\n', '~')?.as_str())?;
+        }
+        Answer::Reply(Reply::Unread(fault)) => {
+            let range = fault.range;
+            let told = format!(in alloc; "{:?} {} {}", fault.kind, range.start, range.end)?;
+            all.push_str(told.as_str())?;
+        }
+        Answer::Refused(_) => all.push_str("refused")?,
+    }
+    Ok(())
+}
+
+#[test]
+fn replays(rt: HostRuntime) -> Result<(), Fail> {
+    let alloc = rt.alloc();
+    for row in REPLAYS.lines() {
+        let Some((asked, wanted)) = row.split_once(" @ ") else {
+            continue;
+        };
+        let Some((text, words)) = asked.split_once('|') else {
+            return Err(Fail::new("no command"));
+        };
+        let text = swapped(alloc, text, '~', '\n')?;
+        let mut commands = Vec::new(alloc);
+        for word in words.split('|') {
+            commands.push(command_of(alloc, word)?)?;
+        }
+        assert!(rt; text.len() < 10_000_000);
+        let edition = Edition::Edition2024;
+        let answers = replay(
+            alloc,
+            text.as_str(),
+            SmallGrammar,
+            edition,
+            128,
+            commands.as_slice(),
+        )?;
+        let mut all = String::new(alloc);
+        for answer in answers.iter() {
+            push_answer(alloc, &mut all, answer)?;
+        }
+        assert!(rt; all.as_str() == wanted, "{:?} for {row:?}", all.as_str());
+    }
+    Ok(())
+}
+
+#[test]
+fn origins(rt: HostRuntime) -> Result<(), Fail> {
+    let alloc = rt.alloc();
+    for row in ORIGINS.lines() {
+        let Some((text, wanted)) = row.split_once(" @ ") else {
+            continue;
+        };
+        let text = swapped(alloc, text, '~', '\n')?;
+        let found = expansion_of(&rt, alloc, text.as_str(), 128)?;
+        let found = found.try_clone(alloc)?;
+        let mut all = String::new(alloc);
+        for i in 0..found.tokens() {
+            let Some(range) = found.origin(i) else {
+                return Err(Fail::new("no origin"));
+            };
+            let place = format!(in alloc; "{} {}", range.start, range.end)?;
+            if i > 0 {
+                all.push_str("|")?;
+            }
+            all.push_str(place.as_str())?;
+        }
+        assert!(rt; all.as_str() == wanted, "{:?} for {row:?}", all.as_str());
+    }
+    Ok(())
+}
+
+// Edits a session, where a refused edit changes nothing and may be made again.
+#[test]
+fn a_session_is_edited(rt: HostRuntime) -> Result<(), Fail> {
+    let Ok(mut session) = Session::new(rt.alloc(), "aé;", SmallGrammar, Edition::Edition2024, 128)
+    else {
+        return Ok(());
+    };
+    assert!(rt; session.is_boundary(3) && !session.is_boundary(2) && !session.is_boundary(5));
+    assert!(rt; session.fits(1, 3, 4_294_967_293) && !session.fits(1, 3, 4_294_967_294));
+    if session.edit(1, 3, "bc").is_err() {
+        assert!(rt; session.text() == "aé;");
+        session.edit(1, 3, "bc")?;
+    }
+    assert!(rt; session.text() == "abc;");
+    match session.expansion() {
+        Ok(Reply::Read(found)) => assert!(rt; found.printed() == "abc ;\n"),
+        Ok(Reply::Unread(_)) => return Err(Fail::new("the text is not read")),
+        Err(refusal) => assert!(rt; refusal == Refusal::Memory),
+    }
+    Ok(())
+}

@@ -1,0 +1,30 @@
+-- Frames that threads share.
+use Rattle.std.proofs.Common.{◌≡◌, refl, sym, ap, ◌∙◌, false, [], Option, Some, None, map}
+use Rattle.std.specs.Borrow.{Bor}
+use Rattle.mbe_rules.specs.Items.{Items, done}
+use Rattle.mbe.specs.Readings as r
+use Rattle.mbe.specs.Threads.{frame_of, frames_to, frames_in, frames_of, same_marks}
+use Rattle.mbe.specs.Units as u
+use Rattle.mbe.specs.declared.threads.Rung.{Rung, Rung'}
+
+framed : (x : Rung) (p : u.Place) → false ≡ r.has_used_up (r.at done (map frame_of (frames_to x)) p)
+framed (Rung' f around) p = refl
+
+-- what is in a group or round has not ended
+pub some-frame : (is : Items) (fs : Option (Bor Rung)) (x : Bor Rung) (p : u.Place) → is ≡ done → fs ≡ Some x → false ≡ r.has_used_up (r.at is (frames_of fs) p)
+some-frame is fs x p e f =
+    framed x.now p ∙ ap (λ o. r.has_used_up (r.at done (frames_of o) p)) (sym f) ∙ ap (λ i. r.has_used_up (r.at i (frames_of fs) p)) (sym e)
+
+marked : (x : Rung) → false ≡ same_marks (frames_to x) []
+marked (Rung' f around) = refl
+
+unmarked : (x : Rung) → false ≡ same_marks [] (frames_to x)
+unmarked (Rung' f around) = refl
+
+-- one thread is in more groups or rounds than another
+pub marks-more : (fs gs : Option (Bor Rung)) (x : Bor Rung) → fs ≡ Some x → gs ≡ None → false ≡ same_marks (frames_in fs) (frames_in gs)
+marks-more fs gs x e f = marked x.now ∙ ap (λ o. same_marks (frames_in o) []) (sym e) ∙ ap (λ o. same_marks (frames_in fs) (frames_in o)) (sym f)
+
+-- one thread is in fewer
+pub marks-less : (fs gs : Option (Bor Rung)) (x : Bor Rung) → fs ≡ None → gs ≡ Some x → false ≡ same_marks (frames_in fs) (frames_in gs)
+marks-less fs gs x e f = unmarked x.now ∙ ap (λ o. same_marks [] (frames_in o)) (sym f) ∙ ap (λ o. same_marks (frames_in o) (frames_in gs)) (sym e)

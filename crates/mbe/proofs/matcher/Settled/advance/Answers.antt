@@ -1,0 +1,35 @@
+use Rattle.std.proofs.Common.{sym, subst, refl, [], ◌++◌, map}
+use Rattle.mbe.specs.Places.{place_of}
+use Rattle.mbe.specs.Readings.{room}
+use Rattle.mbe.specs.Settled.{Leads, IsSoundAt}
+use Rattle.mbe.specs.Threads.{moves_of, state_of, waiting_at}
+use Rattle.mbe.specs.Waiting.{prefixed, settled_at, advanced_by}
+use Rattle.mbe.proofs.DueLemmas.{more-due, more-ended, same-leads}
+use Rattle.mbe.proofs.matcher.Settled.advance.Goals as goal
+
+pub returns-in_ok-push-in-Ended-clause-all : goal.returns-in_ok-push-in-Ended-clause-all
+returns-in_ok-push-in-Ended-clause-all g c = λ pattern all sound h.
+    let gr = g.G.FragmentGrammar.answer c.args.grammar.now in
+    let p = place_of c.args.place.now in
+    let s = c.args.self.now in
+    subst (λ w. Leads gr pattern p (all ++ advanced_by (settled_at gr) (waiting_at p w)) c.push.new.self.items s.seen.items []) (sym c.in-Ended.is)
+    (same-leads gr pattern p _ _ c.push.new.self.items s.seen.items s.seen.items [] [] c.in_ok-push-in-Ended.ensures.items refl refl
+    (more-ended gr pattern p all s.waiting.items s.seen.items c.in-Ended.moves h))
+
+pub returns-in_ok-settle-in-Pending-clause-all : goal.returns-in_ok-settle-in-Pending-clause-all
+returns-in_ok-settle-in-Pending-clause-all g c = λ pattern all sound h.
+    let gr = g.G.FragmentGrammar.answer c.args.grammar.now in
+    let p = place_of c.args.place.now in
+    let s = c.args.self.now in
+    let t = c.in-Pending.thread in
+    let more = all ++ map (prefixed (moves_of t.moves)) (settled_at gr (state_of t p)) in
+    subst (λ w. Leads gr pattern p (all ++ advanced_by (settled_at gr) (waiting_at p w)) c.settle.new.self.waiting.items c.settle.new.self.seen.items [])
+    (sym c.in-Pending.is)
+    (subst (λ ts. Leads gr pattern p more c.settle.new.self.waiting.items c.settle.new.self.seen.items ts) c.in_ok-settle-in-Pending.ensures.done
+    (c.in_ok-settle-in-Pending.ensures.all pattern more
+    (more-due gr pattern p all s.waiting.items s.seen.items t (subst (λ w. IsSoundAt pattern (waiting_at p w)) c.in-Pending.is sound) h)))
+
+pub settle-requires-clause-good : goal.settle-requires-clause-good
+settle-requires-clause-good g c =
+    let sound = subst (λ w. IsSoundAt c.requires.sound.0 (waiting_at (place_of c.args.place.now) w)) c.in-Pending.is c.requires.sound.1 in
+    (room c.requires.sound.0, sound.0)
