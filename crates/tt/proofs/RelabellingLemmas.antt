@@ -5,7 +5,8 @@
 --     follows_rule       entries that come of a rule
 use Rattle.std.proofs.Common.{◌≡◌, ℕ, zero, suc, ◌<◌, ◌++◌, List, [], ◌∷◌, map, refl, ap, sym, ◌∙◌, subst, length, set, take, drop, get_or, arith, Bool, true, false, cond, Some, None, ◌||◌, nat_eq, if◌then◌else◌, ⊎_elim}
 use Rattle.std.proofs.lemmas.Bool.{cases_eq, cases_Bool, eq-eqb, ne_eqb, eqb-true, eqb-false, or_parts, or_left, or_right, or_cases}
-use Rattle.std.proofs.lemmas.Map.Keys.{IsDistinct-head, IsDistinct-tail}
+use Rattle.std.proofs.lemmas.Map.Keys.{IsDistinct-head, IsDistinct-push, IsDistinct-tail}
+use Rattle.std.specs.Cmp.{nat_eq_equiv}
 use Rattle.std.specs.Fn.{Mut}
 use Rattle.std.specs.HashMap.{HashMap, get, IsEmpty}
 use Rattle.std.specs.Map.{lookup}
@@ -18,7 +19,7 @@ use Rattle.tt_data.specs.Spans.{delimiter_with, leaf_with, token_with, span_of}
 use Rattle.tt_data.specs.declared.span.Span.{Span}
 use Rattle.tt_data.specs.declared.leaf.Leaf.{Leaf}
 use Rattle.tt_data.specs.declared.delimiter.Delimiter.{Delimiter}
-use Rattle.tt_data.proofs.ForestLemmas.{forest_of-token_with, preorder-map_spans}
+use Rattle.tt_data.proofs.ForestLemmas.{forest_of-token_with, map-append, map_spans-map_spans, map_spans-same, preorder-map_spans}
 use Rattle.tt.specs.Anchors.{Tells, answer_in}
 use Rattle.tt.specs.Relabelling.{Answers, AnswersBy, anchor_with, anchors_in, anchors_of, anchors_of_brackets, asked_about, by_first_use, met_after, relabelled, renamed, with_anchor}
 use Rattle.tt.specs.Tops.{Top, IsOneGroup, forest_of_top, tokens_of, tree_of}
@@ -286,3 +287,48 @@ module _ (m : Span → Span) where
   pub IsOneGroup-token_with : (ts : List TokenTree) → IsOneGroup ts → IsOneGroup (map (token_with m) ts)
   IsOneGroup-token_with ts one =
       ap tokens_of (tree_of-token_with ts one) ∙ preorder-map_spans m (forest_of_top (tree_of ts)) ∙ ap (map (token_with m)) one
+
+-- ---- laws
+
+distinct_by : (b : Bool) (met : List ℕ) (a : ℕ) → list_any (nat_eq a) met ≡ b → IsDistinct nat_eq met → IsDistinct nat_eq (if b then met else met ++ a ∷ [])
+distinct_by true met a h distinct = distinct
+distinct_by false met a h distinct = IsDistinct-push nat_eq_equiv met a distinct h
+
+distinct_after : (met more : List ℕ) → IsDistinct nat_eq met → IsDistinct nat_eq (met_after met more)
+distinct_after met [] distinct = distinct
+distinct_after met (a ∷ more) distinct = distinct_after (with_anchor met a) more (distinct_by (list_any (nat_eq a) met) met a refl distinct)
+
+pub once : (xs : List ℕ) → IsDistinct nat_eq (by_first_use xs)
+once xs = distinct_after [] xs no_repeats
+
+pub all_there : (xs : List ℕ) (a : ℕ) → list_any (nat_eq a) xs ≡ true → list_any (nat_eq a) (by_first_use xs) ≡ true
+all_there xs a there = all_met [] xs a there
+
+module _ (h : ℕ → ℕ) where
+  anchors_in-relabelled : (ts : List TokenTree) → anchors_in (map (token_with (anchor_with h)) ts) ≡ map h (anchors_in ts)
+  anchors_in-relabelled [] = refl
+  anchors_in-relabelled (token.Leaf (as_leaf.Literal l) ∷ more) = ap (λ xs. h l.span.anchor ∷ xs) (anchors_in-relabelled more)
+  anchors_in-relabelled (token.Leaf (as_leaf.Punct p) ∷ more) = ap (λ xs. h p.span.anchor ∷ xs) (anchors_in-relabelled more)
+  anchors_in-relabelled (token.Leaf (as_leaf.Ident i) ∷ more) = ap (λ xs. h i.span.anchor ∷ xs) (anchors_in-relabelled more)
+  anchors_in-relabelled (token.Subtree s ∷ more) =
+      ap (λ xs. h s.delimiter.open_span.anchor ∷ h s.delimiter.close_span.anchor ∷ xs) (anchors_in-relabelled more)
+
+  pub anchors_of-relabelled : (t : Top) → anchors_of (relabelled h t) ≡ map h (anchors_of t)
+  anchors_of-relabelled t =
+      ap (λ xs. xs ++ map h (anchors_of_brackets t.delimiter))
+      (ap anchors_in (preorder-map_spans (anchor_with h) t.inner) ∙ anchors_in-relabelled (preorder t.inner))
+      ∙ sym (map-append (anchor_with h) h (anchors_in (preorder t.inner)) (anchors_of_brackets t.delimiter))
+
+  pub tokens_of-relabelled : (t : Top) → tokens_of (relabelled h t) ≡ map (token_with (anchor_with h)) (tokens_of t)
+  tokens_of-relabelled t = preorder-map_spans (anchor_with h) (forest_of_top t)
+
+pub relabelled-twice : (h k : ℕ → ℕ) (t : Top) → relabelled h (relabelled k t) ≡ relabelled (λ a. h (k a)) t
+relabelled-twice h k t =
+    ap (λ f. record { delimiter = delimiter_with (anchor_with (λ a. h (k a))) t.delimiter; inner = f })
+    (map_spans-map_spans (anchor_with h) (anchor_with k) t.inner)
+
+pub relabelled-same : (t : Top) → relabelled (λ a. a) t ≡ t
+relabelled-same t = ap (λ f. record { delimiter = t.delimiter; inner = f }) (map_spans-same t.inner)
+
+pub agreeing : (h k : ℕ → ℕ) (t : Top) → ((a : ℕ) → list_any (nat_eq a) (anchors_of t) ≡ true → h a ≡ k a) → relabelled h t ≡ relabelled k t
+agreeing h k t same = same_relabelled h k t (agree_from h k (anchors_of t) (anchors_of t) same (λ q there. there))
