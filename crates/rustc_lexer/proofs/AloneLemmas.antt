@@ -2,10 +2,10 @@
 use Rattle.std.proofs.Common.{◌≡◌, ℕ, zero, suc, ◌+◌, ◌-◌, ◌≤◌, ◌<◌, ◌==◌, Bool, true, false, not, ◌&&◌, ◌||◌, List, [], ◌∷◌, length, take, drop, refl, sym, ◌∙◌, ap, arith, slice_index_or, if◌then◌else◌, Option}
 use Rattle.std.proofs.lemmas.Bool.{and_parts, or_parts}
 use Rattle.std.proofs.lemmas.Bool.Decides.{nat_tests}
-use Rattle.std.proofs.lemmas.List.{take-take}
-use Rattle.std.specs.List.{list_all}
+use Rattle.std.proofs.lemmas.List.{take-take, length-drop, length-take-le}
+use Rattle.std.specs.List.{list_all, slice_range}
 use Rattle.std.specs.Option.{is_some}
-use Rattle.std.specs.Prelude.{codes}
+use Rattle.std.specs.Prelude.{chars, codes}
 use Rattle.ucd_derived.specs.Binary.{is_xid_start, is_xid_continue}
 use Rattle.ucd_derived.specs.XidContinueRanges.{xid_continue_ranges}
 use Rattle.ucd_derived.specs.XidStartRanges.{xid_start_ranges}
@@ -16,6 +16,7 @@ use Rattle.rustc_lexer.specs.Lexeme.{Lexeme, lexeme, lexeme_of, quoted, string, 
 use Rattle.rustc_lexer.specs.Lexing.{tokens_of, token_of}
 use Rattle.rustc_lexer.specs.Literals.{bare, literal, quoted_body, string_body, raw_form}
 use Rattle.rustc_lexer.specs.Seams.{is_whole_literal, stands_alone}
+use Rattle.rustc_lexer.specs.Standing.{IsTokenAt}
 use Rattle.rustc_lexer.specs.Stretch.{Stretch, further}
 use Rattle.rustc_lexer.specs.declared.token.LiteralKind.{LiteralKind}
 use Rattle.rustc_lexer.specs.declared.token.LiteralKind.TheVariants.{Byte, Char, Str, ByteStr, CStr, RawStr, RawByteStr, RawCStr}
@@ -26,7 +27,7 @@ use Rattle.rustc_lexer.proofs.BlankLemmas.{is_solid, start_stops}
 use Rattle.rustc_lexer.proofs.CutTextLemmas.{at_cut, at_drop, begins_cut, begins_same, drop_cut, ident_long, identifier_cut, numeral_cut, prefix_cut, quoted_body_cut, raw_form_cut, raw_form_long, same_at, string_cut, suffix_cut}
 use Rattle.rustc_lexer.proofs.LocalLemmas.{literal_long, name, name_at, name_long}
 use Rattle.rustc_lexer.proofs.PositiveLemmas.{lexeme_positive}
-use Rattle.rustc_lexer.proofs.TokenLemmas.{first_of_tokens}
+use Rattle.rustc_lexer.proofs.TokenLemmas.{first_of_tokens, length_text}
 
 -- what f reads of cs, where it stands alone and takes m characters, it reads of these
 unfoldable pub Kept : ℕ → (List ℕ → Lexeme) → List ℕ → Type 0
@@ -369,3 +370,34 @@ token_alone (c ∷ cs) t ts e h =
     let first : t ≡ token_of w (c ∷ cs) = ap (λ l. slice_index_or l 0 t) (sym e ∙ first_of_tokens c cs) in
     let alone : stands_alone w.value ≡ true = ap (λ (x : Token). stands_alone x.kind) (sym first) ∙ h in
     alone_by w.size c cs (lexeme_positive c cs) refl (lexeme_alone c cs alone) ∙ ap (λ x. x ∷ []) (sym first)
+
+no_taken : (n : ℕ) (cs : List ℕ) → cs ≡ [] → take n cs ≡ []
+no_taken zero cs e = refl
+no_taken (suc n) [] e = refl
+no_taken (suc n) (c ∷ cs) e = absurd (let l : suc (length cs) ≡ 0 = ap length e in omega (arith, l))
+
+-- the same of bytes: those of a token that stands in a text
+slice_long : (text : List ℕ) (at n : ℕ) → at + n ≤ length text → length (slice_range text at (at + n)) ≡ n
+slice_long text at n l =
+    let e : at + n - at ≡ n = omega arith in
+    ap (λ k. length (take k (drop at text))) e ∙ length-take-le n (drop at text) (omega (arith, l, length-drop at text))
+
+pub token_alone_at : (text : List ℕ) (at : ℕ) (t : Token) → IsTokenAt text at t → stands_alone t.kind ≡ true →
+    tokens_of (chars (slice_range text at (at + t.len))) ≡ t ∷ []
+token_alone_at text at t h alone = by_chars (chars (drop at text)) refl
+  where
+    by_chars : (cs : List ℕ) → chars (drop at text) ≡ cs → tokens_of (chars (slice_range text at (at + t.len))) ≡ t ∷ []
+    by_chars [] e =
+        let slice : List ℕ = slice_range text at (at + t.len) in
+        let none : chars slice ≡ [] = h.word ∙ ap (λ cs. take (lexeme cs).size cs) e ∙ no_taken (lexeme []).size [] refl in
+        let bytes = length_text slice h.utf8 ∙ ap utf8_len none in
+        absurd (omega (arith, bytes, slice_long text at t.len h.stop.0, h.positive))
+    by_chars (c ∷ cs) e =
+        let slice : List ℕ = slice_range text at (at + t.len) in
+        let w : Lexeme = lexeme (c ∷ cs) in
+        let word : chars slice ≡ take w.size (c ∷ cs) = h.word ∙ ap (λ cs. take (lexeme cs).size cs) e in
+        let kind : t.kind ≡ w.value = h.kind ∙ ap (λ cs. (lexeme cs).value) e in
+        let long : utf8_len (take w.size (c ∷ cs)) ≡ t.len = ap utf8_len (sym word) ∙ sym (length_text slice h.utf8) ∙ slice_long text at t.len h.stop.0 in
+        let one = alone_by w.size c cs (lexeme_positive c cs) refl (lexeme_alone c cs (ap stands_alone (sym kind) ∙ alone)) in
+        ap tokens_of word ∙ one ∙ ap (λ k. record { kind = k; len = utf8_len (take w.size (c ∷ cs)) } ∷ []) (sym kind)
+        ∙ ap (λ n. record { kind = t.kind; len = n } ∷ []) long

@@ -106,8 +106,10 @@ pub fn whole_token()
 
 /// The characters of a token that stands alone are that token by themselves, whatever follows them in the text.
 pub fn token_alone()
-    ensures { (cs : List ℕ) (t : Token) (ts : List Token) → tokens_of cs ≡ t ∷ ts → stands_alone t.kind ≡ true →
+    ensures chars { (cs : List ℕ) (t : Token) (ts : List Token) → tokens_of cs ≡ t ∷ ts → stands_alone t.kind ≡ true →
         tokens_of (take (lexeme cs).size cs) ≡ t ∷ [] }
+    ensures bytes { (text : List ℕ) (at : ℕ) (t : Token) → IsTokenAt text at t → stands_alone t.kind ≡ true →
+        tokens_of (chars (slice_range text at (at + t.len))) ≡ t ∷ [] }
 {}
 
 /// A text whose first token is whole does not begin with white space.
