@@ -140,16 +140,6 @@ module _ (mark : Span → Span) (bound : Map) where
   puts-put ns (Repeat' shape row sep k) rest = refl
   puts-put ns _ rest = refl
 
--- ---- answers that are refusals
-
-pub err-fills : (r : Result Bool TtFault) (old new : Building) (o : Option Forest) → IsErr r → Fills r old new o
-err-fills (Ok b) old new o h = absurd (cc h)
-err-fills (Err e) old new o h = tt
-
-pub memory-alone : {A X : Type 0} (r : Result A TtFault) → IsErrAnd r (λ e. e ≡ Memory) → r ≡ Err Tokens → X
-memory-alone (Ok a) is e = absurd is
-memory-alone (Err x) is e = absurd (cc (is, e))
-
 -- ---- items that hold items
 
 module _ (mark : Span → Span) (bound : Map) (ns : List ℕ) where
@@ -191,11 +181,6 @@ as-ref (Some b) s e = ap (option_map separator_of) e
 abbrev pub when_none : RepeatKind → Option Forest
 when_none OneOrMore = None
 when_none _ = Some empty
-
-none-ended : (k : RepeatKind) (old : Building) → ended (may_be_empty k) old ≡ option_map (extended old) (when_none k)
-none-ended ZeroOrOne old = ap Some (sym (unmoved old))
-none-ended ZeroOrMore old = ap Some (sym (unmoved old))
-none-ended OneOrMore old = refl
 
 -- what a first round and those after it give, and put out
 abbrev pub with_later : RepeatKind → Option Forest → Option Forest → Option Forest

@@ -312,17 +312,6 @@ plain-steps (Ok false) old new (Some f) n more h = absurd (cc h)
 
 -- ---- all of a template
 
-pub all-put : (old new : Building) (x : Option Forest) (n : ℕ) → put_and x n old filled_up ≡ filled_up new → Some new ≡ option_map (extended old) x
-all-put old new None n e = absurd (cc e)
-all-put old new (Some f) n e = sym (unfilled e)
-  where
-    unfilled : {b : Building} → filled_up b ≡ filled_up new → Some b ≡ Some new
-    unfilled e = cc
-
-pub fault-put : (old : Building) (x : Option Forest) (n : ℕ) → IsFaulty (put_and x n old filled_up) → None ≡ option_map (extended old) x
-fault-put old None n h = refl
-fault-put old (Some f) n h = absurd h
-
 pub all-burst : (old : Building) (x : Option Forest) (n : ℕ) → IsSized x n → most_tokens < reached (put_and x n old filled_up) → most_tokens < count_of old + n
 all-burst old None n s h = h
 all-burst old (Some f) n s h = omega (arith, h, s, count-extended old f)
@@ -371,12 +360,6 @@ fewer-rounds r c less =
 
 two-on-top : (ts us vs : List Task) (t u : Task) → us ≡ ts ++ (t ∷ []) → vs ≡ us ++ (u ∷ []) → reverse vs ≡ u ∷ t ∷ reverse ts
 two-on-top ts us vs t u e f = ap reverse f ∙ on-top us u ∙ ap (λ xs. u ∷ xs) (ap reverse e ∙ on-top ts t)
-
-pub two-more : (ts us vs : List Task) (t u : Task) → us ≡ ts ++ (t ∷ []) → vs ≡ us ++ (u ∷ []) → tasks_of_all vs ≡ tasks_of_all ts + tasks_of t + tasks_of u
-two-more ts us vs t u e f =
-    let a = ap tasks_of_all f ∙ one-more us u in
-    let b = ap tasks_of_all e ∙ one-more ts t in
-    omega (arith, a, b)
 
 module _ (mark : Span → Span) (bound : Map) where
   same-outcome : (ts us : List Task) (ns ms : List ℕ) (a b : Building) → us ≡ ts → ms ≡ ns → b ≡ a → outcome mark bound ts ns a ≡ outcome mark bound us ms b
@@ -481,13 +464,6 @@ module _ (mark : Span → Span) (bound : Map) where
       ∙ no-more mark bound ms x old (outcome mark bound (reverse ts) ms) (sym is ∙ fails)
       ∙ same-outcome mark bound (reverse ts) (reverse us) ms ks old old (ap reverse e) same refl
 
-  pub next-over : (ts : List Task) (ns ms : List ℕ) (x : Rounds) (stood : Bool) (old : Building) → ms ≡ around ns →
-      stood ≡ stands_in mark bound ms (items_of x.body.now) x.number → stood ≡ true → most_rounds ≤ x.number →
-      IsFaulty (outcome mark bound (Later x ∷ ts) ns old)
-  next-over ts ns ms x stood old left is holds most =
-      subst (λ l. IsFaulty (rounds_and mark bound l x old (outcome mark bound ts l))) left
-      (too-many mark bound ms x old (outcome mark bound ts ms) (sym is ∙ holds) most)
-
   pub next-bursts : (ts : List Task) (ns ms : List ℕ) (x : Rounds) (stood : Bool) (old : Building) → ms ≡ around ns →
       stood ≡ stands_in mark bound ms (items_of x.body.now) x.number → stood ≡ true → x.number < most_rounds →
       LacksRoom old (separator_leaves (option_map (λ s. separator_of s.now) x.separator)) →
@@ -509,40 +485,13 @@ module _ (mark : Span → Span) (bound : Map) where
       (extended old (separator_leaves (option_map (λ s. separator_of s.now) x.separator))) mid
       (two-on-top ts us vs (Later y) (items_task x.body) e f ∙ ap (λ r. items_task x.body ∷ Later r ∷ reverse ts) next) (g ∙ ap (λ l. l ++ (x.number ∷ [])) same) put
 
-pub next-fewer : (ts us vs : List Task) (x y : Rounds) → x.number < most_rounds → y.number ≡ x.number + 1 → y.body ≡ x.body → us ≡ ts ++ (Later y ∷ []) →
-    vs ≡ us ++ (items_task x.body ∷ []) → tasks_of_all vs < tasks_of_all ts + tasks_of (Later x)
-next-fewer ts us vs x y fits next same e f =
-    let c = work_of (items_of x.body.now) + 3 in
-    let a = two-more ts us vs (Later y) (items_task x.body) e f in
-    let b : tasks_of (Later y) ≡ 1 + (65536 - (x.number + 1)) * c =
-    ap (λ n. 1 + (65536 - n) * (work_of (items_of y.body.now) + 3)) next ∙ ap (λ t. 1 + (65536 - (x.number + 1)) * (work_of (items_of t.now) + 3)) same in
-    let d = fewer-rounds x.number c fits in
-    omega (arith, a, b, d)
-
 pub none-there : {A : Type 0} (xs : List A) → length xs ≡ 0 → xs ≡ []
 none-there [] e = refl
 none-there (x ∷ xs) e = absurd (omega (arith, e))
 
 -- ---- all tasks, one after the other
 
-pub stepped : (b : Bool) (o p q : Outcome) → b ≡ true → o ≡ p → GoesOn b p q → o ≡ q
-stepped true o p q h e g = e ∙ g
-stepped false o p q h e g = absurd (cc h)
-
-pub faulted : (b : Bool) (o p q : Outcome) → b ≡ false → o ≡ p → GoesOn b p q → IsFaulty o
-faulted true o p q h e g = absurd (cc h)
-faulted false o p q h e g = subst IsFaulty (sym e) g
-
 module _ (mark : Span → Span) (bound : Map) where
-  pub begun : (ts us : List Task) (ns ms : List ℕ) (ops : Bor (List Op)) (b : Building) → ts ≡ [] → us ≡ ts ++ (items_task ops ∷ []) → ns ≡ [] → ms ≡ ns →
-      items_and mark bound [] (items_of ops.now) b filled_up ≡ outcome mark bound (reverse us) ms b
-  begun ts us ns ms ops b none e at same =
-      same-outcome mark bound (items_task ops ∷ []) (reverse us) [] ms b b
-      (ap reverse e ∙ on-top ts (items_task ops) ∙ ap (λ l. items_task ops ∷ reverse l) none) (same ∙ at) refl
-
   pub popped : (ts us : List Task) (t : Task) (ns : List ℕ) (b : Building) (o : Outcome) → ts ≡ us ++ (t ∷ []) → o ≡ outcome mark bound (reverse ts) ns b →
       o ≡ outcome mark bound (t ∷ reverse us) ns b
   popped ts us t ns b o e h = h ∙ ap (λ l. outcome mark bound l ns b) (ap reverse e ∙ on-top us t)
-
-  pub finished : (ts : List Task) (ns : List ℕ) (b : Building) (o : Outcome) → ts ≡ [] → o ≡ outcome mark bound (reverse ts) ns b → o ≡ filled_up b
-  finished ts ns b o e h = h ∙ ap (λ l. outcome mark bound (reverse l) ns b) e

@@ -38,6 +38,8 @@ pub mod CountLemmas
 pub mod LeafLemmas
 pub mod FillLemmas
 pub mod FillTaskLemmas
+pub mod FailureTaskLemmas
+pub mod WalkLemmas
 pub mod FirstFitLemmas
 pub mod TextLemmas
 pub mod MacroLemmas

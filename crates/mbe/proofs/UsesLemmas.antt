@@ -58,7 +58,7 @@ uses-append : (ns : List ℕ) (m : Map) (xs ys : List (List ℕ)) →
     together (uses_of ns m (xs ++ ys)) ≡ beside (together (uses_of ns m xs)) (together (uses_of ns m ys))
 uses-append ns m xs ys = ap together (map-append _ xs ys) ∙ together-append (uses_of ns m xs) (uses_of ns m ys)
 
-names-put : (o : Op) (rest : Items) → names (put_op o rest) ≡ names (put_op o done) ++ names rest
+pub names-put : (o : Op) (rest : Items) → names (put_op o rest) ≡ names (put_op o done) ++ names rest
 names-put (Repeat' shape row sep k) rest = ap (λ ns. ns ++ names rest) (sym (append-nil (names (row_items row))))
 names-put (Subtree' shape row d) rest = ap (λ ns. ns ++ names rest) (sym (append-nil (names (row_items row))))
 names-put (Concat elements id) rest = ap (λ ns. ns ++ names rest) (sym (append-nil (part_names (map part_of elements.items))))
@@ -76,20 +76,13 @@ pub names-Subtree : (o : Op) (v : Vec Op Global) (d : Delimiter) → o ≡ Subtr
 names-Subtree o v d e =
     sym (ap (λ x. names (put_op x done)) e ∙ ap names (put-Subtree v d done) ∙ append-nil (names (items_of v.items)))
 
--- what so far is used, and what the items that are left use
-abbrev pub UsesFrom : List ℕ → Map → List Op → ℕ → Use → Type 0
-UsesFrom ns m ops i u = beside u (together (uses_of ns m (names (items_of (drop i ops))))) ≡ together (uses_of ns m (names (items_of ops)))
-
-pub op-used : (ns : List ℕ) (m : Map) (ops : List Op) (i j : ℕ) (d : Op) (u v w : Use) → j ≡ suc i → i < length ops → d ≡ get_or ops i d →
-    v ≡ beside u w → w ≡ together (uses_of ns m (names (put_op d done))) → UsesFrom ns m ops i u → UsesFrom ns m ops j v
-op-used ns m ops i j d u v w r h e is one from =
-    let k : drop i ops ≡ d ∷ drop j ops = drop-cons ops i d h ∙ ap (λ x. x ∷ drop (suc i) ops) (sym e) ∙ ap (λ x. d ∷ drop x ops) (sym r) in
-    let more = together (uses_of ns m (names (items_of (drop j ops)))) in
-    ap (λ x. beside x more) (is ∙ ap (beside u) one)
-    ∙ beside-assoc u (together (uses_of ns m (names (put_op d done)))) more
-    ∙ ap (beside u) (sym (ap (λ xs. together (uses_of ns m (names (items_of xs)))) k
-    ∙ ap (λ xs. together (uses_of ns m xs)) (names-put d (items_of (drop j ops)))
-    ∙ uses-append ns m (names (put_op d done)) (names (items_of (drop j ops)))))
+-- what so far is used, with one item more, and what is left uses
+pub walk-used : (ns : List ℕ) (m : Map) (u v w : Use) (all first left : List (List ℕ)) (t : Use) → v ≡ beside u w → w ≡ together (uses_of ns m first) →
+    all ≡ first ++ left → beside u (together (uses_of ns m all)) ≡ t → beside v (together (uses_of ns m left)) ≡ t
+walk-used ns m u v w all first left t is one e from =
+    ap (λ x. beside x (together (uses_of ns m left))) (is ∙ ap (beside u) one)
+    ∙ beside-assoc u (together (uses_of ns m first)) (together (uses_of ns m left))
+    ∙ ap (beside u) (sym (ap (λ xs. together (uses_of ns m xs)) e ∙ uses-append ns m first left))
     ∙ from
 
 beside-unused : (u : Use) → beside u unused ≡ u
@@ -97,12 +90,7 @@ beside-unused unused = refl
 beside-unused has_value = refl
 beside-unused has_none = refl
 
-pub ops-used : (ns : List ℕ) (m : Map) (ops : List Op) (i : ℕ) (u : Use) → length ops ≤ i → UsesFrom ns m ops i u →
-    u ≡ together (uses_of ns m (names (items_of ops)))
-ops-used ns m ops i u h from =
-    sym (beside-unused u) ∙ sym (ap (λ xs. beside u (together (uses_of ns m (names (items_of xs))))) (drop_all i ops h)) ∙ from
-
--- the same of parts of `${concat(..)}`
+-- what so far is used, and what the parts of `${concat(..)}` that are left use
 abbrev pub PartsFrom : List ℕ → Map → List ConcatElement → ℕ → Use → Type 0
 PartsFrom ns m ps i u =
     beside u (together (uses_of ns m (part_names (map part_of (drop i ps))))) ≡ together (uses_of ns m (part_names (map part_of ps)))

@@ -28,3 +28,5 @@ pub mod Putting
 pub mod Uses
 pub mod Given
 pub mod Tasks
+pub mod FailureTasks
+pub mod Walks

@@ -10,6 +10,7 @@ mod attempt;
 mod faults;
 mod filling;
 mod leaves;
+mod tasks;
 mod values;
 
 use crate::failure::attempt::{Attempt, Call, attempted};
@@ -84,8 +85,7 @@ fn filled<M: Fn(Span) -> Span>(
         marker,
         call_site,
     };
-    let mut rounds = Vec::new(alloc);
-    let error = filler.fill(&mut out, &mut rounds, template)?;
+    let error = filler.fill(&mut out, template)?;
     match out.build() {
         Ok(tree) => Ok((tree, error)),
         Err((_, fault)) => Err(fault),

@@ -19,6 +19,7 @@ mod putting;
 pub mod threads;
 mod transcriber;
 mod uses;
+mod walk;
 
 pub use fragment::expect_fragment;
 pub use fragment_grammar::{FragmentGrammar, Prefix, PrefixEntryPoint};

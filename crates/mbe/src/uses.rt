@@ -1,13 +1,15 @@
 //! How a round of a repetition uses the variables of its body.
-ghost use Rattle.std.specs.Prelude.{◌≡◌, ◌++◌, ◌∷◌, [], Some, IfOk, OnOk, map, option_map, option_and_then};
+ghost use Rattle.std.specs.Prelude.{◌≡◌, true, ◌++◌, ◌∷◌, [], Some, IfOk, OnOk, map, option_map, option_and_then};
 ghost use Rattle.mbe_rules.specs.Items.{done};
 ghost use Rattle.mbe_rules.specs.Ops.{items_of, part_of, put_op};
 ghost use Rattle.mbe.specs.Bindings.{binding_of, value_at};
 ghost use Rattle.mbe.specs.Bound.{map_of, standing_for, values_of};
 ghost use Rattle.mbe.specs.Filling.{names, part_names, stands, use_in, value_in};
+ghost use Rattle.mbe.specs.Given.{is_plain};
 ghost use Rattle.mbe.specs.Uses.{beside, has_it, together, use_of, uses_of};
 
 use crate::bindings::{Binding, Bindings};
+use crate::walk::Walk;
 use mbe_rules::{ConcatElement, Op};
 use std::alloc::AllocError;
 use symbols::Symbol;
@@ -141,9 +143,9 @@ fn use_of_parts(parts: &[ConcatElement], bindings: &Bindings<'_>, rounds: &[usiz
     all
 }
 
-// How it uses the variables of an item.
-#[cycle(using)]
+// How it uses the variables of an item that holds no others.
 fn use_of_op(op: &Op, bindings: &Bindings<'_>, rounds: &[usize]) -> Use
+    requires { is_plain (put_op op.now done) ≡ true }
     ensures { use_of result ≡ together (uses_of rounds.now (map_of bindings.now) (names (put_op op.now done))) }
 {
     match op {
@@ -151,22 +153,20 @@ fn use_of_op(op: &Op, bindings: &Bindings<'_>, rounds: &[usize]) -> Use
         Op::Count { name, .. } => use_of(name, bindings, rounds),
         Op::Ignore { name, .. } => use_of(name, bindings, rounds),
         Op::Concat { elements, .. } => use_of_parts(elements, bindings, rounds),
-        Op::Repeat { tokens, .. } => use_of_all(tokens, bindings, rounds),
-        Op::Subtree { tokens, .. } => use_of_all(tokens, bindings, rounds),
         _ => Use::Unused,
     }
 }
 
 // How it uses the variables of these items.
-#[cycle(using)]
-fn use_of_all(ops: &[Op], bindings: &Bindings<'_>, rounds: &[usize]) -> Use
-    ensures { use_of result ≡ together (uses_of rounds.now (map_of bindings.now) (names (items_of ops.now))) }
+fn use_of_all(ops: &[Op], bindings: &Bindings<'_>, rounds: &[usize]) -> Result<Use, AllocError>
+    ensures { IfOk result (λ u. use_of u ≡ together (uses_of rounds.now (map_of bindings.now) (names (items_of ops.now)))) }
 {
+    let mut walk = Walk::new(bindings.allocator(), ops);
     let mut all = Use::Unused;
-    for op in ops {
+    while let Some(op) = walk.next()? {
         all = all.beside(use_of_op(op, bindings, rounds));
     }
-    all
+    Ok(all)
 }
 
 /// Whether a round stands: `rounds` are those around it, and come back as they are.
@@ -181,7 +181,7 @@ pub(crate) fn round_stands(
     ensures stands { IfOk result (λ b. b ≡ stands (uses_of (rounds.old.items ++ (number ∷ [])) (map_of bindings.now) (names (items_of body.now)))) }
 {
     rounds.push(number)?;
-    let used = use_of_all(body, bindings, rounds);
+    let used = use_of_all(body, bindings, rounds)?;
     let _ = rounds.pop();
     Ok(used.has_value())
 }

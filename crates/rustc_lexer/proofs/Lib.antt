@@ -4,6 +4,8 @@ mod AsciiLemmas
 mod PositiveLemmas
 mod TokenLemmas
 mod CutLemmas
+pub mod CutTextLemmas
+pub mod AloneLemmas
 mod StandingLemmas
 mod Rows
 mod KindLemmas

@@ -130,7 +130,7 @@ number_local cs ds =
 
 -- ---- suffixes
 
-literal_long : (whole : Bool) (kind : LiteralKind) (n : ℕ) (cs : List ℕ) → n ≤ (literal whole kind n cs).size
+pub literal_long : (whole : Bool) (kind : LiteralKind) (n : ℕ) (cs : List ℕ) → n ≤ (literal whole kind n cs).size
 literal_long whole kind n cs = choice (λ (s : Stretch TokenKind). n ≤ s.size) whole _ _ (λ h. omega arith) (λ h. omega arith)
 
 bare_local : (kind : LiteralKind) (n : ℕ) (cs ds : List ℕ) → Agree n cs ds → bare kind n ds ≡ bare kind n cs
@@ -260,13 +260,13 @@ word_row cs ds =
 -- ---- what begins with `'`
 
 -- what is read where n characters from the `'` on are a name, a number or neither
-abbrev name_at : Bool → ℕ → List ℕ → Lexeme
+abbrev pub name_at : Bool → ℕ → List ℕ → Lexeme
 name_at numbered n cs =
     if is "'" (char_at cs n) then bare (Char true) (n + 1) cs
     else if is "#" (char_at cs n) && not numbered then lexeme_of UnknownPrefixLifetime n
     else lexeme_of (Lifetime numbered) n
 
-name_long : (numbered : Bool) (n : ℕ) (cs : List ℕ) → n ≤ (name_at numbered n cs).size
+pub name_long : (numbered : Bool) (n : ℕ) (cs : List ℕ) → n ≤ (name_at numbered n cs).size
 name_long numbered n cs =
     choice (λ (s : Lexeme). n ≤ s.size) (is "'" (char_at cs n)) _ _ (λ h. omega arith)
     (λ h. choice (λ (s : Lexeme). n ≤ s.size) (is "#" (char_at cs n) && not numbered) _ _ (λ k. omega arith) (λ k. omega arith))
@@ -275,7 +275,7 @@ name_same : (numbered : Bool) (n : ℕ) (cs ds : List ℕ) → Agree (n + 1) cs 
 name_same numbered n cs ds a = rw (agree_at n a (omega arith), bare_local (Char true) (n + 1) cs ds a)
 
 -- a lifetime that isn't raw, or a character
-abbrev name : List ℕ → Lexeme
+abbrev pub name : List ℕ → Lexeme
 name cs = name_at (is_digit (char_at cs 1)) (2 + continues (drop 2 cs)) cs
 
 name_row : (cs ds : List ℕ) → Local 2 name cs ds

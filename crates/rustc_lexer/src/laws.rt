@@ -16,7 +16,7 @@ ghost use Rattle.rustc_lexer.specs.Cursors.{suffix_of};
 ghost use Rattle.rustc_lexer.specs.Lexeme.{lexeme, one_char_kind};
 ghost use Rattle.rustc_lexer.specs.Lexing.{place, reach, token_of, tokens_of};
 ghost use Rattle.rustc_lexer.specs.Literals.{stands_for_itself};
-ghost use Rattle.rustc_lexer.specs.Seams.{begins_longer, begins_white, ends_here, is_blank, is_sign, is_whole};
+ghost use Rattle.rustc_lexer.specs.Seams.{begins_longer, begins_white, ends_here, is_blank, is_sign, is_whole, stands_alone};
 ghost use Rattle.rustc_lexer.specs.Shapes.{HasByteShape, HasShape, is_ended};
 ghost use Rattle.rustc_lexer.specs.Standing.{AreTokensFrom, IsTokenAt};
 ghost use Rattle.rustc_lexer.specs.declared.lexed.Kept.{Kept};
@@ -102,6 +102,14 @@ pub fn suffix_starts()
 pub fn whole_token()
     ensures { (cs ds : List ℕ) (t : Token) → tokens_of cs ≡ t ∷ [] → is_whole t.kind ≡ true → ends_here ds ≡ true →
         tokens_of (cs ++ ds) ≡ t ∷ tokens_of ds }
+{}
+
+/// The characters of a token that stands alone are that token by themselves, whatever follows them in the text.
+pub fn token_alone()
+    ensures chars { (cs : List ℕ) (t : Token) (ts : List Token) → tokens_of cs ≡ t ∷ ts → stands_alone t.kind ≡ true →
+        tokens_of (take (lexeme cs).size cs) ≡ t ∷ [] }
+    ensures bytes { (text : List ℕ) (at : ℕ) (t : Token) → IsTokenAt text at t → stands_alone t.kind ≡ true →
+        tokens_of (chars (slice_range text at (at + t.len))) ≡ t ∷ [] }
 {}
 
 /// A text whose first token is whole does not begin with white space.

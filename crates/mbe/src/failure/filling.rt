@@ -1,35 +1,29 @@
-//! What a template gives, as far as its variables have values: filling goes on after a fault.
+//! What an item gives that holds no others, as far as its variables have values: filling goes on after a fault.
 use crate::failure::faults::binding_error;
-use crate::failure::leaves::{add_text, punct, put_missing, put_number, put_separator, word};
+use crate::failure::leaves::{add_text, punct, put_missing, put_number, word};
 use crate::failure::values::{Found, Usage, Value, Values};
 use crate::putting::put_in;
-use mbe_rules::{ConcatElement, ExpandError, ExpandErrorKind, Op, RepeatKind, Separator};
+use crate::walk::Walk;
+use mbe_rules::{ConcatElement, ExpandError, ExpandErrorKind, Op};
 use rustc_lexer::is_ident;
 use std::alloc::{AllocError, Global};
 use symbols::Symbol;
 use tt::{Ident, IdentIsRaw, Leaf, Punct, Spacing, Span, TopSubtreeBuilder, TtFault};
 
 // The first fault, if there is one.
-type Told = Result<Option<ExpandError>, TtFault>;
+pub(crate) type Told = Result<Option<ExpandError>, TtFault>;
 
 // As many rounds a repetition may have.
-const MOST_ROUNDS: usize = 65_535;
+pub(crate) const MOST_ROUNDS: usize = 65_535;
 
 const NO_PART: &str = "metavariables of `${concat(..)}` must be of type `ident`, `literal` or `tt`";
 
 const NO_IDENTIFIER: &str = "`${concat(..)}` is not generating a valid identifier";
 
 // Whether there is one more round.
-enum Next {
+pub(crate) enum Next {
     None,
     One,
-    TooMany,
-}
-
-// What comes of the rounds of a repetition.
-enum Rounds {
-    None,
-    Some(Option<ExpandError>),
     TooMany,
 }
 
@@ -43,7 +37,7 @@ pub(crate) struct Filler<'f, 'a, M> {
 }
 
 impl<'f, 'a, M: Fn(Span) -> Span> Filler<'f, 'a, M> {
-    fn mark(&self, span: Span) -> Span
+    pub(crate) fn mark(&self, span: Span) -> Span
         requires { M.IsAlwaysCallable self.now.marker.now }
     {
         let marker = self.marker;
@@ -51,7 +45,7 @@ impl<'f, 'a, M: Fn(Span) -> Span> Filler<'f, 'a, M> {
     }
 
     // A fault at this place.
-    fn told(&self, span: Span, kind: ExpandErrorKind) -> Told {
+    pub(crate) fn told(&self, span: Span, kind: ExpandErrorKind) -> Told {
         let error = ExpandError::new(self.alloc, span, kind)?;
         Ok(Some(error))
     }
@@ -76,13 +70,11 @@ impl<'f, 'a, M: Fn(Span) -> Span> Filler<'f, 'a, M> {
         }
     }
 
-    // How the innermost of these rounds uses the names of an item.
-    #[cycle(usage)]
+    // How the innermost of these rounds uses the names of an item that holds no others.
     fn usage_of(&self, op: &Op, rounds: &[usize]) -> Usage {
         match op {
             Op::Var { name, .. } | Op::Ignore { name, .. } => self.use_of(name, rounds, false),
             Op::Count { name, .. } => self.use_of(name, rounds, true),
-            Op::Repeat { tokens, .. } | Op::Subtree { tokens, .. } => self.usage(tokens, rounds),
             Op::Concat { elements, .. } => {
                 let mut usage = Usage::None;
                 for element in elements {
@@ -96,13 +88,13 @@ impl<'f, 'a, M: Fn(Span) -> Span> Filler<'f, 'a, M> {
         }
     }
 
-    #[cycle(usage)]
-    fn usage(&self, ops: &[Op], rounds: &[usize]) -> Usage {
+    fn usage(&self, ops: &[Op], rounds: &[usize]) -> Result<Usage, AllocError> {
+        let mut walk = Walk::new(self.alloc, ops);
         let mut usage = Usage::None;
-        for op in ops {
+        while let Some(op) = walk.next()? {
             usage = usage.with(self.usage_of(op, rounds));
         }
-        usage
+        Ok(usage)
     }
 
     // A variable.
@@ -260,7 +252,7 @@ impl<'f, 'a, M: Fn(Span) -> Span> Filler<'f, 'a, M> {
     }
 
     // What a `$` begins that is no repetition.
-    fn dollar(&self, out: &mut TopSubtreeBuilder, rounds: &[usize], op: &Op) -> Told
+    pub(crate) fn dollar(&self, out: &mut TopSubtreeBuilder, rounds: &[usize], op: &Op) -> Told
         requires { M.IsAlwaysCallable self.now.marker.now }
     {
         match op {
@@ -285,114 +277,13 @@ impl<'f, 'a, M: Fn(Span) -> Span> Filler<'f, 'a, M> {
     }
 
     // Whether the innermost of these rounds stands. Without a list there is no end to the rounds.
-    fn next_round(&self, body: &[Op], rounds: &[usize]) -> Next {
-        match (self.usage(body, rounds), rounds.last()) {
+    pub(crate) fn next_round(&self, body: &[Op], rounds: &[usize]) -> Result<Next, AllocError> {
+        let next = match (self.usage(body, rounds)?, rounds.last()) {
             (Usage::None | Usage::Lacking, _) => Next::None,
             (_, Some(0)) => Next::One,
             (Usage::List, Some(round)) if *round < MOST_ROUNDS => Next::One,
             _ => Next::TooMany,
-        }
-    }
-
-    // The rounds of a repetition, of which the present one is the last of `rounds`.
-    #[cycle(filling)]
-    fn go_round(
-        &self,
-        out: &mut TopSubtreeBuilder,
-        rounds: &mut Vec<usize>,
-        body: &[Op],
-        separator: &Option<Separator>,
-        kind: RepeatKind,
-    ) -> Result<Rounds, TtFault>
-        requires { M.IsAlwaysCallable self.now.marker.now }
-    {
-        let mut error = None;
-        let mut is_parted = false;
-        for round in 0..=MOST_ROUNDS {
-            rounds.pop();
-            rounds.push(round).map_err(AllocError::from)?;
-            match self.next_round(body, rounds) {
-                Next::None if round == 0 => return Ok(Rounds::None),
-                Next::None => break,
-                Next::TooMany => return Ok(Rounds::TooMany),
-                Next::One => {}
-            }
-            if is_parted {
-                put_separator(out, separator)?;
-            }
-            let next = self.fill(out, rounds, body)?;
-            is_parted = next.is_none();
-            error = error.or(next);
-            if is_parted && kind == RepeatKind::ZeroOrOne {
-                break;
-            }
-        }
-        Ok(Rounds::Some(error))
-    }
-
-    #[cycle(filling)]
-    fn repetition(
-        &self,
-        out: &mut TopSubtreeBuilder,
-        rounds: &mut Vec<usize>,
-        body: &[Op],
-        separator: &Option<Separator>,
-        kind: RepeatKind,
-    ) -> Told
-        requires { M.IsAlwaysCallable self.now.marker.now }
-    {
-        let start = out.restore_point();
-        rounds.push(0).map_err(AllocError::from)?;
-        let outcome = self.go_round(out, rounds, body, separator, kind)?;
-        rounds.pop();
-        match outcome {
-            Rounds::Some(error) => Ok(error),
-            Rounds::None if kind == RepeatKind::OneOrMore => {
-                self.told(self.call_site, ExpandErrorKind::UnexpectedToken)
-            }
-            Rounds::None => Ok(None),
-            Rounds::TooMany => {
-                out.restore(start)?;
-                self.told(self.call_site, ExpandErrorKind::LimitExceeded)
-            }
-        }
-    }
-
-    #[cycle(filling)]
-    fn fill_op(&self, out: &mut TopSubtreeBuilder, rounds: &mut Vec<usize>, op: &Op) -> Told
-        requires { M.IsAlwaysCallable self.now.marker.now }
-    {
-        match op {
-            Op::Repeat {
-                tokens,
-                separator,
-                kind,
-            } => self.repetition(out, rounds, tokens, separator, *kind),
-            Op::Subtree { tokens, delimiter } => {
-                out.open(delimiter.kind, self.mark(delimiter.open_span))?;
-                let error = self.fill(out, rounds, tokens)?;
-                out.close(self.mark(delimiter.close_span))?;
-                Ok(error)
-            }
-            _ => self.dollar(out, rounds, op),
-        }
-    }
-
-    // Puts in what these items give, and answers the first fault.
-    #[cycle(filling)]
-    pub(crate) fn fill(
-        &self,
-        out: &mut TopSubtreeBuilder,
-        rounds: &mut Vec<usize>,
-        ops: &[Op],
-    ) -> Told
-        requires { M.IsAlwaysCallable self.now.marker.now }
-    {
-        let mut error = None;
-        for op in ops {
-            let next = self.fill_op(out, rounds, op)?;
-            error = error.or(next);
-        }
-        Ok(error)
+        };
+        Ok(next)
     }
 }

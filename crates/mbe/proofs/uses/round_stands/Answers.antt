@@ -9,6 +9,6 @@ use Rattle.mbe.proofs.uses.round_stands.Goals as goal
 pub returns-clause-stands : goal.returns-clause-stands
 returns-clause-stands c =
     c.has_value.ensures
-    ∙ stands-by (uses_of (c.args.rounds.now.items ++ (c.args.number ∷ [])) (map_of c.args.bindings.now) (names (items_of c.args.body.now))) (use_of c.use_of_all-used.result)
-    (c.use_of_all-used.ensures
+    ∙ stands-by (uses_of (c.args.rounds.now.items ++ (c.args.number ∷ [])) (map_of c.args.bindings.now) (names (items_of c.args.body.now))) (use_of c.in_ok-used.used)
+    (c.in_ok-used.ensures
     ∙ ap (λ ns. together (uses_of ns (map_of c.args.bindings.now) (names (items_of c.args.body.now)))) (c.deref.ensures.value ∙ c.in_ok-push.ensures.items))
