@@ -6,10 +6,12 @@ use Rattle.std.specs.Char.{encode_utf8}
 use Rattle.std.specs.Str.{IsCharBoundary, bytes_eq, chars, is_utf8}
 use Rattle.std.proofs.lemmas.Bool.Decides.{nat_tests}
 use Rattle.std.proofs.lemmas.List.{drop_at, length-append, length-drop, length-take-le, take_at}
+use Rattle.std.proofs.lemmas.Str.{IsUtf8-drop}
 use Rattle.ucd_derived.specs.Binary.{is_xid_start, is_xid_continue}
 use Rattle.ucd_derived.specs.XidContinueRanges.{xid_continue_ranges}
 use Rattle.ucd_derived.specs.XidStartRanges.{xid_start_ranges}
 use Rattle.ucd_table.specs.Rows.{in_ranges}
+use Rattle.rustc_lexer.specs.Character.{is_ident, utf8_len}
 use Rattle.rustc_lexer.specs.Cursors.{suffix_of}
 use Rattle.rustc_lexer.specs.Lexing.{tokens_of}
 use Rattle.rustc_lexer.specs.Seams.{stands_alone}
@@ -37,10 +39,11 @@ use Rattle.bridge.specs.PlainTexts.{is_mark_char}
 use Rattle.bridge.specs.ReadSteps.{MayCut}
 use Rattle.bridge.specs.Reading.{PlacedToken, range_of, step, written_at}
 use Rattle.bridge.specs.Spelling.{is_plain_name, is_that_leaf, leaf_spelling, same_form, same_rawness}
-use Rattle.bridge.specs.TokenSteps.{literal_form, literal_sort, sort_of, spacing_before, steps_of_sort}
+use Rattle.bridge.specs.TokenSteps.{literal_form, literal_sort, name_leaf, sort_of, spacing_before, steps_of_sort}
+use Rattle.bridge.proofs.BackLemmas.{chars_one}
 use Rattle.bridge.proofs.AgainLemmas.{literal_by, same_bytes, stays}
 use Rattle.bridge.proofs.CutLemmas.{boundary_in, may_cut}
-use Rattle.bridge.proofs.PlainLemmas.{mark_spelled, same_text, spelled_as}
+use Rattle.bridge.proofs.PlainLemmas.{mark_spelled, name_spelled, same_text, spelled_as}
 use Rattle.bridge.proofs.SpellingLemmas.{told_of_one}
 use Rattle.bridge.proofs.WordLemmas.{is_single_sort}
 use Rattle.rustc_lexer.proofs.TestLemmas.{no}
@@ -81,6 +84,7 @@ abbrev Tells : Sort → TokenKind → Type 0
 Tells (Mark c) k = is_mark_char c ≡ true
 Tells (Name is_raw.Yes) k = k ≡ kind.RawIdent
 Tells (Value f n) k = same_form f f ≡ true
+Tells QuotedName k = k ≡ kind.Lifetime false
 Tells _ k = Unit {0}
 
 nat_same : (n : ℕ) → nat_eq n n ≡ true
@@ -130,7 +134,7 @@ kind_tells (kind.BlockComment None false) = tt
 kind_tells (kind.BlockComment (Some style) true) = tt
 kind_tells (kind.BlockComment (Some style) false) = tt
 kind_tells (kind.Lifetime true) = tt
-kind_tells (kind.Lifetime false) = tt
+kind_tells (kind.Lifetime false) = refl
 kind_tells _ = tt
 
 -- ---- a text that is one token
@@ -234,6 +238,11 @@ by_sort (Doc Outer is_block) s t p more l sort same one tells cut shape read = a
 by_sort (Doc Inner is_block) s t p more l sort same one tells cut shape read = absurd (let n = ap length read in omega (arith, n))
 by_sort Neither s t p more l sort same one tells cut shape read = absurd (cc)
 
+slice_long : (text : List ℕ) (at n : ℕ) → at + n ≤ length text → length (slice_range text at (at + n)) ≡ n
+slice_long text at n l =
+    let e : at + n - at ≡ n = omega arith in
+    ap (λ k. length (take k (drop at text))) e ∙ length-take-le n (drop at text) (omega (arith, l, length-drop at text))
+
 -- a token of a text, with what the lexer tells of it
 pub leaf_has_spelling : (text : List ℕ) (at : ℕ) (t : Token) (more : List PlacedToken) (l : Leaf) → IsUtf8 text → length text < 2 ^ 32 → IsTokenAt text at t →
     (stands_alone t.kind ≡ true → tokens_of (chars (slice_range text at (at + t.len))) ≡ t ∷ []) →
@@ -243,9 +252,29 @@ pub leaf_has_spelling : (text : List ℕ) (at : ℕ) (t : Token) (more : List Pl
     IsSome (leaf_spelling l)
 leaf_has_spelling text at t more l u fits h alone sums shape within boundary read =
     let s : List ℕ = slice_range text at (at + t.len) in
-    let count : at + t.len - at ≡ t.len = omega arith in
-    let long : length s ≡ t.len = ap (λ k. length (take k (drop at text))) count ∙ length-take-le t.len (drop at text) (omega (arith, h.stop.0, length-drop at text)) in
+    let long = slice_long text at t.len h.stop.0 in
     let cut = may_cut t.kind s h.utf8 shape (boundary_in text at t.len (suffix_of t.kind) within h.stop.0 boundary) in
     by_sort (sort_of t.kind) s t (record { kind = t.kind; start = at; text = s }) more l refl refl
     (λ single. record { utf8 = h.utf8; short = omega (arith, long, fits, h.stop.0); sum = sums s h.utf8; one = alone (single_alone t.kind single) })
     (kind_tells t.kind) cut shape read
+
+-- the name behind the quote of a lifetime
+pub name_has_spelling : (text : List ℕ) (at : ℕ) (t : Token) (span : Span) → IsUtf8 text → length text < 2 ^ 32 → IsTokenAt text at t →
+    ((s : List ℕ) → IsUtf8 s → sum_by (λ (x : Token). x.len) (tokens_of (chars s)) ≡ length s) →
+    ((cs : List ℕ) → is_ident cs ≡ true → tokens_of cs ≡ record { kind = kind.Ident; len = utf8_len cs } ∷ []) →
+    (t.kind ≡ kind.Lifetime false → is_ident (drop 1 (chars (slice_range text at (at + t.len)))) ≡ true) →
+    (is_ended t.kind ≡ true → HasByteShape t.kind (slice_range text at (at + t.len))) → suffix_of t.kind ≤ t.len → IsCharBoundary text (at + suffix_of t.kind) →
+    sort_of t.kind ≡ QuotedName → IsSome (leaf_spelling (name_leaf (drop 1 (slice_range text at (at + t.len))) is_raw.No span))
+name_has_spelling text at t span u fits h sums one named shape within boundary sort =
+    let s : List ℕ = slice_range text at (at + t.len) in
+    let r : List ℕ = drop 1 s in
+    let long = slice_long text at t.len h.stop.0 in
+    let lifetime : t.kind ≡ kind.Lifetime false = subst (λ x. Tells x t.kind) sort (kind_tells t.kind) in
+    let cut : MayCut QuotedName s =
+    subst (λ x. MayCut x s) sort (may_cut t.kind s h.utf8 shape (boundary_in text at t.len (suffix_of t.kind) within h.stop.0 boundary)) in
+    let form : HasByteShape (kind.Lifetime false) s = subst (λ k. HasByteShape k s) lifetime (shape (ap is_ended lifetime)) in
+    let split : s ≡ 39 ∷ r = form.is ∙ ap (λ x. 39 ∷ drop 1 x) (sym form.is) in
+    let all : chars s ≡ 39 ∷ chars r = ap chars split ∙ chars_one 39 r (omega arith) in
+    let is : is_ident (chars r) ≡ true = ap (λ cs. is_ident (drop 1 cs)) (sym all) ∙ named lifetime in
+    let utf8 : IsUtf8 r = IsUtf8-drop s 1 h.utf8 cut in
+    ap is_some (name_spelled (record { sym = r; span = span; is_raw = is_raw.No }) refl utf8 (omega (arith, long, fits, h.stop.0, length-drop 1 s)) is (sums r utf8) (one (chars r) is))

@@ -1,5 +1,5 @@
 //! Laws of reading and printing, for proofs. A call does nothing: it only states.
-ghost use Rattle.std.specs.Prelude.{◌≡◌, ◌↔◌, ◌<◌, ◌^◌, ◌+◌, ◌++◌, length, ℕ, IsUtf8, List, [], ◌∷◌, map, true, false, IsSome, Ok, Err};
+ghost use Rattle.std.specs.Prelude.{◌≡◌, ◌↔◌, ◌<◌, ◌^◌, ◌+◌, ◌++◌, drop, length, ℕ, IsUtf8, List, [], ◌∷◌, map, true, false, IsSome, Ok, Err};
 ghost use Rattle.bridge.specs.Order.{AreWritten, FollowOneAnother};
 ghost use Rattle.bridge.specs.Pieces.{StandsBehindFirst};
 ghost use Rattle.bridge.specs.Printing.{is_quote, print_of, visible};
@@ -10,7 +10,9 @@ ghost use Rattle.bridge.specs.declared.fault.ReadFaultKind.{ReadFaultKind};
 ghost use Rattle.tt_data.specs.Forest.{Forest, joined, map_spans};
 ghost use Rattle.bridge.specs.Spelling.{leaf_spelling, spelling};
 ghost use Rattle.bridge.specs.Text.{is_visible};
-ghost use Rattle.bridge.specs.TokenSteps.{sort_of, steps_of_sort, text_steps};
+ghost use Rattle.bridge.specs.TokenSteps.{name_leaf, sort_of, steps_of_sort, text_steps};
+ghost use Rattle.bridge.specs.declared.sort.Sort.TheVariants.{QuotedName};
+ghost use Rattle.tt_data.specs.declared.leaf.IdentIsRaw.TheVariants.{No};
 ghost use Rattle.rustc_lexer.specs.Standing.{IsTokenAt};
 ghost use Rattle.rustc_lexer.specs.declared.token.Token.{Token};
 ghost use Rattle.std.specs.List.{slice_range};
@@ -60,13 +62,19 @@ pub fn spelling_hangs_on_shapes()
     ensures closing { (kind : DelimiterKind) (span : Span) (more : List Step) → is_visible kind ≡ true → IsSome (spelling (closes kind span) more) }
 {}
 
-/// A token of a text that is read as one leaf has a spelling, where the text has fewer than 2^32 bytes.
+/// Where a text has fewer than 2^32 bytes, a token of it that is read as one leaf has a spelling, and so has the
+/// name behind the quote of a lifetime.
 pub fn read_leaves_have_spellings()
-    ensures { (text : List ℕ) (at : ℕ) (t : Token) (more : List PlacedToken) (l : Leaf) →
+    ensures leaves { (text : List ℕ) (at : ℕ) (t : Token) (more : List PlacedToken) (l : Leaf) →
         IsUtf8 text → length text < 2 ^ 32 → IsTokenAt text at t →
         steps_of_sort (sort_of t.kind) (record { kind = t.kind; start = at; text = slice_range text at (at + t.len) }) more ≡ step (at_leaf l) ∷ [] →
         IsSome (leaf_spelling l) }
+    ensures names { (text : List ℕ) (at : ℕ) (t : Token) (span : Span) →
+        IsUtf8 text → length text < 2 ^ 32 → IsTokenAt text at t → sort_of t.kind ≡ QuotedName →
+        IsSome (leaf_spelling (name_leaf (drop 1 (slice_range text at (at + t.len))) No span)) }
 {
+    rustc_lexer::laws::name_of_a_lifetime();
+    rustc_lexer::laws::one_identifier();
     rustc_lexer::laws::token_alone();
     rustc_lexer::laws::token_lengths();
     rustc_lexer::laws::token_shapes();
