@@ -1,7 +1,5 @@
 -- What stands behind the quote of a lifetime is an identifier.
-use Rattle.std.proofs.Common.{◌≡◌, ℕ, suc, ◌+◌, ◌<◌, Bool, true, false, not, ◌||◌, ◌&&◌, List, [], ◌∷◌, take, drop, refl, sym, ◌∙◌, ap, arith, if◌then◌else◌, Option}
-use Rattle.std.proofs.lemmas.Bool.{and_parts}
-use Rattle.std.proofs.lemmas.Bool.Decides.{nat_tests}
+use Rattle.std.proofs.Common.{◌≡◌, ℕ, suc, ◌+◌, Bool, true, false, not, ◌||◌, ◌&&◌, List, [], ◌∷◌, take, drop, refl, sym, ◌∙◌, ap, arith, if◌then◌else◌, Option}
 use Rattle.std.proofs.lemmas.Grind.{common_steps}
 use Rattle.std.specs.List.{list_all, prefix_len, slice_range}
 use Rattle.std.specs.Option.{is_some}
