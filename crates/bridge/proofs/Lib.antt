@@ -1,3 +1,4 @@
+pub mod TokenSpellings
 mod Rows
 mod ReadingLemmas
 mod AddingLemmas

@@ -40,13 +40,13 @@ use Rattle.bridge.proofs.AgainLemmas.{literal_by, punct_alike, same_bytes, stays
 use Rattle.bridge.proofs.SpellingLemmas.{one_len, told_of_one}
 use Rattle.rustc_lexer.proofs.TestLemmas.{told_of_any}
 
-spelled_as : (l : Leaf) (text : List ℕ) → spelled_leaf l ≡ l → displayed_leaf l ≡ text → is_text_of l text ≡ true → leaf_spelling l ≡ Some text
+pub spelled_as : (l : Leaf) (text : List ℕ) → spelled_leaf l ≡ l → displayed_leaf l ≡ text → is_text_of l text ≡ true → leaf_spelling l ≡ Some text
 spelled_as l text stays shown told =
     ap (λ m. if is_text_of m (displayed_leaf m) then Some (displayed_leaf m) else None) stays
     ∙ ap (λ t. if is_text_of l t then Some t else None) shown
     ∙ ap (λ u. if u then Some text else None) told
 
-same_text : (xs : List ℕ) → bytes_eq xs xs ≡ true
+pub same_text : (xs : List ℕ) → bytes_eq xs xs ≡ true
 same_text xs = (bytes_eq-Decides xs xs).1 refl
 
 -- ---- puncts

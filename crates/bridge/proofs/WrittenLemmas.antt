@@ -1,16 +1,15 @@
 -- What is read of a text stands in the text itself.
-use Rattle.std.proofs.Common.{◌≡◌, ℕ, List, [], ◌∷◌, ◌++◌, map, refl, subst}
+use Rattle.std.proofs.Common.{ℕ, List, [], ◌∷◌, ◌++◌, map, refl, subst}
 use Rattle.std.specs.Prelude.{chars}
 use Rattle.rustc_lexer.specs.Lexing.{tokens_of}
 use Rattle.rustc_lexer.specs.declared.token.DocStyle.TheVariants.{Outer, Inner}
 use Rattle.tt_data.specs.Forest.{Forest}
 use Rattle.tt_data.specs.Walk.{Step, walk}
-use Rattle.tt_data.specs.declared.span.TextRange.{TextRange}
 use Rattle.bridge.specs.declared.sort.Sort.{Sort}
 use Rattle.bridge.specs.declared.sort.Sort.TheVariants.{Blank, Name, Mark, Opening, Closing, QuotedName, Doc, Value, Neither}
 use Rattle.bridge.specs.Order.{AreWritten, IsWritten}
 use Rattle.bridge.specs.Printing.{step_span}
-use Rattle.bridge.specs.Reading.{IsReading, PlacedToken, TextStep, bad, placed_from, step, written_at}
+use Rattle.bridge.specs.Reading.{IsReading, PlacedToken, TextStep, bad, placed_from, step}
 use Rattle.bridge.specs.TokenSteps.{sort_of, steps_of, steps_of_sort, text_steps}
 
 -- each step that is read, faults aside

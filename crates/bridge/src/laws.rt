@@ -1,17 +1,23 @@
 //! Laws of reading and printing, for proofs. A call does nothing: it only states.
-ghost use Rattle.std.specs.Prelude.{◌≡◌, ◌↔◌, ◌++◌, ℕ, IsUtf8, List, [], ◌∷◌, map, true, false, IsSome, Ok, Err};
+ghost use Rattle.std.specs.Prelude.{◌≡◌, ◌↔◌, ◌<◌, ◌^◌, ◌+◌, ◌++◌, drop, length, ℕ, IsUtf8, List, [], ◌∷◌, map, true, false, IsSome, Ok, Err};
 ghost use Rattle.bridge.specs.Order.{AreWritten, FollowOneAnother};
 ghost use Rattle.bridge.specs.Pieces.{StandsBehindFirst};
 ghost use Rattle.bridge.specs.Printing.{is_quote, print_of, visible};
-ghost use Rattle.bridge.specs.Reading.{IsFault, IsReading, TextStep, reading, step, with_front};
+ghost use Rattle.bridge.specs.Reading.{IsFault, IsReading, PlacedToken, TextStep, reading, step, with_front};
 ghost use Rattle.bridge.specs.ReadsBack.{PrintsAgain, ReadsBack};
 ghost use Rattle.bridge.specs.declared.fault.ReadFault.{ReadFault};
 ghost use Rattle.bridge.specs.declared.fault.ReadFaultKind.{ReadFaultKind};
 ghost use Rattle.tt_data.specs.Forest.{Forest, joined, map_spans};
-ghost use Rattle.bridge.specs.Spelling.{spelling};
+ghost use Rattle.bridge.specs.Spelling.{leaf_spelling, spelling};
 ghost use Rattle.bridge.specs.Text.{is_visible};
-ghost use Rattle.bridge.specs.TokenSteps.{text_steps};
-ghost use Rattle.tt_data.specs.Walk.{Step, opens, closes, step_with, walk};
+ghost use Rattle.bridge.specs.TokenSteps.{name_leaf, sort_of, steps_of_sort, text_steps};
+ghost use Rattle.bridge.specs.declared.sort.Sort.TheVariants.{QuotedName};
+ghost use Rattle.tt_data.specs.declared.leaf.IdentIsRaw.TheVariants.{No};
+ghost use Rattle.rustc_lexer.specs.Standing.{IsTokenAt};
+ghost use Rattle.rustc_lexer.specs.declared.token.Token.{Token};
+ghost use Rattle.std.specs.List.{slice_range};
+ghost use Rattle.tt_data.specs.Walk.{Step, at_leaf, opens, closes, step_with, walk};
+ghost use Rattle.tt_data.specs.declared.leaf.Leaf.{Leaf};
 ghost use Rattle.tt_data.specs.declared.delimiter.DelimiterKind.{DelimiterKind};
 ghost use Rattle.tt_data.specs.declared.span.Span.{Span};
 
@@ -55,6 +61,25 @@ pub fn spelling_hangs_on_shapes()
     ensures opening { (kind : DelimiterKind) (span : Span) (more : List Step) → is_visible kind ≡ true → IsSome (spelling (opens kind span) more) }
     ensures closing { (kind : DelimiterKind) (span : Span) (more : List Step) → is_visible kind ≡ true → IsSome (spelling (closes kind span) more) }
 {}
+
+/// Where a text has fewer than 2^32 bytes, a token of it that is read as one leaf has a spelling, and so has the
+/// name behind the quote of a lifetime.
+pub fn read_leaves_have_spellings()
+    ensures leaves { (text : List ℕ) (at : ℕ) (t : Token) (more : List PlacedToken) (l : Leaf) →
+        IsUtf8 text → length text < 2 ^ 32 → IsTokenAt text at t →
+        steps_of_sort (sort_of t.kind) (record { kind = t.kind; start = at; text = slice_range text at (at + t.len) }) more ≡ step (at_leaf l) ∷ [] →
+        IsSome (leaf_spelling l) }
+    ensures names { (text : List ℕ) (at : ℕ) (t : Token) (span : Span) →
+        IsUtf8 text → length text < 2 ^ 32 → IsTokenAt text at t → sort_of t.kind ≡ QuotedName →
+        IsSome (leaf_spelling (name_leaf (drop 1 (slice_range text at (at + t.len))) No span)) }
+{
+    rustc_lexer::laws::name_of_a_lifetime();
+    rustc_lexer::laws::one_identifier();
+    rustc_lexer::laws::token_alone();
+    rustc_lexer::laws::token_lengths();
+    rustc_lexer::laws::token_shapes();
+    rustc_lexer::laws::suffix_starts();
+}
 
 /// The text that is printed of any trees has no reading fault, and is read as just the printed
 /// tokens, in order. The same text is printed of what is read, and nothing is left out.

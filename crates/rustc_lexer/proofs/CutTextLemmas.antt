@@ -17,7 +17,7 @@ use Rattle.rustc_lexer.specs.Lexeme.{numeral}
 use Rattle.rustc_lexer.specs.Literals.{with_suffix, quoted_rest, quoted_body, string_body, raw_body, raw_form, hashes_of}
 use Rattle.rustc_lexer.specs.Numbers.{run, sign_len, is_exponent_mark, exponent, after_fraction, fraction, begins_fraction, after_run, based, number}
 use Rattle.rustc_lexer.specs.Stretch.{Stretch, further}
-use Rattle.rustc_lexer.proofs.AgreeLemmas.{Agree, agree_less, agree_at, at_least_local}
+use Rattle.rustc_lexer.proofs.AgreeLemmas.{Agree, agree_at, at_least_local}
 use Rattle.rustc_lexer.proofs.BlankLemmas.{is_solid, start_stops}
 use Rattle.rustc_lexer.proofs.BodyLocalLemmas.{form_at}
 use Rattle.rustc_lexer.proofs.LocalLemmas.{behind_base, exponent_of}

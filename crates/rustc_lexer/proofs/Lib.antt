@@ -6,6 +6,7 @@ mod TokenLemmas
 mod CutLemmas
 pub mod CutTextLemmas
 pub mod AloneLemmas
+pub mod QuotedNameLemmas
 mod StandingLemmas
 mod Rows
 mod KindLemmas

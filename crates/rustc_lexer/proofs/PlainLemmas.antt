@@ -12,7 +12,7 @@ use Rattle.unicode_ident.proofs.IdentLemmas.{is_xid_start-ascii}
 use Rattle.rustc_lexer.specs.Character.{begins, char_at, continues, identifier_len, is, is_digit, is_ident, is_id_continue, is_id_start, is_in, is_whitespace, utf8_len}
 use Rattle.rustc_lexer.specs.Lexeme.{Lexeme, is_prefix_mark, lexeme, lexeme_of, numeral, plain_word, word}
 use Rattle.rustc_lexer.specs.Lexing.{tokens_of, token_of}
-use Rattle.rustc_lexer.specs.Literals.{literal, stands_for_itself, string_body, with_suffix}
+use Rattle.rustc_lexer.specs.Literals.{literal, stands_for_itself, string_body, with_escapes, with_suffix}
 use Rattle.rustc_lexer.specs.Numbers.{after_run, decimal, number, run}
 use Rattle.rustc_lexer.specs.Stretch.{Stretch, further}
 use Rattle.rustc_lexer.specs.declared.token.Base.TheVariants.{Decimal}
@@ -306,3 +306,40 @@ string_lexeme cs h =
 pub one_string : (cs : List ℕ) → list_all stands_for_itself cs ≡ true →
     tokens_of (34 ∷ cs ++ 34 ∷ []) ≡ record { kind = Literal (Str true) (utf8_len (34 ∷ cs ++ 34 ∷ [])); len = utf8_len (34 ∷ cs ++ 34 ∷ []) } ∷ []
 one_string cs h = one_token (Literal (Str true) (utf8_len (34 ∷ cs ++ 34 ∷ []))) 34 (cs ++ 34 ∷ []) (string_lexeme cs h)
+
+-- ---- a string with escapes
+
+escaped_body : (cs : List ℕ) → string_body false (with_escapes cs ++ 34 ∷ []) ≡ record { value = true; size = length (with_escapes cs) + 1 }
+escaped_body [] = refl
+escaped_body (c ∷ cs) = by_test (stands_for_itself c) refl (escaped_body cs)
+  where
+    by_test : (u : Bool) → stands_for_itself c ≡ u → string_body false (with_escapes cs ++ 34 ∷ []) ≡ record { value = true; size = length (with_escapes cs) + 1 } →
+        string_body false ((if u then c ∷ with_escapes cs else 92 ∷ (c ∷ with_escapes cs)) ++ 34 ∷ [])
+        ≡ record { value = true; size = length (if u then c ∷ with_escapes cs else 92 ∷ (c ∷ with_escapes cs)) + 1 }
+    by_test true e again =
+        let each = and_parts (not (is "\"" c)) (not (is "\\" c)) e in
+        let no_quote : (c == 34) ≡ false = not_true _ each.0 in
+        let no_escape : (c == 92) ≡ false = not_true _ each.1 in
+        let size : 1 + (length (with_escapes cs) + 1) ≡ length (c ∷ with_escapes cs) + 1 = omega arith in
+        let whole : further 1 (string_body false (with_escapes cs ++ 34 ∷ [])) ≡ record { value = true; size = length (c ∷ with_escapes cs) + 1 } =
+        ap (further 1) again ∙ ap (λ n. record { value = true; size = n }) size in
+        rw (no_quote, no_escape) whole
+    by_test false e again =
+        let size : 1 + (1 + (length (with_escapes cs) + 1)) ≡ length {A = ℕ} (92 ∷ (c ∷ with_escapes cs)) + 1 = omega arith in
+        ap (λ b. further 1 (further 1 b)) again ∙ ap (λ n. record { value = true; size = n }) size
+
+escaped_lexeme : (cs : List ℕ)
+    → lexeme (34 ∷ with_escapes cs ++ 34 ∷ []) ≡ lexeme_of (Literal (Str true) (utf8_len (34 ∷ with_escapes cs ++ 34 ∷ []))) (length (34 ∷ with_escapes cs ++ 34 ∷ []))
+escaped_lexeme cs =
+    let t : List ℕ = 34 ∷ with_escapes cs ++ 34 ∷ [] in
+    let size : 1 + (length (with_escapes cs) + 1) ≡ length t = omega (arith, length-append (with_escapes cs) (34 ∷ [])) in
+    let no_start = double_no_start in
+    rw no_start (
+    ap (λ (b : Stretch Bool). literal b.value (Str b.value) (1 + b.size) t) (escaped_body cs)
+    ∙ ap (λ n. with_suffix (Str true) n t) size
+    ∙ without_suffix (Str true) t)
+
+pub one_escaped_string : (cs : List ℕ) →
+    tokens_of (34 ∷ with_escapes cs ++ 34 ∷ [])
+    ≡ record { kind = Literal (Str true) (utf8_len (34 ∷ with_escapes cs ++ 34 ∷ [])); len = utf8_len (34 ∷ with_escapes cs ++ 34 ∷ []) } ∷ []
+one_escaped_string cs = one_token (Literal (Str true) (utf8_len (34 ∷ with_escapes cs ++ 34 ∷ []))) 34 (with_escapes cs ++ 34 ∷ []) (escaped_lexeme cs)

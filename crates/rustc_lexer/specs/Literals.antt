@@ -47,6 +47,11 @@ string_body false (c ∷ cs) =
 abbrev pub stands_for_itself : ℕ → Bool
 stands_for_itself c = not (is "\"" c) && not (is "\\" c)
 
+-- the characters of a string that stand for these: each `"` and each `\` has a `\` before it
+abbrev pub with_escapes : List ℕ → List ℕ
+with_escapes [] = []
+with_escapes (c ∷ cs) = if stands_for_itself c then c ∷ with_escapes cs else 92 ∷ (c ∷ with_escapes cs)
+
 -- what follows the first `"` of a raw string: up to and with the first `"` that n hashes follow, and these; or the whole
 -- text, and then it isn't terminated
 abbrev pub raw_body : ℕ → List ℕ → Stretch Bool

@@ -15,7 +15,7 @@ ghost use Rattle.rustc_lexer.specs.Character.{is_digit, is_ident, utf8_len};
 ghost use Rattle.rustc_lexer.specs.Cursors.{suffix_of};
 ghost use Rattle.rustc_lexer.specs.Lexeme.{lexeme, one_char_kind};
 ghost use Rattle.rustc_lexer.specs.Lexing.{place, reach, token_of, tokens_of};
-ghost use Rattle.rustc_lexer.specs.Literals.{stands_for_itself};
+ghost use Rattle.rustc_lexer.specs.Literals.{stands_for_itself, with_escapes};
 ghost use Rattle.rustc_lexer.specs.Seams.{begins_longer, begins_white, ends_here, is_blank, is_sign, is_whole, stands_alone};
 ghost use Rattle.rustc_lexer.specs.Shapes.{HasByteShape, HasShape, is_ended};
 ghost use Rattle.rustc_lexer.specs.Standing.{AreTokensFrom, IsTokenAt};
@@ -136,6 +136,12 @@ pub fn quoted_name()
         tokens_of (39 ∷ cs) ≡ record { kind = Lifetime false; len = t.len + 1 } ∷ [] }
 {}
 
+/// Behind the quote of a lifetime stands an identifier.
+pub fn name_of_a_lifetime()
+    ensures { (text : List ℕ) (at : ℕ) (t : Token) → IsTokenAt text at t → t.kind ≡ Lifetime false →
+        is_ident (drop 1 (chars (slice_range text at (at + t.len)))) ≡ true }
+{}
+
 /// A text that is an identifier is one token.
 pub fn one_identifier()
     ensures { (cs : List ℕ) → is_ident cs ≡ true → tokens_of cs ≡ record { kind = Ident; len = utf8_len cs } ∷ [] }
@@ -151,6 +157,13 @@ pub fn one_number()
 pub fn one_string()
     ensures { (cs : List ℕ) → list_all stands_for_itself cs ≡ true →
         tokens_of (34 ∷ cs ++ 34 ∷ []) ≡ record { kind = Literal (Str true) (utf8_len (34 ∷ cs ++ 34 ∷ [])); len = utf8_len (34 ∷ cs ++ 34 ∷ []) } ∷ [] }
+{}
+
+/// Characters in quotes, each `"` and each `\` of them with a `\` before it, are one whole string.
+pub fn one_escaped_string()
+    ensures { (cs : List ℕ) →
+        tokens_of (34 ∷ with_escapes cs ++ 34 ∷ [])
+        ≡ record { kind = Literal (Str true) (utf8_len (34 ∷ with_escapes cs ++ 34 ∷ [])); len = utf8_len (34 ∷ with_escapes cs ++ 34 ∷ []) } ∷ [] }
 {}
 
 /// A token that is terminated begins and ends as its kind does, and the suffix of a literal follows
