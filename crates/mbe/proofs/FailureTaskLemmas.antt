@@ -1,10 +1,10 @@
 -- How many tasks are left of a template that is filled on after faults.
-use Rattle.std.proofs.Common.{◌≡◌, ap, ◌∙◌, ◌+◌, ◌<◌, List, ◌∷◌, arith}
+use Rattle.std.proofs.Common.{◌≡◌, ap, ◌+◌, ◌<◌, List, ◌∷◌, arith}
 use Rattle.std.specs.Borrow.{Bor}
 use Rattle.std.specs.Prelude.{OnOk, Result, Ok, Err}
 use Rattle.tt_data.specs.fault.TtFault.{TtFault}
 use Rattle.mbe_rules.specs.Items.{done}
-use Rattle.mbe_rules.specs.Ops.{put_op, items_of}
+use Rattle.mbe_rules.specs.Ops.{put_op}
 use Rattle.mbe_rules.specs.declared.parser.Op.{Op}
 use Rattle.mbe.specs.FailureTasks.{tasks_of, tasks_of_all}
 use Rattle.mbe.specs.Tasks.{work_of}

@@ -2,9 +2,7 @@
 use Rattle.std.proofs.Common.{◌≡◌, refl, sym, ap, ◌∙◌, ℕ, zero, suc, ◌+◌, ◌-◌, Bool, true, false, List, [], ◌∷◌, ◌++◌, Option, Some, None, option_map, arith}
 use Rattle.std.specs.Borrow.{Bor}
 use Rattle.std.specs.Prelude.{⊤, Result, Ok, Err, OnOk}
-use Rattle.std.specs.Result.{IsErr, IsErrAnd}
 use Rattle.tt_data.specs.fault.TtFault.{TtFault}
-use Rattle.tt_data.specs.fault.TtFault.TheVariants.{Memory, Tokens}
 use Rattle.std.specs.declared.vec.Vec.{Vec}
 use Rattle.std.specs.declared.alloc.Global.{Global}
 use Rattle.tt.specs.Building.{Building, extended}
@@ -24,7 +22,7 @@ use Rattle.mbe_rules.proofs.OpsLemmas.{put-Repeat, put-Subtree}
 use Rattle.mbe.specs.Bindings.{Map}
 use Rattle.mbe.specs.Filling.{both, rounds_from, rounds_of, separator_leaves}
 use Rattle.mbe.specs.Fit.{most_rounds}
-use Rattle.mbe.specs.Given.{Fills, ended, may_be_empty, is_plain, plain_gives, gives, puts_out, first_gives, first_puts_out, group_gives, repetition_gives, repetition_puts_out, stands_in}
+use Rattle.mbe.specs.Given.{is_plain, plain_gives, gives, puts_out, first_gives, first_puts_out, group_gives, repetition_gives, repetition_puts_out, stands_in}
 use Rattle.mbe.specs.Output.{and_then, size_of, output_from, output_of_rounds}
 
 unsome : {A : Type 0} {a b : A} → Some a ≡ Some b → a ≡ b

@@ -1,12 +1,12 @@
 -- What a walk over the items of a template that hold no others leaves, item by item.
-use Rattle.std.proofs.Common.{◌≡◌, refl, sym, ap, ◌∙◌, ℕ, ◌+◌, ◌<◌, ◌≤◌, true, List, [], ◌∷◌, ◌++◌, reverse, sum_by, append_assoc, append-nil, arith}
+use Rattle.std.proofs.Common.{◌≡◌, sym, ap, ◌∙◌, ℕ, ◌+◌, ◌<◌, List, [], ◌∷◌, ◌++◌, reverse, sum_by, append_assoc, arith}
 use Rattle.std.specs.Borrow.{Bor}
 use Rattle.std.specs.List.{flat_map}
 use Rattle.std.proofs.lemmas.List.{reverse-append}
 use Rattle.std.proofs.lemmas.List.Sums.{sum_by-append}
 use Rattle.mbe_rules.specs.Items.{done}
 use Rattle.mbe_rules.specs.Ops.{items_of, put_op}
-use Rattle.mbe_rules.specs.declared.parser.Op.{Op, Subtree', Repeat'}
+use Rattle.mbe_rules.specs.declared.parser.Op.{Op}
 use Rattle.mbe.specs.Filling.{names}
 use Rattle.mbe.specs.Tasks.{work_of}
 use Rattle.mbe.specs.Walks.{names_in, work_in}

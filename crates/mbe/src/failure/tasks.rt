@@ -47,6 +47,18 @@ pub(crate) struct Left<'t> {
     pub(crate) error: Option<ExpandError>,
 }
 
+impl<'t> Repetition<'t> {
+    // The same after a round in which this was the first fault.
+    fn after(self, next: Option<ExpandError>) -> Repetition<'t>
+        ensures body { result.body ≡ self.entry.body }
+        ensures round { result.round ≡ self.entry.round }
+    {
+        let Repetition { error, .. } = self;
+        let error = error.or(next);
+        Repetition { error, ..self }
+    }
+}
+
 impl<'t> Left<'t> {
     // Nothing is left to do.
     fn new(alloc: Global) -> Left<'t> {
@@ -162,27 +174,11 @@ impl<'f, 'a, M: Fn(Span) -> Span> Filler<'f, 'a, M> {
     ) -> Result<(), TtFault>
         ensures { OnOk result (tasks_of_all left.new.tasks.items < tasks_of_all left.old.tasks.items + (1 + (65535 - repetition.entry.round) * (work_of (items_of repetition.entry.body.now) + 3))) }
     {
-        let Repetition {
-            body,
-            separator,
-            kind,
-            start,
-            round,
-            before,
-            error,
-        } = repetition;
         let next = left.error.take();
         let is_parted = next.is_none();
-        let repetition = Repetition {
-            body,
-            separator,
-            kind,
-            start,
-            round,
-            before,
-            error: error.or(next),
-        };
-        if round >= MOST_ROUNDS || (is_parted && kind == RepeatKind::ZeroOrOne) {
+        let repetition = repetition.after(next);
+        let round = repetition.round;
+        if round >= MOST_ROUNDS || (is_parted && repetition.kind == RepeatKind::ZeroOrOne) {
             return self.end(left, repetition);
         }
         let _ = left.rounds.pop();

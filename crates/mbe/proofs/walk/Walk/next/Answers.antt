@@ -4,7 +4,7 @@ use Rattle.mbe.specs.Filling.{names}
 use Rattle.mbe.specs.Walks.{names_around}
 use Rattle.mbe.proofs.FillTaskLemmas.{work-more, rep-work, sub-work}
 use Rattle.mbe.proofs.UsesLemmas.{names-Repeat, names-Subtree}
-use Rattle.mbe.proofs.WalkLemmas.{names-next, names-entered, work-next}
+use Rattle.mbe.proofs.WalkLemmas.{names-entered}
 use Rattle.mbe.proofs.walk.Walk.next.Goals as goal
 
 pub loop-first-smaller-in-Continue-1 : goal.loop-first-smaller-in-Continue-1
