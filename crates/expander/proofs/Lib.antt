@@ -50,6 +50,7 @@ mod PieceLemmas
 mod MetLemmas
 mod OwnLemmas
 mod PlacingLemmas
+mod AnchoredLemmas
 mod ReplyLemmas
 mod EditLemmas
 mod CommandLemmas
