@@ -4,9 +4,6 @@ use Rattle.std.proofs.Math.Path.{fun_ext}
 use Rattle.std.proofs.lemmas.List.Elements.{All-head, All-tail}
 use Rattle.std.specs.Prelude.{All, IfSome, OnErr, OnOk, Result, Ok, Err, Option, Some, None, option_map, option_and_then, slice_get}
 use Rattle.expander.specs.Held.{Met, Numbered, numbered_of, numbered_scope, nearest_met, start_of}
-use Rattle.expander.specs.MetTable.{HasMet, scope_in}
-use Rattle.expander.specs.Names.{index_of, IsWithin}
-use Rattle.expander.specs.Starts.{start_at}
 use Rattle.expander.specs.Text.{same_text}
 use Rattle.expander.specs.declared.met.Scope as table
 

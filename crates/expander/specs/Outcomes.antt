@@ -1,5 +1,5 @@
 -- What the code holds of an expansion in places of its own: steps, faults, and what was looked up.
-use Rattle.std.specs.Prelude.{ℕ, List, ◌++◌, Option, Some, None, map, option_map}
+use Rattle.std.specs.Prelude.{ℕ, List, Option, Some, None, map, option_map}
 use Rattle.std.specs.Rc.{rc_value}
 use Rattle.tt_data.specs.Forest.{Forest}
 use Rattle.tt_data.specs.Walk.{Step, at_leaf, opens, closes, walk}

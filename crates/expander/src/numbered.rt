@@ -13,6 +13,7 @@ use std::alloc::Global;
 use tt::top::TopSubtree;
 use tt_data::edition::Edition;
 use tt_data::fault::TtFault;
+use tt_data::span::TextRange;
 use tt_data::symbol::Symbol;
 
 /// A definition in places of its own, counted from its first token, with what is read of it.
@@ -23,10 +24,13 @@ pub(crate) struct Known {
     /// The whole piece.
     pub tree: TopSubtree,
     pub name: Symbol,
+    /// Where its name stands.
+    pub place: TextRange,
     /// Its rules. Their places have its number as their anchor.
     pub rules: DeclarativeMacro,
     ghost is_definition: { is_some (definition_of tree.inner) ≡ true },
     ghost named: { name ≡ (definition_in tree.inner).name.sym },
+    ghost placed: { place ≡ (definition_in tree.inner).name.span.range },
 }
 
 // The tree, each place of which has this number as its anchor.
@@ -62,6 +66,7 @@ impl Known {
         let Some(definition) = definition_of(&anchored.iter()) else {
             unreachable!()
         };
+        let place = definition.name.span.range;
         let rules = rules_in(alloc, edition, &definition)?;
         let Ok(name) = definition.name.sym.clone() else {
             unreachable!()
@@ -70,6 +75,7 @@ impl Known {
             number,
             tree,
             name,
+            place,
             rules,
         })
     }

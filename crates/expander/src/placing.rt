@@ -7,9 +7,10 @@ ghost use Rattle.tt_data.specs.declared.span.Span.{Span};
 ghost use Rattle.expander.specs.Expansion.{placed};
 ghost use Rattle.expander.specs.OutputSteps.{PutsOut};
 ghost use Rattle.expander.specs.Outcomes.{kind_of, parts_for, placed_of};
-ghost use Rattle.expander.specs.Placing.{base_at, resolved_by, resolved_faults, resolved_steps};
+ghost use Rattle.expander.specs.Placing.{base_at, range_from, resolved_by, resolved_faults, resolved_steps, told_if_broken};
 
 use crate::faults::{Fault, FaultKind};
+use crate::numbered::Known;
 use crate::outcome::{Outcome, OwnStep, StepKind};
 use crate::output::{PlacedSteps, push_step};
 use crate::starts::Starts;
@@ -31,15 +32,22 @@ fn base_at(start: u32, starts: &Starts, anchor: u32) -> u32
     }
 }
 
+// A range counted from here, as a range of the text: none where that is past `u32::MAX`, as in no text.
+fn range_from(base: u32, range: TextRange) -> Option<TextRange>
+    ensures { IfSome result (λ r. r ≡ range_from base range) }
+{
+    let start = base.checked_add(range.start)?;
+    let end = base.checked_add(range.end)?;
+    Some(TextRange { start, end })
+}
+
 // A span of a piece that starts here, as a span of the text: none where that is past `u32::MAX`, as in no text.
 fn resolved(start: u32, starts: &Starts, span: Span) -> Option<Span>
     ensures { IfSome result (λ s. s ≡ resolved_by start starts.now span) }
 {
     let base = base_at(start, starts, span.anchor);
-    let start = base.checked_add(span.range.start)?;
-    let end = base.checked_add(span.range.end)?;
     Some(Span {
-        range: TextRange { start, end },
+        range: range_from(base, span.range)?,
         anchor: 0,
         ctx: span.ctx,
     })
@@ -214,5 +222,24 @@ pub(crate) fn put_faults(
     for told in own {
         put_fault(faults, start, starts, told)?;
     }
+    Ok(())
+}
+
+/// Tells a definition that starts here and is broken, at its name.
+pub(crate) fn tell_if_broken(
+    faults: &mut Vec<Fault>,
+    start: u32,
+    known: &Known,
+) -> Result<(), AllocError>
+    ensures { OnOk result (faults.new.items ≡ faults.old.items ++ told_if_broken start known.now) }
+{
+    if known.rules.err().is_none() {
+        return Ok(());
+    }
+    let Some(range) = range_from(start, known.place) else {
+        return Err(AllocError);
+    };
+    let kind = FaultKind::BrokenDefinition;
+    faults.push(Fault { kind, range })?;
     Ok(())
 }

@@ -1,4 +1,4 @@
-use Rattle.std.proofs.Common.{◌≡◌, ◌++◌, ◌∷◌, [], ap, ◌∙◌, append_assoc}
+use Rattle.std.proofs.Common.{◌∷◌, [], ap}
 use Rattle.std.specs.Prelude.{Some, map}
 use Rattle.tt_data.specs.Walk.{walk}
 use Rattle.bridge.specs.WalkSteps.{step_of}

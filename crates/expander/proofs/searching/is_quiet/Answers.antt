@@ -1,7 +1,6 @@
 use Rattle.std.proofs.Common.{◌≡◌, rules}
-use Rattle.std.specs.Prelude.{Some, None}
+use Rattle.std.specs.Prelude.{None}
 use Rattle.expander.specs.CallSteps.{call_at, call_behind_colons}
-use Rattle.expander.specs.WalkSteps.{GoesOn}
 use Rattle.expander.proofs.OutcomeLemmas.{step_less}
 use Rattle.expander.proofs.OwnLemmas.{quiet_more}
 use Rattle.expander.proofs.searching.is_quiet.Goals as goal

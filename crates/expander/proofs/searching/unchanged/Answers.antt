@@ -1,4 +1,4 @@
-use Rattle.std.proofs.Common.{◌≡◌, List, map}
+use Rattle.std.proofs.Common.{map}
 use Rattle.std.specs.Prelude.{None}
 use Rattle.tt_data.specs.Walk.{walk}
 use Rattle.expander.specs.Expansion.{placed}
