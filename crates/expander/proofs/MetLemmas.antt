@@ -5,7 +5,6 @@ use Rattle.std.proofs.lemmas.List.Elements.{All-head, All-tail}
 use Rattle.std.specs.Prelude.{All, IfSome, OnErr, OnOk, Result, Ok, Err, Option, Some, None, option_map, option_and_then, slice_get}
 use Rattle.expander.specs.Held.{Met, Numbered, numbered_of, numbered_scope, nearest_met, start_of}
 use Rattle.expander.specs.Text.{same_text}
-use Rattle.expander.specs.declared.met.Scope as table
 
 get_at : {X : Type 0} (xs : List X) (x : X) → slice_get (xs ++ x ∷ []) (length xs) ≡ Some x
 get_at [] x = refl
