@@ -47,6 +47,10 @@ mod SelfMatchLemmas
 mod AnswerLemmas
 mod ExpandLemmas
 mod PieceLemmas
+mod MetLemmas
+mod OwnLemmas
+mod PlacingLemmas
+mod AnchoredLemmas
 mod ReplyLemmas
 mod EditLemmas
 mod CommandLemmas

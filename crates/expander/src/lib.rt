@@ -10,12 +10,18 @@ pub mod faults;
 mod known;
 pub mod laws;
 mod lines;
+mod met;
 mod names;
+mod numbered;
+mod outcome;
 mod output;
 mod pieces;
+mod placing;
 pub mod program;
 mod scope;
+mod searching;
 pub mod session;
+mod starts;
 mod walk;
 pub mod watched;
 
