@@ -14,6 +14,7 @@ mod RunLemmas
 mod RunRows
 mod MarkLemmas
 mod OutcomeLemmas
+mod OwnPlaceLemmas
 mod CallLemmas
 mod HandedLemmas
 mod DefinitionLemmas

@@ -12,6 +12,7 @@ pub mod laws;
 mod lines;
 mod names;
 mod output;
+mod own_places;
 mod pieces;
 pub mod program;
 mod scope;
