@@ -29,6 +29,7 @@ mod FixedLemmas
 mod FixedReplyLemmas
 mod AgreementLemmas
 mod FindsLemmas
+mod ChainLemmas
 mod ChangeLemmas
 mod DefinitionPlaceLemmas
 mod WorldLemmas

@@ -33,6 +33,8 @@ pub mod Reuse
 pub mod Numbers
 pub mod TextTurn
 -- what the functions inside the crate promise each other
+pub mod SameTops
+pub mod Chains
 pub mod Cutting
 pub mod Names
 pub mod ScopeTable

@@ -2,6 +2,7 @@
 #![tactic(auto)]
 
 mod calls;
+mod chains;
 pub mod commands;
 mod copies;
 mod definitions;
