@@ -49,6 +49,9 @@ mod SelfMatchLemmas
 mod AnswerLemmas
 mod ExpandLemmas
 mod PieceLemmas
+mod MetLemmas
+mod OwnLemmas
+mod PlacingLemmas
 mod ReplyLemmas
 mod EditLemmas
 mod CommandLemmas

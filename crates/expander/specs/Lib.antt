@@ -35,6 +35,13 @@ pub mod TextTurn
 -- what the functions inside the crate promise each other
 pub mod SameTops
 pub mod Chains
+pub mod Knowns
+pub mod Outcomes
+pub mod Editions
+pub mod Starts
+pub mod MetTable
+pub mod Searches
+pub mod Placing
 pub mod Cutting
 pub mod Names
 pub mod ScopeTable

@@ -37,6 +37,7 @@ pub mod UsesLemmas
 pub mod CountLemmas
 pub mod LeafLemmas
 pub mod FillLemmas
+pub mod FillTaskLemmas
 pub mod FirstFitLemmas
 pub mod TextLemmas
 pub mod MacroLemmas

@@ -27,3 +27,4 @@ pub mod Room
 pub mod Putting
 pub mod Uses
 pub mod Given
+pub mod Tasks

@@ -20,8 +20,8 @@ ghost use Rattle.tt_data.specs.fault.TtFault.TheVariants.{Tokens};
 
 use crate::bindings::Bindings;
 use crate::collecting::bindings_of;
+use crate::filling::fill;
 use crate::matcher::match_pattern;
-use crate::transcriber::fill;
 use bumpalo::Bump;
 use fragment_grammar::FragmentGrammar;
 use mbe_rules::{MacroCallStyle, Op, Rule};

@@ -8,6 +8,7 @@ mod declarative;
 mod expand;
 mod expressions;
 mod failure;
+mod filling;
 mod fit;
 pub mod fragment;
 mod kept;

@@ -1,7 +1,7 @@
 //! Each call that takes memory, and once more where it was refused: for runs in which one allocation
 //! fails. A refused call leaves what it was called on as it was, so the tree is the one that is due.
 use crate::samples::{begun, built, byte_at, punct, shows, tells, tree};
-use crate::states::rewrite;
+use crate::states::{number_anchors, rewrite};
 use std::alloc::Global;
 use std::test::*;
 use tt::{TokenTreesView, TopSubtree, TopSubtreeBuilder, pretty};
@@ -125,10 +125,21 @@ fn changed(alloc: Global, tree: &mut TopSubtree, before: &TopSubtree) -> Result<
     }
 }
 
+// Numbers the anchors of the tree; once more where memory ran out, if none was asked about and the tree is as before.
+fn numbered(alloc: Global, tree: &mut TopSubtree, before: &TopSubtree) -> Result<(), TtFault> {
+    match number_anchors(alloc, tree) {
+        (0, Err(TtFault::Memory)) if *tree == *before => number_anchors(alloc, tree).1,
+        (_, answer) => answer,
+    }
+}
+
 fn changes(alloc: Global) -> Result<bool, TtFault> {
+    let before = tree(alloc, "+{-}")?;
+    let mut other = tree(alloc, "+{-}")?;
     let mut tree = tree(alloc, "+{-}")?;
-    changed(alloc, &mut tree, &crate::samples::tree(alloc, "+{-}")?)?;
-    shows(alloc, &tree, "{? {-}}")
+    changed(alloc, &mut tree, &before)?;
+    numbered(alloc, &mut other, &before)?;
+    Ok(shows(alloc, &tree, "{? {-}}")? && other.top_subtree().delimiter.close_span.anchor == 1)
 }
 
 #[test]

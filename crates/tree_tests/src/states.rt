@@ -1,11 +1,11 @@
 //! Calls that ask a closure, here one that has a state.
 ghost use Rattle.std.specs.Prelude.{⊤};
 
-use crate::samples::{shows, tree};
+use crate::samples::{byte_at, shows, tree};
 use std::alloc::Global;
 use std::test::*;
 use tt::{TokenTreesView, TopSubtree, TransformTtAction, transform_tt};
-use tt_data::TtFault;
+use tt_data::{Leaf, Punct, Span, TtFault};
 
 // Takes the second token away, and puts these trees in place of the fourth. The top is the first.
 pub(crate) fn rewrite(
@@ -22,6 +22,41 @@ pub(crate) fn rewrite(
             _ => TransformTtAction::Keep,
         }
     })
+}
+
+// Puts 1, 2 and so on in place of the anchors: how many were asked about, and how it went.
+pub(crate) fn number_anchors(alloc: Global, tree: &mut TopSubtree) -> (u32, Result<(), TtFault>) {
+    let mut asked = 0u32;
+    let answer = tree.change_every_ast_id(alloc, |_anchor| {
+        asked = asked.wrapping_add(1);
+        asked
+    });
+    (asked, answer)
+}
+
+// The anchors of the first and the last tree, and of the brackets round them.
+fn anchors(tree: &TopSubtree) -> Option<(u32, u32, u32)> {
+    let first = tree.token_trees().first_span()?.anchor;
+    let last = tree.token_trees().last_span()?.anchor;
+    let top = tree.top_subtree().delimiter.open_span.anchor;
+    Some((first, last, top))
+}
+
+// How many anchors `+-` has whose second token has one of its own, and what comes in place of them.
+fn numbered(alloc: Global) -> Result<(u32, Option<(u32, u32, u32)>), TtFault> {
+    let mut tree = tree(alloc, "+-")?;
+    let span = Span {
+        anchor: 7,
+        ..byte_at(1)
+    };
+    let leaf = Leaf::from(Punct {
+        span,
+        ..Punct::default()
+    });
+    tree.set_token(alloc, 2, leaf)?;
+    let (asked, answer) = number_anchors(alloc, &mut tree);
+    answer?;
+    Ok((asked, anchors(&tree)))
 }
 
 // How many tokens the two pieces have, where every second of three trees parts the list.
@@ -52,5 +87,6 @@ fn ask_once(rt: HostRuntime) -> Result<(), Fail> {
     let row = crate::samples::tree(alloc, ",,")?;
     rewrite(alloc, &mut tree, row.token_trees())?;
     assert!(rt; shows(alloc, &tree, "+ , ,")?);
+    assert!(rt; numbered(alloc)? == (2, Some((1, 2, 1))));
     Ok(())
 }

@@ -24,9 +24,10 @@ use Rattle.tt.specs.Glued.{first_glued, glued_count}
 use Rattle.tt.specs.Groups.{stripped}
 use Rattle.tt.specs.CursorTokens.{place_of}
 use Rattle.tt.specs.Places.{Around, beginning, moved, IsEnd, first_token, innermost_head, two_leaves, steps_before, steps_after}
+use Rattle.tt.specs.Relabelling.{anchors_of, by_first_use, relabelled, renamed}
 use Rattle.tt.specs.Rewriting.{IsRewritten, nothing, leaf_stays, leaf_gives_way, group_stays, group_gives_way}
 use Rattle.tt.specs.Texts.{displayed_text, pretty_text}
-use Rattle.tt.specs.Tops.{head_of, only_group, tokens_of, tree_of, has_leaf_at}
+use Rattle.tt.specs.Tops.{Top, head_of, only_group, tokens_of, tree_of, has_leaf_at}
 
 -- one byte of the text, as it was written
 abbrev at : ℕ → Span
@@ -530,3 +531,31 @@ not_among_row = refl
 
 group_first_row : first_subtree (group (round 1 3) (leaf (comma 2) empty) empty) ≡ Some (record { delimiter = round 1 3; len = 1 }, leaf (comma 2) empty, empty)
 group_first_row = refl
+
+-- `a(,)b` with anchors 5, 0, 7, 0 and 5 at `a`, the brackets, the comma and `b`, in a top with 9 at its end
+abbrev from : ℕ → ℕ → Span
+from anchor n = record { range = record { start = n; «end» = n + 1 }; anchor = anchor; ctx = Written }
+
+abbrev anchored : Top
+anchored = record {
+  delimiter = record { open_span = from 0 0; close_span = from 9 0; kind = Invisible };
+  inner = leaf (as_leaf.Ident (ident_of (codes "a") (from 5 0)))
+      (group (record { open_span = from 0 1; close_span = from 0 3; kind = Parenthesis })
+      (leaf (as_leaf.Punct (record { char = 44; spacing = Alone; span = from 7 2 })) empty)
+      (leaf (as_leaf.Ident (ident_of (codes "b") (from 5 4))) empty));
+}
+
+anchors_row : anchors_of anchored ≡ 5 ∷ 0 ∷ 0 ∷ 7 ∷ 5 ∷ 0 ∷ 9 ∷ []
+anchors_row = refl
+
+-- each comes once, the top's own last
+first_uses_row : by_first_use (anchors_of anchored) ≡ 5 ∷ 0 ∷ 7 ∷ 9 ∷ []
+first_uses_row = refl
+
+-- entries change their anchors, and another stays
+renamed_row : anchors_of (relabelled (renamed ((5, 1) ∷ (0, 5) ∷ (9, 0) ∷ [])) anchored) ≡ 1 ∷ 5 ∷ 5 ∷ 7 ∷ 1 ∷ 5 ∷ 0 ∷ []
+renamed_row = refl
+
+-- ranges and contexts stay
+one_anchor_row : relabelled (λ _. 0) (record { delimiter = round 1 3; inner = leaf (comma 2) empty }) ≡ record { delimiter = round 1 3; inner = leaf (comma 2) empty }
+one_anchor_row = refl

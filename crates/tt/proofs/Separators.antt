@@ -17,7 +17,7 @@ use Rattle.tt.specs.Splitting.{begun, until_separator, behind_separator, pieces_
 use Rattle.tt.proofs.Steps.{joined-left}
 
 -- a closure that always answers so answers so now, and always from then on
-answers_next : {F X R : Type 0} (g : Mut F X R) (P : X → R → Type 0) (f : F) (a : X) (r : R) (f' : F) → Called g f a r f' → AlwaysReturns g P f
+pub answers_next : {F X R : Type 0} (g : Mut F X R) (P : X → R → Type 0) (f : F) (a : X) (r : R) (f' : F) → Called g f a r f' → AlwaysReturns g P f
     → P a r × AlwaysReturns g P f'
 answers_next g P f a r f' c h = ((h.at (a ∷ []) r f' c).0, record { at = λ xs. (h.at (a ∷ xs) r f' c).1 })
 

@@ -11,10 +11,12 @@ pub mod Splitting
 pub mod Groups
 pub mod Building
 pub mod Rewriting
+pub mod Relabelling
 pub mod Texts
 pub mod TokenLiterals
 -- what the functions inside the crate promise each other
 pub mod BuilderTokens
+pub mod Anchors
 pub mod CursorTokens
 pub mod Styles
 pub mod Walking

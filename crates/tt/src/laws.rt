@@ -1,6 +1,6 @@
 //! Laws of places and of trees under construction, for proofs above this crate. A call does nothing: it only states.
-ghost use Rattle.std.specs.Prelude.{◌≡◌, ◌↔◌, Bool, true, [], ◌∷◌, ◌+◌, length, Some, option_map};
-ghost use Rattle.std.specs.List.{count_by};
+ghost use Rattle.std.specs.Prelude.{◌≡◌, ◌↔◌, ℕ, Bool, true, List, [], ◌∷◌, ◌+◌, length, map, nat_eq, Some, option_map};
+ghost use Rattle.std.specs.List.{IsDistinct, count_by, list_any};
 ghost use Rattle.std.specs.Option.{unwrap_or};
 ghost use Rattle.tt_data.specs.Forest.{Forest};
 ghost use Rattle.tt_data.specs.Walk.{walk};
@@ -8,7 +8,9 @@ ghost use Rattle.tt.specs.Building.{Building, Point, Reached, point_of, cut_back
 ghost use Rattle.tt.specs.Elements.{elements};
 ghost use Rattle.tt.specs.Places.{Place, beginning, IsEnd, moved, steps_before, steps_after, IsStep};
 ghost use Rattle.tt.specs.Splitting.{until_separator, behind_separator, pieces_between};
-ghost use Rattle.tt.specs.Tops.{Top};
+ghost use Rattle.tt.specs.Relabelling.{anchor_with, anchors_of, by_first_use, relabelled};
+ghost use Rattle.tt.specs.Tops.{Top, tokens_of};
+ghost use Rattle.tt_data.specs.Spans.{token_with};
 ghost use Rattle.tt.specs.declared.iter.TtElement.{TtElement};
 ghost use Rattle.tt.specs.declared.transform.TransformTtAction.{TransformTtAction};
 ghost use Rattle.tt.specs.declared.view.SubtreeView.{SubtreeView};
@@ -42,6 +44,23 @@ pub fn pieces_of_trees()
     ensures next { (p : TtElement → Bool) (f : Forest) → pieces_between p f
         ≡ until_separator p f ∷ unwrap_or (option_map (pieces_between p) (behind_separator p f)) [] }
     ensures counted { (p : TtElement → Bool) (f : Forest) → length (pieces_between p f) ≡ count_by p (elements f) + 1 }
+{}
+
+/// A tree with other anchors: its tokens and its anchors are changed one by one, two changes in turn are one, and
+/// what a change makes of anchors that the tree hasn't does not matter.
+pub fn trees_relabelled()
+    ensures tokens { (h : ℕ → ℕ) (t : Top) → tokens_of (relabelled h t) ≡ map (token_with (anchor_with h)) (tokens_of t) }
+    ensures anchors { (h : ℕ → ℕ) (t : Top) → anchors_of (relabelled h t) ≡ map h (anchors_of t) }
+    ensures twice { (h k : ℕ → ℕ) (t : Top) → relabelled h (relabelled k t) ≡ relabelled (λ a. h (k a)) t }
+    ensures same { (t : Top) → relabelled (λ a. a) t ≡ t }
+    ensures agreeing { (h k : ℕ → ℕ) (t : Top) → ((a : ℕ) → list_any (nat_eq a) (anchors_of t) ≡ true → h a ≡ k a) →
+        relabelled h t ≡ relabelled k t }
+{}
+
+/// Anchors by their first use: none comes twice, and each one comes.
+pub fn anchors_by_first_use()
+    ensures once { (xs : List ℕ) → IsDistinct nat_eq (by_first_use xs) }
+    ensures all { (xs : List ℕ) (a : ℕ) → list_any (nat_eq a) xs ≡ true → list_any (nat_eq a) (by_first_use xs) ≡ true }
 {}
 
 /// Two trees are equal by `==` exactly where they are the same tree, places included.

@@ -15,6 +15,7 @@ pub mod iter;
 pub mod laws;
 pub mod literals;
 mod records;
+mod relabel;
 pub mod savepoint;
 pub mod split;
 mod tokens;

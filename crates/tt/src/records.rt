@@ -8,6 +8,7 @@ ghost use Rattle.tt.specs.Tops.{IsOneGroup, has_leaf_at};
 ghost use Rattle.tt_data.specs.declared.tree.TokenTree.{TokenTree};
 ghost use Rattle.tt_data.specs.Spans.{first_span_of};
 
+use crate::relabel::Renaming;
 use crate::tokens::{is_one_group, same_leaf};
 use std::alloc::{AllocError, Global};
 use std::hash::{Hash, Hasher};
@@ -215,6 +216,10 @@ impl TokenBuffer {
     ghost use Rattle.std.specs.Prelude.{fold};
     ghost use Rattle.std.specs.Hash as fed;
     ghost use Rattle.std.specs.Cmp.Lexicographic.{pointwise};
+    ghost use Rattle.std.specs.Prelude.{map};
+    ghost use Rattle.tt.specs.Anchors.{IsAtHand, answer_of};
+    ghost use Rattle.tt.specs.Relabelling.{anchor_with};
+    ghost use Rattle.tt_data.specs.Spans.{token_with};
 
     /// No tokens.
     pub(crate) fn new(alloc: Global) -> TokenBuffer
@@ -291,6 +296,16 @@ impl TokenBuffer {
         ensures { (t : TokenTree) × (t ≡ slice_index_or self.old at t) × (self.new ≡ set self.old at (alone_token t)) }
     {
         set_alone(&mut self.records[at]);
+    }
+
+    /// Changes the anchors of each token.
+    pub(crate) fn relabel(&mut self, renaming: &Renaming)
+        requires { IsAtHand renaming.now }
+        ensures { self.new ≡ map (token_with (anchor_with (answer_of renaming.now))) self.old }
+    {
+        for token in self.records.iter_mut() {
+            renaming.relabel(token);
+        }
     }
 
     /// Takes out a token.

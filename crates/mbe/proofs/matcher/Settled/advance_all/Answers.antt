@@ -34,6 +34,8 @@ returns-clause-all g c = λ pattern each.
 
 pub advance-requires-clause-sound : goal.advance-requires-clause-sound
 advance-requires-clause-sound g c =
-    let p = place_of c.args.place.now in
-    (c.requires.sound.0, subst (λ w. IsSoundAt c.requires.sound.0 (waiting_at p w)) (sym c.w-item.is)
-    (each-at (IsSoundAt c.requires.sound.0) (waiting_at p) c.args.waiting.now c.loop-w.w-index c.w-item.result c.requires.sound.1 c.loop-w-test.true))
+    let p = place_of c.args.place.now in (
+      c.requires.sound.0,
+      subst (λ w. IsSoundAt c.requires.sound.0 (waiting_at p w)) (sym c.w-item.is)
+          (each-at (IsSoundAt c.requires.sound.0) (waiting_at p) c.args.waiting.now c.loop-w.w-index c.w-item.result c.requires.sound.1 c.loop-w-test.true),
+    )

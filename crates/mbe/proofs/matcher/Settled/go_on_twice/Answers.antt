@@ -34,7 +34,6 @@ pub go_on-requires-clause-tasks : goal.go_on-requires-clause-tasks
 go_on-requires-clause-tasks g c =
     (noted (place_of c.args.place.now) c.args.self.now.tasks.items c.push.new.self.items _ c.in_ok-push.ensures.items c.requires.tasks).0
 
-
 pub returns-clause-fewer : goal.returns-clause-fewer
 returns-clause-fewer g c =
     let n = noted (place_of c.args.place.now) c.args.self.now.tasks.items c.push.new.self.items _ c.in_ok-push.ensures.items c.requires.tasks in

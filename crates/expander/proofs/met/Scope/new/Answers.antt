@@ -1,0 +1,13 @@
+use Rattle.std.specs.Rc.{rc_value}
+use Rattle.expander.specs.MetTable.{scope_in}
+use Rattle.expander.specs.Names.{index_of}
+use Rattle.expander.specs.Outcomes.{numbered_of_known}
+use Rattle.expander.proofs.MetLemmas.{scope_none}
+use Rattle.expander.proofs.met.Scope.new.Goals as goal
+
+pub returns-clause-none : goal.returns-clause-none
+unfolding scope_in
+returns-clause-none c = record {
+  finds = scope_none (λ k. numbered_of_known (rc_value k)) c.new-2.result.items (λ name. index_of c.new.result name) c.new.ensures;
+  starts = c.new-3.ensures;
+}

@@ -1,0 +1,74 @@
+// Scope: the definitions before a piece, of each name the nearest, and where they start.
+ghost use Rattle.std.specs.Prelude.{length};
+ghost use Rattle.expander.specs.Names.{IsWithin};
+
+use crate::names::Names;
+use crate::numbered::Known;
+use crate::starts::Starts;
+use std::alloc::{AllocError, Global};
+use std::rc::Rc;
+use tt_data::edition::Edition;
+use tt_data::symbol::Symbol;
+
+/// The definitions met so far.
+#[derive(Drop)]
+pub(crate) struct Scope {
+    /// The edition of all words.
+    pub edition: Edition,
+    names: Names,
+    known: Vec<Rc<Known>>,
+    /// Where the nearest definition of each number starts.
+    pub starts: Starts,
+    ghost in_range: { IsWithin names (length known.items) },
+}
+
+impl Scope {
+    ghost use Rattle.std.specs.Prelude.{◌≡◌, ◌∷◌, [], List, IfSome, OnOk, option_map};
+    ghost use Rattle.expander.specs.Editions.{IsRead};
+    ghost use Rattle.expander.specs.Held.{Met};
+    ghost use Rattle.expander.specs.MetTable.{AreRead, HasMet, scope_in};
+    ghost use Rattle.expander.specs.Outcomes.{numbered_of_known};
+
+    /// No definition was met.
+    pub(crate) fn new(alloc: Global, edition: Edition) -> Self
+        ensures none { HasMet result [] }
+        ensures edition { result.edition ≡ edition }
+        ensures read { AreRead result }
+    {
+        Scope {
+            edition,
+            names: Names::new(alloc),
+            known: Vec::new(alloc),
+            starts: Starts::new(alloc),
+        }
+    }
+
+    /// One more definition, which starts here: from now on its name finds it.
+    pub(crate) fn define(&mut self, start: u32, known: Rc<Known>) -> Result<(), AllocError>
+        requires rules { IsRead self.old.edition known.value }
+        requires read { AreRead self.old }
+        ensures met { (before : List Met) → HasMet self.old before →
+            OnOk result (HasMet self.new (record { start = start; numbered = numbered_of_known known.value } ∷ before)) }
+        ensures edition { OnOk result (self.new.edition ≡ self.old.edition) }
+        ensures read { OnOk result (AreRead self.new) }
+    {
+        let Ok(name) = known.as_ref().name.clone() else {
+            unreachable!()
+        };
+        let number = known.as_ref().number;
+        self.starts.insert(number, start)?;
+        let index = self.known.len();
+        self.known.push(known)?;
+        self.names.insert(name, index)
+    }
+
+    /// What a name finds.
+    #[tactic(auto, unfolding(crate::specs::MetTable::scope_in))]
+    pub(crate) fn find(&self, name: &Symbol) -> Option<&Rc<Known>>
+        requires { AreRead self.now }
+        ensures found { option_map (λ k. numbered_of_known k.now.value) result ≡ scope_in self.now name.now }
+        ensures rules { IfSome result (λ k. IsRead self.now.edition k.now.value) }
+    {
+        self.known.get(self.names.get(name)?)
+    }
+}

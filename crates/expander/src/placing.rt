@@ -1,0 +1,218 @@
+// What a piece gives in places of its own, put out at its places in the text.
+ghost use Rattle.std.specs.Prelude.{◌≡◌, ◌∷◌, [], ◌++◌, IfSome, None, OnOk, option_map, map};
+ghost use Rattle.bridge.specs.WalkSteps.{step_of};
+ghost use Rattle.tt_data.specs.Spans.{leaf_with, span_of};
+ghost use Rattle.tt_data.specs.Walk.{at_leaf, step_with, walk};
+ghost use Rattle.tt_data.specs.declared.span.Span.{Span};
+ghost use Rattle.expander.specs.Expansion.{placed};
+ghost use Rattle.expander.specs.OutputSteps.{PutsOut};
+ghost use Rattle.expander.specs.Outcomes.{kind_of, parts_for, placed_of};
+ghost use Rattle.expander.specs.Placing.{base_at, resolved_by, resolved_faults, resolved_steps};
+
+use crate::faults::{Fault, FaultKind};
+use crate::outcome::{Outcome, OwnStep, StepKind};
+use crate::output::{PlacedSteps, push_step};
+use crate::starts::Starts;
+use crate::walk::Walk;
+use bridge::WalkStep;
+use std::alloc::{AllocError, Global};
+use tt::top::TopSubtree;
+use tt_data::leaf::{Ident, Leaf, Punct};
+use tt_data::span::{Span, TextRange};
+
+// Where the places of an anchor count from.
+fn base_at(start: u32, starts: &Starts, anchor: u32) -> u32
+    ensures { result ≡ base_at start starts.now anchor }
+{
+    if anchor == 0 {
+        start
+    } else {
+        starts.get(anchor)
+    }
+}
+
+// A span of a piece that starts here, as a span of the text: none where that is past `u32::MAX`, as in no text.
+fn resolved(start: u32, starts: &Starts, span: Span) -> Option<Span>
+    ensures { IfSome result (λ s. s ≡ resolved_by start starts.now span) }
+{
+    let base = base_at(start, starts, span.anchor);
+    let start = base.checked_add(span.range.start)?;
+    let end = base.checked_add(span.range.end)?;
+    Some(Span {
+        range: TextRange { start, end },
+        anchor: 0,
+        ctx: span.ctx,
+    })
+}
+
+// The same where there is one.
+fn resolved_outer(start: u32, starts: &Starts, outer: Option<Span>) -> Option<Option<Span>>
+    ensures { IfSome result (λ o. o ≡ option_map (resolved_by start starts.now) outer) }
+{
+    match outer {
+        None => Some(None),
+        Some(span) => Some(Some(resolved(start, starts, span)?)),
+    }
+}
+
+// The leaf at another place.
+fn leaf_at(leaf: &Leaf, span: Span) -> Leaf
+    ensures { (f : Span → Span) → span ≡ f (span_of leaf.now) → result ≡ leaf_with f leaf.now }
+{
+    let Ok(leaf) = leaf.clone() else {
+        unreachable!()
+    };
+    match leaf {
+        Leaf::Literal(literal) => Leaf::Literal(literal.with_span(span)),
+        Leaf::Punct(punct) => Leaf::Punct(Punct { span, ..punct }),
+        Leaf::Ident(ident) => Leaf::Ident(Ident { span, ..ident }),
+    }
+}
+
+// Puts out a leaf of a piece.
+fn put_leaf(
+    steps: &mut PlacedSteps,
+    start: u32,
+    starts: &Starts,
+    leaf: &Leaf,
+    outer: Option<Span>,
+) -> Result<(), AllocError>
+    ensures { OnOk result (PutsOut steps.old steps.new (placed outer (step_with (resolved_by start starts.now) (at_leaf leaf.now) ∷ []))) }
+{
+    let Some(span) = resolved(start, starts, leaf.span()) else {
+        return Err(AllocError);
+    };
+    let leaf = leaf_at(leaf, span);
+    push_step(steps, &WalkStep::Leaf(&leaf), outer)
+}
+
+// Puts out a step of a piece, placed at this name of the text, or at none.
+fn put_step(
+    steps: &mut PlacedSteps,
+    start: u32,
+    starts: &Starts,
+    step: &WalkStep<'_>,
+    outer: Option<Span>,
+) -> Result<(), AllocError>
+    ensures { OnOk result (PutsOut steps.old steps.new (placed outer (step_with (resolved_by start starts.now) (step_of step.now) ∷ []))) }
+{
+    match step {
+        WalkStep::Leaf(leaf) => put_leaf(steps, start, starts, leaf, outer),
+        WalkStep::Opens(kind, span) => match resolved(start, starts, *span) {
+            Some(span) => push_step(steps, &WalkStep::Opens(*kind, span), outer),
+            None => Err(AllocError),
+        },
+        WalkStep::Closes(kind, span) => match resolved(start, starts, *span) {
+            Some(span) => push_step(steps, &WalkStep::Closes(*kind, span), outer),
+            None => Err(AllocError),
+        },
+    }
+}
+
+// The step, lent.
+fn lent(kind: &StepKind) -> WalkStep<'_>
+    ensures { step_of result ≡ kind_of kind.now }
+{
+    match kind {
+        StepKind::Leaf(leaf) => WalkStep::Leaf(leaf),
+        StepKind::Opens(kind, span) => WalkStep::Opens(*kind, *span),
+        StepKind::Closes(kind, span) => WalkStep::Closes(*kind, *span),
+    }
+}
+
+// Puts out a step that is kept.
+fn put_own_step(
+    steps: &mut PlacedSteps,
+    start: u32,
+    starts: &Starts,
+    step: &OwnStep,
+) -> Result<(), AllocError>
+    ensures { OnOk result (PutsOut steps.old steps.new (resolved_steps start starts.now (placed_of step.now ∷ []))) }
+{
+    match resolved_outer(start, starts, step.outer) {
+        Some(outer) => put_step(steps, start, starts, &lent(&step.kind), outer),
+        None => Err(AllocError),
+    }
+}
+
+// Puts out steps that are kept.
+fn put_own_steps(
+    steps: &mut PlacedSteps,
+    start: u32,
+    starts: &Starts,
+    own: &[OwnStep],
+) -> Result<(), AllocError>
+    ensures { OnOk result (PutsOut steps.old steps.new (resolved_steps start starts.now (map placed_of own.now))) }
+{
+    for step in own {
+        put_own_step(steps, start, starts, step)?;
+    }
+    Ok(())
+}
+
+// Puts out a tree as it stands.
+fn put_tree(
+    alloc: Global,
+    steps: &mut PlacedSteps,
+    start: u32,
+    starts: &Starts,
+    tree: &TopSubtree,
+) -> Result<(), AllocError>
+    ensures { OnOk result (PutsOut steps.old steps.new (resolved_steps start starts.now (placed None (walk tree.now.inner)))) }
+{
+    let mut rest = Walk::new(alloc, &tree.iter());
+    while let Some(step) = rest.next()? {
+        put_step(steps, start, starts, &step, None)?;
+    }
+    Ok(())
+}
+
+/// Puts out the steps that are held for a tree, at their places in the text.
+pub(crate) fn put_steps(
+    alloc: Global,
+    steps: &mut PlacedSteps,
+    start: u32,
+    starts: &Starts,
+    tree: &TopSubtree,
+    outcome: &Outcome,
+) -> Result<(), AllocError>
+    ensures { OnOk result (PutsOut steps.old steps.new (resolved_steps start starts.now (parts_for tree.now.inner outcome.now).steps)) }
+{
+    match &outcome.steps {
+        None => put_tree(alloc, steps, start, starts, tree),
+        Some(own) => put_own_steps(steps, start, starts, own.as_slice()),
+    }
+}
+
+// Adds a fault of a piece, at its place in the text.
+fn put_fault(
+    faults: &mut Vec<Fault>,
+    start: u32,
+    starts: &Starts,
+    told: &(FaultKind, Span),
+) -> Result<(), AllocError>
+    ensures { OnOk result (faults.new.items ≡ faults.old.items ++ resolved_faults start starts.now (told.now ∷ [])) }
+{
+    let (kind, span) = *told;
+    let Some(span) = resolved(start, starts, span) else {
+        return Err(AllocError);
+    };
+    let range = span.range;
+    faults.push(Fault { kind, range })?;
+    Ok(())
+}
+
+/// Adds faults of a piece, at their places in the text.
+pub(crate) fn put_faults(
+    faults: &mut Vec<Fault>,
+    start: u32,
+    starts: &Starts,
+    own: &[(FaultKind, Span)],
+) -> Result<(), AllocError>
+    ensures { OnOk result (faults.new.items ≡ faults.old.items ++ resolved_faults start starts.now own.now) }
+{
+    for told in own {
+        put_fault(faults, start, starts, told)?;
+    }
+    Ok(())
+}

@@ -1,0 +1,41 @@
+// Where definitions start, by their numbers: the nearest of each.
+ghost use Rattle.std.specs.Prelude.{◌≡◌, ℕ, OnOk, nat_eq, if◌then◌else◌};
+ghost use Rattle.expander.specs.Starts.{start_at};
+
+use std::alloc::{AllocError, Global};
+use std::collections::HashMap;
+
+/// Where the nearest definition of each number starts.
+#[derive(Drop)]
+pub(crate) struct Starts {
+    map: HashMap<u32, u32>,
+}
+
+impl Starts {
+    /// No definition was met.
+    #[tactic(auto, unfolding(crate::specs::Starts::start_at))]
+    pub(crate) fn new(alloc: Global) -> Self
+        ensures { (n : ℕ) → start_at result n ≡ 0 }
+    {
+        Starts {
+            map: HashMap::new(alloc),
+        }
+    }
+
+    /// The nearest definition of this number starts here from now on.
+    #[tactic(auto, unfolding(crate::specs::Starts::start_at))]
+    pub(crate) fn insert(&mut self, number: u32, start: u32) -> Result<(), AllocError>
+        ensures { OnOk result ((n : ℕ) → start_at self.new n ≡ (if nat_eq number n then start else start_at self.old n)) }
+    {
+        let _ = self.map.insert(number, start)?;
+        Ok(())
+    }
+
+    /// Where the nearest definition of this number starts: 0 where none was met.
+    #[tactic(auto, unfolding(crate::specs::Starts::start_at))]
+    pub(crate) fn get(&self, number: u32) -> u32
+        ensures { result ≡ start_at self.now number }
+    {
+        self.map.get(&number).copied().unwrap_or(0)
+    }
+}

@@ -1,0 +1,30 @@
+use Rattle.std.proofs.Common.{◌∙◌, ap, refl, ◌∷◌, [], ◌++◌, reverse, arith}
+use Rattle.mbe.specs.Bound.{map_of}
+use Rattle.mbe.specs.declared.filling.Task.TheVariants.{Later}
+use Rattle.mbe.proofs.FillTaskLemmas.{after_next, next-ended, next-bursts, next-steps}
+use Rattle.mbe.proofs.PuttingLemmas.{handed}
+use Rattle.mbe.proofs.filling.Filling.next_round.Goals as goal
+
+pub returns-then-not-branch-clause-left : goal.returns-then-not-branch-clause-left
+returns-then-not-branch-clause-left c = λ mark.
+    next-ended mark (map_of c.args.bindings.now) c.args.self.now.tasks.items c.leave.new.self.tasks.items c.args.self.now.rounds.items
+    c.leave.new.self.rounds.items c.round_stands.new.rounds.items c.args.left c.in_ok-round_stands.field-0 c.args.out.now.tree c.leave.ensures.rounds
+    c.in_ok-round_stands.ensures.stands c.if-not-branch.true c.in_ok-round_stands.ensures.same c.leave.ensures.tasks
+
+pub returns-in_err-put_separator-clause-tokens : goal.returns-in_err-put_separator-clause-tokens
+returns-in_err-put_separator-clause-tokens c = λ mark e.
+    next-bursts mark (map_of c.args.bindings.now) (reverse c.args.self.now.tasks.items) c.args.self.now.rounds.items c.leave.new.self.rounds.items
+    c.args.left c.in_ok-round_stands.field-0 c.args.out.now.tree c.leave.ensures.rounds c.in_ok-round_stands.ensures.stands c.if-not-branch.false
+    (omega (arith, c.if-number-ge-MOST_ROUNDS.false))
+    (c.in_err-put_separator.ensures.tokens
+    (handed c.from_residual-in_err-put_separator.result _ c.from_residual-in_err-put_separator.ensures.1 e))
+
+pub returns-clause-left : goal.returns-clause-left
+returns-clause-left c = λ mark.
+    next-steps mark (map_of c.args.bindings.now) c.args.self.now.tasks.items c.plan.new.self.tasks.items c.begin_round.new.self.tasks.items
+    c.args.self.now.rounds.items c.leave.new.self.rounds.items c.plan.new.self.rounds.items c.begin_round.new.self.rounds.items c.args.left
+    (after_next mark (map_of c.args.bindings.now) c.args.left) c.in_ok-round_stands.field-0 c.args.out.now.tree c.put_separator.new.out.tree c.leave.ensures.rounds
+    c.in_ok-round_stands.ensures.stands c.if-not-branch.false (omega (arith, c.if-number-ge-MOST_ROUNDS.false)) refl c.in_ok-put_separator.ensures.added
+    (c.in_ok-plan.ensures.tasks
+    ∙ ap (λ l. l ++ (Later (after_next mark (map_of c.args.bindings.now) c.args.left) ∷ [])) c.leave.ensures.tasks)
+    c.in_ok-begin_round.ensures.tasks (c.in_ok-plan.ensures.rounds ∙ c.in_ok-round_stands.ensures.same) c.in_ok-begin_round.ensures.rounds

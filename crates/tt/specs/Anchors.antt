@@ -1,0 +1,28 @@
+-- The tables in which the anchors of a tree are kept while they are replaced.
+use Rattle.std.specs.Prelude.{◌≡◌, ℕ, List, [], Some, None, nat_eq, if◌then◌else◌}
+use Rattle.std.specs.HashMap.{HashMap, get}
+use Rattle.std.specs.List.{list_any, IsDistinct}
+use Rattle.std.specs.Option.{unwrap_or}
+use Rattle.tt.specs.declared.relabel.Anchors.{Anchors}
+use Rattle.tt.specs.declared.relabel.Renaming.{Renaming}
+use Rattle.tt.specs.Relabelling.{renamed}
+
+-- what a table has in place of an anchor: the anchor itself where it has no entry
+abbrev pub answer_in : {S : Type 0} → HashMap ℕ ℕ S → ℕ → ℕ
+answer_in answers a = unwrap_or (get nat_eq answers a) a
+
+-- a table has just these anchors, with what the entries say of each
+abbrev pub Tells : {S : Type 0} → List ℕ → List (ℕ × ℕ) → HashMap ℕ ℕ S → Type 0
+Tells met entries answers = (a : ℕ) → get nat_eq answers a ≡ (if list_any (nat_eq a) met then Some (renamed entries a) else None)
+
+-- each anchor that was met stands there once, and stands for itself
+abbrev pub StandForThemselves : Anchors → Type 0
+StandForThemselves t = IsDistinct nat_eq t.met.items × Tells t.met.items [] t.answers
+
+-- what is at hand is what the table has
+abbrev pub IsAtHand : Renaming → Type 0
+IsAtHand r = r.answer ≡ answer_in r.answers r.common
+
+-- what comes in place of an anchor
+abbrev pub answer_of : Renaming → ℕ → ℕ
+answer_of r = answer_in r.answers
