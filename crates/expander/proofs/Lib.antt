@@ -52,6 +52,7 @@ mod PieceLemmas
 mod MetLemmas
 mod OwnLemmas
 mod PlacingLemmas
+mod AnchoredLemmas
 mod ReplyLemmas
 mod EditLemmas
 mod CommandLemmas

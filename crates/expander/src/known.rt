@@ -26,8 +26,8 @@ fn tree_of(alloc: Global, trees: &TtIter<'_>, place: Span) -> Result<TopSubtree,
     }
 }
 
-// What is read of a definition, all of whose words are of this edition.
-fn rules_in(
+/// What is read of a definition, all of whose words are of this edition.
+pub(crate) fn rules_in(
     alloc: Global,
     edition: Edition,
     definition: &Definition<'_>,

@@ -1,10 +1,18 @@
 // Definitions in places of their own, with what is read of them.
-ghost use Rattle.std.specs.Prelude.{◌≡◌, true, is_some};
+ghost use Rattle.std.specs.Prelude.{◌≡◌, IfOk, IsOkUnless, true, is_some};
+ghost use Rattle.tt_data.specs.Forest.{map_spans};
+ghost use Rattle.tt_data.specs.fault.TtFault.TheVariants.{Memory};
 ghost use Rattle.expander.specs.Definitions.{definition_of};
+ghost use Rattle.expander.specs.Held.{anchored};
 ghost use Rattle.expander.specs.Knowns.{definition_in};
 
+use crate::definitions::definition_of;
+use crate::known::rules_in;
 use mbe::DeclarativeMacro;
+use std::alloc::Global;
 use tt::top::TopSubtree;
+use tt_data::edition::Edition;
+use tt_data::fault::TtFault;
 use tt_data::symbol::Symbol;
 
 /// A definition in places of its own, counted from its first token, with what is read of it.
@@ -19,4 +27,50 @@ pub(crate) struct Known {
     pub rules: DeclarativeMacro,
     ghost is_definition: { is_some (definition_of tree.inner) ≡ true },
     ghost named: { name ≡ (definition_in tree.inner).name.sym },
+}
+
+// The tree, each place of which has this number as its anchor.
+fn anchored_tree(alloc: Global, number: u32, tree: &TopSubtree) -> Result<TopSubtree, TtFault>
+    ensures tree { IfOk result (λ t. t.inner ≡ map_spans (anchored number) tree.now.inner) }
+    ensures memory { IsOkUnless result Memory }
+{
+    let mut copy = tree.try_clone(alloc)?;
+    let answer = move |_anchor: u32|
+        ensures { result ≡ number }
+    { number };
+    copy.change_every_ast_id(alloc, answer)?;
+    Ok(copy)
+}
+
+impl Known {
+    ghost use Rattle.expander.specs.Editions.{IsRead};
+
+    /// The definition that a tree is, with this number, and what is read of it, all of whose words are of this edition.
+    pub(crate) fn new(
+        alloc: Global,
+        edition: Edition,
+        number: u32,
+        tree: TopSubtree,
+    ) -> Result<Self, TtFault>
+        requires { is_some (definition_of tree.inner) ≡ true }
+        ensures number { IfOk result (λ k. k.number ≡ number) }
+        ensures tree { IfOk result (λ k. k.tree ≡ tree) }
+        ensures read { IfOk result (IsRead edition) }
+        ensures memory { IsOkUnless result Memory }
+    {
+        let anchored = anchored_tree(alloc, number, &tree)?;
+        let Some(definition) = definition_of(&anchored.iter()) else {
+            unreachable!()
+        };
+        let rules = rules_in(alloc, edition, &definition)?;
+        let Ok(name) = definition.name.sym.clone() else {
+            unreachable!()
+        };
+        Ok(Known {
+            number,
+            tree,
+            name,
+            rules,
+        })
+    }
 }

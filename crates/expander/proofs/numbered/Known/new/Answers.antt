@@ -1,0 +1,29 @@
+use Rattle.std.proofs.Common.{◌≡◌, ◌∙◌, ap, sym, rules, true}
+use Rattle.std.specs.Prelude.{Option, Some, None}
+use Rattle.tt_data.specs.Forest.{map_spans}
+use Rattle.expander.specs.Definitions.{Definition, definition_of}
+use Rattle.expander.specs.Held.{anchored, anchored_definition}
+use Rattle.expander.specs.Knowns.{definition_in, numbered_in}
+use Rattle.expander.specs.World.{rules_in}
+use Rattle.expander.proofs.AnchoredLemmas.{anchored_is, anchored_some}
+use Rattle.expander.proofs.numbered.Known.new.Goals as goal
+
+pub unreachable-requires : goal.unreachable-requires
+unreachable-requires c =
+    anchored_some c.args.number c.args.tree.inner c.requires
+    (sym c.in_default.is ∙ c.definition_of.ensures ∙ ap definition_of (c.iter.ensures ∙ c.in_ok-anchored.ensures.tree))
+
+pub invariant_of-result : goal.invariant_of-result
+invariant_of-result c =
+    let is : c.in-Some.definition ≡ anchored_definition (numbered_in c.args.number c.args.tree.inner) =
+    anchored_is c.args.number c.args.tree.inner c.in-Some.definition c.requires
+    (sym c.in-Some.is ∙ c.definition_of.ensures ∙ ap definition_of (c.iter.ensures ∙ c.in_ok-anchored.ensures.tree)) in
+    let name_is : c.in-Ok.name ≡ c.in-Some.definition.name.sym = search rules in
+    record { is_definition = c.requires; named = name_is ∙ ap (λ (d : Definition). d.name.sym) is }
+
+pub returns-clause-read : goal.returns-clause-read
+returns-clause-read c =
+    let is : c.in-Some.definition ≡ anchored_definition (numbered_in c.args.number c.args.tree.inner) =
+    anchored_is c.args.number c.args.tree.inner c.in-Some.definition c.requires
+    (sym c.in-Some.is ∙ c.definition_of.ensures ∙ ap definition_of (c.iter.ensures ∙ c.in_ok-anchored.ensures.tree)) in
+    c.in_ok-rules.ensures.rules ∙ ap (rules_in c.args.edition) is
