@@ -44,6 +44,8 @@ mod HeldPieceLemmas
 mod TextTurnLemmas
 mod WholeTurnLemmas
 mod NumberLemmas
+mod NumberingLemmas
+mod NumberedLemmas
 mod KeptLemmas
 mod SelfMatchLemmas
 mod AnswerLemmas

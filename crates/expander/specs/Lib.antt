@@ -42,6 +42,9 @@ pub mod Starts
 pub mod MetTable
 pub mod Searches
 pub mod Placing
+pub mod Numbering
+pub mod ByTrees
+pub mod NumberedTexts
 pub mod Cutting
 pub mod Names
 pub mod ScopeTable

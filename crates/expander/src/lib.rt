@@ -1,6 +1,7 @@
 //! Expands the macros of a text: sessions over a text, and the run of a program.
 #![tactic(auto)]
 
+mod by_tree;
 mod calls;
 mod chains;
 pub mod commands;
@@ -14,6 +15,7 @@ mod lines;
 mod met;
 mod names;
 mod numbered;
+mod numbering;
 mod outcome;
 mod output;
 mod own_places;
