@@ -14,6 +14,7 @@ mod RunLemmas
 mod RunRows
 mod MarkLemmas
 mod OutcomeLemmas
+mod OwnPlaceLemmas
 mod CallLemmas
 mod HandedLemmas
 mod DefinitionLemmas
@@ -28,6 +29,7 @@ mod FixedLemmas
 mod FixedReplyLemmas
 mod AgreementLemmas
 mod FindsLemmas
+mod ChainLemmas
 mod ChangeLemmas
 mod DefinitionPlaceLemmas
 mod WorldLemmas
@@ -42,6 +44,8 @@ mod HeldPieceLemmas
 mod TextTurnLemmas
 mod WholeTurnLemmas
 mod NumberLemmas
+mod NumberingLemmas
+mod NumberedLemmas
 mod KeptLemmas
 mod SelfMatchLemmas
 mod AnswerLemmas

@@ -33,6 +33,8 @@ pub mod Reuse
 pub mod Numbers
 pub mod TextTurn
 -- what the functions inside the crate promise each other
+pub mod SameTops
+pub mod Chains
 pub mod Knowns
 pub mod Outcomes
 pub mod Editions
@@ -40,6 +42,9 @@ pub mod Starts
 pub mod MetTable
 pub mod Searches
 pub mod Placing
+pub mod Numbering
+pub mod ByTrees
+pub mod NumberedTexts
 pub mod Cutting
 pub mod Names
 pub mod ScopeTable

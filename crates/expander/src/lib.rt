@@ -1,7 +1,9 @@
 //! Expands the macros of a text: sessions over a text, and the run of a program.
 #![tactic(auto)]
 
+mod by_tree;
 mod calls;
+mod chains;
 pub mod commands;
 mod copies;
 mod definitions;
@@ -13,8 +15,10 @@ mod lines;
 mod met;
 mod names;
 mod numbered;
+mod numbering;
 mod outcome;
 mod output;
+mod own_places;
 mod pieces;
 mod placing;
 pub mod program;

@@ -1,0 +1,71 @@
+use Rattle.std.proofs.Common.{◌≡◌, ◌∙◌, ap, cond, sym, rules}
+use Rattle.std.specs.Prelude.{None, Some}
+use Rattle.tt.specs.Tops.{Top}
+use Rattle.expander.specs.ByTrees.{known_in, numbers_in}
+use Rattle.expander.specs.SameTops.{same_top}
+use Rattle.expander.specs.declared.by_tree.ByTree.{ByTree}
+use Rattle.expander.specs.declared.numbered.Known.{Known}
+use Rattle.expander.proofs.HandedLemmas.{handed}
+use Rattle.expander.proofs.NumberedLemmas.{has_none, has_number, number_put, numbered_again, numbered_new, numbered_old, numbers_end, numbers_grow, trees_pushed}
+use Rattle.expander.proofs.numbering.number.Goals as goal
+
+pub returns-in-Some-clause-numbered : goal.returns-in-Some-clause-numbered
+returns-in-Some-clause-numbered c = λ given known trees had has.
+    let k : Known = c.in-Some.known.now.value in
+    let here : known_in c.args.now.now.by_tree c.args.tree.value ≡ Some k = sym c.in-Some.ensures in
+    numbered_again c.equal_pieces.ensures (λ a b e. (c.equal_trees.ensures a b).0 e) given c.args.old.now known trees had c.args.now.now _ has c.args.tree.value c.requires.top k
+    (c.requires.table c.args.tree.value k here) (trees_pushed c.args.now.now.definitions.items _ _ k c.in_ok-push.ensures.definitions (search rules)) c.in_ok-push.ensures.given c.in_ok-push.ensures.table here
+
+pub returns-in-Some-clause-number : goal.returns-in-Some-clause-number
+returns-in-Some-clause-number c =
+    let k : Known = c.in-Some.known.now.value in
+    let here : known_in c.args.now.now.by_tree c.args.tree.value ≡ Some k = sym c.in-Some.ensures in
+    let same : c.in_ok-known.known.value ≡ k = search rules in
+    ap (λ (m : ByTree). numbers_in m c.args.tree.value.inner) c.in_ok-push.ensures.table ∙ has_number c.args.now.now.by_tree c.args.tree.value k c.requires.top here
+    ∙ ap (λ (x : Known). Some x.number) (sym same)
+
+pub returns-in-Some-get-clause-numbered : goal.returns-in-Some-get-clause-numbered
+returns-in-Some-get-clause-numbered c = λ given known trees had has.
+    let k : Known = c.in-Some-get.known.now.value in
+    let there : known_in c.args.old.now c.args.tree.value ≡ Some k = sym c.in-Some-get.ensures in
+    let none : known_in c.args.now.now.by_tree c.args.tree.value ≡ None = sym c.in_default.ensures in
+    let same : c.in_ok-clone-2.field-0.value ≡ k = search rules in
+    numbered_old c.equal_pieces.ensures (λ a b e. (c.equal_trees.ensures a b).0 e) given c.args.old.now known trees had c.args.now.now _ has c.args.tree.value c.requires.top k
+    (c.requires.old_table c.args.tree.value k there) (trees_pushed c.args.now.now.definitions.items _ _ k c.in_ok-put.ensures.definitions same)
+    (λ t. c.in_ok-put.ensures.table t ∙ ap (λ (x : Known). cond (same_top c.args.tree.value t) (Some x) (known_in c.args.now.now.by_tree t)) same) none c.in_ok-put.ensures.given there
+
+pub returns-in-Some-get-clause-tree : goal.returns-in-Some-get-clause-tree
+returns-in-Some-get-clause-tree c =
+    let k : Known = c.in-Some-get.known.now.value in
+    let same : c.in_ok-known-2.known.value ≡ k = search rules in
+    ap (λ (x : Known). x.tree) same ∙ c.requires.old_table c.args.tree.value k (sym c.in-Some-get.ensures)
+
+pub returns-in-Some-get-clause-grows : goal.returns-in-Some-get-clause-grows
+returns-in-Some-get-clause-grows c =
+    numbers_grow c.equal_pieces.ensures (λ a b e. (c.equal_trees.ensures a b).0 e) c.args.now.now.by_tree c.put.new.self.by_tree c.args.tree.value c.in_ok-clone-2.field-0.value
+    c.in_ok-put.ensures.table c.requires.top (has_none c.args.now.now.by_tree c.args.tree.value c.requires.top (sym c.in_default.ensures))
+
+pub returns-in_err-known-3-clause-cause : goal.returns-in_err-known-3-clause-cause
+returns-in_err-known-3-clause-cause c = λ given known trees had has e.
+    numbers_end c.equal_pieces.ensures (λ a b q. (c.equal_trees.ensures a b).0 q) given c.args.old.now known trees had c.args.now.now has c.args.tree.value c.requires.top
+    (sym c.in_default.ensures) (sym c.in_default-get.ensures) (c.in_err-known-3.ensures.numbers (handed c.from_residual-in_err-known-3.result _ c.from_residual-in_err-known-3.ensures.1 e))
+
+pub returns : goal.returns
+returns c =
+    let k : Known = c.in_ok-known-3.known.value in
+    let same : c.in_ok-clone-3.field-0.value ≡ k = search rules in
+    let none = has_none c.args.now.now.by_tree c.args.tree.value c.requires.top (sym c.in_default.ensures) in
+    record {
+      numbered = λ given known trees had has.
+          numbered_new c.equal_pieces.ensures (λ a b e. (c.equal_trees.ensures a b).0 e) given c.args.old.now known trees had c.args.now.now _ has c.args.tree.value c.requires.top k
+          c.in_ok-known-3.ensures.tree (trees_pushed c.args.now.now.definitions.items _ _ k c.in_ok-put-2.ensures.definitions same)
+          (λ t. c.in_ok-put-2.ensures.table t ∙ ap (λ (x : Known). cond (same_top c.args.tree.value t) (Some x) (known_in c.args.now.now.by_tree t)) same) (sym c.in_default.ensures)
+          (c.in_ok-put-2.ensures.given ∙ ap (λ (x : Known). x.number) c.as_ref.ensures) c.in_ok-known-3.ensures.number (sym c.in_default-get.ensures);
+      tree = c.in_ok-known-3.ensures.tree;
+      number = number_put c.equal_pieces.ensures (λ a b e. (c.equal_trees.ensures a b).0 e) c.args.now.now.by_tree c.put-2.new.self.by_tree c.args.tree.value c.in_ok-clone-3.field-0.value
+          c.in_ok-put-2.ensures.table c.requires.top ∙ ap (λ (x : Known). Some x.number) same;
+      grows = numbers_grow c.equal_pieces.ensures (λ a b e. (c.equal_trees.ensures a b).0 e) c.args.now.now.by_tree c.put-2.new.self.by_tree c.args.tree.value c.in_ok-clone-3.field-0.value
+          c.in_ok-put-2.ensures.table c.requires.top none;
+      cause = λ given known trees had has e. absurd (cc e);
+      tokens = λ e. absurd (cc e);
+    }

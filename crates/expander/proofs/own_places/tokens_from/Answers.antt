@@ -1,0 +1,24 @@
+-- Token by token.
+use Rattle.std.proofs.Common.{◌≡◌, ◌++◌, ◌∙◌, List, ap, map, rules, sym}
+use Rattle.tt_data.specs.Forest.{preorder}
+use Rattle.tt_data.specs.Spans.{token_with}
+use Rattle.tt_data.specs.declared.tree.TokenTree.{TokenTree}
+use Rattle.expander.specs.Pieces.{moved_back}
+use Rattle.expander.proofs.OwnPlaceLemmas.{moved_begin, moved_on}
+use Rattle.expander.proofs.own_places.tokens_from.Goals as goal
+
+pub loop-token-init : goal.loop-token-init
+loop-token-init c =
+    let all : c.into_iter-token-iterator.result ≡ preorder c.args.piece.now = c.into_iter-token-iterator.ensures.into_iter_gives ∙ c.iter_flat_tokens-token-items.ensures ∙ ap preorder c.remaining.ensures in (
+      tt,
+      tt,
+      moved_begin (token_with (moved_back c.args.from)) _ c.push.new.self.items c.into_iter-token-iterator.result _ (search rules) all,
+    )
+
+pub loop-token-preserved : goal.loop-token-preserved
+loop-token-preserved c = (
+  tt,
+  tt,
+  moved_on (token_with (moved_back c.args.from)) c.loop-token.tokens.items c.push-in-loop-token.new.self.items
+      c.loop-token.token-iterator c.next.new.self c.in-Some.token _ c.in-Some.ensures.steps (search rules) c.loop-token.invariant.2,
+)

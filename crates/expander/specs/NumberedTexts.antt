@@ -1,0 +1,19 @@
+-- The definitions of a text so far, with their numbers.
+use Rattle.std.specs.Prelude.{◌≡◌, ℕ, List, map}
+use Rattle.std.specs.Rc.{rc_value}
+use Rattle.tt_data.specs.Forest.{Forest}
+use Rattle.expander.specs.ByTrees.{IsTable, numbers_in}
+use Rattle.expander.specs.Numbering.{AreNumbered}
+use Rattle.expander.specs.declared.by_tree.ByTree.{ByTree}
+use Rattle.expander.specs.declared.numbered.Known.{Known}
+use Rattle.expander.specs.declared.numbering.Numbering as code
+
+-- the trees of a definition
+abbrev pub inner_of : Known → Forest
+inner_of k = k.tree.inner
+
+-- these are the trees so far, over those that had numbers before
+pub record HasNumbered (old_given : ℕ) (old : ByTree) (known trees : List Forest) (now : code.Numbering) : Type 0 where
+  pub numbers : AreNumbered old_given (numbers_in old) known trees now.given (numbers_in now.by_tree)
+  pub trees_are : map (λ k. inner_of (rc_value k)) now.definitions.items ≡ trees
+  pub table : IsTable now.by_tree

@@ -1,0 +1,55 @@
+// Trees in a list: where an equal one stands.
+ghost use Rattle.std.specs.Prelude.{◌≡◌, ◌∷◌, [], ◌++◌, ◌<◌, List, OnOk, length};
+ghost use Rattle.tt.specs.Tops.{Top};
+ghost use Rattle.expander.specs.Chains.{AreChained, last_place, place_before};
+
+use std::alloc::{AllocError, Global};
+use std::collections::HashMap;
+use std::rc::Rc;
+use tt::top::TopSubtree;
+
+/// A list of trees, in which the last place of each is found, and from each place the one before it that has an equal tree.
+#[derive(Drop)]
+pub(crate) struct Chains {
+    last: HashMap<Rc<TopSubtree>, usize>,
+    before: Vec<Option<usize>>,
+}
+
+impl Chains {
+    /// Of no tree.
+    #[tactic(auto, unfolding(crate::specs::Chains::place_in))]
+    pub(crate) fn new(alloc: Global) -> Self
+        ensures { AreChained result [] }
+    {
+        Chains {
+            last: HashMap::new(alloc),
+            before: Vec::new(alloc),
+        }
+    }
+
+    /// One more tree, at the end.
+    pub(crate) fn push(&mut self, tree: Rc<TopSubtree>) -> Result<(), AllocError>
+        ensures { (trees : List Top) → AreChained self.old trees → OnOk result (AreChained self.new (trees ++ tree.value ∷ [])) }
+    {
+        let index = self.before.len();
+        let before = self.last.insert(tree, index)?;
+        self.before.push(before)?;
+        Ok(())
+    }
+
+    /// The last place of an equal tree.
+    #[tactic(auto, unfolding(crate::specs::Chains::place_in))]
+    pub(crate) fn last(&self, tree: &Rc<TopSubtree>) -> Option<usize>
+        ensures { (trees : List Top) → AreChained self.now trees → result ≡ last_place trees tree.now.value }
+    {
+        self.last.get(tree).copied()
+    }
+
+    /// The last place before this one of a tree that is equal to the one here.
+    pub(crate) fn before(&self, at: usize) -> Option<usize>
+        requires { (trees : List Top) × AreChained self.now trees × (at < length trees) }
+        ensures { (trees : List Top) → AreChained self.now trees → result ≡ place_before trees at }
+    {
+        self.before[at]
+    }
+}

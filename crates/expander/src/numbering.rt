@@ -1,0 +1,121 @@
+// Numbers of the definitions of a text.
+ghost use Rattle.std.specs.Prelude.{◌≡◌, ◌≢◌, ℕ, ◌+◌, ◌≤◌, ◌^◌, ◌∷◌, [], ◌++◌, List, Some, Err, IfOk, OnOk, is_some, true};
+ghost use Rattle.bridge.specs.ReadText.{text_top};
+ghost use Rattle.tt_data.specs.Forest.{Forest};
+ghost use Rattle.expander.specs.ByTrees.{IsTable, numbers_in};
+ghost use Rattle.expander.specs.Definitions.{definition_of};
+ghost use Rattle.expander.specs.Editions.{IsRead};
+ghost use Rattle.expander.specs.NumberedTexts.{HasNumbered};
+ghost use Rattle.expander.specs.Numbering.{HaveNumbers};
+ghost use Rattle.expander.specs.Numbers.{needed};
+
+use crate::by_tree::ByTree;
+use crate::laws;
+use crate::numbered::Known;
+use crate::session::Refusal;
+use std::alloc::{AllocError, Global};
+use std::rc::Rc;
+use tt::top::TopSubtree;
+use tt_data::edition::Edition;
+
+/// The definitions of a text so far.
+#[derive(Drop)]
+pub(crate) struct Numbering {
+    /// How many numbers were given, those for earlier texts among them.
+    pub given: u32,
+    /// In order.
+    pub definitions: Vec<Rc<Known>>,
+    pub by_tree: ByTree,
+}
+
+impl Numbering {
+    ghost use Rattle.std.specs.Prelude.{if◌then◌else◌};
+    ghost use Rattle.tt.specs.Tops.{Top};
+    ghost use Rattle.expander.specs.ByTrees.{known_in};
+    ghost use Rattle.expander.specs.SameTops.{same_top};
+
+    // One more definition, whose tree has one already.
+    fn push(&mut self, known: Rc<Known>) -> Result<(), AllocError>
+        ensures given { OnOk result (self.new.given ≡ self.old.given) }
+        ensures definitions { OnOk result (self.new.definitions.items ≡ self.old.definitions.items ++ known ∷ []) }
+        ensures table { OnOk result (self.new.by_tree ≡ self.old.by_tree) }
+    {
+        self.definitions.push(known)?;
+        Ok(())
+    }
+
+    // One more definition, which its tree has from now on.
+    fn put(&mut self, tree: Rc<TopSubtree>, known: Rc<Known>) -> Result<(), AllocError>
+        ensures given { OnOk result (self.new.given ≡ self.old.given) }
+        ensures definitions { OnOk result (self.new.definitions.items ≡ self.old.definitions.items ++ known ∷ []) }
+        ensures table { OnOk result ((t : Top) → known_in self.new.by_tree t ≡ (if same_top tree.value t then Some known.value else known_in self.old.by_tree t)) }
+    {
+        self.by_tree.insert(tree, known.clone()?)?;
+        self.definitions.push(known)?;
+        Ok(())
+    }
+}
+
+// A definition with the next number.
+fn next_known(
+    alloc: Global,
+    edition: Edition,
+    given: u32,
+    tree: &Rc<TopSubtree>,
+) -> Result<Rc<Known>, Refusal>
+    requires { is_some (definition_of tree.now.value.inner) ≡ true }
+    ensures number { IfOk result (λ k. k.value.number ≡ given + 1) }
+    ensures tree { IfOk result (λ k. k.value.tree ≡ tree.now.value) }
+    ensures read { IfOk result (λ k. IsRead edition k.value) }
+    ensures numbers { result ≡ Err Refusal.Numbers → 2 ^ 32 ≤ given + 1 }
+    ensures tokens { result ≢ Err Refusal.Tokens }
+{
+    let Some(number) = given.checked_add(1) else {
+        return Err(Refusal::Numbers);
+    };
+    let own = tree.as_ref().try_clone(alloc)?;
+    let known = Known::new(alloc, edition, number, own)?;
+    match Rc::new(alloc, known) {
+        Ok(known) => Ok(known),
+        Err(_) => Err(Refusal::Memory),
+    }
+}
+
+/// Gives a definition of a text its number: that of an equal one before it or of the last text, or else the next.
+pub(crate) fn number(
+    alloc: Global,
+    edition: Edition,
+    old: &ByTree,
+    now: &mut Numbering,
+    tree: Rc<TopSubtree>,
+) -> Result<Rc<Known>, Refusal>
+    requires definition { is_some (definition_of tree.value.inner) ≡ true }
+    requires top { tree.value.delimiter ≡ text_top }
+    requires old_table { IsTable old.now }
+    requires table { IsTable now.old.by_tree }
+    ensures numbered { (given : ℕ) (known trees : List Forest) → HaveNumbers (numbers_in old.now) known → HasNumbered given old.now known trees now.old →
+        OnOk result (HasNumbered given old.now known (trees ++ tree.value.inner ∷ []) now.new) }
+    ensures tree { IfOk result (λ k. k.value.tree ≡ tree.value) }
+    ensures number { IfOk result (λ k. numbers_in now.new.by_tree tree.value.inner ≡ Some k.value.number) }
+    ensures grows { OnOk result ((t : Forest) (n : ℕ) → numbers_in now.old.by_tree t ≡ Some n → numbers_in now.new.by_tree t ≡ Some n) }
+    ensures cause { (given : ℕ) (known trees : List Forest) → HaveNumbers (numbers_in old.now) known → HasNumbered given old.now known trees now.old →
+        result ≡ Err Refusal.Numbers → 2 ^ 32 ≤ given + needed known (trees ++ tree.value.inner ∷ []) }
+    ensures tokens { result ≢ Err Refusal.Tokens }
+{
+    laws::equal_pieces();
+    tt::laws::equal_trees();
+    if let Some(known) = now.by_tree.get(&tree) {
+        let known = known.clone()?;
+        now.push(known.clone()?)?;
+        return Ok(known);
+    }
+    if let Some(known) = old.get(&tree) {
+        let known = known.clone()?;
+        now.put(tree, known.clone()?)?;
+        return Ok(known);
+    }
+    let known = next_known(alloc, edition, now.given, &tree)?;
+    now.given = known.as_ref().number;
+    now.put(tree, known.clone()?)?;
+    Ok(known)
+}
