@@ -64,7 +64,7 @@ fn nested(alloc: Global, depth: usize, text: &str) -> Result<String, Fail> {
 #[test]
 fn nested_deep(rt: HostRuntime) -> Result<(), Fail> {
     let alloc = rt.alloc();
-    let depth = 30_000;
+    let depth = 20_000;
     let pattern = nested(alloc, depth, "$x:tt")?;
     let template = nested(alloc, depth, "$x")?;
     let rules = format!(in alloc; "({pattern}) => {{{template}}}")?;
