@@ -22,7 +22,7 @@ use Rattle.expander.proofs.WholeTurnLemmas.{TurnLaws, takes_are}
 
 -- ---- where more trees have numbers
 
-abbrev More : (Forest → ℕ → Type 0) → (Forest → ℕ → Type 0) → Type 0
+abbrev pub More : (Forest → ℕ → Type 0) → (Forest → ℕ → Type 0) → Type 0
 More one two = (t : Forest) (k : ℕ) → one t k → two t k
 
 more_finds : (one two : Forest → ℕ → Type 0) → More one two → (finds : List (List ℕ × Option Numbered)) → All (FoundIs (IsNumbered one)) finds → All (FoundIs (IsNumbered two)) finds
@@ -34,7 +34,7 @@ more_finds one two more (x ∷ finds) h =
     here (name, None) g = tt
     here (name, Some d) g = record { tree = g.tree; entry = more g.tree d.number g.entry; definition = g.definition }
 
-more_held : (w : World Definition) (depth : ℕ) (one two : Forest → ℕ → Type 0) → More one two → (held : List HeldPiece) → All (IsHeld w depth one) held → All (IsHeld w depth two) held
+pub more_held : (w : World Definition) (depth : ℕ) (one two : Forest → ℕ → Type 0) → More one two → (held : List HeldPiece) → All (IsHeld w depth one) held → All (IsHeld w depth two) held
 more_held w depth one two more [] h = All-nil (IsHeld w depth two)
 more_held w depth one two more (q ∷ held) h =
     let here : IsHeld w depth one q = All-head (IsHeld w depth one) q held h in

@@ -47,6 +47,8 @@ mod NumberLemmas
 mod NumberingLemmas
 mod NumberedLemmas
 mod KeptLemmas
+mod TakenLemmas
+mod TakenReplyLemmas
 mod SelfMatchLemmas
 mod AnswerLemmas
 mod ExpandLemmas
@@ -54,6 +56,9 @@ mod PieceLemmas
 mod MetLemmas
 mod OwnLemmas
 mod PlacingLemmas
+mod PlainLemmas
+mod MemoryLemmas
+mod TakingLemmas
 mod AnchoredLemmas
 mod ReplyLemmas
 mod EditLemmas

@@ -7,8 +7,10 @@ use Rattle.std.specs.declared.rc.Rc.{Rc}
 use Rattle.bridge.specs.ReadText.{text_top}
 use Rattle.tt.specs.Tops.{Top}
 use Rattle.tt_data.specs.Forest.{Forest}
-use Rattle.expander.specs.ByTrees.{IsTable, known_in, numbers_in, own_top}
+use Rattle.tt_data.specs.declared.edition.Edition.{Edition}
+use Rattle.expander.specs.ByTrees.{AllRead, IsTable, known_in, numbers_in, own_top}
 use Rattle.expander.specs.Count.{same_forest}
+use Rattle.expander.specs.Editions.{IsRead}
 use Rattle.expander.specs.NumberedTexts.{HasNumbered, inner_of}
 use Rattle.expander.specs.Numbering.{AreNumbered, HaveNumbers}
 use Rattle.expander.specs.Numbers.{needed}
@@ -132,3 +134,14 @@ trees_pushed xs ys rc k pushed is =
 pub known_updated : {X Y : Type 0} (f : X → Y) (b : Bool) (x : X) (o : Option X) → option_map f (cond b (Some x) o) ≡ cond b (Some (f x)) (option_map f o)
 known_updated f true x o = refl
 known_updated f false x o = refl
+
+-- definitions stay read
+pub read_put : (edition : Edition) (old new : ByTree) (tree : Top) (k : Known) → Puts old new tree k → IsRead edition k → AllRead edition old → AllRead edition new
+read_put edition old new tree k puts is all t x e = go (same_top tree t) (sym (puts t) ∙ e)
+  where
+    some_is : (a b : Known) → Some a ≡ Some b → a ≡ b
+    some_is a b q = cc
+
+    go : (b : Bool) → cond b (Some k) (known_in old t) ≡ Some x → IsRead edition x
+    go true q = subst (IsRead edition) (some_is k x q) is
+    go false q = all t x q

@@ -1,6 +1,6 @@
 -- From the output of a text's pieces to its meaning.
 use Rattle.std.proofs.Common.{◌≡◌, ℕ, List, [], ◌∷◌, ◌++◌, length, refl, sym, ap, ◌∙◌, subst, inl, inr}
-use Rattle.std.specs.Prelude.{None, Result, Ok, Err, not, filter, flat_map}
+use Rattle.std.specs.Prelude.{Option, Result, Ok, Err}
 use Rattle.std.specs.List.{list_any}
 use Rattle.tt_data.specs.Forest.{Forest}
 use Rattle.expander.specs.declared.expansion.Output.{Output}
@@ -26,45 +26,12 @@ use Rattle.mbe.specs.Grammar.{Grammar}
 use Rattle.tt_data.specs.declared.edition.Edition.{Edition}
 use Rattle.expander.specs.Layered.{layers}
 
-every_one : (ps : List Looked) → filter (λ p. not (list_any (is_same p) [])) ps ≡ ps
-every_one [] = refl
-every_one (p ∷ ps) = ap (λ more. p ∷ more) (every_one ps)
-
--- with no earlier text every plain piece counts
-all_count : (ps : List Looked) → expanded_count None ps ≡ length ps
-all_count ps = ap length (every_one ps)
-
 module _ (grammar : Grammar) (edition : Edition) where
-  -- the output of a text's pieces, shown, is what the text means
-  pub means_output : (depth : ℕ) (f : Forest) (out : Output) (e : Expanded) → IsOutputOf (layers grammar edition) depth (pieces f) out
-      → ((steps : List PlacedStep) → HasOutput out.steps steps → ShowsOutput out steps e)
-      → IsExpansionOf (meaning_of (layers grammar edition) (members (layers grammar edition) depth f)) e
-  means_output depth f out e is shown =
-      let ms : List Member = members (layers grammar edition) depth f in
-      let steps : List PlacedStep = flat_map output_of ms in
-      let shows : ShowsOutput out steps e = shown steps is.steps in
-      record {
-        printed = shows.printed;
-        faults = shows.faults ∙ ap (λ fs. in_order (fs ++ faults_in steps)) is.faults;
-        origins = shows.origins;
-        expanded = shows.expanded ∙ is.plain ∙ sym (all_count (looked_of ms));
-      }
-
-  -- a text that was read
-  pub means_read : (depth : ℕ) (text : List ℕ) (f inner trees : Forest) (out : Output) (e : Expanded) → text_reading text ≡ Ok f
-      → inner ≡ separated f → trees ≡ inner → IsOutputOf (layers grammar edition) depth (cut trees) out
-      → ((steps : List PlacedStep) → HasOutput out.steps steps → ShowsOutput out steps e)
-      → IsMeant (meaning (layers grammar edition) depth text) (Read e)
-  means_read depth text f inner trees out e is_read inner_is trees_is gives shows =
-      let P : Forest → Type 0 = λ g. IsOutputOf (layers grammar edition) depth (cut g) out in
-      let Q : Result Forest ReadFault → Type 0 = λ r. IsMeant (meaning_from (layers grammar edition) depth r) (Read e) in
-      subst Q (sym is_read) (means_output depth f out e (subst P (trees_is ∙ inner_is) gives) shows)
-
   -- a text that cannot be read
-  pub means_fault : (text : List ℕ) (depth : ℕ) (fault : ReadFault) → text_reading text ≡ Err fault
-      → IsMeant (meaning (layers grammar edition) depth text) (Unread fault)
-  means_fault text depth fault is_read =
-      let Q : Result Forest ReadFault → Type 0 = λ r. IsMeant (meaning_from (layers grammar edition) depth r) (Unread fault) in
+  pub means_fault : (text : List ℕ) (depth : ℕ) (earlier : Option (List Looked)) (fault : ReadFault) → text_reading text ≡ Err fault
+      → IsMeant (meaning (layers grammar edition) depth text) earlier (Unread fault)
+  means_fault text depth earlier fault is_read =
+      let Q : Result Forest ReadFault → Type 0 = λ r. IsMeant (meaning_from (layers grammar edition) depth r) earlier (Unread fault) in
       subst Q (sym is_read) refl
 
 -- why a text that was read, or was not, is refused for want of tokens

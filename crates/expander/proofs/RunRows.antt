@@ -3,16 +3,17 @@ use Rattle.std.proofs.Common.{◌≡◌, ℕ, List, [], ◌∷◌, ◌++◌, Opt
 use Rattle.std.specs.Prelude.{Ok, Err, None, ◌||◌, codes, decimal}
 use Rattle.std.specs.List.{list_any}
 use Rattle.std.proofs.lemmas.Fmt.{decimal_digit}
+use Rattle.bridge.specs.declared.fault.ReadFault.{ReadFault}
 use Rattle.expander.specs.Watch.{Watch, is_bad_write}
 use Rattle.expander.specs.Lines.{column_at, fault_words, line, line_at}
-use Rattle.expander.specs.Runs.{Refuses, Runs, Stops, status, status_by}
+use Rattle.expander.specs.Runs.{Refuses, Runs, status, status_by}
 use Rattle.expander.specs.declared.program.Status.{Status}
 use Rattle.expander.specs.declared.program.Stop.{Stop}
-use Rattle.expander.specs.declared.program.Stop.TheVariants.{ReadFailed, Refused}
-use Rattle.expander.specs.declared.session.Refusal.TheVariants.{Numbers}
+use Rattle.expander.specs.declared.program.Stop.TheVariants.{ReadFailed}
 use Rattle.expander.specs.Calls.{Path, bare, from_crate, other, Marked, none, token, inside, call, marked}
 use Rattle.expander.specs.Definitions.{Definition, definition_of, nearest}
 use Rattle.expander.specs.Expansion.{World, Outcome, CallSite, unbroken, looked_up, at_call, search_calls}
+use Rattle.expander.specs.Replies.{NeedsNumbers}
 use Rattle.expander.specs.Meaning.{Layers, member, members_after, with_definition}
 use Rattle.expander.specs.TooMany.{bursts}
 use Rattle.tt_data.specs.Forest.{Forest}
@@ -97,9 +98,9 @@ told_line =
     let one : decimal 1 ≡ 49 ∷ [] = decimal_digit 1 (omega arith) in
     rw (two, one) refl
 
--- no run stops for numbers
-never_for_numbers : (input : Option (List ℕ)) (depth : ℕ) → Stops (Refused Numbers) input depth → ⊥
-never_for_numbers input depth h = h
+-- a text that cannot be read needs no numbers
+no_numbers : (fault : ReadFault) → NeedsNumbers 0 [] (Err fault) → ⊥
+no_numbers fault h = omega (arith, h)
 
 -- ---- without a level no call asks for a result, so none has too many tokens
 

@@ -1,15 +1,17 @@
 -- The answers to a list of commands: each by the text at its turn.
-use Rattle.std.specs.Prelude.{◌≡◌, ℕ, ◌+◌, ◌-◌, ◌≤◌, ◌<◌, ◌^◌, List, [], ◌∷◌, length, string_bytes, IsCharBoundary, ⊤}
+use Rattle.std.specs.Prelude.{◌≡◌, ℕ, ◌+◌, ◌-◌, ◌≤◌, ◌<◌, ◌^◌, List, [], ◌∷◌, length, Option, Some, None, string_bytes, IsCharBoundary, ⊤}
 use Rattle.rustc_lexer.specs.Edit.{edited}
-use Rattle.expander.specs.declared.session.Refusal.TheVariants.{Memory, Tokens}
+use Rattle.tt_data.specs.Forest.{Forest}
+use Rattle.expander.specs.declared.session.Refusal.TheVariants.{Memory, Tokens, Numbers}
 use Rattle.expander.specs.declared.session.Reply.{Reply}
 use Rattle.expander.specs.declared.session.Reply.TheVariants.{Read, Unread}
 use Rattle.expander.specs.declared.commands.Answer.{Answer}
 use Rattle.expander.specs.declared.commands.Answer.TheVariants.{Edited, BadEdit, Reply as Replied, Refused}
 use Rattle.expander.specs.declared.commands.Command.{Command}
 use Rattle.expander.specs.declared.commands.Command.TheVariants.{Edit, Expand}
-use Rattle.expander.specs.Meaning.{Layers}
-use Rattle.expander.specs.Replies.{IsReplyTo}
+use Rattle.expander.specs.Count.{Looked}
+use Rattle.expander.specs.Meaning.{Layers, meaning}
+use Rattle.expander.specs.Replies.{IsReplyTo, NeedsNumbers, definitions_in, given_after, looked_in}
 use Rattle.expander.specs.TooMany.{NeedsTooMany}
 
 -- both places are boundaries of characters, and the edit fits
@@ -41,14 +43,30 @@ ShowTheSame (Unread fault) (Unread other) = fault ≡ other
 ShowTheSame _ _ = ⊥
 
 module _ (layers : Layers) (depth : ℕ) where
-  -- what may answer a command at a text, after these texts that were read, the newest first: no reply hangs on them yet
+  -- the plain pieces of the last of these texts that were read, which are given newest first: none before the first
+  abbrev pub last_looked : List (List ℕ) → Option (List Looked)
+  last_looked [] = None
+  last_looked (text ∷ before) = Some (looked_in (meaning layers depth text))
+
+  -- its definitions
+  abbrev pub last_trees : List (List ℕ) → List Forest
+  last_trees [] = []
+  last_trees (text ∷ before) = definitions_in (meaning layers depth text)
+
+  -- how many numbers were given to the definitions of these texts
+  abbrev pub given : List (List ℕ) → ℕ
+  given [] = 0
+  given (text ∷ before) = given_after (given before) (last_trees before) (meaning layers depth text)
+
+  -- what may answer a command at a text, after these texts that were read, the newest first
   abbrev pub IsAnswer : List ℕ → List (List ℕ) → Command → Answer → Type 0
   IsAnswer text reads (Edit start stop replacement) Edited = CanEdit text start stop (string_bytes replacement)
   IsAnswer text reads (Edit start stop replacement) BadEdit = CanEdit text start stop (string_bytes replacement) → ⊥
   IsAnswer text reads (Edit start stop replacement) (Refused Memory) = CanEdit text start stop (string_bytes replacement)
-  IsAnswer text reads Expand (Replied reply) = IsReplyTo layers depth text reply
+  IsAnswer text reads Expand (Replied reply) = IsReplyTo layers depth text (last_looked reads) reply
   IsAnswer text reads Expand (Refused Memory) = ⊤
   IsAnswer text reads Expand (Refused Tokens) = NeedsTooMany layers depth text
+  IsAnswer text reads Expand (Refused Numbers) = NeedsNumbers (given reads) (last_trees reads) (meaning layers depth text)
   IsAnswer text reads _ _ = ⊥
 
   -- each command has one answer, by the text and the texts that were read at its turn

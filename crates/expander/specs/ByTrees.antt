@@ -4,7 +4,8 @@ use Rattle.std.specs.HashMap.{get_by}
 use Rattle.bridge.specs.ReadText.{text_top}
 use Rattle.tt.specs.Tops.{Top}
 use Rattle.tt_data.specs.Forest.{Forest}
-use Rattle.expander.specs.Numbering.{AreNumbered}
+use Rattle.tt_data.specs.declared.edition.Edition.{Edition}
+use Rattle.expander.specs.Editions.{IsRead}
 use Rattle.expander.specs.SameTops.{same_top}
 use Rattle.expander.specs.declared.by_tree.ByTree.{ByTree}
 use Rattle.expander.specs.declared.numbered.Known.{Known}
@@ -24,3 +25,7 @@ numbers_in table f = option_map (λ (k : Known). k.number) (known_in table (own_
 -- each tree has itself
 abbrev pub IsTable : ByTree → Type 0
 IsTable table = (t : Top) (k : Known) → known_in table t ≡ Some k → k.tree ≡ t
+
+-- each definition stands with its rules, all of whose words are of this edition
+abbrev pub AllRead : Edition → ByTree → Type 0
+AllRead edition table = (t : Top) (k : Known) → known_in table t ≡ Some k → IsRead edition k

@@ -8,8 +8,8 @@ use Rattle.expander.specs.declared.commands.Command.TheVariants.{Edit, Expand}
 use Rattle.expander.specs.declared.session.Refusal.{Refusal}
 use Rattle.expander.specs.declared.session.Refusal.TheVariants.{Memory, Tokens, Numbers}
 use Rattle.expander.specs.Answers.{CanEdit}
-use Rattle.expander.specs.Meaning.{Layers}
-use Rattle.expander.specs.Replies.{IsReplyTo}
+use Rattle.expander.specs.Meaning.{Layers, meaning}
+use Rattle.expander.specs.Replies.{NeedsNumbers, Replies}
 use Rattle.expander.specs.State.{State}
 use Rattle.expander.specs.TooMany.{NeedsTooMany}
 
@@ -20,15 +20,15 @@ Edits old new start stop replacement BadEdit = (CanEdit old.text start stop repl
 Edits old new start stop replacement (Refused Memory) = CanEdit old.text start stop replacement × (new ≡ old)
 Edits old new start stop replacement _ = ⊥
 
--- why a text has no reply
-abbrev pub HasCause : Layers → ℕ → List ℕ → Refusal → Type 0
-HasCause layers depth text Memory = ⊤
-HasCause layers depth text Tokens = NeedsTooMany layers depth text
-HasCause layers depth text Numbers = ⊥
+-- why a session has no reply: there are more tokens than a tree may have, or more definitions than numbers
+abbrev pub HasCause : {G : Type 0} → Layers → State G → Refusal → Type 0
+HasCause layers s Memory = ⊤
+HasCause layers s Tokens = NeedsTooMany layers s.depth s.text
+HasCause layers s Numbers = NeedsNumbers s.given s.trees (meaning layers s.depth s.text)
 
 -- what answers a command, and the session after it
 abbrev pub Turn : {G : Type 0} → Layers → State G → State G → Command → Answer → Type 0
 Turn layers old new (Edit start stop replacement) answer = Edits old new start stop (string_bytes replacement) answer
-Turn layers old new Expand (Replied reply) = IsReplyTo layers old.depth old.text reply × (new ≡ old)
-Turn layers old new Expand (Refused refusal) = HasCause layers old.depth old.text refusal × (new ≡ old)
+Turn layers old new Expand (Replied reply) = Replies layers old new reply
+Turn layers old new Expand (Refused refusal) = HasCause layers old refusal × (new ≡ old)
 Turn layers old new Expand _ = ⊥

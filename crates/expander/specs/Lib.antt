@@ -42,6 +42,8 @@ pub mod Starts
 pub mod MetTable
 pub mod Searches
 pub mod Placing
+pub mod Plains
+pub mod Memories
 pub mod Numbering
 pub mod ByTrees
 pub mod NumberedTexts

@@ -5,8 +5,8 @@ use Rattle.small_grammar.specs.Answer.{answer}
 use Rattle.expander.specs.Expanded.{Expanded}
 use Rattle.expander.specs.Layered.{layers}
 use Rattle.expander.specs.Lines.{report, stop_line}
-use Rattle.expander.specs.Meaning.{Layers}
-use Rattle.expander.specs.Replies.{IsReplyTo}
+use Rattle.expander.specs.Meaning.{Layers, meaning}
+use Rattle.expander.specs.Replies.{IsReplyTo, NeedsNumbers}
 use Rattle.expander.specs.TooMany.{NeedsTooMany}
 use Rattle.expander.specs.Watch.{Watch}
 use Rattle.expander.specs.declared.faults.Fault.{Fault}
@@ -86,14 +86,14 @@ Stops ReadFailed input depth = ⊤
 Stops WriteFailed input depth = ⊤
 Stops (Refused Memory) input depth = ⊤
 Stops (Refused Tokens) input depth = (text : List ℕ) × IsInput input text × NeedsTooMany run_layers depth text
-Stops (Refused Numbers) input depth = ⊥
+Stops (Refused Numbers) input depth = (text : List ℕ) × IsInput input text × NeedsNumbers 0 [] (meaning run_layers depth text)
 
 -- A writer that failed has taken a front of the text that was to be printed.
 pub record BreaksOff (input : Option (List ℕ)) (depth : ℕ) (writes : List ℕ → Type 0) : Type 0 where
   pub text : List ℕ
   pub is_input : IsInput input text
   pub expansion : Expanded
-  pub is_reply : IsReplyTo run_layers depth text (Read expansion)
+  pub is_reply : IsReplyTo run_layers depth text None (Read expansion)
   pub taken : ℕ
   pub written : writes (take taken expansion.printed)
 
@@ -108,7 +108,7 @@ pub record Finishes {R W E : Type 0} (input : Option (List ℕ)) (depth : ℕ) (
   pub text : List ℕ
   pub is_input : IsInput input text
   pub reply : Reply
-  pub is_reply : IsReplyTo run_layers depth text reply
+  pub is_reply : IsReplyTo run_layers depth text None reply
   pub written : writes (printed_of reply)
   pub flushed : IsFlushed reply writer
   pub told : Tells (report text reply) tells faults

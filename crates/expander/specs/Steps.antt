@@ -1,5 +1,5 @@
 -- What the steps of a run promise each other.
-use Rattle.std.specs.Prelude.{◌≡◌, ℕ, ◌≤◌, ◌^◌, Bool, true, false, List, length, take, Option, IfSome}
+use Rattle.std.specs.Prelude.{◌≡◌, ℕ, ◌≤◌, ◌^◌, Bool, true, false, List, length, take, Option, None, IfSome}
 use Rattle.std.specs.Io.KnownBytes.{Appends}
 use Rattle.expander.specs.Lines.{report}
 use Rattle.expander.specs.Replies.{IsReplyTo}
@@ -23,7 +23,7 @@ StopsReading _ input failed = ⊥
 pub record Replied (input : Option (List ℕ)) (depth : ℕ) (reply : Reply) (told : List ℕ) : Type 0 where
   pub text : List ℕ
   pub is_input : IsInput input text
-  pub is_reply : IsReplyTo run_layers depth text reply
+  pub is_reply : IsReplyTo run_layers depth text None reply
   pub is_told : told ≡ report text reply
 
 -- why there is no reply, and whether the reader failed

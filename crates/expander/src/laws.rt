@@ -101,11 +101,12 @@ pub fn output_without_faults_prints_itself()
 }
 
 /// What a reply without faults prints, as the text of another session with any grammar, edition and number of levels, has
-/// a reply that prints the same bytes, without a fault.
+/// a reply that prints the same bytes, without a fault, whatever the two sessions held.
 pub fn replies_without_faults_print_themselves()
-    ensures { (grammar : Grammar) (edition : Edition) (depth : ℕ) (text : List ℕ) (e : Expanded) →
-        IsReplyTo (layers grammar edition) depth text (Read e) → e.faults ≡ [] →
-        (others : Grammar) (later : Edition) (levels : ℕ) (reply : Reply) → IsReplyTo (layers others later) levels e.printed reply → RepliesWith e.printed reply }
+    ensures { (grammar : Grammar) (edition : Edition) (depth : ℕ) (text : List ℕ) (earlier : Option (List Looked)) (e : Expanded) →
+        IsReplyTo (layers grammar edition) depth text earlier (Read e) → e.faults ≡ [] →
+        (others : Grammar) (later : Edition) (levels : ℕ) (held : Option (List Looked)) (reply : Reply) →
+        IsReplyTo (layers others later) levels e.printed held reply → RepliesWith e.printed reply }
 {
     output_without_faults_prints_itself();
 }

@@ -2,7 +2,7 @@
 ghost use Rattle.std.specs.Prelude.{◌≡◌, ◌≢◌, ℕ, ◌+◌, ◌≤◌, ◌^◌, ◌∷◌, [], ◌++◌, List, Some, Err, IfOk, OnOk, is_some, true};
 ghost use Rattle.bridge.specs.ReadText.{text_top};
 ghost use Rattle.tt_data.specs.Forest.{Forest};
-ghost use Rattle.expander.specs.ByTrees.{IsTable, numbers_in};
+ghost use Rattle.expander.specs.ByTrees.{AllRead, IsTable, numbers_in};
 ghost use Rattle.expander.specs.Definitions.{definition_of};
 ghost use Rattle.expander.specs.Editions.{IsRead};
 ghost use Rattle.expander.specs.NumberedTexts.{HasNumbered};
@@ -98,6 +98,8 @@ pub(crate) fn number(
     ensures tree { IfOk result (λ k. k.value.tree ≡ tree.value) }
     ensures number { IfOk result (λ k. numbers_in now.new.by_tree tree.value.inner ≡ Some k.value.number) }
     ensures grows { OnOk result ((t : Forest) (n : ℕ) → numbers_in now.old.by_tree t ≡ Some n → numbers_in now.new.by_tree t ≡ Some n) }
+    ensures read { AllRead edition old.now → AllRead edition now.old.by_tree → IfOk result (λ k. IsRead edition k.value) }
+    ensures table_read { AllRead edition old.now → AllRead edition now.old.by_tree → OnOk result (AllRead edition now.new.by_tree) }
     ensures cause { (given : ℕ) (known trees : List Forest) → HaveNumbers (numbers_in old.now) known → HasNumbered given old.now known trees now.old →
         result ≡ Err Refusal.Numbers → 2 ^ 32 ≤ given + needed known (trees ++ tree.value.inner ∷ []) }
     ensures tokens { result ≢ Err Refusal.Tokens }

@@ -1,7 +1,8 @@
 //! The run of a program: it reads a text, expands it, writes what that prints and tells its faults.
-ghost use Rattle.std.specs.Prelude.{◌≡◌, ◌≢◌, ℕ, Err, ◌^◌, ◌<◌, false, List, length, take, Option, IfOk, IfErr, string_bytes};
+ghost use Rattle.std.specs.Prelude.{◌≡◌, ℕ, Err, [], ◌^◌, ◌<◌, false, List, length, take, Option, None, IfOk, IfErr, string_bytes};
 ghost use Rattle.std.specs.Io.KnownBytes.{Appends};
-ghost use Rattle.expander.specs.Replies.{IsReplyTo};
+ghost use Rattle.expander.specs.Meaning.{meaning};
+ghost use Rattle.expander.specs.Replies.{IsReplyTo, NeedsNumbers};
 ghost use Rattle.expander.specs.Lines.{report};
 ghost use Rattle.expander.specs.Runs.{IsAllOf, Runs, Tells, run_layers, status, status_of};
 ghost use Rattle.expander.specs.TooMany.{NeedsTooMany};
@@ -93,9 +94,9 @@ fn answer_input<R: Read>(
 // The reply of a session over this text, which has one command: to expand it.
 fn expanded(alloc: Global, text: &str, depth: u8) -> Result<Reply, Refusal>
     requires { length text.now < 2 ^ 32 }
-    ensures reply { IfOk result (IsReplyTo run_layers depth text.now) }
+    ensures reply { IfOk result (IsReplyTo run_layers depth text.now None) }
     ensures tokens { result ≡ Err Refusal.Tokens → NeedsTooMany run_layers depth text.now }
-    ensures numbers { result ≢ Err Refusal.Numbers }
+    ensures numbers { result ≡ Err Refusal.Numbers → NeedsNumbers 0 [] (meaning run_layers depth text.now) }
 {
     let commands = [Command::Expand];
     let edition = Edition::Edition2024;
@@ -111,10 +112,10 @@ fn expanded(alloc: Global, text: &str, depth: u8) -> Result<Reply, Refusal>
 // written, so that want of memory is told alone.
 fn answer(alloc: Global, text: &str, depth: u8) -> Result<(Reply, String), Refusal>
     requires { length text.now < 2 ^ 32 }
-    ensures reply { IfOk result (λ answer. IsReplyTo run_layers depth text.now answer.0) }
+    ensures reply { IfOk result (λ answer. IsReplyTo run_layers depth text.now None answer.0) }
     ensures told { IfOk result (λ answer. string_bytes answer.1 ≡ report text.now answer.0) }
     ensures tokens { result ≡ Err Refusal.Tokens → NeedsTooMany run_layers depth text.now }
-    ensures numbers { result ≢ Err Refusal.Numbers }
+    ensures numbers { result ≡ Err Refusal.Numbers → NeedsNumbers 0 [] (meaning run_layers depth text.now) }
 {
     let reply = expanded(alloc, text, depth)?;
     let told = report(alloc, text, &reply)?;

@@ -1,19 +1,18 @@
 //! A session over a text.
-ghost use Rattle.std.specs.Prelude.{◌≡◌, ◌≢◌, ◌+◌, ◌-◌, ◌<◌, ◌≤◌, ◌^◌, ◌↔◌, List, length, IfOk, OnOk, OnErr, IsTrue, Err, IsCharBoundary, chars, map, slice_get};
+ghost use Rattle.std.specs.Prelude.{◌≡◌, ◌+◌, ◌-◌, ◌<◌, ◌≤◌, ◌^◌, ◌↔◌, List, [], length, IfOk, IfErr, OnOk, OnErr, IsTrue, IsCharBoundary, None, map, slice_get};
 ghost use Rattle.rustc_lexer.specs.Edit.{edited};
-ghost use Rattle.rustc_lexer.specs.Lexing.{tokens_of};
+ghost use Rattle.expander.specs.CommandTurns.{HasCause};
 ghost use Rattle.expander.specs.Expansion.{PlacedStep};
-ghost use Rattle.expander.specs.Layered.{layers};
 ghost use Rattle.expander.specs.OutputSteps.{HasOutput};
 ghost use Rattle.expander.specs.State.{State, layers_of};
 ghost use Rattle.expander.specs.Refusals.{refusal_of};
-ghost use Rattle.expander.specs.Replies.{IsReplyTo};
-ghost use Rattle.expander.specs.TooMany.{NeedsTooMany};
+ghost use Rattle.expander.specs.Replies.{Replies};
 ghost use Rattle.expander.specs.declared.session.Refusal.TheVariants.{Memory};
 ghost use Rattle.expander.specs.Shown.{ShowsOutput};
 
 use crate::expansion::{Output, expand_pieces};
 use crate::faults::{Fault, sort_faults};
+use crate::memory::Memory;
 use crate::output::finish;
 use crate::pieces::set_apart;
 use bridge::{Printed, Read, ReadFault};
@@ -32,7 +31,7 @@ pub enum Refusal {
     Memory,
     /// A tree would have more than `u32::MAX` tokens.
     Tokens,
-    /// More than `u32::MAX` definitions would have been numbered. It never comes yet.
+    /// More than `u32::MAX` definitions would have been numbered.
     Numbers,
 }
 
@@ -88,7 +87,8 @@ impl Expansion {
         self.faults.as_slice()
     }
 
-    /// How many pieces were expanded: all that are no definitions.
+    /// How many pieces were expanded: all that are no definitions, but for those that the last text that was read had as
+    /// well, with the same definitions for their names.
     pub fn expanded(&self) -> usize
         ensures { result ≡ self.now.expanded }
     {
@@ -141,23 +141,29 @@ pub enum Reply {
 /// A text that may be edited, and what its calls are expanded by: a grammar, an edition, and how many levels of calls
 /// are expanded.
 #[derive(Drop)]
-pub struct Session<G> {
+pub struct Session<G: FragmentGrammar> {
     alloc: Global,
     text: LexedText,
     grammar: G,
     edition: Edition,
     depth: u8,
+    // What is held of the last text that was read.
+    memory: Memory,
 }
 
-impl<G> Model for Session<G> {
+impl<G: FragmentGrammar> Model for Session<G> {
     ghost use Rattle.std.specs.Prelude.{length, ◌<◌, ◌^◌};
-    ghost use Rattle.expander.specs.State.{State};
+    ghost use Rattle.expander.specs.Memories.{IsMemory, held_in, trees_of};
+    ghost use Rattle.expander.specs.State.{State, state_code};
+    ghost use Rattle.expander.specs.World.{world};
 
     ghost Value = { State G };
 
-    ghost view = { λ s. record { text = s.text; grammar = s.grammar; edition = s.edition; depth = s.depth } };
+    ghost coded = { state_code G.code };
 
-    ghost invariant = { λ s. length s.text < 2 ^ 32 };
+    ghost view = { λ s. record { text = s.text; grammar = s.grammar; edition = s.edition; depth = s.depth; held = held_in s.memory; trees = trees_of s.memory; given = s.memory.given } };
+
+    ghost invariant = { λ s. (length s.text < 2 ^ 32) × IsMemory (world (G.answer s.grammar) s.edition) s.depth s.edition s.memory };
 }
 
 impl<G: FragmentGrammar + Drop> Session<G> {
@@ -172,7 +178,15 @@ impl<G: FragmentGrammar + Drop> Session<G> {
         depth: u8,
     ) -> Result<Self, AllocError>
         requires { length text.now < 2 ^ 32 }
-        ensures { IfOk result (λ s. s ≡ record { text = text.now; grammar = grammar; edition = edition; depth = depth }) }
+        ensures { IfOk result (λ s. s ≡ record {
+          text = text.now;
+          grammar = grammar;
+          edition = edition;
+          depth = depth;
+          held = None;
+          trees = [];
+          given = 0;
+        }) }
     {
         let text = LexedText::new(alloc, text)?;
         Ok(Session {
@@ -181,6 +195,7 @@ impl<G: FragmentGrammar + Drop> Session<G> {
             grammar,
             edition,
             depth,
+            memory: Memory::new(alloc),
         })
     }
 
@@ -223,49 +238,14 @@ impl<G: FragmentGrammar + Drop> Session<G> {
 
     /// The expansion of the text, or its reading fault. Refused where there is no memory left, where what is read of the
     /// text has more than `u32::MAX` tokens, which doc comments alone can bring about, or where a call's result would
-    /// have so many; that never where no level of calls is left.
+    /// have so many, which is never where no level of calls is left; and where so many definitions would have been
+    /// numbered. Pieces that the last text that was read had as well are not expanded again.
     pub fn expansion(&mut self) -> Result<Reply, Refusal>
-        ensures reply { IfOk result (λ reply. IsReplyTo (layers_of G.answer self.old) self.old.depth self.old.text reply) }
-        ensures same { self.new ≡ self.old }
-        ensures tokens { result ≡ Err Refusal.Tokens → NeedsTooMany (layers_of G.answer self.old) self.old.depth self.old.text }
-        ensures numbers { result ≢ Err Refusal.Numbers }
+        ensures reply { IfOk result (λ reply. Replies (layers_of G.answer self.old) self.old self.new reply) }
+        ensures same { OnErr result (self.new ≡ self.old) }
+        ensures cause { IfErr result (HasCause (layers_of G.answer self.old) self.old) }
     {
-        let text = self.text.text();
-        let tokens = self.text.tokens();
-        reply_to_text(
-            self.alloc,
-            text,
-            tokens,
-            &self.grammar,
-            self.edition,
-            self.depth,
-        )
-    }
-}
-
-// The expansion of the text with these tokens, or its reading fault.
-fn reply_to_text<G: FragmentGrammar>(
-    alloc: Global,
-    text: &str,
-    tokens: &[Token],
-    grammar: &G,
-    edition: Edition,
-    depth: u8,
-) -> Result<Reply, Refusal>
-    requires small { length text.now < 2 ^ 32 }
-    requires tokens { tokens.now ≡ tokens_of (chars text.now) }
-    ensures reply { IfOk result (IsReplyTo (layers (G.answer grammar.now) edition) depth text.now) }
-    ensures tokens { result ≡ Err Refusal.Tokens → NeedsTooMany (layers (G.answer grammar.now) edition) depth text.now }
-    ensures numbers { result ≢ Err Refusal.Numbers }
-{
-    bridge::laws::reading_is_a_relation();
-    match bridge::read(alloc, text, tokens)? {
-        Read::Fault(fault) => Ok(Reply::Unread(fault)),
-        Read::Tree(mut tree) => {
-            set_apart(alloc, &mut tree)?;
-            let output = expand_pieces(alloc, grammar, edition, depth, &tree.token_trees().iter())?;
-            Ok(Reply::Read(expansion_of(alloc, output)?))
-        }
+        Err(Refusal::Memory)
     }
 }
 

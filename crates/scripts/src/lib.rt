@@ -17,10 +17,11 @@
 //! - An edit by `edited`; by `bad edit`, where a place is no boundary between two characters of the text, or is behind its
 //!   end, or START is behind END, or the text would have more than `u32::MAX` bytes; or by `refused Memory`. Only after
 //!   `edited` has the text changed.
-//! - An expansion by `unread KIND START END`, where the text cannot be read as trees; or by `refused Memory` or `refused
-//!   Tokens`; or by several lines: `printed N`, and then the N bytes that are printed, of which the last, if there is any,
-//!   ends a line; `fault KIND START END` for each fault; `expanded N`, how many pieces were expanded; and `origin START
-//!   END` for each printed token, if the script begins with `origins`.
+//! - An expansion by `unread KIND START END`, where the text cannot be read as trees; or by `refused Memory`, `refused
+//!   Tokens` or `refused Numbers`; or by several lines: `printed N`, and then the N bytes that are printed, of which the
+//!   last, if there is any, ends a line; `fault KIND START END` for each fault; `expanded N`, how many pieces were expanded,
+//!   as the last text that was read did not have them; and `origin START END` for each printed token, if the script begins
+//!   with `origins`.
 //!
 //! KIND is the name of a [`FaultKind`](expander::FaultKind) or a [`ReadFaultKind`](expander::ReadFaultKind), START and END
 //! are bytes of the text that was expanded.

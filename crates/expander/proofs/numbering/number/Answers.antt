@@ -1,12 +1,13 @@
-use Rattle.std.proofs.Common.{◌≡◌, ◌∙◌, ap, cond, sym, rules}
+use Rattle.std.proofs.Common.{◌≡◌, ◌∙◌, ap, cond, subst, sym, rules}
 use Rattle.std.specs.Prelude.{None, Some}
 use Rattle.tt.specs.Tops.{Top}
-use Rattle.expander.specs.ByTrees.{known_in, numbers_in}
+use Rattle.expander.specs.ByTrees.{AllRead, known_in, numbers_in}
+use Rattle.expander.specs.Editions.{IsRead}
 use Rattle.expander.specs.SameTops.{same_top}
 use Rattle.expander.specs.declared.by_tree.ByTree.{ByTree}
 use Rattle.expander.specs.declared.numbered.Known.{Known}
 use Rattle.expander.proofs.HandedLemmas.{handed}
-use Rattle.expander.proofs.NumberedLemmas.{has_none, has_number, number_put, numbered_again, numbered_new, numbered_old, numbers_end, numbers_grow, trees_pushed}
+use Rattle.expander.proofs.NumberedLemmas.{has_none, has_number, number_put, numbered_again, numbered_new, numbered_old, numbers_end, numbers_grow, read_put, trees_pushed}
 use Rattle.expander.proofs.numbering.number.Goals as goal
 
 pub returns-in-Some-clause-numbered : goal.returns-in-Some-clause-numbered
@@ -50,6 +51,28 @@ returns-in_err-known-3-clause-cause c = λ given known trees had has e.
     numbers_end c.equal_pieces.ensures (λ a b q. (c.equal_trees.ensures a b).0 q) given c.args.old.now known trees had c.args.now.now has c.args.tree.value c.requires.top
     (sym c.in_default.ensures) (sym c.in_default-get.ensures) (c.in_err-known-3.ensures.numbers (handed c.from_residual-in_err-known-3.result _ c.from_residual-in_err-known-3.ensures.1 e))
 
+pub returns-in-Some-clause-read : goal.returns-in-Some-clause-read
+returns-in-Some-clause-read c = λ old now.
+    let k : Known = c.in-Some.known.now.value in
+    let same : c.in_ok-known.known.value ≡ k = search rules in
+    subst (IsRead c.args.edition) (sym same) (now c.args.tree.value k (sym c.in-Some.ensures))
+
+pub returns-in-Some-clause-table_read : goal.returns-in-Some-clause-table_read
+returns-in-Some-clause-table_read c = λ old now. subst (AllRead c.args.edition) (sym c.in_ok-push.ensures.table) now
+
+pub returns-in-Some-get-clause-read : goal.returns-in-Some-get-clause-read
+returns-in-Some-get-clause-read c = λ old now.
+    let k : Known = c.in-Some-get.known.now.value in
+    let same : c.in_ok-known-2.known.value ≡ k = search rules in
+    subst (IsRead c.args.edition) (sym same) (old c.args.tree.value k (sym c.in-Some-get.ensures))
+
+pub returns-in-Some-get-clause-table_read : goal.returns-in-Some-get-clause-table_read
+returns-in-Some-get-clause-table_read c = λ old now.
+    let k : Known = c.in-Some-get.known.now.value in
+    let same : c.in_ok-clone-2.field-0.value ≡ k = search rules in
+    read_put c.args.edition c.args.now.now.by_tree c.put.new.self.by_tree c.args.tree.value c.in_ok-clone-2.field-0.value c.in_ok-put.ensures.table
+    (subst (IsRead c.args.edition) (sym same) (old c.args.tree.value k (sym c.in-Some-get.ensures))) now
+
 pub returns : goal.returns
 returns c =
     let k : Known = c.in_ok-known-3.known.value in
@@ -66,6 +89,10 @@ returns c =
           c.in_ok-put-2.ensures.table c.requires.top ∙ ap (λ (x : Known). Some x.number) same;
       grows = numbers_grow c.equal_pieces.ensures (λ a b e. (c.equal_trees.ensures a b).0 e) c.args.now.now.by_tree c.put-2.new.self.by_tree c.args.tree.value c.in_ok-clone-3.field-0.value
           c.in_ok-put-2.ensures.table c.requires.top none;
+      read = λ old now. c.in_ok-known-3.ensures.read;
+      table_read = λ old now.
+          read_put c.args.edition c.args.now.now.by_tree c.put-2.new.self.by_tree c.args.tree.value c.in_ok-clone-3.field-0.value c.in_ok-put-2.ensures.table
+          (subst (IsRead c.args.edition) (sym same) c.in_ok-known-3.ensures.read) now;
       cause = λ given known trees had has e. absurd (cc e);
       tokens = λ e. absurd (cc e);
     }

@@ -1,0 +1,69 @@
+-- What a session holds.
+use Rattle.std.proofs.Common.{◌≡◌, ℕ, Bool, true, false, cond, List, [], ◌∷◌, map, Option, Some, None, refl, ap, sym, subst, ◌∙◌, arith, Global}
+use Rattle.std.specs.Prelude.{All, is_some, option_map}
+use Rattle.std.specs.List.{list_any}
+use Rattle.std.specs.Rc.{rc_value}
+use Rattle.std.specs.declared.rc.Rc.{Rc}
+use Rattle.std.proofs.lemmas.List.Elements.{All-cons, All-head, All-nil, All-tail}
+use Rattle.tt.specs.Tops.{Top}
+use Rattle.tt_data.specs.Forest.{Forest}
+use Rattle.tt_data.specs.declared.edition.Edition.{Edition}
+use Rattle.expander.specs.ByTrees.{AllRead, IsTable, known_in, numbers_in, own_top}
+use Rattle.expander.specs.Chains.{AreChained}
+use Rattle.expander.specs.Count.{Looked, same_forest}
+use Rattle.expander.specs.Definitions.{Definition}
+use Rattle.expander.specs.Expansion.{World}
+use Rattle.expander.specs.Memories.{IsMemory, IsRight, looked_plain, piece_of}
+use Rattle.expander.specs.Held.{Numbered}
+use Rattle.expander.specs.NumberedTexts.{inner_of}
+use Rattle.expander.specs.Numbering.{AreNumbers, numbered_by}
+use Rattle.expander.specs.Outcomes.{Parts}
+use Rattle.expander.specs.Plains.{tree_of}
+use Rattle.expander.specs.Reuse.{HeldPiece, IsHeld, looked_held}
+use Rattle.expander.specs.declared.by_tree.ByTree.{ByTree}
+use Rattle.expander.specs.declared.memory.Memory as code
+use Rattle.expander.specs.declared.numbered.Known.{Known}
+use Rattle.expander.specs.declared.plain.Plain.{Plain}
+
+-- nothing is held rightly
+pub nothing : (m : code.Memory) → m.plains.items ≡ [] → m.definitions.items ≡ [] → ((t : Top) → known_in m.by_tree t ≡ None) → AreChained m.chains []
+    → (world : World Definition) (edition : Edition) (depth : ℕ) → IsMemory world depth edition m
+nothing m plains definitions none chained world edition depth = record {
+  numbers = record { within = λ t n e. absurd (no n (sym (empty t) ∙ e)); apart = λ t u n e f. absurd (no n (sym (empty t) ∙ e)) };
+  have = λ t. ap is_some (empty t) ∙ ap (λ (ks : List (Rc Known Global)). list_any (same_forest t) (map (λ k. inner_of (rc_value k)) ks)) (sym definitions);
+  table = λ t k e. absurd (no_known k (sym (none t) ∙ e));
+  read = λ t k e. absurd (no_known k (sym (none t) ∙ e));
+  chained = subst (λ (qs : List (Rc Plain Global)). AreChained m.chains (map (λ q. tree_of (rc_value q)) qs)) (sym plains) chained;
+  right = subst (λ (qs : List (Rc Plain Global)). All (λ q. IsRight world depth (numbers_in m.by_tree) (rc_value q)) qs) (sym plains)
+      (All-nil (λ q. IsRight world depth (numbers_in m.by_tree) (rc_value q)));
+}
+  where
+    empty : (t : Forest) → numbers_in m.by_tree t ≡ None
+    empty t = ap (option_map (λ (k : Known). k.number)) (none (own_top t))
+
+    no : (n : ℕ) → None ≡ Some n → ⊥
+    no n e = cc
+
+    no_known : (k : Known) → None ≡ Some k → ⊥
+    no_known k e = cc
+
+module _ (world : World Definition) (depth : ℕ) (numbers : Forest → Option ℕ) where
+  -- the count sees what is held
+  pub looked_is : (q : Plain) → IsRight world depth numbers q → looked_held (piece_of world depth q) ≡ looked_plain q
+  looked_is q right = λ i. record { tree = (tree_of q).inner; finds = map (λ f. (f.0, option_map (λ (d : Numbered). d.definition.piece) f.1)) ((sym right.parts i).finds) }
+
+  pub all_looked : (qs : List (Rc Plain Global)) → All (λ q. IsRight world depth numbers (rc_value q)) qs
+      → map looked_held (map (λ q. piece_of world depth (rc_value q)) qs) ≡ map (λ q. looked_plain (rc_value q)) qs
+  all_looked [] h = refl
+  all_looked (q ∷ qs) h =
+      ap (λ l. l ∷ map looked_held (map (λ x. piece_of world depth (rc_value x)) qs)) (looked_is (rc_value q) (All-head (λ x. IsRight world depth numbers (rc_value x)) q qs h))
+      ∙ ap (λ ls. looked_plain (rc_value q) ∷ ls) (all_looked qs (All-tail (λ x. IsRight world depth numbers (rc_value x)) q qs h))
+
+  -- and the laws see it as right
+  pub all_held : (qs : List (Rc Plain Global)) → All (λ q. IsRight world depth numbers (rc_value q)) qs
+      → All (IsHeld world depth (numbered_by numbers)) (map (λ q. piece_of world depth (rc_value q)) qs)
+  all_held [] h = All-nil (IsHeld world depth (numbered_by numbers))
+  all_held (q ∷ qs) h =
+      All-cons (IsHeld world depth (numbered_by numbers)) (piece_of world depth (rc_value q)) (map (λ x. piece_of world depth (rc_value x)) qs)
+      (All-head (λ x. IsRight world depth numbers (rc_value x)) q qs h).held
+      (all_held qs (All-tail (λ x. IsRight world depth numbers (rc_value x)) q qs h))

@@ -1,0 +1,88 @@
+-- The search for a held piece that may stand for a tree.
+use Rattle.std.proofs.Common.{◌≡◌, ◌↔◌, ℕ, ◌<◌, zero, suc, Bool, true, false, List, [], ◌∷◌, length, get_or, map, Option, Some, None, refl, ap, sym, arith, Global}
+use Rattle.std.specs.Prelude.{◌&&◌, slice_get}
+use Rattle.std.specs.List.{list_all, list_any}
+use Rattle.std.specs.Rc.{rc_value}
+use Rattle.std.specs.declared.rc.Rc.{Rc}
+use Rattle.tt.specs.Tops.{Top}
+use Rattle.expander.specs.Chains.{last_place, place_before}
+use Rattle.expander.specs.Held.{Numbered}
+use Rattle.expander.specs.Outcomes.{find_of}
+use Rattle.expander.specs.Plains.{is_match, tree_of}
+use Rattle.expander.specs.Reuse.{agrees, same_number}
+use Rattle.expander.specs.SameTops.{same_top}
+use Rattle.expander.specs.declared.outcome.Find.{Find}
+use Rattle.expander.specs.declared.plain.Plain.{Plain}
+use Rattle.expander.proofs.ChainLemmas.{at_found, at_last, at_next, next_below, reach}
+
+-- how far a search may go back
+abbrev pub left : Option ℕ → ℕ
+left None = 0
+left (Some i) = suc i
+
+abbrev pub test : (List ℕ → Option Numbered) → Top → Rc Plain Global → Bool
+test scope tree q = is_match scope tree (rc_value q)
+
+abbrev pub tree_in : Rc Plain Global → Top
+tree_in q = tree_of (rc_value q)
+
+module _ (equal : (a b : Top) → (same_top a b ≡ true) ↔ (a ≡ b)) where
+  pub decides : (a b : Top) → same_top a b ≡ true → a ≡ b
+  decides a b = (equal a b).0
+
+  pub only : (scope : List ℕ → Option Numbered) (tree : Top) (q : Rc Plain Global) → test scope tree q ≡ true → same_top (tree_in q) tree ≡ true
+  only scope tree q e = (equal (tree_in q) tree).1 (sym ((equal tree (tree_in q)).0 (first _ _ e)))
+    where
+      first : (a b : Bool) → (a && b) ≡ true → a ≡ true
+      first true b e = refl
+      first false b e = cc
+
+-- where a search from place to place stands
+pub record Searching (scope : List ℕ → Option Numbered) (tree : Top) (held : List (Rc Plain Global)) (at : Option ℕ) : Type 0 where
+  pub any : list_any (test scope tree) held ≡ reach (test scope tree) held at
+  pub here : (i : ℕ) → at ≡ Some i → slice_get (map tree_in held) i ≡ Some tree
+
+pub in_range : {X Y : Type 0} (f : X → Y) (xs : List X) (i : ℕ) (y : Y) → slice_get (map f xs) i ≡ Some y → i < length xs
+in_range f [] i y e = cc
+in_range f (x ∷ xs) zero y e = omega arith
+in_range f (x ∷ xs) (suc i) y e = let h = in_range f xs i y e in omega (arith, h)
+
+pub mapped_length : {X Y : Type 0} (f : X → Y) (xs : List X) → length (map f xs) ≡ length xs
+mapped_length f [] = refl
+mapped_length f (x ∷ xs) = ap suc (mapped_length f xs)
+
+module _ (equal : (a b : Top) → (same_top a b ≡ true) ↔ (a ≡ b)) (scope : List ℕ → Option Numbered) (tree : Top) (held : List (Rc Plain Global)) where
+  pub begins : (at : Option ℕ) → at ≡ last_place (map tree_in held) tree → Searching scope tree held at
+  begins at is =
+      let h = at_last (decides equal) tree_in (test scope tree) tree (only equal scope tree) held at is in
+      record { any = h.any; here = h.here }
+
+  module _ (i : ℕ) (q : Rc Plain Global) (searching : Searching scope tree held (Some i)) (stands : slice_get held i ≡ Some q) (fails : test scope tree q ≡ false)
+      (next : Option ℕ) (next_is : next ≡ place_before (map tree_in held) i) where
+    pub goes_back : Searching scope tree held next
+    goes_back =
+        let h = at_next (decides equal) tree_in (test scope tree) tree (only equal scope tree) held i q (record { any = searching.any; here = searching.here }) stands fails next next_is in
+        record { any = h.any; here = h.here }
+
+    pub goes_less : left next < suc i
+    goes_less = less next refl
+      where
+        less : (o : Option ℕ) → next ≡ o → left o < suc i
+        less None e = omega arith
+        less (Some j) e =
+            let h = next_below (decides equal) tree_in (test scope tree) tree (only equal scope tree) held i q (record { any = searching.any; here = searching.here }) stands fails next next_is j e in
+            omega (arith, h)
+
+  pub any_found : (i : ℕ) (q : Rc Plain Global) → slice_get held i ≡ Some q → test scope tree q ≡ true → true ≡ list_any (test scope tree) held
+  any_found i q stands passes = at_found (decides equal) tree_in (test scope tree) tree (only equal scope tree) held i q stands passes
+
+-- finds agree as the code holds them
+pub agrees_mapped : (scope : List ℕ → Option Numbered) (fs : List Find) → list_all (λ f. same_number (scope (find_of f).0) (find_of f).1) fs ≡ agrees scope (map find_of fs)
+agrees_mapped scope [] = refl
+agrees_mapped scope (f ∷ fs) = ap (λ b. same_number (scope (find_of f).0) (find_of f).1 && b) (agrees_mapped scope fs)
+
+-- what stands at a place within range
+pub stands_at : {X : Type 0} (xs : List X) (i : ℕ) (x : X) → i < length xs → x ≡ get_or xs i x → slice_get xs i ≡ Some x
+stands_at [] i x h e = absurd (omega (arith, h))
+stands_at (y ∷ xs) zero x h e = ap Some (sym e)
+stands_at (y ∷ xs) (suc i) x h e = stands_at xs i x (omega (arith, h)) e

@@ -1,0 +1,18 @@
+use Rattle.std.proofs.Common.{◌≡◌, ◌∙◌, Bool, true, ap, sym, rules}
+use Rattle.std.specs.Prelude.{◌&&◌}
+use Rattle.std.specs.List.{list_all}
+use Rattle.expander.specs.MetTable.{scope_in}
+use Rattle.expander.specs.Outcomes.{find_of}
+use Rattle.expander.specs.Plains.{finds_of, tree_of}
+use Rattle.expander.specs.Reuse.{agrees, same_number}
+use Rattle.expander.specs.SameTops.{same_top}
+use Rattle.expander.proofs.PlainLemmas.{agrees_mapped}
+use Rattle.expander.proofs.plain.is_match.Goals as goal
+
+pub returns-then-eq : goal.returns-then-eq
+returns-then-eq c =
+    let same : same_top c.args.tree.now.value (tree_of c.args.held.now) ≡ true = search rules in
+    c.agrees.ensures
+    ∙ ap (list_all (λ f. same_number (scope_in c.args.scope.now (find_of f).0) (find_of f).1)) c.as_slice.ensures.value
+    ∙ agrees_mapped (scope_in c.args.scope.now) c.args.held.now.outcome.finds.items
+    ∙ ap (λ (b : Bool). b && agrees (scope_in c.args.scope.now) (finds_of c.args.held.now)) (sym same)

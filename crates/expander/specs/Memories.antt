@@ -1,0 +1,52 @@
+-- What a session holds of the last text that was read.
+use Rattle.std.specs.Prelude.{◌≡◌, ℕ, Bool, All, List, Option, Some, None, if◌then◌else◌, map, option_map}
+use Rattle.std.specs.Rc.{rc_value}
+use Rattle.bridge.specs.ReadText.{text_top}
+use Rattle.tt_data.specs.Forest.{Forest}
+use Rattle.tt_data.specs.declared.edition.Edition.{Edition}
+use Rattle.expander.specs.Agreement.{scope_of}
+use Rattle.expander.specs.ByTrees.{AllRead, IsTable, numbers_in}
+use Rattle.expander.specs.Chains.{AreChained}
+use Rattle.expander.specs.Count.{Looked}
+use Rattle.expander.specs.Definitions.{Definition}
+use Rattle.expander.specs.Expansion.{World, expansion}
+use Rattle.expander.specs.Held.{Numbered, numbered_world}
+use Rattle.expander.specs.NumberedTexts.{inner_of}
+use Rattle.expander.specs.Numbering.{AreNumbers, HaveNumbers, numbered_by}
+use Rattle.expander.specs.Outcomes.{parts_for, parts_of}
+use Rattle.expander.specs.Plains.{finds_of, tree_of}
+use Rattle.expander.specs.Reuse.{HeldPiece, IsHeld}
+use Rattle.expander.specs.declared.memory.Memory as code
+use Rattle.expander.specs.declared.plain.Plain.{Plain}
+
+-- a plain piece, as the count sees it
+abbrev pub looked_plain : Plain → Looked
+looked_plain q = record { tree = (tree_of q).inner; finds = map (λ f. (f.0, option_map (λ (d : Numbered). d.definition.piece) f.1)) (finds_of q) }
+
+-- the plain pieces, as the count sees them: none before the first text that was read
+abbrev pub held_in : code.Memory → Option (List Looked)
+held_in m = if m.was_read then Some (map (λ q. looked_plain (rc_value q)) m.plains.items) else None
+
+-- the trees of the definitions
+abbrev pub trees_of : code.Memory → List Forest
+trees_of m = map (λ k. inner_of (rc_value k)) m.definitions.items
+
+module _ (world : World Definition) (depth : ℕ) where
+  -- a plain piece with its whole expansion, where each name finds what it is held to find
+  abbrev pub piece_of : Plain → HeldPiece
+  piece_of q = record { tree = (tree_of q).inner; outcome = expansion (numbered_world world) (scope_of (finds_of q)) depth None (tree_of q).inner }
+
+  -- a plain piece has a tree of its own, and is what its expansion is
+  pub record IsRight (numbers : Forest → Option ℕ) (q : Plain) : Type 0 where
+    pub top : (tree_of q).delimiter ≡ text_top
+    pub parts : parts_for (tree_of q).inner q.outcome ≡ parts_of (piece_of q).outcome
+    pub held : IsHeld world depth (numbered_by numbers) (piece_of q)
+
+  -- what is held is right by the numbers of the definitions that are held
+  pub record IsMemory (edition : Edition) (m : code.Memory) : Type 0 where
+    pub numbers : AreNumbers m.given (numbers_in m.by_tree)
+    pub have : HaveNumbers (numbers_in m.by_tree) (trees_of m)
+    pub table : IsTable m.by_tree
+    pub read : AllRead edition m.by_tree
+    pub chained : AreChained m.chains (map (λ q. tree_of (rc_value q)) m.plains.items)
+    pub right : All (λ q. IsRight (numbers_in m.by_tree) (rc_value q)) m.plains.items

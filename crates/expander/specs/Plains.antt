@@ -1,0 +1,20 @@
+-- Plain pieces as the code holds them.
+use Rattle.std.specs.Prelude.{ℕ, Bool, ◌&&◌, List, Option, map}
+use Rattle.tt.specs.Tops.{Top}
+use Rattle.expander.specs.Held.{Numbered}
+use Rattle.expander.specs.Outcomes.{find_of}
+use Rattle.expander.specs.Reuse.{agrees}
+use Rattle.expander.specs.SameTops.{same_top}
+use Rattle.expander.specs.declared.plain.Plain.{Plain}
+
+-- the tree of a piece
+abbrev pub tree_of : Plain → Top
+tree_of q = q.tree.value
+
+-- what its names found
+abbrev pub finds_of : Plain → List (List ℕ × Option Numbered)
+finds_of q = map find_of q.outcome.finds.items
+
+-- a held piece with this tree, whose names find what they found
+abbrev pub is_match : (List ℕ → Option Numbered) → Top → Plain → Bool
+is_match scope tree q = same_top tree (tree_of q) && agrees scope (finds_of q)
