@@ -59,6 +59,7 @@ mod PlacingLemmas
 mod PlainLemmas
 mod MemoryLemmas
 mod TakingLemmas
+mod PassLemmas
 mod AnchoredLemmas
 mod ReplyLemmas
 mod EditLemmas

@@ -44,6 +44,7 @@ pub mod Searches
 pub mod Placing
 pub mod Plains
 pub mod Memories
+pub mod Takings
 pub mod Numbering
 pub mod ByTrees
 pub mod NumberedTexts
