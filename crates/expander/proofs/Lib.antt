@@ -61,7 +61,7 @@ mod MemoryLemmas
 mod TakingLemmas
 mod PassLemmas
 mod AnchoredLemmas
-mod ReplyLemmas
+mod SessionLemmas
 mod EditLemmas
 mod CommandLemmas
 mod SameTextLemmas

@@ -48,6 +48,7 @@ pub mod Takings
 pub mod Numbering
 pub mod ByTrees
 pub mod NumberedTexts
+pub mod TakenTexts
 pub mod Cutting
 pub mod Names
 pub mod ScopeTable
