@@ -59,8 +59,9 @@ mod PlacingLemmas
 mod PlainLemmas
 mod MemoryLemmas
 mod TakingLemmas
+mod PassLemmas
 mod AnchoredLemmas
-mod ReplyLemmas
+mod SessionLemmas
 mod EditLemmas
 mod CommandLemmas
 mod SameTextLemmas

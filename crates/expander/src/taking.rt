@@ -1,4 +1,12 @@
 // The pieces of a text over what is held.
+ghost use Rattle.expander.specs.Held.{StandFromFirst, definition_trees, kept_after};
+ghost use Rattle.expander.specs.Layered.{layers};
+ghost use Rattle.expander.specs.Meaning.{members_after};
+ghost use Rattle.expander.specs.Numbering.{number_by};
+ghost use Rattle.expander.specs.Pieces.{cut};
+ghost use Rattle.expander.specs.Takings.{IsTaken, NeedsMore};
+ghost use Rattle.expander.specs.TooMany.{bursts};
+ghost use Rattle.std.specs.Prelude.{[]};
 ghost use Rattle.std.specs.Prelude.{◌≡◌, ℕ, All, List, IfOk, None, Err, Option, Some, is_some, map, true};
 ghost use Rattle.std.specs.List.{list_any};
 ghost use Rattle.std.specs.Rc.{rc_value};
@@ -15,15 +23,22 @@ ghost use Rattle.expander.specs.Plains.{tree_of};
 ghost use Rattle.expander.specs.Reuse.{matches};
 ghost use Rattle.expander.specs.World.{world};
 
+use crate::chains::Chains;
+use crate::faults::Fault;
 use crate::laws;
 use crate::memory::Memory;
 use crate::met::Scope;
+use crate::numbering::Numbering;
+use crate::output::PlacedSteps;
 use crate::plain::{Plain, match_from};
 use crate::searching::expand_piece;
+use crate::session::Refusal;
 use mbe::FragmentGrammar;
 use std::alloc::Global;
 use std::rc::Rc;
+use tt::iter::TtIter;
 use tt::top::TopSubtree;
+use tt_data::edition::Edition;
 use tt_data::fault::TtFault;
 
 // A tree, expanded.
@@ -81,4 +96,40 @@ pub(crate) fn take_tree<G: FragmentGrammar>(
     }
     let plain = expanded(alloc, grammar, scope, depth, tree)?;
     Ok((plain, None))
+}
+
+/// What the pieces of a text so far give.
+#[derive(Drop)]
+pub(crate) struct Taken {
+    /// Their definitions.
+    pub numbers: Numbering,
+    /// The plain ones, in order.
+    pub plains: Vec<Rc<Plain>>,
+    /// The trees of these.
+    pub chains: Chains,
+    pub steps: PlacedSteps,
+    /// Without those of the steps.
+    pub faults: Vec<Fault>,
+    /// How many were expanded.
+    pub expanded: usize,
+}
+
+/// The pieces of a text, one after another, each under the definitions before it: a plain one is expanded, where no held one
+/// matches.
+pub(crate) fn take_pieces<G: FragmentGrammar>(
+    alloc: Global,
+    grammar: &G,
+    edition: Edition,
+    depth: u8,
+    memory: &Memory,
+    trees: &TtIter<'_>,
+) -> Result<Taken, Refusal>
+    requires right { IsMemory (world (G.answer grammar.now) edition) depth edition memory.now }
+    requires stand { All StandFromFirst (cut trees.now) }
+    ensures taken { IfOk result (λ now. IsTaken (world (G.answer grammar.now) edition) edition depth memory.now (layers (G.answer grammar.now) edition)
+        (definition_trees (cut trees.now)) (kept_after (world (G.answer grammar.now) edition) depth (number_by (numbers_in now.numbers.by_tree)) [] (cut trees.now)) now) }
+    ensures tokens { result ≡ Err Refusal.Tokens → list_any bursts (members_after (layers (G.answer grammar.now) edition) depth [] (cut trees.now)) ≡ true }
+    ensures numbers { result ≡ Err Refusal.Numbers → NeedsMore memory.now (cut trees.now) }
+{
+    Err(Refusal::Memory)
 }
