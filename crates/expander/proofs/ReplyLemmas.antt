@@ -3,7 +3,6 @@ use Rattle.std.proofs.Common.{◌≡◌, ℕ, List, [], ◌∷◌, ◌++◌, len
 use Rattle.std.specs.Prelude.{Option, Result, Ok, Err}
 use Rattle.std.specs.List.{list_any}
 use Rattle.tt_data.specs.Forest.{Forest}
-use Rattle.expander.specs.declared.expansion.Output.{Output}
 use Rattle.tt_data.specs.fault.TtFault.{TtFault}
 use Rattle.bridge.specs.ReadText.{IsReadRefusal}
 use Rattle.bridge.specs.TokenSteps.{text_reading, text_steps}
@@ -18,7 +17,6 @@ use Rattle.expander.specs.Expansion.{PlacedStep}
 use Rattle.expander.specs.Faults.{in_order}
 use Rattle.expander.specs.OutputSteps.{HasOutput, faults_in}
 use Rattle.expander.specs.Meaning.{Layers, Member, meaning_of, meaning_from, meaning, members, output_of}
-use Rattle.expander.specs.PieceTurns.{IsOutputOf}
 use Rattle.expander.specs.Pieces.{cut, pieces, separated}
 use Rattle.expander.specs.Replies.{IsExpansionOf, IsMeant}
 use Rattle.expander.specs.Shown.{ShowsOutput}

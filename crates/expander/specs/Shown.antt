@@ -1,6 +1,6 @@
 -- An output of pieces, printed and with all its faults.
 use Rattle.std.specs.Prelude.{◌≡◌, List, ◌++◌, map}
-use Rattle.expander.specs.declared.expansion.Output.{Output}
+use Rattle.expander.specs.declared.output.Output.{Output}
 use Rattle.expander.specs.Expanded.{Expanded, origin_of}
 use Rattle.expander.specs.Expansion.{PlacedStep}
 use Rattle.expander.specs.Faults.{in_order}

@@ -10,10 +10,9 @@ ghost use Rattle.expander.specs.Replies.{Replies};
 ghost use Rattle.expander.specs.declared.session.Refusal.TheVariants.{Memory};
 ghost use Rattle.expander.specs.Shown.{ShowsOutput};
 
-use crate::expansion::{Output, expand_pieces};
 use crate::faults::{Fault, sort_faults};
 use crate::memory::Memory;
-use crate::output::finish;
+use crate::output::{Output, finish};
 use crate::pieces::set_apart;
 use bridge::{Printed, Read, ReadFault};
 use fragment_grammar::FragmentGrammar;
