@@ -60,6 +60,7 @@ mod PlainLemmas
 mod MemoryLemmas
 mod TakingLemmas
 mod PassLemmas
+mod PassLoopLemmas
 mod AnchoredLemmas
 mod ReplyLemmas
 mod EditLemmas
