@@ -17,7 +17,7 @@ loop-piece-init g c =
     let counted : c.len-most.result ≡ size c.args.trees.now = c.len-most.ensures.len ∙ ap size c.remaining.ensures in
     let A = g.G.FragmentGrammar.answer c.args.grammar.now in
     record {
-      room = omega (arith, counted, ap size c.again-rest.ensures);
+      room = omega (arith, counted, ap size c.again-rest.ensures, (c.nothing_taken.ensures A c.args.edition c.args.depth c.requires.right).expanded);
       left = rw c.again-rest.ensures (left_begins A c.args.edition c.args.depth c.args.memory.now (cut c.args.trees.now) c.requires.stand _
           c.new.ensures.none c.new.ensures.read c.new.ensures.edition (c.nothing_taken.ensures A c.args.edition c.args.depth c.requires.right));
     }
