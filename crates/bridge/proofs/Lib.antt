@@ -25,3 +25,4 @@ mod OrderLemmas
 mod WrittenLemmas
 mod PlainLemmas
 mod DocLemmas
+mod ReadSpelledLemmas
