@@ -27,6 +27,7 @@ mod WordLemmas
 mod QuietLemmas
 mod FixedLemmas
 mod FixedReplyLemmas
+mod QuietReadLemmas
 mod AgreementLemmas
 mod FindsLemmas
 mod ChainLemmas
