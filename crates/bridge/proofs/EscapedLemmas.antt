@@ -1,16 +1,15 @@
 -- Escaped texts, by their bytes and by their characters.
-use Rattle.std.proofs.Common.{◌≡◌, ℕ, ◌+◌, ◌<◌, ◌≤◌, List, [], ◌∷◌, ◌++◌, Bool, true, false, length, get_or, refl, sym, ap, ◌∙◌, subst, arith, if◌then◌else◌}
+use Rattle.std.proofs.Common.{◌≡◌, ℕ, ◌≤◌, List, [], ◌∷◌, ◌++◌, Bool, true, false, length, get_or, refl, sym, ap, ◌∙◌, arith, if◌then◌else◌}
 use Rattle.std.specs.Prelude.{◌*◌, ◌&&◌, ◌||◌, not, nat_eq, encode_utf8}
 use Rattle.std.specs.Str.{IsUtf8, all_scalars, chars, encode_utf8_all}
 use Rattle.std.proofs.lemmas.Bool.{and_parts}
-use Rattle.std.proofs.lemmas.Bool.Decides.{nat_tests}
-use Rattle.std.proofs.lemmas.List.{append-nil, length-append}
+use Rattle.std.proofs.lemmas.List.{append-nil}
 use Rattle.std.proofs.lemmas.List.Concat.{flat_map-append}
 use Rattle.std.proofs.lemmas.Str.{chars_from_encodes, encode_ascii, inside_one}
 use Rattle.memchr.specs.Find.{is_byte2}
 use Rattle.rustc_lexer.specs.Literals.{stands_for_itself, with_escapes}
 use Rattle.bridge.specs.TokenSteps.{escaped}
-use Rattle.bridge.proofs.EscapeLemmas.{escape_is_ascii, escaped_none, not_true, one_escaped}
+use Rattle.bridge.proofs.EscapeLemmas.{escape_is_ascii, escaped_none, one_escaped}
 use Rattle.rustc_lexer.proofs.TestLemmas.{no}
 
 -- ---- one character

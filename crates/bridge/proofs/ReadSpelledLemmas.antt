@@ -27,7 +27,6 @@ use Rattle.tt.specs.TokenLiterals.{literal_in}
 use Rattle.tt_data.specs.Forest.{Forest, empty, leaf, group}
 use Rattle.tt_data.specs.Literals.{literal_of}
 use Rattle.tt_data.specs.Walk.{Step, at_leaf, opens, closes, walk}
-use Rattle.tt_data.specs.declared.leaf.Ident.{Ident}
 use Rattle.tt_data.specs.declared.leaf.IdentIsRaw.TheVariants as is_raw
 use Rattle.tt_data.specs.declared.leaf.Leaf.{Leaf}
 use Rattle.tt_data.specs.declared.leaf.Leaf.TheVariants as as_leaf
@@ -42,7 +41,7 @@ use Rattle.bridge.specs.declared.sort.Sort.TheVariants.{Blank, Name, Mark, Openi
 use Rattle.bridge.specs.PlainTexts.{is_mark_char}
 use Rattle.bridge.specs.Pieces.{alone, separated}
 use Rattle.bridge.specs.Printing.{is_visible_step, left_out_from, print_of, unspelled, visible}
-use Rattle.bridge.specs.ReadSteps.{EndsBlock, MayCut}
+use Rattle.bridge.specs.ReadSteps.{MayCut}
 use Rattle.bridge.specs.Reading.{IsReading, PlacedToken, TextStep, bad, placed_from, range_of, step, written_at}
 use Rattle.bridge.specs.Spelling.{begins_with_name, is_spelled, leaf_spelling, quote_spelling, spelling}
 use Rattle.bridge.specs.Text.{is_char, is_joint, is_punct, is_visible}
@@ -187,9 +186,27 @@ module _ (k : TokenKind) (start : ℕ) (text : List ℕ) (known : HasSpellings k
       (refl, ap (λ u. is_some (quote_spelling u)) (some_spelled (leaf_spelling (name_leaf (drop 1 text) is_raw.No behind)) name), (refl, name, later))
   by_sort (Doc Outer is_block) e s =
       (refl, mark_some 35 Alone place refl, (refl, refl, (refl, doc_name place, (refl, mark_some 61 Alone place refl, (refl, known.comment Outer is_block e place, (refl, refl, later))))))
-  by_sort (Doc Inner is_block) e s =
-      (refl, mark_some 35 Alone place refl, (refl, mark_some 33 Alone place refl, (refl, refl, (refl, doc_name place, (refl, mark_some 61 Alone place refl,
-      (refl, known.comment Inner is_block e place, (refl, refl, later)))))))
+  by_sort (Doc Inner is_block) e s = (
+    refl,
+    mark_some 35 Alone place refl,
+    (
+      refl,
+      mark_some 33 Alone place refl,
+      (
+        refl,
+        refl,
+        (
+          refl,
+          doc_name place,
+          (
+            refl,
+            mark_some 61 Alone place refl,
+            (refl, known.comment Inner is_block e place, (refl, refl, later)),
+          ),
+        ),
+      ),
+    ),
+  )
   by_sort (Value f n) e s = (refl, known.leaf more (as_leaf.Literal (literal_in f n text place)) (ap (λ x. steps_of_sort x here more) e), later)
   by_sort Neither e s = later
 
