@@ -26,6 +26,7 @@ mod WordLemmas
 mod QuietLemmas
 mod FixedLemmas
 mod FixedReplyLemmas
+mod QuietReadLemmas
 mod AgreementLemmas
 mod FindsLemmas
 mod ChainLemmas
