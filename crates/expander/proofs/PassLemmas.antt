@@ -1,12 +1,11 @@
 -- One more piece of a text, taken over what is held.
-use Rattle.std.proofs.Common.{◌≡◌, ◌↔◌, ℕ, ◌+◌, ◌≤◌, ◌^◌, Global, Bool, true, false, cond, List, [], ◌∷◌, ◌++◌, append_assoc, append-nil, map, length, Option, Some, None, refl, ap, sym, subst, ◌∙◌, arith}
+use Rattle.std.proofs.Common.{◌≡◌, ◌↔◌, ℕ, ◌+◌, ◌≤◌, Global, Bool, true, false, cond, List, [], ◌∷◌, ◌++◌, append_assoc, append-nil, map, length, Option, Some, None, refl, ap, sym, subst, ◌∙◌, arith}
 use Rattle.std.specs.Prelude.{All, filter, filter_map, flat_map, is_some, not, option_map, unwrap_or}
 use Rattle.std.specs.List.{cons_option, list_any}
 use Rattle.std.specs.Rc.{rc_value}
 use Rattle.std.specs.declared.rc.Rc.{Rc}
 use Rattle.std.proofs.lemmas.List.{map-append}
 use Rattle.std.proofs.lemmas.List.Elements.{All-cons, All-head, All-nil, All-tail}
-use Rattle.bridge.specs.ReadText.{text_top}
 use Rattle.mbe.specs.Grammar.{Grammar}
 use Rattle.tt.specs.Tops.{Top}
 use Rattle.tt_data.specs.Forest.{Forest}
@@ -19,7 +18,7 @@ use Rattle.expander.specs.Definitions.{Definition, definition_of, or_else}
 use Rattle.expander.specs.Editions.{IsRead}
 use Rattle.expander.specs.Expansion.{Outcome, World, expansion}
 use Rattle.expander.specs.Held.{IsMet, Kept, Met, Numbered, definition_trees, kept, kept_of, met, met_of, numbered_scope, numbered_world, present, with_met}
-use Rattle.expander.specs.Knowns.{definition_in, numbered_in}
+use Rattle.expander.specs.Knowns.{definition_in}
 use Rattle.expander.specs.Layered.{layers}
 use Rattle.expander.specs.Meaning.{Layers, member_faults, output_of}
 use Rattle.expander.specs.Memories.{IsMemory, IsRight, piece_of, trees_of}
@@ -33,13 +32,11 @@ use Rattle.expander.specs.Pieces.{first_start, relative}
 use Rattle.expander.specs.Placing.{resolved_faults, resolved_steps, told_if_broken}
 use Rattle.expander.specs.Plains.{finds_of, tree_of}
 use Rattle.expander.specs.Reuse.{HeldPiece, IsHeld, matches}
-use Rattle.expander.specs.Takings.{Grows, HasTaken, IsTaken, Takes}
+use Rattle.expander.specs.Takings.{Grows, HasTaken, IsTaken}
 use Rattle.expander.specs.TextTurn.{held_of, is_unmatched}
 use Rattle.expander.specs.World.{world}
-use Rattle.expander.specs.declared.faults.Fault.{Fault}
 use Rattle.expander.specs.declared.memory.Memory.{Memory}
 use Rattle.expander.specs.declared.numbered.Known.{Known}
-use Rattle.expander.specs.declared.output.PlacedSteps.{PlacedSteps}
 use Rattle.expander.specs.declared.plain.Plain.{Plain}
 use Rattle.expander.specs.declared.taking.Taken.{Taken}
 use Rattle.expander.specs.declared.taking.Taking.{Taking}

@@ -11,11 +11,11 @@ use Rattle.expander.specs.ByTrees.{AllRead, numbers_in}
 use Rattle.expander.specs.Count.{same_forest}
 use Rattle.expander.specs.Definitions.{Definition, definition_of, nearest}
 use Rattle.expander.specs.Expansion.{Outcome, World, expansion}
-use Rattle.expander.specs.Held.{IsMet, Kept, Met, Numbered, StandFromFirst, Tells, definition_trees, kept, kept_after, kept_of, met, met_of, moved_on, numbered_scope, numbered_world, present, present_definition, resolve, with_met}
+use Rattle.expander.specs.Held.{IsMet, Kept, Met, Numbered, StandFromFirst, Tells, definition_trees, kept_after, kept_of, met, met_of, moved_on, numbered_world, present, present_definition, resolve, with_met}
 use Rattle.expander.specs.Layered.{layers}
 use Rattle.expander.specs.Meaning.{Layers, Member, member, members_after, plain, with_definition}
 use Rattle.expander.specs.Memories.{IsMemory, trees_of}
-use Rattle.expander.specs.MetTable.{AreRead, HasMet, scope_in}
+use Rattle.expander.specs.MetTable.{AreRead, HasMet}
 use Rattle.expander.specs.Numbering.{number_by, numbered_by}
 use Rattle.expander.specs.Numbers.{needed}
 use Rattle.expander.specs.OtherPlaces.{LooksAtNoPlace, definition_with}
@@ -171,7 +171,7 @@ module _ (grammar : Grammar) (edition : Edition) (depth : ℕ) (old : Memory) (t
                 let tree_is : here.tree ≡ r = sym (definition_piece here.tree d here.definition) ∙ definition_piece r d e in
                 let number_is : number_by final r ≡ number_by N r = ap (λ (o : Option ℕ). unwrap_or o 0) (more r (number_by N r) (ap N (sym tree_is) ∙ here.entry)) in
                 ap (λ (n : ℕ). met (record { start = first_start piece; numbered = record { number = n; definition = d } })
-                    ∷ kept_after W depth (number_by final) (record { start = first_start piece; numbered = record { number = n; definition = d } } ∷ l.before) rest) number_is
+                ∷ kept_after W depth (number_by final) (record { start = first_start piece; numbered = record { number = n; definition = d } } ∷ l.before) rest) number_is
 
         pub left_more : Left rest next
         left_more = record {

@@ -177,7 +177,13 @@ fn take_definition(
     ensures tokens { result ≢ Err Refusal.Tokens }
 {
     let edition = now.scope.edition;
-    let known = number(alloc, edition, &memory.by_tree, &mut now.taken.numbers, tree)?;
+    let known = number(
+        alloc,
+        edition,
+        &memory.by_tree,
+        &mut now.taken.numbers,
+        tree,
+    )?;
     tell_if_broken(&mut now.taken.faults, start, known.as_ref())?;
     now.scope.define(start, known)?;
     Ok(())
@@ -195,12 +201,23 @@ fn put_plain(
     ensures steps { OnOk result (PutsOut steps.old steps.new (resolved_steps start starts.now (parts_for (tree_of plain.now).inner plain.now.outcome).steps)) }
     ensures faults { OnOk result (faults.new.items ≡ faults.old.items ++ resolved_faults start starts.now plain.now.outcome.faults.items) }
 {
-    put_steps(alloc, steps, start, starts, plain.tree.as_ref(), &plain.outcome)?;
+    put_steps(
+        alloc,
+        steps,
+        start,
+        starts,
+        plain.tree.as_ref(),
+        &plain.outcome,
+    )?;
     put_faults(faults, start, starts, plain.outcome.faults.as_slice())
 }
 
 // A piece is held.
-fn hold(plains: &mut Vec<Rc<Plain>>, chains: &mut Chains, plain: Rc<Plain>) -> Result<(), AllocError>
+fn hold(
+    plains: &mut Vec<Rc<Plain>>,
+    chains: &mut Chains,
+    plain: Rc<Plain>,
+) -> Result<(), AllocError>
     ensures plains { OnOk result (plains.new.items ≡ plains.old.items ++ plain ∷ []) }
     ensures chained { AreChained chains.old (map (λ q. tree_of (rc_value q)) plains.old.items) → OnOk result (AreChained chains.new (map (λ q. tree_of (rc_value q)) plains.new.items)) }
 {
@@ -247,7 +264,14 @@ fn take_plain<G: FragmentGrammar>(
     laws::equal_pieces();
     let scope = &now.scope;
     let (plain, at) = take_tree(alloc, grammar, scope, depth, memory, now.next, tree)?;
-    put_plain(alloc, &scope.starts, &mut now.taken.steps, &mut now.taken.faults, start, plain.as_ref())?;
+    put_plain(
+        alloc,
+        &scope.starts,
+        &mut now.taken.steps,
+        &mut now.taken.faults,
+        start,
+        plain.as_ref(),
+    )?;
     hold(&mut now.taken.plains, &mut now.taken.chains, plain)?;
     count(now, at);
     Ok(())

@@ -1,4 +1,4 @@
-use Rattle.std.proofs.Common.{refl, sym}
+use Rattle.std.proofs.Common.{refl}
 use Rattle.expander.proofs.PassLemmas.{none_taken}
 use Rattle.expander.proofs.taking.nothing_taken.Goals as goal
 

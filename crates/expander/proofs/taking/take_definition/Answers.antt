@@ -1,7 +1,6 @@
 use Rattle.std.proofs.Common.{◌≡◌, ◌∙◌, ap, refl, sym, subst, rules, ◌++◌, [], ◌∷◌}
 use Rattle.std.specs.Prelude.{is_some}
 use Rattle.tt.specs.Tops.{Top}
-use Rattle.tt_data.specs.Forest.{Forest}
 use Rattle.expander.specs.ByTrees.{numbers_in}
 use Rattle.expander.specs.Definitions.{definition_of}
 use Rattle.expander.specs.MetTable.{HasMet}
@@ -35,5 +34,5 @@ returns-clause-taken c = λ grammar depth piece law have start_is tree_is before
     ∙ ap (λ (x : Known). c.args.now.now.taken.faults.items ++ told_if_broken (first_start piece) x) same)
     before trees done has
     (subst (λ (t : Top). HasNumbered c.args.memory.now.given c.args.memory.now.by_tree (trees_of c.args.memory.now) (trees ++ t.inner ∷ []) c.number.new.now) tree_is
-        (c.in_ok-known.ensures.numbered c.args.memory.now.given (trees_of c.args.memory.now) trees have has.taken.numbers))
+    (c.in_ok-known.ensures.numbered c.args.memory.now.given (trees_of c.args.memory.now) trees have has.taken.numbers))
     (subst (λ n. HasMet c.define.new.self (record { start = n; numbered = numbered_of_known k } ∷ before)) start_is (c.in_ok-define.ensures.met before has.met))

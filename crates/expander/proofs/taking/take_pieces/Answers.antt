@@ -1,14 +1,12 @@
-use Rattle.std.proofs.Common.{◌≡◌, refl, sym, ap, subst, ◌∙◌, arith}
+use Rattle.std.proofs.Common.{◌≡◌, sym, ap, subst, ◌∙◌, arith}
 use Rattle.tt_data.specs.Forest.{size}
 use Rattle.tt_data.specs.declared.edition.Edition.{Edition}
-use Rattle.expander.specs.Layered.{layers}
 use Rattle.expander.specs.Memories.{IsMemory}
-use Rattle.expander.specs.OtherPlaces.{LooksAtNoPlace}
 use Rattle.expander.specs.Pieces.{cut}
-use Rattle.expander.specs.Takings.{CanDefine, MakesTooMany, Takes}
+use Rattle.expander.specs.Takings.{MakesTooMany, Takes}
 use Rattle.expander.specs.World.{world}
 use Rattle.expander.proofs.HandedLemmas.{handed}
-use Rattle.expander.proofs.PassLoopLemmas.{Left, can_define, left_begins, left_bursts, left_done, left_more, left_needs}
+use Rattle.expander.proofs.PassLoopLemmas.{Left, can_define, left_begins, left_bursts, left_more, left_needs}
 use Rattle.expander.proofs.WorldLemmas.{RuleLaws, world_at_other_places}
 use Rattle.expander.proofs.taking.take_pieces.Goals as goal
 
@@ -71,7 +69,7 @@ returns-in_err-take_piece-clause-tokens g c = λ e.
     left_bursts A c.args.edition c.args.depth c.args.memory.now (cut c.args.trees.now) c.in-Some.piece (cut c.next_piece.new.rest) c.loop-piece.now left
     c.equal_pieces.ensures (world_at_other_places laws A c.args.edition)
     (subst (λ (e : Edition). MakesTooMany A e c.args.depth c.in-Some.piece c.loop-piece.now) left.has.edition_is
-        (c.in_err-take_piece.ensures.tokens (handed c.from_residual.result _ c.from_residual.ensures.1 e)))
+    (c.in_err-take_piece.ensures.tokens (handed c.from_residual.result _ c.from_residual.ensures.1 e)))
 
 pub returns-in_err-take_piece-clause-numbers : goal.returns-in_err-take_piece-clause-numbers
 returns-in_err-take_piece-clause-numbers g c = λ e.

@@ -1,4 +1,4 @@
-use Rattle.std.proofs.Common.{◌≡◌, ◌≤◌, ◌+◌}
+use Rattle.std.proofs.Common.{◌≤◌, ◌+◌}
 use Rattle.tt_data.specs.Forest.{size}
 use Rattle.expander.specs.Pieces.{cut}
 use Rattle.expander.proofs.PassLoopLemmas.{Left}
