@@ -18,7 +18,6 @@ mod OwnPlaceLemmas
 mod CallLemmas
 mod HandedLemmas
 mod DefinitionLemmas
-mod ScopeLemmas
 mod TurnLemmas
 mod FirstCallLemmas
 mod SearchLemmas
@@ -50,9 +49,6 @@ mod KeptLemmas
 mod TakenLemmas
 mod TakenReplyLemmas
 mod SelfMatchLemmas
-mod AnswerLemmas
-mod ExpandLemmas
-mod PieceLemmas
 mod MetLemmas
 mod OwnLemmas
 mod PlacingLemmas

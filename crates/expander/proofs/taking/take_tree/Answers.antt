@@ -29,10 +29,10 @@ returns-in-Some-clause-outcome g c = λ given numbers before are more scope_is m
     c.args.memory.now.plains.items c.in-Some.i q c.requires.right.right here in
     let same : c.in_ok-plain.plain.value ≡ rc_value q = search rules in
     subst (λ (p : Plain). parts_for c.args.tree.value.inner p.outcome
-        ≡ parts_of (expansion (numbered_world (world (g.G.FragmentGrammar.answer c.args.grammar.now) c.args.scope.now.edition)) (scope_in c.args.scope.now) c.args.depth None c.args.tree.value.inner))
+    ≡ parts_of (expansion (numbered_world (world (g.G.FragmentGrammar.answer c.args.grammar.now) c.args.scope.now.edition)) (scope_in c.args.scope.now) c.args.depth None c.args.tree.value.inner))
     (sym same)
     (matched_parts (world (g.G.FragmentGrammar.answer c.args.grammar.now) c.args.scope.now.edition) c.args.depth (numbers_in c.args.memory.now.by_tree) c.equal_pieces.ensures c.equal_trees.ensures
-        given numbers are more (scope_in c.args.scope.now) before scope_is met c.args.tree.value (rc_value q) c.requires.top right passes)
+    given numbers are more (scope_in c.args.scope.now) before scope_is met c.args.tree.value (rc_value q) c.requires.top right passes)
 
 pub returns-in-Some-clause-counted : goal.returns-in-Some-clause-counted
 returns-in-Some-clause-counted g c =
