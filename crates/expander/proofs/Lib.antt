@@ -56,6 +56,7 @@ mod PlainLemmas
 mod MemoryLemmas
 mod TakingLemmas
 mod PassLemmas
+mod PassLoopLemmas
 mod AnchoredLemmas
 mod SessionLemmas
 mod EditLemmas
