@@ -11,7 +11,7 @@ use Rattle.tt_data.specs.declared.tree.TokenTree.TheVariants as token
 use Rattle.expander.specs.Cutting.{end_alone, put_all}
 use Rattle.expander.specs.Pieces.{separated}
 use Rattle.bridge.specs.Text.{is_punct}
-use Rattle.expander.specs.Text.{alone}
+use Rattle.bridge.specs.Pieces.{alone}
 use Rattle.expander.specs.declared.pieces.Put.{Put}
 use Rattle.expander.proofs.CuttingLemmas.{joined-assoc, size-joined}
 

@@ -34,7 +34,7 @@ use Rattle.expander.specs.Meaning.{Layers, ReadMeaning, faults_of, meaning_from,
 use Rattle.expander.specs.OutputSteps.{tokens_in}
 use Rattle.expander.specs.Pieces.{pieces, separated}
 use Rattle.expander.specs.Printing.{PrintedToken, bare, left_out, spelling_before, steps_of, text_of, unspelled, visible}
-use Rattle.expander.specs.Text.{alone}
+use Rattle.bridge.specs.Pieces.{alone}
 use Rattle.expander.proofs.ForestLemmas.{AreWalked, steps_of-placed, walked_members}
 use Rattle.expander.proofs.PrintingLemmas.{text_is, tokens_bare, visible_bare}
 use Rattle.expander.proofs.QuietLemmas.{quiet_text}

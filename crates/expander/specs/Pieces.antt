@@ -1,12 +1,11 @@
 -- Pieces: the parts into which a text's top list falls, each a definition or plain. (Of this project.)
-use Rattle.std.specs.Prelude.{ℕ, ◌-◌, Bool, false, ◌&&◌, ◌||◌, List, [], ◌∷◌, if◌then◌else◌}
-use Rattle.tt_data.specs.Forest.{Forest, empty, leaf, group, joined, map_spans}
+use Rattle.std.specs.Prelude.{Bool, false, ◌&&◌, ◌||◌, List, [], ◌∷◌, if◌then◌else◌}
+use Rattle.tt_data.specs.Forest.{Forest, empty, leaf, group, joined}
 use Rattle.tt_data.specs.declared.delimiter.Delimiter.{Delimiter}
 use Rattle.tt_data.specs.declared.delimiter.DelimiterKind.TheVariants.{Brace, Bracket}
-use Rattle.tt_data.specs.declared.span.Span.{Span}
-use Rattle.tt_data.specs.Spans.{span_of}
 use Rattle.bridge.specs.Text.{same_kind, is_punct}
-use Rattle.expander.specs.Text.{alone}
+-- `separated`: each `;` of a list stands alone; `relative`: places counted from the first token
+pub use Rattle.bridge.specs.Pieces.{separated, first_start, moved_back, relative}
 
 -- exactly `#` and `!`
 abbrev pub is_pound_bang : Forest → Bool
@@ -38,25 +37,6 @@ abbrev pub put_together : List Forest → Forest
 put_together [] = empty
 put_together (p ∷ ps) = joined p (put_together ps)
 
--- the list with each `;` in it standing alone: nothing is joined to what ends a piece
-abbrev pub separated : Forest → Forest
-separated empty = empty
-separated (leaf l rest) = leaf (if is_punct ";" l then alone l else l) (separated rest)
-separated (group d inner rest) = group d inner (separated rest)
-
 -- the pieces of a text's top list
 abbrev pub pieces : Forest → List Forest
 pieces f = cut (separated f)
-
--- where the first token starts
-abbrev pub first_start : Forest → ℕ
-first_start empty = 0
-first_start (leaf l rest) = (span_of l).range.start
-first_start (group d inner rest) = d.open_span.range.start
-
-abbrev pub moved_back : ℕ → Span → Span
-moved_back n s = record s { range = record { start = s.range.start - n; «end» = s.range.«end» - n } }
-
--- a piece's tree counts its places from its first token, so that two pieces are equal wherever they stand
-abbrev pub relative : Forest → Forest
-relative f = map_spans (moved_back (first_start f)) f

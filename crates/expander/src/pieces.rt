@@ -4,7 +4,7 @@ ghost use Rattle.tt.specs.Tops.{tokens_of};
 ghost use Rattle.tt_data.specs.Forest.{Forest, empty, size};
 ghost use Rattle.expander.specs.Pieces.{is_pound_bang, ends_piece, separated};
 ghost use Rattle.bridge.specs.Text.{is_punct};
-ghost use Rattle.expander.specs.Text.{alone};
+ghost use Rattle.bridge.specs.Pieces.{alone};
 ghost use Rattle.expander.specs.Cutting.{CutsOff, PassesTree, end_alone, put_all};
 
 use std::alloc::{AllocError, Global};
