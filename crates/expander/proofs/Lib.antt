@@ -26,6 +26,7 @@ mod WordLemmas
 mod QuietLemmas
 mod FixedLemmas
 mod FixedReplyLemmas
+mod QuietReadLemmas
 mod AgreementLemmas
 mod FindsLemmas
 mod ChainLemmas
@@ -55,8 +56,10 @@ mod PlacingLemmas
 mod PlainLemmas
 mod MemoryLemmas
 mod TakingLemmas
+mod PassLemmas
+mod PassLoopLemmas
 mod AnchoredLemmas
-mod ReplyLemmas
+mod SessionLemmas
 mod EditLemmas
 mod CommandLemmas
 mod SameTextLemmas

@@ -1,6 +1,6 @@
 -- A tree over what is held.
-use Rattle.std.proofs.Common.{◌≡◌, ◌↔◌, ℕ, zero, suc, Bool, true, false, List, [], ◌∷◌, map, Option, Some, None, refl, ap, sym, subst, ◌∙◌, arith, Global}
-use Rattle.std.specs.Prelude.{◌&&◌, ◌||◌, All, IfSome, slice_get}
+use Rattle.std.proofs.Common.{◌≡◌, ◌↔◌, ℕ, zero, suc, Bool, true, false, List, [], ◌∷◌, map, Option, Some, None, refl, ap, sym, subst, ◌∙◌, Global}
+use Rattle.std.specs.Prelude.{◌&&◌, ◌||◌, All, slice_get}
 use Rattle.std.specs.List.{list_any}
 use Rattle.std.specs.Rc.{rc_value}
 use Rattle.std.specs.declared.rc.Rc.{Rc}
@@ -11,7 +11,7 @@ use Rattle.tt_data.specs.Forest.{Forest}
 use Rattle.expander.specs.ByTrees.{own_top}
 use Rattle.expander.specs.Count.{same_forest}
 use Rattle.expander.specs.Definitions.{Definition}
-use Rattle.expander.specs.Expansion.{Outcome, World, expansion}
+use Rattle.expander.specs.Expansion.{World, expansion}
 use Rattle.expander.specs.Held.{IsMet, Met, Numbered, numbered_scope, numbered_world}
 use Rattle.expander.specs.Memories.{IsRight, piece_of}
 use Rattle.expander.specs.Numbering.{AreNumbers, numbered_by}

@@ -44,9 +44,11 @@ pub mod Searches
 pub mod Placing
 pub mod Plains
 pub mod Memories
+pub mod Takings
 pub mod Numbering
 pub mod ByTrees
 pub mod NumberedTexts
+pub mod TakenTexts
 pub mod Cutting
 pub mod Names
 pub mod OutputSteps

@@ -23,14 +23,6 @@ pub(crate) struct PlacedSteps {
     nested: Vec<Fault>,
 }
 
-/// What the pieces of a text give: the steps of the plain ones, the faults met, and how many are plain.
-#[derive(Drop)]
-pub(crate) struct Output {
-    pub steps: PlacedSteps,
-    pub faults: Vec<Fault>,
-    pub plain: usize,
-}
-
 /// No step so far.
 pub(crate) fn no_steps(alloc: Global) -> PlacedSteps
     ensures { HasOutput result [] }

@@ -1,29 +1,57 @@
 // The pieces of a text over what is held.
-ghost use Rattle.std.specs.Prelude.{◌≡◌, ℕ, All, List, IfOk, None, Err, Option, Some, is_some, map, true};
+ghost use Rattle.std.specs.Prelude.{◌≡◌, ◌≢◌, ℕ, ◌+◌, ◌<◌, ◌≤◌, ◌^◌, [], ◌∷◌, ◌++◌, All, List, IfOk, OnOk, None, Err, Option, Some, false, if◌then◌else◌, is_some, map, true};
 ghost use Rattle.std.specs.List.{list_any};
 ghost use Rattle.std.specs.Rc.{rc_value};
 ghost use Rattle.bridge.specs.ReadText.{text_top};
+ghost use Rattle.mbe.specs.Grammar.{Grammar};
 ghost use Rattle.tt_data.specs.Forest.{Forest};
-ghost use Rattle.expander.specs.ByTrees.{numbers_in};
+ghost use Rattle.tt_data.specs.declared.edition.Edition.{Edition};
+ghost use Rattle.expander.specs.ByTrees.{numbers_in, own_top};
+ghost use Rattle.expander.specs.Chains.{AreChained};
+ghost use Rattle.expander.specs.Definitions.{definition_of};
 ghost use Rattle.expander.specs.Expansion.{expansion};
-ghost use Rattle.expander.specs.Held.{IsMet, Met, numbered_scope, numbered_world};
-ghost use Rattle.expander.specs.Memories.{IsMemory, piece_of};
+ghost use Rattle.expander.specs.Held.{IsMet, Met, StandFromFirst, definition_trees, kept_after, numbered_scope, numbered_world};
+ghost use Rattle.expander.specs.Layered.{layers};
+ghost use Rattle.expander.specs.Meaning.{members_after};
+ghost use Rattle.expander.specs.Memories.{IsMemory, piece_of, trees_of};
 ghost use Rattle.expander.specs.MetTable.{AreRead, scope_in};
-ghost use Rattle.expander.specs.Numbering.{AreNumbers, numbered_by};
+ghost use Rattle.expander.specs.NumberedTexts.{HasNumbered};
+ghost use Rattle.expander.specs.Numbering.{AreNumbers, HaveNumbers, number_by, numbered_by};
+ghost use Rattle.expander.specs.Numbers.{needed};
+ghost use Rattle.expander.specs.OtherPlaces.{LooksAtNoPlace};
 ghost use Rattle.expander.specs.Outcomes.{parts_for, parts_of};
+ghost use Rattle.expander.specs.OutputSteps.{PutsOut};
+ghost use Rattle.expander.specs.Pieces.{cut, first_start, relative};
+ghost use Rattle.expander.specs.Placing.{resolved_faults, resolved_steps};
 ghost use Rattle.expander.specs.Plains.{tree_of};
 ghost use Rattle.expander.specs.Reuse.{matches};
+ghost use Rattle.expander.specs.Takings.{CanDefine, Grows, IsTaken, MakesTooMany, NeedsMore, Takes};
+ghost use Rattle.expander.specs.TooMany.{bursts};
 ghost use Rattle.expander.specs.World.{world};
 
+use crate::by_tree::ByTree;
+use crate::chains::Chains;
+use crate::copies::again;
+use crate::definitions::definition_of;
+use crate::faults::Fault;
 use crate::laws;
 use crate::memory::Memory;
 use crate::met::Scope;
+use crate::numbering::{Numbering, number};
+use crate::output::{PlacedSteps, no_steps};
+use crate::own_places::{own_tree, start_of};
+use crate::pieces::next_piece;
+use crate::placing::{put_faults, put_steps, tell_if_broken};
 use crate::plain::{Plain, match_from};
 use crate::searching::expand_piece;
+use crate::session::Refusal;
+use crate::starts::Starts;
 use mbe::FragmentGrammar;
-use std::alloc::Global;
+use std::alloc::{AllocError, Global};
 use std::rc::Rc;
+use tt::iter::TtIter;
 use tt::top::TopSubtree;
+use tt_data::edition::Edition;
 use tt_data::fault::TtFault;
 
 // A tree, expanded.
@@ -81,4 +109,238 @@ pub(crate) fn take_tree<G: FragmentGrammar>(
     }
     let plain = expanded(alloc, grammar, scope, depth, tree)?;
     Ok((plain, None))
+}
+
+/// What the pieces of a text so far give.
+#[derive(Drop)]
+pub(crate) struct Taken {
+    /// Their definitions.
+    pub numbers: Numbering,
+    /// The plain ones, in order.
+    pub plains: Vec<Rc<Plain>>,
+    /// The trees of these.
+    pub chains: Chains,
+    pub steps: PlacedSteps,
+    /// Without those of the steps.
+    pub faults: Vec<Fault>,
+    /// How many were expanded.
+    pub expanded: usize,
+}
+
+// The same, and what the pieces that follow stand on.
+#[derive(Drop)]
+struct Taking {
+    scope: Scope,
+    taken: Taken,
+    // The place behind the held piece that matched last.
+    next: usize,
+}
+
+// No piece so far.
+fn nothing_taken(alloc: Global, memory: &Memory) -> Taken
+    ensures { (grammar : Grammar) (edition : Edition) (depth : ℕ) → IsMemory (world grammar edition) depth edition memory.now →
+        IsTaken (world grammar edition) edition depth memory.now (layers grammar edition) [] [] result }
+{
+    Taken {
+        numbers: Numbering {
+            given: memory.given,
+            definitions: Vec::new(alloc),
+            by_tree: ByTree::new(alloc),
+        },
+        plains: Vec::new(alloc),
+        chains: Chains::new(alloc),
+        steps: no_steps(alloc),
+        faults: Vec::new(alloc),
+        expanded: 0,
+    }
+}
+
+// A definition is numbered, told where it is broken, and met.
+fn take_definition(
+    alloc: Global,
+    memory: &Memory,
+    now: &mut Taking,
+    start: u32,
+    tree: Rc<TopSubtree>,
+) -> Result<(), Refusal>
+    requires definition { is_some (definition_of tree.value.inner) ≡ true }
+    requires top { tree.value.delimiter ≡ text_top }
+    requires can { CanDefine memory.now now.old }
+    ensures taken { (grammar : Grammar) (depth : ℕ) (piece : Forest) → LooksAtNoPlace (world grammar now.old.scope.edition) → HaveNumbers (numbers_in memory.now.by_tree) (trees_of memory.now) →
+        start ≡ first_start piece → tree.value ≡ own_top (relative piece) → OnOk result (Takes grammar now.old.scope.edition depth memory.now piece now.old now.new) }
+    ensures grows { OnOk result (Grows now.old.taken now.new.taken) }
+    ensures edition { OnOk result (now.new.scope.edition ≡ now.old.scope.edition) }
+    ensures expanded { OnOk result (now.new.taken.expanded ≡ now.old.taken.expanded) }
+    ensures cause { (trees : List Forest) → HaveNumbers (numbers_in memory.now.by_tree) (trees_of memory.now) →
+        HasNumbered memory.now.given memory.now.by_tree (trees_of memory.now) trees now.old.taken.numbers →
+        result ≡ Err Refusal.Numbers → 2 ^ 32 ≤ memory.now.given + needed (trees_of memory.now) (trees ++ tree.value.inner ∷ []) }
+    ensures tokens { result ≢ Err Refusal.Tokens }
+{
+    let edition = now.scope.edition;
+    let known = number(
+        alloc,
+        edition,
+        &memory.by_tree,
+        &mut now.taken.numbers,
+        tree,
+    )?;
+    tell_if_broken(&mut now.taken.faults, start, known.as_ref())?;
+    now.scope.define(start, known)?;
+    Ok(())
+}
+
+// A piece with its outcome is put out.
+fn put_plain(
+    alloc: Global,
+    starts: &Starts,
+    steps: &mut PlacedSteps,
+    faults: &mut Vec<Fault>,
+    start: u32,
+    plain: &Plain,
+) -> Result<(), AllocError>
+    ensures steps { OnOk result (PutsOut steps.old steps.new (resolved_steps start starts.now (parts_for (tree_of plain.now).inner plain.now.outcome).steps)) }
+    ensures faults { OnOk result (faults.new.items ≡ faults.old.items ++ resolved_faults start starts.now plain.now.outcome.faults.items) }
+{
+    put_steps(
+        alloc,
+        steps,
+        start,
+        starts,
+        plain.tree.as_ref(),
+        &plain.outcome,
+    )?;
+    put_faults(faults, start, starts, plain.outcome.faults.as_slice())
+}
+
+// A piece is held.
+fn hold(
+    plains: &mut Vec<Rc<Plain>>,
+    chains: &mut Chains,
+    plain: Rc<Plain>,
+) -> Result<(), AllocError>
+    ensures plains { OnOk result (plains.new.items ≡ plains.old.items ++ plain ∷ []) }
+    ensures chained { AreChained chains.old (map (λ q. tree_of (rc_value q)) plains.old.items) → OnOk result (AreChained chains.new (map (λ q. tree_of (rc_value q)) plains.new.items)) }
+{
+    chains.push(plain.as_ref().tree.clone()?)?;
+    plains.push(plain)?;
+    Ok(())
+}
+
+// A piece is counted where no held one matches.
+fn count(now: &mut Taking, at: Option<usize>)
+    requires { now.old.taken.expanded + 1 < 2 ^ 64 }
+    ensures scope { now.new.scope ≡ now.old.scope }
+    ensures taken { now.new.taken ≡ record now.old.taken { expanded = now.old.taken.expanded + (if is_some at then 0 else 1) } }
+{
+    match at {
+        Some(i) => now.next = i.saturating_add(1),
+        None => now.taken.expanded += 1,
+    }
+}
+
+// A plain piece is expanded where no held one matches, put out, and held.
+fn take_plain<G: FragmentGrammar>(
+    alloc: Global,
+    grammar: &G,
+    depth: u8,
+    memory: &Memory,
+    now: &mut Taking,
+    start: u32,
+    tree: Rc<TopSubtree>,
+) -> Result<(), TtFault>
+    requires plain { is_some (definition_of tree.value.inner) ≡ false }
+    requires top { tree.value.delimiter ≡ text_top }
+    requires read { AreRead now.old.scope }
+    requires right { IsMemory (world (G.answer grammar.now) now.old.scope.edition) depth now.old.scope.edition memory.now }
+    requires room { now.old.taken.expanded + 1 < 2 ^ 64 }
+    ensures taken { (piece : Forest) → start ≡ first_start piece → tree.value ≡ own_top (relative piece) →
+        OnOk result (Takes (G.answer grammar.now) now.old.scope.edition depth memory.now piece now.old now.new) }
+    ensures numbers { OnOk result (now.new.taken.numbers ≡ now.old.taken.numbers) }
+    ensures edition { OnOk result (now.new.scope.edition ≡ now.old.scope.edition) }
+    ensures expanded { OnOk result (now.new.taken.expanded ≤ now.old.taken.expanded + 1) }
+    ensures tokens { result ≡ Err TtFault.Tokens →
+        (expansion (numbered_world (world (G.answer grammar.now) now.old.scope.edition)) (scope_in now.old.scope) depth None tree.value.inner).bursts ≡ true }
+{
+    laws::equal_pieces();
+    let scope = &now.scope;
+    let (plain, at) = take_tree(alloc, grammar, scope, depth, memory, now.next, tree)?;
+    put_plain(
+        alloc,
+        &scope.starts,
+        &mut now.taken.steps,
+        &mut now.taken.faults,
+        start,
+        plain.as_ref(),
+    )?;
+    hold(&mut now.taken.plains, &mut now.taken.chains, plain)?;
+    count(now, at);
+    Ok(())
+}
+
+// The next piece is taken: a definition is met, a plain one is put out and held.
+fn take_piece<G: FragmentGrammar>(
+    alloc: Global,
+    grammar: &G,
+    depth: u8,
+    memory: &Memory,
+    now: &mut Taking,
+    piece: &TtIter<'_>,
+) -> Result<(), Refusal>
+    requires right { IsMemory (world (G.answer grammar.now) now.old.scope.edition) depth now.old.scope.edition memory.now }
+    requires can { CanDefine memory.now now.old }
+    requires places { LooksAtNoPlace (world (G.answer grammar.now) now.old.scope.edition) }
+    requires room { now.old.taken.expanded + 1 < 2 ^ 64 }
+    ensures taken { OnOk result (Takes (G.answer grammar.now) now.old.scope.edition depth memory.now piece.now now.old now.new) }
+    ensures grows { OnOk result (Grows now.old.taken now.new.taken) }
+    ensures edition { OnOk result (now.new.scope.edition ≡ now.old.scope.edition) }
+    ensures expanded { OnOk result (now.new.taken.expanded ≤ now.old.taken.expanded + 1) }
+    ensures tokens { result ≡ Err Refusal.Tokens → MakesTooMany (G.answer grammar.now) now.old.scope.edition depth piece.now now.old }
+    ensures cause { (trees : List Forest) → HasNumbered memory.now.given memory.now.by_tree (trees_of memory.now) trees now.old.taken.numbers →
+        result ≡ Err Refusal.Numbers → 2 ^ 32 ≤ memory.now.given + needed (trees_of memory.now) (trees ++ definition_trees (piece.now ∷ [])) }
+{
+    let tree = own_tree(alloc, piece)?;
+    let Ok(tree) = Rc::new(alloc, tree) else {
+        return Err(Refusal::Memory);
+    };
+    let start = start_of(piece);
+    if definition_of(&tree.as_ref().iter()).is_some() {
+        return take_definition(alloc, memory, now, start, tree);
+    }
+    take_plain(alloc, grammar, depth, memory, now, start, tree)?;
+    Ok(())
+}
+
+/// The pieces of a text, one after another, each under the definitions before it: a plain one is expanded, where no held one
+/// matches.
+pub(crate) fn take_pieces<G: FragmentGrammar>(
+    alloc: Global,
+    grammar: &G,
+    edition: Edition,
+    depth: u8,
+    memory: &Memory,
+    trees: &TtIter<'_>,
+) -> Result<Taken, Refusal>
+    requires right { IsMemory (world (G.answer grammar.now) edition) depth edition memory.now }
+    requires stand { All StandFromFirst (cut trees.now) }
+    ensures taken { IfOk result (λ now. IsTaken (world (G.answer grammar.now) edition) edition depth memory.now (layers (G.answer grammar.now) edition)
+        (definition_trees (cut trees.now)) (kept_after (world (G.answer grammar.now) edition) depth (number_by (numbers_in now.numbers.by_tree)) [] (cut trees.now)) now) }
+    ensures tokens { result ≡ Err Refusal.Tokens → list_any bursts (members_after (layers (G.answer grammar.now) edition) depth [] (cut trees.now)) ≡ true }
+    ensures numbers { result ≡ Err Refusal.Numbers → NeedsMore memory.now (cut trees.now) }
+{
+    mbe_rules::laws::rules_at_other_places();
+    mbe::laws::fit_at_other_places();
+    mbe::laws::bursts_at_other_places();
+    laws::equal_pieces();
+    let most = trees.remaining().len();
+    let mut now = Taking {
+        scope: Scope::new(alloc, edition),
+        taken: nothing_taken(alloc, memory),
+        next: 0,
+    };
+    let mut rest = again(trees);
+    while let Some(piece) = next_piece(&mut rest) {
+        take_piece(alloc, grammar, depth, memory, &mut now, &piece)?;
+    }
+    let Taking { taken, .. } = now;
+    Ok(taken)
 }
