@@ -6,11 +6,11 @@ use Rattle.tt_data.specs.Forest.{Forest}
 use Rattle.tt_data.specs.declared.edition.Edition.{Edition}
 use Rattle.mbe.specs.Grammar.{Grammar}
 use Rattle.expander.specs.Answers.{AreAnswers, IsAnswer, given, last_looked, last_trees, reads_after, text_after}
-use Rattle.expander.specs.CommandTurns.{HasCause, Turn}
+use Rattle.expander.specs.CommandTurns.{Turn}
 use Rattle.expander.specs.Count.{Looked}
 use Rattle.expander.specs.Layered.{layers}
 use Rattle.expander.specs.Meaning.{Layers, ReadMeaning, meaning}
-use Rattle.expander.specs.Replies.{IsReplyTo, Replies, given_after}
+use Rattle.expander.specs.Replies.{HasCause, IsReplyTo, Replies, given_after}
 use Rattle.expander.specs.State.{State, layers_of}
 use Rattle.expander.specs.declared.session.Refusal.{Refusal}
 use Rattle.expander.specs.declared.session.Refusal.TheVariants.{Memory, Tokens, Numbers}

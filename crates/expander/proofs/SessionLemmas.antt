@@ -11,7 +11,6 @@ use Rattle.tt.specs.Tops.{Top}
 use Rattle.tt_data.specs.Forest.{Forest}
 use Rattle.tt_data.specs.declared.edition.Edition.{Edition}
 use Rattle.expander.specs.ByTrees.{numbers_in}
-use Rattle.expander.specs.CommandTurns.{HasCause}
 use Rattle.expander.specs.Count.{same_forest}
 use Rattle.expander.specs.Expanded.{Expanded}
 use Rattle.expander.specs.Expansion.{PlacedStep}
@@ -24,7 +23,7 @@ use Rattle.expander.specs.Numbering.{HaveNumbers, number_by, numbered_by}
 use Rattle.expander.specs.Numbers.{needed}
 use Rattle.expander.specs.OutputSteps.{HasOutput, faults_in}
 use Rattle.expander.specs.Pieces.{cut, pieces}
-use Rattle.expander.specs.Replies.{Replies}
+use Rattle.expander.specs.Replies.{HasCause, Replies}
 use Rattle.expander.specs.Reuse.{HeldPiece, IsHeld, looked_held}
 use Rattle.expander.specs.Shown.{ShowsMeaning, ShowsOutput}
 use Rattle.expander.specs.State.{State, layers_of}

@@ -1,17 +1,15 @@
 -- One command of a session: its answer, and the session after it.
-use Rattle.std.specs.Prelude.{◌≡◌, ℕ, List, string_bytes, ⊤}
+use Rattle.std.specs.Prelude.{◌≡◌, ℕ, List, string_bytes}
 use Rattle.rustc_lexer.specs.Edit.{edited}
 use Rattle.expander.specs.declared.commands.Answer.{Answer}
 use Rattle.expander.specs.declared.commands.Answer.TheVariants.{Edited, BadEdit, Reply as Replied, Refused}
 use Rattle.expander.specs.declared.commands.Command.{Command}
 use Rattle.expander.specs.declared.commands.Command.TheVariants.{Edit, Expand}
-use Rattle.expander.specs.declared.session.Refusal.{Refusal}
-use Rattle.expander.specs.declared.session.Refusal.TheVariants.{Memory, Tokens, Numbers}
+use Rattle.expander.specs.declared.session.Refusal.TheVariants.{Memory}
 use Rattle.expander.specs.Answers.{CanEdit}
-use Rattle.expander.specs.Meaning.{Layers, meaning}
-use Rattle.expander.specs.Replies.{NeedsNumbers, Replies}
+use Rattle.expander.specs.Meaning.{Layers}
+use Rattle.expander.specs.Replies.{HasCause, Replies}
 use Rattle.expander.specs.State.{State}
-use Rattle.expander.specs.TooMany.{NeedsTooMany}
 
 -- what answers an edit, and the session after it
 abbrev pub Edits : {G : Type 0} → State G → State G → ℕ → ℕ → List ℕ → Answer → Type 0
@@ -19,12 +17,6 @@ Edits old new start stop replacement Edited = CanEdit old.text start stop replac
 Edits old new start stop replacement BadEdit = (CanEdit old.text start stop replacement → ⊥) × (new ≡ old)
 Edits old new start stop replacement (Refused Memory) = CanEdit old.text start stop replacement × (new ≡ old)
 Edits old new start stop replacement _ = ⊥
-
--- why a session has no reply: there are more tokens than a tree may have, or more definitions than numbers
-abbrev pub HasCause : {G : Type 0} → Layers → State G → Refusal → Type 0
-HasCause layers s Memory = ⊤
-HasCause layers s Tokens = NeedsTooMany layers s.depth s.text
-HasCause layers s Numbers = NeedsNumbers s.given s.trees (meaning layers s.depth s.text)
 
 -- what answers a command, and the session after it
 abbrev pub Turn : {G : Type 0} → Layers → State G → State G → Command → Answer → Type 0

@@ -1,7 +1,9 @@
 -- What a session replies: the meaning of its text, and how many of its pieces the last text that was read did not have.
-use Rattle.std.specs.Prelude.{◌≡◌, ℕ, ◌+◌, ◌≤◌, ◌^◌, List, [], map, Option, Some, Result, Ok, Err}
+use Rattle.std.specs.Prelude.{◌≡◌, ℕ, ◌+◌, ◌≤◌, ◌^◌, List, [], map, Option, Some, Result, Ok, Err, ⊤}
 use Rattle.bridge.specs.declared.fault.ReadFault.{ReadFault}
 use Rattle.tt_data.specs.Forest.{Forest}
+use Rattle.expander.specs.declared.session.Refusal.{Refusal}
+use Rattle.expander.specs.declared.session.Refusal.TheVariants.{Memory, Tokens, Numbers}
 use Rattle.expander.specs.declared.session.Reply.{Reply}
 use Rattle.expander.specs.declared.session.Reply.TheVariants.{Read, Unread}
 use Rattle.expander.specs.Count.{Looked, expanded_count, looked_of}
@@ -10,6 +12,7 @@ use Rattle.expander.specs.Held.{trees_in}
 use Rattle.expander.specs.Meaning.{Layers, ReadMeaning, meaning}
 use Rattle.expander.specs.Numbers.{needed}
 use Rattle.expander.specs.State.{State}
+use Rattle.expander.specs.TooMany.{NeedsTooMany}
 
 -- an expansion is what the text means: its printed text, its faults in order, where its tokens come from, and how many
 -- of its plain pieces have no match among the earlier ones
@@ -66,3 +69,9 @@ module _ (layers : Layers) where
   -- a reply, and the session after it
   abbrev pub Replies : {G : Type 0} → State G → State G → Reply → Type 0
   Replies old new reply = IsReplyTo layers old.depth old.text old.held reply × StateAfter old new reply
+
+-- why a session has no reply: there are more tokens than a tree may have, or more definitions than numbers
+abbrev pub HasCause : {G : Type 0} → Layers → State G → Refusal → Type 0
+HasCause layers s Memory = ⊤
+HasCause layers s Tokens = NeedsTooMany layers s.depth s.text
+HasCause layers s Numbers = NeedsNumbers s.given s.trees (meaning layers s.depth s.text)

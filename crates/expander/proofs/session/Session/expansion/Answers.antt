@@ -1,5 +1,5 @@
 use Rattle.std.proofs.Common.{◌∙◌, Err, ap}
-use Rattle.expander.specs.CommandTurns.{HasCause}
+use Rattle.expander.specs.Replies.{HasCause}
 use Rattle.expander.specs.State.{layers_of}
 use Rattle.expander.proofs.HandedLemmas.{if_handed}
 use Rattle.expander.proofs.ReadPlaceLemmas.{OrderLaws}
