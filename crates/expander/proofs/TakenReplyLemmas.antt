@@ -1,7 +1,6 @@
 -- What a session replies that took a text over what it held.
-use Rattle.std.proofs.Common.{◌≡◌, ◌↔◌, ℕ, ◌+◌, ◌≤◌, ◌^◌, Bool, true, List, [], ◌∷◌, ◌++◌, map, Option, Some, None, refl, ap, sym, subst, ◌∙◌, arith, length, option_map, inr}
-use Rattle.std.specs.Prelude.{All, IsUtf8, Ok, Result, filter, filter_map, unwrap_or, ◌||◌}
-use Rattle.std.specs.List.{list_any}
+use Rattle.std.proofs.Common.{◌≡◌, ◌↔◌, ℕ, ◌+◌, ◌≤◌, ◌^◌, true, List, [], ◌++◌, map, Option, Some, None, refl, ap, sym, subst, ◌∙◌, arith, length, option_map}
+use Rattle.std.specs.Prelude.{All, IsUtf8, Ok, Result, filter, filter_map, unwrap_or}
 use Rattle.bridge.specs.TokenSteps.{text_reading}
 use Rattle.bridge.specs.declared.fault.ReadFault.{ReadFault}
 use Rattle.mbe.specs.Grammar.{Grammar}
@@ -9,17 +8,16 @@ use Rattle.tt_data.specs.Forest.{Forest}
 use Rattle.tt_data.specs.declared.edition.Edition.{Edition}
 use Rattle.expander.specs.Count.{Looked, expanded_count, looked_of, same_forest}
 use Rattle.expander.specs.Expanded.{Expanded, origin_of}
-use Rattle.expander.specs.Held.{Kept, definition_trees, kept_after, present}
+use Rattle.expander.specs.Held.{Kept, definition_trees, kept_after}
 use Rattle.expander.specs.Layered.{layers}
-use Rattle.expander.specs.Meaning.{Layers, Member, ReadMeaning, meaning, meaning_from, meaning_of, members}
+use Rattle.expander.specs.Meaning.{Layers, ReadMeaning, meaning, meaning_from, meaning_of, members}
 use Rattle.expander.specs.Numbering.{AreNumbered, number_by, numbered_by}
 use Rattle.expander.specs.Numbers.{needed}
 use Rattle.expander.specs.Pieces.{pieces}
-use Rattle.expander.specs.Replies.{IsMeant, NeedsNumbers, Replies, definitions_in, given_after, looked_in}
+use Rattle.expander.specs.Replies.{IsMeant, NeedsNumbers, Replies, definitions_in, looked_in}
 use Rattle.expander.specs.Reuse.{HeldPiece, IsHeld, looked_held}
 use Rattle.expander.specs.State.{State}
 use Rattle.expander.specs.TextTurn.{held_of, is_unmatched}
-use Rattle.expander.specs.TooMany.{NeedsTooMany, bursts}
 use Rattle.expander.specs.World.{world}
 use Rattle.expander.specs.declared.session.Reply.TheVariants.{Read}
 use Rattle.expander.proofs.NumberingLemmas.{needed_front}

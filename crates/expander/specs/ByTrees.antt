@@ -1,5 +1,5 @@
 -- Definitions in the table that holds them by their trees, and their numbers.
-use Rattle.std.specs.Prelude.{◌≡◌, ℕ, List, Option, Some, map, option_map}
+use Rattle.std.specs.Prelude.{◌≡◌, ℕ, Option, Some, option_map}
 use Rattle.std.specs.HashMap.{get_by}
 use Rattle.bridge.specs.ReadText.{text_top}
 use Rattle.tt.specs.Tops.{Top}

@@ -1,6 +1,5 @@
 use Rattle.std.proofs.Common.{◌≡◌, ◌∙◌, ap, cond, subst, sym, rules}
 use Rattle.std.specs.Prelude.{None, Some}
-use Rattle.tt.specs.Tops.{Top}
 use Rattle.expander.specs.ByTrees.{AllRead, known_in, numbers_in}
 use Rattle.expander.specs.Editions.{IsRead}
 use Rattle.expander.specs.SameTops.{same_top}

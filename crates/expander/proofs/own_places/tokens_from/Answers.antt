@@ -1,8 +1,7 @@
 -- Token by token.
-use Rattle.std.proofs.Common.{◌≡◌, ◌++◌, ◌∙◌, List, ap, map, rules, sym}
+use Rattle.std.proofs.Common.{◌≡◌, ◌∙◌, ap, rules}
 use Rattle.tt_data.specs.Forest.{preorder}
 use Rattle.tt_data.specs.Spans.{token_with}
-use Rattle.tt_data.specs.declared.tree.TokenTree.{TokenTree}
 use Rattle.expander.specs.Pieces.{moved_back}
 use Rattle.expander.proofs.OwnPlaceLemmas.{moved_begin, moved_on}
 use Rattle.expander.proofs.own_places.tokens_from.Goals as goal

@@ -1,5 +1,5 @@
-use Rattle.std.proofs.Common.{◌∙◌, ap, cond}
-use Rattle.std.specs.Prelude.{Some, option_map}
+use Rattle.std.proofs.Common.{◌∙◌, ap}
+use Rattle.std.specs.Prelude.{option_map}
 use Rattle.std.specs.HashMap.{get_by}
 use Rattle.std.specs.Rc.{rc_value, rc_with_value}
 use Rattle.expander.specs.ByTrees.{known_in}
