@@ -55,7 +55,7 @@ quoted_same (c ∷ d ∷ cs) = by_tests (is "'" c) (is "/" c || (c == 10 && not 
   where
     by_tests : (u v w : Bool) → quoted_rest cs ≡ quoted_from false cs → quoted_rest (d ∷ cs) ≡ quoted_from false (d ∷ cs) →
         (if u then record { value = true; size = 1 } else if v then record { value = false; size = 0 }
-         else if w then further 2 (quoted_rest cs) else further 1 (quoted_rest (d ∷ cs)))
+        else if w then further 2 (quoted_rest cs) else further 1 (quoted_rest (d ∷ cs)))
         ≡ (if u then record { value = true; size = 1 } else if v then record { value = false; size = 0 } else further 1 (quoted_from w (d ∷ cs)))
     by_tests true v w two one = refl
     by_tests false true w two one = refl
