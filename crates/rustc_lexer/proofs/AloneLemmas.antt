@@ -121,8 +121,8 @@ quoted_kept kind p m cs k =
 
 string_kept : (kind : Bool → LiteralKind) (p m : ℕ) (cs : List ℕ) → ((v : Bool) → is_whole_literal (kind v) ≡ v) → Kept m (string kind p) cs
 string_kept kind p m cs k =
-    literal_kept kind (λ v. v) (λ xs. further p (string_body false (drop p xs))) m cs k
-    (λ h l. ap (λ xs. further p (string_body false xs)) (drop_cut p m cs (omega (arith, l))) ∙ ap (further p) (string_cut false (m - p) (drop p cs) (omega (arith, l))))
+    literal_kept kind (λ v. v) (λ xs. further p (string_body (drop p xs))) m cs k
+    (λ h l. ap (λ xs. further p (string_body xs)) (drop_cut p m cs (omega (arith, l))) ∙ ap (further p) (string_cut (m - p) (drop p cs) (omega (arith, l))))
 
 raw_kept : (kind : Option ℕ → LiteralKind) (p m : ℕ) (cs : List ℕ) → ((v : Option ℕ) → is_whole_literal (kind v) ≡ is_some v) → Kept m (raw_string kind p) cs
 raw_kept kind p m cs k =
@@ -134,7 +134,7 @@ quoted_long kind p cs = (let body : Stretch Bool = further p (quoted_body (drop 
 
 string_long : (kind : Bool → LiteralKind) (p : ℕ) (cs : List ℕ) → p ≤ (string kind p cs).size
 string_long kind p cs =
-    let body : Stretch Bool = further p (string_body false (drop p cs)) in
+    let body : Stretch Bool = further p (string_body (drop p cs)) in
     let long = literal_long body.value (kind body.value) body.size cs in omega (arith, long)
 
 raw_long : (kind : Option ℕ → LiteralKind) (p : ℕ) (cs : List ℕ) → ((v : Option ℕ) → is_whole_literal (kind v) ≡ is_some v) →

@@ -1,5 +1,5 @@
 -- The bodies of comments and literals, one step on.
-use Rattle.std.proofs.Common.{◌≡◌, ℕ, zero, suc, ◌+◌, ◌-◌, ◌<◌, ◌≤◌, ◌&&◌, not, nat_le, Bool, true, false, List, [], ◌∷◌, length, drop, chars, IsUtf8, refl, sym, ◌∙◌, ap, subst, arith, true≢false, if◌then◌else◌}
+use Rattle.std.proofs.Common.{◌≡◌, ℕ, zero, suc, ◌+◌, ◌-◌, ◌<◌, ◌≤◌, ◌&&◌, ◌==◌, not, nat_le, Bool, true, false, List, [], ◌∷◌, length, drop, chars, IsUtf8, refl, sym, ◌∙◌, ap, subst, arith, true≢false, if◌then◌else◌}
 use Rattle.std.specs.List.{prefix_len, position_or_len}
 use Rattle.std.proofs.lemmas.Bool.Decides.{nat_tests}
 use Rattle.std.proofs.lemmas.List.{drop-drop, length-drop}
@@ -7,9 +7,10 @@ use Rattle.memchr.specs.Find.{is_byte, is_byte2}
 use Rattle.rustc_lexer.specs.Character.{char_at, is}
 use Rattle.rustc_lexer.specs.Stretch.{Stretch, further, IsRead}
 use Rattle.rustc_lexer.specs.Comments.{block_body}
-use Rattle.rustc_lexer.specs.Literals.{string_body, raw_body, raw_form, hashes, hashes_of}
+use Rattle.rustc_lexer.specs.Literals.{quoted_rest, string_body, raw_body, raw_form, hashes, hashes_of}
+use Rattle.rustc_lexer.proofs.EscapeLemmas.{string_from, string_same, quoted_from, quoted_same}
 use Rattle.rustc_lexer.proofs.RunLemmas.{first_of_drop}
-use Rattle.rustc_lexer.proofs.ReadLemmas.{Leads, leads_on}
+use Rattle.rustc_lexer.proofs.ReadLemmas.{Leads, leads_on, read_at_end}
 
 drop_more : (n c : ℕ) (cs : List ℕ) → drop n cs ≡ drop (1 + n) (c ∷ cs)
 drop_more n c cs = drop-drop n 1 (c ∷ cs)
@@ -45,45 +46,75 @@ at_once f cs k e = rw e (stays (f cs) cs)
 -- ---- strings
 
 -- characters that are no quote and no escape are passed over
-pub string_plain : (cs : List ℕ) →
-    Leads (string_body false cs) cs
-    (string_body false (drop (position_or_len (is_byte2 34 92) cs) cs)) (drop (position_or_len (is_byte2 34 92) cs) cs)
-string_plain [] = stays _ []
-string_plain (c ∷ cs) = by_test (is "\"" c) (is "\\" c) refl refl (string_plain cs)
+string_from_plain : (cs : List ℕ) →
+    Leads (string_from false cs) cs
+    (string_from false (drop (position_or_len (is_byte2 34 92) cs) cs)) (drop (position_or_len (is_byte2 34 92) cs) cs)
+string_from_plain [] = stays _ []
+string_from_plain (c ∷ cs) = by_test (is "\"" c) (is "\\" c) refl refl (string_from_plain cs)
   where
     by_test : (a b : Bool) → is "\"" c ≡ a → is "\\" c ≡ b →
-        Leads (string_body false cs) cs
-        (string_body false (drop (position_or_len (is_byte2 34 92) cs) cs)) (drop (position_or_len (is_byte2 34 92) cs) cs) →
-        Leads (string_body false (c ∷ cs)) (c ∷ cs)
-        (string_body false (drop (position_or_len (is_byte2 34 92) (c ∷ cs)) (c ∷ cs))) (drop (position_or_len (is_byte2 34 92) (c ∷ cs)) (c ∷ cs))
-    by_test true b e f again = at_once (string_body false) (c ∷ cs) (position_or_len (is_byte2 34 92) (c ∷ cs)) (rw e)
-    by_test false true e f again = at_once (string_body false) (c ∷ cs) (position_or_len (is_byte2 34 92) (c ∷ cs)) (rw (e, f))
+        Leads (string_from false cs) cs
+        (string_from false (drop (position_or_len (is_byte2 34 92) cs) cs)) (drop (position_or_len (is_byte2 34 92) cs) cs) →
+        Leads (string_from false (c ∷ cs)) (c ∷ cs)
+        (string_from false (drop (position_or_len (is_byte2 34 92) (c ∷ cs)) (c ∷ cs))) (drop (position_or_len (is_byte2 34 92) (c ∷ cs)) (c ∷ cs))
+    by_test true b e f again = at_once (string_from false) (c ∷ cs) (position_or_len (is_byte2 34 92) (c ∷ cs)) (rw e)
+    by_test false true e f again = at_once (string_from false) (c ∷ cs) (position_or_len (is_byte2 34 92) (c ∷ cs)) (rw (e, f))
     by_test false false e f again =
-        rw (e, f) (subst (λ ds. Leads (further 1 (string_body false cs)) (c ∷ cs) (string_body false ds) ds)
-        (drop_more (position_or_len (is_byte2 34 92) cs) c cs) (leads_on (one_more (string_body false cs) c cs) again))
+        rw (e, f) (subst (λ ds. Leads (further 1 (string_from false cs)) (c ∷ cs) (string_from false ds) ds)
+        (drop_more (position_or_len (is_byte2 34 92) cs) c cs) (leads_on (one_more (string_from false cs) c cs) again))
 
-pub string_escape : (cs : List ℕ) → Leads (string_body false (92 ∷ cs)) (92 ∷ cs) (string_body false (drop 1 cs)) (drop 1 cs)
+pub string_plain : (cs : List ℕ) →
+    Leads (string_body cs) cs
+    (string_body (drop (position_or_len (is_byte2 34 92) cs) cs)) (drop (position_or_len (is_byte2 34 92) cs) cs)
+string_plain cs = rw (string_same cs, string_same (drop (position_or_len (is_byte2 34 92) cs) cs)) (string_from_plain cs)
+
+pub string_escape : (cs : List ℕ) → Leads (string_body (92 ∷ cs)) (92 ∷ cs) (string_body (drop 1 cs)) (drop 1 cs)
 string_escape [] = record { value = refl; rest = refl }
-string_escape (c ∷ cs) = leads_on (one_more (further 1 (string_body false cs)) 92 (c ∷ cs)) (one_more (string_body false cs) c cs)
+string_escape (c ∷ cs) = two_more (string_body cs) 92 c cs
+
+-- a quote ends it
+string_done : (cs : List ℕ) → string_body (34 ∷ cs) ≡ record { value = true; size = 1 }
+string_done [] = refl
+string_done (c ∷ cs) = refl
 
 module _ (rest mark after : List ℕ) (c : ℕ) (found : chars mark ≡ drop (position_or_len (is_byte2 34 92) (chars rest)) (chars rest)) where
-  pub string_at_mark : Leads (string_body false (chars rest)) (chars rest) (string_body false (chars mark)) (chars mark)
-  string_at_mark = subst (λ cs. Leads (string_body false (chars rest)) (chars rest) (string_body false cs) cs) (sym found) (string_plain (chars rest))
+  pub string_at_mark : Leads (string_body (chars rest)) (chars rest) (string_body (chars mark)) (chars mark)
+  string_at_mark = subst (λ cs. Leads (string_body (chars rest)) (chars rest) (string_body cs) cs) (sym found) (string_plain (chars rest))
 
   pub string_goes_on : (next : List ℕ) → chars mark ≡ c ∷ chars after → (c ≡ 34 → ⊥) → chars next ≡ drop 1 (chars after) →
-      Leads (string_body false (chars rest)) (chars rest) (string_body false (chars next)) (chars next)
+      Leads (string_body (chars rest)) (chars rest) (string_body (chars next)) (chars next)
   string_goes_on next here no_quote on =
       let passes = found_passes (is_byte2 34 92) (chars rest) c (chars after) (sym found ∙ here) in
       let escape : c ≡ 92 = grind (arith, nat_tests) in
-      let lead : Leads (string_body false (chars mark)) (chars mark) (string_body false (chars next)) (chars next) =
+      let lead : Leads (string_body (chars mark)) (chars mark) (string_body (chars next)) (chars next) =
       rw (here, escape, on) (string_escape (chars after)) in
       leads_on string_at_mark lead
 
-pub string_ends : (mark after : List ℕ) (c : ℕ) → chars mark ≡ c ∷ chars after → c ≡ 34 → IsUtf8 after → IsRead (string_body false (chars mark)) mark true after
-string_ends mark after c here quote u = record { value = rw (here, quote); rest = rw (here, quote); utf8 = u }
+pub string_ends : (mark after : List ℕ) (c : ℕ) → chars mark ≡ c ∷ chars after → c ≡ 34 → IsUtf8 after → IsRead (string_body (chars mark)) mark true after
+string_ends mark after c here quote u = (let done = string_done (chars after) in record { value = rw (here, quote, done); rest = rw (here, quote, done); utf8 = u })
 
-pub string_unended : (mark : List ℕ) → chars mark ≡ [] → IsUtf8 mark → IsRead (string_body false (chars mark)) mark false mark
+pub string_unended : (mark : List ℕ) → chars mark ≡ [] → IsUtf8 mark → IsRead (string_body (chars mark)) mark false mark
 string_unended mark none u = record { value = rw none; rest = rw none; utf8 = u }
+
+-- ---- characters
+
+from_escape : (cs : List ℕ) → Leads (quoted_from false (92 ∷ cs)) (92 ∷ cs) (quoted_from false (drop 1 cs)) (drop 1 cs)
+from_escape [] = record { value = refl; rest = refl }
+from_escape (c ∷ cs) = leads_on (one_more (further 1 (quoted_from false cs)) 92 (c ∷ cs)) (one_more (quoted_from false cs) c cs)
+
+pub quoted_escape : (rest after next : List ℕ) (c : ℕ) → chars rest ≡ c ∷ chars after → c ≡ 92 → chars next ≡ drop 1 (chars after) →
+    Leads (quoted_from false (chars rest)) (chars rest) (quoted_from false (chars next)) (chars next)
+quoted_escape rest after next c here escape on = rw (here, escape, on) (from_escape (chars after))
+
+-- a line feed breaks off where no quote follows it
+pub quoted_broken : (text rest after : List ℕ) (c : ℕ) →
+    Leads (quoted_from false (chars text)) (chars text) (quoted_from false (chars rest)) (chars rest) → IsUtf8 rest →
+    chars rest ≡ c ∷ chars after → c ≡ 10 → (char_at (chars after) 0 == 39) ≡ false → IsRead (quoted_rest (chars text)) text false rest
+quoted_broken text rest after c lead u here feed other =
+    let stop : quoted_from false (chars rest) ≡ record { value = false; size = 0 } = rw (here, feed, other) refl in
+    let done : IsRead (quoted_from false (chars rest)) rest false rest =
+    subst (λ s. IsRead s rest false rest) (sym stop) (record { value = refl; rest = refl; utf8 = u }) in
+    subst (λ s. IsRead s text false rest) (sym (quoted_same (chars text))) (read_at_end lead done)
 
 -- ---- raw strings
 

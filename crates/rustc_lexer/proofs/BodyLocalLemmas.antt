@@ -7,6 +7,7 @@ use Rattle.rustc_lexer.specs.Comments.{block_body}
 use Rattle.rustc_lexer.specs.Literals.{quoted_rest, string_body, raw_body, raw_form, hashes_of}
 use Rattle.rustc_lexer.specs.Stretch.{Stretch, further}
 use Rattle.rustc_lexer.proofs.AgreeLemmas.{Agree, agree_less, agree_at, agree_drop, agree_tail, agree_end, agree_end_too, prefix_len_local, at_least_local}
+use Rattle.rustc_lexer.proofs.EscapeLemmas.{string_from, string_same, quoted_from, quoted_same}
 use Rattle.rustc_lexer.proofs.PositiveLemmas.{choice}
 
 -- a choice that is answered alike is the same where its branches are the same within n characters
@@ -17,33 +18,39 @@ same_choice n false e x y u v s l f g = rw s (g l)
 
 -- ---- strings
 
-pub string_local : (e : Bool) (n : ℕ) (cs ds : List ℕ) → Agree n cs ds → (string_body e cs).size < n → string_body e ds ≡ string_body e cs
-string_local e zero cs ds a l = absurd (omega arith)
-string_local e (suc n) [] [] a l = refl
-string_local e (suc n) [] (d ∷ ds) a l = agree_end n d ds a
-string_local e (suc n) (c ∷ cs) [] a l = agree_end_too n c cs a
-string_local true (suc n) (c ∷ cs) (d ∷ ds) a l =
-    let t = agree_tail n c d cs ds a in ap (further 1) (string_local false n cs ds t.1 (omega arith))
-string_local false (suc n) (c ∷ cs) (d ∷ ds) a l =
+string_from_local : (e : Bool) (n : ℕ) (cs ds : List ℕ) → Agree n cs ds → (string_from e cs).size < n → string_from e ds ≡ string_from e cs
+string_from_local e zero cs ds a l = absurd (omega arith)
+string_from_local e (suc n) [] [] a l = refl
+string_from_local e (suc n) [] (d ∷ ds) a l = agree_end n d ds a
+string_from_local e (suc n) (c ∷ cs) [] a l = agree_end_too n c cs a
+string_from_local true (suc n) (c ∷ cs) (d ∷ ds) a l =
+    let t = agree_tail n c d cs ds a in ap (further 1) (string_from_local false n cs ds t.1 (omega arith))
+string_from_local false (suc n) (c ∷ cs) (d ∷ ds) a l =
     let t = agree_tail n c d cs ds a in
-    rw t.0 (same_choice (suc n) (is "\"" c) (is "\"" c) _ _ _ _ refl l (λ h. refl) (λ h. ap (further 1) (string_local (is "\\" c) n cs ds t.1 (omega arith))))
+    rw t.0 (same_choice (suc n) (is "\"" c) (is "\"" c) _ _ _ _ refl l (λ h. refl) (λ h. ap (further 1) (string_from_local (is "\\" c) n cs ds t.1 (omega arith))))
+
+pub string_local : (n : ℕ) (cs ds : List ℕ) → Agree n cs ds → (string_body cs).size < n → string_body ds ≡ string_body cs
+string_local n cs ds = rw (string_same cs, string_same ds) (string_from_local false n cs ds)
 
 -- ---- characters
 
-pub quoted_local : (e : Bool) (n : ℕ) (cs ds : List ℕ) → Agree (suc n) cs ds → (quoted_rest e cs).size < n → quoted_rest e ds ≡ quoted_rest e cs
-quoted_local e zero cs ds a l = absurd (omega arith)
-quoted_local e (suc n) [] [] a l = refl
-quoted_local e (suc n) [] (d ∷ ds) a l = agree_end (suc n) d ds a
-quoted_local e (suc n) (c ∷ cs) [] a l = agree_end_too (suc n) c cs a
-quoted_local true (suc n) (c ∷ cs) (d ∷ ds) a l =
-    let t = agree_tail (suc n) c d cs ds a in ap (further 1) (quoted_local false n cs ds t.1 (omega arith))
-quoted_local false (suc n) (c ∷ cs) (d ∷ ds) a l =
+quoted_from_local : (e : Bool) (n : ℕ) (cs ds : List ℕ) → Agree (suc n) cs ds → (quoted_from e cs).size < n → quoted_from e ds ≡ quoted_from e cs
+quoted_from_local e zero cs ds a l = absurd (omega arith)
+quoted_from_local e (suc n) [] [] a l = refl
+quoted_from_local e (suc n) [] (d ∷ ds) a l = agree_end (suc n) d ds a
+quoted_from_local e (suc n) (c ∷ cs) [] a l = agree_end_too (suc n) c cs a
+quoted_from_local true (suc n) (c ∷ cs) (d ∷ ds) a l =
+    let t = agree_tail (suc n) c d cs ds a in ap (further 1) (quoted_from_local false n cs ds t.1 (omega arith))
+quoted_from_local false (suc n) (c ∷ cs) (d ∷ ds) a l =
     let t = agree_tail (suc n) c d cs ds a in
     let next : begins "'" ds ≡ begins "'" cs = ap (is "'") (agree_at 0 t.1 (omega arith)) in
     rw t.0 (same_choice (suc n) (is "'" c) (is "'" c) _ _ _ _ refl l (λ h. refl)
     (λ h. same_choice (suc n) (is "/" c || (c == 10 && not (begins "'" cs))) (is "/" c || (c == 10 && not (begins "'" ds))) _ _ _ _
     (ap (λ b. is "/" c || (c == 10 && not b)) next) h (λ k. refl)
-    (λ k. ap (further 1) (quoted_local (is "\\" c) n cs ds t.1 (omega arith)))))
+    (λ k. ap (further 1) (quoted_from_local (is "\\" c) n cs ds t.1 (omega arith)))))
+
+pub quoted_local : (n : ℕ) (cs ds : List ℕ) → Agree (suc n) cs ds → (quoted_rest cs).size < n → quoted_rest ds ≡ quoted_rest cs
+quoted_local n cs ds = rw (quoted_same cs, quoted_same ds) (quoted_from_local false n cs ds)
 
 -- ---- raw strings
 

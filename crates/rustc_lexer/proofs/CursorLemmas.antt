@@ -1,5 +1,5 @@
 -- What a cursor's calls read.
-use Rattle.std.proofs.Common.{◌≡◌, ℕ, suc, ◌+◌, ◌-◌, ◌≤◌, ◌==◌, min, Bool, true, false, List, [], ◌∷◌, length, drop, Option, Some, None, refl, sym, ◌∙◌, ap, subst, arith, chars, encode_utf8_all, IsUtf8, one-add}
+use Rattle.std.proofs.Common.{◌≡◌, ℕ, suc, ◌+◌, ◌-◌, ◌≤◌, ◌==◌, min, Bool, true, false, List, [], ◌∷◌, length, drop, Option, Some, None, refl, sym, ◌∙◌, ap, subst, arith, chars, encode_utf8_all, IsUtf8, one-add, if◌then◌else◌}
 use Rattle.std.specs.List.{prefix_len, list_all}
 use Rattle.std.proofs.lemmas.List.{drop-drop}
 use Rattle.std.proofs.lemmas.List.Sums.{prefix_len-le-length}
@@ -8,7 +8,7 @@ use Rattle.std.proofs.lemmas.Str.{encodes-chars}
 use Rattle.rustc_lexer.specs.Character.{char_at, is, identifier_len}
 use Rattle.rustc_lexer.specs.Cursors.{next_token, past_token, next_guarded, past_guarded, pending_past, guarded_of, later_suffix, suffix_of, bytes_of}
 use Rattle.rustc_lexer.specs.Lexeme.{Lexeme, lexeme}
-use Rattle.rustc_lexer.specs.Literals.{hashes, string_body, guarded_body, guarded_string}
+use Rattle.rustc_lexer.specs.Literals.{hashes, string_body, guard_end, guarded_body, guarded_string}
 use Rattle.rustc_lexer.specs.Stretch.{Stretch, further, IsRead}
 use Rattle.rustc_lexer.specs.declared.token.TokenKind.{TokenKind}
 use Rattle.rustc_lexer.proofs.CutLemmas.{behind_chars}
@@ -77,13 +77,13 @@ all_passed p left cs u e = no_bytes left u ∙ ap (λ xs. length xs == 0) e ∙ 
 -- ---- guarded strings
 
 pub guarded_read : (text body mark closed left : List ℕ) (n : ℕ) → chars body ≡ drop 1 (chars text) →
-    IsRead (string_body false (chars body)) body true mark → chars closed ≡ drop (min n (hashes (chars mark)).size) (chars mark) →
+    IsRead (string_body (chars body)) body true mark → chars closed ≡ drop (min n (hashes (chars mark)).size) (chars mark) →
     chars left ≡ drop (identifier_len (chars closed)) (chars closed) → IsUtf8 left → IsRead (guarded_body n (chars text)) text true left
 guarded_read text body mark closed left n e r hashes_on suffix u =
     let cs : List ℕ = chars text in
-    let b : Stretch Bool = further 1 (string_body false (drop 1 cs)) in
+    let b : Stretch Bool = further 1 (string_body (drop 1 cs)) in
     let all : IsRead b text true mark =
-    subst (λ xs. IsRead (further 1 (string_body false xs)) text true mark) e (read_further (string_body false (chars body)) text body mark true 1 e r) in
+    subst (λ xs. IsRead (further 1 (string_body xs)) text true mark) e (read_further (string_body (chars body)) text body mark true 1 e r) in
     let ds : List ℕ = drop b.size cs in
     let k : ℕ = min n (hashes ds).size in
     let closing : chars closed ≡ drop k ds = hashes_on ∙ ap (λ xs. drop (min n (hashes xs).size) xs) all.rest in
@@ -132,3 +132,16 @@ guards text rest opening pending n found u h r =
           ∙ ap (λ m. record { rest = rest; pending = pending_past (pending + m) (guarded_string (chars text)).value }) by
           ∙ ap (λ f. record { rest = rest; pending = pending_past (pending + (length text - length rest)) f }) (sym r.value);
     }
+
+-- the same where the string is not terminated
+pub guarded_unended : (n : ℕ) (text body mark : List ℕ) → chars body ≡ drop 1 (chars text) → IsRead (string_body (chars body)) body false mark →
+    IsRead (guarded_body n (chars text)) text false mark
+guarded_unended n text body mark e r =
+    let cs : List ℕ = chars text in
+    let b : Stretch Bool = further 1 (string_body (drop 1 cs)) in
+    let all : IsRead b text false mark = subst (λ xs. IsRead (further 1 (string_body xs)) text false mark) e (read_further (string_body (chars body)) text body mark false 1 e r) in
+    record { value = all.value; rest = all.rest ∙ ap (λ k. drop k cs) (size_is b.value b.size (b.size + guard_end n (drop b.size cs)) all.value); utf8 = all.utf8 }
+  where
+    size_is : (v : Bool) (s t : ℕ) → false ≡ v → s ≡ (if v then t else s)
+    size_is false s t e = refl
+    size_is true s t e = absurd (let no : false ≡ true = e in cc)

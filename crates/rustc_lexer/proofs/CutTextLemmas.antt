@@ -20,6 +20,7 @@ use Rattle.rustc_lexer.specs.Stretch.{Stretch, further}
 use Rattle.rustc_lexer.proofs.AgreeLemmas.{Agree, agree_at, at_least_local}
 use Rattle.rustc_lexer.proofs.BlankLemmas.{is_solid, start_stops}
 use Rattle.rustc_lexer.proofs.BodyLocalLemmas.{form_at}
+use Rattle.rustc_lexer.proofs.EscapeLemmas.{string_from, string_same, quoted_from, quoted_same}
 use Rattle.rustc_lexer.proofs.LocalLemmas.{behind_base, exponent_of}
 use Rattle.rustc_lexer.specs.declared.token.Base.{Base}
 use Rattle.rustc_lexer.specs.declared.token.Base.TheVariants.{Binary, Octal, Hexadecimal, Decimal}
@@ -122,57 +123,66 @@ pub same_if : {A : Type 0} (m : ℕ) (b : Bool) (x y u v : Stretch A) → (if b 
 same_if m true x y u v l f g = f l
 same_if m false x y u v l f g = g l
 
-string_long : (e : Bool) (c : ℕ) (cs : List ℕ) → 1 ≤ (string_body e (c ∷ cs)).size
-string_long true c cs = omega arith
-string_long false c cs = by_test (is "\"" c)
+string_from_long : (e : Bool) (c : ℕ) (cs : List ℕ) → 1 ≤ (string_from e (c ∷ cs)).size
+string_from_long true c cs = omega arith
+string_from_long false c cs = by_test (is "\"" c)
   where
-    by_test : (u : Bool) → 1 ≤ (if u then record { value = true; size = 1 } else further 1 (string_body (is "\\" c) cs)).size
+    by_test : (u : Bool) → 1 ≤ (if u then record { value = true; size = 1 } else further 1 (string_from (is "\\" c) cs)).size
     by_test true = omega arith
     by_test false = omega arith
 
-pub string_cut : (e : Bool) (m : ℕ) (cs : List ℕ) → (string_body e cs).size ≤ m → string_body e (take m cs) ≡ string_body e cs
-string_cut e zero [] l = refl
-string_cut e zero (c ∷ cs) l = absurd (omega (arith, l, string_long e c cs))
-string_cut e (suc m) [] l = refl
-string_cut true (suc m) (c ∷ cs) l = ap (further 1) (string_cut false m cs (omega (arith, l)))
-string_cut false (suc m) (c ∷ cs) l =
-    same_if (suc m) (is "\"" c) _ _ _ _ l (λ k. refl) (λ k. ap (further 1) (string_cut (is "\\" c) m cs (omega (arith, k))))
+string_from_cut : (e : Bool) (m : ℕ) (cs : List ℕ) → (string_from e cs).size ≤ m → string_from e (take m cs) ≡ string_from e cs
+string_from_cut e zero [] l = refl
+string_from_cut e zero (c ∷ cs) l = absurd (omega (arith, l, string_from_long e c cs))
+string_from_cut e (suc m) [] l = refl
+string_from_cut true (suc m) (c ∷ cs) l = ap (further 1) (string_from_cut false m cs (omega (arith, l)))
+string_from_cut false (suc m) (c ∷ cs) l =
+    same_if (suc m) (is "\"" c) _ _ _ _ l (λ k. refl) (λ k. ap (further 1) (string_from_cut (is "\\" c) m cs (omega (arith, k))))
+
+pub string_cut : (m : ℕ) (cs : List ℕ) → (string_body cs).size ≤ m → string_body (take m cs) ≡ string_body cs
+string_cut m cs = rw (string_same cs, string_same (take m cs)) (string_from_cut false m cs)
 
 -- what is left of a character, behind a test for its end and one for a missing quote
 abbrev quoted_step : Bool → Bool → Stretch Bool → Stretch Bool
 quoted_step ends breaks more = if ends then record { value = true; size = 1 } else if breaks then record { value = false; size = 0 } else further 1 more
 
-quoted_long : (e : Bool) (cs : List ℕ) → (quoted_rest e cs).value ≡ true → 1 ≤ (quoted_rest e cs).size
-quoted_long e [] h = absurd (let t : false ≡ true = h in cc)
-quoted_long true (c ∷ cs) h = omega arith
-quoted_long false (c ∷ cs) h = by_tests (is "'" c) (is "/" c || (c == 10 && not (begins "'" cs))) h
+quoted_from_long : (e : Bool) (cs : List ℕ) → (quoted_from e cs).value ≡ true → 1 ≤ (quoted_from e cs).size
+quoted_from_long e [] h = absurd (let t : false ≡ true = h in cc)
+quoted_from_long true (c ∷ cs) h = omega arith
+quoted_from_long false (c ∷ cs) h = by_tests (is "'" c) (is "/" c || (c == 10 && not (begins "'" cs))) h
   where
-    by_tests : (u v : Bool) → (quoted_step u v (quoted_rest (is "\\" c) cs)).value ≡ true → 1 ≤ (quoted_step u v (quoted_rest (is "\\" c) cs)).size
+    by_tests : (u v : Bool) → (quoted_step u v (quoted_from (is "\\" c) cs)).value ≡ true → 1 ≤ (quoted_step u v (quoted_from (is "\\" c) cs)).size
     by_tests true v h = omega arith
     by_tests false true h = absurd (let t : false ≡ true = h in cc)
     by_tests false false h = omega arith
 
-pub quoted_cut : (e : Bool) (m : ℕ) (cs : List ℕ) → (quoted_rest e cs).value ≡ true → (quoted_rest e cs).size ≤ m → quoted_rest e (take m cs) ≡ quoted_rest e cs
-quoted_cut e zero cs h l = absurd (omega (arith, l, quoted_long e cs h))
-quoted_cut e (suc m) [] h l = refl
-quoted_cut true (suc m) (c ∷ cs) h l = ap (further 1) (quoted_cut false m cs h (omega (arith, l)))
-quoted_cut false (suc m) (c ∷ cs) h l =
+quoted_from_cut : (e : Bool) (m : ℕ) (cs : List ℕ) → (quoted_from e cs).value ≡ true → (quoted_from e cs).size ≤ m → quoted_from e (take m cs) ≡ quoted_from e cs
+quoted_from_cut e zero cs h l = absurd (omega (arith, l, quoted_from_long e cs h))
+quoted_from_cut e (suc m) [] h l = refl
+quoted_from_cut true (suc m) (c ∷ cs) h l = ap (further 1) (quoted_from_cut false m cs h (omega (arith, l)))
+quoted_from_cut false (suc m) (c ∷ cs) h l =
     by_tests (is "'" c) (is "/" c || (c == 10 && not (begins "'" cs))) (is "/" c || (c == 10 && not (begins "'" (take m cs)))) h l
     (λ some. ap (λ (b : Bool). is "/" c || (c == 10 && not b)) (ap (is "'") (same_at 0 m cs some)))
-    (λ w. quoted_long (is "\\" c) cs w) (λ w k. quoted_cut (is "\\" c) m cs w k)
+    (λ w. quoted_from_long (is "\\" c) cs w) (λ w k. quoted_from_cut (is "\\" c) m cs w k)
   where
-    by_tests : (u v t : Bool) → (quoted_step u v (quoted_rest (is "\\" c) cs)).value ≡ true → (quoted_step u v (quoted_rest (is "\\" c) cs)).size ≤ suc m →
+    by_tests : (u v t : Bool) → (quoted_step u v (quoted_from (is "\\" c) cs)).value ≡ true → (quoted_step u v (quoted_from (is "\\" c) cs)).size ≤ suc m →
         (0 < m → t ≡ v) →
-        ((quoted_rest (is "\\" c) cs).value ≡ true → 1 ≤ (quoted_rest (is "\\" c) cs).size) →
-        ((quoted_rest (is "\\" c) cs).value ≡ true → (quoted_rest (is "\\" c) cs).size ≤ m → quoted_rest (is "\\" c) (take m cs) ≡ quoted_rest (is "\\" c) cs) →
-        quoted_step u t (quoted_rest (is "\\" c) (take m cs)) ≡ quoted_step u v (quoted_rest (is "\\" c) cs)
+        ((quoted_from (is "\\" c) cs).value ≡ true → 1 ≤ (quoted_from (is "\\" c) cs).size) →
+        ((quoted_from (is "\\" c) cs).value ≡ true → (quoted_from (is "\\" c) cs).size ≤ m → quoted_from (is "\\" c) (take m cs) ≡ quoted_from (is "\\" c) cs) →
+        quoted_step u t (quoted_from (is "\\" c) (take m cs)) ≡ quoted_step u v (quoted_from (is "\\" c) cs)
     by_tests true v t h l same long again = refl
     by_tests false true t h l same long again = absurd (let t : false ≡ true = h in cc)
     by_tests false false t h l same long again =
         rw (same (omega (arith, l, long h))) (ap (further 1) (again h (omega (arith, l))))
 
+quoted_long : (cs : List ℕ) → (quoted_rest cs).value ≡ true → 1 ≤ (quoted_rest cs).size
+quoted_long cs = rw (quoted_same cs) (quoted_from_long false cs)
+
+quoted_cut : (m : ℕ) (cs : List ℕ) → (quoted_rest cs).value ≡ true → (quoted_rest cs).size ≤ m → quoted_rest (take m cs) ≡ quoted_rest cs
+quoted_cut m cs = rw (quoted_same cs, quoted_same (take m cs)) (quoted_from_cut false m cs)
+
 abbrev quoted_with : Bool → List ℕ → Stretch Bool
-quoted_with u xs = if u then record { value = true; size = 2 } else quoted_rest false xs
+quoted_with u xs = if u then record { value = true; size = 2 } else quoted_rest xs
 
 -- no quote stands behind one character that may stand alone
 abbrev is_short : List ℕ → Bool
@@ -197,9 +207,9 @@ quoted_body_cut m cs h l = by_test (is_short cs) refl h l
         let second = same_at 1 m cs (omega (arith, l)) in
         rw (first, second, e) refl
     by_test false e h l =
-        let some = quoted_long false cs h in
+        let some = quoted_long cs h in
         let no = short_cut m cs (omega (arith, l, some)) e in
-        ap (λ u. quoted_with u (take m cs)) no ∙ quoted_cut false m cs h l
+        ap (λ u. quoted_with u (take m cs)) no ∙ quoted_cut m cs h l
 
 -- a raw body of which the first character is c, and in which k hashes follow it
 abbrev raw_step : ℕ → Bool → Stretch Bool → Stretch Bool

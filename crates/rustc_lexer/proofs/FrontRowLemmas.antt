@@ -35,7 +35,7 @@ slash_line cs e f = rw (e, f) refl
 pub slash_block : (cs : List ℕ) → char_at cs 0 ≡ 47 → char_at cs 1 ≡ 42 → lexeme cs ≡ block_comment cs
 slash_block cs e f = rw (e, f) refl
 
-no_start : is_id_start 47 ≡ false
+pub no_start : is_id_start 47 ≡ false
 no_start = rw (is_xid_start-ascii 47 (omega arith)) refl
 
 pub slash_alone : (cs : List ℕ) → char_at cs 0 ≡ 47 → (char_at cs 1 == 47) ≡ false → (char_at cs 1 == 42) ≡ false → lexeme cs ≡ lexeme_of Slash 1

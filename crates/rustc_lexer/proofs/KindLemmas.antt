@@ -32,7 +32,7 @@ quoted_inside kind p cs =
 
 string_inside : (kind : Bool → LiteralKind) (p : ℕ) (cs : List ℕ) → IsInside (string kind p cs)
 string_inside kind p cs =
-    let body : Stretch Bool = further p (string_body false (drop p cs)) in literal_inside body.value (kind body.value) body.size cs
+    let body : Stretch Bool = further p (string_body (drop p cs)) in literal_inside body.value (kind body.value) body.size cs
 
 raw_inside : (kind : Option ℕ → LiteralKind) (p : ℕ) (cs : List ℕ) → IsInside (raw_string kind p cs)
 raw_inside kind p cs =

@@ -41,6 +41,8 @@ mod NameLemmas
 mod ShapeLemmas
 mod ByteShapeLemmas
 mod EqualityLemmas
+mod EscapeLemmas
 mod WordLemmas
 mod FrontRowLemmas
+mod StartLemmas
 mod PlainLemmas

@@ -154,9 +154,9 @@ numeral_local cs ds h a =
 
 -- ---- literals in quotes
 
-quoted_rest_local : (cs ds : List ℕ) → Local 0 (quoted_rest false) cs ds
+quoted_rest_local : (cs ds : List ℕ) → Local 0 quoted_rest cs ds
 unfolding Local
-quoted_rest_local cs ds h a = quoted_local false ((quoted_rest false cs).size + 1) cs ds (agree_less _ a (omega arith)) (omega arith)
+quoted_rest_local cs ds h a = quoted_local ((quoted_rest cs).size + 1) cs ds (agree_less _ a (omega arith)) (omega arith)
 
 quoted_body_local : (cs ds : List ℕ) → Local 0 quoted_body cs ds
 quoted_body_local cs ds =
@@ -175,10 +175,10 @@ quoted_row kind p cs ds h a =
 string_row : (kind : Bool → LiteralKind) (p : ℕ) (cs ds : List ℕ) → Local 1 (string kind p) cs ds
 unfolding Local
 string_row kind p cs ds h a =
-    let body : Stretch Bool = further p (string_body false (drop p cs)) in
+    let body : Stretch Bool = further p (string_body (drop p cs)) in
     let long = literal_long body.value (kind body.value) body.size cs in
-    let b : Agree (p + ((string_body false (drop p cs)).size + 2)) cs ds = agree_less _ a (omega arith) in
-    rw (string_local false _ (drop p cs) (drop p ds) (agree_drop p b) (omega arith))
+    let b : Agree (p + ((string_body (drop p cs)).size + 2)) cs ds = agree_less _ a (omega arith) in
+    rw (string_local _ (drop p cs) (drop p ds) (agree_drop p b) (omega arith))
     (literal_local body.value (kind body.value) body.size cs ds (agree_less _ a (omega arith)))
 
 raw_row : (kind : Option ℕ → LiteralKind) (p : ℕ) (cs ds : List ℕ) → Local 1 (raw_string kind p) cs ds

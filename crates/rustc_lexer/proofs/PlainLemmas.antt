@@ -20,6 +20,7 @@ use Rattle.rustc_lexer.specs.declared.token.LiteralKind.{LiteralKind}
 use Rattle.rustc_lexer.specs.declared.token.LiteralKind.TheVariants.{Int, Str}
 use Rattle.rustc_lexer.specs.declared.token.TokenKind.{TokenKind}
 use Rattle.rustc_lexer.specs.declared.token.TokenKind.TheVariants.{Ident, Literal, UnknownPrefix}
+use Rattle.rustc_lexer.proofs.EscapeLemmas.{string_from, string_same}
 use Rattle.rustc_lexer.proofs.PositiveLemmas.{choice}
 use Rattle.rustc_lexer.proofs.TokenLemmas.{first_of_tokens}
 use Rattle.rustc_lexer.proofs.TestLemmas.{no}
@@ -280,17 +281,20 @@ not_true false e = refl
 not_true true e = absurd (cc)
 
 -- up to the quote
-body_whole : (cs : List ℕ) → list_all stands_for_itself cs ≡ true → string_body false (cs ++ 34 ∷ []) ≡ record { value = true; size = length cs + 1 }
-body_whole [] h = refl
-body_whole (c ∷ cs) h =
+from_whole : (cs : List ℕ) → list_all stands_for_itself cs ≡ true → string_from false (cs ++ 34 ∷ []) ≡ record { value = true; size = length cs + 1 }
+from_whole [] h = refl
+from_whole (c ∷ cs) h =
     let parts = and_parts (stands_for_itself c) (list_all stands_for_itself cs) h in
     let each = and_parts (not (is "\"" c)) (not (is "\\" c)) parts.0 in
     let no_quote : (c == 34) ≡ false = not_true _ each.0 in
     let no_escape : (c == 92) ≡ false = not_true _ each.1 in
     let size : 1 + (length cs + 1) ≡ length (c ∷ cs) + 1 = omega arith in
-    let whole : further 1 (string_body false (cs ++ 34 ∷ [])) ≡ record { value = true; size = length (c ∷ cs) + 1 } =
-    ap (further 1) (body_whole cs parts.1) ∙ ap (λ n. record { value = true; size = n }) size in
+    let whole : further 1 (string_from false (cs ++ 34 ∷ [])) ≡ record { value = true; size = length (c ∷ cs) + 1 } =
+    ap (further 1) (from_whole cs parts.1) ∙ ap (λ n. record { value = true; size = n }) size in
     rw (no_quote, no_escape) whole
+
+body_whole : (cs : List ℕ) → list_all stands_for_itself cs ≡ true → string_body (cs ++ 34 ∷ []) ≡ record { value = true; size = length cs + 1 }
+body_whole cs h = string_same (cs ++ 34 ∷ []) ∙ from_whole cs h
 
 string_lexeme : (cs : List ℕ) → list_all stands_for_itself cs ≡ true
     → lexeme (34 ∷ cs ++ 34 ∷ []) ≡ lexeme_of (Literal (Str true) (utf8_len (34 ∷ cs ++ 34 ∷ []))) (length (34 ∷ cs ++ 34 ∷ []))
@@ -309,24 +313,27 @@ one_string cs h = one_token (Literal (Str true) (utf8_len (34 ∷ cs ++ 34 ∷ [
 
 -- ---- a string with escapes
 
-escaped_body : (cs : List ℕ) → string_body false (with_escapes cs ++ 34 ∷ []) ≡ record { value = true; size = length (with_escapes cs) + 1 }
-escaped_body [] = refl
-escaped_body (c ∷ cs) = by_test (stands_for_itself c) refl (escaped_body cs)
+from_escaped : (cs : List ℕ) → string_from false (with_escapes cs ++ 34 ∷ []) ≡ record { value = true; size = length (with_escapes cs) + 1 }
+from_escaped [] = refl
+from_escaped (c ∷ cs) = by_test (stands_for_itself c) refl (from_escaped cs)
   where
-    by_test : (u : Bool) → stands_for_itself c ≡ u → string_body false (with_escapes cs ++ 34 ∷ []) ≡ record { value = true; size = length (with_escapes cs) + 1 } →
-        string_body false ((if u then c ∷ with_escapes cs else 92 ∷ (c ∷ with_escapes cs)) ++ 34 ∷ [])
+    by_test : (u : Bool) → stands_for_itself c ≡ u → string_from false (with_escapes cs ++ 34 ∷ []) ≡ record { value = true; size = length (with_escapes cs) + 1 } →
+        string_from false ((if u then c ∷ with_escapes cs else 92 ∷ (c ∷ with_escapes cs)) ++ 34 ∷ [])
         ≡ record { value = true; size = length (if u then c ∷ with_escapes cs else 92 ∷ (c ∷ with_escapes cs)) + 1 }
     by_test true e again =
         let each = and_parts (not (is "\"" c)) (not (is "\\" c)) e in
         let no_quote : (c == 34) ≡ false = not_true _ each.0 in
         let no_escape : (c == 92) ≡ false = not_true _ each.1 in
         let size : 1 + (length (with_escapes cs) + 1) ≡ length (c ∷ with_escapes cs) + 1 = omega arith in
-        let whole : further 1 (string_body false (with_escapes cs ++ 34 ∷ [])) ≡ record { value = true; size = length (c ∷ with_escapes cs) + 1 } =
+        let whole : further 1 (string_from false (with_escapes cs ++ 34 ∷ [])) ≡ record { value = true; size = length (c ∷ with_escapes cs) + 1 } =
         ap (further 1) again ∙ ap (λ n. record { value = true; size = n }) size in
         rw (no_quote, no_escape) whole
     by_test false e again =
         let size : 1 + (1 + (length (with_escapes cs) + 1)) ≡ length {A = ℕ} (92 ∷ (c ∷ with_escapes cs)) + 1 = omega arith in
         ap (λ b. further 1 (further 1 b)) again ∙ ap (λ n. record { value = true; size = n }) size
+
+escaped_body : (cs : List ℕ) → string_body (with_escapes cs ++ 34 ∷ []) ≡ record { value = true; size = length (with_escapes cs) + 1 }
+escaped_body cs = string_same (with_escapes cs ++ 34 ∷ []) ∙ from_escaped cs
 
 escaped_lexeme : (cs : List ℕ)
     → lexeme (34 ∷ with_escapes cs ++ 34 ∷ []) ≡ lexeme_of (Literal (Str true) (utf8_len (34 ∷ with_escapes cs ++ 34 ∷ []))) (length (34 ∷ with_escapes cs ++ 34 ∷ []))

@@ -30,7 +30,7 @@ quoted_positive kind p cs h =
 
 string_positive : (kind : Bool → LiteralKind) (p : ℕ) (cs : List ℕ) → 1 ≤ p → HasCharacters (string kind p cs)
 string_positive kind p cs h =
-    let body : Stretch Bool = further p (string_body false (drop p cs)) in
+    let body : Stretch Bool = further p (string_body (drop p cs)) in
     literal_positive body.value (kind body.value) body.size cs (omega arith)
 
 raw_positive : (kind : Option ℕ → LiteralKind) (p : ℕ) (cs : List ℕ) → 1 ≤ p → HasCharacters (raw_string kind p cs)

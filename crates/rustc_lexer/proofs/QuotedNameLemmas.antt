@@ -49,7 +49,7 @@ quoted_named kind p cs =
 
 string_named : (kind : Bool → LiteralKind) (p : ℕ) (cs : List ℕ) → Named cs (string kind p cs)
 string_named kind p cs =
-    let body : Stretch Bool = further p (string_body false (drop p cs)) in literal_named cs body.value (kind body.value) body.size cs
+    let body : Stretch Bool = further p (string_body (drop p cs)) in literal_named cs body.value (kind body.value) body.size cs
 
 raw_named : (kind : Option ℕ → LiteralKind) (p : ℕ) (cs : List ℕ) → Named cs (raw_string kind p cs)
 raw_named kind p cs =

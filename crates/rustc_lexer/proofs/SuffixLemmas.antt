@@ -47,7 +47,7 @@ quoted_suffix kind p cs =
 
 string_suffix : (kind : Bool → LiteralKind) (p : ℕ) (cs : List ℕ) → SuffixInside cs (string kind p cs)
 string_suffix kind p cs =
-    let body : Stretch Bool = further p (string_body false (drop p cs)) in literal_suffix body.value (kind body.value) body.size cs
+    let body : Stretch Bool = further p (string_body (drop p cs)) in literal_suffix body.value (kind body.value) body.size cs
 
 raw_suffix : (kind : Option ℕ → LiteralKind) (p : ℕ) (cs : List ℕ) → SuffixInside cs (raw_string kind p cs)
 raw_suffix kind p cs =

@@ -31,11 +31,11 @@ pub begins_other : (cs : List ℕ) → (char_at cs 0 == 0x72) ≡ false → (cha
     (char_at cs 0 == 0x6b) ≡ false → word cs ≡ plain_word cs
 begins_other cs r b c k = rw (r, b, c, k) refl
 
-either_left : (x y : Bool) → (x || y) ≡ false → x ≡ false
+pub either_left : (x y : Bool) → (x || y) ≡ false → x ≡ false
 either_left false y e = refl
 either_left true y e = e
 
-either_right : (x y : Bool) → (x || y) ≡ false → y ≡ false
+pub either_right : (x y : Bool) → (x || y) ≡ false → y ≡ false
 either_right false y e = e
 either_right true y e = absurd (let no : true ≡ false = e in cc)
 

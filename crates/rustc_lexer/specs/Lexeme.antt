@@ -1,5 +1,5 @@
 -- The first lexeme of a text, after the Rust Reference's part "Lexical structure". Texts are lists of characters.
-use Rattle.std.specs.Prelude.{ℕ, ◌+◌, Bool, true, false, not, ◌||◌, ◌&&◌, List, drop, Option, if◌then◌else◌}
+use Rattle.std.specs.Prelude.{ℕ, ◌+◌, Bool, true, not, ◌||◌, ◌&&◌, List, drop, Option, if◌then◌else◌}
 use Rattle.std.specs.List.{prefix_len}
 use Rattle.std.specs.Option.{is_some}
 use Rattle.rustc_lexer.specs.Character.{char_at, begins, is, is_whitespace, is_id_start, is_digit, continues, identifier_len}
@@ -35,7 +35,7 @@ quoted kind p cs =
 -- a string: behind its prefix of p characters, of which the last is the quote
 abbrev pub string : (Bool → LiteralKind) → ℕ → List ℕ → Lexeme
 string kind p cs =
-    let body : Stretch Bool = further p (string_body false (drop p cs)) in
+    let body : Stretch Bool = further p (string_body (drop p cs)) in
     literal body.value (kind body.value) body.size cs
 
 -- a raw string: behind its prefix of p characters, of which the last is the `r`

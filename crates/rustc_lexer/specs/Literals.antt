@@ -19,29 +19,35 @@ bare kind n cs = record { value = Literal kind (utf8_len (take n cs)); size = n 
 abbrev pub literal : Bool → LiteralKind → ℕ → List ℕ → Stretch TokenKind
 literal whole kind n cs = if whole then with_suffix kind n cs else bare kind n cs
 
--- what is left of a character: up to and with the next `'`, where `\` takes the next character along (`escaped` tells
--- that it did); it isn't terminated where the text ends, or before a `/`, or before a line feed without a `'` behind it: no
--- rule of the Reference, but rustc's recovery from a missing quote
-abbrev pub quoted_rest : Bool → List ℕ → Stretch Bool
-quoted_rest escaped [] = record { value = false; size = 0 }
-quoted_rest true (c ∷ cs) = further 1 (quoted_rest false cs)
-quoted_rest false (c ∷ cs) =
+-- what is left of a character: up to and with the next `'`, where `\` takes the next character along; it isn't terminated
+-- where the text ends, or before a `/`, or before a line feed without a `'` behind it: no rule of the Reference, but rustc's
+-- recovery from a missing quote
+abbrev pub quoted_rest : List ℕ → Stretch Bool
+quoted_rest [] = record { value = false; size = 0 }
+quoted_rest (c ∷ []) =
     if is "'" c then record { value = true; size = 1 }
-    else if is "/" c || (c == 10 && not (begins "'" cs)) then record { value = false; size = 0 }
-    else further 1 (quoted_rest (is "\\" c) cs)
+    else if is "/" c || c == 10 then record { value = false; size = 0 }
+    else record { value = false; size = 1 }
+quoted_rest (c ∷ d ∷ cs) =
+    if is "'" c then record { value = true; size = 1 }
+    else if is "/" c || (c == 10 && not (is "'" d)) then record { value = false; size = 0 }
+    else if is "\\" c then further 2 (quoted_rest cs)
+    else further 1 (quoted_rest (d ∷ cs))
 
 -- what follows the first `'` of a character: any one but `\` and a `'`, or what `quoted_rest` has
 abbrev pub quoted_body : List ℕ → Stretch Bool
 quoted_body cs =
-    if is "'" (char_at cs 1) && not (begins "\\" cs) then record { value = true; size = 2 } else quoted_rest false cs
+    if is "'" (char_at cs 1) && not (begins "\\" cs) then record { value = true; size = 2 } else quoted_rest cs
 
--- what follows the first `"` of a string: up to and with the next `"`, where `\` takes the next character along
--- (`escaped` tells that it did); or the whole text, and then it isn't terminated
-abbrev pub string_body : Bool → List ℕ → Stretch Bool
-string_body escaped [] = record { value = false; size = 0 }
-string_body true (c ∷ cs) = further 1 (string_body false cs)
-string_body false (c ∷ cs) =
-    if is "\"" c then record { value = true; size = 1 } else further 1 (string_body (is "\\" c) cs)
+-- what follows the first `"` of a string: up to and with the next `"`, where `\` takes the next character along; or the
+-- whole text, and then it isn't terminated
+abbrev pub string_body : List ℕ → Stretch Bool
+string_body [] = record { value = false; size = 0 }
+string_body (c ∷ []) = record { value = is "\"" c; size = 1 }
+string_body (c ∷ d ∷ cs) =
+    if is "\"" c then record { value = true; size = 1 }
+    else if is "\\" c then further 2 (string_body cs)
+    else further 1 (string_body (d ∷ cs))
 
 -- a character of a string that is neither a `"` nor a `\`
 abbrev pub stands_for_itself : ℕ → Bool
@@ -84,7 +90,7 @@ guard_end n cs =
 -- a string that n hashes stand before, from its quote on: whether it is terminated, and what it takes
 abbrev pub guarded_body : ℕ → List ℕ → Stretch Bool
 guarded_body n cs =
-    let body : Stretch Bool = further 1 (string_body false (drop 1 cs)) in
+    let body : Stretch Bool = further 1 (string_body (drop 1 cs)) in
     record {
       value = body.value;
       size = if body.value then body.size + guard_end n (drop body.size cs) else body.size;

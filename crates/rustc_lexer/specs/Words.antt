@@ -1,5 +1,5 @@
 -- The first lexeme of a text, by its first character.
-use Rattle.std.specs.Prelude.{ℕ, ◌||◌, ◌&&◌, List, if◌then◌else◌}
+use Rattle.std.specs.Prelude.{ℕ, Bool, not, ◌||◌, ◌&&◌, ◌==◌, nat_lt, List, if◌then◌else◌}
 use Rattle.rustc_lexer.specs.Character.{char_at, begins, is, is_whitespace, is_id_start, is_digit}
 use Rattle.rustc_lexer.specs.Lexeme.{Lexeme, lexeme_of, quoted, string, raw_string, is_prefix_mark, marked_word, plain_word, begins_guarded, quote, one_char_kind, white_space, word, numeral}
 use Rattle.rustc_lexer.specs.declared.token.LiteralKind.TheVariants.{Byte, Str, ByteStr, CStr, RawStr, RawByteStr, RawCStr}
@@ -51,3 +51,23 @@ uncommented cs =
     else if is_id_start (char_at cs 0) then word cs
     else if is_digit (char_at cs 0) then numeral cs
     else sign cs
+
+-- a prefix may begin with the character: `r`, `b`, `c` or `k`
+abbrev pub begins_prefix : ℕ → Bool
+begins_prefix c = (c == 0x72 || c == 0x62) || (c == 0x63 || c == 0x6b)
+
+-- a digit, or one of the characters with which comments, guarded strings, strings, and characters or lifetimes begin
+abbrev pub begins_more : ℕ → Bool
+begins_more c = (is_digit c || c == 0x2f) || (c == 0x23 || (c == 0x22 || c == 0x27))
+
+-- what `start_of` says of a byte, of which is told whether it is a character of ASCII, white space, and the start of an identifier
+abbrev pub start_told : Bool → Bool → Bool → ℕ → ℕ
+start_told ascii white start b =
+    if not ascii then 0x3f else if white then 0x20
+    else if start then (if begins_prefix b then 0x70 else 0x61)
+    else if begins_more b then 0x3f else 0x2e
+
+-- what the first byte of a lexeme tells of it: white space (0x20), a word without a prefix (0x61), a word that may have one
+-- (0x70), one character alone (0x2e), or nothing yet (0x3f)
+abbrev pub start_of : ℕ → ℕ
+start_of b = start_told (nat_lt b 128) (is_whitespace b) (is_id_start b) b

@@ -11,15 +11,33 @@ use crate::comment::{block_comment, line_comment};
 use crate::literal::{literal, string_body, with_suffix};
 use crate::number::number;
 use crate::quote::quote;
-use crate::steps::{White, begins, behind, first, is_digit, second, skip_while};
+use crate::steps::{
+    White, begins, behind, first, first_byte, is_digit, second, skip_while, start_of,
+};
 use crate::token::{LiteralKind, TokenKind};
-use crate::word::word;
+use crate::word::{plain_word, word};
 
 // The kind of the first lexeme of the text, and what follows the lexeme.
 pub fn first_lexeme(text: &str) -> (TokenKind, &str)
     requires { length text.now < 2 ^ 32 }
     ensures utf8 { IsUtf8 text.now }
     ensures read { IsRead (lexeme (chars text.now)) text.now result.0 result.1.now }
+{
+    let b = first_byte(text);
+    match start_of(b) {
+        b'.' => (one_char_kind(b as char), behind(text)),
+        b'a' => plain_word(text),
+        b' ' => (TokenKind::Whitespace, skip_while::<White>(text)),
+        b'p' => word(text),
+        _ => other_lexeme(text),
+    }
+}
+
+// The same, where the first byte does not tell it.
+#[inline(never)]
+fn other_lexeme(text: &str) -> (TokenKind, &str)
+    requires { length text.now < 2 ^ 32 }
+    ensures { IsRead (lexeme (chars text.now)) text.now result.0 result.1.now }
 {
     let c = first(text);
     if c == '/' {

@@ -85,8 +85,9 @@ pub fn quoted_body(text: &str) -> (bool, &str)
     }
 }
 
+#[tactic(auto, using(crate::proofs::EscapeLemmas::quoted_same))]
 fn quoted_rest(text: &str) -> (bool, &str)
-    ensures { IsRead (quoted_rest false (chars text.now)) text.now result.0 result.1.now }
+    ensures { IsRead (quoted_rest (chars text.now)) text.now result.0 result.1.now }
 {
     let mut rest = text;
     while let Some((c, after)) = split_first(rest) {
@@ -103,7 +104,7 @@ fn quoted_rest(text: &str) -> (bool, &str)
 
 // What follows the first `"` of a string: whether its end was found, and what follows it.
 pub fn string_body(text: &str) -> (bool, &str)
-    ensures { IsRead (string_body false (chars text.now)) text.now result.0 result.1.now }
+    ensures { IsRead (string_body (chars text.now)) text.now result.0 result.1.now }
 {
     let mut rest = text;
     loop {

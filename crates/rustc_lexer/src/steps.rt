@@ -2,6 +2,7 @@
 ghost use Rattle.std.specs.Prelude.{◌≡◌, ◌<◌, ◌≤◌, ◌^◌, ◌==◌, ◌&&◌, ◌||◌, ℕ, Bool, drop, ◌∷◌, [], ◌++◌, length, chars, encode_utf8, MatchOption, IfSome, IsTrue, IsUtf8, get_or};
 ghost use Rattle.std.specs.List.{prefix_len, position_or_len};
 ghost use Rattle.rustc_lexer.specs.Character.{ascii_part, char_at, is, is_whitespace, is_id_continue, is_digit, is_hex_digit};
+ghost use Rattle.rustc_lexer.specs.Words.{start_of};
 
 use crate::character::{is_id_continue, is_whitespace};
 use memchr::{memchr, memchr2};
@@ -16,6 +17,26 @@ static CONTINUES: [u8; 256] = *b"\
     ,,,,,,,,,,,,,,,,,,,,,,,,,,,,,,,,\
     ,,,,,,,,,,,,,,,,,,,,,,,,,,,,,,,,\
     ,,,,,,,,,,,,,,,,,,,,,,,,,,,,,,,,";
+
+// What the first byte of a lexeme tells of it: ` ` white space, `a` a word that has no prefix, `p` a word that may have
+// one, `.` a character alone, and `?` nothing yet.
+static STARTS: [u8; 256] = *b"\
+    .........     ..................\
+    \x20.??...?.......???????????......\
+    .aaaaaaaaaaaaaaaaaaaaaaaaaa....a\
+    .appaaaaaaapaaaaaapaaaaaaaa.....\
+    ????????????????????????????????\
+    ????????????????????????????????\
+    ????????????????????????????????\
+    ????????????????????????????????";
+
+// What the first byte of a lexeme tells of it.
+#[inline(always)]
+pub fn start_of(b: u8) -> u8
+    ensures { result ≡ start_of b }
+{
+    STARTS[b as usize]
+}
 
 // A test of a character.
 pub trait CharTest {
@@ -41,6 +62,11 @@ impl CharTest for White {
     #[inline]
     fn test(c: char) -> bool {
         is_whitespace(c)
+    }
+
+    #[inline]
+    fn test_byte(b: u8) -> bool {
+        start_of(b) == b' '
     }
 }
 

@@ -12,29 +12,7 @@ use crate::steps::{Continue, begins, behind, first, first_byte, skip_while, thir
 use crate::token::{LiteralKind, TokenKind};
 
 // What begins with a character that may begin an identifier.
-#[inline(always)]
 pub fn word(text: &str) -> (TokenKind, &str)
-    requires small { length text.now < 2 ^ 32 }
-    requires start { is_id_start (char_at (chars text.now) 0) ≡ true }
-    ensures { IsRead (word (chars text.now)) text.now result.0 result.1.now }
-{
-    if begins_prefix(first_byte(text)) {
-        prefixed(text)
-    } else {
-        plain_word(text)
-    }
-}
-
-// A prefix may begin with the byte.
-#[inline(always)]
-fn begins_prefix(b: u8) -> bool
-    ensures { result ≡ ((b == 0x72 || b == 0x62) || (b == 0x63 || b == 0x6b)) }
-{
-    matches!(b, b'r' | b'b' | b'c' | b'k')
-}
-
-// A word that may have a prefix.
-fn prefixed(text: &str) -> (TokenKind, &str)
     requires small { length text.now < 2 ^ 32 }
     requires start { is_id_start (char_at (chars text.now) 0) ≡ true }
     ensures { IsRead (word (chars text.now)) text.now result.0 result.1.now }
@@ -49,7 +27,7 @@ fn prefixed(text: &str) -> (TokenKind, &str)
 }
 
 // An identifier, a keyword or an unknown prefix.
-fn plain_word(text: &str) -> (TokenKind, &str)
+pub fn plain_word(text: &str) -> (TokenKind, &str)
     requires { is_id_start (char_at (chars text.now) 0) ≡ true }
     ensures { IsRead (plain_word (chars text.now)) text.now result.0 result.1.now }
 {

@@ -1,4 +1,3 @@
-use Rattle.std.proofs.Common.{false}
 use Rattle.rustc_lexer.specs.Literals.{string_body}
 use Rattle.rustc_lexer.specs.declared.token.LiteralKind.TheVariants.{Str}
 use Rattle.rustc_lexer.proofs.ReadLemmas.{literal_read}
@@ -6,4 +5,4 @@ use Rattle.rustc_lexer.proofs.lexeme.string.Goals as goal
 
 pub returns : goal.returns
 returns c =
-    literal_read (string_body false) (λ whole. whole) Str 1 c.behind.ensures c.string_body-terminated.ensures c.literal.ensures
+    literal_read string_body (λ whole. whole) Str 1 c.behind.ensures c.string_body-terminated.ensures c.literal.ensures

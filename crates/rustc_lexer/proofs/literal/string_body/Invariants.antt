@@ -1,4 +1,4 @@
-use Rattle.std.proofs.Common.{false, chars, length}
+use Rattle.std.proofs.Common.{chars, length}
 use Rattle.rustc_lexer.specs.Literals.{string_body}
 use Rattle.rustc_lexer.proofs.ReadLemmas.{Leads}
 use denote.Text.{Utf8}
@@ -7,7 +7,7 @@ use Rattle.rustc_lexer.proofs.literal.string_body.Given as goal
 
 abbrev pub invariant-loop-c : goal.invariant-loop-c
 invariant-loop-c l =
-    shadow (Utf8 l.rest) × Leads (string_body false (chars l.fn.text)) (chars l.fn.text) (string_body false (chars l.rest)) (chars l.rest)
+    shadow (Utf8 l.rest) × Leads (string_body (chars l.fn.text)) (chars l.fn.text) (string_body (chars l.rest)) (chars l.rest)
 
 abbrev pub decreases-loop-c : goal.decreases-loop-c
 decreases-loop-c l = length (chars l.rest)
