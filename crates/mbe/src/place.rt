@@ -40,6 +40,21 @@ fn again<'a>(trees: &TtIter<'a>) -> TtIter<'a>
     trees.remaining().iter()
 }
 
+// The trees after the first one.
+#[inline]
+#[tactic(auto, using(crate::proofs::PlaceLemmas::after_leaf, crate::proofs::PlaceLemmas::after_group, crate::proofs::PlaceLemmas::after_nothing))]
+fn after_first<'a>(trees: &TtIter<'a>) -> TtIter<'a>
+    ensures { result ≡ past 1 trees.now }
+{
+    if let Some((_leaf, rest)) = trees.lent_leaf() {
+        return rest;
+    }
+    match trees.first_group() {
+        Some((_brackets, _inner, rest)) => rest,
+        None => again(trees),
+    }
+}
+
 // The trees after the first ones.
 pub(crate) fn past<'a>(trees: &TtIter<'a>, count: usize) -> TtIter<'a>
     ensures { result ≡ past count trees.now }
@@ -47,7 +62,7 @@ pub(crate) fn past<'a>(trees: &TtIter<'a>, count: usize) -> TtIter<'a>
     let mut rest = again(trees);
     let mut left = count;
     while left > 0 {
-        let _tree = rest.next();
+        rest = after_first(&rest);
         left -= 1;
     }
     rest
