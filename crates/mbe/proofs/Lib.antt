@@ -18,6 +18,7 @@ pub mod FallingLemmas
 pub mod MoveLemmas
 pub mod MatchingLemmas
 pub mod PlaceLemmas
+pub mod LentLemmas
 pub mod OpsLemmas
 pub mod RungLemmas
 pub mod SettlingLemmas

@@ -12,7 +12,8 @@ use Rattle.tt_data.specs.declared.leaf.Leaf.{Leaf}
 use Rattle.tt_data.specs.declared.tree.Subtree.{Subtree}
 use Rattle.tt_data.specs.declared.leaf.Leaf.TheVariants as as_leaf
 use Rattle.tt.specs.Glued.{glued_count}
-use Rattle.tt.specs.FirstTrees.{first_punct}
+use Rattle.tt.specs.FirstTrees.{first_group, first_leaf, first_punct}
+use Rattle.tt_data.specs.declared.delimiter.Delimiter.{Delimiter}
 use Rattle.tt_data.specs.declared.leaf.Punct.{Punct}
 use Rattle.mbe.specs.Units.{unit_trees, first_characters}
 use Rattle.tt.proofs.GluedLemmas.{glued-one}
@@ -37,6 +38,30 @@ joined-cancel f g rest e =
     sym (forest_of-preorder f)
     ∙ ap forest_of (append_cancel_right (preorder f) (preorder g) (preorder rest) (sym (preorder-joined f rest) ∙ ap preorder e ∙ preorder-joined g rest))
     ∙ forest_of-preorder g
+
+-- the trees after the first one, by what that is
+pub after_leaf : (f : Forest) (x : Leaf × Forest) → first_leaf f ≡ Some x → x.1 ≡ past 1 f
+after_leaf empty x e = absurd (cc e)
+after_leaf (group d inner rest) x e = absurd (cc e)
+after_leaf (leaf l rest) x e = let i : (let y : Leaf × Forest = (l, rest) in y) ≡ x = cc in ap (λ (y : Leaf × Forest). y.1) (sym i)
+
+pub after_group : (f : Forest) (x : Delimiter × Forest × Forest) → first_group f ≡ Some x → x.2 ≡ past 1 f
+after_group empty x e = absurd (cc e)
+after_group (leaf l rest) x e = absurd (cc e)
+after_group (group d inner rest) x e = let i : (let y : Delimiter × Forest × Forest = (d, inner, rest) in y) ≡ x = cc in ap (λ (y : Delimiter × Forest × Forest). y.2) (sym i)
+
+pub after_nothing : (f : Forest) → first_leaf f ≡ None → first_group f ≡ None → f ≡ past 1 f
+after_nothing empty e h = refl
+after_nothing (leaf l rest) e h = absurd (cc e)
+after_nothing (group d inner rest) e h = absurd (cc h)
+
+pub past_step : (n m : ℕ) (f : Forest) → m + 1 ≡ n → past m (past 1 f) ≡ past n f
+past_step n m f e = let i : suc m ≡ n = omega (arith, e) in rw (← i) (go f)
+  where
+    go : (g : Forest) → past m (past 1 g) ≡ past (suc m) g
+    go empty = past-empty m
+    go (leaf l rest) = refl
+    go (group d inner rest) = refl
 
 pub past-next : (n m : ℕ) (f g : Forest) (o : Option TtElement) → IsNext f o g → m + 1 ≡ n → past m g ≡ past n f
 past-next n m f g None (a, b) e = rw (a, b) (past-empty m ∙ sym (past-empty n))

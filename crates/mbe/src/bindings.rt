@@ -180,15 +180,17 @@ impl<'a> Bindings<'a> {
         }
     }
 
-    /// The names that are bound in a round have their values of it.
+    /// The names that are bound in a round have their values of it, and the round holds none any more.
     pub(crate) fn bind_round(
         &mut self,
         number: usize,
-        round: Bindings<'a>,
+        round: &mut Bindings<'a>,
     ) -> Result<(), AllocError>
-        ensures { OnOk result (map_of self.new ≡ bind_round number (map_of round.entry) (map_of self.old)) }
+        ensures bound { OnOk result (map_of self.new ≡ bind_round number (map_of round.old) (map_of self.old)) }
+        ensures left { OnOk result (map_of round.new ≡ []) }
     {
-        for bound in round.bound {
+        round.bound.reverse();
+        while let Some(bound) = round.bound.pop() {
             self.bind_in_round(number, bound.name, bound.binding)?;
         }
         Ok(())

@@ -57,8 +57,9 @@ impl<'a> Open<'a> {
     ghost use Rattle.mbe.specs.Collecting.{open_of};
 
     // One round more has ended.
-    fn with_round(self, round: Bindings<'a>) -> Result<Open<'a>, AllocError>
-        ensures { IfOk result (λ o. open_of o ≡ (bind_round self.entry.rounds (map_of round.entry) (map_of self.entry.around), suc self.entry.rounds)) }
+    fn with_round(self, round: &mut Bindings<'a>) -> Result<Open<'a>, AllocError>
+        ensures bound { IfOk result (λ o. open_of o ≡ (bind_round self.entry.rounds (map_of round.old) (map_of self.entry.around), suc self.entry.rounds)) }
+        ensures left { IfOk result (λ o. map_of round.new ≡ []) }
     {
         let Open { mut around, rounds } = self;
         around.bind_round(rounds, round)?;
@@ -93,28 +94,26 @@ impl<'a> Collected<'a> {
     }
 
     // A round ends, and another begins.
-    fn end_round(&mut self, alloc: Global) -> Result<(), AllocError>
+    fn end_round(&mut self) -> Result<(), AllocError>
         ensures { OnOk result (collected_of self.new ≡ after r.next_round (collected_of self.old)) }
     {
         let Some(open) = self.opens.pop() else {
             return Ok(());
         };
-        let round = mem::replace(&mut self.here, Bindings::new(alloc));
-        let open = open.with_round(round)?;
+        let open = open.with_round(&mut self.here)?;
         self.opens.push(open)?;
         Ok(())
     }
 
     // A repetition ends.
-    fn leave(&mut self, alloc: Global) -> Result<(), AllocError>
+    fn leave(&mut self) -> Result<(), AllocError>
         ensures { OnOk result (collected_of self.new ≡ after r.leave (collected_of self.old)) }
     {
         let Some(open) = self.opens.pop() else {
             return Ok(());
         };
-        let round = mem::replace(&mut self.here, Bindings::new(alloc));
         let Open { mut around, rounds } = open;
-        around.bind_round(rounds, round)?;
+        around.bind_round(rounds, &mut self.here)?;
         self.here = around;
         Ok(())
     }
@@ -134,8 +133,8 @@ impl<'a> Collected<'a> {
             }
             Move::Skip { body } => skip(&mut self.here, body),
             Move::Enter => self.enter(alloc),
-            Move::Leave => self.leave(alloc),
-            Move::NextRound => self.end_round(alloc),
+            Move::Leave => self.leave(),
+            Move::NextRound => self.end_round(),
             Move::Unit | Move::Separator => Ok(()),
         }
     }

@@ -188,7 +188,7 @@ impl<'a> Settled<'a> {
 
     // The same, unless two threads were settled in its state: these tell that no reading that goes through
     // it is the only one.
-    fn go_on_twice<G: FragmentGrammar>(
+    fn go_on_noted<G: FragmentGrammar>(
         &mut self,
         arena: &'a Bump,
         grammar: &G,
@@ -209,6 +209,30 @@ impl<'a> Settled<'a> {
             return Ok(());
         }
         self.tasks.push(Task::Note(Seen { thread, twice }))?;
+        self.go_on(arena, grammar, thread, place)?;
+        Ok(())
+    }
+
+    // The same, but a thread at the end of the pattern, which no move leads from, is not noted.
+    fn go_on_twice<G: FragmentGrammar>(
+        &mut self,
+        arena: &'a Bump,
+        grammar: &G,
+        thread: Thread<'a>,
+        place: &Place<'a>,
+    ) -> Result<(), AllocError>
+        requires good { IsGood (state_of thread (place_of place.now)) }
+        requires tasks { Each (HasEnd (place_of place.now)) self.now.tasks.items }
+        ensures all { let p = place_of place.now in let gr = G.answer grammar.now in (pattern : Items) (all : List Waits) →
+            Leads gr pattern p all self.old.waiting.items self.old.seen.items (self.old.tasks.items ++ (GoOn (record { thread = thread.entry; taken = None }) ∷ [])) →
+            OnOk result (Leads gr pattern p all self.new.waiting.items self.new.seen.items self.new.tasks.items) }
+        ensures tasks { OnOk result (Each (HasEnd (place_of place.now)) self.new.tasks.items) }
+        ensures fewer { let p = place_of place.now in
+            OnOk result (tasks_of_all p self.new.tasks.items < tasks_of_all p self.old.tasks.items + most_tasks (empties_at (state_of thread.entry p))) }
+    {
+        if !thread.items.is_empty() || thread.frames.is_some() {
+            return self.go_on_noted(arena, grammar, thread, place);
+        }
         self.go_on(arena, grammar, thread, place)?;
         Ok(())
     }

@@ -40,6 +40,21 @@ fn again<'a>(trees: &TtIter<'a>) -> TtIter<'a>
     trees.remaining().iter()
 }
 
+// The trees after the first one.
+#[inline]
+#[tactic(auto, using(crate::proofs::PlaceLemmas::after_leaf, crate::proofs::PlaceLemmas::after_group, crate::proofs::PlaceLemmas::after_nothing))]
+fn after_first<'a>(trees: &TtIter<'a>) -> TtIter<'a>
+    ensures { result ≡ past 1 trees.now }
+{
+    if let Some((_leaf, rest)) = trees.lent_leaf() {
+        return rest;
+    }
+    match trees.first_group() {
+        Some((_brackets, _inner, rest)) => rest,
+        None => again(trees),
+    }
+}
+
 // The trees after the first ones.
 pub(crate) fn past<'a>(trees: &TtIter<'a>, count: usize) -> TtIter<'a>
     ensures { result ≡ past count trees.now }
@@ -47,7 +62,7 @@ pub(crate) fn past<'a>(trees: &TtIter<'a>, count: usize) -> TtIter<'a>
     let mut rest = again(trees);
     let mut left = count;
     while left > 0 {
-        let _tree = rest.next();
+        rest = after_first(&rest);
         left -= 1;
     }
     rest
@@ -126,12 +141,13 @@ impl<'a> Place<'a> {
         }
     }
 
+    #[tactic(auto, using(crate::proofs::LentLemmas::named, crate::proofs::LentLemmas::unnamed))]
     pub(crate) fn is_name(&self, name: &Symbol) -> bool
         ensures { result ≡ same_unit (a_name name.now) (unit_at (place_of self.now)) }
     {
-        match self.rest.peek() {
-            Some(TtElement::Leaf(Leaf::Ident(here))) => name.as_str() == here.sym.as_str(),
-            _ => false,
+        match self.rest.lent_ident() {
+            Some((here, _behind)) => name.as_str() == here.sym.as_str(),
+            None => false,
         }
     }
 
@@ -195,6 +211,7 @@ impl<'a> Place<'a> {
     }
 
     /// The place after a move.
+    #[tactic(auto, using(crate::proofs::LentLemmas::past_unit, crate::proofs::LentLemmas::into_group))]
     pub(crate) fn after(self, taken: Taken) -> Result<Place<'a>, AllocError>
         ensures { IfOk result (λ p. place_of p ≡ place_after (place_of self.entry) (Some taken)) }
     {
@@ -205,22 +222,21 @@ impl<'a> Place<'a> {
                 let rest = past(&rest, count);
                 Ok(Place { rest, outer })
             }
-            Taken::Unit => match rest.peek() {
-                None => match outer.pop() {
-                    None => Ok(Place { rest, outer }),
-                    Some(rest) => Ok(Place { rest, outer }),
-                },
-                Some(TtElement::Leaf(_leaf)) => {
-                    let count = unit_trees(&rest);
-                    let rest = past(&rest, count);
-                    Ok(Place { rest, outer })
-                }
-                Some(TtElement::Subtree(_subtree, inner)) => {
-                    let more = past(&rest, 1);
+            Taken::Unit => {
+                if let Some((_brackets, inner, more)) = rest.first_group() {
                     outer.push(more)?;
-                    Ok(Place { rest: inner, outer })
+                    return Ok(Place { rest: inner, outer });
                 }
-            },
+                if rest.is_empty() {
+                    return match outer.pop() {
+                        None => Ok(Place { rest, outer }),
+                        Some(rest) => Ok(Place { rest, outer }),
+                    };
+                }
+                let count = unit_trees(&rest);
+                let rest = past(&rest, count);
+                Ok(Place { rest, outer })
+            }
         }
     }
 }
@@ -236,17 +252,18 @@ fn unit_trees(trees: &TtIter<'_>) -> usize
     if count == 0 { 1 } else { count }
 }
 
+#[tactic(auto, using(crate::proofs::LentLemmas::an_ident, crate::proofs::LentLemmas::no_ident))]
 fn ident_trees(trees: &TtIter<'_>) -> Option<usize>
     ensures { result ≡ ident_trees trees.now }
 {
-    match trees.peek() {
-        Some(TtElement::Leaf(Leaf::Ident(name))) => {
+    match trees.lent_ident() {
+        Some((name, _behind)) => {
             if name.sym.as_str() == "_" {
                 return None;
             }
             Some(1)
         }
-        _ => None,
+        None => None,
     }
 }
 
@@ -291,19 +308,20 @@ fn literal_trees(trees: &TtIter<'_>) -> Option<usize>
     }
 }
 
+#[tactic(auto, using(crate::proofs::LentLemmas::a_punct_leaf, crate::proofs::LentLemmas::tree_else))]
 fn tree_trees(trees: &TtIter<'_>) -> Option<usize>
     ensures { result ≡ tree_trees trees.now }
 {
-    match trees.peek() {
-        None => None,
-        Some(TtElement::Leaf(Leaf::Punct(punct))) => {
-            if punct.char == '\'' {
-                return lifetime_trees(trees);
-            }
-            Some(trees.glued_count())
+    if let Some((punct, _behind)) = trees.first_punct() {
+        if punct.char == '\'' {
+            return lifetime_trees(trees);
         }
-        _ => Some(1),
+        return Some(trees.glued_count());
     }
+    if trees.is_empty() {
+        return None;
+    }
+    Some(1)
 }
 
 pub(crate) fn is_refused(trees: &TtIter<'_>) -> bool

@@ -1,20 +1,22 @@
 -- One entry more is bound, and in the end all are.
-use Rattle.std.proofs.Common.{◌≡◌, ◌∙◌, sym, ap, arith, []}
-use Rattle.std.proofs.lemmas.List.{nil_from_length}
+use Rattle.std.proofs.Common.{◌≡◌, ◌∙◌, sym, ap, arith, [], ◌∷◌, reverse}
+use Rattle.std.proofs.lemmas.List.{nil_from_length, reverse-append, reverse-reverse}
 use Rattle.mbe.specs.Bindings.{bind_round}
 use Rattle.mbe.specs.Bound.{entries_of, map_of}
 use Rattle.mbe.proofs.bindings.Bindings.bind_round.Goals as goal
 
 pub loop-bound-preserved : goal.loop-bound-preserved
 loop-bound-preserved c =
-    ap (bind_round c.args.number (entries_of c.next.new.self.rest.items)) c.in_ok-bind_in_round.ensures
-    ∙ sym (ap (λ xs. bind_round c.args.number (entries_of xs) (map_of c.loop-bound.self)) c.in-Some.ensures.steps.0)
+    ap (bind_round c.args.number (entries_of (reverse c.pop.new.self.items))) c.in_ok-bind_in_round.ensures
+    ∙ sym (ap (λ xs. bind_round c.args.number (entries_of xs) (map_of c.loop-bound.self))
+    (ap reverse c.in-Some.ensures.items ∙ reverse-append c.pop.new.self.items (c.in-Some.bound ∷ [])))
     ∙ c.loop-bound.invariant
 
-pub returns : goal.returns
-returns c =
-    let none : c.loop-bound.bound-iterator.rest.items ≡ [] =
-    nil_from_length c.loop-bound.bound-iterator.rest.items (omega (arith, c.in-None.ensures.steps.0, c.loop-bound.bound-iterator.rest.ok.0)) in
-    sym (ap (λ xs. bind_round c.args.number (entries_of xs) (map_of c.loop-bound.self)) none)
+pub returns-clause-bound : goal.returns-clause-bound
+returns-clause-bound c =
+    let none : c.loop-bound.round.bound.items ≡ [] =
+    nil_from_length c.loop-bound.round.bound.items (omega (arith, c.in_default.ensures.cases.0, c.loop-bound.round.bound.ok.0)) in
+    sym (ap (λ xs. bind_round c.args.number (entries_of (reverse xs)) (map_of c.loop-bound.self)) none)
     ∙ c.loop-bound.invariant
-    ∙ ap (λ xs. bind_round c.args.number (entries_of xs) (map_of c.args.self.now)) c.into_iter-bound-iterator.ensures.into_iter_gives.0
+    ∙ ap (λ xs. bind_round c.args.number (entries_of (reverse xs)) (map_of c.args.self.now)) c.reverse.ensures.items
+    ∙ ap (λ xs. bind_round c.args.number (entries_of xs) (map_of c.args.self.now)) (reverse-reverse c.args.round.now.bound.items)
