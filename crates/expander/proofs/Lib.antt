@@ -7,6 +7,7 @@ mod CuttingLemmas
 mod ApartLemmas
 mod PrintingLemmas
 mod OrderLemmas
+mod SharedPieceLemmas
 mod SortLemmas
 mod KnownLemmas
 mod LineLemmas
@@ -39,6 +40,7 @@ mod HeldLemmas
 mod TreeLemmas
 mod ReadPlaceLemmas
 mod TextPlaceLemmas
+mod ReplyLawLemmas
 mod ReuseLemmas
 mod HeldPieceLemmas
 mod TextTurnLemmas

@@ -8,10 +8,10 @@ use Rattle.expander.specs.Count.{Looked, expanded_count, is_same, same_forest}
 use Rattle.expander.proofs.ReuseLemmas.{looked_same}
 
 -- pieces that all have a match
-abbrev AllMatch : List Looked → List Looked → Type 0
+abbrev pub AllMatch : List Looked → List Looked → Type 0
 AllMatch earlier ls = All (λ p. list_any (is_same p) earlier ≡ true) ls
 
-none_counts : (earlier ls : List Looked) → AllMatch earlier ls → length (filter (λ p. not (list_any (is_same p) earlier)) ls) ≡ 0
+pub none_counts : (earlier ls : List Looked) → AllMatch earlier ls → length (filter (λ p. not (list_any (is_same p) earlier)) ls) ≡ 0
 none_counts earlier [] h = refl
 none_counts earlier (l ∷ ls) h =
     go (list_any (is_same l) earlier) (All-head (λ p. list_any (is_same p) earlier ≡ true) l ls h)
@@ -23,7 +23,7 @@ none_counts earlier (l ∷ ls) h =
     go false e later = cc
 
 module _ (equal : (f g : Forest) → (same_forest f g ≡ true) ↔ (f ≡ g)) where
-  all_match : (earlier ls : List Looked) → ((l : Looked) → list_any (is_same l) ls ≡ true → list_any (is_same l) earlier ≡ true) → AllMatch earlier ls
+  pub all_match : (earlier ls : List Looked) → ((l : Looked) → list_any (is_same l) ls ≡ true → list_any (is_same l) earlier ≡ true) → AllMatch earlier ls
   all_match earlier [] into = All-nil (λ p. list_any (is_same p) earlier ≡ true)
   all_match earlier (l ∷ ls) into =
       All-cons (λ p. list_any (is_same p) earlier ≡ true) l ls

@@ -6,21 +6,22 @@ ghost use Rattle.expander.specs.Answers.{AreAnswers, ShowTheSame, last_text};
 ghost use Rattle.expander.specs.Calls.{marked, unmarked};
 ghost use Rattle.expander.specs.CallSteps.{call_at, first_call};
 ghost use Rattle.expander.specs.Changes.{outcome_with};
-ghost use Rattle.expander.specs.Count.{Looked, expanded_count, is_same, looked_of, same_forest};
+ghost use Rattle.expander.specs.Count.{Looked, expanded_count, finds_within, is_same, looked_of, same_forest};
 ghost use Rattle.expander.specs.Expansion.{World, expansion, placed};
 ghost use Rattle.expander.specs.Expanded.{Expanded};
 ghost use Rattle.expander.specs.Faults.{comes_before, in_order};
 ghost use Rattle.expander.specs.FixedPoint.{IsFixedPoint, RepliesWith};
 ghost use Rattle.expander.specs.Held.{IsMet, Known, Met, TellsApart, definition_trees, kept_after, numbered_scope, numbered_world, present, trees_in};
-ghost use Rattle.expander.specs.Laws.{AreAllPlain, Fails, HasNoWord};
+ghost use Rattle.expander.specs.Laws.{AreAllPlain, ExpandsNothing, Fails, HasNoWord, definitions_after};
 ghost use Rattle.expander.specs.Layered.{layers};
 ghost use Rattle.expander.specs.Meaning.{Layers, ReadMeaning, faults_of, meaning, member_faults, members, members_after, output, output_of};
 ghost use Rattle.expander.specs.Numbers.{AreEntries, Numbering, needed, number_in, number_of, tree_of, with_trees};
 ghost use Rattle.expander.specs.OtherPlaces.{CommutesWithMarker, definition_with};
-ghost use Rattle.expander.specs.Pieces.{cut, pieces, put_together};
+ghost use Rattle.expander.specs.Pieces.{cut, pieces, put_together, relative};
 ghost use Rattle.expander.specs.Printing.{left_out};
-ghost use Rattle.expander.specs.Replies.{IsReplyTo};
+ghost use Rattle.expander.specs.Replies.{IsReplyTo, Replies};
 ghost use Rattle.expander.specs.Reuse.{HeldPiece, IsHeld, looked_at, looked_held, matches};
+ghost use Rattle.expander.specs.State.{State, layers_of};
 ghost use Rattle.expander.specs.TextTurn.{InEntries, IsNext, IsTurn, held_of, is_unmatched, kept_entries, numbering_of, taken_after};
 ghost use Rattle.expander.specs.declared.calls.Call.{Call};
 ghost use Rattle.expander.specs.Definitions.{Definition, definition_of};
@@ -45,6 +46,7 @@ ghost use Rattle.tt_data.specs.declared.span.Span.{Span};
 use crate::faults::{Fault, FaultKind};
 use crate::program::Status;
 use crate::session::Refusal;
+use fragment_grammar::FragmentGrammar;
 
 /// A forest's calls are marked and nothing else: the marks taken off give the forest back.
 pub fn marks_taken_off()
@@ -210,6 +212,76 @@ pub fn a_text_matches_itself()
     ensures { (ps : List Looked) → expanded_count (Some ps) ps ≡ 0 }
 {
     equal_pieces();
+}
+
+/// A second reply with nothing changed before it shows the same as the first, and no piece is expanded for it.
+pub fn a_second_reply_expands_nothing<G: FragmentGrammar>()
+    ensures { (old new newer : State G) (e : Expanded) (reply : Reply) →
+        Replies (layers_of G.answer old) old new (Read e) → Replies (layers_of G.answer new) new newer reply →
+        ShowTheSame (Read e) reply × ExpandsNothing reply }
+{
+    equal_pieces();
+}
+
+/// A piece does not count as expanded where an earlier one has the same tree, and each name that is looked up in one of
+/// them is looked up in the other too and finds an equal definition there, or none in both.
+pub fn a_piece_that_finds_the_same_does_not_count()
+    ensures { (held ps : List Looked) (p q : Looked) → Contains held q → p.tree ≡ q.tree →
+        finds_within p.finds q.finds ≡ true → finds_within q.finds p.finds ≡ true →
+        expanded_count (Some held) (p ∷ ps) ≡ expanded_count (Some held) ps }
+{
+    equal_pieces();
+}
+
+/// Where two texts begin with the same pieces in places of their own, as before a definition that is added, changed or
+/// removed, those of the one do not count against those of the other: `front`. All that counts is behind them: `behind`.
+pub fn pieces_before_a_change_do_not_count()
+    ensures front { (grammar : Grammar) (edition : Edition) (depth : ℕ) (text other : List ℕ) (f g : Forest) (ones twos more_ones more_twos : List Forest) →
+        IsUtf8 text → IsUtf8 other → text_reading text ≡ Ok f → text_reading other ≡ Ok g →
+        pieces f ≡ ones ++ more_ones → pieces g ≡ twos ++ more_twos → map relative ones ≡ map relative twos →
+        expanded_count (Some (looked_of (members (layers grammar edition) depth f))) (looked_of (members_after (layers grammar edition) depth [] twos)) ≡ 0 }
+    ensures behind { (grammar : Grammar) (edition : Edition) (depth : ℕ) (text other : List ℕ) (f g : Forest) (ones twos more_ones more_twos : List Forest) →
+        IsUtf8 text → IsUtf8 other → text_reading text ≡ Ok f → text_reading other ≡ Ok g →
+        pieces f ≡ ones ++ more_ones → pieces g ≡ twos ++ more_twos → map relative ones ≡ map relative twos →
+        expanded_count (Some (looked_of (members (layers grammar edition) depth f))) (looked_of (members (layers grammar edition) depth g))
+        ≡ expanded_count (Some (looked_of (members (layers grammar edition) depth f)))
+        (looked_of (members_after (layers grammar edition) depth (definitions_after [] twos) more_twos)) }
+{
+    mbe_rules::laws::rules_at_other_places();
+    mbe::laws::fit_at_other_places();
+    mbe::laws::bursts_at_other_places();
+    bridge::laws::reading_is_a_relation();
+    bridge::laws::tokens_follow_one_another();
+    bridge::laws::tokens_are_written();
+    equal_pieces();
+}
+
+/// Two texts with the same pieces in places of their own, which may differ in white space and comments between them: no
+/// piece of the one counts against those of the other, and a session that last read the one expands none for the other.
+pub fn the_same_pieces_are_not_expanded_again()
+    ensures counted { (grammar : Grammar) (edition : Edition) (depth : ℕ) (text other : List ℕ) (f g : Forest) →
+        IsUtf8 text → IsUtf8 other → text_reading text ≡ Ok f → text_reading other ≡ Ok g → map relative (pieces f) ≡ map relative (pieces g) →
+        expanded_count (Some (looked_of (members (layers grammar edition) depth f))) (looked_of (members (layers grammar edition) depth g)) ≡ 0 }
+    ensures replied { (grammar : Grammar) (edition : Edition) (depth : ℕ) (text other : List ℕ) (f g : Forest) (reply : Reply) →
+        IsUtf8 text → IsUtf8 other → text_reading text ≡ Ok f → text_reading other ≡ Ok g → map relative (pieces f) ≡ map relative (pieces g) →
+        IsReplyTo (layers grammar edition) depth other (Some (looked_of (members (layers grammar edition) depth f))) reply → ExpandsNothing reply }
+{
+    mbe_rules::laws::rules_at_other_places();
+    mbe::laws::fit_at_other_places();
+    mbe::laws::bursts_at_other_places();
+    bridge::laws::reading_is_a_relation();
+    bridge::laws::tokens_follow_one_another();
+    bridge::laws::tokens_are_written();
+    equal_pieces();
+}
+
+/// A reply to a text of fewer than 2^31 bytes tells no fault where none of the text's names begins a definition.
+pub fn replies_without_definition_words_tell_no_fault()
+    ensures { (grammar : Grammar) (edition : Edition) (depth : ℕ) (text : List ℕ) (f : Forest) (earlier : Option (List Looked)) (e : Expanded) →
+        IsUtf8 text → length text < 2 ^ 31 → text_reading text ≡ Ok f → HasNoWord f →
+        IsReplyTo (layers grammar edition) depth text earlier (Read e) → e.faults ≡ [] }
+{
+    no_fault_without_definition_words();
 }
 
 /// The definitions of a text's members, in places of their own, are those of its pieces.
