@@ -29,16 +29,16 @@ no_return (b ∷ c ∷ more) (suc n) long e = ap (λ l. b ∷ l) (no_return (c �
 
 -- ---- escapes
 
-escape_is_ascii : (b : ℕ) → is_byte2 92 34 b ≡ true → b < 128
+pub escape_is_ascii : (b : ℕ) → is_byte2 92 34 b ≡ true → b < 128
 escape_is_ascii b e = grind (arith, nat_tests)
 
-one_escaped : (b : ℕ) (more : List ℕ) → is_byte2 92 34 b ≡ true → escaped (b ∷ more) ≡ 92 ∷ (b ∷ escaped more)
+pub one_escaped : (b : ℕ) (more : List ℕ) → is_byte2 92 34 b ≡ true → escaped (b ∷ more) ≡ 92 ∷ (b ∷ escaped more)
 one_escaped b more e = rw e refl
 
 one_kept : (b : ℕ) (more : List ℕ) → is_byte2 92 34 b ≡ false → escaped (b ∷ more) ≡ b ∷ escaped more
 one_kept b more e = rw e refl
 
-not_true : (b : Bool) → (b ≡ true → ⊥) → b ≡ false
+pub not_true : (b : Bool) → (b ≡ true → ⊥) → b ≡ false
 not_true true h = absurd (h refl)
 not_true false h = refl
 
@@ -52,7 +52,7 @@ escaped_first (b ∷ more) (suc n) lt none marked =
     ∙ ap (λ l. b ∷ l) (escaped_first more n (omega (arith, lt)) (λ k l. none (suc k) (omega (arith, l))) marked)
 
 -- a text where nothing is escaped
-escaped_none : (bs : List ℕ) → ((k : ℕ) → k < length bs → is_byte2 92 34 (get_or bs k 0) ≡ true → ⊥) → escaped bs ≡ bs
+pub escaped_none : (bs : List ℕ) → ((k : ℕ) → k < length bs → is_byte2 92 34 (get_or bs k 0) ≡ true → ⊥) → escaped bs ≡ bs
 escaped_none [] none = refl
 escaped_none (b ∷ more) none =
     one_kept b more (not_true (is_byte2 92 34 b) (none 0 (omega arith)))

@@ -4,6 +4,7 @@ mod ReadingLemmas
 mod AddingLemmas
 mod CutLemmas
 mod EscapeLemmas
+mod EscapedLemmas
 mod FrontLemmas
 mod ReadStepLemmas
 mod ReadTokensLemmas
@@ -23,3 +24,5 @@ mod PrintStepLemmas
 mod OrderLemmas
 mod WrittenLemmas
 mod PlainLemmas
+mod DocLemmas
+mod ReadSpelledLemmas

@@ -168,7 +168,7 @@ plain_stands (c ∷ ds) h =
     ap (λ u. u && list_all stands_for_itself ds) itself ∙ plain_stands ds parts.1
 
 -- a text in quotes
-abbrev quoted : List ℕ → List ℕ
+abbrev pub quoted : List ℕ → List ℕ
 quoted text = 34 ∷ text ++ 34 ∷ []
 
 -- what of the whole token is the text of a string without a suffix
@@ -185,6 +185,22 @@ string_shown l is none =
     let bare : literal_by form.Str l.text [] ≡ quoted l.text = append-nil (quoted l.text) in
     ap (λ f. literal_by f l.text l.suffix) is ∙ (ap (literal_by form.Str l.text) none ∙ bare)
 
+-- a string whose text in quotes is one token
+pub string_by : (l : LiteralParts) → l.kind ≡ form.Str → l.suffix ≡ [] → length l.text + 2 < 2 ^ 32 → IsUtf8 (quoted l.text)
+    → ((text : List ℕ) → IsUtf8 text → sum_by (λ (t : Token). t.len) (tokens_of (chars text)) ≡ length text)
+    → tokens_of (chars (quoted l.text))
+    ≡ record { kind = kind.Literal (literal.Str true) (utf8_len (chars (quoted l.text))); len = utf8_len (chars (quoted l.text)) } ∷ []
+    → is_text_of (as_leaf.Literal l) (displayed_leaf (as_leaf.Literal l)) ≡ true
+string_by l is none short u whole single =
+    let shown : List ℕ = quoted l.text in
+    let n : ℕ = utf8_len (chars shown) in
+    let fits : length shown < 2 ^ 32 = omega (arith, short, length-append l.text (34 ∷ [])) in
+    ap (is_text_of (as_leaf.Literal l)) (string_shown l is none)
+    ∙ sym (told_of_one shown _ (as_leaf.Literal l) true u fits (whole shown u) single (λ p more at. sym (
+    ap (λ k. same_form k form.Str && (bytes_eq l.text (take (n - 1 - 1) (drop 1 p.text)) && bytes_eq l.suffix (drop n p.text))) is
+    ∙ (ap (λ s. bytes_eq l.text (take (n - 1 - 1) (drop 1 p.text)) && bytes_eq s (drop n p.text)) none
+    ∙ string_in l.text p.text n at (one_len shown _ (whole shown u) single)))))
+
 -- a string of plain text
 pub string_spelled : (l : LiteralParts) → l.kind ≡ form.Str → l.suffix ≡ [] → length l.text + 2 < 2 ^ 32 → list_all is_plain_byte l.text ≡ true
     → ((text : List ℕ) → IsUtf8 text → sum_by (λ (t : Token). t.len) (tokens_of (chars text)) ≡ length text)
@@ -193,15 +209,7 @@ pub string_spelled : (l : LiteralParts) → l.kind ≡ form.Str → l.suffix ≡
     → is_text_of (as_leaf.Literal l) (displayed_leaf (as_leaf.Literal l)) ≡ true
 string_spelled l is none short plain whole one =
     let shown : List ℕ = quoted l.text in
-    let n : ℕ = utf8_len (chars shown) in
     let ascii : IsAscii shown = IsAscii-cons 34 (l.text ++ 34 ∷ []) (omega arith) (IsAscii-append l.text (34 ∷ []) (plain_ascii l.text plain) (IsAscii-cons 34 [] (omega arith) IsAscii-nil)) in
-    let same : chars shown ≡ shown = chars-IsAscii shown ascii in
-    let u : IsUtf8 shown = IsUtf8-from_ascii shown ascii in
-    let fits : length shown < 2 ^ 32 = omega (arith, short, length-append l.text (34 ∷ [])) in
-    let single : tokens_of (chars shown) ≡ record { kind = kind.Literal (literal.Str true) n; len = n } ∷ [] =
-    subst (λ cs. tokens_of cs ≡ record { kind = kind.Literal (literal.Str true) (utf8_len cs); len = utf8_len cs } ∷ []) (sym same) (one l.text (plain_stands l.text plain)) in
-    ap (is_text_of (as_leaf.Literal l)) (string_shown l is none)
-    ∙ sym (told_of_one shown _ (as_leaf.Literal l) true u fits (whole shown u) single (λ p more at. sym (
-    ap (λ k. same_form k form.Str && (bytes_eq l.text (take (n - 1 - 1) (drop 1 p.text)) && bytes_eq l.suffix (drop n p.text))) is
-    ∙ (ap (λ s. bytes_eq l.text (take (n - 1 - 1) (drop 1 p.text)) && bytes_eq s (drop n p.text)) none
-    ∙ string_in l.text p.text n at (one_len shown _ (whole shown u) single)))))
+    string_by l is none short (IsUtf8-from_ascii shown ascii) whole
+    (subst (λ cs. tokens_of cs ≡ record { kind = kind.Literal (literal.Str true) (utf8_len cs); len = utf8_len cs } ∷ [])
+    (sym (chars-IsAscii shown ascii)) (one l.text (plain_stands l.text plain)))

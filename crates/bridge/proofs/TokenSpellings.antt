@@ -238,7 +238,7 @@ by_sort (Doc Outer is_block) s t p more l sort same one tells cut shape read = a
 by_sort (Doc Inner is_block) s t p more l sort same one tells cut shape read = absurd (let n = ap length read in omega (arith, n))
 by_sort Neither s t p more l sort same one tells cut shape read = absurd (cc)
 
-slice_long : (text : List ℕ) (at n : ℕ) → at + n ≤ length text → length (slice_range text at (at + n)) ≡ n
+pub slice_long : (text : List ℕ) (at n : ℕ) → at + n ≤ length text → length (slice_range text at (at + n)) ≡ n
 slice_long text at n l =
     let e : at + n - at ≡ n = omega arith in
     ap (λ k. length (take k (drop at text))) e ∙ length-take-le n (drop at text) (omega (arith, l, length-drop at text))

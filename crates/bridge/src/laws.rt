@@ -1,7 +1,7 @@
 //! Laws of reading and printing, for proofs. A call does nothing: it only states.
 ghost use Rattle.std.specs.Prelude.{◌≡◌, ◌↔◌, ◌<◌, ◌^◌, ◌+◌, ◌++◌, drop, length, ℕ, IsUtf8, List, [], ◌∷◌, map, true, false, IsSome, Ok, Err};
 ghost use Rattle.bridge.specs.Order.{AreWritten, FollowOneAnother};
-ghost use Rattle.bridge.specs.Pieces.{StandsBehindFirst};
+ghost use Rattle.bridge.specs.Pieces.{StandsBehindFirst, separated};
 ghost use Rattle.bridge.specs.Printing.{is_quote, print_of, visible};
 ghost use Rattle.bridge.specs.Reading.{IsFault, IsReading, PlacedToken, TextStep, reading, step, with_front};
 ghost use Rattle.bridge.specs.ReadsBack.{PrintsAgain, ReadsBack};
@@ -79,6 +79,23 @@ pub fn read_leaves_have_spellings()
     rustc_lexer::laws::token_lengths();
     rustc_lexer::laws::token_shapes();
     rustc_lexer::laws::suffix_starts();
+}
+
+/// Where a text has fewer than 2^31 bytes and is read, each of its tokens has a spelling: nothing is left out of what is
+/// printed of it, and nothing where each `;` of its top list stands alone.
+pub fn read_texts_are_printed_whole()
+    ensures text { (text : List ℕ) (f : Forest) →
+        IsUtf8 text → length text < 2 ^ 31 → IsReading (text_steps text) f → (print_of (walk f)).left_out ≡ [] }
+    ensures pieces { (text : List ℕ) (f : Forest) →
+        IsUtf8 text → length text < 2 ^ 31 → IsReading (text_steps text) f → (print_of (walk (separated f))).left_out ≡ [] }
+{
+    read_leaves_have_spellings();
+    rustc_lexer::laws::next_token();
+    rustc_lexer::laws::one_escaped_string();
+    rustc_lexer::laws::suffix_starts();
+    rustc_lexer::laws::token_lengths();
+    rustc_lexer::laws::token_shapes();
+    rustc_lexer::laws::tokens_begin();
 }
 
 /// The text that is printed of any trees has no reading fault, and is read as just the printed

@@ -139,7 +139,7 @@ quiet_read depth (a ∷ tokens) (s ∷ steps) r e =
 
 -- ---- a `;` alone is said twice
 
-separated_same : (f : Forest) → separated f ≡ bare_pieces.separated f
+pub separated_same : (f : Forest) → separated f ≡ bare_pieces.separated f
 separated_same empty = refl
 separated_same (leaf l rest) = ap (λ m. leaf m (separated rest)) (alone_same (is_punct ";" l) l) ∙ ap (leaf (if is_punct ";" l then bare_pieces.alone l else l)) (separated_same rest)
   where
@@ -152,7 +152,7 @@ separated_same (group d inner rest) = ap (group d inner) (separated_same rest)
 
 -- ---- nothing is left out
 
-none_left_out : (n : ℕ) (xs : List PlacedStep) → left_out_from n (steps_of xs) ≡ [] → left_out spelling_before xs ≡ []
+pub none_left_out : (n : ℕ) (xs : List PlacedStep) → left_out_from n (steps_of xs) ≡ [] → left_out spelling_before xs ≡ []
 none_left_out n [] e = refl
 none_left_out n (s ∷ more) e = go (none_left_out (n + 1) more) (spelling_before s.step more) e
   where

@@ -18,7 +18,6 @@ mod OwnPlaceLemmas
 mod CallLemmas
 mod HandedLemmas
 mod DefinitionLemmas
-mod ScopeLemmas
 mod TurnLemmas
 mod FirstCallLemmas
 mod SearchLemmas
@@ -27,6 +26,7 @@ mod WordLemmas
 mod QuietLemmas
 mod FixedLemmas
 mod FixedReplyLemmas
+mod QuietReadLemmas
 mod AgreementLemmas
 mod FindsLemmas
 mod ChainLemmas
@@ -50,9 +50,6 @@ mod KeptLemmas
 mod TakenLemmas
 mod TakenReplyLemmas
 mod SelfMatchLemmas
-mod AnswerLemmas
-mod ExpandLemmas
-mod PieceLemmas
 mod MetLemmas
 mod OwnLemmas
 mod PlacingLemmas
@@ -62,7 +59,7 @@ mod TakingLemmas
 mod PassLemmas
 mod PassLoopLemmas
 mod AnchoredLemmas
-mod ReplyLemmas
+mod SessionLemmas
 mod EditLemmas
 mod CommandLemmas
 mod SameTextLemmas

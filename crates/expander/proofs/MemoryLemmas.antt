@@ -1,5 +1,5 @@
 -- What a session holds.
-use Rattle.std.proofs.Common.{◌≡◌, ℕ, Bool, true, false, cond, List, [], ◌∷◌, map, Option, Some, None, refl, ap, sym, subst, ◌∙◌, arith, Global}
+use Rattle.std.proofs.Common.{◌≡◌, ℕ, List, [], ◌∷◌, map, Option, Some, None, refl, ap, sym, subst, ◌∙◌, Global}
 use Rattle.std.specs.Prelude.{All, is_some, option_map}
 use Rattle.std.specs.List.{list_any}
 use Rattle.std.specs.Rc.{rc_value}
@@ -8,19 +8,17 @@ use Rattle.std.proofs.lemmas.List.Elements.{All-cons, All-head, All-nil, All-tai
 use Rattle.tt.specs.Tops.{Top}
 use Rattle.tt_data.specs.Forest.{Forest}
 use Rattle.tt_data.specs.declared.edition.Edition.{Edition}
-use Rattle.expander.specs.ByTrees.{AllRead, IsTable, known_in, numbers_in, own_top}
+use Rattle.expander.specs.ByTrees.{known_in, numbers_in, own_top}
 use Rattle.expander.specs.Chains.{AreChained}
-use Rattle.expander.specs.Count.{Looked, same_forest}
+use Rattle.expander.specs.Count.{same_forest}
 use Rattle.expander.specs.Definitions.{Definition}
 use Rattle.expander.specs.Expansion.{World}
 use Rattle.expander.specs.Memories.{IsMemory, IsRight, looked_plain, piece_of}
 use Rattle.expander.specs.Held.{Numbered}
 use Rattle.expander.specs.NumberedTexts.{inner_of}
-use Rattle.expander.specs.Numbering.{AreNumbers, numbered_by}
-use Rattle.expander.specs.Outcomes.{Parts}
+use Rattle.expander.specs.Numbering.{numbered_by}
 use Rattle.expander.specs.Plains.{tree_of}
-use Rattle.expander.specs.Reuse.{HeldPiece, IsHeld, looked_held}
-use Rattle.expander.specs.declared.by_tree.ByTree.{ByTree}
+use Rattle.expander.specs.Reuse.{IsHeld, looked_held}
 use Rattle.expander.specs.declared.memory.Memory as code
 use Rattle.expander.specs.declared.numbered.Known.{Known}
 use Rattle.expander.specs.declared.plain.Plain.{Plain}
@@ -29,6 +27,7 @@ use Rattle.expander.specs.declared.plain.Plain.{Plain}
 pub nothing : (m : code.Memory) → m.plains.items ≡ [] → m.definitions.items ≡ [] → ((t : Top) → known_in m.by_tree t ≡ None) → AreChained m.chains []
     → (world : World Definition) (edition : Edition) (depth : ℕ) → IsMemory world depth edition m
 nothing m plains definitions none chained world edition depth = record {
+  unread = λ e. plains;
   numbers = record { within = λ t n e. absurd (no n (sym (empty t) ∙ e)); apart = λ t u n e f. absurd (no n (sym (empty t) ∙ e)) };
   have = λ t. ap is_some (empty t) ∙ ap (λ (ks : List (Rc Known Global)). list_any (same_forest t) (map (λ k. inner_of (rc_value k)) ks)) (sym definitions);
   table = λ t k e. absurd (no_known k (sym (none t) ∙ e));

@@ -48,13 +48,11 @@ pub mod Takings
 pub mod Numbering
 pub mod ByTrees
 pub mod NumberedTexts
+pub mod TakenTexts
 pub mod Cutting
 pub mod Names
-pub mod ScopeTable
 pub mod OutputSteps
 pub mod WalkSteps
-pub mod Turns
-pub mod PieceTurns
 pub mod Shown
 pub mod Spots
 pub mod Steps

@@ -1,5 +1,5 @@
 -- What a session holds of the last text that was read.
-use Rattle.std.specs.Prelude.{◌≡◌, ℕ, Bool, All, List, Option, Some, None, if◌then◌else◌, map, option_map}
+use Rattle.std.specs.Prelude.{◌≡◌, ℕ, false, All, List, [], Option, Some, None, if◌then◌else◌, map, option_map}
 use Rattle.std.specs.Rc.{rc_value}
 use Rattle.bridge.specs.ReadText.{text_top}
 use Rattle.tt_data.specs.Forest.{Forest}
@@ -44,6 +44,8 @@ module _ (world : World Definition) (depth : ℕ) where
 
   -- what is held is right by the numbers of the definitions that are held
   pub record IsMemory (edition : Edition) (m : code.Memory) : Type 0 where
+    -- no piece before the first text that was read
+    pub unread : m.was_read ≡ false → m.plains.items ≡ []
     pub numbers : AreNumbers m.given (numbers_in m.by_tree)
     pub have : HaveNumbers (numbers_in m.by_tree) (trees_of m)
     pub table : IsTable m.by_tree

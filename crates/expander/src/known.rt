@@ -1,4 +1,4 @@
-// Definitions with what is read of them.
+// What is read of definitions.
 ghost use Rattle.std.specs.Prelude.{◌≡◌, IfOk, IsOkUnless};
 ghost use Rattle.tt_data.specs.fault.TtFault.TheVariants.{Memory};
 ghost use Rattle.mbe.specs.Macros.{rules_of};
@@ -49,28 +49,5 @@ pub(crate) fn rules_in(
             let arguments = tree_of(alloc, arguments, place)?;
             DeclarativeMacro::parse_macro2(alloc, Some(&arguments), &body, words)
         }
-    }
-}
-
-/// A definition with what is read of it.
-#[derive(Drop)]
-pub(crate) struct Known<'a> {
-    pub definition: Definition<'a>,
-    pub rules: DeclarativeMacro,
-}
-
-impl<'a> Known<'a> {
-    /// The definition with what is read of it, all of whose words are of this edition.
-    pub(crate) fn new(
-        alloc: Global,
-        edition: Edition,
-        definition: Definition<'a>,
-    ) -> Result<Self, TtFault>
-        ensures definition { IfOk result (λ k. k.definition ≡ definition.entry) }
-        ensures rules { IfOk result (λ k. rules_of k.rules ≡ rules_in edition definition.entry) }
-        ensures memory { IsOkUnless result Memory }
-    {
-        let rules = rules_in(alloc, edition, &definition)?;
-        Ok(Known { definition, rules })
     }
 }

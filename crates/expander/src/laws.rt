@@ -1,5 +1,5 @@
 //! Laws of the definitions, for those who read them. A call does nothing: it only states.
-ghost use Rattle.std.specs.Prelude.{◌≡◌, ◌↔◌, ℕ, ◌+◌, true, All, Contains, List, [], ◌∷◌, ◌++◌, filter, filter_map, flat_map, length, map, IsUtf8, Option, Some, None, Ok, option_map};
+ghost use Rattle.std.specs.Prelude.{◌≡◌, ◌↔◌, ℕ, ◌+◌, ◌<◌, ◌^◌, true, All, Contains, List, [], ◌∷◌, ◌++◌, filter, filter_map, flat_map, length, map, IsUtf8, Option, Some, None, Ok, option_map};
 ghost use Rattle.std.specs.List.Sorted.{IsPermutation, IsSortedBy};
 ghost use Rattle.expander.specs.Agreement.{FoundIn, scope_of};
 ghost use Rattle.expander.specs.Answers.{AreAnswers, ShowTheSame, last_text};
@@ -89,6 +89,16 @@ pub fn quiet_texts_have_no_fault()
     ensures { (layers : Layers) (depth : ℕ) (f : Forest) → HasNoWord f →
         left_out layers.spelling (output (members layers depth f)) ≡ [] → faults_of layers (members layers depth f) ≡ [] }
 {}
+
+/// A text of fewer than 2^31 bytes that was read has no fault where none of its names begins a definition: each of its
+/// tokens has a spelling. (In a longer one the escapes of a doc comment could make a literal that is too long for a text.)
+pub fn no_fault_without_definition_words()
+    ensures { (grammar : Grammar) (edition : Edition) (depth : ℕ) (text : List ℕ) (f : Forest) (m : ReadMeaning) →
+        IsUtf8 text → length text < 2 ^ 31 → text_reading text ≡ Ok f → HasNoWord f → meaning (layers grammar edition) depth text ≡ Ok m → m.faults ≡ [] }
+{
+    bridge::laws::reading_is_a_relation();
+    bridge::laws::read_texts_are_printed_whole();
+}
 
 /// What is printed of a text that has no fault prints itself: it can be read, none of its pieces is a definition, and with
 /// every grammar, edition and number of levels it means just the same bytes, without a fault.

@@ -3,16 +3,13 @@ ghost use Rattle.std.specs.Prelude.{◌≡◌, ◌∷◌, [], ◌++◌, List, tr
 ghost use Rattle.bridge.specs.PrintedTrees.{print_in};
 ghost use Rattle.bridge.specs.Printing.{is_visible_step, print_of};
 ghost use Rattle.bridge.specs.WalkSteps.{step_of};
-ghost use Rattle.tt_data.specs.Walk.{walk};
 ghost use Rattle.expander.specs.Expansion.{PlacedStep, placed};
 ghost use Rattle.expander.specs.OutputSteps.{HasOutput, PutsOut, faults_in, places_of, told_at, words_told};
 ghost use Rattle.expander.specs.Printing.{steps_of};
 
 use crate::faults::{Fault, FaultKind, is_definition_word, place};
-use crate::walk::Walk;
 use bridge::{Printed, Printer, WalkStep};
 use std::alloc::{AllocError, Global};
-use tt::iter::TtIter;
 use tt_data::delimiter::DelimiterKind;
 use tt_data::span::{Span, TextRange};
 
@@ -35,22 +32,6 @@ pub(crate) fn no_steps(alloc: Global) -> PlacedSteps
         places: Vec::new(alloc),
         nested: Vec::new(alloc),
     }
-}
-
-/// Adds the walk of the trees, placed at the name of a call that was expanded, or at none.
-pub(crate) fn push_walk(
-    alloc: Global,
-    steps: &mut PlacedSteps,
-    trees: &TtIter<'_>,
-    outer: Option<Span>,
-) -> Result<(), AllocError>
-    ensures { OnOk result (PutsOut steps.old steps.new (placed outer (walk trees.now))) }
-{
-    let mut rest = Walk::new(alloc, trees);
-    while let Some(step) = rest.next()? {
-        push_step(steps, &step, outer)?;
-    }
-    Ok(())
 }
 
 /// Adds one step.

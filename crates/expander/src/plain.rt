@@ -56,7 +56,12 @@ fn is_match(scope: &Scope, tree: &Rc<TopSubtree>, held: &Plain) -> bool
 }
 
 // The place of a held piece that may stand for a tree: of those with an equal tree the last.
-fn last_match(scope: &Scope, held: &[Rc<Plain>], chains: &Chains, tree: &Rc<TopSubtree>) -> Option<usize>
+fn last_match(
+    scope: &Scope,
+    held: &[Rc<Plain>],
+    chains: &Chains,
+    tree: &Rc<TopSubtree>,
+) -> Option<usize>
     requires read { AreRead scope.now }
     requires chained { AreChained chains.now (map (λ q. tree_of (rc_value q)) held.now) }
     ensures any { is_some result ≡ list_any (λ q. is_match (scope_in scope.now) tree.now.value (rc_value q)) held.now }

@@ -1,25 +1,40 @@
 //! A session over a text.
-ghost use Rattle.std.specs.Prelude.{◌≡◌, ◌+◌, ◌-◌, ◌<◌, ◌≤◌, ◌^◌, ◌↔◌, List, [], length, IfOk, IfErr, OnOk, OnErr, IsTrue, IsCharBoundary, None, map, slice_get};
+ghost use Rattle.std.specs.Prelude.{◌≡◌, ◌+◌, ◌-◌, ◌<◌, ◌≤◌, ◌^◌, ◌↔◌, All, Err, List, [], chars, length, IfOk, IfErr, OnOk, OnErr, IsTrue, IsCharBoundary, None, map, slice_get, true};
+ghost use Rattle.std.specs.List.{list_any};
+ghost use Rattle.bridge.specs.ReadText.{HasTooMany};
+ghost use Rattle.bridge.specs.TokenSteps.{text_steps};
 ghost use Rattle.rustc_lexer.specs.Edit.{edited};
+ghost use Rattle.rustc_lexer.specs.Lexing.{tokens_of};
 ghost use Rattle.expander.specs.CommandTurns.{HasCause};
 ghost use Rattle.expander.specs.Expansion.{PlacedStep};
+ghost use Rattle.expander.specs.Held.{StandFromFirst};
+ghost use Rattle.expander.specs.Layered.{layers};
+ghost use Rattle.expander.specs.Meaning.{members_after};
+ghost use Rattle.expander.specs.Memories.{IsMemory};
 ghost use Rattle.expander.specs.OutputSteps.{HasOutput};
+ghost use Rattle.expander.specs.Pieces.{cut};
 ghost use Rattle.expander.specs.State.{State, layers_of};
 ghost use Rattle.expander.specs.Refusals.{refusal_of};
 ghost use Rattle.expander.specs.Replies.{Replies};
 ghost use Rattle.expander.specs.declared.session.Refusal.TheVariants.{Memory};
 ghost use Rattle.expander.specs.Shown.{ShowsOutput};
+ghost use Rattle.expander.specs.TakenTexts.{IsReadApart, TakesText};
+ghost use Rattle.expander.specs.Takings.{NeedsMore};
+ghost use Rattle.expander.specs.TooMany.{bursts};
+ghost use Rattle.expander.specs.World.{world};
 
-use crate::expansion::{Output, expand_pieces};
 use crate::faults::{Fault, sort_faults};
+use crate::laws;
 use crate::memory::Memory;
-use crate::output::finish;
+use crate::output::{PlacedSteps, finish};
 use crate::pieces::set_apart;
+use crate::taking::{Taken, take_pieces};
 use bridge::{Printed, Read, ReadFault};
 use fragment_grammar::FragmentGrammar;
 use rustc_lexer::{LexedText, Token};
 use std::alloc::{AllocError, Global};
 use std::marker::Model;
+use tt::iter::TtIter;
 use tt_data::edition::Edition;
 use tt_data::fault::TtFault;
 use tt_data::span::{Span, TextRange};
@@ -245,8 +260,83 @@ impl<G: FragmentGrammar + Drop> Session<G> {
         ensures same { OnErr result (self.new ≡ self.old) }
         ensures cause { IfErr result (HasCause (layers_of G.answer self.old) self.old) }
     {
-        Err(Refusal::Memory)
+        mbe_rules::laws::rules_at_other_places();
+        mbe::laws::fit_at_other_places();
+        mbe::laws::bursts_at_other_places();
+        bridge::laws::reading_is_a_relation();
+        bridge::laws::tokens_follow_one_another();
+        bridge::laws::tokens_are_written();
+        laws::equal_pieces();
+        let (alloc, text, tokens) = (self.alloc, self.text.text(), self.text.tokens());
+        let tree = match read_apart(alloc, text, tokens)? {
+            Read::Fault(fault) => return Ok(Reply::Unread(fault)),
+            Read::Tree(tree) => tree,
+        };
+        let trees = tree.token_trees().iter();
+        let (expansion, memory) = expand_pieces(
+            alloc,
+            &self.grammar,
+            self.edition,
+            self.depth,
+            &self.memory,
+            &trees,
+        )?;
+        self.memory = memory;
+        Ok(Reply::Read(expansion))
     }
+}
+
+// The trees of the text with these tokens, each `;` between pieces standing alone, or its reading fault.
+fn read_apart(alloc: Global, text: &str, tokens: &[Token]) -> Result<Read, TtFault>
+    requires small { length text.now < 2 ^ 32 }
+    requires tokens { tokens.now ≡ tokens_of (chars text.now) }
+    ensures read { IfOk result (IsReadApart text.now) }
+    ensures many { result ≡ Err TtFault.Tokens → HasTooMany (text_steps text.now) }
+{
+    bridge::laws::reading_is_a_relation();
+    match bridge::read(alloc, text, tokens)? {
+        Read::Fault(fault) => Ok(Read::Fault(fault)),
+        Read::Tree(mut tree) => {
+            set_apart(alloc, &mut tree)?;
+            Ok(Read::Tree(tree))
+        }
+    }
+}
+
+// The expansion of pieces over what is held, and what is held afterwards.
+fn expand_pieces<G: FragmentGrammar>(
+    alloc: Global,
+    grammar: &G,
+    edition: Edition,
+    depth: u8,
+    memory: &Memory,
+    trees: &TtIter<'_>,
+) -> Result<(Expansion, Memory), Refusal>
+    requires right { IsMemory (world (G.answer grammar.now) edition) depth edition memory.now }
+    requires stand { All StandFromFirst (cut trees.now) }
+    ensures taken { IfOk result (λ r. TakesText (G.answer grammar.now) edition depth memory.now (cut trees.now) r.0 r.1) }
+    ensures tokens { result ≡ Err Refusal.Tokens → list_any bursts (members_after (layers (G.answer grammar.now) edition) depth [] (cut trees.now)) ≡ true }
+    ensures numbers { result ≡ Err Refusal.Numbers → NeedsMore memory.now (cut trees.now) }
+{
+    laws::equal_pieces();
+    let Taken {
+        numbers,
+        plains,
+        chains,
+        steps,
+        faults,
+        expanded,
+    } = take_pieces(alloc, grammar, edition, depth, memory, trees)?;
+    let expansion = expansion_of(alloc, steps, faults, expanded)?;
+    let memory = Memory {
+        was_read: true,
+        plains,
+        chains,
+        definitions: numbers.definitions,
+        by_tree: numbers.by_tree,
+        given: numbers.given,
+    };
+    Ok((expansion, memory))
 }
 
 // The places of spans.
@@ -256,15 +346,15 @@ fn places_of(alloc: Global, spans: &[Span]) -> Result<Vec<TextRange>, AllocError
     spans.iter().map(|span| span.range).collect(alloc)
 }
 
-// What the output of a text's pieces prints, the places of its tokens, and all faults in order.
-fn expansion_of(alloc: Global, output: Output) -> Result<Expansion, AllocError>
-    ensures { IfOk result (λ e. (steps : List PlacedStep) → HasOutput output.steps steps → ShowsOutput output steps e) }
+// What these steps print, the places of its tokens, and all faults in order.
+fn expansion_of(
+    alloc: Global,
+    steps: PlacedSteps,
+    mut faults: Vec<Fault>,
+    expanded: usize,
+) -> Result<Expansion, AllocError>
+    ensures { IfOk result (λ e. (all : List PlacedStep) → HasOutput steps all → ShowsOutput faults.items expanded all e) }
 {
-    let Output {
-        steps,
-        mut faults,
-        plain,
-    } = output;
     let Printed { text, tokens, .. } = finish(steps, &mut faults)?;
     sort_faults(&mut faults)?;
     let origins = places_of(alloc, tokens.as_slice())?;
@@ -272,6 +362,6 @@ fn expansion_of(alloc: Global, output: Output) -> Result<Expansion, AllocError>
         printed: text,
         faults,
         origins,
-        expanded: plain,
+        expanded,
     })
 }

@@ -2,7 +2,7 @@
 use Rattle.std.proofs.Common.{◌≡◌, ℕ, ◌+◌, ◌<◌, List, [], ◌∷◌, ◌++◌, length, drop, refl, sym, ap, ◌∙◌, append_assoc, append-nil, get_or, Bool, true, false, arith, length-append}
 use Rattle.std.specs.Prelude.{Option, Some, None, flat_map, option_map, option_and_then, slice_get, zero, suc, if◌then◌else◌}
 use Rattle.std.proofs.lemmas.List.{drop_more}
-use Rattle.scripts.specs.Scripts.{escape_of, is_backslash, left_of, unescaped_behind}
+use Rattle.scripts.specs.Scripts.{escape_of, is_backslash, left_of, unescaped, unescaped_behind}
 
 -- one more is told
 pub one_more : {X : Type 0} (told : X → List ℕ) (xs : List X) (i : ℕ) (x : X) (old new all : List ℕ) → i < length xs
@@ -45,6 +45,14 @@ left_meant bytes rest b meant is =
 pub left_nothing : (bytes rest : List ℕ) (is_escape : Bool) → is_escape ≡ false → rest ≡ [] → left_of is_escape bytes rest ≡ Some bytes
 left_nothing bytes rest is_escape plain none =
     ap (λ (c : Bool). left_of c bytes rest) plain ∙ ap (λ (r : List ℕ). left_of false bytes r) none ∙ ap Some (append-nil bytes)
+
+-- a byte for which nothing is left
+pub none_left : (items text : List ℕ) → items ≡ text → (i : ℕ) (is_escape : Bool) (bytes : List ℕ) → i < length items
+    → left_of is_escape bytes (drop i text) ≡ unescaped text → ((rest : List ℕ) → left_of is_escape bytes (get_or items i 0 ∷ rest) ≡ None) → None ≡ unescaped text
+none_left items text same i is_escape bytes inside so_far none =
+    sym (none (drop (i + 1) items))
+    ∙ ap (λ (r : List ℕ). left_of is_escape bytes r) (sym (drop_more items i 0 inside) ∙ ap (drop i) same)
+    ∙ so_far
 
 -- what is got at a number is there
 pub got : {X : Type 0} (xs : List X) (i : ℕ) (d x : X) → slice_get xs i ≡ Some x → get_or xs i d ≡ x

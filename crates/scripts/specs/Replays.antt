@@ -1,19 +1,29 @@
 -- What is told of a script, and its first bad line. (Of this project.)
-use Rattle.std.specs.Prelude.{◌≡◌, ℕ, ◌+◌, Bool, true, false, List, [], ◌++◌, length, Option, Some, None, codes, if◌then◌else◌}
+use Rattle.std.specs.Prelude.{◌≡◌, ◌≢◌, ℕ, ◌+◌, Bool, true, false, List, [], ◌++◌, length, Option, Some, None, codes, if◌then◌else◌}
 use Rattle.expander.specs.Answers.{AreAnswers}
 use Rattle.expander.specs.Runs.{run_layers}
 use Rattle.expander.specs.declared.commands.Answer.{Answer}
 use Rattle.expander.specs.declared.commands.Command.{Command}
-use Rattle.scripts.specs.Scripts.{AreSaid}
+use Rattle.scripts.specs.Scripts.{AreSaid, IsBad}
 use Rattle.scripts.specs.Told.{all_told}
 
--- a text's first lines say these commands, and nothing is left where all of it is read
-abbrev pub HasCommands : List ℕ → List Command → Bool → Type 0
-HasCommands text commands is_whole = (rest : List ℕ) × AreSaid text commands rest × (is_whole ≡ true → rest ≡ [])
+-- where all is read nothing is left, and else a bad line
+abbrev pub IsLeft : Bool → List ℕ → Type 0
+IsLeft true rest = rest ≡ []
+IsLeft false rest = IsBad rest
 
--- a script begins with the line that asks for origins, or with its commands
-abbrev pub head : Bool → List ℕ
-head origins = if origins then codes "origins\n" else []
+-- a text's first lines say these commands, and nothing or a bad line is left
+abbrev pub HasCommands : List ℕ → List Command → Bool → Type 0
+HasCommands text commands is_whole = (rest : List ℕ) × AreSaid text commands rest × IsLeft is_whole rest
+
+-- the line that asks for origins
+abbrev pub asking : List ℕ
+asking = codes "origins\n"
+
+-- a script's lines: those behind the line that asks for origins, where it begins with that, or else all
+abbrev pub HasHead : List ℕ → Bool → List ℕ → Type 0
+HasHead text true lines = text ≡ asking ++ lines
+HasHead text false lines = (text ≡ lines) × ((rest : List ℕ) → text ≢ asking ++ rest)
 
 -- the number of the first bad line, where not all of a script is read
 abbrev pub bad_line : Bool → Bool → List Command → Option ℕ
@@ -29,7 +39,7 @@ AreTold commands depth origins told =
 pub record IsReplayed (text : List ℕ) (depth : ℕ) (told : List ℕ) (bad : Option ℕ) : Type 0 where
   pub origins : Bool
   pub lines : List ℕ
-  pub is : text ≡ head origins ++ lines
+  pub head : HasHead text origins lines
   pub commands : List Command
   pub is_whole : Bool
   pub said : HasCommands lines commands is_whole

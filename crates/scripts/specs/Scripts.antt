@@ -1,5 +1,5 @@
 -- What the lines of a script say. (Of this project.)
-use Rattle.std.specs.Prelude.{◌≡◌, ℕ, Bool, true, false, List, [], ◌∷◌, ◌++◌, Option, Some, None, option_map, option_and_then, codes, nat_eq, string_bytes, if◌then◌else◌}
+use Rattle.std.specs.Prelude.{◌≡◌, ◌≢◌, ◌<◌, ◌^◌, ℕ, Bool, true, false, List, [], ◌∷◌, ◌++◌, Option, Some, None, option_map, option_and_then, codes, get_or, length, nat_eq, string_bytes, if◌then◌else◌}
 use Rattle.std.specs.Str.Parse.{IsNumeral, digits_value, without_leading_plus}
 use Rattle.expander.specs.declared.commands.Command.{Command}
 use Rattle.expander.specs.declared.commands.Command.TheVariants.{Edit, Expand}
@@ -29,10 +29,11 @@ left_of is_escape bytes rest = option_map (λ m. bytes ++ m) (unescaped_behind i
 abbrev pub unescaped : List ℕ → Option (List ℕ)
 unescaped = unescaped_behind false
 
--- a word is a decimal number that fits 64 bits
+-- a word is a decimal number that fits 64 bits; a plus may stand in front of it
 pub record IsNumber (word : List ℕ) (n : ℕ) : Type 0 where
   pub numeral : IsNumeral 10 (without_leading_plus word)
   pub value : n ≡ digits_value 10 (without_leading_plus word)
+  pub fits : n < 2 ^ 64
 
 -- behind `edit ` a line says two numbers and a replacement
 pub record SaysEdit (line : List ℕ) (start stop : ℕ) (replacement : List ℕ) : Type 0 where
@@ -54,8 +55,40 @@ abbrev pub Says : List ℕ → Command → Type 0
 Says line (Edit start stop replacement) = (rest : List ℕ) × (line ≡ codes "edit " ++ rest) × SaysEdit rest start stop (string_bytes replacement)
 Says line Expand = line ≡ codes "expand"
 
+-- a line says no command
+abbrev pub SaysNothing : List ℕ → Type 0
+SaysNothing line = (command : Command) → Says line command → ⊥
+
+-- none of these bytes is this one
+abbrev pub Lacks : ℕ → List ℕ → Type 0
+Lacks mark bytes = (i : ℕ) → i < length bytes → get_or bytes i 0 ≢ mark
+
+-- what a line is read as: a command that it says, or none where it says nothing
+abbrev pub IsReadAs : List ℕ → Option Command → Type 0
+IsReadAs line (Some command) = Says line command
+IsReadAs line None = SaysNothing line
+
+-- the same behind `edit `
+abbrev pub IsReadAsEdit : List ℕ → Option Command → Type 0
+IsReadAsEdit line (Some command) = SaysEditOf line command
+IsReadAsEdit line None = (command : Command) → SaysEditOf line command → ⊥
+
+-- what two words are read as: two numbers, or none where one of them is none
+abbrev pub AreReadAs : List ℕ → List ℕ → Option (ℕ × ℕ) → Type 0
+AreReadAs first second (Some (m, n)) = IsNumber first m × IsNumber second n
+AreReadAs first second None = (m n : ℕ) → IsNumber first m → IsNumber second n → ⊥
+
+-- a text's first line, without the line feed that ends it, and what is behind
+pub record HasLine (text line more : List ℕ) : Type 0 where
+  pub is : text ≡ line ++ 10 ∷ more
+  pub one : Lacks 10 line
+
 -- a text's first lines say these commands, one each, and this is left
 abbrev pub AreSaid : List ℕ → List Command → List ℕ → Type 0
 AreSaid text [] rest = text ≡ rest
-AreSaid text (command ∷ commands) rest =
-    (line : List ℕ) × (more : List ℕ) × (text ≡ line ++ 10 ∷ more) × Says line command × AreSaid more commands rest
+AreSaid text (command ∷ commands) rest = (line : List ℕ) × (more : List ℕ) × HasLine text line more × Says line command × AreSaid more commands rest
+
+-- a text begins with a bad line: its first line says no command, or it has something and no line feed
+pub record IsBad (text : List ℕ) : Type 0 where
+  pub some : text ≢ []
+  pub bad : (line more : List ℕ) → HasLine text line more → SaysNothing line

@@ -1,6 +1,6 @@
 // A line of a script.
-ghost use Rattle.std.specs.Prelude.{◌≡◌, ◌<◌, ◌++◌, ◌∷◌, IfOk, IfSome, List, Some, length, string_bytes, ℕ};
-ghost use Rattle.scripts.specs.Scripts.{IsNumber, Says, SaysEditOf, escape_of, is_backslash, left_of, unescaped};
+ghost use Rattle.std.specs.Prelude.{◌≡◌, ◌≢◌, ◌<◌, ◌++◌, ◌∷◌, IfOk, IfSome, IsUtf8, List, MatchOption, None, Some, length, option_map, string_bytes, ℕ};
+ghost use Rattle.scripts.specs.Scripts.{AreReadAs, IsNumber, IsReadAs, IsReadAsEdit, Lacks, escape_of, is_backslash, left_of, unescaped};
 
 use expander::Command;
 use std::alloc::{AllocError, Global};
@@ -8,7 +8,7 @@ use std::alloc::{AllocError, Global};
 /// What stands in front of the first such character, and behind it.
 pub(crate) fn cut_at(text: &str, mark: char) -> Option<(&str, &str)>
     requires { mark < 128 }
-    ensures whole { IfSome result (λ parts. text.now ≡ parts.0.now ++ mark ∷ parts.1.now) }
+    ensures cut { MatchOption result (Lacks mark text.now) (λ parts. (text.now ≡ parts.0.now ++ mark ∷ parts.1.now) × Lacks mark parts.0.now) }
     ensures shorter { IfSome result (λ parts. length parts.1.now < length text.now) }
 {
     text.split_once(mark)
@@ -16,7 +16,7 @@ pub(crate) fn cut_at(text: &str, mark: char) -> Option<(&str, &str)>
 
 /// What stands behind this, where the text begins with it.
 pub(crate) fn behind<'a>(text: &'a str, front: &str) -> Option<&'a str>
-    ensures { IfSome result (λ rest. text.now ≡ front.now ++ rest.now) }
+    ensures { MatchOption result ((rest : List ℕ) → text.now ≢ front.now ++ rest) (λ rest. text.now ≡ front.now ++ rest.now) }
 {
     text.strip_prefix(front)
 }
@@ -42,7 +42,8 @@ fn is_backslash(byte: u8) -> bool
 // Adds what the next byte of a replacement stands for, behind a backslash or not, and answers whether the byte is a
 // backslash that takes the next one with it; none where no such byte may stand there.
 fn take_byte(bytes: &mut Vec<u8>, is_escape: bool, byte: u8) -> Result<Option<bool>, AllocError>
-    ensures { IfOk result (λ taken. IfSome taken (λ next. (rest : List ℕ) → left_of is_escape bytes.old.items (byte ∷ rest) ≡ left_of next bytes.new.items rest)) }
+    ensures { IfOk result (λ taken. MatchOption taken ((rest : List ℕ) → left_of is_escape bytes.old.items (byte ∷ rest) ≡ None)
+        (λ next. (rest : List ℕ) → left_of is_escape bytes.old.items (byte ∷ rest) ≡ left_of next bytes.new.items rest)) }
 {
     if is_escape {
         let Some(meant) = escape_of(byte) else {
@@ -60,7 +61,7 @@ fn take_byte(bytes: &mut Vec<u8>, is_escape: bool, byte: u8) -> Result<Option<bo
 
 // The bytes that a replacement stands for, or none.
 fn unescaped(alloc: Global, text: &str) -> Result<Option<Vec<u8>>, AllocError>
-    ensures { IfOk result (λ bytes. IfSome bytes (λ b. unescaped text.now ≡ Some b.items)) }
+    ensures { IfOk result (λ bytes. option_map (λ b. b.items) bytes ≡ unescaped text.now) }
 {
     let mut bytes = Vec::new(alloc);
     let mut is_escape = false;
@@ -78,7 +79,8 @@ fn unescaped(alloc: Global, text: &str) -> Result<Option<Vec<u8>>, AllocError>
 
 // The text that a replacement stands for, or none.
 fn replacement_of(alloc: Global, text: &str) -> Result<Option<String>, AllocError>
-    ensures { IfOk result (λ replacement. IfSome replacement (λ r. unescaped text.now ≡ Some (string_bytes r))) }
+    ensures { IfOk result (λ replacement. MatchOption replacement ((bytes : List ℕ) → IsUtf8 bytes → unescaped text.now ≢ Some bytes)
+        (λ r. unescaped text.now ≡ Some (string_bytes r))) }
 {
     match unescaped(alloc, text)? {
         Some(bytes) => Ok(String::from_utf8(bytes).ok()),
@@ -88,22 +90,31 @@ fn replacement_of(alloc: Global, text: &str) -> Result<Option<String>, AllocErro
 
 // The number that a word says, or none.
 fn number_of(word: &str) -> Option<usize>
-    ensures { IfSome result (IsNumber word.now) }
+    ensures { MatchOption result ((n : ℕ) → IsNumber word.now n → ⊥) (IsNumber word.now) }
 {
     word.parse::<usize>().ok()
 }
 
+// The numbers that two words say, or none.
+fn numbers_of(first: &str, second: &str) -> Option<(usize, usize)>
+    ensures { AreReadAs first.now second.now result }
+{
+    let first = number_of(first)?;
+    let second = number_of(second)?;
+    Some((first, second))
+}
+
 // The edit that a line says behind its first word, or none.
 fn edit_of(alloc: Global, line: &str) -> Result<Option<Command>, AllocError>
-    ensures { IfOk result (λ command. IfSome command (SaysEditOf line.now)) }
+    ensures { IfOk result (IsReadAsEdit line.now) }
 {
-    let Some((start, rest)) = cut_at(line, ' ') else {
+    let Some((first, rest)) = cut_at(line, ' ') else {
         return Ok(None);
     };
-    let Some((end, last)) = cut_at(rest, ' ') else {
+    let Some((second, last)) = cut_at(rest, ' ') else {
         return Ok(None);
     };
-    let (Some(start), Some(end)) = (number_of(start), number_of(end)) else {
+    let Some((start, end)) = numbers_of(first, second) else {
         return Ok(None);
     };
     match replacement_of(alloc, last)? {
@@ -118,7 +129,7 @@ fn edit_of(alloc: Global, line: &str) -> Result<Option<Command>, AllocError>
 
 /// The command that a line says, or none.
 pub(crate) fn command_of(alloc: Global, line: &str) -> Result<Option<Command>, AllocError>
-    ensures { IfOk result (λ command. IfSome command (Says line.now)) }
+    ensures { IfOk result (IsReadAs line.now) }
 {
     if line == "expand" {
         return Ok(Some(Command::Expand));

@@ -1,6 +1,6 @@
 // A script, and what is told of it.
-ghost use Rattle.std.specs.Prelude.{◌≡◌, ◌++◌, IfOk, string_bytes};
-ghost use Rattle.scripts.specs.Replays.{AreTold, HasCommands, IsReplayed, bad_line, head};
+ghost use Rattle.std.specs.Prelude.{◌≡◌, IfOk, string_bytes};
+ghost use Rattle.scripts.specs.Replays.{AreTold, HasCommands, HasHead, IsReplayed, bad_line};
 
 use crate::line::{behind, command_of, cut_at};
 use crate::tell::push_answers;
@@ -32,7 +32,7 @@ fn commands_in(alloc: Global, text: &str) -> Result<(Vec<Command>, bool), AllocE
 
 // Whether a script asks for origins, and the lines behind that.
 fn head_of(text: &str) -> (bool, &str)
-    ensures { text.now ≡ head result.0 ++ result.1.now }
+    ensures { HasHead text.now result.0 result.1.now }
 {
     match behind(text, "origins\n") {
         Some(rest) => (true, rest),

@@ -53,8 +53,8 @@ loop-at-smaller c =
     let fails : test (scope_in c.args.scope.now) c.args.tree.now.value c.index-held-i.result ≡ false = search rules in
     subst (λ (o : Option ℕ). left c.before-at.result < left o) (sym c.in-Some.is)
     (goes_less c.equal_trees.ensures (scope_in c.args.scope.now) c.args.tree.now.value c.args.held.now c.in-Some.i c.index-held-i.result
-        (subst (Searching (scope_in c.args.scope.now) c.args.tree.now.value c.args.held.now) c.in-Some.is c.loop-at.invariant) stands fails
-        c.before-at.result (c.before-at.ensures (map tree_in c.args.held.now) c.requires.chained))
+    (subst (Searching (scope_in c.args.scope.now) c.args.tree.now.value c.args.held.now) c.in-Some.is c.loop-at.invariant) stands fails
+    c.before-at.result (c.before-at.ensures (map tree_in c.args.held.now) c.requires.chained))
 
 pub loop-at-preserved : goal.loop-at-preserved
 loop-at-preserved c =
