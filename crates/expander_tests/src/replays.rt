@@ -1,22 +1,38 @@
 //! Commands and their answers, worked out by hand, and where printed tokens come from.
 use crate::sessions::expansion_of;
 use expander::{Answer, Command, Edition, Refusal, Reply, Session, SmallGrammar, replay};
+use fragment_grammar::FragmentGrammar;
+use grammar_fakes::Counting;
 use std::alloc::{AllocError, Global};
+use std::cell::Cell;
 use std::test::Fail;
 
-// A text and commands, and what answers them. A command is `!`, to expand, or an edit: two places and a replacement.
-// `~` stands for a line feed.
+// A text and commands, and what answers them: for a text that is read what is printed, and how many pieces are expanded. A
+// command is `!`, to expand, or an edit: two places and a replacement. `~` stands for a line feed.
 const REPLAYS: &str = r"
-a;|0 1 b|!|5 5 x|! @ edited|b ;~|bad edit|b ;~
-(|!|1 1 )|! @ GroupLeftOpen 0 1|edited|( )~
-é|1 1 x|! @ bad edit|é~
-ab|2 1 x|0 3 x|! @ bad edit|bad edit|ab~
-let x = 1;#[a] struct S;~|!|10 10  |! @ let x = 1 ;~# [ a ] struct S ;~|edited|let x = 1 ;~# [ a ] struct S ;~
-macro_rules! m { () => { 1 } }~m!{}~fn f() { m!{} }~|!|25 26 2|!|52 52 m!{}|0 0 ~~|! @ 1 fn f ( ) { 1 }~|edited|2 fn f ( ) { 2 }~|edited|edited|2 fn f ( ) { 2 }~2~
-m!{}~|!|0 0 macro_rules! m { () => { 1 } }|!|0 30 |! @ m ! { }~|edited|1~|edited|m ! { }~
-a+b|!|3 3 ;|!|0 0 ~|! @ a + b~|edited|a + b ;~|edited|a + b ;~
-ab;|0 2 c|! @ edited|c ;~
-|0 0 c|1 1 ;|! @ edited|edited|c ;~
+a;|0 1 b|!|5 5 x|! @ edited|b ;~ 1|bad edit|b ;~ 0
+(|!|1 1 )|! @ GroupLeftOpen 0 1|edited|( )~ 1
+é|1 1 x|! @ bad edit|é~ 1
+ab|2 1 x|0 3 x|! @ bad edit|bad edit|ab~ 1
+let x = 1;#[a] struct S;~|!|10 10  |! @ let x = 1 ;~# [ a ] struct S ;~ 2|edited|let x = 1 ;~# [ a ] struct S ;~ 0
+macro_rules! m { () => { 1 } }~m!{}~fn f() { m!{} }~|!|25 26 2|!|52 52 m!{}|0 0 ~~|! @ 1 fn f ( ) { 1 }~ 2|edited|2 fn f ( ) { 2 }~ 2|edited|edited|2 fn f ( ) { 2 }~2~ 0
+m!{}~|!|0 0 macro_rules! m { () => { 1 } }|!|0 30 |! @ m ! { }~ 1|edited|1~ 1|edited|m ! { }~ 1
+a;a;|!|! @ a ;~a ;~ 2|a ;~a ;~ 0
+a;|!|2 2 (|!|2 3 |! @ a ;~ 1|edited|GroupLeftOpen 2 3|edited|a ;~ 0
+a;|!|0 1 b|!|0 1 a|! @ a ;~ 1|edited|b ;~ 1|edited|a ;~ 1
+a+b|!|3 3 ;|!|0 0 ~|! @ a + b~ 1|edited|a + b ;~ 1|edited|a + b ;~ 0
+ab;|0 2 c|! @ edited|c ;~ 1
+|0 0 c|1 1 ;|! @ edited|edited|c ;~ 1
+";
+
+// A text and commands, and how often the grammar is asked: once for each expression, but for those in pieces that the last
+// text had as well.
+const ASKED: &str = r"
+macro_rules! t { ($x:expr) => { $x } }~t!(1);~t!(2);~|! @ 2
+macro_rules! t { ($x:expr) => { $x } }~t!(1);~t!(2);~|!|! @ 2
+macro_rules! t { ($x:expr) => { $x } }~t!(1);~t!(2);~|!|0 0 ~|! @ 2
+macro_rules! t { ($x:expr) => { $x } }~t!(1);~t!(2);~|!|49 50 3|! @ 3
+macro_rules! t { ($x:expr) => { $x } }~t!(1);~t!(2);~|!|53 53 t!(4);|! @ 3
 ";
 
 // A text, and the places of its printed tokens: one of a template, one of an argument, one that two calls carry, those of
@@ -68,7 +84,8 @@ fn push_answer(alloc: Global, all: &mut String, answer: &Answer) -> Result<(), F
         Answer::Edited => all.push_str("edited")?,
         Answer::BadEdit => all.push_str("bad edit")?,
         Answer::Reply(Reply::Read(found)) => {
-            all.push_str(swapped(alloc, found.printed(), '\n', '~')?.as_str())?;
+            let printed = swapped(alloc, found.printed(), '\n', '~')?;
+            all.push_str(format!(in alloc; "{printed} {}", found.expanded())?.as_str())?;
         }
         Answer::Reply(Reply::Unread(fault)) => {
             let range = fault.range;
@@ -80,6 +97,28 @@ fn push_answer(alloc: Global, all: &mut String, answer: &Answer) -> Result<(), F
     Ok(())
 }
 
+// What answers the commands of a text, which stand behind it.
+fn answers_to<G: FragmentGrammar + Drop>(
+    alloc: Global,
+    grammar: G,
+    asked: &str,
+) -> Result<Vec<Answer>, Fail> {
+    let Some((text, words)) = asked.split_once('|') else {
+        return Err(Fail::new("no command"));
+    };
+    let text = swapped(alloc, text, '~', '\n')?;
+    let mut commands = Vec::new(alloc);
+    for word in words.split('|') {
+        commands.push(command_of(alloc, word)?)?;
+    }
+    if text.len() >= 10_000_000 {
+        return Err(Fail::new("a text is long"));
+    }
+    let (text, commands) = (text.as_str(), commands.as_slice());
+    let answers = replay(alloc, text, grammar, Edition::Edition2024, 128, commands)?;
+    Ok(answers)
+}
+
 #[test]
 fn replays(rt: HostRuntime) -> Result<(), Fail> {
     let alloc = rt.alloc();
@@ -87,29 +126,31 @@ fn replays(rt: HostRuntime) -> Result<(), Fail> {
         let Some((asked, wanted)) = row.split_once(" @ ") else {
             continue;
         };
-        let Some((text, words)) = asked.split_once('|') else {
-            return Err(Fail::new("no command"));
-        };
-        let text = swapped(alloc, text, '~', '\n')?;
-        let mut commands = Vec::new(alloc);
-        for word in words.split('|') {
-            commands.push(command_of(alloc, word)?)?;
-        }
-        assert!(rt; text.len() < 10_000_000);
-        let edition = Edition::Edition2024;
-        let answers = replay(
-            alloc,
-            text.as_str(),
-            SmallGrammar,
-            edition,
-            128,
-            commands.as_slice(),
-        )?;
+        let answers = answers_to(alloc, SmallGrammar, asked)?;
         let mut all = String::new(alloc);
         for answer in answers.iter() {
             push_answer(alloc, &mut all, answer)?;
         }
         assert!(rt; all.as_str() == wanted, "{:?} for {row:?}", all.as_str());
+    }
+    Ok(())
+}
+
+// Pieces that are held are not expanded again.
+#[test]
+fn the_grammar_is_asked_for_what_is_new(rt: HostRuntime) -> Result<(), Fail> {
+    for row in ASKED.lines() {
+        let Some((asked, wanted)) = row.split_once(" @ ") else {
+            continue;
+        };
+        let calls = Cell::new(0);
+        let grammar = Counting {
+            inner: SmallGrammar,
+            calls: &calls,
+        };
+        let _ = answers_to(rt.alloc(), grammar, asked)?;
+        let told = format!(in rt.alloc(); "{}", calls.get())?;
+        assert!(rt; told.as_str() == wanted, "{:?} for {row:?}", told.as_str());
     }
     Ok(())
 }
