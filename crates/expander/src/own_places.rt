@@ -92,10 +92,11 @@ fn tokens_from(
 ) -> Result<Vec<TokenTree>, AllocError>
     ensures { IfOk result (λ tokens. tokens.items ≡ token.Subtree (record { delimiter = text_top; len = len }) ∷ map (token_with (moved_back from)) (preorder piece.now)) }
 {
-    let mut tokens = Vec::new(alloc);
+    let rest = piece.remaining();
+    let mut tokens = Vec::with_capacity(alloc, rest.len().saturating_add(1))?;
     let delimiter = text_top();
     tokens.push(TokenTree::Subtree(Subtree { delimiter, len }))?;
-    for token in piece.remaining().iter_flat_tokens() {
+    for token in rest.iter_flat_tokens() {
         tokens.push(token_from(from, token))?;
     }
     Ok(tokens)

@@ -8,7 +8,7 @@ use Rattle.expander.proofs.own_places.tokens_from.Goals as goal
 
 pub loop-token-init : goal.loop-token-init
 loop-token-init c =
-    let all : c.into_iter-token-iterator.result ≡ preorder c.args.piece.now = c.into_iter-token-iterator.ensures.into_iter_gives ∙ c.iter_flat_tokens-token-items.ensures ∙ ap preorder c.remaining.ensures in (
+    let all : c.into_iter-token-iterator.result ≡ preorder c.args.piece.now = c.into_iter-token-iterator.ensures.into_iter_gives ∙ c.iter_flat_tokens-token-items.ensures ∙ ap preorder c.remaining-rest.ensures in (
       tt,
       tt,
       moved_begin (token_with (moved_back c.args.from)) _ c.push.new.self.items c.into_iter-token-iterator.result _ (search rules) all,
