@@ -15,13 +15,14 @@ pub mod Markers
 pub mod Answers
 pub mod Output
 pub mod Bursts
+-- how readings and bindings are held, as `match_pattern`, `bindings_of` and `Bindings` tell them
+pub mod Threads
+pub mod Bound
 -- what the functions inside the crate promise each other
 pub mod Waiting
 pub mod Positions
 pub mod Places
-pub mod Threads
 pub mod Settled
-pub mod Bound
 pub mod Collecting
 pub mod Room
 pub mod Putting
