@@ -42,11 +42,13 @@ pub(crate) fn own_pieces(alloc: Global, trees: &TtIter<'_>) -> Result<Vec<OwnPie
     ensures own { IfOk result (λ own. AreOwn (cut trees.now) own.items) }
     ensures memory { IsOkUnless result fault.Memory }
 {
-    let mut own = Vec::new(alloc);
+    let mut pieces = Vec::new(alloc);
     let mut rest = again(trees);
     while let Some(piece) = next_piece(&mut rest) {
-        let piece = own_piece(alloc, &piece)?;
-        own.push(piece)?;
+        let own = own_piece(alloc, &piece)?;
+        let Ok(()) = pieces.push(own) else {
+            return Err(TtFault::Memory);
+        };
     }
-    Ok(own)
+    Ok(pieces)
 }

@@ -3,9 +3,8 @@ ghost use Rattle.std.specs.Prelude.{◌≡◌, ◌<◌, ◌^◌, Err, IfOk, char
 ghost use Rattle.bridge.specs.ReadText.{HasTooMany};
 ghost use Rattle.bridge.specs.TokenSteps.{text_steps};
 ghost use Rattle.rustc_lexer.specs.Lexing.{tokens_of};
-ghost use Rattle.expander.specs.ReadPieces.{IsReadInPieces};
+ghost use Rattle.expander.specs.ReadPieces.{IsReadApart, IsReadInPieces};
 ghost use Rattle.expander.specs.Sources.{AreSources};
-ghost use Rattle.expander.specs.TakenTexts.{IsReadApart};
 
 use crate::own_pieces::{OwnPiece, own_pieces};
 use crate::pieces::set_apart;
