@@ -1,5 +1,5 @@
 -- Pieces as trees of their own, and in the text.
-use Rattle.std.proofs.Common.{◌≡◌, ℕ, zero, suc, arith, ◌+◌, ◌<◌, ◌≤◌, length, List, [], ◌∷◌, ◌++◌, append_assoc, append-nil, drop, get_or, map, refl, ap, sym, subst, ◌∙◌}
+use Rattle.std.proofs.Common.{◌≡◌, ℕ, suc, ◌+◌, ◌<◌, ◌≤◌, length, List, [], ◌∷◌, ◌++◌, append_assoc, append-nil, drop, get_or, map, refl, ap, sym, subst, ◌∙◌}
 use Rattle.std.specs.Prelude.{All}
 use Rattle.std.specs.Rc.{rc_value}
 use Rattle.std.proofs.lemmas.List.{at_drop_all, drop_more, map-append}
@@ -80,7 +80,5 @@ pub no_own : (own : List OwnPiece) (i : ℕ) → length own ≤ i → map piece_
 no_own own i past = at_drop_all (map piece_at) own i past
 
 -- how many are left
-pub left_length : {X : Type 0} (xs : List X) (i : ℕ) → i < length xs → length (drop i xs) ≡ 1 + length (drop (i + 1) xs)
-left_length [] i inside = absurd (omega (arith, inside))
-left_length (x ∷ xs) zero inside = omega arith
-left_length (x ∷ xs) (suc i) inside = left_length xs i (omega (arith, inside))
+pub left_length : {X : Type 0} (xs : List X) (i : ℕ) (x : X) → i < length xs → length (drop i xs) ≡ suc (length (drop (i + 1) xs))
+left_length xs i x inside = ap length (drop_more xs i x inside)

@@ -16,7 +16,7 @@ pub loop-own-init : goal.loop-own-init
 loop-own-init g c =
     let A = g.G.FragmentGrammar.answer c.args.grammar.now in
     record {
-      room = omega (arith, c.len-most.ensures, (c.nothing_taken.ensures A c.args.edition c.args.depth c.requires.right).expanded);
+      room = omega (arith, (c.nothing_taken.ensures A c.args.edition c.args.depth c.requires.right).expanded);
       left = left_begins A c.args.edition c.args.depth c.args.memory.now (map piece_at c.args.pieces.now) (all_stand c.args.pieces.now c.requires.own) _
           c.new.ensures.none c.new.ensures.read c.new.ensures.edition (c.nothing_taken.ensures A c.args.edition c.args.depth c.requires.right);
     }
@@ -42,7 +42,7 @@ take_piece-requires-clause-places g c =
 
 pub take_piece-requires-clause-room : goal.take_piece-requires-clause-room
 take_piece-requires-clause-room g c =
-    let one = left_length c.args.pieces.now c.loop-own.own-index c.loop-own-test.true in
+    let one = left_length c.args.pieces.now c.loop-own.own-index c.own-item.result c.loop-own-test.true in
     omega (arith, c.loop-own.invariant.room, one)
 
 pub take_piece-requires-clause-own : goal.take_piece-requires-clause-own
@@ -60,7 +60,7 @@ loop-own-preserved g c =
       bursts = c.bursts_at_other_places.ensures.rules;
     } in
     let next = next_own c.args.pieces.now c.loop-own.own-index c.own-item.result c.loop-own-test.true c.own-item.is in
-    let one = left_length c.args.pieces.now c.loop-own.own-index c.loop-own-test.true in
+    let one = left_length c.args.pieces.now c.loop-own.own-index c.own-item.result c.loop-own-test.true in
     let left : Left A c.args.edition c.args.depth c.args.memory.now (map piece_at c.args.pieces.now) _ c.loop-own.now = rw next at c.loop-own.invariant.left in
     record {
       room = omega (arith, c.in_ok-take_piece.ensures.expanded, c.loop-own.invariant.room, one);
