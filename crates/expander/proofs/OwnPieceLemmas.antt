@@ -1,12 +1,10 @@
 -- Pieces as trees of their own, and in the text.
 use Rattle.std.proofs.Common.{◌≡◌, ℕ, suc, ◌+◌, ◌<◌, ◌≤◌, length, List, [], ◌∷◌, ◌++◌, append_assoc, append-nil, drop, get_or, map, refl, ap, sym, subst, ◌∙◌}
 use Rattle.std.specs.Prelude.{All}
-use Rattle.std.specs.Rc.{rc_value}
 use Rattle.std.proofs.lemmas.List.{at_drop_all, drop_more, map-append}
 use Rattle.std.proofs.lemmas.List.Elements.{All-cons, All-head, All-nil, All-tail}
 use Rattle.tt.specs.Tops.{Top}
 use Rattle.tt_data.specs.Forest.{Forest, map_spans}
-use Rattle.expander.specs.ByTrees.{own_top}
 use Rattle.expander.specs.Held.{StandFromFirst, moved_on}
 use Rattle.expander.specs.OwnPieces.{AreOwn, IsOwn, IsOwnPiece, own_of, own_shown, piece_at}
 use Rattle.expander.specs.Pieces.{first_start, relative}

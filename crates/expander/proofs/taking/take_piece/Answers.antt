@@ -1,5 +1,4 @@
-use Rattle.std.proofs.Common.{◌≡◌, ◌∙◌, rules, ap}
-use Rattle.tt.specs.Tops.{Top}
+use Rattle.std.proofs.Common.{◌≡◌, rules}
 use Rattle.expander.specs.ByTrees.{own_top}
 use Rattle.expander.specs.OwnPieces.{piece_at}
 use Rattle.expander.specs.Pieces.{relative}

@@ -1,4 +1,4 @@
-use Rattle.std.proofs.Common.{◌≡◌, ◌+◌, sym, ap, subst, ◌∙◌, arith, drop, length, map}
+use Rattle.std.proofs.Common.{◌+◌, sym, subst, arith, drop, map}
 use Rattle.tt_data.specs.declared.edition.Edition.{Edition}
 use Rattle.expander.specs.Memories.{IsMemory}
 use Rattle.expander.specs.OwnPieces.{IsOwnPiece, piece_at}
