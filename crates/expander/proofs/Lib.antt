@@ -54,6 +54,7 @@ mod TakenReplyLemmas
 mod SelfMatchLemmas
 mod MetLemmas
 mod OwnLemmas
+mod OwnPieceLemmas
 mod PlacingLemmas
 mod PlainLemmas
 mod MemoryLemmas

@@ -19,14 +19,15 @@ use Rattle.expander.specs.NumberedTexts.{inner_of}
 use Rattle.expander.specs.Numbering.{numbered_by}
 use Rattle.expander.specs.Plains.{tree_of}
 use Rattle.expander.specs.Reuse.{IsHeld, looked_held}
+use Rattle.expander.specs.Sources.{AreSources}
 use Rattle.expander.specs.declared.memory.Memory as code
 use Rattle.expander.specs.declared.numbered.Known.{Known}
 use Rattle.expander.specs.declared.plain.Plain.{Plain}
 
 -- nothing is held rightly
-pub nothing : (m : code.Memory) → m.plains.items ≡ [] → m.definitions.items ≡ [] → ((t : Top) → known_in m.by_tree t ≡ None) → AreChained m.chains []
+pub nothing : (m : code.Memory) → m.plains.items ≡ [] → m.definitions.items ≡ [] → ((t : Top) → known_in m.by_tree t ≡ None) → AreChained m.chains [] → AreSources m.sources
     → (world : World Definition) (edition : Edition) (depth : ℕ) → IsMemory world depth edition m
-nothing m plains definitions none chained world edition depth = record {
+nothing m plains definitions none chained sources world edition depth = record {
   unread = λ e. plains;
   numbers = record { within = λ t n e. absurd (no n (sym (empty t) ∙ e)); apart = λ t u n e f. absurd (no n (sym (empty t) ∙ e)) };
   have = λ t. ap is_some (empty t) ∙ ap (λ (ks : List (Rc Known Global)). list_any (same_forest t) (map (λ k. inner_of (rc_value k)) ks)) (sym definitions);
@@ -35,6 +36,7 @@ nothing m plains definitions none chained world edition depth = record {
   chained = subst (λ (qs : List (Rc Plain Global)). AreChained m.chains (map (λ q. tree_of (rc_value q)) qs)) (sym plains) chained;
   right = subst (λ (qs : List (Rc Plain Global)). All (λ q. IsRight world depth (numbers_in m.by_tree) (rc_value q)) qs) (sym plains)
       (All-nil (λ q. IsRight world depth (numbers_in m.by_tree) (rc_value q)));
+  sources = sources;
 }
   where
     empty : (t : Forest) → numbers_in m.by_tree t ≡ None

@@ -1,13 +1,12 @@
 -- A session's reply to a text that was read, and what it holds afterwards.
-use Rattle.std.proofs.Common.{◌≡◌, ◌↔◌, ℕ, ◌+◌, ◌≤◌, ◌^◌, Bool, true, false, if◌then◌else◌, List, [], ◌++◌, map, Option, Some, None, refl, ap, sym, subst, ◌∙◌, length, inr}
+use Rattle.std.proofs.Common.{◌≡◌, ◌↔◌, ℕ, ◌+◌, ◌≤◌, ◌^◌, Bool, true, false, if◌then◌else◌, List, [], ◌++◌, map, Option, Some, None, refl, ap, sym, subst, ◌∙◌, length, inr, Global}
 use Rattle.std.specs.Prelude.{All, IsUtf8, Ok, filter, flat_map, unwrap_or}
 use Rattle.std.specs.List.{list_any}
 use Rattle.std.specs.Rc.{rc_value}
+use Rattle.std.specs.declared.vec.Vec.{Vec}
 use Rattle.std.proofs.lemmas.List.Elements.{All-nil}
 use Rattle.bridge.specs.TokenSteps.{text_reading}
-use Rattle.bridge.specs.declared.outcome.Read.TheVariants.{Tree}
 use Rattle.mbe.specs.Grammar.{Grammar}
-use Rattle.tt.specs.Tops.{Top}
 use Rattle.tt_data.specs.Forest.{Forest}
 use Rattle.tt_data.specs.declared.edition.Edition.{Edition}
 use Rattle.expander.specs.ByTrees.{numbers_in}
@@ -15,31 +14,38 @@ use Rattle.expander.specs.Count.{same_forest}
 use Rattle.expander.specs.Expanded.{Expanded}
 use Rattle.expander.specs.Expansion.{PlacedStep}
 use Rattle.expander.specs.Faults.{in_order}
-use Rattle.expander.specs.Held.{Kept, StandFromFirst, definition_trees, kept_after, present}
+use Rattle.expander.specs.Held.{Kept, definition_trees, kept_after, present}
 use Rattle.expander.specs.Layered.{layers}
 use Rattle.expander.specs.Meaning.{Layers, Member, meaning_of, members, members_after, output_of}
 use Rattle.expander.specs.Memories.{IsMemory, held_in, looked_plain, piece_of, trees_of}
 use Rattle.expander.specs.Numbering.{HaveNumbers, number_by, numbered_by}
 use Rattle.expander.specs.Numbers.{needed}
 use Rattle.expander.specs.OutputSteps.{HasOutput, faults_in}
-use Rattle.expander.specs.Pieces.{cut, pieces}
+use Rattle.expander.specs.OwnPieces.{IsOwnPiece, piece_at}
+use Rattle.expander.specs.Pieces.{pieces}
+use Rattle.expander.specs.ReadPieces.{IsReadInPieces}
 use Rattle.expander.specs.Replies.{HasCause, Replies}
 use Rattle.expander.specs.Reuse.{HeldPiece, IsHeld, looked_held}
 use Rattle.expander.specs.Shown.{ShowsMeaning, ShowsOutput}
 use Rattle.expander.specs.State.{State, layers_of}
-use Rattle.expander.specs.TakenTexts.{IsReadApart, TakesText}
+use Rattle.expander.specs.Sources.{AreSources}
+use Rattle.expander.specs.TakenTexts.{TakesText}
 use Rattle.expander.specs.Takings.{IsTaken, NeedsMore}
 use Rattle.expander.specs.TextTurn.{is_unmatched}
 use Rattle.expander.specs.TooMany.{HasTooMany, bursts}
 use Rattle.expander.specs.World.{world}
 use Rattle.expander.specs.declared.faults.Fault.{Fault}
 use Rattle.expander.specs.declared.memory.Memory as code
+use Rattle.expander.specs.declared.own_pieces.OwnPiece.{OwnPiece}
+use Rattle.expander.specs.declared.read_pieces.ReadPieces.TheVariants.{Pieces}
 use Rattle.expander.specs.declared.session.Refusal.{Refusal}
 use Rattle.expander.specs.declared.session.Refusal.TheVariants as refusal
 use Rattle.expander.specs.declared.session.Reply.TheVariants.{Read}
+use Rattle.expander.specs.declared.sources.Sources.{Sources}
 use Rattle.expander.specs.declared.taking.Taken.{Taken}
 use Rattle.expander.proofs.MemoryLemmas.{all_held, all_looked}
 use Rattle.expander.proofs.NumberingLemmas.{numbers_now}
+use Rattle.expander.proofs.OwnPieceLemmas.{own_back}
 use Rattle.expander.proofs.ReadPlaceLemmas.{OrderLaws, pieces_stand}
 use Rattle.expander.proofs.TakenLemmas.{taken_members}
 use Rattle.expander.proofs.TakenReplyLemmas.{Had, ShowsText, taken_reply, too_many_numbers}
@@ -48,14 +54,15 @@ use Rattle.expander.proofs.WholeTurnLemmas.{TurnLaws}
 -- ---- what is taken of pieces, shown and held
 
 -- what the pass put together, as it is held
-abbrev pub memory_of : Taken → code.Memory
-memory_of now = record {
+abbrev pub memory_of : Taken → Sources → code.Memory
+memory_of now sources = record {
   was_read = true;
   plains = now.plains;
   chains = now.chains;
   definitions = now.numbers.definitions;
   by_tree = now.numbers.by_tree;
   given = now.numbers.given;
+  sources = sources;
 }
 
 module _ (equal : (f g : Forest) → (same_forest f g ≡ true) ↔ (f ≡ g)) (grammar : Grammar) (edition : Edition) (depth : ℕ) (old : code.Memory) (ps : List Forest) where
@@ -64,8 +71,8 @@ module _ (equal : (f g : Forest) → (same_forest f g ≡ true) ↔ (f ≡ g)) (
 
   -- it is held rightly
   taken_right : (now : Taken) → IsTaken (world grammar edition) edition depth old (layers grammar edition) (definition_trees ps) (news now) now
-      → IsMemory (world grammar edition) depth edition (memory_of now)
-  taken_right now t = record {
+      → (sources : Sources) → AreSources sources → IsMemory (world grammar edition) depth edition (memory_of now sources)
+  taken_right now t sources are = record {
     unread = λ e. absurd (cc e);
     numbers = numbers_now equal old.given (numbers_in old.by_tree) (trees_of old) (definition_trees ps) now.numbers.given (numbers_in now.numbers.by_tree) t.numbers.numbers;
     have = subst (HaveNumbers (numbers_in now.numbers.by_tree)) (sym t.numbers.trees_are) t.numbers.numbers.have;
@@ -73,15 +80,16 @@ module _ (equal : (f g : Forest) → (same_forest f g ≡ true) ↔ (f ≡ g)) (
     read = t.table_read;
     chained = t.chained;
     right = t.right;
+    sources = are;
   }
 
   pub takes_text : (now : Taken) (e : Expanded) → IsTaken (world grammar edition) edition depth old (layers grammar edition) (definition_trees ps) (news now) now
       → ((steps : List PlacedStep) → HasOutput now.steps steps → ShowsOutput now.faults.items now.expanded steps e)
-      → TakesText grammar edition depth old ps e (memory_of now)
-  takes_text now e t shown =
+      → (sources : Sources) → AreSources sources → TakesText grammar edition depth old ps e (memory_of now sources)
+  takes_text now e t shown sources are =
       let shows : ShowsOutput now.faults.items now.expanded (flat_map output_of (map present (news now))) e = shown (flat_map output_of (map present (news now))) t.steps in
       record {
-        right = taken_right now t;
+        right = taken_right now t sources are;
         was_read = refl;
         numbers = t.numbers.numbers;
         trees = t.numbers.trees_are;
@@ -173,29 +181,36 @@ pieces_cause equal grammar edition s m f read trees gives refusal.Numbers tokens
 
 -- ---- over a text that was read
 
-module _ (text : List ℕ) (t : Top) (is_read : IsReadApart text (Tree t)) (trees : Forest) (same : trees ≡ t.inner) where
-  are_pieces : cut trees ≡ pieces is_read.0
-  are_pieces = ap cut (same ∙ is_read.2)
+module _ (text : List ℕ) (own : Vec OwnPiece Global) (sources : Sources) (is_read : IsReadInPieces text (Pieces own sources)) (order : OrderLaws) (is_text : IsUtf8 text) where
+  own_is : (map piece_at own.items ≡ pieces is_read.0) × All IsOwnPiece own.items
+  own_is = own_back (pieces is_read.0) own.items is_read.2 (pieces_stand order text is_read.0 is_text is_read.1)
 
-  pub stand_apart : OrderLaws → IsUtf8 text → All StandFromFirst (cut trees)
-  stand_apart order is_text = subst (λ (ps : List Forest). All StandFromFirst ps) (sym are_pieces) (pieces_stand order text is_read.0 is_text is_read.1)
+  pub own_pieces_are : All IsOwnPiece own.items
+  own_pieces_are = own_is.1
 
-  pub replies_apart : TurnLaws → IsUtf8 text → {G : Type 0} → (answer : G → Grammar) (s : State G) (own : List ℕ) (grammar : G) (edition : Edition) (depth : ℕ) (old : code.Memory)
-      → session_with own grammar edition depth old ≡ s → text ≡ own → IsMemory (world (answer grammar) edition) depth edition old
-      → (e : Expanded) (m : code.Memory) → TakesText (answer grammar) edition depth old (cut trees) e m
-      → Replies (layers_of answer s) s (session_with own grammar edition depth m) (Read e)
-  replies_apart laws is_text {G} answer s own grammar edition depth old is shown right e m takes =
-      subst (λ (z : State G). Replies (layers_of answer z) z (session_with own grammar edition depth m) (Read e)) is
-      (subst (λ (bytes : List ℕ). Replies (layers (answer grammar) edition) (session_with bytes grammar edition depth old) (session_with bytes grammar edition depth m) (Read e)) shown
-      (replies_read laws grammar (answer grammar) edition depth text is_read.0 is_text is_read.1 old right e m
-      (subst (λ (ps : List Forest). TakesText (answer grammar) edition depth old ps e m) are_pieces takes)))
+  module _ (list : List OwnPiece) (same : list ≡ own.items) where
+    are_pieces : map piece_at list ≡ pieces is_read.0
+    are_pieces = ap (map piece_at) same ∙ own_is.0
 
-  pub cause_apart : ((a b : Forest) → (same_forest a b ≡ true) ↔ (a ≡ b)) → {G : Type 0} → (answer : G → Grammar) (s : State G) (own : List ℕ) (grammar : G) (edition : Edition) (depth : ℕ)
-      (m : code.Memory) → session_with own grammar edition depth m ≡ s → text ≡ own → (why : Refusal)
-      → (why ≡ refusal.Tokens → list_any bursts (members_after (layers (answer grammar) edition) depth [] (cut trees)) ≡ true)
-      → (why ≡ refusal.Numbers → NeedsMore m (cut trees)) → HasCause (layers_of answer s) s why
-  cause_apart equal {G} answer s own grammar edition depth m is shown why tokens numbers =
-      subst (λ (z : State G). HasCause (layers_of answer z) z why) is
-      (pieces_cause equal (answer grammar) edition (session_with own grammar edition depth m) m is_read.0 (subst (λ (bytes : List ℕ). text_reading bytes ≡ Ok is_read.0) shown is_read.1) refl refl why
-      (λ e. subst (λ (ps : List Forest). list_any bursts (members_after (layers (answer grammar) edition) depth [] ps) ≡ true) are_pieces (tokens e))
-      (λ e. subst (λ (ps : List Forest). NeedsMore m ps) are_pieces (numbers e)))
+    pub list_are : All IsOwnPiece list
+    list_are = subst (All IsOwnPiece) (sym same) own_is.1
+
+    pub replies_in_pieces : TurnLaws → {G : Type 0} → (answer : G → Grammar) (s : State G) (here : List ℕ) (grammar : G) (edition : Edition) (depth : ℕ) (old : code.Memory)
+        → session_with here grammar edition depth old ≡ s → text ≡ here → IsMemory (world (answer grammar) edition) depth edition old
+        → (e : Expanded) (m : code.Memory) → TakesText (answer grammar) edition depth old (map piece_at list) e m
+        → Replies (layers_of answer s) s (session_with here grammar edition depth m) (Read e)
+    replies_in_pieces laws {G} answer s here grammar edition depth old is shown right e m takes =
+        subst (λ (z : State G). Replies (layers_of answer z) z (session_with here grammar edition depth m) (Read e)) is
+        (subst (λ (bytes : List ℕ). Replies (layers (answer grammar) edition) (session_with bytes grammar edition depth old) (session_with bytes grammar edition depth m) (Read e)) shown
+        (replies_read laws grammar (answer grammar) edition depth text is_read.0 is_text is_read.1 old right e m
+        (subst (λ (ps : List Forest). TakesText (answer grammar) edition depth old ps e m) are_pieces takes)))
+
+    pub cause_in_pieces : ((a b : Forest) → (same_forest a b ≡ true) ↔ (a ≡ b)) → {G : Type 0} → (answer : G → Grammar) (s : State G) (here : List ℕ) (grammar : G) (edition : Edition) (depth : ℕ)
+        (m : code.Memory) → session_with here grammar edition depth m ≡ s → text ≡ here → (why : Refusal)
+        → (why ≡ refusal.Tokens → list_any bursts (members_after (layers (answer grammar) edition) depth [] (map piece_at list)) ≡ true)
+        → (why ≡ refusal.Numbers → NeedsMore m (map piece_at list)) → HasCause (layers_of answer s) s why
+    cause_in_pieces equal {G} answer s here grammar edition depth m is shown why tokens numbers =
+        subst (λ (z : State G). HasCause (layers_of answer z) z why) is
+        (pieces_cause equal (answer grammar) edition (session_with here grammar edition depth m) m is_read.0 (subst (λ (bytes : List ℕ). text_reading bytes ≡ Ok is_read.0) shown is_read.1) refl refl why
+        (λ e. subst (λ (ps : List Forest). list_any bursts (members_after (layers (answer grammar) edition) depth [] ps) ≡ true) are_pieces (tokens e))
+        (λ e. subst (λ (ps : List Forest). NeedsMore m ps) are_pieces (numbers e)))

@@ -50,6 +50,9 @@ pub mod ByTrees
 pub mod NumberedTexts
 pub mod TakenTexts
 pub mod Cutting
+pub mod OwnPieces
+pub mod Sources
+pub mod ReadPieces
 pub mod Names
 pub mod OutputSteps
 pub mod WalkSteps

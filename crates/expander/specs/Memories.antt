@@ -16,6 +16,7 @@ use Rattle.expander.specs.Numbering.{AreNumbers, HaveNumbers, numbered_by}
 use Rattle.expander.specs.Outcomes.{parts_for, parts_of}
 use Rattle.expander.specs.Plains.{finds_of, tree_of}
 use Rattle.expander.specs.Reuse.{HeldPiece, IsHeld}
+use Rattle.expander.specs.Sources.{AreSources}
 use Rattle.expander.specs.declared.memory.Memory as code
 use Rattle.expander.specs.declared.plain.Plain.{Plain}
 
@@ -52,3 +53,4 @@ module _ (world : World Definition) (depth : ℕ) where
     pub read : AllRead edition m.by_tree
     pub chained : AreChained m.chains (map (λ q. tree_of (rc_value q)) m.plains.items)
     pub right : All (λ q. IsRight (numbers_in m.by_tree) (rc_value q)) m.plains.items
+    pub sources : AreSources m.sources

@@ -1,9 +1,6 @@
 -- What a session shows of a text that was read, and what it holds afterwards.
-use Rattle.std.specs.Prelude.{◌≡◌, ℕ, true, List, [], Ok, Err, filter, filter_map, length, map}
+use Rattle.std.specs.Prelude.{◌≡◌, ℕ, true, List, [], filter, filter_map, length, map}
 use Rattle.std.specs.Rc.{rc_value}
-use Rattle.bridge.specs.TokenSteps.{text_reading}
-use Rattle.bridge.specs.declared.outcome.Read.{Read}
-use Rattle.bridge.specs.declared.outcome.Read.TheVariants.{Tree, Fault}
 use Rattle.mbe.specs.Grammar.{Grammar}
 use Rattle.tt_data.specs.Forest.{Forest}
 use Rattle.tt_data.specs.declared.edition.Edition.{Edition}
@@ -14,16 +11,10 @@ use Rattle.expander.specs.Layered.{layers}
 use Rattle.expander.specs.Meaning.{meaning_of}
 use Rattle.expander.specs.Memories.{IsMemory, piece_of, trees_of}
 use Rattle.expander.specs.Numbering.{AreNumbered, number_by}
-use Rattle.expander.specs.Pieces.{separated}
 use Rattle.expander.specs.Shown.{ShowsMeaning}
 use Rattle.expander.specs.TextTurn.{held_of, is_unmatched}
 use Rattle.expander.specs.World.{world}
 use Rattle.expander.specs.declared.memory.Memory.{Memory}
-
--- the trees of a text, each `;` between pieces standing alone, or its reading fault
-abbrev pub IsReadApart : List ℕ → Read → Type 0
-IsReadApart text (Tree t) = (f : Forest) × (text_reading text ≡ Ok f) × (t.inner ≡ separated f)
-IsReadApart text (Fault fault) = text_reading text ≡ Err fault
 
 module _ (grammar : Grammar) (edition : Edition) (depth : ℕ) (old : Memory) (ps : List Forest) where
   -- the pieces under the numbers that are held afterwards

@@ -9,6 +9,7 @@ use crate::by_tree::ByTree;
 use crate::chains::Chains;
 use crate::numbered::Known;
 use crate::plain::Plain;
+use crate::sources::Sources;
 use std::alloc::Global;
 use std::rc::Rc;
 
@@ -26,6 +27,8 @@ pub(crate) struct Memory {
     pub by_tree: ByTree,
     /// How many numbers were given to definitions so far.
     pub given: u32,
+    /// How its pieces were read.
+    pub sources: Sources,
 }
 
 impl Memory {
@@ -43,6 +46,7 @@ impl Memory {
             definitions: Vec::new(alloc),
             by_tree: ByTree::new(alloc),
             given: 0,
+            sources: Sources::new(alloc),
         }
     }
 }

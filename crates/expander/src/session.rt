@@ -1,23 +1,20 @@
 //! A session over a text.
-ghost use Rattle.std.specs.Prelude.{◌≡◌, ◌+◌, ◌-◌, ◌<◌, ◌≤◌, ◌^◌, ◌↔◌, All, Err, List, [], chars, length, IfOk, IfErr, OnOk, OnErr, IsTrue, IsCharBoundary, None, map, slice_get, true};
+ghost use Rattle.std.specs.Prelude.{◌≡◌, ◌+◌, ◌-◌, ◌<◌, ◌≤◌, ◌^◌, ◌↔◌, All, Err, List, [], length, IfOk, IfErr, OnOk, OnErr, IsTrue, IsCharBoundary, None, map, slice_get, true};
 ghost use Rattle.std.specs.List.{list_any};
-ghost use Rattle.bridge.specs.ReadText.{HasTooMany};
-ghost use Rattle.bridge.specs.TokenSteps.{text_steps};
 ghost use Rattle.rustc_lexer.specs.Edit.{edited};
-ghost use Rattle.rustc_lexer.specs.Lexing.{tokens_of};
 ghost use Rattle.expander.specs.Expansion.{PlacedStep};
-ghost use Rattle.expander.specs.Held.{StandFromFirst};
 ghost use Rattle.expander.specs.Layered.{layers};
 ghost use Rattle.expander.specs.Meaning.{members_after};
 ghost use Rattle.expander.specs.Memories.{IsMemory};
 ghost use Rattle.expander.specs.OutputSteps.{HasOutput};
-ghost use Rattle.expander.specs.Pieces.{cut};
+ghost use Rattle.expander.specs.OwnPieces.{IsOwnPiece, piece_at};
 ghost use Rattle.expander.specs.State.{State, layers_of};
 ghost use Rattle.expander.specs.Refusals.{refusal_of};
 ghost use Rattle.expander.specs.Replies.{HasCause, Replies};
 ghost use Rattle.expander.specs.declared.session.Refusal.TheVariants.{Memory};
 ghost use Rattle.expander.specs.Shown.{ShowsOutput};
-ghost use Rattle.expander.specs.TakenTexts.{IsReadApart, TakesText};
+ghost use Rattle.expander.specs.Sources.{AreSources};
+ghost use Rattle.expander.specs.TakenTexts.{TakesText};
 ghost use Rattle.expander.specs.Takings.{NeedsMore};
 ghost use Rattle.expander.specs.TooMany.{bursts};
 ghost use Rattle.expander.specs.World.{world};
@@ -26,14 +23,15 @@ use crate::faults::{Fault, sort_faults};
 use crate::laws;
 use crate::memory::Memory;
 use crate::output::{PlacedSteps, finish};
-use crate::pieces::set_apart;
+use crate::own_pieces::OwnPiece;
+use crate::read_pieces::{ReadPieces, read_pieces};
+use crate::sources::Sources;
 use crate::taking::{Taken, take_pieces};
-use bridge::{Printed, Read, ReadFault};
+use bridge::{Printed, ReadFault};
 use fragment_grammar::FragmentGrammar;
-use rustc_lexer::{LexedText, Token};
+use rustc_lexer::LexedText;
 use std::alloc::{AllocError, Global};
 use std::marker::Model;
-use tt::iter::TtIter;
 use tt_data::edition::Edition;
 use tt_data::fault::TtFault;
 use tt_data::span::{Span, TextRange};
@@ -267,55 +265,40 @@ impl<G: FragmentGrammar + Drop> Session<G> {
         bridge::laws::tokens_are_written();
         laws::equal_pieces();
         let (alloc, text, tokens) = (self.alloc, self.text.text(), self.text.tokens());
-        let tree = match read_apart(alloc, text, tokens)? {
-            Read::Fault(fault) => return Ok(Reply::Unread(fault)),
-            Read::Tree(tree) => tree,
+        let (pieces, sources) = match read_pieces(alloc, text, tokens, &self.memory.sources)? {
+            ReadPieces::Fault(fault) => return Ok(Reply::Unread(fault)),
+            ReadPieces::Pieces(pieces, sources) => (pieces, sources),
         };
-        let trees = tree.token_trees().iter();
         let (expansion, memory) = expand_pieces(
             alloc,
             &self.grammar,
             self.edition,
             self.depth,
             &self.memory,
-            &trees,
+            pieces.as_slice(),
+            sources,
         )?;
         self.memory = memory;
         Ok(Reply::Read(expansion))
     }
 }
 
-// The trees of the text with these tokens, each `;` between pieces standing alone, or its reading fault.
-fn read_apart(alloc: Global, text: &str, tokens: &[Token]) -> Result<Read, TtFault>
-    requires small { length text.now < 2 ^ 32 }
-    requires tokens { tokens.now ≡ tokens_of (chars text.now) }
-    ensures read { IfOk result (IsReadApart text.now) }
-    ensures many { result ≡ Err TtFault.Tokens → HasTooMany (text_steps text.now) }
-{
-    bridge::laws::reading_is_a_relation();
-    match bridge::read(alloc, text, tokens)? {
-        Read::Fault(fault) => Ok(Read::Fault(fault)),
-        Read::Tree(mut tree) => {
-            set_apart(alloc, &mut tree)?;
-            Ok(Read::Tree(tree))
-        }
-    }
-}
-
-// The expansion of pieces over what is held, and what is held afterwards.
+// The expansion of pieces over what is held, and what is held afterwards, with how they were read.
 fn expand_pieces<G: FragmentGrammar>(
     alloc: Global,
     grammar: &G,
     edition: Edition,
     depth: u8,
     memory: &Memory,
-    trees: &TtIter<'_>,
+    pieces: &[OwnPiece],
+    sources: Sources,
 ) -> Result<(Expansion, Memory), Refusal>
     requires right { IsMemory (world (G.answer grammar.now) edition) depth edition memory.now }
-    requires stand { All StandFromFirst (cut trees.now) }
-    ensures taken { IfOk result (λ r. TakesText (G.answer grammar.now) edition depth memory.now (cut trees.now) r.0 r.1) }
-    ensures tokens { result ≡ Err Refusal.Tokens → list_any bursts (members_after (layers (G.answer grammar.now) edition) depth [] (cut trees.now)) ≡ true }
-    ensures numbers { result ≡ Err Refusal.Numbers → NeedsMore memory.now (cut trees.now) }
+    requires own { All IsOwnPiece pieces.now }
+    requires sources { AreSources sources }
+    ensures taken { IfOk result (λ r. TakesText (G.answer grammar.now) edition depth memory.now (map piece_at pieces.now) r.0 r.1) }
+    ensures tokens { result ≡ Err Refusal.Tokens → list_any bursts (members_after (layers (G.answer grammar.now) edition) depth [] (map piece_at pieces.now)) ≡ true }
+    ensures numbers { result ≡ Err Refusal.Numbers → NeedsMore memory.now (map piece_at pieces.now) }
 {
     laws::equal_pieces();
     let Taken {
@@ -325,7 +308,7 @@ fn expand_pieces<G: FragmentGrammar>(
         steps,
         faults,
         expanded,
-    } = take_pieces(alloc, grammar, edition, depth, memory, trees)?;
+    } = take_pieces(alloc, grammar, edition, depth, memory, pieces)?;
     let expansion = expansion_of(alloc, steps, faults, expanded)?;
     let memory = Memory {
         was_read: true,
@@ -334,6 +317,7 @@ fn expand_pieces<G: FragmentGrammar>(
         definitions: numbers.definitions,
         by_tree: numbers.by_tree,
         given: numbers.given,
+        sources,
     };
     Ok((expansion, memory))
 }

@@ -10,7 +10,7 @@ ghost use Rattle.expander.specs.ByTrees.{numbers_in, own_top};
 ghost use Rattle.expander.specs.Chains.{AreChained};
 ghost use Rattle.expander.specs.Definitions.{definition_of};
 ghost use Rattle.expander.specs.Expansion.{expansion};
-ghost use Rattle.expander.specs.Held.{IsMet, Met, StandFromFirst, definition_trees, kept_after, numbered_scope, numbered_world};
+ghost use Rattle.expander.specs.Held.{IsMet, Met, definition_trees, kept_after, numbered_scope, numbered_world};
 ghost use Rattle.expander.specs.Layered.{layers};
 ghost use Rattle.expander.specs.Meaning.{members_after};
 ghost use Rattle.expander.specs.Memories.{IsMemory, piece_of, trees_of};
@@ -21,7 +21,8 @@ ghost use Rattle.expander.specs.Numbers.{needed};
 ghost use Rattle.expander.specs.OtherPlaces.{LooksAtNoPlace};
 ghost use Rattle.expander.specs.Outcomes.{parts_for, parts_of};
 ghost use Rattle.expander.specs.OutputSteps.{PutsOut};
-ghost use Rattle.expander.specs.Pieces.{cut, first_start, relative};
+ghost use Rattle.expander.specs.OwnPieces.{IsOwn, IsOwnPiece, piece_at};
+ghost use Rattle.expander.specs.Pieces.{first_start, relative};
 ghost use Rattle.expander.specs.Placing.{resolved_faults, resolved_steps};
 ghost use Rattle.expander.specs.Plains.{tree_of};
 ghost use Rattle.expander.specs.Reuse.{matches};
@@ -31,7 +32,6 @@ ghost use Rattle.expander.specs.World.{world};
 
 use crate::by_tree::ByTree;
 use crate::chains::Chains;
-use crate::copies::again;
 use crate::definitions::definition_of;
 use crate::faults::Fault;
 use crate::laws;
@@ -39,8 +39,7 @@ use crate::memory::Memory;
 use crate::met::Scope;
 use crate::numbering::{Numbering, number};
 use crate::output::{PlacedSteps, no_steps};
-use crate::own_places::{own_tree, start_of};
-use crate::pieces::next_piece;
+use crate::own_pieces::OwnPiece;
 use crate::placing::{put_faults, put_steps, tell_if_broken};
 use crate::plain::{Plain, match_from};
 use crate::searching::expand_piece;
@@ -49,7 +48,6 @@ use crate::starts::Starts;
 use mbe::FragmentGrammar;
 use std::alloc::{AllocError, Global};
 use std::rc::Rc;
-use tt::iter::TtIter;
 use tt::top::TopSubtree;
 use tt_data::edition::Edition;
 use tt_data::fault::TtFault;
@@ -284,29 +282,26 @@ fn take_piece<G: FragmentGrammar>(
     depth: u8,
     memory: &Memory,
     now: &mut Taking,
-    piece: &TtIter<'_>,
+    own: &OwnPiece,
 ) -> Result<(), Refusal>
     requires right { IsMemory (world (G.answer grammar.now) now.old.scope.edition) depth now.old.scope.edition memory.now }
     requires can { CanDefine memory.now now.old }
     requires places { LooksAtNoPlace (world (G.answer grammar.now) now.old.scope.edition) }
     requires room { now.old.taken.expanded + 1 < 2 ^ 64 }
-    ensures taken { OnOk result (Takes (G.answer grammar.now) now.old.scope.edition depth memory.now piece.now now.old now.new) }
+    requires own { IsOwn (piece_at own.now) own.now }
+    ensures taken { OnOk result (Takes (G.answer grammar.now) now.old.scope.edition depth memory.now (piece_at own.now) now.old now.new) }
     ensures grows { OnOk result (Grows now.old.taken now.new.taken) }
     ensures edition { OnOk result (now.new.scope.edition ≡ now.old.scope.edition) }
     ensures expanded { OnOk result (now.new.taken.expanded ≤ now.old.taken.expanded + 1) }
-    ensures tokens { result ≡ Err Refusal.Tokens → MakesTooMany (G.answer grammar.now) now.old.scope.edition depth piece.now now.old }
+    ensures tokens { result ≡ Err Refusal.Tokens → MakesTooMany (G.answer grammar.now) now.old.scope.edition depth (piece_at own.now) now.old }
     ensures cause { (trees : List Forest) → HasNumbered memory.now.given memory.now.by_tree (trees_of memory.now) trees now.old.taken.numbers →
-        result ≡ Err Refusal.Numbers → 2 ^ 32 ≤ memory.now.given + needed (trees_of memory.now) (trees ++ definition_trees (piece.now ∷ [])) }
+        result ≡ Err Refusal.Numbers → 2 ^ 32 ≤ memory.now.given + needed (trees_of memory.now) (trees ++ definition_trees (piece_at own.now ∷ [])) }
 {
-    let tree = own_tree(alloc, piece)?;
-    let Ok(tree) = Rc::new(alloc, tree) else {
-        return Err(Refusal::Memory);
-    };
-    let start = start_of(piece);
+    let tree = own.tree.clone()?;
     if definition_of(&tree.as_ref().iter()).is_some() {
-        return take_definition(alloc, memory, now, start, tree);
+        return take_definition(alloc, memory, now, own.start, tree);
     }
-    take_plain(alloc, grammar, depth, memory, now, start, tree)?;
+    take_plain(alloc, grammar, depth, memory, now, own.start, tree)?;
     Ok(())
 }
 
@@ -318,28 +313,27 @@ pub(crate) fn take_pieces<G: FragmentGrammar>(
     edition: Edition,
     depth: u8,
     memory: &Memory,
-    trees: &TtIter<'_>,
+    pieces: &[OwnPiece],
 ) -> Result<Taken, Refusal>
     requires right { IsMemory (world (G.answer grammar.now) edition) depth edition memory.now }
-    requires stand { All StandFromFirst (cut trees.now) }
+    requires own { All IsOwnPiece pieces.now }
     ensures taken { IfOk result (λ now. IsTaken (world (G.answer grammar.now) edition) edition depth memory.now (layers (G.answer grammar.now) edition)
-        (definition_trees (cut trees.now)) (kept_after (world (G.answer grammar.now) edition) depth (number_by (numbers_in now.numbers.by_tree)) [] (cut trees.now)) now) }
-    ensures tokens { result ≡ Err Refusal.Tokens → list_any bursts (members_after (layers (G.answer grammar.now) edition) depth [] (cut trees.now)) ≡ true }
-    ensures numbers { result ≡ Err Refusal.Numbers → NeedsMore memory.now (cut trees.now) }
+        (definition_trees (map piece_at pieces.now)) (kept_after (world (G.answer grammar.now) edition) depth (number_by (numbers_in now.numbers.by_tree)) [] (map piece_at pieces.now)) now) }
+    ensures tokens { result ≡ Err Refusal.Tokens → list_any bursts (members_after (layers (G.answer grammar.now) edition) depth [] (map piece_at pieces.now)) ≡ true }
+    ensures numbers { result ≡ Err Refusal.Numbers → NeedsMore memory.now (map piece_at pieces.now) }
 {
     mbe_rules::laws::rules_at_other_places();
     mbe::laws::fit_at_other_places();
     mbe::laws::bursts_at_other_places();
     laws::equal_pieces();
-    let most = trees.remaining().len();
+    let most = pieces.len();
     let mut now = Taking {
         scope: Scope::new(alloc, edition),
         taken: nothing_taken(alloc, memory),
         next: 0,
     };
-    let mut rest = again(trees);
-    while let Some(piece) = next_piece(&mut rest) {
-        take_piece(alloc, grammar, depth, memory, &mut now, &piece)?;
+    for own in pieces {
+        take_piece(alloc, grammar, depth, memory, &mut now, own)?;
     }
     let Taking { taken, .. } = now;
     Ok(taken)

@@ -1,5 +1,5 @@
 use Rattle.bridge.specs.TokenSteps.{text_steps}
-use Rattle.expander.proofs.session.read_apart.Goals as goal
+use Rattle.expander.proofs.read_pieces.read_apart.Goals as goal
 
 pub returns-in-Fault-clause-read : goal.returns-in-Fault-clause-read
 returns-in-Fault-clause-read c =

@@ -1,0 +1,21 @@
+use Rattle.std.proofs.Common.{◌∙◌, ◌++◌, List, ap, map}
+use Rattle.tt_data.specs.Forest.{Forest}
+use Rattle.expander.specs.OwnPieces.{own_of, own_shown}
+use Rattle.expander.specs.Pieces.{cut}
+use Rattle.expander.specs.declared.own_pieces.OwnPiece.{OwnPiece}
+use Rattle.expander.proofs.OwnPieceLemmas.{own_done, own_more}
+use Rattle.expander.proofs.own_pieces.own_pieces.Goals as goal
+
+pub loop-piece-init : goal.loop-piece-init
+loop-piece-init c =
+    ap (λ (own : List OwnPiece). map own_shown own ++ map own_of (cut c.again-rest.result)) c.new-pieces.ensures.items
+    ∙ ap (λ (f : Forest). map own_of (cut f)) c.again-rest.ensures
+
+pub loop-piece-preserved : goal.loop-piece-preserved
+loop-piece-preserved c =
+    own_more (cut c.args.trees.now) (cut c.loop-piece.rest) (cut c.next_piece.new.rest) c.in-Some.piece c.in_ok-own.own c.loop-piece.pieces.items c.push.new.self.items
+    c.in-Some.ensures.0 c.in_ok-own.ensures.own c.in-Ok.ensures.items c.loop-piece.invariant
+
+pub returns-clause-own : goal.returns-clause-own
+returns-clause-own c =
+    own_done (cut c.args.trees.now) (cut c.loop-piece.rest) c.loop-piece.pieces.items (ap cut c.in_default.ensures) c.loop-piece.invariant

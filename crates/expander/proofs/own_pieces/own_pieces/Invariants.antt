@@ -1,0 +1,12 @@
+use Rattle.std.proofs.Common.{◌≡◌, ◌++◌, map}
+use Rattle.tt_data.specs.Forest.{size}
+use Rattle.expander.specs.OwnPieces.{own_of, own_shown}
+use Rattle.expander.specs.Pieces.{cut}
+use Rattle.expander.proofs.own_pieces.own_pieces.Given as goal
+
+-- the pieces so far, with those that are left, are all of them
+abbrev pub invariant-loop-piece : goal.invariant-loop-piece
+invariant-loop-piece l = map own_shown l.pieces.items ++ map own_of (cut l.rest) ≡ map own_of (cut l.trees)
+
+abbrev pub decreases-loop-piece : goal.decreases-loop-piece
+decreases-loop-piece l = size l.rest

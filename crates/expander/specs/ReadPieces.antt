@@ -1,0 +1,21 @@
+-- A text as its pieces.
+use Rattle.std.specs.Prelude.{◌≡◌, ℕ, List, Ok, Err}
+use Rattle.bridge.specs.TokenSteps.{text_reading}
+use Rattle.bridge.specs.declared.outcome.Read.{Read}
+use Rattle.bridge.specs.declared.outcome.Read.TheVariants as whole
+use Rattle.tt_data.specs.Forest.{Forest}
+use Rattle.expander.specs.OwnPieces.{AreOwn}
+use Rattle.expander.specs.Pieces.{pieces, separated}
+use Rattle.expander.specs.Sources.{AreSources}
+use Rattle.expander.specs.declared.read_pieces.ReadPieces.{ReadPieces}
+use Rattle.expander.specs.declared.read_pieces.ReadPieces.TheVariants.{Fault, Pieces}
+
+-- the trees of a text, each `;` between pieces standing alone, or its reading fault
+abbrev pub IsReadApart : List ℕ → Read → Type 0
+IsReadApart text (whole.Tree t) = (f : Forest) × (text_reading text ≡ Ok f) × (t.inner ≡ separated f)
+IsReadApart text (whole.Fault fault) = text_reading text ≡ Err fault
+
+-- the pieces of a text with what may be held of them, or its reading fault
+abbrev pub IsReadInPieces : List ℕ → ReadPieces → Type 0
+IsReadInPieces text (Pieces own sources) = (f : Forest) × (text_reading text ≡ Ok f) × AreOwn (pieces f) own.items × AreSources sources
+IsReadInPieces text (Fault fault) = text_reading text ≡ Err fault

@@ -1,0 +1,54 @@
+// The pieces of a text as trees of their own.
+ghost use Rattle.std.specs.Prelude.{IfOk, IsOkUnless};
+ghost use Rattle.tt_data.specs.fault.TtFault.TheVariants as fault;
+ghost use Rattle.expander.specs.OwnPieces.{AreOwn, IsOwn};
+ghost use Rattle.expander.specs.Pieces.{cut};
+
+use crate::copies::again;
+use crate::own_places::{own_tree, start_of};
+use crate::pieces::next_piece;
+use std::alloc::Global;
+use std::rc::Rc;
+use tt::iter::TtIter;
+use tt::top::TopSubtree;
+use tt_data::fault::TtFault;
+
+/// A piece in places of its own, and where it stands.
+#[derive(Drop)]
+pub(crate) struct OwnPiece {
+    /// Where its first token starts.
+    pub start: u32,
+    /// Its places are counted from there.
+    pub tree: Rc<TopSubtree>,
+}
+
+// A piece of a text in places of its own.
+fn own_piece(alloc: Global, piece: &TtIter<'_>) -> Result<OwnPiece, TtFault>
+    ensures own { IfOk result (IsOwn piece.now) }
+    ensures memory { IsOkUnless result fault.Memory }
+{
+    let tree = own_tree(alloc, piece)?;
+    match Rc::new(alloc, tree) {
+        Ok(tree) => Ok(OwnPiece {
+            start: start_of(piece),
+            tree,
+        }),
+        Err(_) => Err(TtFault::Memory),
+    }
+}
+
+/// The pieces of a text's trees, in order.
+pub(crate) fn own_pieces(alloc: Global, trees: &TtIter<'_>) -> Result<Vec<OwnPiece>, TtFault>
+    ensures own { IfOk result (λ own. AreOwn (cut trees.now) own.items) }
+    ensures memory { IsOkUnless result fault.Memory }
+{
+    let mut pieces = Vec::new(alloc);
+    let mut rest = again(trees);
+    while let Some(piece) = next_piece(&mut rest) {
+        let own = own_piece(alloc, &piece)?;
+        let Ok(()) = pieces.push(own) else {
+            return Err(TtFault::Memory);
+        };
+    }
+    Ok(pieces)
+}

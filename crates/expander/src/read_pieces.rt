@@ -1,0 +1,64 @@
+// A text as its pieces.
+ghost use Rattle.std.specs.Prelude.{◌≡◌, ◌<◌, ◌^◌, Err, IfOk, chars, length};
+ghost use Rattle.bridge.specs.ReadText.{HasTooMany};
+ghost use Rattle.bridge.specs.TokenSteps.{text_steps};
+ghost use Rattle.rustc_lexer.specs.Lexing.{tokens_of};
+ghost use Rattle.expander.specs.ReadPieces.{IsReadApart, IsReadInPieces};
+ghost use Rattle.expander.specs.Sources.{AreSources};
+
+use crate::own_pieces::{OwnPiece, own_pieces};
+use crate::pieces::set_apart;
+use crate::sources::Sources;
+use bridge::{Read, ReadFault};
+use rustc_lexer::Token;
+use std::alloc::Global;
+use tt_data::fault::TtFault;
+
+/// What a text is read as.
+#[derive(Drop)]
+pub(crate) enum ReadPieces {
+    /// The first fault of the text.
+    Fault(ReadFault),
+    /// Its pieces in order, and what may be held of them.
+    Pieces(Vec<OwnPiece>, Sources),
+}
+
+// The trees of the text with these tokens, each `;` between pieces standing alone, or its reading fault.
+fn read_apart(alloc: Global, text: &str, tokens: &[Token]) -> Result<Read, TtFault>
+    requires small { length text.now < 2 ^ 32 }
+    requires tokens { tokens.now ≡ tokens_of (chars text.now) }
+    ensures read { IfOk result (IsReadApart text.now) }
+    ensures many { result ≡ Err TtFault.Tokens → HasTooMany (text_steps text.now) }
+{
+    bridge::laws::reading_is_a_relation();
+    match bridge::read(alloc, text, tokens)? {
+        Read::Fault(fault) => Ok(Read::Fault(fault)),
+        Read::Tree(mut tree) => {
+            set_apart(alloc, &mut tree)?;
+            Ok(Read::Tree(tree))
+        }
+    }
+}
+
+/// The pieces of the text with these tokens, over what is held of another text.
+pub(crate) fn read_pieces(
+    alloc: Global,
+    text: &str,
+    tokens: &[Token],
+    held: &Sources,
+) -> Result<ReadPieces, TtFault>
+    requires small { length text.now < 2 ^ 32 }
+    requires tokens { tokens.now ≡ tokens_of (chars text.now) }
+    requires right { AreSources held.now }
+    ensures read { IfOk result (IsReadInPieces text.now) }
+    ensures many { result ≡ Err TtFault.Tokens → HasTooMany (text_steps text.now) }
+{
+    match read_apart(alloc, text, tokens)? {
+        Read::Fault(fault) => Ok(ReadPieces::Fault(fault)),
+        Read::Tree(tree) => {
+            let trees = tree.token_trees().iter();
+            let own = own_pieces(alloc, &trees)?;
+            Ok(ReadPieces::Pieces(own, Sources::new(alloc)))
+        }
+    }
+}
