@@ -19,6 +19,7 @@ mod numbering;
 mod outcome;
 mod output;
 mod own_places;
+mod own_tree;
 mod pieces;
 mod placing;
 mod plain;

@@ -40,6 +40,7 @@ use crate::met::Scope;
 use crate::numbering::{Numbering, number};
 use crate::output::{PlacedSteps, no_steps};
 use crate::own_places::{own_tree, start_of};
+use crate::own_tree::OwnTree;
 use crate::pieces::next_piece;
 use crate::placing::{put_faults, put_steps, tell_if_broken};
 use crate::plain::{Plain, match_from};
@@ -50,7 +51,6 @@ use mbe::FragmentGrammar;
 use std::alloc::{AllocError, Global};
 use std::rc::Rc;
 use tt::iter::TtIter;
-use tt::top::TopSubtree;
 use tt_data::edition::Edition;
 use tt_data::fault::TtFault;
 
@@ -60,7 +60,7 @@ fn expanded<G: FragmentGrammar>(
     grammar: &G,
     scope: &Scope,
     depth: u8,
-    tree: Rc<TopSubtree>,
+    tree: Rc<OwnTree>,
 ) -> Result<Rc<Plain>, TtFault>
     requires { AreRead scope.now }
     ensures tree { IfOk result (λ q. tree_of q.value ≡ tree.value) }
@@ -69,7 +69,7 @@ fn expanded<G: FragmentGrammar>(
     ensures tokens { result ≡ Err TtFault.Tokens →
         (expansion (numbered_world (world (G.answer grammar.now) scope.now.edition)) (scope_in scope.now) depth None tree.value.inner).bursts ≡ true }
 {
-    let outcome = expand_piece(alloc, grammar, scope, depth, tree.as_ref())?;
+    let outcome = expand_piece(alloc, grammar, scope, depth, tree.as_ref().tree())?;
     match Rc::new(alloc, Plain { tree, outcome }) {
         Ok(plain) => Ok(plain),
         Err(_) => Err(TtFault::Memory),
@@ -84,7 +84,7 @@ pub(crate) fn take_tree<G: FragmentGrammar>(
     depth: u8,
     memory: &Memory,
     next: usize,
-    tree: Rc<TopSubtree>,
+    tree: Rc<OwnTree>,
 ) -> Result<(Rc<Plain>, Option<usize>), TtFault>
     requires read { AreRead scope.now }
     requires top { tree.value.delimiter ≡ text_top }
@@ -161,7 +161,7 @@ fn take_definition(
     memory: &Memory,
     now: &mut Taking,
     start: u32,
-    tree: Rc<TopSubtree>,
+    tree: Rc<OwnTree>,
 ) -> Result<(), Refusal>
     requires definition { is_some (definition_of tree.value.inner) ≡ true }
     requires top { tree.value.delimiter ≡ text_top }
@@ -206,7 +206,7 @@ fn put_plain(
         steps,
         start,
         starts,
-        plain.tree.as_ref(),
+        plain.tree.as_ref().tree(),
         &plain.outcome,
     )?;
     put_faults(faults, start, starts, plain.outcome.faults.as_slice())
@@ -246,7 +246,7 @@ fn take_plain<G: FragmentGrammar>(
     memory: &Memory,
     now: &mut Taking,
     start: u32,
-    tree: Rc<TopSubtree>,
+    tree: Rc<OwnTree>,
 ) -> Result<(), TtFault>
     requires plain { is_some (definition_of tree.value.inner) ≡ false }
     requires top { tree.value.delimiter ≡ text_top }
@@ -299,11 +299,11 @@ fn take_piece<G: FragmentGrammar>(
         result ≡ Err Refusal.Numbers → 2 ^ 32 ≤ memory.now.given + needed (trees_of memory.now) (trees ++ definition_trees (piece.now ∷ [])) }
 {
     let tree = own_tree(alloc, piece)?;
-    let Ok(tree) = Rc::new(alloc, tree) else {
+    let Ok(tree) = Rc::new(alloc, OwnTree::new(tree)) else {
         return Err(Refusal::Memory);
     };
     let start = start_of(piece);
-    if definition_of(&tree.as_ref().iter()).is_some() {
+    if definition_of(&tree.as_ref().tree().iter()).is_some() {
         return take_definition(alloc, memory, now, start, tree);
     }
     take_plain(alloc, grammar, depth, memory, now, start, tree)?;
