@@ -21,6 +21,7 @@ mod PieceLemmas
 mod SpellingLemmas
 mod EdgeLemmas
 mod PrintStepLemmas
+mod PartLemmas
 mod OrderLemmas
 mod WrittenLemmas
 mod PlainLemmas

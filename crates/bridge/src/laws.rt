@@ -2,7 +2,8 @@
 ghost use Rattle.std.specs.Prelude.{◌≡◌, ◌↔◌, ◌<◌, ◌^◌, ◌+◌, ◌++◌, drop, length, ℕ, IsUtf8, List, [], ◌∷◌, map, true, false, IsSome, Ok, Err};
 ghost use Rattle.bridge.specs.Order.{AreWritten, FollowOneAnother};
 ghost use Rattle.bridge.specs.Pieces.{StandsBehindFirst, separated};
-ghost use Rattle.bridge.specs.Printing.{is_quote, print_of, visible};
+ghost use Rattle.bridge.specs.PrintedParts.{IsPartOf, PartState};
+ghost use Rattle.bridge.specs.Printing.{is_quote, print_of, step_span, visible};
 ghost use Rattle.bridge.specs.Reading.{IsFault, IsReading, PlacedToken, TextStep, reading, step, with_front};
 ghost use Rattle.bridge.specs.ReadsBack.{PrintsAgain, ReadsBack};
 ghost use Rattle.bridge.specs.declared.fault.ReadFault.{ReadFault};
@@ -116,6 +117,11 @@ pub fn printed_text_reads_back()
 pub fn places_do_not_print()
     ensures text { (h : Span → Span) (f : Forest) → (print_of (walk (map_spans h f))).text ≡ (print_of (walk f)).text }
     ensures left_out { (h : Span → Span) (f : Forest) → (print_of (walk (map_spans h f))).left_out ≡ (print_of (walk f)).left_out }
+{}
+
+/// A part has the places of all visible steps, in order: none of them is left out.
+pub fn parts_are_printed_whole()
+    ensures { (part : PartState) (steps : List Step) → IsPartOf part steps → part.tokens ≡ map step_span (visible steps) }
 {}
 
 /// Two faults are equal by `==` exactly where they are the same, places included.
