@@ -21,7 +21,7 @@ mod PieceLemmas
 mod SpellingLemmas
 mod EdgeLemmas
 mod PrintStepLemmas
-mod PartLemmas
+mod PrintedPartLemmas
 mod OrderLemmas
 mod WrittenLemmas
 mod PlainLemmas

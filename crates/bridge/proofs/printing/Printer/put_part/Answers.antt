@@ -3,7 +3,7 @@ use Rattle.std.proofs.lemmas.Str.{IsUtf8-string_bytes}
 use Rattle.bridge.specs.Outputs.{Fits, state_of}
 use Rattle.bridge.specs.PartSteps.{part_behind}
 use Rattle.bridge.specs.PrintedParts.{PutsPart}
-use Rattle.bridge.proofs.PartLemmas.{part_put}
+use Rattle.bridge.proofs.PrintedPartLemmas.{part_put}
 use Rattle.bridge.proofs.PrintStepLemmas.{cut}
 use Rattle.bridge.proofs.printing.Printer.put_part.Goals as goal
 
