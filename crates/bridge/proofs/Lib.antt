@@ -25,5 +25,6 @@ mod PrintedPartLemmas
 mod OrderLemmas
 mod WrittenLemmas
 mod PlainLemmas
+mod PartLemmas
 mod DocLemmas
 mod ReadSpelledLemmas
