@@ -185,9 +185,6 @@ module _ (text : List ℕ) (own : Vec OwnPiece Global) (sources : Sources) (is_r
   own_is : (map piece_at own.items ≡ pieces is_read.0) × All IsOwnPiece own.items
   own_is = own_back (pieces is_read.0) own.items is_read.2 (pieces_stand order text is_read.0 is_text is_read.1)
 
-  pub own_pieces_are : All IsOwnPiece own.items
-  own_pieces_are = own_is.1
-
   module _ (list : List OwnPiece) (same : list ≡ own.items) where
     are_pieces : map piece_at list ≡ pieces is_read.0
     are_pieces = ap (map piece_at) same ∙ own_is.0
