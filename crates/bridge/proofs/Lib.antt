@@ -21,8 +21,10 @@ mod PieceLemmas
 mod SpellingLemmas
 mod EdgeLemmas
 mod PrintStepLemmas
+mod PrintedPartLemmas
 mod OrderLemmas
 mod WrittenLemmas
 mod PlainLemmas
+mod PartLemmas
 mod DocLemmas
 mod ReadSpelledLemmas

@@ -41,9 +41,9 @@ pub(crate) fn closing_edge(kind: DelimiterKind) -> Edge
     }
 }
 
-// Whether a line ends behind the token, outside all groups.
+/// Whether a line ends behind the token, outside all groups.
 #[inline(always)]
-fn ends_line(edge: Edge) -> bool
+pub(crate) fn ends_line(edge: Edge) -> bool
     ensures { result ≡ ends_line edge }
 {
     match edge {

@@ -30,11 +30,11 @@ pub(crate) struct Output {
     pub(crate) tokens: Vec<Span>,
     pub(crate) left_out: Vec<usize>,
     // How many visible groups are open.
-    depth: usize,
+    pub(crate) depth: usize,
     // The token printed last.
-    last: Option<Edge>,
+    pub(crate) last: Option<Edge>,
     // The place of a `Joint` quote, of which the next visible token tells whether it has a spelling.
-    waiting: Option<Span>,
+    pub(crate) waiting: Option<Span>,
 }
 
 fn opening(kind: DelimiterKind) -> Option<&'static str>

@@ -1,11 +1,12 @@
 //! Printing: trees as text that reads back.
-ghost use Rattle.std.specs.Prelude.{◌≡◌, ◌++◌, ◌∷◌, [], List, OnOk, OnErr, IfOk, IfErr, IsOkUnless};
+ghost use Rattle.std.specs.Prelude.{◌≡◌, ◌++◌, ◌∷◌, [], List, OnOk, OnErr, IfOk, IfErr, IfSome, IsOkUnless, is_some};
 ghost use Rattle.bridge.specs.Printing.{print_of};
 ghost use Rattle.tt_data.specs.Walk.{Step, walk};
 ghost use Rattle.tt.specs.Views.{forest};
 ghost use Rattle.tt_data.specs.fault.TtFault.TheVariants.{Memory};
 
 use crate::output::{Output, end, nothing, put_step, restore, save};
+use crate::printed_part::{PrintedPart, as_part, put_behind, takes_parts};
 use crate::trees_put::put_trees;
 use crate::walk_step::WalkStep;
 use std::alloc::Global;
@@ -47,6 +48,7 @@ impl Model for Printer {
 
 impl Printer {
     ghost use Rattle.bridge.specs.Printers.{HasPut};
+    ghost use Rattle.bridge.specs.PrintedParts.{IsPartOf, PutsPart, is_part, takes_parts};
     ghost use Rattle.bridge.specs.PrintedTrees.{print_in};
     ghost use Rattle.bridge.specs.WalkSteps.{step_of};
 
@@ -91,6 +93,36 @@ impl Printer {
                 Err(fault)
             }
         }
+    }
+
+    /// Puts a part behind what was put before, with its tokens at these places, as its steps would be put; `false`,
+    /// and nothing is done, where a group is open, a quote waits, or the token printed last ends no line.
+    pub fn put_part(&mut self, part: &PrintedPart, places: &[Span]) -> Result<bool, TtFault>
+        ensures puts { IfOk result (PutsPart self.old self.new part.now places.now) }
+        ensures told { IfOk result (λ done. done ≡ takes_parts self.old) }
+        ensures err { OnErr result (self.new ≡ self.old) }
+        ensures memory { IsOkUnless result Memory }
+    {
+        if !takes_parts(&self.out) {
+            return Ok(false);
+        }
+        let before = save(&self.out);
+        match put_behind(&mut self.out, part, places) {
+            Ok(()) => Ok(true),
+            Err(fault) => {
+                restore(&mut self.out, before);
+                Err(fault)
+            }
+        }
+    }
+
+    /// All that was put, as a part; `None` where a group is open, a quote waits, a token was left out, or nothing
+    /// was printed.
+    pub fn into_part(self) -> Option<PrintedPart>
+        ensures part { IfSome result (λ part. (steps : List Step) → HasPut self steps → IsPartOf part steps) }
+        ensures told { is_some result ≡ is_part self }
+    {
+        as_part(self.out)
     }
 
     /// The text of all that was put, with the places of its tokens and the numbers of those that are

@@ -5,6 +5,8 @@
 #![tactic(auto)]
 
 #[cfg(test)]
+mod parts;
+#[cfg(test)]
 mod pieces;
 #[cfg(test)]
 mod prints;

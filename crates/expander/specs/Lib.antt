@@ -34,6 +34,7 @@ pub mod Numbers
 pub mod TextTurn
 -- what the functions inside the crate promise each other
 pub mod SameTops
+pub mod OwnTrees
 pub mod Chains
 pub mod Knowns
 pub mod Outcomes

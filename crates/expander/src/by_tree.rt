@@ -5,15 +5,15 @@ ghost use Rattle.expander.specs.ByTrees.{known_in};
 ghost use Rattle.expander.specs.SameTops.{same_top};
 
 use crate::numbered::Known;
+use crate::own_tree::OwnTree;
 use std::alloc::{AllocError, Global};
 use std::collections::HashMap;
 use std::rc::Rc;
-use tt::top::TopSubtree;
 
 /// Definitions, each found by its tree.
 #[derive(Drop)]
 pub(crate) struct ByTree {
-    map: HashMap<Rc<TopSubtree>, Rc<Known>>,
+    map: HashMap<Rc<OwnTree>, Rc<Known>>,
 }
 
 impl ByTree {
@@ -29,7 +29,7 @@ impl ByTree {
 
     /// What the tree has.
     #[tactic(auto, unfolding(crate::specs::ByTrees::known_in))]
-    pub(crate) fn get(&self, tree: &Rc<TopSubtree>) -> Option<&Rc<Known>>
+    pub(crate) fn get(&self, tree: &Rc<OwnTree>) -> Option<&Rc<Known>>
         ensures { option_map (λ k. k.now.value) result ≡ known_in self.now tree.now.value }
     {
         self.map.get(tree)
@@ -37,11 +37,7 @@ impl ByTree {
 
     /// The tree has this definition from now on.
     #[tactic(auto, unfolding(crate::specs::ByTrees::known_in))]
-    pub(crate) fn insert(
-        &mut self,
-        tree: Rc<TopSubtree>,
-        known: Rc<Known>,
-    ) -> Result<(), AllocError>
+    pub(crate) fn insert(&mut self, tree: Rc<OwnTree>, known: Rc<Known>) -> Result<(), AllocError>
         ensures { OnOk result ((t : Top) → known_in self.new t ≡ (if same_top tree.value t then Some known.value else known_in self.old t)) }
     {
         let _ = self.map.insert(tree, known)?;

@@ -3,15 +3,15 @@ ghost use Rattle.std.specs.Prelude.{◌≡◌, ◌∷◌, [], ◌++◌, ◌<◌,
 ghost use Rattle.tt.specs.Tops.{Top};
 ghost use Rattle.expander.specs.Chains.{AreChained, last_place, place_before};
 
+use crate::own_tree::OwnTree;
 use std::alloc::{AllocError, Global};
 use std::collections::HashMap;
 use std::rc::Rc;
-use tt::top::TopSubtree;
 
 /// A list of trees, in which the last place of each is found, and from each place the one before it that has an equal tree.
 #[derive(Drop)]
 pub(crate) struct Chains {
-    last: HashMap<Rc<TopSubtree>, usize>,
+    last: HashMap<Rc<OwnTree>, usize>,
     before: Vec<Option<usize>>,
 }
 
@@ -28,7 +28,7 @@ impl Chains {
     }
 
     /// One more tree, at the end.
-    pub(crate) fn push(&mut self, tree: Rc<TopSubtree>) -> Result<(), AllocError>
+    pub(crate) fn push(&mut self, tree: Rc<OwnTree>) -> Result<(), AllocError>
         ensures { (trees : List Top) → AreChained self.old trees → OnOk result (AreChained self.new (trees ++ tree.value ∷ [])) }
     {
         let index = self.before.len();
@@ -39,7 +39,7 @@ impl Chains {
 
     /// The last place of an equal tree.
     #[tactic(auto, unfolding(crate::specs::Chains::place_in))]
-    pub(crate) fn last(&self, tree: &Rc<TopSubtree>) -> Option<usize>
+    pub(crate) fn last(&self, tree: &Rc<OwnTree>) -> Option<usize>
         ensures { (trees : List Top) → AreChained self.now trees → result ≡ last_place trees tree.now.value }
     {
         self.last.get(tree).copied()

@@ -20,6 +20,7 @@ mod outcome;
 mod output;
 mod own_pieces;
 mod own_places;
+mod own_tree;
 mod pieces;
 mod placing;
 mod plain;

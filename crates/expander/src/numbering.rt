@@ -12,10 +12,10 @@ ghost use Rattle.expander.specs.Numbers.{needed};
 use crate::by_tree::ByTree;
 use crate::laws;
 use crate::numbered::Known;
+use crate::own_tree::OwnTree;
 use crate::session::Refusal;
 use std::alloc::{AllocError, Global};
 use std::rc::Rc;
-use tt::top::TopSubtree;
 use tt_data::edition::Edition;
 
 /// The definitions of a text so far.
@@ -45,7 +45,7 @@ impl Numbering {
     }
 
     // One more definition, which its tree has from now on.
-    fn put(&mut self, tree: Rc<TopSubtree>, known: Rc<Known>) -> Result<(), AllocError>
+    fn put(&mut self, tree: Rc<OwnTree>, known: Rc<Known>) -> Result<(), AllocError>
         ensures given { OnOk result (self.new.given ≡ self.old.given) }
         ensures definitions { OnOk result (self.new.definitions.items ≡ self.old.definitions.items ++ known ∷ []) }
         ensures table { OnOk result ((t : Top) → known_in self.new.by_tree t ≡ (if same_top tree.value t then Some known.value else known_in self.old.by_tree t)) }
@@ -61,7 +61,7 @@ fn next_known(
     alloc: Global,
     edition: Edition,
     given: u32,
-    tree: &Rc<TopSubtree>,
+    tree: &Rc<OwnTree>,
 ) -> Result<Rc<Known>, Refusal>
     requires { is_some (definition_of tree.now.value.inner) ≡ true }
     ensures number { IfOk result (λ k. k.value.number ≡ given + 1) }
@@ -73,7 +73,7 @@ fn next_known(
     let Some(number) = given.checked_add(1) else {
         return Err(Refusal::Numbers);
     };
-    let own = tree.as_ref().try_clone(alloc)?;
+    let own = tree.as_ref().tree().try_clone(alloc)?;
     let known = Known::new(alloc, edition, number, own)?;
     match Rc::new(alloc, known) {
         Ok(known) => Ok(known),
@@ -87,7 +87,7 @@ pub(crate) fn number(
     edition: Edition,
     old: &ByTree,
     now: &mut Numbering,
-    tree: Rc<TopSubtree>,
+    tree: Rc<OwnTree>,
 ) -> Result<Rc<Known>, Refusal>
     requires definition { is_some (definition_of tree.value.inner) ≡ true }
     requires top { tree.value.delimiter ≡ text_top }

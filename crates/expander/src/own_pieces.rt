@@ -6,11 +6,11 @@ ghost use Rattle.expander.specs.Pieces.{cut};
 
 use crate::copies::again;
 use crate::own_places::{own_tree, start_of};
+use crate::own_tree::OwnTree;
 use crate::pieces::next_piece;
 use std::alloc::Global;
 use std::rc::Rc;
 use tt::iter::TtIter;
-use tt::top::TopSubtree;
 use tt_data::fault::TtFault;
 
 /// A piece in places of its own, and where it stands.
@@ -19,7 +19,7 @@ pub(crate) struct OwnPiece {
     /// Where its first token starts.
     pub start: u32,
     /// Its places are counted from there.
-    pub tree: Rc<TopSubtree>,
+    pub tree: Rc<OwnTree>,
 }
 
 // A piece of a text in places of its own.
@@ -28,7 +28,7 @@ fn own_piece(alloc: Global, piece: &TtIter<'_>) -> Result<OwnPiece, TtFault>
     ensures memory { IsOkUnless result fault.Memory }
 {
     let tree = own_tree(alloc, piece)?;
-    match Rc::new(alloc, tree) {
+    match Rc::new(alloc, OwnTree::new(tree)) {
         Ok(tree) => Ok(OwnPiece {
             start: start_of(piece),
             tree,

@@ -11,14 +11,14 @@ ghost use Rattle.expander.specs.Reuse.{same_number};
 use crate::chains::Chains;
 use crate::met::Scope;
 use crate::outcome::{Find, Outcome};
+use crate::own_tree::OwnTree;
 use std::rc::Rc;
 use tt::laws;
-use tt::top::TopSubtree;
 
 /// A plain piece in places of its own, with its outcome.
 #[derive(Drop)]
 pub(crate) struct Plain {
-    pub tree: Rc<TopSubtree>,
+    pub tree: Rc<OwnTree>,
     pub outcome: Outcome,
 }
 
@@ -48,7 +48,7 @@ fn agrees(scope: &Scope, finds: &[Find]) -> bool
 }
 
 // Whether a held piece may stand for a tree.
-fn is_match(scope: &Scope, tree: &Rc<TopSubtree>, held: &Plain) -> bool
+fn is_match(scope: &Scope, tree: &Rc<OwnTree>, held: &Plain) -> bool
     requires { AreRead scope.now }
     ensures { result ≡ is_match (scope_in scope.now) tree.now.value held.now }
 {
@@ -60,7 +60,7 @@ fn last_match(
     scope: &Scope,
     held: &[Rc<Plain>],
     chains: &Chains,
-    tree: &Rc<TopSubtree>,
+    tree: &Rc<OwnTree>,
 ) -> Option<usize>
     requires read { AreRead scope.now }
     requires chained { AreChained chains.now (map (λ q. tree_of (rc_value q)) held.now) }
@@ -85,7 +85,7 @@ pub(crate) fn match_from(
     held: &[Rc<Plain>],
     chains: &Chains,
     at: usize,
-    tree: &Rc<TopSubtree>,
+    tree: &Rc<OwnTree>,
 ) -> Option<usize>
     requires read { AreRead scope.now }
     requires chained { AreChained chains.now (map (λ q. tree_of (rc_value q)) held.now) }

@@ -40,6 +40,7 @@ use crate::met::Scope;
 use crate::numbering::{Numbering, number};
 use crate::output::{PlacedSteps, no_steps};
 use crate::own_pieces::OwnPiece;
+use crate::own_tree::OwnTree;
 use crate::placing::{put_faults, put_steps, tell_if_broken};
 use crate::plain::{Plain, match_from};
 use crate::searching::expand_piece;
@@ -48,7 +49,6 @@ use crate::starts::Starts;
 use mbe::FragmentGrammar;
 use std::alloc::{AllocError, Global};
 use std::rc::Rc;
-use tt::top::TopSubtree;
 use tt_data::edition::Edition;
 use tt_data::fault::TtFault;
 
@@ -58,7 +58,7 @@ fn expanded<G: FragmentGrammar>(
     grammar: &G,
     scope: &Scope,
     depth: u8,
-    tree: Rc<TopSubtree>,
+    tree: Rc<OwnTree>,
 ) -> Result<Rc<Plain>, TtFault>
     requires { AreRead scope.now }
     ensures tree { IfOk result (λ q. tree_of q.value ≡ tree.value) }
@@ -67,7 +67,7 @@ fn expanded<G: FragmentGrammar>(
     ensures tokens { result ≡ Err TtFault.Tokens →
         (expansion (numbered_world (world (G.answer grammar.now) scope.now.edition)) (scope_in scope.now) depth None tree.value.inner).bursts ≡ true }
 {
-    let outcome = expand_piece(alloc, grammar, scope, depth, tree.as_ref())?;
+    let outcome = expand_piece(alloc, grammar, scope, depth, tree.as_ref().tree())?;
     match Rc::new(alloc, Plain { tree, outcome }) {
         Ok(plain) => Ok(plain),
         Err(_) => Err(TtFault::Memory),
@@ -82,7 +82,7 @@ pub(crate) fn take_tree<G: FragmentGrammar>(
     depth: u8,
     memory: &Memory,
     next: usize,
-    tree: Rc<TopSubtree>,
+    tree: Rc<OwnTree>,
 ) -> Result<(Rc<Plain>, Option<usize>), TtFault>
     requires read { AreRead scope.now }
     requires top { tree.value.delimiter ≡ text_top }
@@ -159,7 +159,7 @@ fn take_definition(
     memory: &Memory,
     now: &mut Taking,
     start: u32,
-    tree: Rc<TopSubtree>,
+    tree: Rc<OwnTree>,
 ) -> Result<(), Refusal>
     requires definition { is_some (definition_of tree.value.inner) ≡ true }
     requires top { tree.value.delimiter ≡ text_top }
@@ -204,7 +204,7 @@ fn put_plain(
         steps,
         start,
         starts,
-        plain.tree.as_ref(),
+        plain.tree.as_ref().tree(),
         &plain.outcome,
     )?;
     put_faults(faults, start, starts, plain.outcome.faults.as_slice())
@@ -244,7 +244,7 @@ fn take_plain<G: FragmentGrammar>(
     memory: &Memory,
     now: &mut Taking,
     start: u32,
-    tree: Rc<TopSubtree>,
+    tree: Rc<OwnTree>,
 ) -> Result<(), TtFault>
     requires plain { is_some (definition_of tree.value.inner) ≡ false }
     requires top { tree.value.delimiter ≡ text_top }
@@ -298,7 +298,7 @@ fn take_piece<G: FragmentGrammar>(
         result ≡ Err Refusal.Numbers → 2 ^ 32 ≤ memory.now.given + needed (trees_of memory.now) (trees ++ definition_trees (piece_at own.now ∷ [])) }
 {
     let tree = own.tree.clone()?;
-    if definition_of(&tree.as_ref().iter()).is_some() {
+    if definition_of(&tree.as_ref().tree().iter()).is_some() {
         return take_definition(alloc, memory, now, own.start, tree);
     }
     take_plain(alloc, grammar, depth, memory, now, own.start, tree)?;

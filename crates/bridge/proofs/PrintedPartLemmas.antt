@@ -1,0 +1,232 @@
+-- A part put behind what was printed: its steps at other places print the same text, and nothing of them is left out.
+use Rattle.std.proofs.Common.{◌≡◌, ℕ, ◌+◌, ◌≤◌, Bool, true, false, not, ◌&&◌, List, [], ◌∷◌, ◌++◌, length, map, refl, sym, ap, ◌∙◌, subst, arith, append_assoc, nat_eq, if◌then◌else◌}
+use Rattle.std.specs.Prelude.{Option, Some, None, codes, is_some}
+use Rattle.std.proofs.lemmas.Bool.Decides.{nat_tests}
+use Rattle.std.proofs.lemmas.List.{append-nil, length-append, length-map}
+use Rattle.std.proofs.lemmas.Simd.{map-map}
+use Rattle.tt_data.specs.Spans.{no_span}
+use Rattle.tt_data.specs.Walk.{Step, at_leaf, opens, closes, step_with}
+use Rattle.tt_data.specs.declared.leaf.Leaf.TheVariants as as_leaf
+use Rattle.tt_data.specs.declared.span.Span.{Span}
+use Rattle.bridge.specs.declared.edge.Edge.{Edge}
+use Rattle.bridge.specs.Edges.{are_joined, edge_of, ends_line, gap_between}
+use Rattle.bridge.specs.PartSteps.{line_behind, part_behind}
+use Rattle.bridge.specs.PrintedParts.{IsPartOf, PartState, PutsPart, ends_last_line, just_part, takes_parts}
+use Rattle.bridge.specs.Printers.{Continues, HasPut, PrinterState, Prints, continued, pending}
+use Rattle.bridge.specs.Printing.{Print, PrintedToken, depth_after, gap, is_visible_step, left_out_from, print_of, printed, spans_of, spelled, step_span, text_from, unspelled, visible}
+use Rattle.bridge.specs.Spelling.{spelling}
+use Rattle.bridge.proofs.SpanLemmas.{printed_text_moved, spelling_moved, visible_moved}
+
+-- ---- steps at other places
+
+visible-append : (xs ys : List Step) → visible (xs ++ ys) ≡ visible xs ++ visible ys
+visible-append [] ys = refl
+visible-append (s ∷ more) ys = go (is_visible_step s) (visible-append more ys)
+  where
+    go : (b : Bool) → visible (more ++ ys) ≡ visible more ++ visible ys
+        → (if b then s ∷ visible (more ++ ys) else visible (more ++ ys)) ≡ (if b then s ∷ visible more else visible more) ++ visible ys
+    go true e = ap (λ l. s ∷ l) e
+    go false e = e
+
+abbrev nowhere : Span → Span
+nowhere span = no_span
+
+step_nowhere : (f : Span → Span) (s : Step) → step_with nowhere (step_with f s) ≡ step_with nowhere s
+step_nowhere f (at_leaf (as_leaf.Ident i)) = refl
+step_nowhere f (at_leaf (as_leaf.Punct i)) = refl
+step_nowhere f (at_leaf (as_leaf.Literal i)) = refl
+step_nowhere f (opens kind span) = refl
+step_nowhere f (closes kind span) = refl
+
+steps_nowhere : (f : Span → Span) (xs ys : List Step) → map (step_with nowhere) (map (step_with f) xs ++ ys) ≡ map (step_with nowhere) (xs ++ ys)
+steps_nowhere f [] ys = refl
+steps_nowhere f (x ∷ xs) ys =
+    ap (λ s. s ∷ map (step_with nowhere) (map (step_with f) xs ++ ys)) (step_nowhere f x)
+    ∙ ap (λ l. step_with nowhere x ∷ l) (steps_nowhere f xs ys)
+
+-- the text of some steps and of those that follow, the first ones elsewhere
+same_text : (f : Span → Span) (xs ys : List Step) → text_from 0 (printed (map (step_with f) xs ++ ys)) ≡ text_from 0 (printed (xs ++ ys))
+same_text f xs ys =
+    sym (printed_text_moved nowhere (map (step_with f) xs ++ ys))
+    ∙ ap (λ l. text_from 0 (printed l)) (steps_nowhere f xs ys)
+    ∙ printed_text_moved nowhere (xs ++ ys)
+
+same_spelling : (f : Span → Span) (s : Step) (xs ys : List Step) → spelling (step_with f s) (map (step_with f) xs ++ ys) ≡ spelling s (xs ++ ys)
+same_spelling f s xs ys =
+    sym (spelling_moved nowhere (step_with f s) (map (step_with f) xs ++ ys))
+    ∙ ap (λ t. spelling t (map (step_with nowhere) (map (step_with f) xs ++ ys))) (step_nowhere f s)
+    ∙ ap (spelling (step_with nowhere s)) (steps_nowhere f xs ys)
+    ∙ spelling_moved nowhere s (xs ++ ys)
+
+span_moved : (f : Span → Span) (s : Step) → step_span (step_with f s) ≡ f (step_span s)
+span_moved f (at_leaf (as_leaf.Ident i)) = refl
+span_moved f (at_leaf (as_leaf.Punct i)) = refl
+span_moved f (at_leaf (as_leaf.Literal i)) = refl
+span_moved f (opens kind span) = refl
+span_moved f (closes kind span) = refl
+
+spans_moved : (f : Span → Span) (xs : List Step) → map step_span (map (step_with f) xs) ≡ map f (map step_span xs)
+spans_moved f [] = refl
+spans_moved f (x ∷ xs) = ap (λ s. s ∷ map step_span (map (step_with f) xs)) (span_moved f x) ∙ ap (λ l. f (step_span x) ∷ l) (spans_moved f xs)
+
+-- ---- steps of which none is left out
+
+-- a place that is left out does not stand before the first of them
+left_behind : (m : ℕ) (ys : List Step) (n : ℕ) (rest : List ℕ) → left_out_from m ys ≡ n ∷ rest → m ≤ n
+left_behind m [] n rest e = absurd (cc)
+left_behind m (y ∷ ys) n rest e = by_test (spelling y ys) e (left_behind (m + 1) ys n rest)
+  where
+    by_test : (o : Option (List ℕ)) → (unspelled m o ++ left_out_from (m + 1) ys) ≡ n ∷ rest → (left_out_from (m + 1) ys ≡ n ∷ rest → m + 1 ≤ n) → m ≤ n
+    by_test None h later = let same : m ≡ n = cc in omega (arith, same)
+    by_test (Some text) h later = omega (arith, later h)
+
+-- where none of some steps is left out, the first is spelled, and none of the others is left out
+first_told : (n : ℕ) (x : Step) (xs ys : List Step) → left_out_from (n + length (x ∷ xs)) ys ≡ left_out_from n (x ∷ (xs ++ ys))
+    → (text : List ℕ) × ((spelling x (xs ++ ys) ≡ Some text) × (left_out_from (n + 1 + length xs) ys ≡ left_out_from (n + 1) (xs ++ ys)))
+first_told n x xs ys e = by_test (spelling x (xs ++ ys)) refl e
+  where
+    by_test : (o : Option (List ℕ)) → spelling x (xs ++ ys) ≡ o → left_out_from (n + length (x ∷ xs)) ys ≡ unspelled n o ++ left_out_from (n + 1) (xs ++ ys)
+        → (text : List ℕ) × ((spelling x (xs ++ ys) ≡ Some text) × (left_out_from (n + 1 + length xs) ys ≡ left_out_from (n + 1) (xs ++ ys)))
+    by_test None h told =
+        let late = left_behind (n + length (x ∷ xs)) ys n (left_out_from (n + 1) (xs ++ ys)) told in
+        absurd (omega (arith, late))
+    by_test (Some text) h told =
+        let place : n + 1 + length xs ≡ n + length (x ∷ xs) = omega arith in
+        (text, (h, ap (λ m. left_out_from m ys) place ∙ told))
+
+-- the places of such steps
+told_spans : (n : ℕ) (xs ys : List Step) → left_out_from (n + length xs) ys ≡ left_out_from n (xs ++ ys)
+    → spans_of (printed (xs ++ ys)) ≡ map step_span xs ++ spans_of (printed ys)
+told_spans n [] ys e = refl
+told_spans n (x ∷ xs) ys e =
+    let first = first_told n x xs ys e in
+    ap (λ o. spans_of (spelled x o ++ printed (xs ++ ys))) first.1.0
+    ∙ ap (λ l. step_span x ∷ l) (told_spans (n + 1) xs ys first.1.1)
+
+-- the same steps at other places, behind more steps
+told_moved : (n m : ℕ) (f : Span → Span) (xs ys : List Step) → left_out_from (n + length xs) ys ≡ left_out_from n (xs ++ ys)
+    → left_out_from m (map (step_with f) xs ++ ys) ≡ left_out_from (m + length xs) ys
+told_moved n m f [] ys e = let none : m ≡ m + 0 = omega arith in ap (λ k. left_out_from k ys) none
+told_moved n m f (x ∷ xs) ys e =
+    let first = first_told n x xs ys e in
+    let place : m + 1 + length xs ≡ m + length (x ∷ xs) = omega arith in
+    ap (λ o. unspelled m o ++ left_out_from (m + 1) (map (step_with f) xs ++ ys)) (same_spelling f x xs ys ∙ first.1.0)
+    ∙ told_moved (n + 1) (m + 1) f xs ys first.1.1
+    ∙ ap (λ k. left_out_from k ys) place
+
+-- ---- the line behind what was printed
+
+some_text : (depth : ℕ) (a : PrintedToken) (more : List PrintedToken) → 1 ≤ length (text_from depth (a ∷ more))
+some_text depth a [] = omega (arith, length-append a.text (codes "\n"))
+some_text depth a (b ∷ more) =
+    let now = depth_after depth a.step in
+    omega (arith, length-append a.text (gap now a b ++ text_from now (b ∷ more)), length-append (gap now a b) (text_from now (b ∷ more)), some_text now b more)
+
+some_more : (last : Edge) (tokens : List PrintedToken) → 1 ≤ length (continued 0 (Some last) tokens)
+some_more last [] = omega arith
+some_more last (b ∷ more) =
+    omega (arith, length-append (gap_between 0 last (edge_of b.step)) (text_from 0 (b ∷ more)), some_text 0 b more)
+
+on_a_line : (last : Option Edge) (tokens : List PrintedToken) → ends_last_line last ≡ true → 1 ≤ length (text_from 0 tokens)
+    → continued 0 last tokens ≡ line_behind last ++ text_from 0 tokens
+on_a_line None tokens ends some = refl
+on_a_line (Some last) [] ends some = absurd (omega (arith, some))
+on_a_line (Some last) (b ∷ more) ends some =
+    ap (λ u. (if u then codes "\n" else if are_joined last (edge_of b.step) then [] else codes " ") ++ text_from 0 (b ∷ more)) ends
+
+-- ---- a part
+
+-- what a part is before the steps that follow
+record Before (p : PartState) (xs ys : List Step) : Type 0 where
+  text : p.text ++ continued 0 (Some p.last) (printed ys) ≡ text_from 0 (printed (xs ++ ys))
+  tokens : p.tokens ≡ map step_span xs
+  told : left_out_from (0 + length xs) ys ≡ left_out_from 0 (xs ++ ys)
+
+pub whole_part : (p : PartState) (steps : List Step) → IsPartOf p steps → p.tokens ≡ map step_span (visible steps)
+whole_part p steps has =
+    let all = has [] in
+    let xs = visible steps in
+    let same : visible (steps ++ []) ≡ xs ++ [] = visible-append steps [] in
+    let told : left_out_from (0 + length xs) [] ≡ left_out_from 0 (xs ++ []) = all.left_out ∙ ap (left_out_from 0) same in
+    sym (append-nil p.tokens) ∙ all.tokens ∙ ap (λ l. spans_of (printed l)) same ∙ told_spans 0 xs [] told ∙ append-nil (map step_span xs)
+
+part_before : (p : PartState) (steps more : List Step) → IsPartOf p steps → Before p (visible steps) (visible more)
+part_before p steps more has =
+    let all = has more in
+    let xs = visible steps in
+    let ys = visible more in
+    let same : visible (steps ++ more) ≡ xs ++ ys = visible-append steps more in
+    let tokens = whole_part p steps has in
+    let long : 0 + length xs ≡ length p.tokens + 0 = omega (arith, ap length tokens, length-map xs step_span) in
+    record {
+      text = all.text ∙ ap (λ l. text_from 0 (printed l)) same;
+      tokens = tokens;
+      told = ap (λ k. left_out_from k ys) long ∙ all.left_out ∙ ap (left_out_from 0) same;
+    }
+
+-- the part's text stands on a line of its own
+part_text : (s : PrinterState) (p : PartState) (f : Span → Span) (xs ys : List Step) → ends_last_line s.last ≡ true → Before p xs ys
+    → ((s.text ++ line_behind s.last) ++ p.text) ++ continued 0 (Some p.last) (printed ys) ≡ s.text ++ continued 0 s.last (printed (map (step_with f) xs ++ ys))
+part_text s p f xs ys ends part =
+    let line = line_behind s.last in
+    let rest = continued 0 (Some p.last) (printed ys) in
+    let moved = printed (map (step_with f) xs ++ ys) in
+    let own : p.text ++ rest ≡ text_from 0 moved = part.text ∙ sym (same_text f xs ys) in
+    let some : 1 ≤ length (text_from 0 moved) = omega (arith, ap length own, length-append p.text rest, some_more p.last (printed ys)) in
+    append_assoc (s.text ++ line) p.text rest
+    ∙ append_assoc s.text line (p.text ++ rest)
+    ∙ ap (λ t. s.text ++ (line ++ t)) own
+    ∙ ap (λ t. s.text ++ t) (sym (on_a_line s.last moved ends some))
+
+part_prints : (s : PrinterState) (p : PartState) (places : List Span) (f : Span → Span) (xs ys : List Step) (all : Print) → s.depth ≡ 0
+    → ends_last_line s.last ≡ true → places ≡ map f p.tokens → Before p xs ys → Prints s (map (step_with f) xs ++ ys) all
+    → Prints (part_behind s p places) ys all
+part_prints s p places f xs ys all depth ends at part has =
+    let zs = map (step_with f) xs in
+    let n = length s.tokens + length s.left_out in
+    let moved : places ≡ map step_span zs = at ∙ ap (map f) part.tokens ∙ sym (spans_moved f xs) in
+    let told : left_out_from n (zs ++ ys) ≡ left_out_from (n + length xs) ys = told_moved 0 n f xs ys part.told in
+    let same : n + length zs ≡ n + length xs = omega (arith, length-map xs (step_with f)) in
+    let spans = told_spans n zs ys (ap (λ k. left_out_from k ys) same ∙ sym told) in
+    let long : length (s.tokens ++ places) + length s.left_out ≡ n + length xs =
+    omega (arith, length-append s.tokens places, ap length moved, length-map zs step_span, length-map xs (step_with f)) in
+    record {
+      text = ap (λ d. ((s.text ++ line_behind s.last) ++ p.text) ++ continued d (Some p.last) (printed ys)) depth
+          ∙ part_text s p f xs ys ends part
+          ∙ ap (λ d. s.text ++ continued d s.last (printed (zs ++ ys))) (sym depth) ∙ has.text;
+      tokens = append_assoc s.tokens places (spans_of (printed ys))
+          ∙ ap (λ l. s.tokens ++ (l ++ spans_of (printed ys))) moved ∙ ap (λ l. s.tokens ++ l) (sym spans) ∙ has.tokens;
+      left_out = ap (λ k. s.left_out ++ left_out_from k ys) long ∙ ap (λ l. s.left_out ++ l) (sym told) ∙ has.left_out;
+    }
+
+-- ---- a part that is put
+
+abbrev no_wait : Option Span → Bool
+no_wait waiting = not (is_some waiting)
+
+none : (waiting : Option Span) → no_wait waiting ≡ true → waiting ≡ None
+none None h = refl
+none (Some span) h = absurd (cc)
+
+all_three : {X : Type 0} (a b c : Bool) → (a && (b && c)) ≡ true → (a ≡ true → b ≡ true → c ≡ true → X) → X
+all_three true true true h f = f refl refl refl
+all_three true true false h f = absurd (cc)
+all_three true false c h f = absurd (cc)
+all_three false b c h f = absurd (cc)
+
+pub part_put : (s : PrinterState) (p : PartState) (places : List Span) → takes_parts s ≡ true → PutsPart s (part_behind s p places) p places true
+part_put s p places takes = λ before steps f part at has more.
+    let moved = map (step_with f) steps in
+    let xs = visible steps in
+    let ys = visible more in
+    let all = print_of (before ++ (moved ++ more)) in
+    let same : visible (moved ++ more) ≡ map (step_with f) xs ++ ys = visible-append moved more ∙ ap (λ l. l ++ ys) (visible_moved f steps) in
+    all_three (nat_eq s.depth 0) (no_wait s.waiting) (ends_last_line s.last) takes
+    (λ depth waits ends.
+    let shallow : s.depth ≡ 0 = grind (arith, nat_tests) in
+    let alone : s.waiting ≡ None = none s.waiting waits in
+    let now : Prints s (map (step_with f) xs ++ ys) all =
+    subst (λ l. Prints s l all) same (subst (λ w. Prints s (pending w ++ visible (moved ++ more)) all) alone (has (moved ++ more))) in
+    let later : Prints (part_behind s p places) ys all = part_prints s p places f xs ys all shallow ends at (part_before p steps more part) now in
+    subst (λ l. Continues (part_behind s p places) ys (print_of l)) (sym (append_assoc before moved more))
+    (subst (λ w. Prints (part_behind s p places) (pending w ++ ys) all) (sym alone) later))

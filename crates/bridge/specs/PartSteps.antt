@@ -1,0 +1,15 @@
+-- What the functions that put parts promise each other.
+use Rattle.std.specs.Prelude.{ℕ, List, [], ◌++◌, Option, Some, None, codes}
+use Rattle.tt_data.specs.declared.span.Span.{Span}
+use Rattle.bridge.specs.declared.edge.Edge.{Edge}
+use Rattle.bridge.specs.PrintedParts.{PartState}
+use Rattle.bridge.specs.Printers.{PrinterState}
+
+-- the end of the line in which a token was printed
+abbrev pub line_behind : Option Edge → List ℕ
+line_behind None = []
+line_behind (Some last) = codes "\n"
+
+-- a part on a line of its own, with its tokens at these places
+abbrev pub part_behind : PrinterState → PartState → List Span → PrinterState
+part_behind s part places = record s { text = (s.text ++ line_behind s.last) ++ part.text; tokens = s.tokens ++ places; last = Some part.last }

@@ -1,0 +1,41 @@
+-- Parts: what is printed of steps by themselves, to be put behind what was printed before.
+use Rattle.std.specs.Prelude.{◌≡◌, ℕ, List, [], ◌++◌, Bool, true, false, not, ◌&&◌, Option, Some, None, codes, is_some, length, map, nat_eq}
+use Rattle.tt_data.specs.Walk.{Step, step_with}
+use Rattle.tt_data.specs.declared.span.Span.{Span}
+use Rattle.bridge.specs.declared.edge.Edge.{Edge}
+use Rattle.bridge.specs.Edges.{ends_line}
+use Rattle.bridge.specs.Printers.{HasPut, PrinterState}
+
+-- what is printed of steps by themselves
+pub record PartState : Type 0 where
+  pub text : List ℕ
+  pub tokens : List Span
+  -- the token printed last
+  pub last : Edge
+
+-- what a printer has that printed just the part
+abbrev pub just_part : PartState → PrinterState
+just_part part = record { text = part.text; tokens = part.tokens; left_out = []; depth = 0; last = Some part.last; waiting = None }
+
+-- just these steps were printed, all of them: whatever follows, nothing is left out and all groups are closed
+abbrev pub IsPartOf : PartState → List Step → Type 0
+IsPartOf part steps = HasPut (just_part part) steps
+
+-- whether what was put is a part: something is printed, nothing is left out, no group is open, and no quote waits
+abbrev pub is_part : PrinterState → Bool
+is_part s = nat_eq s.depth 0 && (not (is_some s.waiting) && (nat_eq (length s.left_out) 0 && is_some s.last))
+
+-- a line ends behind the token printed last, if there is one
+abbrev pub ends_last_line : Option Edge → Bool
+ends_last_line None = true
+ends_last_line (Some last) = ends_line last
+
+-- whether a part may be put behind: no group is open, no quote waits, and the token printed last ends a line
+abbrev pub takes_parts : PrinterState → Bool
+takes_parts s = nat_eq s.depth 0 && (not (is_some s.waiting) && ends_last_line s.last)
+
+-- the part was put with its tokens at these places; or nothing was done
+abbrev pub PutsPart : PrinterState → PrinterState → PartState → List Span → Bool → Type 0
+PutsPart old new part places true = (before steps : List Step) (f : Span → Span) → IsPartOf part steps → places ≡ map f part.tokens
+    → HasPut old before → HasPut new (before ++ map (step_with f) steps)
+PutsPart old new part places false = new ≡ old

@@ -1,0 +1,68 @@
+//! Parts of what is printed, put behind one another.
+use bridge::{PrintedPart, Printer, Read, WalkStep, read};
+use rustc_lexer::LexedText;
+use std::test::Fail;
+use tt_data::{Leaf, Punct, Spacing, Span, TtFault};
+
+// A printer to which the trees of a text were put.
+fn printer_of(rt: &HostRuntime, text: &str) -> Result<Printer, Fail> {
+    if text.len() >= 1000 {
+        return Err(Fail::new("a text is long"));
+    }
+    let held = LexedText::new(rt.alloc(), text)?;
+    let Read::Tree(tree) = read(rt.alloc(), held.text(), held.tokens())? else {
+        return Err(Fail::new("a text is not read"));
+    };
+    let mut printer = Printer::new(rt.alloc());
+    printer.put(tree.token_trees())?;
+    Ok(printer)
+}
+
+// The part that is printed of a text.
+fn part_of(rt: &HostRuntime, text: &str) -> Result<PrintedPart, Fail> {
+    match printer_of(rt, text)?.into_part() {
+        Some(part) => Ok(part),
+        None => Err(Fail::new("what is printed of a text is no part")),
+    }
+}
+
+// Puts a part at its own places, once more where that was refused.
+fn put(printer: &mut Printer, part: &PrintedPart) -> Result<bool, TtFault> {
+    match printer.put_part(part, part.spans()) {
+        Err(TtFault::Memory) => printer.put_part(part, part.spans()),
+        answer => answer,
+    }
+}
+
+#[test]
+fn puts_parts_on_lines_of_their_own(rt: HostRuntime) -> Result<(), Fail> {
+    let line = part_of(&rt, "a;")?;
+    let item = part_of(&rt, "f {b;}")?;
+    let word = part_of(&rt, "c")?;
+    assert!(rt; line.spans().len() == 2 && item.spans().len() == 5 && word.spans().len() == 1);
+    let mut printer = Printer::new(rt.alloc());
+    assert!(rt; put(&mut printer, &line)? && put(&mut printer, &item)? && put(&mut printer, &word)?);
+    assert!(rt; !put(&mut printer, &line)?, "no line ends behind a name");
+    let Ok(printed) = printer.finish() else {
+        return Err(Fail::new("no memory"));
+    };
+    assert!(rt; printed.text.as_str() == "a ;\nf { b ; }\nc\n", "{:?}", printed.text);
+    assert!(rt; printed.tokens.len() == 8 && printed.left_out.is_empty());
+    Ok(())
+}
+
+#[test]
+fn a_quote_at_the_end_is_no_part(rt: HostRuntime) -> Result<(), Fail> {
+    let mut printer = printer_of(&rt, "a;")?;
+    let quote = Leaf::Punct(Punct {
+        char: '\'',
+        spacing: Spacing::Joint,
+        span: Span::default(),
+    });
+    printer.put_step(&WalkStep::Leaf(&quote))?;
+    let line = part_of(&rt, "b;")?;
+    assert!(rt; !put(&mut printer, &line)?, "a quote waits");
+    assert!(rt; printer.into_part().is_none());
+    assert!(rt; printer_of(&rt, "")?.into_part().is_none(), "nothing is printed");
+    Ok(())
+}

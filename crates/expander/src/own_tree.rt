@@ -1,0 +1,90 @@
+// Trees of their own, each with its hash.
+ghost use Rattle.std.specs.Prelude.{◌≡◌};
+ghost use Rattle.expander.specs.OwnTrees.{tree_hash};
+
+use std::hash::{FoldHasher, Hash, Hasher};
+use std::marker::Model;
+use tt::top::TopSubtree;
+
+/// A tree of its own, with its hash, which is computed once.
+#[derive(Drop)]
+pub(crate) struct OwnTree {
+    tree: TopSubtree,
+    hash: u64,
+}
+
+impl Model for OwnTree {
+    ghost use Rattle.std.specs.Prelude.{◌≡◌};
+    ghost use Rattle.tt.specs.Tops.{Top, top_code};
+    ghost use Rattle.expander.specs.OwnTrees.{tree_hash};
+
+    ghost Value = { Top };
+
+    ghost coded = { top_code };
+
+    ghost view = { λ t. t.tree };
+
+    ghost invariant = { λ t. t.hash ≡ tree_hash t.tree };
+}
+
+// The hash of a tree.
+#[tactic(auto, unfolding(crate::specs::OwnTrees::hash_of))]
+fn hash_of(tree: &TopSubtree) -> u64
+    ensures { result ≡ tree_hash tree.now }
+{
+    let mut state = FoldHasher::default();
+    tree.hash(&mut state);
+    state.finish()
+}
+
+impl OwnTree {
+    /// The tree, whose hash is computed.
+    pub(crate) fn new(tree: TopSubtree) -> Self
+        ensures { result ≡ tree }
+    {
+        let hash = hash_of(&tree);
+        OwnTree { tree, hash }
+    }
+
+    /// The tree.
+    pub(crate) fn tree(&self) -> &TopSubtree
+        ensures { result.now ≡ self.now }
+    {
+        &self.tree
+    }
+}
+
+// Two are equal where their trees are, and then their hashes are, which are looked at first.
+impl PartialEq for OwnTree {
+    ghost use Rattle.tt.specs.contracts.top.TopSubtreePartialEq.TheImpl.Laws as tree_laws;
+
+    ghost eq = { ⟦<TopSubtree as PartialEq>⟧.eq };
+
+    ghost laws = { tree_laws.laws-law };
+
+    fn eq(&self, other: &OwnTree) -> bool {
+        self.hash == other.hash && self.tree == other.tree
+    }
+}
+
+impl Eq for OwnTree {
+    ghost use Rattle.tt.specs.contracts.top.TopSubtreeEq.TheImpl.Laws as tree_laws;
+
+    ghost laws = { tree_laws.laws-law };
+}
+
+impl Hash for OwnTree {
+    ghost use Rattle.std.specs.Hash as fed;
+    ghost use Rattle.std.proofs.Common.{ap};
+    ghost use Rattle.tt.specs.contracts.top.TopSubtreeHash.TheImpl.Laws as tree_laws;
+    ghost use Rattle.expander.specs.OwnTrees.{hash_of};
+
+    ghost hash_input = { λ t. fed.u64 (tree_hash t) };
+
+    ghost respects_eq = { λ a b e. ap (λ writes. fed.u64 (hash_of writes)) (tree_laws.respects_eq-law a b e) };
+
+    /// Feeds the kept hash.
+    fn hash<H: Hasher>(&self, state: &mut H) {
+        state.write_u64(self.hash);
+    }
+}
