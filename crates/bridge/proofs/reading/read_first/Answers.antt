@@ -1,6 +1,5 @@
 -- Token by token: where it stands, and what it adds.
-use Rattle.std.proofs.Common.{◌≡◌, ◌≤◌, ◌+◌, ◌<◌, length, arith, subst}
-use Rattle.std.specs.Prelude.{IfOk}
+use Rattle.std.proofs.Common.{◌≤◌, ◌+◌, length, arith, subst}
 use Rattle.bridge.proofs.AddingLemmas.{handed_on}
 use Rattle.bridge.proofs.ReadTokensLemmas.{reads_fault, reads_on, refuses}
 use Rattle.bridge.specs.Parts.{part_steps}

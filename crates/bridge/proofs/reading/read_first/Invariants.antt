@@ -1,4 +1,3 @@
-use Rattle.std.proofs.Common.{length}
 use Rattle.rustc_lexer.specs.Standing.{AreTokensFrom}
 use Rattle.bridge.specs.Parts.{part_steps}
 use Rattle.bridge.proofs.ReadTokensLemmas.{IsReadSoFar}
