@@ -3,16 +3,15 @@ use Rattle.std.proofs.Common.{◌≡◌, ℕ, ◌+◌, ◌≤◌, Bool, true, fa
 use Rattle.std.specs.Prelude.{Option, Some, None, codes, is_some}
 use Rattle.std.proofs.lemmas.Bool.Decides.{nat_tests}
 use Rattle.std.proofs.lemmas.List.{append-nil, length-append, length-map}
-use Rattle.std.proofs.lemmas.Simd.{map-map}
 use Rattle.tt_data.specs.Spans.{no_span}
 use Rattle.tt_data.specs.Walk.{Step, at_leaf, opens, closes, step_with}
 use Rattle.tt_data.specs.declared.leaf.Leaf.TheVariants as as_leaf
 use Rattle.tt_data.specs.declared.span.Span.{Span}
 use Rattle.bridge.specs.declared.edge.Edge.{Edge}
-use Rattle.bridge.specs.Edges.{are_joined, edge_of, ends_line, gap_between}
+use Rattle.bridge.specs.Edges.{are_joined, edge_of, gap_between}
 use Rattle.bridge.specs.PartSteps.{line_behind, part_behind}
-use Rattle.bridge.specs.PrintedParts.{IsPartOf, PartState, PutsPart, ends_last_line, just_part, takes_parts}
-use Rattle.bridge.specs.Printers.{Continues, HasPut, PrinterState, Prints, continued, pending}
+use Rattle.bridge.specs.PrintedParts.{IsPartOf, PartState, PutsPart, ends_last_line, takes_parts}
+use Rattle.bridge.specs.Printers.{Continues, PrinterState, Prints, continued, pending}
 use Rattle.bridge.specs.Printing.{Print, PrintedToken, depth_after, gap, is_visible_step, left_out_from, print_of, printed, spans_of, spelled, step_span, text_from, unspelled, visible}
 use Rattle.bridge.specs.Spelling.{spelling}
 use Rattle.bridge.proofs.SpanLemmas.{printed_text_moved, spelling_moved, visible_moved}

@@ -1,5 +1,5 @@
 -- Parts: what is printed of steps by themselves, to be put behind what was printed before.
-use Rattle.std.specs.Prelude.{◌≡◌, ℕ, List, [], ◌++◌, Bool, true, false, not, ◌&&◌, Option, Some, None, codes, is_some, length, map, nat_eq}
+use Rattle.std.specs.Prelude.{◌≡◌, ℕ, List, [], ◌++◌, Bool, true, false, not, ◌&&◌, Option, Some, None, is_some, length, map, nat_eq}
 use Rattle.tt_data.specs.Walk.{Step, step_with}
 use Rattle.tt_data.specs.declared.span.Span.{Span}
 use Rattle.bridge.specs.declared.edge.Edge.{Edge}

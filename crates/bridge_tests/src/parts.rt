@@ -41,12 +41,18 @@ fn puts_parts_on_lines_of_their_own(rt: HostRuntime) -> Result<(), Fail> {
     let word = part_of(&rt, "c")?;
     assert!(rt; line.spans().len() == 2 && item.spans().len() == 5 && word.spans().len() == 1);
     let mut printer = Printer::new(rt.alloc());
-    assert!(rt; put(&mut printer, &line)? && put(&mut printer, &item)? && put(&mut printer, &word)?);
+    assert!(rt;
+        put(&mut printer, &line)? && put(&mut printer, &item)? && put(&mut printer, &word)?
+    );
     assert!(rt; !put(&mut printer, &line)?, "no line ends behind a name");
     let Ok(printed) = printer.finish() else {
         return Err(Fail::new("no memory"));
     };
-    assert!(rt; printed.text.as_str() == "a ;\nf { b ; }\nc\n", "{:?}", printed.text);
+    assert!(rt;
+        printed.text.as_str() == "a ;\nf { b ; }\nc\n",
+        "{:?}",
+        printed.text
+    );
     assert!(rt; printed.tokens.len() == 8 && printed.left_out.is_empty());
     Ok(())
 }
@@ -63,6 +69,9 @@ fn a_quote_at_the_end_is_no_part(rt: HostRuntime) -> Result<(), Fail> {
     let line = part_of(&rt, "b;")?;
     assert!(rt; !put(&mut printer, &line)?, "a quote waits");
     assert!(rt; printer.into_part().is_none());
-    assert!(rt; printer_of(&rt, "")?.into_part().is_none(), "nothing is printed");
+    assert!(rt;
+        printer_of(&rt, "")?.into_part().is_none(),
+        "nothing is printed"
+    );
     Ok(())
 }
