@@ -57,6 +57,7 @@ macro_rules! u { () => { { } } }⏎u!{}⏎ ¦ { }⏎ ¦ 1 ¦
 macro_rules! t { ($($tt:tt)*) => { $($tt)* } }⏎t!{ fn main() { 1; 1.0; ((1,),).0.0; let x = 1; } }⏎ ¦ fn main ( ) { 1 ; 1.0 ; ( ( 1 , ) , ) . 0.0 ; let x = 1 ; }⏎ ¦ 1 ¦
 macro j { () => { 1 }, (a) => { 2 } }⏎j!(a);⏎ ¦ 2 ;⏎ ¦ 1 ¦
 macro_rules! g { ($($x:ident)*) => { $x } }⏎g!{a}⏎ ¦ g ! { a }⏎ ¦ 1 ¦ line 2, byte column 1: no rule matches this call⏎
+macro_rules! n { ($($($x:ident)*;)*) => { $([$($x)*])* } }⏎n!{a b; ; c;}⏎ ¦ [ a b ] [ ] [ c ]⏎ ¦ 1 ¦
 macro_rules! i { () => { ${index(1)} ${len()} } }⏎i!{}⏎ ¦ 0 0⏎ ¦ 1 ¦
 macro_rules! c { () => { ${concat(f, n)} } }⏎c!{}⏎ ¦ r#fn⏎ ¦ 1 ¦
 macro_rules! e { ($x:expr, $y:ty) => { $y $x } }⏎e!(a.0?[1], Vec<Vec<u8>>);⏎ ¦ Vec < Vec < u8 >> ( a . 0 ? [ 1 ] ) ;⏎ ¦ 1 ¦
@@ -181,7 +182,7 @@ fn run_over(alloc: Global, depth: u8, text: &str) -> Result<(String, String), Fa
 }
 
 // Whether a text without faults prints itself, whatever the grammar, the edition and the levels.
-fn prints_itself(alloc: Global, text: &str) -> Result<bool, Fail> {
+pub(crate) fn prints_itself(alloc: Global, text: &str) -> Result<bool, Fail> {
     let again = expansion_by(alloc, OneStep, Edition::Edition2015, 0, text)?;
     Ok(match again {
         Some(again) => again.printed() == text && again.faults().is_empty(),

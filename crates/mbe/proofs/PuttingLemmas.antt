@@ -5,7 +5,7 @@ use Rattle.std.specs.Result.{IsErrAnd}
 use Rattle.tt_data.specs.fault.TtFault.{TtFault}
 use Rattle.tt.specs.Building.{Building, pushed, opened, closed, extended, last_alone, count_of, most_tokens}
 use Rattle.tt.proofs.LastAlone.{size-last_alone}
-use Rattle.tt_data.proofs.ForestLemmas.{size-joined}
+use Rattle.tt_data.proofs.ForestLemmas.{joined_assoc, size-joined}
 use Rattle.tt_data.specs.Flat.{joined-empty}
 use Rattle.tt_data.specs.Forest.{Forest, empty, leaf, group, joined, size}
 use Rattle.tt_data.specs.declared.delimiter.DelimiterKind.TheVariants.{Parenthesis}
@@ -17,11 +17,6 @@ use Rattle.tt.specs.Elements.{first_alone, after_first}
 use Rattle.mbe.specs.Filling.{stands_alone, in_parentheses, begins_generics, punct_at, colons, with_colons}
 use Rattle.mbe.specs.Putting.{begins_ident, before_more}
 use Rattle.mbe.specs.Room.{LacksRoom}
-
-pub joined-assoc : (f g h : Forest) → joined (joined f g) h ≡ joined f (joined g h)
-joined-assoc empty g h = refl
-joined-assoc (leaf l f) g h = ap (leaf l) (joined-assoc f g h)
-joined-assoc (group d inner f) g h = ap (group d inner) (joined-assoc f g h)
 
 unsome : {A : Type 0} {a b : A} → Some a ≡ Some b → a ≡ b
 unsome e = cc
@@ -66,7 +61,7 @@ wrapped-lacks b one s f e first less =
 -- ---- a path
 
 pub extended-more : (b : Building) (f g : Forest) → extended (extended b f) g ≡ extended b (joined f g)
-extended-more b f g = ap (λ h. record b { here = h }) (joined-assoc b.here f g)
+extended-more b f g = ap (λ h. record b { here = h }) (joined_assoc b.here f g)
 
 pub colons-added : (b one two : Building) (s : Span) (l m : Leaf) → l ≡ punct_at 58 Joint s → m ≡ punct_at 58 Alone s →
     one ≡ pushed b l → two ≡ pushed one m → two ≡ extended b (colons s empty)

@@ -1,30 +1,29 @@
 -- The first lexeme, by what its first byte tells.
-use Rattle.std.proofs.Common.{◌≡◌, ℕ, ◌<◌, ◌≤◌, ◌==◌, ◌&&◌, ◌||◌, Bool, true, false, not, nat_lt, List, refl, sym, ap, ◌∙◌, arith, if◌then◌else◌}
+use Rattle.std.proofs.Common.{◌≡◌, ℕ, ◌<◌, ◌==◌, ◌&&◌, ◌||◌, Bool, true, false, not, nat_lt, List, refl, sym, ap, ◌∙◌, arith, if◌then◌else◌}
 use Rattle.std.proofs.lemmas.Bool.Decides.{nat_tests}
 use Rattle.rustc_lexer.specs.Character.{ascii_part, char_at, is_whitespace, is_id_start, is_digit}
-use Rattle.rustc_lexer.specs.Lexeme.{lexeme, lexeme_of, one_char_kind, plain_word, white_space, word}
-use Rattle.rustc_lexer.specs.Words.{sign, begins_more, begins_prefix, start_of}
+use Rattle.rustc_lexer.specs.Lexeme.{lexeme, lexeme_of, one_char_kind, white_space, word}
+use Rattle.rustc_lexer.specs.Words.{sign, begins_more, start_of}
 use Rattle.rustc_lexer.proofs.FrontRowLemmas.{by_letter, by_sign, by_white, no_comment, no_start}
-use Rattle.rustc_lexer.proofs.WordLemmas.{either_left, either_right, no_prefix}
+use Rattle.rustc_lexer.proofs.WordLemmas.{either_left, either_right}
 
 -- the answers of the tests give what the byte tells
-abbrev told : Bool → Bool → Bool → Bool → Bool → ℕ
-told ascii white start prefix more =
-    if not ascii then 0x3f else if white then 0x20 else if start then (if prefix then 0x70 else 0x61) else if more then 0x3f else 0x2e
+abbrev told : Bool → Bool → Bool → Bool → ℕ
+told ascii white start more =
+    if not ascii then 0x3f else if white then 0x20 else if start then 0x61 else if more then 0x3f else 0x2e
 
 is_other : {X : Type 0} (m n : ℕ) → (m == n) ≡ false → m ≡ n → X
 is_other m n other same = absurd (let t : (m == n) ≡ true = grind (arith, nat_tests) in let f : false ≡ true = sym other ∙ t in cc)
 
 pub told_white : (b : ℕ) → (start_of b == 0x20) ≡ ascii_part is_whitespace b
-told_white b = by_tests (nat_lt b 128) (is_whitespace b) (is_id_start b) (begins_prefix b) (begins_more b)
+told_white b = by_tests (nat_lt b 128) (is_whitespace b) (is_id_start b) (begins_more b)
   where
-    by_tests : (a w s p m : Bool) → (told a w s p m == 0x20) ≡ (a && w)
-    by_tests false w s p m = refl
-    by_tests true true s p m = refl
-    by_tests true false true true m = refl
-    by_tests true false true false m = refl
-    by_tests true false false p true = refl
-    by_tests true false false p false = refl
+    by_tests : (a w s m : Bool) → (told a w s m == 0x20) ≡ (a && w)
+    by_tests false w s m = refl
+    by_tests true true s m = refl
+    by_tests true false true m = refl
+    by_tests true false false true = refl
+    by_tests true false false false = refl
 
 -- a byte of ASCII is the first character
 low_first : (cs : List ℕ) (b : ℕ) → (b < 128 → char_at cs 0 ≡ b) → nat_lt b 128 ≡ true → char_at cs 0 ≡ b
@@ -42,17 +41,16 @@ begins_no_comment : (cs : List ℕ) (b : ℕ) → char_at cs 0 ≡ b → (b == 4
 begins_no_comment cs b e other = ap (λ c. c == 47) e ∙ other
 
 pub start_white : (cs : List ℕ) (b : ℕ) → (b < 128 → char_at cs 0 ≡ b) → start_of b ≡ 0x20 → lexeme cs ≡ white_space cs
-start_white cs b low h = by_tests (nat_lt b 128) (is_whitespace b) (is_id_start b) (begins_prefix b) (begins_more b) refl refl h
+start_white cs b low h = by_tests (nat_lt b 128) (is_whitespace b) (is_id_start b) (begins_more b) refl refl h
   where
-    by_tests : (a w s p m : Bool) → nat_lt b 128 ≡ a → is_whitespace b ≡ w → told a w s p m ≡ 0x20 → lexeme cs ≡ white_space cs
-    by_tests true true s p m e f h =
+    by_tests : (a w s m : Bool) → nat_lt b 128 ≡ a → is_whitespace b ≡ w → told a w s m ≡ 0x20 → lexeme cs ≡ white_space cs
+    by_tests true true s m e f h =
         let c = low_first cs b low e in
         no_comment cs (begins_no_comment cs b c (no_slash is_whitespace b refl f)) ∙ by_white cs b c f
-    by_tests false w s p m e f h = is_other 0x3f 0x20 refl h
-    by_tests true false true true m e f h = is_other 0x70 0x20 refl h
-    by_tests true false true false m e f h = is_other 0x61 0x20 refl h
-    by_tests true false false p true e f h = is_other 0x3f 0x20 refl h
-    by_tests true false false p false e f h = is_other 0x2e 0x20 refl h
+    by_tests false w s m e f h = is_other 0x3f 0x20 refl h
+    by_tests true false true m e f h = is_other 0x61 0x20 refl h
+    by_tests true false false true e f h = is_other 0x3f 0x20 refl h
+    by_tests true false false false e f h = is_other 0x2e 0x20 refl h
 
 -- a word begins there
 pub record BeginsWord (cs : List ℕ) (b : ℕ) : Type 0 where
@@ -65,28 +63,15 @@ begins_word cs b low e f g =
     let c = low_first cs b low e in
     record { first = c; start = g; same = no_comment cs (begins_no_comment cs b c (no_slash is_id_start b no_start g)) ∙ by_letter cs b c f g }
 
-pub starts_prefixed : (cs : List ℕ) (b : ℕ) → (b < 128 → char_at cs 0 ≡ b) → start_of b ≡ 0x70 → BeginsWord cs b
-starts_prefixed cs b low h = by_tests (nat_lt b 128) (is_whitespace b) (is_id_start b) (begins_prefix b) (begins_more b) refl refl refl h
+pub starts_word : (cs : List ℕ) (b : ℕ) → (b < 128 → char_at cs 0 ≡ b) → start_of b ≡ 0x61 → BeginsWord cs b
+starts_word cs b low h = by_tests (nat_lt b 128) (is_whitespace b) (is_id_start b) (begins_more b) refl refl refl h
   where
-    by_tests : (a w s p m : Bool) → nat_lt b 128 ≡ a → is_whitespace b ≡ w → is_id_start b ≡ s → told a w s p m ≡ 0x70 → BeginsWord cs b
-    by_tests true false true true m e f g h = begins_word cs b low e f g
-    by_tests false w s p m e f g h = is_other 0x3f 0x70 refl h
-    by_tests true true s p m e f g h = is_other 0x20 0x70 refl h
-    by_tests true false true false m e f g h = is_other 0x61 0x70 refl h
-    by_tests true false false p true e f g h = is_other 0x3f 0x70 refl h
-    by_tests true false false p false e f g h = is_other 0x2e 0x70 refl h
-
-pub starts_plain : (cs : List ℕ) (b : ℕ) → (b < 128 → char_at cs 0 ≡ b) → start_of b ≡ 0x61 → BeginsWord cs b × (begins_prefix b ≡ false)
-starts_plain cs b low h = by_tests (nat_lt b 128) (is_whitespace b) (is_id_start b) (begins_prefix b) (begins_more b) refl refl refl refl h
-  where
-    by_tests : (a w s p m : Bool) → nat_lt b 128 ≡ a → is_whitespace b ≡ w → is_id_start b ≡ s → begins_prefix b ≡ p → told a w s p m ≡ 0x61 →
-        BeginsWord cs b × (begins_prefix b ≡ false)
-    by_tests true false true false m e f g i h = (begins_word cs b low e f g, i)
-    by_tests false w s p m e f g i h = is_other 0x3f 0x61 refl h
-    by_tests true true s p m e f g i h = is_other 0x20 0x61 refl h
-    by_tests true false true true m e f g i h = is_other 0x70 0x61 refl h
-    by_tests true false false p true e f g i h = is_other 0x3f 0x61 refl h
-    by_tests true false false p false e f g i h = is_other 0x2e 0x61 refl h
+    by_tests : (a w s m : Bool) → nat_lt b 128 ≡ a → is_whitespace b ≡ w → is_id_start b ≡ s → told a w s m ≡ 0x61 → BeginsWord cs b
+    by_tests true false true m e f g h = begins_word cs b low e f g
+    by_tests false w s m e f g h = is_other 0x3f 0x61 refl h
+    by_tests true true s m e f g h = is_other 0x20 0x61 refl h
+    by_tests true false false true e f g h = is_other 0x3f 0x61 refl h
+    by_tests true false false false e f g h = is_other 0x2e 0x61 refl h
 
 -- a word is one in both readings
 pub word_starts : (cs : List ℕ) (b : ℕ) → BeginsWord cs b → is_id_start (char_at cs 0) ≡ true
@@ -95,19 +80,16 @@ word_starts cs b w = ap is_id_start w.first ∙ w.start
 pub word_same : (cs : List ℕ) (b : ℕ) → BeginsWord cs b → lexeme cs ≡ word cs
 word_same cs b w = w.same
 
-pub plain_same : (cs : List ℕ) (b : ℕ) → (b < 128 → char_at cs 0 ≡ b) → (128 ≤ b → 128 ≤ char_at cs 0) → start_of b ≡ 0x61 → lexeme cs ≡ plain_word cs
-plain_same cs b low high h = (let w = starts_plain cs b low h in w.0.same ∙ no_prefix cs b low high w.1)
-
 sign_alone : (cs : List ℕ) (b : ℕ) → char_at cs 0 ≡ b → (b == 0x23) ≡ false → (b == 0x27) ≡ false → (b == 0x22) ≡ false →
     sign cs ≡ lexeme_of (one_char_kind b) 1
 sign_alone cs b e hash quote string = rw (e, hash, quote, string) refl
 
 pub start_alone : (cs : List ℕ) (b : ℕ) → (b < 128 → char_at cs 0 ≡ b) → start_of b ≡ 0x2e → lexeme cs ≡ lexeme_of (one_char_kind b) 1
-start_alone cs b low h = by_tests (nat_lt b 128) (is_whitespace b) (is_id_start b) (begins_prefix b) (begins_more b) refl refl refl refl h
+start_alone cs b low h = by_tests (nat_lt b 128) (is_whitespace b) (is_id_start b) (begins_more b) refl refl refl refl h
   where
-    by_tests : (a w s p m : Bool) → nat_lt b 128 ≡ a → is_whitespace b ≡ w → is_id_start b ≡ s → begins_more b ≡ m → told a w s p m ≡ 0x2e →
+    by_tests : (a w s m : Bool) → nat_lt b 128 ≡ a → is_whitespace b ≡ w → is_id_start b ≡ s → begins_more b ≡ m → told a w s m ≡ 0x2e →
         lexeme cs ≡ lexeme_of (one_char_kind b) 1
-    by_tests true false false p false e f g i h =
+    by_tests true false false false e f g i h =
         let c = low_first cs b low e in
         let front = either_left (is_digit b || b == 0x2f) (b == 0x23 || (b == 0x22 || b == 0x27)) i in
         let marks = either_right (is_digit b || b == 0x2f) (b == 0x23 || (b == 0x22 || b == 0x27)) i in
@@ -116,8 +98,7 @@ start_alone cs b low h = by_tests (nat_lt b 128) (is_whitespace b) (is_id_start 
         ∙ by_sign cs b c f g (either_left (is_digit b) (b == 0x2f) front)
         ∙ sign_alone cs b c (either_left (b == 0x23) (b == 0x22 || b == 0x27) marks) (either_right (b == 0x22) (b == 0x27) quotes)
         (either_left (b == 0x22) (b == 0x27) quotes)
-    by_tests false w s p m e f g i h = is_other 0x3f 0x2e refl h
-    by_tests true true s p m e f g i h = is_other 0x20 0x2e refl h
-    by_tests true false true true m e f g i h = is_other 0x70 0x2e refl h
-    by_tests true false true false m e f g i h = is_other 0x61 0x2e refl h
-    by_tests true false false p true e f g i h = is_other 0x3f 0x2e refl h
+    by_tests false w s m e f g i h = is_other 0x3f 0x2e refl h
+    by_tests true true s m e f g i h = is_other 0x20 0x2e refl h
+    by_tests true false true m e f g i h = is_other 0x61 0x2e refl h
+    by_tests true false false true e f g i h = is_other 0x3f 0x2e refl h

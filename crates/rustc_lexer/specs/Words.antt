@@ -52,10 +52,6 @@ uncommented cs =
     else if is_digit (char_at cs 0) then numeral cs
     else sign cs
 
--- a prefix may begin with the character: `r`, `b`, `c` or `k`
-abbrev pub begins_prefix : ℕ → Bool
-begins_prefix c = (c == 0x72 || c == 0x62) || (c == 0x63 || c == 0x6b)
-
 -- a digit, or one of the characters with which comments, guarded strings, strings, and characters or lifetimes begin
 abbrev pub begins_more : ℕ → Bool
 begins_more c = (is_digit c || c == 0x2f) || (c == 0x23 || (c == 0x22 || c == 0x27))
@@ -64,10 +60,8 @@ begins_more c = (is_digit c || c == 0x2f) || (c == 0x23 || (c == 0x22 || c == 0x
 abbrev pub start_told : Bool → Bool → Bool → ℕ → ℕ
 start_told ascii white start b =
     if not ascii then 0x3f else if white then 0x20
-    else if start then (if begins_prefix b then 0x70 else 0x61)
-    else if begins_more b then 0x3f else 0x2e
+    else if start then 0x61 else if begins_more b then 0x3f else 0x2e
 
--- what the first byte of a lexeme tells of it: white space (0x20), a word without a prefix (0x61), a word that may have one
--- (0x70), one character alone (0x2e), or nothing yet (0x3f)
+-- what the first byte of a lexeme tells of it: white space (0x20), a word (0x61), one character alone (0x2e), or nothing yet (0x3f)
 abbrev pub start_of : ℕ → ℕ
 start_of b = start_told (nat_lt b 128) (is_whitespace b) (is_id_start b) b

@@ -15,7 +15,7 @@ use crate::steps::{
     White, begins, behind, first, first_byte, is_digit, second, skip_while, start_of,
 };
 use crate::token::{LiteralKind, TokenKind};
-use crate::word::{plain_word, word};
+use crate::word::word;
 
 // The kind of the first lexeme of the text, and what follows the lexeme.
 pub fn first_lexeme(text: &str) -> (TokenKind, &str)
@@ -26,9 +26,8 @@ pub fn first_lexeme(text: &str) -> (TokenKind, &str)
     let b = first_byte(text);
     match start_of(b) {
         b'.' => (one_char_kind(b as char), behind(text)),
-        b'a' => plain_word(text),
+        b'a' => word(text),
         b' ' => (TokenKind::Whitespace, skip_while::<White>(text)),
-        b'p' => word(text),
         _ => other_lexeme(text),
     }
 }
