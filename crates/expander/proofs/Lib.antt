@@ -56,6 +56,7 @@ mod MetLemmas
 mod OwnLemmas
 mod OwnPieceLemmas
 mod PlacingLemmas
+mod PartLemmas
 mod PlainLemmas
 mod MemoryLemmas
 mod TakingLemmas

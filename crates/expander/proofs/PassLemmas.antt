@@ -18,6 +18,7 @@ use Rattle.expander.specs.Definitions.{Definition, definition_of, or_else}
 use Rattle.expander.specs.Editions.{IsRead}
 use Rattle.expander.specs.Expansion.{Outcome, World, expansion}
 use Rattle.expander.specs.Held.{IsMet, Kept, Met, Numbered, definition_trees, kept, kept_of, met, met_of, numbered_scope, numbered_world, present, with_met}
+use Rattle.expander.specs.HeldParts.{HasItsPart}
 use Rattle.expander.specs.Knowns.{definition_in}
 use Rattle.expander.specs.Layered.{layers}
 use Rattle.expander.specs.Meaning.{Layers, member_faults, output_of}
@@ -102,7 +103,7 @@ right_grows w depth one two more (q ∷ qs) h =
     let held : IsHeld w depth (numbered_by two) piece =
     All-head (IsHeld w depth (numbered_by two)) piece []
     (more_held w depth (numbered_by one) (numbered_by two) more (piece ∷ []) (All-cons (IsHeld w depth (numbered_by one)) piece [] here.held (All-nil (IsHeld w depth (numbered_by one))))) in
-    All-cons (λ x. IsRight w depth two (rc_value x)) q qs (record { top = here.top; parts = here.parts; held = held })
+    All-cons (λ x. IsRight w depth two (rc_value x)) q qs (record { top = here.top; parts = here.parts; held = held; part = here.part })
     (right_grows w depth one two more qs (All-tail (λ x. IsRight w depth one (rc_value x)) q qs h))
 
 -- the numbers of both texts
@@ -132,12 +133,13 @@ module _ (equal : (f g : Forest) → (same_forest f g ≡ true) ↔ (f ≡ g)) (
       ∙ ap (λ (p : Parts). record { tree = tree; outcome = expansion (numbered_world w) (scope_of p.finds) depth None tree }) parts
       ∙ ap (λ (o : Outcome Numbered). record { tree = tree; outcome = o }) (expansion_by_finds (numbered_world w) (numbered_scope before) depth None tree)
 
-  pub piece_right : IsRight w depth numbers q
-  piece_right = record {
+  pub piece_right : HasItsPart q → IsRight w depth numbers q
+  piece_right part = record {
     top = ap (λ (t : Top). t.delimiter) top;
     parts = ap (λ (t : Forest). parts_for t q.outcome) trees_same ∙ parts ∙ ap (λ (p : HeldPiece). parts_of p.outcome) (sym piece_found);
     held = subst (IsHeld w depth (numbered_by numbers)) (sym piece_found)
         (fresh_is_held equal w depth (numbered_by numbers) (numbered_scope before) (met_scope equal (numbered_by numbers) before known) tree);
+    part = part;
   }
 
 -- ---- one more piece
@@ -185,7 +187,7 @@ module _ (grammar : Grammar) (edition : Edition) (depth : ℕ) (old : Memory) (p
 
   -- a plain piece, put out and held
   module _ (equal : (f g : Forest) → (same_forest f g ≡ true) ↔ (f ≡ g)) (q : Rc Plain Global) (matched : Bool) (scope_is : next.scope ≡ now.scope) (numbers_are : next.taken.numbers ≡ now.taken.numbers)
-      (top : tree_of (rc_value q) ≡ own_top r)
+      (top : tree_of (rc_value q) ≡ own_top r) (part : HasItsPart (rc_value q))
       (plains_are : next.taken.plains.items ≡ now.taken.plains.items ++ q ∷ [])
       (chained : AreChained now.taken.chains (map (λ q. tree_of (rc_value q)) now.taken.plains.items) → AreChained next.taken.chains (map (λ q. tree_of (rc_value q)) next.taken.plains.items))
       (steps : PutsOut now.taken.steps next.taken.steps (resolved_steps start now.scope.starts (parts_for (tree_of (rc_value q)).inner (rc_value q).outcome).steps))
@@ -207,7 +209,7 @@ module _ (grammar : Grammar) (edition : Edition) (depth : ℕ) (old : Memory) (p
       found = piece_found equal W depth (numbers_in now.taken.numbers.by_tree) before has.known r (rc_value q) top parts_now
 
       right_now : IsRight W depth (numbers_in now.taken.numbers.by_tree) (rc_value q)
-      right_now = piece_right equal W depth (numbers_in now.taken.numbers.by_tree) before has.known r (rc_value q) top parts_now
+      right_now = piece_right equal W depth (numbers_in now.taken.numbers.by_tree) before has.known r (rc_value q) top parts_now part
 
       put_steps : resolved_steps start now.scope.starts (parts_for (tree_of (rc_value q)).inner (rc_value q).outcome).steps ≡ output_of (present k)
       put_steps =

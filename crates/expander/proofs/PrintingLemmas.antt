@@ -42,11 +42,11 @@ visible-append (s ∷ more) ys = go (is_visible_step s.step) (visible-append mor
     go true e = ap (λ l. s ∷ l) e
     go false e = e
 
-places_of-append : (xs ys : List PlacedStep) → places_of (xs ++ ys) ≡ places_of xs ++ places_of ys
+pub places_of-append : (xs ys : List PlacedStep) → places_of (xs ++ ys) ≡ places_of xs ++ places_of ys
 places_of-append xs ys =
     ap (map (λ s. (place s).range)) (visible-append xs ys) ∙ map-append (λ s. (place s).range) (visible xs) (visible ys)
 
-words_told-append : (xs ys : List PlacedStep) → words_told (xs ++ ys) ≡ words_told xs ++ words_told ys
+pub words_told-append : (xs ys : List PlacedStep) → words_told (xs ++ ys) ≡ words_told xs ++ words_told ys
 words_told-append xs ys =
     let told : PlacedStep → Fault = λ s. fault_at NestedDefinition (place s) in
     let is_word : PlacedStep → Bool = λ s. is_definition_word s.step in

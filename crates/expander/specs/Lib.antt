@@ -61,3 +61,4 @@ pub mod Shown
 pub mod Spots
 pub mod Steps
 pub mod CommandTurns
+pub mod HeldParts

@@ -11,6 +11,7 @@ use Rattle.expander.specs.Count.{Looked}
 use Rattle.expander.specs.Definitions.{Definition}
 use Rattle.expander.specs.Expansion.{World, expansion}
 use Rattle.expander.specs.Held.{Numbered, numbered_world}
+use Rattle.expander.specs.HeldParts.{HasItsPart}
 use Rattle.expander.specs.NumberedTexts.{inner_of}
 use Rattle.expander.specs.Numbering.{AreNumbers, HaveNumbers, numbered_by}
 use Rattle.expander.specs.Outcomes.{parts_for, parts_of}
@@ -42,6 +43,8 @@ module _ (world : World Definition) (depth : ℕ) where
     pub top : (tree_of q).delimiter ≡ text_top
     pub parts : parts_for (tree_of q).inner q.outcome ≡ parts_of (piece_of q).outcome
     pub held : IsHeld world depth (numbered_by numbers) (piece_of q)
+    -- what it prints by itself, where that is held
+    pub part : HasItsPart q
 
   -- what is held is right by the numbers of the definitions that are held
   pub record IsMemory (edition : Edition) (m : code.Memory) : Type 0 where

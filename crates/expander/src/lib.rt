@@ -8,6 +8,7 @@ pub mod commands;
 mod copies;
 mod definitions;
 pub mod faults;
+mod held_part;
 mod known;
 pub mod laws;
 mod lines;

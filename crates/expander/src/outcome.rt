@@ -70,6 +70,17 @@ fn kept_step(step: &WalkStep<'_>) -> StepKind
     }
 }
 
+/// The step, lent.
+pub(crate) fn lent(kind: &StepKind) -> WalkStep<'_>
+    ensures { step_of result ≡ kind_of kind.now }
+{
+    match kind {
+        StepKind::Leaf(leaf) => WalkStep::Leaf(leaf),
+        StepKind::Opens(kind, span) => WalkStep::Opens(*kind, *span),
+        StepKind::Closes(kind, span) => WalkStep::Closes(*kind, *span),
+    }
+}
+
 /// Adds one step.
 pub(crate) fn push_own_step(
     steps: &mut Vec<OwnStep>,

@@ -1,14 +1,16 @@
 // The output of an expansion: steps of walks, printed as they come, and where their faults are told.
-ghost use Rattle.std.specs.Prelude.{◌≡◌, ◌∷◌, [], ◌++◌, List, true, slice_get, IfOk, OnOk};
+ghost use Rattle.std.specs.Prelude.{◌≡◌, ◌∷◌, [], ◌++◌, List, true, slice_get, IfOk, OnOk, map};
 ghost use Rattle.bridge.specs.PrintedTrees.{print_in};
 ghost use Rattle.bridge.specs.Printing.{is_visible_step, print_of};
 ghost use Rattle.bridge.specs.WalkSteps.{step_of};
+ghost use Rattle.tt_data.specs.declared.span.Span.{Span};
 ghost use Rattle.expander.specs.Expansion.{PlacedStep, placed};
+ghost use Rattle.expander.specs.HeldParts.{PutsQuiet};
 ghost use Rattle.expander.specs.OutputSteps.{HasOutput, PutsOut, faults_in, places_of, told_at, words_told};
 ghost use Rattle.expander.specs.Printing.{steps_of};
 
 use crate::faults::{Fault, FaultKind, is_definition_word, place};
-use bridge::{Printed, Printer, WalkStep};
+use bridge::{Printed, PrintedPart, Printer, WalkStep};
 use std::alloc::{AllocError, Global};
 use tt_data::delimiter::DelimiterKind;
 use tt_data::span::{Span, TextRange};
@@ -51,7 +53,8 @@ pub(crate) fn push_step(
     }
 }
 
-fn is_visible(step: &WalkStep<'_>) -> bool
+/// Whether the step is a visible token.
+pub(crate) fn is_visible(step: &WalkStep<'_>) -> bool
     ensures { result ≡ is_visible_step (step_of step.now) }
 {
     match step {
@@ -78,6 +81,36 @@ fn push_place(
         steps.nested.push(Fault { kind, range })?;
     }
     Ok(())
+}
+
+// Keeps where faults of visible tokens are told.
+fn push_places(places: &mut Vec<TextRange>, told: &[Span]) -> Result<(), AllocError>
+    ensures { OnOk result (places.new.items ≡ places.old.items ++ map (λ (s : Span). s.range) told.now) }
+{
+    for span in told {
+        places.push(span.range)?;
+    }
+    Ok(())
+}
+
+/// Adds a part, its tokens at the first places and faults of them told at the second: `false`, and nothing is done, where it
+/// can't be put at once.
+pub(crate) fn put_part(
+    steps: &mut PlacedSteps,
+    part: &PrintedPart,
+    spans: &[Span],
+    told: &[Span],
+) -> Result<bool, AllocError>
+    ensures { IfOk result (PutsQuiet steps.old steps.new part.now spans.now told.now) }
+{
+    match steps.printer.put_part(part, spans) {
+        Ok(true) => {
+            push_places(&mut steps.places, told)?;
+            Ok(true)
+        }
+        Ok(false) => Ok(false),
+        Err(_) => Err(AllocError),
+    }
 }
 
 // Where a fault of the visible token of this number is told.

@@ -1,18 +1,20 @@
 // What a piece gives in places of its own, put out at its places in the text.
-ghost use Rattle.std.specs.Prelude.{◌≡◌, ◌∷◌, [], ◌++◌, IfSome, None, OnOk, option_map, map};
+ghost use Rattle.std.specs.Prelude.{◌≡◌, ◌∷◌, [], ◌++◌, IfOk, IfSome, None, OnOk, Some, option_map, map};
 ghost use Rattle.bridge.specs.WalkSteps.{step_of};
 ghost use Rattle.tt_data.specs.Spans.{leaf_with, span_of};
 ghost use Rattle.tt_data.specs.Walk.{at_leaf, step_with, walk};
 ghost use Rattle.tt_data.specs.declared.span.Span.{Span};
 ghost use Rattle.expander.specs.Expansion.{placed};
+ghost use Rattle.expander.specs.HeldParts.{PutsHeld};
 ghost use Rattle.expander.specs.OutputSteps.{PutsOut};
-ghost use Rattle.expander.specs.Outcomes.{kind_of, parts_for, placed_of};
+ghost use Rattle.expander.specs.Outcomes.{parts_for, placed_of};
 ghost use Rattle.expander.specs.Placing.{base_at, range_from, resolved_by, resolved_faults, resolved_steps, told_if_broken};
 
 use crate::faults::{Fault, FaultKind};
+use crate::held_part::HeldPart;
 use crate::numbered::Known;
-use crate::outcome::{Outcome, OwnStep, StepKind};
-use crate::output::{PlacedSteps, push_step};
+use crate::outcome::{Outcome, OwnStep, lent};
+use crate::output::{PlacedSteps, push_step, put_part};
 use crate::starts::Starts;
 use crate::walk::Walk;
 use bridge::WalkStep;
@@ -117,17 +119,6 @@ fn put_step(
     }
 }
 
-// The step, lent.
-fn lent(kind: &StepKind) -> WalkStep<'_>
-    ensures { step_of result ≡ kind_of kind.now }
-{
-    match kind {
-        StepKind::Leaf(leaf) => WalkStep::Leaf(leaf),
-        StepKind::Opens(kind, span) => WalkStep::Opens(*kind, *span),
-        StepKind::Closes(kind, span) => WalkStep::Closes(*kind, *span),
-    }
-}
-
 // Puts out a step that is kept.
 fn put_own_step(
     steps: &mut PlacedSteps,
@@ -189,6 +180,63 @@ pub(crate) fn put_steps(
     match &outcome.steps {
         None => put_tree(alloc, steps, start, starts, tree),
         Some(own) => put_own_steps(steps, start, starts, own.as_slice()),
+    }
+}
+
+// Spans of a piece, as spans of the text.
+fn resolved_all(
+    alloc: Global,
+    start: u32,
+    starts: &Starts,
+    own: &[Span],
+) -> Result<Vec<Span>, AllocError>
+    ensures { IfOk result (λ all. all.items ≡ map (resolved_by start starts.now) own.now) }
+{
+    let mut all = Vec::with_capacity(alloc, own.len())?;
+    for span in own {
+        let Some(span) = resolved(start, starts, *span) else {
+            return Err(AllocError);
+        };
+        all.push(span)?;
+    }
+    Ok(all)
+}
+
+// Puts out what a piece prints by itself, its tokens at their places in the text: `false`, and nothing is done, where it
+// can't be put at once.
+fn put_printed(
+    alloc: Global,
+    steps: &mut PlacedSteps,
+    start: u32,
+    starts: &Starts,
+    part: &HeldPart,
+) -> Result<bool, AllocError>
+    ensures { IfOk result (PutsHeld steps.old steps.new (Some part.now) start starts.now) }
+{
+    let spans = resolved_all(alloc, start, starts, part.printed.spans())?;
+    match &part.told {
+        None => put_part(steps, &part.printed, spans.as_slice(), spans.as_slice()),
+        Some(told) => {
+            let told = resolved_all(alloc, start, starts, told.as_slice())?;
+            put_part(steps, &part.printed, spans.as_slice(), told.as_slice())
+        }
+    }
+}
+
+/// Puts out what a piece prints by itself, if anything is held of that: `false`, and nothing is done, where it can't be put at
+/// once.
+pub(crate) fn put_held(
+    alloc: Global,
+    steps: &mut PlacedSteps,
+    start: u32,
+    starts: &Starts,
+    part: &Option<HeldPart>,
+) -> Result<bool, AllocError>
+    ensures { IfOk result (PutsHeld steps.old steps.new part.now start starts.now) }
+{
+    match part {
+        Some(part) => put_printed(alloc, steps, start, starts, part),
+        None => Ok(false),
     }
 }
 

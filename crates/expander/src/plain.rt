@@ -9,6 +9,7 @@ ghost use Rattle.expander.specs.Plains.{is_match, tree_of};
 ghost use Rattle.expander.specs.Reuse.{same_number};
 
 use crate::chains::Chains;
+use crate::held_part::HeldPart;
 use crate::met::Scope;
 use crate::outcome::{Find, Outcome};
 use crate::own_tree::OwnTree;
@@ -20,6 +21,8 @@ use tt::laws;
 pub(crate) struct Plain {
     pub tree: Rc<OwnTree>,
     pub outcome: Outcome,
+    /// What it prints by itself, where that may be put out at once.
+    pub part: Option<HeldPart>,
 }
 
 // Whether a name finds what it is held to find.

@@ -11,6 +11,7 @@ ghost use Rattle.expander.specs.Chains.{AreChained};
 ghost use Rattle.expander.specs.Definitions.{definition_of};
 ghost use Rattle.expander.specs.Expansion.{expansion};
 ghost use Rattle.expander.specs.Held.{IsMet, Met, definition_trees, kept_after, numbered_scope, numbered_world};
+ghost use Rattle.expander.specs.HeldParts.{HasItsPart};
 ghost use Rattle.expander.specs.Layered.{layers};
 ghost use Rattle.expander.specs.Meaning.{members_after};
 ghost use Rattle.expander.specs.Memories.{IsMemory, piece_of, trees_of};
@@ -34,6 +35,7 @@ use crate::by_tree::ByTree;
 use crate::chains::Chains;
 use crate::definitions::definition_of;
 use crate::faults::Fault;
+use crate::held_part::held_part;
 use crate::laws;
 use crate::memory::Memory;
 use crate::met::Scope;
@@ -41,7 +43,7 @@ use crate::numbering::{Numbering, number};
 use crate::output::{PlacedSteps, no_steps};
 use crate::own_pieces::OwnPiece;
 use crate::own_tree::OwnTree;
-use crate::placing::{put_faults, put_steps, tell_if_broken};
+use crate::placing::{put_faults, put_held, put_steps, tell_if_broken};
 use crate::plain::{Plain, match_from};
 use crate::searching::expand_piece;
 use crate::session::Refusal;
@@ -62,13 +64,20 @@ fn expanded<G: FragmentGrammar>(
 ) -> Result<Rc<Plain>, TtFault>
     requires { AreRead scope.now }
     ensures tree { IfOk result (λ q. tree_of q.value ≡ tree.value) }
+    ensures part { IfOk result (λ q. HasItsPart q.value) }
     ensures outcome { IfOk result (λ q. parts_for tree.value.inner q.value.outcome
         ≡ parts_of (expansion (numbered_world (world (G.answer grammar.now) scope.now.edition)) (scope_in scope.now) depth None tree.value.inner)) }
     ensures tokens { result ≡ Err TtFault.Tokens →
         (expansion (numbered_world (world (G.answer grammar.now) scope.now.edition)) (scope_in scope.now) depth None tree.value.inner).bursts ≡ true }
 {
     let outcome = expand_piece(alloc, grammar, scope, depth, tree.as_ref().tree())?;
-    match Rc::new(alloc, Plain { tree, outcome }) {
+    let part = held_part(alloc, tree.as_ref().tree(), &outcome)?;
+    let plain = Plain {
+        tree,
+        outcome,
+        part,
+    };
+    match Rc::new(alloc, plain) {
         Ok(plain) => Ok(plain),
         Err(_) => Err(TtFault::Memory),
     }
@@ -88,6 +97,7 @@ pub(crate) fn take_tree<G: FragmentGrammar>(
     requires top { tree.value.delimiter ≡ text_top }
     requires right { IsMemory (world (G.answer grammar.now) scope.now.edition) depth scope.now.edition memory.now }
     ensures tree { IfOk result (λ r. tree_of r.0.value ≡ tree.value) }
+    ensures part { IfOk result (λ r. HasItsPart r.0.value) }
     ensures outcome { (given : ℕ) (numbers : Forest → Option ℕ) (before : List Met) → AreNumbers given numbers →
         ((t : Forest) (n : ℕ) → numbers_in memory.now.by_tree t ≡ Some n → numbers t ≡ Some n) →
         scope_in scope.now ≡ numbered_scope before → All (IsMet (numbered_by numbers)) before →
@@ -187,6 +197,25 @@ fn take_definition(
     Ok(())
 }
 
+// The steps of a piece are put out: at once where what it prints by itself is held and can be put here.
+fn put_plain_steps(
+    alloc: Global,
+    starts: &Starts,
+    steps: &mut PlacedSteps,
+    start: u32,
+    plain: &Plain,
+) -> Result<(), AllocError>
+    requires part { HasItsPart plain.now }
+    ensures { OnOk result (PutsOut steps.old steps.new (resolved_steps start starts.now (parts_for (tree_of plain.now).inner plain.now.outcome).steps)) }
+{
+    let done = put_held(alloc, steps, start, starts, &plain.part)?;
+    if done {
+        return Ok(());
+    }
+    let tree = plain.tree.as_ref().tree();
+    put_steps(alloc, steps, start, starts, tree, &plain.outcome)
+}
+
 // A piece with its outcome is put out.
 fn put_plain(
     alloc: Global,
@@ -196,17 +225,11 @@ fn put_plain(
     start: u32,
     plain: &Plain,
 ) -> Result<(), AllocError>
+    requires part { HasItsPart plain.now }
     ensures steps { OnOk result (PutsOut steps.old steps.new (resolved_steps start starts.now (parts_for (tree_of plain.now).inner plain.now.outcome).steps)) }
     ensures faults { OnOk result (faults.new.items ≡ faults.old.items ++ resolved_faults start starts.now plain.now.outcome.faults.items) }
 {
-    put_steps(
-        alloc,
-        steps,
-        start,
-        starts,
-        plain.tree.as_ref().tree(),
-        &plain.outcome,
-    )?;
+    put_plain_steps(alloc, starts, steps, start, plain)?;
     put_faults(faults, start, starts, plain.outcome.faults.as_slice())
 }
 

@@ -30,7 +30,7 @@ returns-clause-taken g c = λ piece start_is tree_is before trees done has.
     one_plain_piece A ed c.args.depth c.args.memory.now piece c.args.now.now c.count.new.now c.equal_pieces.ensures q (is_some c.in_ok-plain.at)
     c.count.ensures.scope
     (ap (λ (t : Taken). t.numbers) c.count.ensures.taken)
-    (c.in_ok-plain.ensures.tree ∙ tree_is)
+    (c.in_ok-plain.ensures.tree ∙ tree_is) c.in_ok-plain.ensures.part
     (ap (λ (t : Taken). t.plains.items) c.count.ensures.taken ∙ c.in_ok-hold.ensures.plains)
     (λ chained. subst (λ (t : Taken). AreChained t.chains (map (λ q. tree_of (rc_value q)) t.plains.items)) (sym c.count.ensures.taken) (c.in_ok-hold.ensures.chained chained))
     (subst (λ (t : Taken). PutsOut c.args.now.now.taken.steps t.steps (resolved_steps (first_start piece) c.args.now.now.scope.starts (parts_for (tree_of (rc_value q)).inner (rc_value q).outcome).steps))

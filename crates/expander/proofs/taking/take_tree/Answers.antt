@@ -6,6 +6,7 @@ use Rattle.std.specs.declared.rc.Rc.{Rc}
 use Rattle.expander.specs.ByTrees.{numbers_in}
 use Rattle.expander.specs.Expansion.{expansion}
 use Rattle.expander.specs.Held.{numbered_world}
+use Rattle.expander.specs.HeldParts.{HasItsPart}
 use Rattle.expander.specs.Memories.{IsRight}
 use Rattle.expander.specs.MetTable.{scope_in}
 use Rattle.expander.specs.Outcomes.{parts_for, parts_of}
@@ -47,3 +48,15 @@ returns-clause-counted g c =
     ∙ ap (λ (qs : List (Rc Plain Global)). list_any (λ q. is_match (scope_in c.args.scope.now) c.args.tree.value (rc_value q)) qs) c.as_slice-held.ensures.value
     ∙ any_is (world (g.G.FragmentGrammar.answer c.args.grammar.now) c.args.scope.now.edition) c.args.depth (numbers_in c.args.memory.now.by_tree) (scope_in c.args.scope.now)
     c.args.tree.value c.args.memory.now.plains.items c.requires.top c.requires.right.right
+
+pub returns-in-Some-clause-part : goal.returns-in-Some-clause-part
+returns-in-Some-clause-part g c =
+    let q : Rc Plain Global = c.index-held-i.result in
+    let stands : slice_get c.as_slice-held.result.now c.in-Some.i ≡ Some q = stands_at c.as_slice-held.result.now c.in-Some.i q c.in-Some.ensures.within c.index-held-i.is in
+    let here : slice_get c.args.memory.now.plains.items c.in-Some.i ≡ Some q =
+    ap (λ (qs : List (Rc Plain Global)). slice_get qs c.in-Some.i) (sym c.as_slice-held.ensures.value) ∙ stands in
+    let right : IsRight (world (g.G.FragmentGrammar.answer c.args.grammar.now) c.args.scope.now.edition) c.args.depth (numbers_in c.args.memory.now.by_tree) (rc_value q) =
+    all_at (λ x. IsRight (world (g.G.FragmentGrammar.answer c.args.grammar.now) c.args.scope.now.edition) c.args.depth (numbers_in c.args.memory.now.by_tree) (rc_value x))
+    c.args.memory.now.plains.items c.in-Some.i q c.requires.right.right here in
+    let same : c.in_ok-plain.plain.value ≡ rc_value q = search rules in
+    subst HasItsPart (sym same) right.part
