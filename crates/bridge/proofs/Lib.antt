@@ -24,5 +24,6 @@ mod PrintStepLemmas
 mod OrderLemmas
 mod WrittenLemmas
 mod PlainLemmas
+mod PartLemmas
 mod DocLemmas
 mod ReadSpelledLemmas

@@ -1,37 +1,37 @@
 -- The text read token by token: what was read, and what is left.
-use Rattle.std.proofs.Common.{◌≡◌, ℕ, ◌+◌, ◌-◌, ◌≤◌, List, [], ◌∷◌, ◌++◌, length, take, drop, refl, sym, ap, ◌∙◌, append_assoc, arith, inl, inr, chars, subst}
+use Rattle.std.proofs.Common.{◌≡◌, ℕ, ◌+◌, ◌-◌, ◌<◌, ◌≤◌, List, [], ◌∷◌, ◌++◌, length, take, drop, refl, sym, ap, ◌∙◌, append_assoc, arith, inl, inr, subst}
 use Rattle.std.proofs.lemmas.List.{append-nil, drop-drop, length-drop, length-take-le}
 use Rattle.std.specs.List.{slice_range}
-use Rattle.std.specs.Prelude.{Option, Some, None}
-use Rattle.rustc_lexer.specs.Lexing.{tokens_of}
+use Rattle.std.specs.Prelude.{Option, Some, None, Result, Ok, Err, IfOk, IfErr}
 use Rattle.rustc_lexer.specs.declared.token.Token.{Token}
 use Rattle.rustc_lexer.specs.declared.token.TokenKind.{TokenKind}
 use Rattle.tt.specs.Building.{Building}
 use Rattle.tt_data.specs.Forest.{empty}
 use Rattle.tt_data.specs.fault.TtFault.{TtFault}
-use Rattle.bridge.specs.ReadSteps.{IsStepRefusal, Takes, first_kind, steps_in}
+use Rattle.bridge.specs.ReadSteps.{IsStepRefusal, Takes, first_kind, steps_at, steps_in, token_at}
 use Rattle.bridge.specs.ReadText.{IsReadRefusal, text_top}
 use Rattle.bridge.specs.Reading.{IsFault, PlacedToken, TextStep, placed_from, range_of}
-use Rattle.bridge.specs.TokenSteps.{sort_of, steps_of, steps_of_sort, text_steps}
+use Rattle.bridge.proofs.PartLemmas.{part_more}
+use Rattle.bridge.specs.Parts.{part_steps}
+use Rattle.bridge.specs.TokenSteps.{sort_of, steps_of_sort}
 use Rattle.bridge.specs.declared.fault.ReadFault.{ReadFault}
 use Rattle.bridge.specs.declared.sort.Sort.{Sort}
 
--- what is in the tree under construction, and what is left, are all steps of the text
-pub record IsReadSoFar (text : List ℕ) (start : ℕ) (rest : List Token) (b : Building) : Type 0 where
-  pub steps : text_steps text ≡ steps_in b ++ steps_of (placed_from start (drop start text) rest)
+-- what is in the tree under construction, and what so many of the tokens that are left add, are all steps of the part
+pub record IsReadSoFar (steps : List TextStep) (text : List ℕ) (start left : ℕ) (rest : List Token) (b : Building) : Type 0 where
+  pub enough : left ≤ length rest
+  pub read : steps ≡ steps_in b ++ part_steps start left (drop start text) rest
   pub top : b.top ≡ text_top
 
-pub read_nothing : (text : List ℕ) (tokens : List Token) (b : Building) → tokens ≡ tokens_of (chars text)
-    → b ≡ record { top = text_top; groups = []; here = empty } → IsReadSoFar text 0 tokens b
-read_nothing text tokens b are new = record { steps = rw (are, new) refl; top = ap (λ (m : Building). m.top) new }
+pub read_nothing : (text : List ℕ) (tokens : List Token) (count : ℕ) (b : Building) → count ≤ length tokens
+    → b ≡ record { top = text_top; groups = []; here = empty } → IsReadSoFar (part_steps 0 count text tokens) text 0 count tokens b
+read_nothing text tokens count b within new = record { enough = within; read = rw new refl; top = ap (λ (m : Building). m.top) new }
 
--- where no token is left all was read
-pub read_all : (text : List ℕ) (start : ℕ) (rest : List Token) (b : Building) → rest ≡ [] → IsReadSoFar text start rest b → text_steps text ≡ steps_in b
-read_all text start rest b none s = let e = rw none at s.steps in e ∙ append-nil (steps_in b)
-
--- a token as it stands in the text
-abbrev token_at : List ℕ → ℕ → Token → PlacedToken
-token_at text start t = record { kind = t.kind; start = start; text = take t.len (drop start text) }
+-- where nothing is left all was read
+pub read_all : (steps : List TextStep) (text : List ℕ) (start left : ℕ) (rest : List Token) (b : Building) → left ≡ 0
+    → IsReadSoFar steps text start left rest b → steps ≡ steps_in b
+read_all steps text start left rest b none s =
+    s.read ∙ ap (λ k. steps_in b ++ part_steps start k (drop start text) rest) none ∙ append-nil (steps_in b)
 
 abbrev behind : List ℕ → ℕ → Token → List Token → List PlacedToken
 behind text start t more = placed_from (start + t.len) (drop t.len (drop start text)) more
@@ -54,60 +54,89 @@ module _ (text : List ℕ) (start : ℕ) (t : Token) (more : List Token) (word :
       → P (token_at text start t) (behind text start t more)
   at_token P h = h (token_at text start t) (behind text start t more) spelt placed (next_is (start + t.len) (drop t.len (drop start text)))
 
-abbrev pub Steps : List ℕ → ℕ → Token → List Token → List TextStep
-Steps text start t more = steps_of_sort (sort_of t.kind) (token_at text start t) (behind text start t more)
-
 -- what one token adds, by what it adds wherever it stands so
-pub at_takes : (text : List ℕ) (start : ℕ) (t : Token) (more : List Token) (word : List ℕ) (next : Option TokenKind) (sort : Sort) (old new : Building) (added expected : Option ReadFault)
+at_takes : (text : List ℕ) (start : ℕ) (t : Token) (more : List Token) (word : List ℕ) (next : Option TokenKind) (sort : Sort) (old new : Building) (added expected : Option ReadFault)
     → word ≡ slice_range text start (start + t.len) → start + t.len ≤ length text → ((from : ℕ) (rest : List ℕ) → first_kind (placed_from from rest more) ≡ next)
     → sort ≡ sort_of t.kind → added ≡ expected
     → ((p : PlacedToken) (after : List PlacedToken) → p.text ≡ word → range_of p ≡ record { start = start; «end» = start + t.len } → first_kind after ≡ next → Takes (steps_of_sort sort p after) old new added)
-    → Takes (Steps text start t more) old new expected
+    → Takes (steps_at text start t more) old new expected
 at_takes text start t more word next sort old new added expected word_is fits next_is is so h =
     let all = at_token text start t more word next word_is fits next_is (λ p after. Takes (steps_of_sort sort p after) old new added) h in
     let told = subst (λ a. Takes (steps_of_sort sort (token_at text start t) (behind text start t more)) old new a) so all in
     subst (λ s. Takes (steps_of_sort s (token_at text start t) (behind text start t more)) old new expected) is told
 
-pub at_refusal : (text : List ℕ) (start : ℕ) (t : Token) (more : List Token) (word : List ℕ) (next : Option TokenKind) (sort : Sort) (old : Building) (e : TtFault)
+at_refusal : (text : List ℕ) (start : ℕ) (t : Token) (more : List Token) (word : List ℕ) (next : Option TokenKind) (sort : Sort) (old : Building) (e : TtFault)
     → word ≡ slice_range text start (start + t.len) → start + t.len ≤ length text → ((from : ℕ) (rest : List ℕ) → first_kind (placed_from from rest more) ≡ next)
     → sort ≡ sort_of t.kind
     → ((p : PlacedToken) (after : List PlacedToken) → p.text ≡ word → range_of p ≡ record { start = start; «end» = start + t.len } → first_kind after ≡ next → IsStepRefusal (steps_of_sort sort p after) old e)
-    → IsStepRefusal (Steps text start t more) old e
+    → IsStepRefusal (steps_at text start t more) old e
 at_refusal text start t more word next sort old e word_is fits next_is is h =
     let all = at_token text start t more word next word_is fits next_is (λ p after. IsStepRefusal (steps_of_sort sort p after) old e) h in
     subst (λ s. IsStepRefusal (steps_of_sort s (token_at text start t) (behind text start t more)) old e) is all
 
-split_steps : (text : List ℕ) (start : ℕ) (rest more : List Token) (t : Token) (old : Building) → rest ≡ t ∷ more → IsReadSoFar text start rest old
-    → text_steps text ≡ steps_in old ++ (Steps text start t more ++ steps_of (behind text start t more))
-split_steps text start rest more t old split s = rw split at s.steps
+-- the same of what is answered
+pub all_take : (r : Result (Option ReadFault) TtFault) (text : List ℕ) (start : ℕ) (t : Token) (more : List Token) (word : List ℕ) (next : Option TokenKind) (sort : Sort) (old new : Building)
+    → word ≡ slice_range text start (start + t.len) → start + t.len ≤ length text → ((from : ℕ) (rest : List ℕ) → first_kind (placed_from from rest more) ≡ next)
+    → sort ≡ sort_of t.kind
+    → IfOk r (λ added. (p : PlacedToken) (after : List PlacedToken) → p.text ≡ word → range_of p ≡ record { start = start; «end» = start + t.len } → first_kind after ≡ next → Takes (steps_of_sort sort p after) old new added)
+    → IfOk r (Takes (steps_at text start t more) old new)
+all_take (Ok added) text start t more word next sort old new word_is fits next_is is h =
+    at_takes text start t more word next sort old new added added word_is fits next_is is refl h
+all_take (Err e) text start t more word next sort old new word_is fits next_is is h = tt
 
-pub reads_on : (text : List ℕ) (start : ℕ) (rest more : List Token) (t : Token) (old new : Building) → rest ≡ t ∷ more → IsReadSoFar text start rest old
-    → Takes (Steps text start t more) old new None → IsReadSoFar text (start + t.len) more new
-reads_on text start rest more t old new split s (adds, kept) = record {
-  steps =
-      rw (← drop-drop t.len start text, adds)
-      (split_steps text start rest more t old split s ∙ sym (append_assoc (steps_in old) (Steps text start t more) (steps_of (behind text start t more))));
-  top = kept ∙ s.top;
-}
+pub all_refuse : (r : Result (Option ReadFault) TtFault) (text : List ℕ) (start : ℕ) (t : Token) (more : List Token) (word : List ℕ) (next : Option TokenKind) (sort : Sort) (old : Building)
+    → word ≡ slice_range text start (start + t.len) → start + t.len ≤ length text → ((from : ℕ) (rest : List ℕ) → first_kind (placed_from from rest more) ≡ next)
+    → sort ≡ sort_of t.kind
+    → IfErr r (λ e. (p : PlacedToken) (after : List PlacedToken) → p.text ≡ word → range_of p ≡ record { start = start; «end» = start + t.len } → first_kind after ≡ next → IsStepRefusal (steps_of_sort sort p after) old e)
+    → IfErr r (IsStepRefusal (steps_at text start t more) old)
+all_refuse (Ok added) text start t more word next sort old word_is fits next_is is h = tt
+all_refuse (Err e) text start t more word next sort old word_is fits next_is is h =
+    at_refusal text start t more word next sort old e word_is fits next_is is h
 
-pub reads_fault : (text : List ℕ) (start : ℕ) (rest more : List Token) (t : Token) (old new : Building) (fault : ReadFault) → rest ≡ t ∷ more
-    → IsReadSoFar text start rest old → Takes (Steps text start t more) old new (Some fault) → IsFault (text_steps text) fault
-reads_fault text start rest more t old new fault split s takes =
-    rw (split_steps text start rest more t old split s) (takes (steps_of (behind text start t more)))
+-- one token more was read
+abbrev others_steps : List ℕ → ℕ → ℕ → Token → List Token → List TextStep
+others_steps text start left t more = part_steps (start + t.len) (left - 1) (drop t.len (drop start text)) more
 
-pub refuses : (text : List ℕ) (start : ℕ) (rest more : List Token) (t : Token) (old : Building) (e : TtFault) → rest ≡ t ∷ more
-    → IsReadSoFar text start rest old → IsStepRefusal (Steps text start t more) old e → IsReadRefusal (text_steps text) e
-refuses text start rest more t old e split s (inl memory) = inl memory
-refuses text start rest more t old e split s (inr (tokens, over)) =
+split_steps : (steps : List TextStep) (text : List ℕ) (start left : ℕ) (rest more : List Token) (t : Token) (old : Building) → 0 < left → rest ≡ t ∷ more
+    → IsReadSoFar steps text start left rest old → steps ≡ steps_in old ++ (steps_at text start t more ++ others_steps text start left t more)
+split_steps steps text start left rest more t old some split s =
+    s.read
+    ∙ ap (λ ts. steps_in old ++ part_steps start left (drop start text) ts) split
+    ∙ ap (λ xs. steps_in old ++ xs) (part_more start left (drop start text) t more some)
+
+pub reads_on : (steps : List TextStep) (text : List ℕ) (start left : ℕ) (rest more : List Token) (t : Token) (old new : Building) → 0 < left → rest ≡ t ∷ more
+    → IsReadSoFar steps text start left rest old → Takes (steps_at text start t more) old new None → IsReadSoFar steps text (start + t.len) (left - 1) more new
+reads_on steps text start left rest more t old new some split s (adds, kept) =
+    let counted : length rest ≡ length {A = Token} (t ∷ more) = ap length split in
+    record {
+      enough = omega (arith, s.enough, counted);
+      read =
+          split_steps steps text start left rest more t old some split s
+          ∙ sym (append_assoc (steps_in old) (steps_at text start t more) (others_steps text start left t more))
+          ∙ ap (λ xs. xs ++ others_steps text start left t more) (sym adds)
+          ∙ ap (λ bs. steps_in new ++ part_steps (start + t.len) (left - 1) bs more) (drop-drop t.len start text);
+      top = kept ∙ s.top;
+    }
+
+pub reads_fault : (steps : List TextStep) (text : List ℕ) (start left : ℕ) (rest more : List Token) (t : Token) (old new : Building) (fault : ReadFault) → 0 < left
+    → rest ≡ t ∷ more → IsReadSoFar steps text start left rest old → Takes (steps_at text start t more) old new (Some fault) → IsFault steps fault
+reads_fault steps text start left rest more t old new fault some split s takes =
+    subst (λ xs. IsFault xs fault) (sym (split_steps steps text start left rest more t old some split s)) (takes (others_steps text start left t more))
+
+pub refuses : (steps : List TextStep) (text : List ℕ) (start left : ℕ) (rest more : List Token) (t : Token) (old : Building) (e : TtFault) → 0 < left
+    → rest ≡ t ∷ more → IsReadSoFar steps text start left rest old → IsStepRefusal (steps_at text start t more) old e → IsReadRefusal steps e
+refuses steps text start left rest more t old e some split s (inl memory) = inl memory
+refuses steps text start left rest more t old e some split s (inr (tokens, over)) =
     inr (
       tokens,
       record {
         groups = over.full.groups;
         here = over.full.here;
-        more = steps_of (behind text start t more);
+        more = others_steps text start left t more;
         read =
-            split_steps text start rest more t old split s ∙ sym (append_assoc (steps_in old) (Steps text start t more) (steps_of (behind text start t more)))
-            ∙ ap (λ l. l ++ steps_of (behind text start t more)) (sym over.adds);
+            split_steps steps text start left rest more t old some split s
+            ∙ sym (append_assoc (steps_in old) (steps_at text start t more) (others_steps text start left t more))
+            ∙ ap (λ l. l ++ others_steps text start left t more) (sym over.adds);
         many = over.many;
       },
     )

@@ -1,8 +1,9 @@
 -- How the code reads: the steps that a tree under construction has so far, and what one token adds to them.
-use Rattle.std.specs.Prelude.{◌≡◌, ◌⊎◌, ℕ, ◌+◌, ◌-◌, ◌<◌, ◌≤◌, List, [], ◌∷◌, ◌++◌, Bool, true, false, codes, length, map, Option, Some, None, drop, if◌then◌else◌}
+use Rattle.std.specs.Prelude.{◌≡◌, ◌⊎◌, ℕ, ◌+◌, ◌-◌, ◌<◌, ◌≤◌, List, [], ◌∷◌, ◌++◌, Bool, true, false, codes, length, map, Option, Some, None, take, drop, if◌then◌else◌}
 use Rattle.std.specs.Str.{IsCharBoundary}
 use Rattle.rustc_lexer.specs.declared.token.DocStyle.{DocStyle}
 use Rattle.rustc_lexer.specs.declared.token.DocStyle.TheVariants.{Outer, Inner}
+use Rattle.rustc_lexer.specs.declared.token.Token.{Token}
 use Rattle.rustc_lexer.specs.declared.token.TokenKind.{TokenKind}
 use Rattle.tt.specs.Building.{Building, closed, count_of, innermost_group, most_tokens}
 use Rattle.tt.specs.TokenLiterals.{IsLiteralToken, literal_in}
@@ -22,9 +23,9 @@ use Rattle.tt_data.specs.declared.span.TextRange.{TextRange}
 use Rattle.bridge.specs.declared.fault.ReadFault.{ReadFault}
 use Rattle.bridge.specs.declared.sort.Sort.{Sort}
 use Rattle.bridge.specs.declared.sort.Sort.TheVariants.{Name, Mark, QuotedName, Doc, Value}
-use Rattle.bridge.specs.Reading.{IsFault, PlacedToken, TextStep, step, walk_open, written_at}
+use Rattle.bridge.specs.Reading.{IsFault, PlacedToken, TextStep, placed_from, step, walk_open, written_at}
 use Rattle.bridge.specs.Text.{char}
-use Rattle.bridge.specs.TokenSteps.{doc_text, escaped, is_mark, mark_leaf, name_in, name_leaf, sort_of}
+use Rattle.bridge.specs.TokenSteps.{doc_text, escaped, is_mark, mark_leaf, name_in, name_leaf, sort_of, steps_of_sort}
 
 -- ---- the trees that are put in for one token
 
@@ -86,6 +87,17 @@ MayCut QuotedName text = IsCharBoundary text 1
 MayCut (Doc style is_block) text = IsCharBoundary text 3 × EndsBlock is_block text
 MayCut (Value f at) text = IsCharBoundary text at × IsLiteralToken f at text
 MayCut _ text = Unit {0}
+
+-- ---- what one token of a text is read as
+
+-- a token as it stands in the text
+abbrev pub token_at : List ℕ → ℕ → Token → PlacedToken
+token_at text start t = record { kind = t.kind; start = start; text = take t.len (drop start text) }
+
+-- what it is read as, before the others
+abbrev pub steps_at : List ℕ → ℕ → Token → List Token → List TextStep
+steps_at text start t more =
+    steps_of_sort (sort_of t.kind) (token_at text start t) (placed_from (start + t.len) (drop t.len (drop start text)) more)
 
 -- ---- what becomes of a tree under construction
 

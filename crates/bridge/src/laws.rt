@@ -1,16 +1,17 @@
 //! Laws of reading and printing, for proofs. A call does nothing: it only states.
-ghost use Rattle.std.specs.Prelude.{◌≡◌, ◌↔◌, ◌<◌, ◌^◌, ◌+◌, ◌++◌, drop, length, ℕ, IsUtf8, List, [], ◌∷◌, map, true, false, IsSome, Ok, Err};
+ghost use Rattle.std.specs.Prelude.{◌≡◌, ◌↔◌, ◌<◌, ◌^◌, ◌+◌, ◌++◌, take, drop, length, sum_by, ℕ, IsUtf8, List, [], ◌∷◌, map, true, false, IsSome, Ok, Err};
 ghost use Rattle.bridge.specs.Order.{AreWritten, FollowOneAnother};
-ghost use Rattle.bridge.specs.Pieces.{StandsBehindFirst, separated};
+ghost use Rattle.bridge.specs.Parts.{begins_with_mark, part_steps, placed_on, starts_with_mark, steps_before};
+ghost use Rattle.bridge.specs.Pieces.{StandsBehindFirst, first_start, relative, separated};
 ghost use Rattle.bridge.specs.Printing.{is_quote, print_of, visible};
-ghost use Rattle.bridge.specs.Reading.{IsFault, IsReading, PlacedToken, TextStep, reading, step, with_front};
+ghost use Rattle.bridge.specs.Reading.{IsFault, IsReading, PlacedToken, TextStep, placed_from, reading, step, with_front};
 ghost use Rattle.bridge.specs.ReadsBack.{PrintsAgain, ReadsBack};
 ghost use Rattle.bridge.specs.declared.fault.ReadFault.{ReadFault};
 ghost use Rattle.bridge.specs.declared.fault.ReadFaultKind.{ReadFaultKind};
 ghost use Rattle.tt_data.specs.Forest.{Forest, joined, map_spans};
 ghost use Rattle.bridge.specs.Spelling.{leaf_spelling, spelling};
 ghost use Rattle.bridge.specs.Text.{is_visible};
-ghost use Rattle.bridge.specs.TokenSteps.{name_leaf, sort_of, steps_of_sort, text_steps};
+ghost use Rattle.bridge.specs.TokenSteps.{name_leaf, sort_of, steps_of, steps_of_sort, text_steps};
 ghost use Rattle.bridge.specs.declared.sort.Sort.TheVariants.{QuotedName};
 ghost use Rattle.tt_data.specs.declared.leaf.IdentIsRaw.TheVariants.{No};
 ghost use Rattle.rustc_lexer.specs.Standing.{IsTokenAt};
@@ -35,6 +36,34 @@ pub fn reading_is_a_relation()
 /// What stands behind whole trees is read as if it stood alone, faults too.
 pub fn reading_behind()
     ensures { (f : Forest) (more : List TextStep) → reading (map step (walk f) ++ more) ≡ with_front f (reading more) }
+{}
+
+/// What tokens are read as is what the first of them are read as, before the others, and what these are.
+pub fn parts_of_a_text()
+    ensures tokens { (a b : List PlacedToken) → steps_of (a ++ b) ≡ steps_before a b ++ steps_of b }
+    ensures text { (at count : ℕ) (text : List ℕ) (tokens : List Token) →
+        steps_of (placed_from at text tokens)
+        ≡ part_steps at count text tokens
+        ++ steps_of (placed_from (at + sum_by (λ t. t.len) (take count tokens)) (drop (sum_by (λ t. t.len) (take count tokens)) text) (drop count tokens)) }
+{}
+
+/// A part that is read by itself, in places counted from its first byte, is read in the text as the same
+/// trees, at the places of the text. Counted from their first token the places are the same.
+pub fn parts_at_other_places()
+    ensures steps { (at count : ℕ) (text : List ℕ) (tokens : List Token) (f : Forest) →
+        IsReading (part_steps 0 count text tokens) f → IsReading (part_steps at count text tokens) (map_spans (placed_on at) f) }
+    ensures relative { (at : ℕ) (f : Forest) → relative (map_spans (placed_on at) f) ≡ relative f }
+    ensures first { (f : Forest) → first_start f ≡ 0 → relative f ≡ f }
+{}
+
+/// What a part is read as hangs on its own bytes and tokens, and on whether a punct follows it.
+pub fn equal_parts()
+    ensures steps { (at : ℕ) (text s rest : List ℕ) (tokens ts more : List Token) (after : List PlacedToken) →
+        text ≡ s ++ rest → tokens ≡ ts ++ more → sum_by (λ t. t.len) ts ≡ length s → starts_with_mark after ≡ begins_with_mark more →
+        part_steps at (length ts) text tokens ≡ steps_before (placed_from at s ts) after }
+    ensures parts { (at : ℕ) (s rest other : List ℕ) (ts more others : List Token) →
+        sum_by (λ t. t.len) ts ≡ length s → begins_with_mark more ≡ begins_with_mark others →
+        part_steps at (length ts) (s ++ rest) (ts ++ more) ≡ part_steps at (length ts) (s ++ other) (ts ++ others) }
 {}
 
 /// The tokens of a text follow one another: none starts or ends before one that was met. So do those

@@ -1,4 +1,4 @@
-// Names that were read, so that one that is met again shares its text.
+//! Names that were read, so that one that is met again shares its text.
 ghost use Rattle.std.specs.Prelude.{◌≡◌, IfOk, IsOkUnless};
 ghost use Rattle.tt_data.specs.fault.TtFault.TheVariants.{Memory};
 
@@ -11,7 +11,7 @@ const MOST_NAMES: usize = 512;
 
 /// Names that were met lately. One that is met again takes no memory.
 #[derive(Drop)]
-pub(crate) struct Names {
+pub struct Names {
     pub(crate) alloc: Global,
     // At each place the name of that place that was met last, or the very first name; none at first.
     recent: Vec<Symbol>,
@@ -28,7 +28,7 @@ fn place_of(name: &str) -> usize {
 
 impl Names {
     /// No names so far.
-    pub(crate) fn new(alloc: Global) -> Names {
+    pub fn new(alloc: Global) -> Names {
         Names {
             alloc,
             recent: Vec::new(alloc),

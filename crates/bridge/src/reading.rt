@@ -1,11 +1,13 @@
 //! Reading: the tokens of a text as trees.
-ghost use Rattle.std.specs.Prelude.{◌≡◌, ◌≢◌, ◌+◌, ◌<◌, ◌^◌, ℕ, List, [], length, chars, true, false, IfOk, IfErr, OnOk};
-ghost use Rattle.bridge.specs.ReadSteps.{IsClosed, IsRefusal, IsStepRefusal, MayCut, Takes, first_kind, spacing_at, steps_in, trees_of};
+ghost use Rattle.std.specs.Prelude.{◌≡◌, ◌≢◌, ◌+◌, ◌<◌, ◌≤◌, ◌^◌, ℕ, List, [], length, drop, chars, true, false, IfOk, IfErr, OnOk};
+ghost use Rattle.bridge.specs.Parts.{begins_with_mark, part_steps};
+ghost use Rattle.bridge.specs.ReadSteps.{IsClosed, IsRefusal, IsStepRefusal, MayCut, Takes, first_kind, spacing_at, steps_at, steps_in, trees_of};
 ghost use Rattle.bridge.specs.ReadText.{IsRead, IsReadRefusal, text_top};
 ghost use Rattle.bridge.specs.Reading.{DoesNotFit, IsFault, PlacedToken, placed_from, range_of};
 ghost use Rattle.bridge.specs.TokenSteps.{is_mark, sort_of, steps_of_sort, text_steps};
 ghost use Rattle.bridge.specs.declared.sort.Sort.TheVariants.{Closing};
 ghost use Rattle.rustc_lexer.specs.Lexing.{tokens_of};
+ghost use Rattle.rustc_lexer.specs.Standing.{AreTokensFrom, IsTokenAt};
 ghost use Rattle.tt.specs.Building.{count_of, extended};
 ghost use Rattle.tt_data.specs.Forest.{size};
 
@@ -163,6 +165,94 @@ fn first_kind(tokens: &[Token]) -> Option<TokenKind>
     Some(first.kind)
 }
 
+/// Whether the first of these tokens is read as a punct.
+pub fn begins_with_mark(tokens: &[Token]) -> bool
+    ensures { result ≡ begins_with_mark tokens.now }
+{
+    match tokens.first() {
+        Some(token) => is_mark(token.kind),
+        None => false,
+    }
+}
+
+// Puts in what the token is read as that stands at the byte `start`, before the others, or answers the fault.
+fn add_token(
+    names: &mut Names,
+    builder: &mut TopSubtreeBuilder,
+    text: &str,
+    start: u32,
+    token: Token,
+    more: &[Token],
+) -> Result<Option<ReadFault>, TtFault>
+    requires small { length text.now < 2 ^ 32 }
+    requires here { IsTokenAt text.now start token }
+    ensures takes { IfOk result (Takes (steps_at text.now start token more.now) builder.old.tree builder.new.tree) }
+    ensures refused { IfErr result (IsStepRefusal (steps_at text.now start token more.now) builder.old.tree) }
+{
+    laws::token_shapes();
+    laws::suffix_starts();
+    let end = start + token.len;
+    let word = &text[start as usize..end as usize];
+    let range = TextRange { start, end };
+    let sort = sort_of(token.kind);
+    add(names, builder, sort, word, range, first_kind(more))
+}
+
+// What the first `count` tokens of the text are read as by themselves.
+fn read_first(
+    names: &mut Names,
+    text: &str,
+    tokens: &[Token],
+    count: usize,
+) -> Result<Read, TtFault>
+    requires small { length text.now < 2 ^ 32 }
+    requires tokens { AreTokensFrom text.now 0 tokens.now }
+    requires within { count ≤ length tokens.now }
+    ensures read { IfOk result (IsRead (part_steps 0 count text.now tokens.now)) }
+    ensures refused { IfErr result (IsReadRefusal (part_steps 0 count text.now tokens.now)) }
+{
+    laws::next_token();
+    let start_of_text = written_at(TextRange { start: 0, end: 0 });
+    let top = Delimiter::invisible_spanned(start_of_text);
+    let mut builder = TopSubtreeBuilder::new(names.alloc, top)?;
+    let mut start: u32 = 0;
+    let mut rest = tokens;
+    let mut left = count;
+    while left > 0 {
+        let Some((token, more)) = rest.split_first() else {
+            unreachable!("so many tokens are left");
+        };
+        if let Some(fault) = add_token(names, &mut builder, text, start, *token, more)? {
+            return Ok(Read::Fault(fault));
+        }
+        start += token.len;
+        rest = more;
+        left -= 1;
+    }
+    Ok(whole(builder))
+}
+
+/// What the first `count` of these tokens, which stand in the text from the byte `start` on, are read
+/// as by themselves, in places counted from there.
+///
+/// A punct that ends them is joined to the token behind it, as it is in the text. The errors are those
+/// of [`read`].
+pub fn read_part(
+    names: &mut Names,
+    text: &str,
+    start: u32,
+    tokens: &[Token],
+    count: usize,
+) -> Result<Read, TtFault>
+    requires small { length text.now < 2 ^ 32 }
+    requires tokens { AreTokensFrom text.now start tokens.now }
+    requires within { count ≤ length tokens.now }
+    ensures read { IfOk result (IsRead (part_steps 0 count (drop start text.now) tokens.now)) }
+    ensures refused { IfErr result (IsReadRefusal (part_steps 0 count (drop start text.now) tokens.now)) }
+{
+    read_first(names, &text[start as usize..], tokens, count)
+}
+
 /// What the text with these tokens is read as.
 ///
 /// It answers `Tokens` only where the tree read so far would have more than `u32::MAX` tokens, which
@@ -174,31 +264,5 @@ pub fn read(alloc: Global, text: &str, tokens: &[Token]) -> Result<Read, TtFault
     ensures refused { IfErr result (IsReadRefusal (text_steps text.now)) }
 {
     laws::tokens_begin();
-    laws::next_token();
-    laws::token_shapes();
-    laws::suffix_starts();
-    let start_of_text = written_at(TextRange { start: 0, end: 0 });
-    let mut builder = TopSubtreeBuilder::new(alloc, Delimiter::invisible_spanned(start_of_text))?;
-    let mut names = Names::new(alloc);
-    let mut start: u32 = 0;
-    let mut rest = tokens;
-    while let Some((token, more)) = rest.split_first() {
-        let end = start + token.len;
-        let word = &text[start as usize..end as usize];
-        let range = TextRange { start, end };
-        let sort = sort_of(token.kind);
-        if let Some(fault) = add(
-            &mut names,
-            &mut builder,
-            sort,
-            word,
-            range,
-            first_kind(more),
-        )? {
-            return Ok(Read::Fault(fault));
-        }
-        start = end;
-        rest = more;
-    }
-    Ok(whole(builder))
+    read_first(&mut Names::new(alloc), text, tokens, tokens.len())
 }

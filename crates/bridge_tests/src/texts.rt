@@ -1,17 +1,14 @@
 //! Texts and what they are read as.
-use bridge::{Read, read};
-use rustc_lexer::LexedText;
+use bridge::names::Names;
+use bridge::{Read, begins_with_mark, read, read_part};
+use rustc_lexer::{LexedText, laws};
 use std::fmt::Write;
 use std::test::Fail;
 
-// The trees of the text as they are displayed, or its fault.
-fn shown(rt: &HostRuntime, text: &str) -> Result<String, Fail> {
-    if text.len() >= 1000 {
-        return Err(Fail::new("a text is long"));
-    }
-    let held = LexedText::new(rt.alloc(), text)?;
+// Trees as they are displayed, or the fault.
+fn displayed(rt: &HostRuntime, answer: Read) -> Result<String, Fail> {
     let mut got = String::new(rt.alloc());
-    match read(rt.alloc(), held.text(), held.tokens())? {
+    match answer {
         Read::Tree(tree) => write!(got, "{tree}")?,
         Read::Fault(fault) => write!(
             got,
@@ -20,6 +17,65 @@ fn shown(rt: &HostRuntime, text: &str) -> Result<String, Fail> {
         )?,
     }
     Ok(got)
+}
+
+// What the text is read as.
+fn shown(rt: &HostRuntime, text: &str) -> Result<String, Fail> {
+    if text.len() >= 1000 {
+        return Err(Fail::new("a text is long"));
+    }
+    let held = LexedText::new(rt.alloc(), text)?;
+    let answer = read(rt.alloc(), held.text(), held.tokens())?;
+    displayed(rt, answer)
+}
+
+// What so many tokens of the text are read as, after the first ones, and whether a punct follows these.
+fn part_shown(
+    rt: &HostRuntime,
+    text: &str,
+    before: usize,
+    count: usize,
+) -> Result<(String, bool), Fail> {
+    if text.len() >= 1000 {
+        return Err(Fail::new("a text is long"));
+    }
+    laws::tokens_begin();
+    laws::next_token();
+    let held = LexedText::new(rt.alloc(), text)?;
+    let mut rest = held.tokens();
+    let mut start: u32 = 0;
+    let mut left = before;
+    while left > 0 {
+        let Some((token, more)) = rest.split_first() else {
+            return Err(Fail::new("a text is short"));
+        };
+        start += token.len;
+        rest = more;
+        left -= 1;
+    }
+    if rest.len() < count {
+        return Err(Fail::new("a text is short"));
+    }
+    let mut names = Names::new(rt.alloc());
+    let answer = read_part(&mut names, held.text(), start, rest, count)?;
+    Ok((displayed(rt, answer)?, begins_with_mark(&rest[count..])))
+}
+
+#[test]
+fn reads_parts(rt: HostRuntime) -> Result<(), Fail> {
+    let cases = [
+        ("a;b+=c", 2, 2, "b +", true),
+        ("a; (b) c", 3, 3, "(b)", false),
+        ("a; ## b", 3, 1, "BadToken 0..2", false),
+        ("a;b{c", 2, 2, "GroupLeftOpen 1..2", false),
+        ("a", 1, 0, "", false),
+    ];
+    for (text, before, count, want, want_mark) in cases {
+        let (got, is_before_mark) = part_shown(&rt, text, before, count)?;
+        assert!(rt; got.as_str() == want, "{text:?} has the part {got:?}");
+        assert!(rt; is_before_mark == want_mark, "{text:?} goes on by {is_before_mark:?}");
+    }
+    Ok(())
 }
 
 #[test]
