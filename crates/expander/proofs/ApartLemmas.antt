@@ -20,7 +20,7 @@ pub put_all-snoc : (ps : List Put) (p : Put) (tokens : List TokenTree)
 put_all-snoc [] p tokens = refl
 put_all-snoc (q ∷ ps) p tokens = ap (λ ts. set ts q.at (token.Leaf q.leaf)) (put_all-snoc ps p tokens)
 
-separated-joined : (f g : Forest) → separated (joined f g) ≡ joined (separated f) (separated g)
+pub separated-joined : (f g : Forest) → separated (joined f g) ≡ joined (separated f) (separated g)
 separated-joined empty g = refl
 separated-joined (leaf l rest) g = ap (leaf (if is_punct ";" l then alone l else l)) (separated-joined rest g)
 separated-joined (group d inner rest) g = ap (group d inner) (separated-joined rest g)
@@ -133,3 +133,14 @@ pub put_done : (old new : Top) (all left : List Put) → length left ≡ 0
 put_done old new all left none is so_far =
     inner_of_tokens new (record old { inner = separated old.inner })
     (ap (λ ps. put_all ps (tokens_of new)) (sym (none_left left none)) ∙ so_far ∙ is)
+
+-- and its brackets
+pub top_done : (old new : Top) (all left : List Put) → length left ≡ 0
+    → put_all all (tokens_of old) ≡ tokens_of (record old { inner = separated old.inner }) → put_all left (tokens_of new) ≡ put_all all (tokens_of old)
+    → new.delimiter ≡ old.delimiter
+top_done old new all left none is so_far =
+    let tokens : tokens_of new ≡ tokens_of (record old { inner = separated old.inner }) =
+    ap (λ ps. put_all ps (tokens_of new)) (sym (none_left left none)) ∙ so_far ∙ is in
+    let same : group new.delimiter new.inner empty ≡ group old.delimiter (separated old.inner) empty =
+    sym (forest_of-preorder (group new.delimiter new.inner empty)) ∙ ap forest_of tokens ∙ forest_of-preorder (group old.delimiter (separated old.inner) empty) in
+    cc

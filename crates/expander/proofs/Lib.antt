@@ -5,6 +5,9 @@ mod MacroRows
 mod AttributeLemmas
 mod CuttingLemmas
 mod ApartLemmas
+mod WholeLemmas
+mod ReadPartLemmas
+mod OwnPieceLemmas
 mod PrintingLemmas
 mod OrderLemmas
 mod SharedPieceLemmas
@@ -54,7 +57,6 @@ mod TakenReplyLemmas
 mod SelfMatchLemmas
 mod MetLemmas
 mod OwnLemmas
-mod OwnPieceLemmas
 mod PlacingLemmas
 mod PartLemmas
 mod PlainLemmas

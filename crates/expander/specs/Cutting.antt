@@ -1,11 +1,12 @@
 -- How the ends of pieces are set apart, and how a piece is cut off the trees that are left.
 use Rattle.std.specs.Prelude.{◌≡◌, ◌<◌, List, [], ◌∷◌, Bool, true, false, MatchOption, Option, Some, None, set, if◌then◌else◌}
-use Rattle.tt_data.specs.Forest.{Forest, empty, joined, size}
+use Rattle.tt_data.specs.Forest.{Forest, empty, joined, map_spans, size}
 use Rattle.expander.specs.Pieces.{cut, cut_from}
 use Rattle.expander.specs.declared.pieces.Put.{Put}
 use Rattle.bridge.specs.Text.{is_punct}
 use Rattle.bridge.specs.Pieces.{alone}
 use Rattle.tt_data.specs.declared.leaf.Leaf.{Leaf}
+use Rattle.tt_data.specs.declared.span.Span.{Span}
 use Rattle.tt_data.specs.declared.tree.TokenTree.{TokenTree}
 use Rattle.tt_data.specs.declared.tree.TokenTree.TheVariants as token
 
@@ -30,3 +31,13 @@ PassesTree begun old new (Some true) =
     (tree : Forest) × ((old ≡ joined tree new) × (cut_from old begun ≡ joined begun tree ∷ cut new) × (size new < size old))
 PassesTree begun old new (Some false) =
     (tree : Forest) × ((old ≡ joined tree new) × (cut_from old begun ≡ cut_from new (joined begun tree)) × (size new < size old))
+
+-- the tree ends the piece that is begun, or not, at any places and whatever follows
+abbrev pub EndsAlways : Bool → Forest → Forest → Type 0
+EndsAlways b begun tree = (f : Span → Span) (after : Forest) → cut_from (joined (map_spans f tree) after) (map_spans f begun)
+    ≡ (if b then joined (map_spans f begun) (map_spans f tree) ∷ cut after else cut_from after (joined (map_spans f begun) (map_spans f tree)))
+
+-- the next tree was passed, and ends the piece that is begun or not wherever it stands
+abbrev pub PassesAlways : Forest → Forest → Forest → Option Bool → Type 0
+PassesAlways begun old new None = Unit {0}
+PassesAlways begun old new (Some b) = (tree : Forest) × ((old ≡ joined tree new) × EndsAlways b begun tree × (size new < size old))

@@ -53,6 +53,7 @@ pub mod TakenTexts
 pub mod Cutting
 pub mod OwnPieces
 pub mod Sources
+pub mod PieceReading
 pub mod ReadPieces
 pub mod Names
 pub mod OutputSteps

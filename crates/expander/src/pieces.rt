@@ -1,12 +1,14 @@
 // The pieces of a text's top list.
-ghost use Rattle.std.specs.Prelude.{◌≡◌, ◌≢◌, IfErr, IfOk, OnOk};
+ghost use Rattle.std.specs.Prelude.{◌≡◌, ◌≢◌, IfErr, IfOk, OnOk, true};
 ghost use Rattle.tt.specs.Tops.{tokens_of};
 ghost use Rattle.tt_data.specs.Forest.{Forest, empty, size};
 ghost use Rattle.expander.specs.Pieces.{is_pound_bang, ends_piece, separated};
 ghost use Rattle.bridge.specs.Text.{is_punct};
 ghost use Rattle.bridge.specs.Pieces.{alone};
-ghost use Rattle.expander.specs.Cutting.{CutsOff, PassesTree, end_alone, put_all};
+ghost use Rattle.expander.specs.Sources.{IsWhole};
+ghost use Rattle.expander.specs.Cutting.{CutsOff, PassesAlways, PassesTree, end_alone, put_all};
 
+use crate::copies::again;
 use std::alloc::{AllocError, Global};
 use tt::iter::{TtElement, TtIter};
 use tt::top::TopSubtree;
@@ -99,6 +101,7 @@ fn ends_alone(alloc: Global, tree: &TopSubtree) -> Result<Vec<Put>, AllocError>
 /// Makes each `;` of the tree's own list stand alone, where it is: nothing is joined to what ends a piece.
 pub(crate) fn set_apart(alloc: Global, tree: &mut TopSubtree) -> Result<(), TtFault>
     ensures apart { OnOk result (tree.new.inner ≡ separated tree.old.inner) }
+    ensures top { OnOk result (tree.new.delimiter ≡ tree.old.delimiter) }
     ensures faults { IfErr result (λ fault. fault ≢ TtFault.Tokens) }
 {
     let mut puts = ends_alone(alloc, tree)?;
@@ -110,7 +113,8 @@ pub(crate) fn set_apart(alloc: Global, tree: &mut TopSubtree) -> Result<(), TtFa
 
 // Passes the next tree, and tells whether it ends the piece that is begun.
 fn pass_tree<'a>(rest: &mut TtIter<'a>, begun: &TtIter<'_>) -> Option<bool>
-    ensures { PassesTree begun.now rest.old rest.new result }
+    ensures next { PassesTree begun.now rest.old rest.new result }
+    ensures always { PassesAlways begun.now rest.old rest.new result }
 {
     match rest.next()? {
         TtElement::Leaf(leaf) => Some(ends_statement(&leaf)),
@@ -131,6 +135,22 @@ pub(crate) fn next_piece<'a>(rest: &mut TtIter<'a>) -> Option<TtIter<'a>>
         match pass_tree(rest, &begun) {
             None => return Some(begun),
             Some(true) => return Some(rest.passed_since(start).iter()),
+            Some(false) => {}
+        }
+    }
+}
+
+/// Whether these trees are one whole piece, wherever they stand and whatever follows.
+pub(crate) fn is_whole(piece: &TtIter<'_>) -> bool
+    ensures { result ≡ true → IsWhole piece.now }
+{
+    let mut rest = again(piece);
+    let start = rest.remaining();
+    loop {
+        let begun = rest.passed_since(start).iter();
+        match pass_tree(&mut rest, &begun) {
+            None => return false,
+            Some(true) => return rest.is_empty(),
             Some(false) => {}
         }
     }

@@ -8,6 +8,7 @@ ghost use Rattle.expander.specs.Sources.{AreSources};
 
 use crate::own_pieces::{OwnPiece, own_pieces};
 use crate::pieces::set_apart;
+use crate::reading::read_by_pieces;
 use crate::sources::Sources;
 use bridge::{Read, ReadFault};
 use rustc_lexer::Token;
@@ -53,6 +54,9 @@ pub(crate) fn read_pieces(
     ensures read { IfOk result (IsReadInPieces text.now) }
     ensures many { result ≡ Err TtFault.Tokens → HasTooMany (text_steps text.now) }
 {
+    if let Some((own, sources)) = read_by_pieces(alloc, text, tokens, held)? {
+        return Ok(ReadPieces::Pieces(own, sources));
+    }
     match read_apart(alloc, text, tokens)? {
         Read::Fault(fault) => Ok(ReadPieces::Fault(fault)),
         Read::Tree(tree) => {

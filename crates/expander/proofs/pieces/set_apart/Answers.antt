@@ -1,6 +1,6 @@
 use Rattle.std.proofs.Common.{◌≡◌, arith, length}
 use Rattle.tt.specs.Tops.{tokens_of}
-use Rattle.expander.proofs.ApartLemmas.{put_last, put_done}
+use Rattle.expander.proofs.ApartLemmas.{put_last, put_done, top_done}
 use Rattle.expander.proofs.pieces.set_apart.Goals as goal
 
 pub loop-put-preserved : goal.loop-put-preserved
@@ -12,3 +12,8 @@ pub returns-clause-apart : goal.returns-clause-apart
 returns-clause-apart c =
     let none : length c.loop-put.puts.items ≡ 0 = omega (arith, c.in_default.ensures.cases.0, c.loop-put.puts.ok) in
     put_done c.args.tree.now c.loop-put.tree c.in_ok-puts.puts.items c.loop-put.puts.items none c.in_ok-puts.ensures c.loop-put.invariant
+
+pub returns-clause-top : goal.returns-clause-top
+returns-clause-top c =
+    let none : length c.loop-put.puts.items ≡ 0 = omega (arith, c.in_default.ensures.cases.0, c.loop-put.puts.ok) in
+    top_done c.args.tree.now c.loop-put.tree c.in_ok-puts.puts.items c.loop-put.puts.items none c.in_ok-puts.ensures c.loop-put.invariant

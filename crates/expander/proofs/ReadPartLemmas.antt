@@ -1,0 +1,275 @@
+-- Pieces that are read by themselves, and the text that they are part of.
+use Rattle.std.proofs.Common.{◌≡◌, ℕ, zero, suc, ◌+◌, ◌-◌, ◌<◌, ◌≤◌, Bool, true, false, List, [], ◌∷◌, ◌++◌, append_assoc, append-nil, length, map, take, drop, refl, ap, sym, subst, ◌∙◌, arith, if◌then◌else◌}
+use Rattle.std.specs.Prelude.{All, IsUtf8, Result, Ok, Err, chars, nat_eq}
+use Rattle.std.specs.List.{sum_by}
+use Rattle.std.specs.Rc.{rc_value}
+use Rattle.std.proofs.lemmas.List.Sums.{sum_by-cons}
+use Rattle.std.proofs.lemmas.List.{drop-append-le, drop-drop, length-append, length-drop, length-take-le, map-append, take-append-drop, take-append-le}
+use Rattle.rustc_lexer.specs.Lexing.{tokens_of}
+use Rattle.rustc_lexer.specs.Standing.{AreTokensFrom}
+use Rattle.rustc_lexer.specs.declared.token.Token.{Token}
+use Rattle.tt.specs.Tops.{Top}
+use Rattle.tt_data.specs.Forest.{Forest, empty, leaf, group, joined, map_spans}
+use Rattle.tt_data.specs.Spans.{delimiter_with, leaf_with, span_of}
+use Rattle.tt_data.specs.Walk.{Step, walk}
+use Rattle.tt_data.specs.declared.leaf.Leaf.{Leaf}
+use Rattle.tt_data.specs.declared.leaf.Leaf.TheVariants as as_leaf
+use Rattle.tt_data.specs.declared.span.Span.{Span}
+use Rattle.bridge.specs.Pieces.{alone}
+use Rattle.bridge.specs.ReadText.{text_top}
+use Rattle.bridge.specs.Reading.{IsReading, PlacedToken, TextStep, placed_from, reading, step, with_front}
+use Rattle.bridge.specs.Text.{is_punct}
+use Rattle.bridge.specs.TokenSteps.{sort_of, steps_of, steps_of_sort, text_reading}
+use Rattle.bridge.specs.declared.fault.ReadFault.{ReadFault}
+use Rattle.expander.specs.ByTrees.{own_top}
+use Rattle.expander.specs.OwnPieces.{AreOwn, own_of, own_shown}
+use Rattle.bridge.specs.Parts.{begins_with_mark, part_steps, placed_on, starts_with_mark, steps_before}
+use Rattle.expander.specs.PieceReading.{AddsPiece, IsBlank, IsReadPiece, IsSourceHere, KeepsSource, Passed}
+use Rattle.expander.specs.Pieces.{cut, first_start, pieces, relative, separated}
+use Rattle.expander.specs.Sources.{IsSource, IsWhole, StandsFirst, bytes_of}
+use Rattle.expander.specs.declared.own_pieces.OwnPiece.{OwnPiece}
+use Rattle.expander.specs.declared.sources.Source.{Source}
+use Rattle.expander.proofs.ApartLemmas.{separated-joined}
+use Rattle.expander.proofs.CuttingLemmas.{joined-assoc}
+
+-- ---- trees elsewhere
+
+span_with : (f : Span → Span) (l : Leaf) → span_of (leaf_with f l) ≡ f (span_of l)
+span_with f (as_leaf.Literal l) = refl
+span_with f (as_leaf.Punct p) = refl
+span_with f (as_leaf.Ident i) = refl
+
+-- where the first token starts, elsewhere
+first_placed : (n : ℕ) (p : Forest) → IsWhole p → first_start p ≡ 0 → first_start (map_spans (placed_on n) p) ≡ n
+first_placed n empty whole z = absurd (cc (whole (λ s. s) empty))
+first_placed n (leaf l rest) whole z =
+    ap (λ (s : Span). s.range.start) (span_with (placed_on n) l) ∙ omega (arith, z)
+first_placed n (group d inner rest) whole z = omega (arith, z)
+
+alone_or : (f : Span → Span) (b : Bool) (l : Leaf) → (if b then alone (leaf_with f l) else leaf_with f l) ≡ leaf_with f (if b then alone l else l)
+alone_or f false l = refl
+alone_or f true (as_leaf.Literal l) = refl
+alone_or f true (as_leaf.Punct p) = refl
+alone_or f true (as_leaf.Ident i) = refl
+
+is_punct_with : (f : Span → Span) (l : Leaf) → is_punct ";" (leaf_with f l) ≡ is_punct ";" l
+is_punct_with f (as_leaf.Literal l) = refl
+is_punct_with f (as_leaf.Punct p) = refl
+is_punct_with f (as_leaf.Ident i) = refl
+
+separated_with : (f : Span → Span) (g : Forest) → separated (map_spans f g) ≡ map_spans f (separated g)
+separated_with f empty = refl
+separated_with f (leaf l rest) =
+    ap (λ (b : Bool). leaf (if b then alone (leaf_with f l) else leaf_with f l) (separated (map_spans f rest))) (is_punct_with f l)
+    ∙ ap (λ (m : Leaf). leaf m (separated (map_spans f rest))) (alone_or f (is_punct ";" l) l)
+    ∙ ap (leaf (leaf_with f (if is_punct ";" l then alone l else l))) (separated_with f rest)
+separated_with f (group d inner rest) = ap (group (delimiter_with f d) (map_spans f inner)) (separated_with f rest)
+
+-- the pieces of a text that begins with one whole piece
+pieces_behind : (f : Span → Span) (p g : Forest) → IsWhole (separated p) → pieces (joined (map_spans f p) g) ≡ map_spans f (separated p) ∷ pieces g
+pieces_behind f p g whole =
+    ap cut (separated-joined (map_spans f p) g ∙ ap (λ (h : Forest). joined h (separated g)) (separated_with f p)) ∙ whole f (separated g)
+
+-- ---- tokens one after another
+
+with_front-empty : (r : Result Forest ReadFault) → with_front empty r ≡ r
+with_front-empty (Ok f) = refl
+with_front-empty (Err e) = refl
+
+with_front-joined : (f g : Forest) (r : Result Forest ReadFault) → with_front f (with_front g r) ≡ with_front (joined f g) r
+with_front-joined f g (Ok h) = ap Ok (sym (joined-assoc f g h))
+with_front-joined f g (Err e) = refl
+
+placed_append : (at : ℕ) (bytes rest : List ℕ) (tokens left : List Token) → bytes_of tokens ≡ length bytes
+    → placed_from at (bytes ++ rest) (tokens ++ left) ≡ placed_from at bytes tokens ++ placed_from (at + length bytes) rest left
+placed_append at [] rest [] left e = ap (λ (n : ℕ). placed_from n rest left) (omega arith)
+placed_append at (b ∷ bytes) rest [] left e = absurd (omega (arith, e))
+placed_append at bytes rest (t ∷ tokens) left e =
+    let sum : bytes_of (t ∷ tokens) ≡ t.len + bytes_of tokens = sum_by-cons (λ (u : Token). u.len) t tokens in
+    let fits : t.len ≤ length bytes = omega (arith, e, sum) in
+    let n : length (drop t.len bytes) ≡ length bytes - t.len = length-drop t.len bytes in
+    let later : bytes_of tokens ≡ length (drop t.len bytes) = omega (arith, e, n, sum) in
+    let same : at + t.len + length (drop t.len bytes) ≡ at + length bytes = omega (arith, n, fits) in
+    ap (λ (text : List ℕ). record { kind = t.kind; start = at; text = text } ∷ placed_from (at + t.len) (drop t.len (bytes ++ rest)) (tokens ++ left)) (take-append-le t.len bytes rest fits)
+    ∙ ap (λ (text : List ℕ). record { kind = t.kind; start = at; text = take t.len bytes } ∷ placed_from (at + t.len) text (tokens ++ left)) (drop-append-le t.len bytes rest fits)
+    ∙ ap (λ (ts : List PlacedToken). record { kind = t.kind; start = at; text = take t.len bytes } ∷ ts) (
+    placed_append (at + t.len) (drop t.len bytes) rest tokens left later
+    ∙ ap (λ (m : ℕ). placed_from (at + t.len) (drop t.len bytes) tokens ++ placed_from m rest left) same)
+
+first_mark : (at : ℕ) (text : List ℕ) (tokens : List Token) → starts_with_mark (placed_from at text tokens) ≡ begins_with_mark tokens
+first_mark at text [] = refl
+first_mark at text (t ∷ tokens) = refl
+
+-- ---- a text of which pieces were passed
+
+pub none_passed : (text : List ℕ) → AreTokensFrom text 0 (tokens_of (chars text)) → Passed text 0 (tokens_of (chars text)) []
+none_passed text here = record {
+  front = empty;
+  ps = [];
+  here = here;
+  reads = sym (with_front-empty _);
+  cuts = λ g. refl;
+  are_own = refl;
+}
+
+-- the tokens behind some stand behind them
+abbrev pub NextLaw : Type 0
+NextLaw = (text : List ℕ) (at : ℕ) (left : List Token) (t : Token) (ts : List Token)
+    → IsUtf8 text → AreTokensFrom text at left → left ≡ t ∷ ts → AreTokensFrom text (at + t.len) ts
+
+stand_behind : NextLaw → (text : List ℕ) → IsUtf8 text → (at : ℕ) (tokens left : List Token) → AreTokensFrom text at (tokens ++ left)
+    → AreTokensFrom text (at + bytes_of tokens) left
+stand_behind next text utf8 at [] left here = subst (λ (n : ℕ). AreTokensFrom text n left) (omega arith) here
+stand_behind next text utf8 at (t ∷ tokens) left here =
+    let sum : bytes_of (t ∷ tokens) ≡ t.len + bytes_of tokens = sum_by-cons (λ (u : Token). u.len) t tokens in
+    let same : at + t.len + bytes_of tokens ≡ at + bytes_of (t ∷ tokens) = omega (arith, sum) in
+    subst (λ (n : ℕ). AreTokensFrom text n left) same
+    (stand_behind next text utf8 (at + t.len) tokens left (next text at (t ∷ (tokens ++ left)) t (tokens ++ left) utf8 here refl))
+
+pub blank_passed : NextLaw → (text : List ℕ) → IsUtf8 text → (at : ℕ) (t : Token) (left more : List Token) (own : List OwnPiece)
+    → left ≡ t ∷ more → IsBlank t.kind → Passed text at left own → Passed text (at + t.len) more own
+blank_passed next text utf8 at t left more own is blank p =
+    let first : PlacedToken = record { kind = t.kind; start = at; text = take t.len (drop at text) } in
+    record {
+      front = p.front;
+      ps = p.ps;
+      here = next text at left t more utf8 p.here is;
+      reads = p.reads
+          ∙ ap (λ (ts : List Token). with_front p.front (reading (steps_of (placed_from at (drop at text) ts)))) is
+          ∙ ap (λ (ss : List TextStep). with_front p.front (reading (ss ++ steps_of (placed_from (at + t.len) (drop t.len (drop at text)) more)))) (blank first (placed_from (at + t.len) (drop t.len (drop at text)) more))
+          ∙ ap (λ (bs : List ℕ). with_front p.front (reading (steps_of (placed_from (at + t.len) bs more)))) (drop-drop t.len at text);
+      cuts = p.cuts;
+      are_own = p.are_own;
+    }
+
+-- where all tokens were passed the pieces are all
+pub all_passed : (text : List ℕ) (at : ℕ) (left : List Token) (own : List OwnPiece) → left ≡ [] → Passed text at left own
+    → (f : Forest) × ((text_reading text ≡ Ok f) × AreOwn (pieces f) own)
+all_passed text at left own none p = (
+  joined p.front empty,
+  (
+    p.reads ∙ ap (λ (ts : List Token). with_front p.front (reading (steps_of (placed_from at (drop at text) ts)))) none,
+    subst (λ (ps : List Forest). AreOwn ps own) (sym (p.cuts empty ∙ append-nil p.ps)) p.are_own,
+  ),
+)
+
+-- ---- what is known of parts of a text
+pub record PartLaws : Type 0 where
+  pub behind : (f : Forest) (more : List TextStep) → reading (map step (walk f) ++ more) ≡ with_front f (reading more)
+  pub tokens : (a b : List PlacedToken) → steps_of (a ++ b) ≡ steps_before a b ++ steps_of b
+  pub elsewhere : (at count : ℕ) (text : List ℕ) (tokens : List Token) (f : Forest)
+      → IsReading (part_steps 0 count text tokens) f → IsReading (part_steps at count text tokens) (map_spans (placed_on at) f)
+  pub same_tree : (at : ℕ) (f : Forest) → relative (map_spans (placed_on at) f) ≡ relative f
+  pub at_first : (f : Forest) → first_start f ≡ 0 → relative f ≡ f
+  pub equal : (at : ℕ) (text s rest : List ℕ) (tokens ts more : List Token) (after : List PlacedToken)
+      → text ≡ s ++ rest → tokens ≡ ts ++ more → bytes_of ts ≡ length s → starts_with_mark after ≡ begins_with_mark more
+      → part_steps at (length ts) text tokens ≡ steps_before (placed_from at s ts) after
+  pub next : NextLaw
+
+-- a piece in the text, which is held in places of its own
+own_piece : (laws : PartLaws) (s : Source) (is : IsSource s) (at : ℕ) (o : OwnPiece) → o.start ≡ at → rc_value o.tree ≡ rc_value s.tree
+    → own_shown o ≡ own_of (map_spans (placed_on at) (separated is.forest))
+own_piece laws s is at o start tree =
+    let tree_is : rc_value o.tree ≡ own_top (relative (map_spans (placed_on at) (separated is.forest))) =
+    tree ∙ is.tree ∙ ap own_top (sym (laws.same_tree at (separated is.forest) ∙ laws.at_first (separated is.forest) is.at_first)) in
+    let start_is : o.start ≡ first_start (map_spans (placed_on at) (separated is.forest)) =
+    start ∙ sym (first_placed at (separated is.forest) is.whole is.at_first) in
+    λ i. (start_is i, tree_is i)
+
+-- a piece more
+pub source_passed : (laws : PartLaws) (text : List ℕ) → IsUtf8 text → (s : Source) (at : ℕ) (left : List Token) (own now : List OwnPiece) (o : OwnPiece)
+    → IsSource s → StandsFirst s (drop at text) left → o.start ≡ at → rc_value o.tree ≡ rc_value s.tree → now ≡ own ++ o ∷ [] → Passed text at left own
+    → Passed text (at + length s.bytes.items) (drop (length s.tokens.items) left) now
+source_passed laws text utf8 s at left own now o is stands start tree grown p =
+    let n : ℕ = length s.bytes.items in
+    let k : ℕ = length s.tokens.items in
+    let f : Forest = map_spans (placed_on at) is.forest in
+    let later : List PlacedToken = placed_from (at + n) (drop n (drop at text)) (drop k left) in
+    let placed : placed_from at (drop at text) left ≡ placed_from at s.bytes.items s.tokens.items ++ later =
+    ap (λ (bs : List ℕ). placed_from at bs left) stands.bytes
+    ∙ ap (placed_from at (s.bytes.items ++ drop n (drop at text))) stands.tokens
+    ∙ placed_append at s.bytes.items (drop n (drop at text)) s.tokens.items (drop k left) is.long in
+    let steps : steps_of (placed_from at (drop at text) left) ≡ map step (walk f) ++ steps_of later =
+    ap steps_of placed ∙ is.reads at later (first_mark (at + n) (drop n (drop at text)) (drop k left) ∙ stands.mark) in
+    record {
+      front = joined p.front f;
+      ps = p.ps ++ map_spans (placed_on at) (separated is.forest) ∷ [];
+      here = subst (λ (m : ℕ). AreTokensFrom text (at + m) (drop k left)) is.long
+          (stand_behind laws.next text utf8 at s.tokens.items (drop k left) (subst (AreTokensFrom text at) stands.tokens p.here));
+      reads = p.reads
+          ∙ ap (λ (ss : List TextStep). with_front p.front (reading ss)) steps
+          ∙ ap (with_front p.front) (laws.behind f (steps_of later))
+          ∙ with_front-joined p.front f (reading (steps_of later))
+          ∙ ap (λ (bs : List ℕ). with_front (joined p.front f) (reading (steps_of (placed_from (at + n) bs (drop k left))))) (drop-drop n at text);
+      cuts = λ g.
+          ap pieces (joined-assoc p.front f g)
+          ∙ p.cuts (joined f g)
+          ∙ ap (λ (ps : List Forest). p.ps ++ ps) (pieces_behind (placed_on at) is.forest g is.whole)
+          ∙ sym (append_assoc p.ps (map_spans (placed_on at) (separated is.forest) ∷ []) (pieces g));
+      are_own = ap (map own_shown) grown
+          ∙ map-append own_shown own (o ∷ [])
+          ∙ ap (λ (xs : List (ℕ × Top)). xs ++ own_shown o ∷ []) p.are_own
+          ∙ ap (λ (x : ℕ × Top). map own_of p.ps ++ x ∷ []) (own_piece laws s is at o start tree)
+          ∙ sym (map-append own_of p.ps (map_spans (placed_on at) (separated is.forest) ∷ []));
+    }
+
+-- ---- a piece that was read by itself
+
+pub is_source : (laws : PartLaws) (s : Source) (bytes : List ℕ) (left : List Token) (count n : ℕ) (f : Forest) (t : Top)
+    → count ≤ length left → 1 ≤ count → n ≤ length bytes → n ≡ bytes_of (take count left)
+    → s.bytes.items ≡ take n bytes → s.tokens.items ≡ take count left → s.mark ≡ begins_with_mark (drop count left) → rc_value s.tree ≡ t
+    → t.delimiter ≡ text_top → t.inner ≡ separated f → IsReading (part_steps 0 count bytes left) f → IsWhole t.inner → first_start t.inner ≡ 0
+    → IsSource s × StandsFirst s bytes left
+is_source laws s bytes left count n f t within some fits n_is bytes_are tokens_are mark_is tree top inner read whole first =
+    let k : length s.tokens.items ≡ count = ap length tokens_are ∙ length-take-le count left within in
+    let m : length s.bytes.items ≡ n = ap length bytes_are ∙ length-take-le n bytes fits in
+    let long : bytes_of s.tokens.items ≡ length s.bytes.items = ap bytes_of tokens_are ∙ sym n_is ∙ sym m in
+    let stands_bytes : bytes ≡ s.bytes.items ++ drop (length s.bytes.items) bytes =
+    sym (take-append-drop n bytes) ∙ ap (λ (bs : List ℕ). bs ++ drop n bytes) (sym bytes_are) ∙ ap (λ (i : ℕ). s.bytes.items ++ drop i bytes) (sym m) in
+    let stands_tokens : left ≡ s.tokens.items ++ drop (length s.tokens.items) left =
+    sym (take-append-drop count left) ∙ ap (λ (ts : List Token). ts ++ drop count left) (sym tokens_are) ∙ ap (λ (i : ℕ). s.tokens.items ++ drop i left) (sym k) in
+    let mark : begins_with_mark (drop (length s.tokens.items) left) ≡ s.mark = ap (λ (i : ℕ). begins_with_mark (drop i left)) k ∙ sym mark_is in
+    let here : IsReading (part_steps 0 (length s.tokens.items) bytes left) f = subst (λ (i : ℕ). IsReading (part_steps 0 i bytes left) f) (sym k) read in (
+      record {
+        forest = f;
+        some = omega (arith, k, some);
+        long = long;
+        reads = λ at after follows.
+            laws.tokens (placed_from at s.bytes.items s.tokens.items) after
+            ∙ ap (λ (ss : List TextStep). ss ++ steps_of after) (
+            sym (laws.equal at bytes s.bytes.items (drop (length s.bytes.items) bytes) left s.tokens.items (drop (length s.tokens.items) left) after stands_bytes stands_tokens long (follows ∙ sym mark))
+            ∙ laws.elsewhere at (length s.tokens.items) bytes left f here);
+        whole = subst IsWhole inner whole;
+        at_first = ap first_start (sym inner) ∙ first;
+        tree = tree ∙ (λ i. record { delimiter = top i; inner = inner i });
+      },
+      record { bytes = stands_bytes; tokens = stands_tokens; mark = mark },
+    )
+
+-- what was read, with what it was read from
+pub source_here : (laws : PartLaws) (bytes rest word : List ℕ) (left first after : List Token) (count n : ℕ) (t : Top) (s : Source)
+    → count ≤ length left → 1 ≤ count → rest ≡ bytes → n ≤ length rest → n ≡ bytes_of first
+    → word ≡ take n rest → first ≡ take count left → after ≡ drop count left
+    → KeepsSource word first after t s → IsReadPiece (part_steps 0 count bytes left) t → IsSourceHere bytes left s
+source_here laws bytes rest word left first after count n t s within some rest_is fits n_is word_is first_is after_is kept read =
+    let is = is_source laws s bytes left count n read.forest t within some (subst (λ (bs : List ℕ). n ≤ length bs) rest_is fits) (n_is ∙ ap bytes_of first_is)
+    (kept.bytes ∙ word_is ∙ ap (take n) rest_is) (kept.tokens ∙ first_is) (kept.mark ∙ ap begins_with_mark after_is) kept.tree read.top read.apart read.read read.whole read.at_first in
+    record { right = is.0; stands = is.1 }
+
+-- one more token of a list
+pub one_more : (left more : List Token) (t : Token) → left ≡ t ∷ more → (drop 1 left ≡ more) × (length (drop 1 left) < length left)
+one_more left more t e =
+    let is : drop 1 left ≡ more = ap (drop 1) e in
+    (is, omega (arith, ap length is, ap length e))
+
+pub piece_passed : (laws : PartLaws) (text : List ℕ) → IsUtf8 text → (s : Source) (at : ℕ) (left : List Token) (own now : List OwnPiece)
+    → IsSourceHere (drop at text) left s → AddsPiece at s own now → Passed text at left own
+    → Passed text (at + length s.bytes.items) (drop (length s.tokens.items) left) now
+piece_passed laws text utf8 s at left own now is adds p =
+    source_passed laws text utf8 s at left own now adds.piece is.right is.stands adds.start adds.tree adds.items p
+
+-- fewer tokens are left behind a piece
+pub piece_shortens : (bytes : List ℕ) (left : List Token) (s : Source) → IsSourceHere bytes left s → length (drop (length s.tokens.items) left) < length left
+piece_shortens bytes left s is =
+    let k : ℕ = length s.tokens.items in
+    omega (arith, is.right.some, ap length is.stands.tokens, length-append s.tokens.items (drop k left))

@@ -1,0 +1,58 @@
+-- How a text is read piece by piece.
+use Rattle.std.specs.Prelude.{◌≡◌, ℕ, ◌++◌, drop, [], ◌∷◌, List}
+use Rattle.std.specs.Rc.{rc_value}
+use Rattle.bridge.specs.ReadText.{text_top}
+use Rattle.bridge.specs.Reading.{IsReading, PlacedToken, TextStep, placed_from, reading, with_front}
+use Rattle.bridge.specs.TokenSteps.{sort_of, steps_of, steps_of_sort, text_reading}
+use Rattle.rustc_lexer.specs.declared.token.TokenKind.{TokenKind}
+use Rattle.rustc_lexer.specs.Standing.{AreTokensFrom}
+use Rattle.rustc_lexer.specs.declared.token.Token.{Token}
+use Rattle.tt.specs.Tops.{Top}
+use Rattle.tt_data.specs.Forest.{Forest, joined}
+use Rattle.bridge.specs.Parts.{begins_with_mark}
+use Rattle.expander.specs.OwnPieces.{AreOwn}
+use Rattle.expander.specs.Pieces.{first_start, pieces, separated}
+use Rattle.expander.specs.Sources.{IsSource, IsWhole, StandsFirst}
+use Rattle.expander.specs.declared.own_pieces.OwnPiece.{OwnPiece}
+use Rattle.expander.specs.declared.sources.Source.{Source}
+
+-- the tree of these steps, set apart, is one whole piece that starts at its first place
+pub record IsReadPiece (steps : List TextStep) (t : Top) : Type 0 where
+  pub forest : Forest
+  pub read : IsReading steps forest
+  pub top : t.delimiter ≡ text_top
+  pub apart : t.inner ≡ separated forest
+  pub whole : IsWhole t.inner
+  pub at_first : first_start t.inner ≡ 0
+
+-- a piece with these bytes and tokens, before these tokens, and with this tree
+pub record KeepsSource (text : List ℕ) (first after : List Token) (t : Top) (s : Source) : Type 0 where
+  pub bytes : s.bytes.items ≡ text
+  pub tokens : s.tokens.items ≡ first
+  pub mark : s.mark ≡ begins_with_mark after
+  pub tree : rc_value s.tree ≡ t
+
+-- a right piece stands first in a text with these tokens
+pub record IsSourceHere (text : List ℕ) (tokens : List Token) (s : Source) : Type 0 where
+  pub right : IsSource s
+  pub stands : StandsFirst s text tokens
+
+-- a token of this kind is read as nothing
+abbrev pub IsBlank : TokenKind → Type 0
+IsBlank kind = (t : PlacedToken) (more : List PlacedToken) → steps_of_sort (sort_of kind) t more ≡ []
+
+-- one piece more, which stands here
+pub record AddsPiece (at : ℕ) (s : Source) (old new : List OwnPiece) : Type 0 where
+  pub piece : OwnPiece
+  pub start : piece.start ≡ at
+  pub tree : rc_value piece.tree ≡ rc_value s.tree
+  pub items : new ≡ old ++ piece ∷ []
+
+-- the first trees of a text were passed, whose pieces these are; from this place on these tokens are left
+pub record Passed (text : List ℕ) (at : ℕ) (left : List Token) (own : List OwnPiece) : Type 0 where
+  pub front : Forest
+  pub ps : List Forest
+  pub here : AreTokensFrom text at left
+  pub reads : text_reading text ≡ with_front front (reading (steps_of (placed_from at (drop at text) left)))
+  pub cuts : (g : Forest) → pieces (joined front g) ≡ ps ++ pieces g
+  pub are_own : AreOwn ps own

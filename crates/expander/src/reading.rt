@@ -1,0 +1,311 @@
+// A text piece by piece: pieces that are held, and pieces that are read by themselves.
+ghost use Rattle.std.specs.Prelude.{◌≡◌, ◌+◌, ◌<◌, ◌≤◌, ◌^◌, ◌++◌, ◌∷◌, [], IfOk, IfSome, IsOkUnless, Ok, OnOk, chars, drop, length, take, true};
+ghost use Rattle.std.specs.Rc.{rc_value};
+ghost use Rattle.rustc_lexer.specs.Lexing.{tokens_of};
+ghost use Rattle.rustc_lexer.specs.Standing.{AreTokensFrom};
+ghost use Rattle.tt_data.specs.fault.TtFault.TheVariants as fault;
+ghost use Rattle.bridge.specs.Parts.{part_steps};
+ghost use Rattle.expander.specs.PieceReading.{AddsPiece, IsBlank, IsReadPiece, IsSourceHere, KeepsSource, Passed};
+ghost use Rattle.expander.specs.ReadPieces.{IsReadInPieces};
+ghost use Rattle.expander.specs.Sources.{AreListed, AreSources, bytes_of};
+ghost use Rattle.expander.specs.declared.read_pieces.ReadPieces.TheVariants.{Pieces};
+
+use crate::own_pieces::OwnPiece;
+use crate::own_places::start_of;
+use crate::own_tree::OwnTree;
+use crate::piece_end::piece_end;
+use crate::pieces::{is_whole, set_apart};
+use crate::sources::{Source, Sources, find_source};
+use bridge::names::Names;
+use bridge::{Read, begins_with_mark, read_part};
+use rustc_lexer::{Token, TokenKind, laws};
+use std::alloc::{AllocError, Global};
+use std::rc::Rc;
+use tt::top::TopSubtree;
+use tt_data::fault::TtFault;
+
+// Whether a token of this kind is read as nothing.
+fn is_blank(kind: TokenKind) -> bool
+    ensures { result ≡ true → IsBlank kind }
+{
+    match kind {
+        TokenKind::Whitespace => true,
+        TokenKind::LineComment { doc_style: None } => true,
+        TokenKind::BlockComment {
+            doc_style: None,
+            terminated: true,
+        } => true,
+        _ => false,
+    }
+}
+
+// How many bytes tokens have, where that is a number.
+fn bytes_in(tokens: &[Token]) -> Option<usize>
+    ensures { IfSome result (λ n. n ≡ bytes_of tokens.now) }
+{
+    let mut sum: usize = 0;
+    for token in tokens {
+        sum = sum.checked_add(token.len as usize)?;
+    }
+    Some(sum)
+}
+
+// The bytes from a place on.
+fn bytes_from(bytes: &[u8], at: u32) -> Option<&[u8]>
+    ensures { IfSome result (λ rest. rest.now ≡ drop at bytes.now) }
+{
+    if at as usize > bytes.len() {
+        return None;
+    }
+    let (_, rest) = bytes.split_at(at as usize);
+    Some(rest)
+}
+
+// The first of these bytes.
+fn first_bytes(bytes: &[u8], len: usize) -> Option<&[u8]>
+    ensures { IfSome result (λ first. (first.now ≡ take len bytes.now) × (len ≤ length bytes.now)) }
+{
+    if len > bytes.len() {
+        return None;
+    }
+    let (first, _) = bytes.split_at(len);
+    Some(first)
+}
+
+// The tree of the first tokens, where it is one whole piece.
+fn read_piece(
+    alloc: Global,
+    names: &mut Names,
+    text: &str,
+    at: u32,
+    tokens: &[Token],
+    count: usize,
+) -> Result<Option<TopSubtree>, TtFault>
+    requires small { length text.now < 2 ^ 32 }
+    requires tokens { AreTokensFrom text.now at tokens.now }
+    requires within { count ≤ length tokens.now }
+    ensures read { IfOk result (λ tree. IfSome tree (IsReadPiece (part_steps 0 count (drop at text.now) tokens.now))) }
+    ensures memory { IsOkUnless result fault.Memory }
+{
+    let mut tree = match read_part(names, text, at, tokens, count) {
+        Ok(Read::Tree(tree)) => tree,
+        Ok(Read::Fault(_)) => return Ok(None),
+        Err(TtFault::Memory) => return Err(TtFault::Memory),
+        Err(_) => return Ok(None),
+    };
+    if set_apart(alloc, &mut tree).is_err() {
+        return Err(TtFault::Memory);
+    }
+    let trees = tree.token_trees().iter();
+    let is_piece = start_of(&trees) == 0 && is_whole(&trees);
+    if is_piece { Ok(Some(tree)) } else { Ok(None) }
+}
+
+// A piece with what it was read from, and what it was read as.
+fn source_of(
+    alloc: Global,
+    bytes: &[u8],
+    first: &[Token],
+    after: &[Token],
+    tree: TopSubtree,
+) -> Result<Rc<Source>, AllocError>
+    ensures { IfOk result (λ q. KeepsSource bytes.now first.now after.now tree (rc_value q)) }
+{
+    let bytes = Vec::from_slice(alloc, bytes)?;
+    let tokens = Vec::from_slice(alloc, first)?;
+    let mark = begins_with_mark(after);
+    let tree = match Rc::new(alloc, OwnTree::new(tree)) {
+        Ok(tree) => tree,
+        Err(e) => return Err(AllocError::from(e)),
+    };
+    let source = Source {
+        bytes,
+        tokens,
+        mark,
+        tree,
+    };
+    match Rc::new(alloc, source) {
+        Ok(source) => Ok(source),
+        Err(e) => Err(AllocError::from(e)),
+    }
+}
+
+// The first piece of these tokens, read by itself.
+fn read_source(
+    alloc: Global,
+    names: &mut Names,
+    text: &str,
+    at: u32,
+    tokens: &[Token],
+) -> Result<Option<Rc<Source>>, TtFault>
+    requires small { length text.now < 2 ^ 32 }
+    requires tokens { AreTokensFrom text.now at tokens.now }
+    ensures found { IfOk result (λ found. IfSome found (λ q. IsSourceHere (drop at text.now) tokens.now (rc_value q))) }
+    ensures memory { IsOkUnless result fault.Memory }
+{
+    bridge::laws::parts_of_a_text();
+    bridge::laws::parts_at_other_places();
+    bridge::laws::equal_parts();
+    bridge::laws::reading_behind();
+    laws::next_token();
+    let count = piece_end(tokens);
+    let (first, after) = tokens.split_at(count);
+    let Some(rest) = bytes_from(text.as_bytes(), at) else {
+        return Ok(None);
+    };
+    let Some(len) = bytes_in(first) else {
+        return Ok(None);
+    };
+    let Some(bytes) = first_bytes(rest, len) else {
+        return Ok(None);
+    };
+    if count == 0 {
+        return Ok(None);
+    }
+    let Some(tree) = read_piece(alloc, names, text, at, tokens, count)? else {
+        return Ok(None);
+    };
+    let source = source_of(alloc, bytes, first, after, tree)?;
+    Ok(Some(source))
+}
+
+// What was passed of a text.
+#[derive(Drop)]
+struct Passing {
+    own: Vec<OwnPiece>,
+    list: Vec<Rc<Source>>,
+    // The held piece that is tried first.
+    next: usize,
+}
+
+// The piece that stands first, held or read.
+fn next_source(
+    alloc: Global,
+    names: &mut Names,
+    held: &Sources,
+    next: &mut usize,
+    text: &str,
+    at: u32,
+    tokens: &[Token],
+) -> Result<Option<Rc<Source>>, TtFault>
+    requires small { length text.now < 2 ^ 32 }
+    requires tokens { AreTokensFrom text.now at tokens.now }
+    requires right { AreSources held.now }
+    ensures found { IfOk result (λ found. IfSome found (λ q. IsSourceHere (drop at text.now) tokens.now (rc_value q))) }
+    ensures memory { IsOkUnless result fault.Memory }
+{
+    let Some(rest) = bytes_from(text.as_bytes(), at) else {
+        return Ok(None);
+    };
+    if let Some((i, source)) = find_source(held, *next, rest, tokens)? {
+        *next = i.saturating_add(1);
+        return Ok(Some(source));
+    }
+    read_source(alloc, names, text, at, tokens)
+}
+
+// The piece stands at this place.
+fn pass(
+    own: &mut Vec<OwnPiece>,
+    list: &mut Vec<Rc<Source>>,
+    at: u32,
+    source: Rc<Source>,
+) -> Result<(), AllocError>
+    ensures own { OnOk result (AddsPiece at (rc_value source) own.old.items own.new.items) }
+    ensures list { OnOk result (list.new.items ≡ list.old.items ++ source ∷ []) }
+{
+    let tree = source.as_ref().tree.clone()?;
+    own.push(OwnPiece { start: at, tree })?;
+    list.push(source)?;
+    Ok(())
+}
+
+// What follows the first tokens and their bytes: where it begins, and its tokens.
+fn behind<'a>(tokens: &'a [Token], at: u32, len: usize, count: usize) -> Option<(u32, &'a [Token])>
+    ensures { IfSome result (λ r. (r.0 ≡ at + len) × (r.1.now ≡ drop count tokens.now)) }
+{
+    let Ok(len) = u32::try_from(len) else {
+        return None;
+    };
+    let end = at.checked_add(len)?;
+    if count > tokens.len() {
+        return None;
+    }
+    let (_, after) = tokens.split_at(count);
+    Some((end, after))
+}
+
+// The next token or piece is passed: how many bytes and tokens it has.
+fn pass_next(
+    alloc: Global,
+    names: &mut Names,
+    held: &Sources,
+    now: &mut Passing,
+    text: &str,
+    at: u32,
+    left: &[Token],
+) -> Result<Option<(usize, usize)>, TtFault>
+    requires small { length text.now < 2 ^ 32 }
+    requires tokens { AreTokensFrom text.now at left.now }
+    requires right { AreSources held.now }
+    ensures passed { IfOk result (λ size. IfSome size (λ n. Passed text.now at left.now now.old.own.items → Passed text.now (at + n.0) (drop n.1 left.now) now.new.own.items)) }
+    ensures listed { IfOk result (λ size. IfSome size (λ n. AreListed now.old.list.items → AreListed now.new.list.items)) }
+    ensures shorter { IfOk result (λ size. IfSome size (λ n. length (drop n.1 left.now) < length left.now)) }
+    ensures memory { IsOkUnless result fault.Memory }
+{
+    bridge::laws::parts_of_a_text();
+    bridge::laws::parts_at_other_places();
+    bridge::laws::equal_parts();
+    bridge::laws::reading_behind();
+    laws::next_token();
+    let Some((token, _more)) = left.split_first() else {
+        return Ok(None);
+    };
+    if is_blank(token.kind) {
+        return Ok(Some((token.len as usize, 1)));
+    }
+    let Some(source) = next_source(alloc, names, held, &mut now.next, text, at, left)? else {
+        return Ok(None);
+    };
+    let bytes = source.as_ref().bytes.len();
+    let tokens = source.as_ref().tokens.len();
+    pass(&mut now.own, &mut now.list, at, source)?;
+    Ok(Some((bytes, tokens)))
+}
+
+/// The pieces of a text, and what is held of them: none where one of them cannot be read by itself.
+pub(crate) fn read_by_pieces(
+    alloc: Global,
+    text: &str,
+    tokens: &[Token],
+    held: &Sources,
+) -> Result<Option<(Vec<OwnPiece>, Sources)>, TtFault>
+    requires small { length text.now < 2 ^ 32 }
+    requires tokens { tokens.now ≡ tokens_of (chars text.now) }
+    requires right { AreSources held.now }
+    ensures read { IfOk result (λ read. IfSome read (λ p. IsReadInPieces text.now (Pieces p.0 p.1))) }
+    ensures memory { IsOkUnless result fault.Memory }
+{
+    laws::tokens_begin();
+    let mut names = Names::new(alloc);
+    let mut now = Passing {
+        own: Vec::new(alloc),
+        list: Vec::new(alloc),
+        next: 0,
+    };
+    let mut at: u32 = 0;
+    let mut left = tokens;
+    while !left.is_empty() {
+        let Some((len, count)) = pass_next(alloc, &mut names, held, &mut now, text, at, left)?
+        else {
+            return Ok(None);
+        };
+        let Some((end, after)) = behind(left, at, len, count) else {
+            return Ok(None);
+        };
+        at = end;
+        left = after;
+    }
+    let Passing { own, list, .. } = now;
+    Ok(Some((own, Sources { list })))
+}
