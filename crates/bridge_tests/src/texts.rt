@@ -81,7 +81,7 @@ fn part_shown(
 fn reads_parts(rt: HostRuntime) -> Result<(), Fail> {
     let cases = [
         ("a;b+=c", 2, 2, "b +", false),
-        ("a;b+=c", 3, 2, "+ =", true),
+        ("a;b+=c", 3, 2, "+=", true),
         ("a; (b) c", 3, 3, "(b)", false),
         ("a; ## b", 3, 1, "BadToken 0..2", false),
         ("a;b{c", 2, 2, "GroupLeftOpen 1..2", false),
