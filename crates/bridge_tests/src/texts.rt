@@ -1,7 +1,11 @@
 //! Texts and what they are read as.
+ghost use Rattle.rustc_lexer.specs.Lexing.{tokens_of};
+ghost use Rattle.rustc_lexer.specs.Standing.{AreTokensFrom};
+ghost use Rattle.std.specs.Prelude.{◌≡◌, ◌<◌, ◌^◌, IfSome, chars, length};
+
 use bridge::names::Names;
 use bridge::{Read, begins_with_mark, read, read_part};
-use rustc_lexer::{LexedText, laws};
+use rustc_lexer::{LexedText, Token, laws};
 use std::fmt::Write;
 use std::test::Fail;
 
@@ -29,7 +33,29 @@ fn shown(rt: &HostRuntime, text: &str) -> Result<String, Fail> {
     displayed(rt, answer)
 }
 
-// What so many tokens of the text are read as, after the first ones, and whether a punct follows these.
+// The tokens after the first ones, and where they start.
+fn after_first<'a>(text: &str, tokens: &'a [Token], before: usize) -> Option<(u32, &'a [Token])>
+    requires small { length text.now < 2 ^ 32 }
+    requires tokens { tokens.now ≡ tokens_of (chars text.now) }
+    ensures { IfSome result (λ r. AreTokensFrom text.now r.0 r.1.now) }
+{
+    laws::tokens_begin();
+    laws::next_token();
+    let mut rest = tokens;
+    let mut start: u32 = 0;
+    let mut left = before;
+    while left > 0 {
+        let Some((token, more)) = rest.split_first() else {
+            return None;
+        };
+        start += token.len;
+        rest = more;
+        left -= 1;
+    }
+    Some((start, rest))
+}
+
+// What so many tokens of the text are read as, after the first ones, and whether they begin with a punct.
 fn part_shown(
     rt: &HostRuntime,
     text: &str,
@@ -39,41 +65,35 @@ fn part_shown(
     if text.len() >= 1000 {
         return Err(Fail::new("a text is long"));
     }
-    laws::tokens_begin();
-    laws::next_token();
     let held = LexedText::new(rt.alloc(), text)?;
-    let mut rest = held.tokens();
-    let mut start: u32 = 0;
-    let mut left = before;
-    while left > 0 {
-        let Some((token, more)) = rest.split_first() else {
-            return Err(Fail::new("a text is short"));
-        };
-        start += token.len;
-        rest = more;
-        left -= 1;
-    }
+    let Some((start, rest)) = after_first(held.text(), held.tokens(), before) else {
+        return Err(Fail::new("a text is short"));
+    };
     if rest.len() < count {
         return Err(Fail::new("a text is short"));
     }
     let mut names = Names::new(rt.alloc());
     let answer = read_part(&mut names, held.text(), start, rest, count)?;
-    Ok((displayed(rt, answer)?, begins_with_mark(&rest[count..])))
+    Ok((displayed(rt, answer)?, begins_with_mark(rest)))
 }
 
 #[test]
 fn reads_parts(rt: HostRuntime) -> Result<(), Fail> {
     let cases = [
-        ("a;b+=c", 2, 2, "b +", true),
+        ("a;b+=c", 2, 2, "b +", false),
+        ("a;b+=c", 3, 2, "+=", true),
         ("a; (b) c", 3, 3, "(b)", false),
         ("a; ## b", 3, 1, "BadToken 0..2", false),
         ("a;b{c", 2, 2, "GroupLeftOpen 1..2", false),
         ("a", 1, 0, "", false),
     ];
     for (text, before, count, want, want_mark) in cases {
-        let (got, is_before_mark) = part_shown(&rt, text, before, count)?;
+        let (got, is_mark) = part_shown(&rt, text, before, count)?;
         assert!(rt; got.as_str() == want, "{text:?} has the part {got:?}");
-        assert!(rt; is_before_mark == want_mark, "{text:?} goes on by {is_before_mark:?}");
+        assert!(rt;
+            is_mark == want_mark,
+            "{text:?} begins with a mark: {is_mark:?}"
+        );
     }
     Ok(())
 }
