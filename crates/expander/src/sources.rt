@@ -6,8 +6,8 @@ ghost use Rattle.tt_data.specs.fault.TtFault.TheVariants as fault;
 ghost use Rattle.expander.specs.PieceReading.{IsSourceHere};
 ghost use Rattle.expander.specs.Sources.{AreSources, StandsFirst};
 
-use bridge::begins_with_mark;
 use crate::own_tree::OwnTree;
+use bridge::begins_with_mark;
 use rustc_lexer::{Token, laws};
 use std::alloc::Global;
 use std::rc::Rc;
