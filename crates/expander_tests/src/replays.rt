@@ -235,6 +235,7 @@ fn a_refused_expansion_keeps_what_is_held(rt: HostRuntime) -> Result<(), Fail> {
     }
     assert!(rt; session.is_boundary(49) && session.is_boundary(50) && session.fits(49, 50, 1));
     if session.edit(49, 50, "3").is_err() {
+        assert!(rt; session.is_boundary(49) && session.is_boundary(50) && session.fits(49, 50, 1));
         session.edit(49, 50, "3")?;
     }
     calls.set(0);
