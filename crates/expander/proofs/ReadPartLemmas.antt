@@ -1,8 +1,9 @@
 -- Pieces that are read by themselves, and the text that they are part of.
 use Rattle.std.proofs.Common.{◌≡◌, ℕ, zero, suc, ◌+◌, ◌-◌, ◌<◌, ◌≤◌, Bool, true, false, List, [], ◌∷◌, ◌++◌, append_assoc, append-nil, length, map, take, drop, refl, ap, sym, subst, ◌∙◌, arith, if◌then◌else◌}
-use Rattle.std.specs.Prelude.{All, IsUtf8, Result, Ok, Err, chars, nat_eq}
+use Rattle.std.specs.Prelude.{All, IsUtf8, Option, Result, Ok, Err, chars, nat_eq}
 use Rattle.std.specs.List.{sum_by}
 use Rattle.std.specs.Rc.{rc_value}
+use Rattle.std.proofs.lemmas.List.Elements.{All-append, All-cons, All-nil}
 use Rattle.std.proofs.lemmas.List.Sums.{sum_by-cons}
 use Rattle.std.proofs.lemmas.List.{drop-append-le, drop-drop, length-append, length-drop, length-take-le, map-append, take-append-drop, take-append-le}
 use Rattle.rustc_lexer.specs.Lexing.{tokens_of}
@@ -24,11 +25,12 @@ use Rattle.bridge.specs.declared.fault.ReadFault.{ReadFault}
 use Rattle.expander.specs.ByTrees.{own_top}
 use Rattle.expander.specs.OwnPieces.{AreOwn, own_of, own_shown}
 use Rattle.bridge.specs.Parts.{begins_with_mark, part_steps, placed_on, starts_with_mark, steps_before}
-use Rattle.expander.specs.PieceReading.{AddsPiece, IsBlank, IsReadPiece, IsSourceHere, KeepsSource, Passed}
+use Rattle.expander.specs.PieceReading.{AddsPiece, AreMet, IsBlank, IsMet, IsReadPiece, IsSourceHere, KeepsSource, Passed}
 use Rattle.expander.specs.Pieces.{cut, first_start, pieces, relative, separated}
 use Rattle.expander.specs.Sources.{IsSource, IsWhole, StandsFirst, bytes_of}
 use Rattle.expander.specs.declared.own_pieces.OwnPiece.{OwnPiece}
 use Rattle.expander.specs.declared.sources.Source.{Source}
+use Rattle.expander.specs.declared.sources.Sources.{Sources}
 use Rattle.expander.proofs.ApartLemmas.{separated-joined}
 use Rattle.expander.proofs.CuttingLemmas.{joined-assoc}
 
@@ -263,10 +265,18 @@ one_more left more t e =
     (is, omega (arith, ap length is, ap length e))
 
 pub piece_passed : (laws : PartLaws) (text : List ℕ) → IsUtf8 text → (s : Source) (at : ℕ) (left : List Token) (own now : List OwnPiece)
-    → IsSourceHere (drop at text) left s → AddsPiece at s own now → Passed text at left own
+    → (m : Option ℕ) → IsSourceHere (drop at text) left s → AddsPiece at s m own now → Passed text at left own
     → Passed text (at + length s.bytes.items) (drop (length s.tokens.items) left) now
-piece_passed laws text utf8 s at left own now is adds p =
+piece_passed laws text utf8 s at left own now m is adds p =
     source_passed laws text utf8 s at left own now adds.piece is.right is.stands adds.start adds.tree adds.items p
+
+-- a piece more that is the held one that it names
+pub piece_met : (held : Sources) (s : Source) (at : ℕ) (m : Option ℕ) (own now : List OwnPiece) → AddsPiece at s m own now → IsMet held m (rc_value s.tree)
+    → AreMet held own → AreMet held now
+piece_met held s at m own now adds is all =
+    let one : IsMet held adds.piece.met (rc_value adds.piece.tree) = rw (adds.met, adds.tree) is in
+    subst (AreMet held) (sym adds.items) (All-append (λ (o : OwnPiece). IsMet held o.met (rc_value o.tree)) own (adds.piece ∷ []) all
+    (All-cons (λ (o : OwnPiece). IsMet held o.met (rc_value o.tree)) adds.piece [] one (All-nil (λ (o : OwnPiece). IsMet held o.met (rc_value o.tree)))))
 
 -- fewer tokens are left behind a piece
 pub piece_shortens : (bytes : List ℕ) (left : List Token) (s : Source) → IsSourceHere bytes left s → length (drop (length s.tokens.items) left) < length left

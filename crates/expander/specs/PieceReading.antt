@@ -1,5 +1,5 @@
 -- How a text is read piece by piece.
-use Rattle.std.specs.Prelude.{◌≡◌, ℕ, ◌++◌, drop, [], ◌∷◌, List}
+use Rattle.std.specs.Prelude.{◌≡◌, ℕ, ◌++◌, drop, [], ◌∷◌, All, IfSome, List, Option}
 use Rattle.std.specs.Rc.{rc_value}
 use Rattle.bridge.specs.ReadText.{text_top}
 use Rattle.bridge.specs.Reading.{IsReading, PlacedToken, TextStep, placed_from, reading, with_front}
@@ -12,9 +12,10 @@ use Rattle.tt_data.specs.Forest.{Forest, joined}
 use Rattle.bridge.specs.Parts.{begins_with_mark}
 use Rattle.expander.specs.OwnPieces.{AreOwn}
 use Rattle.expander.specs.Pieces.{first_start, pieces, separated}
-use Rattle.expander.specs.Sources.{IsSource, IsWhole, StandsFirst}
+use Rattle.expander.specs.Sources.{IsHeldAt, IsSource, IsWhole, StandsFirst}
 use Rattle.expander.specs.declared.own_pieces.OwnPiece.{OwnPiece}
 use Rattle.expander.specs.declared.sources.Source.{Source}
+use Rattle.expander.specs.declared.sources.Sources.{Sources}
 
 -- the tree of these steps, set apart, is one whole piece that starts at its first place
 pub record IsReadPiece (steps : List TextStep) (t : Top) : Type 0 where
@@ -24,6 +25,14 @@ pub record IsReadPiece (steps : List TextStep) (t : Top) : Type 0 where
   pub apart : t.inner ≡ separated forest
   pub whole : IsWhole t.inner
   pub at_first : first_start t.inner ≡ 0
+
+-- a piece is the held one of this number, if one is named: its tree is that one's
+abbrev pub IsMet : Sources → Option ℕ → Top → Type 0
+IsMet held met tree = IfSome met (λ i. (s : Source) × IsHeldAt held i s × (rc_value s.tree ≡ tree))
+
+-- each piece is the held one that it names, if it names one
+abbrev pub AreMet : Sources → List OwnPiece → Type 0
+AreMet held own = All (λ (o : OwnPiece). IsMet held o.met (rc_value o.tree)) own
 
 -- a piece with these bytes and tokens, before these tokens, and with this tree
 pub record KeepsSource (text : List ℕ) (first after : List Token) (t : Top) (s : Source) : Type 0 where
@@ -42,10 +51,11 @@ abbrev pub IsBlank : TokenKind → Type 0
 IsBlank kind = (t : PlacedToken) (more : List PlacedToken) → steps_of_sort (sort_of kind) t more ≡ []
 
 -- one piece more, which stands here
-pub record AddsPiece (at : ℕ) (s : Source) (old new : List OwnPiece) : Type 0 where
+pub record AddsPiece (at : ℕ) (s : Source) (m : Option ℕ) (old new : List OwnPiece) : Type 0 where
   pub piece : OwnPiece
   pub start : piece.start ≡ at
   pub tree : rc_value piece.tree ≡ rc_value s.tree
+  pub met : piece.met ≡ m
   pub items : new ≡ old ++ piece ∷ []
 
 -- the first trees of a text were passed, whose pieces these are; from this place on these tokens are left

@@ -1,12 +1,14 @@
 -- A text as its pieces.
-use Rattle.std.specs.Prelude.{◌≡◌, ℕ, List, Ok, Err}
+use Rattle.std.specs.Prelude.{◌≡◌, ℕ, List, Ok, Err, ⊤}
 use Rattle.bridge.specs.TokenSteps.{text_reading}
 use Rattle.bridge.specs.declared.outcome.Read.{Read}
 use Rattle.bridge.specs.declared.outcome.Read.TheVariants as whole
 use Rattle.tt_data.specs.Forest.{Forest}
 use Rattle.expander.specs.OwnPieces.{AreOwn}
+use Rattle.expander.specs.PieceReading.{AreMet}
 use Rattle.expander.specs.Pieces.{pieces, separated}
 use Rattle.expander.specs.Sources.{AreSources}
+use Rattle.expander.specs.declared.sources.Sources.{Sources}
 use Rattle.expander.specs.declared.read_pieces.ReadPieces.{ReadPieces}
 use Rattle.expander.specs.declared.read_pieces.ReadPieces.TheVariants.{Fault, Pieces}
 
@@ -19,3 +21,8 @@ IsReadApart text (whole.Fault fault) = text_reading text ≡ Err fault
 abbrev pub IsReadInPieces : List ℕ → ReadPieces → Type 0
 IsReadInPieces text (Pieces own sources) = (f : Forest) × (text_reading text ≡ Ok f) × AreOwn (pieces f) own.items × AreSources sources
 IsReadInPieces text (Fault fault) = text_reading text ≡ Err fault
+
+-- each piece is the held one that it names, if it names one
+abbrev pub HaveMet : Sources → ReadPieces → Type 0
+HaveMet held (Pieces own sources) = AreMet held own.items
+HaveMet held (Fault fault) = ⊤

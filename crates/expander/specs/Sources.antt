@@ -1,5 +1,5 @@
 -- What is held of the text that was read last, to read the next one by.
-use Rattle.std.specs.Prelude.{◌≡◌, ℕ, ◌≤◌, All, List, ◌∷◌, ◌++◌, drop, length, map}
+use Rattle.std.specs.Prelude.{◌≡◌, ℕ, ◌≤◌, All, List, ◌∷◌, ◌++◌, Some, drop, length, map, slice_get}
 use Rattle.std.specs.Global.{Global}
 use Rattle.std.specs.List.{sum_by}
 use Rattle.std.specs.Rc.{rc_value}
@@ -44,6 +44,10 @@ pub record StandsFirst (s : Source) (text : List ℕ) (left : List Token) : Type
 -- each piece is right by itself
 abbrev pub AreListed : List (Rc Source Global) → Type 0
 AreListed list = All (λ (q : Rc Source Global). IsSource (rc_value q)) list
+
+-- the held piece of this number
+abbrev pub IsHeldAt : Sources → ℕ → Source → Type 0
+IsHeldAt sources i s = (q : Rc Source Global) × (slice_get sources.list.items i ≡ Some q) × (rc_value q ≡ s)
 
 -- so is each that is held
 abbrev pub AreSources : Sources → Type 0

@@ -1,5 +1,5 @@
 // The pieces of a text as trees of their own.
-ghost use Rattle.std.specs.Prelude.{IfOk, IsOkUnless};
+ghost use Rattle.std.specs.Prelude.{◌≡◌, All, IfOk, IsOkUnless, None};
 ghost use Rattle.tt_data.specs.fault.TtFault.TheVariants as fault;
 ghost use Rattle.expander.specs.OwnPieces.{AreOwn, IsOwn};
 ghost use Rattle.expander.specs.Pieces.{cut};
@@ -20,11 +20,14 @@ pub(crate) struct OwnPiece {
     pub start: u32,
     /// Its places are counted from there.
     pub tree: Rc<OwnTree>,
+    /// The number of the held piece that it was told by, if it was not read.
+    pub met: Option<usize>,
 }
 
 // A piece of a text in places of its own.
 fn own_piece(alloc: Global, piece: &TtIter<'_>) -> Result<OwnPiece, TtFault>
     ensures own { IfOk result (IsOwn piece.now) }
+    ensures none { IfOk result (λ own. own.met ≡ None) }
     ensures memory { IsOkUnless result fault.Memory }
 {
     let tree = own_tree(alloc, piece)?;
@@ -32,6 +35,7 @@ fn own_piece(alloc: Global, piece: &TtIter<'_>) -> Result<OwnPiece, TtFault>
         Ok(tree) => Ok(OwnPiece {
             start: start_of(piece),
             tree,
+            met: None,
         }),
         Err(_) => Err(TtFault::Memory),
     }
@@ -40,6 +44,7 @@ fn own_piece(alloc: Global, piece: &TtIter<'_>) -> Result<OwnPiece, TtFault>
 /// The pieces of a text's trees, in order.
 pub(crate) fn own_pieces(alloc: Global, trees: &TtIter<'_>) -> Result<Vec<OwnPiece>, TtFault>
     ensures own { IfOk result (λ own. AreOwn (cut trees.now) own.items) }
+    ensures none { IfOk result (λ own. All (λ o. o.met ≡ None) own.items) }
     ensures memory { IsOkUnless result fault.Memory }
 {
     let mut pieces = Vec::new(alloc);

@@ -5,7 +5,7 @@ ghost use Rattle.rustc_lexer.specs.Lexing.{tokens_of};
 ghost use Rattle.rustc_lexer.specs.Standing.{AreTokensFrom};
 ghost use Rattle.tt_data.specs.fault.TtFault.TheVariants as fault;
 ghost use Rattle.bridge.specs.Parts.{part_steps};
-ghost use Rattle.expander.specs.PieceReading.{AddsPiece, IsBlank, IsReadPiece, IsSourceHere, KeepsSource, Passed};
+ghost use Rattle.expander.specs.PieceReading.{AddsPiece, AreMet, IsBlank, IsMet, IsReadPiece, IsSourceHere, KeepsSource, Passed};
 ghost use Rattle.expander.specs.ReadPieces.{IsReadInPieces};
 ghost use Rattle.expander.specs.Sources.{AreListed, AreSources, bytes_of};
 ghost use Rattle.expander.specs.declared.read_pieces.ReadPieces.TheVariants.{Pieces};
@@ -178,7 +178,7 @@ struct Passing {
     next: usize,
 }
 
-// The piece that stands first, held or read.
+// The piece that stands first, held or read, and its number where it is held.
 fn next_source(
     alloc: Global,
     names: &mut Names,
@@ -187,11 +187,12 @@ fn next_source(
     text: &str,
     at: u32,
     tokens: &[Token],
-) -> Result<Option<Rc<Source>>, TtFault>
+) -> Result<Option<(Rc<Source>, Option<usize>)>, TtFault>
     requires small { length text.now < 2 ^ 32 }
     requires tokens { AreTokensFrom text.now at tokens.now }
     requires right { AreSources held.now }
-    ensures found { IfOk result (λ found. IfSome found (λ q. IsSourceHere (drop at text.now) tokens.now (rc_value q))) }
+    ensures found { IfOk result (λ found. IfSome found (λ p. IsSourceHere (drop at text.now) tokens.now (rc_value p.0))) }
+    ensures met { IfOk result (λ found. IfSome found (λ p. IsMet held.now p.1 (rc_value (rc_value p.0).tree))) }
     ensures memory { IsOkUnless result fault.Memory }
 {
     let Some(rest) = bytes_from(text.as_bytes(), at) else {
@@ -199,23 +200,31 @@ fn next_source(
     };
     if let Some((i, source)) = find_source(held, *next, rest, tokens)? {
         *next = i.saturating_add(1);
-        return Ok(Some(source));
+        return Ok(Some((source, Some(i))));
     }
-    read_source(alloc, names, text, at, tokens)
+    match read_source(alloc, names, text, at, tokens)? {
+        Some(source) => Ok(Some((source, None))),
+        None => Ok(None),
+    }
 }
 
-// The piece stands at this place.
+// The piece stands at this place, told by the held one of this number, if by one.
 fn pass(
     own: &mut Vec<OwnPiece>,
     list: &mut Vec<Rc<Source>>,
     at: u32,
     source: Rc<Source>,
+    met: Option<usize>,
 ) -> Result<(), AllocError>
-    ensures own { OnOk result (AddsPiece at (rc_value source) own.old.items own.new.items) }
+    ensures own { OnOk result (AddsPiece at (rc_value source) met own.old.items own.new.items) }
     ensures list { OnOk result (list.new.items ≡ list.old.items ++ source ∷ []) }
 {
     let tree = source.as_ref().tree.clone()?;
-    own.push(OwnPiece { start: at, tree })?;
+    own.push(OwnPiece {
+        start: at,
+        tree,
+        met,
+    })?;
     list.push(source)?;
     Ok(())
 }
@@ -250,6 +259,7 @@ fn pass_next(
     requires right { AreSources held.now }
     ensures passed { IfOk result (λ size. IfSome size (λ n. Passed text.now at left.now now.old.own.items → Passed text.now (at + n.0) (drop n.1 left.now) now.new.own.items)) }
     ensures listed { IfOk result (λ size. IfSome size (λ n. AreListed now.old.list.items → AreListed now.new.list.items)) }
+    ensures met { IfOk result (λ size. IfSome size (λ n. AreMet held.now now.old.own.items → AreMet held.now now.new.own.items)) }
     ensures shorter { IfOk result (λ size. IfSome size (λ n. length (drop n.1 left.now) < length left.now)) }
     ensures memory { IsOkUnless result fault.Memory }
 {
@@ -264,12 +274,13 @@ fn pass_next(
     if is_blank(token.kind) {
         return Ok(Some((token.len as usize, 1)));
     }
-    let Some(source) = next_source(alloc, names, held, &mut now.next, text, at, left)? else {
+    let next = &mut now.next;
+    let Some((source, met)) = next_source(alloc, names, held, next, text, at, left)? else {
         return Ok(None);
     };
     let bytes = source.as_ref().bytes.len();
     let tokens = source.as_ref().tokens.len();
-    pass(&mut now.own, &mut now.list, at, source)?;
+    pass(&mut now.own, &mut now.list, at, source, met)?;
     Ok(Some((bytes, tokens)))
 }
 
@@ -284,6 +295,7 @@ pub(crate) fn read_by_pieces(
     requires tokens { tokens.now ≡ tokens_of (chars text.now) }
     requires right { AreSources held.now }
     ensures read { IfOk result (λ read. IfSome read (λ p. IsReadInPieces text.now (Pieces p.0 p.1))) }
+    ensures met { IfOk result (λ read. IfSome read (λ p. AreMet held.now p.0.items)) }
     ensures memory { IsOkUnless result fault.Memory }
 {
     laws::tokens_begin();

@@ -4,7 +4,7 @@ ghost use Rattle.bridge.specs.Parts.{begins_with_mark};
 ghost use Rattle.std.specs.Rc.{rc_value};
 ghost use Rattle.tt_data.specs.fault.TtFault.TheVariants as fault;
 ghost use Rattle.expander.specs.PieceReading.{IsSourceHere};
-ghost use Rattle.expander.specs.Sources.{AreSources, StandsFirst};
+ghost use Rattle.expander.specs.Sources.{AreSources, IsHeldAt, StandsFirst};
 
 use crate::own_tree::OwnTree;
 use bridge::begins_with_mark;
@@ -90,6 +90,7 @@ pub(crate) fn find_source(
 ) -> Result<Option<(usize, Rc<Source>)>, TtFault>
     requires { AreSources held.now }
     ensures found { IfOk result (λ found. IfSome found (λ p. IsSourceHere text.now tokens.now (rc_value p.1))) }
+    ensures number { IfOk result (λ found. IfSome found (λ p. IsHeldAt held.now p.0 (rc_value p.1))) }
     ensures memory { IsOkUnless result fault.Memory }
 {
     let last = next.saturating_add(TRIED).min(held.list.len());

@@ -2,7 +2,7 @@ use Rattle.std.proofs.Common.{◌≡◌, sym, subst, List, drop, length, rules, 
 use Rattle.std.specs.Rc.{rc_value}
 use Rattle.rustc_lexer.specs.declared.token.Token.{Token}
 use Rattle.expander.specs.PieceReading.{Passed}
-use Rattle.expander.proofs.ReadPartLemmas.{PartLaws, blank_passed, one_more, piece_passed, piece_shortens}
+use Rattle.expander.proofs.ReadPartLemmas.{PartLaws, blank_passed, one_more, piece_met, piece_passed, piece_shortens}
 use Rattle.expander.proofs.reading.pass_next.Goals as goal
 
 pub returns-then-is_blank-clause-passed : goal.returns-then-is_blank-clause-passed
@@ -28,9 +28,13 @@ returns-clause-passed c = λ p.
     } in
     let b : c.len-bytes.result ≡ length (rc_value c.in-Some-2.source).bytes.items = search rules in
     let t : c.len-tokens.result ≡ length (rc_value c.in-Some-2.source).tokens.items = search rules in
-    rw (b, t) (piece_passed parts c.args.text.now c.utf8.text (rc_value c.in-Some-2.source) c.args.at c.args.left.now c.args.now.now.own.items _ (rw c.in-Some-2.is at c.in_ok-source.ensures.found) c.in_ok-pass.ensures.own p)
+    rw (b, t) (piece_passed parts c.args.text.now c.utf8.text (rc_value c.in-Some-2.source) c.args.at c.args.left.now c.args.now.now.own.items _ c.in-Some-2.met (rw c.in-Some-2.is at c.in_ok-source.ensures.found) c.in_ok-pass.ensures.own p)
 
 pub returns-clause-shorter : goal.returns-clause-shorter
 returns-clause-shorter c =
     let t : c.len-tokens.result ≡ length (rc_value c.in-Some-2.source).tokens.items = search rules in
     rw t (piece_shortens (drop c.args.at c.args.text.now) c.args.left.now (rc_value c.in-Some-2.source) (rw c.in-Some-2.is at c.in_ok-source.ensures.found))
+
+pub returns-clause-met : goal.returns-clause-met
+returns-clause-met c =
+    λ all. piece_met c.args.held.now (rc_value c.in-Some-2.source) c.args.at c.in-Some-2.met c.args.now.now.own.items _ c.in_ok-pass.ensures.own (rw c.in-Some-2.is at c.in_ok-source.ensures.met) all

@@ -1,6 +1,8 @@
 use Rattle.std.proofs.lemmas.List.Elements.{All-nil}
 use Rattle.std.specs.Rc.{rc_value}
+use Rattle.expander.specs.PieceReading.{IsMet}
 use Rattle.expander.specs.Sources.{IsSource}
+use Rattle.expander.specs.declared.own_pieces.OwnPiece.{OwnPiece}
 use Rattle.expander.proofs.ReadPartLemmas.{none_passed}
 use Rattle.expander.proofs.reading.read_by_pieces.Goals as goal
 
@@ -8,4 +10,5 @@ pub loop-left-init : goal.loop-left-init
 loop-left-init c = (
   rw (c.new.ensures.items, c.requires.tokens) (none_passed c.args.text.now (c.tokens_begin.ensures c.args.text.now c.utf8.text)),
   rw c.new-2.ensures.items (All-nil (λ q. IsSource (rc_value q))),
+  rw c.new.ensures.items (All-nil (λ (o : OwnPiece). IsMet c.args.held.now o.met (rc_value o.tree))),
 )
