@@ -6,6 +6,7 @@ mod AttributeLemmas
 mod CuttingLemmas
 mod ApartLemmas
 mod WholeLemmas
+mod AheadLemmas
 mod ReadPartLemmas
 mod OwnPieceLemmas
 mod PrintingLemmas

@@ -5,7 +5,7 @@ use Rattle.std.specs.List.{sum_by}
 use Rattle.std.specs.Rc.{rc_value}
 use Rattle.std.proofs.lemmas.List.Elements.{All-append, All-cons, All-nil}
 use Rattle.std.proofs.lemmas.List.Sums.{sum_by-cons}
-use Rattle.std.proofs.lemmas.List.{drop-append-le, drop-drop, length-append, length-drop, length-take-le, map-append, take-append-drop, take-append-le}
+use Rattle.std.proofs.lemmas.List.{drop-append-le, drop-drop, length-append, length-drop, length-take-le, map-append, take-append-drop, take-append-le, take_all}
 use Rattle.rustc_lexer.specs.Lexing.{tokens_of}
 use Rattle.rustc_lexer.specs.Standing.{AreTokensFrom}
 use Rattle.rustc_lexer.specs.declared.token.Token.{Token}
@@ -27,7 +27,7 @@ use Rattle.expander.specs.OwnPieces.{AreOwn, own_of, own_shown}
 use Rattle.bridge.specs.Parts.{begins_with_mark, part_steps, placed_on, starts_with_mark, steps_before}
 use Rattle.expander.specs.PieceReading.{AddsPiece, AreMet, IsBlank, IsMet, IsReadPiece, IsSourceHere, KeepsSource, Passed}
 use Rattle.expander.specs.Pieces.{cut, first_start, pieces, relative, separated}
-use Rattle.expander.specs.Sources.{IsSource, IsWhole, StandsFirst, bytes_of}
+use Rattle.expander.specs.Sources.{IsSource, IsWhole, StandsFirst, StandsHere, bytes_of, chars_ahead}
 use Rattle.expander.specs.declared.own_pieces.OwnPiece.{OwnPiece}
 use Rattle.expander.specs.declared.sources.Source.{Source}
 use Rattle.expander.specs.declared.sources.Sources.{Sources}
@@ -167,6 +167,9 @@ pub record PartLaws : Type 0 where
       → text ≡ s ++ rest → tokens ≡ ts ++ more → bytes_of ts ≡ length s → starts_with_mark after ≡ begins_with_mark more
       → part_steps at (length ts) text tokens ≡ steps_before (placed_from at s ts) after
   pub next : NextLaw
+  pub first : (k n : ℕ) (text other : List ℕ) → IsUtf8 text → bytes_of (take k (tokens_of (chars text))) ≡ n
+      → take n text ≡ take n other → take 2 (chars (drop n text)) ≡ take 2 (chars (drop n other))
+      → take k (tokens_of (chars other)) ≡ take k (tokens_of (chars text))
 
 -- a piece in the text, which is held in places of its own
 own_piece : (laws : PartLaws) (s : Source) (is : IsSource s) (at : ℕ) (o : OwnPiece) → o.start ≡ at → rc_value o.tree ≡ rc_value s.tree
@@ -178,26 +181,33 @@ own_piece laws s is at o start tree =
     start ∙ sym (first_placed at (separated is.forest) is.whole is.at_first) in
     λ i. (start_is i, tree_is i)
 
+-- where a piece stands its tokens do
+stands_tokens : (s : Source) (is : IsSource s) (text : List ℕ) (left : List Token) → left ≡ tokens_of (chars text) → StandsHere s text
+    → left ≡ is.tokens ++ drop s.count left
+stands_tokens s is text left are here =
+    sym (take-append-drop s.count left) ∙ ap (λ (ts : List Token). ts ++ drop s.count left) (ap (take s.count) are ∙ is.same text here)
+
 -- a piece more
 pub source_passed : (laws : PartLaws) (text : List ℕ) → IsUtf8 text → (s : Source) (at : ℕ) (left : List Token) (own now : List OwnPiece) (o : OwnPiece)
     → IsSource s → StandsFirst s (drop at text) left → o.start ≡ at → rc_value o.tree ≡ rc_value s.tree → now ≡ own ++ o ∷ [] → Passed text at left own
-    → Passed text (at + length s.bytes.items) (drop (length s.tokens.items) left) now
+    → Passed text (at + length s.bytes.items) (drop s.count left) now
 source_passed laws text utf8 s at left own now o is stands start tree grown p =
     let n : ℕ = length s.bytes.items in
-    let k : ℕ = length s.tokens.items in
+    let k : ℕ = s.count in
     let f : Forest = map_spans (placed_on at) is.forest in
+    let tokens : left ≡ is.tokens ++ drop k left = stands_tokens s is (drop at text) left p.here.tokens stands.here in
     let later : List PlacedToken = placed_from (at + n) (drop n (drop at text)) (drop k left) in
-    let placed : placed_from at (drop at text) left ≡ placed_from at s.bytes.items s.tokens.items ++ later =
-    ap (λ (bs : List ℕ). placed_from at bs left) stands.bytes
-    ∙ ap (placed_from at (s.bytes.items ++ drop n (drop at text))) stands.tokens
-    ∙ placed_append at s.bytes.items (drop n (drop at text)) s.tokens.items (drop k left) is.long in
+    let placed : placed_from at (drop at text) left ≡ placed_from at s.bytes.items is.tokens ++ later =
+    ap (λ (bs : List ℕ). placed_from at bs left) stands.here.bytes
+    ∙ ap (placed_from at (s.bytes.items ++ drop n (drop at text))) tokens
+    ∙ placed_append at s.bytes.items (drop n (drop at text)) is.tokens (drop k left) is.long in
     let steps : steps_of (placed_from at (drop at text) left) ≡ map step (walk f) ++ steps_of later =
     ap steps_of placed ∙ is.reads at later (first_mark (at + n) (drop n (drop at text)) (drop k left) ∙ stands.mark) in
     record {
       front = joined p.front f;
       ps = p.ps ++ map_spans (placed_on at) (separated is.forest) ∷ [];
       here = subst (λ (m : ℕ). AreTokensFrom text (at + m) (drop k left)) is.long
-          (stand_behind laws.next text utf8 at s.tokens.items (drop k left) (subst (AreTokensFrom text at) stands.tokens p.here));
+          (stand_behind laws.next text utf8 at is.tokens (drop k left) (subst (AreTokensFrom text at) tokens p.here));
       reads = p.reads
           ∙ ap (λ (ss : List TextStep). with_front p.front (reading ss)) steps
           ∙ ap (with_front p.front) (laws.behind f (steps_of later))
@@ -217,45 +227,64 @@ source_passed laws text utf8 s at left own now o is stands start tree grown p =
 
 -- ---- a piece that was read by itself
 
-pub is_source : (laws : PartLaws) (s : Source) (bytes : List ℕ) (left : List Token) (count n : ℕ) (f : Forest) (t : Top)
-    → count ≤ length left → 1 ≤ count → n ≤ length bytes → n ≡ bytes_of (take count left)
-    → s.bytes.items ≡ take n bytes → s.tokens.items ≡ take count left → s.mark ≡ begins_with_mark (drop count left) → rc_value s.tree ≡ t
-    → t.delimiter ≡ text_top → t.inner ≡ separated f → IsReading (part_steps 0 count bytes left) f → IsWhole t.inner → first_start t.inner ≡ 0
+-- a text that begins with the same bytes, before the same characters, has the same first tokens
+same_tokens : (laws : PartLaws) (s : Source) (bytes : List ℕ) (left : List Token) (n : ℕ) → IsUtf8 bytes → left ≡ tokens_of (chars bytes)
+    → n ≡ bytes_of (take s.count left) → s.bytes.items ≡ take n bytes → length s.bytes.items ≡ n → chars_ahead s.ahead ≡ take 2 (chars (drop n bytes))
+    → (text : List ℕ) → StandsHere s text → take s.count (tokens_of (chars text)) ≡ take s.count left
+same_tokens laws s bytes left n utf8 are n_is bytes_are size ahead text here =
+    let sum : bytes_of (take s.count (tokens_of (chars bytes))) ≡ n = ap (λ (ts : List Token). bytes_of (take s.count ts)) (sym are) ∙ sym n_is in
+    let begins : take n text ≡ s.bytes.items =
+    ap (take n) here.bytes ∙ take-append-le n s.bytes.items (drop (length s.bytes.items) text) (omega (arith, size)) ∙ take_all n s.bytes.items (omega (arith, size)) in
+    let two : take 2 (chars (drop n bytes)) ≡ take 2 (chars (drop n text)) =
+    sym ahead ∙ sym here.ahead ∙ ap (λ (m : ℕ). take 2 (chars (drop m text))) size in
+    laws.first s.count n bytes text utf8 sum (sym bytes_are ∙ sym begins) two ∙ ap (take s.count) (sym are)
+
+pub is_source : (laws : PartLaws) (s : Source) (bytes : List ℕ) (left : List Token) (n : ℕ) (f : Forest) (t : Top)
+    → IsUtf8 bytes → left ≡ tokens_of (chars bytes) → s.count ≤ length left → 1 ≤ s.count → n ≤ length bytes → n ≡ bytes_of (take s.count left)
+    → s.bytes.items ≡ take n bytes → chars_ahead s.ahead ≡ take 2 (chars (drop n bytes)) → s.mark ≡ begins_with_mark (drop s.count left) → rc_value s.tree ≡ t
+    → t.delimiter ≡ text_top → t.inner ≡ separated f → IsReading (part_steps 0 s.count bytes left) f → IsWhole t.inner → first_start t.inner ≡ 0
     → IsSource s × StandsFirst s bytes left
-is_source laws s bytes left count n f t within some fits n_is bytes_are tokens_are mark_is tree top inner read whole first =
-    let k : length s.tokens.items ≡ count = ap length tokens_are ∙ length-take-le count left within in
+is_source laws s bytes left n f t utf8 are within some fits n_is bytes_are ahead mark_is tree top inner read whole first =
+    let tokens : List Token = take s.count left in
+    let k : length tokens ≡ s.count = length-take-le s.count left within in
     let m : length s.bytes.items ≡ n = ap length bytes_are ∙ length-take-le n bytes fits in
-    let long : bytes_of s.tokens.items ≡ length s.bytes.items = ap bytes_of tokens_are ∙ sym n_is ∙ sym m in
+    let long : bytes_of tokens ≡ length s.bytes.items = sym n_is ∙ sym m in
     let stands_bytes : bytes ≡ s.bytes.items ++ drop (length s.bytes.items) bytes =
     sym (take-append-drop n bytes) ∙ ap (λ (bs : List ℕ). bs ++ drop n bytes) (sym bytes_are) ∙ ap (λ (i : ℕ). s.bytes.items ++ drop i bytes) (sym m) in
-    let stands_tokens : left ≡ s.tokens.items ++ drop (length s.tokens.items) left =
-    sym (take-append-drop count left) ∙ ap (λ (ts : List Token). ts ++ drop count left) (sym tokens_are) ∙ ap (λ (i : ℕ). s.tokens.items ++ drop i left) (sym k) in
-    let mark : begins_with_mark (drop (length s.tokens.items) left) ≡ s.mark = ap (λ (i : ℕ). begins_with_mark (drop i left)) k ∙ sym mark_is in
-    let here : IsReading (part_steps 0 (length s.tokens.items) bytes left) f = subst (λ (i : ℕ). IsReading (part_steps 0 i bytes left) f) (sym k) read in (
+    let left_is : left ≡ tokens ++ drop s.count left = sym (take-append-drop s.count left) in
+    let equal_steps : (at : ℕ) (after : List PlacedToken) → starts_with_mark after ≡ s.mark → part_steps at s.count bytes left ≡ steps_before (placed_from at s.bytes.items tokens) after =
+    λ at after follows. ap (λ (i : ℕ). part_steps at i bytes left) (sym k)
+    ∙ laws.equal at bytes s.bytes.items (drop (length s.bytes.items) bytes) left tokens (drop s.count left) after stands_bytes left_is long (follows ∙ mark_is) in (
       record {
         forest = f;
-        some = omega (arith, k, some);
+        tokens = tokens;
+        count = k;
+        some = some;
         long = long;
+        same = same_tokens laws s bytes left n utf8 are n_is bytes_are m ahead;
         reads = λ at after follows.
-            laws.tokens (placed_from at s.bytes.items s.tokens.items) after
-            ∙ ap (λ (ss : List TextStep). ss ++ steps_of after) (
-            sym (laws.equal at bytes s.bytes.items (drop (length s.bytes.items) bytes) left s.tokens.items (drop (length s.tokens.items) left) after stands_bytes stands_tokens long (follows ∙ sym mark))
-            ∙ laws.elsewhere at (length s.tokens.items) bytes left f here);
+            laws.tokens (placed_from at s.bytes.items tokens) after
+            ∙ ap (λ (ss : List TextStep). ss ++ steps_of after) (sym (equal_steps at after follows) ∙ laws.elsewhere at s.count bytes left f read);
         whole = subst IsWhole inner whole;
         at_first = ap first_start (sym inner) ∙ first;
         tree = tree ∙ (λ i. record { delimiter = top i; inner = inner i });
       },
-      record { bytes = stands_bytes; tokens = stands_tokens; mark = mark },
+      record {
+        here = record { bytes = stands_bytes; ahead = ap (λ (i : ℕ). take 2 (chars (drop i bytes))) m ∙ sym ahead };
+        mark = sym mark_is;
+      },
     )
 
 -- what was read, with what it was read from
-pub source_here : (laws : PartLaws) (bytes rest word : List ℕ) (left first after : List Token) (count n : ℕ) (t : Top) (s : Source)
-    → count ≤ length left → 1 ≤ count → rest ≡ bytes → n ≤ length rest → n ≡ bytes_of first
-    → word ≡ take n rest → first ≡ take count left → after ≡ drop count left
-    → KeepsSource word first after t s → IsReadPiece (part_steps 0 count bytes left) t → IsSourceHere bytes left s
-source_here laws bytes rest word left first after count n t s within some rest_is fits n_is word_is first_is after_is kept read =
-    let is = is_source laws s bytes left count n read.forest t within some (subst (λ (bs : List ℕ). n ≤ length bs) rest_is fits) (n_is ∙ ap bytes_of first_is)
-    (kept.bytes ∙ word_is ∙ ap (take n) rest_is) (kept.tokens ∙ first_is) (kept.mark ∙ ap begins_with_mark after_is) kept.tree read.top read.apart read.read read.whole read.at_first in
+pub source_here : (laws : PartLaws) (bytes word : List ℕ) (left first after : List Token) (count n : ℕ) (t : Top) (s : Source)
+    → IsUtf8 bytes → left ≡ tokens_of (chars bytes) → count ≤ length left → 1 ≤ count → n ≤ length bytes → n ≡ bytes_of first
+    → word ≡ take n bytes → first ≡ take count left → after ≡ drop count left
+    → KeepsSource word (drop n bytes) count after t s → IsReadPiece (part_steps 0 count bytes left) t → IsSourceHere bytes left s
+source_here laws bytes word left first after count n t s utf8 are within some fits n_is word_is first_is after_is kept read =
+    let c : s.count ≡ count = kept.count_is in
+    let is = is_source laws s bytes left n read.forest t utf8 are (rw c within) (rw c some) fits (n_is ∙ ap bytes_of first_is ∙ ap (λ (i : ℕ). bytes_of (take i left)) (sym c))
+    (kept.bytes ∙ word_is) kept.ahead (kept.mark ∙ ap begins_with_mark after_is ∙ ap (λ (i : ℕ). begins_with_mark (drop i left)) (sym c)) kept.tree read.top read.apart
+    (subst (λ (i : ℕ). IsReading (part_steps 0 i bytes left) read.forest) (sym c) read.read) read.whole read.at_first in
     record { right = is.0; stands = is.1 }
 
 -- one more token of a list
@@ -266,7 +295,7 @@ one_more left more t e =
 
 pub piece_passed : (laws : PartLaws) (text : List ℕ) → IsUtf8 text → (s : Source) (at : ℕ) (left : List Token) (own now : List OwnPiece)
     → (m : Option ℕ) → IsSourceHere (drop at text) left s → AddsPiece at s m own now → Passed text at left own
-    → Passed text (at + length s.bytes.items) (drop (length s.tokens.items) left) now
+    → Passed text (at + length s.bytes.items) (drop s.count left) now
 piece_passed laws text utf8 s at left own now m is adds p =
     source_passed laws text utf8 s at left own now adds.piece is.right is.stands adds.start adds.tree adds.items p
 
@@ -279,7 +308,8 @@ piece_met held s at m own now adds is all =
     (All-cons (λ (o : OwnPiece). IsMet held o.met (rc_value o.tree)) adds.piece [] one (All-nil (λ (o : OwnPiece). IsMet held o.met (rc_value o.tree)))))
 
 -- fewer tokens are left behind a piece
-pub piece_shortens : (bytes : List ℕ) (left : List Token) (s : Source) → IsSourceHere bytes left s → length (drop (length s.tokens.items) left) < length left
-piece_shortens bytes left s is =
-    let k : ℕ = length s.tokens.items in
-    omega (arith, is.right.some, ap length is.stands.tokens, length-append s.tokens.items (drop k left))
+pub piece_shortens : (text : List ℕ) (at : ℕ) (left : List Token) (s : Source) → AreTokensFrom text at left → IsSourceHere (drop at text) left s
+    → length (drop s.count left) < length left
+piece_shortens text at left s here is =
+    let tokens = stands_tokens s is.right (drop at text) left here.tokens is.stands.here in
+    omega (arith, is.right.some, is.right.count, ap length tokens, length-append is.right.tokens (drop s.count left))

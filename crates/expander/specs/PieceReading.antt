@@ -1,5 +1,5 @@
 -- How a text is read piece by piece.
-use Rattle.std.specs.Prelude.{◌≡◌, ℕ, ◌++◌, drop, [], ◌∷◌, All, IfSome, List, Option}
+use Rattle.std.specs.Prelude.{◌≡◌, ℕ, ◌++◌, chars, drop, take, [], ◌∷◌, All, IfSome, List, Option}
 use Rattle.std.specs.Rc.{rc_value}
 use Rattle.bridge.specs.ReadText.{text_top}
 use Rattle.bridge.specs.Reading.{IsReading, PlacedToken, TextStep, placed_from, reading, with_front}
@@ -12,7 +12,7 @@ use Rattle.tt_data.specs.Forest.{Forest, joined}
 use Rattle.bridge.specs.Parts.{begins_with_mark}
 use Rattle.expander.specs.OwnPieces.{AreOwn}
 use Rattle.expander.specs.Pieces.{first_start, pieces, separated}
-use Rattle.expander.specs.Sources.{IsHeldAt, IsSource, IsWhole, StandsFirst}
+use Rattle.expander.specs.Sources.{IsHeldAt, IsSource, IsWhole, StandsFirst, chars_ahead}
 use Rattle.expander.specs.declared.own_pieces.OwnPiece.{OwnPiece}
 use Rattle.expander.specs.declared.sources.Source.{Source}
 use Rattle.expander.specs.declared.sources.Sources.{Sources}
@@ -34,10 +34,11 @@ IsMet held met tree = IfSome met (λ i. (s : Source) × IsHeldAt held i s × (rc
 abbrev pub AreMet : Sources → List OwnPiece → Type 0
 AreMet held own = All (λ (o : OwnPiece). IsMet held o.met (rc_value o.tree)) own
 
--- a piece with these bytes and tokens, before these tokens, and with this tree
-pub record KeepsSource (text : List ℕ) (first after : List Token) (t : Top) (s : Source) : Type 0 where
-  pub bytes : s.bytes.items ≡ text
-  pub tokens : s.tokens.items ≡ first
+-- a piece with these bytes, before this text, with so many tokens, before these, and with this tree
+pub record KeepsSource (word behind : List ℕ) (count : ℕ) (after : List Token) (t : Top) (s : Source) : Type 0 where
+  pub bytes : s.bytes.items ≡ word
+  pub ahead : chars_ahead s.ahead ≡ take 2 (chars behind)
+  pub count_is : s.count ≡ count
   pub mark : s.mark ≡ begins_with_mark after
   pub tree : rc_value s.tree ≡ t
 

@@ -1,5 +1,5 @@
 // A text piece by piece: pieces that are held, and pieces that are read by themselves.
-ghost use Rattle.std.specs.Prelude.{◌≡◌, ◌+◌, ◌<◌, ◌≤◌, ◌^◌, ◌++◌, ◌∷◌, [], IfOk, IfSome, IsOkUnless, Ok, OnOk, chars, drop, length, take, true};
+ghost use Rattle.std.specs.Prelude.{◌≡◌, ◌+◌, ◌<◌, ◌≤◌, ◌^◌, ◌++◌, ◌∷◌, [], IfOk, IfSome, IsOkUnless, List, Ok, OnOk, chars, drop, length, take, true, ℕ};
 ghost use Rattle.std.specs.Rc.{rc_value};
 ghost use Rattle.rustc_lexer.specs.Lexing.{tokens_of};
 ghost use Rattle.rustc_lexer.specs.Standing.{AreTokensFrom};
@@ -7,7 +7,7 @@ ghost use Rattle.tt_data.specs.fault.TtFault.TheVariants as fault;
 ghost use Rattle.bridge.specs.Parts.{part_steps};
 ghost use Rattle.expander.specs.PieceReading.{AddsPiece, AreMet, IsBlank, IsMet, IsReadPiece, IsSourceHere, KeepsSource, Passed};
 ghost use Rattle.expander.specs.ReadPieces.{IsReadInPieces};
-ghost use Rattle.expander.specs.Sources.{AreListed, AreSources, bytes_of};
+ghost use Rattle.expander.specs.Sources.{AreListed, AreSources, bytes_of, chars_ahead};
 ghost use Rattle.expander.specs.declared.read_pieces.ReadPieces.TheVariants.{Pieces};
 
 use crate::own_pieces::OwnPiece;
@@ -15,7 +15,7 @@ use crate::own_places::start_of;
 use crate::own_tree::OwnTree;
 use crate::piece_end::piece_end;
 use crate::pieces::{is_whole, set_apart};
-use crate::sources::{Source, Sources, find_source};
+use crate::sources::{Ahead, Source, Sources, ahead_at, find_source};
 use bridge::names::Names;
 use bridge::{Read, begins_with_mark, read_part};
 use rustc_lexer::{Token, TokenKind, laws};
@@ -50,26 +50,14 @@ fn bytes_in(tokens: &[Token]) -> Option<usize>
     Some(sum)
 }
 
-// The bytes from a place on.
-fn bytes_from(bytes: &[u8], at: u32) -> Option<&[u8]>
-    ensures { IfSome result (λ rest. rest.now ≡ drop at bytes.now) }
+// The first bytes of a text, and the characters behind them.
+fn word_of(text: &str, len: usize) -> Option<(&[u8], Ahead)>
+    ensures word { IfSome result (λ r. (r.0.now ≡ take len text.now) × (len ≤ length text.now)) }
+    ensures ahead { IfSome result (λ r. chars_ahead r.1 ≡ take 2 (chars (drop len text.now))) }
 {
-    if at as usize > bytes.len() {
-        return None;
-    }
-    let (_, rest) = bytes.split_at(at as usize);
-    Some(rest)
-}
-
-// The first of these bytes.
-fn first_bytes(bytes: &[u8], len: usize) -> Option<&[u8]>
-    ensures { IfSome result (λ first. (first.now ≡ take len bytes.now) × (len ≤ length bytes.now)) }
-{
-    if len > bytes.len() {
-        return None;
-    }
-    let (first, _) = bytes.split_at(len);
-    Some(first)
+    let ahead = ahead_at(text, len)?;
+    let (word, _) = text.as_bytes().split_at(len);
+    Some((word, ahead))
 }
 
 // The tree of the first tokens, where it is one whole piece.
@@ -104,15 +92,15 @@ fn read_piece(
 // A piece with what it was read from, and what it was read as.
 fn source_of(
     alloc: Global,
-    bytes: &[u8],
-    first: &[Token],
+    word: &[u8],
+    ahead: Ahead,
+    count: usize,
     after: &[Token],
     tree: TopSubtree,
 ) -> Result<Rc<Source>, AllocError>
-    ensures { IfOk result (λ q. KeepsSource bytes.now first.now after.now tree (rc_value q)) }
+    ensures { (behind : List ℕ) → chars_ahead ahead ≡ take 2 (chars behind) → IfOk result (λ q. KeepsSource word.now behind count after.now tree (rc_value q)) }
 {
-    let bytes = Vec::from_slice(alloc, bytes)?;
-    let tokens = Vec::from_slice(alloc, first)?;
+    let bytes = Vec::from_slice(alloc, word)?;
     let mark = begins_with_mark(after);
     let tree = match Rc::new(alloc, OwnTree::new(tree)) {
         Ok(tree) => tree,
@@ -120,7 +108,8 @@ fn source_of(
     };
     let source = Source {
         bytes,
-        tokens,
+        ahead,
+        count,
         mark,
         tree,
     };
@@ -148,15 +137,14 @@ fn read_source(
     bridge::laws::equal_parts();
     bridge::laws::reading_behind();
     laws::next_token();
+    laws::first_tokens();
     let count = piece_end(tokens);
     let (first, after) = tokens.split_at(count);
-    let Some(rest) = bytes_from(text.as_bytes(), at) else {
-        return Ok(None);
-    };
+    let rest = &text[at as usize..];
     let Some(len) = bytes_in(first) else {
         return Ok(None);
     };
-    let Some(bytes) = first_bytes(rest, len) else {
+    let Some((word, ahead)) = word_of(rest, len) else {
         return Ok(None);
     };
     if count == 0 {
@@ -165,7 +153,7 @@ fn read_source(
     let Some(tree) = read_piece(alloc, names, text, at, tokens, count)? else {
         return Ok(None);
     };
-    let source = source_of(alloc, bytes, first, after, tree)?;
+    let source = source_of(alloc, word, ahead, count, after, tree)?;
     Ok(Some(source))
 }
 
@@ -195,9 +183,7 @@ fn next_source(
     ensures met { IfOk result (λ found. IfSome found (λ p. IsMet held.now p.1 (rc_value (rc_value p.0).tree))) }
     ensures memory { IsOkUnless result fault.Memory }
 {
-    let Some(rest) = bytes_from(text.as_bytes(), at) else {
-        return Ok(None);
-    };
+    let rest = &text[at as usize..];
     if let Some((i, source)) = find_source(held, *next, rest, tokens)? {
         *next = i.saturating_add(1);
         return Ok(Some((source, Some(i))));
@@ -268,6 +254,7 @@ fn pass_next(
     bridge::laws::equal_parts();
     bridge::laws::reading_behind();
     laws::next_token();
+    laws::first_tokens();
     let Some((token, _more)) = left.split_first() else {
         return Ok(None);
     };
@@ -279,9 +266,9 @@ fn pass_next(
         return Ok(None);
     };
     let bytes = source.as_ref().bytes.len();
-    let tokens = source.as_ref().tokens.len();
+    let count = source.as_ref().count;
     pass(&mut now.own, &mut now.list, at, source, met)?;
-    Ok(Some((bytes, tokens)))
+    Ok(Some((bytes, count)))
 }
 
 /// The pieces of a text, and what is held of them: none where one of them cannot be read by itself.

@@ -1,25 +1,33 @@
 // What is held of the text that was read last, to read the next one by.
-ghost use Rattle.std.specs.Prelude.{◌≡◌, ◌++◌, IfOk, IfSome, IsOkUnless, drop, length, true};
+ghost use Rattle.std.specs.Prelude.{◌≡◌, ◌≤◌, ◌++◌, IfOk, IfSome, IsOkUnless, chars, drop, length, take, true};
 ghost use Rattle.bridge.specs.Parts.{begins_with_mark};
 ghost use Rattle.std.specs.Rc.{rc_value};
 ghost use Rattle.tt_data.specs.fault.TtFault.TheVariants as fault;
 ghost use Rattle.expander.specs.PieceReading.{IsSourceHere};
-ghost use Rattle.expander.specs.Sources.{AreSources, IsHeldAt, StandsFirst};
+ghost use Rattle.expander.specs.Sources.{AreSources, IsHeldAt, StandsFirst, chars_ahead};
 
 use crate::own_tree::OwnTree;
 use bridge::begins_with_mark;
-use rustc_lexer::{Token, laws};
+use rustc_lexer::Token;
 use std::alloc::Global;
 use std::rc::Rc;
 use tt_data::fault::TtFault;
+
+/// The two characters behind a piece, or as many as there are: with its own they tell its tokens.
+#[derive(Clone, Copy)]
+pub(crate) struct Ahead {
+    first: Option<char>,
+    second: Option<char>,
+}
 
 /// A piece with what it was read from.
 #[derive(Drop)]
 pub(crate) struct Source {
     /// The bytes of its tokens.
     pub bytes: Vec<u8>,
-    /// Its tokens, blanks between them included.
-    pub tokens: Vec<Token>,
+    pub ahead: Ahead,
+    /// How many tokens it has, blanks between them included.
+    pub count: usize,
     /// Whether a token that is read as a punct followed.
     pub mark: bool,
     /// Its tree, in places of its own.
@@ -50,12 +58,28 @@ fn begins_with_bytes(text: &[u8], first: &[u8]) -> bool
     text.starts_with(first)
 }
 
-// Whether tokens begin with these.
-fn begins_with_tokens(tokens: &[Token], first: &[Token]) -> bool
-    ensures { result ≡ true → tokens.now ≡ first.now ++ drop (length first.now) tokens.now }
+/// The characters behind a place: none where it stands between no two characters.
+pub(crate) fn ahead_at(text: &str, at: usize) -> Option<Ahead>
+    ensures ahead { IfSome result (λ a. chars_ahead a ≡ take 2 (chars (drop at text.now))) }
+    ensures within { IfSome result (λ a. at ≤ length text.now) }
 {
-    laws::equal_tokens();
-    tokens.starts_with(first)
+    if !text.is_char_boundary(at) {
+        return None;
+    }
+    let mut chars = text[at..].chars();
+    let first = chars.next();
+    let second = chars.next();
+    Some(Ahead { first, second })
+}
+
+// Whether these are the characters behind a place.
+fn is_ahead(ahead: Ahead, text: &str, at: usize) -> bool
+    ensures { result ≡ true → take 2 (chars (drop at text.now)) ≡ chars_ahead ahead }
+{
+    match ahead_at(text, at) {
+        Some(now) => now.first == ahead.first && now.second == ahead.second,
+        None => false,
+    }
 }
 
 // Whether a punct follows the first tokens as it is held to.
@@ -70,12 +94,12 @@ fn is_followed(tokens: &[Token], count: usize, mark: bool) -> bool
 }
 
 // Whether the piece stands first in a text with these tokens.
-fn stands_first(source: &Source, text: &[u8], tokens: &[Token]) -> bool
+fn stands_first(source: &Source, text: &str, tokens: &[Token]) -> bool
     ensures { result ≡ true → StandsFirst source.now text.now tokens.now }
 {
-    begins_with_bytes(text, source.bytes.as_slice())
-        && begins_with_tokens(tokens, source.tokens.as_slice())
-        && is_followed(tokens, source.tokens.len(), source.mark)
+    begins_with_bytes(text.as_bytes(), source.bytes.as_slice())
+        && is_ahead(source.ahead, text, source.bytes.len())
+        && is_followed(tokens, source.count, source.mark)
 }
 
 // How many held pieces are tried at a place.
@@ -85,7 +109,7 @@ const TRIED: usize = 16;
 pub(crate) fn find_source(
     held: &Sources,
     next: usize,
-    text: &[u8],
+    text: &str,
     tokens: &[Token],
 ) -> Result<Option<(usize, Rc<Source>)>, TtFault>
     requires { AreSources held.now }

@@ -21,6 +21,7 @@ mod AgreeLemmas
 mod BodyLocalLemmas
 mod LocalLemmas
 mod PlaceLemmas
+mod FirstBytesLemmas
 mod BoundaryLemmas
 mod MeetingLemmas
 mod MendLemmas

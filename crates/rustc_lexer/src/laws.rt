@@ -83,12 +83,17 @@ pub fn first_of_tokens()
 
 /// The first k tokens hang on the characters that `reach` counts, and on no others: a text with the
 /// same characters up to there, or that ends where the first one does, has the same first k tokens
-/// at the same places.
+/// at the same places. In bytes: a text that begins with the same bytes of these tokens, behind which
+/// stand the same two characters, or as many of them, has the same first k tokens.
 pub fn first_tokens()
     ensures tokens { (k : ℕ) (cs ds : List ℕ) →
         take (reach k cs) cs ≡ take (reach k cs) ds → take k (tokens_of ds) ≡ take k (tokens_of cs) }
     ensures places { (k : ℕ) (cs ds : List ℕ) →
         take (reach k cs) cs ≡ take (reach k cs) ds → place k ds ≡ place k cs }
+    ensures bytes { (k n : ℕ) (text other : List ℕ) → IsUtf8 text →
+        sum_by (λ t. t.len) (take k (tokens_of (chars text))) ≡ n → take n text ≡ take n other →
+        take 2 (chars (drop n text)) ≡ take 2 (chars (drop n other)) →
+        take k (tokens_of (chars other)) ≡ take k (tokens_of (chars text)) }
 {}
 
 /// The suffix of a literal begins inside its token or right behind it, between two characters.

@@ -25,15 +25,16 @@ returns-clause-passed c = λ p.
       at_first = c.parts_at_other_places.ensures.first;
       equal = c.equal_parts.ensures.steps;
       next = c.next_token.ensures.others;
+      first = c.first_tokens.ensures.bytes;
     } in
     let b : c.len-bytes.result ≡ length (rc_value c.in-Some-2.source).bytes.items = search rules in
-    let t : c.len-tokens.result ≡ length (rc_value c.in-Some-2.source).tokens.items = search rules in
-    rw (b, t) (piece_passed parts c.args.text.now c.utf8.text (rc_value c.in-Some-2.source) c.args.at c.args.left.now c.args.now.now.own.items _ c.in-Some-2.met (rw c.in-Some-2.is at c.in_ok-source.ensures.found) c.in_ok-pass.ensures.own p)
+    let s : c.as_ref-2.result.now ≡ rc_value c.in-Some-2.source = search rules in
+    rw (b, s) (piece_passed parts c.args.text.now c.utf8.text (rc_value c.in-Some-2.source) c.args.at c.args.left.now c.args.now.now.own.items _ c.in-Some-2.met (rw c.in-Some-2.is at c.in_ok-source.ensures.found) c.in_ok-pass.ensures.own p)
 
 pub returns-clause-shorter : goal.returns-clause-shorter
 returns-clause-shorter c =
-    let t : c.len-tokens.result ≡ length (rc_value c.in-Some-2.source).tokens.items = search rules in
-    rw t (piece_shortens (drop c.args.at c.args.text.now) c.args.left.now (rc_value c.in-Some-2.source) (rw c.in-Some-2.is at c.in_ok-source.ensures.found))
+    let s : c.as_ref-2.result.now ≡ rc_value c.in-Some-2.source = search rules in
+    rw s (piece_shortens c.args.text.now c.args.at c.args.left.now (rc_value c.in-Some-2.source) c.requires.tokens (rw c.in-Some-2.is at c.in_ok-source.ensures.found))
 
 pub returns-clause-met : goal.returns-clause-met
 returns-clause-met c =

@@ -1,4 +1,6 @@
-use Rattle.std.proofs.Common.{◌≤◌, ◌∙◌, ap, arith, drop}
+use Rattle.std.proofs.Common.{◌≡◌, ℕ, ◌≤◌, List, IsUtf8, ap, arith, chars, drop, length, rules, sym, take, ◌∙◌}
+use Rattle.std.proofs.lemmas.Str.{IsUtf8-drop}
+use Rattle.expander.specs.Sources.{chars_ahead}
 use Rattle.expander.proofs.ReadPartLemmas.{PartLaws, source_here}
 use Rattle.expander.proofs.reading.read_source.Goals as goal
 
@@ -12,8 +14,17 @@ returns-clause-found c =
       at_first = c.parts_at_other_places.ensures.first;
       equal = c.equal_parts.ensures.steps;
       next = c.next_token.ensures.others;
+      first = c.first_tokens.ensures.bytes;
     } in
     let some : 1 ≤ c.piece_end-count.result = omega (arith, c.if-count-eq0.false) in
-    source_here parts (drop c.args.at c.args.text.now) c.in-Some.rest.now c.in-Some-first_bytes.bytes.now c.args.tokens.now _ _ c.piece_end-count.result c.in-Some-bytes_in.len
-    c.in-Some-2.tree _ c.piece_end-count.ensures some (c.in-Some.ensures ∙ ap (drop c.args.at) c.as_bytes.ensures.value) c.in-Some-first_bytes.ensures.1 c.in-Some-bytes_in.ensures
-    c.in-Some-first_bytes.ensures.0 c.split_at.ensures.front c.split_at.ensures.back c.in_ok-source.ensures (rw c.in-Some-2.is at c.in_ok-tree.ensures.read)
+    let text : List ℕ = drop c.args.at c.args.text.now in
+    let utf8 : IsUtf8 text = IsUtf8-drop c.args.text.now c.args.at c.utf8.text c.requires.tokens.boundary in
+    let rest : c.range_from-rest.result.now ≡ text = search rules in
+    let n : ℕ = c.in-Some.len in
+    let word : c.in-Some-word_of.word.now ≡ take n text = c.in-Some-word_of.ensures.word.0 ∙ ap (take n) rest in
+    let fits : n ≤ length text = rw (sym rest) c.in-Some-word_of.ensures.word.1 in
+    let ahead : chars_ahead c.in-Some-word_of.ahead ≡ take 2 (chars (drop n text)) =
+    c.in-Some-word_of.ensures.ahead ∙ ap (λ (bs : List ℕ). take 2 (chars (drop n bs))) rest in
+    source_here parts text c.in-Some-word_of.word.now c.args.tokens.now _ _ c.piece_end-count.result n c.in-Some-2.tree _ utf8 c.requires.tokens.tokens
+    c.piece_end-count.ensures some fits c.in-Some.ensures word c.split_at.ensures.front c.split_at.ensures.back
+    (c.in_ok-source.ensures (drop n text) ahead) (rw c.in-Some-2.is at c.in_ok-tree.ensures.read)

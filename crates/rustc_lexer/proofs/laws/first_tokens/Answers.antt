@@ -1,4 +1,5 @@
 use Rattle.rustc_lexer.proofs.PlaceLemmas.{first_tokens, same_place}
+use Rattle.rustc_lexer.proofs.FirstBytesLemmas.{same_first_tokens}
 use Rattle.rustc_lexer.proofs.laws.first_tokens.Goals as goal
 
 pub returns-clause-tokens : goal.returns-clause-tokens
@@ -6,3 +7,6 @@ returns-clause-tokens c = λ k cs ds e. first_tokens k cs ds (record { same = e 
 
 pub returns-clause-places : goal.returns-clause-places
 returns-clause-places c = λ k cs ds e. same_place k cs ds (record { same = e })
+
+pub returns-clause-bytes : goal.returns-clause-bytes
+returns-clause-bytes c = same_first_tokens
