@@ -20,7 +20,9 @@ pub fn word(text: &str) -> (TokenKind, &str)
 {
     let rest = skip_while::<Continue>(text);
     if is_prefix_mark(first_byte(rest)) {
-        return word_by_letter(text);
+        // taken apart, so that the usual answer stays in registers
+        let (kind, rest) = word_by_letter(text);
+        return (kind, rest);
     }
     (TokenKind::Ident, rest)
 }
