@@ -99,16 +99,15 @@ ascii_run p (b ∷ bs) u = by_first (ascii_part p b) refl (λ v. ascii_run p bs 
             let fails : p b ≡ false = right_fails (nat_lt b 128) (p b) e is_low in
             rw (ascii_cons b bs u l, fails) refl
 
--- the same of what follows the run, told by its first byte
-pub run_stopped : (p : ℕ → Bool) (text rest : List ℕ) (n b : ℕ) → IsUtf8 text → n ≡ prefix_len (ascii_part p) text → rest ≡ drop n text →
-    b < 128 → char_at (chars rest) 0 ≡ b → chars rest ≡ drop (prefix_len p (chars text)) (chars text)
-run_stopped p text rest n b u is_n is_rest l first =
+-- the same of what follows the run
+pub run_stopped : (p : ℕ → Bool) (text rest : List ℕ) (n : ℕ) → IsUtf8 text → n ≡ prefix_len (ascii_part p) text → rest ≡ drop n text →
+    char_at (chars rest) 0 < 128 → chars rest ≡ drop (prefix_len p (chars text)) (chars text)
+run_stopped p text rest n u is_n is_rest l =
     let same : rest ≡ drop (prefix_len (ascii_part p) text) text = is_rest ∙ ap (λ k. drop k text) is_n in
-    let low : char_at (chars rest) 0 < 128 = omega (arith, first) in
-    ap chars same ∙ (ascii_run p text u).stops (subst (λ xs. char_at (chars xs) 0 < 128) same low)
+    ap chars same ∙ (ascii_run p text u).stops (subst (λ xs. char_at (chars xs) 0 < 128) same l)
 
-pub run_on : (p : ℕ → Bool) (text rest left : List ℕ) (n : ℕ) → IsUtf8 text → n ≡ prefix_len (ascii_part p) text → rest ≡ drop n text →
-    chars left ≡ drop (prefix_len p (chars rest)) (chars rest) → chars left ≡ drop (prefix_len p (chars text)) (chars text)
-run_on p text rest left n u is_n is_rest e =
+pub run_left : (p : ℕ → Bool) (text rest : List ℕ) (n : ℕ) → IsUtf8 text → n ≡ prefix_len (ascii_part p) text → rest ≡ drop n text →
+    drop (prefix_len p (chars rest)) (chars rest) ≡ drop (prefix_len p (chars text)) (chars text)
+run_left p text rest n u is_n is_rest =
     let same : rest ≡ drop (prefix_len (ascii_part p) text) text = is_rest ∙ ap (λ k. drop k text) is_n in
-    e ∙ ap (λ xs. drop (prefix_len p (chars xs)) (chars xs)) same ∙ (ascii_run p text u).on
+    ap (λ xs. drop (prefix_len p (chars xs)) (chars xs)) same ∙ (ascii_run p text u).on

@@ -244,15 +244,19 @@ mended_counts text new start stop replacement ts k at passed bound met fresh u v
     ∙ ap (λ n. counts n (position_or_len (moves_to stop moved (get_or (boundaries new) (k + n) 0)) (boundaries text)) (tokens_of (chars text))) lexed
     ∙ ap (λ n. counts (length fresh) n (tokens_of (chars text))) (met_is text new start stop moved ts k at passed bound met fresh u f w)
     ∙ ap (counts (length fresh) (k + passed + met)) (sym f)
+    ∙ ap (left (length fresh)) (length-drop (k + passed + met) ts)
   where
+    left : ℕ → ℕ → Kept
+    left n back = record { front = k; lexed = n; back = back }
+
     counts : ℕ → ℕ → List Token → Kept
-    counts n last old = record { front = k; lexed = n; back = length old - last }
+    counts n last old = left n (length (drop last old))
 
     made : List ℕ → ℕ → Kept
     made bs front =
         let lexed : ℕ = position_or_len (is_moved_boundary text stop (start + length replacement)) (drop front (boundaries bs)) in
         let last : ℕ = position_or_len (moves_to stop (start + length replacement) (get_or (boundaries bs) (front + lexed) 0)) (boundaries text) in
-        record { front = front; lexed = lexed; back = length (tokens_of (chars text)) - last }
+        record { front = front; lexed = lexed; back = length (drop last (tokens_of (chars text))) }
 
 -- ---- what an iterator gives that is taken to its end
 

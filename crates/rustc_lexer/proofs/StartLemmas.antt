@@ -1,9 +1,10 @@
 -- The first lexeme, by what its first byte tells.
 use Rattle.std.proofs.Common.{◌≡◌, ℕ, ◌<◌, ◌==◌, ◌&&◌, ◌||◌, Bool, true, false, not, nat_lt, List, refl, sym, ap, ◌∙◌, arith, if◌then◌else◌}
 use Rattle.std.proofs.lemmas.Bool.Decides.{nat_tests}
+use Rattle.unicode_ident.proofs.IdentLemmas.{is_xid_start-ascii}
 use Rattle.rustc_lexer.specs.Character.{ascii_part, char_at, is_whitespace, is_id_start, is_digit}
-use Rattle.rustc_lexer.specs.Lexeme.{lexeme, lexeme_of, one_char_kind, white_space, word}
-use Rattle.rustc_lexer.specs.Words.{sign, begins_more, start_of}
+use Rattle.rustc_lexer.specs.Lexeme.{is_prefix_mark, lexeme, lexeme_of, one_char_kind, white_space, word}
+use Rattle.rustc_lexer.specs.Words.{sign, begins_more, start_of, start_told}
 use Rattle.rustc_lexer.proofs.FrontRowLemmas.{by_letter, by_sign, by_white, no_comment, no_start}
 use Rattle.rustc_lexer.proofs.WordLemmas.{either_left, either_right}
 
@@ -102,3 +103,45 @@ start_alone cs b low h = by_tests (nat_lt b 128) (is_whitespace b) (is_id_start 
     by_tests true true s m e f g i h = is_other 0x20 0x2e refl h
     by_tests true false true m e f g i h = is_other 0x61 0x2e refl h
     by_tests true false false true e f g i h = is_other 0x3f 0x2e refl h
+
+-- ---- what stands behind a word
+
+not_mark : (m : ℕ) → start_of m ≡ 0x3f → (b : ℕ) → (start_of b == 0x3f) ≡ false → (b == m) ≡ false
+not_mark m e b h = by_test (b == m) refl
+  where
+    by_test : (t : Bool) → (b == m) ≡ t → t ≡ false
+    by_test false f = refl
+    by_test true f =
+        let same : b ≡ m = grind (arith, nat_tests) in
+        let yes : (start_of b == 0x3f) ≡ true = ap (λ n. n == 0x3f) (ap start_of same ∙ e) in
+        sym yes ∙ h
+
+is_low : (b : ℕ) → (start_of b == 0x3f) ≡ false → b < 128
+is_low b h = by_test (nat_lt b 128) refl h
+  where
+    by_test : (t : Bool) → nat_lt b 128 ≡ t → (start_told t (is_whitespace b) (is_id_start b) b == 0x3f) ≡ false → b < 128
+    by_test true e h = grind (arith, nat_tests)
+    by_test false e h = absurd (let no : true ≡ false = h in cc)
+
+told_hash : start_of 0x23 ≡ 0x3f
+told_hash = rw (is_xid_start-ascii 0x23 (omega arith)) refl
+
+told_string : start_of 0x22 ≡ 0x3f
+told_string = rw (is_xid_start-ascii 0x22 (omega arith)) refl
+
+told_quote : start_of 0x27 ≡ 0x3f
+told_quote = rw (is_xid_start-ascii 0x27 (omega arith)) refl
+
+-- a byte of ASCII, and no mark of literals
+pub record EndsWord (b : ℕ) : Type 0 where
+  pub low : b < 128
+  pub none : is_prefix_mark b ≡ false
+
+pub ends_word : (b n : ℕ) → n ≡ start_of b → (n ≡ 0x3f → ⊥) → EndsWord b
+ends_word b n e other =
+    let apart : start_of b ≡ 0x3f → ⊥ = λ f. other (e ∙ f) in
+    let h : (start_of b == 0x3f) ≡ false = grind (arith, nat_tests) in
+    let hash : (b == 0x23) ≡ false = not_mark 0x23 told_hash b h in
+    let string : (b == 0x22) ≡ false = not_mark 0x22 told_string b h in
+    let quote : (b == 0x27) ≡ false = not_mark 0x27 told_quote b h in
+    record { low = is_low b h; none = rw (hash, string, quote) refl }

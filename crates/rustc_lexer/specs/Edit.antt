@@ -39,7 +39,7 @@ abbrev pub is_moved_boundary : List ℕ → ℕ → ℕ → ℕ → Bool
 is_moved_boundary text stop moved place = list_any (moves_to stop moved place) (boundaries text)
 
 -- what an edit keeps: the tokens that end at least two characters before `start`; then lexing goes on, up to the first
--- boundary of the new text that is a moved boundary of the old; the old tokens behind this one
+-- boundary of the new text that is a moved boundary of the old; and the old tokens behind this one
 abbrev pub kept : List ℕ → ℕ → ℕ → List ℕ → Kept
 kept text start stop replacement =
     let new : List ℕ = boundaries (edited text start stop replacement) in
@@ -47,4 +47,4 @@ kept text start stop replacement =
     let front : ℕ = front_of text start in
     let lexed : ℕ = position_or_len (is_moved_boundary text stop moved) (drop front new) in
     let met : ℕ = position_or_len (moves_to stop moved (get_or new (front + lexed) 0)) (boundaries text) in
-    record { front = front; lexed = lexed; back = length (tokens_of (chars text)) - met }
+    record { front = front; lexed = lexed; back = length (drop met (tokens_of (chars text))) }

@@ -28,7 +28,11 @@ pub fn first_lexeme(text: &str) -> (TokenKind, &str)
         b'.' => (one_char_kind(b as char), behind(text)),
         b'a' => word(text),
         b' ' => (TokenKind::Whitespace, skip_while::<White>(text)),
-        _ => other_lexeme(text),
+        _ => {
+            // taken apart, so that the usual answers stay in registers
+            let (kind, rest) = other_lexeme(text);
+            (kind, rest)
+        }
     }
 }
 

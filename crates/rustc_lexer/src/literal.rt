@@ -160,7 +160,8 @@ pub fn count_hashes(text: &str) -> (usize, &str)
     ensures read { IsRead (hashes (chars text.now)) text.now result.0 result.1.now }
 {
     let rest = skip_while::<Hash>(text);
-    (text.len().saturating_sub(rest.len()), rest)
+    let n = text.len() - rest.len();
+    (n, rest)
 }
 
 // The number of hashes of a raw string that is whole.

@@ -254,11 +254,20 @@ pub fn begins(text: &str, a: char, b: char) -> bool
 pub fn skip_while<'a, T: CharTest>(text: &'a str) -> &'a str
     ensures { chars result.now ≡ drop (prefix_len T.passes (chars text.now)) (chars text.now) }
 {
-    let rest = &text[ascii_run::<T>(text)..];
+    let rest = skip_ascii::<T>(text);
     if first_byte(rest) < 128 {
         return rest;
     }
     skip_chars::<T>(rest)
+}
+
+// What follows all characters of ASCII at the front that pass the test: other characters that pass may follow.
+#[inline(always)]
+pub fn skip_ascii<'a, T: CharTest>(text: &'a str) -> &'a str
+    ensures on { drop (prefix_len T.passes (chars result.now)) (chars result.now) ≡ drop (prefix_len T.passes (chars text.now)) (chars text.now) }
+    ensures stops { char_at (chars result.now) 0 < 128 → chars result.now ≡ drop (prefix_len T.passes (chars text.now)) (chars text.now) }
+{
+    &text[ascii_run::<T>(text)..]
 }
 
 // How many bytes at the front are characters of ASCII that pass the test.

@@ -1,36 +1,32 @@
 //! Words, and the forms that begin with one.
 ghost use Rattle.std.specs.Prelude.{◌≡◌, ◌<◌, ◌^◌, ◌==◌, ◌&&◌, ◌||◌, true, codes, slice_index, length, chars};
 ghost use Rattle.rustc_lexer.specs.Character.{char_at, begins, is_id_start};
-ghost use Rattle.rustc_lexer.specs.Lexeme.{is_prefix_mark, plain_word, marked_word, word, quoted, string, raw_string};
+ghost use Rattle.rustc_lexer.specs.Lexeme.{plain_word, marked_word, word, quoted, string, raw_string};
 ghost use Rattle.rustc_lexer.specs.Stretch.{IsRead};
 ghost use Rattle.rustc_lexer.specs.Words.{b_word, c_word, k_word, r_word, word_kind};
 ghost use Rattle.rustc_lexer.specs.declared.token.LiteralKind.TheVariants.{Byte, ByteStr, CStr, RawStr, RawByteStr, RawCStr};
 
 use crate::character::is_id_start;
 use crate::literal::{literal, quoted_body, raw_form, skip_identifier, string_body};
-use crate::steps::{Continue, begins, behind, first, first_byte, skip_while, third};
+use crate::steps::{
+    Continue, begins, behind, first, first_byte, skip_ascii, skip_while, start_of, third,
+};
 use crate::token::{LiteralKind, TokenKind};
 
-// What begins with a character that may begin an identifier.
+// What begins with a character that may begin an identifier. Most words are of ASCII, and no mark of literals follows them.
 #[inline(always)]
 pub fn word(text: &str) -> (TokenKind, &str)
     requires small { length text.now < 2 ^ 32 }
     requires start { is_id_start (char_at (chars text.now) 0) ≡ true }
     ensures { IsRead (word (chars text.now)) text.now result.0 result.1.now }
 {
-    let rest = skip_while::<Continue>(text);
-    if is_prefix_mark(first_byte(rest)) {
-        return word_by_letter(text);
+    let rest = skip_ascii::<Continue>(text);
+    if start_of(first_byte(rest)) == b'?' {
+        // taken apart, so that the usual answer stays in registers
+        let (kind, rest) = word_by_letter(text);
+        return (kind, rest);
     }
     (TokenKind::Ident, rest)
-}
-
-// Whether a word is a prefix where a character that begins with this byte follows it.
-#[inline(always)]
-fn is_prefix_mark(next: u8) -> bool
-    ensures { result ≡ is_prefix_mark next }
-{
-    matches!(next, b'#' | b'"' | b'\'')
 }
 
 // The same as `word`, by the first letter.
