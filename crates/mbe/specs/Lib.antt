@@ -23,6 +23,7 @@ pub mod Waiting
 pub mod Positions
 pub mod Places
 pub mod Settled
+pub mod Rounds
 pub mod Collecting
 pub mod Room
 pub mod Putting

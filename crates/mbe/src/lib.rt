@@ -16,6 +16,7 @@ pub mod laws;
 pub mod matcher;
 mod place;
 mod putting;
+mod rounds;
 pub mod threads;
 mod transcriber;
 mod uses;

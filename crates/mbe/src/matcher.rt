@@ -295,6 +295,34 @@ impl<'a> Settled<'a> {
         Ok(())
     }
 
+    // The same, but a thread that is seen to lead to one alone makes no tasks.
+    fn settle_next<G: FragmentGrammar>(
+        &mut self,
+        arena: &'a Bump,
+        grammar: &G,
+        thread: Thread<'a>,
+        place: &Place<'a>,
+    ) -> Result<(), AllocError>
+        requires tasks { self.now.tasks.items ≡ [] }
+        requires good { IsGood (state_of thread (place_of place.now)) }
+        ensures done { OnOk result (self.new.tasks.items ≡ []) }
+        ensures all { let p = place_of place.now in let gr = G.answer grammar.now in (pattern : Items) (all : List Waits) →
+            Leads gr pattern p all self.old.waiting.items self.old.seen.items (GoOn (record { thread = thread.entry; taken = None }) ∷ []) →
+            OnOk result (Leads gr pattern p all self.new.waiting.items self.new.seen.items self.new.tasks.items) }
+    {
+        let next = thread.alone(arena, grammar, place)?;
+        match next {
+            Some(w) => {
+                self.waiting.push(w)?;
+                Ok(())
+            }
+            None => {
+                self.settle(arena, grammar, thread, place)?;
+                Ok(())
+            }
+        }
+    }
+
     // Appends the threads that wait after one that waited at the place before.
     fn advance<G: FragmentGrammar>(
         &mut self,
@@ -316,7 +344,7 @@ impl<'a> Settled<'a> {
                 Ok(())
             }
             Waiting::Pending { thread, .. } => {
-                self.settle(arena, grammar, *thread, place)?;
+                self.settle_next(arena, grammar, *thread, place)?;
                 Ok(())
             }
         }
