@@ -2,6 +2,7 @@
 #![tactic(auto)]
 
 pub mod bindings;
+mod blocked;
 mod choices;
 pub mod collecting;
 mod declarative;

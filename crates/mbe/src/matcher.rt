@@ -145,6 +145,7 @@ impl<'a> Settled<'a> {
     }
 
     // A choice, where there is one, is the next thing to do.
+    #[inline]
     fn plan(&mut self, choice: Option<Choice<'a>>) -> Result<(), AllocError>
         ensures waiting { OnOk result (self.new.waiting.items ≡ self.old.waiting.items) }
         ensures seen { OnOk result (self.new.seen.items ≡ self.old.seen.items) }
@@ -296,6 +297,7 @@ impl<'a> Settled<'a> {
     }
 
     // The same, but a thread that is seen to lead to one alone makes no tasks.
+    #[inline(always)]
     fn settle_next<G: FragmentGrammar>(
         &mut self,
         arena: &'a Bump,
@@ -324,6 +326,7 @@ impl<'a> Settled<'a> {
     }
 
     // Appends the threads that wait after one that waited at the place before.
+    #[inline(always)]
     fn advance<G: FragmentGrammar>(
         &mut self,
         arena: &'a Bump,
@@ -373,6 +376,7 @@ impl<'a> Settled<'a> {
     }
 
     // Hands the threads that wait over, and holds none.
+    #[inline(always)]
     fn hand_over(&mut self, waiting: &mut Vec<Waiting<'a>>)
         ensures handed { waiting.new.items ≡ self.old.waiting.items }
         ensures waiting { self.new.waiting.items ≡ [] }
@@ -386,6 +390,7 @@ impl<'a> Settled<'a> {
 }
 
 // Whether a thread takes a fragment while another takes something too.
+#[inline]
 fn has_clash(waiting: &[Waiting<'_>]) -> bool
     ensures { result ≡ clash (flat_map takings_of waiting.now) }
 {
@@ -405,6 +410,7 @@ fn has_clash(waiting: &[Waiting<'_>]) -> bool
 }
 
 // What the first waiting thread takes.
+#[inline]
 fn first_taken(waiting: &[Waiting<'_>]) -> Option<Taken>
     ensures { result ≡ head_taken waiting.now }
 {
