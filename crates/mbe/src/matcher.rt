@@ -4,6 +4,7 @@ ghost use Rattle.std.specs.List.{flat_map, list_any};
 ghost use Rattle.tt.specs.Views.{forest};
 ghost use Rattle.mbe_rules.specs.Items.{Items, has_empty_round};
 ghost use Rattle.mbe_rules.specs.Ops.{items_of};
+ghost use Rattle.mbe.specs.Grammar.{Grammar};
 ghost use Rattle.mbe.specs.Paths.{clash, only};
 ghost use Rattle.mbe.specs.Places.{place_of};
 ghost use Rattle.mbe.specs.Readings as r;
@@ -160,6 +161,46 @@ impl<'a> Settled<'a> {
         }
     }
 
+    // A choice that takes something waits; another is the next thing to do.
+    #[inline(always)]
+    fn take_one(&mut self, choice: Choice<'a>) -> Result<(), AllocError>
+        ensures all { (gr : Grammar) (pattern : Items) (p : u.Place) (all : List Waits) →
+            Leads gr pattern p all self.old.waiting.items self.old.seen.items (self.old.tasks.items ++ (GoOn choice.entry ∷ [])) →
+            OnOk result (Leads gr pattern p all self.new.waiting.items self.new.seen.items self.new.tasks.items) }
+        ensures tasks { (p : u.Place) → Each (HasEnd p) (self.old.tasks.items ++ (GoOn choice.entry ∷ [])) → OnOk result (Each (HasEnd p) self.new.tasks.items) }
+        ensures fewer { (p : u.Place) → OnOk result (tasks_of_all p self.new.tasks.items ≤ tasks_of_all p (self.old.tasks.items ++ (GoOn choice.entry ∷ []))) }
+    {
+        match choice.taken {
+            Some(taken) => {
+                let thread = choice.thread;
+                self.waiting.push(Waiting::Pending { thread, taken })?;
+                Ok(())
+            }
+            None => {
+                self.tasks.push(Task::GoOn(choice))?;
+                Ok(())
+            }
+        }
+    }
+
+    // The same, where there is a choice.
+    #[inline(always)]
+    fn take(&mut self, choice: Option<Choice<'a>>) -> Result<(), AllocError>
+        ensures all { (gr : Grammar) (pattern : Items) (p : u.Place) (all : List Waits) →
+            Leads gr pattern p all self.old.waiting.items self.old.seen.items (self.old.tasks.items ++ planned choice.entry) →
+            OnOk result (Leads gr pattern p all self.new.waiting.items self.new.seen.items self.new.tasks.items) }
+        ensures tasks { (p : u.Place) → Each (HasEnd p) (self.old.tasks.items ++ planned choice.entry) → OnOk result (Each (HasEnd p) self.new.tasks.items) }
+        ensures fewer { (p : u.Place) → OnOk result (tasks_of_all p self.new.tasks.items ≤ tasks_of_all p (self.old.tasks.items ++ planned choice.entry)) }
+    {
+        match choice {
+            None => Ok(()),
+            Some(next) => {
+                self.take_one(next)?;
+                Ok(())
+            }
+        }
+    }
+
     // Goes on with a thread that has taken nothing here.
     fn go_on<G: FragmentGrammar>(
         &mut self,
@@ -183,7 +224,7 @@ impl<'a> Settled<'a> {
         }
         let (first, second) = thread.choices(arena, grammar, place)?;
         self.plan(second)?;
-        self.plan(first)?;
+        self.take(first)?;
         Ok(())
     }
 
