@@ -9,6 +9,7 @@ use Rattle.mbe.specs.Paths.{IsAmong}
 use Rattle.mbe.specs.Places.{place_after}
 use Rattle.mbe.specs.Positions.{IsIn}
 use Rattle.mbe.specs.Readings as r
+use Rattle.mbe.specs.Rounds.{WaitsAlone}
 use Rattle.mbe.specs.Settled.{IsTwice, Stands, sorts, IsKept, planned, IsSound, IsSoundChoice, IsCovered, IsDue, Leads}
 use Rattle.mbe.specs.Threads.{Made, Waits, waits, waiting_of, moves_of, contributes, extended, made_of, given, state_of, is_some_taken, is_trees, same_state}
 use Rattle.mbe.specs.Units as u
@@ -85,6 +86,19 @@ module _ (gr : Grammar) (pattern : Items) (p : u.Place) where
         n.found ++ (w ∷ []),
         subst (IsKept [] (n.found ++ (w ∷ []))) (sym (waits-push ws (Ended t.moves))) (kept-one n.found (waits p ws) w n.kept),
         all-covered n.found (w ∷ []) seen n.covered,
+        subst (λ x. IsDue gr pattern p (n.found ++ x) (reverse ts) all) i n.due,
+      )
+
+  -- one that waits alone after another waits
+  pub alone-waits : (all : List Waits) (ws : List d.Waiting) (seen : List Seen) (ts : List Task) (t : Thread) (w : d.Waiting) → WaitsAlone gr p t w →
+      Leads gr pattern p all ws seen (ts ++ (GoOn (as_choice t) ∷ [])) → Leads gr pattern p all (ws ++ (w ∷ [])) seen ts
+  alone-waits all ws seen ts t w e h =
+      let n = next all ws seen ts (as_choice t) h in
+      let s = n.sound refl in
+      let i = e (r.room pattern) s.0 in (
+        n.found ++ (waiting_of p w ∷ []),
+        subst (IsKept [] (n.found ++ (waiting_of p w ∷ []))) (sym (waits-push ws w)) (kept-one n.found (waits p ws) (waiting_of p w) n.kept),
+        all-covered n.found (waiting_of p w ∷ []) seen n.covered,
         subst (λ x. IsDue gr pattern p (n.found ++ x) (reverse ts) all) i n.due,
       )
 

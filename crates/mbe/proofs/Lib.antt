@@ -22,6 +22,8 @@ pub mod LentLemmas
 pub mod OpsLemmas
 pub mod RungLemmas
 pub mod SettlingLemmas
+pub mod RoundLemmas
+pub mod BlockedLemmas
 pub mod PositionLemmas
 pub mod ThinLemmas
 pub mod KeptLemmas

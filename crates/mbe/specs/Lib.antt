@@ -23,6 +23,8 @@ pub mod Waiting
 pub mod Positions
 pub mod Places
 pub mod Settled
+pub mod Rounds
+pub mod Blocked
 pub mod Collecting
 pub mod Room
 pub mod Putting

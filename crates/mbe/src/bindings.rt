@@ -38,6 +38,7 @@ pub struct Bindings<'a> {
 }
 
 // Puts empty lists at the end, for the rounds before this one that have no value.
+#[inline(always)]
 fn fill_up<'a>(values: &mut Vec<Binding<'a>>, round: usize) -> Result<(), AllocError>
     ensures filled { OnOk result (round ≤ length values.new.items) }
     ensures same { OnOk result ((b : spec.Binding) → value_put round b (values_of values.new.items) ≡ value_put round b (values_of values.old.items)) }
@@ -50,6 +51,7 @@ fn fill_up<'a>(values: &mut Vec<Binding<'a>>, round: usize) -> Result<(), AllocE
 }
 
 // Puts the value of a round at the end, after empty lists for the rounds before it that have none.
+#[inline(always)]
 fn put_value<'a>(
     values: &mut Vec<Binding<'a>>,
     round: usize,
@@ -63,6 +65,7 @@ fn put_value<'a>(
 }
 
 // What a name stands for after a round: one that holds no list keeps what it has.
+#[inline(always)]
 fn with_round<'a>(
     binding: Binding<'a>,
     round: usize,
@@ -89,6 +92,7 @@ fn first_of<'a>(alloc: Global, round: usize, value: Binding<'a>) -> Result<Bindi
 
 impl<'a> Bound<'a> {
     // The name has its value of a round.
+    #[inline(always)]
     fn add_round(&mut self, round: usize, value: Binding<'a>) -> Result<(), AllocError>
         ensures name { OnOk result (self.new.name.now ≡ self.old.name.now) }
         ensures binding { OnOk result (standing_for self.new.binding ≡ with_round round (standing_for value.entry) (Some (standing_for self.old.binding))) }
@@ -119,6 +123,7 @@ impl<'a> Bindings<'a> {
     }
 
     // Where a name stands.
+    #[inline]
     fn position(&self, name: &Symbol) -> Option<usize>
         ensures { result ≡ place_among name.now self.now.bound.items }
     {
@@ -141,6 +146,7 @@ impl<'a> Bindings<'a> {
     }
 
     /// The name stands for this, in place of what it stood for.
+    #[inline]
     pub(crate) fn bind(&mut self, name: &'a Symbol, binding: Binding<'a>) -> Result<(), AllocError>
         ensures { OnOk result (map_of self.new ≡ bind name.now (standing_for binding.entry) (map_of self.old)) }
     {
@@ -158,6 +164,7 @@ impl<'a> Bindings<'a> {
     }
 
     // The name has this value in a round; one that holds no list keeps what it has.
+    #[inline(always)]
     fn bind_in_round(
         &mut self,
         round: usize,
@@ -181,6 +188,7 @@ impl<'a> Bindings<'a> {
     }
 
     /// The names that are bound in a round have their values of it, and the round holds none any more.
+    #[inline]
     pub(crate) fn bind_round(
         &mut self,
         number: usize,

@@ -57,6 +57,7 @@ impl<'a> Open<'a> {
     ghost use Rattle.mbe.specs.Collecting.{open_of};
 
     // One round more has ended.
+    #[inline(always)]
     fn with_round(self, round: &mut Bindings<'a>) -> Result<Open<'a>, AllocError>
         ensures bound { IfOk result (λ o. open_of o ≡ (bind_round self.entry.rounds (map_of round.old) (map_of self.entry.around), suc self.entry.rounds)) }
         ensures left { IfOk result (λ o. map_of round.new ≡ []) }
@@ -94,6 +95,7 @@ impl<'a> Collected<'a> {
     }
 
     // A round ends, and another begins.
+    #[inline]
     fn end_round(&mut self) -> Result<(), AllocError>
         ensures { OnOk result (collected_of self.new ≡ after r.next_round (collected_of self.old)) }
     {
@@ -119,6 +121,7 @@ impl<'a> Collected<'a> {
     }
 
     // One more move is made.
+    #[inline]
     fn add(&mut self, alloc: Global, made: Move<'a>) -> Result<(), AllocError>
         ensures { OnOk result (collected_of self.new ≡ after (move_of made.entry) (collected_of self.old)) }
     {

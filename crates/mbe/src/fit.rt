@@ -19,6 +19,7 @@ ghost use Rattle.tt_data.specs.declared.span.Span.{Span};
 ghost use Rattle.tt_data.specs.fault.TtFault.TheVariants.{Tokens};
 
 use crate::bindings::Bindings;
+use crate::blocked::is_blocked;
 use crate::collecting::bindings_of;
 use crate::filling::fill;
 use crate::matcher::match_pattern;
@@ -54,8 +55,8 @@ fn filled<M: Fn(Span) -> Span>(
     }
 }
 
-// What one rule makes of an argument: none where it does not fit.
-fn rule_fit<G: FragmentGrammar, M: Fn(Span) -> Span>(
+// What one rule makes of an argument that its pattern is read against: none where it does not fit.
+fn read_fit<G: FragmentGrammar, M: Fn(Span) -> Span>(
     alloc: Global,
     grammar: &G,
     rule: &Rule,
@@ -77,6 +78,29 @@ fn rule_fit<G: FragmentGrammar, M: Fn(Span) -> Span>(
     };
     let bindings = bindings_of(alloc, last)?;
     filled(alloc, &rule.template, &bindings, marker, top)
+}
+
+// What one rule makes of an argument: none where it does not fit. Most do not for their first item.
+fn rule_fit<G: FragmentGrammar, M: Fn(Span) -> Span>(
+    alloc: Global,
+    grammar: &G,
+    rule: &Rule,
+    argument: TokenTreesView<'_>,
+    marker: &M,
+    top: Delimiter,
+) -> Result<Option<TopSubtree>, TtFault>
+    requires pattern { has_empty_round (items_of rule.now.pattern.items) ≡ false }
+    requires marker { M.IsAlwaysCallable marker.now }
+    ensures tree { (mark : Span → Span) → IsMarkedBy (M.post marker.now) mark → IfOk result (λ o. o
+        ≡ option_map (within top) (spec.rule_fit is_name (G.answer grammar.now) mark (rule_of rule.now) (forest argument.entry))) }
+    ensures faults { IfErr result IsWantOfRoom }
+    ensures tokens { (mark : Span → Span) → IsMarkedBy (M.post marker.now) mark → result ≡ Err Tokens →
+        template_bursts is_name (G.answer grammar.now) mark (rule_of rule.now) (the_reading (G.answer grammar.now) (items_of rule.now.pattern.items) (forest argument.entry)) ≡ true }
+{
+    if is_blocked(alloc, &rule.pattern, argument) {
+        return Ok(None);
+    }
+    read_fit(alloc, grammar, rule, argument, marker, top)
 }
 
 // The same, where the rule has this style.

@@ -2,6 +2,7 @@
 #![tactic(auto)]
 
 pub mod bindings;
+mod blocked;
 mod choices;
 pub mod collecting;
 mod declarative;
@@ -16,6 +17,7 @@ pub mod laws;
 pub mod matcher;
 mod place;
 mod putting;
+mod rounds;
 pub mod threads;
 mod transcriber;
 mod uses;

@@ -4,6 +4,7 @@ ghost use Rattle.std.specs.List.{flat_map, list_any};
 ghost use Rattle.tt.specs.Views.{forest};
 ghost use Rattle.mbe_rules.specs.Items.{Items, has_empty_round};
 ghost use Rattle.mbe_rules.specs.Ops.{items_of};
+ghost use Rattle.mbe.specs.Grammar.{Grammar};
 ghost use Rattle.mbe.specs.Paths.{clash, only};
 ghost use Rattle.mbe.specs.Places.{place_of};
 ghost use Rattle.mbe.specs.Readings as r;
@@ -145,6 +146,7 @@ impl<'a> Settled<'a> {
     }
 
     // A choice, where there is one, is the next thing to do.
+    #[inline]
     fn plan(&mut self, choice: Option<Choice<'a>>) -> Result<(), AllocError>
         ensures waiting { OnOk result (self.new.waiting.items ≡ self.old.waiting.items) }
         ensures seen { OnOk result (self.new.seen.items ≡ self.old.seen.items) }
@@ -154,6 +156,46 @@ impl<'a> Settled<'a> {
             None => Ok(()),
             Some(choice) => {
                 self.tasks.push(Task::GoOn(choice))?;
+                Ok(())
+            }
+        }
+    }
+
+    // A choice that takes something waits; another is the next thing to do.
+    #[inline(always)]
+    fn take_one(&mut self, choice: Choice<'a>) -> Result<(), AllocError>
+        ensures all { (gr : Grammar) (pattern : Items) (p : u.Place) (all : List Waits) →
+            Leads gr pattern p all self.old.waiting.items self.old.seen.items (self.old.tasks.items ++ (GoOn choice.entry ∷ [])) →
+            OnOk result (Leads gr pattern p all self.new.waiting.items self.new.seen.items self.new.tasks.items) }
+        ensures tasks { (p : u.Place) → Each (HasEnd p) (self.old.tasks.items ++ (GoOn choice.entry ∷ [])) → OnOk result (Each (HasEnd p) self.new.tasks.items) }
+        ensures fewer { (p : u.Place) → OnOk result (tasks_of_all p self.new.tasks.items ≤ tasks_of_all p (self.old.tasks.items ++ (GoOn choice.entry ∷ []))) }
+    {
+        match choice.taken {
+            Some(taken) => {
+                let thread = choice.thread;
+                self.waiting.push(Waiting::Pending { thread, taken })?;
+                Ok(())
+            }
+            None => {
+                self.tasks.push(Task::GoOn(choice))?;
+                Ok(())
+            }
+        }
+    }
+
+    // The same, where there is a choice.
+    #[inline(always)]
+    fn take(&mut self, choice: Option<Choice<'a>>) -> Result<(), AllocError>
+        ensures all { (gr : Grammar) (pattern : Items) (p : u.Place) (all : List Waits) →
+            Leads gr pattern p all self.old.waiting.items self.old.seen.items (self.old.tasks.items ++ planned choice.entry) →
+            OnOk result (Leads gr pattern p all self.new.waiting.items self.new.seen.items self.new.tasks.items) }
+        ensures tasks { (p : u.Place) → Each (HasEnd p) (self.old.tasks.items ++ planned choice.entry) → OnOk result (Each (HasEnd p) self.new.tasks.items) }
+        ensures fewer { (p : u.Place) → OnOk result (tasks_of_all p self.new.tasks.items ≤ tasks_of_all p (self.old.tasks.items ++ planned choice.entry)) }
+    {
+        match choice {
+            None => Ok(()),
+            Some(next) => {
+                self.take_one(next)?;
                 Ok(())
             }
         }
@@ -182,7 +224,7 @@ impl<'a> Settled<'a> {
         }
         let (first, second) = thread.choices(arena, grammar, place)?;
         self.plan(second)?;
-        self.plan(first)?;
+        self.take(first)?;
         Ok(())
     }
 
@@ -295,7 +337,37 @@ impl<'a> Settled<'a> {
         Ok(())
     }
 
+    // The same, but a thread that is seen to lead to one alone makes no tasks.
+    #[inline(always)]
+    fn settle_next<G: FragmentGrammar>(
+        &mut self,
+        arena: &'a Bump,
+        grammar: &G,
+        thread: Thread<'a>,
+        place: &Place<'a>,
+    ) -> Result<(), AllocError>
+        requires tasks { self.now.tasks.items ≡ [] }
+        requires good { IsGood (state_of thread (place_of place.now)) }
+        ensures done { OnOk result (self.new.tasks.items ≡ []) }
+        ensures all { let p = place_of place.now in let gr = G.answer grammar.now in (pattern : Items) (all : List Waits) →
+            Leads gr pattern p all self.old.waiting.items self.old.seen.items (GoOn (record { thread = thread.entry; taken = None }) ∷ []) →
+            OnOk result (Leads gr pattern p all self.new.waiting.items self.new.seen.items self.new.tasks.items) }
+    {
+        let next = thread.alone(arena, grammar, place)?;
+        match next {
+            Some(w) => {
+                self.waiting.push(w)?;
+                Ok(())
+            }
+            None => {
+                self.settle(arena, grammar, thread, place)?;
+                Ok(())
+            }
+        }
+    }
+
     // Appends the threads that wait after one that waited at the place before.
+    #[inline(always)]
     fn advance<G: FragmentGrammar>(
         &mut self,
         arena: &'a Bump,
@@ -316,7 +388,7 @@ impl<'a> Settled<'a> {
                 Ok(())
             }
             Waiting::Pending { thread, .. } => {
-                self.settle(arena, grammar, *thread, place)?;
+                self.settle_next(arena, grammar, *thread, place)?;
                 Ok(())
             }
         }
@@ -345,6 +417,7 @@ impl<'a> Settled<'a> {
     }
 
     // Hands the threads that wait over, and holds none.
+    #[inline(always)]
     fn hand_over(&mut self, waiting: &mut Vec<Waiting<'a>>)
         ensures handed { waiting.new.items ≡ self.old.waiting.items }
         ensures waiting { self.new.waiting.items ≡ [] }
@@ -358,6 +431,7 @@ impl<'a> Settled<'a> {
 }
 
 // Whether a thread takes a fragment while another takes something too.
+#[inline]
 fn has_clash(waiting: &[Waiting<'_>]) -> bool
     ensures { result ≡ clash (flat_map takings_of waiting.now) }
 {
@@ -377,6 +451,7 @@ fn has_clash(waiting: &[Waiting<'_>]) -> bool
 }
 
 // What the first waiting thread takes.
+#[inline]
 fn first_taken(waiting: &[Waiting<'_>]) -> Option<Taken>
     ensures { result ≡ head_taken waiting.now }
 {

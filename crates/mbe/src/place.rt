@@ -34,6 +34,7 @@ pub(crate) enum Taken {
 }
 
 // The same list again.
+#[inline(always)]
 fn again<'a>(trees: &TtIter<'a>) -> TtIter<'a>
     ensures { result ≡ trees.now }
 {
@@ -56,6 +57,7 @@ fn after_first<'a>(trees: &TtIter<'a>) -> TtIter<'a>
 }
 
 // The trees after the first ones.
+#[inline(always)]
 pub(crate) fn past<'a>(trees: &TtIter<'a>, count: usize) -> TtIter<'a>
     ensures { result ≡ past count trees.now }
 {
@@ -69,6 +71,7 @@ pub(crate) fn past<'a>(trees: &TtIter<'a>, count: usize) -> TtIter<'a>
 }
 
 // The first trees.
+#[inline(always)]
 pub(crate) fn before<'a>(trees: &TtIter<'a>, count: usize) -> TokenTreesView<'a>
     ensures { forest result ≡ before count trees.now }
 {
@@ -114,6 +117,7 @@ fn same_puncts(puncts: &[Punct], trees: &TtIter<'_>, count: usize) -> bool
 }
 
 impl<'a> Place<'a> {
+    #[inline(always)]
     pub(crate) fn is_end(&self) -> bool
         ensures { result ≡ u.is_end (place_of self.now) }
     {
@@ -123,6 +127,7 @@ impl<'a> Place<'a> {
         self.outer.is_empty()
     }
 
+    #[inline(always)]
     pub(crate) fn is_closing(&self) -> bool
         ensures { result ≡ same_unit closing (unit_at (place_of self.now)) }
     {
@@ -141,6 +146,7 @@ impl<'a> Place<'a> {
         }
     }
 
+    #[inline]
     #[tactic(auto, using(crate::proofs::LentLemmas::named, crate::proofs::LentLemmas::unnamed))]
     pub(crate) fn is_name(&self, name: &Symbol) -> bool
         ensures { result ≡ same_unit (a_name name.now) (unit_at (place_of self.now)) }
@@ -211,6 +217,7 @@ impl<'a> Place<'a> {
     }
 
     /// The place after a move.
+    #[inline]
     #[tactic(auto, using(crate::proofs::LentLemmas::past_unit, crate::proofs::LentLemmas::into_group))]
     pub(crate) fn after(self, taken: Taken) -> Result<Place<'a>, AllocError>
         ensures { IfOk result (λ p. place_of p ≡ place_after (place_of self.entry) (Some taken)) }
@@ -308,6 +315,7 @@ fn literal_trees(trees: &TtIter<'_>) -> Option<usize>
     }
 }
 
+#[inline]
 #[tactic(auto, using(crate::proofs::LentLemmas::a_punct_leaf, crate::proofs::LentLemmas::tree_else))]
 fn tree_trees(trees: &TtIter<'_>) -> Option<usize>
     ensures { result ≡ tree_trees trees.now }
@@ -415,6 +423,7 @@ fn asked<G: FragmentGrammar>(
 }
 
 /// How many trees a variable of a kind takes at the head of a list, if any.
+#[inline]
 pub(crate) fn fragment_trees<G: FragmentGrammar>(
     grammar: &G,
     kind: MetaVarKind,

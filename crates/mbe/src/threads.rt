@@ -68,6 +68,7 @@ pub struct Entry<'a> {
 }
 
 // The log with one more move.
+#[inline(always)]
 pub(crate) fn extended<'a>(
     arena: &'a Bump,
     before: Option<&'a Entry<'a>>,
@@ -89,6 +90,7 @@ pub(crate) struct Rung<'a> {
 }
 
 // The groups and rounds with one more inside.
+#[inline(always)]
 pub(crate) fn inside<'a>(
     arena: &'a Bump,
     around: Option<&'a Rung<'a>>,
@@ -112,6 +114,7 @@ pub(crate) struct Thread<'a> {
 
 impl<'a> Thread<'a> {
     // The thread after a move, in these groups and rounds.
+    #[inline(always)]
     pub(crate) fn moved(
         &self,
         arena: &'a Bump,
@@ -132,6 +135,7 @@ impl<'a> Thread<'a> {
     }
 
     // Whether the pattern is read to its end.
+    #[inline(always)]
     pub(crate) fn has_ended(&self, place: &Place<'a>) -> bool
         ensures { result ≡ r.has_used_up (state_of self.now (place_of place.now)) }
     {

@@ -20,12 +20,12 @@ returns-clause-all g c = λ pattern all h.
     let gr = g.G.FragmentGrammar.answer c.args.grammar.now in
     let p = place_of c.args.place.now in
     let s = c.args.self.now in
-    same-leads gr pattern p all s.waiting.items c.plan-2.new.self.waiting.items s.seen.items c.plan-2.new.self.seen.items
-    ((s.tasks.items ++ planned c.in_ok-first.second) ++ planned c.in_ok-first.first) c.plan-2.new.self.tasks.items
-    (c.in_ok-plan-2.ensures.waiting ∙ c.in_ok-plan.ensures.waiting) (c.in_ok-plan-2.ensures.seen ∙ c.in_ok-plan.ensures.seen)
-    (c.in_ok-plan-2.ensures.tasks ∙ ap (λ ts. ts ++ planned c.in_ok-first.first) c.in_ok-plan.ensures.tasks)
+    c.in_ok-take.ensures.all gr pattern p all
+    (same-leads gr pattern p all s.waiting.items c.plan.new.self.waiting.items s.seen.items c.plan.new.self.seen.items
+    ((s.tasks.items ++ planned c.in_ok-first.second) ++ planned c.in_ok-first.first) (c.plan.new.self.tasks.items ++ planned c.in_ok-first.first)
+    c.in_ok-plan.ensures.waiting c.in_ok-plan.ensures.seen (ap (λ ts. ts ++ planned c.in_ok-first.first) c.in_ok-plan.ensures.tasks)
     (goes-on gr pattern p all s.waiting.items s.seen.items s.tasks.items c.args.thread c.in_ok-first.first c.in_ok-first.second
-    (sym c.if-has_ended.false ∙ c.has_ended.ensures) c.in_ok-first.ensures h)
+    (sym c.if-has_ended.false ∙ c.has_ended.ensures) c.in_ok-first.ensures h))
 
 pub returns-then-has_ended-clause-fewer : goal.returns-then-has_ended-clause-fewer
 returns-then-has_ended-clause-fewer g c =
@@ -35,14 +35,16 @@ pub returns-clause-tasks : goal.returns-clause-tasks
 returns-clause-tasks g c =
     let gr = g.G.FragmentGrammar.answer c.args.grammar.now in
     let p = place_of c.args.place.now in
-    (plans gr p (moves_of c.args.thread.moves) (state_of c.args.thread p) c.args.self.now.tasks.items c.plan-2.new.self.tasks.items c.in_ok-first.first c.in_ok-first.second
+    c.in_ok-take.ensures.tasks p
+    (plans gr p (moves_of c.args.thread.moves) (state_of c.args.thread p) c.args.self.now.tasks.items (c.plan.new.self.tasks.items ++ planned c.in_ok-first.first) c.in_ok-first.first c.in_ok-first.second
     c.in_ok-first.ensures c.requires.good c.requires.tasks
-    (c.in_ok-plan-2.ensures.tasks ∙ ap (λ ts. ts ++ planned c.in_ok-first.first) c.in_ok-plan.ensures.tasks)).0
+    (ap (λ ts. ts ++ planned c.in_ok-first.first) c.in_ok-plan.ensures.tasks)).0
 
 pub returns-clause-fewer : goal.returns-clause-fewer
 returns-clause-fewer g c =
     let gr = g.G.FragmentGrammar.answer c.args.grammar.now in
     let p = place_of c.args.place.now in
-    (plans gr p (moves_of c.args.thread.moves) (state_of c.args.thread p) c.args.self.now.tasks.items c.plan-2.new.self.tasks.items c.in_ok-first.first c.in_ok-first.second
+    let all = plans gr p (moves_of c.args.thread.moves) (state_of c.args.thread p) c.args.self.now.tasks.items (c.plan.new.self.tasks.items ++ planned c.in_ok-first.first) c.in_ok-first.first c.in_ok-first.second
     c.in_ok-first.ensures c.requires.good c.requires.tasks
-    (c.in_ok-plan-2.ensures.tasks ∙ ap (λ ts. ts ++ planned c.in_ok-first.first) c.in_ok-plan.ensures.tasks)).1
+    (ap (λ ts. ts ++ planned c.in_ok-first.first) c.in_ok-plan.ensures.tasks) in
+    omega (arith, all.1, c.in_ok-take.ensures.fewer p)

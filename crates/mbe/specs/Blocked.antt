@@ -1,0 +1,12 @@
+-- Patterns that cannot begin
+use Rattle.std.specs.Prelude.{Bool, false, not}
+use Rattle.mbe_rules.specs.Items.{dollar, Items, done, item, group_of, repetition}
+use Rattle.mbe.specs.Units.{Place, same_unit, unit_of, unit_at, opening, is_end}
+
+-- no move is made from these items at a place, whatever a grammar says: the first needs another unit, or none are left and trees are
+abbrev pub is_blocked : Items → Place → Bool
+is_blocked done p = not (is_end p)
+is_blocked (item (dollar d s) rest) p = false
+is_blocked (item i rest) p = not (same_unit (unit_of i) (unit_at p))
+is_blocked (group_of d inner rest) p = not (same_unit (opening d.kind) (unit_at p))
+is_blocked (repetition body sep op rest) p = false

@@ -1,0 +1,40 @@
+-- Rounds of one variable, where no other way leads on
+use Rattle.std.specs.Prelude.{◌≡◌, ℕ, true, List, [], ◌∷◌, map, Some, None}
+use Rattle.tt_data.specs.declared.span.Span.{Span}
+use Rattle.mbe_rules.specs.Items.{dollar, variable, Items, done, item}
+use Rattle.mbe_rules.specs.declared.parser.MetaVarKind.{MetaVarKind}
+use Rattle.mbe_rules.specs.declared.parser.RepeatKind.{RepeatKind}
+use Rattle.mbe.specs.Grammar.{Grammar}
+use Rattle.mbe.specs.Readings.{Frame, in_group, in_round, parted, may_repeat}
+use Rattle.mbe.specs.Threads.{frame_of, moves_of, state_of, waiting_of}
+use Rattle.mbe.specs.Units as u
+use Rattle.mbe.specs.Waiting.{Good, prefixed, settled_at}
+use Rattle.mbe.specs.declared.matcher.Waiting as d
+use Rattle.mbe.specs.declared.threads.Frame.TheVariants.{InRound}
+use Rattle.mbe.specs.declared.threads.Round.{Round}
+use Rattle.mbe.specs.declared.threads.Thread.{Thread}
+
+-- in a round of one variable, without separator, after whose last round no items come
+abbrev pub lone : List ℕ → MetaVarKind → Span → RepeatKind → Frame
+lone n k s op = in_round (item (dollar (variable n (Some k)) s) done) None op done
+
+-- such a round may be followed by another
+abbrev pub IsLone : Round → List ℕ → MetaVarKind → Type 0
+IsLone x n k = (s : Span) × (frame_of (InRound x) ≡ lone n k s x.kind) × (may_repeat x.kind ≡ true)
+
+-- what goes on after a list of items goes on at an end alone, of a group or of the argument
+abbrev pub IsShut : List Frame → Type 0
+IsShut [] = Unit {0}
+IsShut (in_group after ∷ fs) = Unit {0}
+IsShut (in_round body sep op after ∷ fs) = ⊥
+IsShut (parted body sep op after ∷ fs) = ⊥
+
+-- such a round has ended, and only another leads on, but at an end
+abbrev pub HasLone : Items → List Frame → List ℕ → MetaVarKind → Type 0
+HasLone items frames n k =
+    (items ≡ done) × ((s : Span) × (op : RepeatKind) × (fs : List Frame) × (frames ≡ lone n k s op ∷ fs) × (may_repeat op ≡ true) × IsShut fs)
+
+-- all that waits after a thread is settled is this
+abbrev pub WaitsAlone : Grammar → u.Place → Thread → d.Waiting → Type 0
+WaitsAlone gr p t w =
+    (N : ℕ) → Good N (state_of t p) → map (prefixed (moves_of t.moves)) (settled_at gr (state_of t p)) ≡ waiting_of p w ∷ []

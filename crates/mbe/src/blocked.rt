@@ -1,0 +1,44 @@
+//! Arguments that a pattern cannot begin at.
+ghost use Rattle.std.specs.Prelude.{◌≡◌, []};
+ghost use Rattle.mbe_rules.specs.Items.{Items};
+ghost use Rattle.mbe_rules.specs.Ops.{items_of, put_op};
+ghost use Rattle.mbe.specs.Blocked.{is_blocked};
+ghost use Rattle.mbe.specs.Places.{place_of};
+ghost use Rattle.mbe.specs.Units as u;
+ghost use Rattle.tt.specs.Views.{forest};
+
+use crate::place::Place;
+use mbe_rules::Op;
+use std::alloc::Global;
+use tt::TokenTreesView;
+
+// Whether an item needs a unit that is not here.
+#[inline]
+fn is_elsewhere(op: &Op, place: &Place<'_>) -> bool
+    ensures { (rest : Items) → result ≡ is_blocked (put_op op.now rest) (place_of place.now) }
+{
+    match op {
+        Op::Literal(literal) => !place.is_literal(literal),
+        Op::Ident(ident) => !place.is_name(&ident.sym),
+        Op::Punct(puncts) => !place.is_puncts(puncts),
+        Op::Lifetime(_, ident) => !place.is_lifetime(&ident.sym),
+        Op::Subtree { delimiter, .. } => !place.is_opening(delimiter.kind),
+        _ => false,
+    }
+}
+
+/// Whether the first item of a pattern needs a unit that the argument does not begin with, or the pattern is
+/// empty and the argument is not. It asks for no memory.
+#[inline]
+pub(crate) fn is_blocked(alloc: Global, pattern: &[Op], argument: TokenTreesView<'_>) -> bool
+    ensures { result ≡ is_blocked (items_of pattern.now) (u.place (forest argument.entry) []) }
+{
+    let place = Place {
+        rest: argument.iter(),
+        outer: Vec::new(alloc),
+    };
+    match pattern.split_first() {
+        Some((op, _rest)) => is_elsewhere(op, &place),
+        None => !place.is_end(),
+    }
+}

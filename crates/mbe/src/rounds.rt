@@ -1,0 +1,133 @@
+//! Rounds of one variable, where no other way leads on.
+ghost use Rattle.std.specs.Prelude.{◌≡◌, true, [], ◌∷◌, ◌++◌, IfOk, IfSome};
+ghost use Rattle.mbe_rules.specs.Trees.{before};
+ghost use Rattle.mbe_rules.specs.Ops.{items_of};
+ghost use Rattle.tt.specs.Views.{forest};
+ghost use Rattle.mbe.specs.Places.{place_of};
+ghost use Rattle.mbe.specs.Readings as r;
+ghost use Rattle.mbe.specs.Rounds.{IsLone, IsShut, HasLone, WaitsAlone};
+ghost use Rattle.mbe.specs.Threads.{frames_in, frames_of, moves_of};
+
+use crate::matcher::Waiting;
+use crate::place::{Place, Taken, before, fragment_trees};
+use crate::threads::{Frame, Move, Round, Rung, Thread};
+use bumpalo::Bump;
+use fragment_grammar::FragmentGrammar;
+use mbe_rules::{MetaVarKind, Op, RepeatKind};
+use std::alloc::AllocError;
+use symbols::Symbol;
+
+// The variable that is all of a round, where rounds follow each other without separator and nothing comes
+// after the last of them.
+#[inline(always)]
+fn lone_variable<'a>(round: &Round<'a>) -> Option<(&'a Symbol, MetaVarKind)>
+    ensures { IfSome result (λ v. IsLone round.now v.0.now v.1) }
+{
+    if round.separator.is_some() || !round.after.is_empty() {
+        return None;
+    }
+    if round.kind == RepeatKind::ZeroOrOne {
+        return None;
+    }
+    let Some((op, rest)) = round.body.split_first() else {
+        return None;
+    };
+    if !rest.is_empty() {
+        return None;
+    }
+    match op {
+        Op::Var {
+            name,
+            kind: Some(kind),
+            ..
+        } => Some((name, *kind)),
+        _ => None,
+    }
+}
+
+// Whether these groups and rounds, once all their items are passed, are left at an end alone: of a group, or
+// of the argument.
+#[inline(always)]
+fn is_shut<'a>(frames: Option<&'a Rung<'a>>) -> bool
+    ensures { result ≡ true → IsShut (frames_of frames.entry) }
+{
+    match frames {
+        None => true,
+        Some(rung) => match rung.frame {
+            Frame::InGroup { .. } => true,
+            _ => false,
+        },
+    }
+}
+
+impl<'a> Thread<'a> {
+    // The variable of whose rounds one has ended, where no other way leads on but at an end.
+    #[inline(always)]
+    fn lone_variable(&self) -> Option<(&'a Symbol, MetaVarKind)>
+        ensures { IfSome result (λ v. HasLone (items_of self.now.items.now) (frames_of self.now.frames) v.0.now v.1) }
+    {
+        if !self.items.is_empty() {
+            return None;
+        }
+        let Some(rung) = self.frames else {
+            return None;
+        };
+        let Frame::InRound(round) = &rung.frame else {
+            return None;
+        };
+        if !is_shut(rung.around) {
+            return None;
+        }
+        lone_variable(round)
+    }
+
+    // The thread after one more round, of one fragment.
+    #[inline(always)]
+    fn another_round(
+        &self,
+        arena: &'a Bump,
+        name: &'a Symbol,
+        kind: MetaVarKind,
+        count: usize,
+        place: &Place<'a>,
+    ) -> Result<Thread<'a>, AllocError>
+        ensures items { IfOk result (λ t. t.items.now ≡ self.now.items.now) }
+        ensures frames { IfOk result (λ t. frames_in t.frames ≡ frames_in self.now.frames) }
+        ensures moves { IfOk result (λ t. moves_of t.moves ≡ (moves_of self.now.moves ++ (r.next_round ∷ []))
+            ++ (r.fragment_move name.now kind (before count (r.trees_here (place_of place.now))) ∷ [])) }
+    {
+        let round = self.moved(arena, self.items, self.frames, Move::NextRound)?;
+        let trees = before(&place.rest, count);
+        let made = Move::Fragment { name, kind, trees };
+        let thread = round.moved(arena, self.items, self.frames, made)?;
+        Ok(thread)
+    }
+
+    // What alone waits after a thread of which a round has ended, where it is one of a variable and the place
+    // is at no end. Not all that wait alone are found.
+    #[inline]
+    pub(crate) fn alone<G: FragmentGrammar>(
+        &self,
+        arena: &'a Bump,
+        grammar: &G,
+        place: &Place<'a>,
+    ) -> Result<Option<Waiting<'a>>, AllocError>
+        ensures { IfOk result (λ o. IfSome o (λ w. WaitsAlone (G.answer grammar.now) (place_of place.now) self.now w)) }
+    {
+        let Some((name, kind)) = self.lone_variable() else {
+            return Ok(None);
+        };
+        if place.is_end() || place.is_closing() {
+            return Ok(None);
+        }
+        let Some(count) = fragment_trees(grammar, kind, &place.rest) else {
+            return Ok(None);
+        };
+        if count == 0 {
+            return Ok(None);
+        }
+        let thread = self.another_round(arena, name, kind, count, place)?;
+        let taken = Taken::Fragment(count);
+        Ok(Some(Waiting::Pending { thread, taken }))
+    }
+}
