@@ -6,17 +6,11 @@ use Rattle.std.specs.declared.alloc.Global.{Global}
 use Rattle.tt_data.specs.declared.delimiter.Delimiter.{Delimiter}
 use Rattle.mbe_rules.specs.Items.{Items, done, item, group_of, repetition}
 use Rattle.mbe_rules.specs.Ops.{put_op, items_of, separator_of}
+use Rattle.mbe_rules.specs.Reading.{joined_items}
 use Rattle.mbe_rules.specs.declared.parser.RepeatKind.{RepeatKind}
 use Rattle.mbe_rules.specs.declared.parser.Op.{Op, Repeat, Subtree, Repeat', Subtree'}
 use Rattle.mbe_rules.specs.declared.parser.Separator.{Separator}
 use Rattle.mbe_rules.proofs.OpsLemmas.{put-Repeat, put-Subtree}
-
--- items after others
-abbrev joined_items : Items → Items → Items
-joined_items done js = js
-joined_items (item i rest) js = item i (joined_items rest js)
-joined_items (group_of d inner rest) js = group_of d inner (joined_items rest js)
-joined_items (repetition body sep op rest) js = repetition body sep op (joined_items rest js)
 
 put-joined : (o : Op) (is js : Items) → put_op o (joined_items is js) ≡ joined_items (put_op o is) js
 put-joined (Repeat' shape row sep kind) is js = refl

@@ -1,13 +1,10 @@
 -- Equality by `==` of an error with its place.
-use Rattle.std.proofs.Common.{◌≡◌, ◌↔◌, ◌∙◌, Bool, true, ap, refl}
+use Rattle.std.proofs.Common.{◌∙◌, Bool, ap, refl}
 use Rattle.std.specs.Prelude.{◌&&◌}
 use Rattle.std.specs.Cmp.{first_so, second_so}
+use Rattle.tt_data.proofs.EqualityLemmas.{IsEquality}
 
--- a test that is true exactly of a value and itself
-abbrev pub IsEquality : {A : Type 0} → (A → A → Bool) → Type 0
-IsEquality {A} E = (a b : A) → (E a b ≡ true) ↔ (a ≡ b)
-
--- so is the test of both parts of a pair
+-- a test of both parts of a pair is true exactly of a pair and itself, where those of the parts are
 pub pairs : {A B : Type 0} (E : A → A → Bool) (F : B → B → Bool) → IsEquality E → IsEquality F → IsEquality {A = A × B} (λ a b. E a.0 b.0 && F a.1 b.1)
 pairs E F e f a b = (
   λ both.

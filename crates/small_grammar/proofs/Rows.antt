@@ -169,6 +169,12 @@ expressions =
     ∷ ("a . \"s\"", Some 1)
     ∷ ("::", None)
     ∷ ("a::+", Some 1)
+    ∷ ("a + b - c * d / e % f ^ g & h | i && j || k << l >> m == n != o < p > q <= r >= s = t += u -= v *= w /= x %= y ^= z &= a |= b <<= c >>= d .. e ..= f", Some 86)
+    ∷ ("a => b", Some 1)
+    ∷ ("a -> b", Some 1)
+    ∷ ("[ a ] . b", Some 5)
+    ∷ ("{ a } + 1", Some 5)
+    ∷ ("a . b :: c", Some 3)
     ∷ []
 
 expressions-rows : asked entry.Expr expressions ≡ expected expressions
@@ -215,6 +221,7 @@ types =
     ∷ ("& 'a", None)
     ∷ ("r#dyn A", Some 1)
     ∷ ("dyn", None)
+    ∷ ("impl", None)
     ∷ ("a:: b ! [x] y", Some 8)
     ∷ ("fn F", None)
     ∷ ("a<b = >", Some 1)

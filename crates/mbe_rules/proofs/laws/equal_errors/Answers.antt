@@ -1,5 +1,6 @@
 use Rattle.std.proofs.Common.{rules}
-use Rattle.mbe_rules.proofs.ErrorLemmas.{pairs, IsEquality}
+use Rattle.mbe_rules.proofs.ErrorLemmas.{pairs}
+use Rattle.tt_data.proofs.EqualityLemmas.{IsEquality}
 use Rattle.mbe_rules.specs.contracts.errors.ExpandErrorKindPartialEq.TheImpl as of_kind
 use Rattle.mbe_rules.proofs.laws.equal_errors.Goals as goal
 
