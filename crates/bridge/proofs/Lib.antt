@@ -22,6 +22,7 @@ mod SpellingLemmas
 mod EdgeLemmas
 mod PrintStepLemmas
 mod PrintedPartLemmas
+mod PlaceLemmas
 mod OrderLemmas
 mod WrittenLemmas
 mod PlainLemmas

@@ -9,7 +9,7 @@ use Rattle.tt_data.specs.declared.leaf.Leaf.TheVariants as as_leaf
 use Rattle.tt_data.specs.declared.span.Span.{Span}
 use Rattle.bridge.specs.declared.edge.Edge.{Edge}
 use Rattle.bridge.specs.Edges.{are_joined, edge_of, gap_between}
-use Rattle.bridge.specs.PartSteps.{line_behind, part_behind}
+use Rattle.bridge.specs.PartSteps.{PutsBehind, line_behind, part_behind}
 use Rattle.bridge.specs.PrintedParts.{IsPartOf, PartState, PutsPart, ends_last_line, takes_parts}
 use Rattle.bridge.specs.Printers.{Continues, PrinterState, Prints, continued, pending}
 use Rattle.bridge.specs.Printing.{Print, PrintedToken, depth_after, gap, is_visible_step, left_out_from, print_of, printed, spans_of, spelled, step_span, text_from, unspelled, visible}
@@ -229,3 +229,9 @@ part_put s p places takes = λ before steps f part at has more.
     let later : Prints (part_behind s p places) ys all = part_prints s p places f xs ys all shallow ends at (part_before p steps more part) now in
     subst (λ l. Continues (part_behind s p places) ys (print_of l)) (sym (append_assoc before moved more))
     (subst (λ w. Prints (part_behind s p places) (pending w ++ ys) all) (sym alone) later))
+
+-- the same where it may be that nothing was done
+pub part_put_or_not : (s new : PrinterState) (p : PartState) (places : List Span) (done : Bool) → takes_parts s ≡ true → PutsBehind s new p places done
+    → PutsPart s new p places done
+part_put_or_not s new p places true takes is = subst (λ n. PutsPart s n p places true) (sym is) (part_put s p places takes)
+part_put_or_not s new p places false takes is = is

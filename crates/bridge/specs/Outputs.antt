@@ -1,6 +1,9 @@
 -- What the functions of a printer promise each other.
 use Rattle.std.specs.Prelude.{◌≡◌, ℕ, ◌≤◌, List, [], ◌∷◌, ◌++◌, Option, Some, None, length, string_bytes}
+use Rattle.std.specs.declared.vec.Vec.{Vec}
+use Rattle.std.specs.Global.{Global}
 use Rattle.tt_data.specs.Walk.{Step}
+use Rattle.tt_data.specs.declared.span.Span.{Span}
 use Rattle.bridge.specs.declared.edge.Edge.{Edge}
 use Rattle.bridge.specs.declared.output.Output.{Output}
 use Rattle.bridge.specs.declared.output.Saved.{Saved}
@@ -11,7 +14,7 @@ use Rattle.bridge.specs.Printing.{Print, visible}
 abbrev pub state_of : Output → PrinterState
 state_of o = record {
   text = string_bytes o.text;
-  tokens = o.tokens.items;
+  tokens = o.tokens;
   left_out = o.left_out.items;
   depth = o.depth;
   last = o.last;
@@ -48,6 +51,10 @@ gap_behind depth (Some last) next = gap_between depth last next
 -- what is printed
 abbrev pub printed_so_far : PrinterState → Print
 printed_so_far s = record { text = s.text; tokens = s.tokens; left_out = s.left_out }
+
+-- what is printed, with the places in one vector
+abbrev pub print_with : Output → Vec Span Global → Print
+print_with o spans = record { text = string_bytes o.text; tokens = spans.items; left_out = o.left_out.items }
 
 -- how much is printed, and what the next visible token hangs on
 abbrev pub saved_of : PrinterState → Saved

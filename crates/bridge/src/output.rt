@@ -1,8 +1,8 @@
 // What a printer puts together, visible token by visible token.
-ghost use Rattle.std.specs.Prelude.{◌≡◌, ◌≤◌, ◌+◌, ◌∷◌, ◌++◌, [], length, List, None, Some, true, false, OnOk, IsOkUnless, string_bytes, option_map};
+ghost use Rattle.std.specs.Prelude.{◌≡◌, ◌≤◌, ◌+◌, ◌∷◌, ◌++◌, [], length, List, None, Some, true, false, IfOk, OnErr, OnOk, IsOkUnless, string_bytes, option_map};
 ghost use Rattle.std.specs.Str.{IsCharBoundary};
 ghost use Rattle.bridge.specs.Edges.{edge_of};
-ghost use Rattle.bridge.specs.Outputs.{Fits, Grows, Puts, PutsAny, gap_behind, printed_so_far, saved_of, state_of};
+ghost use Rattle.bridge.specs.Outputs.{Fits, Grows, Puts, PutsAny, gap_behind, print_with, printed_so_far, saved_of, state_of};
 ghost use Rattle.bridge.specs.Printers.{Continues, PrinterState, Prints, nothing_put};
 ghost use Rattle.bridge.specs.Printing.{Print, depth_after, is_quote, step_span, visible};
 ghost use Rattle.bridge.specs.PrintSteps.{is_name_leaf};
@@ -14,6 +14,7 @@ ghost use Rattle.tt_data.specs.declared.leaf.Leaf.TheVariants as as_leaf;
 ghost use Rattle.tt_data.specs.fault.TtFault.TheVariants.{Memory};
 
 use crate::edge::{Edge, Gap, closing_edge, gap_between, leaf_edge};
+use crate::places::Places;
 use crate::plain::plain_text;
 use crate::spelling::leaf_spelling;
 use crate::walk_step::WalkStep;
@@ -27,7 +28,7 @@ use tt_data::span::Span;
 #[derive(Drop)]
 pub(crate) struct Output {
     pub(crate) text: String,
-    pub(crate) tokens: Vec<Span>,
+    pub(crate) tokens: Places,
     pub(crate) left_out: Vec<usize>,
     // How many visible groups are open.
     pub(crate) depth: usize,
@@ -92,7 +93,7 @@ fn push_gap(out: &mut Output, next: Edge) -> Result<(), TtFault>
 // Prints a token, behind which so many groups are open.
 #[inline(always)]
 fn add(out: &mut Output, edge: Edge, span: Span, text: &str, depth: usize) -> Result<(), TtFault>
-    requires fits { depth ≤ length out.old.tokens.items + 1 }
+    requires fits { depth ≤ length out.old.tokens + 1 }
     ensures fits { OnOk result (Fits (state_of out.new)) }
     ensures adds { OnOk result ((step : Step) (more : List Step) (all : Print) →
         edge_of step ≡ edge → step_span step ≡ span → depth_after out.old.depth step ≡ depth → spelling step more ≡ Some text.now →
@@ -122,7 +123,9 @@ fn leave_out(out: &mut Output) -> Result<(), TtFault>
     ensures grows { Grows (state_of out.old) (state_of out.new) }
     ensures memory { IsOkUnless result Memory }
 {
-    let place = out.tokens.len() + out.left_out.len();
+    let Some(place) = out.tokens.len().checked_add(out.left_out.len()) else {
+        return Err(TtFault::Memory);
+    };
     match out.left_out.push(place) {
         Ok(()) => Ok(()),
         Err(_) => Err(TtFault::Memory),
@@ -245,6 +248,17 @@ fn put_bracket(
     add(out, edge, span, text, depth)
 }
 
+// One open group more.
+fn deeper(depth: usize) -> Result<usize, TtFault>
+    ensures more { IfOk result (λ more. more ≡ depth + 1) }
+    ensures memory { IsOkUnless result Memory }
+{
+    match depth.checked_add(1) {
+        Some(more) => Ok(more),
+        None => Err(TtFault::Memory),
+    }
+}
+
 // Puts an opening bracket, which is printed where its group is visible.
 fn put_opening(out: &mut Output, kind: DelimiterKind, span: Span) -> Result<(), TtFault>
     requires fits { Fits (state_of out.old) }
@@ -256,7 +270,7 @@ fn put_opening(out: &mut Output, kind: DelimiterKind, span: Span) -> Result<(), 
     let Some(text) = opening(kind) else {
         return Ok(());
     };
-    let depth = out.depth + 1;
+    let depth = deeper(out.depth)?;
     put_bracket(out, Edge::Other, span, text, depth)
 }
 
@@ -304,6 +318,20 @@ pub(crate) fn end(out: &mut Output) -> Result<(), TtFault>
     Ok(())
 }
 
+/// Ends the text, with the places of its tokens in one vector.
+pub(crate) fn end_with_spans(out: &mut Output) -> Result<Vec<Span>, TtFault>
+    requires fits { Fits (state_of out.old) }
+    ensures ends { IfOk result (λ spans. (all : Print) → Continues (state_of out.old) [] all → print_with out.new spans ≡ all) }
+    ensures grows { OnErr result (Grows (state_of out.old) (state_of out.new)) }
+    ensures memory { IsOkUnless result Memory }
+{
+    end(out)?;
+    match out.tokens.take_spans() {
+        Ok(spans) => Ok(spans),
+        Err(_) => Err(TtFault::Memory),
+    }
+}
+
 /// How much was printed at some time, and what the next visible token hung on.
 #[derive(Clone, Copy)]
 pub(crate) struct Saved {
@@ -321,7 +349,7 @@ pub(crate) fn nothing(alloc: Global) -> Output
 {
     Output {
         text: String::new(alloc),
-        tokens: Vec::new(alloc),
+        tokens: Places::new(alloc),
         left_out: Vec::new(alloc),
         depth: 0,
         last: None,

@@ -1,12 +1,14 @@
 //! Printing: trees as text that reads back.
-ghost use Rattle.std.specs.Prelude.{◌≡◌, ◌++◌, ◌∷◌, [], List, OnOk, OnErr, IfOk, IfErr, IfSome, IsOkUnless, is_some};
+ghost use Rattle.std.specs.Prelude.{◌≡◌, ◌++◌, ◌∷◌, [], List, OnOk, OnErr, IfOk, IfErr, IfSome, IsOkUnless, is_some, map};
 ghost use Rattle.bridge.specs.Printing.{print_of};
 ghost use Rattle.tt_data.specs.Walk.{Step, walk};
 ghost use Rattle.tt.specs.Views.{forest};
 ghost use Rattle.tt_data.specs.fault.TtFault.TheVariants.{Memory};
 
-use crate::output::{Output, end, nothing, put_step, restore, save};
-use crate::printed_part::{PrintedPart, as_part, put_behind, takes_parts};
+use crate::held_spans::Shift;
+use crate::output::{Output, end, end_with_spans, nothing, put_step, restore, save};
+use crate::places::Places;
+use crate::printed_part::{PrintedPart, as_part, put_behind, put_shifted, takes_parts};
 use crate::trees_put::put_trees;
 use crate::walk_step::WalkStep;
 use std::alloc::Global;
@@ -22,6 +24,17 @@ pub struct Printed {
     pub text: String,
     /// The places of the printed tokens, in order.
     pub tokens: Vec<Span>,
+    /// The numbers, from 0 on among all visible tokens, of those that have no spelling.
+    pub left_out: Vec<usize>,
+}
+
+/// The same with the places of the printed tokens as they are held.
+#[derive(Drop)]
+pub struct Placed {
+    /// The text, which is read as just the printed tokens.
+    pub text: String,
+    /// The places of the printed tokens, in order.
+    pub tokens: Places,
     /// The numbers, from 0 on among all visible tokens, of those that have no spelling.
     pub left_out: Vec<usize>,
 }
@@ -49,7 +62,8 @@ impl Model for Printer {
 impl Printer {
     ghost use Rattle.bridge.specs.Printers.{HasPut};
     ghost use Rattle.bridge.specs.PrintedParts.{IsPartOf, PutsPart, is_part, takes_parts};
-    ghost use Rattle.bridge.specs.PrintedTrees.{print_in};
+    ghost use Rattle.bridge.specs.HeldSpans.{shifted};
+    ghost use Rattle.bridge.specs.PrintedTrees.{placed_in, print_in};
     ghost use Rattle.bridge.specs.WalkSteps.{step_of};
 
     /// A printer to which nothing was put.
@@ -67,7 +81,7 @@ impl Printer {
         ensures err { OnErr result (self.new ≡ self.old) }
         ensures memory { IsOkUnless result Memory }
     {
-        let alloc = *self.out.tokens.allocator();
+        let alloc = *self.out.left_out.allocator();
         let before = save(&self.out);
         match put_trees(alloc, &mut self.out, view) {
             Ok(()) => Ok(()),
@@ -84,7 +98,7 @@ impl Printer {
         ensures err { OnErr result (self.new ≡ self.old) }
         ensures memory { IsOkUnless result Memory }
     {
-        let alloc = *self.out.tokens.allocator();
+        let alloc = *self.out.left_out.allocator();
         let before = save(&self.out);
         match put_step(alloc, &mut self.out, step) {
             Ok(()) => Ok(()),
@@ -116,11 +130,32 @@ impl Printer {
         }
     }
 
+    /// Puts a part as `put_part` does, with its tokens at their own places, shifted. These are not computed, but kept
+    /// with the part. `false`, and nothing is done, also where they are no places of a text.
+    pub fn put_part_at(&mut self, part: &PrintedPart, shift: Shift) -> Result<bool, TtFault>
+        ensures puts { IfOk result (PutsPart self.old self.new part.now (map (shifted shift) part.now.tokens)) }
+        ensures err { OnErr result (self.new ≡ self.old) }
+        ensures memory { IsOkUnless result Memory }
+    {
+        if !takes_parts(&self.out) {
+            return Ok(false);
+        }
+        let before = save(&self.out);
+        match put_shifted(&mut self.out, part, shift) {
+            Ok(done) => Ok(done),
+            Err(fault) => {
+                restore(&mut self.out, before);
+                Err(fault)
+            }
+        }
+    }
+
     /// All that was put, as a part; `None` where a group is open, a quote waits, a token was left out, or nothing
-    /// was printed.
-    pub fn into_part(self) -> Option<PrintedPart>
-        ensures part { IfSome result (λ part. (steps : List Step) → HasPut self steps → IsPartOf part steps) }
-        ensures told { is_some result ≡ is_part self }
+    /// was printed. `Memory` is its only error.
+    pub fn into_part(self) -> Result<Option<PrintedPart>, TtFault>
+        ensures part { IfOk result (λ o. IfSome o (λ part. (steps : List Step) → HasPut self steps → IsPartOf part steps)) }
+        ensures told { IfOk result (λ o. is_some o ≡ is_part self) }
+        ensures memory { IsOkUnless result Memory }
     {
         as_part(self.out)
     }
@@ -133,8 +168,28 @@ impl Printer {
     {
         let mut out = self.out;
         let before = save(&out);
+        match end_with_spans(&mut out) {
+            Ok(tokens) => Ok(Printed {
+                text: out.text,
+                tokens,
+                left_out: out.left_out,
+            }),
+            Err(fault) => {
+                restore(&mut out, before);
+                Err((Printer { out }, fault))
+            }
+        }
+    }
+
+    /// The same with the places as they are held. A refused call gives the printer back as it was.
+    pub fn finish_placed(self) -> Result<Placed, (Printer, TtFault)>
+        ensures ok { IfOk result (λ p. (steps : List Step) → HasPut self steps → placed_in p ≡ print_of steps) }
+        ensures err { IfErr result (λ e. (e.0 ≡ self) × (e.1 ≡ Memory)) }
+    {
+        let mut out = self.out;
+        let before = save(&out);
         match end(&mut out) {
-            Ok(()) => Ok(Printed {
+            Ok(()) => Ok(Placed {
                 text: out.text,
                 tokens: out.tokens,
                 left_out: out.left_out,

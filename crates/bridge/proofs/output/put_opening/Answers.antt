@@ -12,6 +12,6 @@ returns-clause-puts c =
     let has : open_text c.args.kind ≡ Some c.in-Some.text.now = sym c.opening.ensures ∙ ap (option_map (λ b. b.now)) c.in-Some.is in
     carried c.put_bracket.result _ _
     (λ h more all p.
-    h (opens c.args.kind c.args.span) refl refl refl (λ m. refl) (λ m. has) (visible more) all
+    h (opens c.args.kind c.args.span) refl refl (sym c.in_ok-depth.ensures.more) (λ m. refl) (λ m. has) (visible more) all
     (as_visible (state_of c.args.out.now) (opens c.args.kind c.args.span) more all (opening_visible c.args.kind _ has) p))
     c.put_bracket.ensures.puts

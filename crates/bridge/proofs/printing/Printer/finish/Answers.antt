@@ -10,10 +10,10 @@ use Rattle.bridge.proofs.printing.Printer.finish.Goals as goal
 pub restore-requires : goal.restore-requires
 restore-requires c =
     rw c.save-before.ensures
-    (cut _ _ (IsUtf8-string_bytes c.self.inside.out.text) (IsUtf8-string_bytes c.end.new.out.text) c.end.ensures.grows.text)
+    (cut _ _ (IsUtf8-string_bytes c.self.inside.out.text) (IsUtf8-string_bytes c.end_with_spans.new.out.text) c.in-Err.ensures.grows.text)
 
 pub invariant_of-result : goal.invariant_of-result
-invariant_of-result c = subst Fits (sym (c.restore.ensures (state_of c.self.inside.out) c.save-before.ensures c.end.ensures.grows)) c.self.invariant
+invariant_of-result c = subst Fits (sym (c.restore.ensures (state_of c.self.inside.out) c.save-before.ensures c.in-Err.ensures.grows)) c.self.invariant
 
 pub returns-in-Ok-clause-ok : goal.returns-in-Ok-clause-ok
 returns-in-Ok-clause-ok c = λ steps has.
