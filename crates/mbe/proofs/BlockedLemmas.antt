@@ -7,7 +7,7 @@ use Rattle.mbe.specs.Blocked.{is_blocked}
 use Rattle.mbe.specs.Grammar.{Grammar}
 use Rattle.mbe.specs.Paths.{when}
 use Rattle.mbe.specs.Readings.{at, in_group, next, has_used_up, room, start, takes, is_fragment, the_reading, unit_move}
-use Rattle.mbe.specs.Units.{Place, place, same_unit, unit_of, unit_at, opening, after_unit}
+use Rattle.mbe.specs.Units.{Place, place, after_unit}
 use Rattle.mbe.specs.Waiting.{ended, settled_one, settled_at}
 use Rattle.mbe.proofs.MatchingLemmas.{outcome_at, begun-at, good-start, settled-at}
 

@@ -2,7 +2,6 @@
 ghost use Rattle.std.specs.Prelude.{◌≡◌, true, [], ◌∷◌, ◌++◌, IfOk, IfSome};
 ghost use Rattle.mbe_rules.specs.Trees.{before};
 ghost use Rattle.mbe_rules.specs.Ops.{items_of};
-ghost use Rattle.tt.specs.Views.{forest};
 ghost use Rattle.mbe.specs.Places.{place_of};
 ghost use Rattle.mbe.specs.Readings as r;
 ghost use Rattle.mbe.specs.Rounds.{IsLone, IsShut, HasLone, WaitsAlone};
