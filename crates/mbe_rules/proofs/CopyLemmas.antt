@@ -4,7 +4,7 @@ use Rattle.std.proofs.lemmas.List.{take_more}
 use Rattle.std.specs.declared.vec.Vec.{Vec}
 use Rattle.std.specs.declared.alloc.Global.{Global}
 use Rattle.tt_data.specs.declared.delimiter.Delimiter.{Delimiter}
-use Rattle.mbe_rules.specs.Items.{Items, done, item, group_of, repetition}
+use Rattle.mbe_rules.specs.Items.{Items, done, group_of, repetition}
 use Rattle.mbe_rules.specs.Ops.{put_op, items_of, separator_of}
 use Rattle.mbe_rules.specs.Reading.{joined_items}
 use Rattle.mbe_rules.specs.declared.parser.RepeatKind.{RepeatKind}
