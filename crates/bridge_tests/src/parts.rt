@@ -1,5 +1,5 @@
 //! Parts of what is printed, put behind one another.
-use bridge::{PrintedPart, Printer, Read, WalkStep, read};
+use bridge::{PrintedPart, Printer, Read, Shift, WalkStep, read};
 use rustc_lexer::LexedText;
 use std::test::Fail;
 use tt_data::{Leaf, Punct, Spacing, Span, TtFault};
@@ -20,7 +20,7 @@ fn printer_of(rt: &HostRuntime, text: &str) -> Result<Printer, Fail> {
 
 // The part that is printed of a text.
 fn part_of(rt: &HostRuntime, text: &str) -> Result<PrintedPart, Fail> {
-    match printer_of(rt, text)?.into_part() {
+    match printer_of(rt, text)?.into_part()? {
         Some(part) => Ok(part),
         None => Err(Fail::new("what is printed of a text is no part")),
     }
@@ -68,10 +68,39 @@ fn a_quote_at_the_end_is_no_part(rt: HostRuntime) -> Result<(), Fail> {
     printer.put_step(&WalkStep::Leaf(&quote))?;
     let line = part_of(&rt, "b;")?;
     assert!(rt; !put(&mut printer, &line)?, "a quote waits");
-    assert!(rt; printer.into_part().is_none());
+    assert!(rt; printer.into_part()?.is_none());
     assert!(rt;
-        printer_of(&rt, "")?.into_part().is_none(),
+        printer_of(&rt, "")?.into_part()?.is_none(),
         "nothing is printed"
     );
+    Ok(())
+}
+
+#[test]
+fn parts_stand_where_they_are_put(rt: HostRuntime) -> Result<(), Fail> {
+    let line = part_of(&rt, "a;")?;
+    assert!(rt; line.held().anchor() == Some(0));
+    let mut printer = printer_of(&rt, "b;")?;
+    let shift = Shift {
+        start: 10,
+        base: 20,
+    };
+    assert!(rt; printer.put_part_at(&line, shift)? && printer.put_part_at(&line, shift)?);
+    let far = Shift {
+        start: u32::MAX,
+        base: 0,
+    };
+    assert!(rt; !printer.put_part_at(&line, far)?, "no place of a text");
+    let Ok(placed) = printer.finish_placed() else {
+        return Err(Fail::new("no memory"));
+    };
+    assert!(rt; placed.text.as_str() == "b ;\na ;\na ;\n", "{:?}", placed.text);
+    let mut tokens = placed.tokens;
+    let copy = tokens.try_clone(rt.alloc())?;
+    tokens.truncate(3);
+    let spans = tokens.take_spans()?;
+    assert!(rt; spans.len() == 3 && copy.len() == 6);
+    assert!(rt; copy.get(3).is_some_and(|span| span.range.start == 11));
+    assert!(rt; copy.get(2) == spans.as_slice().get(2).copied() && copy.get(6).is_none());
     Ok(())
 }

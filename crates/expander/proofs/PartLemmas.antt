@@ -1,8 +1,10 @@
 -- What a piece prints by itself, and how it is put out.
-use Rattle.std.proofs.Common.{Global, ◌≡◌, ℕ, ◌+◌, ◌<◌, ◌≤◌, drop, get_or, append_assoc, append-nil, length, subst, List, [], ◌∷◌, ◌++◌, refl, sym, ap, ◌∙◌, Bool, true, false, if◌then◌else◌}
+use Rattle.std.proofs.Common.{Global, ◌⊎◌, inl, inr, ◌≡◌, ℕ, ◌+◌, ◌<◌, ◌≤◌, drop, get_or, append_assoc, append-nil, length, subst, List, [], ◌∷◌, ◌++◌, refl, sym, ap, ◌∙◌, Bool, true, false, ◌&&◌, nat_eq, arith, if◌then◌else◌}
 use Rattle.std.specs.Prelude.{◌||◌, IfOk, Option, Some, None, Result, Ok, Err, filter, map, option_map, unwrap_or}
-use Rattle.std.specs.declared.vec.Vec.{Vec}
-use Rattle.std.specs.List.{list_any}
+use Rattle.std.specs.Rc.{rc_value}
+use Rattle.std.specs.declared.rc.Rc.{Rc}
+use Rattle.std.specs.List.{list_all, list_any}
+use Rattle.std.proofs.lemmas.Bool.Decides.{nat_tests}
 use Rattle.std.proofs.lemmas.List.{at_drop_all, drop_more, map-append}
 use Rattle.std.proofs.lemmas.Simd.{map-map}
 use Rattle.tt_data.specs.Spans.{leaf_with, span_of}
@@ -10,6 +12,8 @@ use Rattle.tt_data.specs.Walk.{Step, at_leaf, opens, closes, step_with}
 use Rattle.tt_data.specs.declared.leaf.Leaf.{Leaf}
 use Rattle.tt_data.specs.declared.leaf.Leaf.TheVariants as as_leaf
 use Rattle.tt_data.specs.declared.span.Span.{Span}
+use Rattle.bridge.specs.HeldSpans.{is_anchored, shifted}
+use Rattle.bridge.specs.declared.held_spans.Shift.{Shift}
 use Rattle.bridge.specs.Printers.{HasPut}
 use Rattle.bridge.specs.Printing as bare_printing
 use Rattle.bridge.specs.Printing.{is_visible_step, step_span}
@@ -18,8 +22,10 @@ use Rattle.expander.specs.Expansion.{PlacedStep, placed}
 use Rattle.expander.specs.Faults.{place, fault_at, is_definition_word}
 use Rattle.expander.specs.HeldParts.{HasPrinted, PrintsOn, PutsHeld, PutsQuiet, has_word, told_in}
 use Rattle.expander.specs.Outcomes.{placed_of}
-use Rattle.expander.specs.OutputSteps.{PutsOut, places_of, words_told}
-use Rattle.expander.specs.Placing.{resolved_by}
+use Rattle.expander.specs.OutputSteps.{PutsOut, places_of, ranges_of, words_told}
+use Rattle.expander.specs.Held.{moved_on}
+use Rattle.expander.specs.Placing.{base_at, resolved_by}
+use Rattle.expander.specs.Starts.{start_at}
 use Rattle.expander.specs.Printing.{steps_of, visible}
 use Rattle.expander.specs.declared.faults.FaultKind.TheVariants.{NestedDefinition}
 use Rattle.expander.specs.declared.held_part.HeldPart.{HeldPart}
@@ -204,7 +210,7 @@ quiet_told (s ∷ more) quiet = go (is_visible_step s.step) (is_definition_word 
 pub puts_part : (old new : PlacedSteps) (steps : List PlacedStep) (f : Span → Span) (told : List Span)
     → ((before : List Step) → HasPut old.printer before → HasPut new.printer (before ++ map (step_with f) (steps_of steps)))
     → has_word (steps_of steps) ≡ false → told ≡ map f (told_of steps)
-    → new.places.items ≡ old.places.items ++ map (λ (s : Span). s.range) told → new.nested.items ≡ old.nested.items
+    → ranges_of new.places ≡ ranges_of old.places ++ map (λ (s : Span). s.range) told → new.nested.items ≡ old.nested.items
     → PutsOut old new (map (placed_with f) steps)
 puts_part old new steps f told puts quiet told_is places nested before has = record {
   printer = subst (HasPut new.printer)
@@ -222,13 +228,6 @@ puts_part old new steps f told puts quiet told_is places nested before has = rec
     moved : List PlacedStep
     moved = map (placed_with f) steps
 
--- where its faults are told
-pub told_none : (p : HeldPart) → p.told ≡ None → told_in p ≡ p.printed.tokens
-told_none p is = ap (λ (o : Option (Vec Span Global)). unwrap_or (option_map (λ told. told.items) o) p.printed.tokens) is
-
-pub told_some : (p : HeldPart) (told : Vec Span Global) → p.told ≡ Some told → told_in p ≡ told.items
-told_some p told is = ap (λ (o : Option (Vec Span Global)). unwrap_or (option_map (λ told. told.items) o) p.printed.tokens) is
-
 -- a part that is put out at the places of a piece in the text
 pub held_puts : {E : Type 0} → (start : ℕ) (starts : Starts) (old new : PlacedSteps) (p : HeldPart) (spans told : List Span) (result : Result Bool E)
     → spans ≡ map (resolved_by start starts) p.printed.tokens → told ≡ map (resolved_by start starts) (told_in p)
@@ -237,3 +236,50 @@ held_puts start starts old new p spans told (Ok true) spans_is told_is puts =
     λ steps right. puts steps (resolved_by start starts) right.quiet spans_is (told_is ∙ ap (map (resolved_by start starts)) right.told)
 held_puts start starts old new p spans told (Ok false) spans_is told_is puts = puts
 held_puts start starts old new p spans told (Err e) spans_is told_is puts = puts
+
+-- ---- places that are not computed yet
+
+-- at the start of the piece, and where its only other anchor counts from
+abbrev pub shift_at : ℕ → Starts → ℕ → Shift
+shift_at start starts a = record { start = start; base = base_at start starts a }
+
+shifted_is : (start : ℕ) (starts : Starts) (a : ℕ) (s : Span) → is_anchored a s ≡ true → shifted (shift_at start starts a) s ≡ resolved_by start starts s
+shifted_is start starts a s h =
+    ap (λ n. moved_on n s) (go (nat_eq s.anchor 0) refl h)
+  where
+    go : (t : Bool) → nat_eq s.anchor 0 ≡ t → (t || nat_eq s.anchor a) ≡ true
+        → (if t then start else (if nat_eq a 0 then start else start_at starts a)) ≡ (if t then start else start_at starts s.anchor)
+    go true is h = refl
+    go false is h =
+        let same : s.anchor ≡ a = grind (arith, nat_tests) in
+        ap (λ n. if nat_eq n 0 then start else start_at starts n) (sym same) ∙ ap (λ (t : Bool). if t then start else start_at starts s.anchor) is
+
+pub all_shifted : (start : ℕ) (starts : Starts) (a : ℕ) (spans : List Span) → list_all (is_anchored a) spans ≡ true
+    → map (shifted (shift_at start starts a)) spans ≡ map (resolved_by start starts) spans
+all_shifted start starts a [] all = refl
+all_shifted start starts a (s ∷ more) all =
+    go (is_anchored a s) refl all (all_shifted start starts a more)
+  where
+    go : (b : Bool) → is_anchored a s ≡ b → (b && list_all (is_anchored a) more) ≡ true
+        → (list_all (is_anchored a) more ≡ true → map (shifted (shift_at start starts a)) more ≡ map (resolved_by start starts) more)
+        → map (shifted (shift_at start starts a)) (s ∷ more) ≡ map (resolved_by start starts) (s ∷ more)
+    go true is h later = ap (λ x. x ∷ map (shifted (shift_at start starts a)) more) (shifted_is start starts a s is) ∙ ap (λ l. resolved_by start starts s ∷ l) (later h)
+    go false is h later = absurd (cc)
+
+-- spans of the piece itself have no other anchor than any
+pub own_anchored : (a : ℕ) (spans : List Span) → list_all (is_anchored 0) spans ≡ true → list_all (is_anchored a) spans ≡ true
+own_anchored a [] all = refl
+own_anchored a (s ∷ more) all = go (nat_eq s.anchor 0) all (own_anchored a more)
+  where
+    go : (t : Bool) → ((t || t) && list_all (is_anchored 0) more) ≡ true → (list_all (is_anchored 0) more ≡ true → list_all (is_anchored a) more ≡ true)
+        → ((t || nat_eq s.anchor a) && list_all (is_anchored a) more) ≡ true
+    go true h later = later h
+    go false h later = absurd (cc)
+
+pub other_anchored : (a b : ℕ) (spans : List Span) → ((b ≡ a) ⊎ ((b ≡ a → ⊥) × (b ≡ 0))) → list_all (is_anchored b) spans ≡ true → list_all (is_anchored a) spans ≡ true
+other_anchored a b spans (inl same) h = subst (λ (n : ℕ). list_all (is_anchored n) spans ≡ true) same h
+other_anchored a b spans (inr none) h = own_anchored a spans (subst (λ (n : ℕ). list_all (is_anchored n) spans ≡ true) none.1 h)
+
+-- where faults of its tokens are told
+pub told_here : (p : HeldPart) (o : Option (Rc (List Span) Global)) → p.told ≡ o → told_in p ≡ unwrap_or (option_map (λ told. rc_value told) o) p.printed.tokens
+told_here p o is = ap (λ (o : Option (Rc (List Span) Global)). unwrap_or (option_map (λ told. rc_value told) o) p.printed.tokens) is

@@ -28,7 +28,7 @@ use Rattle.expander.specs.declared.output.PlacedSteps.{PlacedSteps}
 use Rattle.expander.specs.Expanded.{origin_of}
 use Rattle.expander.specs.Expansion.{PlacedStep}
 use Rattle.expander.specs.Faults.{place, fault_at, is_definition_word, nested, unspellable}
-use Rattle.expander.specs.OutputSteps.{HasOutput, PutsOut, faults_in, places_of, told_in, told_at, tokens_in, words_told}
+use Rattle.expander.specs.OutputSteps.{HasOutput, PutsOut, faults_in, places_of, ranges_of, told_in, told_at, tokens_in, words_told}
 use Rattle.expander.specs.Printing.{bare, visible, printed, left_out, spelled, spelling_before, steps_of, text_of, unspelled}
 
 -- ---- steps are put out one behind the other
@@ -57,7 +57,7 @@ words_told-append xs ys =
 -- one step is put out
 pub puts_step : (old new : PlacedSteps) (s : PlacedStep)
     → ((steps : List Step) → HasPut old.printer steps → HasPut new.printer (steps ++ s.step ∷ []))
-    → new.places.items ≡ old.places.items ++ places_of (s ∷ []) → new.nested.items ≡ old.nested.items ++ words_told (s ∷ [])
+    → ranges_of new.places ≡ ranges_of old.places ++ places_of (s ∷ []) → new.nested.items ≡ old.nested.items ++ words_told (s ∷ [])
     → PutsOut old new (s ∷ [])
 puts_step old new s puts places told before has = record {
   printer = subst (HasPut new.printer) (sym (map-append (λ (s : PlacedStep). s.step) before (s ∷ []))) (puts (steps_of before) has.printer);
@@ -209,12 +209,12 @@ nested_are (s ∷ more) = go (is_definition_word s.step) (spelling_before s.step
 -- ---- all faults of the steps that were put out
 
 pub faults_are : (out : PlacedSteps) (all : List PlacedStep) → HasOutput out all
-    → out.nested.items ++ told_at out.places.items (print_of (steps_of all)).left_out ≡ faults_in all
+    → out.nested.items ++ told_at (ranges_of out.places) (print_of (steps_of all)).left_out ≡ faults_in all
 faults_are out all has =
-    ap (λ l. l ++ told_at out.places.items (print_of (steps_of all)).left_out) (has.nested ∙ sym (nested_are (visible all)))
+    ap (λ l. l ++ told_at (ranges_of out.places) (print_of (steps_of all)).left_out) (has.nested ∙ sym (nested_are (visible all)))
     ∙ ap (λ l. nested (tokens_in all) ++ l)
-    (ap (λ steps. told_at out.places.items (left_out_from 0 steps)) (sym (visible_bare all))
-    ∙ told_left_out out.places.items [] 0 (visible all) has.places refl)
+    (ap (λ steps. told_at (ranges_of out.places) (left_out_from 0 steps)) (sym (visible_bare all))
+    ∙ told_left_out (ranges_of out.places) [] 0 (visible all) has.places refl)
 
 -- a number's fault comes before those of the numbers behind it
 pub told_first : (places : List TextRange) (numbers : List ℕ) (i : ℕ) (d : ℕ) (o : Option TextRange) → i < length numbers → o ≡ slice_get places (get_or numbers i d)

@@ -1,6 +1,7 @@
 -- What a piece prints by itself, and how that is put out.
 use Rattle.std.specs.Prelude.{◌≡◌, ℕ, List, ◌++◌, Bool, true, false, Option, IfSome, map, option_map, unwrap_or}
 use Rattle.std.specs.List.{list_any}
+use Rattle.std.specs.Rc.{rc_value}
 use Rattle.bridge.specs.PrintedParts.{IsPartOf, PartState}
 use Rattle.bridge.specs.Printers.{HasPut}
 use Rattle.tt_data.specs.Walk.{Step}
@@ -21,7 +22,7 @@ use Rattle.expander.specs.declared.starts.Starts.{Starts}
 
 -- where a fault of each of its tokens is told
 abbrev pub told_in : HeldPart → List Span
-told_in p = unwrap_or (option_map (λ told. told.items) p.told) p.printed.tokens
+told_in p = unwrap_or (option_map (λ told. rc_value told) p.told) p.printed.tokens
 
 -- some step is a word that begins a definition
 abbrev pub has_word : List Step → Bool

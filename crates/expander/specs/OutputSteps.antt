@@ -1,6 +1,7 @@
 -- What the code keeps of an output: its steps as they are printed, and where their faults are told.
 use Rattle.std.specs.Prelude.{◌≡◌, ℕ, List, [], ◌∷◌, ◌++◌, Option, Some, None, filter, flat_map, map, slice_get}
 use Rattle.bridge.specs.Printers.{HasPut}
+use Rattle.tt_data.specs.declared.span.Span.{Span}
 use Rattle.tt_data.specs.declared.span.TextRange.{TextRange}
 use Rattle.expander.specs.declared.faults.Fault.{Fault}
 use Rattle.expander.specs.declared.faults.FaultKind.TheVariants.{NestedDefinition, Unspellable}
@@ -8,6 +9,10 @@ use Rattle.expander.specs.declared.output.PlacedSteps.{PlacedSteps}
 use Rattle.expander.specs.Expansion.{PlacedStep}
 use Rattle.expander.specs.Faults.{place, fault_at, is_definition_word, nested, unspellable}
 use Rattle.expander.specs.Printing.{PrintedToken, visible, printed, left_out, spelling_before, steps_of}
+
+-- the ranges of places
+abbrev pub ranges_of : List Span → List TextRange
+ranges_of spans = map (λ s. s.range) spans
 
 -- where a fault of each visible step is told
 abbrev pub places_of : List PlacedStep → List TextRange
@@ -20,7 +25,7 @@ words_told steps = map (λ s. fault_at NestedDefinition (place s)) (filter (λ s
 -- just these steps were put out so far
 pub record HasOutput (out : PlacedSteps) (steps : List PlacedStep) : Type 0 where
   pub printer : HasPut out.printer (steps_of steps)
-  pub places : out.places.items ≡ places_of steps
+  pub places : ranges_of out.places ≡ places_of steps
   pub nested : out.nested.items ≡ words_told steps
 
 -- these steps were put out behind all that were

@@ -1,5 +1,6 @@
 // What a piece prints by itself.
 ghost use Rattle.std.specs.Prelude.{◌≡◌, ◌++◌, ◌∷◌, ◌||◌, [], IfOk, IfSome, List, None, OnOk, Option, map};
+ghost use Rattle.std.specs.Rc.{rc_value};
 ghost use Rattle.bridge.specs.WalkSteps.{step_of};
 ghost use Rattle.tt_data.specs.Walk.{walk};
 ghost use Rattle.tt_data.specs.declared.span.Span.{Span};
@@ -13,8 +14,9 @@ use crate::faults::{is_definition_word, place};
 use crate::outcome::{Outcome, OwnStep, lent};
 use crate::output::is_visible;
 use crate::walk::Walk;
-use bridge::{PrintedPart, Printer, WalkStep, laws};
+use bridge::{HeldSpans, PrintedPart, Printer, WalkStep, laws};
 use std::alloc::{AllocError, Global};
+use std::rc::Rc;
 use tt::top::TopSubtree;
 use tt_data::span::Span;
 
@@ -23,7 +25,7 @@ use tt_data::span::Span;
 pub(crate) struct HeldPart {
     pub printed: PrintedPart,
     /// Where a fault of each of its tokens is told: none where that is at the token itself.
-    pub told: Option<Vec<Span>>,
+    pub told: Option<Rc<HeldSpans>>,
 }
 
 // Steps of a piece, which are printed by themselves as they come.
@@ -107,14 +109,28 @@ fn told_at(alloc: Global, steps: &[OwnStep]) -> Result<Vec<Span>, AllocError>
     Ok(told)
 }
 
+// The same, to be shared.
+fn told_in(alloc: Global, steps: &[OwnStep]) -> Result<Rc<HeldSpans>, AllocError>
+    ensures { IfOk result (λ told. rc_value told ≡ map place (visible (map placed_of steps.now))) }
+{
+    let told = told_at(alloc, steps)?;
+    match Rc::new(alloc, HeldSpans::new(told)) {
+        Ok(told) => Ok(told),
+        Err(_) => Err(AllocError),
+    }
+}
+
 // The part that was printed, if it is one and no token is a word that begins a definition.
-fn part_of(own: OwnPrint) -> Option<PrintedPart>
-    ensures { IfSome result (λ part. (steps : List PlacedStep) → HasPrinted own steps → IsQuietPart part steps) }
+fn part_of(own: OwnPrint) -> Result<Option<PrintedPart>, AllocError>
+    ensures { IfOk result (λ o. IfSome o (λ part. (steps : List PlacedStep) → HasPrinted own steps → IsQuietPart part steps)) }
 {
     if own.has_word {
-        return None;
+        return Ok(None);
     }
-    own.printer.into_part()
+    match own.printer.into_part() {
+        Ok(part) => Ok(part),
+        Err(_) => Err(AllocError),
+    }
 }
 
 // What a tree prints as it stands.
@@ -123,7 +139,7 @@ fn part_of_tree(alloc: Global, tree: &TopSubtree) -> Result<Option<HeldPart>, Al
 {
     laws::parts_are_printed_whole();
     let own = print_tree(alloc, tree)?;
-    match part_of(own) {
+    match part_of(own)? {
         Some(printed) => {
             let told = None;
             Ok(Some(HeldPart { printed, told }))
@@ -137,9 +153,9 @@ fn part_of_steps(alloc: Global, steps: &[OwnStep]) -> Result<Option<HeldPart>, A
     ensures { IfOk result (λ o. IfSome o (λ p. IsPartFor p (map placed_of steps.now))) }
 {
     let own = print_steps(alloc, steps)?;
-    match part_of(own) {
+    match part_of(own)? {
         Some(printed) => {
-            let told = Some(told_at(alloc, steps)?);
+            let told = Some(told_in(alloc, steps)?);
             Ok(Some(HeldPart { printed, told }))
         }
         None => Ok(None),

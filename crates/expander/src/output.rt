@@ -1,17 +1,20 @@
 // The output of an expansion: steps of walks, printed as they come, and where their faults are told.
 ghost use Rattle.std.specs.Prelude.{◌≡◌, ◌∷◌, [], ◌++◌, List, true, slice_get, IfOk, OnOk, map};
-ghost use Rattle.bridge.specs.PrintedTrees.{print_in};
+ghost use Rattle.std.specs.Rc.{rc_value};
+ghost use Rattle.bridge.specs.HeldSpans.{shifted};
+ghost use Rattle.bridge.specs.PrintedTrees.{placed_in};
 ghost use Rattle.bridge.specs.Printing.{is_visible_step, print_of};
 ghost use Rattle.bridge.specs.WalkSteps.{step_of};
 ghost use Rattle.tt_data.specs.declared.span.Span.{Span};
 ghost use Rattle.expander.specs.Expansion.{PlacedStep, placed};
 ghost use Rattle.expander.specs.HeldParts.{PutsQuiet};
-ghost use Rattle.expander.specs.OutputSteps.{HasOutput, PutsOut, faults_in, places_of, told_at, words_told};
+ghost use Rattle.expander.specs.OutputSteps.{HasOutput, PutsOut, faults_in, places_of, ranges_of, told_at, words_told};
 ghost use Rattle.expander.specs.Printing.{steps_of};
 
 use crate::faults::{Fault, FaultKind, is_definition_word, place};
-use bridge::{Printed, PrintedPart, Printer, WalkStep};
+use bridge::{HeldSpans, Placed, Places, PrintedPart, Printer, Shift, WalkStep};
 use std::alloc::{AllocError, Global};
+use std::rc::Rc;
 use tt_data::delimiter::DelimiterKind;
 use tt_data::span::{Span, TextRange};
 
@@ -20,7 +23,7 @@ use tt_data::span::{Span, TextRange};
 pub(crate) struct PlacedSteps {
     printer: Printer,
     // Where a fault of each visible token is told, printed or left out.
-    places: Vec<TextRange>,
+    places: Places,
     // The faults of the words that begin a definition.
     nested: Vec<Fault>,
 }
@@ -31,7 +34,7 @@ pub(crate) fn no_steps(alloc: Global) -> PlacedSteps
 {
     PlacedSteps {
         printer: Printer::new(alloc),
-        places: Vec::new(alloc),
+        places: Places::new(alloc),
         nested: Vec::new(alloc),
     }
 }
@@ -70,25 +73,16 @@ fn push_place(
     outer: Option<Span>,
 ) -> Result<(), AllocError>
     requires { is_visible_step (step_of step.now) ≡ true }
-    ensures places { OnOk result (steps.new.places.items ≡ steps.old.places.items ++ places_of (placed outer (step_of step.now ∷ []))) }
+    ensures places { OnOk result (ranges_of steps.new.places ≡ ranges_of steps.old.places ++ places_of (placed outer (step_of step.now ∷ []))) }
     ensures nested { OnOk result (steps.new.nested.items ≡ steps.old.nested.items ++ words_told (placed outer (step_of step.now ∷ []))) }
     ensures printer { steps.new.printer ≡ steps.old.printer }
 {
-    let range = place(step, outer).range;
-    steps.places.push(range)?;
+    let span = place(step, outer);
+    steps.places.push(span)?;
+    let range = span.range;
     if is_definition_word(step) {
         let kind = FaultKind::NestedDefinition;
         steps.nested.push(Fault { kind, range })?;
-    }
-    Ok(())
-}
-
-// Keeps where faults of visible tokens are told.
-fn push_places(places: &mut Vec<TextRange>, told: &[Span]) -> Result<(), AllocError>
-    ensures { OnOk result (places.new.items ≡ places.old.items ++ map (λ (s : Span). s.range) told.now) }
-{
-    for span in told {
-        places.push(span.range)?;
     }
     Ok(())
 }
@@ -105,7 +99,7 @@ pub(crate) fn put_part(
 {
     match steps.printer.put_part(part, spans) {
         Ok(true) => {
-            push_places(&mut steps.places, told)?;
+            steps.places.extend_from_slice(told)?;
             Ok(true)
         }
         Ok(false) => Ok(false),
@@ -113,20 +107,46 @@ pub(crate) fn put_part(
     }
 }
 
-// Where a fault of the visible token of this number is told.
-fn place_at(places: &[TextRange], number: usize) -> Option<TextRange>
-    ensures { result ≡ slice_get places.now number }
+/// Adds a part, its tokens and the places where faults of them are told at their own places, shifted: `false`, and nothing
+/// is done, where it can't be put at once.
+pub(crate) fn put_part_at(
+    steps: &mut PlacedSteps,
+    part: &PrintedPart,
+    told: &Rc<HeldSpans>,
+    shift: Shift,
+) -> Result<bool, AllocError>
+    ensures { IfOk result (PutsQuiet steps.old steps.new part.now (map (shifted shift) part.now.tokens) (map (shifted shift) (rc_value told.now))) }
 {
-    places.get(number).copied()
+    if !told.fits(shift) {
+        return Ok(false);
+    }
+    match steps.printer.put_part_at(part, shift) {
+        Ok(true) => match steps.places.push_held(told, shift) {
+            Ok(true) => Ok(true),
+            _ => Err(AllocError),
+        },
+        Ok(false) => Ok(false),
+        Err(_) => Err(AllocError),
+    }
+}
+
+// Where a fault of the visible token of this number is told.
+fn place_at(places: &Places, number: usize) -> Option<TextRange>
+    ensures { result ≡ slice_get (ranges_of places.now) number }
+{
+    match places.get(number) {
+        Some(span) => Some(span.range),
+        None => None,
+    }
 }
 
 // Adds a fault for each visible token of these numbers.
 fn push_left_out(
     faults: &mut Vec<Fault>,
-    places: &[TextRange],
+    places: &Places,
     numbers: &[usize],
 ) -> Result<(), AllocError>
-    ensures { OnOk result (faults.new.items ≡ faults.old.items ++ told_at places.now numbers.now) }
+    ensures { OnOk result (faults.new.items ≡ faults.old.items ++ told_at (ranges_of places.now) numbers.now) }
 {
     for number in numbers {
         if let Some(range) = place_at(places, *number) {
@@ -138,14 +158,14 @@ fn push_left_out(
 }
 
 /// What is printed of the steps. The faults of its tokens and of those that are left out are added.
-pub(crate) fn finish(steps: PlacedSteps, faults: &mut Vec<Fault>) -> Result<Printed, AllocError>
-    ensures printed { IfOk result (λ p. (all : List PlacedStep) → HasOutput steps all → print_in p ≡ print_of (steps_of all)) }
+pub(crate) fn finish(steps: PlacedSteps, faults: &mut Vec<Fault>) -> Result<Placed, AllocError>
+    ensures printed { IfOk result (λ p. (all : List PlacedStep) → HasOutput steps all → placed_in p ≡ print_of (steps_of all)) }
     ensures faults { OnOk result ((all : List PlacedStep) → HasOutput steps all → faults.new.items ≡ faults.old.items ++ faults_in all) }
 {
-    let Ok(printed) = steps.printer.finish() else {
+    let Ok(printed) = steps.printer.finish_placed() else {
         return Err(AllocError);
     };
     faults.extend_from_slice(steps.nested.as_slice())?;
-    push_left_out(faults, steps.places.as_slice(), printed.left_out.as_slice())?;
+    push_left_out(faults, &steps.places, printed.left_out.as_slice())?;
     Ok(printed)
 }

@@ -1,11 +1,14 @@
 // What a piece gives in places of its own, put out at its places in the text.
-ghost use Rattle.std.specs.Prelude.{◌≡◌, ◌∷◌, [], ◌++◌, IfOk, IfSome, None, OnOk, Some, option_map, map};
+ghost use Rattle.std.specs.Prelude.{◌≡◌, ◌∷◌, [], ◌++◌, IfOk, IfSome, None, OnOk, Some, option_map, map, true};
+ghost use Rattle.std.specs.List.{list_all};
+ghost use Rattle.std.specs.Rc.{rc_value};
+ghost use Rattle.bridge.specs.HeldSpans.{is_anchored};
 ghost use Rattle.bridge.specs.WalkSteps.{step_of};
 ghost use Rattle.tt_data.specs.Spans.{leaf_with, span_of};
 ghost use Rattle.tt_data.specs.Walk.{at_leaf, step_with, walk};
 ghost use Rattle.tt_data.specs.declared.span.Span.{Span};
 ghost use Rattle.expander.specs.Expansion.{placed};
-ghost use Rattle.expander.specs.HeldParts.{PutsHeld};
+ghost use Rattle.expander.specs.HeldParts.{PutsHeld, told_in};
 ghost use Rattle.expander.specs.OutputSteps.{PutsOut};
 ghost use Rattle.expander.specs.Outcomes.{parts_for, placed_of};
 ghost use Rattle.expander.specs.Placing.{base_at, range_from, resolved_by, resolved_faults, resolved_steps, told_if_broken};
@@ -14,11 +17,12 @@ use crate::faults::{Fault, FaultKind};
 use crate::held_part::HeldPart;
 use crate::numbered::Known;
 use crate::outcome::{Outcome, OwnStep, lent};
-use crate::output::{PlacedSteps, push_step, put_part};
+use crate::output::{PlacedSteps, push_step, put_part, put_part_at};
 use crate::starts::Starts;
 use crate::walk::Walk;
-use bridge::WalkStep;
+use bridge::{HeldSpans, Shift, WalkStep};
 use std::alloc::{AllocError, Global};
+use std::rc::Rc;
 use tt::top::TopSubtree;
 use tt_data::leaf::{Ident, Leaf, Punct};
 use tt_data::span::{Span, TextRange};
@@ -202,8 +206,48 @@ fn resolved_all(
     Ok(all)
 }
 
-// Puts out what a piece prints by itself, its tokens at their places in the text: `false`, and nothing is done, where it
-// can't be put at once.
+// The only anchor of these spans besides 0, where they have but one.
+fn anchor_of(spans: &HeldSpans, told: &HeldSpans) -> Option<u32>
+    ensures { IfSome result (λ a. (list_all (is_anchored a) spans.now ≡ true) × (list_all (is_anchored a) told.now ≡ true)) }
+{
+    let anchor = spans.anchor()?;
+    let other = told.anchor()?;
+    if other == anchor || other == 0 {
+        Some(anchor)
+    } else {
+        None
+    }
+}
+
+// Where faults of a part's tokens are told.
+fn told_of(part: &HeldPart) -> &Rc<HeldSpans>
+    ensures { rc_value result.now ≡ told_in part.now }
+{
+    match &part.told {
+        Some(told) => told,
+        None => part.printed.held(),
+    }
+}
+
+// Puts out what a piece prints by itself, with places that are not computed yet: `false`, and nothing is done, where it
+// can't be put so.
+fn put_shifted(
+    steps: &mut PlacedSteps,
+    start: u32,
+    starts: &Starts,
+    part: &HeldPart,
+) -> Result<bool, AllocError>
+    ensures { IfOk result (PutsHeld steps.old steps.new (Some part.now) start starts.now) }
+{
+    let told = told_of(part);
+    let Some(anchor) = anchor_of(part.printed.held(), told) else {
+        return Ok(false);
+    };
+    let base = base_at(start, starts, anchor);
+    put_part_at(steps, &part.printed, told, Shift { start, base })
+}
+
+// The same with all places computed.
 fn put_printed(
     alloc: Global,
     steps: &mut PlacedSteps,
@@ -214,13 +258,8 @@ fn put_printed(
     ensures { IfOk result (PutsHeld steps.old steps.new (Some part.now) start starts.now) }
 {
     let spans = resolved_all(alloc, start, starts, part.printed.spans())?;
-    match &part.told {
-        None => put_part(steps, &part.printed, spans.as_slice(), spans.as_slice()),
-        Some(told) => {
-            let told = resolved_all(alloc, start, starts, told.as_slice())?;
-            put_part(steps, &part.printed, spans.as_slice(), told.as_slice())
-        }
-    }
+    let told = resolved_all(alloc, start, starts, told_of(part).as_slice())?;
+    put_part(steps, &part.printed, spans.as_slice(), told.as_slice())
 }
 
 /// Puts out what a piece prints by itself, if anything is held of that: `false`, and nothing is done, where it can't be put at
@@ -235,7 +274,12 @@ pub(crate) fn put_held(
     ensures { IfOk result (PutsHeld steps.old steps.new part.now start starts.now) }
 {
     match part {
-        Some(part) => put_printed(alloc, steps, start, starts, part),
+        Some(part) => {
+            if put_shifted(steps, start, starts, part)? {
+                return Ok(true);
+            }
+            put_printed(alloc, steps, start, starts, part)
+        }
         None => Ok(false),
     }
 }

@@ -27,14 +27,14 @@ use crate::own_pieces::OwnPiece;
 use crate::read_pieces::{ReadPieces, read_pieces};
 use crate::sources::Sources;
 use crate::taking::{Taken, take_pieces};
-use bridge::{Printed, ReadFault};
+use bridge::{Placed, Places, ReadFault};
 use fragment_grammar::FragmentGrammar;
 use rustc_lexer::LexedText;
 use std::alloc::{AllocError, Global};
 use std::marker::Model;
 use tt_data::edition::Edition;
 use tt_data::fault::TtFault;
-use tt_data::span::{Span, TextRange};
+use tt_data::span::TextRange;
 
 /// Why there is no reply. The session is as it was.
 #[derive(Clone, Copy, Debug, PartialEq, Eq)]
@@ -71,17 +71,17 @@ impl From<AllocError> for Refusal {
 pub struct Expansion {
     printed: String,
     faults: Vec<Fault>,
-    origins: Vec<TextRange>,
+    origins: Places,
     expanded: usize,
 }
 
 impl Model for Expansion {
-    ghost use Rattle.std.specs.Prelude.{string_bytes};
+    ghost use Rattle.std.specs.Prelude.{map, string_bytes};
     ghost use Rattle.expander.specs.Expanded.{Expanded};
 
     ghost Value = { Expanded };
 
-    ghost view = { λ e. record { printed = string_bytes e.printed; faults = e.faults.items; origins = e.origins.items; expanded = e.expanded } };
+    ghost view = { λ e. record { printed = string_bytes e.printed; faults = e.faults.items; origins = map (λ s. s.range) e.origins; expanded = e.expanded } };
 }
 
 impl Expansion {
@@ -122,7 +122,10 @@ impl Expansion {
         requires { i < length self.now.origins }
         ensures { result ≡ slice_get self.now.origins i }
     {
-        Some(self.origins[i])
+        match self.origins.get(i) {
+            Some(span) => Some(span.range),
+            None => None,
+        }
     }
 
     /// An equal expansion. Refused where there is no memory for it.
@@ -131,7 +134,7 @@ impl Expansion {
     {
         let printed = String::from_str(alloc, self.printed())?;
         let faults = Vec::from_slice(alloc, self.faults())?;
-        let origins = Vec::from_slice(alloc, self.origins.as_slice())?;
+        let origins = self.origins.try_clone(alloc)?;
         Ok(Expansion {
             printed,
             faults,
@@ -309,7 +312,7 @@ fn expand_pieces<G: FragmentGrammar>(
         faults,
         expanded,
     } = take_pieces(alloc, grammar, edition, depth, memory, pieces)?;
-    let expansion = expansion_of(alloc, steps, faults, expanded)?;
+    let expansion = expansion_of(steps, faults, expanded)?;
     let memory = Memory {
         was_read: true,
         plains,
@@ -322,29 +325,20 @@ fn expand_pieces<G: FragmentGrammar>(
     Ok((expansion, memory))
 }
 
-// The places of spans.
-fn places_of(alloc: Global, spans: &[Span]) -> Result<Vec<TextRange>, AllocError>
-    ensures { IfOk result (λ places. places.items ≡ map (λ s. s.range) spans.now) }
-{
-    spans.iter().map(|span| span.range).collect(alloc)
-}
-
 // What these steps print, the places of its tokens, and all faults in order.
 fn expansion_of(
-    alloc: Global,
     steps: PlacedSteps,
     mut faults: Vec<Fault>,
     expanded: usize,
 ) -> Result<Expansion, AllocError>
     ensures { IfOk result (λ e. (all : List PlacedStep) → HasOutput steps all → ShowsOutput faults.items expanded all e) }
 {
-    let Printed { text, tokens, .. } = finish(steps, &mut faults)?;
+    let Placed { text, tokens, .. } = finish(steps, &mut faults)?;
     sort_faults(&mut faults)?;
-    let origins = places_of(alloc, tokens.as_slice())?;
     Ok(Expansion {
         printed: text,
         faults,
-        origins,
+        origins: tokens,
         expanded,
     })
 }

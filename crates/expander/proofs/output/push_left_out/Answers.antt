@@ -1,7 +1,7 @@
 use Rattle.std.proofs.Common.{◌+◌, ◌∷◌, [], ◌++◌, arith, ap, sym, ◌∙◌, append_assoc, drop}
 use Rattle.expander.specs.declared.faults.Fault.{Fault}
 use Rattle.expander.specs.declared.faults.FaultKind.TheVariants.{Unspellable}
-use Rattle.expander.specs.OutputSteps.{told_in, told_at}
+use Rattle.expander.specs.OutputSteps.{ranges_of, told_in, told_at}
 use Rattle.expander.proofs.PrintingLemmas.{told_first}
 use Rattle.expander.proofs.output.push_left_out.Goals as goal
 use Rattle.expander.proofs.output.push_left_out.Goals.{in-Some+in_ok-push, in_default}
@@ -9,7 +9,7 @@ use Rattle.expander.proofs.output.push_left_out.Goals.{in-Some+in_ok-push, in_de
 pub loop-number-preserved : goal.loop-number-preserved
 loop-number-preserved c =
     let numbers = c.args.numbers.now in
-    let places = c.args.places.now in
+    let places = ranges_of c.args.places.now in
     let first = told_first places numbers c.loop-number.number-index 0 c.place_at.result (omega arith) c.place_at.ensures in
     let old = c.loop-number.faults.items in
     let rest = told_at places (drop (c.loop-number.number-index + 1) numbers) in

@@ -11,6 +11,6 @@ returns c = λ steps has.
     record {
       printed = ap (λ (p : Print). p.text) shows ∙ text_is steps;
       faults = c.in_ok-sort_faults.ensures ∙ ap in_order (c.in_ok-text.ensures.faults steps has);
-      origins = c.in_ok-origins.ensures ∙ ap (map (λ (s : Span). s.range)) c.as_slice.ensures.value ∙ ap (λ (p : Print). map (λ (s : Span). s.range) p.tokens) shows ∙ origins_are steps;
+      origins = ap (λ (p : Print). map (λ (s : Span). s.range) p.tokens) shows ∙ origins_are steps;
       expanded = refl;
     }
