@@ -30,6 +30,7 @@ pub mod program;
 mod read_pieces;
 mod reading;
 mod searching;
+mod seeking;
 pub mod session;
 mod sources;
 mod starts;

@@ -15,7 +15,8 @@ use crate::own_places::start_of;
 use crate::own_tree::OwnTree;
 use crate::piece_end::piece_end;
 use crate::pieces::{is_whole, set_apart};
-use crate::sources::{Ahead, Source, Sources, ahead_at, find_source};
+use crate::seeking::{Seeker, seek_source};
+use crate::sources::{Ahead, Source, Sources, ahead_at};
 use bridge::names::Names;
 use bridge::{Read, begins_with_mark, read_part};
 use rustc_lexer::{Token, TokenKind, laws};
@@ -162,8 +163,7 @@ fn read_source(
 struct Passing {
     own: Vec<OwnPiece>,
     list: Vec<Rc<Source>>,
-    // The held piece that is tried first.
-    next: usize,
+    seeker: Seeker,
 }
 
 // The piece that stands first, held or read, and its number where it is held.
@@ -171,7 +171,7 @@ fn next_source(
     alloc: Global,
     names: &mut Names,
     held: &Sources,
-    next: &mut usize,
+    seeker: &mut Seeker,
     text: &str,
     at: u32,
     tokens: &[Token],
@@ -184,8 +184,7 @@ fn next_source(
     ensures memory { IsOkUnless result fault.Memory }
 {
     let rest = &text[at as usize..];
-    if let Some((i, source)) = find_source(held, *next, rest, tokens)? {
-        *next = i.saturating_add(1);
+    if let Some((i, source)) = seek_source(held, seeker, rest, tokens)? {
         return Ok(Some((source, Some(i))));
     }
     match read_source(alloc, names, text, at, tokens)? {
@@ -261,8 +260,8 @@ fn pass_next(
     if is_blank(token.kind) {
         return Ok(Some((token.len as usize, 1)));
     }
-    let next = &mut now.next;
-    let Some((source, met)) = next_source(alloc, names, held, next, text, at, left)? else {
+    let seeker = &mut now.seeker;
+    let Some((source, met)) = next_source(alloc, names, held, seeker, text, at, left)? else {
         return Ok(None);
     };
     let bytes = source.as_ref().bytes.len();
@@ -290,7 +289,7 @@ pub(crate) fn read_by_pieces(
     let mut now = Passing {
         own: Vec::new(alloc),
         list: Vec::new(alloc),
-        next: 0,
+        seeker: Seeker::new(held),
     };
     let mut at: u32 = 0;
     let mut left = tokens;

@@ -102,22 +102,20 @@ fn stands_first(source: &Source, text: &str, tokens: &[Token]) -> bool
         && is_followed(tokens, source.count, source.mark)
 }
 
-// How many held pieces are tried at a place.
-const TRIED: usize = 16;
-
-/// A held piece that stands first in a text with these tokens, and its place: those from `next` on are tried.
+/// A held piece that stands first in a text with these tokens, and its place: so many from `next` on are tried.
 pub(crate) fn find_source(
     held: &Sources,
     next: usize,
     text: &str,
     tokens: &[Token],
+    tried: usize,
 ) -> Result<Option<(usize, Rc<Source>)>, TtFault>
     requires { AreSources held.now }
     ensures found { IfOk result (λ found. IfSome found (λ p. IsSourceHere text.now tokens.now (rc_value p.1))) }
     ensures number { IfOk result (λ found. IfSome found (λ p. IsHeldAt held.now p.0 (rc_value p.1))) }
     ensures memory { IsOkUnless result fault.Memory }
 {
-    let last = next.saturating_add(TRIED).min(held.list.len());
+    let last = next.saturating_add(tried).min(held.list.len());
     for i in next..last {
         let source = &held.list[i];
         if stands_first(source.as_ref(), text, tokens) {
