@@ -9,7 +9,6 @@ use Rattle.tt.specs.Tops.{Top}
 use Rattle.tt_data.specs.Forest.{Forest}
 use Rattle.tt_data.specs.declared.edition.Edition.{Edition}
 use Rattle.expander.specs.ByTrees.{known_in, numbers_in, own_top}
-use Rattle.expander.specs.Chains.{AreChained}
 use Rattle.expander.specs.Count.{same_forest}
 use Rattle.expander.specs.Definitions.{Definition}
 use Rattle.expander.specs.Expansion.{World}
@@ -25,15 +24,14 @@ use Rattle.expander.specs.declared.numbered.Known.{Known}
 use Rattle.expander.specs.declared.plain.Plain.{Plain}
 
 -- nothing is held rightly
-pub nothing : (m : code.Memory) → m.plains.items ≡ [] → m.definitions.items ≡ [] → ((t : Top) → known_in m.by_tree t ≡ None) → AreChained m.chains [] → AreSources m.sources
+pub nothing : (m : code.Memory) → m.plains.items ≡ [] → m.definitions.items ≡ [] → ((t : Top) → known_in m.by_tree t ≡ None) → AreSources m.sources
     → (world : World Definition) (edition : Edition) (depth : ℕ) → IsMemory world depth edition m
-nothing m plains definitions none chained sources world edition depth = record {
+nothing m plains definitions none sources world edition depth = record {
   unread = λ e. plains;
   numbers = record { within = λ t n e. absurd (no n (sym (empty t) ∙ e)); apart = λ t u n e f. absurd (no n (sym (empty t) ∙ e)) };
   have = λ t. ap is_some (empty t) ∙ ap (λ (ks : List (Rc Known Global)). list_any (same_forest t) (map (λ k. inner_of (rc_value k)) ks)) (sym definitions);
   table = λ t k e. absurd (no_known k (sym (none t) ∙ e));
   read = λ t k e. absurd (no_known k (sym (none t) ∙ e));
-  chained = subst (λ (qs : List (Rc Plain Global)). AreChained m.chains (map (λ q. tree_of (rc_value q)) qs)) (sym plains) chained;
   right = subst (λ (qs : List (Rc Plain Global)). All (λ q. IsRight world depth (numbers_in m.by_tree) (rc_value q)) qs) (sym plains)
       (All-nil (λ q. IsRight world depth (numbers_in m.by_tree) (rc_value q)));
   sources = sources;

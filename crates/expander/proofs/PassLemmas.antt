@@ -12,7 +12,6 @@ use Rattle.tt_data.specs.Forest.{Forest}
 use Rattle.tt_data.specs.declared.edition.Edition.{Edition}
 use Rattle.expander.specs.Agreement.{scope_of}
 use Rattle.expander.specs.ByTrees.{AllRead, known_in, numbers_in, own_top}
-use Rattle.expander.specs.Chains.{AreChained}
 use Rattle.expander.specs.Count.{same_forest}
 use Rattle.expander.specs.Definitions.{Definition, definition_of, or_else}
 use Rattle.expander.specs.Editions.{IsRead}
@@ -189,7 +188,6 @@ module _ (grammar : Grammar) (edition : Edition) (depth : ℕ) (old : Memory) (p
   module _ (equal : (f g : Forest) → (same_forest f g ≡ true) ↔ (f ≡ g)) (q : Rc Plain Global) (matched : Bool) (scope_is : next.scope ≡ now.scope) (numbers_are : next.taken.numbers ≡ now.taken.numbers)
       (top : tree_of (rc_value q) ≡ own_top r) (part : HasItsPart (rc_value q))
       (plains_are : next.taken.plains.items ≡ now.taken.plains.items ++ q ∷ [])
-      (chained : AreChained now.taken.chains (map (λ q. tree_of (rc_value q)) now.taken.plains.items) → AreChained next.taken.chains (map (λ q. tree_of (rc_value q)) next.taken.plains.items))
       (steps : PutsOut now.taken.steps next.taken.steps (resolved_steps start now.scope.starts (parts_for (tree_of (rc_value q)).inner (rc_value q).outcome).steps))
       (faults : next.taken.faults.items ≡ now.taken.faults.items ++ resolved_faults start now.scope.starts (rc_value q).outcome.faults.items)
       (counted : matched ≡ list_any (matches (scope_in now.scope) r) held)
@@ -240,7 +238,6 @@ module _ (grammar : Grammar) (edition : Edition) (depth : ℕ) (old : Memory) (p
         taken = record {
           numbers = subst (HasNumbered old.given old.by_tree (trees_of old) trees) (sym numbers_are) has.taken.numbers;
           table_read = subst (λ n. AllRead edition n.by_tree) (sym numbers_are) has.taken.table_read;
-          chained = chained has.taken.chained;
           plains = ap (map (λ q. piece_of W depth (rc_value q))) plains_are
               ∙ map-append (λ q. piece_of W depth (rc_value q)) now.taken.plains.items (q ∷ [])
               ∙ ap (λ ps. ps ++ piece_of W depth (rc_value q) ∷ []) has.taken.plains
@@ -275,7 +272,7 @@ module _ (grammar : Grammar) (edition : Edition) (depth : ℕ) (old : Memory) (p
   module _ (law : LooksAtNoPlace W) (k : Known) (tree_is : k.tree ≡ own_top r) (definition : is_some (definition_of r) ≡ true)
       (number_is : numbers_in next.taken.numbers.by_tree r ≡ Some k.number) (grows : Grows now.taken next.taken) (read : IsRead edition k)
       (table_read : AllRead edition next.taken.numbers.by_tree) (scope_read : AreRead next.scope) (edition_is : next.scope.edition ≡ edition)
-      (plains_are : next.taken.plains ≡ now.taken.plains) (chains_are : next.taken.chains ≡ now.taken.chains) (steps_are : next.taken.steps ≡ now.taken.steps)
+      (plains_are : next.taken.plains ≡ now.taken.plains) (steps_are : next.taken.steps ≡ now.taken.steps)
       (expanded_are : next.taken.expanded ≡ now.taken.expanded) (faults : next.taken.faults.items ≡ now.taken.faults.items ++ told_if_broken start k) where
     module _ (before : List Met) (trees : List Forest) (done : List Kept) (has : Has before trees done now)
         (numbered : HasNumbered old.given old.by_tree (trees_of old) (trees ++ r ∷ []) next.taken.numbers)
@@ -306,8 +303,6 @@ module _ (grammar : Grammar) (edition : Edition) (depth : ℕ) (old : Memory) (p
         taken = record {
           numbers = numbered;
           table_read = table_read;
-          chained = subst (λ c. AreChained c (map (λ q. tree_of (rc_value q)) next.taken.plains.items)) (sym chains_are)
-              (subst (λ ps. AreChained now.taken.chains (map (λ q. tree_of (rc_value q)) ps.items)) (sym plains_are) has.taken.chained);
           plains = ap (λ ps. map (λ q. piece_of W depth (rc_value q)) ps.items) plains_are ∙ has.taken.plains
               ∙ sym (append-nil (filter_map held_of done)) ∙ sym (filter_map_more held_of done (met m));
           right = subst (λ ps. All (λ q. IsRight W depth numbers (rc_value q)) ps.items) (sym plains_are)
@@ -337,9 +332,9 @@ module _ (grammar : Grammar) (edition : Edition) (depth : ℕ) (old : Memory) (p
 
 -- no piece so far
 pub none_taken : (grammar : Grammar) (edition : Edition) (depth : ℕ) (old : Memory) → IsMemory (world grammar edition) depth edition old → (now : Taken)
-    → now.numbers.given ≡ old.given → now.numbers.definitions.items ≡ [] → ((t : Top) → known_in now.numbers.by_tree t ≡ None) → now.plains.items ≡ [] → AreChained now.chains []
+    → now.numbers.given ≡ old.given → now.numbers.definitions.items ≡ [] → ((t : Top) → known_in now.numbers.by_tree t ≡ None) → now.plains.items ≡ []
     → HasOutput now.steps [] → now.faults.items ≡ [] → now.expanded ≡ 0 → IsTaken (world grammar edition) edition depth old (layers grammar edition) [] [] now
-none_taken grammar edition depth old right now given definitions none plains chained steps faults expanded = record {
+none_taken grammar edition depth old right now given definitions none plains steps faults expanded = record {
   numbers = record {
     numbers = record {
       numbers = record {
@@ -356,7 +351,6 @@ none_taken grammar edition depth old right now given definitions none plains cha
     table = λ t k e. absurd (no_known k (sym (none t) ∙ e));
   };
   table_read = λ t k e. absurd (no_known k (sym (none t) ∙ e));
-  chained = subst (λ (qs : List (Rc Plain Global)). AreChained now.chains (map (λ q. tree_of (rc_value q)) qs)) (sym plains) chained;
   plains = ap (map (λ q. piece_of (world grammar edition) depth (rc_value q))) plains;
   right = subst (All (λ q. IsRight (world grammar edition) depth (numbers_in now.numbers.by_tree) (rc_value q))) (sym plains)
       (All-nil (λ q. IsRight (world grammar edition) depth (numbers_in now.numbers.by_tree) (rc_value q)));

@@ -1,6 +1,6 @@
 -- The search for a held piece that may stand for a tree.
-use Rattle.std.proofs.Common.{◌≡◌, ◌↔◌, ℕ, ◌<◌, zero, suc, Bool, true, false, List, [], ◌∷◌, length, get_or, map, Option, Some, None, refl, ap, sym, arith, Global}
-use Rattle.std.specs.Prelude.{◌&&◌, slice_get}
+use Rattle.std.proofs.Common.{◌≡◌, ◌↔◌, ℕ, ◌<◌, ◌≤◌, ◌+◌, ◌++◌, ◌∙◌, drop, take, zero, suc, Bool, true, false, List, [], ◌∷◌, length, get_or, map, Option, Some, None, refl, ap, sym, arith, Global}
+use Rattle.std.specs.Prelude.{◌&&◌, ◌||◌, slice_get}
 use Rattle.std.specs.List.{list_all, list_any}
 use Rattle.std.specs.Rc.{rc_value}
 use Rattle.std.specs.declared.rc.Rc.{Rc}
@@ -13,7 +13,8 @@ use Rattle.expander.specs.Reuse.{agrees, same_number}
 use Rattle.expander.specs.SameTops.{same_top}
 use Rattle.expander.specs.declared.outcome.Find.{Find}
 use Rattle.expander.specs.declared.plain.Plain.{Plain}
-use Rattle.expander.proofs.ChainLemmas.{at_found, at_last, at_next, next_below, reach}
+use Rattle.std.proofs.lemmas.List.{drop_more, map-append}
+use Rattle.expander.proofs.ChainLemmas.{at_found, at_last, at_next, next_below, reach, take_more}
 
 -- how far a search may go back
 abbrev pub left : Option ℕ → ℕ
@@ -86,3 +87,21 @@ pub stands_at : {X : Type 0} (xs : List X) (i : ℕ) (x : X) → i < length xs �
 stands_at [] i x h e = absurd (omega (arith, h))
 stands_at (y ∷ xs) zero x h e = ap Some (sym e)
 stands_at (y ∷ xs) (suc i) x h e = stands_at xs i x (omega (arith, h)) e
+
+-- one that does not pass is passed by
+pub passed_by : {X : Type 0} (p : X → Bool) (xs : List X) (i : ℕ) (x : X) → i < length xs → x ≡ get_or xs i x → p x ≡ false → list_any p (drop i xs) ≡ list_any p (drop (i + 1) xs)
+passed_by p xs i x inside is fails =
+    ap (list_any p) (drop_more xs i x inside) ∙ ap (λ b. b || list_any p (drop (i + 1) xs)) (ap p (sym is) ∙ fails)
+
+-- one more of those so far
+pub mapped_more : {X Y : Type 0} (f : X → Y) (xs : List X) (i : ℕ) (x : X) → i < length xs → x ≡ get_or xs i x → map f (take (i + 1) xs) ≡ map f (take i xs) ++ f x ∷ []
+mapped_more f xs i x inside is =
+    let e : i + 1 ≡ suc i = omega arith in
+    rw e (ap (map f) (take_more xs i x (stands_at xs i x inside is)) ∙ map-append f (take i xs) (x ∷ []))
+
+-- all of them
+pub all_mapped : {X Y : Type 0} (f : X → Y) (xs : List X) (i : ℕ) → length xs ≤ i → map f (take i xs) ≡ map f xs
+all_mapped f [] zero past = refl
+all_mapped f [] (suc i) past = refl
+all_mapped f (x ∷ xs) zero past = absurd (omega (arith, past))
+all_mapped f (x ∷ xs) (suc i) past = ap (λ ys. f x ∷ ys) (all_mapped f xs i (omega (arith, past)))

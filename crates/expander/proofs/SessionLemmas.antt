@@ -58,7 +58,6 @@ abbrev pub memory_of : Taken → Sources → code.Memory
 memory_of now sources = record {
   was_read = true;
   plains = now.plains;
-  chains = now.chains;
   definitions = now.numbers.definitions;
   by_tree = now.numbers.by_tree;
   given = now.numbers.given;
@@ -78,7 +77,6 @@ module _ (equal : (f g : Forest) → (same_forest f g ≡ true) ↔ (f ≡ g)) (
     have = subst (HaveNumbers (numbers_in now.numbers.by_tree)) (sym t.numbers.trees_are) t.numbers.numbers.have;
     table = t.numbers.table;
     read = t.table_read;
-    chained = t.chained;
     right = t.right;
     sources = are;
   }

@@ -6,7 +6,6 @@ use Rattle.tt_data.specs.Forest.{Forest}
 use Rattle.tt_data.specs.declared.edition.Edition.{Edition}
 use Rattle.expander.specs.Agreement.{scope_of}
 use Rattle.expander.specs.ByTrees.{AllRead, IsTable, numbers_in}
-use Rattle.expander.specs.Chains.{AreChained}
 use Rattle.expander.specs.Count.{Looked}
 use Rattle.expander.specs.Definitions.{Definition}
 use Rattle.expander.specs.Expansion.{World, expansion}
@@ -54,6 +53,5 @@ module _ (world : World Definition) (depth : ℕ) where
     pub have : HaveNumbers (numbers_in m.by_tree) (trees_of m)
     pub table : IsTable m.by_tree
     pub read : AllRead edition m.by_tree
-    pub chained : AreChained m.chains (map (λ q. tree_of (rc_value q)) m.plains.items)
     pub right : All (λ q. IsRight (numbers_in m.by_tree) (rc_value q)) m.plains.items
     pub sources : AreSources m.sources

@@ -1,10 +1,15 @@
 -- Plain pieces as the code holds them.
-use Rattle.std.specs.Prelude.{ℕ, Bool, ◌&&◌, List, Option, map}
+use Rattle.std.specs.Prelude.{ℕ, Bool, ◌&&◌, IfSome, List, Option, map}
+use Rattle.std.specs.Global.{Global}
+use Rattle.std.specs.Rc.{rc_value}
+use Rattle.std.specs.declared.rc.Rc.{Rc}
 use Rattle.tt.specs.Tops.{Top}
+use Rattle.expander.specs.Chains.{AreChained}
 use Rattle.expander.specs.Held.{Numbered}
 use Rattle.expander.specs.Outcomes.{find_of}
 use Rattle.expander.specs.Reuse.{agrees}
 use Rattle.expander.specs.SameTops.{same_top}
+use Rattle.expander.specs.declared.plain.Lookup.{Lookup}
 use Rattle.expander.specs.declared.plain.Plain.{Plain}
 
 -- the tree of a piece
@@ -18,3 +23,7 @@ finds_of q = map find_of q.outcome.finds.items
 -- a held piece with this tree, whose names find what they found
 abbrev pub is_match : (List ℕ → Option Numbered) → Top → Plain → Bool
 is_match scope tree q = same_top tree (tree_of q) && agrees scope (finds_of q)
+
+-- the table, where it was made, is of these pieces
+abbrev pub Finds : Lookup → List (Rc Plain Global) → Type 0
+Finds lookup held = IfSome lookup.chains (λ c. AreChained c (map (λ q. tree_of (rc_value q)) held))

@@ -5,7 +5,6 @@ use Rattle.mbe.specs.Grammar.{Grammar}
 use Rattle.tt_data.specs.Forest.{Forest}
 use Rattle.tt_data.specs.declared.edition.Edition.{Edition}
 use Rattle.expander.specs.ByTrees.{AllRead, IsTable, numbers_in}
-use Rattle.expander.specs.Chains.{AreChained}
 use Rattle.expander.specs.Definitions.{Definition, definition_of}
 use Rattle.expander.specs.Expansion.{World, expansion}
 use Rattle.expander.specs.Held.{IsMet, Kept, Met, definition_trees, kept_of, numbered_world, present, with_met}
@@ -18,7 +17,6 @@ use Rattle.expander.specs.Numbering.{number_by, numbered_by}
 use Rattle.expander.specs.Numbers.{needed}
 use Rattle.expander.specs.OutputSteps.{HasOutput}
 use Rattle.expander.specs.Pieces.{relative}
-use Rattle.expander.specs.Plains.{tree_of}
 use Rattle.expander.specs.TextTurn.{held_of, is_unmatched}
 use Rattle.expander.specs.declared.memory.Memory.{Memory}
 use Rattle.expander.specs.World.{world}
@@ -49,7 +47,6 @@ module _ (world : World Definition) (edition : Edition) (depth : ℕ) (old : Mem
   pub record IsTaken (trees : List Forest) (done : List Kept) (now : Taken) : Type 0 where
     pub numbers : HasNumbered old.given old.by_tree (trees_of old) trees now.numbers
     pub table_read : AllRead edition now.numbers.by_tree
-    pub chained : AreChained now.chains (map (λ q. tree_of (rc_value q)) now.plains.items)
     pub plains : map (λ q. piece_of world depth (rc_value q)) now.plains.items ≡ filter_map held_of done
     pub right : All (λ q. IsRight world depth (numbers_in now.numbers.by_tree) (rc_value q)) now.plains.items
     pub steps : HasOutput now.steps (flat_map output_of (map present done))

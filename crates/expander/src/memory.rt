@@ -6,7 +6,6 @@ ghost use Rattle.expander.specs.Expansion.{World};
 ghost use Rattle.expander.specs.Memories.{IsMemory, held_in, trees_of};
 
 use crate::by_tree::ByTree;
-use crate::chains::Chains;
 use crate::numbered::Known;
 use crate::plain::Plain;
 use crate::sources::Sources;
@@ -20,8 +19,6 @@ pub(crate) struct Memory {
     pub was_read: bool,
     /// Its plain pieces, in order.
     pub plains: Vec<Rc<Plain>>,
-    /// Their trees.
-    pub chains: Chains,
     /// Its definitions, in order.
     pub definitions: Vec<Rc<Known>>,
     pub by_tree: ByTree,
@@ -42,7 +39,6 @@ impl Memory {
         Memory {
             was_read: false,
             plains: Vec::new(alloc),
-            chains: Chains::new(alloc),
             definitions: Vec::new(alloc),
             by_tree: ByTree::new(alloc),
             given: 0,

@@ -1,20 +1,24 @@
 // Trees of their own, each with its hash.
-ghost use Rattle.std.specs.Prelude.{◌≡◌};
+ghost use Rattle.std.specs.Prelude.{◌≡◌, is_some};
+ghost use Rattle.expander.specs.Definitions.{definition_of};
 ghost use Rattle.expander.specs.OwnTrees.{tree_hash};
 
+use crate::definitions::definition_of;
 use std::hash::{FoldHasher, Hash, Hasher};
 use std::marker::Model;
 use tt::top::TopSubtree;
 
-/// A tree of its own, with its hash, which is computed once.
+/// A tree of its own, with its hash, and whether it is a definition, which are computed once.
 #[derive(Drop)]
 pub(crate) struct OwnTree {
     tree: TopSubtree,
     hash: u64,
+    is_definition: bool,
 }
 
 impl Model for OwnTree {
-    ghost use Rattle.std.specs.Prelude.{◌≡◌};
+    ghost use Rattle.std.specs.Prelude.{◌≡◌, is_some};
+    ghost use Rattle.expander.specs.Definitions.{definition_of};
     ghost use Rattle.tt.specs.Tops.{Top, top_code};
     ghost use Rattle.expander.specs.OwnTrees.{tree_hash};
 
@@ -24,7 +28,7 @@ impl Model for OwnTree {
 
     ghost view = { λ t. t.tree };
 
-    ghost invariant = { λ t. t.hash ≡ tree_hash t.tree };
+    ghost invariant = { λ t. (t.hash ≡ tree_hash t.tree) × (t.is_definition ≡ is_some (definition_of t.tree.inner)) };
 }
 
 // The hash of a tree.
@@ -38,12 +42,17 @@ fn hash_of(tree: &TopSubtree) -> u64
 }
 
 impl OwnTree {
-    /// The tree, whose hash is computed.
+    /// The tree, whose hash is computed, and whether it is a definition.
     pub(crate) fn new(tree: TopSubtree) -> Self
         ensures { result ≡ tree }
     {
         let hash = hash_of(&tree);
-        OwnTree { tree, hash }
+        let is_definition = definition_of(&tree.iter()).is_some();
+        OwnTree {
+            tree,
+            hash,
+            is_definition,
+        }
     }
 
     /// The tree.
@@ -51,6 +60,13 @@ impl OwnTree {
         ensures { result.now ≡ self.now }
     {
         &self.tree
+    }
+
+    /// Whether it is a definition.
+    pub(crate) fn is_definition(&self) -> bool
+        ensures { result ≡ is_some (definition_of self.now.inner) }
+    {
+        self.is_definition
     }
 }
 

@@ -1,11 +1,12 @@
 // Plain pieces that are held, and which of them may stand for a tree.
-ghost use Rattle.std.specs.Prelude.{◌≡◌, ◌<◌, IfSome, is_some, length, map, slice_get, true};
+ghost use Rattle.std.specs.Prelude.{◌≡◌, ◌<◌, IfOk, IfSome, List, OnOk, is_some, length, map, slice_get, true};
+ghost use Rattle.std.specs.Global.{Global as GhostGlobal};
 ghost use Rattle.std.specs.List.{list_all, list_any};
 ghost use Rattle.std.specs.Rc.{rc_value};
 ghost use Rattle.expander.specs.Chains.{AreChained};
 ghost use Rattle.expander.specs.MetTable.{AreRead, scope_in};
 ghost use Rattle.expander.specs.Outcomes.{find_of};
-ghost use Rattle.expander.specs.Plains.{is_match, tree_of};
+ghost use Rattle.expander.specs.Plains.{Finds, is_match, tree_of};
 ghost use Rattle.expander.specs.Reuse.{same_number};
 
 use crate::chains::Chains;
@@ -13,6 +14,7 @@ use crate::held_part::HeldPart;
 use crate::met::Scope;
 use crate::outcome::{Find, Outcome};
 use crate::own_tree::OwnTree;
+use std::alloc::{AllocError, Global};
 use std::rc::Rc;
 use tt::laws;
 
@@ -82,22 +84,119 @@ fn last_match(
     None
 }
 
-/// The place of a held piece that may stand for a tree: the one at this place is tried first.
-pub(crate) fn match_from(
-    scope: &Scope,
-    held: &[Rc<Plain>],
-    chains: &Chains,
-    at: usize,
-    tree: &Rc<OwnTree>,
-) -> Option<usize>
+// The same, but the first, and each piece is looked at.
+fn first_match(scope: &Scope, held: &[Rc<Plain>], tree: &Rc<OwnTree>) -> Option<usize>
     requires read { AreRead scope.now }
-    requires chained { AreChained chains.now (map (λ q. tree_of (rc_value q)) held.now) }
     ensures any { is_some result ≡ list_any (λ q. is_match (scope_in scope.now) tree.now.value (rc_value q)) held.now }
     ensures found { IfSome result (λ i. IfSome (slice_get held.now i) (λ q. is_match (scope_in scope.now) tree.now.value (rc_value q) ≡ true)) }
     ensures within { IfSome result (λ i. i < length held.now) }
 {
-    if at < held.len() && is_match(scope, tree, held[at].as_ref()) {
-        return Some(at);
+    laws::equal_trees();
+    for i in 0..held.len() {
+        if is_match(scope, tree, held[i].as_ref()) {
+            return Some(i);
+        }
     }
-    last_match(scope, held, chains, tree)
+    None
+}
+
+// The trees of held pieces.
+fn chains_of(alloc: Global, held: &[Rc<Plain>]) -> Result<Chains, AllocError>
+    ensures { IfOk result (λ chains. AreChained chains (map (λ q. tree_of (rc_value q)) held.now)) }
+{
+    let mut chains = Chains::new(alloc);
+    for plain in held {
+        chains.push(plain.as_ref().tree.clone()?)?;
+    }
+    Ok(chains)
+}
+
+/// How held pieces are looked for by their trees: one after another the first times, and then in a table.
+#[derive(Drop)]
+pub(crate) struct Lookup {
+    times: usize,
+    chains: Option<Chains>,
+}
+
+// How often held pieces are looked at one after another.
+const TIMES: usize = 4;
+
+impl Lookup {
+    /// Nothing was looked for.
+    pub(crate) fn new() -> Self
+        ensures { (held : List (Rc Plain GhostGlobal)) → Finds result held }
+    {
+        Lookup {
+            times: 0,
+            chains: None,
+        }
+    }
+
+    // The place of a held piece that may stand for a tree, by the table, which is made at first.
+    fn find_in_table(
+        &mut self,
+        alloc: Global,
+        scope: &Scope,
+        held: &[Rc<Plain>],
+        tree: &Rc<OwnTree>,
+    ) -> Result<Option<usize>, AllocError>
+        requires read { AreRead scope.now }
+        requires table { Finds self.old held.now }
+        ensures table { OnOk result (Finds self.new held.now) }
+        ensures any { IfOk result (λ at. is_some at ≡ list_any (λ q. is_match (scope_in scope.now) tree.now.value (rc_value q)) held.now) }
+        ensures found { IfOk result (λ at. IfSome at (λ i. IfSome (slice_get held.now i) (λ q. is_match (scope_in scope.now) tree.now.value (rc_value q) ≡ true))) }
+        ensures within { IfOk result (λ at. IfSome at (λ i. i < length held.now)) }
+    {
+        if let Some(chains) = &self.chains {
+            return Ok(last_match(scope, held, chains, tree));
+        }
+        let chains = chains_of(alloc, held)?;
+        let found = last_match(scope, held, &chains, tree);
+        self.chains = Some(chains);
+        Ok(found)
+    }
+
+    // The place of a held piece that may stand for a tree.
+    fn find(
+        &mut self,
+        alloc: Global,
+        scope: &Scope,
+        held: &[Rc<Plain>],
+        tree: &Rc<OwnTree>,
+    ) -> Result<Option<usize>, AllocError>
+        requires read { AreRead scope.now }
+        requires table { Finds self.old held.now }
+        ensures table { OnOk result (Finds self.new held.now) }
+        ensures any { IfOk result (λ at. is_some at ≡ list_any (λ q. is_match (scope_in scope.now) tree.now.value (rc_value q)) held.now) }
+        ensures found { IfOk result (λ at. IfSome at (λ i. IfSome (slice_get held.now i) (λ q. is_match (scope_in scope.now) tree.now.value (rc_value q) ≡ true))) }
+        ensures within { IfOk result (λ at. IfSome at (λ i. i < length held.now)) }
+    {
+        if self.times < TIMES {
+            self.times += 1;
+            return Ok(first_match(scope, held, tree));
+        }
+        self.find_in_table(alloc, scope, held, tree)
+    }
+}
+
+/// The place of a held piece that may stand for a tree: the one at this place is tried first.
+pub(crate) fn match_from(
+    alloc: Global,
+    scope: &Scope,
+    held: &[Rc<Plain>],
+    lookup: &mut Lookup,
+    at: usize,
+    tree: &Rc<OwnTree>,
+) -> Result<Option<usize>, AllocError>
+    requires read { AreRead scope.now }
+    requires table { Finds lookup.old held.now }
+    ensures table { OnOk result (Finds lookup.new held.now) }
+    ensures any { IfOk result (λ found. is_some found ≡ list_any (λ q. is_match (scope_in scope.now) tree.now.value (rc_value q)) held.now) }
+    ensures found { IfOk result (λ found. IfSome found (λ i. IfSome (slice_get held.now i) (λ q. is_match (scope_in scope.now) tree.now.value (rc_value q) ≡ true))) }
+    ensures within { IfOk result (λ found. IfSome found (λ i. i < length held.now)) }
+{
+    if at < held.len() && is_match(scope, tree, held[at].as_ref()) {
+        return Ok(Some(at));
+    }
+    lookup.find(alloc, scope, held, tree)
 }

@@ -307,7 +307,6 @@ fn expand_pieces<G: FragmentGrammar>(
     let Taken {
         numbers,
         plains,
-        chains,
         steps,
         faults,
         expanded,
@@ -316,7 +315,6 @@ fn expand_pieces<G: FragmentGrammar>(
     let memory = Memory {
         was_read: true,
         plains,
-        chains,
         definitions: numbers.definitions,
         by_tree: numbers.by_tree,
         given: numbers.given,

@@ -7,7 +7,6 @@ ghost use Rattle.mbe.specs.Grammar.{Grammar};
 ghost use Rattle.tt_data.specs.Forest.{Forest};
 ghost use Rattle.tt_data.specs.declared.edition.Edition.{Edition};
 ghost use Rattle.expander.specs.ByTrees.{numbers_in, own_top};
-ghost use Rattle.expander.specs.Chains.{AreChained};
 ghost use Rattle.expander.specs.Definitions.{definition_of};
 ghost use Rattle.expander.specs.Expansion.{expansion};
 ghost use Rattle.expander.specs.Held.{IsMet, Met, definition_trees, kept_after, numbered_scope, numbered_world};
@@ -25,15 +24,13 @@ ghost use Rattle.expander.specs.OutputSteps.{PutsOut};
 ghost use Rattle.expander.specs.OwnPieces.{IsOwn, IsOwnPiece, piece_at};
 ghost use Rattle.expander.specs.Pieces.{first_start, relative};
 ghost use Rattle.expander.specs.Placing.{resolved_faults, resolved_steps};
-ghost use Rattle.expander.specs.Plains.{tree_of};
+ghost use Rattle.expander.specs.Plains.{Finds, tree_of};
 ghost use Rattle.expander.specs.Reuse.{matches};
 ghost use Rattle.expander.specs.Takings.{CanDefine, Grows, IsTaken, MakesTooMany, NeedsMore, Takes};
 ghost use Rattle.expander.specs.TooMany.{bursts};
 ghost use Rattle.expander.specs.World.{world};
 
 use crate::by_tree::ByTree;
-use crate::chains::Chains;
-use crate::definitions::definition_of;
 use crate::faults::Fault;
 use crate::held_part::held_part;
 use crate::laws;
@@ -44,7 +41,7 @@ use crate::output::{PlacedSteps, no_steps};
 use crate::own_pieces::OwnPiece;
 use crate::own_tree::OwnTree;
 use crate::placing::{put_faults, put_held, put_steps, tell_if_broken};
-use crate::plain::{Plain, match_from};
+use crate::plain::{Lookup, Plain, match_from};
 use crate::searching::expand_piece;
 use crate::session::Refusal;
 use crate::starts::Starts;
@@ -90,12 +87,15 @@ pub(crate) fn take_tree<G: FragmentGrammar>(
     scope: &Scope,
     depth: u8,
     memory: &Memory,
+    lookup: &mut Lookup,
     next: usize,
     tree: Rc<OwnTree>,
 ) -> Result<(Rc<Plain>, Option<usize>), TtFault>
     requires read { AreRead scope.now }
+    requires lookup { Finds lookup.old memory.now.plains.items }
     requires top { tree.value.delimiter ≡ text_top }
     requires right { IsMemory (world (G.answer grammar.now) scope.now.edition) depth scope.now.edition memory.now }
+    ensures lookup { OnOk result (Finds lookup.new memory.now.plains.items) }
     ensures tree { IfOk result (λ r. tree_of r.0.value ≡ tree.value) }
     ensures part { IfOk result (λ r. HasItsPart r.0.value) }
     ensures outcome { (given : ℕ) (numbers : Forest → Option ℕ) (before : List Met) → AreNumbers given numbers →
@@ -111,12 +111,17 @@ pub(crate) fn take_tree<G: FragmentGrammar>(
     laws::equal_pieces();
     tt::laws::equal_trees();
     let held = memory.plains.as_slice();
-    if let Some(i) = match_from(scope, held, &memory.chains, next, &tree) {
-        let plain = held[i].clone()?;
-        return Ok((plain, Some(i)));
+    let found = match_from(alloc, scope, held, lookup, next, &tree)?;
+    match found {
+        Some(i) => {
+            let plain = held[i].clone()?;
+            Ok((plain, Some(i)))
+        }
+        None => {
+            let plain = expanded(alloc, grammar, scope, depth, tree)?;
+            Ok((plain, None))
+        }
     }
-    let plain = expanded(alloc, grammar, scope, depth, tree)?;
-    Ok((plain, None))
 }
 
 /// What the pieces of a text so far give.
@@ -126,8 +131,6 @@ pub(crate) struct Taken {
     pub numbers: Numbering,
     /// The plain ones, in order.
     pub plains: Vec<Rc<Plain>>,
-    /// The trees of these.
-    pub chains: Chains,
     pub steps: PlacedSteps,
     /// Without those of the steps.
     pub faults: Vec<Fault>,
@@ -142,6 +145,8 @@ struct Taking {
     taken: Taken,
     // The place behind the held piece that matched last.
     next: usize,
+    // How others are looked for.
+    lookup: Lookup,
 }
 
 // No piece so far.
@@ -156,7 +161,6 @@ fn nothing_taken(alloc: Global, memory: &Memory) -> Taken
             by_tree: ByTree::new(alloc),
         },
         plains: Vec::new(alloc),
-        chains: Chains::new(alloc),
         steps: no_steps(alloc),
         faults: Vec::new(alloc),
         expanded: 0,
@@ -178,6 +182,7 @@ fn take_definition(
         start ≡ first_start piece → tree.value ≡ own_top (relative piece) → OnOk result (Takes grammar now.old.scope.edition depth memory.now piece now.old now.new) }
     ensures grows { OnOk result (Grows now.old.taken now.new.taken) }
     ensures edition { OnOk result (now.new.scope.edition ≡ now.old.scope.edition) }
+    ensures lookup { OnOk result (now.new.lookup ≡ now.old.lookup) }
     ensures expanded { OnOk result (now.new.taken.expanded ≡ now.old.taken.expanded) }
     ensures cause { (trees : List Forest) → HaveNumbers (numbers_in memory.now.by_tree) (trees_of memory.now) →
         HasNumbered memory.now.given memory.now.by_tree (trees_of memory.now) trees now.old.taken.numbers →
@@ -234,15 +239,9 @@ fn put_plain(
 }
 
 // A piece is held.
-fn hold(
-    plains: &mut Vec<Rc<Plain>>,
-    chains: &mut Chains,
-    plain: Rc<Plain>,
-) -> Result<(), AllocError>
-    ensures plains { OnOk result (plains.new.items ≡ plains.old.items ++ plain ∷ []) }
-    ensures chained { AreChained chains.old (map (λ q. tree_of (rc_value q)) plains.old.items) → OnOk result (AreChained chains.new (map (λ q. tree_of (rc_value q)) plains.new.items)) }
+fn hold(plains: &mut Vec<Rc<Plain>>, plain: Rc<Plain>) -> Result<(), AllocError>
+    ensures { OnOk result (plains.new.items ≡ plains.old.items ++ plain ∷ []) }
 {
-    chains.push(plain.as_ref().tree.clone()?)?;
     plains.push(plain)?;
     Ok(())
 }
@@ -251,6 +250,7 @@ fn hold(
 fn count(now: &mut Taking, at: Option<usize>)
     requires { now.old.taken.expanded + 1 < 2 ^ 64 }
     ensures scope { now.new.scope ≡ now.old.scope }
+    ensures lookup { now.new.lookup ≡ now.old.lookup }
     ensures taken { now.new.taken ≡ record now.old.taken { expanded = now.old.taken.expanded + (if is_some at then 0 else 1) } }
 {
     match at {
@@ -272,19 +272,22 @@ fn take_plain<G: FragmentGrammar>(
     requires plain { is_some (definition_of tree.value.inner) ≡ false }
     requires top { tree.value.delimiter ≡ text_top }
     requires read { AreRead now.old.scope }
+    requires lookup { Finds now.old.lookup memory.now.plains.items }
     requires right { IsMemory (world (G.answer grammar.now) now.old.scope.edition) depth now.old.scope.edition memory.now }
     requires room { now.old.taken.expanded + 1 < 2 ^ 64 }
     ensures taken { (piece : Forest) → start ≡ first_start piece → tree.value ≡ own_top (relative piece) →
         OnOk result (Takes (G.answer grammar.now) now.old.scope.edition depth memory.now piece now.old now.new) }
     ensures numbers { OnOk result (now.new.taken.numbers ≡ now.old.taken.numbers) }
     ensures edition { OnOk result (now.new.scope.edition ≡ now.old.scope.edition) }
+    ensures lookup { OnOk result (Finds now.new.lookup memory.now.plains.items) }
     ensures expanded { OnOk result (now.new.taken.expanded ≤ now.old.taken.expanded + 1) }
     ensures tokens { result ≡ Err TtFault.Tokens →
         (expansion (numbered_world (world (G.answer grammar.now) now.old.scope.edition)) (scope_in now.old.scope) depth None tree.value.inner).bursts ≡ true }
 {
     laws::equal_pieces();
     let scope = &now.scope;
-    let (plain, at) = take_tree(alloc, grammar, scope, depth, memory, now.next, tree)?;
+    let (lookup, next) = (&mut now.lookup, now.next);
+    let (plain, at) = take_tree(alloc, grammar, scope, depth, memory, lookup, next, tree)?;
     put_plain(
         alloc,
         &scope.starts,
@@ -293,7 +296,7 @@ fn take_plain<G: FragmentGrammar>(
         start,
         plain.as_ref(),
     )?;
-    hold(&mut now.taken.plains, &mut now.taken.chains, plain)?;
+    hold(&mut now.taken.plains, plain)?;
     count(now, at);
     Ok(())
 }
@@ -311,17 +314,19 @@ fn take_piece<G: FragmentGrammar>(
     requires can { CanDefine memory.now now.old }
     requires places { LooksAtNoPlace (world (G.answer grammar.now) now.old.scope.edition) }
     requires room { now.old.taken.expanded + 1 < 2 ^ 64 }
+    requires lookup { Finds now.old.lookup memory.now.plains.items }
     requires own { IsOwn (piece_at own.now) own.now }
     ensures taken { OnOk result (Takes (G.answer grammar.now) now.old.scope.edition depth memory.now (piece_at own.now) now.old now.new) }
     ensures grows { OnOk result (Grows now.old.taken now.new.taken) }
     ensures edition { OnOk result (now.new.scope.edition ≡ now.old.scope.edition) }
+    ensures lookup { OnOk result (Finds now.new.lookup memory.now.plains.items) }
     ensures expanded { OnOk result (now.new.taken.expanded ≤ now.old.taken.expanded + 1) }
     ensures tokens { result ≡ Err Refusal.Tokens → MakesTooMany (G.answer grammar.now) now.old.scope.edition depth (piece_at own.now) now.old }
     ensures cause { (trees : List Forest) → HasNumbered memory.now.given memory.now.by_tree (trees_of memory.now) trees now.old.taken.numbers →
         result ≡ Err Refusal.Numbers → 2 ^ 32 ≤ memory.now.given + needed (trees_of memory.now) (trees ++ definition_trees (piece_at own.now ∷ [])) }
 {
     let tree = own.tree.clone()?;
-    if definition_of(&tree.as_ref().tree().iter()).is_some() {
+    if tree.as_ref().is_definition() {
         return take_definition(alloc, memory, now, own.start, tree);
     }
     take_plain(alloc, grammar, depth, memory, now, own.start, tree)?;
@@ -354,6 +359,7 @@ pub(crate) fn take_pieces<G: FragmentGrammar>(
         scope: Scope::new(alloc, edition),
         taken: nothing_taken(alloc, memory),
         next: 0,
+        lookup: Lookup::new(),
     };
     for own in pieces {
         take_piece(alloc, grammar, depth, memory, &mut now, own)?;

@@ -17,6 +17,7 @@ loop-own-init g c =
     let A = g.G.FragmentGrammar.answer c.args.grammar.now in
     record {
       room = omega (arith, (c.nothing_taken.ensures A c.args.edition c.args.depth c.requires.right).expanded);
+      lookup = c.new-2.ensures c.args.memory.now.plains.items;
       left = left_begins A c.args.edition c.args.depth c.args.memory.now (map piece_at c.args.pieces.now) (all_stand c.args.pieces.now c.requires.own) _
           c.new.ensures.none c.new.ensures.read c.new.ensures.edition (c.nothing_taken.ensures A c.args.edition c.args.depth c.requires.right);
     }
@@ -45,6 +46,9 @@ take_piece-requires-clause-room g c =
     let one = left_length c.args.pieces.now c.loop-own.own-index c.own-item.result c.loop-own-test.true in
     omega (arith, c.loop-own.invariant.room, one)
 
+pub take_piece-requires-clause-lookup : goal.take_piece-requires-clause-lookup
+take_piece-requires-clause-lookup g c = c.loop-own.invariant.lookup
+
 pub take_piece-requires-clause-own : goal.take_piece-requires-clause-own
 take_piece-requires-clause-own g c =
     (all_at IsOwnPiece c.args.pieces.now c.loop-own.own-index c.own-item.result c.requires.own
@@ -64,6 +68,7 @@ loop-own-preserved g c =
     let left : Left A c.args.edition c.args.depth c.args.memory.now (map piece_at c.args.pieces.now) _ c.loop-own.now = rw next at c.loop-own.invariant.left in
     record {
       room = omega (arith, c.in_ok-take_piece.ensures.expanded, c.loop-own.invariant.room, one);
+      lookup = c.in_ok-take_piece.ensures.lookup;
       left = left_more A c.args.edition c.args.depth c.args.memory.now (map piece_at c.args.pieces.now) (piece_at c.own-item.result)
           (map piece_at (drop (c.loop-own.own-index + 1) c.args.pieces.now)) c.loop-own.now left
           c.equal_pieces.ensures (world_at_other_places laws A c.args.edition) c.take_piece.new.now c.in_ok-take_piece.ensures.grows

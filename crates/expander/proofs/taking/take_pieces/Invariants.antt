@@ -1,10 +1,12 @@
 use Rattle.std.proofs.Common.{◌≤◌, ◌+◌, drop, length, map}
 use Rattle.expander.specs.OwnPieces.{piece_at}
+use Rattle.expander.specs.Plains.{Finds}
 use Rattle.expander.proofs.PassLoopLemmas.{Left}
 use Rattle.expander.proofs.taking.take_pieces.Given as goal
 
 abbrev pub invariant-loop-own : goal.invariant-loop-own
 invariant-loop-own g l = record {
   room : l.now.taken.expanded + length (drop l.own-index l.pieces) ≤ l.most;
+  lookup : Finds l.now.lookup l.memory.plains.items;
   left : Left (g.G.FragmentGrammar.answer l.grammar) l.fn.edition l.depth l.memory (map piece_at l.pieces) (map piece_at (drop l.own-index l.pieces)) l.now;
 }

@@ -5,7 +5,6 @@ use Rattle.std.specs.Rc.{rc_value}
 use Rattle.std.specs.declared.rc.Rc.{Rc}
 use Rattle.tt.specs.Tops.{Top}
 use Rattle.tt_data.specs.declared.edition.Edition.{Edition}
-use Rattle.expander.specs.Chains.{AreChained}
 use Rattle.expander.specs.Definitions.{definition_of}
 use Rattle.expander.specs.Memories.{piece_of}
 use Rattle.expander.specs.MetTable.{scope_in}
@@ -13,9 +12,10 @@ use Rattle.expander.specs.Outcomes.{parts_for}
 use Rattle.expander.specs.OutputSteps.{PutsOut}
 use Rattle.expander.specs.Pieces.{first_start}
 use Rattle.expander.specs.Placing.{resolved_faults, resolved_steps}
-use Rattle.expander.specs.Plains.{tree_of}
+use Rattle.expander.specs.Plains.{Finds, tree_of}
 use Rattle.expander.specs.Reuse.{matches}
 use Rattle.expander.specs.World.{world}
+use Rattle.expander.specs.declared.plain.Lookup.{Lookup}
 use Rattle.expander.specs.declared.plain.Plain.{Plain}
 use Rattle.expander.specs.declared.taking.Taken.{Taken}
 use Rattle.expander.proofs.PassLemmas.{one_plain_piece, parts_taken}
@@ -31,8 +31,7 @@ returns-clause-taken g c = λ piece start_is tree_is before trees done has.
     c.count.ensures.scope
     (ap (λ (t : Taken). t.numbers) c.count.ensures.taken)
     (c.in_ok-plain.ensures.tree ∙ tree_is) c.in_ok-plain.ensures.part
-    (ap (λ (t : Taken). t.plains.items) c.count.ensures.taken ∙ c.in_ok-hold.ensures.plains)
-    (λ chained. subst (λ (t : Taken). AreChained t.chains (map (λ q. tree_of (rc_value q)) t.plains.items)) (sym c.count.ensures.taken) (c.in_ok-hold.ensures.chained chained))
+    (ap (λ (t : Taken). t.plains.items) c.count.ensures.taken ∙ c.in_ok-hold.ensures)
     (subst (λ (t : Taken). PutsOut c.args.now.now.taken.steps t.steps (resolved_steps (first_start piece) c.args.now.now.scope.starts (parts_for (tree_of (rc_value q)).inner (rc_value q).outcome).steps))
     (sym c.count.ensures.taken)
     (subst (λ n. PutsOut c.args.now.now.taken.steps c.put_plain.new.steps (resolved_steps n c.args.now.now.scope.starts (parts_for (tree_of (rc_value q)).inner (rc_value q).outcome).steps)) start_is
@@ -47,3 +46,6 @@ returns-clause-taken g c = λ piece start_is tree_is before trees done has.
     before trees done has
     (parts_taken A ed c.args.depth c.args.memory.now piece c.args.now.now c.count.new.now c.args.tree.value (rc_value q) tree_is c.in_ok-plain.ensures.outcome before trees done has)
     (ap (λ (t : Top). is_some (definition_of t.inner)) (sym tree_is) ∙ c.requires.plain)
+
+pub returns-clause-lookup : goal.returns-clause-lookup
+returns-clause-lookup g c = subst (λ (l : Lookup). Finds l c.args.memory.now.plains.items) (sym c.count.ensures.lookup) c.in_ok-plain.ensures.lookup

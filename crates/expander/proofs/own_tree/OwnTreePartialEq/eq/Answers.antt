@@ -17,5 +17,5 @@ apart a b m n p q differ = go (nat_eq m n) refl (same_top a b) refl
 
 pub returns-else-self-other : goal.returns-else-self-other
 returns-else-self-other c =
-    apart c.args.self.now c.args.other.now c.self.inside.hash c.other.inside.hash (c.self.invariant ∙ ap tree_hash c.self.view_is)
-    (c.other.invariant ∙ ap tree_hash c.other.view_is) c.if-self-other.false
+    apart c.args.self.now c.args.other.now c.self.inside.hash c.other.inside.hash (c.self.invariant.0 ∙ ap tree_hash c.self.view_is)
+    (c.other.invariant.0 ∙ ap tree_hash c.other.view_is) c.if-self-other.false

@@ -1,0 +1,27 @@
+use Rattle.std.proofs.Common.{◌≡◌, ◌∙◌, Option, Some, true, false, ap, sym, subst, rules, drop, Global}
+use Rattle.std.specs.Prelude.{IfSome, slice_get}
+use Rattle.std.specs.List.{list_any}
+use Rattle.std.specs.Rc.{rc_value}
+use Rattle.std.specs.declared.rc.Rc.{Rc}
+use Rattle.expander.specs.MetTable.{scope_in}
+use Rattle.expander.specs.Plains.{is_match}
+use Rattle.expander.specs.declared.plain.Plain.{Plain}
+use Rattle.expander.proofs.PlainLemmas.{any_found, passed_by, stands_at, test}
+use Rattle.expander.proofs.plain.first_match.Goals as goal
+
+pub loop-i-preserved : goal.loop-i-preserved
+loop-i-preserved c =
+    let fails : test (scope_in c.args.scope.now) c.args.tree.now.value c.index-held-i.result ≡ false = search rules in
+    c.loop-i.invariant ∙ passed_by (test (scope_in c.args.scope.now) c.args.tree.now.value) c.args.held.now c.loop-i.i c.index-held-i.result c.loop-i-test.true c.index-held-i.is fails
+
+pub returns-then-is_match-clause-any : goal.returns-then-is_match-clause-any
+returns-then-is_match-clause-any c =
+    let stands : slice_get c.args.held.now c.loop-i.i ≡ Some c.index-held-i.result = stands_at c.args.held.now c.loop-i.i c.index-held-i.result c.loop-i-test.true c.index-held-i.is in
+    let passes : test (scope_in c.args.scope.now) c.args.tree.now.value c.index-held-i.result ≡ true = search rules in
+    any_found c.equal_trees.ensures (scope_in c.args.scope.now) c.args.tree.now.value c.args.held.now c.loop-i.i c.index-held-i.result stands passes
+
+pub returns-then-is_match-clause-found : goal.returns-then-is_match-clause-found
+returns-then-is_match-clause-found c =
+    let stands : slice_get c.args.held.now c.loop-i.i ≡ Some c.index-held-i.result = stands_at c.args.held.now c.loop-i.i c.index-held-i.result c.loop-i-test.true c.index-held-i.is in
+    let passes : test (scope_in c.args.scope.now) c.args.tree.now.value c.index-held-i.result ≡ true = search rules in
+    subst (λ (o : Option (Rc Plain Global)). IfSome o (λ q. is_match (scope_in c.args.scope.now) c.args.tree.now.value (rc_value q) ≡ true)) (sym stands) passes
