@@ -1,5 +1,5 @@
 -- The characters behind a place of a text.
-use Rattle.std.proofs.Common.{◌≡◌, ℕ, List, [], ◌∷◌, ◌++◌, Option, None, Some, chars, encode_utf8, length, take, refl, ap, sym, ◌∙◌, IsUtf8}
+use Rattle.std.proofs.Common.{◌≡◌, ℕ, List, [], ◌∷◌, ◌++◌, Option, None, Some, chars, encode_utf8, length, take, ap, sym, ◌∙◌, IsUtf8}
 use Rattle.std.specs.Option.{MatchOption}
 use Rattle.std.specs.Prelude.{slice_get}
 use Rattle.std.proofs.lemmas.Str.{chars-nil, chars_past_char}

@@ -15,6 +15,8 @@ mod SharedPieceLemmas
 mod SortLemmas
 mod KnownLemmas
 mod LineLemmas
+mod LinkLemmas
+mod MadeLemmas
 mod RunLemmas
 mod RunRows
 mod MarkLemmas

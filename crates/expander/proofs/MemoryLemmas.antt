@@ -1,6 +1,6 @@
 -- What a session holds.
 use Rattle.std.proofs.Common.{◌≡◌, ℕ, List, [], ◌∷◌, map, Option, Some, None, refl, ap, sym, subst, ◌∙◌, Global}
-use Rattle.std.specs.Prelude.{All, is_some, option_map}
+use Rattle.std.specs.Prelude.{All, is_some, option_map, slice_get}
 use Rattle.std.specs.List.{list_any}
 use Rattle.std.specs.Rc.{rc_value}
 use Rattle.std.specs.declared.rc.Rc.{Rc}
@@ -19,14 +19,15 @@ use Rattle.expander.specs.Numbering.{numbered_by}
 use Rattle.expander.specs.Plains.{tree_of}
 use Rattle.expander.specs.Reuse.{IsHeld, looked_held}
 use Rattle.expander.specs.Sources.{AreSources}
+use Rattle.expander.specs.declared.links.Link.{Link}
 use Rattle.expander.specs.declared.memory.Memory as code
 use Rattle.expander.specs.declared.numbered.Known.{Known}
 use Rattle.expander.specs.declared.plain.Plain.{Plain}
 
 -- nothing is held rightly
-pub nothing : (m : code.Memory) → m.plains.items ≡ [] → m.definitions.items ≡ [] → ((t : Top) → known_in m.by_tree t ≡ None) → AreSources m.sources
+pub nothing : (m : code.Memory) → m.plains.items ≡ [] → m.definitions.items ≡ [] → ((t : Top) → known_in m.by_tree t ≡ None) → AreSources m.sources → m.links.items ≡ []
     → (world : World Definition) (edition : Edition) (depth : ℕ) → IsMemory world depth edition m
-nothing m plains definitions none sources world edition depth = record {
+nothing m plains definitions none sources links world edition depth = record {
   unread = λ e. plains;
   numbers = record { within = λ t n e. absurd (no n (sym (empty t) ∙ e)); apart = λ t u n e f. absurd (no n (sym (empty t) ∙ e)) };
   have = λ t. ap is_some (empty t) ∙ ap (λ (ks : List (Rc Known Global)). list_any (same_forest t) (map (λ k. inner_of (rc_value k)) ks)) (sym definitions);
@@ -35,6 +36,7 @@ nothing m plains definitions none sources world edition depth = record {
   right = subst (λ (qs : List (Rc Plain Global)). All (λ q. IsRight world depth (numbers_in m.by_tree) (rc_value q)) qs) (sym plains)
       (All-nil (λ q. IsRight world depth (numbers_in m.by_tree) (rc_value q)));
   sources = sources;
+  linked = λ i s l e f. absurd (no_link m.links.items links i l f);
 }
   where
     empty : (t : Forest) → numbers_in m.by_tree t ≡ None
@@ -42,6 +44,10 @@ nothing m plains definitions none sources world edition depth = record {
 
     no : (n : ℕ) → None ≡ Some n → ⊥
     no n e = cc
+
+    no_link : (ls : List Link) → ls ≡ [] → (i : ℕ) (l : Link) → slice_get ls i ≡ Some l → ⊥
+    no_link [] e i l q = cc
+    no_link (x ∷ ls) e i l q = cc
 
     no_known : (k : Known) → None ≡ Some k → ⊥
     no_known k e = cc

@@ -11,6 +11,7 @@ use Rattle.tt_data.specs.declared.edition.Edition.{Edition}
 use Rattle.expander.specs.ByTrees.{AllRead, IsTable, known_in, numbers_in, own_top}
 use Rattle.expander.specs.Count.{same_forest}
 use Rattle.expander.specs.Editions.{IsRead}
+use Rattle.expander.specs.Links.{definition_tops}
 use Rattle.expander.specs.NumberedTexts.{HasNumbered, inner_of}
 use Rattle.expander.specs.Numbering.{AreNumbered, HaveNumbers}
 use Rattle.expander.specs.Numbers.{needed}
@@ -130,6 +131,11 @@ pub trees_pushed : (xs ys : List (Rc Known Global)) (rc : Rc Known Global) (k : 
 trees_pushed xs ys rc k pushed is =
     ap (map (λ x. inner_of (rc_value x))) pushed ∙ mapped_more (λ x. inner_of (rc_value x)) xs rc
     ∙ ap (λ (x : Known). map (λ x. inner_of (rc_value x)) xs ++ x.tree.inner ∷ []) is
+
+pub tops_pushed : (xs ys : List (Rc Known Global)) (rc : Rc Known Global) (k : Known) → ys ≡ xs ++ rc ∷ [] → rc.value ≡ k
+    → definition_tops ys ≡ definition_tops xs ++ k.tree ∷ []
+tops_pushed xs ys rc k pushed is =
+    ap definition_tops pushed ∙ mapped_more (λ (x : Rc Known Global). (rc_value x).tree) xs rc ∙ ap (λ (x : Known). definition_tops xs ++ x.tree ∷ []) is
 
 pub known_updated : {X Y : Type 0} (f : X → Y) (b : Bool) (x : X) (o : Option X) → option_map f (cond b (Some x) o) ≡ cond b (Some (f x)) (option_map f o)
 known_updated f true x o = refl

@@ -1,6 +1,6 @@
 -- The search for a held piece that may stand for a tree.
-use Rattle.std.proofs.Common.{◌≡◌, ◌↔◌, ℕ, ◌<◌, ◌≤◌, ◌+◌, ◌++◌, ◌∙◌, drop, take, zero, suc, Bool, true, false, List, [], ◌∷◌, length, get_or, map, Option, Some, None, refl, ap, sym, arith, Global}
-use Rattle.std.specs.Prelude.{◌&&◌, ◌||◌, slice_get}
+use Rattle.std.proofs.Common.{◌≡◌, ◌↔◌, ℕ, ◌<◌, ◌≤◌, ◌+◌, ◌++◌, ◌∙◌, drop, take, zero, suc, Bool, true, false, List, [], ◌∷◌, length, get_or, map, Option, Some, None, refl, ap, sym, subst, arith, Global}
+use Rattle.std.specs.Prelude.{◌&&◌, ◌||◌, IfSome, slice_get}
 use Rattle.std.specs.List.{list_all, list_any}
 use Rattle.std.specs.Rc.{rc_value}
 use Rattle.std.specs.declared.rc.Rc.{Rc}
@@ -8,7 +8,7 @@ use Rattle.tt.specs.Tops.{Top}
 use Rattle.expander.specs.Chains.{last_place, place_before}
 use Rattle.expander.specs.Held.{Numbered}
 use Rattle.expander.specs.Outcomes.{find_of}
-use Rattle.expander.specs.Plains.{is_match, tree_of}
+use Rattle.expander.specs.Plains.{IsMatchAt, finds_of, is_match, tree_of}
 use Rattle.expander.specs.Reuse.{agrees, same_number}
 use Rattle.expander.specs.SameTops.{same_top}
 use Rattle.expander.specs.declared.outcome.Find.{Find}
@@ -105,3 +105,28 @@ all_mapped f [] zero past = refl
 all_mapped f [] (suc i) past = refl
 all_mapped f (x ∷ xs) zero past = absurd (omega (arith, past))
 all_mapped f (x ∷ xs) (suc i) past = ap (λ ys. f x ∷ ys) (all_mapped f xs i (omega (arith, past)))
+
+-- what stands at a place of what is made of a list is made of what stands there
+pub at_place : {X Y : Type 0} (f : X → Y) (xs : List X) (i : ℕ) (x : X) (y : Y) → slice_get xs i ≡ Some x → slice_get (map f xs) i ≡ Some y → f x ≡ y
+at_place f [] i x y e g = cc
+at_place f (z ∷ xs) zero x y e g = let same : z ≡ x = cc in let is : f z ≡ y = cc in ap f (sym same) ∙ is
+at_place f (z ∷ xs) (suc i) x y e g = at_place f xs i x y e g
+
+pub link_within : (held : List (Rc Plain Global)) (link : Option ℕ) (t : Top) → IfSome link (λ i. slice_get (map tree_in held) i ≡ Some t) → IfSome link (λ i. i < length held)
+link_within held None t h = tt
+link_within held (Some i) t h = in_range tree_in held i t h
+
+-- a piece with the tree whose names find the same may stand for it
+pub linked_is_match : ((a b : Top) → (same_top a b ≡ true) ↔ (a ≡ b)) → (scope : List ℕ → Option Numbered) (t : Top) (held : List (Rc Plain Global)) (i : ℕ) (q : Rc Plain Global)
+    → slice_get held i ≡ Some q → tree_in q ≡ t → agrees scope (finds_of (rc_value q)) ≡ true → IsMatchAt scope t held i
+linked_is_match equal scope t held i q stands is agree =
+    let passes : test scope t q ≡ true = ap (λ b. b && agrees scope (finds_of (rc_value q))) ((equal t (tree_in q)).1 (sym is)) ∙ agree in record {
+      within = in_range tree_in held i (tree_in q) (mapped_at tree_in held i q stands);
+      any = any_found equal scope t held i q stands passes;
+      found = subst (λ (o : Option (Rc Plain Global)). IfSome o (λ x. is_match scope t (rc_value x) ≡ true)) (sym stands) passes;
+    }
+  where
+    mapped_at : {X Y : Type 0} (f : X → Y) (xs : List X) (i : ℕ) (x : X) → slice_get xs i ≡ Some x → slice_get (map f xs) i ≡ Some (f x)
+    mapped_at f [] i x e = cc
+    mapped_at f (z ∷ xs) zero x e = let same : z ≡ x = cc in ap (λ w. Some (f w)) same
+    mapped_at f (z ∷ xs) (suc i) x e = mapped_at f xs i x e

@@ -1,7 +1,6 @@
 -- Pieces that are read by themselves, and the text that they are part of.
-use Rattle.std.proofs.Common.{◌≡◌, ℕ, zero, suc, ◌+◌, ◌-◌, ◌<◌, ◌≤◌, Bool, true, false, List, [], ◌∷◌, ◌++◌, append_assoc, append-nil, length, map, take, drop, refl, ap, sym, subst, ◌∙◌, arith, if◌then◌else◌}
-use Rattle.std.specs.Prelude.{All, IsUtf8, Option, Result, Ok, Err, chars, nat_eq}
-use Rattle.std.specs.List.{sum_by}
+use Rattle.std.proofs.Common.{◌≡◌, ℕ, ◌+◌, ◌-◌, ◌<◌, ◌≤◌, Bool, true, false, List, [], ◌∷◌, ◌++◌, append_assoc, append-nil, length, map, take, drop, refl, ap, sym, subst, ◌∙◌, arith, if◌then◌else◌}
+use Rattle.std.specs.Prelude.{IsUtf8, Option, Result, Ok, Err, chars}
 use Rattle.std.specs.Rc.{rc_value}
 use Rattle.std.proofs.lemmas.List.Elements.{All-append, All-cons, All-nil}
 use Rattle.std.proofs.lemmas.List.Sums.{sum_by-cons}
@@ -12,7 +11,7 @@ use Rattle.rustc_lexer.specs.declared.token.Token.{Token}
 use Rattle.tt.specs.Tops.{Top}
 use Rattle.tt_data.specs.Forest.{Forest, empty, leaf, group, joined, map_spans}
 use Rattle.tt_data.specs.Spans.{delimiter_with, leaf_with, span_of}
-use Rattle.tt_data.specs.Walk.{Step, walk}
+use Rattle.tt_data.specs.Walk.{walk}
 use Rattle.tt_data.specs.declared.leaf.Leaf.{Leaf}
 use Rattle.tt_data.specs.declared.leaf.Leaf.TheVariants as as_leaf
 use Rattle.tt_data.specs.declared.span.Span.{Span}
@@ -20,7 +19,7 @@ use Rattle.bridge.specs.Pieces.{alone}
 use Rattle.bridge.specs.ReadText.{text_top}
 use Rattle.bridge.specs.Reading.{IsReading, PlacedToken, TextStep, placed_from, reading, step, with_front}
 use Rattle.bridge.specs.Text.{is_punct}
-use Rattle.bridge.specs.TokenSteps.{sort_of, steps_of, steps_of_sort, text_reading}
+use Rattle.bridge.specs.TokenSteps.{steps_of, text_reading}
 use Rattle.bridge.specs.declared.fault.ReadFault.{ReadFault}
 use Rattle.expander.specs.ByTrees.{own_top}
 use Rattle.expander.specs.OwnPieces.{AreOwn, own_of, own_shown}

@@ -16,6 +16,7 @@ use Rattle.expander.specs.Expansion.{PlacedStep}
 use Rattle.expander.specs.Faults.{in_order}
 use Rattle.expander.specs.Held.{Kept, definition_trees, kept_after, present}
 use Rattle.expander.specs.Layered.{layers}
+use Rattle.expander.specs.Links.{AreLinked, definition_tops, plain_tops}
 use Rattle.expander.specs.Meaning.{Layers, Member, meaning_of, members, members_after, output_of}
 use Rattle.expander.specs.Memories.{IsMemory, held_in, looked_plain, piece_of, trees_of}
 use Rattle.expander.specs.Numbering.{HaveNumbers, number_by, numbered_by}
@@ -62,6 +63,7 @@ memory_of now sources = record {
   by_tree = now.numbers.by_tree;
   given = now.numbers.given;
   sources = sources;
+  links = now.links;
 }
 
 module _ (equal : (f g : Forest) → (same_forest f g ≡ true) ↔ (f ≡ g)) (grammar : Grammar) (edition : Edition) (depth : ℕ) (old : code.Memory) (ps : List Forest) where
@@ -70,8 +72,8 @@ module _ (equal : (f g : Forest) → (same_forest f g ≡ true) ↔ (f ≡ g)) (
 
   -- it is held rightly
   taken_right : (now : Taken) → IsTaken (world grammar edition) edition depth old (layers grammar edition) (definition_trees ps) (news now) now
-      → (sources : Sources) → AreSources sources → IsMemory (world grammar edition) depth edition (memory_of now sources)
-  taken_right now t sources are = record {
+      → (sources : Sources) → AreSources sources → AreLinked (plain_tops now.plains.items) (definition_tops now.numbers.definitions.items) sources.list.items now.links.items → IsMemory (world grammar edition) depth edition (memory_of now sources)
+  taken_right now t sources are links = record {
     unread = λ e. absurd (cc e);
     numbers = numbers_now equal old.given (numbers_in old.by_tree) (trees_of old) (definition_trees ps) now.numbers.given (numbers_in now.numbers.by_tree) t.numbers.numbers;
     have = subst (HaveNumbers (numbers_in now.numbers.by_tree)) (sym t.numbers.trees_are) t.numbers.numbers.have;
@@ -79,15 +81,16 @@ module _ (equal : (f g : Forest) → (same_forest f g ≡ true) ↔ (f ≡ g)) (
     read = t.table_read;
     right = t.right;
     sources = are;
+    linked = links;
   }
 
   pub takes_text : (now : Taken) (e : Expanded) → IsTaken (world grammar edition) edition depth old (layers grammar edition) (definition_trees ps) (news now) now
       → ((steps : List PlacedStep) → HasOutput now.steps steps → ShowsOutput now.faults.items now.expanded steps e)
-      → (sources : Sources) → AreSources sources → TakesText grammar edition depth old ps e (memory_of now sources)
-  takes_text now e t shown sources are =
+      → (sources : Sources) → AreSources sources → AreLinked (plain_tops now.plains.items) (definition_tops now.numbers.definitions.items) sources.list.items now.links.items → TakesText grammar edition depth old ps e (memory_of now sources)
+  takes_text now e t shown sources are links =
       let shows : ShowsOutput now.faults.items now.expanded (flat_map output_of (map present (news now))) e = shown (flat_map output_of (map present (news now))) t.steps in
       record {
-        right = taken_right now t sources are;
+        right = taken_right now t sources are links;
         was_read = refl;
         numbers = t.numbers.numbers;
         trees = t.numbers.trees_are;

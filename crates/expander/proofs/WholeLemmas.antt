@@ -1,5 +1,5 @@
 -- One whole piece, wherever it stands and whatever follows.
-use Rattle.std.proofs.Common.{◌≡◌, ◌<◌, Bool, true, false, List, ◌∷◌, refl, ap, sym, subst, ◌∙◌, arith, if◌then◌else◌}
+use Rattle.std.proofs.Common.{◌≡◌, ◌<◌, Bool, true, false, ◌∷◌, refl, ap, sym, subst, ◌∙◌, arith, if◌then◌else◌}
 use Rattle.std.specs.Prelude.{◌&&◌, ◌||◌, Some}
 use Prim.Native.String.{String}
 use Rattle.tt_data.specs.Flat.{joined-empty}

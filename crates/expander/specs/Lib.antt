@@ -44,6 +44,7 @@ pub mod MetTable
 pub mod Searches
 pub mod Placing
 pub mod Plains
+pub mod Links
 pub mod Memories
 pub mod Takings
 pub mod Numbering

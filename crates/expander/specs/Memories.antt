@@ -11,6 +11,7 @@ use Rattle.expander.specs.Definitions.{Definition}
 use Rattle.expander.specs.Expansion.{World, expansion}
 use Rattle.expander.specs.Held.{Numbered, numbered_world}
 use Rattle.expander.specs.HeldParts.{HasItsPart}
+use Rattle.expander.specs.Links.{AreLinked, definition_tops, plain_tops}
 use Rattle.expander.specs.NumberedTexts.{inner_of}
 use Rattle.expander.specs.Numbering.{AreNumbers, HaveNumbers, numbered_by}
 use Rattle.expander.specs.Outcomes.{parts_for, parts_of}
@@ -55,3 +56,4 @@ module _ (world : World Definition) (depth : ℕ) where
     pub read : AllRead edition m.by_tree
     pub right : All (λ q. IsRight (numbers_in m.by_tree) (rc_value q)) m.plains.items
     pub sources : AreSources m.sources
+    pub linked : AreLinked (plain_tops m.plains.items) (definition_tops m.definitions.items) m.sources.list.items m.links.items

@@ -17,6 +17,10 @@ pub record IsOwn (piece : Forest) (own : OwnPiece) : Type 0 where
 abbrev pub own_of : Forest → ℕ × Top
 own_of piece = (first_start piece, own_top (relative piece))
 
+-- its tree
+abbrev pub tree_at : OwnPiece → Top
+tree_at own = rc_value own.tree
+
 -- the same of a piece as the code has it
 abbrev pub own_shown : OwnPiece → ℕ × Top
 own_shown own = (own.start, rc_value own.tree)

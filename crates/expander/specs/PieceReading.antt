@@ -1,6 +1,8 @@
 -- How a text is read piece by piece.
-use Rattle.std.specs.Prelude.{◌≡◌, ℕ, ◌++◌, chars, drop, take, [], ◌∷◌, All, IfSome, List, Option}
+use Rattle.std.specs.Prelude.{◌≡◌, ℕ, ◌++◌, chars, drop, take, [], ◌∷◌, All, IfSome, List, Option, Some, map, slice_get}
+use Rattle.std.specs.Global.{Global}
 use Rattle.std.specs.Rc.{rc_value}
+use Rattle.std.specs.declared.rc.Rc.{Rc}
 use Rattle.bridge.specs.ReadText.{text_top}
 use Rattle.bridge.specs.Reading.{IsReading, PlacedToken, TextStep, placed_from, reading, with_front}
 use Rattle.bridge.specs.TokenSteps.{sort_of, steps_of, steps_of_sort, text_reading}
@@ -10,7 +12,7 @@ use Rattle.rustc_lexer.specs.declared.token.Token.{Token}
 use Rattle.tt.specs.Tops.{Top}
 use Rattle.tt_data.specs.Forest.{Forest, joined}
 use Rattle.bridge.specs.Parts.{begins_with_mark}
-use Rattle.expander.specs.OwnPieces.{AreOwn}
+use Rattle.expander.specs.OwnPieces.{AreOwn, tree_at}
 use Rattle.expander.specs.Pieces.{first_start, pieces, separated}
 use Rattle.expander.specs.Sources.{IsHeldAt, IsSource, IsWhole, StandsFirst, chars_ahead}
 use Rattle.expander.specs.declared.own_pieces.OwnPiece.{OwnPiece}
@@ -67,3 +69,12 @@ pub record Passed (text : List ℕ) (at : ℕ) (left : List Token) (own : List O
   pub reads : text_reading text ≡ with_front front (reading (steps_of (placed_from at (drop at text) left)))
   pub cuts : (g : Forest) → pieces (joined front g) ≡ ps ++ pieces g
   pub are_own : AreOwn ps own
+
+-- each source has the tree of the piece at its place
+abbrev pub AreTheirs : Sources → List OwnPiece → Type 0
+AreTheirs sources own = (i : ℕ) (s : Rc Source Global) (o : OwnPiece) → slice_get sources.list.items i ≡ Some s → slice_get own i ≡ Some o
+    → rc_value (rc_value s).tree ≡ tree_at o
+
+-- just these sources are of these pieces
+abbrev pub AreMade : List OwnPiece → List (Rc Source Global) → Type 0
+AreMade own list = map (λ (s : Rc Source Global). rc_value (rc_value s).tree) list ≡ map tree_at own

@@ -1,5 +1,6 @@
 -- Plain pieces as the code holds them.
-use Rattle.std.specs.Prelude.{ℕ, Bool, ◌&&◌, IfSome, List, Option, map}
+use Rattle.std.specs.Prelude.{◌≡◌, ℕ, ◌<◌, Bool, true, ◌&&◌, IfSome, List, Option, length, map, slice_get}
+use Rattle.std.specs.List.{list_any}
 use Rattle.std.specs.Global.{Global}
 use Rattle.std.specs.Rc.{rc_value}
 use Rattle.std.specs.declared.rc.Rc.{Rc}
@@ -27,3 +28,9 @@ is_match scope tree q = same_top tree (tree_of q) && agrees scope (finds_of q)
 -- the table, where it was made, is of these pieces
 abbrev pub Finds : Lookup → List (Rc Plain Global) → Type 0
 Finds lookup held = IfSome lookup.chains (λ c. AreChained c (map (λ q. tree_of (rc_value q)) held))
+
+-- the piece at this place is such a one
+pub record IsMatchAt (scope : List ℕ → Option Numbered) (tree : Top) (held : List (Rc Plain Global)) (i : ℕ) : Type 0 where
+  pub within : i < length held
+  pub any : true ≡ list_any (λ q. is_match scope tree (rc_value q)) held
+  pub found : IfSome (slice_get held i) (λ q. is_match scope tree (rc_value q) ≡ true)

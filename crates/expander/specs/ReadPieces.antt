@@ -5,7 +5,7 @@ use Rattle.bridge.specs.declared.outcome.Read.{Read}
 use Rattle.bridge.specs.declared.outcome.Read.TheVariants as whole
 use Rattle.tt_data.specs.Forest.{Forest}
 use Rattle.expander.specs.OwnPieces.{AreOwn}
-use Rattle.expander.specs.PieceReading.{AreMet}
+use Rattle.expander.specs.PieceReading.{AreMet, AreTheirs}
 use Rattle.expander.specs.Pieces.{pieces, separated}
 use Rattle.expander.specs.Sources.{AreSources}
 use Rattle.expander.specs.declared.sources.Sources.{Sources}
@@ -26,3 +26,8 @@ IsReadInPieces text (Fault fault) = text_reading text ≡ Err fault
 abbrev pub HaveMet : Sources → ReadPieces → Type 0
 HaveMet held (Pieces own sources) = AreMet held own.items
 HaveMet held (Fault fault) = ⊤
+
+-- the sources that are held anew are of the pieces
+abbrev pub HaveTheirs : ReadPieces → Type 0
+HaveTheirs (Pieces own sources) = AreTheirs sources own.items
+HaveTheirs (Fault fault) = ⊤

@@ -2,6 +2,7 @@
 use Rattle.std.specs.Prelude.{◌≡◌, ℕ, ◌+◌, ◌≤◌, ◌^◌, All, List, [], ◌∷◌, ◌++◌, None, Some, filter, filter_map, flat_map, length, map, true}
 use Rattle.std.specs.Rc.{rc_value}
 use Rattle.mbe.specs.Grammar.{Grammar}
+use Rattle.tt.specs.Tops.{Top}
 use Rattle.tt_data.specs.Forest.{Forest}
 use Rattle.tt_data.specs.declared.edition.Edition.{Edition}
 use Rattle.expander.specs.ByTrees.{AllRead, IsTable, numbers_in}
@@ -9,6 +10,7 @@ use Rattle.expander.specs.Definitions.{Definition, definition_of}
 use Rattle.expander.specs.Expansion.{World, expansion}
 use Rattle.expander.specs.Held.{IsMet, Kept, Met, definition_trees, kept_of, numbered_world, present, with_met}
 use Rattle.expander.specs.Layered.{layers}
+use Rattle.expander.specs.Links.{LeadTo, definition_tops, plain_tops}
 use Rattle.expander.specs.Meaning.{Layers, member_faults, output_of}
 use Rattle.expander.specs.Memories.{IsRight, piece_of, trees_of}
 use Rattle.expander.specs.MetTable.{AreRead, HasMet, scope_in}
@@ -33,6 +35,10 @@ pub record NeedsMore (old : Memory) (ps : List Forest) : Type 0 where
 -- numbers stay
 abbrev pub Grows : Taken → Taken → Type 0
 Grows old new = (t : Forest) (n : ℕ) → numbers_in old.numbers.by_tree t ≡ Some n → numbers_in new.numbers.by_tree t ≡ Some n
+
+-- the links of the pieces so far, which have these trees
+abbrev pub AreLinks : Taken → List Top → Type 0
+AreLinks now trees = LeadTo (plain_tops now.plains.items) (definition_tops now.numbers.definitions.items) now.links.items trees
 
 -- one more definition may be numbered and met
 pub record CanDefine (old : Memory) (now : Taking) : Type 0 where

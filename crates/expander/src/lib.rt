@@ -12,6 +12,7 @@ mod held_part;
 mod known;
 pub mod laws;
 mod lines;
+mod links;
 mod memory;
 mod met;
 mod names;

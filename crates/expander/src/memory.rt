@@ -1,12 +1,17 @@
 // What a session holds of the last text that was read.
-ghost use Rattle.std.specs.Prelude.{◌≡◌, ℕ, [], None};
+ghost use Rattle.std.specs.Prelude.{◌≡◌, ℕ, [], IfSome, None, Some, slice_get};
+ghost use Rattle.std.specs.Rc.{rc_value};
 ghost use Rattle.tt_data.specs.declared.edition.Edition.{Edition};
 ghost use Rattle.expander.specs.Definitions.{Definition};
 ghost use Rattle.expander.specs.Expansion.{World};
+ghost use Rattle.expander.specs.Links.{AreLinked, definition_tops, plain_tops};
 ghost use Rattle.expander.specs.Memories.{IsMemory, held_in, trees_of};
+ghost use Rattle.expander.specs.PieceReading.{IsMet};
 
 use crate::by_tree::ByTree;
+use crate::links::Link;
 use crate::numbered::Known;
+use crate::own_pieces::OwnPiece;
 use crate::plain::Plain;
 use crate::sources::Sources;
 use std::alloc::Global;
@@ -26,6 +31,19 @@ pub(crate) struct Memory {
     pub given: u32,
     /// How its pieces were read.
     pub sources: Sources,
+    /// What these are, in their order.
+    pub links: Vec<Link>,
+}
+
+// The link of this index, if there are so many.
+fn link_at(links: &[Link], at: usize) -> Option<Link>
+    ensures { IfSome result (λ link. slice_get links.now at ≡ Some link) }
+{
+    if at < links.len() {
+        Some(links[at])
+    } else {
+        None
+    }
 }
 
 impl Memory {
@@ -43,6 +61,25 @@ impl Memory {
             by_tree: ByTree::new(alloc),
             given: 0,
             sources: Sources::new(alloc),
+            links: Vec::new(alloc),
+        }
+    }
+
+    /// The index of the plain piece that a piece was, where it was met.
+    pub(crate) fn plain_at(&self, own: &OwnPiece) -> Option<usize>
+        requires linked { AreLinked (plain_tops self.now.plains.items) (definition_tops self.now.definitions.items) self.now.sources.list.items self.now.links.items }
+        requires met { IsMet self.now.sources own.now.met (rc_value own.now.tree) }
+        ensures { IfSome result (λ i. slice_get (plain_tops self.now.plains.items) i ≡ Some (rc_value own.now.tree)) }
+    {
+        let Some(at) = own.met else {
+            return None;
+        };
+        let Some(link) = link_at(self.links.as_slice(), at) else {
+            return None;
+        };
+        match link {
+            Link::Plain(i) => Some(i),
+            Link::Definition(_) => None,
         }
     }
 }

@@ -5,6 +5,7 @@ ghost use Rattle.tt_data.specs.Forest.{Forest};
 ghost use Rattle.expander.specs.ByTrees.{AllRead, IsTable, numbers_in};
 ghost use Rattle.expander.specs.Definitions.{definition_of};
 ghost use Rattle.expander.specs.Editions.{IsRead};
+ghost use Rattle.expander.specs.Links.{definition_tops};
 ghost use Rattle.expander.specs.NumberedTexts.{HasNumbered};
 ghost use Rattle.expander.specs.Numbering.{HaveNumbers};
 ghost use Rattle.expander.specs.Numbers.{needed};
@@ -96,6 +97,7 @@ pub(crate) fn number(
     ensures numbered { (given : ℕ) (known trees : List Forest) → HaveNumbers (numbers_in old.now) known → HasNumbered given old.now known trees now.old →
         OnOk result (HasNumbered given old.now known (trees ++ tree.value.inner ∷ []) now.new) }
     ensures tree { IfOk result (λ k. k.value.tree ≡ tree.value) }
+    ensures listed { IfOk result (λ k. definition_tops now.new.definitions.items ≡ definition_tops now.old.definitions.items ++ k.value.tree ∷ []) }
     ensures number { IfOk result (λ k. numbers_in now.new.by_tree tree.value.inner ≡ Some k.value.number) }
     ensures grows { OnOk result ((t : Forest) (n : ℕ) → numbers_in now.old.by_tree t ≡ Some n → numbers_in now.new.by_tree t ≡ Some n) }
     ensures read { AllRead edition old.now → AllRead edition now.old.by_tree → IfOk result (λ k. IsRead edition k.value) }

@@ -1,13 +1,15 @@
 // Plain pieces that are held, and which of them may stand for a tree.
-ghost use Rattle.std.specs.Prelude.{◌≡◌, ◌<◌, IfOk, IfSome, List, OnOk, is_some, length, map, slice_get, true};
+ghost use Rattle.std.specs.Prelude.{◌≡◌, ◌<◌, IfOk, IfSome, List, OnOk, Some, is_some, length, map, slice_get, true};
 ghost use Rattle.std.specs.Global.{Global as GhostGlobal};
 ghost use Rattle.std.specs.List.{list_all, list_any};
 ghost use Rattle.std.specs.Rc.{rc_value};
 ghost use Rattle.expander.specs.Chains.{AreChained};
 ghost use Rattle.expander.specs.MetTable.{AreRead, scope_in};
 ghost use Rattle.expander.specs.Outcomes.{find_of};
-ghost use Rattle.expander.specs.Plains.{Finds, is_match, tree_of};
-ghost use Rattle.expander.specs.Reuse.{same_number};
+ghost use Rattle.expander.specs.Links.{plain_tops};
+ghost use Rattle.expander.specs.Plains.{Finds, IsMatchAt, finds_of, is_match, tree_of};
+ghost use Rattle.expander.specs.Reuse.{agrees, same_number};
+ghost use Rattle.tt.specs.Tops.{Top};
 
 use crate::chains::Chains;
 use crate::held_part::HeldPart;
@@ -58,6 +60,31 @@ fn is_match(scope: &Scope, tree: &Rc<OwnTree>, held: &Plain) -> bool
     ensures { result ≡ is_match (scope_in scope.now) tree.now.value held.now }
 {
     *tree == held.tree && agrees(scope, held.outcome.finds.as_slice())
+}
+
+// Whether the names of a held piece find what they are held to find.
+fn finds_again(scope: &Scope, held: &Plain) -> bool
+    requires { AreRead scope.now }
+    ensures { result ≡ agrees (scope_in scope.now) (finds_of held.now) }
+{
+    agrees(scope, held.outcome.finds.as_slice())
+}
+
+// The place of a held piece, where it may stand for the tree that it has.
+fn linked_match(scope: &Scope, held: &[Rc<Plain>], link: Option<usize>) -> Option<usize>
+    requires read { AreRead scope.now }
+    requires within { IfSome link (λ i. i < length held.now) }
+    ensures { (t : Top) → IfSome link (λ i. slice_get (plain_tops held.now) i ≡ Some t) → IfSome result (λ i. IsMatchAt (scope_in scope.now) t held.now i) }
+{
+    laws::equal_trees();
+    let Some(i) = link else {
+        return None;
+    };
+    if finds_again(scope, held[i].as_ref()) {
+        Some(i)
+    } else {
+        None
+    }
 }
 
 // The place of a held piece that may stand for a tree: of those with an equal tree the last.
@@ -114,6 +141,8 @@ fn chains_of(alloc: Global, held: &[Rc<Plain>]) -> Result<Chains, AllocError>
 /// How held pieces are looked for by their trees: one after another the first times, and then in a table.
 #[derive(Drop)]
 pub(crate) struct Lookup {
+    /// The place behind the held piece that matched last.
+    pub next: usize,
     times: usize,
     chains: Option<Chains>,
 }
@@ -127,6 +156,7 @@ impl Lookup {
         ensures { (held : List (Rc Plain GhostGlobal)) → Finds result held }
     {
         Lookup {
+            next: 0,
             times: 0,
             chains: None,
         }
@@ -179,22 +209,28 @@ impl Lookup {
     }
 }
 
-/// The place of a held piece that may stand for a tree: the one at this place is tried first.
+/// The place of a held piece that may stand for a tree: the one that is known to have it is tried first, and then the one
+/// that is behind the last that was found.
 pub(crate) fn match_from(
     alloc: Global,
     scope: &Scope,
     held: &[Rc<Plain>],
     lookup: &mut Lookup,
-    at: usize,
+    link: Option<usize>,
     tree: &Rc<OwnTree>,
 ) -> Result<Option<usize>, AllocError>
     requires read { AreRead scope.now }
     requires table { Finds lookup.old held.now }
+    requires link { IfSome link (λ i. slice_get (plain_tops held.now) i ≡ Some tree.now.value) }
     ensures table { OnOk result (Finds lookup.new held.now) }
     ensures any { IfOk result (λ found. is_some found ≡ list_any (λ q. is_match (scope_in scope.now) tree.now.value (rc_value q)) held.now) }
     ensures found { IfOk result (λ found. IfSome found (λ i. IfSome (slice_get held.now i) (λ q. is_match (scope_in scope.now) tree.now.value (rc_value q) ≡ true))) }
     ensures within { IfOk result (λ found. IfSome found (λ i. i < length held.now)) }
 {
+    if let Some(i) = linked_match(scope, held, link) {
+        return Ok(Some(i));
+    }
+    let at = lookup.next;
     if at < held.len() && is_match(scope, tree, held[at].as_ref()) {
         return Ok(Some(at));
     }

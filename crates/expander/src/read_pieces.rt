@@ -3,7 +3,7 @@ ghost use Rattle.std.specs.Prelude.{◌≡◌, ◌<◌, ◌^◌, Err, IfOk, char
 ghost use Rattle.bridge.specs.ReadText.{HasTooMany};
 ghost use Rattle.bridge.specs.TokenSteps.{text_steps};
 ghost use Rattle.rustc_lexer.specs.Lexing.{tokens_of};
-ghost use Rattle.expander.specs.ReadPieces.{HaveMet, IsReadApart, IsReadInPieces};
+ghost use Rattle.expander.specs.ReadPieces.{HaveMet, HaveTheirs, IsReadApart, IsReadInPieces};
 ghost use Rattle.expander.specs.Sources.{AreSources};
 
 use crate::own_pieces::{OwnPiece, own_pieces};
@@ -53,6 +53,7 @@ pub(crate) fn read_pieces(
     requires right { AreSources held.now }
     ensures read { IfOk result (IsReadInPieces text.now) }
     ensures met { IfOk result (HaveMet held.now) }
+    ensures theirs { IfOk result HaveTheirs }
     ensures many { result ≡ Err TtFault.Tokens → HasTooMany (text_steps text.now) }
 {
     if let Some((own, sources)) = read_by_pieces(alloc, text, tokens, held)? {

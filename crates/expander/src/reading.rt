@@ -5,7 +5,7 @@ ghost use Rattle.rustc_lexer.specs.Lexing.{tokens_of};
 ghost use Rattle.rustc_lexer.specs.Standing.{AreTokensFrom};
 ghost use Rattle.tt_data.specs.fault.TtFault.TheVariants as fault;
 ghost use Rattle.bridge.specs.Parts.{part_steps};
-ghost use Rattle.expander.specs.PieceReading.{AddsPiece, AreMet, IsBlank, IsMet, IsReadPiece, IsSourceHere, KeepsSource, Passed};
+ghost use Rattle.expander.specs.PieceReading.{AddsPiece, AreMade, AreMet, AreTheirs, IsBlank, IsMet, IsReadPiece, IsSourceHere, KeepsSource, Passed};
 ghost use Rattle.expander.specs.ReadPieces.{IsReadInPieces};
 ghost use Rattle.expander.specs.Sources.{AreListed, AreSources, bytes_of, chars_ahead};
 ghost use Rattle.expander.specs.declared.read_pieces.ReadPieces.TheVariants.{Pieces};
@@ -244,6 +244,7 @@ fn pass_next(
     requires right { AreSources held.now }
     ensures passed { IfOk result (λ size. IfSome size (λ n. Passed text.now at left.now now.old.own.items → Passed text.now (at + n.0) (drop n.1 left.now) now.new.own.items)) }
     ensures listed { IfOk result (λ size. IfSome size (λ n. AreListed now.old.list.items → AreListed now.new.list.items)) }
+    ensures made { IfOk result (λ size. IfSome size (λ n. AreMade now.old.own.items now.old.list.items → AreMade now.new.own.items now.new.list.items)) }
     ensures met { IfOk result (λ size. IfSome size (λ n. AreMet held.now now.old.own.items → AreMet held.now now.new.own.items)) }
     ensures shorter { IfOk result (λ size. IfSome size (λ n. length (drop n.1 left.now) < length left.now)) }
     ensures memory { IsOkUnless result fault.Memory }
@@ -281,6 +282,7 @@ pub(crate) fn read_by_pieces(
     requires tokens { tokens.now ≡ tokens_of (chars text.now) }
     requires right { AreSources held.now }
     ensures read { IfOk result (λ read. IfSome read (λ p. IsReadInPieces text.now (Pieces p.0 p.1))) }
+    ensures theirs { IfOk result (λ read. IfSome read (λ p. AreTheirs p.1 p.0.items)) }
     ensures met { IfOk result (λ read. IfSome read (λ p. AreMet held.now p.0.items)) }
     ensures memory { IsOkUnless result fault.Memory }
 {

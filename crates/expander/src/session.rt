@@ -8,6 +8,7 @@ ghost use Rattle.expander.specs.Meaning.{members_after};
 ghost use Rattle.expander.specs.Memories.{IsMemory};
 ghost use Rattle.expander.specs.OutputSteps.{HasOutput};
 ghost use Rattle.expander.specs.OwnPieces.{IsOwnPiece, piece_at};
+ghost use Rattle.expander.specs.PieceReading.{AreMet, AreTheirs};
 ghost use Rattle.expander.specs.State.{State, layers_of};
 ghost use Rattle.expander.specs.Refusals.{refusal_of};
 ghost use Rattle.expander.specs.Replies.{HasCause, Replies};
@@ -299,6 +300,8 @@ fn expand_pieces<G: FragmentGrammar>(
     requires right { IsMemory (world (G.answer grammar.now) edition) depth edition memory.now }
     requires own { All IsOwnPiece pieces.now }
     requires sources { AreSources sources }
+    requires theirs { AreTheirs sources pieces.now }
+    requires met { AreMet memory.now.sources pieces.now }
     ensures taken { IfOk result (λ r. TakesText (G.answer grammar.now) edition depth memory.now (map piece_at pieces.now) r.0 r.1) }
     ensures tokens { result ≡ Err Refusal.Tokens → list_any bursts (members_after (layers (G.answer grammar.now) edition) depth [] (map piece_at pieces.now)) ≡ true }
     ensures numbers { result ≡ Err Refusal.Numbers → NeedsMore memory.now (map piece_at pieces.now) }
@@ -310,6 +313,7 @@ fn expand_pieces<G: FragmentGrammar>(
         steps,
         faults,
         expanded,
+        links,
     } = take_pieces(alloc, grammar, edition, depth, memory, pieces)?;
     let expansion = expansion_of(steps, faults, expanded)?;
     let memory = Memory {
@@ -319,6 +323,7 @@ fn expand_pieces<G: FragmentGrammar>(
         by_tree: numbers.by_tree,
         given: numbers.given,
         sources,
+        links,
     };
     Ok((expansion, memory))
 }

@@ -1,5 +1,5 @@
 // What is held of the text that was read last, to read the next one by.
-ghost use Rattle.std.specs.Prelude.{◌≡◌, ◌≤◌, ◌++◌, IfOk, IfSome, IsOkUnless, chars, drop, length, take, true};
+ghost use Rattle.std.specs.Prelude.{◌≡◌, ◌≤◌, ◌++◌, [], IfOk, IfSome, IsOkUnless, chars, drop, length, take, true};
 ghost use Rattle.bridge.specs.Parts.{begins_with_mark};
 ghost use Rattle.std.specs.Rc.{rc_value};
 ghost use Rattle.tt_data.specs.fault.TtFault.TheVariants as fault;
@@ -43,7 +43,8 @@ pub(crate) struct Sources {
 impl Sources {
     /// Before the first text that is read.
     pub(crate) fn new(alloc: Global) -> Self
-        ensures { AreSources result }
+        ensures right { AreSources result }
+        ensures none { result.list.items ≡ [] }
     {
         Sources {
             list: Vec::new(alloc),

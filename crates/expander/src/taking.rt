@@ -1,5 +1,6 @@
 // The pieces of a text over what is held.
-ghost use Rattle.std.specs.Prelude.{◌≡◌, ◌≢◌, ℕ, ◌+◌, ◌<◌, ◌≤◌, ◌^◌, [], ◌∷◌, ◌++◌, All, List, IfOk, OnOk, None, Err, Option, Some, false, if◌then◌else◌, is_some, map, true};
+ghost use Rattle.std.specs.Prelude.{◌≡◌, ◌≢◌, ℕ, ◌+◌, ◌<◌, ◌≤◌, ◌^◌, [], ◌∷◌, ◌++◌, All, List, IfOk, IfSome, OnOk, None, Err, Option, Some, false, if◌then◌else◌, is_some, length, map, slice_get, true};
+ghost use Rattle.std.specs.Global.{Global as GhostGlobal};
 ghost use Rattle.std.specs.List.{list_any};
 ghost use Rattle.std.specs.Rc.{rc_value};
 ghost use Rattle.bridge.specs.ReadText.{text_top};
@@ -12,6 +13,7 @@ ghost use Rattle.expander.specs.Expansion.{expansion};
 ghost use Rattle.expander.specs.Held.{IsMet, Met, definition_trees, kept_after, numbered_scope, numbered_world};
 ghost use Rattle.expander.specs.HeldParts.{HasItsPart};
 ghost use Rattle.expander.specs.Layered.{layers};
+ghost use Rattle.expander.specs.Links.{plain_tops};
 ghost use Rattle.expander.specs.Meaning.{members_after};
 ghost use Rattle.expander.specs.Memories.{IsMemory, piece_of, trees_of};
 ghost use Rattle.expander.specs.MetTable.{AreRead, scope_in};
@@ -21,19 +23,23 @@ ghost use Rattle.expander.specs.Numbers.{needed};
 ghost use Rattle.expander.specs.OtherPlaces.{LooksAtNoPlace};
 ghost use Rattle.expander.specs.Outcomes.{parts_for, parts_of};
 ghost use Rattle.expander.specs.OutputSteps.{PutsOut};
-ghost use Rattle.expander.specs.OwnPieces.{IsOwn, IsOwnPiece, piece_at};
+ghost use Rattle.expander.specs.OwnPieces.{IsOwn, IsOwnPiece, piece_at, tree_at};
+ghost use Rattle.expander.specs.PieceReading.{AreMet, IsMet as IsMetIn};
 ghost use Rattle.expander.specs.Pieces.{first_start, relative};
 ghost use Rattle.expander.specs.Placing.{resolved_faults, resolved_steps};
 ghost use Rattle.expander.specs.Plains.{Finds, tree_of};
 ghost use Rattle.expander.specs.Reuse.{matches};
-ghost use Rattle.expander.specs.Takings.{CanDefine, Grows, IsTaken, MakesTooMany, NeedsMore, Takes};
+ghost use Rattle.expander.specs.Takings.{AreLinks, CanDefine, Grows, IsTaken, MakesTooMany, NeedsMore, Takes};
 ghost use Rattle.expander.specs.TooMany.{bursts};
+ghost use Rattle.expander.specs.declared.links.Link.TheVariants as as_link;
+ghost use Rattle.tt.specs.Tops.{Top};
 ghost use Rattle.expander.specs.World.{world};
 
 use crate::by_tree::ByTree;
 use crate::faults::Fault;
 use crate::held_part::held_part;
 use crate::laws;
+use crate::links::Link;
 use crate::memory::Memory;
 use crate::met::Scope;
 use crate::numbering::{Numbering, number};
@@ -88,11 +94,12 @@ pub(crate) fn take_tree<G: FragmentGrammar>(
     depth: u8,
     memory: &Memory,
     lookup: &mut Lookup,
-    next: usize,
+    link: Option<usize>,
     tree: Rc<OwnTree>,
 ) -> Result<(Rc<Plain>, Option<usize>), TtFault>
     requires read { AreRead scope.now }
     requires lookup { Finds lookup.old memory.now.plains.items }
+    requires link { IfSome link (λ i. slice_get (plain_tops memory.now.plains.items) i ≡ Some tree.value) }
     requires top { tree.value.delimiter ≡ text_top }
     requires right { IsMemory (world (G.answer grammar.now) scope.now.edition) depth scope.now.edition memory.now }
     ensures lookup { OnOk result (Finds lookup.new memory.now.plains.items) }
@@ -111,7 +118,7 @@ pub(crate) fn take_tree<G: FragmentGrammar>(
     laws::equal_pieces();
     tt::laws::equal_trees();
     let held = memory.plains.as_slice();
-    let found = match_from(alloc, scope, held, lookup, next, &tree)?;
+    let found = match_from(alloc, scope, held, lookup, link, &tree)?;
     match found {
         Some(i) => {
             let plain = held[i].clone()?;
@@ -136,6 +143,8 @@ pub(crate) struct Taken {
     pub faults: Vec<Fault>,
     /// How many were expanded.
     pub expanded: usize,
+    /// What each piece is.
+    pub links: Vec<Link>,
 }
 
 // The same, and what the pieces that follow stand on.
@@ -143,15 +152,14 @@ pub(crate) struct Taken {
 struct Taking {
     scope: Scope,
     taken: Taken,
-    // The place behind the held piece that matched last.
-    next: usize,
-    // How others are looked for.
+    // How held pieces are looked for.
     lookup: Lookup,
 }
 
 // No piece so far.
 fn nothing_taken(alloc: Global, memory: &Memory) -> Taken
-    ensures { (grammar : Grammar) (edition : Edition) (depth : ℕ) → IsMemory (world grammar edition) depth edition memory.now →
+    ensures links { AreLinks result [] }
+    ensures taken { (grammar : Grammar) (edition : Edition) (depth : ℕ) → IsMemory (world grammar edition) depth edition memory.now →
         IsTaken (world grammar edition) edition depth memory.now (layers grammar edition) [] [] result }
 {
     Taken {
@@ -164,7 +172,16 @@ fn nothing_taken(alloc: Global, memory: &Memory) -> Taken
         steps: no_steps(alloc),
         faults: Vec::new(alloc),
         expanded: 0,
+        links: Vec::new(alloc),
     }
+}
+
+// A piece is linked.
+fn add_link(links: &mut Vec<Link>, link: Link) -> Result<(), AllocError>
+    ensures { OnOk result (links.new.items ≡ links.old.items ++ link ∷ []) }
+{
+    links.push(link)?;
+    Ok(())
 }
 
 // A definition is numbered, told where it is broken, and met.
@@ -180,6 +197,7 @@ fn take_definition(
     requires can { CanDefine memory.now now.old }
     ensures taken { (grammar : Grammar) (depth : ℕ) (piece : Forest) → LooksAtNoPlace (world grammar now.old.scope.edition) → HaveNumbers (numbers_in memory.now.by_tree) (trees_of memory.now) →
         start ≡ first_start piece → tree.value ≡ own_top (relative piece) → OnOk result (Takes grammar now.old.scope.edition depth memory.now piece now.old now.new) }
+    ensures links { (trees : List Top) → AreLinks now.old.taken trees → OnOk result (AreLinks now.new.taken (trees ++ tree.value ∷ [])) }
     ensures grows { OnOk result (Grows now.old.taken now.new.taken) }
     ensures edition { OnOk result (now.new.scope.edition ≡ now.old.scope.edition) }
     ensures lookup { OnOk result (now.new.lookup ≡ now.old.lookup) }
@@ -190,6 +208,7 @@ fn take_definition(
     ensures tokens { result ≢ Err Refusal.Tokens }
 {
     let edition = now.scope.edition;
+    let place = now.taken.numbers.definitions.len();
     let known = number(
         alloc,
         edition,
@@ -199,6 +218,7 @@ fn take_definition(
     )?;
     tell_if_broken(&mut now.taken.faults, start, known.as_ref())?;
     now.scope.define(start, known)?;
+    add_link(&mut now.taken.links, Link::Definition(place))?;
     Ok(())
 }
 
@@ -238,10 +258,16 @@ fn put_plain(
     put_faults(faults, start, starts, plain.outcome.faults.as_slice())
 }
 
-// A piece is held.
-fn hold(plains: &mut Vec<Rc<Plain>>, plain: Rc<Plain>) -> Result<(), AllocError>
-    ensures { OnOk result (plains.new.items ≡ plains.old.items ++ plain ∷ []) }
+// A piece is held, and linked.
+fn hold(
+    plains: &mut Vec<Rc<Plain>>,
+    links: &mut Vec<Link>,
+    plain: Rc<Plain>,
+) -> Result<(), AllocError>
+    ensures plains { OnOk result (plains.new.items ≡ plains.old.items ++ plain ∷ []) }
+    ensures links { OnOk result (links.new.items ≡ links.old.items ++ as_link.Plain (length plains.old.items) ∷ []) }
 {
+    add_link(links, Link::Plain(plains.len()))?;
     plains.push(plain)?;
     Ok(())
 }
@@ -250,11 +276,11 @@ fn hold(plains: &mut Vec<Rc<Plain>>, plain: Rc<Plain>) -> Result<(), AllocError>
 fn count(now: &mut Taking, at: Option<usize>)
     requires { now.old.taken.expanded + 1 < 2 ^ 64 }
     ensures scope { now.new.scope ≡ now.old.scope }
-    ensures lookup { now.new.lookup ≡ now.old.lookup }
+    ensures lookup { (held : List (Rc Plain GhostGlobal)) → Finds now.old.lookup held → Finds now.new.lookup held }
     ensures taken { now.new.taken ≡ record now.old.taken { expanded = now.old.taken.expanded + (if is_some at then 0 else 1) } }
 {
     match at {
-        Some(i) => now.next = i.saturating_add(1),
+        Some(i) => now.lookup.next = i.saturating_add(1),
         None => now.taken.expanded += 1,
     }
 }
@@ -268,15 +294,18 @@ fn take_plain<G: FragmentGrammar>(
     now: &mut Taking,
     start: u32,
     tree: Rc<OwnTree>,
+    link: Option<usize>,
 ) -> Result<(), TtFault>
     requires plain { is_some (definition_of tree.value.inner) ≡ false }
     requires top { tree.value.delimiter ≡ text_top }
     requires read { AreRead now.old.scope }
     requires lookup { Finds now.old.lookup memory.now.plains.items }
+    requires link { IfSome link (λ i. slice_get (plain_tops memory.now.plains.items) i ≡ Some tree.value) }
     requires right { IsMemory (world (G.answer grammar.now) now.old.scope.edition) depth now.old.scope.edition memory.now }
     requires room { now.old.taken.expanded + 1 < 2 ^ 64 }
     ensures taken { (piece : Forest) → start ≡ first_start piece → tree.value ≡ own_top (relative piece) →
         OnOk result (Takes (G.answer grammar.now) now.old.scope.edition depth memory.now piece now.old now.new) }
+    ensures links { (trees : List Top) → AreLinks now.old.taken trees → OnOk result (AreLinks now.new.taken (trees ++ tree.value ∷ [])) }
     ensures numbers { OnOk result (now.new.taken.numbers ≡ now.old.taken.numbers) }
     ensures edition { OnOk result (now.new.scope.edition ≡ now.old.scope.edition) }
     ensures lookup { OnOk result (Finds now.new.lookup memory.now.plains.items) }
@@ -286,8 +315,8 @@ fn take_plain<G: FragmentGrammar>(
 {
     laws::equal_pieces();
     let scope = &now.scope;
-    let (lookup, next) = (&mut now.lookup, now.next);
-    let (plain, at) = take_tree(alloc, grammar, scope, depth, memory, lookup, next, tree)?;
+    let lookup = &mut now.lookup;
+    let (plain, at) = take_tree(alloc, grammar, scope, depth, memory, lookup, link, tree)?;
     put_plain(
         alloc,
         &scope.starts,
@@ -296,7 +325,7 @@ fn take_plain<G: FragmentGrammar>(
         start,
         plain.as_ref(),
     )?;
-    hold(&mut now.taken.plains, plain)?;
+    hold(&mut now.taken.plains, &mut now.taken.links, plain)?;
     count(now, at);
     Ok(())
 }
@@ -316,7 +345,9 @@ fn take_piece<G: FragmentGrammar>(
     requires room { now.old.taken.expanded + 1 < 2 ^ 64 }
     requires lookup { Finds now.old.lookup memory.now.plains.items }
     requires own { IsOwn (piece_at own.now) own.now }
+    requires met { IsMetIn memory.now.sources own.now.met (rc_value own.now.tree) }
     ensures taken { OnOk result (Takes (G.answer grammar.now) now.old.scope.edition depth memory.now (piece_at own.now) now.old now.new) }
+    ensures links { (trees : List Top) → AreLinks now.old.taken trees → OnOk result (AreLinks now.new.taken (trees ++ rc_value own.now.tree ∷ [])) }
     ensures grows { OnOk result (Grows now.old.taken now.new.taken) }
     ensures edition { OnOk result (now.new.scope.edition ≡ now.old.scope.edition) }
     ensures lookup { OnOk result (Finds now.new.lookup memory.now.plains.items) }
@@ -329,7 +360,8 @@ fn take_piece<G: FragmentGrammar>(
     if tree.as_ref().is_definition() {
         return take_definition(alloc, memory, now, own.start, tree);
     }
-    take_plain(alloc, grammar, depth, memory, now, own.start, tree)?;
+    let link = memory.plain_at(own);
+    take_plain(alloc, grammar, depth, memory, now, own.start, tree, link)?;
     Ok(())
 }
 
@@ -345,8 +377,10 @@ pub(crate) fn take_pieces<G: FragmentGrammar>(
 ) -> Result<Taken, Refusal>
     requires right { IsMemory (world (G.answer grammar.now) edition) depth edition memory.now }
     requires own { All IsOwnPiece pieces.now }
+    requires met { AreMet memory.now.sources pieces.now }
     ensures taken { IfOk result (λ now. IsTaken (world (G.answer grammar.now) edition) edition depth memory.now (layers (G.answer grammar.now) edition)
         (definition_trees (map piece_at pieces.now)) (kept_after (world (G.answer grammar.now) edition) depth (number_by (numbers_in now.numbers.by_tree)) [] (map piece_at pieces.now)) now) }
+    ensures links { IfOk result (λ now. AreLinks now (map tree_at pieces.now)) }
     ensures tokens { result ≡ Err Refusal.Tokens → list_any bursts (members_after (layers (G.answer grammar.now) edition) depth [] (map piece_at pieces.now)) ≡ true }
     ensures numbers { result ≡ Err Refusal.Numbers → NeedsMore memory.now (map piece_at pieces.now) }
 {
@@ -358,7 +392,6 @@ pub(crate) fn take_pieces<G: FragmentGrammar>(
     let mut now = Taking {
         scope: Scope::new(alloc, edition),
         taken: nothing_taken(alloc, memory),
-        next: 0,
         lookup: Lookup::new(),
     };
     for own in pieces {

@@ -6,7 +6,7 @@ use Rattle.expander.specs.SameTops.{same_top}
 use Rattle.expander.specs.declared.by_tree.ByTree.{ByTree}
 use Rattle.expander.specs.declared.numbered.Known.{Known}
 use Rattle.expander.proofs.HandedLemmas.{handed}
-use Rattle.expander.proofs.NumberedLemmas.{has_none, has_number, number_put, numbered_again, numbered_new, numbered_old, numbers_end, numbers_grow, read_put, trees_pushed}
+use Rattle.expander.proofs.NumberedLemmas.{has_none, has_number, number_put, numbered_again, numbered_new, numbered_old, numbers_end, numbers_grow, read_put, tops_pushed, trees_pushed}
 use Rattle.expander.proofs.numbering.number.Goals as goal
 
 pub returns-in-Some-clause-numbered : goal.returns-in-Some-clause-numbered
@@ -23,6 +23,16 @@ returns-in-Some-clause-number c =
     let same : c.in_ok-known.known.value ≡ k = search rules in
     ap (λ (m : ByTree). numbers_in m c.args.tree.value.inner) c.in_ok-push.ensures.table ∙ has_number c.args.now.now.by_tree c.args.tree.value k c.requires.top here
     ∙ ap (λ (x : Known). Some x.number) (sym same)
+
+pub returns-in-Some-clause-listed : goal.returns-in-Some-clause-listed
+returns-in-Some-clause-listed c =
+    let k : Known = c.in_ok-known.known.value in
+    tops_pushed c.args.now.now.definitions.items _ _ k c.in_ok-push.ensures.definitions (search rules)
+
+pub returns-in-Some-get-clause-listed : goal.returns-in-Some-get-clause-listed
+returns-in-Some-get-clause-listed c =
+    let k : Known = c.in_ok-known-2.known.value in
+    tops_pushed c.args.now.now.definitions.items _ _ k c.in_ok-put.ensures.definitions (search rules)
 
 pub returns-in-Some-get-clause-numbered : goal.returns-in-Some-get-clause-numbered
 returns-in-Some-get-clause-numbered c = λ given known trees had has.
@@ -84,6 +94,7 @@ returns c =
           (λ t. c.in_ok-put-2.ensures.table t ∙ ap (λ (x : Known). cond (same_top c.args.tree.value t) (Some x) (known_in c.args.now.now.by_tree t)) same) (sym c.in_default.ensures)
           (c.in_ok-put-2.ensures.given ∙ ap (λ (x : Known). x.number) c.as_ref.ensures) c.in_ok-known-3.ensures.number (sym c.in_default-get.ensures);
       tree = c.in_ok-known-3.ensures.tree;
+      listed = tops_pushed c.args.now.now.definitions.items _ _ k c.in_ok-put-2.ensures.definitions same;
       number = number_put c.equal_pieces.ensures (λ a b e. (c.equal_trees.ensures a b).0 e) c.args.now.now.by_tree c.put-2.new.self.by_tree c.args.tree.value c.in_ok-clone-3.field-0.value
           c.in_ok-put-2.ensures.table c.requires.top ∙ ap (λ (x : Known). Some x.number) same;
       grows = numbers_grow c.equal_pieces.ensures (λ a b e. (c.equal_trees.ensures a b).0 e) c.args.now.now.by_tree c.put-2.new.self.by_tree c.args.tree.value c.in_ok-clone-3.field-0.value

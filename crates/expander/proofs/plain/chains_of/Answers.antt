@@ -1,5 +1,4 @@
-use Rattle.std.proofs.Common.{◌≡◌, ◌∙◌, List, ◌++◌, [], ◌∷◌, ap, map, rules, subst, sym, take}
-use Rattle.std.specs.Rc.{rc_value}
+use Rattle.std.proofs.Common.{◌≡◌, ◌∙◌, ◌++◌, [], ◌∷◌, ap, map, rules, subst, sym, take}
 use Rattle.tt.specs.Tops.{Top}
 use Rattle.expander.specs.Chains.{AreChained}
 use Rattle.expander.proofs.PlainLemmas.{all_mapped, mapped_more, tree_in}

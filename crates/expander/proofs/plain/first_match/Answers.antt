@@ -1,6 +1,5 @@
-use Rattle.std.proofs.Common.{◌≡◌, ◌∙◌, Option, Some, true, false, ap, sym, subst, rules, drop, Global}
+use Rattle.std.proofs.Common.{◌≡◌, ◌∙◌, Option, Some, true, false, sym, subst, rules, Global}
 use Rattle.std.specs.Prelude.{IfSome, slice_get}
-use Rattle.std.specs.List.{list_any}
 use Rattle.std.specs.Rc.{rc_value}
 use Rattle.std.specs.declared.rc.Rc.{Rc}
 use Rattle.expander.specs.MetTable.{scope_in}

@@ -1,7 +1,8 @@
-use Rattle.std.proofs.Common.{◌≡◌, sym, subst, List, drop, length, rules, ◌+◌}
+use Rattle.std.proofs.Common.{◌≡◌, sym, subst, List, length, rules, ◌+◌}
 use Rattle.std.specs.Rc.{rc_value}
 use Rattle.rustc_lexer.specs.declared.token.Token.{Token}
 use Rattle.expander.specs.PieceReading.{Passed}
+use Rattle.expander.proofs.MadeLemmas.{made_more}
 use Rattle.expander.proofs.ReadPartLemmas.{PartLaws, blank_passed, one_more, piece_met, piece_passed, piece_shortens}
 use Rattle.expander.proofs.reading.pass_next.Goals as goal
 
@@ -39,3 +40,7 @@ returns-clause-shorter c =
 pub returns-clause-met : goal.returns-clause-met
 returns-clause-met c =
     λ all. piece_met c.args.held.now (rc_value c.in-Some-2.source) c.args.at c.in-Some-2.met c.args.now.now.own.items _ c.in_ok-pass.ensures.own (rw c.in-Some-2.is at c.in_ok-source.ensures.met) all
+
+pub returns-clause-made : goal.returns-clause-made
+returns-clause-made c = λ made.
+    made_more c.args.at c.in-Some-2.source c.in-Some-2.met c.args.now.now.own.items _ c.args.now.now.list.items _ c.in_ok-pass.ensures.own c.in_ok-pass.ensures.list made

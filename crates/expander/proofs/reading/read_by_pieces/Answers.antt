@@ -3,6 +3,7 @@ use Rattle.std.specs.Rc.{rc_value}
 use Rattle.expander.specs.PieceReading.{IsMet}
 use Rattle.expander.specs.Sources.{IsSource}
 use Rattle.expander.specs.declared.own_pieces.OwnPiece.{OwnPiece}
+use Rattle.expander.proofs.MadeLemmas.{made_none, made_theirs}
 use Rattle.expander.proofs.ReadPartLemmas.{none_passed}
 use Rattle.expander.proofs.reading.read_by_pieces.Goals as goal
 
@@ -11,4 +12,8 @@ loop-left-init c = (
   rw (c.new.ensures.items, c.requires.tokens) (none_passed c.args.text.now (c.tokens_begin.ensures c.args.text.now c.utf8.text)),
   rw c.new-2.ensures.items (All-nil (λ q. IsSource (rc_value q))),
   rw c.new.ensures.items (All-nil (λ (o : OwnPiece). IsMet c.args.held.now o.met (rc_value o.tree))),
+  rw (c.new.ensures.items, c.new-2.ensures.items) made_none,
 )
+
+pub returns-clause-theirs : goal.returns-clause-theirs
+returns-clause-theirs c = made_theirs (record { list = c.loop-left.now.list }) c.loop-left.now.own.items c.loop-left.invariant.3

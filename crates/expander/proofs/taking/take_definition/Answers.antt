@@ -1,4 +1,4 @@
-use Rattle.std.proofs.Common.{◌≡◌, ◌∙◌, ap, refl, sym, subst, rules, ◌++◌, [], ◌∷◌}
+use Rattle.std.proofs.Common.{◌≡◌, ◌∙◌, ℕ, ap, arith, length, refl, sym, subst, rules, ◌++◌, [], ◌∷◌}
 use Rattle.std.specs.Prelude.{is_some}
 use Rattle.tt.specs.Tops.{Top}
 use Rattle.expander.specs.ByTrees.{numbers_in}
@@ -11,6 +11,9 @@ use Rattle.expander.specs.Memories.{trees_of}
 use Rattle.expander.specs.NumberedTexts.{HasNumbered}
 use Rattle.expander.specs.declared.numbered.Known.{Known}
 use Rattle.expander.proofs.HandedLemmas.{handed}
+use Rattle.expander.specs.Links.{definition_tops, plain_tops}
+use Rattle.expander.specs.declared.links.Link.TheVariants as link
+use Rattle.expander.proofs.LinkLemmas.{definition_more}
 use Rattle.expander.proofs.PassLemmas.{one_definition}
 use Rattle.expander.proofs.taking.take_definition.Goals as goal
 
@@ -36,3 +39,11 @@ returns-clause-taken c = λ grammar depth piece law have start_is tree_is before
     (subst (λ (t : Top). HasNumbered c.args.memory.now.given c.args.memory.now.by_tree (trees_of c.args.memory.now) (trees ++ t.inner ∷ []) c.number.new.now) tree_is
     (c.in_ok-known.ensures.numbered c.args.memory.now.given (trees_of c.args.memory.now) trees have has.taken.numbers))
     (subst (λ n. HasMet c.define.new.self (record { start = n; numbered = numbered_of_known k } ∷ before)) start_is (c.in_ok-define.ensures.met before has.met))
+
+pub returns-clause-links : goal.returns-clause-links
+returns-clause-links c = λ trees h.
+    let place : c.len-place.result ≡ length c.args.now.now.taken.numbers.definitions.items = omega arith in
+    definition_more c.args.now.now.taken.numbers.definitions.items c.number.new.now.definitions.items (plain_tops c.args.now.now.taken.plains.items)
+    c.args.now.now.taken.links.items c.add_link.new.links.items trees c.args.tree.value
+    (c.in_ok-known.ensures.listed ∙ ap (λ (t : Top). definition_tops c.args.now.now.taken.numbers.definitions.items ++ t ∷ []) c.in_ok-known.ensures.tree)
+    (c.in_ok-add_link.ensures ∙ ap (λ (n : ℕ). c.args.now.now.taken.links.items ++ link.Definition n ∷ []) place) h

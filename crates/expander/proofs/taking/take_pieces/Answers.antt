@@ -1,13 +1,16 @@
-use Rattle.std.proofs.Common.{◌+◌, sym, subst, arith, drop, map}
+use Rattle.std.proofs.Common.{◌+◌, sym, subst, arith, drop, take, map}
+use Rattle.std.specs.Rc.{rc_value}
 use Rattle.tt_data.specs.declared.edition.Edition.{Edition}
 use Rattle.expander.specs.Memories.{IsMemory}
-use Rattle.expander.specs.OwnPieces.{IsOwnPiece, piece_at}
-use Rattle.expander.specs.Takings.{MakesTooMany, Takes}
+use Rattle.expander.specs.OwnPieces.{IsOwnPiece, piece_at, tree_at}
+use Rattle.expander.specs.PieceReading.{IsMet}
+use Rattle.expander.specs.Takings.{AreLinks, MakesTooMany, Takes}
 use Rattle.expander.specs.World.{world}
+use Rattle.expander.specs.declared.own_pieces.OwnPiece.{OwnPiece}
 use Rattle.expander.proofs.HandedLemmas.{handed}
 use Rattle.expander.proofs.OwnPieceLemmas.{all_stand, left_length, next_own, no_own}
 use Rattle.expander.proofs.PassLoopLemmas.{Left, can_define, left_begins, left_bursts, left_done, left_more, left_needs}
-use Rattle.expander.proofs.PlainLemmas.{stands_at}
+use Rattle.expander.proofs.PlainLemmas.{all_mapped, mapped_more, stands_at}
 use Rattle.expander.proofs.TakingLemmas.{all_at}
 use Rattle.expander.proofs.WorldLemmas.{RuleLaws, world_at_other_places}
 use Rattle.expander.proofs.taking.take_pieces.Goals as goal
@@ -16,10 +19,11 @@ pub loop-own-init : goal.loop-own-init
 loop-own-init g c =
     let A = g.G.FragmentGrammar.answer c.args.grammar.now in
     record {
-      room = omega (arith, (c.nothing_taken.ensures A c.args.edition c.args.depth c.requires.right).expanded);
+      room = omega (arith, (c.nothing_taken.ensures.taken A c.args.edition c.args.depth c.requires.right).expanded);
       lookup = c.new-2.ensures c.args.memory.now.plains.items;
+      links = c.nothing_taken.ensures.links;
       left = left_begins A c.args.edition c.args.depth c.args.memory.now (map piece_at c.args.pieces.now) (all_stand c.args.pieces.now c.requires.own) _
-          c.new.ensures.none c.new.ensures.read c.new.ensures.edition (c.nothing_taken.ensures A c.args.edition c.args.depth c.requires.right);
+          c.new.ensures.none c.new.ensures.read c.new.ensures.edition (c.nothing_taken.ensures.taken A c.args.edition c.args.depth c.requires.right);
     }
 
 pub take_piece-requires-clause-right : goal.take_piece-requires-clause-right
@@ -49,6 +53,11 @@ take_piece-requires-clause-room g c =
 pub take_piece-requires-clause-lookup : goal.take_piece-requires-clause-lookup
 take_piece-requires-clause-lookup g c = c.loop-own.invariant.lookup
 
+pub take_piece-requires-clause-met : goal.take_piece-requires-clause-met
+take_piece-requires-clause-met g c =
+    all_at (λ (o : OwnPiece). IsMet c.args.memory.now.sources o.met (rc_value o.tree)) c.args.pieces.now c.loop-own.own-index c.own-item.result c.requires.met
+    (stands_at c.args.pieces.now c.loop-own.own-index c.own-item.result c.loop-own-test.true c.own-item.is)
+
 pub take_piece-requires-clause-own : goal.take_piece-requires-clause-own
 take_piece-requires-clause-own g c =
     (all_at IsOwnPiece c.args.pieces.now c.loop-own.own-index c.own-item.result c.requires.own
@@ -69,6 +78,9 @@ loop-own-preserved g c =
     record {
       room = omega (arith, c.in_ok-take_piece.ensures.expanded, c.loop-own.invariant.room, one);
       lookup = c.in_ok-take_piece.ensures.lookup;
+      links = subst (AreLinks c.take_piece.new.now.taken)
+          (sym (mapped_more tree_at c.args.pieces.now c.loop-own.own-index c.own-item.result c.loop-own-test.true c.own-item.is))
+          (c.in_ok-take_piece.ensures.links (map tree_at (take c.loop-own.own-index c.args.pieces.now)) c.loop-own.invariant.links);
       left = left_more A c.args.edition c.args.depth c.args.memory.now (map piece_at c.args.pieces.now) (piece_at c.own-item.result)
           (map piece_at (drop (c.loop-own.own-index + 1) c.args.pieces.now)) c.loop-own.now left
           c.equal_pieces.ensures (world_at_other_places laws A c.args.edition) c.take_piece.new.now c.in_ok-take_piece.ensures.grows
@@ -106,3 +118,7 @@ returns-clause-taken g c =
     let A = g.G.FragmentGrammar.answer c.args.grammar.now in
     let none = no_own c.args.pieces.now c.loop-own.own-index c.loop-own-test.false in
     left_done A c.args.edition c.args.depth c.args.memory.now (map piece_at c.args.pieces.now) c.loop-own.now (rw none at c.loop-own.invariant.left)
+
+pub returns-clause-links : goal.returns-clause-links
+returns-clause-links g c =
+    subst (AreLinks c.loop-own.now.taken) (all_mapped tree_at c.args.pieces.now c.loop-own.own-index c.loop-own-test.false) c.loop-own.invariant.links

@@ -1,6 +1,7 @@
-use Rattle.std.proofs.Common.{◌≤◌, ◌+◌, drop, length, map}
-use Rattle.expander.specs.OwnPieces.{piece_at}
+use Rattle.std.proofs.Common.{◌≤◌, ◌+◌, drop, length, map, take}
+use Rattle.expander.specs.OwnPieces.{piece_at, tree_at}
 use Rattle.expander.specs.Plains.{Finds}
+use Rattle.expander.specs.Takings.{AreLinks}
 use Rattle.expander.proofs.PassLoopLemmas.{Left}
 use Rattle.expander.proofs.taking.take_pieces.Given as goal
 
@@ -8,5 +9,6 @@ abbrev pub invariant-loop-own : goal.invariant-loop-own
 invariant-loop-own g l = record {
   room : l.now.taken.expanded + length (drop l.own-index l.pieces) ≤ l.most;
   lookup : Finds l.now.lookup l.memory.plains.items;
+  links : AreLinks l.now.taken (map tree_at (take l.own-index l.pieces));
   left : Left (g.G.FragmentGrammar.answer l.grammar) l.fn.edition l.depth l.memory (map piece_at l.pieces) (map piece_at (drop l.own-index l.pieces)) l.now;
 }

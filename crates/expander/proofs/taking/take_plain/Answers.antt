@@ -1,4 +1,4 @@
-use Rattle.std.proofs.Common.{Global, ◌≡◌, ◌∙◌, ap, sym, subst, rules, ◌++◌, map}
+use Rattle.std.proofs.Common.{Global, ◌≡◌, ◌∙◌, ap, sym, subst, rules, ◌++◌, ◌∷◌, [], map}
 use Rattle.std.specs.Prelude.{is_some}
 use Rattle.std.specs.List.{list_any}
 use Rattle.std.specs.Rc.{rc_value}
@@ -12,12 +12,14 @@ use Rattle.expander.specs.Outcomes.{parts_for}
 use Rattle.expander.specs.OutputSteps.{PutsOut}
 use Rattle.expander.specs.Pieces.{first_start}
 use Rattle.expander.specs.Placing.{resolved_faults, resolved_steps}
-use Rattle.expander.specs.Plains.{Finds, tree_of}
+use Rattle.expander.specs.Plains.{tree_of}
 use Rattle.expander.specs.Reuse.{matches}
 use Rattle.expander.specs.World.{world}
-use Rattle.expander.specs.declared.plain.Lookup.{Lookup}
 use Rattle.expander.specs.declared.plain.Plain.{Plain}
 use Rattle.expander.specs.declared.taking.Taken.{Taken}
+use Rattle.expander.specs.Links.{definition_tops}
+use Rattle.expander.specs.Takings.{AreLinks}
+use Rattle.expander.proofs.LinkLemmas.{plain_more}
 use Rattle.expander.proofs.PassLemmas.{one_plain_piece, parts_taken}
 use Rattle.expander.proofs.taking.take_plain.Goals as goal
 
@@ -31,7 +33,7 @@ returns-clause-taken g c = λ piece start_is tree_is before trees done has.
     c.count.ensures.scope
     (ap (λ (t : Taken). t.numbers) c.count.ensures.taken)
     (c.in_ok-plain.ensures.tree ∙ tree_is) c.in_ok-plain.ensures.part
-    (ap (λ (t : Taken). t.plains.items) c.count.ensures.taken ∙ c.in_ok-hold.ensures)
+    (ap (λ (t : Taken). t.plains.items) c.count.ensures.taken ∙ c.in_ok-hold.ensures.plains)
     (subst (λ (t : Taken). PutsOut c.args.now.now.taken.steps t.steps (resolved_steps (first_start piece) c.args.now.now.scope.starts (parts_for (tree_of (rc_value q)).inner (rc_value q).outcome).steps))
     (sym c.count.ensures.taken)
     (subst (λ n. PutsOut c.args.now.now.taken.steps c.put_plain.new.steps (resolved_steps n c.args.now.now.scope.starts (parts_for (tree_of (rc_value q)).inner (rc_value q).outcome).steps)) start_is
@@ -47,5 +49,11 @@ returns-clause-taken g c = λ piece start_is tree_is before trees done has.
     (parts_taken A ed c.args.depth c.args.memory.now piece c.args.now.now c.count.new.now c.args.tree.value (rc_value q) tree_is c.in_ok-plain.ensures.outcome before trees done has)
     (ap (λ (t : Top). is_some (definition_of t.inner)) (sym tree_is) ∙ c.requires.plain)
 
+pub returns-clause-links : goal.returns-clause-links
+returns-clause-links g c = λ trees h.
+    subst (λ (t : Taken). AreLinks t (trees ++ c.args.tree.value ∷ [])) (sym c.count.ensures.taken)
+    (plain_more c.args.now.now.taken.plains.items c.hold.new.plains.items c.in_ok-plain.plain (definition_tops c.args.now.now.taken.numbers.definitions.items)
+    c.args.now.now.taken.links.items c.hold.new.links.items trees c.args.tree.value c.in_ok-hold.ensures.plains c.in_ok-plain.ensures.tree c.in_ok-hold.ensures.links h)
+
 pub returns-clause-lookup : goal.returns-clause-lookup
-returns-clause-lookup g c = subst (λ (l : Lookup). Finds l c.args.memory.now.plains.items) (sym c.count.ensures.lookup) c.in_ok-plain.ensures.lookup
+returns-clause-lookup g c = c.count.ensures.lookup c.args.memory.now.plains.items c.in_ok-plain.ensures.lookup

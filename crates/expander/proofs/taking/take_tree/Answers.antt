@@ -9,6 +9,7 @@ use Rattle.expander.specs.Held.{numbered_world}
 use Rattle.expander.specs.Memories.{IsRight}
 use Rattle.expander.specs.MetTable.{scope_in}
 use Rattle.expander.specs.Outcomes.{parts_for, parts_of}
+use Rattle.expander.specs.Links.{plain_tops}
 use Rattle.expander.specs.Plains.{Finds, is_match}
 use Rattle.expander.specs.World.{world}
 use Rattle.expander.specs.declared.plain.Plain.{Plain}
@@ -50,3 +51,7 @@ returns-in_ok-plain-in-None-clause-counted g c =
 
 pub match_from-requires-clause-table : goal.match_from-requires-clause-table
 match_from-requires-clause-table g c = subst (Finds c.args.lookup.now) (sym c.as_slice-held.ensures.value) c.requires.lookup
+
+pub match_from-requires-clause-link : goal.match_from-requires-clause-link
+match_from-requires-clause-link g c =
+    subst (λ (qs : List (Rc Plain Global)). IfSome c.args.link (λ i. slice_get (plain_tops qs) i ≡ Some c.args.tree.value)) (sym c.as_slice-held.ensures.value) c.requires.link

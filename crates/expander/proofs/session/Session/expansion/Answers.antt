@@ -1,4 +1,5 @@
-use Rattle.std.proofs.Common.{Err, ap}
+use Rattle.std.proofs.Common.{Err, ap, subst, sym}
+use Rattle.expander.specs.PieceReading.{AreMet, AreTheirs}
 use Rattle.expander.specs.Replies.{HasCause}
 use Rattle.expander.specs.State.{layers_of}
 use Rattle.expander.proofs.HandedLemmas.{if_handed}
@@ -22,6 +23,14 @@ expand_pieces-requires-clause-own g c =
 pub expand_pieces-requires-clause-sources : goal.expand_pieces-requires-clause-sources
 expand_pieces-requires-clause-sources g c =
     (rw c.in-Pieces.is at c.in_ok-fault.ensures.read).3
+
+pub expand_pieces-requires-clause-theirs : goal.expand_pieces-requires-clause-theirs
+expand_pieces-requires-clause-theirs g c =
+    subst (AreTheirs c.in-Pieces.sources) (sym c.as_slice.ensures.value) (rw c.in-Pieces.is at c.in_ok-fault.ensures.theirs)
+
+pub expand_pieces-requires-clause-met : goal.expand_pieces-requires-clause-met
+expand_pieces-requires-clause-met g c =
+    subst (AreMet c.self.inside.memory.sources) (sym c.as_slice.ensures.value) (rw c.in-Pieces.is at c.in_ok-fault.ensures.met)
 
 pub returns-in_err-expansion-clause-cause : goal.returns-in_err-expansion-clause-cause
 returns-in_err-expansion-clause-cause g c =

@@ -1,0 +1,44 @@
+-- Sources and the pieces that they are of.
+use Rattle.std.proofs.Common.{◌≡◌, ℕ, zero, suc, List, [], ◌∷◌, ◌++◌, map, Option, Some, refl, ap, sym, ◌∙◌, Global}
+use Rattle.std.specs.Prelude.{slice_get}
+use Rattle.std.specs.Rc.{rc_value}
+use Rattle.std.specs.declared.rc.Rc.{Rc}
+use Rattle.std.proofs.lemmas.List.{map-append}
+use Rattle.tt.specs.Tops.{Top}
+use Rattle.expander.specs.OwnPieces.{tree_at}
+use Rattle.expander.specs.PieceReading.{AddsPiece, AreMade, AreTheirs}
+use Rattle.expander.specs.declared.own_pieces.OwnPiece.{OwnPiece}
+use Rattle.expander.specs.declared.sources.Source.{Source}
+use Rattle.expander.specs.declared.sources.Sources.{Sources}
+
+pub made_none : AreMade [] []
+made_none = refl
+
+pub made_more : (at : ℕ) (s : Rc Source Global) (m : Option ℕ) (own next : List OwnPiece) (list more : List (Rc Source Global)) → AddsPiece at (rc_value s) m own next → more ≡ list ++ s ∷ []
+    → AreMade own list → AreMade next more
+made_more at s m own next list more adds more_is made =
+    ap (map (λ (s : Rc Source Global). rc_value (rc_value s).tree)) more_is ∙ map-append (λ (s : Rc Source Global). rc_value (rc_value s).tree) list (s ∷ [])
+    ∙ ap (λ (ts : List Top). ts ++ rc_value (rc_value s).tree ∷ []) made ∙ ap (λ (t : Top). map tree_at own ++ t ∷ []) (sym adds.tree)
+    ∙ sym (map-append tree_at own (adds.piece ∷ [])) ∙ ap (map tree_at) (sym adds.items)
+
+mapped_at : {X Y : Type 0} (f : X → Y) (xs : List X) (i : ℕ) (x : X) → slice_get xs i ≡ Some x → slice_get (map f xs) i ≡ Some (f x)
+mapped_at f [] i x e = cc
+mapped_at f (z ∷ xs) zero x e = let same : z ≡ x = cc in ap (λ w. Some (f w)) same
+mapped_at f (z ∷ xs) (suc i) x e = mapped_at f xs i x e
+
+pub made_theirs : (sources : Sources) (own : List OwnPiece) → AreMade own sources.list.items → AreTheirs sources own
+made_theirs sources own made = λ i s o s_is o_is.
+    same (rc_value (rc_value s).tree) (tree_at o)
+    (sym (mapped_at (λ (s : Rc Source Global). rc_value (rc_value s).tree) sources.list.items i s s_is) ∙ ap (λ (ts : List Top). slice_get ts i) made
+    ∙ mapped_at tree_at own i o o_is)
+  where
+    same : (a b : Top) → Some a ≡ Some b → a ≡ b
+    same a b q = cc
+
+-- no source is of no piece
+pub none_theirs : (sources : Sources) (own : List OwnPiece) → sources.list.items ≡ [] → AreTheirs sources own
+none_theirs sources own none = λ i s o s_is o_is. absurd (no_source sources.list.items none i s s_is)
+  where
+    no_source : (list : List (Rc Source Global)) → list ≡ [] → (i : ℕ) (s : Rc Source Global) → slice_get list i ≡ Some s → ⊥
+    no_source [] e i s q = cc
+    no_source (x ∷ list) e i s q = cc
