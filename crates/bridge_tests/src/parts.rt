@@ -94,7 +94,11 @@ fn parts_stand_where_they_are_put(rt: HostRuntime) -> Result<(), Fail> {
     let Ok(placed) = printer.finish_placed() else {
         return Err(Fail::new("no memory"));
     };
-    assert!(rt; placed.text.as_str() == "b ;\na ;\na ;\n", "{:?}", placed.text);
+    assert!(rt;
+        placed.text.as_str() == "b ;\na ;\na ;\n",
+        "{:?}",
+        placed.text
+    );
     let mut tokens = placed.tokens;
     let copy = tokens.try_clone(rt.alloc())?;
     tokens.truncate(3);
