@@ -11,11 +11,8 @@ use crate::names::Names;
 use memchr::memchr2;
 use rustc_lexer::DocStyle;
 use std::alloc::{AllocError, Global};
-use tt::builder::TopSubtreeBuilder;
-use tt_data::delimiter::DelimiterKind;
-use tt_data::fault::TtFault;
-use tt_data::leaf::{IdentIsRaw, Leaf, LitKind, Literal, Spacing};
-use tt_data::span::Span;
+use tt::TopSubtreeBuilder;
+use tt_data::{DelimiterKind, IdentIsRaw, Leaf, LitKind, Literal, Spacing, Span, TtFault};
 
 // The text without a carriage return at its end.
 fn without_last_return(text: &str) -> &str

@@ -2,8 +2,7 @@
 ghost use Rattle.std.specs.Prelude.{◌≡◌};
 ghost use Rattle.bridge.specs.Edges.{are_joined, closing_edge, ends_line, gap_between, gap_text, is_comment_or_guard, leaf_edge};
 
-use tt_data::delimiter::DelimiterKind;
-use tt_data::leaf::{Leaf, Spacing};
+use tt_data::{DelimiterKind, Leaf, Spacing};
 
 /// What a printed token is to the one before it and to the one behind it.
 #[derive(Clone, Copy)]

@@ -4,7 +4,7 @@ ghost use Rattle.std.specs.List.{list_all};
 ghost use Rattle.bridge.specs.HeldSpans.{is_anchored, is_in_text, is_within, shifted};
 
 use std::marker::Model;
-use tt_data::span::{Span, TextRange};
+use tt_data::{Span, TextRange};
 
 /// Where the ranges of a piece count from: those of its own tokens, and those with another anchor than 0.
 #[derive(Clone, Copy)]

@@ -12,12 +12,11 @@ ghost use Rattle.tt_data.specs.declared.leaf.Leaf.TheVariants as as_leaf;
 
 use crate::names::Names;
 use std::alloc::Global;
-use tt::builder::TopSubtreeBuilder;
-use tt::literals::token_to_literal;
-use tt_data::delimiter::DelimiterKind;
-use tt_data::fault::TtFault;
-use tt_data::leaf::{Ident, IdentIsRaw, Leaf, LitKind, Punct, Spacing};
-use tt_data::span::{Span, SyntaxContext, TextRange};
+use tt::{TopSubtreeBuilder, token_to_literal};
+use tt_data::{
+    DelimiterKind, Ident, IdentIsRaw, Leaf, LitKind, Punct, Spacing, Span, SyntaxContext,
+    TextRange, TtFault,
+};
 
 // A span of the text itself.
 pub fn written_at(range: TextRange) -> Span

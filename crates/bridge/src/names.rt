@@ -3,8 +3,7 @@ ghost use Rattle.std.specs.Prelude.{◌≡◌, IfOk, IsOkUnless};
 ghost use Rattle.tt_data.specs.fault.TtFault.TheVariants.{Memory};
 
 use std::alloc::Global;
-use tt_data::fault::TtFault;
-use tt_data::symbol::Symbol;
+use tt_data::{Symbol, TtFault};
 
 // How many names are known at most: a power of two.
 const MOST_NAMES: usize = 512;

@@ -1,6 +1,6 @@
 //! What a text is read as.
 use crate::fault::ReadFault;
-use tt::top::TopSubtree;
+use tt::TopSubtree;
 
 /// What a text is read as: its trees, or its first fault.
 #[derive(Drop)]

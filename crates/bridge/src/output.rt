@@ -19,10 +19,7 @@ use crate::plain::plain_text;
 use crate::spelling::leaf_spelling;
 use crate::walk_step::WalkStep;
 use std::alloc::{AllocError, Global};
-use tt_data::delimiter::DelimiterKind;
-use tt_data::fault::TtFault;
-use tt_data::leaf::{Leaf, Punct, Spacing};
-use tt_data::span::Span;
+use tt_data::{DelimiterKind, Leaf, Punct, Spacing, Span, TtFault};
 
 /// What is printed so far, and what the next visible token hangs on.
 #[derive(Drop)]

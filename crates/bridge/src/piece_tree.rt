@@ -12,15 +12,10 @@ ghost use Rattle.tt_data.specs.fault.TtFault.TheVariants as fault;
 
 use crate::leaves::written_at;
 use std::alloc::Global;
-use tt::iter::TtElement;
-use tt::top::TopSubtree;
-use tt::view::TokenTreesView;
-use tt_data::delimiter::Delimiter;
-use tt_data::fault::TtFault;
-use tt_data::laws;
-use tt_data::leaf::{Ident, Leaf, Punct, Spacing};
-use tt_data::span::{Span, TextRange};
-use tt_data::tree::{Subtree, TokenTree};
+use tt::{TokenTreesView, TopSubtree, TtElement};
+use tt_data::{
+    Delimiter, Ident, Leaf, Punct, Spacing, Span, Subtree, TextRange, TokenTree, TtFault, laws,
+};
 
 // Where the first token starts.
 fn first_start(view: TokenTreesView<'_>) -> u32

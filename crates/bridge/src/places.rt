@@ -11,7 +11,7 @@ use std::alloc::{AllocError, Global};
 use std::marker::Model;
 use std::mem::replace;
 use std::rc::Rc;
-use tt_data::span::Span;
+use tt_data::Span;
 
 // The most places that stand in runs.
 const MOST: usize = 1 << 62;

@@ -8,7 +8,7 @@ ghost use Rattle.tt_data.specs.Displayed.{displayed_leaf};
 ghost use Rattle.tt_data.specs.declared.leaf.Leaf.TheVariants as as_leaf;
 
 use rustc_lexer::{is_ident, laws};
-use tt_data::leaf::{Ident, Leaf, LitKind, Literal, Punct};
+use tt_data::{Ident, Leaf, LitKind, Literal, Punct};
 
 // Whether a text is no longer than a text may be that has tokens.
 fn is_short(text: &str) -> bool

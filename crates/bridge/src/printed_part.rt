@@ -12,8 +12,7 @@ use crate::held_spans::{HeldSpans, Shift};
 use crate::output::Output;
 use std::marker::Model;
 use std::rc::Rc;
-use tt_data::fault::TtFault;
-use tt_data::span::Span;
+use tt_data::{Span, TtFault};
 
 /// What is printed of steps by themselves, of which none is left out: no group is open behind them,
 /// and no quote waits for what follows.

@@ -8,8 +8,8 @@ ghost use Rattle.tt_data.specs.fault.TtFault.TheVariants.{Memory};
 
 use crate::printing::{Printed, Printer};
 use std::alloc::Global;
-use tt::view::TokenTreesView;
-use tt_data::fault::TtFault;
+use tt::TokenTreesView;
+use tt_data::TtFault;
 
 /// The text of these trees' visible tokens that have a spelling. `Memory` is its only error.
 pub fn print(alloc: Global, view: TokenTreesView<'_>) -> Result<Printed, TtFault>

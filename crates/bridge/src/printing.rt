@@ -13,9 +13,8 @@ use crate::trees_put::put_trees;
 use crate::walk_step::WalkStep;
 use std::alloc::Global;
 use std::marker::Model;
-use tt::view::TokenTreesView;
-use tt_data::fault::TtFault;
-use tt_data::span::Span;
+use tt::TokenTreesView;
+use tt_data::{Span, TtFault};
 
 /// What is printed of trees.
 #[derive(Drop)]

@@ -21,11 +21,8 @@ use crate::outcome::Read;
 use crate::sort::{Sort, sort_of};
 use rustc_lexer::{Token, TokenKind, laws};
 use std::alloc::Global;
-use tt::builder::TopSubtreeBuilder;
-use tt_data::delimiter::{Delimiter, DelimiterKind};
-use tt_data::fault::TtFault;
-use tt_data::leaf::Spacing;
-use tt_data::span::TextRange;
+use tt::TopSubtreeBuilder;
+use tt_data::{Delimiter, DelimiterKind, Spacing, TextRange, TtFault};
 
 // Whether a token of this kind is read as a punct.
 fn is_mark(kind: TokenKind) -> bool

@@ -17,10 +17,8 @@ use crate::plain::is_plain_string;
 use crate::sort::{Sort, sort_of};
 use rustc_lexer::{FrontmatterAllowed, Token, tokenize};
 use std::alloc::Global;
-use tt::literals::literal_parts;
-use tt_data::fault::TtFault;
-use tt_data::leaf::{Ident, IdentIsRaw, Leaf, LitKind, Literal};
-use tt_data::symbol::Symbol;
+use tt::literal_parts;
+use tt_data::{Ident, IdentIsRaw, Leaf, LitKind, Literal, Symbol, TtFault};
 
 // Whether two literals are of one form. What is no literal has none.
 fn are_of_one_form(first: LitKind, second: LitKind) -> bool

@@ -9,11 +9,8 @@ ghost use Rattle.tt_data.specs.fault.TtFault.TheVariants.{Memory};
 use crate::walk_step::WalkStep;
 use std::alloc::Global;
 use std::mem::replace;
-use tt::iter::TtIter;
-use tt::view::TokenTreesView;
-use tt_data::delimiter::{Delimiter, DelimiterKind};
-use tt_data::fault::TtFault;
-use tt_data::span::Span;
+use tt::{TokenTreesView, TtIter};
+use tt_data::{Delimiter, DelimiterKind, Span, TtFault};
 
 /// An open group: its closing bracket, and the trees behind it.
 #[derive(Drop)]

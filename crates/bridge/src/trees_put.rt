@@ -8,8 +8,8 @@ ghost use Rattle.tt_data.specs.fault.TtFault.TheVariants.{Memory};
 use crate::output::{Output, put_step};
 use crate::steps::{beginning, next_step};
 use std::alloc::Global;
-use tt::view::TokenTreesView;
-use tt_data::fault::TtFault;
+use tt::TokenTreesView;
+use tt_data::TtFault;
 
 /// Puts all these trees.
 pub(crate) fn put_trees(

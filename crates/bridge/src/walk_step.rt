@@ -1,7 +1,5 @@
 //! Steps of a walk over trees.
-use tt_data::delimiter::DelimiterKind;
-use tt_data::leaf::Leaf;
-use tt_data::span::Span;
+use tt_data::{DelimiterKind, Leaf, Span};
 
 /// A step of a walk over trees: a leaf, which is lent, or a bracket of a group that may be invisible.
 #[derive(Drop)]

@@ -3,8 +3,7 @@ ghost use Rattle.rustc_lexer.specs.Lexing.{tokens_of};
 ghost use Rattle.rustc_lexer.specs.Standing.{AreTokensFrom};
 ghost use Rattle.std.specs.Prelude.{◌≡◌, ◌<◌, ◌^◌, IfSome, chars, length};
 
-use bridge::names::Names;
-use bridge::{Read, begins_with_mark, read, read_part};
+use bridge::{Names, Read, begins_with_mark, read, read_part};
 use rustc_lexer::{LexedText, Token, laws};
 use std::fmt::Write;
 use std::test::Fail;

@@ -3,9 +3,8 @@ ghost use Rattle.std.specs.Prelude.{◌≡◌, Option};
 ghost use Rattle.expander.specs.Calls.{is_colons};
 ghost use Rattle.expander.specs.CallSteps.{bare_call, call_behind_colons, crate_call, call_at};
 
-use tt::iter::TtIter;
-use tt_data::delimiter::DelimiterKind;
-use tt_data::leaf::{Ident, Punct, Spacing};
+use tt::TtIter;
+use tt_data::{DelimiterKind, Ident, Punct, Spacing};
 
 /// A call at the beginning of a list of trees.
 #[derive(Drop)]

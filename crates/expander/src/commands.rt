@@ -8,7 +8,7 @@ ghost use Rattle.expander.specs.State.{layers_of};
 use crate::session::{Refusal, Reply, Session};
 use fragment_grammar::FragmentGrammar;
 use std::alloc::{AllocError, Global};
-use tt_data::edition::Edition;
+use tt_data::Edition;
 
 /// What is asked of a session.
 #[derive(Debug, Drop)]

@@ -1,7 +1,7 @@
 // The same list of trees again.
 ghost use Rattle.std.specs.Prelude.{◌≡◌};
 
-use tt::iter::TtIter;
+use tt::TtIter;
 
 pub(crate) fn again<'a>(trees: &TtIter<'a>) -> TtIter<'a>
     ensures { result ≡ trees.now }

@@ -5,9 +5,8 @@ ghost use Rattle.expander.specs.Text.{has_text};
 
 use crate::copies::again;
 use std::marker::Model;
-use tt::iter::TtIter;
-use tt_data::delimiter::{Delimiter, DelimiterKind};
-use tt_data::leaf::{Ident, IdentIsRaw};
+use tt::TtIter;
+use tt_data::{Delimiter, DelimiterKind, Ident, IdentIsRaw};
 
 /// A definition of a macro, its trees borrowed from the text.
 #[derive(Drop)]

@@ -6,8 +6,7 @@ ghost use Rattle.expander.specs.Faults.{place, is_definition_word, in_order};
 use crate::definitions::is_word;
 use bridge::WalkStep;
 use std::alloc::AllocError;
-use tt_data::leaf::Leaf;
-use tt_data::span::{Span, TextRange};
+use tt_data::{Leaf, Span, TextRange};
 
 /// What an expansion found fault with, in the order in which faults of one place are told.
 #[derive(Clone, Copy, Debug, PartialEq, Eq, PartialOrd, Ord)]

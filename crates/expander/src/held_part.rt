@@ -17,8 +17,8 @@ use crate::walk::Walk;
 use bridge::{HeldSpans, PrintedPart, Printer, WalkStep, laws};
 use std::alloc::{AllocError, Global};
 use std::rc::Rc;
-use tt::top::TopSubtree;
-use tt_data::span::Span;
+use tt::TopSubtree;
+use tt_data::Span;
 
 /// What a piece prints by itself, at places of its own: no token is a word that begins a definition.
 #[derive(Drop)]

@@ -7,12 +7,8 @@ ghost use Rattle.expander.specs.World.{rules_in};
 use crate::definitions::Definition;
 use mbe::DeclarativeMacro;
 use std::alloc::Global;
-use tt::iter::TtIter;
-use tt::top::TopSubtree;
-use tt_data::delimiter::Delimiter;
-use tt_data::edition::Edition;
-use tt_data::fault::TtFault;
-use tt_data::span::{Span, SyntaxContext};
+use tt::{TopSubtree, TtIter};
+use tt_data::{Delimiter, Edition, Span, SyntaxContext, TtFault};
 
 // The trees as a tree of their own. They are some of a tree's, so that they are not too many.
 fn tree_of(alloc: Global, trees: &TtIter<'_>, place: Span) -> Result<TopSubtree, TtFault>

@@ -7,8 +7,7 @@ use crate::numbered::Known;
 use crate::starts::Starts;
 use std::alloc::{AllocError, Global};
 use std::rc::Rc;
-use tt_data::edition::Edition;
-use tt_data::symbol::Symbol;
+use tt_data::{Edition, Symbol};
 
 /// The definitions met so far.
 #[derive(Drop)]

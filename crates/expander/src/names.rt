@@ -5,7 +5,7 @@ ghost use Rattle.expander.specs.Text.{same_text};
 
 use std::alloc::{AllocError, Global};
 use std::collections::HashMap;
-use tt_data::symbol::Symbol;
+use tt_data::Symbol;
 
 /// Which of a list of values each name stands for, by index: the latest one.
 #[derive(Drop)]

@@ -10,11 +10,8 @@ use crate::definitions::definition_of;
 use crate::known::rules_in;
 use mbe::DeclarativeMacro;
 use std::alloc::Global;
-use tt::top::TopSubtree;
-use tt_data::edition::Edition;
-use tt_data::fault::TtFault;
-use tt_data::span::TextRange;
-use tt_data::symbol::Symbol;
+use tt::TopSubtree;
+use tt_data::{Edition, Symbol, TextRange, TtFault};
 
 /// A definition in places of its own, counted from its first token, with what is read of it.
 #[derive(Drop)]

@@ -17,7 +17,7 @@ use crate::own_tree::OwnTree;
 use crate::session::Refusal;
 use std::alloc::{AllocError, Global};
 use std::rc::Rc;
-use tt_data::edition::Edition;
+use tt_data::Edition;
 
 /// The definitions of a text so far.
 #[derive(Drop)]

@@ -11,11 +11,8 @@ use crate::walk::Walk;
 use bridge::WalkStep;
 use std::alloc::{AllocError, Global};
 use std::rc::Rc;
-use tt::iter::TtIter;
-use tt_data::delimiter::DelimiterKind;
-use tt_data::leaf::Leaf;
-use tt_data::span::Span;
-use tt_data::symbol::Symbol;
+use tt::TtIter;
+use tt_data::{DelimiterKind, Leaf, Span, Symbol};
 
 /// A step of a walk over trees: a leaf, or a bracket of a group that may be invisible.
 #[derive(Drop)]

@@ -15,8 +15,7 @@ use crate::faults::{Fault, FaultKind, is_definition_word, place};
 use bridge::{HeldSpans, Placed, Places, PrintedPart, Printer, Shift, WalkStep};
 use std::alloc::{AllocError, Global};
 use std::rc::Rc;
-use tt_data::delimiter::DelimiterKind;
-use tt_data::span::{Span, TextRange};
+use tt_data::{DelimiterKind, Span, TextRange};
 
 /// Steps that were put out. They are printed and not kept: a token takes its text and two places.
 #[derive(Drop)]

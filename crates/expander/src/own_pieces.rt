@@ -10,8 +10,8 @@ use crate::own_tree::OwnTree;
 use crate::pieces::next_piece;
 use std::alloc::Global;
 use std::rc::Rc;
-use tt::iter::TtIter;
-use tt_data::fault::TtFault;
+use tt::TtIter;
+use tt_data::TtFault;
 
 /// A piece in places of its own, and where it stands.
 #[derive(Drop)]

@@ -10,14 +10,11 @@ ghost use Rattle.bridge.specs.ReadText.{text_top};
 ghost use Rattle.expander.specs.Pieces.{first_start, moved_back, relative};
 
 use std::alloc::{AllocError, Global};
-use tt::iter::TtIter;
-use tt::top::TopSubtree;
-use tt_data::delimiter::Delimiter;
-use tt_data::fault::TtFault;
-use tt_data::laws;
-use tt_data::leaf::{Ident, Leaf, Punct};
-use tt_data::span::{Span, SyntaxContext, TextRange};
-use tt_data::tree::{Subtree, TokenTree};
+use tt::{TopSubtree, TtIter};
+use tt_data::{
+    Delimiter, Ident, Leaf, Punct, Span, Subtree, SyntaxContext, TextRange, TokenTree, TtFault,
+    laws,
+};
 
 /// The leaf at another place.
 pub(crate) fn leaf_at(leaf: Leaf, span: Span) -> Leaf

@@ -6,7 +6,7 @@ ghost use Rattle.expander.specs.OwnTrees.{tree_hash};
 use crate::definitions::definition_of;
 use std::hash::{FoldHasher, Hash, Hasher};
 use std::marker::Model;
-use tt::top::TopSubtree;
+use tt::TopSubtree;
 
 /// A tree of its own, with its hash, and whether it is a definition, which are computed once.
 #[derive(Drop)]

@@ -10,11 +10,8 @@ ghost use Rattle.expander.specs.Cutting.{CutsOff, PassesAlways, PassesTree, end_
 
 use crate::copies::again;
 use std::alloc::{AllocError, Global};
-use tt::iter::{TtElement, TtIter};
-use tt::top::TopSubtree;
-use tt_data::delimiter::{Delimiter, DelimiterKind};
-use tt_data::fault::TtFault;
-use tt_data::leaf::{Leaf, Punct, Spacing};
+use tt::{TopSubtree, TtElement, TtIter};
+use tt_data::{Delimiter, DelimiterKind, Leaf, Punct, Spacing, TtFault};
 
 // Whether these are exactly `#` and `!`.
 fn is_pound_bang(begun: &TtIter<'_>) -> bool

@@ -23,9 +23,8 @@ use crate::walk::Walk;
 use bridge::{HeldSpans, Shift, WalkStep};
 use std::alloc::{AllocError, Global};
 use std::rc::Rc;
-use tt::top::TopSubtree;
-use tt_data::leaf::{Ident, Leaf, Punct};
-use tt_data::span::{Span, TextRange};
+use tt::TopSubtree;
+use tt_data::{Ident, Leaf, Punct, Span, TextRange};
 
 // Where the places of an anchor count from.
 fn base_at(start: u32, starts: &Starts, anchor: u32) -> u32

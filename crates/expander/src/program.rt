@@ -15,7 +15,7 @@ use crate::watched::Watched;
 use small_grammar::SmallGrammar;
 use std::alloc::Global;
 use std::io::{Read, Write};
-use tt_data::edition::Edition;
+use tt_data::Edition;
 
 /// The status that a program ends with.
 #[derive(Clone, Copy, Debug, PartialEq, Eq)]

@@ -13,7 +13,7 @@ use crate::sources::Sources;
 use bridge::{Read, ReadFault};
 use rustc_lexer::Token;
 use std::alloc::Global;
-use tt_data::fault::TtFault;
+use tt_data::TtFault;
 
 /// What a text is read as.
 #[derive(Drop)]

@@ -17,13 +17,12 @@ use crate::piece_end::piece_end;
 use crate::pieces::{is_whole, set_apart};
 use crate::seeking::{Seeker, seek_source};
 use crate::sources::{Ahead, Source, Sources, ahead_at};
-use bridge::names::Names;
-use bridge::{Read, begins_with_mark, read_part};
+use bridge::{Names, Read, begins_with_mark, read_part};
 use rustc_lexer::{Token, TokenKind, laws};
 use std::alloc::{AllocError, Global};
 use std::rc::Rc;
-use tt::top::TopSubtree;
-use tt_data::fault::TtFault;
+use tt::TopSubtree;
+use tt_data::TtFault;
 
 // Whether a token of this kind is read as nothing.
 fn is_blank(kind: TokenKind) -> bool

@@ -26,12 +26,8 @@ use crate::walk::Walk;
 use mbe::{DeclarativeMacro, FragmentGrammar, MacroCallStyle};
 use std::alloc::{AllocError, Global};
 use std::rc::Rc;
-use tt::iter::TtIter;
-use tt::top::TopSubtree;
-use tt_data::delimiter::Delimiter;
-use tt_data::fault::TtFault;
-use tt_data::span::{Span, SyntaxContext};
-use tt_data::symbol::Symbol;
+use tt::{TopSubtree, TtIter};
+use tt_data::{Delimiter, Span, Symbol, SyntaxContext, TtFault};
 
 /// What a search has given so far.
 #[derive(Drop)]

@@ -8,7 +8,7 @@ ghost use Rattle.expander.specs.Sources.{AreSources, IsHeldAt};
 use crate::sources::{Source, Sources, find_source};
 use rustc_lexer::Token;
 use std::rc::Rc;
-use tt_data::fault::TtFault;
+use tt_data::TtFault;
 
 // How many held pieces are tried at a place.
 const TRIED: usize = 16;

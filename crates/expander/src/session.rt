@@ -33,9 +33,7 @@ use fragment_grammar::FragmentGrammar;
 use rustc_lexer::LexedText;
 use std::alloc::{AllocError, Global};
 use std::marker::Model;
-use tt_data::edition::Edition;
-use tt_data::fault::TtFault;
-use tt_data::span::TextRange;
+use tt_data::{Edition, TextRange, TtFault};
 
 /// Why there is no reply. The session is as it was.
 #[derive(Clone, Copy, Debug, PartialEq, Eq)]

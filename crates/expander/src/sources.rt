@@ -11,7 +11,7 @@ use bridge::begins_with_mark;
 use rustc_lexer::Token;
 use std::alloc::Global;
 use std::rc::Rc;
-use tt_data::fault::TtFault;
+use tt_data::TtFault;
 
 /// The two characters behind a piece, or as many as there are: with its own they tell its tokens.
 #[derive(Clone, Copy)]

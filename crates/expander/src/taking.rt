@@ -54,8 +54,7 @@ use crate::starts::Starts;
 use mbe::FragmentGrammar;
 use std::alloc::{AllocError, Global};
 use std::rc::Rc;
-use tt_data::edition::Edition;
-use tt_data::fault::TtFault;
+use tt_data::{Edition, TtFault};
 
 // A tree, expanded.
 fn expanded<G: FragmentGrammar>(

@@ -6,9 +6,8 @@ use crate::copies::again;
 use bridge::WalkStep;
 use std::alloc::{AllocError, Global};
 use std::mem::replace;
-use tt::iter::TtIter;
-use tt_data::delimiter::{Delimiter, DelimiterKind};
-use tt_data::span::Span;
+use tt::TtIter;
+use tt_data::{Delimiter, DelimiterKind, Span};
 
 /// A group that a walk is in: how it closes, and the trees behind it.
 #[derive(Drop)]

@@ -4,7 +4,7 @@ ghost use Rattle.tt.specs.Views.{forest};
 ghost use Rattle.fragment_grammar.specs.Steps.{steps};
 
 use tt::TokenTreesView;
-use tt_data::tree::TokenTree;
+use tt_data::TokenTree;
 
 /// The number of steps of the trees: each leaf, each opening and each closing is one.
 pub fn steps(trees: TokenTreesView<'_>) -> usize

@@ -7,10 +7,10 @@ use std::alloc::Global;
 use std::cell::Cell;
 use std::test::Fail;
 use tt::{TokenTreesView, TopSubtree, TopSubtreeBuilder};
-use tt_data::delimiter::{Delimiter, DelimiterKind};
-use tt_data::fault::TtFault;
-use tt_data::leaf::{Ident, Leaf, LitKind, Literal, Punct, Spacing};
-use tt_data::span::{Span, SyntaxContext, TextRange};
+use tt_data::{
+    Delimiter, DelimiterKind, Ident, Leaf, LitKind, Literal, Punct, Spacing, Span, SyntaxContext,
+    TextRange, TtFault,
+};
 
 fn span() -> Span {
     Span {

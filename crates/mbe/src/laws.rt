@@ -14,9 +14,8 @@ ghost use Rattle.mbe.specs.Grammar.{Grammar};
 ghost use Rattle.mbe.specs.Paths.{IsPath, has_clash};
 ghost use Rattle.mbe.specs.Readings.{Move, State, start, next, has_used_up, takings, the_reading};
 
-use mbe_rules::macro_call_style::MacroCallStyle;
-use tt_data::edition::Edition;
-use tt_data::span::{Span, SyntaxContext};
+use mbe_rules::MacroCallStyle;
+use tt_data::{Edition, Span, SyntaxContext};
 
 /// Where the places of rules and of an argument change by a function that commutes with the marker,
 /// the same rule fits, and what it gives changes in its places alone. So it is of definitions, where

@@ -1,24 +1,24 @@
 //! Macros by example: which rule of a definition fits an argument.
 #![tactic(auto)]
 
-pub mod bindings;
+mod bindings;
 mod blocked;
 mod choices;
-pub mod collecting;
+mod collecting;
 mod declarative;
 mod expand;
 mod expressions;
 mod failure;
 mod filling;
 mod fit;
-pub mod fragment;
+mod fragment;
 mod kept;
 pub mod laws;
-pub mod matcher;
+mod matcher;
 mod place;
 mod putting;
 mod rounds;
-pub mod threads;
+mod threads;
 mod transcriber;
 mod uses;
 mod walk;

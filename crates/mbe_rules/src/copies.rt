@@ -6,7 +6,7 @@ ghost use Rattle.mbe_rules.specs.Ops.{put_op, items_of, rule_of, rules_of, separ
 use crate::parser::{ConcatElement, Op, Separator};
 use crate::rules::{Rule, Rules};
 use std::alloc::{AllocError, Global};
-use tt_data::leaf::Punct;
+use tt_data::Punct;
 
 fn copy_puncts(alloc: Global, puncts: &[Punct]) -> Result<Vec<Punct>, AllocError>
     ensures { IfOk result (λ v. v.items ≡ puncts.now) }

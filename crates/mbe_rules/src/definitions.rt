@@ -24,11 +24,8 @@ use crate::shapes::parts;
 use crate::validation::has_empty_round;
 use std::alloc::{AllocError, Global};
 use symbols::TtFault;
-use tt::iter::{TtElement, TtIter};
-use tt::top::TopSubtree;
-use tt_data::edition::Edition;
-use tt_data::leaf::Leaf;
-use tt_data::span::SyntaxContext;
+use tt::{TopSubtree, TtElement, TtIter};
+use tt_data::{Edition, Leaf, SyntaxContext};
 
 // What may stand between rules.
 #[derive(Clone, Copy, PartialEq, Eq)]

@@ -1,8 +1,7 @@
 //! The editions that the words of a definition are read by.
 ghost use Rattle.tt_data.specs.declared.span.SyntaxContext.TheVariants.{Written, Made};
 
-use tt_data::edition::Edition;
-use tt_data::span::SyntaxContext;
+use tt_data::{Edition, SyntaxContext};
 
 /// The editions of words that were written by hand, and of words that an expansion put in.
 #[derive(Clone, Copy)]

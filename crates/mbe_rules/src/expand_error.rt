@@ -11,7 +11,7 @@ use std::hash::{Hash, Hasher};
 use std::marker::Model;
 use std::rc::Rc;
 use symbols::TtFault;
-use tt_data::span::Span;
+use tt_data::Span;
 
 /// Why a call cannot be expanded, and the place where this shows. Its clones share one block of memory.
 #[derive(Debug, Drop)]

@@ -11,10 +11,8 @@ ghost use Rattle.mbe_rules.specs.Trees.{punct, signs};
 use crate::parser::{ConcatElement, Op};
 use std::alloc::Global;
 use symbols::{Symbol, TtFault};
-use tt::iter::{TtElement, TtIter};
-use tt_data::delimiter::DelimiterKind;
-use tt_data::leaf::{Leaf, Literal, Punct};
-use tt_data::span::Span;
+use tt::{TtElement, TtIter};
+use tt_data::{DelimiterKind, Leaf, Literal, Punct, Span};
 
 // The number that a text spells, which is what std reads of it.
 fn number(text: &str) -> Option<usize>

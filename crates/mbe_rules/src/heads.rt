@@ -20,10 +20,8 @@ use crate::parser::Op;
 use crate::repetitions::again;
 use std::alloc::{AllocError, Global};
 use symbols::Symbol;
-use tt::iter::{TtElement, TtIter};
-use tt_data::delimiter::{Delimiter, DelimiterKind};
-use tt_data::leaf::{Ident, IdentIsRaw, Leaf, Literal, Punct};
-use tt_data::span::Span;
+use tt::{TtElement, TtIter};
+use tt_data::{Delimiter, DelimiterKind, Ident, IdentIsRaw, Leaf, Literal, Punct, Span};
 
 // Whether a pattern or a template is read.
 #[derive(Clone, Copy, PartialEq, Eq)]

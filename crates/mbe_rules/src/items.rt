@@ -19,9 +19,8 @@ use crate::heads::{Mode, Parsed, head};
 use crate::parser::{Op, RepeatKind, Separator};
 use crate::repetitions::{again, repeat};
 use std::alloc::{AllocError, Global};
-use tt::iter::{TtElement, TtIter};
-use tt_data::delimiter::{Delimiter, DelimiterKind};
-use tt_data::leaf::{Leaf, Punct};
+use tt::{TtElement, TtIter};
+use tt_data::{Delimiter, DelimiterKind, Leaf, Punct};
 
 // An item with a list inside, the list aside.
 #[derive(Drop)]

@@ -5,7 +5,7 @@ ghost use Rattle.mbe_rules.specs.Reading.{edition_in};
 
 use crate::editions::Editions;
 use crate::parser::MetaVarKind;
-use tt_data::leaf::Ident;
+use tt_data::Ident;
 
 // What a word after the colon lets a variable take: nothing where the word is none of these.
 pub(crate) fn kind_of(word: &Ident, editions: Editions) -> Option<MetaVarKind>

@@ -1,23 +1,23 @@
 //! The rules of a macro's definition: what is read of them, and the faults that are told.
 #![tactic(auto)]
 
-pub mod copies;
+mod copies;
 mod definitions;
 mod editions;
-pub mod errors;
-pub mod expand_error;
+mod errors;
+mod expand_error;
 mod expressions;
 mod heads;
 mod items;
 mod kinds;
 pub mod laws;
-pub mod macro_call_style;
-pub mod parser;
+mod macro_call_style;
+mod parser;
 mod repetitions;
-pub mod rules;
+mod rules;
 mod shapes;
-pub mod validation;
-pub mod value_result;
+mod validation;
+mod value_result;
 
 pub use definitions::{parse_macro_rules, parse_macro2};
 pub use errors::{CountError, ExpandErrorKind, ParseError};

@@ -5,9 +5,7 @@ ghost use Rattle.std.proofs.Common.{rules};
 ghost use Rattle.tt.specs.Glued.{characters};
 
 use symbols::Symbol;
-use tt_data::delimiter::Delimiter;
-use tt_data::leaf::{Ident, Literal, Punct};
-use tt_data::span::Span;
+use tt_data::{Delimiter, Ident, Literal, Punct, Span};
 
 /// What a variable of a pattern takes, by the word after its colon. (The Rust Reference, "Macros By
 /// Example": metavariables.)

@@ -10,8 +10,8 @@ ghost use Rattle.tt_data.specs.declared.leaf.Leaf.TheVariants as as_leaf;
 
 use crate::parser::{RepeatKind, Separator};
 use std::alloc::{AllocError, Global};
-use tt::iter::{TtElement, TtIter};
-use tt_data::leaf::{Leaf, Punct};
+use tt::{TtElement, TtIter};
+use tt_data::{Leaf, Punct};
 
 // A separator, an operator, and the trees after them.
 pub(crate) type Repeat<'a> = (Option<Separator>, RepeatKind, TtIter<'a>);

@@ -9,7 +9,7 @@ use crate::heads::{Parsed, expected};
 use crate::macro_call_style::MacroCallStyle;
 use crate::repetitions::again;
 use std::alloc::{AllocError, Global};
-use tt::iter::{TtElement, TtIter};
+use tt::{TtElement, TtIter};
 
 // A rule's style, what its pattern and its template have inside, and the trees after it.
 #[derive(Drop)]

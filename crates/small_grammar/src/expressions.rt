@@ -10,7 +10,7 @@ use crate::tokens::{glued, group, group_of, literal, number, parts, word};
 use crate::types::{generics, ty};
 use crate::units::Operator;
 use tt::TtIter;
-use tt_data::delimiter::DelimiterKind;
+use tt_data::DelimiterKind;
 
 /// A path of an expression or a pattern.
 #[tactic(auto, unfolding(crate::specs::SmallGrammar::path))]

@@ -14,7 +14,7 @@ use crate::types::{tpath, ty};
 use crate::units::Operator;
 use fragment_grammar::{FragmentGrammar, Prefix, PrefixEntryPoint, steps};
 use tt::{TokenTreesView, TtIter};
-use tt_data::delimiter::DelimiterKind;
+use tt_data::DelimiterKind;
 
 /// A small grammar of Rust: visibilities, expressions, types, paths, patterns, attributes and blocks.
 ///

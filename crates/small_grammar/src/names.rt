@@ -6,8 +6,7 @@ ghost use Rattle.small_grammar.specs.Tokens.{token_at, a_name, a_restriction, is
 ghost use Rattle.tt.specs.FirstTrees.{first_ident};
 
 use tt::TtIter;
-use tt_data::delimiter::DelimiterKind;
-use tt_data::leaf::{Ident, IdentIsRaw};
+use tt_data::{DelimiterKind, Ident, IdentIsRaw};
 
 // The words that are reserved, by how many bytes they have.
 const OF_TWO: [&str; 5] = ["as", "fn", "if", "in", "do"];

@@ -12,7 +12,7 @@ use crate::operators::{range, reference};
 use crate::tokens::{glued, group_of, literal, parts, word};
 use crate::units::Operator;
 use tt::TtIter;
-use tt_data::delimiter::DelimiterKind;
+use tt_data::DelimiterKind;
 
 // A literal, with `-` where it is there.
 #[tactic(auto, unfolding(crate::specs::SmallGrammar::num))]

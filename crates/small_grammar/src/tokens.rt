@@ -8,8 +8,7 @@ ghost use Rattle.small_grammar.specs.Tokens.{token_at, a_word, an_identifier, a_
 
 use crate::units::{Operator, first_operator};
 use tt::TtIter;
-use tt_data::delimiter::DelimiterKind;
-use tt_data::leaf::{Ident, IdentIsRaw, LitKind, Spacing};
+use tt_data::{DelimiterKind, Ident, IdentIsRaw, LitKind, Spacing};
 
 // Whether the name has this text, and isn't raw.
 fn has_text(ident: &Ident, text: &str) -> bool

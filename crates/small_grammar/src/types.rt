@@ -9,7 +9,7 @@ use crate::copies::again;
 use crate::names::name;
 use crate::tokens::{group, group_of, lifetime, literal, parts, punct, two_puncts, word};
 use tt::TtIter;
-use tt_data::delimiter::DelimiterKind;
+use tt_data::DelimiterKind;
 
 // `&`, and a lifetime and `mut` where they are there.
 fn reference_sign<'a>(trees: &TtIter<'a>) -> Option<TtIter<'a>>

@@ -5,7 +5,7 @@ ghost use Rattle.small_grammar.specs.Tokens.{operator_of, first_operator};
 
 use crate::copies::again;
 use tt::TtIter;
-use tt_data::leaf::Punct;
+use tt_data::Punct;
 
 /// One punct, or two or three that are glued to one operator.
 #[derive(Clone, Copy, PartialEq, Eq)]

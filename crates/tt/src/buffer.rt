@@ -11,8 +11,7 @@ use crate::view::TokenTreesView;
 use arrayvec::ArrayVec;
 use std::alloc::AllocError;
 use std::marker::Model;
-use tt_data::leaf::Leaf;
-use tt_data::tree::{Subtree, TokenTree};
+use tt_data::{Leaf, Subtree, TokenTree};
 
 /// A place in a list of trees: between two trees of the list, or of a group in it.
 ///

@@ -16,11 +16,7 @@ use crate::top::TopSubtree;
 use crate::view::TokenTreesView;
 use std::alloc::Global;
 use std::marker::Model;
-use tt_data::delimiter::{Delimiter, DelimiterKind};
-use tt_data::fault::TtFault;
-use tt_data::leaf::Leaf;
-use tt_data::span::Span;
-use tt_data::tree::{Subtree, TokenTree};
+use tt_data::{Delimiter, DelimiterKind, Leaf, Span, Subtree, TokenTree, TtFault};
 
 // The most tokens that a tree has below its top.
 const MOST_TOKENS: usize = u32::MAX as usize;

@@ -14,9 +14,7 @@ use crate::top::TopSubtree;
 use crate::view::{SubtreeView, TokenTreesView};
 use std::alloc::Global;
 use std::fmt::{self, Display};
-use tt_data::delimiter::DelimiterKind;
-use tt_data::fault::TtFault;
-use tt_data::leaf::{Leaf, Spacing};
+use tt_data::{DelimiterKind, Leaf, Spacing, TtFault};
 
 // Which puncts touch what follows.
 #[derive(Clone, Copy)]

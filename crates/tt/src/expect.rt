@@ -8,8 +8,7 @@ ghost use Rattle.tt.specs.Glued.{first_glued, glued_at, glued_count, is_pair, is
 
 use crate::iter::TtIter;
 use arrayvec::ArrayVec;
-use tt_data::leaf::{Ident, Leaf, Punct, Spacing};
-use tt_data::tree::Subtree;
+use tt_data::{Ident, Leaf, Punct, Spacing, Subtree};
 
 /// The most puncts that are glued to one operator.
 pub const MAX_GLUED_PUNCT_LEN: usize = 3;

@@ -5,9 +5,7 @@ ghost use Rattle.std.specs.Prelude.{◌≡◌, option_map};
 ghost use Rattle.tt.specs.FirstTrees.{first_ident, first_leaf, first_literal, first_punct, first_group, first_subtree};
 
 use crate::iter::TtIter;
-use tt_data::delimiter::Delimiter;
-use tt_data::leaf::{Ident, Leaf, LitKind, Punct};
-use tt_data::tree::Subtree;
+use tt_data::{Delimiter, Ident, Leaf, LitKind, Punct, Subtree};
 
 impl<'a> TtIter<'a> {
     /// The punct that comes next.

@@ -1,7 +1,7 @@
 //! The tokens of a list of trees, one by one.
 use crate::records::Tokens;
 use std::marker::Model;
-use tt_data::tree::TokenTree;
+use tt_data::TokenTree;
 
 /// A walk over all tokens of a list of trees, each group's head before what it has inside.
 #[derive(Drop)]

@@ -6,9 +6,7 @@ use crate::tokens::same_leaf;
 use crate::view::TokenTreesView;
 use std::alloc::AllocError;
 use std::marker::Model;
-use tt_data::leaf::Leaf;
-use tt_data::span::Span;
-use tt_data::tree::{Subtree, TokenTree};
+use tt_data::{Leaf, Span, Subtree, TokenTree};
 
 /// A walk over a list of trees. It stands before the trees that are left.
 #[derive(Debug, Drop)]

@@ -5,23 +5,23 @@
 //! `specs/Building.antt` says what a tree under construction is.
 #![tactic(auto)]
 
-pub mod buffer;
-pub mod builder;
-pub mod display;
+mod buffer;
+mod builder;
+mod display;
 mod expect;
 mod first_trees;
-pub mod flat;
-pub mod iter;
+mod flat;
+mod iter;
 pub mod laws;
-pub mod literals;
+mod literals;
 mod records;
 mod relabel;
-pub mod savepoint;
-pub mod split;
+mod savepoint;
+mod split;
 mod tokens;
-pub mod top;
-pub mod transform;
-pub mod view;
+mod top;
+mod transform;
+mod view;
 
 pub use buffer::Cursor;
 pub use builder::{ExpectedDelimiters, SubtreeBuilderRestorePoint, TopSubtreeBuilder};
@@ -34,11 +34,8 @@ pub use savepoint::TtIterSavepoint;
 pub use split::Split;
 pub use top::TopSubtree;
 pub use transform::{TransformTtAction, transform_tt};
-pub use tt_data::delimiter::{DelimSpan, Delimiter, DelimiterKind};
-pub use tt_data::edition::Edition;
-pub use tt_data::fault::TtFault;
-pub use tt_data::leaf::{Ident, IdentIsRaw, Leaf, Lit, LitKind, Literal, Punct, Spacing};
-pub use tt_data::span::{Span, SyntaxContext, TextRange, TextSize};
-pub use tt_data::symbol::Symbol;
-pub use tt_data::tree::{Subtree, TokenTree};
+pub use tt_data::{
+    DelimSpan, Delimiter, DelimiterKind, Edition, Ident, IdentIsRaw, Leaf, Lit, LitKind, Literal,
+    Punct, Spacing, Span, Subtree, Symbol, SyntaxContext, TextRange, TextSize, TokenTree, TtFault,
+};
 pub use view::{SubtreeView, TokenTreesView};

@@ -5,9 +5,7 @@ ghost use Rattle.tt.specs.TokenLiterals.{IsLiteralToken, form_begin, form_end, i
 ghost use Rattle.tt_data.specs.fault.TtFault.TheVariants.{Memory};
 
 use std::alloc::Global;
-use tt_data::fault::TtFault;
-use tt_data::leaf::{LitKind, Literal};
-use tt_data::span::Span;
+use tt_data::{LitKind, Literal, Span, TtFault};
 
 // How many bytes of letters, hashes and a quote stand before the text.
 fn begin_len(kind: LitKind) -> usize

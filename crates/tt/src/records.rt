@@ -13,9 +13,7 @@ use crate::tokens::{is_one_group, same_leaf};
 use std::alloc::{AllocError, Global};
 use std::hash::{Hash, Hasher};
 use std::marker::Model;
-use tt_data::leaf::{Ident, Leaf, LitKind, Punct, Spacing};
-use tt_data::span::Span;
-use tt_data::tree::{Subtree, TokenTree};
+use tt_data::{Ident, Leaf, LitKind, Punct, Spacing, Span, Subtree, TokenTree};
 
 /// A run of tokens that is borrowed.
 #[derive(Clone, Copy, Debug)]

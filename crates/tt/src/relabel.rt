@@ -12,11 +12,7 @@ use crate::top::TopSubtree;
 use std::alloc::{AllocError, Global};
 use std::collections::HashMap;
 use std::mem::replace;
-use tt_data::delimiter::Delimiter;
-use tt_data::fault::TtFault;
-use tt_data::leaf::{Ident, Leaf, Punct};
-use tt_data::span::Span;
-use tt_data::tree::{Subtree, TokenTree};
+use tt_data::{Delimiter, Ident, Leaf, Punct, Span, Subtree, TokenTree, TtFault};
 
 impl TopSubtree {
     /// Puts other anchors in place of those of the tree: what `f` answers for each. It is asked about

@@ -6,7 +6,7 @@ ghost use Rattle.tt.specs.Tops.{IsOneGroup};
 
 use crate::iter::{TtElement, TtIter};
 use crate::records::Tokens;
-use tt_data::leaf::Leaf;
+use tt_data::Leaf;
 
 // The leaf once more. Its text gets one more owner, and so it is never refused.
 #[inline]

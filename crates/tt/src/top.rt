@@ -8,11 +8,7 @@ use crate::view::{SubtreeView, TokenTreesView};
 use std::alloc::Global;
 use std::hash::{Hash, Hasher};
 use std::marker::Model;
-use tt_data::delimiter::{DelimSpan, Delimiter, DelimiterKind};
-use tt_data::fault::TtFault;
-use tt_data::leaf::Leaf;
-use tt_data::span::Span;
-use tt_data::tree::{Subtree, TokenTree};
+use tt_data::{DelimSpan, Delimiter, DelimiterKind, Leaf, Span, Subtree, TokenTree, TtFault};
 
 /// A whole tree: one group, and the trees inside it.
 #[derive(Debug, Drop)]

@@ -15,11 +15,7 @@ use crate::top::TopSubtree;
 use crate::view::TokenTreesView;
 use std::alloc::{AllocError, Global};
 use std::mem::replace;
-use tt_data::delimiter::Delimiter;
-use tt_data::fault::TtFault;
-use tt_data::leaf::Leaf;
-use tt_data::span::Span;
-use tt_data::tree::{Subtree, TokenTree};
+use tt_data::{Delimiter, Leaf, Span, Subtree, TokenTree, TtFault};
 
 /// What becomes of a token that a walk has come to.
 #[derive(Clone, Copy)]

@@ -8,9 +8,7 @@ use crate::buffer::Cursor;
 use crate::flat::FlatTokens;
 use crate::iter::TtIter;
 use crate::records::Tokens;
-use tt_data::delimiter::DelimiterKind;
-use tt_data::span::Span;
-use tt_data::tree::{Subtree, TokenTree};
+use tt_data::{DelimiterKind, Span, Subtree, TokenTree};
 
 /// A list of trees.
 #[derive(Clone, Copy, Debug)]

@@ -3,15 +3,15 @@
 //! `specs/Forest.antt` has the one definition of a list of trees on which the crates above stand.
 #![tactic(auto)]
 
-pub mod delimiter;
-pub mod display;
-pub mod edition;
-pub mod fault;
+mod delimiter;
+mod display;
+mod edition;
+mod fault;
 pub mod laws;
-pub mod leaf;
-pub mod span;
-pub mod symbol;
-pub mod tree;
+mod leaf;
+mod span;
+mod symbol;
+mod tree;
 
 pub use delimiter::{DelimSpan, Delimiter, DelimiterKind};
 pub use edition::Edition;
