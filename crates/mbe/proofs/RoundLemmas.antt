@@ -1,5 +1,6 @@
 -- Where one thread waits alone after another
 use Rattle.std.proofs.Common.{◌≡◌, inl, inr, refl, sym, ap, subst, ◌∙◌, ℕ, zero, suc, true, false, List, [], ◌∷◌, ◌++◌, map, Some}
+use Rattle.std.proofs.lemmas.List.{append_assoc}
 use Rattle.std.specs.List.{flat_map}
 use Rattle.tt_data.specs.declared.span.Span.{Span}
 use Rattle.mbe_rules.specs.Items.{dollar, variable, Items, done, item}
@@ -60,7 +61,7 @@ pub waits-alone : (gr : Grammar) (ms : List r.Move) (items : Items) (frames : Li
     HasLone items frames n k → u.is_end p ≡ false → u.same_unit u.closing (u.unit_at p) ≡ false →
     taken gr k (r.trees_here p) ≡ Some count → (count ≡ 0 → ⊥) → (t : Thread) →
     items_of t.items.now ≡ items → frames_of t.frames ≡ frames →
-    moves_of t.moves ≡ (ms ++ (r.next_round ∷ [])) ++ (r.fragment_move n k (before count (r.trees_here p)) ∷ []) →
+    moves_of t.moves ≡ ms ++ (r.next_round ∷ r.fragment_move n k (before count (r.trees_here p)) ∷ []) →
     Good N (r.at items frames p) →
     map (prefixed ms) (settled_at gr (r.at items frames p)) ≡ waiting_of p (Pending t (takes_trees count)) ∷ []
 waits-alone gr ms items frames n k p zero N h e c t z th ti tf tm g = absurd (z refl)
@@ -69,6 +70,7 @@ waits-alone gr ms items frames n k p (suc i) N (d, (s, op, fs, f, rep, shut)) e 
     subst (λ x. Good N (r.at x frames p) → map (prefixed ms) (settled_at gr (r.at x frames p)) ≡ pending made true (r.at x frames (r.past_trees (suc i) p)) ∷ []) (sym d)
     (subst (λ y. Good N (r.at done y p) → map (prefixed ms) (settled_at gr (r.at done y p)) ≡ pending made true (r.at done y (r.past_trees (suc i) p)) ∷ []) (sym f)
     (only-round gr ms n k s op fs p i N rep shut e c t)) g
-    ∙ ap (λ x. pending x true (r.at items frames (r.past_trees (suc i) p)) ∷ []) (sym tm)
+    ∙ ap (λ x. pending x true (r.at items frames (r.past_trees (suc i) p)) ∷ [])
+    (append_assoc ms (r.next_round ∷ []) (r.fragment_move n k (before (suc i) (r.trees_here p)) ∷ []) ∙ sym tm)
     ∙ ap (λ x. pending (moves_of th.moves) true (r.at x frames (r.past_trees (suc i) p)) ∷ []) (sym ti)
     ∙ ap (λ x. pending (moves_of th.moves) true (r.at (items_of th.items.now) x (r.past_trees (suc i) p)) ∷ []) (sym tf)
