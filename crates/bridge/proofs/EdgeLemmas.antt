@@ -13,7 +13,8 @@ use Rattle.tt_data.specs.declared.leaf.Punct.{Punct}
 use Rattle.bridge.specs.Edges.{are_joined, edge_of, ends_line, gap_between, is_comment_or_guard}
 use Rattle.bridge.specs.Printing as printing
 use Rattle.bridge.specs.Spelling.{begins_with_name, is_text_of, leaf_spelling, quote_spelling, spelling}
-use Rattle.bridge.specs.Text.{char, is_alone, is_joint}
+use Rattle.tt.specs.Glued.{is_alone, is_joint}
+use Rattle.bridge.specs.Text.{char}
 
 -- the step has this spelling before some steps
 abbrev pub IsSpelled : Step → List ℕ → Type 0

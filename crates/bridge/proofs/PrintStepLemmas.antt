@@ -24,7 +24,8 @@ use Rattle.bridge.specs.Printers.{Continues, PrinterState, Prints, continued, pe
 use Rattle.bridge.specs.Printing.{Print, PrintedToken, depth_after, is_visible_step, left_out_from, printed, spans_of, spelled, step_span, text_from, unspelled, visible}
 use Rattle.bridge.specs.PrintSteps.{is_name_leaf}
 use Rattle.bridge.specs.Spelling.{begins_with_name, close_text, is_spelled, leaf_spelling, open_text, quote_spelling, same_rawness, spelling}
-use Rattle.bridge.specs.Text.{char, is_char, is_joint, is_visible}
+use Rattle.tt.specs.Glued.{is_joint}
+use Rattle.bridge.specs.Text.{char, is_char, is_visible}
 use Rattle.bridge.proofs.EdgeLemmas.{IsSpelled, gap_same}
 
 pub carried : {A E : Type 0} (r : Result A E) (P Q : Type 0) → (P → Q) → OnOk r P → OnOk r Q

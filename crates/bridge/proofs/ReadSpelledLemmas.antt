@@ -39,12 +39,14 @@ use Rattle.tt_data.specs.declared.span.Span.{Span}
 use Rattle.bridge.specs.declared.sort.Sort.{Sort}
 use Rattle.bridge.specs.declared.sort.Sort.TheVariants.{Blank, Name, Mark, Opening, Closing, QuotedName, Doc, Value, Neither}
 use Rattle.bridge.specs.PlainTexts.{is_mark_char}
-use Rattle.bridge.specs.Pieces.{alone, separated}
+use Rattle.tt.specs.Building.{alone}
+use Rattle.bridge.specs.Pieces.{separated}
 use Rattle.bridge.specs.Printing.{is_visible_step, left_out_from, print_of, unspelled, visible}
 use Rattle.bridge.specs.ReadSteps.{MayCut}
 use Rattle.bridge.specs.Reading.{IsReading, PlacedToken, TextStep, bad, placed_from, range_of, step, written_at}
 use Rattle.bridge.specs.Spelling.{begins_with_name, is_spelled, leaf_spelling, quote_spelling, spelling}
-use Rattle.bridge.specs.Text.{is_char, is_joint, is_punct, is_visible}
+use Rattle.tt.specs.Glued.{is_joint}
+use Rattle.bridge.specs.Text.{is_char, is_punct, is_visible}
 use Rattle.bridge.specs.TokenSteps.{doc_text, escaped, literal_form, literal_sort, mark_leaf, name_in, name_leaf, sort_of, spacing_before, steps_of, steps_of_sort, text_steps}
 use Rattle.bridge.proofs.CutLemmas.{boundary_in, may_cut}
 use Rattle.bridge.proofs.DocLemmas.{doc_spelled}

@@ -8,7 +8,8 @@ use Rattle.tt_data.specs.declared.leaf.Leaf.TheVariants as as_leaf
 use Rattle.tt_data.specs.declared.span.Span.{Span}
 use Rattle.bridge.specs.Printing.{is_quote}
 use Rattle.bridge.specs.Spelling.{begins_with_name, leaf_spelling, quote_spelling, spelling}
-use Rattle.bridge.specs.Text.{is_char, is_joint, is_visible}
+use Rattle.tt.specs.Glued.{is_joint}
+use Rattle.bridge.specs.Text.{is_char, is_visible}
 
 next_name : (t : Step) (more : List Step) → begins_with_name (t ∷ more) ≡ begins_with_name (t ∷ [])
 next_name (at_leaf (as_leaf.Ident i)) more = refl

@@ -5,7 +5,8 @@ use Rattle.tt_data.specs.declared.delimiter.DelimiterKind.{DelimiterKind}
 use Rattle.tt_data.specs.declared.delimiter.DelimiterKind.TheVariants.{Brace}
 use Rattle.tt_data.specs.declared.leaf.Leaf.{Leaf}
 use Rattle.tt_data.specs.declared.leaf.Leaf.TheVariants as as_leaf
-use Rattle.bridge.specs.Text.{char, is_alone}
+use Rattle.tt.specs.Glued.{is_alone}
+use Rattle.bridge.specs.Text.{char}
 use Rattle.bridge.specs.declared.edge.Edge.{Edge}
 use Rattle.bridge.specs.declared.edge.Gap.{Gap}
 use Rattle.bridge.specs.declared.edge.Gap.TheVariants.{Nothing, Space, Line}

@@ -3,7 +3,7 @@ use Rattle.std.specs.Prelude.{Bool, true, false, List, [], ◌∷◌}
 use Rattle.tt_data.specs.Forest.{Forest, empty, leaf, group}
 use Rattle.tt_data.specs.declared.tree.TokenTree.{TokenTree}
 use Rattle.tt_data.specs.declared.tree.TokenTree.TheVariants as token
-use Rattle.bridge.specs.Pieces.{alone}
+use Rattle.tt.specs.Building.{alone}
 
 -- a token alone, where it is a punct
 abbrev pub alone_token : TokenTree → TokenTree

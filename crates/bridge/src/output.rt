@@ -7,7 +7,8 @@ ghost use Rattle.bridge.specs.Printers.{Continues, PrinterState, Prints, nothing
 ghost use Rattle.bridge.specs.Printing.{Print, depth_after, is_quote, step_span, visible};
 ghost use Rattle.bridge.specs.PrintSteps.{is_name_leaf};
 ghost use Rattle.bridge.specs.Spelling.{begins_with_name, close_text, open_text, spelling};
-ghost use Rattle.bridge.specs.Text.{is_char, is_joint};
+ghost use Rattle.tt.specs.Glued.{is_joint};
+ghost use Rattle.bridge.specs.Text.{is_char};
 ghost use Rattle.bridge.specs.WalkSteps.{step_of};
 ghost use Rattle.tt_data.specs.Walk.{Step, at_leaf, opens, closes};
 ghost use Rattle.tt_data.specs.declared.leaf.Leaf.TheVariants as as_leaf;

@@ -2,6 +2,7 @@
 use Rattle.std.proofs.Common.{◌≡◌, ◌+◌, ◌≤◌, suc, List, [], ◌∷◌, ◌++◌, length, refl, sym, ap, ◌∙◌, append_assoc, arith, true, false, Bool}
 use Rattle.std.specs.Prelude.{set, if◌then◌else◌, Some, None}
 use Rattle.std.proofs.Math.Seq.{set-append_seam}
+use Rattle.tt_data.proofs.ForestLemmas.{joined_assoc, size-joined}
 use Rattle.tt.specs.Tops.{Top, tokens_of}
 use Rattle.tt_data.specs.Flat.{forest_of-preorder, joined-empty, length-preorder, preorder-joined}
 use Rattle.tt_data.specs.Forest.{Forest, empty, leaf, group, joined, size, preorder, forest_of, head_of}
@@ -11,9 +12,8 @@ use Rattle.tt_data.specs.declared.tree.TokenTree.TheVariants as token
 use Rattle.expander.specs.Cutting.{end_alone, put_all}
 use Rattle.expander.specs.Pieces.{separated}
 use Rattle.bridge.specs.Text.{is_punct}
-use Rattle.bridge.specs.Pieces.{alone}
+use Rattle.tt.specs.Building.{alone}
 use Rattle.expander.specs.declared.pieces.Put.{Put}
-use Rattle.expander.proofs.CuttingLemmas.{joined-assoc, size-joined}
 
 pub put_all-snoc : (ps : List Put) (p : Put) (tokens : List TokenTree)
     → put_all (ps ++ p ∷ []) tokens ≡ put_all ps (set tokens p.at (token.Leaf p.leaf))
@@ -50,7 +50,7 @@ apart_more : (whole rest tree told : Forest) (puts now : List Put) → separated
     → IsApart whole rest now
 apart_more whole rest tree told puts now same a sets = record {
   passed = joined a.passed tree;
-  splits = a.splits ∙ sym (joined-assoc a.passed tree rest);
+  splits = a.splits ∙ sym (joined_assoc a.passed tree rest);
   sets = λ head more.
       ap (λ ts. put_all now (head ∷ ts)) (walked a.passed tree more)
       ∙ sets head more

@@ -5,7 +5,7 @@ use Rattle.tt_data.specs.Forest.{Forest, empty, leaf, group, size}
 use Rattle.tt_data.specs.declared.delimiter.DelimiterKind.TheVariants.{Bracket}
 use Rattle.tt_data.specs.declared.leaf.Leaf.TheVariants as as_leaf
 use Rattle.expander.specs.Definitions.{after_attribute, after_attributes}
-use Rattle.expander.specs.Readings.{◌>>◌}
+use Rattle.small_grammar.specs.Text.{◌>>◌}
 use Rattle.bridge.specs.Text.{is_char, same_kind}
 
 some_is : (b c : Bool) (rest f g : Forest) → (b >> (c >> Some rest)) ≡ Some g → (if b && c then after_attributes rest else f) ≡ after_attributes g

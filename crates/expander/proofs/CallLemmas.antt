@@ -1,6 +1,7 @@
 -- A call that a list begins with, or none, and how its marks begin.
 use Rattle.std.proofs.Common.{◌≡◌, refl, ap, subst, ◌∙◌, Bool, true, false, if◌then◌else◌}
 use Rattle.std.specs.Prelude.{Option, Some, None, ◌&&◌}
+use Rattle.std.proofs.lemmas.Bool.{and_from}
 use Rattle.tt_data.specs.Forest.{Forest, empty, leaf, group}
 use Rattle.tt_data.specs.declared.delimiter.Delimiter.{Delimiter}
 use Rattle.tt_data.specs.declared.leaf.Ident.{Ident}
@@ -10,7 +11,7 @@ use Rattle.tt_data.specs.declared.leaf.Punct.{Punct}
 use Rattle.expander.specs.declared.calls.Call.{Call}
 use Rattle.expander.specs.CallSteps.{bare_call, call_behind_colons, crate_call}
 use Rattle.expander.specs.Calls.{bare, from_crate, other, Marked, token, inside, call, is_colons, is_dollar_crate, is_bang_group, mark_leaf, marked}
-use Rattle.expander.specs.Readings.{◌>>◌}
+use Rattle.small_grammar.specs.Text.{◌>>◌}
 use Rattle.bridge.specs.Text.{is_char, is_visible}
 
 -- ---- a test that was passed on the way to an answer
@@ -33,11 +34,6 @@ pub record IsBare (f : Forest) (c : Call) : Type 0 where
   pub group_is : c.from_group ≡ group brackets c.argument c.rest
   pub test : is_bang_group bang brackets ≡ true
 
-both_true : (a b : Bool) → a ≡ true → b ≡ true → (a && b) ≡ true
-both_true true true e d = refl
-both_true true false e d = cc
-both_true false b e d = cc
-
 pub is_bare : (f : Forest) (c : Call) → bare_call f ≡ Some c → IsBare f c
 is_bare (leaf (as_leaf.Ident i) (leaf (as_leaf.Punct p) (group d a r))) c e =
     let bang = passed (is_char "!" p) (is_visible d.kind >> Some (record { name = i; from_group = group d a r; argument = a; rest = r })) c e in
@@ -48,7 +44,7 @@ is_bare (leaf (as_leaf.Ident i) (leaf (as_leaf.Punct p) (group d a r))) c e =
       brackets = d;
       is = ap (λ (x : Call). leaf (as_leaf.Ident x.name) (leaf (as_leaf.Punct p) (group d x.argument x.rest))) same;
       group_is = subst (λ (x : Call). x.from_group ≡ group d x.argument x.rest) same refl;
-      test = both_true _ _ bang.0 seen.0;
+      test = and_from _ _ bang.0 seen.0;
     }
 is_bare (leaf (as_leaf.Ident i) (leaf (as_leaf.Punct p) (leaf l r))) c e = absurd_none (is_char "!" p) c e
 is_bare (leaf (as_leaf.Ident i) (leaf (as_leaf.Punct p) empty)) c e = absurd_none (is_char "!" p) c e

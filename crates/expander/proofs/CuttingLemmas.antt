@@ -1,7 +1,7 @@
 -- Cutting a piece off, tree by tree.
 use Rattle.std.proofs.Common.{◌≡◌, ◌≢◌, ◌+◌, ◌<◌, ◌≤◌, List, [], ◌∷◌, refl, sym, ap, ◌∙◌, arith, Bool, true, false, if◌then◌else◌}
 use Rattle.tt_data.specs.Forest.{Forest, empty, leaf, group, joined, size, front}
-use Rattle.tt_data.specs.Flat.{front-joined}
+use Rattle.tt_data.specs.Flat.{front-joined, joined-empty}
 use Rattle.tt_data.specs.declared.delimiter.Delimiter.{Delimiter}
 use Rattle.tt_data.specs.declared.leaf.Leaf.{Leaf}
 use Rattle.expander.specs.Pieces.{cut, cut_from, ends_piece, put_together}
@@ -9,22 +9,8 @@ use Rattle.expander.specs.Cutting.{PassesTree}
 use Rattle.bridge.specs.Text.{is_punct}
 use Rattle.std.specs.Prelude.{All, Some, None}
 use Rattle.std.proofs.lemmas.List.Elements.{All-nil, All-cons}
-
-pub joined-assoc : (f g h : Forest) → joined (joined f g) h ≡ joined f (joined g h)
-joined-assoc empty g h = refl
-joined-assoc (leaf l rest) g h = ap (leaf l) (joined-assoc rest g h)
-joined-assoc (group d inner rest) g h = ap (group d inner) (joined-assoc rest g h)
-
-pub size-joined : (f g : Forest) → size (joined f g) ≡ size f + size g
-size-joined empty g = omega arith
-size-joined (leaf l rest) g = omega (arith, size-joined rest g)
-size-joined (group d inner rest) g = omega (arith, size-joined rest g)
-
--- what stands before the same trees is the same
-pub joined-cancel : (f g rest : Forest) → joined f rest ≡ joined g rest → f ≡ g
-joined-cancel f g rest e =
-    let counted : size f ≡ size g = omega (arith, ap size e, size-joined f rest, size-joined g rest) in
-    sym (front-joined f rest) ∙ ap (front (size f)) e ∙ ap (λ n. front n (joined g rest)) counted ∙ front-joined g rest
+use Rattle.tt.proofs.Steps.{joined-left}
+use Rattle.tt_data.proofs.ForestLemmas.{joined_assoc, size-joined}
 
 -- a piece that is begun: its trees so far and those to come are all that was left, and the pieces are the same
 pub record IsBegun (old rest begun : Forest) : Type 0 where
@@ -45,7 +31,7 @@ not_cut false xs ys e = refl
 pub leaf_more : (old rest begun : Forest) (l : Leaf) → IsBegun old (leaf l rest) begun → is_punct ";" l ≡ false
     → IsBegun old rest (joined begun (leaf l empty))
 leaf_more old rest begun l b test = record {
-  split = b.split ∙ sym (joined-assoc begun (leaf l empty) rest);
+  split = b.split ∙ sym (joined_assoc begun (leaf l empty) rest);
   same = sym (not_cut (is_punct ";" l) _ _ test) ∙ b.same;
 }
 
@@ -56,7 +42,7 @@ leaf_ends old rest begun l b test = sym b.same ∙ cut_leaf (is_punct ";" l) _ _
 pub group_more : (old inner rest begun : Forest) (d : Delimiter) → IsBegun old (group d inner rest) begun → ends_piece begun d ≡ false
     → IsBegun old rest (joined begun (group d inner empty))
 group_more old inner rest begun d b test = record {
-  split = b.split ∙ sym (joined-assoc begun (group d inner empty) rest);
+  split = b.split ∙ sym (joined_assoc begun (group d inner empty) rest);
   same = sym (not_cut (ends_piece begun d) _ _ test) ∙ b.same;
 }
 
@@ -90,7 +76,7 @@ passes_group begun old new inner d b e test =
 -- the trees that the code passed are those of the piece begun
 pub is_passed : (start old rest begun passed : Forest) → start ≡ old → IsBegun old rest begun → start ≡ joined passed rest → IsBegun old rest passed
 is_passed start old rest begun passed same b e =
-    let is : passed ≡ begun = joined-cancel passed begun rest (sym e ∙ same ∙ b.split) in
+    let is : passed ≡ begun = joined-left passed begun rest (sym e ∙ same ∙ b.split) in
     rw is b
 
 pub ends_text : (old rest new begun : Forest) → old ≢ empty → IsBegun old rest begun → PassesTree begun rest new None
@@ -106,12 +92,12 @@ ends_text old rest new begun some b e =
     grown (group d f g) h = omega arith
 
 split_more : (old rest new begun tree : Forest) → old ≡ joined begun rest → rest ≡ joined tree new → old ≡ joined (joined begun tree) new
-split_more old rest new begun tree e h = e ∙ ap (joined begun) h ∙ sym (joined-assoc begun tree new)
+split_more old rest new begun tree e h = e ∙ ap (joined begun) h ∙ sym (joined_assoc begun tree new)
 
 pub ends_here : (old rest new begun piece : Forest) → IsBegun old rest begun → PassesTree begun rest new (Some true) → old ≡ joined piece new
     → (cut old ≡ piece ∷ cut new) × (size new < size old)
 ends_here old rest new begun piece b (tree, p) e =
-    let is : piece ≡ joined begun tree = joined-cancel piece (joined begun tree) new (sym e ∙ split_more old rest new begun tree b.split p.0) in
+    let is : piece ≡ joined begun tree = joined-left piece (joined begun tree) new (sym e ∙ split_more old rest new begun tree b.split p.0) in
     (sym b.same ∙ p.1 ∙ ap (λ f. f ∷ cut new) (sym is), omega (arith, p.2, left_size old rest begun b.split))
 
 pub passed_whole : (old rest new begun : Forest) → IsBegun old rest begun → PassesTree begun rest new (Some true) → (f : Forest) × (old ≡ joined f new)
@@ -123,11 +109,6 @@ goes_on old rest new begun b (tree, p) =
 
 -- ---- all pieces together
 
-joined-nothing : (f : Forest) → joined f empty ≡ f
-joined-nothing empty = refl
-joined-nothing (leaf l rest) = ap (leaf l) (joined-nothing rest)
-joined-nothing (group d inner rest) = ap (group d inner) (joined-nothing rest)
-
 put_or : (b : Bool) (xs ys : List Forest) (f : Forest) → put_together xs ≡ f → put_together ys ≡ f → put_together (if b then xs else ys) ≡ f
 put_or true xs ys f e h = e
 put_or false xs ys f e h = h
@@ -138,12 +119,12 @@ put_together-cut_from empty (leaf l begun) = refl
 put_together-cut_from empty (group d inner begun) = refl
 put_together-cut_from (leaf l rest) begun =
     put_or (is_punct ";" l) _ _ (joined begun (leaf l rest))
-    (ap (joined (joined begun (leaf l empty))) (put_together-cut_from rest empty) ∙ joined-assoc begun (leaf l empty) rest)
-    (put_together-cut_from rest (joined begun (leaf l empty)) ∙ joined-assoc begun (leaf l empty) rest)
+    (ap (joined (joined begun (leaf l empty))) (put_together-cut_from rest empty) ∙ joined_assoc begun (leaf l empty) rest)
+    (put_together-cut_from rest (joined begun (leaf l empty)) ∙ joined_assoc begun (leaf l empty) rest)
 put_together-cut_from (group d inner rest) begun =
     put_or (ends_piece begun d) _ _ (joined begun (group d inner rest))
-    (ap (joined (joined begun (group d inner empty))) (put_together-cut_from rest empty) ∙ joined-assoc begun (group d inner empty) rest)
-    (put_together-cut_from rest (joined begun (group d inner empty)) ∙ joined-assoc begun (group d inner empty) rest)
+    (ap (joined (joined begun (group d inner empty))) (put_together-cut_from rest empty) ∙ joined_assoc begun (group d inner empty) rest)
+    (put_together-cut_from rest (joined begun (group d inner empty)) ∙ joined_assoc begun (group d inner empty) rest)
 
 -- the pieces one after another are the list
 pub put_together-cut : (f : Forest) → put_together (cut f) ≡ f
@@ -162,14 +143,14 @@ IsCutAlone p = cut p ≡ p ∷ []
 open_more : (begun one : Forest) (before : Forest → Forest) → IsOpen begun → ((more : Forest) → joined one more ≡ before more)
     → ((more : Forest) → cut_from (before more) begun ≡ cut_from more (joined begun one)) → IsOpen (joined begun one)
 open_more begun one before is_open first goes_on =
-    λ more. ap cut (joined-assoc begun one more ∙ ap (joined begun) (first more)) ∙ is_open (before more) ∙ goes_on more
+    λ more. ap cut (joined_assoc begun one more ∙ ap (joined begun) (first more)) ∙ is_open (before more) ∙ goes_on more
 
 -- or ends one
 ended_alone : (begun one : Forest) → IsOpen begun → cut_from one begun ≡ joined begun one ∷ [] → IsCutAlone (joined begun one)
 ended_alone begun one is_open ends = is_open one ∙ ends
 
 left_alone : (begun : Forest) → IsOpen begun → cut_from empty begun ≡ begun ∷ [] → IsCutAlone begun
-left_alone begun is_open ends = ap cut (sym (joined-nothing begun)) ∙ is_open empty ∙ ends
+left_alone begun is_open ends = ap cut (sym (joined-empty begun)) ∙ is_open empty ∙ ends
 
 all_or : (b : Bool) (x : Forest) (xs ys : List Forest) → (b ≡ true → IsCutAlone x) → All IsCutAlone xs → (b ≡ false → All IsCutAlone ys)
     → All IsCutAlone (if b then x ∷ xs else ys)

@@ -13,8 +13,7 @@ use Rattle.tt_data.specs.declared.span.Span.{Span}
 use Rattle.bridge.specs.Text.{same_kind, is_char}
 use Rattle.expander.specs.Definitions.{Definition, after_attributes, after_macro_rules, after_parenthesis, after_pub, after_word, is_semicolon, ends_definition, macro_rules_of, macro_body, macro_of, or_else, definition_of}
 use Rattle.expander.specs.OtherPlaces.{definition_with}
-use Rattle.expander.specs.Readings.{◌>>=◌, ◌>>◌, is_empty}
-use Rattle.expander.specs.Text.{has_text}
+use Rattle.small_grammar.specs.Text.{has_text, ◌>>=◌, ◌>>◌, is_empty}
 
 -- one change after another
 pub definition_with-with : (f g : Span → Span) (d : Definition) → definition_with f (definition_with g d) ≡ definition_with (λ s. f (g s)) d

@@ -7,7 +7,7 @@ use Rattle.tt_data.specs.declared.leaf.Ident.{Ident}
 use Rattle.tt_data.specs.declared.span.Span.{Span}
 use Rattle.expander.specs.Calls.{Path, bare, from_crate, other, Marked, none, token, inside, call, marked, unmarked}
 use Rattle.expander.specs.Expansion.{World, Outcome, Deeper, CallSite, just, followed_by, grouped, fitted, at_level, unbroken, looked_up, at_call, before_group, whole_call, search_calls, expansion}
-use Rattle.expander.specs.Text.{same_text}
+use Rattle.small_grammar.specs.Text.{same_text}
 use Rattle.expander.specs.Agreement.{FoundIn, scope_of}
 use Rattle.expander.proofs.AgreementLemmas.{same_expansion}
 

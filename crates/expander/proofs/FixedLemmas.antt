@@ -4,6 +4,7 @@ use Rattle.std.specs.Prelude.{Option, Some, None, Result, Ok, Err, not, ◌&&◌
 use Rattle.std.specs.List.{list_all}
 use Rattle.std.specs.Str.{bytes_eq}
 use Rattle.std.proofs.lemmas.Slice.Eq.{bytes_eq-Decides}
+use Rattle.std.proofs.lemmas.Bool.{and_from, and_parts}
 use Rattle.tt_data.specs.Forest.{Forest, empty, leaf, group}
 use Rattle.tt_data.specs.Walk.{Step, at_leaf, opens, closes, walk}
 use Rattle.tt_data.specs.declared.edition.Edition.{Edition}
@@ -34,7 +35,7 @@ use Rattle.expander.specs.Meaning.{Layers, ReadMeaning, faults_of, meaning_from,
 use Rattle.expander.specs.OutputSteps.{tokens_in}
 use Rattle.expander.specs.Pieces.{pieces, separated}
 use Rattle.expander.specs.Printing.{PrintedToken, bare, left_out, spelling_before, steps_of, text_of, unspelled, visible}
-use Rattle.bridge.specs.Pieces.{alone}
+use Rattle.tt.specs.Building.{alone}
 use Rattle.expander.proofs.ForestLemmas.{AreWalked, steps_of-placed, walked_members}
 use Rattle.expander.proofs.PrintingLemmas.{text_is, tokens_bare, visible_bare}
 use Rattle.expander.proofs.QuietLemmas.{quiet_text}
@@ -43,14 +44,6 @@ use Rattle.expander.proofs.WordLemmas.{quiet_plain}
 
 abbrev is_quiet : Step → Bool
 is_quiet s = not (is_definition_word s)
-
-both : (a b : Bool) → (a && b) ≡ true → (a ≡ true) × (b ≡ true)
-both true b e = (refl, e)
-both false b e = cc
-
-and_true : (a b : Bool) → a ≡ true → b ≡ true → (a && b) ≡ true
-and_true true b e h = h
-and_true false b e h = cc
 
 -- ---- no fault at all
 
@@ -83,7 +76,7 @@ quiet_tokens (t ∷ more) e = go (quiet_tokens more) (is_definition_word t.token
         → map (λ (u : PrintedToken). fault_at NestedDefinition (place u.token)) (if b then t ∷ filter (λ (u : PrintedToken). is_definition_word u.token.step) more else filter (λ (u : PrintedToken). is_definition_word u.token.step) more) ≡ []
         → are_quiet (map bare (t ∷ more)) ≡ true
     go later true is none = cc
-    go later false is none = and_true (is_quiet t.token.step) _ (ap not is) (later none)
+    go later false is none = and_from (is_quiet t.token.step) _ (ap not is) (later none)
 
 -- ---- nor among those that are read of them
 
@@ -101,7 +94,7 @@ quiet_crate i is_raw.Yes = refl
 same_word : (i j : Ident) → (same_rawness i.is_raw j.is_raw && bytes_eq i.sym j.sym) ≡ true
     → is_definition_word (at_leaf (as_leaf.Ident j)) ≡ is_definition_word (at_leaf (as_leaf.Ident i))
 same_word i j e =
-    let parts = both (same_rawness i.is_raw j.is_raw) (bytes_eq i.sym j.sym) e in
+    let parts = and_parts (same_rawness i.is_raw j.is_raw) (bytes_eq i.sym j.sym) e in
     let raw : i.is_raw ≡ j.is_raw = same_raw i.is_raw j.is_raw parts.0 in
     let text : i.sym ≡ j.sym = (bytes_eq-Decides i.sym j.sym).0 parts.1 in
     sym (ap (λ (r : IdentIsRaw). is_definition_word (at_leaf (as_leaf.Ident (record i { is_raw = r })))) raw
@@ -134,8 +127,8 @@ quiet_read depth [] [] r e = refl
 quiet_read depth [] (s ∷ steps) r e = absurd r
 quiet_read depth (a ∷ tokens) [] r e = absurd r
 quiet_read depth (a ∷ tokens) (s ∷ steps) r e =
-    let parts = both (is_quiet a.step) (are_quiet tokens) e in
-    and_true (is_quiet s) (list_all is_quiet steps) (quiet_step _ a.step s r.0 parts.0) (quiet_read (depth_after depth a.step) tokens steps r.1 parts.1)
+    let parts = and_parts (is_quiet a.step) (are_quiet tokens) e in
+    and_from (is_quiet s) (list_all is_quiet steps) (quiet_step _ a.step s r.0 parts.0) (quiet_read (depth_after depth a.step) tokens steps r.1 parts.1)
 
 -- ---- a `;` alone is said twice
 

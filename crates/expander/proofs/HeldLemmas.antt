@@ -12,7 +12,7 @@ use Rattle.expander.specs.Held.{Numbered, Met, anchored, anchored_definition, mo
 use Rattle.expander.specs.Meaning.{Layers, Member, plain, defining, member, with_definition, members_after}
 use Rattle.expander.specs.OtherPlaces.{LooksAtNoPlace, definition_with}
 use Rattle.expander.specs.Pieces.{first_start, relative}
-use Rattle.expander.specs.Text.{same_text}
+use Rattle.small_grammar.specs.Text.{same_text}
 use Rattle.expander.proofs.ChangeLemmas.{expansion-with}
 use Rattle.expander.proofs.DefinitionPlaceLemmas.{definition_with-with, definition_of-with}
 use Rattle.expander.proofs.PlaceLemmas.{piece_and_back, resolved_piece}

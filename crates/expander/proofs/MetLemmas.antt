@@ -4,7 +4,7 @@ use Rattle.std.proofs.Math.Path.{fun_ext}
 use Rattle.std.proofs.lemmas.List.Elements.{All-head, All-tail}
 use Rattle.std.specs.Prelude.{All, IfSome, OnErr, OnOk, Result, Ok, Err, Option, Some, None, option_map, option_and_then, slice_get}
 use Rattle.expander.specs.Held.{Met, Numbered, numbered_of, numbered_scope, nearest_met, start_of}
-use Rattle.expander.specs.Text.{same_text}
+use Rattle.small_grammar.specs.Text.{same_text}
 
 get_at : {X : Type 0} (xs : List X) (x : X) → slice_get (xs ++ x ∷ []) (length xs) ≡ Some x
 get_at [] x = refl

@@ -21,7 +21,7 @@ use Rattle.expander.specs.declared.numbered.Known.{Known}
 use Rattle.expander.specs.declared.numbering.Numbering as code
 use Rattle.expander.proofs.NumberingLemmas.{needed_more, new_number, old_number, same_number}
 
-own_is : (t : Top) → t.delimiter ≡ text_top → own_top t.inner ≡ t
+pub own_is : (t : Top) → t.delimiter ≡ text_top → own_top t.inner ≡ t
 own_is t is = λ i. record { delimiter = sym is i; inner = t.inner }
 
 pub has_number : (table : ByTree) (t : Top) (k : Known) → t.delimiter ≡ text_top → known_in table t ≡ Some k → numbers_in table t.inner ≡ Some k.number

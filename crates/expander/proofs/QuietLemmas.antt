@@ -2,6 +2,7 @@
 use Rattle.std.proofs.Common.{◌≡◌, ℕ, List, [], ◌∷◌, ◌++◌, refl, ap, ◌∙◌, Bool, true, false, if◌then◌else◌}
 use Rattle.std.specs.Prelude.{Option, Some, None, not, ◌&&◌, filter, map}
 use Rattle.std.specs.List.{list_all}
+use Rattle.std.proofs.lemmas.Bool.{and_from, and_parts}
 use Rattle.tt_data.specs.Forest.{Forest}
 use Rattle.tt_data.specs.Walk.{Step, walk}
 use Rattle.bridge.specs.Printing.{is_visible_step}
@@ -19,14 +20,6 @@ use Rattle.expander.proofs.WordLemmas.{quiet_plain, quiet_separated}
 abbrev is_quiet : Step → Bool
 is_quiet s = not (is_definition_word s)
 
-both : (a b : Bool) → (a && b) ≡ true → (a ≡ true) × (b ≡ true)
-both true b e = (refl, e)
-both false b e = cc
-
-and_true : (a b : Bool) → a ≡ true → b ≡ true → (a && b) ≡ true
-and_true true b e h = h
-and_true false b e h = cc
-
 -- ---- what is printed of quiet steps
 
 are_quiet : List PlacedStep → Bool
@@ -35,17 +28,17 @@ are_quiet ss = list_all (λ (s : PlacedStep). is_quiet s.step) ss
 quiet_placed : (ws : List Step) → list_all is_quiet ws ≡ true → are_quiet (placed None ws) ≡ true
 unfolding are_quiet
 quiet_placed [] h = refl
-quiet_placed (w ∷ ws) h = let parts = both (is_quiet w) _ h in and_true (is_quiet w) _ parts.0 (quiet_placed ws parts.1)
+quiet_placed (w ∷ ws) h = let parts = and_parts (is_quiet w) _ h in and_from (is_quiet w) _ parts.0 (quiet_placed ws parts.1)
 
 quiet_if : (b : Bool) (s : PlacedStep) (ss : List PlacedStep) → is_quiet s.step ≡ true → are_quiet ss ≡ true → are_quiet (if b then s ∷ ss else ss) ≡ true
 unfolding are_quiet
-quiet_if true s ss e h = and_true (is_quiet s.step) _ e h
+quiet_if true s ss e h = and_from (is_quiet s.step) _ e h
 quiet_if false s ss e h = h
 
 quiet_visible : (ss : List PlacedStep) → are_quiet ss ≡ true → are_quiet (visible ss) ≡ true
 unfolding are_quiet
 quiet_visible [] h = refl
-quiet_visible (s ∷ ss) h = let parts = both (is_quiet s.step) _ h in quiet_if (is_visible_step s.step) s (visible ss) parts.0 (quiet_visible ss parts.1)
+quiet_visible (s ∷ ss) h = let parts = and_parts (is_quiet s.step) _ h in quiet_if (is_visible_step s.step) s (visible ss) parts.0 (quiet_visible ss parts.1)
 
 no_word : (a : Bool) → not a ≡ true → a ≡ false
 no_word true e = cc
@@ -64,7 +57,7 @@ module _ (spelling : Step → List PlacedStep → Option (List ℕ)) where
   unfolding are_quiet
   quiet_printed [] h = refl
   quiet_printed (s ∷ ss) h =
-      let parts = both (is_quiet s.step) _ h in
+      let parts = and_parts (is_quiet s.step) _ h in
       quiet_spelled s (spelling s.step ss) (printed spelling ss) (no_word (is_definition_word s.step) parts.0) (quiet_printed ss parts.1)
 
 module _ (layers : Layers) (depth : ℕ) (f : Forest) where

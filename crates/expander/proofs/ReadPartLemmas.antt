@@ -5,6 +5,7 @@ use Rattle.std.specs.Rc.{rc_value}
 use Rattle.std.proofs.lemmas.List.Elements.{All-append, All-cons, All-nil}
 use Rattle.std.proofs.lemmas.List.Sums.{sum_by-cons}
 use Rattle.std.proofs.lemmas.List.{drop-append-le, drop-drop, length-append, length-drop, length-take-le, map-append, take-append-drop, take-append-le, take_all}
+use Rattle.tt_data.proofs.ForestLemmas.{joined_assoc}
 use Rattle.rustc_lexer.specs.Lexing.{tokens_of}
 use Rattle.rustc_lexer.specs.Standing.{AreTokensFrom}
 use Rattle.rustc_lexer.specs.declared.token.Token.{Token}
@@ -15,7 +16,7 @@ use Rattle.tt_data.specs.Walk.{walk}
 use Rattle.tt_data.specs.declared.leaf.Leaf.{Leaf}
 use Rattle.tt_data.specs.declared.leaf.Leaf.TheVariants as as_leaf
 use Rattle.tt_data.specs.declared.span.Span.{Span}
-use Rattle.bridge.specs.Pieces.{alone}
+use Rattle.tt.specs.Building.{alone}
 use Rattle.bridge.specs.ReadText.{text_top}
 use Rattle.bridge.specs.Reading.{IsReading, PlacedToken, TextStep, placed_from, reading, step, with_front}
 use Rattle.bridge.specs.Text.{is_punct}
@@ -31,7 +32,6 @@ use Rattle.expander.specs.declared.own_pieces.OwnPiece.{OwnPiece}
 use Rattle.expander.specs.declared.sources.Source.{Source}
 use Rattle.expander.specs.declared.sources.Sources.{Sources}
 use Rattle.expander.proofs.ApartLemmas.{separated-joined}
-use Rattle.expander.proofs.CuttingLemmas.{joined-assoc}
 
 -- ---- trees elsewhere
 
@@ -78,7 +78,7 @@ with_front-empty (Ok f) = refl
 with_front-empty (Err e) = refl
 
 with_front-joined : (f g : Forest) (r : Result Forest ReadFault) → with_front f (with_front g r) ≡ with_front (joined f g) r
-with_front-joined f g (Ok h) = ap Ok (sym (joined-assoc f g h))
+with_front-joined f g (Ok h) = ap Ok (sym (joined_assoc f g h))
 with_front-joined f g (Err e) = refl
 
 placed_append : (at : ℕ) (bytes rest : List ℕ) (tokens left : List Token) → bytes_of tokens ≡ length bytes
@@ -213,7 +213,7 @@ source_passed laws text utf8 s at left own now o is stands start tree grown p =
           ∙ with_front-joined p.front f (reading (steps_of later))
           ∙ ap (λ (bs : List ℕ). with_front (joined p.front f) (reading (steps_of (placed_from (at + n) bs (drop k left))))) (drop-drop n at text);
       cuts = λ g.
-          ap pieces (joined-assoc p.front f g)
+          ap pieces (joined_assoc p.front f g)
           ∙ p.cuts (joined f g)
           ∙ ap (λ (ps : List Forest). p.ps ++ ps) (pieces_behind (placed_on at) is.forest g is.whole)
           ∙ sym (append_assoc p.ps (map_spans (placed_on at) (separated is.forest) ∷ []) (pieces g));

@@ -2,6 +2,7 @@
 use Rattle.std.proofs.Common.{◌≡◌, ℕ, Bool, true, false, List, [], ◌∷◌, ◌++◌, map, refl, ap, sym, subst, ◌∙◌, if◌then◌else◌}
 use Rattle.std.specs.Prelude.{All, IsUtf8, Ok}
 use Rattle.std.proofs.lemmas.List.Elements.{All-cons, All-head, All-nil, All-tail}
+use Rattle.tt_data.proofs.ForestLemmas.{joined_assoc}
 use Rattle.tt_data.specs.Forest.{Forest, empty, leaf, group, head_of, joined, preorder, size}
 use Rattle.tt_data.specs.Spans.{span_of}
 use Rattle.tt_data.specs.Walk.{Step, closes, walk}
@@ -19,7 +20,7 @@ use Rattle.bridge.specs.TokenSteps.{text_reading, text_steps}
 use Rattle.expander.specs.Held.{AllSpans, IsFrom, StandFromFirst}
 use Rattle.expander.specs.Pieces.{cut, first_start, pieces, put_together, separated}
 use Rattle.bridge.specs.Pieces.{alone}
-use Rattle.expander.proofs.CuttingLemmas.{joined-assoc, put_together-cut}
+use Rattle.expander.proofs.CuttingLemmas.{put_together-cut}
 
 -- ---- a `;` that stands alone stands where it was
 
@@ -156,7 +157,7 @@ module _ (laws : OrderLaws) where
       All-cons StandFromFirst p ps
       (stands p (laws.part before p (put_together ps) follows) (joined_first IsWritten p (put_together ps) are_written))
       (all_stand (joined before p) ps
-      (subst (λ (f : Forest). FollowOneAnother (walk f)) (sym (joined-assoc before p (put_together ps))) follows)
+      (subst (λ (f : Forest). FollowOneAnother (walk f)) (sym (joined_assoc before p (put_together ps))) follows)
       (joined_last IsWritten p (put_together ps) are_written))
 
   -- the pieces of a text that was read

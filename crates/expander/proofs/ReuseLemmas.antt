@@ -5,6 +5,7 @@ use Rattle.std.specs.List.{list_any}
 use Rattle.std.proofs.lemmas.Bool.Decides.{Decides-eqb}
 use Rattle.std.proofs.lemmas.List.Elements.{All-cons, All-head, All-nil, All-tail}
 use Rattle.std.proofs.lemmas.Slice.Eq.{bytes_eq-Decides}
+use Rattle.std.proofs.lemmas.Bool.{and_from, and_parts}
 use Rattle.tt_data.specs.Forest.{Forest}
 use Rattle.expander.specs.Agreement.{FoundIn, scope_of}
 use Rattle.expander.specs.Count.{Looked, finds_within, is_same, same_forest, same_found}
@@ -12,18 +13,11 @@ use Rattle.expander.specs.Expansion.{World, Outcome, expansion}
 use Rattle.expander.specs.Definitions.{Definition}
 use Rattle.expander.specs.Held.{IsMet, IsNumbered, Met, Numbered, Tells, nearest_met, numbered_of, numbered_scope, numbered_world}
 use Rattle.expander.specs.Reuse.{FoundIs, HeldPiece, IsHeld, agrees, looked_at, looked_held, matches, reused_outcome, same_number}
-use Rattle.expander.specs.Text.{same_text}
+use Rattle.small_grammar.specs.Text.{same_text}
 use Rattle.expander.proofs.AgreementLemmas.{same_expansion}
 use Rattle.expander.proofs.DefinitionPlaceLemmas.{definition_piece}
 use Rattle.expander.proofs.FindsLemmas.{expansion_by_finds, expansion_found}
 use Rattle.expander.proofs.HeldLemmas.{found_is, same_definition}
-
-both : (a b : Bool) → (a && b) ≡ true → (a ≡ true) × (b ≡ true)
-both true b e = (refl, e)
-both false b e = cc
-
-and_true : (a b : Bool) → a ≡ true → b ≡ true → (a && b) ≡ true
-and_true a b p q = ap (λ t. t && b) p ∙ q
 
 text_is : (a b : List ℕ) → same_text a b ≡ true → a ≡ b
 text_is a b = (bytes_eq-Decides a b).0
@@ -87,7 +81,7 @@ module _ (equal : (f g : Forest) → (same_forest f g ≡ true) ↔ (f ≡ g)) w
       → All (FoundIs (IsNumbered table)) finds → agrees scope finds ≡ true → FoundIn scope finds
   agreed table tells scope h [] g e = tt
   agreed table tells scope h (x ∷ finds) g e =
-      let parts = both _ _ e in
+      let parts = and_parts _ _ e in
       (found_by_number table tells x.0 (scope x.0) x.1 (h x.0) (All-head (FoundIs (IsNumbered table)) x finds g) parts.0, agreed table tells scope h finds (All-tail (FoundIs (IsNumbered table)) x finds g) parts.1)
 
   -- a match has the outcome that a new expansion would have
@@ -95,7 +89,7 @@ module _ (equal : (f g : Forest) → (same_forest f g ≡ true) ↔ (f ≡ g)) w
       → (tree : Forest) (q : HeldPiece) → IsHeld world depth table q → matches scope tree q ≡ true
       → q.outcome ≡ expansion (numbered_world world) scope depth None tree
   match_is world depth table tells scope h tree q held e =
-      let parts = both _ _ e in
+      let parts = and_parts _ _ e in
       let trees : tree ≡ q.tree = forest_is tree q.tree parts.0 in
       let found : FoundIn scope q.outcome.finds = agreed table tells scope h q.outcome.finds held.finds parts.1 in
       let known : FoundIn scope (expansion (numbered_world world) (scope_of q.outcome.finds) depth None q.tree).finds = subst (λ (o : Outcome Numbered). FoundIn scope o.finds) held.is found in
@@ -144,16 +138,16 @@ module _ (equal : (f g : Forest) → (same_forest f g ≡ true) ↔ (f ≡ g)) w
   within_more : (y : List ℕ × Option Forest) (a b : FoundList) → finds_within a b ≡ true → finds_within a (y ∷ b) ≡ true
   within_more y [] b e = refl
   within_more y (x ∷ a) b e =
-      let parts = both _ _ e in
-      and_true _ _ (or_right (same_text x.0 y.0 && same_found x.1 y.1) _ parts.0) (within_more y a b parts.1)
+      let parts = and_parts _ _ e in
+      and_from _ _ (or_right (same_text x.0 y.0 && same_found x.1 y.1) _ parts.0) (within_more y a b parts.1)
 
   within_same : (a : FoundList) → finds_within a a ≡ true
   within_same [] = refl
   within_same (x ∷ a) =
-      and_true _ _ (or_left (same_text x.0 x.0 && same_found x.1 x.1) _ (and_true _ _ (text_same x.0) (same_found-same x.1))) (within_more x a a (within_same a))
+      and_from _ _ (or_left (same_text x.0 x.0 && same_found x.1 x.1) _ (and_from _ _ (text_same x.0) (same_found-same x.1))) (within_more x a a (within_same a))
 
   pub looked_same : (l : Looked) → is_same l l ≡ true
-  looked_same l = and_true _ _ (forest_same l.tree) (and_true _ _ (within_same l.finds) (within_same l.finds))
+  looked_same l = and_from _ _ (forest_same l.tree) (and_from _ _ (within_same l.finds) (within_same l.finds))
 
   -- equal trees, the same number
   number_by_tree : (table : Forest → ℕ → Type 0) → Tells table → (name : List ℕ) (a b : Option Numbered)
@@ -178,7 +172,7 @@ module _ (equal : (f g : Forest) → (same_forest f g ≡ true) ↔ (f ≡ g)) w
   found_among table tells scope h (y ∷ now) f (name, o) g e =
       or_cases _ _ _ e
       (λ here.
-      let parts = both _ _ here in
+      let parts = and_parts _ _ here in
       let found : scope name ≡ y.1 = ap scope (text_is name y.0 parts.0) ∙ f.0 in
       number_by_tree table tells name o (scope name) g (h name)
       (ap (λ (r : Option Numbered). same_found (option_map (λ (d : Numbered). d.definition.piece) o) (option_map (λ (d : Numbered). d.definition.piece) r)) found ∙ parts.1))
@@ -188,8 +182,8 @@ module _ (equal : (f g : Forest) → (same_forest f g ≡ true) ↔ (f ≡ g)) w
       → (finds : List (List ℕ × Option Numbered)) → All (FoundIs (IsNumbered table)) finds → finds_within (map seen finds) (map seen now) ≡ true → agrees scope finds ≡ true
   agrees_within table tells scope h now f [] g e = refl
   agrees_within table tells scope h now f (x ∷ finds) g e =
-      let parts = both _ _ e in
-      and_true _ _ (found_among table tells scope h now f x (All-head (FoundIs (IsNumbered table)) x finds g) parts.0) (agrees_within table tells scope h now f finds (All-tail (FoundIs (IsNumbered table)) x finds g) parts.1)
+      let parts = and_parts _ _ e in
+      and_from _ _ (found_among table tells scope h now f x (All-head (FoundIs (IsNumbered table)) x finds g) parts.0) (agrees_within table tells scope h now f finds (All-tail (FoundIs (IsNumbered table)) x finds g) parts.1)
 
   bool_eq : (a b : Bool) → (a ≡ true → b ≡ true) → (b ≡ true → a ≡ true) → a ≡ b
   bool_eq true b f g = sym (f refl)
@@ -205,14 +199,14 @@ module _ (equal : (f g : Forest) → (same_forest f g ≡ true) ↔ (f ≡ g)) w
     where
       forth : is_same (looked_at tree (expansion (numbered_world world) scope depth None tree)) (looked_held q) ≡ true → matches scope tree q ≡ true
       forth e =
-          let parts = both _ _ e in
-          let finds = both _ _ parts.1 in
-          and_true _ _ parts.0
+          let parts = and_parts _ _ e in
+          let finds = and_parts _ _ parts.1 in
+          and_from _ _ parts.0
           (agrees_within table tells scope h _ (expansion_found (numbered_world world) scope depth None tree) q.outcome.finds held.finds finds.1)
 
       back : matches scope tree q ≡ true → is_same (looked_at tree (expansion (numbered_world world) scope depth None tree)) (looked_held q) ≡ true
       back e =
-          let parts = both _ _ e in
+          let parts = and_parts _ _ e in
           let trees : tree ≡ q.tree = forest_is tree q.tree parts.0 in
           let outcome = match_is world depth table tells scope h tree q held e in
           let one : looked_at tree (expansion (numbered_world world) scope depth None tree) ≡ looked_held q =

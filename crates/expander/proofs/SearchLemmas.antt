@@ -2,6 +2,7 @@
 use Rattle.std.proofs.Common.{◌≡◌, ℕ, zero, suc, List, [], ◌∷◌, ◌++◌, refl, sym, ap, ◌∙◌, append_assoc, Bool, true, false, inl, inr}
 use Rattle.std.specs.Prelude.{Option, Some, None, is_none, ◌||◌, ◌&&◌, flat_map, map}
 use Rattle.std.proofs.lemmas.List.{map-append}
+use Rattle.std.proofs.lemmas.Bool.{and_parts}
 use Rattle.tt_data.specs.Forest.{Forest, leaf, group, joined}
 use Rattle.tt_data.specs.Walk.{Step, at_leaf, opens, closes, walk}
 use Rattle.tt_data.proofs.ForestLemmas.{walk-joined}
@@ -134,10 +135,6 @@ quiet_expansion world (suc n) outer f = quiet_if outer _ _ _ (ap walk (unmarked-
 
 -- ---- pieces of which none is a definition
 
-both : (a b : Bool) → (a && b) ≡ true → (a ≡ true) × (b ≡ true)
-both true b e = (refl, e)
-both false b e = cc
-
 is_plain : (d : Option Definition) → is_none d ≡ true → d ≡ None
 is_plain None e = refl
 is_plain (Some d) e = cc
@@ -146,7 +143,7 @@ module _ (layers : Layers) (depth : ℕ) where
   quiet_steps : (ps : List Forest) → AreAllPlain ps → flat_map output_of (members_after layers depth [] ps) ≡ placed None (walk (put_together ps))
   quiet_steps [] h = refl
   quiet_steps (p ∷ ps) h =
-      let plain = both (is_none (definition_of p)) _ h in
+      let plain = and_parts (is_none (definition_of p)) _ h in
       rw (is_plain (definition_of p) plain.0)
       (ap (λ s. s ++ flat_map output_of (members_after layers depth [] ps)) (quiet_expansion layers.world depth None p).put_out
       ∙ ap (λ s. placed None (walk p) ++ s) (quiet_steps ps plain.1)
@@ -156,7 +153,7 @@ module _ (layers : Layers) (depth : ℕ) where
   quiet_faults : (ps : List Forest) → AreAllPlain ps → flat_map (member_faults layers) (members_after layers depth [] ps) ≡ []
   quiet_faults [] h = refl
   quiet_faults (p ∷ ps) h =
-      let plain = both (is_none (definition_of p)) _ h in
+      let plain = and_parts (is_none (definition_of p)) _ h in
       rw (is_plain (definition_of p) plain.0)
       (ap (λ fs. map (λ f. fault_at f.0 f.1) fs ++ flat_map (member_faults layers) (members_after layers depth [] ps)) (quiet_expansion layers.world depth None p).untold
       ∙ quiet_faults ps plain.1)

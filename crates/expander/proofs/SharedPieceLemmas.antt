@@ -19,7 +19,7 @@ use Rattle.expander.specs.Numbers.{Numbering, number_of, tree_of, with_trees}
 use Rattle.expander.specs.Pieces.{pieces, relative}
 use Rattle.expander.specs.Replies.{IsMeant, IsReplyTo}
 use Rattle.expander.specs.Reuse.{HeldPiece, looked_held}
-use Rattle.expander.specs.Text.{same_text}
+use Rattle.small_grammar.specs.Text.{same_text}
 use Rattle.expander.specs.TextTurn.{StandsInText, held_of}
 use Rattle.expander.specs.World.{world}
 use Rattle.expander.specs.declared.session.Reply.{Reply}

@@ -5,6 +5,8 @@ use Rattle.std.specs.List.{list_any}
 use Rattle.std.specs.Rc.{rc_value}
 use Rattle.std.specs.declared.rc.Rc.{Rc}
 use Rattle.std.proofs.lemmas.List.Elements.{All-cons, All-head, All-nil, All-tail}
+use Rattle.std.proofs.lemmas.Bool.{and_parts}
+use Rattle.expander.proofs.NumberedLemmas.{own_is}
 use Rattle.bridge.specs.ReadText.{text_top}
 use Rattle.tt.specs.Tops.{Top}
 use Rattle.tt_data.specs.Forest.{Forest}
@@ -24,15 +26,8 @@ use Rattle.expander.proofs.KeptLemmas.{more_held}
 use Rattle.expander.proofs.ReuseLemmas.{match_is, met_scope}
 use Rattle.expander.proofs.TakenLemmas.{numbers_tell}
 
-own_is : (t : Top) → t.delimiter ≡ text_top → own_top t.inner ≡ t
-own_is t is = λ i. record { delimiter = sym is i; inner = t.inner }
-
 same_is : (t u : Top) → t.delimiter ≡ text_top → u.delimiter ≡ text_top → same_top t u ≡ same_forest t.inner u.inner
 same_is t u is are = ap (λ (a : Top). same_top a u) (sym (own_is t is)) ∙ ap (same_top (own_top t.inner)) (sym (own_is u are))
-
-both : (a b : Bool) → (a && b) ≡ true → (a ≡ true) × (b ≡ true)
-both true b e = (refl, e)
-both false b e = cc
 
 module _ (world : World Definition) (depth : ℕ) (old : Forest → Option ℕ) where
   -- a match by the code is one by the laws
@@ -65,7 +60,7 @@ module _ (world : World Definition) (depth : ℕ) (old : Forest → Option ℕ) 
         ap (λ (s : List ℕ → Option Numbered). matches s t.inner piece) (sym scope_is) ∙ sym (matches_is scope t q is right) ∙ e in
         let outcome : piece.outcome ≡ expansion (numbered_world world) (numbered_scope before) depth None t.inner =
         match_is equal world depth (numbered_by now) (numbers_tell given now are) (numbered_scope before) (met_scope equal (numbered_by now) before met) t.inner piece held matching in
-        let trees : t ≡ tree_of q = (same t (tree_of q)).0 (both _ _ e).0 in
+        let trees : t ≡ tree_of q = (same t (tree_of q)).0 (and_parts _ _ e).0 in
         ap (λ (u : Top). parts_for u.inner q.outcome) trees ∙ right.parts ∙ ap parts_of outcome
         ∙ ap (λ (s : List ℕ → Option Numbered). parts_of (expansion (numbered_world world) s depth None t.inner)) (sym scope_is)
 

@@ -1,6 +1,8 @@
 -- What one turn of the search of calls adds to the output.
 use Rattle.std.proofs.Common.{◌≡◌, ℕ, ◌<◌, List, [], ◌∷◌, refl, sym, ap, ◌∙◌, arith, Bool, true, false, inl, inr}
 use Rattle.std.specs.Prelude.{Option, Some, None, ◌⊎◌}
+use Rattle.tt_data.proofs.ForestLemmas.{size-joined}
+use Rattle.tt.proofs.Steps.{joined-left}
 use Rattle.tt_data.specs.Forest.{Forest, leaf, group, joined, size}
 use Rattle.tt_data.specs.Walk.{at_leaf, walk}
 use Rattle.tt_data.specs.declared.delimiter.Delimiter.{Delimiter}
@@ -15,7 +17,6 @@ use Rattle.expander.specs.Calls.{Path, bare, from_crate, other, call, marked}
 use Rattle.expander.specs.Definitions.{or_else}
 use Rattle.expander.specs.Expansion.{World, Outcome, Deeper, CallSite, just, followed_by, grouped, found, looked_up, unbroken, at_call, before_group, whole_call, search_calls}
 use Rattle.expander.proofs.CallLemmas.{IsBare, IsBehind, IsOfCrate, is_bare, is_behind, is_of_crate, marked_bare, marked_behind, marked_of_crate, no_call}
-use Rattle.expander.proofs.CuttingLemmas.{joined-cancel, size-joined}
 use Rattle.expander.proofs.MarkLemmas.{unmarked-marked}
 use Rattle.expander.proofs.OutcomeLemmas.{IsSearch, followed_assoc}
 
@@ -173,7 +174,7 @@ module _ {D : Type 0} (world : World D) (scope : List ℕ → Option D) (deeper 
       ∙ ap (λ o. followed_by o (search c.rest)) (found_call k.path c.name (site_of f c true k) (kept_call f c true k) k.is_so
       ∙ ap (λ d. found c.name.sym d (looked_up world d deeper outer (site_of f c true k) (kept_call f c true k))) nothing)
       ∙ ap (found c.name.sym None) (kept_search f c true k)
-      ∙ ap (λ v. followed_by (found c.name.sym None (just outer (walk v))) (search c.from_group)) (joined-cancel _ w c.from_group (sym k.opening ∙ passed))
+      ∙ ap (λ v. followed_by (found c.name.sym None (just outer (walk v))) (search c.from_group)) (joined-left _ w c.from_group (sym k.opening ∙ passed))
 
   -- so is what would be a call but for the `::` before it
   pub colons_search : (f : Forest) (c : Call) → call_behind_colons f ≡ Some c → (w : Forest) → f ≡ joined w c.from_group
@@ -183,7 +184,7 @@ module _ {D : Type 0} (world : World D) (scope : List ℕ → Option D) (deeper 
       call_search f c false k
       ∙ ap (λ o. followed_by o (search c.rest)) (other_call k.path c.name (site_of f c false k) (kept_call f c false k) k.is_so)
       ∙ kept_search f c false k
-      ∙ ap (λ v. followed_by (just outer (walk v)) (search c.from_group)) (joined-cancel _ w c.from_group (sym k.opening ∙ passed))
+      ∙ ap (λ v. followed_by (just outer (walk v)) (search c.from_group)) (joined-left _ w c.from_group (sym k.opening ∙ passed))
 
   -- a call whose name finds a definition: the definition says what comes of it
   pub known_search : (f : Forest) (c : Call) (d : D) → call_at f ≡ Some c → scope c.name.sym ≡ Some d → (w : Forest) → f ≡ joined w c.rest
@@ -197,7 +198,7 @@ module _ {D : Type 0} (world : World D) (scope : List ℕ → Option D) (deeper 
       ∙ ap (λ x. found c.name.sym x (looked_up world x deeper outer (site_of f c true k) (kept_call f c true k))) finds)
       ∙ ap (λ v. followed_by
       (found c.name.sym (Some d) (unbroken world d (world.broken d) deeper outer (record { at = c.name.span; whole = v; argument = c.argument })))
-      (search c.rest)) (joined-cancel _ w c.rest (sym k.whole ∙ passed))
+      (search c.rest)) (joined-left _ w c.rest (sym k.whole ∙ passed))
 
   -- a leaf with which no call begins, nor a `::` with one
   pub leaf_search : (f g : Forest) (l : Leaf) → call_at f ≡ None → call_behind_colons f ≡ None → f ≡ leaf l g

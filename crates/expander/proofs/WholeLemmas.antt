@@ -1,6 +1,7 @@
 -- One whole piece, wherever it stands and whatever follows.
 use Rattle.std.proofs.Common.{◌≡◌, ◌<◌, Bool, true, false, ◌∷◌, refl, ap, sym, subst, ◌∙◌, arith, if◌then◌else◌}
 use Rattle.std.specs.Prelude.{◌&&◌, ◌||◌, Some}
+use Rattle.tt.proofs.Steps.{joined-left}
 use Prim.Native.String.{String}
 use Rattle.tt_data.specs.Flat.{joined-empty}
 use Rattle.tt_data.specs.Forest.{Forest, empty, leaf, group, joined, map_spans, size}
@@ -10,12 +11,11 @@ use Rattle.tt_data.specs.declared.delimiter.DelimiterKind.TheVariants.{Brace, Br
 use Rattle.tt_data.specs.declared.leaf.Leaf.{Leaf}
 use Rattle.tt_data.specs.declared.leaf.Leaf.TheVariants as as_leaf
 use Rattle.tt_data.specs.declared.span.Span.{Span}
-use Rattle.tt_data.proofs.ForestLemmas.{map_spans-joined}
+use Rattle.tt_data.proofs.ForestLemmas.{map_spans-joined, joined_assoc}
 use Rattle.bridge.specs.Text.{is_punct, same_kind}
 use Rattle.expander.specs.Cutting.{EndsAlways, PassesAlways}
 use Rattle.expander.specs.Pieces.{cut, cut_from, ends_piece, is_pound_bang}
 use Rattle.expander.specs.Sources.{IsWhole}
-use Rattle.expander.proofs.CuttingLemmas.{joined-assoc, joined-cancel}
 
 -- ---- whether a tree ends a piece does not hang on places
 
@@ -67,19 +67,19 @@ none_begun old = record { split = refl; same = λ f after. refl }
 -- the trees that the code passed are those of the piece begun
 pub passed_always : (start old rest begun passed : Forest) → start ≡ old → IsBegunAlways old rest begun → start ≡ joined passed rest → IsBegunAlways old rest passed
 passed_always start old rest begun passed same b e =
-    let is : passed ≡ begun = joined-cancel passed begun rest (sym e ∙ same ∙ b.split) in
+    let is : passed ≡ begun = joined-left passed begun rest (sym e ∙ same ∙ b.split) in
     subst (IsBegunAlways old rest) (sym is) b
 
 split_always : (f : Span → Span) (rest new tree after : Forest) → rest ≡ joined tree new
     → joined (map_spans f rest) after ≡ joined (map_spans f tree) (joined (map_spans f new) after)
 split_always f rest new tree after e =
     ap (λ (g : Forest). joined (map_spans f g) after) e ∙ ap (λ (g : Forest). joined g after) (map_spans-joined f tree new)
-    ∙ joined-assoc (map_spans f tree) (map_spans f new) after
+    ∙ joined_assoc (map_spans f tree) (map_spans f new) after
 
 pub more_always : (old rest new begun tree : Forest) → IsBegunAlways old rest begun → rest ≡ joined tree new → EndsAlways false begun tree
     → IsBegunAlways old new (joined begun tree)
 more_always old rest new begun tree b e goes = record {
-  split = b.split ∙ ap (joined begun) e ∙ sym (joined-assoc begun tree new);
+  split = b.split ∙ ap (joined begun) e ∙ sym (joined_assoc begun tree new);
   same = λ f after.
       ap (cut_from (joined (map_spans f new) after)) (map_spans-joined f begun tree)
       ∙ sym (goes f (joined (map_spans f new) after))

@@ -16,8 +16,8 @@ use Rattle.expander.specs.Definitions.{Definition, after_attributes, after_paren
 use Rattle.expander.specs.Faults.{is_definition_word}
 use Rattle.expander.specs.Laws.{AreAllPlain, HasNoWord}
 use Rattle.expander.specs.Pieces.{cut, pieces, put_together, separated}
-use Rattle.expander.specs.Text.{has_text}
-use Rattle.bridge.specs.Pieces.{alone}
+use Rattle.small_grammar.specs.Text.{has_text}
+use Rattle.tt.specs.Building.{alone}
 use Rattle.expander.proofs.CuttingLemmas.{put_together-cut}
 
 abbrev is_quiet : Step → Bool

@@ -1,6 +1,6 @@
 -- Two scopes that agree on what an expansion looked up.
 use Rattle.std.specs.Prelude.{◌≡◌, ℕ, List, [], ◌∷◌, Option, None, if◌then◌else◌}
-use Rattle.expander.specs.Text.{same_text}
+use Rattle.small_grammar.specs.Text.{same_text}
 
 -- each name that was looked up is found so in this scope
 abbrev pub FoundIn : {D : Type 0} → (List ℕ → Option D) → List (List ℕ × Option D) → Type 0

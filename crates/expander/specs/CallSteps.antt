@@ -4,7 +4,7 @@ use Rattle.tt_data.specs.Forest.{Forest, group}
 use Rattle.expander.specs.declared.calls.Call.{Call}
 use Rattle.expander.specs.Calls.{other, Marked, call, unmarked, is_colons, is_dollar_crate}
 use Rattle.expander.specs.Definitions.{or_else}
-use Rattle.expander.specs.Readings.{◌>>=◌, ◌>>◌}
+use Rattle.small_grammar.specs.Text.{◌>>=◌, ◌>>◌}
 use Rattle.tt.specs.FirstTrees.{first_ident, first_punct, first_group}
 use Rattle.bridge.specs.Text.{is_char, is_visible}
 

@@ -6,8 +6,9 @@ use Rattle.tt_data.specs.declared.leaf.Ident.{Ident}
 use Rattle.tt_data.specs.declared.leaf.Leaf.{Leaf}
 use Rattle.tt_data.specs.declared.leaf.Leaf.TheVariants as as_leaf
 use Rattle.tt_data.specs.declared.leaf.Punct.{Punct}
-use Rattle.bridge.specs.Text.{is_visible, is_alone, is_char}
-use Rattle.expander.specs.Text.{same_text}
+use Rattle.tt.specs.Glued.{is_alone}
+use Rattle.bridge.specs.Text.{is_visible, is_char}
+use Rattle.small_grammar.specs.Text.{same_text}
 
 -- what stands before a name that `!` and a visible group follow: nothing that counts, `$crate ::`, which goes
 -- with the call, or another `::`, after which there is no call

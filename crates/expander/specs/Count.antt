@@ -7,7 +7,7 @@ use Rattle.tt_data.specs.Forest.{Forest}
 use Rattle.expander.specs.Definitions.{Definition}
 use Rattle.expander.specs.Meaning.{Member, plain, defining}
 use Rattle.expander.specs.Pieces.{relative}
-use Rattle.expander.specs.Text.{same_text}
+use Rattle.small_grammar.specs.Text.{same_text}
 
 -- a plain piece's tree, and each name that was looked up in it with the definition found or none; places are counted
 -- from each tree's first token

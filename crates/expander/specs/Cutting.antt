@@ -4,7 +4,7 @@ use Rattle.tt_data.specs.Forest.{Forest, empty, joined, map_spans, size}
 use Rattle.expander.specs.Pieces.{cut, cut_from}
 use Rattle.expander.specs.declared.pieces.Put.{Put}
 use Rattle.bridge.specs.Text.{is_punct}
-use Rattle.bridge.specs.Pieces.{alone}
+use Rattle.tt.specs.Building.{alone}
 use Rattle.tt_data.specs.declared.leaf.Leaf.{Leaf}
 use Rattle.tt_data.specs.declared.span.Span.{Span}
 use Rattle.tt_data.specs.declared.tree.TokenTree.{TokenTree}

@@ -8,10 +8,9 @@ use Rattle.tt_data.specs.declared.delimiter.DelimiterKind.TheVariants.{Parenthes
 use Rattle.tt_data.specs.contracts.leaf.Ident as ident_row
 use Rattle.tt_data.specs.declared.leaf.Ident.{Ident}
 use Rattle.tt_data.specs.declared.leaf.Leaf.TheVariants as as_leaf
-use Rattle.expander.specs.Readings.{◌>>=◌, ◌>>◌, is_empty}
 use Rattle.tt.specs.FirstTrees.{first_ident, first_punct, first_group}
 use Rattle.bridge.specs.Text.{same_kind, is_char}
-use Rattle.expander.specs.Text.{same_text, has_text}
+use Rattle.small_grammar.specs.Text.{same_text, has_text, ◌>>=◌, ◌>>◌, is_empty}
 
 -- a definition of a macro
 pub record Definition : Type 0 where

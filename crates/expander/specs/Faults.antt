@@ -9,7 +9,7 @@ use Rattle.expander.specs.declared.faults.FaultKind.TheVariants.{CannotExpand, B
 use Rattle.expander.specs.Expansion.{PlacedStep}
 use Rattle.bridge.specs.Printing.{step_span}
 use Rattle.expander.specs.Printing.{PrintedToken}
-use Rattle.expander.specs.Text.{is_word}
+use Rattle.small_grammar.specs.Text.{is_word}
 
 -- where a fault of an output token is told: at the token itself, or at the name of the outermost expanded call
 abbrev pub place : PlacedStep → Span

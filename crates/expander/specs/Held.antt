@@ -10,7 +10,7 @@ use Rattle.expander.specs.Expansion.{World, Outcome, expansion}
 use Rattle.expander.specs.Meaning.{Member, plain, defining}
 use Rattle.expander.specs.OtherPlaces.{definition_with}
 use Rattle.expander.specs.Pieces.{first_start, relative}
-use Rattle.expander.specs.Text.{same_text}
+use Rattle.small_grammar.specs.Text.{same_text}
 
 -- every place in a forest is so
 abbrev pub AllSpans : (Span → Type 0) → Forest → Type 0

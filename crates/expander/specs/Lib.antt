@@ -1,6 +1,4 @@
 -- what a text means, in reading order
-pub mod Text
-pub mod Readings
 pub mod Pieces
 pub mod Definitions
 pub mod Calls

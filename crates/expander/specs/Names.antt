@@ -2,7 +2,7 @@
 use Rattle.std.specs.Prelude.{◌≡◌, ℕ, ◌<◌, List, Option, Some}
 use Rattle.std.specs.HashMap.{get}
 use Rattle.expander.specs.declared.names.Names.{Names}
-use Rattle.expander.specs.Text.{same_text}
+use Rattle.small_grammar.specs.Text.{same_text}
 
 -- the index that a name stands for
 unfoldable pub index_of : Names → List ℕ → Option ℕ

@@ -1,7 +1,7 @@
 // Definition pieces.
 ghost use Rattle.std.specs.Prelude.{◌≡◌, Option, option_map, unwrap_or};
 ghost use Rattle.expander.specs.Definitions.{after_attribute, after_attributes, after_parenthesis, after_word, after_pub, after_macro_rules, is_semicolon, ends_definition, macro_rules_of, macro_body, macro_of, definition_of};
-ghost use Rattle.expander.specs.Text.{has_text};
+ghost use Rattle.small_grammar.specs.Text.{has_text};
 
 use crate::copies::again;
 use std::marker::Model;

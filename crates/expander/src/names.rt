@@ -1,7 +1,7 @@
 // Values by name: the latest of each name is found.
 ghost use Rattle.std.specs.Prelude.{◌≡◌, ℕ, List, OnOk, OnErr, if◌then◌else◌};
 ghost use Rattle.expander.specs.Names.{index_of};
-ghost use Rattle.expander.specs.Text.{same_text};
+ghost use Rattle.small_grammar.specs.Text.{same_text};
 
 use std::alloc::{AllocError, Global};
 use std::collections::HashMap;

@@ -4,7 +4,7 @@ ghost use Rattle.tt.specs.Tops.{tokens_of};
 ghost use Rattle.tt_data.specs.Forest.{Forest, empty, size};
 ghost use Rattle.expander.specs.Pieces.{is_pound_bang, ends_piece, separated};
 ghost use Rattle.bridge.specs.Text.{is_punct};
-ghost use Rattle.bridge.specs.Pieces.{alone};
+ghost use Rattle.tt.specs.Building.{alone};
 ghost use Rattle.expander.specs.Sources.{IsWhole};
 ghost use Rattle.expander.specs.Cutting.{CutsOff, PassesAlways, PassesTree, end_alone, put_all};
 

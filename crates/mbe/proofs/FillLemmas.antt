@@ -25,9 +25,6 @@ use Rattle.mbe.specs.Fit.{most_rounds}
 use Rattle.mbe.specs.Given.{is_plain, plain_gives, gives, puts_out, first_gives, first_puts_out, group_gives, repetition_gives, repetition_puts_out, stands_in}
 use Rattle.mbe.specs.Output.{and_then, size_of, output_from, output_of_rounds}
 
-unsome : {A : Type 0} {a b : A} → Some a ≡ Some b → a ≡ b
-unsome e = cc
-
 pub unmoved : (b : Building) → extended b empty ≡ b
 unmoved b = ap (λ x. record b { here = x }) (joined-empty b.here)
 

@@ -15,7 +15,7 @@ use Rattle.tt_data.specs.declared.delimiter.Delimiter.{Delimiter}
 use Rattle.tt_data.specs.declared.span.Span.{Span}
 use Rattle.tt_data.specs.fault.TtFault.{TtFault}
 use Rattle.mbe_rules.specs.Items as spec
-use Rattle.mbe_rules.specs.Items.{Items, done, item, group_of, repetition}
+use Rattle.mbe_rules.specs.Items.{Items, done, item, group_of, repetition, may_skip}
 use Rattle.mbe_rules.specs.Ops.{put_op, items_of, separator_of}
 use Rattle.mbe_rules.specs.declared.parser.Op.{Op, Repeat, Subtree, Repeat', Subtree'}
 use Rattle.mbe_rules.specs.declared.parser.RepeatKind.{RepeatKind}
@@ -25,7 +25,7 @@ use Rattle.mbe_rules.proofs.OpsLemmas.{put-Repeat, put-Subtree}
 use Rattle.mbe.specs.Bindings.{Map}
 use Rattle.mbe.specs.Filling.{both, rounds_from, separator_leaves}
 use Rattle.mbe.specs.Fit.{most_rounds}
-use Rattle.mbe.specs.Given.{Fills, IsBurstBy, may_be_empty, is_single, gives, puts_out, first_gives, first_puts_out, group_gives, repetition_gives, repetition_puts_out, stands_in, later_gives, later_puts_out}
+use Rattle.mbe.specs.Given.{Fills, IsBurstBy, is_single, gives, puts_out, first_gives, first_puts_out, group_gives, repetition_gives, repetition_puts_out, stands_in, later_gives, later_puts_out}
 use Rattle.mbe.specs.Output.{and_then, output_from}
 use Rattle.mbe.specs.Room.{LacksRoom}
 use Rattle.mbe.specs.Tasks.{Outcome, filled_up, faulty, reached, IsFaulty, put_and, close_in, around, items_and, rounds_and, outcome, GoesOn, Steps, IsBurstIn, work_of, tasks_of, tasks_of_all}
@@ -33,10 +33,7 @@ use Rattle.mbe.specs.declared.filling.Rounds.{Rounds}
 use Rattle.mbe.specs.declared.filling.Task.{Task}
 use Rattle.mbe.specs.declared.filling.Task.TheVariants.{Items as items_task, Close, Leave, Later}
 use Rattle.mbe.proofs.FillLemmas.{IsSized, unmoved, sized-gives, sized-first, sized-from, gives-put, puts-put, when_none, with_later, out_later, no-round, first-round, first-out}
-use Rattle.mbe.proofs.PuttingLemmas.{extended-more, count-extended}
-
-unsome : {A : Type 0} {a b : A} → Some a ≡ Some b → a ≡ b
-unsome e = cc
+use Rattle.mbe.proofs.PuttingLemmas.{extended-more, count-extended, unsome}
 
 -- ---- lists of tasks
 
@@ -244,13 +241,13 @@ module _ (mark : Span → Span) (bound : Map) where
   -- a repetition whose first round doesn't stand
   pub no-rounds : (ns : List ℕ) (body : Items) (sep : Option spec.Separator) (k : RepeatKind) (b : Building) (more : Building → Outcome) →
       stands_in mark bound ns body 0 ≡ false →
-      GoesOn (may_be_empty k) (put_and (repetition_gives mark bound ns body sep k) (repetition_puts_out mark bound ns body sep k) b more) (more b)
+      GoesOn (may_skip k) (put_and (repetition_gives mark bound ns body sep k) (repetition_puts_out mark bound ns body sep k) b more) (more b)
   no-rounds ns body sep k b more e =
       go k (repetition_gives mark bound ns body sep k) (repetition_puts_out mark bound ns body sep k)
       (no-round (stands_in mark bound ns body) (λ r. gives mark bound (ns ++ (r ∷ [])) body) (λ r. puts_out mark bound (ns ++ (r ∷ [])) body)
       (separator_leaves sep) most_rounds k e)
     where
-      go : (k : RepeatKind) (x : Option Forest) (n : ℕ) → x ≡ when_none k → GoesOn (may_be_empty k) (put_and x n b more) (more b)
+      go : (k : RepeatKind) (x : Option Forest) (n : ℕ) → x ≡ when_none k → GoesOn (may_skip k) (put_and x n b more) (more b)
       go ZeroOrOne x n h = ap (λ o. put_and o n b more) h ∙ put-empty n b more
       go ZeroOrMore x n h = ap (λ o. put_and o n b more) h ∙ put-empty n b more
       go OneOrMore x n h = subst (λ o. IsFaulty (put_and o n b more)) (sym h) tt
@@ -414,7 +411,7 @@ module _ (mark : Span → Span) (bound : Map) where
       (two-on-top ts us vs t (items_task x.body) e f ∙ ap (λ y. items_task x.body ∷ y ∷ reverse ts) first) (g ∙ ap (λ l. l ++ (0 ∷ [])) same) refl
 
   pub none-steps : (ts : List Task) (ns ms : List ℕ) (x : Rounds) (k : RepeatKind) (stood answered : Bool) (old : Building) →
-      stood ≡ stands_in mark bound ns (items_of x.body.now) 0 → stood ≡ false → answered ≡ may_be_empty k → ms ≡ ns →
+      stood ≡ stands_in mark bound ns (items_of x.body.now) 0 → stood ≡ false → answered ≡ may_skip k → ms ≡ ns →
       GoesOn answered
       (put_and (repetition_gives mark bound ns (items_of x.body.now) (option_map (λ s. separator_of s.now) x.separator) k)
       (repetition_puts_out mark bound ns (items_of x.body.now) (option_map (λ s. separator_of s.now) x.separator) k) old (outcome mark bound ts ns))

@@ -32,13 +32,6 @@ before-past (suc n) empty = refl
 before-past (suc n) (leaf l rest) = ap (leaf l) (before-past n rest)
 before-past (suc n) (group d inner rest) = ap (group d inner) (before-past n rest)
 
--- a list's first trees are told by those behind them
-pub joined-cancel : (f g rest : Forest) → joined f rest ≡ joined g rest → f ≡ g
-joined-cancel f g rest e =
-    sym (forest_of-preorder f)
-    ∙ ap forest_of (append_cancel_right (preorder f) (preorder g) (preorder rest) (sym (preorder-joined f rest) ∙ ap preorder e ∙ preorder-joined g rest))
-    ∙ forest_of-preorder g
-
 -- the trees after the first one, by what that is
 pub after_leaf : (f : Forest) (x : Leaf × Forest) → first_leaf f ≡ Some x → x.1 ≡ past 1 f
 after_leaf empty x e = absurd (cc e)

@@ -18,7 +18,7 @@ use Rattle.mbe.specs.Filling.{stands_alone, in_parentheses, begins_generics, pun
 use Rattle.mbe.specs.Putting.{begins_ident, before_more}
 use Rattle.mbe.specs.Room.{LacksRoom}
 
-unsome : {A : Type 0} {a b : A} → Some a ≡ Some b → a ≡ b
+pub unsome : {A : Type 0} {a b : A} → Some a ≡ Some b → a ≡ b
 unsome e = cc
 
 -- without parentheses

@@ -1,6 +1,7 @@
 -- The texts of parts, one after the other.
 use Rattle.std.proofs.Common.{◌≡◌, refl, sym, ap, ◌∙◌, ℕ, suc, ◌<◌, ◌≤◌, Bool, true, false, List, [], ◌∷◌, ◌++◌, map, length, get_or, drop, drop-cons, Option, Some, None, option_map}
 use Rattle.std.proofs.lemmas.List.{drop_all}
+use Rattle.mbe.proofs.PuttingLemmas.{unsome}
 use Rattle.tt_data.specs.declared.span.Span.{Span}
 use Rattle.mbe_rules.specs.Items.{Part, itself, value_of}
 use Rattle.mbe_rules.specs.Ops.{part_of}
@@ -15,9 +16,6 @@ append-nil (x ∷ xs) = ap (λ ys. x ∷ ys) (append-nil xs)
 append-assoc : (xs ys zs : List ℕ) → (xs ++ ys) ++ zs ≡ xs ++ (ys ++ zs)
 append-assoc [] ys zs = refl
 append-assoc (x ∷ xs) ys zs = ap (λ l. x ∷ l) (append-assoc xs ys zs)
-
-unsome : {A : Type 0} {a b : A} → Some a ≡ Some b → a ≡ b
-unsome e = cc
 
 one-then : (t : List ℕ) (o : Option (List ℕ)) → option_map (λ more. t ++ more) o ≡ both (λ a b. a ++ b) (Some (t ++ [])) o
 one-then t None = refl

@@ -2,11 +2,10 @@
 use Rattle.std.specs.Prelude.{ℕ, suc, zero, ◌+◌, ◌-◌, Bool, true, false, ◌&&◌, not, List, [], ◌∷◌, ◌++◌, map, reverse, codes, decimal, Option, Some, None, option_map, option_and_then, if◌then◌else◌}
 use Rattle.std.specs.List.{list_any}
 use Rattle.tt_data.specs.Forest.{Forest, empty, leaf, group, joined}
-use Rattle.tt.specs.Building.{last_alone}
+use Rattle.tt.specs.Building.{is_invisible, last_alone}
 use Rattle.tt.specs.Groups.{stripped}
 use Rattle.tt_data.specs.Spans.{leaf_with, delimiter_with}
-use Rattle.tt_data.specs.declared.delimiter.DelimiterKind.{DelimiterKind}
-use Rattle.tt_data.specs.declared.delimiter.DelimiterKind.TheVariants.{Parenthesis, Invisible}
+use Rattle.tt_data.specs.declared.delimiter.DelimiterKind.TheVariants.{Parenthesis}
 use Rattle.tt_data.specs.declared.leaf.IdentIsRaw.{IdentIsRaw}
 use Rattle.tt_data.specs.declared.leaf.IdentIsRaw.TheVariants as is_raw
 use Rattle.tt_data.specs.declared.leaf.Leaf.{Leaf}
@@ -98,16 +97,11 @@ stands us = list_any is_use us && not (list_any is_lack us)
 
 -- ---- a fragment's trees, as they are put in
 
--- brackets that are seen
-abbrev pub is_seen : DelimiterKind → Bool
-is_seen Invisible = false
-is_seen _ = true
-
 -- an expression that needs no parentheses: one leaf, `-` and a literal, or one visible group
 abbrev pub stands_alone : Forest → Bool
 stands_alone (leaf l empty) = true
 stands_alone (leaf (as_leaf.Punct p) (leaf (as_leaf.Literal l) empty)) = is_char "-" p
-stands_alone (group d inner empty) = is_seen d.kind
+stands_alone (group d inner empty) = not (is_invisible d.kind)
 stands_alone _ = false
 
 -- an expression, in parentheses where it needs them

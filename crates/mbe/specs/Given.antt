@@ -9,7 +9,7 @@ use Rattle.tt_data.specs.fault.TtFault.{TtFault}
 use Rattle.tt_data.specs.fault.TtFault.TheVariants.{Tokens}
 use Rattle.mbe_rules.specs.Items.{Item, dollar, Separator, Items, done, item, group_of, repetition}
 use Rattle.mbe_rules.specs.declared.parser.RepeatKind.{RepeatKind}
-use Rattle.mbe_rules.specs.declared.parser.RepeatKind.TheVariants.{OneOrMore, ZeroOrOne}
+use Rattle.mbe_rules.specs.declared.parser.RepeatKind.TheVariants.{ZeroOrOne}
 use Rattle.mbe.specs.Bindings.{Map}
 use Rattle.mbe.specs.Filling.{dollar_in, item_in, round_stands, filled_in, rounds_from, rounds_of, separator_leaves}
 use Rattle.mbe.specs.Fit.{most_rounds}
@@ -28,11 +28,6 @@ Fills r old new o = IfOk r (λ b. ended b new ≡ option_map (extended old) o)
 -- a tree is refused for its size only where it would have more tokens than it may with so many more
 abbrev pub IsBurstBy : Result Bool TtFault → Building → ℕ → Type 0
 IsBurstBy r b n = r ≡ Err Tokens → most_tokens < count_of b + n
-
--- a repetition may have no round
-abbrev pub may_be_empty : RepeatKind → Bool
-may_be_empty OneOrMore = false
-may_be_empty _ = true
 
 -- a repetition has one round at most
 abbrev pub is_single : RepeatKind → Bool

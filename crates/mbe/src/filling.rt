@@ -3,13 +3,13 @@
 ghost use Rattle.std.specs.Prelude.{◌≡◌, ◌<◌, ◌≤◌, ◌+◌, ◌*◌, ◌∷◌, ◌++◌, [], suc, reverse, option_map, if◌then◌else◌, Err, IfErr, OnOk};
 ghost use Rattle.tt_data.specs.declared.span.Span.{Span};
 ghost use Rattle.tt_data.specs.fault.TtFault.TheVariants.{Memory, Tokens};
-ghost use Rattle.mbe_rules.specs.Items.{done};
+ghost use Rattle.mbe_rules.specs.Items.{done, may_skip};
 ghost use Rattle.mbe_rules.specs.Ops.{items_of, put_op, separator_of};
 ghost use Rattle.mbe.specs.Bindings.{Map};
 ghost use Rattle.mbe.specs.Bound.{map_of};
 ghost use Rattle.mbe.specs.Filling.{filled};
 ghost use Rattle.mbe.specs.Fit.{most_rounds};
-ghost use Rattle.mbe.specs.Given.{Fills, IsBurstBy, is_single, may_be_empty, first_gives, first_puts_out, group_gives, gives, puts_out, repetition_gives, repetition_puts_out};
+ghost use Rattle.mbe.specs.Given.{Fills, IsBurstBy, is_single, first_gives, first_puts_out, group_gives, gives, puts_out, repetition_gives, repetition_puts_out};
 ghost use Rattle.mbe.specs.Markers.{IsMarkedBy, is_name};
 ghost use Rattle.mbe.specs.Output.{output};
 ghost use Rattle.mbe.specs.Room.{IsWantOfRoom};
@@ -28,7 +28,7 @@ const MOST_ROUNDS: usize = 65535;
 
 // Whether a repetition may have no round.
 fn may_be_empty(kind: RepeatKind) -> bool
-    ensures { result ≡ may_be_empty kind }
+    ensures { result ≡ may_skip kind }
 {
     kind != RepeatKind::OneOrMore
 }

@@ -1,9 +1,9 @@
 //! What a template gives.
-ghost use Rattle.std.specs.Prelude.{◌≡◌, ◌&&◌, Err, IfErr, OnOk};
+ghost use Rattle.std.specs.Prelude.{◌≡◌, ◌&&◌, not, Err, IfErr, OnOk};
 ghost use Rattle.tt_data.specs.Forest.{empty};
-ghost use Rattle.tt.specs.Building.{extended, last_alone};
+ghost use Rattle.tt.specs.Building.{extended, is_invisible, last_alone};
 ghost use Rattle.tt.specs.Views.{forest};
-ghost use Rattle.mbe.specs.Filling.{is_seen, stands_alone, in_parentheses, begins_generics, punct_at, colons, with_colons, put_in};
+ghost use Rattle.mbe.specs.Filling.{stands_alone, in_parentheses, begins_generics, punct_at, colons, with_colons, put_in};
 ghost use Rattle.mbe.specs.Room.{IsWantOfRoom, LacksRoom};
 ghost use Rattle.mbe.specs.Putting.{begins_ident, before_more};
 
@@ -14,7 +14,7 @@ use tt::{
 };
 
 fn is_seen(kind: DelimiterKind) -> bool
-    ensures { result ≡ is_seen kind }
+    ensures { result ≡ not (is_invisible kind) }
 {
     match kind {
         DelimiterKind::Invisible => false,

@@ -4,7 +4,7 @@ use Rattle.tt_data.specs.Walk.{at_leaf}
 use Rattle.tt_data.specs.declared.leaf.Leaf.TheVariants as as_leaf
 use Rattle.bridge.specs.Outputs.{state_of}
 use Rattle.bridge.specs.Printers.{Prints}
-use Rattle.bridge.specs.Text.{is_joint}
+use Rattle.tt.specs.Glued.{is_joint}
 use Rattle.bridge.proofs.PrintStepLemmas.{carried, none_waits, quote_apart, quote_is, whatever_waits}
 use Rattle.bridge.proofs.output.put_quote.Goals as goal
 

@@ -1,7 +1,8 @@
 use Rattle.std.proofs.Common.{sym, ap, ◌∙◌}
+use Rattle.tt.proofs.Steps.{joined-left}
 use Rattle.tt_data.specs.Forest.{joined}
 use Rattle.mbe_rules.specs.Trees.{before, past}
-use Rattle.mbe.proofs.PlaceLemmas.{before-past, joined-cancel}
+use Rattle.mbe.proofs.PlaceLemmas.{before-past}
 use Rattle.mbe.proofs.place.before.Goals as goal
 
 pub passed_since-requires : goal.passed_since-requires
@@ -12,5 +13,5 @@ passed_since-requires c = (
 
 pub returns : goal.returns
 returns c =
-    joined-cancel _ _ (past c.args.count c.args.trees.now)
+    joined-left _ _ (past c.args.count c.args.trees.now)
     (ap (joined _) (sym c.past-rest.ensures) ∙ sym c.passed_since.ensures ∙ c.remaining.ensures ∙ before-past c.args.count c.args.trees.now)
