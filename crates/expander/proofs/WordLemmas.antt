@@ -107,7 +107,7 @@ pub_quiet (leaf (as_leaf.Ident i) rest) h = go (has_text (codes "pub") i)
 
 -- ---- no piece is a definition
 
-quiet_piece : (p : Forest) → HasNoWord p → is_none (definition_of p) ≡ true
+pub quiet_piece : (p : Forest) → HasNoWord p → is_none (definition_of p) ≡ true
 quiet_piece p h =
     let rest : Forest = after_attributes p in
     let quiet : HasNoWord rest = attributes_quiet p h in
@@ -126,7 +126,7 @@ quiet_cut f h = quiet_pieces (cut f) (ap (λ (g : Forest). list_all is_quiet (wa
 
 -- ---- a `;` that stands alone is no word either
 
-quiet_alone : (b : Bool) (l : Leaf) → is_definition_word (at_leaf (if b then alone l else l)) ≡ is_definition_word (at_leaf l)
+pub quiet_alone : (b : Bool) (l : Leaf) → is_definition_word (at_leaf (if b then alone l else l)) ≡ is_definition_word (at_leaf l)
 quiet_alone true (as_leaf.Punct p) = refl
 quiet_alone true (as_leaf.Ident i) = refl
 quiet_alone true (as_leaf.Literal t) = refl
