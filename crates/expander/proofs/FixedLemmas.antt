@@ -40,10 +40,7 @@ use Rattle.expander.proofs.ForestLemmas.{AreWalked, steps_of-placed, walked_memb
 use Rattle.expander.proofs.PrintingLemmas.{text_is, tokens_bare, visible_bare}
 use Rattle.expander.proofs.QuietLemmas.{quiet_text}
 use Rattle.expander.proofs.SearchLemmas.{plain_output}
-use Rattle.expander.proofs.WordLemmas.{quiet_plain}
-
-abbrev is_quiet : Step → Bool
-is_quiet s = not (is_definition_word s)
+use Rattle.expander.proofs.WordLemmas.{quiet_plain, is_quiet}
 
 -- ---- no fault at all
 
