@@ -1,5 +1,5 @@
 -- What stands at the head of a list, by the first tree that is lent.
-use Rattle.std.proofs.Common.{◌≡◌, refl, sym, ap, ◌∙◌, ℕ, zero, suc, Bool, true, false, List, [], ◌∷◌, nat_eq, Option, Some, None, if◌then◌else◌, arith}
+use Rattle.std.proofs.Common.{◌≡◌, refl, sym, ap, ℕ, Bool, true, false, List, [], ◌∷◌, Some, None, if◌then◌else◌}
 use Rattle.tt_data.specs.Forest.{Forest, empty, leaf, group}
 use Rattle.tt_data.specs.declared.delimiter.Delimiter.{Delimiter}
 use Rattle.tt_data.specs.declared.delimiter.DelimiterKind.{DelimiterKind}
@@ -8,12 +8,11 @@ use Rattle.tt_data.specs.declared.leaf.Leaf.{Leaf}
 use Rattle.tt_data.specs.declared.leaf.Leaf.TheVariants as as_leaf
 use Rattle.tt_data.specs.declared.leaf.Punct.{Punct}
 use Rattle.tt.specs.FirstTrees.{first_group, first_ident, first_leaf, first_punct}
-use Rattle.tt.specs.Glued.{glued_count}
-use Rattle.mbe_rules.specs.Text.{is_char, is_truth, is_word, same_kind, same_text}
+use Rattle.mbe_rules.specs.Text.{is_char, same_kind, same_text}
 use Rattle.mbe_rules.specs.Trees.{past}
 use Rattle.mbe.specs.Fragments.{ident_trees, is_refused, literal_trees, tree_trees, unsigned_trees}
-use Rattle.mbe.specs.Places.{is_named_truth, quoted_name}
-use Rattle.mbe.specs.Units.{Place, place, UnitAt, a_name, a_lifetime, a_literal, closing, glued, nothing, opening, punct_unit, same_unit, unit_at, unit_trees, after_unit}
+use Rattle.mbe.specs.Places.{quoted_name}
+use Rattle.mbe.specs.Units.{place, a_name, a_lifetime, a_literal, glued, opening, punct_unit, same_unit, unit_at, unit_trees, after_unit}
 
 -- what a list begins with
 pub a_leaf : (f : Forest) (x : Leaf × Forest) → first_leaf f ≡ Some x → f ≡ leaf x.0 x.1
