@@ -41,6 +41,7 @@ pub mod CountLemmas
 pub mod LeafLemmas
 pub mod FillLemmas
 pub mod FillTaskLemmas
+pub mod LoneLemmas
 pub mod FailureTaskLemmas
 pub mod WalkLemmas
 pub mod FirstFitLemmas

@@ -10,8 +10,8 @@ use Rattle.tt_data.specs.fault.TtFault.TheVariants.{Tokens}
 use Rattle.mbe_rules.specs.Items.{Item, dollar, Separator, Items, done, item, group_of, repetition}
 use Rattle.mbe_rules.specs.declared.parser.RepeatKind.{RepeatKind}
 use Rattle.mbe_rules.specs.declared.parser.RepeatKind.TheVariants.{ZeroOrOne}
-use Rattle.mbe.specs.Bindings.{Map}
-use Rattle.mbe.specs.Filling.{dollar_in, item_in, round_stands, filled_in, rounds_from, rounds_of, separator_leaves}
+use Rattle.mbe.specs.Bindings.{Binding, Values, value_at, Map}
+use Rattle.mbe.specs.Filling.{fragment_in, dollar_in, item_in, round_stands, filled_in, rounds_from, rounds_of, separator_leaves}
 use Rattle.mbe.specs.Fit.{most_rounds}
 use Rattle.mbe.specs.Markers.{is_name}
 use Rattle.mbe.specs.Output.{output_in, output_from, output_of_rounds, size_of}
@@ -76,6 +76,13 @@ module _ (mark : Span → Span) (bound : Map) where
   abbrev pub later_puts_out : List ℕ → Items → Option Separator → (most r : ℕ) → ℕ
   later_puts_out ns body sep =
       output_from (stands_in ns body) (λ r. gives (ns ++ (r ∷ [])) body) (λ r. puts_out (ns ++ (r ∷ [])) body) (size (separator_leaves sep))
+
+  -- a round stands for each of these values and gives what it gives at this place, and no more stand
+  abbrev pub HasValues : List ℕ → Items → Span → Values → Type 0
+  HasValues ns body place vs =
+      ((r : ℕ) (b : Binding) → value_at r vs ≡ Some b →
+      (stands_in ns body r ≡ true) × (gives (ns ++ (r ∷ [])) body ≡ fragment_in is_name most_rounds mark bound place (Some b)))
+      × ((r : ℕ) → value_at r vs ≡ None → stands_in ns body r ≡ false)
 
   -- what a group gives
   abbrev pub group_gives : Delimiter → Option Forest → Option Forest

@@ -85,8 +85,8 @@ fn put_fragment(
     Ok(true)
 }
 
-// Puts in what a bound variable stands for.
-fn put_value(
+/// Puts in what a bound variable stands for.
+pub(crate) fn put_value(
     out: &mut TopSubtreeBuilder,
     value: Option<&Binding<'_>>,
     span: Span,

@@ -17,6 +17,7 @@ ghost use Rattle.mbe.specs.Tasks.{IsBurstIn, Steps, around, outcome, put_and, ta
 ghost use Rattle.mbe.specs.declared.filling.Task.TheVariants.{Items, Leave, Later};
 
 use crate::bindings::Bindings;
+use crate::lone::{lone_values, put_later};
 use crate::transcriber::{marked, put_plain, put_separator};
 use crate::uses::round_stands;
 use mbe_rules::{Op, RepeatKind, Separator};
@@ -24,7 +25,7 @@ use std::alloc::Global;
 use tt::{Delimiter, Span, TopSubtreeBuilder, TtFault};
 
 // The most rounds that a repetition may have.
-const MOST_ROUNDS: usize = 65535;
+pub(crate) const MOST_ROUNDS: usize = 65535;
 
 // Whether a repetition may have no round.
 fn may_be_empty(kind: RepeatKind) -> bool
@@ -236,21 +237,26 @@ impl<'t> Filling<'t> {
     }
 
     // Leaves a round, and begins the next one, if it stands.
-    fn next_round(
+    fn next_round<M: Fn(Span) -> Span>(
         &mut self,
         out: &mut TopSubtreeBuilder,
         left: Rounds<'t>,
         bindings: &Bindings<'_>,
+        marker: &M,
     ) -> Result<bool, TtFault>
+        requires { M.IsAlwaysCallable marker.now }
         ensures faults { IfErr result IsWantOfRoom }
-        ensures left { (mark : Span → Span) → Steps result
+        ensures left { (mark : Span → Span) → IsMarkedBy (M.post marker.now) mark → Steps result
             (outcome mark (map_of bindings.now) (Later left.entry ∷ reverse self.old.tasks.items) self.old.rounds.items out.old.tree)
             (outcome mark (map_of bindings.now) (reverse self.new.tasks.items) self.new.rounds.items out.new.tree) }
-        ensures tokens { (mark : Span → Span) → IsBurstIn result
+        ensures tokens { (mark : Span → Span) → IsMarkedBy (M.post marker.now) mark → IsBurstIn result
             (outcome mark (map_of bindings.now) (Later left.entry ∷ reverse self.old.tasks.items) self.old.rounds.items out.old.tree) }
         ensures fewer { OnOk result (tasks_of_all self.new.tasks.items < tasks_of_all self.old.tasks.items + tasks_of (Later left.entry)) }
     {
         self.leave();
+        if let Some((place, values)) = lone_values(left.body, bindings, &self.rounds) {
+            return put_later(out, left, values, marked(marker, place));
+        }
         let Rounds {
             body,
             separator,
@@ -299,7 +305,7 @@ impl<'t> Filling<'t> {
                 self.leave();
                 Ok(true)
             }
-            Task::Later(left) => self.next_round(out, left, bindings),
+            Task::Later(left) => self.next_round(out, left, bindings, marker),
         }
     }
 }

@@ -14,6 +14,7 @@ mod fit;
 mod fragment;
 mod kept;
 pub mod laws;
+mod lone;
 mod matcher;
 mod place;
 mod putting;

@@ -80,19 +80,20 @@ pub(crate) fn before<'a>(trees: &TtIter<'a>, count: usize) -> TokenTreesView<'a>
 }
 
 // The name behind a quote at the head of a list.
-fn quoted(trees: &TtIter<'_>) -> Option<Symbol>
-    ensures { result ≡ quoted_name trees.now }
+#[inline]
+#[tactic(auto, using(crate::proofs::LentLemmas::no_quote, crate::proofs::LentLemmas::another_punct, crate::proofs::LentLemmas::a_quote_alone, crate::proofs::LentLemmas::a_quote))]
+fn quoted<'a>(trees: &TtIter<'a>) -> Option<&'a Symbol>
+    ensures { option_map (λ n. n.now) result ≡ quoted_name trees.now }
 {
-    let mut rest = again(trees);
-    let Some(TtElement::Leaf(Leaf::Punct(quote))) = rest.next() else {
+    let Some((quote, rest)) = trees.first_punct() else {
         return None;
     };
     if quote.char != '\'' {
         return None;
     }
-    match rest.next() {
-        Some(TtElement::Leaf(Leaf::Ident(name))) => Some(name.sym),
-        _ => None,
+    match rest.lent_ident() {
+        Some((name, _behind)) => Some(&name.sym),
+        None => None,
     }
 }
 
@@ -137,12 +138,14 @@ impl<'a> Place<'a> {
         !self.outer.is_empty()
     }
 
+    #[inline]
+    #[tactic(auto, using(crate::proofs::LentLemmas::opened, crate::proofs::LentLemmas::unopened))]
     pub(crate) fn is_opening(&self, kind: DelimiterKind) -> bool
         ensures { result ≡ same_unit (opening kind) (unit_at (place_of self.now)) }
     {
-        match self.rest.peek() {
-            Some(TtElement::Subtree(subtree, _)) => subtree.delimiter.kind == kind,
-            _ => false,
+        match self.rest.first_group() {
+            Some((brackets, _inner, _behind)) => kind == brackets.kind,
+            None => false,
         }
     }
 
@@ -157,11 +160,15 @@ impl<'a> Place<'a> {
         }
     }
 
+    #[tactic(auto, using(crate::proofs::LentLemmas::a_leaf, crate::proofs::LentLemmas::leaf_here, crate::proofs::LentLemmas::no_literal_here))]
     pub(crate) fn is_literal(&self, literal: &Literal) -> bool
         ensures { result ≡ same_unit (a_literal literal.now.text literal.now.suffix) (unit_at (place_of self.now)) }
     {
-        match self.rest.peek() {
-            Some(TtElement::Leaf(Leaf::Literal(here))) => {
+        let Some((leaf, _behind)) = self.rest.lent_leaf() else {
+            return false;
+        };
+        match leaf {
+            Leaf::Literal(here) => {
                 literal.text() == here.text() && literal.suffix() == here.suffix()
             }
             _ => false,
@@ -177,15 +184,16 @@ impl<'a> Place<'a> {
         }
     }
 
+    #[tactic(auto, using(crate::proofs::LentLemmas::unglued, crate::proofs::LentLemmas::a_punct_leaf))]
     pub(crate) fn is_puncts(&self, puncts: &[Punct]) -> bool
         ensures { result ≡ same_unit (glued (characters puncts.now)) (unit_at (place_of self.now)) }
     {
+        let Some(_punct) = self.rest.first_punct() else {
+            return false;
+        };
         if let Some(_name) = quoted(&self.rest) {
             return false;
         }
-        let Some(TtElement::Leaf(Leaf::Punct(_))) = self.rest.peek() else {
-            return false;
-        };
         let count = self.rest.glued_count();
         same_puncts(puncts, &self.rest, count)
     }
@@ -283,27 +291,31 @@ fn lifetime_trees(trees: &TtIter<'_>) -> Option<usize>
     }
 }
 
+#[tactic(auto, using(crate::proofs::LentLemmas::a_leaf, crate::proofs::LentLemmas::no_unsigned))]
 fn unsigned_trees(trees: &TtIter<'_>) -> Option<usize>
     ensures { result ≡ unsigned_trees trees.now }
 {
-    match trees.peek() {
-        Some(TtElement::Leaf(Leaf::Literal(_))) => Some(1),
-        Some(TtElement::Leaf(Leaf::Ident(name))) => {
+    let Some((leaf, _behind)) = trees.lent_leaf() else {
+        return None;
+    };
+    match leaf {
+        Leaf::Literal(_) => Some(1),
+        Leaf::Ident(name) => {
             let name = name.sym.as_str();
             if name == "true" || name == "false" {
                 return Some(1);
             }
             None
         }
-        _ => None,
+        Leaf::Punct(_) => None,
     }
 }
 
+#[tactic(auto, using(crate::proofs::LentLemmas::a_punct_leaf, crate::proofs::LentLemmas::no_minus))]
 fn literal_trees(trees: &TtIter<'_>) -> Option<usize>
     ensures { result ≡ literal_trees trees.now }
 {
-    let mut rest = again(trees);
-    let Some(TtElement::Leaf(Leaf::Punct(minus))) = rest.next() else {
+    let Some((minus, rest)) = trees.first_punct() else {
         return unsigned_trees(trees);
     };
     if minus.char != '-' {
@@ -332,12 +344,13 @@ fn tree_trees(trees: &TtIter<'_>) -> Option<usize>
     Some(1)
 }
 
+#[tactic(auto, using(crate::proofs::LentLemmas::an_ident, crate::proofs::LentLemmas::nothing_refused))]
 pub(crate) fn is_refused(trees: &TtIter<'_>) -> bool
     ensures { result ≡ is_refused trees.now }
 {
-    match trees.peek() {
-        Some(TtElement::Leaf(Leaf::Ident(name))) => name.sym.as_str() == "let",
-        _ => false,
+    match trees.lent_ident() {
+        Some((name, _behind)) => name.sym.as_str() == "let",
+        None => false,
     }
 }
 

@@ -14,8 +14,8 @@ use mbe_rules::{ConcatElement, Op};
 use std::alloc::AllocError;
 use symbols::Symbol;
 
-// The value of a round.
-fn member<'b, 'a>(values: &'b [Binding<'a>], number: usize) -> Option<&'b Binding<'a>>
+/// The value of a round.
+pub(crate) fn member<'b, 'a>(values: &'b [Binding<'a>], number: usize) -> Option<&'b Binding<'a>>
     ensures { option_map (λ b. standing_for b.now) result ≡ value_at number (values_of values.now) }
 {
     if number < values.len() {

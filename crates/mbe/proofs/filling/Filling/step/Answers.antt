@@ -17,11 +17,11 @@ returns-in-Later-clause-left g c = λ mark is.
     (λ t. Steps c.next_round.result
     (outcome mark (map_of c.args.bindings.now) (t ∷ reverse c.args.self.now.tasks.items) c.args.self.now.rounds.items c.args.out.now.tree)
     (outcome mark (map_of c.args.bindings.now) (reverse c.next_round.new.self.tasks.items) c.next_round.new.self.rounds.items c.next_round.new.out.tree))
-    (sym c.in-Later.is) (c.next_round.ensures.left mark)
+    (sym c.in-Later.is) (c.next_round.ensures.left mark is)
 
 pub returns-in-Later-clause-tokens : goal.returns-in-Later-clause-tokens
 returns-in-Later-clause-tokens g c = λ mark is.
     subst
     (λ t. IsBurstIn c.next_round.result
     (outcome mark (map_of c.args.bindings.now) (t ∷ reverse c.args.self.now.tasks.items) c.args.self.now.rounds.items c.args.out.now.tree))
-    (sym c.in-Later.is) (c.next_round.ensures.tokens mark)
+    (sym c.in-Later.is) (c.next_round.ensures.tokens mark is)
