@@ -1,10 +1,17 @@
 -- What is collected move by move are the bindings.
-use Rattle.std.proofs.Common.{◌≡◌, refl, sym, ap, ◌∙◌, ℕ, suc, ◌+◌, List, [], ◌∷◌, ◌++◌, length, map, reverse, arith}
+use Rattle.std.proofs.Common.{◌≡◌, refl, sym, ap, ◌∙◌, ℕ, suc, ◌+◌, ◌-◌, ◌<◌, List, [], ◌∷◌, ◌++◌, length, map, reverse, slice_index_or, slice_set, arith}
+use Rattle.std.proofs.Math.Seq.{get_or-append_seam, set-append_seam}
+use Rattle.std.specs.Borrow.{Bor}
+use Rattle.std.specs.List.{flat_map}
 use Rattle.std.proofs.lemmas.List.{length-append, reverse-append}
+use Rattle.std.proofs.lemmas.List.Concat.{flat_map-cons}
 use Rattle.mbe.specs.Bindings.{Map, Open, bind, bind_skipped, bind_round, bind_rounds, bindings_from, bindings, fragment}
-use Rattle.mbe.specs.Collecting.{Collecting, after, after_all}
-use Rattle.mbe.specs.Threads.{move_of}
-use Rattle.mbe.specs.declared.threads.Move.{Move as Made}
+use Rattle.mbe.specs.Bound.{map_of}
+use Rattle.mbe.specs.Collecting.{Collecting, after, after_all, round_ended, open_of, opens_of}
+use Rattle.mbe.specs.Threads.{moves_of, moves_to, steps_in, steps_of}
+use Rattle.mbe.specs.declared.collecting.Open.{Open as Opened}
+use Rattle.mbe.specs.declared.threads.Entry.{Entry, Entry', None', Some'}
+use Rattle.mbe.specs.declared.threads.Entry.TheViews.{out-Entry}
 use Rattle.mbe.specs.Readings.{Move, unit_move, fragment_move, nothing_move, enter, skip, leave, separator_move, next_round}
 
 -- rounds after others
@@ -46,12 +53,53 @@ collected-from m os (separator_move ∷ ms) = collected-from m os ms
 pub collected-bindings : (ms : List Move) → (after_all ms ([], [])).0 ≡ bindings ms
 collected-bindings ms = collected-from [] [] ms
 
--- the last of a list of moves that stands backwards is made
-pub popped : (xs ys : List Made) (m : Made) (s : Collecting) → xs ≡ ys ++ (m ∷ []) →
-    after_all (map move_of (reverse ys)) (after (move_of m) s) ≡ after_all (map move_of (reverse xs)) s
-popped xs ys m s e = sym (ap (λ l. after_all (map move_of (reverse l)) s) e ∙ ap (λ l. after_all (map move_of l) s) (reverse-append ys (m ∷ [])))
+-- moves after others
+after_all-append : (ms ns : List Move) (s : Collecting) → after_all (ms ++ ns) s ≡ after_all ns (after_all ms s)
+after_all-append [] ns s = refl
+after_all-append (m ∷ ms) ns s = after_all-append ms ns (after m s)
+
+-- an entry more, where they stand backwards
+pub one-more : (es : List (Bor Entry)) (e : Bor Entry) → flat_map steps_of (reverse (es ++ (e ∷ []))) ≡ steps_of e ++ flat_map steps_of (reverse es)
+one-more es e = ap (flat_map steps_of) (reverse-append es (e ∷ [])) ∙ flat_map-cons steps_of e (reverse es)
+
+-- the last of a list of entries that stands backwards is made
+pub popped : (xs ys : List (Bor Entry)) (e : Bor Entry) (s : Collecting) → xs ≡ ys ++ (e ∷ []) →
+    after_all (flat_map steps_of (reverse ys)) (after_all (steps_of e) s) ≡ after_all (flat_map steps_of (reverse xs)) s
+popped xs ys e s h =
+    sym (ap (λ l. after_all (flat_map steps_of (reverse l)) s) h ∙ ap (λ ms. after_all ms s) (one-more ys e)
+    ∙ after_all-append (steps_of e) (flat_map steps_of (reverse ys)) s)
 
 -- all are made
-pub all-made : (xs : List Made) (ms : List Move) (s t : Collecting) → map move_of (reverse xs) ≡ ms → s ≡ ([], []) →
-    t ≡ after_all (map move_of (reverse xs)) s → t.0 ≡ bindings ms
+pub all-made : (xs : List (Bor Entry)) (ms : List Move) (s t : Collecting) → flat_map steps_of (reverse xs) ≡ ms → s ≡ ([], []) →
+    t ≡ after_all (flat_map steps_of (reverse xs)) s → t.0 ≡ bindings ms
 all-made xs ms s t e f h = ap (λ (c : Collecting). c.0) h ∙ ap (λ l. (after_all l s).0) e ∙ ap (λ c. (after_all ms c).0) f ∙ collected-bindings ms
+
+-- those before an entry and its own
+pub up-to : (e : Entry) → moves_of (out-Entry e).before ++ steps_in e ≡ moves_to e
+unfolding out-Entry denote.Hole.Carrier.out
+up-to (Entry' b m None') = refl
+up-to (Entry' b m (Some' p e)) = refl
+
+-- the innermost open repetition stands last
+last-open : (os : List Opened) → 0 < length os → (init : List Opened) × (x : Opened) × (os ≡ init ++ (x ∷ [])) × (length os - 1 ≡ length init)
+last-open [] h = absurd (omega (arith, h))
+last-open (x ∷ []) h = ([], x, refl, refl)
+last-open (x ∷ y ∷ os) h =
+    let (init, z, e, n) = last-open (y ∷ os) (omega arith) in
+    (x ∷ init, z, ap (λ l. x ∷ l) e, omega (arith, n))
+
+-- where a round has ended it has one round more
+pub round-over : (m : Map) (os : List Opened) (n : ℕ) (x y : Opened) → n ≡ length os - 1 → 0 < length os → x ≡ slice_index_or os n x →
+    open_of y ≡ (bind_round x.rounds m (map_of x.around), suc x.rounds) → round_ended m (opens_of os) ≡ ([], opens_of (slice_set os n y))
+round-over m os n x y k h g e =
+    let (init, z, i, j) = last-open os h in
+    let at : n ≡ length init = k ∙ j in
+    let same : x ≡ z = g ∙ ap (λ l. slice_index_or l n x) i ∙ ap (λ q. slice_index_or (init ++ (z ∷ [])) q x) at ∙ get_or-append_seam init z [] x in
+    let old : opens_of os ≡ open_of z ∷ opens_of init = ap opens_of i ∙ ap (map open_of) (reverse-append init (z ∷ [])) in
+    let new : opens_of (slice_set os n y) ≡ open_of y ∷ opens_of init =
+    ap (λ l. opens_of (slice_set l n y)) i ∙ ap (λ q. opens_of (slice_set (init ++ (z ∷ [])) q y)) at ∙ ap opens_of (set-append_seam init z [] y)
+    ∙ ap (map open_of) (reverse-append init (y ∷ [])) in
+    ap (round_ended m) old
+    ∙ ap (λ o. round_ended m (open_of o ∷ opens_of init)) (sym same)
+    ∙ ap (λ o. ([], o ∷ opens_of init)) (sym e)
+    ∙ ap (λ l. ([], l)) (sym new)

@@ -51,6 +51,19 @@ move_of Leave = r.leave
 move_of separator = r.separator_move
 move_of NextRound = r.next_round
 
+-- the moves that an entry of the log stands for: its own, which may come after one into another round
+abbrev pub steps : Bool → Move → List r.Move
+steps true m = r.next_round ∷ move_of m ∷ []
+steps false m = move_of m ∷ []
+
+-- the moves of an entry
+abbrev pub steps_in : Entry → List r.Move
+steps_in (Entry' begins_round made before) = steps begins_round made
+
+-- the same where it is lent
+abbrev pub steps_of : Bor Entry → List r.Move
+steps_of e = steps_in e.now
+
 -- a frame and those around it, the innermost first
 abbrev mutual
   pub frames_to : Rung → List Frame
@@ -72,7 +85,7 @@ frames_of fs = map frame_of (frames_in fs)
 -- the moves up to an entry of the log
 abbrev mutual
   pub moves_to : Entry → List r.Move
-  moves_to (Entry' made before) = moves_before before ++ (move_of made ∷ [])
+  moves_to (Entry' begins_round made before) = moves_before before ++ steps begins_round made
 
   pub moves_before : Held-Entry-before → List r.Move
   moves_before None' = []

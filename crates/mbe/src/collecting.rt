@@ -1,16 +1,19 @@
 //! What the variables of a pattern stand for after the moves of a reading.
-ghost use Rattle.std.specs.Prelude.{◌≡◌, [], OnOk, IfOk, map, reverse};
+ghost use Rattle.std.specs.Prelude.{◌≡◌, [], ◌∷◌, OnOk, IfOk, reverse};
+ghost use Rattle.std.specs.List.{flat_map};
+ghost use Rattle.tt.specs.Views.{forest};
 ghost use Rattle.mbe_rules.specs.Items.{done, variables};
 ghost use Rattle.mbe_rules.specs.Ops.{items_of, put_op};
 ghost use Rattle.mbe.specs.Bindings.{bind_skipped, bindings};
 ghost use Rattle.mbe.specs.Bound.{map_of};
-ghost use Rattle.mbe.specs.Threads.{move_of, moves_of};
+ghost use Rattle.mbe.specs.Threads.{move_of, moves_of, steps_of};
 
-use crate::bindings::{Binding, Bindings};
+use crate::bindings::{Binding, Bindings, Bound};
 use crate::threads::{Entry, Move};
 use mbe_rules::{MetaVarKind, Op};
 use std::alloc::{AllocError, Global};
 use std::mem;
+use symbols::Symbol;
 use tt::TokenTreesView;
 
 // Each variable of an item stands for nothing.
@@ -54,25 +57,40 @@ struct Collected<'a> {
 impl<'a> Open<'a> {
     ghost use Rattle.std.specs.Prelude.{suc};
     ghost use Rattle.mbe.specs.Bindings.{bind_round};
+    ghost use Rattle.mbe.specs.Bound.{entry_of};
     ghost use Rattle.mbe.specs.Collecting.{open_of};
 
     // One round more has ended.
     #[inline(always)]
-    fn with_round(self, round: &mut Bindings<'a>) -> Result<Open<'a>, AllocError>
-        ensures bound { IfOk result (λ o. open_of o ≡ (bind_round self.entry.rounds (map_of round.old) (map_of self.entry.around), suc self.entry.rounds)) }
-        ensures left { IfOk result (λ o. map_of round.new ≡ []) }
+    fn end_round(&mut self, round: &mut Bindings<'a>) -> Result<(), AllocError>
+        ensures bound { OnOk result (open_of self.new ≡ (bind_round self.old.rounds (map_of round.old) (map_of self.old.around), suc self.old.rounds)) }
+        ensures left { OnOk result (map_of round.new ≡ []) }
     {
-        let Open { mut around, rounds } = self;
-        around.bind_round(rounds, round)?;
-        match rounds.checked_add(1) {
-            Some(rounds) => Ok(Open { around, rounds }),
-            None => Err(AllocError),
-        }
+        self.around.bind_round(self.rounds, round)?;
+        let Some(rounds) = self.rounds.checked_add(1) else {
+            return Err(AllocError);
+        };
+        self.rounds = rounds;
+        Ok(())
+    }
+
+    // The same, and this is bound first in the next round.
+    #[inline(always)]
+    fn begin_round(&mut self, round: &mut Bindings<'a>, first: Bound<'a>) -> Result<(), AllocError>
+        ensures bound { OnOk result (open_of self.new ≡ (bind_round self.old.rounds (map_of round.old) (map_of self.old.around), suc self.old.rounds)) }
+        ensures first { OnOk result (map_of round.new ≡ entry_of first.entry ∷ []) }
+    {
+        self.around.bind_round_before(self.rounds, round, first)?;
+        let Some(rounds) = self.rounds.checked_add(1) else {
+            return Err(AllocError);
+        };
+        self.rounds = rounds;
+        Ok(())
     }
 }
 
 impl<'a> Collected<'a> {
-    ghost use Rattle.mbe.specs.Collecting.{collected_of, after};
+    ghost use Rattle.mbe.specs.Collecting.{collected_of, after, after_all};
     ghost use Rattle.mbe.specs.Readings as r;
 
     // Before any move.
@@ -99,12 +117,33 @@ impl<'a> Collected<'a> {
     fn end_round(&mut self) -> Result<(), AllocError>
         ensures { OnOk result (collected_of self.new ≡ after r.next_round (collected_of self.old)) }
     {
-        let Some(open) = self.opens.pop() else {
-            return Ok(());
-        };
-        let open = open.with_round(&mut self.here)?;
-        self.opens.push(open)?;
-        Ok(())
+        match self.opens.last_mut() {
+            Some(open) => {
+                open.end_round(&mut self.here)?;
+                Ok(())
+            }
+            None => Ok(()),
+        }
+    }
+
+    // The same, and a fragment comes first in it.
+    #[inline(always)]
+    fn begin_round(
+        &mut self,
+        name: &'a Symbol,
+        kind: MetaVarKind,
+        trees: TokenTreesView<'a>,
+    ) -> Result<(), AllocError>
+        ensures { OnOk result (collected_of self.new ≡ after (r.fragment_move name.now kind (forest trees.entry)) (after r.next_round (collected_of self.old))) }
+    {
+        let binding = Binding::Fragment { kind, trees };
+        match self.opens.last_mut() {
+            Some(open) => {
+                open.begin_round(&mut self.here, Bound { name, binding })?;
+                Ok(())
+            }
+            None => self.here.bind(name, binding),
+        }
     }
 
     // A repetition ends.
@@ -141,19 +180,40 @@ impl<'a> Collected<'a> {
             Move::Unit | Move::Separator => Ok(()),
         }
     }
+
+    // The moves of one more entry are made.
+    #[inline(always)]
+    fn add_entry(&mut self, alloc: Global, entry: &'a Entry<'a>) -> Result<(), AllocError>
+        ensures { OnOk result (collected_of self.new ≡ after_all (steps_of entry.entry) (collected_of self.old)) }
+    {
+        if !entry.begins_round {
+            return self.add(alloc, entry.made);
+        }
+        match entry.made {
+            Move::Fragment { name, kind, trees } => self.begin_round(name, kind, trees),
+            made => {
+                self.end_round()?;
+                self.add(alloc, made)?;
+                Ok(())
+            }
+        }
+    }
 }
 
-// The moves up to an entry of the log, the last first.
-fn moves_back<'a>(alloc: Global, last: Option<&'a Entry<'a>>) -> Result<Vec<Move<'a>>, AllocError>
-    ensures { IfOk result (λ v. map move_of (reverse v.items) ≡ moves_of last.entry) }
+// The entries of the log up to one, the last first.
+fn entries_back<'a>(
+    alloc: Global,
+    last: Option<&'a Entry<'a>>,
+) -> Result<Vec<&'a Entry<'a>>, AllocError>
+    ensures { IfOk result (λ v. flat_map steps_of (reverse v.items) ≡ moves_of last.entry) }
 {
-    let mut moves = Vec::new(alloc);
+    let mut entries = Vec::new(alloc);
     let mut next = last;
     while let Some(entry) = next {
-        moves.push(entry.made)?;
+        entries.push(entry)?;
         next = entry.before;
     }
-    Ok(moves)
+    Ok(entries)
 }
 
 /// What the variables of a pattern stand for after the moves up to an entry of the log.
@@ -165,10 +225,10 @@ pub fn bindings_of<'a>(
 ) -> Result<Bindings<'a>, AllocError>
     ensures { IfOk result (λ b. map_of b ≡ bindings (moves_of last.entry)) }
 {
-    let mut moves = moves_back(alloc, last)?;
+    let mut entries = entries_back(alloc, last)?;
     let mut collected = Collected::new(alloc);
-    while let Some(made) = moves.pop() {
-        collected.add(alloc, made)?;
+    while let Some(entry) = entries.pop() {
+        collected.add_entry(alloc, entry)?;
     }
     let Collected { here, opens: _ } = collected;
     Ok(here)

@@ -9,7 +9,7 @@ ghost use Rattle.mbe.specs.Threads.{frames_in, frames_of, moves_of};
 
 use crate::matcher::Waiting;
 use crate::place::{Place, Taken, before, fragment_trees};
-use crate::threads::{Frame, Move, Round, Rung, Thread};
+use crate::threads::{Frame, Move, Round, Rung, Thread, extended_by_round};
 use bumpalo::Bump;
 use fragment_grammar::FragmentGrammar;
 use mbe_rules::{MetaVarKind, Op, RepeatKind};
@@ -92,14 +92,17 @@ impl<'a> Thread<'a> {
     ) -> Result<Thread<'a>, AllocError>
         ensures items { IfOk result (λ t. t.items.now ≡ self.now.items.now) }
         ensures frames { IfOk result (λ t. frames_in t.frames ≡ frames_in self.now.frames) }
-        ensures moves { IfOk result (λ t. moves_of t.moves ≡ (moves_of self.now.moves ++ (r.next_round ∷ []))
-            ++ (r.fragment_move name.now kind (before count (r.trees_here (place_of place.now))) ∷ [])) }
+        ensures moves { IfOk result (λ t. moves_of t.moves ≡ moves_of self.now.moves
+            ++ (r.next_round ∷ r.fragment_move name.now kind (before count (r.trees_here (place_of place.now))) ∷ [])) }
     {
-        let round = self.moved(arena, self.items, self.frames, Move::NextRound)?;
         let trees = before(&place.rest, count);
         let made = Move::Fragment { name, kind, trees };
-        let thread = round.moved(arena, self.items, self.frames, made)?;
-        Ok(thread)
+        let moves = extended_by_round(arena, self.moves, made)?;
+        Ok(Thread {
+            items: self.items,
+            frames: self.frames,
+            moves,
+        })
     }
 
     // What alone waits after a thread of which a round has ended, where it is one of a variable and the place

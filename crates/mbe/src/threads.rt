@@ -63,6 +63,8 @@ pub enum Move<'a> {
 /// A move of the log, and the entry of the move before it. Entries are shared by the threads that came by them.
 #[derive(Clone, Copy, Drop)]
 pub struct Entry<'a> {
+    // Whether the move into another round comes first, which then has no entry of its own.
+    pub(crate) begins_round: bool,
     pub(crate) made: Move<'a>,
     pub(crate) before: Option<&'a Entry<'a>>,
 }
@@ -76,7 +78,32 @@ pub(crate) fn extended<'a>(
 ) -> Result<Option<&'a Entry<'a>>, AllocError>
     ensures { IfOk result (λ e. moves_of e ≡ moves_of before.entry ++ (move_of made.entry ∷ [])) }
 {
-    let Ok(entry) = arena.try_alloc(Entry { made, before }) else {
+    let begins_round = false;
+    let Ok(entry) = arena.try_alloc(Entry {
+        begins_round,
+        made,
+        before,
+    }) else {
+        return Err(AllocError);
+    };
+    Ok(Some(entry))
+}
+
+// The log with a move into another round, and one more.
+#[inline(always)]
+pub(crate) fn extended_by_round<'a>(
+    arena: &'a Bump,
+    before: Option<&'a Entry<'a>>,
+    made: Move<'a>,
+) -> Result<Option<&'a Entry<'a>>, AllocError>
+    ensures { IfOk result (λ e. moves_of e ≡ moves_of before.entry ++ (r.next_round ∷ move_of made.entry ∷ [])) }
+{
+    let begins_round = true;
+    let Ok(entry) = arena.try_alloc(Entry {
+        begins_round,
+        made,
+        before,
+    }) else {
         return Err(AllocError);
     };
     Ok(Some(entry))

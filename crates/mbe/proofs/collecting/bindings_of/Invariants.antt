@@ -1,13 +1,14 @@
--- The moves that are left give what all gave at first.
-use Rattle.std.proofs.Common.{◌≡◌, length, map, reverse}
+-- The entries that are left give what all gave at first.
+use Rattle.std.proofs.Common.{◌≡◌, length, reverse}
+use Rattle.std.specs.List.{flat_map}
 use Rattle.mbe.specs.Collecting.{after_all, collected_of}
-use Rattle.mbe.specs.Threads.{move_of}
+use Rattle.mbe.specs.Threads.{steps_of}
 use Rattle.mbe.proofs.collecting.bindings_of.Given as goal
 
-abbrev pub invariant-loop-made : goal.invariant-loop-made
-invariant-loop-made l =
-    after_all (map move_of (reverse l.moves.items)) (collected_of l.collected)
-    ≡ after_all (map move_of (reverse l.initial.moves.items)) (collected_of l.initial.collected)
+abbrev pub invariant-loop-entry : goal.invariant-loop-entry
+invariant-loop-entry l =
+    after_all (flat_map steps_of (reverse l.entries.items)) (collected_of l.collected)
+    ≡ after_all (flat_map steps_of (reverse l.initial.entries.items)) (collected_of l.initial.collected)
 
-abbrev pub decreases-loop-made : goal.decreases-loop-made
-decreases-loop-made l = length l.moves.items
+abbrev pub decreases-loop-entry : goal.decreases-loop-entry
+decreases-loop-entry l = length l.entries.items
