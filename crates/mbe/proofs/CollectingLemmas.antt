@@ -1,15 +1,17 @@
 -- What is collected move by move are the bindings.
-use Rattle.std.proofs.Common.{◌≡◌, refl, sym, ap, ◌∙◌, ℕ, zero, suc, ◌+◌, List, [], ◌∷◌, ◌++◌, length, get_or, map, reverse, arith}
-use Rattle.std.proofs.Math.ListN.{set}
+use Rattle.std.proofs.Common.{◌≡◌, refl, sym, ap, ◌∙◌, ℕ, suc, ◌+◌, ◌-◌, ◌<◌, List, [], ◌∷◌, ◌++◌, length, map, reverse, slice_index_or, slice_set, arith}
 use Rattle.std.proofs.Math.Seq.{get_or-append_seam, set-append_seam}
-use Rattle.std.proofs.lemmas.List.{length-append, reverse-append}
-use Rattle.mbe.specs.Bindings.{Map, Open, bind, bind_skipped, bind_round, bind_rounds, bindings_from, bindings, fragment}
-use Rattle.mbe.specs.Collecting.{Collecting, after, after_all, open_of, opens_of, round_ended}
 use Rattle.std.specs.Borrow.{Bor}
+use Rattle.std.specs.List.{flat_map}
+use Rattle.std.proofs.lemmas.List.{length-append, reverse-append}
+use Rattle.std.proofs.lemmas.List.Concat.{flat_map-cons}
+use Rattle.mbe.specs.Bindings.{Map, Open, bind, bind_skipped, bind_round, bind_rounds, bindings_from, bindings, fragment}
 use Rattle.mbe.specs.Bound.{map_of}
-use Rattle.mbe.specs.Threads.{moves_at, moves_in}
-use Rattle.mbe.specs.declared.collecting.Open.{Open as Open'}
-use Rattle.mbe.specs.declared.threads.Entry.{Entry}
+use Rattle.mbe.specs.Collecting.{Collecting, after, after_all, round_ended, open_of, opens_of}
+use Rattle.mbe.specs.Threads.{moves_of, moves_to, steps_in, steps_of}
+use Rattle.mbe.specs.declared.collecting.Open.{Open as Opened}
+use Rattle.mbe.specs.declared.threads.Entry.{Entry, Entry', None', Some'}
+use Rattle.mbe.specs.declared.threads.Entry.TheViews.{out-Entry}
 use Rattle.mbe.specs.Readings.{Move, unit_move, fragment_move, nothing_move, enter, skip, leave, separator_move, next_round}
 
 -- rounds after others
@@ -51,49 +53,53 @@ collected-from m os (separator_move ∷ ms) = collected-from m os ms
 pub collected-bindings : (ms : List Move) → (after_all ms ([], [])).0 ≡ bindings ms
 collected-bindings ms = collected-from [] [] ms
 
--- moves, and others after them
+-- moves after others
 after_all-append : (ms ns : List Move) (s : Collecting) → after_all (ms ++ ns) s ≡ after_all ns (after_all ms s)
 after_all-append [] ns s = refl
 after_all-append (m ∷ ms) ns s = after_all-append ms ns (after m s)
 
--- the moves of the last of a list of entries that stands backwards are made
+-- an entry more, where they stand backwards
+pub one-more : (es : List (Bor Entry)) (e : Bor Entry) → flat_map steps_of (reverse (es ++ (e ∷ []))) ≡ steps_of e ++ flat_map steps_of (reverse es)
+one-more es e = ap (flat_map steps_of) (reverse-append es (e ∷ [])) ∙ flat_map-cons steps_of e (reverse es)
+
+-- the last of a list of entries that stands backwards is made
 pub popped : (xs ys : List (Bor Entry)) (e : Bor Entry) (s : Collecting) → xs ≡ ys ++ (e ∷ []) →
-    after_all (moves_in (reverse ys)) (after_all (moves_at e.now) s) ≡ after_all (moves_in (reverse xs)) s
+    after_all (flat_map steps_of (reverse ys)) (after_all (steps_of e) s) ≡ after_all (flat_map steps_of (reverse xs)) s
 popped xs ys e s h =
-    sym (after_all-append (moves_at e.now) (moves_in (reverse ys)) s)
-    ∙ sym (ap (λ l. after_all (moves_in (reverse l)) s) h ∙ ap (λ l. after_all (moves_in l) s) (reverse-append ys (e ∷ [])))
+    sym (ap (λ l. after_all (flat_map steps_of (reverse l)) s) h ∙ ap (λ ms. after_all ms s) (one-more ys e)
+    ∙ after_all-append (steps_of e) (flat_map steps_of (reverse ys)) s)
 
 -- all are made
-pub all-made : (xs : List (Bor Entry)) (ms : List Move) (s t : Collecting) → moves_in (reverse xs) ≡ ms → s ≡ ([], []) →
-    t ≡ after_all (moves_in (reverse xs)) s → t.0 ≡ bindings ms
+pub all-made : (xs : List (Bor Entry)) (ms : List Move) (s t : Collecting) → flat_map steps_of (reverse xs) ≡ ms → s ≡ ([], []) →
+    t ≡ after_all (flat_map steps_of (reverse xs)) s → t.0 ≡ bindings ms
 all-made xs ms s t e f h = ap (λ (c : Collecting). c.0) h ∙ ap (λ l. (after_all l s).0) e ∙ ap (λ c. (after_all ms c).0) f ∙ collected-bindings ms
 
--- ---- the innermost of the open repetitions stands last
+-- those before an entry and its own
+pub up-to : (e : Entry) → moves_of (out-Entry e).before ++ steps_in e ≡ moves_to e
+unfolding out-Entry denote.Hole.Carrier.out
+up-to (Entry' b m None') = refl
+up-to (Entry' b m (Some' p e)) = refl
 
-ends : (xs : List Open') (i : ℕ) → length xs ≡ suc i → (ys : List Open') × (x : Open') × (xs ≡ ys ++ (x ∷ [])) × (length ys ≡ i)
-ends [] i e = absurd (omega (arith, e))
-ends (x ∷ []) i e = ([], x, refl, omega (arith, e))
-ends (x ∷ y ∷ xs) zero e = absurd (omega (arith, e))
-ends (x ∷ y ∷ xs) (suc i) e =
-    let r = ends (y ∷ xs) i (omega (arith, e)) in
-    (x ∷ r.0, r.1, ap (λ l. x ∷ l) r.2, ap suc r.3)
+-- the innermost open repetition stands last
+last-open : (os : List Opened) → 0 < length os → (init : List Opened) × (x : Opened) × (os ≡ init ++ (x ∷ [])) × (length os - 1 ≡ length init)
+last-open [] h = absurd (omega (arith, h))
+last-open (x ∷ []) h = ([], x, refl, refl)
+last-open (x ∷ y ∷ os) h =
+    let (init, z, e, n) = last-open (y ∷ os) (omega arith) in
+    (x ∷ init, z, ap (λ l. x ∷ l) e, omega (arith, n))
 
-opens-last : (ys : List Open') (x : Open') → opens_of (ys ++ (x ∷ [])) ≡ open_of x ∷ opens_of ys
-opens-last ys x = ap (map open_of) (reverse-append ys (x ∷ []))
-
--- it has one round more
-pub round-counted : (xs : List Open') (i : ℕ) (o d : Open') (here : Map) → length xs ≡ suc i →
-    open_of o ≡ (bind_round (get_or xs i d).rounds here (map_of (get_or xs i d).around), suc (get_or xs i d).rounds) →
-    ([], opens_of (set xs i o)) ≡ round_ended here (opens_of xs)
-round-counted xs i o d here e h =
-    let r = ends xs i e in
-    let ys : List Open' = r.0 in
-    let x : Open' = r.1 in
-    let is : set xs i o ≡ ys ++ (o ∷ []) =
-        ap (λ l. set l i o) r.2 ∙ ap (λ k. set (ys ++ (x ∷ [])) k o) (sym r.3) ∙ set-append_seam ys x [] o in
-    let was : get_or xs i d ≡ x =
-        ap (λ l. get_or l i d) r.2 ∙ ap (λ k. get_or (ys ++ (x ∷ [])) k d) (sym r.3) ∙ get_or-append_seam ys x [] d in
-    ap (λ l. ([], opens_of l)) is
-    ∙ ap (λ l. ([], l)) (opens-last ys o)
-    ∙ ap (λ y. ([], y ∷ opens_of ys)) (h ∙ ap (λ (y : Open'). (bind_round y.rounds here (map_of y.around), suc y.rounds)) was)
-    ∙ sym (ap (λ l. round_ended here (opens_of l)) r.2 ∙ ap (round_ended here) (opens-last ys x))
+-- where a round has ended it has one round more
+pub round-over : (m : Map) (os : List Opened) (n : ℕ) (x y : Opened) → n ≡ length os - 1 → 0 < length os → x ≡ slice_index_or os n x →
+    open_of y ≡ (bind_round x.rounds m (map_of x.around), suc x.rounds) → round_ended m (opens_of os) ≡ ([], opens_of (slice_set os n y))
+round-over m os n x y k h g e =
+    let (init, z, i, j) = last-open os h in
+    let at : n ≡ length init = k ∙ j in
+    let same : x ≡ z = g ∙ ap (λ l. slice_index_or l n x) i ∙ ap (λ q. slice_index_or (init ++ (z ∷ [])) q x) at ∙ get_or-append_seam init z [] x in
+    let old : opens_of os ≡ open_of z ∷ opens_of init = ap opens_of i ∙ ap (map open_of) (reverse-append init (z ∷ [])) in
+    let new : opens_of (slice_set os n y) ≡ open_of y ∷ opens_of init =
+    ap (λ l. opens_of (slice_set l n y)) i ∙ ap (λ q. opens_of (slice_set (init ++ (z ∷ [])) q y)) at ∙ ap opens_of (set-append_seam init z [] y)
+    ∙ ap (map open_of) (reverse-append init (y ∷ [])) in
+    ap (round_ended m) old
+    ∙ ap (λ o. round_ended m (open_of o ∷ opens_of init)) (sym same)
+    ∙ ap (λ o. ([], o ∷ opens_of init)) (sym e)
+    ∙ ap (λ l. ([], l)) (sym new)

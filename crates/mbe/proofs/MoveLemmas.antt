@@ -143,7 +143,7 @@ nothing-taken g kind.Meta i e = asked-nothing _ _ i e
 nothing-taken g kind.Item i e = asked-nothing _ _ i e
 nothing-taken g kind.Vis i e = asked-nothing _ _ i e
 
-fragment-lowers : (g : Grammar) (k : MetaVarKind) (i : ℕ) (f : Forest) (outer : List Forest) →
+pub fragment-lowers : (g : Grammar) (k : MetaVarKind) (i : ℕ) (f : Forest) (outer : List Forest) →
     taken g k f ≡ Some (suc i) → left (place (past (suc i) f) outer) < left (place f outer)
 fragment-lowers g k i empty outer e = absurd (nothing-taken g k i e)
 fragment-lowers g k i (leaf l rest) outer e = let a = past-le i rest in left-steps (past i rest) (leaf l rest) outer (omega arith)

@@ -1,5 +1,5 @@
 -- A turn of the main loop, over the program's threads
-use Rattle.std.proofs.Common.{◌≡◌, refl, sym, ap, subst, ◌∙◌, ℕ, ◌<◌, Bool, true, false, List, [], ◌∷◌, ◌++◌, map, Some, None, length, get_or, arith}
+use Rattle.std.proofs.Common.{◌≡◌, refl, sym, ap, subst, ◌∙◌, ℕ, ◌≤◌, ◌<◌, Bool, true, false, List, [], ◌∷◌, ◌++◌, map, Some, None, length, get_or, arith}
 use Rattle.std.specs.List.{flat_map}
 use Rattle.tt_data.specs.Forest.{Forest}
 use Rattle.mbe_rules.specs.Items.{Items, has_empty_round}
@@ -8,6 +8,7 @@ use Rattle.mbe.specs.Grammar.{Grammar}
 use Rattle.mbe.specs.Paths.{only, clash}
 use Rattle.mbe.specs.Places as q
 use Rattle.mbe.specs.Readings as r
+use Rattle.mbe.specs.Rounds.{Follows, stays, goes_on}
 use Rattle.mbe.specs.Threads as t
 use Rattle.mbe.specs.Settled.{Leads, IsKept, IsSound, IsSoundAt}
 use Rattle.mbe.specs.Units as u
@@ -163,3 +164,30 @@ first-held gr pattern argument p h e i s m ws us seen xs a b f =
     leads-held gr pattern argument p all ws seen
     (f all (subst (λ x. Leads gr pattern p all us x (GoOn (as_choice h) ∷ [])) (sym b) (subst (λ x. Leads gr pattern p all x [] (GoOn (as_choice h) ∷ [])) (sym a) l)))
     (start-held gr pattern argument p e i all (ap (λ x. map (prefixed x) (settled_at gr (t.state_of h p))) m ∙ ap (λ x. map (prefixed []) (settled_at gr x)) s))
+
+one-takes : (b : Bool) → false ≡ clash (b ∷ [])
+one-takes true = refl
+one-takes false = refl
+
+-- so do those that wait where again and again one alone waits after another
+pub follows-held : (gr : Grammar) → (pattern : Items) (argument : Forest) (p : P) (ws : List d.Waiting) (s : P) (us : List d.Waiting) → Follows gr p ws s us →
+    Held gr pattern argument p (t.waits p ws) → Held gr pattern argument s (t.waits s us) × (u.left s ≤ u.left p)
+follows-held gr pattern argument p ws _ _ stays h = (h, omega arith)
+follows-held gr pattern argument p ws _ _ (goes_on {q = o} {t = th} {k} {w} f alone) h =
+    let s = q.place_after o (Some k) in
+    let (i, le) = follows-held gr pattern argument p ws o (Pending th k ∷ []) f h in
+    let n = turn gr pattern argument o (Pending th k ∷ []) k i (one-takes (t.is_trees (Some k))) refl s refl in
+    let all : t.waits s (w ∷ []) ≡ flat_map (advanced_by (settled_at gr)) (t.waits_at s (Pending th k ∷ [])) =
+    ap (λ x. x ++ []) (sym (alone (r.room pattern) n.good.0.0)) in
+    (n.held (t.waits s (w ∷ [])) all, (let lower = n.lower in omega (arith, lower, le)))
+
+-- a turn, and the rounds after it
+pub turned : (gr : Grammar) → (pattern : Items) (argument : Forest) (p s o : P) (ws vs us : List d.Waiting) (seen : List Seen) (k : Taken) →
+    Held gr pattern argument p (t.waits p ws) → false ≡ clash (flat_map t.takings_of ws) → Some k ≡ t.head_taken ws → s ≡ q.place_after p (Some k) →
+    (Each (IsSoundAt pattern) (t.waits_at s ws) → Leads gr pattern s (flat_map (advanced_by (settled_at gr)) (t.waits_at s ws)) vs seen []) →
+    Follows gr s vs o us → Held gr pattern argument o (t.waits o us) × (u.left o < u.left p)
+turned gr pattern argument p s o ws vs us seen k h c e i leads f =
+    let n = turn gr pattern argument p ws k h c e s i in
+    let all = flat_map (advanced_by (settled_at gr)) (t.waits_at s ws) in
+    let (held, le) = follows-held gr pattern argument s vs o us f (leads-held gr pattern argument s all vs seen (leads n.good) (n.held all refl)) in
+    (held, (let lower = n.lower in omega (arith, lower, le)))

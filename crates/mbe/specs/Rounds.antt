@@ -5,11 +5,14 @@ use Rattle.mbe_rules.specs.Items.{dollar, variable, Items, done, item}
 use Rattle.mbe_rules.specs.declared.parser.MetaVarKind.{MetaVarKind}
 use Rattle.mbe_rules.specs.declared.parser.RepeatKind.{RepeatKind}
 use Rattle.mbe.specs.Grammar.{Grammar}
+use Rattle.mbe.specs.Places.{place_after}
 use Rattle.mbe.specs.Readings.{Frame, in_group, in_round, parted, may_repeat}
 use Rattle.mbe.specs.Threads.{frame_of, moves_of, state_of, waiting_of}
 use Rattle.mbe.specs.Units as u
 use Rattle.mbe.specs.Waiting.{Good, prefixed, settled_at}
 use Rattle.mbe.specs.declared.matcher.Waiting as d
+use Rattle.mbe.specs.declared.matcher.Waiting.TheVariants.{Pending}
+use Rattle.mbe.specs.declared.place.Taken.{Taken}
 use Rattle.mbe.specs.declared.threads.Frame.TheVariants.{InRound}
 use Rattle.mbe.specs.declared.threads.Round.{Round}
 use Rattle.mbe.specs.declared.threads.Thread.{Thread}
@@ -38,3 +41,9 @@ HasLone items frames n k =
 abbrev pub WaitsAlone : Grammar → u.Place → Thread → d.Waiting → Type 0
 WaitsAlone gr p t w =
     (N : ℕ) → Good N (state_of t p) → map (prefixed (moves_of t.moves)) (settled_at gr (state_of t p)) ≡ waiting_of p w ∷ []
+
+-- from threads that wait at a place, those that wait where a thread was alone and one alone waits after it, any number of times
+pub data Follows (gr : Grammar) (p : u.Place) (ws : List d.Waiting) : u.Place → List d.Waiting → Type 0 where
+  stays : Follows gr p ws p ws
+  goes_on : {q : u.Place} {t : Thread} {k : Taken} {w : d.Waiting} → Follows gr p ws q (Pending t k ∷ []) → WaitsAlone gr (place_after q (Some k)) t w →
+      Follows gr p ws (place_after q (Some k)) (w ∷ [])

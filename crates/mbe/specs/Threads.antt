@@ -1,6 +1,5 @@
 -- What the matcher's threads stand for
-use Rattle.std.specs.Prelude.{◌==◌, ◌&&◌, if◌then◌else◌, length, Bool, true, false, List, [], ◌∷◌, ◌++◌, map, Option, Some, None}
-use Rattle.std.specs.List.{flat_map}
+use Rattle.std.specs.Prelude.{◌==◌, ◌&&◌, length, Bool, true, false, List, [], ◌∷◌, ◌++◌, map, Option, Some, None}
 use Rattle.tt.specs.Views.{forest}
 use Rattle.std.specs.Borrow.{Bor}
 use Rattle.mbe_rules.specs.Items as i
@@ -52,6 +51,19 @@ move_of Leave = r.leave
 move_of separator = r.separator_move
 move_of NextRound = r.next_round
 
+-- the moves that an entry of the log stands for: its own, which may come after one into another round
+abbrev pub steps : Bool → Move → List r.Move
+steps true m = r.next_round ∷ move_of m ∷ []
+steps false m = move_of m ∷ []
+
+-- the moves of an entry
+abbrev pub steps_in : Entry → List r.Move
+steps_in (Entry' begins_round made before) = steps begins_round made
+
+-- the same where it is lent
+abbrev pub steps_of : Bor Entry → List r.Move
+steps_of e = steps_in e.now
+
 -- a frame and those around it, the innermost first
 abbrev mutual
   pub frames_to : Rung → List Frame
@@ -70,18 +82,10 @@ frames_in (Some r) = frames_to r.now
 abbrev pub frames_of : Option (Bor Rung) → List r.Frame
 frames_of fs = map frame_of (frames_in fs)
 
--- a move, and before it that into another round, where it begins one
-abbrev pub moves_with : Bool → Move → List r.Move
-moves_with begins_round made = if begins_round then r.next_round ∷ move_of made ∷ [] else move_of made ∷ []
-
--- the moves of an entry alone
-abbrev pub moves_at : Entry → List r.Move
-moves_at (Entry' begins_round made before) = moves_with begins_round made
-
 -- the moves up to an entry of the log
 abbrev mutual
   pub moves_to : Entry → List r.Move
-  moves_to (Entry' begins_round made before) = moves_before before ++ moves_with begins_round made
+  moves_to (Entry' begins_round made before) = moves_before before ++ steps begins_round made
 
   pub moves_before : Held-Entry-before → List r.Move
   moves_before None' = []
@@ -91,10 +95,6 @@ abbrev mutual
 abbrev pub moves_of : Option (Bor Entry) → List r.Move
 moves_of None = []
 moves_of (Some e) = moves_to e.now
-
--- the moves of some entries alone, in order
-abbrev pub moves_in : List (Bor Entry) → List r.Move
-moves_in entries = flat_map (λ e. moves_at e.now) entries
 
 -- the state that a thread is in at a place
 abbrev pub state_of : Thread → u.Place → r.State

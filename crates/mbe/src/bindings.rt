@@ -104,9 +104,9 @@ impl<'a> Bound<'a> {
 }
 
 impl<'a> Bindings<'a> {
-    ghost use Rattle.std.specs.Prelude.{[], option_map};
+    ghost use Rattle.std.specs.Prelude.{[], ◌∷◌, option_map};
     ghost use Rattle.mbe.specs.Bindings.{bind, binding_of, bind_round};
-    ghost use Rattle.mbe.specs.Bound.{map_of, place_among};
+    ghost use Rattle.mbe.specs.Bound.{entry_of, map_of, place_among};
 
     /// No name stands for anything.
     pub(crate) fn new(alloc: Global) -> Bindings<'a>
@@ -201,6 +201,26 @@ impl<'a> Bindings<'a> {
         while let Some(bound) = round.bound.pop() {
             self.bind_in_round(number, bound.name, bound.binding)?;
         }
+        Ok(())
+    }
+
+    /// The names that are bound in a round have their values of it, and the round holds only this one.
+    #[inline(always)]
+    pub(crate) fn bind_round_before(
+        &mut self,
+        number: usize,
+        round: &mut Bindings<'a>,
+        next: Bound<'a>,
+    ) -> Result<(), AllocError>
+        ensures bound { OnOk result (map_of self.new ≡ bind_round number (map_of round.old) (map_of self.old)) }
+        ensures left { OnOk result (map_of round.new ≡ entry_of next.entry ∷ []) }
+    {
+        if round.bound.len() == 1 {
+            let ended = mem::replace(&mut round.bound[0], next);
+            return self.bind_in_round(number, ended.name, ended.binding);
+        }
+        self.bind_round(number, round)?;
+        round.bound.push(next)?;
         Ok(())
     }
 }

@@ -1,16 +1,19 @@
 //! What the variables of a pattern stand for after the moves of a reading.
-ghost use Rattle.std.specs.Prelude.{◌≡◌, [], OnOk, IfOk, reverse};
+ghost use Rattle.std.specs.Prelude.{◌≡◌, [], ◌∷◌, OnOk, IfOk, reverse};
+ghost use Rattle.std.specs.List.{flat_map};
+ghost use Rattle.tt.specs.Views.{forest};
 ghost use Rattle.mbe_rules.specs.Items.{done, variables};
 ghost use Rattle.mbe_rules.specs.Ops.{items_of, put_op};
 ghost use Rattle.mbe.specs.Bindings.{bind_skipped, bindings};
 ghost use Rattle.mbe.specs.Bound.{map_of};
-ghost use Rattle.mbe.specs.Threads.{move_of, moves_at, moves_in, moves_of};
+ghost use Rattle.mbe.specs.Threads.{move_of, moves_of, steps_of};
 
-use crate::bindings::{Binding, Bindings};
+use crate::bindings::{Binding, Bindings, Bound};
 use crate::threads::{Entry, Move};
 use mbe_rules::{MetaVarKind, Op};
 use std::alloc::{AllocError, Global};
 use std::mem;
+use symbols::Symbol;
 use tt::TokenTreesView;
 
 // Each variable of an item stands for nothing.
@@ -54,6 +57,7 @@ struct Collected<'a> {
 impl<'a> Open<'a> {
     ghost use Rattle.std.specs.Prelude.{suc};
     ghost use Rattle.mbe.specs.Bindings.{bind_round};
+    ghost use Rattle.mbe.specs.Bound.{entry_of};
     ghost use Rattle.mbe.specs.Collecting.{open_of};
 
     // One round more has ended.
@@ -62,10 +66,24 @@ impl<'a> Open<'a> {
         ensures bound { OnOk result (open_of self.new ≡ (bind_round self.old.rounds (map_of round.old) (map_of self.old.around), suc self.old.rounds)) }
         ensures left { OnOk result (map_of round.new ≡ []) }
     {
+        self.around.bind_round(self.rounds, round)?;
         let Some(rounds) = self.rounds.checked_add(1) else {
             return Err(AllocError);
         };
-        self.around.bind_round(self.rounds, round)?;
+        self.rounds = rounds;
+        Ok(())
+    }
+
+    // The same, and this is bound first in the next round.
+    #[inline(always)]
+    fn begin_round(&mut self, round: &mut Bindings<'a>, first: Bound<'a>) -> Result<(), AllocError>
+        ensures bound { OnOk result (open_of self.new ≡ (bind_round self.old.rounds (map_of round.old) (map_of self.old.around), suc self.old.rounds)) }
+        ensures first { OnOk result (map_of round.new ≡ entry_of first.entry ∷ []) }
+    {
+        self.around.bind_round_before(self.rounds, round, first)?;
+        let Some(rounds) = self.rounds.checked_add(1) else {
+            return Err(AllocError);
+        };
         self.rounds = rounds;
         Ok(())
     }
@@ -99,12 +117,33 @@ impl<'a> Collected<'a> {
     fn end_round(&mut self) -> Result<(), AllocError>
         ensures { OnOk result (collected_of self.new ≡ after r.next_round (collected_of self.old)) }
     {
-        let count = self.opens.len();
-        if count == 0 {
-            return Ok(());
+        match self.opens.last_mut() {
+            Some(open) => {
+                open.end_round(&mut self.here)?;
+                Ok(())
+            }
+            None => Ok(()),
         }
-        self.opens[count - 1].end_round(&mut self.here)?;
-        Ok(())
+    }
+
+    // The same, and a fragment comes first in it.
+    #[inline(always)]
+    fn begin_round(
+        &mut self,
+        name: &'a Symbol,
+        kind: MetaVarKind,
+        trees: TokenTreesView<'a>,
+    ) -> Result<(), AllocError>
+        ensures { OnOk result (collected_of self.new ≡ after (r.fragment_move name.now kind (forest trees.entry)) (after r.next_round (collected_of self.old))) }
+    {
+        let binding = Binding::Fragment { kind, trees };
+        match self.opens.last_mut() {
+            Some(open) => {
+                open.begin_round(&mut self.here, Bound { name, binding })?;
+                Ok(())
+            }
+            None => self.here.bind(name, binding),
+        }
     }
 
     // A repetition ends.
@@ -142,16 +181,22 @@ impl<'a> Collected<'a> {
         }
     }
 
-    // The moves of an entry are made.
-    #[inline]
-    fn add_entry(&mut self, alloc: Global, entry: &Entry<'a>) -> Result<(), AllocError>
-        ensures { OnOk result (collected_of self.new ≡ after_all (moves_at entry.now) (collected_of self.old)) }
+    // The moves of one more entry are made.
+    #[inline(always)]
+    fn add_entry(&mut self, alloc: Global, entry: &'a Entry<'a>) -> Result<(), AllocError>
+        ensures { OnOk result (collected_of self.new ≡ after_all (steps_of entry.entry) (collected_of self.old)) }
     {
-        if entry.begins_round {
-            self.end_round()?;
+        if !entry.begins_round {
+            return self.add(alloc, entry.made);
         }
-        self.add(alloc, entry.made)?;
-        Ok(())
+        match entry.made {
+            Move::Fragment { name, kind, trees } => self.begin_round(name, kind, trees),
+            made => {
+                self.end_round()?;
+                self.add(alloc, made)?;
+                Ok(())
+            }
+        }
     }
 }
 
@@ -160,7 +205,7 @@ fn entries_back<'a>(
     alloc: Global,
     last: Option<&'a Entry<'a>>,
 ) -> Result<Vec<&'a Entry<'a>>, AllocError>
-    ensures { IfOk result (λ v. moves_in (reverse v.items) ≡ moves_of last.entry) }
+    ensures { IfOk result (λ v. flat_map steps_of (reverse v.items) ≡ moves_of last.entry) }
 {
     let mut entries = Vec::new(alloc);
     let mut next = last;

@@ -8,6 +8,7 @@ ghost use Rattle.mbe.specs.Grammar.{Grammar};
 ghost use Rattle.mbe.specs.Paths.{clash, only};
 ghost use Rattle.mbe.specs.Places.{place_of};
 ghost use Rattle.mbe.specs.Readings as r;
+ghost use Rattle.mbe.specs.Rounds.{Follows};
 ghost use Rattle.mbe.specs.Settled.{Leads, HasEnd, IsGood, IsSoundAt, most_tasks, planned, tasks_of, tasks_of_all};
 ghost use Rattle.mbe.specs.Units as u;
 ghost use Rattle.mbe.specs.Waiting.{settled_at, advanced_by, empties_at, finished, Each};
@@ -420,6 +421,33 @@ impl<'a> Settled<'a> {
         Ok(())
     }
 
+    // Goes on with a thread that waits alone, round after round of one variable, as long as another is seen to
+    // be the only way on.
+    fn go_round<G: FragmentGrammar>(
+        &mut self,
+        arena: &'a Bump,
+        grammar: &G,
+        place: &mut Place<'a>,
+    ) -> Result<(), AllocError>
+        ensures tasks { OnOk result (self.new.tasks.items ≡ self.old.tasks.items) }
+        ensures rounds { OnOk result (Follows (G.answer grammar.now) (place_of place.old) self.old.waiting.items (place_of place.new) self.new.waiting.items) }
+    {
+        if self.waiting.len() != 1 {
+            return Ok(());
+        }
+        let Waiting::Pending {
+            thread,
+            taken: Taken::Fragment(count),
+        } = self.waiting[0]
+        else {
+            return Ok(());
+        };
+        let (thread, count) = thread.after_rounds(arena, grammar, count, place)?;
+        let taken = Taken::Fragment(count);
+        self.waiting[0] = Waiting::Pending { thread, taken };
+        Ok(())
+    }
+
     // Hands the threads that wait over, and holds none.
     #[inline(always)]
     fn hand_over(&mut self, waiting: &mut Vec<Waiting<'a>>)
@@ -524,5 +552,6 @@ pub fn match_pattern<'a, G: FragmentGrammar>(
         place = place.after(taken)?;
         found.hand_over(&mut waiting);
         found.advance_all(arena, grammar, &waiting, &place)?;
+        found.go_round(arena, grammar, &mut place)?;
     }
 }

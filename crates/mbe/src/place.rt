@@ -70,13 +70,23 @@ pub(crate) fn past<'a>(trees: &TtIter<'a>, count: usize) -> TtIter<'a>
     rest
 }
 
+// The first trees, and those after them.
+#[inline(always)]
+pub(crate) fn parted<'a>(trees: &TtIter<'a>, count: usize) -> (TokenTreesView<'a>, TtIter<'a>)
+    ensures first { forest result.0 ≡ before count trees.now }
+    ensures rest { result.1 ≡ past count trees.now }
+{
+    let rest = past(trees, count);
+    (rest.passed_since(trees.remaining()), rest)
+}
+
 // The first trees.
 #[inline(always)]
 pub(crate) fn before<'a>(trees: &TtIter<'a>, count: usize) -> TokenTreesView<'a>
     ensures { forest result ≡ before count trees.now }
 {
-    let rest = past(trees, count);
-    rest.passed_since(trees.remaining())
+    let (first, _rest) = parted(trees, count);
+    first
 }
 
 // The name behind a quote at the head of a list.

@@ -1,20 +1,25 @@
 //! Rounds of one variable, where no other way leads on.
-ghost use Rattle.std.specs.Prelude.{◌≡◌, true, [], ◌∷◌, ◌++◌, IfOk, IfSome};
+ghost use Rattle.std.specs.Prelude.{◌≡◌, ◌≢◌, true, [], ◌∷◌, ◌++◌, Some, IfOk, IfSome};
+ghost use Rattle.tt_data.specs.Forest.{empty};
 ghost use Rattle.mbe_rules.specs.Trees.{before};
 ghost use Rattle.mbe_rules.specs.Ops.{items_of};
+ghost use Rattle.mbe.specs.Fragments.{taken};
 ghost use Rattle.mbe.specs.Places.{place_of};
 ghost use Rattle.mbe.specs.Readings as r;
-ghost use Rattle.mbe.specs.Rounds.{IsLone, IsShut, HasLone, WaitsAlone};
+ghost use Rattle.mbe.specs.Rounds.{IsLone, IsShut, HasLone, WaitsAlone, Follows};
 ghost use Rattle.mbe.specs.Threads.{frames_in, frames_of, moves_of};
+ghost use Rattle.mbe.specs.declared.matcher.Waiting.TheVariants.{Pending};
+ghost use Rattle.mbe.specs.declared.place.Taken.TheVariants.{Fragment};
 
 use crate::matcher::Waiting;
-use crate::place::{Place, Taken, before, fragment_trees};
-use crate::threads::{Entry, Frame, Move, Round, Rung, Thread, extended};
+use crate::place::{Place, Taken, before, fragment_trees, parted, past};
+use crate::threads::{Frame, Move, Round, Rung, Thread, extended_by_round};
 use bumpalo::Bump;
 use fragment_grammar::FragmentGrammar;
 use mbe_rules::{MetaVarKind, Op, RepeatKind};
 use std::alloc::AllocError;
 use symbols::Symbol;
+use tt::TtIter;
 
 // The variable that is all of a round, where rounds follow each other without separator and nothing comes
 // after the last of them.
@@ -59,6 +64,24 @@ fn is_shut<'a>(frames: Option<&'a Rung<'a>>) -> bool
     }
 }
 
+// How many trees a round of a variable takes at the head of a list, where it takes some.
+#[inline(always)]
+fn trees_of_round<G: FragmentGrammar>(
+    grammar: &G,
+    kind: MetaVarKind,
+    trees: &TtIter<'_>,
+) -> Option<usize>
+    ensures { IfSome result (λ n. (taken (G.answer grammar.now) kind trees.now ≡ Some n) × (n ≢ 0) × (trees.now ≢ empty)) }
+{
+    if trees.is_empty() {
+        return None;
+    }
+    match fragment_trees(grammar, kind, trees) {
+        Some(0) => None,
+        count => count,
+    }
+}
+
 impl<'a> Thread<'a> {
     // The variable of whose rounds one has ended, where no other way leads on but at an end.
     #[inline(always)]
@@ -96,17 +119,42 @@ impl<'a> Thread<'a> {
             ++ (r.next_round ∷ r.fragment_move name.now kind (before count (r.trees_here (place_of place.now))) ∷ [])) }
     {
         let trees = before(&place.rest, count);
-        let entry = Entry {
-            begins_round: true,
-            made: Move::Fragment { name, kind, trees },
-            before: self.moves,
-        };
-        let moves = extended(arena, entry)?;
+        let made = Move::Fragment { name, kind, trees };
+        let moves = extended_by_round(arena, self.moves, made)?;
         Ok(Thread {
             items: self.items,
             frames: self.frames,
             moves,
         })
+    }
+
+    // The thread after as many more rounds as are seen to be the only way on, and how many trees the last one
+    // has, at its place; this one's last move takes `count` trees.
+    pub(crate) fn after_rounds<G: FragmentGrammar>(
+        &self,
+        arena: &'a Bump,
+        grammar: &G,
+        count: usize,
+        place: &mut Place<'a>,
+    ) -> Result<(Thread<'a>, usize), AllocError>
+        ensures { IfOk result (λ x. Follows (G.answer grammar.now) (place_of place.old) (Pending self.now (Fragment count) ∷ [])
+            (place_of place.new) (Pending x.0 (Fragment x.1) ∷ [])) }
+    {
+        let mut thread = *self;
+        let mut count = count;
+        let Some((name, kind)) = thread.lone_variable() else {
+            return Ok((thread, count));
+        };
+        let mut rest = past(&place.rest, count);
+        while let Some(next) = trees_of_round(grammar, kind, &rest) {
+            let (trees, behind) = parted(&rest, next);
+            let made = Move::Fragment { name, kind, trees };
+            thread.moves = extended_by_round(arena, thread.moves, made)?;
+            place.rest = rest;
+            rest = behind;
+            count = next;
+        }
+        Ok((thread, count))
     }
 
     // What alone waits after a thread of which a round has ended, where it is one of a variable and the place

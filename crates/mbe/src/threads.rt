@@ -2,7 +2,7 @@
 ghost use Rattle.std.specs.Prelude.{◌≡◌, [], ◌∷◌, ◌++◌, IfOk};
 ghost use Rattle.mbe.specs.Places.{place_of};
 ghost use Rattle.mbe.specs.Readings as r;
-ghost use Rattle.mbe.specs.Threads.{state_of, frames_in, moves_of, moves_to, move_of};
+ghost use Rattle.mbe.specs.Threads.{state_of, frames_in, moves_of, move_of};
 
 use crate::place::Place;
 use bumpalo::Bump;
@@ -63,21 +63,47 @@ pub enum Move<'a> {
 /// A move of the log, and the entry of the move before it. Entries are shared by the threads that came by them.
 #[derive(Clone, Copy, Drop)]
 pub struct Entry<'a> {
-    // Whether another round begins first: that move has no entry of its own then.
+    // Whether the move into another round comes first, which then has no entry of its own.
     pub(crate) begins_round: bool,
     pub(crate) made: Move<'a>,
     pub(crate) before: Option<&'a Entry<'a>>,
 }
 
-// The log with one more entry.
+// The log with one more move.
 #[inline(always)]
 pub(crate) fn extended<'a>(
     arena: &'a Bump,
-    entry: Entry<'a>,
+    before: Option<&'a Entry<'a>>,
+    made: Move<'a>,
 ) -> Result<Option<&'a Entry<'a>>, AllocError>
-    ensures { IfOk result (λ e. moves_of e ≡ moves_to entry.entry) }
+    ensures { IfOk result (λ e. moves_of e ≡ moves_of before.entry ++ (move_of made.entry ∷ [])) }
 {
-    let Ok(entry) = arena.try_alloc(entry) else {
+    let begins_round = false;
+    let Ok(entry) = arena.try_alloc(Entry {
+        begins_round,
+        made,
+        before,
+    }) else {
+        return Err(AllocError);
+    };
+    Ok(Some(entry))
+}
+
+// The log with a move into another round, and one more.
+#[inline(always)]
+pub(crate) fn extended_by_round<'a>(
+    arena: &'a Bump,
+    before: Option<&'a Entry<'a>>,
+    made: Move<'a>,
+) -> Result<Option<&'a Entry<'a>>, AllocError>
+    ensures { IfOk result (λ e. moves_of e ≡ moves_of before.entry ++ (r.next_round ∷ move_of made.entry ∷ [])) }
+{
+    let begins_round = true;
+    let Ok(entry) = arena.try_alloc(Entry {
+        begins_round,
+        made,
+        before,
+    }) else {
         return Err(AllocError);
     };
     Ok(Some(entry))
@@ -127,12 +153,7 @@ impl<'a> Thread<'a> {
         ensures frames { IfOk result (λ t. frames_in t.frames ≡ frames_in frames.entry) }
         ensures moves { IfOk result (λ t. moves_of t.moves ≡ moves_of self.now.moves ++ (move_of made.entry ∷ [])) }
     {
-        let entry = Entry {
-            begins_round: false,
-            made,
-            before: self.moves,
-        };
-        let moves = extended(arena, entry)?;
+        let moves = extended(arena, self.moves, made)?;
         Ok(Thread {
             items,
             frames,

@@ -10,7 +10,7 @@ use Rattle.mbe.specs.Threads.{waits, waits_at, takings_of, head_taken}
 use Rattle.mbe.specs.Units as u
 use Rattle.mbe.specs.Waiting.{finished, settled_at, advanced_by, Each}
 use Rattle.mbe.proofs.SoundLemmas.{sound-start}
-use Rattle.mbe.proofs.TheLoopLemmas.{first-held, leads-held, turn, clash-none, ended-only}
+use Rattle.mbe.proofs.TheLoopLemmas.{first-held, turn, turned, clash-none, ended-only}
 use Rattle.mbe.proofs.matcher.match_pattern.Goals as goal
 
 pub loop-waiting-init : goal.loop-waiting-init
@@ -44,31 +44,37 @@ returns-in_default g c =
 
 pub loop-waiting-smaller : goal.loop-waiting-smaller
 loop-waiting-smaller g c =
-    let t = turn (g.G.FragmentGrammar.answer c.args.grammar.now) (items_of c.args.pattern.now) (forest c.args.argument) (place_of c.loop-waiting.place)
-    c.loop-waiting.found.waiting.items c.in-Some.taken c.loop-waiting.invariant.0
+    let gr = g.G.FragmentGrammar.answer c.args.grammar.now in
+    let pattern = items_of c.args.pattern.now in
+    let s = place_of c.in_ok-place.place in
+    let ws = c.loop-waiting.found.waiting.items in
+    let e = c.deref-in-loop-waiting-2.ensures.value ∙ c.hand_over.ensures.handed in
+    (turned gr pattern (forest c.args.argument) (place_of c.loop-waiting.place) s (place_of c.go_round.new.place)
+    ws c.advance_all.new.self.waiting.items c.go_round.new.self.waiting.items c.advance_all.new.self.seen.items c.in-Some.taken c.loop-waiting.invariant.0
     (sym c.if-has_clash.false ∙ c.has_clash.ensures ∙ ap (λ ws. clash (flat_map takings_of ws)) c.deref.ensures.value)
     (sym c.in-Some.is ∙ c.first_taken.ensures ∙ ap head_taken c.deref-in-loop-waiting.ensures.value)
-    (place_of c.in_ok-place.place) c.in_ok-place.ensures in
-    t.lower
+    c.in_ok-place.ensures
+    (λ good. subst (λ x. Leads gr pattern s (flat_map (advanced_by (settled_at gr)) (waits_at s x)) c.advance_all.new.self.waiting.items c.advance_all.new.self.seen.items []) e
+    (c.in_ok-advance_all.ensures.all pattern (subst (λ x. Each (IsSoundAt pattern) (waits_at s x)) (sym e) good)))
+    c.in_ok-go_round.ensures.rounds).1
 
 pub loop-waiting-preserved : goal.loop-waiting-preserved
 loop-waiting-preserved g c =
     let gr = g.G.FragmentGrammar.answer c.args.grammar.now in
     let pattern = items_of c.args.pattern.now in
-    let argument = forest c.args.argument in
     let s = place_of c.in_ok-place.place in
     let ws = c.loop-waiting.found.waiting.items in
-    let t = turn gr pattern argument (place_of c.loop-waiting.place) ws c.in-Some.taken c.loop-waiting.invariant.0
-    (sym c.if-has_clash.false ∙ c.has_clash.ensures ∙ ap (λ ws. clash (flat_map takings_of ws)) c.deref.ensures.value)
-    (sym c.in-Some.is ∙ c.first_taken.ensures ∙ ap head_taken c.deref-in-loop-waiting.ensures.value)
-    s c.in_ok-place.ensures in
-    let all = flat_map (advanced_by (settled_at gr)) (waits_at s ws) in
     let e = c.deref-in-loop-waiting-2.ensures.value ∙ c.hand_over.ensures.handed in (
-      leads-held gr pattern argument s all c.advance_all.new.self.waiting.items c.advance_all.new.self.seen.items
-          (subst (λ x. Leads gr pattern s (flat_map (advanced_by (settled_at gr)) (waits_at s x)) c.advance_all.new.self.waiting.items c.advance_all.new.self.seen.items []) e
-          (c.in_ok-advance_all.ensures.all pattern (subst (λ x. Each (IsSoundAt pattern) (waits_at s x)) (sym e) t.good)))
-          (t.held all refl),
-      c.in_ok-advance_all.ensures.done,
+      (
+          turned gr pattern (forest c.args.argument) (place_of c.loop-waiting.place) s (place_of c.go_round.new.place)
+          ws c.advance_all.new.self.waiting.items c.go_round.new.self.waiting.items c.advance_all.new.self.seen.items c.in-Some.taken c.loop-waiting.invariant.0
+          (sym c.if-has_clash.false ∙ c.has_clash.ensures ∙ ap (λ ws. clash (flat_map takings_of ws)) c.deref.ensures.value)
+          (sym c.in-Some.is ∙ c.first_taken.ensures ∙ ap head_taken c.deref-in-loop-waiting.ensures.value)
+          c.in_ok-place.ensures
+          (λ good. subst (λ x. Leads gr pattern s (flat_map (advanced_by (settled_at gr)) (waits_at s x)) c.advance_all.new.self.waiting.items c.advance_all.new.self.seen.items []) e
+          (c.in_ok-advance_all.ensures.all pattern (subst (λ x. Each (IsSoundAt pattern) (waits_at s x)) (sym e) good)))
+          c.in_ok-go_round.ensures.rounds).0,
+      c.in_ok-go_round.ensures.tasks ∙ c.in_ok-advance_all.ensures.done,
     )
 
 pub settle-requires-clause-good : goal.settle-requires-clause-good

@@ -1,7 +1,9 @@
 -- Another round is the only way on.
-use Rattle.std.proofs.Common.{sym, ap, ◌∙◌, map, arith}
+use Rattle.std.proofs.Common.{sym, ap, ◌∙◌, [], ◌∷◌, map, arith}
+use Rattle.std.proofs.lemmas.List.{append_assoc}
 use Rattle.mbe_rules.specs.Ops.{items_of}
 use Rattle.mbe.specs.Places.{place_of}
+use Rattle.mbe.specs.Readings as r
 use Rattle.mbe.specs.Threads.{frame_of, frames_of, moves_of}
 use Rattle.mbe.proofs.RoundLemmas.{waits-alone}
 use Rattle.mbe.proofs.threads.Thread.alone.Goals as goal
@@ -14,4 +16,5 @@ returns g c = λ N good.
     (place_of c.args.place.now) c.in-Some-fragment_trees.count N c.in-Some.ensures
     (sym c.is_end.ensures ∙ c.if-is_end.false) (sym c.is_closing.ensures ∙ c.if-is_closing.false)
     (sym c.fragment_trees.ensures ∙ c.in-Some-fragment_trees.is) (λ z. omega (arith, z, c.if-count-eq0.false))
-    c.in_ok-thread.thread (ap items_of next.items) (ap (map frame_of) next.frames) next.moves good
+    c.in_ok-thread.thread (ap items_of next.items) (ap (map frame_of) next.frames)
+    (next.moves ∙ sym (append_assoc (moves_of t.moves) (r.next_round ∷ []) _)) good

@@ -3,7 +3,7 @@ use Rattle.tt.proofs.Steps.{joined-left}
 use Rattle.tt_data.specs.Forest.{joined}
 use Rattle.mbe_rules.specs.Trees.{before, past}
 use Rattle.mbe.proofs.PlaceLemmas.{before-past}
-use Rattle.mbe.proofs.place.before.Goals as goal
+use Rattle.mbe.proofs.place.parted.Goals as goal
 
 pub passed_since-requires : goal.passed_since-requires
 passed_since-requires c = (
@@ -11,7 +11,7 @@ passed_since-requires c = (
   c.remaining.ensures ∙ before-past c.args.count c.args.trees.now ∙ ap (λ f. joined (before c.args.count c.args.trees.now) f) (sym c.past-rest.ensures),
 )
 
-pub returns : goal.returns
-returns c =
+pub returns-clause-first : goal.returns-clause-first
+returns-clause-first c =
     joined-left _ _ (past c.args.count c.args.trees.now)
     (ap (joined _) (sym c.past-rest.ensures) ∙ sym c.passed_since.ensures ∙ c.remaining.ensures ∙ before-past c.args.count c.args.trees.now)
