@@ -1,12 +1,14 @@
 -- A pattern that cannot begin has no reading.
-use Rattle.std.proofs.Common.{◌≡◌, refl, ap, ◌∙◌, Bool, true, false, not, [], ◌∷◌, ◌++◌, None}
+use Rattle.std.proofs.Common.{◌≡◌, refl, ap, ◌∙◌, Bool, true, false, not, List, [], ◌∷◌, ◌++◌, None}
 use Rattle.std.specs.List.{flat_map}
 use Rattle.tt_data.specs.Forest.{Forest}
 use Rattle.mbe_rules.specs.Items.{word, puncts, lifetime, dollar, Items, done, item, group_of, repetition, has_empty_round}
-use Rattle.mbe.specs.Blocked.{is_blocked}
+use Rattle.mbe.specs.Blocked.{is_blocked, is_stuck}
+use Rattle.mbe_rules.specs.Ops.{put_op}
+use Rattle.mbe_rules.specs.declared.parser.Op.{Op, Repeat', Subtree'}
 use Rattle.mbe.specs.Grammar.{Grammar}
 use Rattle.mbe.specs.Paths.{when}
-use Rattle.mbe.specs.Readings.{at, in_group, next, has_used_up, room, start, takes, is_fragment, the_reading, unit_move}
+use Rattle.mbe.specs.Readings.{Frame, State, at, in_group, in_round, parted, next, has_used_up, room, start, takes, is_fragment, the_reading, unit_move}
 use Rattle.mbe.specs.Units.{Place, place, after_unit}
 use Rattle.mbe.specs.Waiting.{ended, settled_one, settled_at}
 use Rattle.mbe.proofs.MatchingLemmas.{outcome_at, begun-at, good-start, settled-at}
@@ -35,3 +37,22 @@ none-read gr pattern argument e b =
     ∙ ap (outcome_at gr (room pattern)) (settled-at gr (room pattern) s (good-start pattern argument e)
     ∙ ap (λ b. when b (ended []) ++ flat_map (λ c. settled_one takes is_fragment s c (settled_at gr c.1)) (next gr s)) n.1
     ∙ ap (λ cs. flat_map (λ c. settled_one takes is_fragment s c (settled_at gr c.1)) cs) n.0)
+
+-- ---- any state
+
+pub stuck_put : (o : Op) (rest : Items) (fs : List Frame) (p : Place) → is_stuck (at (put_op o rest) fs p) ≡ is_blocked (put_op o rest) p
+stuck_put (Subtree' shape row d) rest fs p = refl
+stuck_put (Repeat' shape row sep k) rest fs p = refl
+stuck_put _ rest fs p = refl
+
+pub stuck-next : (gr : Grammar) (s : State) → is_stuck s ≡ true → (next gr s ≡ []) × (has_used_up s ≡ false)
+stuck-next gr (at done [] p) e = (refl, no _ e)
+stuck-next gr (at done (in_group after ∷ fs) p) e = (ap (λ b. when b (unit_move, at after fs (after_unit p))) (no _ e), refl)
+stuck-next gr (at done (in_round body sep op after ∷ fs) p) e = absurd (cc e)
+stuck-next gr (at done (parted body sep op after ∷ fs) p) e = absurd (cc e)
+stuck-next gr (at (item (dollar d s) rest) fs p) e = absurd (cc e)
+stuck-next gr (at (item (word l) rest) fs p) e = (ap (λ b. when b (unit_move, at rest fs (after_unit p))) (no _ e), refl)
+stuck-next gr (at (item (puncts ps) rest) fs p) e = (ap (λ b. when b (unit_move, at rest fs (after_unit p))) (no _ e), refl)
+stuck-next gr (at (item (lifetime q i) rest) fs p) e = (ap (λ b. when b (unit_move, at rest fs (after_unit p))) (no _ e), refl)
+stuck-next gr (at (group_of d inner rest) fs p) e = (ap (λ b. when b (unit_move, at inner (in_group rest ∷ fs) (after_unit p))) (no _ e), refl)
+stuck-next gr (at (repetition body sep op rest) fs p) e = absurd (cc e)

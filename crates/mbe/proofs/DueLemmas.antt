@@ -4,6 +4,7 @@ use Rattle.std.specs.List.{flat_map, list_any}
 use Rattle.std.proofs.lemmas.List.{map-append, reverse-append}
 use Rattle.std.proofs.lemmas.Grind.{flat_map-append}
 use Rattle.mbe_rules.specs.Items.{Items}
+use Rattle.mbe.specs.Blocked.{is_stuck}
 use Rattle.mbe.specs.Grammar.{Grammar}
 use Rattle.mbe.specs.Paths.{IsAmong}
 use Rattle.mbe.specs.Places.{place_after}
@@ -22,6 +23,7 @@ use Rattle.mbe.specs.declared.matcher.Waiting as d
 use Rattle.mbe.specs.declared.matcher.Waiting.TheVariants.{Ended, Pending}
 use Rattle.mbe.specs.declared.place.Taken.{Taken}
 use Rattle.mbe.specs.declared.threads.Thread.{Thread}
+use Rattle.mbe.proofs.BlockedLemmas.{stuck-next}
 use Rattle.mbe.proofs.KeptLemmas.{among-right, stands-left, stands-again, each-more, sorts-append, sorts-prefixed, kept-one, kept-none}
 use Rattle.mbe.proofs.LikeLemmas.{one-state-of}
 use Rattle.mbe.proofs.MoveLemmas.{does}
@@ -145,6 +147,16 @@ module _ (gr : Grammar) (pattern : Items) (p : u.Place) where
             (λ c f. sound-choice ms (state_of t p) c (given p first) [] (ap (λ o. given p first ++ given p o) (sym f) ∙ m) s)
             due),
       )
+
+  -- one that no move leads from is left out
+  pub stuck-left : (all : List Waits) (ws : List d.Waiting) (seen : List Seen) (ts : List Task) (t : Thread) → true ≡ is_stuck (state_of t p) →
+      Leads gr pattern p all ws seen (ts ++ (GoOn (as_choice t) ∷ [])) → Leads gr pattern p all ws seen ts
+  stuck-left all ws seen ts t e h =
+      let n = next all ws seen ts (as_choice t) h in
+      let s = n.sound refl in
+      let k = stuck-next gr (state_of t p) (sym e) in
+      let i = settled-goes_on gr (moves_of t.moves) (state_of t p) (r.room pattern) s.0 k.1 ∙ ap (λ cs. flat_map (contributes gr) (map (extended (moves_of t.moves)) cs)) k.0 in
+      (n.found, n.kept, n.covered, subst (λ x. IsDue gr pattern p x (reverse ts) all) (ap (λ x. n.found ++ x) i ∙ append-nil n.found) n.due)
 
   -- ---- states that were settled
 

@@ -1,13 +1,15 @@
-//! Arguments that a pattern cannot begin at.
+//! Places at which a pattern cannot begin, or go on.
 ghost use Rattle.std.specs.Prelude.{◌≡◌, []};
 ghost use Rattle.mbe_rules.specs.Items.{Items};
 ghost use Rattle.mbe_rules.specs.Ops.{items_of, put_op};
-ghost use Rattle.mbe.specs.Blocked.{is_blocked};
+ghost use Rattle.mbe.specs.Blocked.{is_blocked, is_stuck};
 ghost use Rattle.mbe.specs.Places.{place_of};
+ghost use Rattle.mbe.specs.Threads.{state_of};
 ghost use Rattle.mbe.specs.Units as u;
 ghost use Rattle.tt.specs.Views.{forest};
 
 use crate::place::Place;
+use crate::threads::{Frame, Thread};
 use mbe_rules::Op;
 use std::alloc::Global;
 use tt::TokenTreesView;
@@ -23,6 +25,23 @@ fn is_elsewhere(op: &Op, place: &Place<'_>) -> bool
         Op::Punct(puncts) => !place.is_puncts(puncts),
         Op::Lifetime(_, ident) => !place.is_lifetime(&ident.sym),
         Op::Subtree { delimiter, .. } => !place.is_opening(delimiter.kind),
+        _ => false,
+    }
+}
+
+// Whether a thread needs a unit, a closing or the end here, and it is not here.
+#[tactic(auto, using(crate::proofs::BlockedLemmas::stuck_put))]
+pub(crate) fn is_stuck(thread: &Thread<'_>, place: &Place<'_>) -> bool
+    ensures { result ≡ is_stuck (state_of thread.now (place_of place.now)) }
+{
+    if let Some((op, _rest)) = thread.items.split_first() {
+        return is_elsewhere(op, place);
+    }
+    let Some(rung) = thread.frames else {
+        return !place.is_end();
+    };
+    match rung.frame {
+        Frame::InGroup { .. } => !place.is_closing(),
         _ => false,
     }
 }

@@ -14,6 +14,7 @@ ghost use Rattle.mbe.specs.Waiting.{settled_at, advanced_by, empties_at, finishe
 ghost use Rattle.mbe.specs.Threads.{Waits, frames_in, moves_of, state_of, waits, waits_at, waiting_at, takings_of, head_taken, is_trees, same_mark, same_marks, same_state};
 ghost use Rattle.mbe.specs.declared.matcher.Task.TheVariants.{GoOn};
 
+use crate::blocked::is_stuck;
 use crate::choices::Choice;
 use crate::place::{Place, Taken};
 use crate::threads::{Entry, Frame, Rung, Thread};
@@ -255,7 +256,7 @@ impl<'a> Settled<'a> {
         Ok(())
     }
 
-    // The same, but a thread at the end of the pattern, which no move leads from, is not noted.
+    // The same, but a thread that no move leads from is left out or, at the end of the pattern, not noted.
     fn go_on_twice<G: FragmentGrammar>(
         &mut self,
         arena: &'a Bump,
@@ -272,6 +273,9 @@ impl<'a> Settled<'a> {
         ensures fewer { let p = place_of place.now in
             OnOk result (tasks_of_all p self.new.tasks.items < tasks_of_all p self.old.tasks.items + most_tasks (empties_at (state_of thread.entry p))) }
     {
+        if is_stuck(&thread, place) {
+            return Ok(());
+        }
         if !thread.items.is_empty() || thread.frames.is_some() {
             return self.go_on_noted(arena, grammar, thread, place);
         }
