@@ -14,7 +14,13 @@ use Rattle.tt_data.specs.declared.leaf.Leaf.{Leaf}
 use Rattle.tt_data.specs.declared.leaf.Leaf.TheVariants as as_leaf
 use Rattle.tt_data.specs.declared.leaf.Spacing.TheVariants.{Alone, Joint}
 use Rattle.tt.specs.Elements.{first_alone, after_first}
-use Rattle.mbe.specs.Filling.{stands_alone, in_parentheses, begins_generics, punct_at, colons, with_colons}
+use Rattle.tt_data.specs.declared.leaf.Ident.{Ident}
+use Rattle.tt_data.specs.declared.leaf.Literal.{Literal}
+use Rattle.tt.specs.FirstTrees.{first_leaf}
+use Rattle.mbe_rules.specs.declared.parser.MetaVarKind.{MetaVarKind}
+use Rattle.mbe_rules.specs.declared.parser.MetaVarKind.TheVariants as kind
+use Rattle.mbe.proofs.LentLemmas.{a_leaf}
+use Rattle.mbe.specs.Filling.{stands_alone, in_parentheses, begins_generics, punct_at, colons, put_in, with_colons}
 use Rattle.mbe.specs.Putting.{begins_ident, before_more}
 use Rattle.mbe.specs.Room.{LacksRoom}
 
@@ -145,3 +151,33 @@ pub fewer-left : (f tree rest : Forest) → first_alone f ≡ Some tree → rest
 fewer-left empty tree rest e r = absurd (cc e)
 fewer-left (leaf l more) tree rest e r = let k = ap size r in omega (arith, k)
 fewer-left (group d inner more) tree rest e r = let k = ap size r in omega (arith, k)
+
+-- ---- a word or a literal alone
+
+word-put : (s : Span) (k : MetaVarKind) (i : Ident) → put_in s k (leaf (as_leaf.Ident i) empty) ≡ leaf (as_leaf.Ident i) empty
+word-put s kind.Expr i = refl
+word-put s kind.Expr2021 i = refl
+word-put s kind.Ident i = refl
+word-put s kind.Tt i = refl
+word-put s kind.Lifetime i = refl
+word-put s kind.Literal i = refl
+word-put s kind.Path i = refl
+word-put s _ i = refl
+
+literal-put : (s : Span) (k : MetaVarKind) (i : Literal) → put_in s k (leaf (as_leaf.Literal i) empty) ≡ leaf (as_leaf.Literal i) empty
+literal-put s kind.Expr i = refl
+literal-put s kind.Expr2021 i = refl
+literal-put s kind.Ident i = refl
+literal-put s kind.Tt i = refl
+literal-put s kind.Lifetime i = refl
+literal-put s kind.Literal i = refl
+literal-put s kind.Path i = refl
+literal-put s _ i = refl
+
+pub a_word_put : (f : Forest) (x : Leaf × Forest) (i : Ident) (s : Span) (k : MetaVarKind) → first_leaf f ≡ Some x → x.1 ≡ empty → x.0 ≡ as_leaf.Ident i →
+    put_in s k f ≡ leaf x.0 empty
+a_word_put f x i s k e none is = rw (a_leaf f x e, none, is) (word-put s k i)
+
+pub a_literal_put : (f : Forest) (x : Leaf × Forest) (i : Literal) (s : Span) (k : MetaVarKind) → first_leaf f ≡ Some x → x.1 ≡ empty → x.0 ≡ as_leaf.Literal i →
+    put_in s k f ≡ leaf x.0 empty
+a_literal_put f x i s k e none is = rw (a_leaf f x e, none, is) (literal-put s k i)

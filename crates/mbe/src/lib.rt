@@ -24,11 +24,15 @@ mod transcriber;
 mod uses;
 mod walk;
 
-pub use fragment::expect_fragment;
+pub use bindings::{Binding, Bindings};
+pub use collecting::bindings_of;
+pub use fragment::{PassedFragment, expect_fragment, pass_fragment};
 pub use fragment_grammar::{FragmentGrammar, Prefix, PrefixEntryPoint};
 pub use kept::DeclarativeMacro;
+pub use matcher::match_pattern;
 pub use mbe_rules::{
     CountError, ExpandError, ExpandErrorKind, ExpandResult, MacroCallStyle, MacroCallStyles,
     MatchedArmIndex, ParseError, ValueResult,
 };
+pub use threads::{Entry, Move};
 pub use tt::{Delimiter, DelimiterKind, Punct};

@@ -1,6 +1,8 @@
 //! What a template gives.
-ghost use Rattle.std.specs.Prelude.{◌≡◌, ◌&&◌, not, Err, IfErr, OnOk};
-ghost use Rattle.tt_data.specs.Forest.{empty};
+ghost use Rattle.std.specs.Prelude.{◌≡◌, ◌&&◌, not, Err, IfErr, IfSome, OnOk};
+ghost use Rattle.tt_data.specs.Forest.{empty, leaf};
+ghost use Rattle.tt_data.specs.declared.span.Span.{Span};
+ghost use Rattle.mbe_rules.specs.declared.parser.MetaVarKind.{MetaVarKind};
 ghost use Rattle.tt.specs.Building.{extended, is_invisible, last_alone};
 ghost use Rattle.tt.specs.Views.{forest};
 ghost use Rattle.mbe.specs.Filling.{stands_alone, in_parentheses, begins_generics, punct_at, colons, with_colons, put_in};
@@ -155,6 +157,24 @@ fn put_path(
     Ok(())
 }
 
+// The word or literal that these trees are, which is put in as it is for a variable of any kind.
+#[tactic(auto, using(crate::proofs::PuttingLemmas::a_word_put, crate::proofs::PuttingLemmas::a_literal_put))]
+fn lone_leaf<'a>(trees: TokenTreesView<'a>) -> Option<&'a Leaf>
+    ensures { (span : Span) (kind : MetaVarKind) → IfSome result (λ l. put_in span kind (forest trees.entry) ≡ leaf l.now empty) }
+{
+    let Some((first, rest)) = trees.iter().lent_leaf() else {
+        return None;
+    };
+    if !rest.is_empty() {
+        return None;
+    }
+    match first {
+        Leaf::Punct(_) => None,
+        Leaf::Ident(_) => Some(first),
+        Leaf::Literal(_) => Some(first),
+    }
+}
+
 /// Puts in the trees of a fragment for a variable, of whose `$` this is the place.
 pub(crate) fn put_in(
     out: &mut TopSubtreeBuilder,
@@ -166,6 +186,9 @@ pub(crate) fn put_in(
     ensures added { OnOk result (out.new.tree ≡ extended out.old.tree (put_in span kind (forest trees.entry))) }
     ensures tokens { result ≡ Err TtFault.Tokens → LacksRoom out.old.tree (put_in span kind (forest trees.entry)) }
 {
+    if let Some(leaf) = lone_leaf(trees) {
+        return out.push(leaf.clone()?);
+    }
     match kind {
         MetaVarKind::Expr | MetaVarKind::Expr2021 => {
             put_expression(out, trees.strip_invisible(), span)

@@ -25,4 +25,5 @@ pub use expand_error::ExpandError;
 pub use macro_call_style::{MacroCallStyle, MacroCallStyles};
 pub use parser::{ConcatElement, MetaVarKind, Op, RepeatKind, Separator};
 pub use rules::{Rule, Rules};
+pub use validation::{can_match_nothing, has_empty_round};
 pub use value_result::{ExpandResult, MatchedArmIndex, ValueResult};
