@@ -122,9 +122,19 @@ impl<'a> Bindings<'a> {
         *self.bound.allocator()
     }
 
-    // Where a name stands.
-    #[inline]
+    // Where a name stands: mostly first.
+    #[inline(always)]
     fn position(&self, name: &Symbol) -> Option<usize>
+        ensures { result ≡ place_among name.now self.now.bound.items }
+    {
+        match self.bound.first() {
+            Some(first) if *name == *first.name => Some(0),
+            _ => self.place_among_all(name),
+        }
+    }
+
+    // The same, however many names there are.
+    fn place_among_all(&self, name: &Symbol) -> Option<usize>
         ensures { result ≡ place_among name.now self.now.bound.items }
     {
         for (i, bound) in self.bound.iter().enumerate() {

@@ -2,7 +2,7 @@
 use Rattle.std.proofs.Common.{◌∙◌, sym, ap, arith}
 use Rattle.mbe.specs.Bound.{place_among}
 use Rattle.mbe.proofs.BoundLemmas.{from-start, place-here, place-next, place-none}
-use Rattle.mbe.proofs.bindings.Bindings.position.Goals as goal
+use Rattle.mbe.proofs.bindings.Bindings.place_among_all.Goals as goal
 
 pub loop-i-init : goal.loop-i-init
 loop-i-init c = from-start c.args.name.now c.deref-bound-items.result.now
