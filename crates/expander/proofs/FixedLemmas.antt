@@ -16,7 +16,6 @@ use Rattle.tt_data.specs.declared.leaf.Leaf.TheVariants as as_leaf
 use Rattle.tt_data.specs.declared.leaf.Spacing.{Spacing}
 use Rattle.mbe.specs.Grammar.{Grammar}
 use Rattle.bridge.specs.declared.fault.ReadFault.{ReadFault}
-use Rattle.bridge.specs.Pieces as bare_pieces
 use Rattle.bridge.specs.Printing as bare_printing
 use Rattle.bridge.specs.Printing.{depth_after, left_out_from, print_of}
 use Rattle.bridge.specs.Reading.{IsReading, TextStep, reading}
@@ -40,10 +39,7 @@ use Rattle.expander.proofs.ForestLemmas.{AreWalked, steps_of-placed, walked_memb
 use Rattle.expander.proofs.PrintingLemmas.{text_is, tokens_bare, visible_bare}
 use Rattle.expander.proofs.QuietLemmas.{quiet_text}
 use Rattle.expander.proofs.SearchLemmas.{plain_output}
-use Rattle.expander.proofs.WordLemmas.{quiet_plain}
-
-abbrev is_quiet : Step → Bool
-is_quiet s = not (is_definition_word s)
+use Rattle.expander.proofs.WordLemmas.{quiet_plain, is_quiet}
 
 -- ---- no fault at all
 
@@ -129,19 +125,6 @@ quiet_read depth (a ∷ tokens) [] r e = absurd r
 quiet_read depth (a ∷ tokens) (s ∷ steps) r e =
     let parts = and_parts (is_quiet a.step) (are_quiet tokens) e in
     and_from (is_quiet s) (list_all is_quiet steps) (quiet_step _ a.step s r.0 parts.0) (quiet_read (depth_after depth a.step) tokens steps r.1 parts.1)
-
--- ---- a `;` alone is said twice
-
-pub separated_same : (f : Forest) → separated f ≡ bare_pieces.separated f
-separated_same empty = refl
-separated_same (leaf l rest) = ap (λ m. leaf m (separated rest)) (alone_same (is_punct ";" l) l) ∙ ap (leaf (if is_punct ";" l then bare_pieces.alone l else l)) (separated_same rest)
-  where
-    alone_same : (b : Bool) (m : Leaf) → (if b then alone m else m) ≡ (if b then bare_pieces.alone m else m)
-    alone_same true (as_leaf.Ident i) = refl
-    alone_same true (as_leaf.Punct p) = refl
-    alone_same true (as_leaf.Literal t) = refl
-    alone_same false m = refl
-separated_same (group d inner rest) = ap (group d inner) (separated_same rest)
 
 -- ---- nothing is left out
 
@@ -236,7 +219,7 @@ module _ (laws : ReadingLaws) (given : List PlacedStep) (walked : AreWalked give
         quiet = subst HasNoWord_in (same_trees b a) (no_word b);
         text_is = a.text;
         left_out_is = a.left_out;
-        separate = separated_same a.forest ∙ a.separate;
+        separate = a.separate;
       }
     where
       HasNoWord_in : Forest → Type 0

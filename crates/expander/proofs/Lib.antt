@@ -53,6 +53,7 @@ mod TextTurnLemmas
 mod WholeTurnLemmas
 mod NumberLemmas
 mod NumberingLemmas
+mod DefinitionCountLemmas
 mod NumberedLemmas
 mod KeptLemmas
 mod TakenLemmas

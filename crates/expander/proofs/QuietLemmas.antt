@@ -14,11 +14,7 @@ use Rattle.expander.specs.Meaning.{Layers, members, output, tokens_of, faults_of
 use Rattle.expander.specs.Pieces.{pieces, separated}
 use Rattle.expander.specs.Printing.{PrintedToken, visible, spelled, printed, left_out}
 use Rattle.expander.proofs.SearchLemmas.{plain_output, plain_faults}
-use Rattle.expander.proofs.WordLemmas.{quiet_plain, quiet_separated}
-
--- a step that is no such word
-abbrev is_quiet : Step → Bool
-is_quiet s = not (is_definition_word s)
+use Rattle.expander.proofs.WordLemmas.{quiet_plain, quiet_separated, is_quiet}
 
 -- ---- what is printed of quiet steps
 

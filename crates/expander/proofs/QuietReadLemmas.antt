@@ -15,7 +15,7 @@ use Rattle.expander.specs.Layered.{layers}
 use Rattle.expander.specs.Meaning.{ReadMeaning, meaning_from, meaning_of, members, output}
 use Rattle.expander.specs.Pieces.{separated}
 use Rattle.expander.specs.Printing.{left_out, spelling_before, visible}
-use Rattle.expander.proofs.FixedLemmas.{none_left_out, separated_same}
+use Rattle.expander.proofs.FixedLemmas.{none_left_out}
 use Rattle.expander.proofs.ForestLemmas.{steps_of-placed}
 use Rattle.expander.proofs.PrintingLemmas.{visible_bare}
 use Rattle.expander.proofs.QuietLemmas.{quiet_text}
@@ -32,7 +32,7 @@ module _ (grammar : Grammar) (edition : Edition) (depth : ℕ) (f : Forest) (qui
   none_here =
       ap (λ ss. left_out spelling_before (visible ss)) (plain_output (layers grammar edition) depth (separated f) (quiet_plain f quiet))
       ∙ none_left_out 0 (visible here)
-      (ap (left_out_from 0) (visible_bare here ∙ ap bare_printing.visible (steps_of-placed None (walk (separated f)) ∙ ap walk (separated_same f))) ∙ whole)
+      (ap (left_out_from 0) (visible_bare here ∙ ap bare_printing.visible (steps_of-placed None (walk (separated f)))) ∙ whole)
 
   pub quiet_meaning : (r : Result Forest ReadFault) (m : ReadMeaning) → r ≡ Ok f → meaning_from (layers grammar edition) depth r ≡ Ok m → m.faults ≡ []
   quiet_meaning r m read is =

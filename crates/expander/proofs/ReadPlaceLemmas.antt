@@ -19,7 +19,7 @@ use Rattle.bridge.specs.Text.{is_punct}
 use Rattle.bridge.specs.TokenSteps.{text_reading, text_steps}
 use Rattle.expander.specs.Held.{AllSpans, IsFrom, StandFromFirst}
 use Rattle.expander.specs.Pieces.{cut, first_start, pieces, put_together, separated}
-use Rattle.bridge.specs.Pieces.{alone}
+use Rattle.tt.specs.Building.{alone}
 use Rattle.expander.proofs.CuttingLemmas.{put_together-cut}
 
 -- ---- a `;` that stands alone stands where it was

@@ -3,6 +3,7 @@ use Rattle.std.proofs.Common.{◌≡◌, List, [], ◌∷◌, ◌++◌, refl, ap
 use Rattle.std.specs.Prelude.{Option, Some, None, not, ◌&&◌, ◌||◌, codes, is_none, option_and_then, unwrap_or}
 use Rattle.std.specs.List.{list_all}
 use Rattle.std.proofs.lemmas.List.Folds.{list_all-append}
+use Rattle.std.proofs.lemmas.Bool.{and_parts, and_from}
 use Rattle.tt_data.proofs.ForestLemmas.{walk-joined}
 use Rattle.tt_data.specs.Forest.{Forest, empty, leaf, group}
 use Rattle.tt_data.specs.Walk.{Step, at_leaf, closes, walk}
@@ -20,20 +21,12 @@ use Rattle.small_grammar.specs.Text.{has_text}
 use Rattle.tt.specs.Building.{alone}
 use Rattle.expander.proofs.CuttingLemmas.{put_together-cut}
 
-abbrev is_quiet : Step → Bool
+abbrev pub is_quiet : Step → Bool
 is_quiet s = not (is_definition_word s)
-
-both : (a b : Bool) → (a && b) ≡ true → (a ≡ true) × (b ≡ true)
-both true b e = (refl, e)
-both false b e = cc
-
-and_true : (a b : Bool) → a ≡ true → b ≡ true → (a && b) ≡ true
-and_true true b e h = h
-and_true false b e h = cc
 
 -- of what stands side by side
 parted : (xs ys : List Step) → list_all is_quiet (xs ++ ys) ≡ true → (list_all is_quiet xs ≡ true) × (list_all is_quiet ys ≡ true)
-parted xs ys h = both (list_all is_quiet xs) (list_all is_quiet ys) (sym (list_all-append is_quiet xs ys) ∙ h)
+parted xs ys h = and_parts (list_all is_quiet xs) (list_all is_quiet ys) (sym (list_all-append is_quiet xs ys) ∙ h)
 
 behind_group : (d : Delimiter) (inner rest : Forest) → HasNoWord (group d inner rest) → HasNoWord rest
 behind_group d inner rest h = (parted (walk inner) (closes d.kind d.close_span ∷ walk rest) h).1
@@ -107,7 +100,7 @@ pub_quiet (leaf (as_leaf.Ident i) rest) h = go (has_text (codes "pub") i)
 
 -- ---- no piece is a definition
 
-quiet_piece : (p : Forest) → HasNoWord p → is_none (definition_of p) ≡ true
+pub quiet_piece : (p : Forest) → HasNoWord p → is_none (definition_of p) ≡ true
 quiet_piece p h =
     let rest : Forest = after_attributes p in
     let quiet : HasNoWord rest = attributes_quiet p h in
@@ -118,7 +111,7 @@ quiet_pieces : (ps : List Forest) → HasNoWord (put_together ps) → AreAllPlai
 quiet_pieces [] h = refl
 quiet_pieces (p ∷ ps) h =
     let parts = parted (walk p) (walk (put_together ps)) (ap (list_all is_quiet) (sym (walk-joined p (put_together ps))) ∙ h) in
-    and_true (is_none (definition_of p)) (list_all (λ q. is_none (definition_of q)) ps) (quiet_piece p parts.0) (quiet_pieces ps parts.1)
+    and_from (is_none (definition_of p)) (list_all (λ q. is_none (definition_of q)) ps) (quiet_piece p parts.0) (quiet_pieces ps parts.1)
 
 -- trees in which no word begins a definition have none
 pub quiet_cut : (f : Forest) → HasNoWord f → AreAllPlain (cut f)
@@ -126,7 +119,7 @@ quiet_cut f h = quiet_pieces (cut f) (ap (λ (g : Forest). list_all is_quiet (wa
 
 -- ---- a `;` that stands alone is no word either
 
-quiet_alone : (b : Bool) (l : Leaf) → is_definition_word (at_leaf (if b then alone l else l)) ≡ is_definition_word (at_leaf l)
+pub quiet_alone : (b : Bool) (l : Leaf) → is_definition_word (at_leaf (if b then alone l else l)) ≡ is_definition_word (at_leaf l)
 quiet_alone true (as_leaf.Punct p) = refl
 quiet_alone true (as_leaf.Ident i) = refl
 quiet_alone true (as_leaf.Literal t) = refl
@@ -134,13 +127,13 @@ quiet_alone false l = refl
 
 quiet_behind : (xs ys zs : List Step) → (list_all is_quiet ys ≡ true → list_all is_quiet zs ≡ true) → list_all is_quiet (xs ++ ys) ≡ true → list_all is_quiet (xs ++ zs) ≡ true
 quiet_behind [] ys zs f h = f h
-quiet_behind (x ∷ xs) ys zs f h = let parts = both (is_quiet x) _ h in and_true (is_quiet x) _ parts.0 (quiet_behind xs ys zs f parts.1)
+quiet_behind (x ∷ xs) ys zs f h = let parts = and_parts (is_quiet x) _ h in and_from (is_quiet x) _ parts.0 (quiet_behind xs ys zs f parts.1)
 
 pub quiet_separated : (f : Forest) → HasNoWord f → HasNoWord (separated f)
 quiet_separated empty h = refl
 quiet_separated (leaf l rest) h =
-    let parts = both (is_quiet (at_leaf l)) _ h in
-    and_true (is_quiet (at_leaf (if is_punct ";" l then alone l else l))) _ (ap not (quiet_alone (is_punct ";" l) l) ∙ parts.0) (quiet_separated rest parts.1)
+    let parts = and_parts (is_quiet (at_leaf l)) _ h in
+    and_from (is_quiet (at_leaf (if is_punct ";" l then alone l else l))) _ (ap not (quiet_alone (is_punct ";" l) l) ∙ parts.0) (quiet_separated rest parts.1)
 quiet_separated (group d inner rest) h =
     quiet_behind (walk inner) (closes d.kind d.close_span ∷ walk rest) (closes d.kind d.close_span ∷ walk (separated rest)) (quiet_separated rest) h
 

@@ -5,8 +5,8 @@ use Rattle.small_grammar.specs.Answer.{answer}
 use Rattle.expander.specs.Expanded.{Expanded}
 use Rattle.expander.specs.Layered.{layers}
 use Rattle.expander.specs.Lines.{report, stop_line}
-use Rattle.expander.specs.Meaning.{Layers, meaning}
-use Rattle.expander.specs.Replies.{IsReplyTo, NeedsNumbers}
+use Rattle.expander.specs.Meaning.{Layers}
+use Rattle.expander.specs.Replies.{IsReplyTo}
 use Rattle.expander.specs.TooMany.{NeedsTooMany}
 use Rattle.expander.specs.Watch.{Watch}
 use Rattle.expander.specs.declared.faults.Fault.{Fault}
@@ -78,7 +78,8 @@ abbrev pub is_of_writer : Stop → Bool
 is_of_writer WriteFailed = true
 is_of_writer _ = false
 
--- When a run may stop for a reason, by its input and its levels; readers and writers tell themselves whether they failed.
+-- When a run may stop for a reason, by its input and its levels; readers and writers tell themselves whether they failed. It
+-- never lacks numbers: its session is new, and its text has fewer definitions than there are numbers.
 abbrev pub Stops : Stop → Option (List ℕ) → ℕ → Type 0
 Stops NotUtf8 input depth = (bytes : List ℕ) × IsNoText input bytes
 Stops TooLong input depth = IfSome input (λ bytes. 2 ^ 32 ≤ length bytes)
@@ -86,7 +87,7 @@ Stops ReadFailed input depth = ⊤
 Stops WriteFailed input depth = ⊤
 Stops (Refused Memory) input depth = ⊤
 Stops (Refused Tokens) input depth = (text : List ℕ) × IsInput input text × NeedsTooMany run_layers depth text
-Stops (Refused Numbers) input depth = (text : List ℕ) × IsInput input text × NeedsNumbers 0 [] (meaning run_layers depth text)
+Stops (Refused Numbers) input depth = ⊥
 
 -- A writer that failed has taken a front of the text that was to be printed.
 pub record BreaksOff (input : Option (List ℕ)) (depth : ℕ) (writes : List ℕ → Type 0) : Type 0 where

@@ -1,5 +1,5 @@
 //! Laws of the definitions, for those who read them. A call does nothing: it only states.
-ghost use Rattle.std.specs.Prelude.{◌≡◌, ◌↔◌, ℕ, ◌+◌, ◌<◌, ◌^◌, true, All, Contains, List, [], ◌∷◌, ◌++◌, filter, filter_map, flat_map, length, map, IsUtf8, Option, Some, None, Ok, option_map};
+ghost use Rattle.std.specs.Prelude.{◌≡◌, ◌↔◌, ℕ, ◌+◌, ◌≤◌, ◌<◌, ◌^◌, true, All, Contains, List, [], ◌∷◌, ◌++◌, filter, filter_map, flat_map, length, map, IsUtf8, Option, Some, None, Ok, option_map};
 ghost use Rattle.std.specs.List.Sorted.{IsPermutation, IsSortedBy};
 ghost use Rattle.expander.specs.Agreement.{FoundIn, scope_of};
 ghost use Rattle.expander.specs.Answers.{AreAnswers, ShowTheSame, last_text};
@@ -19,7 +19,7 @@ ghost use Rattle.expander.specs.Numbers.{AreEntries, Numbering, needed, number_i
 ghost use Rattle.expander.specs.OtherPlaces.{CommutesWithMarker, definition_with};
 ghost use Rattle.expander.specs.Pieces.{cut, pieces, put_together, relative};
 ghost use Rattle.expander.specs.Printing.{left_out};
-ghost use Rattle.expander.specs.Replies.{IsReplyTo, Replies};
+ghost use Rattle.expander.specs.Replies.{HasCause, IsReplyTo, NeedsNumbers, Replies, definitions_in};
 ghost use Rattle.expander.specs.Reuse.{HeldPiece, IsHeld, looked_at, looked_held, matches};
 ghost use Rattle.expander.specs.State.{State, layers_of};
 ghost use Rattle.expander.specs.TextTurn.{InEntries, IsNext, IsTurn, held_of, is_unmatched, kept_entries, numbering_of, taken_after};
@@ -34,6 +34,7 @@ ghost use Rattle.expander.specs.declared.commands.Command.{Command};
 ghost use Rattle.expander.specs.declared.commands.Command.TheVariants.{Expand};
 ghost use Rattle.expander.specs.declared.program.Status.{Status};
 ghost use Rattle.expander.specs.declared.session.Refusal.{Refusal};
+ghost use Rattle.expander.specs.declared.session.Refusal.TheVariants.{Numbers};
 ghost use Rattle.expander.specs.declared.session.Reply.{Reply};
 ghost use Rattle.expander.specs.declared.session.Reply.TheVariants.{Read};
 ghost use Rattle.bridge.specs.TokenSteps.{text_reading};
@@ -299,6 +300,26 @@ pub fn numbers_tell_trees_apart()
     ensures given { (n : Numbering) (trees : List Forest) → (with_trees n trees).given ≡ n.given + needed (map tree_of n.entries) trees }
 {
     equal_pieces();
+}
+
+/// A text has at most as many definitions as bytes: `counted`. So where none was numbered before and the text has fewer than
+/// 2^32 bytes, there are numbers for them all: `numbered`.
+pub fn definitions_are_no_more_than_bytes()
+    ensures counted { (grammar : Grammar) (edition : Edition) (depth : ℕ) (text : List ℕ) →
+        IsUtf8 text → length (definitions_in (meaning (layers grammar edition) depth text)) ≤ length text }
+    ensures numbered { (grammar : Grammar) (edition : Edition) (depth : ℕ) (text : List ℕ) →
+        IsUtf8 text → length text < 2 ^ 32 → NeedsNumbers 0 [] (meaning (layers grammar edition) depth text) → ⊥ }
+{
+    bridge::laws::reading_is_a_relation();
+    rustc_lexer::laws::token_lengths();
+}
+
+/// A session that has numbered no definition yet, as a new one, over a text of fewer than 2^32 bytes, never answers `Numbers`.
+pub fn a_first_answer_lacks_no_numbers<G: FragmentGrammar>()
+    ensures { (s : State G) → IsUtf8 s.text → length s.text < 2 ^ 32 → s.given ≡ 0 → s.trees ≡ [] →
+        HasCause (layers_of G.answer s) s Numbers → ⊥ }
+{
+    definitions_are_no_more_than_bytes();
 }
 
 /// From one text that was read to the next: where what is held is right by the numbers given so far, the next text stands

@@ -9,6 +9,7 @@ ghost use Rattle.expander.specs.TooMany.{NeedsTooMany};
 ghost use Rattle.expander.specs.Steps.{Puts, PutsReply, Replied, StopsEarly, StopsReading};
 
 use crate::commands::{Answer, Command, replay};
+use crate::laws;
 use crate::lines::{report, stop_line};
 use crate::session::{Refusal, Reply};
 use crate::watched::Watched;
@@ -32,7 +33,7 @@ pub(crate) enum Stop {
     ReadFailed,
     /// The writer failed.
     WriteFailed,
-    /// Memory or numbers ran out.
+    /// There was no memory left, or there are too many tokens.
     Refused(Refusal),
 }
 
@@ -115,8 +116,9 @@ fn answer(alloc: Global, text: &str, depth: u8) -> Result<(Reply, String), Refus
     ensures reply { IfOk result (λ answer. IsReplyTo run_layers depth text.now None answer.0) }
     ensures told { IfOk result (λ answer. string_bytes answer.1 ≡ report text.now answer.0) }
     ensures tokens { result ≡ Err Refusal.Tokens → NeedsTooMany run_layers depth text.now }
-    ensures numbers { result ≡ Err Refusal.Numbers → NeedsNumbers 0 [] (meaning run_layers depth text.now) }
+    ensures numbers { result ≡ Err Refusal.Numbers → ⊥ }
 {
+    laws::definitions_are_no_more_than_bytes();
     let reply = expanded(alloc, text, depth)?;
     let told = report(alloc, text, &reply)?;
     Ok((reply, told))

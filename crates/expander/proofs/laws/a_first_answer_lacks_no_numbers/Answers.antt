@@ -1,0 +1,5 @@
+use Rattle.expander.proofs.DefinitionCountLemmas.{first_has_numbers}
+use Rattle.expander.proofs.laws.a_first_answer_lacks_no_numbers.Goals as goal
+
+pub returns : goal.returns
+returns g c = first_has_numbers c.definitions_are_no_more_than_bytes.ensures.numbered g.G.FragmentGrammar.answer
