@@ -1,9 +1,10 @@
 -- Sources and the pieces that they are of.
-use Rattle.std.proofs.Common.{◌≡◌, ℕ, zero, suc, List, [], ◌∷◌, ◌++◌, map, Option, Some, refl, ap, sym, ◌∙◌, Global}
+use Rattle.std.proofs.Common.{◌≡◌, ◌<◌, ℕ, arith, length, zero, suc, List, [], ◌∷◌, ◌++◌, map, Option, Some, refl, ap, sym, ◌∙◌, Global}
 use Rattle.std.specs.Prelude.{slice_get}
 use Rattle.std.specs.Rc.{rc_value}
 use Rattle.std.specs.declared.rc.Rc.{Rc}
-use Rattle.std.proofs.lemmas.List.{map-append}
+use Rattle.std.proofs.lemmas.List.{length-map, map-append}
+use Rattle.std.proofs.lemmas.Option.{slice_get_within}
 use Rattle.tt.specs.Tops.{Top}
 use Rattle.expander.specs.OwnPieces.{tree_at}
 use Rattle.expander.specs.PieceReading.{AddsPiece, AreMade, AreTheirs}
@@ -34,6 +35,18 @@ made_theirs sources own made = λ i s o s_is o_is.
   where
     same : (a b : Top) → Some a ≡ Some b → a ≡ b
     same a b q = cc
+
+-- nor is one of the last piece, where it is not held
+pub last_theirs : (sources : Sources) (own now : List OwnPiece) (o : OwnPiece) → now ≡ own ++ o ∷ [] → AreMade own sources.list.items → AreTheirs sources now
+last_theirs sources own now o grown made = λ i s p s_is p_is.
+    let n : length sources.list.items ≡ length own =
+    sym (length-map sources.list.items (λ (s : Rc Source Global). rc_value (rc_value s).tree)) ∙ ap length made ∙ length-map own tree_at in
+    made_theirs sources own made i s p s_is (front_at own (o ∷ []) i p (rw n at (slice_get_within sources.list.items i s s_is)) (sym (ap (λ ps. slice_get ps i) grown) ∙ p_is))
+  where
+    front_at : {X : Type 0} (xs ys : List X) (i : ℕ) (x : X) → i < length xs → slice_get (xs ++ ys) i ≡ Some x → slice_get xs i ≡ Some x
+    front_at [] ys i x h e = absurd (omega (arith, h))
+    front_at (z ∷ xs) ys zero x h e = e
+    front_at (z ∷ xs) ys (suc i) x h e = front_at xs ys i x (omega (arith, h)) e
 
 -- no source is of no piece
 pub none_theirs : (sources : Sources) (own : List OwnPiece) → sources.list.items ≡ [] → AreTheirs sources own

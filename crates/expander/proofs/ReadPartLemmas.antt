@@ -1,10 +1,11 @@
 -- Pieces that are read by themselves, and the text that they are part of.
-use Rattle.std.proofs.Common.{◌≡◌, ℕ, ◌+◌, ◌-◌, ◌<◌, ◌≤◌, Bool, true, false, List, [], ◌∷◌, ◌++◌, append_assoc, append-nil, length, map, take, drop, refl, ap, sym, subst, ◌∙◌, arith, if◌then◌else◌}
+use Rattle.std.proofs.Common.{◌≡◌, ◌≢◌, ℕ, ◌+◌, ◌-◌, ◌<◌, ◌≤◌, Bool, true, false, List, [], ◌∷◌, ◌++◌, append_assoc, append-nil, length, map, take, drop, refl, ap, sym, subst, ◌∙◌, arith, if◌then◌else◌}
 use Rattle.std.specs.Prelude.{IsUtf8, Option, Result, Ok, Err, chars}
 use Rattle.std.specs.Rc.{rc_value}
 use Rattle.std.proofs.lemmas.List.Elements.{All-append, All-cons, All-nil}
 use Rattle.std.proofs.lemmas.List.Sums.{sum_by-cons}
 use Rattle.std.proofs.lemmas.List.{drop-append-le, drop-drop, length-append, length-drop, length-take-le, map-append, take-append-drop, take-append-le, take_all}
+use Rattle.std.proofs.Math.Seq.{drop-length}
 use Rattle.tt_data.proofs.ForestLemmas.{joined_assoc}
 use Rattle.rustc_lexer.specs.Lexing.{tokens_of}
 use Rattle.rustc_lexer.specs.Standing.{AreTokensFrom}
@@ -25,10 +26,11 @@ use Rattle.bridge.specs.declared.fault.ReadFault.{ReadFault}
 use Rattle.expander.specs.ByTrees.{own_top}
 use Rattle.expander.specs.OwnPieces.{AreOwn, own_of, own_shown}
 use Rattle.bridge.specs.Parts.{begins_with_mark, part_steps, placed_on, starts_with_mark, steps_before}
-use Rattle.expander.specs.PieceReading.{AddsPiece, AreMet, IsBlank, IsMet, IsReadPiece, IsSourceHere, KeepsSource, Passed}
+use Rattle.expander.specs.PieceReading.{AddsPiece, AreMet, IsBlank, IsLastPiece, IsMet, IsReadPiece, IsSourceHere, KeepsSource, Passed}
 use Rattle.expander.specs.Pieces.{cut, first_start, pieces, relative, separated}
-use Rattle.expander.specs.Sources.{IsSource, IsWhole, StandsFirst, StandsHere, bytes_of, chars_ahead}
+use Rattle.expander.specs.Sources.{IsSource, IsOpen, IsWhole, StandsFirst, StandsHere, bytes_of, chars_ahead}
 use Rattle.expander.specs.declared.own_pieces.OwnPiece.{OwnPiece}
+use Rattle.expander.specs.declared.pieces.Shape.TheVariants.{Whole}
 use Rattle.expander.specs.declared.sources.Source.{Source}
 use Rattle.expander.specs.declared.sources.Sources.{Sources}
 use Rattle.expander.proofs.ApartLemmas.{separated-joined}
@@ -40,12 +42,25 @@ span_with f (as_leaf.Literal l) = refl
 span_with f (as_leaf.Punct p) = refl
 span_with f (as_leaf.Ident i) = refl
 
+-- a piece has trees
+none_whole : IsWhole empty → ⊥
+none_whole whole = absurd (cc (whole (λ s. s) empty))
+
+none_open : IsOpen empty → ⊥
+none_open opens = absurd (cc (opens (λ s. s)))
+
+some_whole : (p : Forest) → IsWhole p → p ≢ empty
+some_whole p whole e = none_whole (subst IsWhole e whole)
+
+some_open : (p : Forest) → IsOpen p → p ≢ empty
+some_open p opens e = none_open (subst IsOpen e opens)
+
 -- where the first token starts, elsewhere
-first_placed : (n : ℕ) (p : Forest) → IsWhole p → first_start p ≡ 0 → first_start (map_spans (placed_on n) p) ≡ n
-first_placed n empty whole z = absurd (cc (whole (λ s. s) empty))
-first_placed n (leaf l rest) whole z =
+first_placed : (n : ℕ) (p : Forest) → p ≢ empty → first_start p ≡ 0 → first_start (map_spans (placed_on n) p) ≡ n
+first_placed n empty some z = absurd (some refl)
+first_placed n (leaf l rest) some z =
     ap (λ (s : Span). s.range.start) (span_with (placed_on n) l) ∙ omega (arith, z)
-first_placed n (group d inner rest) whole z = omega (arith, z)
+first_placed n (group d inner rest) some z = omega (arith, z)
 
 alone_or : (f : Span → Span) (b : Bool) (l : Leaf) → (if b then alone (leaf_with f l) else leaf_with f l) ≡ leaf_with f (if b then alone l else l)
 alone_or f false l = refl
@@ -170,15 +185,26 @@ pub record PartLaws : Type 0 where
       → take n text ≡ take n other → take 2 (chars (drop n text)) ≡ take 2 (chars (drop n other))
       → take k (tokens_of (chars other)) ≡ take k (tokens_of (chars text))
 
--- a piece in the text, which is held in places of its own
+-- trees in places of their own are no other elsewhere
+abbrev pub SameTreeLaw : Type 0
+SameTreeLaw = (at : ℕ) (f : Forest) → relative (map_spans (placed_on at) f) ≡ relative f
+
+abbrev pub AtFirstLaw : Type 0
+AtFirstLaw = (f : Forest) → first_start f ≡ 0 → relative f ≡ f
+
+-- a piece in the text, whose tree is in places of its own
+own_at : SameTreeLaw → AtFirstLaw → (p : Forest) (at : ℕ) (o : OwnPiece) → p ≢ empty → first_start p ≡ 0 → o.start ≡ at → rc_value o.tree ≡ own_top p
+    → own_shown o ≡ own_of (map_spans (placed_on at) p)
+own_at same_tree at_first p at o some first start tree =
+    let tree_is : rc_value o.tree ≡ own_top (relative (map_spans (placed_on at) p)) = tree ∙ ap own_top (sym (same_tree at p ∙ at_first p first)) in
+    let start_is : o.start ≡ first_start (map_spans (placed_on at) p) = start ∙ sym (first_placed at p some first) in
+    λ i. (start_is i, tree_is i)
+
+-- one that is held
 own_piece : (laws : PartLaws) (s : Source) (is : IsSource s) (at : ℕ) (o : OwnPiece) → o.start ≡ at → rc_value o.tree ≡ rc_value s.tree
     → own_shown o ≡ own_of (map_spans (placed_on at) (separated is.forest))
 own_piece laws s is at o start tree =
-    let tree_is : rc_value o.tree ≡ own_top (relative (map_spans (placed_on at) (separated is.forest))) =
-    tree ∙ is.tree ∙ ap own_top (sym (laws.same_tree at (separated is.forest) ∙ laws.at_first (separated is.forest) is.at_first)) in
-    let start_is : o.start ≡ first_start (map_spans (placed_on at) (separated is.forest)) =
-    start ∙ sym (first_placed at (separated is.forest) is.whole is.at_first) in
-    λ i. (start_is i, tree_is i)
+    own_at laws.same_tree laws.at_first (separated is.forest) at o (some_whole (separated is.forest) is.whole) is.at_first start (tree ∙ is.tree)
 
 -- where a piece stands its tokens do
 stands_tokens : (s : Source) (is : IsSource s) (text : List ℕ) (left : List Token) → left ≡ tokens_of (chars text) → StandsHere s text
@@ -278,12 +304,12 @@ is_source laws s bytes left n f t utf8 are within some fits n_is bytes_are ahead
 pub source_here : (laws : PartLaws) (bytes word : List ℕ) (left first after : List Token) (count n : ℕ) (t : Top) (s : Source)
     → IsUtf8 bytes → left ≡ tokens_of (chars bytes) → count ≤ length left → 1 ≤ count → n ≤ length bytes → n ≡ bytes_of first
     → word ≡ take n bytes → first ≡ take count left → after ≡ drop count left
-    → KeepsSource word (drop n bytes) count after t s → IsReadPiece (part_steps 0 count bytes left) t → IsSourceHere bytes left s
+    → KeepsSource word (drop n bytes) count after t s → IsReadPiece (part_steps 0 count bytes left) Whole t → IsSourceHere bytes left s
 source_here laws bytes word left first after count n t s utf8 are within some fits n_is word_is first_is after_is kept read =
     let c : s.count ≡ count = kept.count_is in
     let is = is_source laws s bytes left n read.forest t utf8 are (rw c within) (rw c some) fits (n_is ∙ ap bytes_of first_is ∙ ap (λ (i : ℕ). bytes_of (take i left)) (sym c))
     (kept.bytes ∙ word_is) kept.ahead (kept.mark ∙ ap begins_with_mark after_is ∙ ap (λ (i : ℕ). begins_with_mark (drop i left)) (sym c)) kept.tree read.top read.apart
-    (subst (λ (i : ℕ). IsReading (part_steps 0 i bytes left) read.forest) (sym c) read.read) read.whole read.at_first in
+    (subst (λ (i : ℕ). IsReading (part_steps 0 i bytes left) read.forest) (sym c) read.read) read.shaped read.at_first in
     record { right = is.0; stands = is.1 }
 
 -- one more token of a list
@@ -312,3 +338,48 @@ pub piece_shortens : (text : List ℕ) (at : ℕ) (left : List Token) (s : Sourc
 piece_shortens text at left s here is =
     let tokens = stands_tokens s is.right (drop at text) left here.tokens is.stands.here in
     omega (arith, is.right.some, is.right.count, ap length tokens, length-append is.right.tokens (drop s.count left))
+
+-- ---- the last piece, which nothing ends
+pub record LastLaws : Type 0 where
+  pub text : (at count : ℕ) (text : List ℕ) (tokens : List Token) → steps_of (placed_from at text tokens)
+      ≡ part_steps at count text tokens ++ steps_of (placed_from (at + bytes_of (take count tokens)) (drop (bytes_of (take count tokens)) text) (drop count tokens))
+  pub elsewhere : (at count : ℕ) (text : List ℕ) (tokens : List Token) (f : Forest)
+      → IsReading (part_steps 0 count text tokens) f → IsReading (part_steps at count text tokens) (map_spans (placed_on at) f)
+  pub read : (steps : List TextStep) (f : Forest) → IsReading steps f → reading steps ≡ Ok f
+  pub same_tree : SameTreeLaw
+  pub at_first : AtFirstLaw
+
+no_steps : (at : ℕ) (text : List ℕ) (tokens : List Token) → tokens ≡ [] → steps_of (placed_from at text tokens) ≡ []
+no_steps at text tokens none = ap (λ (ts : List Token). steps_of (placed_from at text ts)) none
+
+-- a text of which it was left is read, and these are its pieces
+pub last_read : LastLaws → (text : List ℕ) (at : ℕ) (left : List Token) (own : List OwnPiece) (o : OwnPiece) (now : List OwnPiece)
+    → now ≡ own ++ o ∷ [] → IsLastPiece text at left o → Passed text at left own
+    → (f : Forest) × (text_reading text ≡ Ok f) × AreOwn (pieces f) now
+last_read laws text at left own o now grown is p =
+    let f : Forest = map_spans (placed_on at) is.forest in
+    let later : List Token = drop (length left) left in
+    let none : later ≡ [] = drop-length left in
+    let n : ℕ = bytes_of (take (length left) left) in
+    let steps : steps_of (placed_from at (drop at text) left) ≡ part_steps at (length left) (drop at text) left =
+    laws.text at (length left) (drop at text) left
+    ∙ ap (λ (ss : List TextStep). part_steps at (length left) (drop at text) left ++ ss) (no_steps (at + n) (drop n (drop at text)) later none)
+    ∙ append-nil (part_steps at (length left) (drop at text) left) in
+    let read : reading (part_steps at (length left) (drop at text) left) ≡ Ok f =
+    laws.read (part_steps at (length left) (drop at text) left) f (laws.elsewhere at (length left) (drop at text) left is.forest is.read) in
+    let whole : text_reading text ≡ Ok (joined p.front f) =
+    p.reads ∙ ap (λ (ss : List TextStep). with_front p.front (reading ss)) steps ∙ ap (with_front p.front) read in
+    let last : pieces f ≡ map_spans (placed_on at) (separated is.forest) ∷ [] = ap cut (separated_with (placed_on at) is.forest) ∙ is.opens (placed_on at) in
+    let are : pieces (joined p.front f) ≡ p.ps ++ map_spans (placed_on at) (separated is.forest) ∷ [] =
+    p.cuts f ∙ ap (λ (ps : List Forest). p.ps ++ ps) last in
+    let its_own : own_shown o ≡ own_of (map_spans (placed_on at) (separated is.forest)) =
+    own_at laws.same_tree laws.at_first (separated is.forest) at o (some_open (separated is.forest) is.opens) is.at_first is.start is.tree in (
+      joined p.front f,
+      whole,
+      ap (map own_shown) grown
+          ∙ map-append own_shown own (o ∷ [])
+          ∙ ap (λ (xs : List (ℕ × Top)). xs ++ own_shown o ∷ []) p.are_own
+          ∙ ap (λ (x : ℕ × Top). map own_of p.ps ++ x ∷ []) its_own
+          ∙ sym (map-append own_of p.ps (map_spans (placed_on at) (separated is.forest) ∷ []))
+          ∙ ap (map own_of) (sym are),
+    )

@@ -1,5 +1,5 @@
 -- One whole piece, wherever it stands and whatever follows.
-use Rattle.std.proofs.Common.{◌≡◌, ◌<◌, Bool, true, false, ◌∷◌, refl, ap, sym, subst, ◌∙◌, arith, if◌then◌else◌}
+use Rattle.std.proofs.Common.{◌≡◌, ◌≢◌, [], ◌<◌, Bool, true, false, ◌∷◌, refl, ap, sym, subst, ◌∙◌, arith, if◌then◌else◌}
 use Rattle.std.specs.Prelude.{◌&&◌, ◌||◌, Some}
 use Rattle.tt.proofs.Steps.{joined-left}
 use Prim.Native.String.{String}
@@ -15,7 +15,7 @@ use Rattle.tt_data.proofs.ForestLemmas.{map_spans-joined, joined_assoc}
 use Rattle.bridge.specs.Text.{is_punct, same_kind}
 use Rattle.expander.specs.Cutting.{EndsAlways, PassesAlways}
 use Rattle.expander.specs.Pieces.{cut, cut_from, ends_piece, is_pound_bang}
-use Rattle.expander.specs.Sources.{IsWhole}
+use Rattle.expander.specs.Sources.{IsOpen, IsWhole}
 
 -- ---- whether a tree ends a piece does not hang on places
 
@@ -104,3 +104,23 @@ goes_always old rest new begun b (tree, p) = ((joined begun tree, more_always ol
 
 pub whole_always : (old rest new begun : Forest) → IsBegunAlways old rest begun → PassesAlways begun rest new (Some true) → new ≡ empty → IsWhole old
 whole_always old rest new begun b (tree, p) none = ends_always old rest new begun tree b p.0 none p.1
+
+-- ---- trees that nothing ends
+
+one_begun : (g : Forest) → g ≢ empty → cut_from empty g ≡ g ∷ []
+one_begun empty some = absurd (some refl)
+one_begun (leaf l rest) some = refl
+one_begun (group d inner rest) some = refl
+
+some_with : (f : Span → Span) (g : Forest) → g ≢ empty → map_spans f g ≢ empty
+some_with f empty some = some
+some_with f (leaf l rest) some = λ e. cc
+some_with f (group d inner rest) some = λ e. cc
+
+pub open_always : (old rest begun : Forest) → IsBegunAlways old rest begun → rest ≡ empty → old ≢ empty → IsOpen old
+open_always old rest begun b none some f =
+    let all : begun ≡ old = sym (joined-empty begun) ∙ ap (joined begun) (sym none) ∙ sym b.split in
+    ap cut (sym (joined-empty (map_spans f old))) ∙ sym (b.same f empty)
+    ∙ ap (λ (g : Forest). cut_from (joined (map_spans f g) empty) (map_spans f begun)) none
+    ∙ ap (λ (g : Forest). cut_from empty (map_spans f g)) all
+    ∙ one_begun (map_spans f old) (some_with f old some)

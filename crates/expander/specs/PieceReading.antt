@@ -1,5 +1,5 @@
 -- How a text is read piece by piece.
-use Rattle.std.specs.Prelude.{◌≡◌, ℕ, ◌++◌, chars, drop, take, [], ◌∷◌, All, IfSome, List, Option, Some, map, slice_get}
+use Rattle.std.specs.Prelude.{◌≡◌, ℕ, ◌++◌, chars, drop, take, [], ◌∷◌, All, IfSome, List, None, Option, Some, length, map, slice_get}
 use Rattle.std.specs.Global.{Global}
 use Rattle.std.specs.Rc.{rc_value}
 use Rattle.std.specs.declared.rc.Rc.{Rc}
@@ -11,22 +11,34 @@ use Rattle.rustc_lexer.specs.Standing.{AreTokensFrom}
 use Rattle.rustc_lexer.specs.declared.token.Token.{Token}
 use Rattle.tt.specs.Tops.{Top}
 use Rattle.tt_data.specs.Forest.{Forest, joined}
-use Rattle.bridge.specs.Parts.{begins_with_mark}
+use Rattle.bridge.specs.Parts.{begins_with_mark, part_steps}
+use Rattle.expander.specs.ByTrees.{own_top}
 use Rattle.expander.specs.OwnPieces.{AreOwn, tree_at}
 use Rattle.expander.specs.Pieces.{first_start, pieces, separated}
-use Rattle.expander.specs.Sources.{IsHeldAt, IsSource, IsWhole, StandsFirst, chars_ahead}
+use Rattle.expander.specs.Sources.{HasShape, IsHeldAt, IsOpen, IsSource, StandsFirst, chars_ahead}
 use Rattle.expander.specs.declared.own_pieces.OwnPiece.{OwnPiece}
+use Rattle.expander.specs.declared.pieces.Shape.{Shape}
 use Rattle.expander.specs.declared.sources.Source.{Source}
 use Rattle.expander.specs.declared.sources.Sources.{Sources}
 
--- the tree of these steps, set apart, is one whole piece that starts at its first place
-pub record IsReadPiece (steps : List TextStep) (t : Top) : Type 0 where
+-- the tree of these steps, set apart, is of this shape and starts at its first place
+pub record IsReadPiece (steps : List TextStep) (shape : Shape) (t : Top) : Type 0 where
   pub forest : Forest
   pub read : IsReading steps forest
   pub top : t.delimiter ≡ text_top
   pub apart : t.inner ≡ separated forest
-  pub whole : IsWhole t.inner
+  pub shaped : HasShape t.inner shape
   pub at_first : first_start t.inner ≡ 0
+
+-- all that stands at this place of a text is this one piece, which nothing ends
+pub record IsLastPiece (text : List ℕ) (at : ℕ) (left : List Token) (o : OwnPiece) : Type 0 where
+  pub forest : Forest
+  pub read : IsReading (part_steps 0 (length left) (drop at text) left) forest
+  pub opens : IsOpen (separated forest)
+  pub at_first : first_start (separated forest) ≡ 0
+  pub start : o.start ≡ at
+  pub tree : rc_value o.tree ≡ own_top (separated forest)
+  pub met : o.met ≡ None
 
 -- a piece is the held one of this number, if one is named: its tree is that one's
 abbrev pub IsMet : Sources → Option ℕ → Top → Type 0

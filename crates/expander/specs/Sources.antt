@@ -1,5 +1,5 @@
 -- What is held of the text that was read last, to read the next one by.
-use Rattle.std.specs.Prelude.{◌≡◌, ℕ, ◌≤◌, All, List, [], ◌∷◌, ◌++◌, Option, None, Some, chars, drop, length, map, slice_get, take}
+use Rattle.std.specs.Prelude.{◌≡◌, ℕ, ◌≤◌, All, List, [], ◌∷◌, ◌++◌, Option, None, Some, chars, drop, length, map, slice_get, take, ⊤}
 use Rattle.std.specs.Global.{Global}
 use Rattle.std.specs.List.{sum_by}
 use Rattle.std.specs.Rc.{rc_value}
@@ -14,6 +14,8 @@ use Rattle.tt_data.specs.declared.span.Span.{Span}
 use Rattle.expander.specs.ByTrees.{own_top}
 use Rattle.bridge.specs.Parts.{begins_with_mark, placed_on, starts_with_mark}
 use Rattle.expander.specs.Pieces.{cut, first_start, separated}
+use Rattle.expander.specs.declared.pieces.Shape.{Shape}
+use Rattle.expander.specs.declared.pieces.Shape.TheVariants.{Open, Other, Whole}
 use Rattle.expander.specs.declared.sources.Ahead.{Ahead}
 use Rattle.expander.specs.declared.sources.Source.{Source}
 use Rattle.expander.specs.declared.sources.Sources.{Sources}
@@ -21,6 +23,16 @@ use Rattle.expander.specs.declared.sources.Sources.{Sources}
 -- one whole piece, wherever it stands and whatever follows
 abbrev pub IsWhole : Forest → Type 0
 IsWhole p = (f : Span → Span) (after : Forest) → cut (joined (map_spans f p) after) ≡ map_spans f p ∷ cut after
+
+-- one piece that nothing ends, wherever it stands
+abbrev pub IsOpen : Forest → Type 0
+IsOpen p = (f : Span → Span) → cut (map_spans f p) ≡ map_spans f p ∷ []
+
+-- what trees are told to be
+abbrev pub HasShape : Forest → Shape → Type 0
+HasShape p Whole = IsWhole p
+HasShape p Open = IsOpen p
+HasShape p Other = ⊤
 
 -- how many bytes tokens have
 abbrev pub bytes_of : List Token → ℕ

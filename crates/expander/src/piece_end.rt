@@ -1,5 +1,5 @@
 // Where a piece may end, by the kinds of its tokens alone. What is read up to there decides.
-ghost use Rattle.std.specs.Prelude.{◌≤◌, length};
+ghost use Rattle.std.specs.Prelude.{◌≤◌, IfSome, length};
 
 use rustc_lexer::{DocStyle, Token, TokenKind};
 
@@ -99,9 +99,9 @@ fn with_inner(begun: Begun, kind: TokenKind) -> Option<Begun> {
     }
 }
 
-/// How many of the tokens the first piece seems to have.
-pub(crate) fn piece_end(tokens: &[Token]) -> usize
-    ensures { result ≤ length tokens.now }
+/// How many of the tokens the first piece seems to have: none is told where nothing seems to end it.
+pub(crate) fn piece_end(tokens: &[Token]) -> Option<usize>
+    ensures { IfSome result (λ n. n ≤ length tokens.now) }
 {
     let mut begun = Begun {
         depth: 0,
@@ -115,8 +115,8 @@ pub(crate) fn piece_end(tokens: &[Token]) -> usize
         };
         match more {
             Some(more) => begun = more,
-            None => return i + 1,
+            None => return Some(i + 1),
         }
     }
-    tokens.len()
+    None
 }

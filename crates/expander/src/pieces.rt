@@ -5,7 +5,7 @@ ghost use Rattle.tt_data.specs.Forest.{Forest, empty, size};
 ghost use Rattle.expander.specs.Pieces.{is_pound_bang, ends_piece, separated};
 ghost use Rattle.bridge.specs.Text.{is_punct};
 ghost use Rattle.tt.specs.Building.{alone};
-ghost use Rattle.expander.specs.Sources.{IsWhole};
+ghost use Rattle.expander.specs.Sources.{HasShape};
 ghost use Rattle.expander.specs.Cutting.{CutsOff, PassesAlways, PassesTree, end_alone, put_all};
 
 use crate::copies::again;
@@ -137,17 +137,30 @@ pub(crate) fn next_piece<'a>(rest: &mut TtIter<'a>) -> Option<TtIter<'a>>
     }
 }
 
-/// Whether these trees are one whole piece, wherever they stand and whatever follows.
-pub(crate) fn is_whole(piece: &TtIter<'_>) -> bool
-    ensures { result ≡ true → IsWhole piece.now }
+/// What trees side by side are.
+#[derive(Drop)]
+pub(crate) enum Shape {
+    /// One whole piece, wherever they stand and whatever follows.
+    Whole,
+    /// One piece that nothing ends, wherever they stand: the last of a text.
+    Open,
+    /// No piece, or more than one.
+    Other,
+}
+
+/// What these trees are.
+pub(crate) fn shape_of(piece: &TtIter<'_>) -> Shape
+    ensures { HasShape piece.now result }
 {
     let mut rest = again(piece);
     let start = rest.remaining();
     loop {
         let begun = rest.passed_since(start).iter();
         match pass_tree(&mut rest, &begun) {
-            None => return false,
-            Some(true) => return rest.is_empty(),
+            None if piece.is_empty() => return Shape::Other,
+            None => return Shape::Open,
+            Some(true) if rest.is_empty() => return Shape::Whole,
+            Some(true) => return Shape::Other,
             Some(false) => {}
         }
     }

@@ -1,11 +1,11 @@
 // A text piece by piece: pieces that are held, and pieces that are read by themselves.
-ghost use Rattle.std.specs.Prelude.{◌≡◌, ◌+◌, ◌<◌, ◌≤◌, ◌^◌, ◌++◌, ◌∷◌, [], IfOk, IfSome, IsOkUnless, List, Ok, OnOk, chars, drop, length, take, true, ℕ};
+ghost use Rattle.std.specs.Prelude.{◌≡◌, ◌+◌, ◌<◌, ◌≤◌, ◌^◌, ◌++◌, ◌∷◌, [], IfOk, IfSome, IsOkUnless, List, None, Ok, OnOk, chars, drop, length, take, true, ℕ};
 ghost use Rattle.std.specs.Rc.{rc_value};
 ghost use Rattle.rustc_lexer.specs.Lexing.{tokens_of};
 ghost use Rattle.rustc_lexer.specs.Standing.{AreTokensFrom};
 ghost use Rattle.tt_data.specs.fault.TtFault.TheVariants as fault;
 ghost use Rattle.bridge.specs.Parts.{part_steps};
-ghost use Rattle.expander.specs.PieceReading.{AddsPiece, AreMade, AreMet, AreTheirs, IsBlank, IsMet, IsReadPiece, IsSourceHere, KeepsSource, Passed};
+ghost use Rattle.expander.specs.PieceReading.{AddsPiece, AreMade, AreMet, AreTheirs, IsBlank, IsLastPiece, IsMet, IsReadPiece, IsSourceHere, KeepsSource, Passed};
 ghost use Rattle.expander.specs.ReadPieces.{IsReadInPieces};
 ghost use Rattle.expander.specs.Sources.{AreListed, AreSources, bytes_of, chars_ahead};
 ghost use Rattle.expander.specs.declared.read_pieces.ReadPieces.TheVariants.{Pieces};
@@ -14,7 +14,7 @@ use crate::own_pieces::OwnPiece;
 use crate::own_places::start_of;
 use crate::own_tree::OwnTree;
 use crate::piece_end::piece_end;
-use crate::pieces::{is_whole, set_apart};
+use crate::pieces::{Shape, set_apart, shape_of};
 use crate::seeking::{Seeker, seek_source};
 use crate::sources::{Ahead, Source, Sources, ahead_at};
 use bridge::{Names, Read, begins_with_mark, read_part};
@@ -60,7 +60,7 @@ fn word_of(text: &str, len: usize) -> Option<(&[u8], Ahead)>
     Some((word, ahead))
 }
 
-// The tree of the first tokens, where it is one whole piece.
+// The tree of the first tokens and what it is, where it starts at its first place.
 fn read_piece(
     alloc: Global,
     names: &mut Names,
@@ -68,11 +68,11 @@ fn read_piece(
     at: u32,
     tokens: &[Token],
     count: usize,
-) -> Result<Option<TopSubtree>, TtFault>
+) -> Result<Option<(Shape, TopSubtree)>, TtFault>
     requires small { length text.now < 2 ^ 32 }
     requires tokens { AreTokensFrom text.now at tokens.now }
     requires within { count ≤ length tokens.now }
-    ensures read { IfOk result (λ tree. IfSome tree (IsReadPiece (part_steps 0 count (drop at text.now) tokens.now))) }
+    ensures read { IfOk result (λ tree. IfSome tree (λ p. IsReadPiece (part_steps 0 count (drop at text.now) tokens.now) p.0 p.1)) }
     ensures memory { IsOkUnless result fault.Memory }
 {
     let mut tree = match read_part(names, text, at, tokens, count) {
@@ -85,8 +85,11 @@ fn read_piece(
         return Err(TtFault::Memory);
     }
     let trees = tree.token_trees().iter();
-    let is_piece = start_of(&trees) == 0 && is_whole(&trees);
-    if is_piece { Ok(Some(tree)) } else { Ok(None) }
+    if start_of(&trees) != 0 {
+        return Ok(None);
+    }
+    let shape = shape_of(&trees);
+    Ok(Some((shape, tree)))
 }
 
 // A piece with what it was read from, and what it was read as.
@@ -138,7 +141,9 @@ fn read_source(
     bridge::laws::reading_behind();
     laws::next_token();
     laws::first_tokens();
-    let count = piece_end(tokens);
+    let Some(count) = piece_end(tokens) else {
+        return Ok(None);
+    };
     let (first, after) = tokens.split_at(count);
     let rest = &text[at as usize..];
     let Some(len) = bytes_in(first) else {
@@ -150,11 +155,49 @@ fn read_source(
     if count == 0 {
         return Ok(None);
     }
-    let Some(tree) = read_piece(alloc, names, text, at, tokens, count)? else {
+    let Some((Shape::Whole, tree)) = read_piece(alloc, names, text, at, tokens, count)? else {
         return Ok(None);
     };
     let source = source_of(alloc, word, ahead, count, after, tree)?;
     Ok(Some(source))
+}
+
+// A piece at this place that is none of the held ones.
+fn new_piece(alloc: Global, at: u32, tree: TopSubtree) -> Result<OwnPiece, AllocError>
+    ensures { IfOk result (λ o. (o.start ≡ at) × (rc_value o.tree ≡ tree) × (o.met ≡ None)) }
+{
+    match Rc::new(alloc, OwnTree::new(tree)) {
+        Ok(tree) => Ok(OwnPiece {
+            start: at,
+            tree,
+            met: None,
+        }),
+        Err(e) => Err(AllocError::from(e)),
+    }
+}
+
+// All that these tokens are read as, where it is one piece that nothing ends.
+fn read_last(
+    alloc: Global,
+    names: &mut Names,
+    text: &str,
+    at: u32,
+    tokens: &[Token],
+) -> Result<Option<OwnPiece>, TtFault>
+    requires small { length text.now < 2 ^ 32 }
+    requires tokens { AreTokensFrom text.now at tokens.now }
+    ensures last { IfOk result (λ last. IfSome last (IsLastPiece text.now at tokens.now)) }
+    ensures memory { IsOkUnless result fault.Memory }
+{
+    if piece_end(tokens).is_some() {
+        return Ok(None);
+    }
+    let count = tokens.len();
+    let Some((Shape::Open, tree)) = read_piece(alloc, names, text, at, tokens, count)? else {
+        return Ok(None);
+    };
+    let last = new_piece(alloc, at, tree)?;
+    Ok(Some(last))
 }
 
 // What was passed of a text.
@@ -246,6 +289,7 @@ fn pass_next(
     ensures made { IfOk result (λ size. IfSome size (λ n. AreMade now.old.own.items now.old.list.items → AreMade now.new.own.items now.new.list.items)) }
     ensures met { IfOk result (λ size. IfSome size (λ n. AreMet held.now now.old.own.items → AreMet held.now now.new.own.items)) }
     ensures shorter { IfOk result (λ size. IfSome size (λ n. length (drop n.1 left.now) < length left.now)) }
+    ensures none { IfOk result (λ size. size ≡ None → (now.new.own ≡ now.old.own) × (now.new.list ≡ now.old.list)) }
     ensures memory { IsOkUnless result fault.Memory }
 {
     bridge::laws::parts_of_a_text();
@@ -268,6 +312,37 @@ fn pass_next(
     let count = source.as_ref().count;
     pass(&mut now.own, &mut now.list, at, source, met)?;
     Ok(Some((bytes, count)))
+}
+
+// The pieces of a text whose last one, which nothing ends, is left, and what is held of them: the last one is not.
+fn with_last(
+    alloc: Global,
+    names: &mut Names,
+    passed: Passing,
+    text: &str,
+    at: u32,
+    left: &[Token],
+) -> Result<Option<(Vec<OwnPiece>, Sources)>, TtFault>
+    requires small { length text.now < 2 ^ 32 }
+    requires passed { Passed text.now at left.now passed.own.items }
+    requires listed { AreListed passed.list.items }
+    requires made { AreMade passed.own.items passed.list.items }
+    ensures read { IfOk result (λ read. IfSome read (λ p. IsReadInPieces text.now (Pieces p.0 p.1))) }
+    ensures theirs { IfOk result (λ read. IfSome read (λ p. AreTheirs p.1 p.0.items)) }
+    ensures met { IfOk result (λ read. IfSome read (λ p. (held : Sources) → AreMet held passed.own.items → AreMet held p.0.items)) }
+    ensures memory { IsOkUnless result fault.Memory }
+{
+    bridge::laws::parts_of_a_text();
+    bridge::laws::parts_at_other_places();
+    bridge::laws::reading_is_a_relation();
+    let Some(last) = read_last(alloc, names, text, at, left)? else {
+        return Ok(None);
+    };
+    let Passing { mut own, list, .. } = passed;
+    if let Err(e) = own.push(last) {
+        return Err(AllocError::from(e).into());
+    }
+    Ok(Some((own, Sources { list })))
 }
 
 /// The pieces of a text, and what is held of them: none where one of them cannot be read by itself.
@@ -297,7 +372,7 @@ pub(crate) fn read_by_pieces(
     while !left.is_empty() {
         let Some((len, count)) = pass_next(alloc, &mut names, held, &mut now, text, at, left)?
         else {
-            return Ok(None);
+            return with_last(alloc, &mut names, now, text, at, left);
         };
         let Some((end, after)) = behind(left, at, len, count) else {
             return Ok(None);

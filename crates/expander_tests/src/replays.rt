@@ -24,6 +24,8 @@ a;|!|0 1 b|!|0 1 a|! @ a ;~ 1|edited|b ;~ 1|edited|a ;~ 1
 a+b|!|3 3 ;|!|0 0 ~|! @ a + b~ 1|edited|a + b ;~ 1|edited|a + b ;~ 0
 ab;|0 2 c|! @ edited|c ;~ 1
 |0 0 c|1 1 ;|! @ edited|edited|c ;~ 1
+a;~b|!|0 1 c|!|! @ a ;~b~ 2|edited|c ;~b~ 1|c ;~b~ 0
+a;~b|!|4 4 +c|!|0 0 ~|!|7 7 ;|! @ a ;~b~ 2|edited|a ;~b + c~ 1|edited|a ;~b + c~ 0|edited|a ;~b + c ;~ 1
 ";
 
 // A text and commands, and how often the grammar is asked: once for each expression, but for those in pieces that the last

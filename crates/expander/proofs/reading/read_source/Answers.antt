@@ -16,15 +16,15 @@ returns-clause-found c =
       next = c.next_token.ensures.others;
       first = c.first_tokens.ensures.bytes;
     } in
-    let some : 1 ≤ c.piece_end-count.result = omega (arith, c.if-count-eq0.false) in
+    let some : 1 ≤ c.in-Some.count = omega (arith, c.if-count-eq0.false) in
     let text : List ℕ = drop c.args.at c.args.text.now in
     let utf8 : IsUtf8 text = IsUtf8-drop c.args.text.now c.args.at c.utf8.text c.requires.tokens.boundary in
     let rest : c.range_from-rest.result.now ≡ text = search rules in
-    let n : ℕ = c.in-Some.len in
+    let n : ℕ = c.in-Some-bytes_in.len in
     let word : c.in-Some-word_of.word.now ≡ take n text = c.in-Some-word_of.ensures.word.0 ∙ ap (take n) rest in
     let fits : n ≤ length text = rw (sym rest) c.in-Some-word_of.ensures.word.1 in
     let ahead : chars_ahead c.in-Some-word_of.ahead ≡ take 2 (chars (drop n text)) =
     c.in-Some-word_of.ensures.ahead ∙ ap (λ (bs : List ℕ). take 2 (chars (drop n bs))) rest in
-    source_here parts text c.in-Some-word_of.word.now c.args.tokens.now _ _ c.piece_end-count.result n c.in-Some-2.tree _ utf8 c.requires.tokens.tokens
-    c.piece_end-count.ensures some fits c.in-Some.ensures word c.split_at.ensures.front c.split_at.ensures.back
-    (c.in_ok-source.ensures (drop n text) ahead) (rw c.in-Some-2.is at c.in_ok-tree.ensures.read)
+    source_here parts text c.in-Some-word_of.word.now c.args.tokens.now _ _ c.in-Some.count n c.in-Some-Whole-default.tree _ utf8 c.requires.tokens.tokens
+    c.in-Some.ensures some fits c.in-Some-bytes_in.ensures word c.split_at.ensures.front c.split_at.ensures.back
+    (c.in_ok-source.ensures (drop n text) ahead) (rw c.in-Some-Whole-default.field-0-0-is at (rw c.in-Some-Whole-default.is at c.in_ok-tree.ensures.read))

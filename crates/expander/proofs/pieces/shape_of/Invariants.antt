@@ -2,7 +2,7 @@ use Rattle.std.proofs.Common.{◌≡◌}
 use Rattle.tt_data.specs.Forest.{Forest, size}
 use Rattle.tt.specs.Views.{forest}
 use Rattle.expander.proofs.WholeLemmas.{IsBegunAlways}
-use Rattle.expander.proofs.pieces.is_whole.Given as goal
+use Rattle.expander.proofs.pieces.shape_of.Given as goal
 
 abbrev pub invariant-loop-rest : goal.invariant-loop-rest
 invariant-loop-rest l = (forest l.start ≡ l.fn.piece) × ((begun : Forest) × IsBegunAlways l.fn.piece l.rest begun)
