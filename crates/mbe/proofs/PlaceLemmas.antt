@@ -17,9 +17,7 @@ use Rattle.tt_data.specs.declared.delimiter.Delimiter.{Delimiter}
 use Rattle.tt_data.specs.declared.leaf.Punct.{Punct}
 use Rattle.mbe.specs.Units.{unit_trees, first_characters}
 use Rattle.tt.proofs.GluedLemmas.{glued-one}
-use Rattle.std.proofs.lemmas.List.{append_cancel_right}
-use Rattle.tt_data.specs.Flat.{forest_of-preorder, preorder-joined}
-use Rattle.tt_data.specs.Forest.{Forest, empty, leaf, group, joined, forest_of, preorder}
+use Rattle.tt_data.specs.Forest.{Forest, empty, leaf, group, joined}
 use Rattle.mbe_rules.specs.Trees.{before, past}
 
 pub past-empty : (n : ℕ) → past n empty ≡ empty
