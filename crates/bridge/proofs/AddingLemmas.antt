@@ -2,6 +2,7 @@
 use Rattle.std.proofs.Common.{◌≡◌, ℕ, List, ◌+◌, ◌≤◌, inl, inr, ap, ◌∙◌, arith}
 use Rattle.std.specs.Prelude.{Result, Ok, Err, OnOk, IfOk, IfErr}
 use Rattle.std.specs.Result.{IsErrAnd}
+use Rattle.tt.proofs.Limits.{count-extended}
 use Rattle.tt.specs.Building.{Building, closed, count_of, extended, opened}
 use Rattle.tt_data.proofs.ForestLemmas.{joined_assoc, size-joined}
 use Rattle.tt_data.specs.Forest.{Forest, empty, group, joined, size}
@@ -13,9 +14,6 @@ use Rattle.bridge.specs.ReadSteps.{IsRefusal, doc_puncts, doc_trees}
 
 extended_twice : (b : Building) (f g : Forest) → extended (extended b f) g ≡ extended b (joined f g)
 extended_twice b f g = ap (λ h. record b { here = h }) (joined_assoc b.here f g)
-
-pub count-extended : (b : Building) (f : Forest) → count_of (extended b f) ≡ count_of b + size f
-count-extended b f = omega (arith, size-joined b.here f)
 
 -- trees, and then more trees
 pub extends_then : (old mid new : Building) (f g : Forest) → mid ≡ extended old f → new ≡ extended mid g → new ≡ extended old (joined f g)

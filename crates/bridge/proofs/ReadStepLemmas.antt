@@ -15,7 +15,7 @@ use Rattle.tt_data.specs.declared.delimiter.DelimiterKind.{DelimiterKind}
 use Rattle.tt_data.specs.fault.TtFault.{TtFault}
 use Rattle.tt_data.specs.declared.span.Span.{Span}
 use Rattle.tt_data.specs.declared.span.TextRange.{TextRange}
-use Rattle.bridge.proofs.AddingLemmas.{count-extended}
+use Rattle.tt.proofs.Limits.{count-extended}
 use Rattle.bridge.proofs.ReadingLemmas.{closed_walk, walk_open-joined}
 use Rattle.bridge.specs.ReadSteps.{IsClosed, IsRefusal, IsStepRefusal, Takes, first_kind, spacing_at, steps_in, trees_of}
 use Rattle.bridge.specs.Reading.{DoesNotFit, IsFault, PlacedToken, TextStep, bad, bad_at, closer_at, left_open, range_of, step, walk_open, written_at}

@@ -5,7 +5,7 @@ use Rattle.std.specs.List.{list_all}
 use Rattle.std.specs.Str.{bytes_eq}
 use Rattle.std.proofs.lemmas.Slice.Eq.{bytes_eq-Decides}
 use Rattle.std.proofs.lemmas.Bool.{and_from, and_parts}
-use Rattle.tt_data.specs.Forest.{Forest, empty, leaf, group}
+use Rattle.tt_data.specs.Forest.{Forest}
 use Rattle.tt_data.specs.Walk.{Step, at_leaf, opens, closes, walk}
 use Rattle.tt_data.specs.declared.edition.Edition.{Edition}
 use Rattle.tt_data.specs.declared.leaf.Ident.{Ident}
@@ -21,7 +21,6 @@ use Rattle.bridge.specs.Printing.{depth_after, left_out_from, print_of}
 use Rattle.bridge.specs.Reading.{IsReading, TextStep, reading}
 use Rattle.bridge.specs.ReadsBack.{AreReadAs, IsReadAs, PrintsAgain, ReadsBack}
 use Rattle.bridge.specs.Spelling.{is_plain_name, same_leaf, same_rawness, spelled_leaf}
-use Rattle.bridge.specs.Text.{is_punct}
 use Rattle.bridge.specs.TokenSteps.{text_reading, text_steps}
 use Rattle.expander.specs.declared.faults.Fault.{Fault}
 use Rattle.expander.specs.declared.faults.FaultKind.TheVariants.{NestedDefinition}
@@ -34,7 +33,6 @@ use Rattle.expander.specs.Meaning.{Layers, ReadMeaning, faults_of, meaning_from,
 use Rattle.expander.specs.OutputSteps.{tokens_in}
 use Rattle.expander.specs.Pieces.{pieces, separated}
 use Rattle.expander.specs.Printing.{PrintedToken, bare, left_out, spelling_before, steps_of, text_of, unspelled, visible}
-use Rattle.tt.specs.Building.{alone}
 use Rattle.expander.proofs.ForestLemmas.{AreWalked, steps_of-placed, walked_members}
 use Rattle.expander.proofs.PrintingLemmas.{text_is, tokens_bare, visible_bare}
 use Rattle.expander.proofs.QuietLemmas.{quiet_text}

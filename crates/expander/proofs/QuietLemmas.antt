@@ -1,6 +1,6 @@
 -- Texts of which no fault is told.
 use Rattle.std.proofs.Common.{◌≡◌, ℕ, List, [], ◌∷◌, ◌++◌, refl, ap, ◌∙◌, Bool, true, false, if◌then◌else◌}
-use Rattle.std.specs.Prelude.{Option, Some, None, not, ◌&&◌, filter, map}
+use Rattle.std.specs.Prelude.{Option, Some, None, not, filter, map}
 use Rattle.std.specs.List.{list_all}
 use Rattle.std.proofs.lemmas.Bool.{and_from, and_parts}
 use Rattle.tt_data.specs.Forest.{Forest}

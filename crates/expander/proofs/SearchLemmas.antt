@@ -1,6 +1,6 @@
 -- What the search of calls leaves as it is.
 use Rattle.std.proofs.Common.{◌≡◌, ℕ, zero, suc, List, [], ◌∷◌, ◌++◌, refl, sym, ap, ◌∙◌, append_assoc, Bool, true, false, inl, inr}
-use Rattle.std.specs.Prelude.{Option, Some, None, is_none, ◌||◌, ◌&&◌, flat_map, map}
+use Rattle.std.specs.Prelude.{Option, Some, None, is_none, ◌||◌, flat_map, map}
 use Rattle.std.proofs.lemmas.List.{map-append}
 use Rattle.std.proofs.lemmas.Bool.{and_parts}
 use Rattle.tt_data.specs.Forest.{Forest, leaf, group, joined}

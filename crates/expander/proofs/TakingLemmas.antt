@@ -1,5 +1,5 @@
 -- A tree over what is held.
-use Rattle.std.proofs.Common.{◌≡◌, ◌↔◌, ℕ, zero, suc, Bool, true, false, List, [], ◌∷◌, map, Option, Some, None, refl, ap, sym, subst, ◌∙◌, Global}
+use Rattle.std.proofs.Common.{◌≡◌, ◌↔◌, ℕ, zero, suc, Bool, true, List, [], ◌∷◌, map, Option, Some, None, refl, ap, sym, subst, ◌∙◌, Global}
 use Rattle.std.specs.Prelude.{◌&&◌, ◌||◌, All, slice_get}
 use Rattle.std.specs.List.{list_any}
 use Rattle.std.specs.Rc.{rc_value}

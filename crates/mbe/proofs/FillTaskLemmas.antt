@@ -33,7 +33,8 @@ use Rattle.mbe.specs.declared.filling.Rounds.{Rounds}
 use Rattle.mbe.specs.declared.filling.Task.{Task}
 use Rattle.mbe.specs.declared.filling.Task.TheVariants.{Items as items_task, Close, Leave, Later}
 use Rattle.mbe.proofs.FillLemmas.{IsSized, unmoved, sized-gives, sized-first, sized-from, gives-put, puts-put, when_none, with_later, out_later, no-round, first-round, first-out}
-use Rattle.mbe.proofs.PuttingLemmas.{extended-more, count-extended, unsome}
+use Rattle.tt.proofs.Limits.{count-extended}
+use Rattle.mbe.proofs.PuttingLemmas.{extended-more, unsome}
 
 -- ---- lists of tasks
 

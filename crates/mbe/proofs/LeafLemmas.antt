@@ -17,7 +17,8 @@ use Rattle.mbe.specs.Bindings.{Map}
 use Rattle.mbe.specs.Fit.{most_rounds}
 use Rattle.mbe.specs.Given.{Fills, IsBurstBy, ended, dollar_gives, dollar_place, plain_gives}
 use Rattle.mbe.specs.Markers.{is_name}
-use Rattle.mbe.proofs.PuttingLemmas.{extended-more, count-extended, unsome}
+use Rattle.tt.proofs.Limits.{count-extended}
+use Rattle.mbe.proofs.PuttingLemmas.{extended-more, unsome}
 
 all-after : (old : Building) (x : Forest) (y : Option Forest) → option_map (extended (extended old x)) y ≡ option_map (extended old) (option_map (joined x) y)
 all-after old x None = refl

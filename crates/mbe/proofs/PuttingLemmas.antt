@@ -47,9 +47,6 @@ wrapped-added b one two out s f e first second third =
 -- ---- room
 
 -- the tokens that there are with more trees
-pub count-extended : (b : Building) (f : Forest) → count_of (extended b f) ≡ count_of b + size f
-count-extended b f = let k = size-joined b.here f in omega (arith, k)
-
 pub alone-lacks : (b : Building) (f : Forest) → most_tokens < count_of b + size f → LacksRoom b (last_alone f)
 alone-lacks b f less = let n = size-last_alone f in omega (arith, less, n)
 

@@ -1,14 +1,19 @@
 -- How many tokens a builder has, and what that says of the answers of calls that add one.
 use Rattle.std.proofs.Common.{◌≡◌, ◌↔◌, ℕ, ◌+◌, ◌<◌, ◌≤◌, length, List, [], ◌∷◌, take, drop, ap, sym, ◌∙◌, arith, Result, Ok, Err, IsErrAnd}
 use Rattle.std.proofs.lemmas.List.{length-drop, length-take}
-use Rattle.tt_data.specs.Forest.{IsPreorder, forest_of, size}
+use Rattle.tt_data.specs.Forest.{Forest, IsPreorder, forest_of, size}
+use Rattle.tt_data.proofs.ForestLemmas.{size-joined}
 use Rattle.tt_data.specs.Flat.{length-preorder}
 use Rattle.tt_data.specs.fault.TtFault.{TtFault}
 use Rattle.tt_data.specs.fault.TtFault.TheVariants as fault
 use Rattle.tt_data.specs.declared.tree.TokenTree.{TokenTree}
 use Rattle.tt.specs.declared.builder.Opening.{Opening}
-use Rattle.tt.specs.Building.{count_in, most_tokens}
+use Rattle.tt.specs.Building.{Building, count_in, count_of, extended, most_tokens}
 use Rattle.tt.specs.BuilderTokens.{here_of, groups_of, IsHeld}
+
+-- trees that are put in count
+pub count-extended : (b : Building) (f : Forest) → count_of (extended b f) ≡ count_of b + size f
+count-extended b f = let k = size-joined b.here f in omega (arith, k)
 
 -- whole trees have as many tokens as their list
 pub size-whole : (tokens : List TokenTree) → IsPreorder tokens → size (forest_of tokens) ≡ length tokens

@@ -1,4 +1,4 @@
-use Rattle.std.proofs.Common.{◌≡◌, of_calls, rules, arith, true, leb-true}
+use Rattle.std.proofs.Common.{of_calls, rules, arith, leb-true}
 use Rattle.std.specs.Prelude.{leb}
 use Rattle.std.proofs.lemmas.Bool.Decides.{nat_tests}
 use Rattle.std.proofs.lemmas.Fn.{always_returns_same}
