@@ -23,7 +23,7 @@ use Rattle.mbe.specs.declared.filling.Rounds.{Rounds}
 use Rattle.mbe.specs.declared.filling.Task.{Task}
 use Rattle.mbe.specs.declared.filling.Task.TheVariants.{Items as items_task, Later}
 use Rattle.mbe.proofs.FillLemmas.{IsSized, sized-gives}
-use Rattle.mbe.proofs.PuttingLemmas.{count-extended}
+use Rattle.tt.proofs.Limits.{count-extended}
 use Rattle.mbe.proofs.FillTaskLemmas.{after_next, around-last, at-least, no-more, one-more-round, plain-steps, round-least, too-many}
 
 -- ---- a variable

@@ -4,6 +4,7 @@ use Rattle.std.specs.Prelude.{Result, Ok, Err}
 use Rattle.std.specs.Result.{IsErrAnd}
 use Rattle.tt_data.specs.fault.TtFault.{TtFault}
 use Rattle.tt.specs.Building.{Building, pushed, opened, closed, extended, last_alone, count_of, most_tokens}
+use Rattle.tt.proofs.Limits.{count-extended}
 use Rattle.tt.proofs.LastAlone.{size-last_alone}
 use Rattle.tt_data.proofs.ForestLemmas.{joined_assoc, size-joined}
 use Rattle.tt_data.specs.Flat.{joined-empty}
