@@ -1,14 +1,17 @@
 -- What is collected move by move are the bindings.
-use Rattle.std.proofs.Common.{◌≡◌, refl, sym, ap, ◌∙◌, ℕ, suc, ◌+◌, ◌-◌, ◌<◌, List, [], ◌∷◌, ◌++◌, length, map, reverse, slice_index_or, slice_set, arith}
+use Rattle.std.proofs.Common.{◌≡◌, refl, sym, ap, ◌∙◌, ℕ, suc, ◌+◌, ◌-◌, ◌<◌, List, [], ◌∷◌, ◌++◌, length, map, reverse, Some, None, slice_index_or, slice_set, arith}
 use Rattle.std.proofs.Math.Seq.{get_or-append_seam, set-append_seam}
 use Rattle.std.specs.Borrow.{Bor}
 use Rattle.std.specs.List.{flat_map}
 use Rattle.std.proofs.lemmas.List.{length-append, reverse-append}
 use Rattle.std.proofs.lemmas.List.Concat.{flat_map-cons}
+use Rattle.tt_data.specs.Forest.{Forest, empty, leaf, group}
+use Rattle.tt.specs.Elements.{first_alone, after_first}
+use Rattle.mbe_rules.specs.declared.parser.MetaVarKind.{MetaVarKind}
 use Rattle.mbe.specs.Bindings.{Map, Open, bind, bind_skipped, bind_round, bind_rounds, bindings_from, bindings, fragment}
 use Rattle.mbe.specs.Bound.{map_of}
 use Rattle.mbe.specs.Collecting.{Collecting, after, after_all, round_ended, open_of, opens_of}
-use Rattle.mbe.specs.Threads.{moves_of, moves_to, steps_in, steps_of}
+use Rattle.mbe.specs.Threads.{moves_of, moves_to, rounds_of, steps_in, steps_of}
 use Rattle.mbe.specs.declared.collecting.Open.{Open as Opened}
 use Rattle.mbe.specs.declared.threads.Entry.{Entry, Entry', None', Some'}
 use Rattle.mbe.specs.declared.threads.Entry.TheViews.{out-Entry}
@@ -103,3 +106,20 @@ round-over m os n x y k h g e =
     ∙ ap (λ o. round_ended m (open_of o ∷ opens_of init)) (sym same)
     ∙ ap (λ o. ([], o ∷ opens_of init)) (sym e)
     ∙ ap (λ l. ([], l)) (sym new)
+
+-- a round more of those of which each has a tree
+pub rounds-step : (n : List ℕ) (k : MetaVarKind) (f tree rest : Forest) (s : Collecting) → first_alone f ≡ Some tree → rest ≡ after_first f →
+    after_all (rounds_of n k rest) (after (fragment_move n k tree) (after next_round s)) ≡ after_all (rounds_of n k f) s
+rounds-step n k empty tree rest s e h = absurd (cc e)
+rounds-step n k (leaf l more) tree rest s e h =
+    ap (λ f. after_all (rounds_of n k f) (after (fragment_move n k tree) (after next_round s))) h
+    ∙ ap (λ t. after_all (rounds_of n k more) (after (fragment_move n k t) (after next_round s))) (let t : tree ≡ leaf l empty = cc in t)
+rounds-step n k (group d inner more) tree rest s e h =
+    ap (λ f. after_all (rounds_of n k f) (after (fragment_move n k tree) (after next_round s))) h
+    ∙ ap (λ t. after_all (rounds_of n k more) (after (fragment_move n k t) (after next_round s))) (let t : tree ≡ group d inner empty = cc in t)
+
+-- and no more, where no tree is left
+pub rounds-end : (n : List ℕ) (k : MetaVarKind) (f : Forest) (s : Collecting) → first_alone f ≡ None → s ≡ after_all (rounds_of n k f) s
+rounds-end n k empty s e = refl
+rounds-end n k (leaf l more) s e = absurd (cc e)
+rounds-end n k (group d inner more) s e = absurd (cc e)

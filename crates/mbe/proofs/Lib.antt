@@ -9,6 +9,7 @@ pub mod FillingLemmas
 pub mod FitLemmas
 pub mod OutputLemmas
 pub mod GatherLemmas
+pub mod GoingLemmas
 pub mod ClashLemmas
 pub mod LoopLemmas
 pub mod PathListLemmas

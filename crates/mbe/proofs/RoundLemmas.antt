@@ -1,8 +1,9 @@
 -- Where one thread waits alone after another
-use Rattle.std.proofs.Common.{◌≡◌, inl, inr, refl, sym, ap, subst, ◌∙◌, ℕ, zero, suc, ◌<◌, Bool, true, false, List, [], ◌∷◌, ◌++◌, if◌then◌else◌, map, Some}
+use Rattle.std.proofs.Common.{◌≡◌, inl, inr, refl, sym, ap, subst, ◌∙◌, ℕ, zero, suc, ◌<◌, arith, Bool, true, false, List, [], ◌∷◌, ◌++◌, if◌then◌else◌, map, Some}
 use Rattle.std.proofs.lemmas.List.{append_assoc}
 use Rattle.std.specs.List.{flat_map}
-use Rattle.tt_data.specs.Forest.{Forest, empty, leaf, group}
+use Rattle.tt_data.specs.Forest.{Forest, empty, leaf, group, joined}
+use Rattle.tt_data.proofs.ForestLemmas.{joined_assoc}
 use Rattle.tt_data.specs.declared.leaf.Leaf.TheVariants as as_leaf
 use Rattle.tt_data.specs.declared.leaf.Punct.{Punct}
 use Rattle.tt_data.specs.declared.span.Span.{Span}
@@ -16,15 +17,15 @@ use Rattle.mbe.specs.Fragments.{taken}
 use Rattle.mbe.specs.Grammar.{Grammar}
 use Rattle.mbe.specs.Paths.{IsAmong, when}
 use Rattle.mbe.specs.Readings as r
-use Rattle.mbe.specs.Rounds.{lone, IsShut, HasLone, WaitsAlone, Follows, goes_on}
-use Rattle.mbe.specs.Threads.{contributes, extended, frames_of, moves_of, waiting_of}
+use Rattle.mbe.specs.Rounds.{lone, IsShut, HasLone, WaitsAfter, Follows, goes_on, AreSingle, single, one_more}
+use Rattle.mbe.specs.Threads.{Waits, contributes, extended, frames_of, moves_of, rounds_of, waiting_of}
 use Rattle.mbe.specs.Units as u
 use Rattle.mbe.specs.Waiting.{Good, pending, prefixed, settled_at}
-use Rattle.mbe.specs.declared.matcher.Waiting as d
 use Rattle.mbe.specs.declared.matcher.Waiting.TheVariants.{Pending}
 use Rattle.mbe.specs.declared.place.Taken.TheVariants.{Fragment as takes_trees}
 use Rattle.mbe.specs.declared.threads.Thread.{Thread}
 use Rattle.mbe.proofs.MoveLemmas.{does, fragment-lowers}
+use Rattle.mbe.proofs.PlaceLemmas.{before-past}
 use Rattle.mbe.proofs.SettlingLemmas.{settled-goes_on}
 
 -- nothing goes on there but at an end
@@ -61,6 +62,19 @@ only-round gr ms n k s op fs p i N rep shut e c t g =
     ∙ ap (λ x. (pending ((ms ++ (r.next_round ∷ [])) ++ (r.fragment_move n k (before (suc i) (r.trees_here p)) ∷ [])) true
     (r.at done frames (r.past_trees (suc i) p)) ∷ []) ++ (x ++ [])) two
 
+-- so one path waits after these moves
+pub waits-after : (gr : Grammar) (ms : List r.Move) (items : Items) (frames : List r.Frame) (n : List ℕ) (k : MetaVarKind) (p : u.Place) (count : ℕ) →
+    HasLone items frames n k → u.is_end p ≡ false → u.same_unit u.closing (u.unit_at p) ≡ false →
+    taken gr k (r.trees_here p) ≡ Some count → (count ≡ 0 → ⊥) →
+    WaitsAfter gr ms (r.at items frames p)
+    (pending ((ms ++ (r.next_round ∷ [])) ++ (r.fragment_move n k (before count (r.trees_here p)) ∷ [])) true (r.at items frames (r.past_trees count p)))
+waits-after gr ms items frames n k p zero h e c t z = absurd (z refl)
+waits-after gr ms items frames n k p (suc i) (d, (s, op, fs, f, rep, shut)) e c t z =
+    let made = (ms ++ (r.next_round ∷ [])) ++ (r.fragment_move n k (before (suc i) (r.trees_here p)) ∷ []) in
+    subst (λ x. WaitsAfter gr ms (r.at x frames p) (pending made true (r.at x frames (r.past_trees (suc i) p)))) (sym d)
+    (subst (λ y. WaitsAfter gr ms (r.at done y p) (pending made true (r.at done y (r.past_trees (suc i) p)))) (sym f)
+    (λ N g. only-round gr ms n k s op fs p i N rep shut e c t g))
+
 -- so one thread waits alone
 pub waits-alone : (gr : Grammar) (ms : List r.Move) (items : Items) (frames : List r.Frame) (n : List ℕ) (k : MetaVarKind) (p : u.Place) (count N : ℕ) →
     HasLone items frames n k → u.is_end p ≡ false → u.same_unit u.closing (u.unit_at p) ≡ false →
@@ -69,15 +83,11 @@ pub waits-alone : (gr : Grammar) (ms : List r.Move) (items : Items) (frames : Li
     moves_of t.moves ≡ (ms ++ (r.next_round ∷ [])) ++ (r.fragment_move n k (before count (r.trees_here p)) ∷ []) →
     Good N (r.at items frames p) →
     map (prefixed ms) (settled_at gr (r.at items frames p)) ≡ waiting_of p (Pending t (takes_trees count)) ∷ []
-waits-alone gr ms items frames n k p zero N h e c t z th ti tf tm g = absurd (z refl)
-waits-alone gr ms items frames n k p (suc i) N (d, (s, op, fs, f, rep, shut)) e c t z th ti tf tm g =
-    let made = (ms ++ (r.next_round ∷ [])) ++ (r.fragment_move n k (before (suc i) (r.trees_here p)) ∷ []) in
-    subst (λ x. Good N (r.at x frames p) → map (prefixed ms) (settled_at gr (r.at x frames p)) ≡ pending made true (r.at x frames (r.past_trees (suc i) p)) ∷ []) (sym d)
-    (subst (λ y. Good N (r.at done y p) → map (prefixed ms) (settled_at gr (r.at done y p)) ≡ pending made true (r.at done y (r.past_trees (suc i) p)) ∷ []) (sym f)
-    (only-round gr ms n k s op fs p i N rep shut e c t)) g
-    ∙ ap (λ x. pending x true (r.at items frames (r.past_trees (suc i) p)) ∷ []) (sym tm)
-    ∙ ap (λ x. pending (moves_of th.moves) true (r.at x frames (r.past_trees (suc i) p)) ∷ []) (sym ti)
-    ∙ ap (λ x. pending (moves_of th.moves) true (r.at (items_of th.items.now) x (r.past_trees (suc i) p)) ∷ []) (sym tf)
+waits-alone gr ms items frames n k p count N h e c t z th ti tf tm g =
+    waits-after gr ms items frames n k p count h e c t z N g
+    ∙ ap (λ x. pending x true (r.at items frames (r.past_trees count p)) ∷ []) (sym tm)
+    ∙ ap (λ x. pending (moves_of th.moves) true (r.at x frames (r.past_trees count p)) ∷ []) (sym ti)
+    ∙ ap (λ x. pending (moves_of th.moves) true (r.at (items_of th.items.now) x (r.past_trees count p)) ∷ []) (sym tf)
 
 no-closing : (p : Punct) (f : Forest) → u.same_unit u.closing (u.punct_unit p f) ≡ false
 no-closing p empty = refl
@@ -99,21 +109,69 @@ not-over (leaf (as_leaf.Ident i) rest) outer h = (refl, refl)
 not-over (leaf (as_leaf.Punct p) rest) outer h = (refl, no-closing p rest)
 
 -- one round more
-pub follows-round : (gr : Grammar) (p : u.Place) (ws : List d.Waiting) (outer : List Forest) (f g : Forest) (count next : ℕ) (n : List ℕ) (k : MetaVarKind) (t x : Thread) →
-    Follows gr p ws (u.place g outer) (Pending t (takes_trees count) ∷ []) → f ≡ past count g →
-    HasLone (items_of t.items.now) (frames_of t.frames) n k → (f ≡ empty → ⊥) → taken gr k f ≡ Some next → (next ≡ 0 → ⊥) →
-    x.items ≡ t.items → x.frames ≡ t.frames → moves_of x.moves ≡ moves_of t.moves ++ (r.next_round ∷ r.fragment_move n k (before next f) ∷ []) →
-    Follows gr p ws (u.place f outer) (Pending x (takes_trees next) ∷ [])
-follows-round gr p ws outer f g count next n k t x h e lone left some more ti tf tm =
+pub follows-round : (gr : Grammar) (p q : u.Place) (ws : List Waits) (outer : List Forest) (f : Forest) (next : ℕ) (n : List ℕ) (k : MetaVarKind)
+    (items : Items) (frames : List r.Frame) (ms : List r.Move) →
+    Follows gr p ws q (pending ms true (r.at items frames (u.place f outer)) ∷ []) →
+    HasLone items frames n k → (f ≡ empty → ⊥) → taken gr k f ≡ Some next → (next ≡ 0 → ⊥) →
+    Follows gr p ws (u.place f outer)
+    (pending (ms ++ (r.next_round ∷ r.fragment_move n k (before next f) ∷ [])) true (r.at items frames (u.place (past next f) outer)) ∷ [])
+follows-round gr p q ws outer f next n k items frames ms h alone left some more =
     let over = not-over f outer left in
-    let alone : WaitsAlone gr (u.place f outer) t (Pending x (takes_trees next)) = λ N good.
-    waits-alone gr (moves_of t.moves) (items_of t.items.now) (frames_of t.frames) n k (u.place f outer) next N lone over.0 over.1 some more x
-    (ap (λ i. items_of i.now) ti) (ap frames_of tf) (tm ∙ sym (append_assoc (moves_of t.moves) (r.next_round ∷ []) _)) good in
-    subst (λ y. Follows gr p ws (u.place y outer) (Pending x (takes_trees next) ∷ [])) (sym e)
-    (goes_on h (subst (λ y. WaitsAlone gr (u.place y outer) t (Pending x (takes_trees next))) e alone))
+    goes_on h (subst (λ x. WaitsAfter gr ms (r.at items frames (u.place f outer)) (pending x true (r.at items frames (u.place (past next f) outer))))
+    (append_assoc ms (r.next_round ∷ []) (r.fragment_move n k (before next f) ∷ []))
+    (waits-after gr ms items frames n k (u.place f outer) next alone over.0 over.1 some more))
+
+-- a round of one tree
+one-round : (n : List ℕ) (k : MetaVarKind) (f : Forest) → (f ≡ empty → ⊥) →
+    r.next_round ∷ r.fragment_move n k (before 1 f) ∷ [] ≡ rounds_of n k (before 1 f)
+one-round n k empty h = absurd (h refl)
+one-round n k (leaf l rest) h = refl
+one-round n k (group d inner rest) h = refl
+
+-- rounds of these trees and of those after them
+rounds-joined : (n : List ℕ) (k : MetaVarKind) (f g : Forest) → rounds_of n k (joined f g) ≡ rounds_of n k f ++ rounds_of n k g
+rounds-joined n k empty g = refl
+rounds-joined n k (leaf l rest) g = ap (λ ms. r.next_round ∷ r.fragment_move n k (leaf l empty) ∷ ms) (rounds-joined n k rest g)
+rounds-joined n k (group d inner rest) g = ap (λ ms. r.next_round ∷ r.fragment_move n k (group d inner empty) ∷ ms) (rounds-joined n k rest g)
+
+-- a round more of one tree
+round-last : (n : List ℕ) (k : MetaVarKind) (ms : List r.Move) (ts f : Forest) → (f ≡ empty → ⊥) →
+    (ms ++ rounds_of n k ts) ++ (r.next_round ∷ r.fragment_move n k (before 1 f) ∷ []) ≡ ms ++ rounds_of n k (joined ts (before 1 f))
+round-last n k ms ts f h =
+    append_assoc ms (rounds_of n k ts) (r.next_round ∷ r.fragment_move n k (before 1 f) ∷ [])
+    ∙ ap (λ l. ms ++ (rounds_of n k ts ++ l)) (one-round n k f h)
+    ∙ ap (λ l. ms ++ l) (sym (rounds-joined n k ts (before 1 f)))
+
+-- rounds of one tree each
+pub follows-singles : (gr : Grammar) (p q : u.Place) (ws : List Waits) (outer : List Forest) (f : Forest) (n : List ℕ) (k : MetaVarKind)
+    (items : Items) (frames : List r.Frame) (ms : List r.Move) →
+    Follows gr p ws q (pending ms true (r.at items frames (u.place f outer)) ∷ []) →
+    HasLone items frames n k → (ts last rest : Forest) → AreSingle gr k f ts last rest →
+    Follows gr p ws (u.place last outer) (pending (ms ++ rounds_of n k ts) true (r.at items frames (u.place rest outer)) ∷ [])
+follows-singles gr p q ws outer f n k items frames ms h alone _ _ _ (single left some) =
+    subst (λ l. Follows gr p ws (u.place f outer) (pending (ms ++ l) true (r.at items frames (u.place (past 1 f) outer)) ∷ [])) (one-round n k f left)
+    (follows-round gr p q ws outer f 1 n k items frames ms h alone left some (λ z. cc z))
+follows-singles gr p q ws outer f n k items frames ms h alone _ _ _ (one_more {ts} {last} {rest} s left some) =
+    subst (λ l. Follows gr p ws (u.place rest outer) (pending l true (r.at items frames (u.place (past 1 rest) outer)) ∷ [])) (round-last n k ms ts rest left)
+    (follows-round gr p (u.place last outer) ws outer rest 1 n k items frames (ms ++ rounds_of n k ts)
+    (follows-singles gr p q ws outer f n k items frames ms h alone ts last rest s) alone left some (λ z. cc z))
 
 -- fewer trees are left behind it
 pub round-lowers : (gr : Grammar) (k : MetaVarKind) (n : ℕ) (f g : Forest) → taken gr k f ≡ Some n → (n ≡ 0 → ⊥) → g ≡ past n f →
     u.left (u.place g []) < u.left (u.place f [])
 round-lowers gr k zero f g e z h = absurd (z refl)
 round-lowers gr k (suc i) f g e z h = subst (λ x. u.left (u.place x []) < u.left (u.place f [])) (sym h) (fragment-lowers gr k i f [] e)
+
+pub singles-lower : (gr : Grammar) (k : MetaVarKind) (f ts last rest : Forest) → AreSingle gr k f ts last rest →
+    u.left (u.place rest []) < u.left (u.place f [])
+singles-lower gr k f _ _ _ (single left some) = round-lowers gr k 1 f (past 1 f) some (λ z. cc z) refl
+singles-lower gr k f _ _ _ (one_more {ts} {last} {rest} s left some) =
+    let a = singles-lower gr k f ts last rest s in
+    let b = round-lowers gr k 1 rest (past 1 rest) some (λ z. cc z) refl in
+    omega (arith, a, b)
+
+-- and all of them are passed
+pub singles-joined : (gr : Grammar) (k : MetaVarKind) (f ts last rest : Forest) → AreSingle gr k f ts last rest → f ≡ joined ts rest
+singles-joined gr k f _ _ _ (single left some) = before-past 1 f
+singles-joined gr k f _ _ _ (one_more {ts} {last} {rest} s left some) =
+    singles-joined gr k f ts last rest s ∙ ap (joined ts) (before-past 1 rest) ∙ sym (joined_assoc ts (before 1 rest) (past 1 rest))

@@ -1,6 +1,7 @@
 -- A turn of the main loop, over the program's threads
 use Rattle.std.proofs.Common.{◌≡◌, refl, sym, ap, subst, ◌∙◌, ℕ, ◌≤◌, ◌<◌, Bool, true, false, List, [], ◌∷◌, ◌++◌, map, Some, None, length, get_or, arith}
 use Rattle.std.specs.List.{flat_map}
+use Rattle.std.proofs.lemmas.List.{append-nil}
 use Rattle.tt_data.specs.Forest.{Forest}
 use Rattle.mbe_rules.specs.Items.{Items, has_empty_round}
 use Rattle.mbe_rules.specs.Text.{is_nil}
@@ -169,25 +170,33 @@ one-takes : (b : Bool) → false ≡ clash (b ∷ [])
 one-takes true = refl
 one-takes false = refl
 
--- so do those that wait where again and again one alone waits after another
-pub follows-held : (gr : Grammar) → (pattern : Items) (argument : Forest) (p : P) (ws : List d.Waiting) (s : P) (us : List d.Waiting) → Follows gr p ws s us →
-    Held gr pattern argument p (t.waits p ws) → Held gr pattern argument s (t.waits s us) × (u.left s ≤ u.left p)
+-- so does what waits where again and again one path alone waits after another
+pub follows-held : (gr : Grammar) → (pattern : Items) (argument : Forest) (p : P) (ws : List t.Waits) (s : P) (us : List t.Waits) → Follows gr p ws s us →
+    Held gr pattern argument p ws → Held gr pattern argument s us × (u.left s ≤ u.left p)
 follows-held gr pattern argument p ws _ _ stays h = (h, omega arith)
-follows-held gr pattern argument p ws _ _ (goes_on {q = o} {t = th} {k} {w} f alone) h =
-    let s = q.place_after o (Some k) in
-    let (i, le) = follows-held gr pattern argument p ws o (Pending th k ∷ []) f h in
-    let n = turn gr pattern argument o (Pending th k ∷ []) k i (one-takes (t.is_trees (Some k))) refl s refl in
-    let all : t.waits s (w ∷ []) ≡ flat_map (advanced_by (settled_at gr)) (t.waits_at s (Pending th k ∷ [])) =
-    ap (λ x. x ++ []) (sym (alone (r.room pattern) n.good.0.0)) in
-    (n.held (t.waits s (w ∷ [])) all, (let lower = n.lower in omega (arith, lower, le)))
+follows-held gr pattern argument p ws _ _ (goes_on {q = o} {ms} {s = x} {w} f alone) h =
+    let N = r.room pattern in
+    let one : List t.Waits = pending ms true x ∷ [] in
+    let (i, le) = follows-held gr pattern argument p ws o one f h in
+    let at = one_place-at gr pattern o one i.here refl in
+    let s = r.place_of x in
+    let here : s ≡ at.0 = at.1.0.2 in
+    let a : AllTo gr pattern (u.left o) s one = subst (λ y. AllTo gr pattern (u.left o) y one) (sym here) at.1 in
+    let all : w ∷ [] ≡ flat_map (advanced_by (settled_at gr)) one = sym (alone N a.0.0.0) ∙ sym (append-nil (map (prefixed ms) (settled_at gr x))) in (
+      record {
+        same = ap (outcome_at gr N) all ∙ sym (advance-at gr pattern (u.left o) s one a refl) ∙ i.same;
+        here = subst (AllFrom gr pattern s) (sym all) (from-advanced-at gr pattern (u.left o) s one a);
+      },
+      (let lower = a.0.1 in omega (arith, lower, le)),
+    )
 
 -- a turn, and the rounds after it
 pub turned : (gr : Grammar) → (pattern : Items) (argument : Forest) (p s o : P) (ws vs us : List d.Waiting) (seen : List Seen) (k : Taken) →
     Held gr pattern argument p (t.waits p ws) → false ≡ clash (flat_map t.takings_of ws) → Some k ≡ t.head_taken ws → s ≡ q.place_after p (Some k) →
     (Each (IsSoundAt pattern) (t.waits_at s ws) → Leads gr pattern s (flat_map (advanced_by (settled_at gr)) (t.waits_at s ws)) vs seen []) →
-    Follows gr s vs o us → Held gr pattern argument o (t.waits o us) × (u.left o < u.left p)
+    Follows gr s (t.waits s vs) o (t.waits o us) → Held gr pattern argument o (t.waits o us) × (u.left o < u.left p)
 turned gr pattern argument p s o ws vs us seen k h c e i leads f =
     let n = turn gr pattern argument p ws k h c e s i in
     let all = flat_map (advanced_by (settled_at gr)) (t.waits_at s ws) in
-    let (held, le) = follows-held gr pattern argument s vs o us f (leads-held gr pattern argument s all vs seen (leads n.good) (n.held all refl)) in
+    let (held, le) = follows-held gr pattern argument s (t.waits s vs) o (t.waits o us) f (leads-held gr pattern argument s all vs seen (leads n.good) (n.held all refl)) in
     (held, (let lower = n.lower in omega (arith, lower, le)))

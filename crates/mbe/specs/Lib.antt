@@ -24,6 +24,7 @@ pub mod Positions
 pub mod Places
 pub mod Settled
 pub mod Rounds
+pub mod Going
 pub mod Blocked
 pub mod Collecting
 pub mod Room

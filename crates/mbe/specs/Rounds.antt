@@ -1,18 +1,19 @@
 -- Rounds of one variable, where no other way leads on
 use Rattle.std.specs.Prelude.{◌≡◌, ℕ, true, List, [], ◌∷◌, map, Some, None}
+use Rattle.tt_data.specs.Forest.{Forest, empty, joined}
 use Rattle.tt_data.specs.declared.span.Span.{Span}
 use Rattle.mbe_rules.specs.Items.{dollar, variable, Items, done, item}
 use Rattle.mbe_rules.specs.declared.parser.MetaVarKind.{MetaVarKind}
 use Rattle.mbe_rules.specs.declared.parser.RepeatKind.{RepeatKind}
+use Rattle.mbe_rules.specs.Trees.{before, past}
+use Rattle.mbe.specs.Fragments.{taken}
 use Rattle.mbe.specs.Grammar.{Grammar}
-use Rattle.mbe.specs.Places.{place_after}
-use Rattle.mbe.specs.Readings.{Frame, in_group, in_round, parted, may_repeat}
-use Rattle.mbe.specs.Threads.{frame_of, moves_of, state_of, waiting_of}
+use Rattle.mbe.specs.Readings as r
+use Rattle.mbe.specs.Readings.{Frame, State, in_group, in_round, parted, may_repeat, place_of}
+use Rattle.mbe.specs.Threads.{Waits, frame_of, moves_of, state_of, waiting_of}
 use Rattle.mbe.specs.Units as u
-use Rattle.mbe.specs.Waiting.{Good, prefixed, settled_at}
+use Rattle.mbe.specs.Waiting.{Good, pending, prefixed, settled_at}
 use Rattle.mbe.specs.declared.matcher.Waiting as d
-use Rattle.mbe.specs.declared.matcher.Waiting.TheVariants.{Pending}
-use Rattle.mbe.specs.declared.place.Taken.{Taken}
 use Rattle.mbe.specs.declared.threads.Frame.TheVariants.{InRound}
 use Rattle.mbe.specs.declared.threads.Round.{Round}
 use Rattle.mbe.specs.declared.threads.Thread.{Thread}
@@ -37,13 +38,24 @@ abbrev pub HasLone : Items → List Frame → List ℕ → MetaVarKind → Type 
 HasLone items frames n k =
     (items ≡ done) × ((s : Span) × (op : RepeatKind) × (fs : List Frame) × (frames ≡ lone n k s op ∷ fs) × (may_repeat op ≡ true) × IsShut fs)
 
+-- the moves that lead to this state are gone on with: then this is all that waits
+abbrev pub WaitsAfter : Grammar → List r.Move → State → Waits → Type 0
+WaitsAfter gr ms s w = (N : ℕ) → Good N s → map (prefixed ms) (settled_at gr s) ≡ w ∷ []
+
 -- all that waits after a thread is settled is this
 abbrev pub WaitsAlone : Grammar → u.Place → Thread → d.Waiting → Type 0
-WaitsAlone gr p t w =
-    (N : ℕ) → Good N (state_of t p) → map (prefixed (moves_of t.moves)) (settled_at gr (state_of t p)) ≡ waiting_of p w ∷ []
+WaitsAlone gr p t w = WaitsAfter gr (moves_of t.moves) (state_of t p) (waiting_of p w)
 
--- from threads that wait at a place, those that wait where a thread was alone and one alone waits after it, any number of times
-pub data Follows (gr : Grammar) (p : u.Place) (ws : List d.Waiting) : u.Place → List d.Waiting → Type 0 where
+-- from paths that wait at a place, those that wait where a path that takes a fragment was alone and one alone waits after it, any
+-- number of times
+pub data Follows (gr : Grammar) (p : u.Place) (ws : List Waits) : u.Place → List Waits → Type 0 where
   stays : Follows gr p ws p ws
-  goes_on : {q : u.Place} {t : Thread} {k : Taken} {w : d.Waiting} → Follows gr p ws q (Pending t k ∷ []) → WaitsAlone gr (place_after q (Some k)) t w →
-      Follows gr p ws (place_after q (Some k)) (w ∷ [])
+  goes_on : {q : u.Place} {ms : List r.Move} {s : State} {w : Waits} → Follows gr p ws q (pending ms true s ∷ []) → WaitsAfter gr ms s w →
+      Follows gr p ws (place_of s) (w ∷ [])
+
+-- at the head of a list, one after another, these trees are a fragment each; with the trees that the last of them begins, and those
+-- after it
+pub data AreSingle (gr : Grammar) (k : MetaVarKind) (f : Forest) : Forest → Forest → Forest → Type 0 where
+  single : (f ≡ empty → ⊥) → taken gr k f ≡ Some 1 → AreSingle gr k f (before 1 f) f (past 1 f)
+  one_more : {ts last rest : Forest} → AreSingle gr k f ts last rest → (rest ≡ empty → ⊥) → taken gr k rest ≡ Some 1 →
+      AreSingle gr k f (joined ts (before 1 rest)) rest (past 1 rest)

@@ -1,9 +1,11 @@
 -- What the matcher's threads stand for
-use Rattle.std.specs.Prelude.{◌==◌, ◌&&◌, length, Bool, true, false, List, [], ◌∷◌, ◌++◌, map, Option, Some, None}
-use Rattle.tt.specs.Views.{forest}
+use Rattle.std.specs.Prelude.{◌==◌, ◌&&◌, length, Bool, true, false, ℕ, List, [], ◌∷◌, ◌++◌, map, Option, Some, None}
 use Rattle.std.specs.Borrow.{Bor}
+use Rattle.tt_data.specs.Forest.{Forest, empty, leaf, group}
+use Rattle.tt.specs.Views.{forest}
 use Rattle.mbe_rules.specs.Items as i
 use Rattle.mbe_rules.specs.Items.{variables}
+use Rattle.mbe_rules.specs.declared.parser.MetaVarKind.{MetaVarKind}
 use Rattle.mbe_rules.specs.declared.parser.Separator.{Separator}
 use Rattle.mbe_rules.specs.Ops.{items_of, separator_of}
 use Rattle.mbe.specs.Grammar.{Grammar}
@@ -13,6 +15,8 @@ use Rattle.mbe.specs.Units as u
 use Rattle.mbe.specs.Waiting as w
 use Rattle.mbe.specs.declared.place.Taken.{Taken}
 use Rattle.mbe.specs.declared.place.Taken.TheVariants.{Fragment as takes_trees}
+use Rattle.mbe.specs.declared.threads.Begun.{Begun}
+use Rattle.mbe.specs.declared.threads.Begun.TheVariants as begun
 use Rattle.mbe.specs.declared.threads.Entry.{Entry, Entry', Held-Entry-before, None', Some'}
 use Rattle.mbe.specs.declared.threads.Frame.{Frame}
 use Rattle.mbe.specs.declared.threads.Frame.TheVariants.{InGroup, InRound, Parted}
@@ -51,14 +55,21 @@ move_of Leave = r.leave
 move_of separator = r.separator_move
 move_of NextRound = r.next_round
 
--- the moves that an entry of the log stands for: its own, which may come after one into another round
-abbrev pub steps : Bool → Move → List r.Move
-steps true m = r.next_round ∷ move_of m ∷ []
-steps false m = move_of m ∷ []
+-- rounds of one variable, one for each of these trees
+abbrev pub rounds_of : List ℕ → MetaVarKind → Forest → List r.Move
+rounds_of n k empty = []
+rounds_of n k (leaf l rest) = r.next_round ∷ r.fragment_move n k (leaf l empty) ∷ rounds_of n k rest
+rounds_of n k (group d inner rest) = r.next_round ∷ r.fragment_move n k (group d inner empty) ∷ rounds_of n k rest
+
+-- the moves that an entry of the log stands for: its own, which may come after one into another round, or rounds of a variable
+abbrev pub steps : Begun → Move → List r.Move
+steps begun.Nothing m = move_of m ∷ []
+steps begun.RoundForEach (Fragment n k trees) = rounds_of n.now k (forest trees)
+steps _ m = r.next_round ∷ move_of m ∷ []
 
 -- the moves of an entry
 abbrev pub steps_in : Entry → List r.Move
-steps_in (Entry' begins_round made before) = steps begins_round made
+steps_in (Entry' begun made before) = steps begun made
 
 -- the same where it is lent
 abbrev pub steps_of : Bor Entry → List r.Move
@@ -85,7 +96,7 @@ frames_of fs = map frame_of (frames_in fs)
 -- the moves up to an entry of the log
 abbrev mutual
   pub moves_to : Entry → List r.Move
-  moves_to (Entry' begins_round made before) = moves_before before ++ steps begins_round made
+  moves_to (Entry' begun made before) = moves_before before ++ steps begun made
 
   pub moves_before : Held-Entry-before → List r.Move
   moves_before None' = []

@@ -6,10 +6,10 @@ ghost use Rattle.mbe_rules.specs.Items.{done, variables};
 ghost use Rattle.mbe_rules.specs.Ops.{items_of, put_op};
 ghost use Rattle.mbe.specs.Bindings.{bind_skipped, bindings};
 ghost use Rattle.mbe.specs.Bound.{map_of};
-ghost use Rattle.mbe.specs.Threads.{move_of, moves_of, steps_of};
+ghost use Rattle.mbe.specs.Threads.{move_of, moves_of, rounds_of, steps_of};
 
 use crate::bindings::{Binding, Bindings, Bound};
-use crate::threads::{Entry, Move};
+use crate::threads::{Begun, Entry, Move};
 use mbe_rules::{MetaVarKind, Op};
 use std::alloc::{AllocError, Global};
 use std::mem;
@@ -181,21 +181,47 @@ impl<'a> Collected<'a> {
         }
     }
 
-    // The moves of one more entry are made.
-    #[inline(always)]
-    fn add_entry(&mut self, alloc: Global, entry: &'a Entry<'a>) -> Result<(), AllocError>
-        ensures { OnOk result (collected_of self.new ≡ after_all (steps_of entry.entry) (collected_of self.old)) }
+    // A round ends for each of these trees, and the tree is the fragment of the next.
+    fn begin_rounds(
+        &mut self,
+        name: &'a Symbol,
+        kind: MetaVarKind,
+        trees: TokenTreesView<'a>,
+    ) -> Result<(), AllocError>
+        ensures { OnOk result (collected_of self.new ≡ after_all (rounds_of name.now kind (forest trees.entry)) (collected_of self.old)) }
     {
-        if !entry.begins_round {
-            return self.add(alloc, entry.made);
+        let mut rest = trees.iter();
+        while let Some(tree) = rest.next_as_view() {
+            self.begin_round(name, kind, tree)?;
         }
-        match entry.made {
+        Ok(())
+    }
+
+    // A round ends, and this move is made in the next.
+    fn begin(&mut self, alloc: Global, made: Move<'a>) -> Result<(), AllocError>
+        ensures { OnOk result (collected_of self.new ≡ after (move_of made.entry) (after r.next_round (collected_of self.old))) }
+    {
+        match made {
             Move::Fragment { name, kind, trees } => self.begin_round(name, kind, trees),
             made => {
                 self.end_round()?;
                 self.add(alloc, made)?;
                 Ok(())
             }
+        }
+    }
+
+    // The moves of one more entry are made.
+    #[inline(always)]
+    fn add_entry(&mut self, alloc: Global, entry: &'a Entry<'a>) -> Result<(), AllocError>
+        ensures { OnOk result (collected_of self.new ≡ after_all (steps_of entry.entry) (collected_of self.old)) }
+    {
+        match (entry.begun, entry.made) {
+            (Begun::Nothing, made) => self.add(alloc, made),
+            (Begun::RoundForEach, Move::Fragment { name, kind, trees }) => {
+                self.begin_rounds(name, kind, trees)
+            }
+            (_, made) => self.begin(alloc, made),
         }
     }
 }

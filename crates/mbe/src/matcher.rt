@@ -430,7 +430,8 @@ impl<'a> Settled<'a> {
         place: &mut Place<'a>,
     ) -> Result<(), AllocError>
         ensures tasks { OnOk result (self.new.tasks.items ≡ self.old.tasks.items) }
-        ensures rounds { OnOk result (Follows (G.answer grammar.now) (place_of place.old) self.old.waiting.items (place_of place.new) self.new.waiting.items) }
+        ensures rounds { OnOk result (Follows (G.answer grammar.now) (place_of place.old) (waits (place_of place.old) self.old.waiting.items)
+            (place_of place.new) (waits (place_of place.new) self.new.waiting.items)) }
     {
         if self.waiting.len() != 1 {
             return Ok(());

@@ -35,7 +35,7 @@ pub(crate) enum Taken {
 
 // The same list again.
 #[inline(always)]
-fn again<'a>(trees: &TtIter<'a>) -> TtIter<'a>
+pub(crate) fn again<'a>(trees: &TtIter<'a>) -> TtIter<'a>
     ensures { result ≡ trees.now }
 {
     trees.remaining().iter()
@@ -44,7 +44,7 @@ fn again<'a>(trees: &TtIter<'a>) -> TtIter<'a>
 // The trees after the first one.
 #[inline]
 #[tactic(auto, using(crate::proofs::PlaceLemmas::after_leaf, crate::proofs::PlaceLemmas::after_group, crate::proofs::PlaceLemmas::after_nothing))]
-fn after_first<'a>(trees: &TtIter<'a>) -> TtIter<'a>
+pub(crate) fn after_first<'a>(trees: &TtIter<'a>) -> TtIter<'a>
     ensures { result ≡ past 1 trees.now }
 {
     if let Some((_leaf, rest)) = trees.lent_leaf() {

@@ -1,25 +1,27 @@
 //! Rounds of one variable, where no other way leads on.
 ghost use Rattle.std.specs.Prelude.{◌≡◌, ◌≢◌, true, [], ◌∷◌, ◌++◌, Some, IfOk, IfSome};
+ghost use Rattle.tt.specs.Views.{forest};
 ghost use Rattle.tt_data.specs.Forest.{empty};
 ghost use Rattle.mbe_rules.specs.Trees.{before};
 ghost use Rattle.mbe_rules.specs.Ops.{items_of};
 ghost use Rattle.mbe.specs.Fragments.{taken};
 ghost use Rattle.mbe.specs.Places.{place_of};
 ghost use Rattle.mbe.specs.Readings as r;
-ghost use Rattle.mbe.specs.Rounds.{IsLone, IsShut, HasLone, WaitsAlone, Follows};
-ghost use Rattle.mbe.specs.Threads.{frames_in, frames_of, moves_of};
+ghost use Rattle.mbe.specs.Rounds.{AreSingle, IsLone, IsShut, HasLone, WaitsAlone, Follows};
+ghost use Rattle.mbe.specs.Threads.{frames_in, frames_of, moves_of, waits};
 ghost use Rattle.mbe.specs.declared.matcher.Waiting.TheVariants.{Pending};
 ghost use Rattle.mbe.specs.declared.place.Taken.TheVariants.{Fragment};
 
 use crate::matcher::Waiting;
-use crate::place::{Place, Taken, before, fragment_trees, parted, past};
-use crate::threads::{Frame, Move, Round, Rung, Thread, extended_by_round};
+use crate::place::{Place, Taken, after_first, again, before, fragment_trees, parted, past};
+use crate::threads::{Frame, Move, Round, Rung, Thread, extended_by_round, extended_by_rounds};
 use bumpalo::Bump;
 use fragment_grammar::FragmentGrammar;
 use mbe_rules::{MetaVarKind, Op, RepeatKind};
 use std::alloc::AllocError;
+use std::mem;
 use symbols::Symbol;
-use tt::TtIter;
+use tt::{TokenTreesView, TtIter};
 
 // The variable that is all of a round, where rounds follow each other without separator and nothing comes
 // after the last of them.
@@ -82,6 +84,104 @@ fn trees_of_round<G: FragmentGrammar>(
     }
 }
 
+// Whether a round of a variable takes a single tree at the head of a list.
+#[inline(always)]
+fn is_single<G: FragmentGrammar>(grammar: &G, kind: MetaVarKind, trees: &TtIter<'_>) -> bool
+    ensures { result ≡ true → (trees.now ≢ empty) × (taken (G.answer grammar.now) kind trees.now ≡ Some 1) }
+{
+    match trees_of_round(grammar, kind, trees) {
+        Some(count) => count == 1,
+        None => false,
+    }
+}
+
+// The trees at the head of a list of which a round takes one each, with what begins with the last of them and what is
+// behind it.
+#[inline(always)]
+fn singles<'a, G: FragmentGrammar>(
+    grammar: &G,
+    kind: MetaVarKind,
+    trees: &TtIter<'a>,
+) -> Option<(TokenTreesView<'a>, TtIter<'a>, TtIter<'a>)>
+    ensures { IfSome result (λ r. AreSingle (G.answer grammar.now) kind trees.now (forest r.0) r.1 r.2) }
+{
+    if !is_single(grammar, kind, trees) {
+        return None;
+    }
+    let mut last = again(trees);
+    let mut rest = after_first(trees);
+    while is_single(grammar, kind, &rest) {
+        let behind = after_first(&rest);
+        last = rest;
+        rest = behind;
+    }
+    Some((rest.passed_since(trees.remaining()), last, rest))
+}
+
+// A thread that goes on round after round: how many trees the last round has, and what is behind it.
+#[derive(Drop)]
+struct Going<'a> {
+    thread: Thread<'a>,
+    count: usize,
+    rest: TtIter<'a>,
+}
+
+impl<'a> Going<'a> {
+    ghost use Rattle.std.specs.Prelude.{List, OnOk};
+    ghost use Rattle.mbe.specs.Going.{Goes, IsFewer, left_in};
+    ghost use Rattle.mbe.specs.Threads.{Waits};
+    ghost use Rattle.mbe.specs.Units as u;
+
+    // Rounds of a single tree each are passed: whether there are some.
+    #[inline(always)]
+    fn pass_singles<G: FragmentGrammar>(
+        &mut self,
+        arena: &'a Bump,
+        grammar: &G,
+        name: &'a Symbol,
+        kind: MetaVarKind,
+        place: &mut Place<'a>,
+    ) -> Result<bool, AllocError>
+        ensures passed { (p : u.Place) (ws : List Waits) → Goes (G.answer grammar.now) name.now kind p ws self.old place.old →
+            OnOk result (Goes (G.answer grammar.now) name.now kind p ws self.new place.new) }
+        ensures fewer { IfOk result (λ some. IsFewer some (left_in self.new) (left_in self.old)) }
+    {
+        let Some((trees, last, rest)) = singles(grammar, kind, &self.rest) else {
+            return Ok(false);
+        };
+        self.thread.moves = extended_by_rounds(arena, self.thread.moves, name, kind, trees)?;
+        self.count = 1;
+        self.rest = rest;
+        place.rest = last;
+        Ok(true)
+    }
+
+    // A round is passed: whether there is one.
+    #[inline(always)]
+    fn pass_round<G: FragmentGrammar>(
+        &mut self,
+        arena: &'a Bump,
+        grammar: &G,
+        name: &'a Symbol,
+        kind: MetaVarKind,
+        place: &mut Place<'a>,
+    ) -> Result<bool, AllocError>
+        ensures passed { (p : u.Place) (ws : List Waits) → Goes (G.answer grammar.now) name.now kind p ws self.old place.old →
+            OnOk result (Goes (G.answer grammar.now) name.now kind p ws self.new place.new) }
+        ensures fewer { IfOk result (λ some. IsFewer some (left_in self.new) (left_in self.old)) }
+    {
+        let Some(count) = trees_of_round(grammar, kind, &self.rest) else {
+            return Ok(false);
+        };
+        let (trees, behind) = parted(&self.rest, count);
+        let made = Move::Fragment { name, kind, trees };
+        self.thread.moves = extended_by_round(arena, self.thread.moves, made)?;
+        place.rest = mem::replace(&mut self.rest, behind);
+        self.count = count;
+        Ok(true)
+    }
+}
+
 impl<'a> Thread<'a> {
     // The variable of whose rounds one has ended, where no other way leads on but at an end.
     #[inline(always)]
@@ -137,24 +237,23 @@ impl<'a> Thread<'a> {
         count: usize,
         place: &mut Place<'a>,
     ) -> Result<(Thread<'a>, usize), AllocError>
-        ensures { IfOk result (λ x. Follows (G.answer grammar.now) (place_of place.old) (Pending self.now (Fragment count) ∷ [])
-            (place_of place.new) (Pending x.0 (Fragment x.1) ∷ [])) }
+        ensures { IfOk result (λ x. Follows (G.answer grammar.now) (place_of place.old) (waits (place_of place.old) (Pending self.now (Fragment count) ∷ []))
+            (place_of place.new) (waits (place_of place.new) (Pending x.0 (Fragment x.1) ∷ []))) }
     {
-        let mut thread = *self;
-        let mut count = count;
-        let Some((name, kind)) = thread.lone_variable() else {
-            return Ok((thread, count));
+        let Some((name, kind)) = self.lone_variable() else {
+            return Ok((*self, count));
         };
-        let mut rest = past(&place.rest, count);
-        while let Some(next) = trees_of_round(grammar, kind, &rest) {
-            let (trees, behind) = parted(&rest, next);
-            let made = Move::Fragment { name, kind, trees };
-            thread.moves = extended_by_round(arena, thread.moves, made)?;
-            place.rest = rest;
-            rest = behind;
-            count = next;
+        let mut now = Going {
+            thread: *self,
+            count,
+            rest: past(&place.rest, count),
+        };
+        let mut more = true;
+        while more {
+            let some = now.pass_singles(arena, grammar, name, kind, place)?;
+            more = now.pass_round(arena, grammar, name, kind, place)? || some;
         }
-        Ok((thread, count))
+        Ok((now.thread, now.count))
     }
 
     // What alone waits after a thread of which a round has ended, where it is one of a variable and the place

@@ -1,8 +1,9 @@
 //! Partial readings of a pattern, and their moves.
 ghost use Rattle.std.specs.Prelude.{◌≡◌, [], ◌∷◌, ◌++◌, IfOk};
+ghost use Rattle.tt.specs.Views.{forest};
 ghost use Rattle.mbe.specs.Places.{place_of};
 ghost use Rattle.mbe.specs.Readings as r;
-ghost use Rattle.mbe.specs.Threads.{state_of, frames_in, moves_of, move_of};
+ghost use Rattle.mbe.specs.Threads.{state_of, frames_in, moves_of, move_of, rounds_of, steps};
 
 use crate::place::Place;
 use bumpalo::Bump;
@@ -60,13 +61,42 @@ pub enum Move<'a> {
     NextRound,
 }
 
-/// A move of the log, and the entry of the move before it. Entries are shared by the threads that came by them.
+// The rounds that begin with an entry of the log: the moves into them have no entries of their own.
+#[derive(Clone, Copy, Drop)]
+pub(crate) enum Begun {
+    Nothing,
+    Round,
+    // One for each tree of the fragment that was taken, which is all that the round takes.
+    RoundForEach,
+}
+
+/// A move of the log, and the entry of the move before it; or rounds that are one variable, of one tree each, as
+/// many as follow each other. Entries are shared by the threads that came by them.
 #[derive(Clone, Copy, Drop)]
 pub struct Entry<'a> {
-    // Whether the move into another round comes first, which then has no entry of its own.
-    pub(crate) begins_round: bool,
+    pub(crate) begun: Begun,
     pub(crate) made: Move<'a>,
     pub(crate) before: Option<&'a Entry<'a>>,
+}
+
+// The log with one more entry.
+#[inline(always)]
+fn with_entry<'a>(
+    arena: &'a Bump,
+    before: Option<&'a Entry<'a>>,
+    begun: Begun,
+    made: Move<'a>,
+) -> Result<Option<&'a Entry<'a>>, AllocError>
+    ensures { IfOk result (λ e. moves_of e ≡ moves_of before.entry ++ steps begun made.entry) }
+{
+    let Ok(entry) = arena.try_alloc(Entry {
+        begun,
+        made,
+        before,
+    }) else {
+        return Err(AllocError);
+    };
+    Ok(Some(entry))
 }
 
 // The log with one more move.
@@ -78,15 +108,7 @@ pub(crate) fn extended<'a>(
 ) -> Result<Option<&'a Entry<'a>>, AllocError>
     ensures { IfOk result (λ e. moves_of e ≡ moves_of before.entry ++ (move_of made.entry ∷ [])) }
 {
-    let begins_round = false;
-    let Ok(entry) = arena.try_alloc(Entry {
-        begins_round,
-        made,
-        before,
-    }) else {
-        return Err(AllocError);
-    };
-    Ok(Some(entry))
+    with_entry(arena, before, Begun::Nothing, made)
 }
 
 // The log with a move into another round, and one more.
@@ -98,15 +120,22 @@ pub(crate) fn extended_by_round<'a>(
 ) -> Result<Option<&'a Entry<'a>>, AllocError>
     ensures { IfOk result (λ e. moves_of e ≡ moves_of before.entry ++ (r.next_round ∷ move_of made.entry ∷ [])) }
 {
-    let begins_round = true;
-    let Ok(entry) = arena.try_alloc(Entry {
-        begins_round,
-        made,
-        before,
-    }) else {
-        return Err(AllocError);
-    };
-    Ok(Some(entry))
+    with_entry(arena, before, Begun::Round, made)
+}
+
+// The log with a round for each of these trees, which takes it for the variable.
+#[inline(always)]
+pub(crate) fn extended_by_rounds<'a>(
+    arena: &'a Bump,
+    before: Option<&'a Entry<'a>>,
+    name: &'a Symbol,
+    kind: MetaVarKind,
+    trees: TokenTreesView<'a>,
+) -> Result<Option<&'a Entry<'a>>, AllocError>
+    ensures { IfOk result (λ e. moves_of e ≡ moves_of before.entry ++ rounds_of name.now kind (forest trees.entry)) }
+{
+    let made = Move::Fragment { name, kind, trees };
+    with_entry(arena, before, Begun::RoundForEach, made)
 }
 
 // A group or round that a thread is in, and the one around it. Those around are shared by all threads in it.
