@@ -169,3 +169,17 @@ pub bind-first : (n : List ℕ) (xs : List Bound) (k : ℕ) (c : b.Binding) (y :
     entries_of (xs ++ (y ∷ [])) ≡ bind n (with_round k c (binding_of n (entries_of xs))) (entries_of xs)
 bind-first n xs k c y e m f =
     bind-last n xs y e m ∙ ap (λ v. bind n v (entries_of xs)) (f ∙ sym (ap (with_round k c) (binding-none n xs e)))
+
+-- the one name that is bound
+pub bound-alone : (n : List ℕ) (xs : List Bound) (x : Bound) → length xs ≡ 1 → x ≡ get_or xs 0 x → same_text n x.name.now ≡ true →
+    (b : b.Binding) × (entries_of xs ≡ (n, b) ∷ [])
+bound-alone n [] x l e t = absurd (omega (arith, l))
+bound-alone n (y ∷ []) x l e t = (standing_for y.binding, ap (λ m. (m, standing_for y.binding) ∷ []) (ap (λ z. z.name.now) (sym e) ∙ same-name n x.name.now t))
+bound-alone n (y ∷ z ∷ xs) x l e t = absurd (omega (arith, l))
+
+-- and its entry
+pub entry-alone : (n : List ℕ) (c : b.Binding) (xs : List Bound) → entries_of xs ≡ (n, c) ∷ [] →
+    (x : Bound) × (xs ≡ x ∷ []) × (x.name.now ≡ n) × (standing_for x.binding ≡ c)
+entry-alone n c [] e = absurd (cc e)
+entry-alone n c (x ∷ []) e = let h : entry_of x ≡ (n, c) = cc in (x, refl, ap (λ y. y.0) h, ap (λ y. y.1) h)
+entry-alone n c (x ∷ y ∷ xs) e = absurd (cc e)

@@ -91,21 +91,26 @@ last-open (x ∷ y ∷ os) h =
     let (init, z, e, n) = last-open (y ∷ os) (omega arith) in
     (x ∷ init, z, ap (λ l. x ∷ l) e, omega (arith, n))
 
+-- the innermost open repetition, and what stands there once it is changed
+pub last-changed : (os : List Opened) (n : ℕ) (x : Opened) → n ≡ length os - 1 → 0 < length os → x ≡ slice_index_or os n x →
+    (rest : List (Map × ℕ)) × (opens_of os ≡ open_of x ∷ rest) × ((y : Opened) → opens_of (slice_set os n y) ≡ open_of y ∷ rest)
+last-changed os n x k h g =
+    let (init, z, i, j) = last-open os h in
+    let at : n ≡ length init = k ∙ j in
+    let same : x ≡ z = g ∙ ap (λ l. slice_index_or l n x) i ∙ ap (λ q. slice_index_or (init ++ (z ∷ [])) q x) at ∙ get_or-append_seam init z [] x in
+    let old : opens_of os ≡ open_of z ∷ opens_of init = ap opens_of i ∙ ap (map open_of) (reverse-append init (z ∷ [])) in (
+      opens_of init,
+      old ∙ ap (λ o. open_of o ∷ opens_of init) (sym same),
+      λ y. ap (λ l. opens_of (slice_set l n y)) i ∙ ap (λ q. opens_of (slice_set (init ++ (z ∷ [])) q y)) at ∙ ap opens_of (set-append_seam init z [] y)
+          ∙ ap (map open_of) (reverse-append init (y ∷ [])),
+    )
+
 -- where a round has ended it has one round more
 pub round-over : (m : Map) (os : List Opened) (n : ℕ) (x y : Opened) → n ≡ length os - 1 → 0 < length os → x ≡ slice_index_or os n x →
     open_of y ≡ (bind_round x.rounds m (map_of x.around), suc x.rounds) → round_ended m (opens_of os) ≡ ([], opens_of (slice_set os n y))
 round-over m os n x y k h g e =
-    let (init, z, i, j) = last-open os h in
-    let at : n ≡ length init = k ∙ j in
-    let same : x ≡ z = g ∙ ap (λ l. slice_index_or l n x) i ∙ ap (λ q. slice_index_or (init ++ (z ∷ [])) q x) at ∙ get_or-append_seam init z [] x in
-    let old : opens_of os ≡ open_of z ∷ opens_of init = ap opens_of i ∙ ap (map open_of) (reverse-append init (z ∷ [])) in
-    let new : opens_of (slice_set os n y) ≡ open_of y ∷ opens_of init =
-    ap (λ l. opens_of (slice_set l n y)) i ∙ ap (λ q. opens_of (slice_set (init ++ (z ∷ [])) q y)) at ∙ ap opens_of (set-append_seam init z [] y)
-    ∙ ap (map open_of) (reverse-append init (y ∷ [])) in
-    ap (round_ended m) old
-    ∙ ap (λ o. round_ended m (open_of o ∷ opens_of init)) (sym same)
-    ∙ ap (λ o. ([], o ∷ opens_of init)) (sym e)
-    ∙ ap (λ l. ([], l)) (sym new)
+    let (rest, was, is) = last-changed os n x k h g in
+    ap (round_ended m) was ∙ ap (λ o. ([], o ∷ rest)) (sym e) ∙ ap (λ l. ([], l)) (sym (is y))
 
 -- a round more of those of which each has a tree
 pub rounds-step : (n : List ℕ) (k : MetaVarKind) (f tree rest : Forest) (s : Collecting) → first_alone f ≡ Some tree → rest ≡ after_first f →

@@ -35,6 +35,7 @@ pub mod TaskLemmas
 pub mod TheLoopLemmas
 pub mod BoundLemmas
 pub mod CollectingLemmas
+pub mod RunLemmas
 pub mod SkippedLemmas
 pub mod PuttingLemmas
 pub mod UsesLemmas

@@ -1,12 +1,14 @@
 -- Bindings as they come about, move by move.
 use Rattle.std.specs.Prelude.{ℕ, suc, List, [], ◌∷◌, map, reverse}
-use Rattle.tt_data.specs.Forest.{empty}
+use Rattle.tt_data.specs.Forest.{Forest, empty, leaf, group}
+use Rattle.mbe_rules.specs.declared.parser.MetaVarKind.{MetaVarKind}
 use Rattle.mbe_rules.specs.declared.parser.MetaVarKind.TheVariants.{Vis}
-use Rattle.mbe.specs.Bindings.{Map, fragment, bind, bind_skipped, bind_round}
-use Rattle.mbe.specs.Bound.{map_of}
+use Rattle.mbe.specs.Bindings.{Binding, Values, Map, fragment, bind, bind_skipped, bind_round, value_put}
+use Rattle.mbe.specs.Bound.{map_of, standing_for, values_of}
 use Rattle.mbe.specs.Readings.{Move, fragment_move, nothing_move, enter, skip, leave, next_round}
 use Rattle.mbe.specs.declared.collecting.Collected.{Collected}
 use Rattle.mbe.specs.declared.collecting.Open.{Open}
+use Rattle.mbe.specs.declared.collecting.Run.{Run}
 
 -- what is bound in the present round, and around each open repetition, inward out, together with the values of its finished rounds and their number
 abbrev pub Collecting : Type 0
@@ -48,3 +50,17 @@ opens_of os = map open_of (reverse os)
 -- what a program has collected
 abbrev pub collected_of : Collected → Collecting
 collected_of c = (map_of c.here, opens_of c.opens.items)
+
+-- values of rounds, and that of the round that goes on, with its number
+abbrev pub Running : Type 0
+Running = Values × Binding × ℕ
+
+-- for each of these trees the round ends, and the tree is the value of the next
+abbrev pub run_through : MetaVarKind → Forest → Running → Running
+run_through k empty x = x
+run_through k (leaf l rest) x = run_through k rest (value_put x.2 x.1 x.0, fragment k (leaf l empty), suc x.2)
+run_through k (group d inner rest) x = run_through k rest (value_put x.2 x.1 x.0, fragment k (group d inner empty), suc x.2)
+
+-- what a program holds of them
+abbrev pub run_of : Run → Running
+run_of x = (values_of x.values.items, standing_for x.last, x.number)

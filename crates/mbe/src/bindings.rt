@@ -52,7 +52,7 @@ fn fill_up<'a>(values: &mut Vec<Binding<'a>>, round: usize) -> Result<(), AllocE
 
 // Puts the value of a round at the end, after empty lists for the rounds before it that have none.
 #[inline(always)]
-fn put_value<'a>(
+pub(crate) fn put_value<'a>(
     values: &mut Vec<Binding<'a>>,
     round: usize,
     value: Binding<'a>,
@@ -104,7 +104,7 @@ impl<'a> Bound<'a> {
 }
 
 impl<'a> Bindings<'a> {
-    ghost use Rattle.std.specs.Prelude.{[], ◌∷◌, option_map};
+    ghost use Rattle.std.specs.Prelude.{List, ℕ, [], ◌∷◌, option_map, true};
     ghost use Rattle.mbe.specs.Bindings.{bind, binding_of, bind_round};
     ghost use Rattle.mbe.specs.Bound.{entry_of, map_of, place_among};
 
@@ -152,6 +152,46 @@ impl<'a> Bindings<'a> {
         match self.position(name) {
             Some(i) => Some(&self.bound[i].binding),
             None => None,
+        }
+    }
+
+    /// Whether only this name stands for something.
+    #[inline(always)]
+    pub(crate) fn is_alone(&self, name: &Symbol) -> bool
+        ensures { result ≡ true → (b : spec.Binding) × (map_of self.now ≡ (name.now, b) ∷ []) }
+    {
+        self.bound.len() == 1 && *name == *self.bound[0].name
+    }
+
+    /// What the one name that stands for something stood for, which this takes the place of.
+    pub(crate) fn replace_alone(&mut self, binding: Binding<'a>) -> Binding<'a>
+        requires { (n : List ℕ) × (b : spec.Binding) × (map_of self.old ≡ (n, b) ∷ []) }
+        ensures new { (n : List ℕ) (b : spec.Binding) → map_of self.old ≡ (n, b) ∷ [] → map_of self.new ≡ (n, standing_for binding.entry) ∷ [] }
+        ensures old { (n : List ℕ) (b : spec.Binding) → map_of self.old ≡ (n, b) ∷ [] → standing_for result ≡ b }
+    {
+        mem::replace(&mut self.bound[0].binding, binding)
+    }
+
+    /// Whether the name has values of rounds.
+    pub(crate) fn has_values(&self, name: &Symbol) -> bool
+        ensures { result ≡ true → (vs : spec.Values) × (binding_of name.now (map_of self.now) ≡ Some (spec.rounds vs)) }
+    {
+        matches!(self.get(name), Some(Binding::Rounds(_)))
+    }
+
+    /// The values that the name has of rounds, which are taken out.
+    pub(crate) fn take_values(&mut self, name: &Symbol) -> Vec<Binding<'a>>
+        requires { (vs : spec.Values) × (binding_of name.now (map_of self.old) ≡ Some (spec.rounds vs)) }
+        ensures values { binding_of name.now (map_of self.old) ≡ Some (spec.rounds (values_of result.items)) }
+        ensures others { (b : spec.Binding) → bind name.now b (map_of self.new) ≡ bind name.now b (map_of self.old) }
+    {
+        let Some(i) = self.position(name) else {
+            unreachable!()
+        };
+        match mem::replace(&mut self.bound[i].binding, Binding::Skipped) {
+            Binding::Rounds(values) => values,
+            Binding::Fragment { .. } => unreachable!(),
+            Binding::Skipped => unreachable!(),
         }
     }
 

@@ -8,13 +8,14 @@ ghost use Rattle.mbe.specs.Bindings.{bind_skipped, bindings};
 ghost use Rattle.mbe.specs.Bound.{map_of};
 ghost use Rattle.mbe.specs.Threads.{move_of, moves_of, rounds_of, steps_of};
 
-use crate::bindings::{Binding, Bindings, Bound};
+use crate::bindings::{Binding, Bindings, Bound, put_value};
+use crate::place::{again, parted};
 use crate::threads::{Begun, Entry, Move};
 use mbe_rules::{MetaVarKind, Op};
 use std::alloc::{AllocError, Global};
 use std::mem;
 use symbols::Symbol;
-use tt::TokenTreesView;
+use tt::{TokenTreesView, TtIter};
 
 // Each variable of an item stands for nothing.
 #[cycle(skipping)]
@@ -58,7 +59,9 @@ impl<'a> Open<'a> {
     ghost use Rattle.std.specs.Prelude.{suc};
     ghost use Rattle.mbe.specs.Bindings.{bind_round};
     ghost use Rattle.mbe.specs.Bound.{entry_of};
-    ghost use Rattle.mbe.specs.Collecting.{open_of};
+    ghost use Rattle.std.specs.Prelude.{List, ℕ, Some};
+    ghost use Rattle.mbe.specs.Bindings as spec;
+    ghost use Rattle.mbe.specs.Collecting.{open_of, after_all};
 
     // One round more has ended.
     #[inline(always)]
@@ -85,6 +88,105 @@ impl<'a> Open<'a> {
             return Err(AllocError);
         };
         self.rounds = rounds;
+        Ok(())
+    }
+
+    // A round ends for each of these trees, and the tree is the fragment of the next.
+    fn begin_each(
+        &mut self,
+        round: &mut Bindings<'a>,
+        name: &'a Symbol,
+        kind: MetaVarKind,
+        trees: &TtIter<'a>,
+    ) -> Result<(), AllocError>
+        ensures { (os : List (spec.Map × ℕ)) → OnOk result ((map_of round.new, open_of self.new ∷ os)
+            ≡ after_all (rounds_of name.now kind trees.now) (map_of round.old, open_of self.old ∷ os)) }
+    {
+        let mut rest = again(trees);
+        while !rest.is_empty() {
+            let (tree, behind) = parted(&rest, 1);
+            let binding = Binding::Fragment { kind, trees: tree };
+            self.begin_round(round, Bound { name, binding })?;
+            rest = behind;
+        }
+        Ok(())
+    }
+
+    // The same, where the round binds this name alone, which has values around it.
+    fn begin_more(
+        &mut self,
+        round: &mut Bindings<'a>,
+        name: &'a Symbol,
+        kind: MetaVarKind,
+        trees: &TtIter<'a>,
+    ) -> Result<(), AllocError>
+        requires alone { (b : spec.Binding) × (map_of round.old ≡ (name.now, b) ∷ []) }
+        requires values { (vs : spec.Values) × (spec.binding_of name.now (map_of self.old.around) ≡ Some (spec.rounds vs)) }
+        ensures { (os : List (spec.Map × ℕ)) → OnOk result ((map_of round.new, open_of self.new ∷ os)
+            ≡ after_all (rounds_of name.now kind trees.now) (map_of round.old, open_of self.old ∷ os)) }
+    {
+        let mut run = Run {
+            values: self.around.take_values(name),
+            last: round.replace_alone(Binding::Skipped),
+            number: self.rounds,
+        };
+        run.pass(kind, trees)?;
+        let Run {
+            values,
+            last,
+            number,
+        } = run;
+        let _ = round.replace_alone(last);
+        self.around.bind(name, Binding::Rounds(values))?;
+        self.rounds = number;
+        Ok(())
+    }
+
+    // The same, at once where that is so.
+    fn begin_rounds(
+        &mut self,
+        round: &mut Bindings<'a>,
+        name: &'a Symbol,
+        kind: MetaVarKind,
+        trees: &TtIter<'a>,
+    ) -> Result<(), AllocError>
+        ensures { (os : List (spec.Map × ℕ)) → OnOk result ((map_of round.new, open_of self.new ∷ os)
+            ≡ after_all (rounds_of name.now kind trees.now) (map_of round.old, open_of self.old ∷ os)) }
+    {
+        if round.is_alone(name) && self.around.has_values(name) {
+            return self.begin_more(round, name, kind, trees);
+        }
+        self.begin_each(round, name, kind, trees)
+    }
+}
+
+// Values of rounds, and that of the round that goes on, with its number.
+#[derive(Drop)]
+struct Run<'a> {
+    values: Vec<Binding<'a>>,
+    last: Binding<'a>,
+    number: usize,
+}
+
+impl<'a> Run<'a> {
+    ghost use Rattle.mbe.specs.Collecting.{run_of, run_through};
+
+    // For each of these trees the round ends, and the tree is the value of the next.
+    fn pass(&mut self, kind: MetaVarKind, trees: &TtIter<'a>) -> Result<(), AllocError>
+        ensures { OnOk result (run_of self.new ≡ run_through kind trees.now (run_of self.old)) }
+    {
+        let mut rest = again(trees);
+        while !rest.is_empty() {
+            let (tree, behind) = parted(&rest, 1);
+            let next = Binding::Fragment { kind, trees: tree };
+            let ended = mem::replace(&mut self.last, next);
+            put_value(&mut self.values, self.number, ended)?;
+            let Some(number) = self.number.checked_add(1) else {
+                return Err(AllocError);
+            };
+            self.number = number;
+            rest = behind;
+        }
         Ok(())
     }
 }
@@ -182,7 +284,43 @@ impl<'a> Collected<'a> {
     }
 
     // A round ends for each of these trees, and the tree is the fragment of the next.
+    fn begin_each(
+        &mut self,
+        name: &'a Symbol,
+        kind: MetaVarKind,
+        trees: &TtIter<'a>,
+    ) -> Result<(), AllocError>
+        ensures { OnOk result (collected_of self.new ≡ after_all (rounds_of name.now kind trees.now) (collected_of self.old)) }
+    {
+        let mut rest = again(trees);
+        while !rest.is_empty() {
+            let (tree, behind) = parted(&rest, 1);
+            self.begin_round(name, kind, tree)?;
+            rest = behind;
+        }
+        Ok(())
+    }
+
+    // The same, by the innermost repetition, where one is open.
     fn begin_rounds(
+        &mut self,
+        name: &'a Symbol,
+        kind: MetaVarKind,
+        trees: &TtIter<'a>,
+    ) -> Result<(), AllocError>
+        ensures { OnOk result (collected_of self.new ≡ after_all (rounds_of name.now kind trees.now) (collected_of self.old)) }
+    {
+        match self.opens.last_mut() {
+            Some(open) => {
+                open.begin_rounds(&mut self.here, name, kind, trees)?;
+                Ok(())
+            }
+            None => self.begin_each(name, kind, trees),
+        }
+    }
+
+    // A round begins for each of these trees: the first may be the first that gives the name a value.
+    fn begin_all(
         &mut self,
         name: &'a Symbol,
         kind: MetaVarKind,
@@ -190,11 +328,9 @@ impl<'a> Collected<'a> {
     ) -> Result<(), AllocError>
         ensures { OnOk result (collected_of self.new ≡ after_all (rounds_of name.now kind (forest trees.entry)) (collected_of self.old)) }
     {
-        let mut rest = trees.iter();
-        while let Some(tree) = rest.next_as_view() {
-            self.begin_round(name, kind, tree)?;
-        }
-        Ok(())
+        let (first, rest) = parted(&trees.iter(), 1);
+        self.begin_each(name, kind, &first.iter())?;
+        self.begin_rounds(name, kind, &rest)
     }
 
     // A round ends, and this move is made in the next.
@@ -219,7 +355,7 @@ impl<'a> Collected<'a> {
         match (entry.begun, entry.made) {
             (Begun::Nothing, made) => self.add(alloc, made),
             (Begun::RoundForEach, Move::Fragment { name, kind, trees }) => {
-                self.begin_rounds(name, kind, trees)
+                self.begin_all(name, kind, trees)
             }
             (_, made) => self.begin(alloc, made),
         }
