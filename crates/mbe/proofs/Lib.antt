@@ -47,3 +47,4 @@ pub mod WalkLemmas
 pub mod FirstFitLemmas
 pub mod TextLemmas
 pub mod MacroLemmas
+pub mod UnfitLemmas

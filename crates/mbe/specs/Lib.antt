@@ -14,6 +14,7 @@ pub mod MacroEquality
 pub mod Markers
 pub mod Answers
 pub mod Missing
+pub mod Unfit
 pub mod Output
 pub mod Bursts
 -- how readings and bindings are held, as `match_pattern`, `bindings_of` and `Bindings` tell them
