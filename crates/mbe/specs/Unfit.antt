@@ -26,10 +26,10 @@ abbrev pub IsOfStyle : MacroCallStyle → List Rule → Option ℕ → Type 0
 IsOfStyle style rules None = has_style style rules ≡ false
 IsOfStyle style rules (Some n) = has_style_at style rules n ≡ true
 
--- an error, with trees or none; without a rule, that none matches, and no trees
+-- an error, with trees inside no brackets; without a rule, that none matches, and no trees
 abbrev pub IsTold : Span → Option ℕ → Top → Option (Span × ExpandErrorKind) → Type 0
 IsTold place None tree err = (tree ≡ within (no_brackets place) empty) × (err ≡ Some (place, NoMatchingRule))
-IsTold place (Some n) tree err = IsSome err
+IsTold place (Some n) tree err = (tree.delimiter ≡ no_brackets place) × IsSome err
 
 -- a rule of the call's style is told of, where there is one, and an error
 abbrev pub IsUnfit : MacroCallStyle → List Rule → Span → Option ℕ → Top → Option (Span × ExpandErrorKind) → Type 0

@@ -1,8 +1,8 @@
 //! What is answered of a call that no rule fits: which rule comes nearest, why it does not fit, and what its
 //! template gives all the same.
 //!
-//! Of these answers it is promised that they come, unless memory is refused, and that the rule has the style of
-//! the call. Calls that a rule fits don't come here.
+//! Of these answers it is promised that they come, unless memory is refused, that the rule has the style of the
+//! call, and that the tree stands inside no brackets. Calls that a rule fits don't come here.
 ghost use Rattle.std.specs.Prelude.{◌≡◌, ◌<◌, ◌^◌, ℕ, Bool, true, length, map, option_map, Some, IfOk, IfSome, IsOkUnless};
 ghost use Rattle.symbols.specs.declared.fault.TtFault.TheVariants as fault;
 ghost use Rattle.tt_data.specs.Forest.{empty};
@@ -25,7 +25,7 @@ use bumpalo::Bump;
 use fragment_grammar::FragmentGrammar;
 use mbe_rules::{ExpandError, ExpandErrorKind, MacroCallStyle, MatchedArmIndex, Op, Rule};
 use std::alloc::Global;
-use tt::{DelimSpan, Delimiter, Span, TopSubtree, TopSubtreeBuilder, TtFault};
+use tt::{DelimSpan, Delimiter, DelimiterKind, Span, TopSubtree, TopSubtreeBuilder, TtFault};
 
 // A rule, by its place among all rules, and how far its pattern reads the argument.
 #[derive(Drop)]
@@ -85,7 +85,7 @@ fn nearest<'a, G: FragmentGrammar>(
     Ok(best)
 }
 
-// The tree that the template gives, and its first fault.
+// The tree that the template gives, inside no brackets, and its first fault.
 fn filled<M: Fn(Span) -> Span>(
     alloc: Global,
     values: &Values<'_>,
@@ -94,6 +94,7 @@ fn filled<M: Fn(Span) -> Span>(
     call_site: Span,
 ) -> Result<(TopSubtree, Option<ExpandError>), TtFault>
     requires { M.IsAlwaysCallable marker.now }
+    ensures { IfOk result (λ r. r.0.delimiter ≡ no_brackets call_site) }
 {
     let mut out = TopSubtreeBuilder::new(alloc, Delimiter::invisible_spanned(call_site))?;
     let filler = Filler {
@@ -104,7 +105,11 @@ fn filled<M: Fn(Span) -> Span>(
     };
     let error = filler.fill(&mut out, template)?;
     match out.build() {
-        Ok(tree) => Ok((tree, error)),
+        Ok(mut tree) => {
+            tree.set_top_subtree_delimiter_kind(DelimiterKind::Invisible);
+            tree.set_top_subtree_delimiter_span(DelimSpan::from_single(call_site));
+            Ok((tree, error))
+        }
         Err((_, fault)) => Err(fault),
     }
 }
@@ -171,6 +176,7 @@ fn answer<M: Fn(Span) -> Span>(
 ) -> Result<Answer, TtFault>
     requires { M.IsAlwaysCallable marker.now }
     ensures number { IfOk result (λ r. r.1 ≡ Some candidate.entry.index) }
+    ensures tree { IfOk result (λ r. r.0.delimiter ≡ no_brackets call_site) }
     ensures memory { IsOkUnless result fault.Memory }
 {
     let Candidate {
