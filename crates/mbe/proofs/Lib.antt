@@ -49,3 +49,4 @@ pub mod WalkLemmas
 pub mod FirstFitLemmas
 pub mod TextLemmas
 pub mod MacroLemmas
+pub mod UnfitLemmas

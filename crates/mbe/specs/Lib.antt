@@ -13,6 +13,8 @@ pub mod MacroEquality
 -- what a call gives, and when it gives too much
 pub mod Markers
 pub mod Answers
+pub mod Missing
+pub mod Unfit
 pub mod Output
 pub mod Bursts
 -- how readings and bindings are held, as `match_pattern`, `bindings_of` and `Bindings` tell them

@@ -1,5 +1,5 @@
 //! What a call of a macro gives.
-ghost use Rattle.std.specs.Prelude.{◌≡◌, None, Some, Err, true, IfErr, IfOk, IfSome, IsOkUnless, IsSome, MatchOption, option_map};
+ghost use Rattle.std.specs.Prelude.{◌≡◌, None, Some, Err, true, IfErr, IfOk, IfSome, IsOkUnless, MatchOption, option_map};
 ghost use Rattle.tt.specs.Views.{forest};
 ghost use Rattle.mbe.specs.Answers.{within, no_brackets};
 ghost use Rattle.mbe.specs.Fit as spec;
@@ -7,6 +7,7 @@ ghost use Rattle.mbe.specs.Macros.{rules_of};
 ghost use Rattle.mbe.specs.Markers.{IsMarkedBy, is_name};
 ghost use Rattle.mbe.specs.Bursts.{bursts};
 ghost use Rattle.mbe.specs.Room.{IsWantOfRoom};
+ghost use Rattle.mbe.specs.Unfit.{IsUnfit};
 ghost use Rattle.tt_data.specs.declared.span.Span.{Span};
 ghost use Rattle.tt_data.specs.fault.TtFault.TheVariants.{Memory, Tokens};
 
@@ -63,7 +64,8 @@ impl DeclarativeMacro {
 
     /// Expands a call. Where a rule fits it answers what the first that does gives, inside no brackets,
     /// whose ends stand at `call_site`, with that rule's place among all rules and no error. Elsewhere
-    /// there is an error. (The Rust Reference, "Macros By Example".)
+    /// there is an error, with the place of a rule of this style and a tree inside such brackets; where no rule
+    /// has it, the error is that none matches, at `call_site`, and there are no trees. (The Rust Reference, "Macros By Example".)
     ///
     /// The macro is not broken, `err()` is none, and `marker`, which says where a template's tokens
     /// stand in what is given, may be called on every place.
@@ -85,7 +87,7 @@ impl DeclarativeMacro {
         requires marker { M.IsAlwaysCallable marker.now }
         ensures answer { (mark : Span → Span) → IsMarkedBy (M.post marker.now) mark → IfOk result (λ r.
             MatchOption (spec.fit is_name (G.answer grammar.now) mark (rules_of self.now).list call_style tt.now.inner)
-            (IsSome r.err)
+            (IsUnfit call_style (rules_of self.now).list call_site r.value.1 r.value.0 r.err)
             (λ f. r ≡ record { value = (within (no_brackets call_site) f.1, Some f.0); err = None })) }
         ensures faults { IfErr result IsWantOfRoom }
         ensures tokens { (mark : Span → Span) → IsMarkedBy (M.post marker.now) mark → result ≡ Err Tokens →

@@ -1,10 +1,15 @@
 //! What is answered of a call that no rule fits: which rule comes nearest, why it does not fit, and what its
 //! template gives all the same.
 //!
-//! Nothing is promised of these answers but that they come, unless memory is refused. Calls that a rule fits
-//! don't come here.
-ghost use Rattle.std.specs.Prelude.{IsOkUnless};
+//! Of these answers it is promised that they come, unless memory is refused, that the rule has the style of the
+//! call, and that the tree stands inside no brackets. Calls that a rule fits don't come here.
+ghost use Rattle.std.specs.Prelude.{◌≡◌, ◌<◌, ◌^◌, ℕ, Bool, true, length, map, option_map, Some, IfOk, IfSome, IsOkUnless};
 ghost use Rattle.symbols.specs.declared.fault.TtFault.TheVariants as fault;
+ghost use Rattle.tt_data.specs.Forest.{empty};
+ghost use Rattle.mbe_rules.specs.Ops.{rule_of};
+ghost use Rattle.mbe.specs.Answers.{within, no_brackets};
+ghost use Rattle.mbe.specs.Fit.{same_style};
+ghost use Rattle.mbe.specs.Unfit.{IsOfStyle, IsUnfit};
 
 mod attempt;
 mod faults;
@@ -20,18 +25,20 @@ use bumpalo::Bump;
 use fragment_grammar::FragmentGrammar;
 use mbe_rules::{ExpandError, ExpandErrorKind, MacroCallStyle, MatchedArmIndex, Op, Rule};
 use std::alloc::Global;
-use tt::{DelimSpan, Delimiter, Span, TopSubtree, TopSubtreeBuilder, TtFault};
+use tt::{DelimSpan, Delimiter, DelimiterKind, Span, TopSubtree, TopSubtreeBuilder, TtFault};
 
 // A rule, by its place among all rules, and how far its pattern reads the argument.
 #[derive(Drop)]
 struct Candidate<'a> {
-    index: usize,
+    index: u32,
     template: &'a [Op],
     attempt: Attempt<'a>,
 }
 
 // The nearer of two rules, the first where they are as near.
-fn nearer<'a>(first: Option<Candidate<'a>>, second: Candidate<'a>) -> Candidate<'a> {
+fn nearer<'a>(first: Option<Candidate<'a>>, second: Candidate<'a>) -> Candidate<'a>
+    ensures { (p : ℕ → Bool) → IfSome first.entry (λ c. p c.index ≡ true) → p second.entry.index ≡ true → p result.index ≡ true }
+{
     match first {
         Some(first) => {
             if second.attempt.is_nearer(&first.attempt) {
@@ -44,6 +51,13 @@ fn nearer<'a>(first: Option<Candidate<'a>>, second: Candidate<'a>) -> Candidate<
     }
 }
 
+// Whether a rule has this style.
+fn has_style(rule: &Rule, style: MacroCallStyle) -> bool
+    ensures { result ≡ same_style style rule.now.style }
+{
+    rule.style == style
+}
+
 // The rule of this style that comes nearest, if any has it.
 fn nearest<'a, G: FragmentGrammar>(
     alloc: Global,
@@ -52,13 +66,16 @@ fn nearest<'a, G: FragmentGrammar>(
     rules: &'a [Rule],
     style: MacroCallStyle,
     call: Call<'a>,
-) -> Result<Option<Candidate<'a>>, TtFault> {
+) -> Result<Option<Candidate<'a>>, TtFault>
+    requires { length rules.now < 2 ^ 32 }
+    ensures { IfOk result (λ o. IsOfStyle style (map rule_of rules.now) (option_map (λ c. c.index) o)) }
+{
     let mut best = None;
     for (index, rule) in rules.iter().enumerate() {
-        if rule.style == style {
+        if has_style(rule, style) {
             let attempt = attempted(alloc, arena, grammar, &rule.pattern, call)?;
             let candidate = Candidate {
-                index,
+                index: index as u32,
                 template: &rule.template,
                 attempt,
             };
@@ -68,7 +85,7 @@ fn nearest<'a, G: FragmentGrammar>(
     Ok(best)
 }
 
-// The tree that the template gives, and its first fault.
+// The tree that the template gives, inside no brackets, and its first fault.
 fn filled<M: Fn(Span) -> Span>(
     alloc: Global,
     values: &Values<'_>,
@@ -77,6 +94,7 @@ fn filled<M: Fn(Span) -> Span>(
     call_site: Span,
 ) -> Result<(TopSubtree, Option<ExpandError>), TtFault>
     requires { M.IsAlwaysCallable marker.now }
+    ensures { IfOk result (λ r. r.0.delimiter ≡ no_brackets call_site) }
 {
     let mut out = TopSubtreeBuilder::new(alloc, Delimiter::invisible_spanned(call_site))?;
     let filler = Filler {
@@ -87,7 +105,11 @@ fn filled<M: Fn(Span) -> Span>(
     };
     let error = filler.fill(&mut out, template)?;
     match out.build() {
-        Ok(tree) => Ok((tree, error)),
+        Ok(mut tree) => {
+            tree.set_top_subtree_delimiter_kind(DelimiterKind::Invisible);
+            tree.set_top_subtree_delimiter_span(DelimSpan::from_single(call_site));
+            Ok((tree, error))
+        }
         Err((_, fault)) => Err(fault),
     }
 }
@@ -101,7 +123,8 @@ fn nothing(
     error: ExpandError,
     call_site: Span,
 ) -> Result<Answer, TtFault>
-    ensures { IsOkUnless result fault.Memory }
+    ensures told { IfOk result (λ r. r ≡ (within (no_brackets call_site) empty, index, error)) }
+    ensures memory { IsOkUnless result fault.Memory }
 {
     let tree = TopSubtree::empty(alloc, DelimSpan::from_single(call_site))?;
     Ok((tree, index, error))
@@ -122,8 +145,10 @@ pub(crate) fn failure<G: FragmentGrammar, M: Fn(Span) -> Span>(
     marker: &M,
     call_site: Span,
 ) -> Result<Answer, TtFault>
-    requires { M.IsAlwaysCallable marker.now }
-    ensures { IsOkUnless result fault.Memory }
+    requires few { length rules.now < 2 ^ 32 }
+    requires marker { M.IsAlwaysCallable marker.now }
+    ensures unfit { IfOk result (λ r. IsUnfit style (map rule_of rules.now) call_site r.1 r.0 (Some r.2)) }
+    ensures memory { IsOkUnless result fault.Memory }
 {
     let arena = Bump::new(alloc);
     let call = Call {
@@ -150,14 +175,16 @@ fn answer<M: Fn(Span) -> Span>(
     call_site: Span,
 ) -> Result<Answer, TtFault>
     requires { M.IsAlwaysCallable marker.now }
-    ensures { IsOkUnless result fault.Memory }
+    ensures number { IfOk result (λ r. r.1 ≡ Some candidate.entry.index) }
+    ensures tree { IfOk result (λ r. r.0.delimiter ≡ no_brackets call_site) }
+    ensures memory { IsOkUnless result fault.Memory }
 {
     let Candidate {
         index,
         template,
         attempt,
     } = candidate;
-    let index = u32::try_from(index).ok();
+    let index = Some(index);
     let filled = filled(alloc, &attempt.values, template, marker, call_site);
     let unread = attempt.error;
     let (tree, error) = match filled {

@@ -1,10 +1,11 @@
 //! What a grammar takes at the head of a list.
-ghost use Rattle.std.specs.Prelude.{◌≡◌, IfOk, IsOkUnless, OnErr, OnOk, is_some};
+ghost use Rattle.std.specs.Prelude.{◌≡◌, IfOk, IsOkUnless, OnErr, OnOk};
 ghost use Rattle.symbols.specs.declared.fault.TtFault.TheVariants as fault;
 ghost use Rattle.tt.specs.Views.{forest};
 ghost use Rattle.tt_data.specs.Forest.{shape};
 ghost use Rattle.mbe_rules.specs.Trees.{before, past};
 ghost use Rattle.mbe.specs.Grammar.{reach, is_no_fragment};
+ghost use Rattle.mbe.specs.Missing.{missing, missing_at, missing_text};
 
 use crate::place::{before, past, reached};
 use fragment_grammar::{FragmentGrammar, PrefixEntryPoint};
@@ -44,19 +45,46 @@ pub fn pass_fragment<'a, G: FragmentGrammar>(
     }
 }
 
-// That a fragment of this kind is missing.
-fn missing(alloc: Global, entry: PrefixEntryPoint, place: Span) -> Result<ExpandError, TtFault>
-    ensures { IsOkUnless result fault.Memory }
+// What is told where a fragment of this kind is missing.
+fn missing_text(entry: PrefixEntryPoint) -> &'static str
+    ensures { result.now ≡ missing_text entry }
 {
-    let text = format!(in alloc; "expected {entry:?}")?;
-    let text = Symbol::new(alloc, text.as_str())?;
+    match entry {
+        PrefixEntryPoint::Vis => "expected Vis",
+        PrefixEntryPoint::Block => "expected Block",
+        PrefixEntryPoint::Stmt => "expected Stmt",
+        PrefixEntryPoint::Pat => "expected Pat",
+        PrefixEntryPoint::PatTop => "expected PatTop",
+        PrefixEntryPoint::Ty => "expected Ty",
+        PrefixEntryPoint::Expr => "expected Expr",
+        PrefixEntryPoint::Path => "expected Path",
+        PrefixEntryPoint::Item => "expected Item",
+        PrefixEntryPoint::MetaItem => "expected MetaItem",
+    }
+}
+
+// That a fragment of this kind is missing at the head of a list with this end.
+fn missing(
+    alloc: Global,
+    trees: &TtIter<'_>,
+    entry: PrefixEntryPoint,
+    end: Span,
+) -> Result<ExpandError, TtFault>
+    ensures error { IfOk result (λ e. e ≡ missing entry trees.now end) }
+    ensures memory { IsOkUnless result fault.Memory }
+{
+    let place = match trees.next_span() {
+        Some(place) => place,
+        None => end,
+    };
+    let text = Symbol::new(alloc, missing_text(entry))?;
     ExpandError::new(alloc, place, ExpandErrorKind::BindingError(text))
 }
 
 /// Passes as many trees as the grammar takes for a fragment of a kind, and answers them. Where it stops
 /// inside a group, the outermost such group is passed whole. There is an error exactly where that
 /// happens or the grammar finds a fault; it stands at the first of the trees that were left, or where
-/// there were none at the closing end of `delim_span`.
+/// there were none at the closing end of `delim_span`, and names the kind.
 ///
 /// # Errors
 ///
@@ -72,7 +100,7 @@ pub fn expect_fragment<'a, G: FragmentGrammar>(
         IfOk result (λ r. forest r.value ≡ before (reach trees.old prefix.tokens).0 trees.old) }
     ensures rest { let prefix = G.answer grammar.now entry (shape trees.old) in
         OnOk result (trees.new ≡ past (reach trees.old prefix.tokens).0 trees.old) }
-    ensures err { IfOk result (λ r. is_some r.err ≡ is_no_fragment trees.old (G.answer grammar.now entry (shape trees.old))) }
+    ensures err { IfOk result (λ r. r.err ≡ missing_at entry trees.old delim_span.close_span (G.answer grammar.now entry (shape trees.old))) }
     ensures unmoved { OnErr result (trees.new ≡ trees.old) }
     ensures memory { IsOkUnless result fault.Memory }
 {
@@ -82,8 +110,7 @@ pub fn expect_fragment<'a, G: FragmentGrammar>(
         *trees = rest;
         return Ok(ValueResult::ok(passed.trees));
     }
-    let place = trees.next_span().unwrap_or(delim_span.close_span);
-    let err = missing(alloc, entry, place)?;
+    let err = missing(alloc, trees, entry, delim_span.close_span)?;
     *trees = rest;
     Ok(ValueResult::new(passed.trees, err))
 }
