@@ -64,8 +64,9 @@ impl DeclarativeMacro {
 
     /// Expands a call. Where a rule fits it answers what the first that does gives, inside no brackets,
     /// whose ends stand at `call_site`, with that rule's place among all rules and no error. Elsewhere
-    /// there is an error, with the place of a rule of this style and a tree inside such brackets; where no rule
-    /// has it, the error is that none matches, at `call_site`, and there are no trees. (The Rust Reference, "Macros By Example".)
+    /// there is an error, the place of a rule of this style, and a tree inside no brackets either. Where
+    /// no rule has the style, there is no such place, the error is that none matches, at `call_site`, and
+    /// the tree is empty. (The Rust Reference, "Macros By Example".)
     ///
     /// The macro is not broken, `err()` is none, and `marker`, which says where a template's tokens
     /// stand in what is given, may be called on every place.
