@@ -301,8 +301,8 @@ fn is_one_of(words: &[&str], text: &str) -> bool
     false
 }
 
-// Whether a name that was made is raw: where it is a reserved word.
-fn rawness_of(text: &str) -> IdentIsRaw
+/// Whether a name that was made is raw: where it is a reserved word.
+pub(crate) fn rawness_of(text: &str) -> IdentIsRaw
     ensures { result ≡ rawness_of text.now }
 {
     let reserved: [&str; 52] = RESERVED;

@@ -1,4 +1,5 @@
 //! Tokens that are put in where filling goes on after a fault, and the texts of identifiers that are joined.
+use crate::expressions::rawness_of;
 use crate::failure::values::Found;
 use mbe_rules::{MetaVarKind, Separator};
 use std::alloc::Global;
@@ -79,24 +80,6 @@ pub(crate) fn put_separator(
             Ok(())
         }
     }
-}
-
-// The words that are no names unless they are raw.
-const RESERVED: [&str; 52] = [
-    "as", "break", "const", "continue", "crate", "else", "enum", "extern", "false", "fn", "for",
-    "if", "impl", "in", "let", "loop", "match", "mod", "move", "mut", "pub", "ref", "return",
-    "self", "Self", "static", "struct", "super", "trait", "true", "type", "unsafe", "use", "where",
-    "while", "async", "await", "dyn", "abstract", "become", "box", "do", "final", "macro",
-    "override", "priv", "typeof", "unsized", "virtual", "yield", "try", "gen",
-];
-
-fn rawness_of(text: &str) -> IdentIsRaw {
-    for word in RESERVED {
-        if word == text {
-            return IdentIsRaw::Yes;
-        }
-    }
-    IdentIsRaw::No
 }
 
 // Adds the text that a name gives, where that is one word or literal: false where it is not.
