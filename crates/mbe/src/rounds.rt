@@ -84,14 +84,20 @@ fn trees_of_round<G: FragmentGrammar>(
     }
 }
 
-// Whether a round of a variable takes a single tree at the head of a list.
+// Whether a round of a variable is seen to take a single tree at the head of a list. A grammar is not asked, since
+// where it takes more it would be asked again.
 #[inline(always)]
 fn is_single<G: FragmentGrammar>(grammar: &G, kind: MetaVarKind, trees: &TtIter<'_>) -> bool
     ensures { result ≡ true → (trees.now ≢ empty) × (taken (G.answer grammar.now) kind trees.now ≡ Some 1) }
 {
-    match trees_of_round(grammar, kind, trees) {
-        Some(count) => count == 1,
-        None => false,
+    match kind {
+        MetaVarKind::Tt | MetaVarKind::Ident | MetaVarKind::Literal => {
+            match trees_of_round(grammar, kind, trees) {
+                Some(count) => count == 1,
+                None => false,
+            }
+        }
+        _ => false,
     }
 }
 
