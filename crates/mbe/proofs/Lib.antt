@@ -47,6 +47,7 @@ pub mod LoneLemmas
 pub mod FailureTaskLemmas
 pub mod WalkLemmas
 pub mod FirstFitLemmas
+pub mod KeyLemmas
 pub mod TextLemmas
 pub mod MacroLemmas
 pub mod UnfitLemmas

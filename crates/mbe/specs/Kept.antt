@@ -1,5 +1,5 @@
 -- What is kept of a macro, and what it stands for.
-use Rattle.std.specs.Prelude.{◌≡◌, ◌<◌, ◌^◌, false, List, [], length, Option, Some, None}
+use Rattle.std.specs.Prelude.{◌≡◌, ℕ, ◌<◌, ◌^◌, false, List, [], length, Option, Some, None}
 use Rattle.std.specs.List.{list_any}
 use Rattle.mbe_rules.specs.Items.{Rules, has_empty_round}
 use Rattle.mbe_rules.specs.Ops as ops
@@ -11,18 +11,23 @@ use Rattle.mbe.specs.declared.kept.Kept.TheVariants.{Read, Broken}
 
 -- what is read of its definition: its rules, and the first fault
 abbrev pub kept_rules : Kept → Rules
-kept_rules (Read rules) = ops.rules_of rules
+kept_rules (Read rules keys) = ops.rules_of rules
 kept_rules (Broken err) = no_rules (Some err)
 
 -- the rules, as they are kept
 abbrev pub kept_list : Kept → List Rule
-kept_list (Read rules) = rules.list.items
+kept_list (Read rules keys) = rules.list.items
 kept_list (Broken err) = []
 
 -- the fault, as it is kept
 abbrev pub kept_fault : Kept → Option ParseError
-kept_fault (Read rules) = rules.err
+kept_fault (Read rules keys) = rules.err
 kept_fault (Broken err) = Some err
+
+-- the numbers of the names that the patterns begin with, as they are kept
+abbrev pub kept_keys : Kept → List (Option ℕ)
+kept_keys (Read rules keys) = keys.items
+kept_keys (Broken err) = []
 
 -- what rules are that were read of a definition: there are no more than a definition has tokens, and where none has a fault
 -- none of their patterns can go round without end

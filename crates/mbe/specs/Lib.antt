@@ -28,6 +28,7 @@ pub mod Settled
 pub mod Rounds
 pub mod Going
 pub mod Blocked
+pub mod Keys
 pub mod Collecting
 pub mod Room
 pub mod Putting

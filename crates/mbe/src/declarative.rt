@@ -9,9 +9,11 @@ ghost use Rattle.mbe_rules.specs.Parsing.{macro_of, macro_rules_of, no_rules};
 ghost use Rattle.mbe_rules.specs.Styles.{bits_of};
 ghost use Rattle.std.specs.Option.{option_eq};
 ghost use Rattle.mbe.specs.Kept.{kept_list};
+ghost use Rattle.mbe.specs.Keys.{keys_of};
 ghost use Rattle.mbe.specs.Macros.{edition_of, rules_of, styles_in, styles_of};
 
 use crate::kept::{DeclarativeMacro, Kept};
+use crate::keys::keys_of;
 use mbe_rules::{MacroCallStyles, ParseError, Rule};
 use std::alloc::Global;
 use tt::{Edition, SyntaxContext, TopSubtree, TtFault};
@@ -69,8 +71,9 @@ impl DeclarativeMacro {
                 }
             },
         )?;
+        let keys = keys_of(alloc, &rules.list)?;
         Ok(DeclarativeMacro {
-            kept: Kept::Read(rules),
+            kept: Kept::Read(rules, keys),
         })
     }
 
@@ -109,8 +112,9 @@ impl DeclarativeMacro {
                 }
             },
         )?;
+        let keys = keys_of(alloc, &rules.list)?;
         Ok(DeclarativeMacro {
-            kept: Kept::Read(rules),
+            kept: Kept::Read(rules, keys),
         })
     }
 
@@ -119,7 +123,7 @@ impl DeclarativeMacro {
         ensures { option_map (λ e. e.now) result ≡ (rules_of self.now).err }
     {
         match &self.kept {
-            Kept::Read(rules) => rules.err.as_ref(),
+            Kept::Read(rules, _) => rules.err.as_ref(),
             Kept::Broken(err) => Some(err),
         }
     }
@@ -130,7 +134,17 @@ impl DeclarativeMacro {
         ensures rules { map ops.rule_of result.now ≡ (rules_of self.now).list }
     {
         match &self.kept {
-            Kept::Read(rules) => &rules.list,
+            Kept::Read(rules, _) => &rules.list,
+            Kept::Broken(_) => &[],
+        }
+    }
+
+    // The numbers of the names that the rules' patterns begin with.
+    pub(crate) fn keys(&self) -> &[Option<u32>]
+        ensures { result.now ≡ keys_of (rules_of self.now).list }
+    {
+        match &self.kept {
+            Kept::Read(_, keys) => keys,
             Kept::Broken(_) => &[],
         }
     }
@@ -159,10 +173,11 @@ impl DeclarativeMacro {
         ensures memory { IsOkUnless result fault.Memory }
     {
         match &self.kept {
-            Kept::Read(rules) => {
+            Kept::Read(rules, _) => {
                 let rules = rules.try_clone(alloc)?;
+                let keys = keys_of(alloc, &rules.list)?;
                 Ok(DeclarativeMacro {
-                    kept: Kept::Read(rules),
+                    kept: Kept::Read(rules, keys),
                 })
             }
             Kept::Broken(err) => Ok(DeclarativeMacro::from_err(copied(err))),

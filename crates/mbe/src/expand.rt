@@ -52,6 +52,7 @@ impl DeclarativeMacro {
             alloc,
             grammar,
             self.list(),
+            self.keys(),
             call_style,
             argument,
             marker,

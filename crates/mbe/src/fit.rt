@@ -6,6 +6,7 @@ ghost use Rattle.mbe_rules.specs.Items.{has_empty_round};
 ghost use Rattle.mbe_rules.specs.Ops.{items_of, rule_of};
 ghost use Rattle.mbe.specs.Bound.{map_of};
 ghost use Rattle.mbe.specs.Filling.{filled};
+ghost use Rattle.mbe.specs.Keys.{first_key, keys_of, name_key};
 ghost use Rattle.mbe.specs.Fit as spec;
 ghost use Rattle.mbe.specs.Fit.{most_rounds};
 ghost use Rattle.mbe.specs.Answers.{within};
@@ -19,9 +20,9 @@ ghost use Rattle.tt_data.specs.declared.span.Span.{Span};
 ghost use Rattle.tt_data.specs.fault.TtFault.TheVariants.{Tokens};
 
 use crate::bindings::Bindings;
-use crate::blocked::is_blocked;
 use crate::collecting::bindings_of;
 use crate::filling::fill;
+use crate::keys::{is_passed, name_key};
 use crate::matcher::match_pattern;
 use bumpalo::Bump;
 use fragment_grammar::FragmentGrammar;
@@ -80,16 +81,21 @@ fn read_fit<G: FragmentGrammar, M: Fn(Span) -> Span>(
     filled(alloc, &rule.template, &bindings, marker, top)
 }
 
-// What one rule makes of an argument: none where it does not fit. Most do not for their first item.
+// What one rule makes of an argument: none where it does not fit. Most do not for their first item. `key` and
+// `name` are the numbers of the names that the pattern and the argument begin with.
 fn rule_fit<G: FragmentGrammar, M: Fn(Span) -> Span>(
     alloc: Global,
     grammar: &G,
     rule: &Rule,
+    key: Option<u32>,
     argument: TokenTreesView<'_>,
+    name: Option<u32>,
     marker: &M,
     top: Delimiter,
 ) -> Result<Option<TopSubtree>, TtFault>
     requires pattern { has_empty_round (items_of rule.now.pattern.items) ≡ false }
+    requires key { key ≡ first_key (items_of rule.now.pattern.items) }
+    requires name { name ≡ name_key (forest argument) }
     requires marker { M.IsAlwaysCallable marker.now }
     ensures tree { (mark : Span → Span) → IsMarkedBy (M.post marker.now) mark → IfOk result (λ o. o
         ≡ option_map (within top) (spec.rule_fit is_name (G.answer grammar.now) mark (rule_of rule.now) (forest argument.entry))) }
@@ -97,7 +103,7 @@ fn rule_fit<G: FragmentGrammar, M: Fn(Span) -> Span>(
     ensures tokens { (mark : Span → Span) → IsMarkedBy (M.post marker.now) mark → result ≡ Err Tokens →
         template_bursts is_name (G.answer grammar.now) mark (rule_of rule.now) (the_reading (G.answer grammar.now) (items_of rule.now.pattern.items) (forest argument.entry)) ≡ true }
 {
-    if is_blocked(alloc, &rule.pattern, argument) {
+    if is_passed(alloc, &rule.pattern, key, argument, name) {
         return Ok(None);
     }
     read_fit(alloc, grammar, rule, argument, marker, top)
@@ -109,11 +115,15 @@ fn styled_fit<G: FragmentGrammar, M: Fn(Span) -> Span>(
     grammar: &G,
     style: MacroCallStyle,
     rule: &Rule,
+    key: Option<u32>,
     argument: TokenTreesView<'_>,
+    name: Option<u32>,
     marker: &M,
     top: Delimiter,
 ) -> Result<Option<TopSubtree>, TtFault>
     requires pattern { has_empty_round (items_of rule.now.pattern.items) ≡ false }
+    requires key { key ≡ first_key (items_of rule.now.pattern.items) }
+    requires name { name ≡ name_key (forest argument) }
     requires marker { M.IsAlwaysCallable marker.now }
     ensures tree { (mark : Span → Span) → IsMarkedBy (M.post marker.now) mark → IfOk result (λ o. o
         ≡ option_map (within top) (spec.styled_fit is_name (G.answer grammar.now) mark style (rule_of rule.now) (forest argument.entry))) }
@@ -124,7 +134,7 @@ fn styled_fit<G: FragmentGrammar, M: Fn(Span) -> Span>(
     if rule.style != style {
         return Ok(None);
     }
-    rule_fit(alloc, grammar, rule, argument, marker, top)
+    rule_fit(alloc, grammar, rule, key, argument, name, marker, top)
 }
 
 /// The first of these rules that fits, by its place among them, and what it gives.
@@ -132,12 +142,14 @@ pub(crate) fn first_fit<G: FragmentGrammar, M: Fn(Span) -> Span>(
     alloc: Global,
     grammar: &G,
     list: &[Rule],
+    keys: &[Option<u32>],
     style: MacroCallStyle,
     argument: TokenTreesView<'_>,
     marker: &M,
     top: Delimiter,
 ) -> Result<Option<(usize, TopSubtree)>, TtFault>
     requires patterns { list_any (λ r. has_empty_round r.pattern) (map rule_of list.now) ≡ false }
+    requires keys { keys.now ≡ keys_of (map rule_of list.now) }
     requires marker { M.IsAlwaysCallable marker.now }
     ensures fit { (mark : Span → Span) → IsMarkedBy (M.post marker.now) mark → IfOk result (λ o. o
         ≡ option_map (λ r. (r.0, within top r.1)) (spec.fit is_name (G.answer grammar.now) mark (map rule_of list.now) style (forest argument.entry))) }
@@ -146,8 +158,19 @@ pub(crate) fn first_fit<G: FragmentGrammar, M: Fn(Span) -> Span>(
     ensures tokens { (mark : Span → Span) → IsMarkedBy (M.post marker.now) mark → result ≡ Err Tokens →
         bursts is_name (G.answer grammar.now) mark (map rule_of list.now) style (forest argument.entry) ≡ true }
 {
+    let name = name_key(argument);
     for (number, rule) in list.iter().enumerate() {
-        if let Some(tree) = styled_fit(alloc, grammar, style, rule, argument, marker, top)? {
+        if let Some(tree) = styled_fit(
+            alloc,
+            grammar,
+            style,
+            rule,
+            keys[number],
+            argument,
+            name,
+            marker,
+            top,
+        )? {
             return Ok(Some((number, tree)));
         }
     }

@@ -1,13 +1,15 @@
 //! What is kept of a macro.
-ghost use Rattle.mbe.specs.Kept.{IsOfDefinition, kept_rules};
+ghost use Rattle.std.specs.Prelude.{◌≡◌};
+ghost use Rattle.mbe.specs.Kept.{IsOfDefinition, kept_keys, kept_rules};
+ghost use Rattle.mbe.specs.Keys.{keys_of};
 
 use mbe_rules::{ParseError, Rules};
 
 // What is kept of a definition.
 #[derive(Debug, Drop)]
 pub(crate) enum Kept {
-    // What was read of it.
-    Read(Rules),
+    // What was read of it, and for each rule the number of the name that its pattern begins with.
+    Read(Rules, Vec<Option<u32>>),
     // The fault alone that it is broken with.
     Broken(ParseError),
 }
@@ -17,4 +19,5 @@ pub(crate) enum Kept {
 pub struct DeclarativeMacro {
     pub(crate) kept: Kept,
     ghost sound: { IsOfDefinition (kept_rules kept) },
+    ghost keyed: { kept_keys kept ≡ keys_of (kept_rules kept).list },
 }

@@ -13,6 +13,7 @@ mod filling;
 mod fit;
 mod fragment;
 mod kept;
+mod keys;
 pub mod laws;
 mod lone;
 mod matcher;

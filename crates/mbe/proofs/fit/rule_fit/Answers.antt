@@ -12,8 +12,8 @@ use Rattle.mbe.specs.Units.{place}
 use Rattle.mbe.proofs.BlockedLemmas.{none-read}
 use Rattle.mbe.proofs.fit.rule_fit.Goals as goal
 
-pub returns-then-is_blocked-clause-tree : goal.returns-then-is_blocked-clause-tree
-returns-then-is_blocked-clause-tree g c = λ mark marked.
+pub returns-then-is_passed-clause-tree : goal.returns-then-is_passed-clause-tree
+returns-then-is_passed-clause-tree g c = λ mark marked.
     sym (ap (λ o. option_map (within c.args.top) (option_and_then (λ ms. filled is_name most_rounds mark (bindings ms) (items_of c.args.rule.now.template.items)) o))
     (none-read (g.G.FragmentGrammar.answer c.args.grammar.now) (items_of c.args.rule.now.pattern.items) (forest c.args.argument) c.requires.pattern
-    (sym (c.is_blocked.ensures ∙ ap (λ ops. is_blocked (items_of ops) (place (forest c.args.argument) [])) c.deref.ensures.value) ∙ c.if-is_blocked.true)))
+    (sym (c.is_passed.ensures ∙ ap (λ ops. is_blocked (items_of ops) (place (forest c.args.argument) [])) c.deref.ensures.value) ∙ c.if-is_passed.true)))

@@ -1,7 +1,8 @@
 -- What is read was read of a definition, in the editions that were asked for.
-use Rattle.std.proofs.Common.{rules, ap, ◌<◌, ◌^◌}
+use Rattle.std.proofs.Common.{rules, ap, ◌∙◌, map, ◌<◌, ◌^◌}
 use Rattle.tt_data.specs.Forest.{size}
-use Rattle.mbe_rules.specs.Ops.{rules_of}
+use Rattle.mbe_rules.specs.Ops.{rule_of, rules_of}
+use Rattle.mbe.specs.Keys.{keys_of}
 use Rattle.mbe.specs.Macros.{edition_of}
 use Rattle.mbe.proofs.MacroLemmas.{macro_rules-sound}
 use Rattle.mbe.proofs.kept.DeclarativeMacro.parse_macro_rules.Goals as goal
@@ -13,4 +14,4 @@ invariant_of-result g c =
     let head = c.top_subtree-head.type_inv in
     let count = ap (λ s. s.len) c.top_subtree-head.ensures in
     let few : size c.args.tt.now.inner < 2 ^ 32 = search rules in
-    record { sound = macro_rules-sound e c.args.tt.now.inner (rules_of c.in_ok-rules.rules) read few }
+    record { sound = macro_rules-sound e c.args.tt.now.inner (rules_of c.in_ok-rules.rules) read few; keyed = c.in_ok-keys.ensures ∙ ap (λ rs. keys_of (map rule_of rs)) c.deref.ensures.value }
