@@ -175,6 +175,7 @@ impl<'a> Run<'a> {
     fn pass(&mut self, kind: MetaVarKind, trees: &TtIter<'a>) -> Result<(), AllocError>
         ensures { OnOk result (run_of self.new ≡ run_through kind trees.now (run_of self.old)) }
     {
+        self.values.reserve(trees.remaining().len())?;
         let mut rest = again(trees);
         while !rest.is_empty() {
             let (tree, behind) = parted(&rest, 1);
@@ -362,6 +363,9 @@ impl<'a> Collected<'a> {
     }
 }
 
+// For how many entries of a log there is room at first.
+const USUAL_ENTRIES: usize = 16;
+
 // The entries of the log up to one, the last first.
 fn entries_back<'a>(
     alloc: Global,
@@ -369,7 +373,7 @@ fn entries_back<'a>(
 ) -> Result<Vec<&'a Entry<'a>>, AllocError>
     ensures { IfOk result (λ v. flat_map steps_of (reverse v.items) ≡ moves_of last.entry) }
 {
-    let mut entries = Vec::new(alloc);
+    let mut entries = Vec::with_capacity(alloc, USUAL_ENTRIES)?;
     let mut next = last;
     while let Some(entry) = next {
         entries.push(entry)?;

@@ -1,6 +1,6 @@
 //! What a template gives, filled with bindings. What is left to do stands in a list of tasks, so that a
 //! template may be nested as deep as memory goes.
-ghost use Rattle.std.specs.Prelude.{◌≡◌, ◌<◌, ◌≤◌, ◌+◌, ◌*◌, ◌∷◌, ◌++◌, [], suc, reverse, option_map, if◌then◌else◌, Err, IfErr, OnOk};
+ghost use Rattle.std.specs.Prelude.{◌≡◌, ◌<◌, ◌≤◌, ◌+◌, ◌*◌, ◌∷◌, ◌++◌, [], suc, reverse, option_map, if◌then◌else◌, Err, IfErr, IfOk, OnOk};
 ghost use Rattle.tt_data.specs.declared.span.Span.{Span};
 ghost use Rattle.tt_data.specs.fault.TtFault.TheVariants.{Memory, Tokens};
 ghost use Rattle.mbe_rules.specs.Items.{done, may_skip};
@@ -21,11 +21,14 @@ use crate::lone::{lone_values, put_later};
 use crate::transcriber::{marked, put_plain, put_separator};
 use crate::uses::round_stands;
 use mbe_rules::{Op, RepeatKind, Separator};
-use std::alloc::Global;
+use std::alloc::{AllocError, Global};
 use tt::{Delimiter, Span, TopSubtreeBuilder, TtFault};
 
 // The most rounds that a repetition may have.
 pub(crate) const MOST_ROUNDS: usize = 65535;
+
+// For how many tasks there is room at first.
+const USUAL_TASKS: usize = 8;
 
 // Whether a repetition may have no round.
 fn may_be_empty(kind: RepeatKind) -> bool
@@ -81,14 +84,13 @@ pub(crate) struct Filling<'t> {
 
 impl<'t> Filling<'t> {
     // No task is left, and no round is open.
-    fn new(alloc: Global) -> Filling<'t>
-        ensures tasks { result.tasks.items ≡ [] }
-        ensures rounds { result.rounds.items ≡ [] }
+    fn new(alloc: Global) -> Result<Filling<'t>, AllocError>
+        ensures tasks { IfOk result (λ left. left.tasks.items ≡ []) }
+        ensures rounds { IfOk result (λ left. left.rounds.items ≡ []) }
     {
-        Filling {
-            tasks: Vec::new(alloc),
-            rounds: Vec::new(alloc),
-        }
+        let tasks = Vec::with_capacity(alloc, USUAL_TASKS)?;
+        let rounds = Vec::new(alloc);
+        Ok(Filling { tasks, rounds })
     }
 
     // One task more, which is the next.
@@ -330,7 +332,7 @@ pub(crate) fn fill<M: Fn(Span) -> Span>(
     ensures tokens { (mark : Span → Span) → IsMarkedBy (M.post marker.now) mark →
         IsBurstBy result out.old.tree (output is_name most_rounds mark (map_of bindings.now) (items_of template.now)) }
 {
-    let mut left = Filling::new(bindings.allocator());
+    let mut left = Filling::new(bindings.allocator())?;
     left.plan(Task::Items(template))?;
     while let Some(task) = left.tasks.pop() {
         if !left.step(out, task, bindings, marker)? {

@@ -56,6 +56,9 @@ fn filled<M: Fn(Span) -> Span>(
     }
 }
 
+// How many bytes an arena has room for at first.
+const USUAL_ROOM: usize = 960;
+
 // What one rule makes of an argument that its pattern is read against: none where it does not fit.
 fn read_fit<G: FragmentGrammar, M: Fn(Span) -> Span>(
     alloc: Global,
@@ -73,7 +76,7 @@ fn read_fit<G: FragmentGrammar, M: Fn(Span) -> Span>(
     ensures tokens { (mark : Span → Span) → IsMarkedBy (M.post marker.now) mark → result ≡ Err Tokens →
         template_bursts is_name (G.answer grammar.now) mark (rule_of rule.now) (the_reading (G.answer grammar.now) (items_of rule.now.pattern.items) (forest argument.entry)) ≡ true }
 {
-    let arena = Bump::new(alloc);
+    let arena = Bump::try_with_capacity(alloc, USUAL_ROOM)?;
     let Some(last) = match_pattern(alloc, &arena, grammar, &rule.pattern, argument)? else {
         return Ok(None);
     };
