@@ -48,6 +48,7 @@ pub mod FailureTaskLemmas
 pub mod WalkLemmas
 pub mod FirstFitLemmas
 pub mod KeyLemmas
+pub mod SameLemmas
 pub mod TextLemmas
 pub mod MacroLemmas
 pub mod UnfitLemmas

@@ -4,6 +4,7 @@ ghost use Rattle.mbe.specs.Bindings as spec;
 ghost use Rattle.mbe.specs.Bindings.{value_put, with_round};
 ghost use Rattle.mbe.specs.Bound.{standing_for, values_of};
 
+use crate::same::is_same;
 use mbe_rules::MetaVarKind;
 use std::alloc::{AllocError, Global};
 use std::mem;
@@ -122,23 +123,12 @@ impl<'a> Bindings<'a> {
         *self.bound.allocator()
     }
 
-    // Where a name stands: mostly first.
-    #[inline(always)]
+    // Where a name stands.
     fn position(&self, name: &Symbol) -> Option<usize>
         ensures { result ≡ place_among name.now self.now.bound.items }
     {
-        match self.bound.first() {
-            Some(first) if *name == *first.name => Some(0),
-            _ => self.place_among_all(name),
-        }
-    }
-
-    // The same, however many names there are.
-    fn place_among_all(&self, name: &Symbol) -> Option<usize>
-        ensures { result ≡ place_among name.now self.now.bound.items }
-    {
         for (i, bound) in self.bound.iter().enumerate() {
-            if *name == *bound.name {
+            if is_same(name, bound.name) {
                 return Some(i);
             }
         }
@@ -160,7 +150,7 @@ impl<'a> Bindings<'a> {
     pub(crate) fn is_alone(&self, name: &Symbol) -> bool
         ensures { result ≡ true → (b : spec.Binding) × (map_of self.now ≡ (name.now, b) ∷ []) }
     {
-        self.bound.len() == 1 && *name == *self.bound[0].name
+        self.bound.len() == 1 && is_same(name, self.bound[0].name)
     }
 
     /// What the one name that stands for something stood for, which this takes the place of.

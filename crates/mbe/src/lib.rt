@@ -20,6 +20,7 @@ mod matcher;
 mod place;
 mod putting;
 mod rounds;
+mod same;
 mod threads;
 mod transcriber;
 mod uses;
