@@ -1,5 +1,6 @@
 mod UnitLemmas
 mod WordLemmas
+pub mod NameLemmas
 mod TakingLemmas
 mod ChoiceLemmas
 mod OperatorLemmas

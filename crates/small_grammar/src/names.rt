@@ -34,12 +34,27 @@ const OF_EIGHT: [&str; 3] = ["continue", "abstract", "override"];
 
 const PATH_WORDS: [&str; 4] = ["self", "Self", "super", "crate"];
 
+// Whether a text is this word. Most others differ in their first byte, which is seen at once.
+#[tactic(auto, using(crate::proofs::NameLemmas::other_start))]
+fn is_same(text: &str, known: &str) -> bool
+    ensures { result ≡ same_text text.now known.now }
+{
+    if let Some((here, _)) = text.as_bytes().split_first() {
+        if let Some((there, _)) = known.as_bytes().split_first() {
+            if *here != *there {
+                return false;
+            }
+        }
+    }
+    text == known
+}
+
 // Whether the text is one of these.
 fn is_among(texts: &[&str], text: &str) -> bool
     ensures { result ≡ list_any (λ t. same_text text.now t.now) texts.now }
 {
     for known in texts {
-        if text == *known {
+        if is_same(text, *known) {
             return true;
         }
     }
