@@ -146,8 +146,8 @@ fn is_name(ident: &Ident) -> bool
 pub(crate) fn name<'a>(trees: &TtIter<'a>) -> Option<TtIter<'a>>
     ensures { result ≡ token_at a_name trees.now }
 {
-    let (ident, rest) = trees.first_ident()?;
-    if is_name(&ident) { Some(rest) } else { None }
+    let (ident, rest) = trees.lent_ident()?;
+    if is_name(ident) { Some(rest) } else { None }
 }
 
 // Whether a visibility may be restricted to this alone.

@@ -22,8 +22,8 @@ fn has_text(ident: &Ident, text: &str) -> bool
 pub(crate) fn word<'a>(trees: &TtIter<'a>, text: &str) -> Option<TtIter<'a>>
     ensures { result ≡ token_at (a_word text.now) trees.now }
 {
-    let (ident, rest) = trees.first_ident()?;
-    if has_text(&ident, text) {
+    let (ident, rest) = trees.lent_ident()?;
+    if has_text(ident, text) {
         Some(rest)
     } else {
         None
