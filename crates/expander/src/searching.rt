@@ -270,8 +270,9 @@ pub(crate) fn expand_piece<G: FragmentGrammar>(
     if quiet {
         return Ok(unchanged(alloc));
     }
+    let steps = Vec::with_capacity(alloc, tree.token_trees().len())?;
     let mut out = Building {
-        steps: Vec::new(alloc),
+        steps,
         faults: Vec::new(alloc),
         finds: Vec::new(alloc),
     };

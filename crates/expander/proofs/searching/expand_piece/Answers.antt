@@ -15,7 +15,7 @@ returns-in_err-search-clause-tokens g c = λ e.
 pub returns-clause-outcome : goal.returns-clause-outcome
 returns-clause-outcome g c =
     piece_parts (numbered_world (world (g.G.FragmentGrammar.answer c.args.grammar.now) c.args.scope.now.edition)) (scope_in c.args.scope.now) c.args.depth c.args.tree.now.inner
-    _ c.search.new.out c.new.ensures.items c.new-2.ensures.items c.new-3.ensures.items (rw c.iter-2.ensures at c.in_ok-search.ensures.adds)
+    _ c.search.new.out c.in_ok-steps.ensures.items c.new.ensures.items c.new-2.ensures.items (rw c.iter-2.ensures at c.in_ok-search.ensures.adds)
 
 pub returns-then-quiet-clause-outcome : goal.returns-then-quiet-clause-outcome
 returns-then-quiet-clause-outcome g c =
