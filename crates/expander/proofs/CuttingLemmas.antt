@@ -2,6 +2,7 @@
 use Rattle.std.proofs.Common.{◌≡◌, ◌≢◌, ◌<◌, ◌≤◌, List, [], ◌∷◌, refl, sym, ap, ◌∙◌, arith, Bool, true, false, if◌then◌else◌}
 use Rattle.tt_data.specs.Forest.{Forest, empty, leaf, group, joined, size}
 use Rattle.tt_data.specs.Flat.{joined-empty}
+use Rattle.tt.specs.FirstTrees.{first_group, first_leaf}
 use Rattle.tt_data.specs.declared.delimiter.Delimiter.{Delimiter}
 use Rattle.tt_data.specs.declared.leaf.Leaf.{Leaf}
 use Rattle.expander.specs.Pieces.{cut, cut_from, ends_piece, put_together}
@@ -175,3 +176,21 @@ all_alone (group d inner rest) begun is_open =
 -- each piece is one piece: no tree of it but the last ends one
 pub cut_alone : (f : Forest) → All IsCutAlone (cut f)
 cut_alone f = all_alone f empty (λ more. refl)
+
+-- ---- the tree that comes next
+
+pub a_leaf : (f : Forest) (x : Leaf × Forest) → first_leaf f ≡ Some x → f ≡ leaf x.0 x.1
+a_leaf empty x e = absurd (cc e)
+a_leaf (group d inner rest) x e = absurd (cc e)
+a_leaf (leaf l rest) x e = let i : (let y : Leaf × Forest = (l, rest) in y) ≡ x = cc in ap (λ (y : Leaf × Forest). leaf y.0 y.1) i
+
+pub a_group : (f : Forest) (x : Delimiter × Forest × Forest) → first_group f ≡ Some x → f ≡ group x.0 x.1 x.2
+a_group empty x e = absurd (cc e)
+a_group (leaf l rest) x e = absurd (cc e)
+a_group (group d inner rest) x e =
+    let i : (let y : Delimiter × Forest × Forest = (d, inner, rest) in y) ≡ x = cc in ap (λ (y : Delimiter × Forest × Forest). group y.0 y.1 y.2) i
+
+pub no_tree : (begun f : Forest) → first_leaf f ≡ None → first_group f ≡ None → PassesTree begun f f None
+no_tree begun empty e g = (refl, refl)
+no_tree begun (leaf l rest) e g = absurd (cc e)
+no_tree begun (group d inner rest) e g = absurd (cc g)

@@ -113,10 +113,13 @@ fn pass_tree<'a>(rest: &mut TtIter<'a>, begun: &TtIter<'_>) -> Option<bool>
     ensures next { PassesTree begun.now rest.old rest.new result }
     ensures always { PassesAlways begun.now rest.old rest.new result }
 {
-    match rest.next()? {
-        TtElement::Leaf(leaf) => Some(ends_statement(&leaf)),
-        TtElement::Subtree(subtree, _) => Some(ends_piece(begun, subtree.delimiter)),
+    if let Some((leaf, behind)) = rest.lent_leaf() {
+        *rest = behind;
+        return Some(ends_statement(leaf));
     }
+    let (brackets, _inside, behind) = rest.first_group()?;
+    *rest = behind;
+    Some(ends_piece(begun, brackets))
 }
 
 /// The next piece, or `None` where nothing is left. The iterator goes on to what follows the piece.
