@@ -3,7 +3,6 @@ use Rattle.std.proofs.Common.{◌≡◌, refl, sym, ap, ◌∙◌, ℕ, ◌<◌,
 use Rattle.std.proofs.lemmas.List.{get_or-map, length-map}
 use Rattle.std.proofs.lemmas.Slice.Eq.{bytes_eq-Decides}
 use Rattle.tt_data.specs.Forest.{Forest, empty, leaf, group}
-use Rattle.tt_data.specs.declared.leaf.Ident.{Ident}
 use Rattle.tt_data.specs.declared.leaf.Leaf.TheVariants as as_leaf
 use Rattle.tt.specs.FirstTrees.{first_ident}
 use Rattle.mbe_rules.specs.Items.{Items, done, item, word, puncts, lifetime, dollar, group_of, repetition}
@@ -12,7 +11,7 @@ use Rattle.mbe_rules.specs.Text.{same_text}
 use Rattle.mbe_rules.specs.declared.rules.Rule.{Rule}
 use Rattle.mbe.specs.Blocked.{is_blocked}
 use Rattle.mbe.specs.Keys.{first_key, key_from, keys_of, name_key}
-use Rattle.mbe.specs.Units.{a_name, place, same_unit, unit_at}
+use Rattle.mbe.specs.Units.{place}
 use Rattle.mbe.proofs.LentLemmas.{unnamed}
 
 pub no_name : (f : Forest) → first_ident f ≡ None → None ≡ name_key f
