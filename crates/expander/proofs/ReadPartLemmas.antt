@@ -215,17 +215,17 @@ stands_tokens s is text left are here =
 -- a piece more
 pub source_passed : (laws : PartLaws) (text : List ℕ) → IsUtf8 text → (s : Source) (at : ℕ) (left : List Token) (own now : List OwnPiece) (o : OwnPiece)
     → IsSource s → StandsFirst s (drop at text) left → o.start ≡ at → rc_value o.tree ≡ rc_value s.tree → now ≡ own ++ o ∷ [] → Passed text at left own
-    → Passed text (at + length s.bytes.items) (drop s.count left) now
+    → Passed text (at + length s.bytes) (drop s.count left) now
 source_passed laws text utf8 s at left own now o is stands start tree grown p =
-    let n : ℕ = length s.bytes.items in
+    let n : ℕ = length s.bytes in
     let k : ℕ = s.count in
     let f : Forest = map_spans (placed_on at) is.forest in
     let tokens : left ≡ is.tokens ++ drop k left = stands_tokens s is (drop at text) left p.here.tokens stands.here in
     let later : List PlacedToken = placed_from (at + n) (drop n (drop at text)) (drop k left) in
-    let placed : placed_from at (drop at text) left ≡ placed_from at s.bytes.items is.tokens ++ later =
+    let placed : placed_from at (drop at text) left ≡ placed_from at s.bytes is.tokens ++ later =
     ap (λ (bs : List ℕ). placed_from at bs left) stands.here.bytes
-    ∙ ap (placed_from at (s.bytes.items ++ drop n (drop at text))) tokens
-    ∙ placed_append at s.bytes.items (drop n (drop at text)) is.tokens (drop k left) is.long in
+    ∙ ap (placed_from at (s.bytes ++ drop n (drop at text))) tokens
+    ∙ placed_append at s.bytes (drop n (drop at text)) is.tokens (drop k left) is.long in
     let steps : steps_of (placed_from at (drop at text) left) ≡ map step (walk f) ++ steps_of later =
     ap steps_of placed ∙ is.reads at later (first_mark (at + n) (drop n (drop at text)) (drop k left) ∙ stands.mark) in
     record {
@@ -254,32 +254,32 @@ source_passed laws text utf8 s at left own now o is stands start tree grown p =
 
 -- a text that begins with the same bytes, before the same characters, has the same first tokens
 same_tokens : (laws : PartLaws) (s : Source) (bytes : List ℕ) (left : List Token) (n : ℕ) → IsUtf8 bytes → left ≡ tokens_of (chars bytes)
-    → n ≡ bytes_of (take s.count left) → s.bytes.items ≡ take n bytes → length s.bytes.items ≡ n → chars_ahead s.ahead ≡ take 2 (chars (drop n bytes))
+    → n ≡ bytes_of (take s.count left) → s.bytes ≡ take n bytes → length s.bytes ≡ n → chars_ahead s.ahead ≡ take 2 (chars (drop n bytes))
     → (text : List ℕ) → StandsHere s text → take s.count (tokens_of (chars text)) ≡ take s.count left
 same_tokens laws s bytes left n utf8 are n_is bytes_are size ahead text here =
     let sum : bytes_of (take s.count (tokens_of (chars bytes))) ≡ n = ap (λ (ts : List Token). bytes_of (take s.count ts)) (sym are) ∙ sym n_is in
-    let begins : take n text ≡ s.bytes.items =
-    ap (take n) here.bytes ∙ take-append-le n s.bytes.items (drop (length s.bytes.items) text) (omega (arith, size)) ∙ take_all n s.bytes.items (omega (arith, size)) in
+    let begins : take n text ≡ s.bytes =
+    ap (take n) here.bytes ∙ take-append-le n s.bytes (drop (length s.bytes) text) (omega (arith, size)) ∙ take_all n s.bytes (omega (arith, size)) in
     let two : take 2 (chars (drop n bytes)) ≡ take 2 (chars (drop n text)) =
     sym ahead ∙ sym here.ahead ∙ ap (λ (m : ℕ). take 2 (chars (drop m text))) size in
     laws.first s.count n bytes text utf8 sum (sym bytes_are ∙ sym begins) two ∙ ap (take s.count) (sym are)
 
 pub is_source : (laws : PartLaws) (s : Source) (bytes : List ℕ) (left : List Token) (n : ℕ) (f : Forest) (t : Top)
     → IsUtf8 bytes → left ≡ tokens_of (chars bytes) → s.count ≤ length left → 1 ≤ s.count → n ≤ length bytes → n ≡ bytes_of (take s.count left)
-    → s.bytes.items ≡ take n bytes → chars_ahead s.ahead ≡ take 2 (chars (drop n bytes)) → s.mark ≡ begins_with_mark (drop s.count left) → rc_value s.tree ≡ t
+    → s.bytes ≡ take n bytes → chars_ahead s.ahead ≡ take 2 (chars (drop n bytes)) → s.mark ≡ begins_with_mark (drop s.count left) → rc_value s.tree ≡ t
     → t.delimiter ≡ text_top → t.inner ≡ separated f → IsReading (part_steps 0 s.count bytes left) f → IsWhole t.inner → first_start t.inner ≡ 0
     → IsSource s × StandsFirst s bytes left
 is_source laws s bytes left n f t utf8 are within some fits n_is bytes_are ahead mark_is tree top inner read whole first =
     let tokens : List Token = take s.count left in
     let k : length tokens ≡ s.count = length-take-le s.count left within in
-    let m : length s.bytes.items ≡ n = ap length bytes_are ∙ length-take-le n bytes fits in
-    let long : bytes_of tokens ≡ length s.bytes.items = sym n_is ∙ sym m in
-    let stands_bytes : bytes ≡ s.bytes.items ++ drop (length s.bytes.items) bytes =
-    sym (take-append-drop n bytes) ∙ ap (λ (bs : List ℕ). bs ++ drop n bytes) (sym bytes_are) ∙ ap (λ (i : ℕ). s.bytes.items ++ drop i bytes) (sym m) in
+    let m : length s.bytes ≡ n = ap length bytes_are ∙ length-take-le n bytes fits in
+    let long : bytes_of tokens ≡ length s.bytes = sym n_is ∙ sym m in
+    let stands_bytes : bytes ≡ s.bytes ++ drop (length s.bytes) bytes =
+    sym (take-append-drop n bytes) ∙ ap (λ (bs : List ℕ). bs ++ drop n bytes) (sym bytes_are) ∙ ap (λ (i : ℕ). s.bytes ++ drop i bytes) (sym m) in
     let left_is : left ≡ tokens ++ drop s.count left = sym (take-append-drop s.count left) in
-    let equal_steps : (at : ℕ) (after : List PlacedToken) → starts_with_mark after ≡ s.mark → part_steps at s.count bytes left ≡ steps_before (placed_from at s.bytes.items tokens) after =
+    let equal_steps : (at : ℕ) (after : List PlacedToken) → starts_with_mark after ≡ s.mark → part_steps at s.count bytes left ≡ steps_before (placed_from at s.bytes tokens) after =
     λ at after follows. ap (λ (i : ℕ). part_steps at i bytes left) (sym k)
-    ∙ laws.equal at bytes s.bytes.items (drop (length s.bytes.items) bytes) left tokens (drop s.count left) after stands_bytes left_is long (follows ∙ mark_is) in (
+    ∙ laws.equal at bytes s.bytes (drop (length s.bytes) bytes) left tokens (drop s.count left) after stands_bytes left_is long (follows ∙ mark_is) in (
       record {
         forest = f;
         tokens = tokens;
@@ -288,7 +288,7 @@ is_source laws s bytes left n f t utf8 are within some fits n_is bytes_are ahead
         long = long;
         same = same_tokens laws s bytes left n utf8 are n_is bytes_are m ahead;
         reads = λ at after follows.
-            laws.tokens (placed_from at s.bytes.items tokens) after
+            laws.tokens (placed_from at s.bytes tokens) after
             ∙ ap (λ (ss : List TextStep). ss ++ steps_of after) (sym (equal_steps at after follows) ∙ laws.elsewhere at s.count bytes left f read);
         whole = subst IsWhole inner whole;
         at_first = ap first_start (sym inner) ∙ first;
@@ -320,7 +320,7 @@ one_more left more t e =
 
 pub piece_passed : (laws : PartLaws) (text : List ℕ) → IsUtf8 text → (s : Source) (at : ℕ) (left : List Token) (own now : List OwnPiece)
     → (m : Option ℕ) → IsSourceHere (drop at text) left s → AddsPiece at s m own now → Passed text at left own
-    → Passed text (at + length s.bytes.items) (drop s.count left) now
+    → Passed text (at + length s.bytes) (drop s.count left) now
 piece_passed laws text utf8 s at left own now m is adds p =
     source_passed laws text utf8 s at left own now adds.piece is.right is.stands adds.start adds.tree adds.items p
 

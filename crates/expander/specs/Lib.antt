@@ -62,3 +62,4 @@ pub mod Spots
 pub mod Steps
 pub mod CommandTurns
 pub mod HeldParts
+pub mod Words

@@ -50,7 +50,7 @@ AreMet held own = All (λ (o : OwnPiece). IsMet held o.met (rc_value o.tree)) ow
 
 -- a piece with these bytes, before this text, with so many tokens, before these, and with this tree
 pub record KeepsSource (word behind : List ℕ) (count : ℕ) (after : List Token) (t : Top) (s : Source) : Type 0 where
-  pub bytes : s.bytes.items ≡ word
+  pub bytes : s.bytes ≡ word
   pub ahead : chars_ahead s.ahead ≡ take 2 (chars behind)
   pub count_is : s.count ≡ count
   pub mark : s.mark ≡ begins_with_mark after

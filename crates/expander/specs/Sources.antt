@@ -49,8 +49,8 @@ chars_ahead a = one_ahead a.first (one_ahead a.second [])
 
 -- the bytes of a piece stand first in a text, before the characters that were ahead
 pub record StandsHere (s : Source) (text : List ℕ) : Type 0 where
-  pub bytes : text ≡ s.bytes.items ++ drop (length s.bytes.items) text
-  pub ahead : take 2 (chars (drop (length s.bytes.items) text)) ≡ chars_ahead s.ahead
+  pub bytes : text ≡ s.bytes ++ drop (length s.bytes) text
+  pub ahead : take 2 (chars (drop (length s.bytes) text)) ≡ chars_ahead s.ahead
 
 -- where a piece stands first in a text its tokens are the text's first, and they are read as one whole piece wherever
 -- they stand, where a punct follows as it did
@@ -59,10 +59,10 @@ pub record IsSource (s : Source) : Type 0 where
   pub tokens : List Token
   pub count : length tokens ≡ s.count
   pub some : 1 ≤ s.count
-  pub long : bytes_of tokens ≡ length s.bytes.items
+  pub long : bytes_of tokens ≡ length s.bytes
   pub same : (text : List ℕ) → StandsHere s text → take s.count (tokens_of (chars text)) ≡ tokens
   pub reads : (at : ℕ) (after : List PlacedToken) → starts_with_mark after ≡ s.mark
-      → steps_of (placed_from at s.bytes.items tokens ++ after) ≡ map step (walk (map_spans (placed_on at) forest)) ++ steps_of after
+      → steps_of (placed_from at s.bytes tokens ++ after) ≡ map step (walk (map_spans (placed_on at) forest)) ++ steps_of after
   pub whole : IsWhole (separated forest)
   pub at_first : first_start (separated forest) ≡ 0
   pub tree : rc_value s.tree ≡ own_top (separated forest)

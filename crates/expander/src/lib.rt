@@ -38,6 +38,7 @@ mod starts;
 mod taking;
 mod walk;
 mod watched;
+mod word;
 
 pub use bridge::{ReadFault, ReadFaultKind};
 pub use commands::{Answer, Command, replay};

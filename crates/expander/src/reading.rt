@@ -8,6 +8,7 @@ ghost use Rattle.bridge.specs.Parts.{part_steps};
 ghost use Rattle.expander.specs.PieceReading.{AddsPiece, AreMade, AreMet, AreTheirs, IsBlank, IsLastPiece, IsMet, IsReadPiece, IsSourceHere, KeepsSource, Passed};
 ghost use Rattle.expander.specs.ReadPieces.{IsReadInPieces};
 ghost use Rattle.expander.specs.Sources.{AreListed, AreSources, bytes_of, chars_ahead};
+ghost use Rattle.expander.specs.Words.{HoldsText};
 ghost use Rattle.expander.specs.declared.read_pieces.ReadPieces.TheVariants.{Pieces};
 
 use crate::own_pieces::OwnPiece;
@@ -17,6 +18,7 @@ use crate::piece_end::piece_end;
 use crate::pieces::{Shape, set_apart, shape_of};
 use crate::seeking::{Seeker, seek_source};
 use crate::sources::{Ahead, Source, Sources, ahead_at};
+use crate::word::{Word, Words};
 use bridge::{Names, Read, begins_with_mark, read_part};
 use rustc_lexer::{Token, TokenKind, laws};
 use std::alloc::{AllocError, Global};
@@ -95,15 +97,14 @@ fn read_piece(
 // A piece with what it was read from, and what it was read as.
 fn source_of(
     alloc: Global,
-    word: &[u8],
+    bytes: Word,
     ahead: Ahead,
     count: usize,
     after: &[Token],
     tree: TopSubtree,
 ) -> Result<Rc<Source>, AllocError>
-    ensures { (behind : List ℕ) → chars_ahead ahead ≡ take 2 (chars behind) → IfOk result (λ q. KeepsSource word.now behind count after.now tree (rc_value q)) }
+    ensures { (behind : List ℕ) → chars_ahead ahead ≡ take 2 (chars behind) → IfOk result (λ q. KeepsSource bytes behind count after.now tree (rc_value q)) }
 {
-    let bytes = Vec::from_slice(alloc, word)?;
     let mark = begins_with_mark(after);
     let tree = match Rc::new(alloc, OwnTree::new(tree)) {
         Ok(tree) => tree,
@@ -126,12 +127,14 @@ fn source_of(
 fn read_source(
     alloc: Global,
     names: &mut Names,
+    words: &Words,
     text: &str,
     at: u32,
     tokens: &[Token],
 ) -> Result<Option<Rc<Source>>, TtFault>
     requires small { length text.now < 2 ^ 32 }
     requires tokens { AreTokensFrom text.now at tokens.now }
+    requires words { HoldsText words.now text.now }
     ensures found { IfOk result (λ found. IfSome found (λ q. IsSourceHere (drop at text.now) tokens.now (rc_value q))) }
     ensures memory { IsOkUnless result fault.Memory }
 {
@@ -158,7 +161,8 @@ fn read_source(
     let Some((Shape::Whole, tree)) = read_piece(alloc, names, text, at, tokens, count)? else {
         return Ok(None);
     };
-    let source = source_of(alloc, word, ahead, count, after, tree)?;
+    let bytes = words.word(alloc, at as usize, word)?;
+    let source = source_of(alloc, bytes, ahead, count, after, tree)?;
     Ok(Some(source))
 }
 
@@ -200,6 +204,17 @@ fn read_last(
     Ok(Some(last))
 }
 
+// The words of a text of which nothing is held are held together.
+fn words_of(alloc: Global, text: &str, held: &Sources) -> Result<Words, AllocError>
+    ensures { IfOk result (λ words. HoldsText words text.now) }
+{
+    if held.list.is_empty() {
+        Words::together(alloc, text)
+    } else {
+        Ok(Words::apart())
+    }
+}
+
 // What was passed of a text.
 #[derive(Drop)]
 struct Passing {
@@ -212,6 +227,7 @@ struct Passing {
 fn next_source(
     alloc: Global,
     names: &mut Names,
+    words: &Words,
     held: &Sources,
     seeker: &mut Seeker,
     text: &str,
@@ -220,6 +236,7 @@ fn next_source(
 ) -> Result<Option<(Rc<Source>, Option<usize>)>, TtFault>
     requires small { length text.now < 2 ^ 32 }
     requires tokens { AreTokensFrom text.now at tokens.now }
+    requires words { HoldsText words.now text.now }
     requires right { AreSources held.now }
     ensures found { IfOk result (λ found. IfSome found (λ p. IsSourceHere (drop at text.now) tokens.now (rc_value p.0))) }
     ensures met { IfOk result (λ found. IfSome found (λ p. IsMet held.now p.1 (rc_value (rc_value p.0).tree))) }
@@ -229,7 +246,7 @@ fn next_source(
     if let Some((i, source)) = seek_source(held, seeker, rest, tokens)? {
         return Ok(Some((source, Some(i))));
     }
-    match read_source(alloc, names, text, at, tokens)? {
+    match read_source(alloc, names, words, text, at, tokens)? {
         Some(source) => Ok(Some((source, None))),
         None => Ok(None),
     }
@@ -275,6 +292,7 @@ fn behind<'a>(tokens: &'a [Token], at: u32, len: usize, count: usize) -> Option<
 fn pass_next(
     alloc: Global,
     names: &mut Names,
+    words: &Words,
     held: &Sources,
     now: &mut Passing,
     text: &str,
@@ -283,6 +301,7 @@ fn pass_next(
 ) -> Result<Option<(usize, usize)>, TtFault>
     requires small { length text.now < 2 ^ 32 }
     requires tokens { AreTokensFrom text.now at left.now }
+    requires words { HoldsText words.now text.now }
     requires right { AreSources held.now }
     ensures passed { IfOk result (λ size. IfSome size (λ n. Passed text.now at left.now now.old.own.items → Passed text.now (at + n.0) (drop n.1 left.now) now.new.own.items)) }
     ensures listed { IfOk result (λ size. IfSome size (λ n. AreListed now.old.list.items → AreListed now.new.list.items)) }
@@ -305,7 +324,7 @@ fn pass_next(
         return Ok(Some((token.len as usize, 1)));
     }
     let seeker = &mut now.seeker;
-    let Some((source, met)) = next_source(alloc, names, held, seeker, text, at, left)? else {
+    let Some((source, met)) = next_source(alloc, names, words, held, seeker, text, at, left)? else {
         return Ok(None);
     };
     let bytes = source.as_ref().bytes.len();
@@ -362,6 +381,7 @@ pub(crate) fn read_by_pieces(
 {
     laws::tokens_begin();
     let mut names = Names::new(alloc);
+    let words = words_of(alloc, text, held)?;
     let mut now = Passing {
         own: Vec::new(alloc),
         list: Vec::new(alloc),
@@ -370,7 +390,9 @@ pub(crate) fn read_by_pieces(
     let mut at: u32 = 0;
     let mut left = tokens;
     while !left.is_empty() {
-        let Some((len, count)) = pass_next(alloc, &mut names, held, &mut now, text, at, left)?
+        let Some((len, count)) = pass_next(
+            alloc, &mut names, &words, held, &mut now, text, at, left,
+        )?
         else {
             return with_last(alloc, &mut names, now, text, at, left);
         };

@@ -7,6 +7,7 @@ ghost use Rattle.expander.specs.PieceReading.{IsSourceHere};
 ghost use Rattle.expander.specs.Sources.{AreSources, IsHeldAt, StandsFirst, chars_ahead};
 
 use crate::own_tree::OwnTree;
+use crate::word::Word;
 use bridge::begins_with_mark;
 use rustc_lexer::Token;
 use std::alloc::Global;
@@ -24,7 +25,7 @@ pub(crate) struct Ahead {
 #[derive(Drop)]
 pub(crate) struct Source {
     /// The bytes of its tokens.
-    pub bytes: Vec<u8>,
+    pub bytes: Word,
     pub ahead: Ahead,
     /// How many tokens it has, blanks between them included.
     pub count: usize,

@@ -28,7 +28,7 @@ returns-clause-passed c = λ p.
       next = c.next_token.ensures.others;
       first = c.first_tokens.ensures.bytes;
     } in
-    let b : c.len-bytes.result ≡ length (rc_value c.in-Some-2.source).bytes.items = search rules in
+    let b : c.len-bytes.result ≡ length (rc_value c.in-Some-2.source).bytes = search rules in
     let s : c.as_ref-2.result.now ≡ rc_value c.in-Some-2.source = search rules in
     rw (b, s) (piece_passed parts c.args.text.now c.utf8.text (rc_value c.in-Some-2.source) c.args.at c.args.left.now c.args.now.now.own.items _ c.in-Some-2.met (rw c.in-Some-2.is at c.in_ok-source.ensures.found) c.in_ok-pass.ensures.own p)
 

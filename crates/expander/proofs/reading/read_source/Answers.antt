@@ -25,6 +25,6 @@ returns-clause-found c =
     let fits : n ≤ length text = rw (sym rest) c.in-Some-word_of.ensures.word.1 in
     let ahead : chars_ahead c.in-Some-word_of.ahead ≡ take 2 (chars (drop n text)) =
     c.in-Some-word_of.ensures.ahead ∙ ap (λ (bs : List ℕ). take 2 (chars (drop n bs))) rest in
-    source_here parts text c.in-Some-word_of.word.now c.args.tokens.now _ _ c.in-Some.count n c.in-Some-Whole-default.tree _ utf8 c.requires.tokens.tokens
-    c.in-Some.ensures some fits c.in-Some-bytes_in.ensures word c.split_at.ensures.front c.split_at.ensures.back
+    source_here parts text c.in_ok-bytes.bytes c.args.tokens.now _ _ c.in-Some.count n c.in-Some-Whole-default.tree _ utf8 c.requires.tokens.tokens
+    c.in-Some.ensures some fits c.in-Some-bytes_in.ensures (c.in_ok-bytes.ensures ∙ word) c.split_at.ensures.front c.split_at.ensures.back
     (c.in_ok-source.ensures (drop n text) ahead) (rw c.in-Some-Whole-default.field-0-0-is at (rw c.in-Some-Whole-default.is at c.in_ok-tree.ensures.read))
