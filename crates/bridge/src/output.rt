@@ -341,18 +341,40 @@ pub(crate) struct Saved {
     waiting: Option<Span>,
 }
 
-/// Nothing printed.
-pub(crate) fn nothing(alloc: Global) -> Output
+// Nothing printed, by an empty text and no places.
+fn nothing_in(alloc: Global, text: String, tokens: Places) -> Output
+    requires text { string_bytes text ≡ [] }
+    requires tokens { tokens ≡ [] }
     ensures { state_of result ≡ nothing_put }
 {
     Output {
-        text: String::new(alloc),
-        tokens: Places::new(alloc),
+        text,
+        tokens,
         left_out: Vec::new(alloc),
         depth: 0,
         last: None,
         waiting: None,
     }
+}
+
+/// Nothing printed.
+pub(crate) fn nothing(alloc: Global) -> Output
+    ensures { state_of result ≡ nothing_put }
+{
+    nothing_in(alloc, String::new(alloc), Places::new(alloc))
+}
+
+/// The same, with room for so many bytes and so many parts.
+pub(crate) fn nothing_with_room(
+    alloc: Global,
+    bytes: usize,
+    parts: usize,
+) -> Result<Output, AllocError>
+    ensures { IfOk result (λ out. state_of out ≡ nothing_put) }
+{
+    let text = String::with_capacity(alloc, bytes)?;
+    let tokens = Places::with_room(alloc, parts)?;
+    Ok(nothing_in(alloc, text, tokens))
 }
 
 /// How much is printed now.

@@ -66,6 +66,20 @@ impl Places {
         }
     }
 
+    /// No place, with room for so many runs of held ones.
+    pub fn with_room(alloc: Global, runs: usize) -> Result<Places, AllocError>
+        ensures { IfOk result (λ places. places ≡ []) }
+    {
+        let runs = Vec::with_capacity(alloc, runs)?;
+        Ok(Places {
+            parts: Parts {
+                runs,
+                held: 0,
+                own: Vec::new(alloc),
+            },
+        })
+    }
+
     /// How many there are.
     pub fn len(&self) -> usize
         ensures { result ≡ length self.now }

@@ -6,12 +6,14 @@ ghost use Rattle.tt.specs.Views.{forest};
 ghost use Rattle.tt_data.specs.fault.TtFault.TheVariants.{Memory};
 
 use crate::held_spans::Shift;
-use crate::output::{Output, end, end_with_spans, nothing, put_step, restore, save};
+use crate::output::{
+    Output, end, end_with_spans, nothing, nothing_with_room, put_step, restore, save,
+};
 use crate::places::Places;
 use crate::printed_part::{PrintedPart, as_part, put_behind, put_shifted, takes_parts};
 use crate::trees_put::put_trees;
 use crate::walk_step::WalkStep;
-use std::alloc::Global;
+use std::alloc::{AllocError, Global};
 use std::marker::Model;
 use tt::TokenTreesView;
 use tt_data::{Span, TtFault};
@@ -72,6 +74,14 @@ impl Printer {
         Printer {
             out: nothing(alloc),
         }
+    }
+
+    /// The same, with room for a text of so many bytes, and for so many parts.
+    pub fn with_room(alloc: Global, bytes: usize, parts: usize) -> Result<Printer, AllocError>
+        ensures { IfOk result (λ printer. HasPut printer []) }
+    {
+        let out = nothing_with_room(alloc, bytes, parts)?;
+        Ok(Printer { out })
     }
 
     /// Prints these trees behind what was put before. A quote that is last waits for the next call.

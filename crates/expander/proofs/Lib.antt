@@ -60,6 +60,7 @@ mod TakenLemmas
 mod TakenReplyLemmas
 mod SelfMatchLemmas
 mod MetLemmas
+mod MetPieceLemmas
 mod OwnLemmas
 mod PlacingLemmas
 mod PartLemmas

@@ -8,7 +8,7 @@ use Rattle.std.proofs.lemmas.List.Elements.{All-cons, All-head, All-nil, All-tai
 use Rattle.tt.specs.Tops.{Top}
 use Rattle.tt_data.specs.Forest.{Forest}
 use Rattle.tt_data.specs.declared.edition.Edition.{Edition}
-use Rattle.expander.specs.ByTrees.{known_in, numbers_in, own_top}
+use Rattle.expander.specs.ByTrees.{AreInTable, known_in, numbers_in, own_top}
 use Rattle.expander.specs.Count.{same_forest}
 use Rattle.expander.specs.Definitions.{Definition}
 use Rattle.expander.specs.Expansion.{World}
@@ -32,6 +32,7 @@ nothing m plains definitions none sources links world edition depth = record {
   numbers = record { within = λ t n e. absurd (no n (sym (empty t) ∙ e)); apart = λ t u n e f. absurd (no n (sym (empty t) ∙ e)) };
   have = λ t. ap is_some (empty t) ∙ ap (λ (ks : List (Rc Known Global)). list_any (same_forest t) (map (λ k. inner_of (rc_value k)) ks)) (sym definitions);
   table = λ t k e. absurd (no_known k (sym (none t) ∙ e));
+  listed = subst (AreInTable m.by_tree) (sym definitions) (All-nil (λ (k : Rc Known Global). known_in m.by_tree (rc_value k).tree ≡ Some (rc_value k)));
   read = λ t k e. absurd (no_known k (sym (none t) ∙ e));
   right = subst (λ (qs : List (Rc Plain Global)). All (λ q. IsRight world depth (numbers_in m.by_tree) (rc_value q)) qs) (sym plains)
       (All-nil (λ q. IsRight world depth (numbers_in m.by_tree) (rc_value q)));

@@ -4,11 +4,12 @@ use Rattle.std.specs.Prelude.{◌||◌, is_some}
 use Rattle.std.specs.List.{list_any}
 use Rattle.std.specs.Rc.{rc_value}
 use Rattle.std.specs.declared.rc.Rc.{Rc}
+use Rattle.std.proofs.lemmas.List.Elements.{All-append, All-cons, All-head, All-nil, All-tail}
 use Rattle.bridge.specs.ReadText.{text_top}
 use Rattle.tt.specs.Tops.{Top}
 use Rattle.tt_data.specs.Forest.{Forest}
 use Rattle.tt_data.specs.declared.edition.Edition.{Edition}
-use Rattle.expander.specs.ByTrees.{AllRead, IsTable, known_in, numbers_in, own_top}
+use Rattle.expander.specs.ByTrees.{AllRead, AreInTable, IsTable, known_in, numbers_in, own_top}
 use Rattle.expander.specs.Count.{same_forest}
 use Rattle.expander.specs.Editions.{IsRead}
 use Rattle.expander.specs.Links.{definition_tops}
@@ -34,11 +35,21 @@ mapped_more : {X Y : Type 0} (f : X → Y) (xs : List X) (x : X) → map f (xs +
 mapped_more f [] x = refl
 mapped_more f (y ∷ xs) x = ap (λ ys. f y ∷ ys) (mapped_more f xs x)
 
+-- one more is pushed
+pub trees_pushed : (xs ys : List (Rc Known Global)) (rc : Rc Known Global) (k : Known) → ys ≡ xs ++ rc ∷ [] → rc.value ≡ k
+    → map (λ x. inner_of (rc_value x)) ys ≡ map (λ x. inner_of (rc_value x)) xs ++ k.tree.inner ∷ []
+trees_pushed xs ys rc k pushed is =
+    ap (map (λ x. inner_of (rc_value x))) pushed ∙ mapped_more (λ x. inner_of (rc_value x)) xs rc
+    ∙ ap (λ (x : Known). map (λ x. inner_of (rc_value x)) xs ++ x.tree.inner ∷ []) is
+
 -- the table once a tree has a definition
 abbrev pub Puts : ByTree → ByTree → Top → Known → Type 0
 Puts old new tree k = (t : Top) → known_in new t ≡ cond (same_top tree t) (Some k) (known_in old t)
 
-module _ (equal : (f g : Forest) → (same_forest f g ≡ true) ↔ (f ≡ g)) (same : (a b : Top) → same_top a b ≡ true → a ≡ b) where
+module _ (equal : (f g : Forest) → (same_forest f g ≡ true) ↔ (f ≡ g)) (alike : (a b : Top) → (same_top a b ≡ true) ↔ (a ≡ b)) where
+  same : (a b : Top) → same_top a b ≡ true → a ≡ b
+  same a b q = (alike a b).0 q
+
   table_more : (old new : ByTree) (tree : Top) (k : Known) → Puts old new tree k → IsTable old → k.tree ≡ tree → IsTable new
   table_more old new tree k puts is here t x e = go (same_top tree t) refl (sym (puts t) ∙ e)
     where
@@ -60,6 +71,31 @@ module _ (equal : (f g : Forest) → (same_forest f g ≡ true) ↔ (f ≡ g)) (
       go true = refl
       go false = refl
 
+  -- each definition is still the one that its tree has, and so is one more
+  module _ (old new : ByTree) (stays : (t : Top) (x : Known) → known_in old t ≡ Some x → known_in new t ≡ Some x) where
+    all_stay : (ks : List (Rc Known Global)) → AreInTable old ks → AreInTable new ks
+    all_stay [] h = All-nil (λ (x : Rc Known Global). known_in new (rc_value x).tree ≡ Some (rc_value x))
+    all_stay (k ∷ ks) h =
+        All-cons (λ (x : Rc Known Global). known_in new (rc_value x).tree ≡ Some (rc_value x)) k ks
+        (stays (rc_value k).tree (rc_value k) (All-head (λ (x : Rc Known Global). known_in old (rc_value x).tree ≡ Some (rc_value x)) k ks h))
+        (all_stay ks (All-tail (λ (x : Rc Known Global). known_in old (rc_value x).tree ≡ Some (rc_value x)) k ks h))
+
+    listed_more : (ks : List (Rc Known Global)) (k : Rc Known Global) → AreInTable old ks → known_in new (rc_value k).tree ≡ Some (rc_value k) → AreInTable new (ks ++ k ∷ [])
+    listed_more ks k h one =
+        All-append (λ (x : Rc Known Global). known_in new (rc_value x).tree ≡ Some (rc_value x)) ks (k ∷ []) (all_stay ks h)
+        (All-cons (λ (x : Rc Known Global). known_in new (rc_value x).tree ≡ Some (rc_value x)) k [] one
+        (All-nil (λ (x : Rc Known Global). known_in new (rc_value x).tree ≡ Some (rc_value x))))
+
+  -- definitions stay where a tree that had none gets one
+  known_stays : (old new : ByTree) (tree : Top) (k : Known) → Puts old new tree k → known_in old tree ≡ None → (t : Top) (x : Known) → known_in old t ≡ Some x → known_in new t ≡ Some x
+  known_stays old new tree k puts none t x e = puts t ∙ go (same_top tree t) refl
+    where
+      go : (b : Bool) → same_top tree t ≡ b → cond b (Some k) (known_in old t) ≡ Some x
+      go false q = e
+      go true q =
+          let both : None ≡ Some x = sym none ∙ ap (known_in old) (same tree t q) ∙ e in
+          cc
+
   -- numbers stay
   pub numbers_grow : (old new : ByTree) (tree : Top) (k : Known) → Puts old new tree k → tree.delimiter ≡ text_top → numbers_in old tree.inner ≡ None
       → (u : Forest) (n : ℕ) → numbers_in old u ≡ Some n → numbers_in new u ≡ Some n
@@ -76,7 +112,17 @@ module _ (equal : (f g : Forest) → (same_forest f g ≡ true) ↔ (f ≡ g)) (
 
   module _ (given : ℕ) (old : ByTree) (known trees : List Forest) (had : HaveNumbers (numbers_in old) known) (now next : code.Numbering) (has : HasNumbered given old known trees now)
       (tree : Top) (top : tree.delimiter ≡ text_top) (k : Known) (k_is : k.tree ≡ tree)
-      (trees_more : map (λ x. inner_of (rc_value x)) next.definitions.items ≡ map (λ x. inner_of (rc_value x)) now.definitions.items ++ k.tree.inner ∷ []) where
+      (rc : Rc Known Global) (pushed : next.definitions.items ≡ now.definitions.items ++ rc ∷ []) (rc_is : rc.value ≡ k) where
+    trees_more : map (λ x. inner_of (rc_value x)) next.definitions.items ≡ map (λ x. inner_of (rc_value x)) now.definitions.items ++ k.tree.inner ∷ []
+    trees_more = trees_pushed now.definitions.items next.definitions.items rc k pushed rc_is
+
+    listed_now : ((t : Top) (x : Known) → known_in now.by_tree t ≡ Some x → known_in next.by_tree t ≡ Some x) → known_in next.by_tree tree ≡ Some k
+        → AreInTable next.by_tree next.definitions.items
+    listed_now stays here =
+        let one : known_in next.by_tree (rc_value rc).tree ≡ Some (rc_value rc) =
+        subst (λ (x : Known). known_in next.by_tree x.tree ≡ Some x) (sym rc_is) (ap (known_in next.by_tree) k_is ∙ here) in
+        subst (AreInTable next.by_tree) (sym pushed) (listed_more now.by_tree next.by_tree stays now.definitions.items rc has.listed one)
+
     trees_now : map (λ x. inner_of (rc_value x)) next.definitions.items ≡ trees ++ tree.inner ∷ []
     trees_now = trees_more ∙ ap (λ (ts : List Forest). ts ++ k.tree.inner ∷ []) has.trees_are ∙ ap (λ (t : Top). trees ++ t.inner ∷ []) k_is
 
@@ -88,9 +134,15 @@ module _ (equal : (f g : Forest) → (same_forest f g ≡ true) ↔ (f ≡ g)) (
           (same_number equal given (numbers_in old) known trees now.given (numbers_in now.by_tree) had has.numbers tree.inner k.number (has_number now.by_tree tree k top here)));
       trees_are = trees_now;
       table = subst IsTable (sym table_is) has.table;
+      listed = listed_now (λ t x e. ap (λ (m : ByTree). known_in m t) table_is ∙ e) (ap (λ (m : ByTree). known_in m tree) table_is ∙ here);
     }
 
     module _ (puts : Puts now.by_tree next.by_tree tree k) (none : known_in now.by_tree tree ≡ None) where
+      listed_put : AreInTable next.by_tree next.definitions.items
+      listed_put =
+          listed_now (known_stays now.by_tree next.by_tree tree k puts none)
+          (puts tree ∙ ap (λ b. cond b (Some k) (known_in now.by_tree tree)) ((alike tree tree).1 refl))
+
       -- the last text had an equal one
       pub numbered_old : next.given ≡ now.given → known_in old tree ≡ Some k → HasNumbered given old known (trees ++ tree.inner ∷ []) next
       numbered_old given_is there = record {
@@ -99,6 +151,7 @@ module _ (equal : (f g : Forest) → (same_forest f g ≡ true) ↔ (f ≡ g)) (
             (numbers_more now.by_tree next.by_tree tree k puts top) (has_none now.by_tree tree top none) (has_number old tree k top there));
         trees_are = trees_now;
         table = table_more now.by_tree next.by_tree tree k puts has.table k_is;
+        listed = listed_put;
       }
 
       -- it is new
@@ -111,6 +164,7 @@ module _ (equal : (f g : Forest) → (same_forest f g ≡ true) ↔ (f ≡ g)) (
                 (numbers_more now.by_tree next.by_tree tree k puts top) (has_none now.by_tree tree top none) (has_none old tree top nowhere) n);
             trees_are = trees_now;
             table = table_more now.by_tree next.by_tree tree k puts has.table k_is;
+            listed = listed_put;
           }
 
   -- no number is left for a new one
@@ -124,13 +178,6 @@ module _ (equal : (f g : Forest) → (same_forest f g ≡ true) ↔ (f ≡ g)) (
       needed_more equal known trees tree.inner ∙ ap (λ (b : Bool). needed known trees + cond (b || list_any (same_forest tree.inner) trees) 0 1) one
       ∙ ap (λ (b : Bool). needed known trees + cond (false || b) 0 1) two in
       omega (arith, has.numbers.given_is, more, many)
-
--- one more is pushed
-pub trees_pushed : (xs ys : List (Rc Known Global)) (rc : Rc Known Global) (k : Known) → ys ≡ xs ++ rc ∷ [] → rc.value ≡ k
-    → map (λ x. inner_of (rc_value x)) ys ≡ map (λ x. inner_of (rc_value x)) xs ++ k.tree.inner ∷ []
-trees_pushed xs ys rc k pushed is =
-    ap (map (λ x. inner_of (rc_value x))) pushed ∙ mapped_more (λ x. inner_of (rc_value x)) xs rc
-    ∙ ap (λ (x : Known). map (λ x. inner_of (rc_value x)) xs ++ x.tree.inner ∷ []) is
 
 pub tops_pushed : (xs ys : List (Rc Known Global)) (rc : Rc Known Global) (k : Known) → ys ≡ xs ++ rc ∷ [] → rc.value ≡ k
     → definition_tops ys ≡ definition_tops xs ++ k.tree ∷ []

@@ -11,7 +11,7 @@ use Rattle.tt.specs.Tops.{Top}
 use Rattle.tt_data.specs.Forest.{Forest}
 use Rattle.tt_data.specs.declared.edition.Edition.{Edition}
 use Rattle.expander.specs.Agreement.{scope_of}
-use Rattle.expander.specs.ByTrees.{AllRead, known_in, numbers_in, own_top}
+use Rattle.expander.specs.ByTrees.{AllRead, AreInTable, known_in, numbers_in, own_top}
 use Rattle.expander.specs.Count.{same_forest}
 use Rattle.expander.specs.Definitions.{Definition, definition_of, or_else}
 use Rattle.expander.specs.Editions.{IsRead}
@@ -102,7 +102,7 @@ right_grows w depth one two more (q ∷ qs) h =
     let held : IsHeld w depth (numbered_by two) piece =
     All-head (IsHeld w depth (numbered_by two)) piece []
     (more_held w depth (numbered_by one) (numbered_by two) more (piece ∷ []) (All-cons (IsHeld w depth (numbered_by one)) piece [] here.held (All-nil (IsHeld w depth (numbered_by one))))) in
-    All-cons (λ x. IsRight w depth two (rc_value x)) q qs (record { top = here.top; parts = here.parts; held = held; part = here.part })
+    All-cons (λ x. IsRight w depth two (rc_value x)) q qs (record { top = here.top; parts = here.parts; held = held; plain = here.plain; part = here.part })
     (right_grows w depth one two more qs (All-tail (λ x. IsRight w depth one (rc_value x)) q qs h))
 
 -- the numbers of both texts
@@ -132,12 +132,13 @@ module _ (equal : (f g : Forest) → (same_forest f g ≡ true) ↔ (f ≡ g)) (
       ∙ ap (λ (p : Parts). record { tree = tree; outcome = expansion (numbered_world w) (scope_of p.finds) depth None tree }) parts
       ∙ ap (λ (o : Outcome Numbered). record { tree = tree; outcome = o }) (expansion_by_finds (numbered_world w) (numbered_scope before) depth None tree)
 
-  pub piece_right : HasItsPart q → IsRight w depth numbers q
-  piece_right part = record {
+  pub piece_right : is_some (definition_of tree) ≡ false → HasItsPart q → IsRight w depth numbers q
+  piece_right plain part = record {
     top = ap (λ (t : Top). t.delimiter) top;
     parts = ap (λ (t : Forest). parts_for t q.outcome) trees_same ∙ parts ∙ ap (λ (p : HeldPiece). parts_of p.outcome) (sym piece_found);
     held = subst (IsHeld w depth (numbered_by numbers)) (sym piece_found)
         (fresh_is_held equal w depth (numbered_by numbers) (numbered_scope before) (met_scope equal (numbered_by numbers) before known) tree);
+    plain = ap (λ (t : Forest). is_some (definition_of t)) trees_same ∙ plain;
     part = part;
   }
 
@@ -206,8 +207,8 @@ module _ (grammar : Grammar) (edition : Edition) (depth : ℕ) (old : Memory) (p
       found : piece_of W depth (rc_value q) ≡ record { tree = r; outcome = E }
       found = piece_found equal W depth (numbers_in now.taken.numbers.by_tree) before has.known r (rc_value q) top parts_now
 
-      right_now : IsRight W depth (numbers_in now.taken.numbers.by_tree) (rc_value q)
-      right_now = piece_right equal W depth (numbers_in now.taken.numbers.by_tree) before has.known r (rc_value q) top parts_now part
+      right_now : is_some (definition_of r) ≡ false → IsRight W depth (numbers_in now.taken.numbers.by_tree) (rc_value q)
+      right_now plain = piece_right equal W depth (numbers_in now.taken.numbers.by_tree) before has.known r (rc_value q) top parts_now plain part
 
       put_steps : resolved_steps start now.scope.starts (parts_for (tree_of (rc_value q)).inner (rc_value q).outcome).steps ≡ output_of (present k)
       put_steps =
@@ -229,8 +230,8 @@ module _ (grammar : Grammar) (edition : Edition) (depth : ℕ) (old : Memory) (p
           go true = refl
           go false = refl
 
-      pub one_plain : Has before trees (done ++ k ∷ []) next
-      one_plain = record {
+      pub one_plain : is_some (definition_of r) ≡ false → Has before trees (done ++ k ∷ []) next
+      one_plain plain = record {
         met = subst (λ s. HasMet s before) (sym scope_is) has.met;
         known = subst (λ n. All (IsMet (numbered_by (numbers_in n.by_tree))) before) (sym numbers_are) has.known;
         read = subst AreRead (sym scope_is) has.read;
@@ -245,7 +246,7 @@ module _ (grammar : Grammar) (edition : Edition) (depth : ℕ) (old : Memory) (p
               ∙ sym (filter_map_more held_of done k);
           right = subst (λ n. All (λ q. IsRight W depth (numbers_in n.by_tree) (rc_value q)) next.taken.plains.items) (sym numbers_are)
               (subst (All (λ q. IsRight W depth (numbers_in now.taken.numbers.by_tree) (rc_value q))) (sym plains_are)
-              (all_more (λ q. IsRight W depth (numbers_in now.taken.numbers.by_tree) (rc_value q)) now.taken.plains.items q has.taken.right right_now));
+              (all_more (λ q. IsRight W depth (numbers_in now.taken.numbers.by_tree) (rc_value q)) now.taken.plains.items q has.taken.right (right_now plain)));
           steps = subst (HasOutput next.taken.steps)
               (ap (λ l. flat_map output_of (map present done) ++ l) put_steps ∙ sym (flat_present output_of done k))
               (steps (flat_map output_of (map present done)) has.taken.steps);
@@ -262,7 +263,7 @@ module _ (grammar : Grammar) (edition : Edition) (depth : ℕ) (old : Memory) (p
           subst (λ (o : Option Definition).
           Has (with_met W depth (number_by (numbers_in next.taken.numbers.by_tree)) piece o before) (trees ++ cond (is_some o) (r ∷ []) [])
           (done ++ kept_of W depth (number_by (numbers_in next.taken.numbers.by_tree)) before piece o ∷ []) next) (sym (none_of (definition_of r) plain))
-          (subst (λ ts. Has before ts (done ++ k ∷ []) next) (sym (append-nil trees)) one_plain)
+          (subst (λ ts. Has before ts (done ++ k ∷ []) next) (sym (append-nil trees)) (one_plain plain))
         where
           none_of : (o : Option Definition) → is_some o ≡ false → o ≡ None
           none_of None e = refl
@@ -349,6 +350,7 @@ none_taken grammar edition depth old right now given definitions none plains ste
     };
     trees_are = ap (map (λ k. inner_of (rc_value k))) definitions;
     table = λ t k e. absurd (no_known k (sym (none t) ∙ e));
+    listed = subst (AreInTable now.numbers.by_tree) (sym definitions) (All-nil (λ (k : Rc Known Global). known_in now.numbers.by_tree (rc_value k).tree ≡ Some (rc_value k)));
   };
   table_read = λ t k e. absurd (no_known k (sym (none t) ∙ e));
   plains = ap (map (λ q. piece_of (world grammar edition) depth (rc_value q))) plains;

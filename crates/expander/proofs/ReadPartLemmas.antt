@@ -24,7 +24,7 @@ use Rattle.bridge.specs.Text.{is_punct}
 use Rattle.bridge.specs.TokenSteps.{steps_of, text_reading}
 use Rattle.bridge.specs.declared.fault.ReadFault.{ReadFault}
 use Rattle.expander.specs.ByTrees.{own_top}
-use Rattle.expander.specs.OwnPieces.{AreOwn, own_of, own_shown}
+use Rattle.expander.specs.OwnPieces.{AreOwn, own_of, own_shown, tree_at}
 use Rattle.bridge.specs.Parts.{begins_with_mark, part_steps, placed_on, starts_with_mark, steps_before}
 use Rattle.expander.specs.PieceReading.{AddsPiece, AreMet, IsBlank, IsLastPiece, IsMet, IsReadPiece, IsSourceHere, KeepsSource, Passed}
 use Rattle.expander.specs.Pieces.{cut, first_start, pieces, relative, separated}
@@ -193,15 +193,15 @@ abbrev pub AtFirstLaw : Type 0
 AtFirstLaw = (f : Forest) → first_start f ≡ 0 → relative f ≡ f
 
 -- a piece in the text, whose tree is in places of its own
-own_at : SameTreeLaw → AtFirstLaw → (p : Forest) (at : ℕ) (o : OwnPiece) → p ≢ empty → first_start p ≡ 0 → o.start ≡ at → rc_value o.tree ≡ own_top p
+own_at : SameTreeLaw → AtFirstLaw → (p : Forest) (at : ℕ) (o : OwnPiece) → p ≢ empty → first_start p ≡ 0 → o.start ≡ at → tree_at o ≡ own_top p
     → own_shown o ≡ own_of (map_spans (placed_on at) p)
 own_at same_tree at_first p at o some first start tree =
-    let tree_is : rc_value o.tree ≡ own_top (relative (map_spans (placed_on at) p)) = tree ∙ ap own_top (sym (same_tree at p ∙ at_first p first)) in
+    let tree_is : tree_at o ≡ own_top (relative (map_spans (placed_on at) p)) = tree ∙ ap own_top (sym (same_tree at p ∙ at_first p first)) in
     let start_is : o.start ≡ first_start (map_spans (placed_on at) p) = start ∙ sym (first_placed at p some first) in
     λ i. (start_is i, tree_is i)
 
 -- one that is held
-own_piece : (laws : PartLaws) (s : Source) (is : IsSource s) (at : ℕ) (o : OwnPiece) → o.start ≡ at → rc_value o.tree ≡ rc_value s.tree
+own_piece : (laws : PartLaws) (s : Source) (is : IsSource s) (at : ℕ) (o : OwnPiece) → o.start ≡ at → tree_at o ≡ rc_value s.tree
     → own_shown o ≡ own_of (map_spans (placed_on at) (separated is.forest))
 own_piece laws s is at o start tree =
     own_at laws.same_tree laws.at_first (separated is.forest) at o (some_whole (separated is.forest) is.whole) is.at_first start (tree ∙ is.tree)
@@ -214,7 +214,7 @@ stands_tokens s is text left are here =
 
 -- a piece more
 pub source_passed : (laws : PartLaws) (text : List ℕ) → IsUtf8 text → (s : Source) (at : ℕ) (left : List Token) (own now : List OwnPiece) (o : OwnPiece)
-    → IsSource s → StandsFirst s (drop at text) left → o.start ≡ at → rc_value o.tree ≡ rc_value s.tree → now ≡ own ++ o ∷ [] → Passed text at left own
+    → IsSource s → StandsFirst s (drop at text) left → o.start ≡ at → tree_at o ≡ rc_value s.tree → now ≡ own ++ o ∷ [] → Passed text at left own
     → Passed text (at + length s.bytes) (drop s.count left) now
 source_passed laws text utf8 s at left own now o is stands start tree grown p =
     let n : ℕ = length s.bytes in
@@ -328,9 +328,9 @@ piece_passed laws text utf8 s at left own now m is adds p =
 pub piece_met : (held : Sources) (s : Source) (at : ℕ) (m : Option ℕ) (own now : List OwnPiece) → AddsPiece at s m own now → IsMet held m (rc_value s.tree)
     → AreMet held own → AreMet held now
 piece_met held s at m own now adds is all =
-    let one : IsMet held adds.piece.met (rc_value adds.piece.tree) = rw (adds.met, adds.tree) is in
-    subst (AreMet held) (sym adds.items) (All-append (λ (o : OwnPiece). IsMet held o.met (rc_value o.tree)) own (adds.piece ∷ []) all
-    (All-cons (λ (o : OwnPiece). IsMet held o.met (rc_value o.tree)) adds.piece [] one (All-nil (λ (o : OwnPiece). IsMet held o.met (rc_value o.tree)))))
+    let one : IsMet held adds.piece.met (tree_at adds.piece) = rw (adds.met, adds.tree) is in
+    subst (AreMet held) (sym adds.items) (All-append (λ (o : OwnPiece). IsMet held o.met (tree_at o)) own (adds.piece ∷ []) all
+    (All-cons (λ (o : OwnPiece). IsMet held o.met (tree_at o)) adds.piece [] one (All-nil (λ (o : OwnPiece). IsMet held o.met (tree_at o)))))
 
 -- fewer tokens are left behind a piece
 pub piece_shortens : (text : List ℕ) (at : ℕ) (left : List Token) (s : Source) → AreTokensFrom text at left → IsSourceHere (drop at text) left s

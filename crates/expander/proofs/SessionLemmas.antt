@@ -78,6 +78,7 @@ module _ (equal : (f g : Forest) → (same_forest f g ≡ true) ↔ (f ≡ g)) (
     numbers = numbers_now equal old.given (numbers_in old.by_tree) (trees_of old) (definition_trees ps) now.numbers.given (numbers_in now.numbers.by_tree) t.numbers.numbers;
     have = subst (HaveNumbers (numbers_in now.numbers.by_tree)) (sym t.numbers.trees_are) t.numbers.numbers.have;
     table = t.numbers.table;
+    listed = t.numbers.listed;
     read = t.table_read;
     right = t.right;
     sources = are;

@@ -5,7 +5,7 @@ use Rattle.bridge.specs.ReadText.{text_top}
 use Rattle.tt_data.specs.Forest.{Forest}
 use Rattle.tt_data.specs.declared.edition.Edition.{Edition}
 use Rattle.expander.specs.Agreement.{scope_of}
-use Rattle.expander.specs.ByTrees.{AllRead, IsTable, numbers_in}
+use Rattle.expander.specs.ByTrees.{AllRead, AreInTable, IsTable, numbers_in}
 use Rattle.expander.specs.Count.{Looked}
 use Rattle.expander.specs.Definitions.{Definition}
 use Rattle.expander.specs.Expansion.{World, expansion}
@@ -15,7 +15,7 @@ use Rattle.expander.specs.Links.{AreLinked, definition_tops, plain_tops}
 use Rattle.expander.specs.NumberedTexts.{inner_of}
 use Rattle.expander.specs.Numbering.{AreNumbers, HaveNumbers, numbered_by}
 use Rattle.expander.specs.Outcomes.{parts_for, parts_of}
-use Rattle.expander.specs.Plains.{finds_of, tree_of}
+use Rattle.expander.specs.Plains.{IsPlain, finds_of, tree_of}
 use Rattle.expander.specs.Reuse.{HeldPiece, IsHeld}
 use Rattle.expander.specs.Sources.{AreSources}
 use Rattle.expander.specs.declared.memory.Memory as code
@@ -38,11 +38,12 @@ module _ (world : World Definition) (depth : ℕ) where
   abbrev pub piece_of : Plain → HeldPiece
   piece_of q = record { tree = (tree_of q).inner; outcome = expansion (numbered_world world) (scope_of (finds_of q)) depth None (tree_of q).inner }
 
-  -- a plain piece has a tree of its own, and is what its expansion is
+  -- a plain piece has a tree of its own, which is no definition, and is what its expansion is
   pub record IsRight (numbers : Forest → Option ℕ) (q : Plain) : Type 0 where
     pub top : (tree_of q).delimiter ≡ text_top
     pub parts : parts_for (tree_of q).inner q.outcome ≡ parts_of (piece_of q).outcome
     pub held : IsHeld world depth (numbered_by numbers) (piece_of q)
+    pub plain : IsPlain q
     -- what it prints by itself, where that is held
     pub part : HasItsPart q
 
@@ -53,6 +54,7 @@ module _ (world : World Definition) (depth : ℕ) where
     pub numbers : AreNumbers m.given (numbers_in m.by_tree)
     pub have : HaveNumbers (numbers_in m.by_tree) (trees_of m)
     pub table : IsTable m.by_tree
+    pub listed : AreInTable m.by_tree m.definitions.items
     pub read : AllRead edition m.by_tree
     pub right : All (λ q. IsRight (numbers_in m.by_tree) (rc_value q)) m.plains.items
     pub sources : AreSources m.sources

@@ -2,7 +2,7 @@
 use Rattle.std.specs.Prelude.{◌≡◌, ℕ, List, map}
 use Rattle.std.specs.Rc.{rc_value}
 use Rattle.tt_data.specs.Forest.{Forest}
-use Rattle.expander.specs.ByTrees.{IsTable, numbers_in}
+use Rattle.expander.specs.ByTrees.{AreInTable, IsTable, numbers_in}
 use Rattle.expander.specs.Numbering.{AreNumbered}
 use Rattle.expander.specs.declared.by_tree.ByTree.{ByTree}
 use Rattle.expander.specs.declared.numbered.Known.{Known}
@@ -17,3 +17,4 @@ pub record HasNumbered (old_given : ℕ) (old : ByTree) (known trees : List Fore
   pub numbers : AreNumbered old_given (numbers_in old) known trees now.given (numbers_in now.by_tree)
   pub trees_are : map (λ k. inner_of (rc_value k)) now.definitions.items ≡ trees
   pub table : IsTable now.by_tree
+  pub listed : AreInTable now.by_tree now.definitions.items

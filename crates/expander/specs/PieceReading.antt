@@ -37,7 +37,7 @@ pub record IsLastPiece (text : List ℕ) (at : ℕ) (left : List Token) (o : Own
   pub opens : IsOpen (separated forest)
   pub at_first : first_start (separated forest) ≡ 0
   pub start : o.start ≡ at
-  pub tree : rc_value o.tree ≡ own_top (separated forest)
+  pub tree : tree_at o ≡ own_top (separated forest)
   pub met : o.met ≡ None
 
 -- a piece is the held one of this number, if one is named: its tree is that one's
@@ -46,7 +46,7 @@ IsMet held met tree = IfSome met (λ i. (s : Source) × IsHeldAt held i s × (rc
 
 -- each piece is the held one that it names, if it names one
 abbrev pub AreMet : Sources → List OwnPiece → Type 0
-AreMet held own = All (λ (o : OwnPiece). IsMet held o.met (rc_value o.tree)) own
+AreMet held own = All (λ (o : OwnPiece). IsMet held o.met (tree_at o)) own
 
 -- a piece with these bytes, before this text, with so many tokens, before these, and with this tree
 pub record KeepsSource (word behind : List ℕ) (count : ℕ) (after : List Token) (t : Top) (s : Source) : Type 0 where
@@ -69,7 +69,7 @@ IsBlank kind = (t : PlacedToken) (more : List PlacedToken) → steps_of_sort (so
 pub record AddsPiece (at : ℕ) (s : Source) (m : Option ℕ) (old new : List OwnPiece) : Type 0 where
   pub piece : OwnPiece
   pub start : piece.start ≡ at
-  pub tree : rc_value piece.tree ≡ rc_value s.tree
+  pub tree : tree_at piece ≡ rc_value s.tree
   pub met : piece.met ≡ m
   pub items : new ≡ old ++ piece ∷ []
 

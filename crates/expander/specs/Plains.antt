@@ -1,11 +1,12 @@
 -- Plain pieces as the code holds them.
-use Rattle.std.specs.Prelude.{◌≡◌, ℕ, ◌<◌, Bool, true, ◌&&◌, IfSome, List, Option, length, map, slice_get}
+use Rattle.std.specs.Prelude.{◌≡◌, ℕ, ◌<◌, Bool, true, false, ◌&&◌, IfSome, List, Option, is_some, length, map, slice_get}
 use Rattle.std.specs.List.{list_any}
 use Rattle.std.specs.Global.{Global}
 use Rattle.std.specs.Rc.{rc_value}
 use Rattle.std.specs.declared.rc.Rc.{Rc}
 use Rattle.tt.specs.Tops.{Top}
 use Rattle.expander.specs.Chains.{AreChained}
+use Rattle.expander.specs.Definitions.{definition_of}
 use Rattle.expander.specs.Held.{Numbered}
 use Rattle.expander.specs.Outcomes.{find_of}
 use Rattle.expander.specs.Reuse.{agrees}
@@ -16,6 +17,10 @@ use Rattle.expander.specs.declared.plain.Plain.{Plain}
 -- the tree of a piece
 abbrev pub tree_of : Plain → Top
 tree_of q = q.tree.value
+
+-- it is no definition
+abbrev pub IsPlain : Plain → Type 0
+IsPlain q = is_some (definition_of (tree_of q).inner) ≡ false
 
 -- what its names found
 abbrev pub finds_of : Plain → List (List ℕ × Option Numbered)

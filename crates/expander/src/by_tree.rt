@@ -1,5 +1,5 @@
 // Definitions by their trees.
-ghost use Rattle.std.specs.Prelude.{◌≡◌, OnOk, None, Some, if◌then◌else◌, option_map};
+ghost use Rattle.std.specs.Prelude.{◌≡◌, IfOk, OnOk, None, Some, if◌then◌else◌, option_map};
 ghost use Rattle.tt.specs.Tops.{Top};
 ghost use Rattle.expander.specs.ByTrees.{known_in};
 ghost use Rattle.expander.specs.SameTops.{same_top};
@@ -25,6 +25,15 @@ impl ByTree {
         ByTree {
             map: HashMap::new(alloc),
         }
+    }
+
+    /// The same, with room for so many.
+    #[tactic(auto, unfolding(crate::specs::ByTrees::known_in))]
+    pub(crate) fn with_room(alloc: Global, count: usize) -> Result<Self, AllocError>
+        ensures { IfOk result (λ table. (t : Top) → known_in table t ≡ None) }
+    {
+        let map = HashMap::with_capacity(alloc, count)?;
+        Ok(ByTree { map })
     }
 
     /// What the tree has.

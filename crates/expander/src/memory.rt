@@ -1,12 +1,15 @@
 // What a session holds of the last text that was read.
-ghost use Rattle.std.specs.Prelude.{◌≡◌, ℕ, [], IfSome, None, Some, slice_get};
+ghost use Rattle.std.specs.Prelude.{◌≡◌, ℕ, [], All, IfSome, None, Some, is_some, slice_get};
 ghost use Rattle.std.specs.Rc.{rc_value};
 ghost use Rattle.tt_data.specs.declared.edition.Edition.{Edition};
-ghost use Rattle.expander.specs.Definitions.{Definition};
+ghost use Rattle.expander.specs.ByTrees.{AreInTable, known_in};
+ghost use Rattle.expander.specs.Definitions.{Definition, definition_of};
 ghost use Rattle.expander.specs.Expansion.{World};
-ghost use Rattle.expander.specs.Links.{AreLinked, definition_tops, plain_tops};
+ghost use Rattle.expander.specs.Links.{AreLinked, definition_tops, linked, plain_tops};
 ghost use Rattle.expander.specs.Memories.{IsMemory, held_in, trees_of};
+ghost use Rattle.expander.specs.OwnPieces.{tree_at};
 ghost use Rattle.expander.specs.PieceReading.{IsMet};
+ghost use Rattle.expander.specs.Plains.{IsPlain};
 
 use crate::by_tree::ByTree;
 use crate::links::Link;
@@ -16,6 +19,9 @@ use crate::plain::Plain;
 use crate::sources::Sources;
 use std::alloc::Global;
 use std::rc::Rc;
+
+// How many held pieces are looked at ahead.
+const RUN: usize = 32;
 
 /// What is held of a text that was read.
 #[derive(Drop)]
@@ -65,11 +71,11 @@ impl Memory {
         }
     }
 
-    /// The index of the plain piece that a piece was, where it was met.
-    pub(crate) fn plain_at(&self, own: &OwnPiece) -> Option<usize>
+    // What a piece was, where it was met.
+    fn link_of(&self, own: &OwnPiece) -> Option<Link>
         requires linked { AreLinked (plain_tops self.now.plains.items) (definition_tops self.now.definitions.items) self.now.sources.list.items self.now.links.items }
-        requires met { IsMet self.now.sources own.now.met (rc_value own.now.tree) }
-        ensures { IfSome result (λ i. slice_get (plain_tops self.now.plains.items) i ≡ Some (rc_value own.now.tree)) }
+        requires met { IsMet self.now.sources own.now.met (tree_at own.now) }
+        ensures { IfSome result (λ link. linked (plain_tops self.now.plains.items) (definition_tops self.now.definitions.items) link ≡ Some (tree_at own.now)) }
     {
         let Some(at) = own.met else {
             return None;
@@ -77,9 +83,76 @@ impl Memory {
         let Some(link) = link_at(self.links.as_slice(), at) else {
             return None;
         };
-        match link {
-            Link::Plain(i) => Some(i),
-            Link::Definition(_) => None,
+        Some(link)
+    }
+
+    /// The index of the plain piece that a piece was, where it was met.
+    pub(crate) fn plain_at(&self, own: &OwnPiece) -> Option<usize>
+        requires linked { AreLinked (plain_tops self.now.plains.items) (definition_tops self.now.definitions.items) self.now.sources.list.items self.now.links.items }
+        requires met { IsMet self.now.sources own.now.met (tree_at own.now) }
+        ensures { IfSome result (λ i. slice_get (plain_tops self.now.plains.items) i ≡ Some (tree_at own.now)) }
+    {
+        match self.link_of(own) {
+            Some(Link::Plain(i)) => Some(i),
+            _ => None,
+        }
+    }
+
+    /// The definition that a piece was, where it was met.
+    pub(crate) fn definition_at(&self, own: &OwnPiece) -> Option<&Rc<Known>>
+        requires linked { AreLinked (plain_tops self.now.plains.items) (definition_tops self.now.definitions.items) self.now.sources.list.items self.now.links.items }
+        requires met { IsMet self.now.sources own.now.met (tree_at own.now) }
+        requires listed { AreInTable self.now.by_tree self.now.definitions.items }
+        ensures { IfSome result (λ k. known_in self.now.by_tree (tree_at own.now) ≡ Some k.now.value) }
+    {
+        match self.link_of(own) {
+            Some(Link::Definition(i)) => self.definitions.get(i),
+            _ => None,
+        }
+    }
+
+    /// Looks at the held pieces that may be met next, where this one is the first of a run of them, so that the processor
+    /// waits once for all that they have, and not at each. It tells whether there is a number of how much that is.
+    pub(crate) fn look_ahead(&self, own: &OwnPiece) -> bool {
+        let Some(at) = own.met else {
+            return true;
+        };
+        if at % RUN != 0 {
+            return true;
+        }
+        let end = at.saturating_add(RUN).min(self.links.len());
+        let mut sum: usize = 0;
+        for i in at..end {
+            let Some(more) = sum.checked_add(self.size_at(i)) else {
+                return false;
+            };
+            sum = more;
+        }
+        true
+    }
+
+    // How much there is of the piece that has this link: 0 where it is no plain one.
+    fn size_at(&self, at: usize) -> usize {
+        let Some(Link::Plain(i)) = link_at(self.links.as_slice(), at) else {
+            return 0;
+        };
+        match self.plains.get(i) {
+            Some(plain) => plain.as_ref().size(),
+            None => 0,
+        }
+    }
+
+    /// Whether a piece is a definition. The tree of one that was met is not looked at.
+    pub(crate) fn is_definition(&self, own: &OwnPiece) -> bool
+        requires linked { AreLinked (plain_tops self.now.plains.items) (definition_tops self.now.definitions.items) self.now.sources.list.items self.now.links.items }
+        requires met { IsMet self.now.sources own.now.met (tree_at own.now) }
+        requires plain { All (λ q. IsPlain (rc_value q)) self.now.plains.items }
+        ensures { result ≡ is_some (definition_of (tree_at own.now).inner) }
+    {
+        match self.link_of(own) {
+            Some(Link::Plain(_)) => false,
+            Some(Link::Definition(_)) => true,
+            None => own.tree.get().as_ref().is_definition(),
         }
     }
 }

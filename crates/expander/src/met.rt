@@ -22,24 +22,31 @@ pub(crate) struct Scope {
 }
 
 impl Scope {
-    ghost use Rattle.std.specs.Prelude.{◌≡◌, ◌∷◌, [], List, IfSome, OnOk, option_map};
+    ghost use Rattle.std.specs.Prelude.{◌≡◌, ◌∷◌, [], List, IfOk, IfSome, OnOk, option_map};
     ghost use Rattle.expander.specs.Editions.{IsRead};
     ghost use Rattle.expander.specs.Held.{Met};
     ghost use Rattle.expander.specs.MetTable.{AreRead, HasMet, scope_in};
     ghost use Rattle.expander.specs.Outcomes.{numbered_of_known};
 
-    /// No definition was met.
-    pub(crate) fn new(alloc: Global, edition: Edition) -> Self
-        ensures none { HasMet result [] }
-        ensures edition { result.edition ≡ edition }
-        ensures read { AreRead result }
+    /// No definition was met. There is room for so many.
+    pub(crate) fn with_room(
+        alloc: Global,
+        edition: Edition,
+        count: usize,
+    ) -> Result<Self, AllocError>
+        ensures none { IfOk result (λ scope. HasMet scope []) }
+        ensures edition { IfOk result (λ scope. scope.edition ≡ edition) }
+        ensures read { IfOk result AreRead }
     {
-        Scope {
+        let names = Names::with_room(alloc, count)?;
+        let known = Vec::with_capacity(alloc, count)?;
+        let starts = Starts::with_room(alloc, count)?;
+        Ok(Scope {
             edition,
-            names: Names::new(alloc),
-            known: Vec::new(alloc),
-            starts: Starts::new(alloc),
-        }
+            names,
+            known,
+            starts,
+        })
     }
 
     /// One more definition, which starts here: from now on its name finds it.

@@ -1,5 +1,5 @@
 // Values by name: the latest of each name is found.
-ghost use Rattle.std.specs.Prelude.{◌≡◌, ℕ, List, OnOk, OnErr, if◌then◌else◌};
+ghost use Rattle.std.specs.Prelude.{◌≡◌, ℕ, List, IfOk, OnOk, OnErr, if◌then◌else◌};
 ghost use Rattle.expander.specs.Names.{index_of};
 ghost use Rattle.small_grammar.specs.Text.{same_text};
 
@@ -14,14 +14,13 @@ pub(crate) struct Names {
 }
 
 impl Names {
-    /// No name stands for anything.
+    /// No name stands for anything. There is room for so many.
     #[tactic(auto, unfolding(crate::specs::Names::index_of))]
-    pub(crate) fn new(alloc: Global) -> Self
-        ensures { (name : List ℕ) → index_of result name ≡ None }
+    pub(crate) fn with_room(alloc: Global, count: usize) -> Result<Self, AllocError>
+        ensures { IfOk result (λ names. (name : List ℕ) → index_of names name ≡ None) }
     {
-        Names {
-            map: HashMap::new(alloc),
-        }
+        let map = HashMap::with_capacity(alloc, count)?;
+        Ok(Names { map })
     }
 
     /// The name stands for the value at this index from now on.

@@ -1,8 +1,8 @@
 // Numbers of the definitions of a text.
-ghost use Rattle.std.specs.Prelude.{◌≡◌, ◌≢◌, ℕ, ◌+◌, ◌≤◌, ◌^◌, ◌∷◌, [], ◌++◌, List, Some, Err, IfOk, OnOk, is_some, true};
+ghost use Rattle.std.specs.Prelude.{◌≡◌, ◌≢◌, ℕ, ◌+◌, ◌≤◌, ◌^◌, ◌∷◌, [], ◌++◌, List, Some, Err, IfOk, IfSome, OnOk, is_some, option_map, true};
 ghost use Rattle.bridge.specs.ReadText.{text_top};
 ghost use Rattle.tt_data.specs.Forest.{Forest};
-ghost use Rattle.expander.specs.ByTrees.{AllRead, IsTable, numbers_in};
+ghost use Rattle.expander.specs.ByTrees.{AllRead, IsTable, known_in, numbers_in};
 ghost use Rattle.expander.specs.Definitions.{definition_of};
 ghost use Rattle.expander.specs.Editions.{IsRead};
 ghost use Rattle.expander.specs.Links.{definition_tops};
@@ -82,16 +82,34 @@ fn next_known(
     }
 }
 
-/// Gives a definition of a text its number: that of an equal one before it or of the last text, or else the next.
+// The definition that a tree has, which need not be looked for where it is held.
+fn known_of<'a>(
+    old: &'a ByTree,
+    held: Option<&'a Rc<Known>>,
+    tree: &Rc<OwnTree>,
+) -> Option<&'a Rc<Known>>
+    requires { IfSome held (λ k. known_in old.now tree.now.value ≡ Some k.now.value) }
+    ensures { option_map (λ k. k.now.value) result ≡ known_in old.now tree.now.value }
+{
+    match held {
+        Some(known) => Some(known),
+        None => old.get(tree),
+    }
+}
+
+/// Gives a definition of a text its number: that of an equal one before it or of the last text, which may be known, or
+/// else the next.
 pub(crate) fn number(
     alloc: Global,
     edition: Edition,
     old: &ByTree,
     now: &mut Numbering,
     tree: Rc<OwnTree>,
+    held: Option<&Rc<Known>>,
 ) -> Result<Rc<Known>, Refusal>
     requires definition { is_some (definition_of tree.value.inner) ≡ true }
     requires top { tree.value.delimiter ≡ text_top }
+    requires held { IfSome held (λ k. known_in old.now tree.value ≡ Some k.now.value) }
     requires old_table { IsTable old.now }
     requires table { IsTable now.old.by_tree }
     ensures numbered { (given : ℕ) (known trees : List Forest) → HaveNumbers (numbers_in old.now) known → HasNumbered given old.now known trees now.old →
@@ -113,7 +131,7 @@ pub(crate) fn number(
         now.push(known.clone()?)?;
         return Ok(known);
     }
-    if let Some(known) = old.get(&tree) {
+    if let Some(known) = known_of(old, held, &tree) {
         let known = known.clone()?;
         now.put(tree, known.clone()?)?;
         return Ok(known);

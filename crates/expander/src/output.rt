@@ -27,15 +27,17 @@ pub(crate) struct PlacedSteps {
     nested: Vec<Fault>,
 }
 
-/// No step so far.
-pub(crate) fn no_steps(alloc: Global) -> PlacedSteps
-    ensures { HasOutput result [] }
+/// No step so far. There is room for a text of so many bytes, and for so many parts.
+pub(crate) fn no_steps(alloc: Global, bytes: usize, parts: usize) -> Result<PlacedSteps, AllocError>
+    ensures { IfOk result (λ steps. HasOutput steps []) }
 {
-    PlacedSteps {
-        printer: Printer::new(alloc),
-        places: Places::new(alloc),
+    let printer = Printer::with_room(alloc, bytes, parts)?;
+    let places = Places::with_room(alloc, parts)?;
+    Ok(PlacedSteps {
+        printer,
+        places,
         nested: Vec::new(alloc),
-    }
+    })
 }
 
 /// Adds one step.

@@ -1,17 +1,37 @@
 // The pieces of a text as trees of their own.
 ghost use Rattle.std.specs.Prelude.{◌≡◌, All, IfOk, IsOkUnless, None};
 ghost use Rattle.tt_data.specs.fault.TtFault.TheVariants as fault;
-ghost use Rattle.expander.specs.OwnPieces.{AreOwn, IsOwn};
+ghost use Rattle.expander.specs.OwnPieces.{AreOwn, IsOwn, tree_in};
 ghost use Rattle.expander.specs.Pieces.{cut};
 
 use crate::copies::again;
 use crate::own_places::{own_tree, start_of};
 use crate::own_tree::OwnTree;
 use crate::pieces::next_piece;
+use crate::sources::Source;
 use std::alloc::Global;
 use std::rc::Rc;
 use tt::TtIter;
 use tt_data::TtFault;
+
+/// The tree of a piece, alone or with what it was read from.
+#[derive(Drop)]
+pub(crate) enum PieceTree {
+    Alone(Rc<OwnTree>),
+    Source(Rc<Source>),
+}
+
+impl PieceTree {
+    /// The tree, which is not looked at.
+    pub(crate) fn get(&self) -> &Rc<OwnTree>
+        ensures { result.now.value ≡ tree_in self.now }
+    {
+        match self {
+            PieceTree::Alone(tree) => tree,
+            PieceTree::Source(source) => &source.as_ref().tree,
+        }
+    }
+}
 
 /// A piece in places of its own, and where it stands.
 #[derive(Drop)]
@@ -19,7 +39,7 @@ pub(crate) struct OwnPiece {
     /// Where its first token starts.
     pub start: u32,
     /// Its places are counted from there.
-    pub tree: Rc<OwnTree>,
+    pub tree: PieceTree,
     /// The number of the held piece that it was told by, if it was not read.
     pub met: Option<usize>,
 }
@@ -34,7 +54,7 @@ fn own_piece(alloc: Global, piece: &TtIter<'_>) -> Result<OwnPiece, TtFault>
     match Rc::new(alloc, OwnTree::new(tree)) {
         Ok(tree) => Ok(OwnPiece {
             start: start_of(piece),
-            tree,
+            tree: PieceTree::Alone(tree),
             met: None,
         }),
         Err(_) => Err(TtFault::Memory),

@@ -29,6 +29,17 @@ pub(crate) struct Plain {
     pub part: Option<HeldPart>,
 }
 
+impl Plain {
+    /// How many names it looked up, and how many tokens it prints by itself.
+    pub(crate) fn size(&self) -> usize {
+        let names = self.outcome.finds.len();
+        match &self.part {
+            Some(part) => names.saturating_add(part.printed.spans().len()),
+            None => names,
+        }
+    }
+}
+
 // Whether a name finds what it is held to find.
 fn finds_the_same(scope: &Scope, find: &Find) -> bool
     requires { AreRead scope.now }

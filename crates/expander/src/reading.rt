@@ -5,13 +5,14 @@ ghost use Rattle.rustc_lexer.specs.Lexing.{tokens_of};
 ghost use Rattle.rustc_lexer.specs.Standing.{AreTokensFrom};
 ghost use Rattle.tt_data.specs.fault.TtFault.TheVariants as fault;
 ghost use Rattle.bridge.specs.Parts.{part_steps};
+ghost use Rattle.expander.specs.OwnPieces.{tree_at};
 ghost use Rattle.expander.specs.PieceReading.{AddsPiece, AreMade, AreMet, AreTheirs, IsBlank, IsLastPiece, IsMet, IsReadPiece, IsSourceHere, KeepsSource, Passed};
 ghost use Rattle.expander.specs.ReadPieces.{IsReadInPieces};
 ghost use Rattle.expander.specs.Sources.{AreListed, AreSources, bytes_of, chars_ahead};
 ghost use Rattle.expander.specs.Words.{HoldsText};
 ghost use Rattle.expander.specs.declared.read_pieces.ReadPieces.TheVariants.{Pieces};
 
-use crate::own_pieces::OwnPiece;
+use crate::own_pieces::{OwnPiece, PieceTree};
 use crate::own_places::start_of;
 use crate::own_tree::OwnTree;
 use crate::piece_end::piece_end;
@@ -168,12 +169,12 @@ fn read_source(
 
 // A piece at this place that is none of the held ones.
 fn new_piece(alloc: Global, at: u32, tree: TopSubtree) -> Result<OwnPiece, AllocError>
-    ensures { IfOk result (λ o. (o.start ≡ at) × (rc_value o.tree ≡ tree) × (o.met ≡ None)) }
+    ensures { IfOk result (λ o. (o.start ≡ at) × (tree_at o ≡ tree) × (o.met ≡ None)) }
 {
     match Rc::new(alloc, OwnTree::new(tree)) {
         Ok(tree) => Ok(OwnPiece {
             start: at,
-            tree,
+            tree: PieceTree::Alone(tree),
             met: None,
         }),
         Err(e) => Err(AllocError::from(e)),
@@ -263,7 +264,7 @@ fn pass(
     ensures own { OnOk result (AddsPiece at (rc_value source) met own.old.items own.new.items) }
     ensures list { OnOk result (list.new.items ≡ list.old.items ++ source ∷ []) }
 {
-    let tree = source.as_ref().tree.clone()?;
+    let tree = PieceTree::Source(source.clone()?);
     own.push(OwnPiece {
         start: at,
         tree,
@@ -364,6 +365,21 @@ fn with_last(
     Ok(Some((own, Sources { list })))
 }
 
+// No piece was passed. There is room for one more than are held.
+fn nothing_passed(alloc: Global, held: &Sources) -> Result<Passing, AllocError>
+    ensures own { IfOk result (λ now. now.own.items ≡ []) }
+    ensures list { IfOk result (λ now. now.list.items ≡ []) }
+{
+    let room = held.list.len().saturating_add(1);
+    let own = Vec::with_capacity(alloc, room)?;
+    let list = Vec::with_capacity(alloc, room)?;
+    Ok(Passing {
+        own,
+        list,
+        seeker: Seeker::new(held),
+    })
+}
+
 /// The pieces of a text, and what is held of them: none where one of them cannot be read by itself.
 pub(crate) fn read_by_pieces(
     alloc: Global,
@@ -382,11 +398,7 @@ pub(crate) fn read_by_pieces(
     laws::tokens_begin();
     let mut names = Names::new(alloc);
     let words = words_of(alloc, text, held)?;
-    let mut now = Passing {
-        own: Vec::new(alloc),
-        list: Vec::new(alloc),
-        seeker: Seeker::new(held),
-    };
+    let mut now = nothing_passed(alloc, held)?;
     let mut at: u32 = 0;
     let mut left = tokens;
     while !left.is_empty() {

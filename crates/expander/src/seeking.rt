@@ -10,6 +10,9 @@ use rustc_lexer::Token;
 use std::rc::Rc;
 use tt_data::TtFault;
 
+// How many held pieces are looked at ahead.
+const RUN: usize = 32;
+
 // How many held pieces are tried at a place.
 const TRIED: usize = 16;
 
@@ -77,6 +80,31 @@ fn seek_far(
     Ok(None)
 }
 
+// How much there is of a held piece, by its tokens and its last byte.
+fn size_of(source: &Source) -> usize {
+    match source.bytes.as_slice().last() {
+        Some(last) => source.count.saturating_add(*last as usize),
+        None => source.count,
+    }
+}
+
+// Looks at the held pieces from this one on, where it is the first of a run of them, so that the processor waits once for
+// all that they have, and not at each. It tells whether there is a number of how much that is.
+fn look_ahead(held: &Sources, from: usize) -> bool {
+    if from % RUN != 0 {
+        return true;
+    }
+    let end = from.saturating_add(RUN).min(held.list.len());
+    let mut sum: usize = 0;
+    for i in from..end {
+        let Some(more) = sum.checked_add(size_of(held.list[i].as_ref())) else {
+            return false;
+        };
+        sum = more;
+    }
+    true
+}
+
 /// A held piece that stands first in a text with these tokens, and its place: those behind the one that was met last
 /// are tried, then those behind the last leap, and where none was met at the last place either all that are ahead.
 pub(crate) fn seek_source(
@@ -90,6 +118,9 @@ pub(crate) fn seek_source(
     ensures number { IfOk result (λ found. IfSome found (λ p. IsHeldAt held.now p.0 (rc_value p.1))) }
     ensures memory { IsOkUnless result fault.Memory }
 {
+    if !look_ahead(held, seeker.next) {
+        return Err(TtFault::Memory);
+    }
     seeker.saved = seeker.saved.saturating_add(TRIED);
     if let Some((i, source)) = find_source(held, seeker.next, text, tokens, TRIED)? {
         seeker.step(i);

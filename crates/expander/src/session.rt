@@ -279,13 +279,15 @@ impl<G: FragmentGrammar + Drop> Session<G> {
             &self.memory,
             pieces.as_slice(),
             sources,
+            text.len(),
         )?;
         self.memory = memory;
         Ok(Reply::Read(expansion))
     }
 }
 
-// The expansion of pieces over what is held, and what is held afterwards, with how they were read.
+// The expansion of the pieces of a text of so many bytes over what is held, and what is held afterwards, with how they were
+// read.
 fn expand_pieces<G: FragmentGrammar>(
     alloc: Global,
     grammar: &G,
@@ -294,6 +296,7 @@ fn expand_pieces<G: FragmentGrammar>(
     memory: &Memory,
     pieces: &[OwnPiece],
     sources: Sources,
+    bytes: usize,
 ) -> Result<(Expansion, Memory), Refusal>
     requires right { IsMemory (world (G.answer grammar.now) edition) depth edition memory.now }
     requires own { All IsOwnPiece pieces.now }
@@ -312,7 +315,7 @@ fn expand_pieces<G: FragmentGrammar>(
         faults,
         expanded,
         links,
-    } = take_pieces(alloc, grammar, edition, depth, memory, pieces)?;
+    } = take_pieces(alloc, grammar, edition, depth, memory, pieces, bytes)?;
     let expansion = expansion_of(steps, faults, expanded)?;
     let memory = Memory {
         was_read: true,

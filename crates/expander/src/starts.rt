@@ -1,5 +1,5 @@
 // Where definitions start, by their numbers: the nearest of each.
-ghost use Rattle.std.specs.Prelude.{◌≡◌, ℕ, OnOk, nat_eq, if◌then◌else◌};
+ghost use Rattle.std.specs.Prelude.{◌≡◌, ℕ, IfOk, OnOk, nat_eq, if◌then◌else◌};
 ghost use Rattle.expander.specs.Starts.{start_at};
 
 use std::alloc::{AllocError, Global};
@@ -12,14 +12,13 @@ pub(crate) struct Starts {
 }
 
 impl Starts {
-    /// No definition was met.
+    /// No definition was met. There is room for so many.
     #[tactic(auto, unfolding(crate::specs::Starts::start_at))]
-    pub(crate) fn new(alloc: Global) -> Self
-        ensures { (n : ℕ) → start_at result n ≡ 0 }
+    pub(crate) fn with_room(alloc: Global, count: usize) -> Result<Self, AllocError>
+        ensures { IfOk result (λ starts. (n : ℕ) → start_at starts n ≡ 0) }
     {
-        Starts {
-            map: HashMap::new(alloc),
-        }
+        let map = HashMap::with_capacity(alloc, count)?;
+        Ok(Starts { map })
     }
 
     /// The nearest definition of this number starts here from now on.

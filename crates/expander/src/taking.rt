@@ -7,7 +7,7 @@ ghost use Rattle.bridge.specs.ReadText.{text_top};
 ghost use Rattle.mbe.specs.Grammar.{Grammar};
 ghost use Rattle.tt_data.specs.Forest.{Forest};
 ghost use Rattle.tt_data.specs.declared.edition.Edition.{Edition};
-ghost use Rattle.expander.specs.ByTrees.{numbers_in, own_top};
+ghost use Rattle.expander.specs.ByTrees.{known_in, numbers_in, own_top};
 ghost use Rattle.expander.specs.Definitions.{definition_of};
 ghost use Rattle.expander.specs.Expansion.{expansion};
 ghost use Rattle.expander.specs.Held.{IsMet, Met, definition_trees, kept_after, numbered_scope, numbered_world};
@@ -16,7 +16,7 @@ ghost use Rattle.expander.specs.Layered.{layers};
 ghost use Rattle.expander.specs.Links.{plain_tops};
 ghost use Rattle.expander.specs.Meaning.{members_after};
 ghost use Rattle.expander.specs.Memories.{IsMemory, piece_of, trees_of};
-ghost use Rattle.expander.specs.MetTable.{AreRead, scope_in};
+ghost use Rattle.expander.specs.MetTable.{AreRead, HasMet, scope_in};
 ghost use Rattle.expander.specs.NumberedTexts.{HasNumbered};
 ghost use Rattle.expander.specs.Numbering.{AreNumbers, HaveNumbers, number_by, numbered_by};
 ghost use Rattle.expander.specs.Numbers.{needed};
@@ -42,6 +42,7 @@ use crate::laws;
 use crate::links::Link;
 use crate::memory::Memory;
 use crate::met::Scope;
+use crate::numbered::Known;
 use crate::numbering::{Numbering, number};
 use crate::output::{PlacedSteps, no_steps};
 use crate::own_pieces::OwnPiece;
@@ -94,37 +95,37 @@ pub(crate) fn take_tree<G: FragmentGrammar>(
     memory: &Memory,
     lookup: &mut Lookup,
     link: Option<usize>,
-    tree: Rc<OwnTree>,
+    tree: &Rc<OwnTree>,
 ) -> Result<(Rc<Plain>, Option<usize>), TtFault>
     requires read { AreRead scope.now }
     requires lookup { Finds lookup.old memory.now.plains.items }
-    requires link { IfSome link (λ i. slice_get (plain_tops memory.now.plains.items) i ≡ Some tree.value) }
-    requires top { tree.value.delimiter ≡ text_top }
+    requires link { IfSome link (λ i. slice_get (plain_tops memory.now.plains.items) i ≡ Some tree.now.value) }
+    requires top { tree.now.value.delimiter ≡ text_top }
     requires right { IsMemory (world (G.answer grammar.now) scope.now.edition) depth scope.now.edition memory.now }
     ensures lookup { OnOk result (Finds lookup.new memory.now.plains.items) }
-    ensures tree { IfOk result (λ r. tree_of r.0.value ≡ tree.value) }
+    ensures tree { IfOk result (λ r. tree_of r.0.value ≡ tree.now.value) }
     ensures part { IfOk result (λ r. HasItsPart r.0.value) }
     ensures outcome { (given : ℕ) (numbers : Forest → Option ℕ) (before : List Met) → AreNumbers given numbers →
         ((t : Forest) (n : ℕ) → numbers_in memory.now.by_tree t ≡ Some n → numbers t ≡ Some n) →
         scope_in scope.now ≡ numbered_scope before → All (IsMet (numbered_by numbers)) before →
-        IfOk result (λ r. parts_for tree.value.inner r.0.value.outcome
-        ≡ parts_of (expansion (numbered_world (world (G.answer grammar.now) scope.now.edition)) (scope_in scope.now) depth None tree.value.inner)) }
-    ensures counted { IfOk result (λ r. is_some r.1 ≡ list_any (matches (scope_in scope.now) tree.value.inner)
+        IfOk result (λ r. parts_for tree.now.value.inner r.0.value.outcome
+        ≡ parts_of (expansion (numbered_world (world (G.answer grammar.now) scope.now.edition)) (scope_in scope.now) depth None tree.now.value.inner)) }
+    ensures counted { IfOk result (λ r. is_some r.1 ≡ list_any (matches (scope_in scope.now) tree.now.value.inner)
         (map (λ q. piece_of (world (G.answer grammar.now) scope.now.edition) depth (rc_value q)) memory.now.plains.items)) }
     ensures tokens { result ≡ Err TtFault.Tokens →
-        (expansion (numbered_world (world (G.answer grammar.now) scope.now.edition)) (scope_in scope.now) depth None tree.value.inner).bursts ≡ true }
+        (expansion (numbered_world (world (G.answer grammar.now) scope.now.edition)) (scope_in scope.now) depth None tree.now.value.inner).bursts ≡ true }
 {
     laws::equal_pieces();
     tt::laws::equal_trees();
     let held = memory.plains.as_slice();
-    let found = match_from(alloc, scope, held, lookup, link, &tree)?;
+    let found = match_from(alloc, scope, held, lookup, link, tree)?;
     match found {
         Some(i) => {
             let plain = held[i].clone()?;
             Ok((plain, Some(i)))
         }
         None => {
-            let plain = expanded(alloc, grammar, scope, depth, tree)?;
+            let plain = expanded(alloc, grammar, scope, depth, tree.clone()?)?;
             Ok((plain, None))
         }
     }
@@ -155,24 +156,73 @@ struct Taking {
     lookup: Lookup,
 }
 
-// No piece so far.
-fn nothing_taken(alloc: Global, memory: &Memory) -> Taken
-    ensures links { AreLinks result [] }
-    ensures taken { (grammar : Grammar) (edition : Edition) (depth : ℕ) → IsMemory (world grammar edition) depth edition memory.now →
-        IsTaken (world grammar edition) edition depth memory.now (layers grammar edition) [] [] result }
+// For how much room is made at first: how fast a text is answered hangs on it, and nothing else.
+#[derive(Clone, Copy)]
+struct Room {
+    definitions: usize,
+    pieces: usize,
+    // Of the text that is printed.
+    bytes: usize,
+}
+
+// No definition so far. There is room for so many.
+fn nothing_numbered(alloc: Global, given: u32, count: usize) -> Result<Numbering, AllocError>
+    ensures given { IfOk result (λ n. n.given ≡ given) }
+    ensures definitions { IfOk result (λ n. n.definitions.items ≡ []) }
+    ensures table { IfOk result (λ n. (t : Top) → known_in n.by_tree t ≡ None) }
 {
-    Taken {
-        numbers: Numbering {
-            given: memory.given,
-            definitions: Vec::new(alloc),
-            by_tree: ByTree::new(alloc),
-        },
-        plains: Vec::new(alloc),
-        steps: no_steps(alloc),
+    let definitions = Vec::with_capacity(alloc, count)?;
+    let by_tree = ByTree::with_room(alloc, count)?;
+    Ok(Numbering {
+        given,
+        definitions,
+        by_tree,
+    })
+}
+
+// No piece so far. What is held longest is asked for last, so that what is freed before it leaves room below it for the next
+// text, and is not given back to the system each time.
+fn nothing_taken(alloc: Global, memory: &Memory, room: Room) -> Result<Taken, AllocError>
+    ensures links { IfOk result (λ taken. AreLinks taken []) }
+    ensures taken { IfOk result (λ taken. (grammar : Grammar) (edition : Edition) (depth : ℕ) → IsMemory (world grammar edition) depth edition memory.now →
+        IsTaken (world grammar edition) edition depth memory.now (layers grammar edition) [] [] taken) }
+{
+    let steps = no_steps(alloc, room.bytes, room.pieces)?;
+    let numbers = nothing_numbered(alloc, memory.given, room.definitions)?;
+    let plains = Vec::with_capacity(alloc, room.pieces)?;
+    let links = Vec::with_capacity(alloc, room.pieces)?;
+    Ok(Taken {
+        numbers,
+        plains,
+        steps,
         faults: Vec::new(alloc),
         expanded: 0,
-        links: Vec::new(alloc),
-    }
+        links,
+    })
+}
+
+// Before the first piece.
+fn nothing_yet(
+    alloc: Global,
+    edition: Edition,
+    memory: &Memory,
+    room: Room,
+) -> Result<Taking, AllocError>
+    ensures links { IfOk result (λ now. AreLinks now.taken []) }
+    ensures taken { IfOk result (λ now. (grammar : Grammar) (depth : ℕ) → IsMemory (world grammar edition) depth edition memory.now →
+        IsTaken (world grammar edition) edition depth memory.now (layers grammar edition) [] [] now.taken) }
+    ensures none { IfOk result (λ now. HasMet now.scope []) }
+    ensures edition { IfOk result (λ now. now.scope.edition ≡ edition) }
+    ensures read { IfOk result (λ now. AreRead now.scope) }
+    ensures lookup { IfOk result (λ now. (held : List (Rc Plain GhostGlobal)) → Finds now.lookup held) }
+{
+    let scope = Scope::with_room(alloc, edition, room.definitions)?;
+    let taken = nothing_taken(alloc, memory, room)?;
+    Ok(Taking {
+        scope,
+        taken,
+        lookup: Lookup::new(),
+    })
 }
 
 // A piece is linked.
@@ -183,16 +233,18 @@ fn add_link(links: &mut Vec<Link>, link: Link) -> Result<(), AllocError>
     Ok(())
 }
 
-// A definition is numbered, told where it is broken, and met.
+// A definition, which may be held, is numbered, told where it is broken, and met.
 fn take_definition(
     alloc: Global,
     memory: &Memory,
     now: &mut Taking,
     start: u32,
     tree: Rc<OwnTree>,
+    held: Option<&Rc<Known>>,
 ) -> Result<(), Refusal>
     requires definition { is_some (definition_of tree.value.inner) ≡ true }
     requires top { tree.value.delimiter ≡ text_top }
+    requires held { IfSome held (λ k. known_in memory.now.by_tree tree.value ≡ Some k.now.value) }
     requires can { CanDefine memory.now now.old }
     ensures taken { (grammar : Grammar) (depth : ℕ) (piece : Forest) → LooksAtNoPlace (world grammar now.old.scope.edition) → HaveNumbers (numbers_in memory.now.by_tree) (trees_of memory.now) →
         start ≡ first_start piece → tree.value ≡ own_top (relative piece) → OnOk result (Takes grammar now.old.scope.edition depth memory.now piece now.old now.new) }
@@ -214,6 +266,7 @@ fn take_definition(
         &memory.by_tree,
         &mut now.taken.numbers,
         tree,
+        held,
     )?;
     tell_if_broken(&mut now.taken.faults, start, known.as_ref())?;
     now.scope.define(start, known)?;
@@ -292,25 +345,25 @@ fn take_plain<G: FragmentGrammar>(
     memory: &Memory,
     now: &mut Taking,
     start: u32,
-    tree: Rc<OwnTree>,
+    tree: &Rc<OwnTree>,
     link: Option<usize>,
 ) -> Result<(), TtFault>
-    requires plain { is_some (definition_of tree.value.inner) ≡ false }
-    requires top { tree.value.delimiter ≡ text_top }
+    requires plain { is_some (definition_of tree.now.value.inner) ≡ false }
+    requires top { tree.now.value.delimiter ≡ text_top }
     requires read { AreRead now.old.scope }
     requires lookup { Finds now.old.lookup memory.now.plains.items }
-    requires link { IfSome link (λ i. slice_get (plain_tops memory.now.plains.items) i ≡ Some tree.value) }
+    requires link { IfSome link (λ i. slice_get (plain_tops memory.now.plains.items) i ≡ Some tree.now.value) }
     requires right { IsMemory (world (G.answer grammar.now) now.old.scope.edition) depth now.old.scope.edition memory.now }
     requires room { now.old.taken.expanded + 1 < 2 ^ 64 }
-    ensures taken { (piece : Forest) → start ≡ first_start piece → tree.value ≡ own_top (relative piece) →
+    ensures taken { (piece : Forest) → start ≡ first_start piece → tree.now.value ≡ own_top (relative piece) →
         OnOk result (Takes (G.answer grammar.now) now.old.scope.edition depth memory.now piece now.old now.new) }
-    ensures links { (trees : List Top) → AreLinks now.old.taken trees → OnOk result (AreLinks now.new.taken (trees ++ tree.value ∷ [])) }
+    ensures links { (trees : List Top) → AreLinks now.old.taken trees → OnOk result (AreLinks now.new.taken (trees ++ tree.now.value ∷ [])) }
     ensures numbers { OnOk result (now.new.taken.numbers ≡ now.old.taken.numbers) }
     ensures edition { OnOk result (now.new.scope.edition ≡ now.old.scope.edition) }
     ensures lookup { OnOk result (Finds now.new.lookup memory.now.plains.items) }
     ensures expanded { OnOk result (now.new.taken.expanded ≤ now.old.taken.expanded + 1) }
     ensures tokens { result ≡ Err TtFault.Tokens →
-        (expansion (numbered_world (world (G.answer grammar.now) now.old.scope.edition)) (scope_in now.old.scope) depth None tree.value.inner).bursts ≡ true }
+        (expansion (numbered_world (world (G.answer grammar.now) now.old.scope.edition)) (scope_in now.old.scope) depth None tree.now.value.inner).bursts ≡ true }
 {
     laws::equal_pieces();
     let scope = &now.scope;
@@ -344,9 +397,9 @@ fn take_piece<G: FragmentGrammar>(
     requires room { now.old.taken.expanded + 1 < 2 ^ 64 }
     requires lookup { Finds now.old.lookup memory.now.plains.items }
     requires own { IsOwn (piece_at own.now) own.now }
-    requires met { IsMetIn memory.now.sources own.now.met (rc_value own.now.tree) }
+    requires met { IsMetIn memory.now.sources own.now.met (tree_at own.now) }
     ensures taken { OnOk result (Takes (G.answer grammar.now) now.old.scope.edition depth memory.now (piece_at own.now) now.old now.new) }
-    ensures links { (trees : List Top) → AreLinks now.old.taken trees → OnOk result (AreLinks now.new.taken (trees ++ rc_value own.now.tree ∷ [])) }
+    ensures links { (trees : List Top) → AreLinks now.old.taken trees → OnOk result (AreLinks now.new.taken (trees ++ tree_at own.now ∷ [])) }
     ensures grows { OnOk result (Grows now.old.taken now.new.taken) }
     ensures edition { OnOk result (now.new.scope.edition ≡ now.old.scope.edition) }
     ensures lookup { OnOk result (Finds now.new.lookup memory.now.plains.items) }
@@ -355,17 +408,21 @@ fn take_piece<G: FragmentGrammar>(
     ensures cause { (trees : List Forest) → HasNumbered memory.now.given memory.now.by_tree (trees_of memory.now) trees now.old.taken.numbers →
         result ≡ Err Refusal.Numbers → 2 ^ 32 ≤ memory.now.given + needed (trees_of memory.now) (trees ++ definition_trees (piece_at own.now ∷ [])) }
 {
-    let tree = own.tree.clone()?;
-    if tree.as_ref().is_definition() {
-        return take_definition(alloc, memory, now, own.start, tree);
+    if !memory.look_ahead(own) {
+        return Err(Refusal::Memory);
+    }
+    let tree = own.tree.get();
+    if memory.is_definition(own) {
+        let held = memory.definition_at(own);
+        return take_definition(alloc, memory, now, own.start, tree.clone()?, held);
     }
     let link = memory.plain_at(own);
     take_plain(alloc, grammar, depth, memory, now, own.start, tree, link)?;
     Ok(())
 }
 
-/// The pieces of a text, one after another, each under the definitions before it: a plain one is expanded, where no held one
-/// matches.
+/// The pieces of a text of so many bytes, one after another, each under the definitions before it: a plain one is expanded,
+/// where no held one matches.
 pub(crate) fn take_pieces<G: FragmentGrammar>(
     alloc: Global,
     grammar: &G,
@@ -373,6 +430,7 @@ pub(crate) fn take_pieces<G: FragmentGrammar>(
     depth: u8,
     memory: &Memory,
     pieces: &[OwnPiece],
+    bytes: usize,
 ) -> Result<Taken, Refusal>
     requires right { IsMemory (world (G.answer grammar.now) edition) depth edition memory.now }
     requires own { All IsOwnPiece pieces.now }
@@ -388,11 +446,12 @@ pub(crate) fn take_pieces<G: FragmentGrammar>(
     mbe::laws::bursts_at_other_places();
     laws::equal_pieces();
     let most = pieces.len();
-    let mut now = Taking {
-        scope: Scope::new(alloc, edition),
-        taken: nothing_taken(alloc, memory),
-        lookup: Lookup::new(),
+    let room = Room {
+        definitions: memory.definitions.len().saturating_add(1),
+        pieces: most,
+        bytes,
     };
+    let mut now = nothing_yet(alloc, edition, memory, room)?;
     for own in pieces {
         take_piece(alloc, grammar, depth, memory, &mut now, own)?;
     }

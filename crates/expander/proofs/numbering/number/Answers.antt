@@ -6,15 +6,15 @@ use Rattle.expander.specs.SameTops.{same_top}
 use Rattle.expander.specs.declared.by_tree.ByTree.{ByTree}
 use Rattle.expander.specs.declared.numbered.Known.{Known}
 use Rattle.expander.proofs.HandedLemmas.{handed}
-use Rattle.expander.proofs.NumberedLemmas.{has_none, has_number, number_put, numbered_again, numbered_new, numbered_old, numbers_end, numbers_grow, read_put, tops_pushed, trees_pushed}
+use Rattle.expander.proofs.NumberedLemmas.{has_none, has_number, number_put, numbered_again, numbered_new, numbered_old, numbers_end, numbers_grow, read_put, tops_pushed}
 use Rattle.expander.proofs.numbering.number.Goals as goal
 
 pub returns-in-Some-clause-numbered : goal.returns-in-Some-clause-numbered
 returns-in-Some-clause-numbered c = λ given known trees had has.
     let k : Known = c.in-Some.known.now.value in
     let here : known_in c.args.now.now.by_tree c.args.tree.value ≡ Some k = sym c.in-Some.ensures in
-    numbered_again c.equal_pieces.ensures (λ a b e. (c.equal_trees.ensures a b).0 e) given c.args.old.now known trees had c.args.now.now _ has c.args.tree.value c.requires.top k
-    (c.requires.table c.args.tree.value k here) (trees_pushed c.args.now.now.definitions.items _ _ k c.in_ok-push.ensures.definitions (search rules)) c.in_ok-push.ensures.given c.in_ok-push.ensures.table here
+    numbered_again c.equal_pieces.ensures c.equal_trees.ensures given c.args.old.now known trees had c.args.now.now _ has c.args.tree.value c.requires.top k
+    (c.requires.table c.args.tree.value k here) _ c.in_ok-push.ensures.definitions (search rules) c.in_ok-push.ensures.given c.in_ok-push.ensures.table here
 
 pub returns-in-Some-clause-number : goal.returns-in-Some-clause-number
 returns-in-Some-clause-number c =
@@ -29,36 +29,36 @@ returns-in-Some-clause-listed c =
     let k : Known = c.in_ok-known.known.value in
     tops_pushed c.args.now.now.definitions.items _ _ k c.in_ok-push.ensures.definitions (search rules)
 
-pub returns-in-Some-get-clause-listed : goal.returns-in-Some-get-clause-listed
-returns-in-Some-get-clause-listed c =
+pub returns-in-Some-known_of-clause-listed : goal.returns-in-Some-known_of-clause-listed
+returns-in-Some-known_of-clause-listed c =
     let k : Known = c.in_ok-known-2.known.value in
     tops_pushed c.args.now.now.definitions.items _ _ k c.in_ok-put.ensures.definitions (search rules)
 
-pub returns-in-Some-get-clause-numbered : goal.returns-in-Some-get-clause-numbered
-returns-in-Some-get-clause-numbered c = λ given known trees had has.
-    let k : Known = c.in-Some-get.known.now.value in
-    let there : known_in c.args.old.now c.args.tree.value ≡ Some k = sym c.in-Some-get.ensures in
+pub returns-in-Some-known_of-clause-numbered : goal.returns-in-Some-known_of-clause-numbered
+returns-in-Some-known_of-clause-numbered c = λ given known trees had has.
+    let k : Known = c.in-Some-known_of.known.now.value in
+    let there : known_in c.args.old.now c.args.tree.value ≡ Some k = sym c.in-Some-known_of.ensures in
     let none : known_in c.args.now.now.by_tree c.args.tree.value ≡ None = sym c.in_default.ensures in
     let same : c.in_ok-clone-2.field-0.value ≡ k = search rules in
-    numbered_old c.equal_pieces.ensures (λ a b e. (c.equal_trees.ensures a b).0 e) given c.args.old.now known trees had c.args.now.now _ has c.args.tree.value c.requires.top k
-    (c.requires.old_table c.args.tree.value k there) (trees_pushed c.args.now.now.definitions.items _ _ k c.in_ok-put.ensures.definitions same)
+    numbered_old c.equal_pieces.ensures c.equal_trees.ensures given c.args.old.now known trees had c.args.now.now _ has c.args.tree.value c.requires.top k
+    (c.requires.old_table c.args.tree.value k there) _ c.in_ok-put.ensures.definitions same
     (λ t. c.in_ok-put.ensures.table t ∙ ap (λ (x : Known). cond (same_top c.args.tree.value t) (Some x) (known_in c.args.now.now.by_tree t)) same) none c.in_ok-put.ensures.given there
 
-pub returns-in-Some-get-clause-tree : goal.returns-in-Some-get-clause-tree
-returns-in-Some-get-clause-tree c =
-    let k : Known = c.in-Some-get.known.now.value in
+pub returns-in-Some-known_of-clause-tree : goal.returns-in-Some-known_of-clause-tree
+returns-in-Some-known_of-clause-tree c =
+    let k : Known = c.in-Some-known_of.known.now.value in
     let same : c.in_ok-known-2.known.value ≡ k = search rules in
-    ap (λ (x : Known). x.tree) same ∙ c.requires.old_table c.args.tree.value k (sym c.in-Some-get.ensures)
+    ap (λ (x : Known). x.tree) same ∙ c.requires.old_table c.args.tree.value k (sym c.in-Some-known_of.ensures)
 
-pub returns-in-Some-get-clause-grows : goal.returns-in-Some-get-clause-grows
-returns-in-Some-get-clause-grows c =
-    numbers_grow c.equal_pieces.ensures (λ a b e. (c.equal_trees.ensures a b).0 e) c.args.now.now.by_tree c.put.new.self.by_tree c.args.tree.value c.in_ok-clone-2.field-0.value
+pub returns-in-Some-known_of-clause-grows : goal.returns-in-Some-known_of-clause-grows
+returns-in-Some-known_of-clause-grows c =
+    numbers_grow c.equal_pieces.ensures c.equal_trees.ensures c.args.now.now.by_tree c.put.new.self.by_tree c.args.tree.value c.in_ok-clone-2.field-0.value
     c.in_ok-put.ensures.table c.requires.top (has_none c.args.now.now.by_tree c.args.tree.value c.requires.top (sym c.in_default.ensures))
 
 pub returns-in_err-known-3-clause-cause : goal.returns-in_err-known-3-clause-cause
 returns-in_err-known-3-clause-cause c = λ given known trees had has e.
-    numbers_end c.equal_pieces.ensures (λ a b q. (c.equal_trees.ensures a b).0 q) given c.args.old.now known trees had c.args.now.now has c.args.tree.value c.requires.top
-    (sym c.in_default.ensures) (sym c.in_default-get.ensures) (c.in_err-known-3.ensures.numbers (handed c.from_residual-in_err-known-3.result _ c.from_residual-in_err-known-3.ensures.1 e))
+    numbers_end c.equal_pieces.ensures c.equal_trees.ensures given c.args.old.now known trees had c.args.now.now has c.args.tree.value c.requires.top
+    (sym c.in_default.ensures) (sym c.in_default-known_of.ensures) (c.in_err-known-3.ensures.numbers (handed c.from_residual-in_err-known-3.result _ c.from_residual-in_err-known-3.ensures.1 e))
 
 pub returns-in-Some-clause-read : goal.returns-in-Some-clause-read
 returns-in-Some-clause-read c = λ old now.
@@ -69,18 +69,18 @@ returns-in-Some-clause-read c = λ old now.
 pub returns-in-Some-clause-table_read : goal.returns-in-Some-clause-table_read
 returns-in-Some-clause-table_read c = λ old now. subst (AllRead c.args.edition) (sym c.in_ok-push.ensures.table) now
 
-pub returns-in-Some-get-clause-read : goal.returns-in-Some-get-clause-read
-returns-in-Some-get-clause-read c = λ old now.
-    let k : Known = c.in-Some-get.known.now.value in
+pub returns-in-Some-known_of-clause-read : goal.returns-in-Some-known_of-clause-read
+returns-in-Some-known_of-clause-read c = λ old now.
+    let k : Known = c.in-Some-known_of.known.now.value in
     let same : c.in_ok-known-2.known.value ≡ k = search rules in
-    subst (IsRead c.args.edition) (sym same) (old c.args.tree.value k (sym c.in-Some-get.ensures))
+    subst (IsRead c.args.edition) (sym same) (old c.args.tree.value k (sym c.in-Some-known_of.ensures))
 
-pub returns-in-Some-get-clause-table_read : goal.returns-in-Some-get-clause-table_read
-returns-in-Some-get-clause-table_read c = λ old now.
-    let k : Known = c.in-Some-get.known.now.value in
+pub returns-in-Some-known_of-clause-table_read : goal.returns-in-Some-known_of-clause-table_read
+returns-in-Some-known_of-clause-table_read c = λ old now.
+    let k : Known = c.in-Some-known_of.known.now.value in
     let same : c.in_ok-clone-2.field-0.value ≡ k = search rules in
     read_put c.args.edition c.args.now.now.by_tree c.put.new.self.by_tree c.args.tree.value c.in_ok-clone-2.field-0.value c.in_ok-put.ensures.table
-    (subst (IsRead c.args.edition) (sym same) (old c.args.tree.value k (sym c.in-Some-get.ensures))) now
+    (subst (IsRead c.args.edition) (sym same) (old c.args.tree.value k (sym c.in-Some-known_of.ensures))) now
 
 pub returns : goal.returns
 returns c =
@@ -89,15 +89,15 @@ returns c =
     let none = has_none c.args.now.now.by_tree c.args.tree.value c.requires.top (sym c.in_default.ensures) in
     record {
       numbered = λ given known trees had has.
-          numbered_new c.equal_pieces.ensures (λ a b e. (c.equal_trees.ensures a b).0 e) given c.args.old.now known trees had c.args.now.now _ has c.args.tree.value c.requires.top k
-          c.in_ok-known-3.ensures.tree (trees_pushed c.args.now.now.definitions.items _ _ k c.in_ok-put-2.ensures.definitions same)
+          numbered_new c.equal_pieces.ensures c.equal_trees.ensures given c.args.old.now known trees had c.args.now.now _ has c.args.tree.value c.requires.top k
+          c.in_ok-known-3.ensures.tree _ c.in_ok-put-2.ensures.definitions same
           (λ t. c.in_ok-put-2.ensures.table t ∙ ap (λ (x : Known). cond (same_top c.args.tree.value t) (Some x) (known_in c.args.now.now.by_tree t)) same) (sym c.in_default.ensures)
-          (c.in_ok-put-2.ensures.given ∙ ap (λ (x : Known). x.number) c.as_ref.ensures) c.in_ok-known-3.ensures.number (sym c.in_default-get.ensures);
+          (c.in_ok-put-2.ensures.given ∙ ap (λ (x : Known). x.number) c.as_ref.ensures) c.in_ok-known-3.ensures.number (sym c.in_default-known_of.ensures);
       tree = c.in_ok-known-3.ensures.tree;
       listed = tops_pushed c.args.now.now.definitions.items _ _ k c.in_ok-put-2.ensures.definitions same;
-      number = number_put c.equal_pieces.ensures (λ a b e. (c.equal_trees.ensures a b).0 e) c.args.now.now.by_tree c.put-2.new.self.by_tree c.args.tree.value c.in_ok-clone-3.field-0.value
+      number = number_put c.equal_pieces.ensures c.equal_trees.ensures c.args.now.now.by_tree c.put-2.new.self.by_tree c.args.tree.value c.in_ok-clone-3.field-0.value
           c.in_ok-put-2.ensures.table c.requires.top ∙ ap (λ (x : Known). Some x.number) same;
-      grows = numbers_grow c.equal_pieces.ensures (λ a b e. (c.equal_trees.ensures a b).0 e) c.args.now.now.by_tree c.put-2.new.self.by_tree c.args.tree.value c.in_ok-clone-3.field-0.value
+      grows = numbers_grow c.equal_pieces.ensures c.equal_trees.ensures c.args.now.now.by_tree c.put-2.new.self.by_tree c.args.tree.value c.in_ok-clone-3.field-0.value
           c.in_ok-put-2.ensures.table c.requires.top none;
       read = λ old now. c.in_ok-known-3.ensures.read;
       table_read = λ old now.

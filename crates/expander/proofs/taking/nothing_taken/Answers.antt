@@ -4,4 +4,5 @@ use Rattle.expander.proofs.taking.nothing_taken.Goals as goal
 
 pub returns-clause-taken : goal.returns-clause-taken
 returns-clause-taken c = λ grammar edition depth right.
-    none_taken grammar edition depth c.args.memory.now right _ refl c.new.ensures.items c.new-2.ensures c.new-3.ensures.items c.no_steps.ensures c.new-4.ensures.items refl
+    none_taken grammar edition depth c.args.memory.now right _ c.in_ok-numbers.ensures.given c.in_ok-numbers.ensures.definitions c.in_ok-numbers.ensures.table c.in_ok-plains.ensures.items
+    c.in_ok-steps.ensures c.new.ensures.items refl

@@ -1,5 +1,4 @@
 use Rattle.std.proofs.Common.{◌+◌, sym, subst, arith, drop, take, map}
-use Rattle.std.specs.Rc.{rc_value}
 use Rattle.tt_data.specs.declared.edition.Edition.{Edition}
 use Rattle.expander.specs.Memories.{IsMemory}
 use Rattle.expander.specs.OwnPieces.{IsOwnPiece, piece_at, tree_at}
@@ -19,11 +18,11 @@ pub loop-own-init : goal.loop-own-init
 loop-own-init g c =
     let A = g.G.FragmentGrammar.answer c.args.grammar.now in
     record {
-      room = omega (arith, (c.nothing_taken.ensures.taken A c.args.edition c.args.depth c.requires.right).expanded);
-      lookup = c.new-2.ensures c.args.memory.now.plains.items;
-      links = c.nothing_taken.ensures.links;
+      room = omega (arith, (c.in_ok-now.ensures.taken A c.args.depth c.requires.right).expanded);
+      lookup = c.in_ok-now.ensures.lookup c.args.memory.now.plains.items;
+      links = c.in_ok-now.ensures.links;
       left = left_begins A c.args.edition c.args.depth c.args.memory.now (map piece_at c.args.pieces.now) (all_stand c.args.pieces.now c.requires.own) _
-          c.new.ensures.none c.new.ensures.read c.new.ensures.edition (c.nothing_taken.ensures.taken A c.args.edition c.args.depth c.requires.right);
+          c.in_ok-now.ensures.none c.in_ok-now.ensures.read c.in_ok-now.ensures.edition (c.in_ok-now.ensures.taken A c.args.depth c.requires.right);
     }
 
 pub take_piece-requires-clause-right : goal.take_piece-requires-clause-right
@@ -55,7 +54,7 @@ take_piece-requires-clause-lookup g c = c.loop-own.invariant.lookup
 
 pub take_piece-requires-clause-met : goal.take_piece-requires-clause-met
 take_piece-requires-clause-met g c =
-    all_at (λ (o : OwnPiece). IsMet c.args.memory.now.sources o.met (rc_value o.tree)) c.args.pieces.now c.loop-own.own-index c.own-item.result c.requires.met
+    all_at (λ (o : OwnPiece). IsMet c.args.memory.now.sources o.met (tree_at o)) c.args.pieces.now c.loop-own.own-index c.own-item.result c.requires.met
     (stands_at c.args.pieces.now c.loop-own.own-index c.own-item.result c.loop-own-test.true c.own-item.is)
 
 pub take_piece-requires-clause-own : goal.take_piece-requires-clause-own
@@ -102,7 +101,7 @@ returns-in_err-take_piece-clause-tokens g c = λ e.
     (map piece_at (drop (c.loop-own.own-index + 1) c.args.pieces.now)) c.loop-own.now left
     c.equal_pieces.ensures (world_at_other_places laws A c.args.edition)
     (subst (λ (e : Edition). MakesTooMany A e c.args.depth (piece_at c.own-item.result) c.loop-own.now) left.has.edition_is
-    (c.in_err-take_piece.ensures.tokens (handed c.from_residual.result _ c.from_residual.ensures.1 e)))
+    (c.in_err-take_piece.ensures.tokens (handed c.from_residual-in_err-take_piece.result _ c.from_residual-in_err-take_piece.ensures.1 e)))
 
 pub returns-in_err-take_piece-clause-numbers : goal.returns-in_err-take_piece-clause-numbers
 returns-in_err-take_piece-clause-numbers g c = λ e.
@@ -111,7 +110,7 @@ returns-in_err-take_piece-clause-numbers g c = λ e.
     let left : Left A c.args.edition c.args.depth c.args.memory.now (map piece_at c.args.pieces.now) _ c.loop-own.now = rw next at c.loop-own.invariant.left in
     left_needs A c.args.edition c.args.depth c.args.memory.now (map piece_at c.args.pieces.now) (piece_at c.own-item.result)
     (map piece_at (drop (c.loop-own.own-index + 1) c.args.pieces.now)) c.loop-own.now left
-    (c.in_err-take_piece.ensures.cause left.trees left.has.taken.numbers (handed c.from_residual.result _ c.from_residual.ensures.1 e))
+    (c.in_err-take_piece.ensures.cause left.trees left.has.taken.numbers (handed c.from_residual-in_err-take_piece.result _ c.from_residual-in_err-take_piece.ensures.1 e))
 
 pub returns-clause-taken : goal.returns-clause-taken
 returns-clause-taken g c =

@@ -46,14 +46,14 @@ returns-clause-taken g c = λ piece start_is tree_is before trees done has.
     ∙ ap (λ (t : Top). list_any (matches (scope_in c.args.now.now.scope) t.inner) (map (λ q. piece_of (world A ed) c.args.depth (rc_value q)) c.args.memory.now.plains.items)) tree_is)
     (ap (λ (t : Taken). t.expanded) c.count.ensures.taken)
     before trees done has
-    (parts_taken A ed c.args.depth c.args.memory.now piece c.args.now.now c.count.new.now c.args.tree.value (rc_value q) tree_is c.in_ok-plain.ensures.outcome before trees done has)
+    (parts_taken A ed c.args.depth c.args.memory.now piece c.args.now.now c.count.new.now c.args.tree.now.value (rc_value q) tree_is c.in_ok-plain.ensures.outcome before trees done has)
     (ap (λ (t : Top). is_some (definition_of t.inner)) (sym tree_is) ∙ c.requires.plain)
 
 pub returns-clause-links : goal.returns-clause-links
 returns-clause-links g c = λ trees h.
-    subst (λ (t : Taken). AreLinks t (trees ++ c.args.tree.value ∷ [])) (sym c.count.ensures.taken)
+    subst (λ (t : Taken). AreLinks t (trees ++ c.args.tree.now.value ∷ [])) (sym c.count.ensures.taken)
     (plain_more c.args.now.now.taken.plains.items c.hold.new.plains.items c.in_ok-plain.plain (definition_tops c.args.now.now.taken.numbers.definitions.items)
-    c.args.now.now.taken.links.items c.hold.new.links.items trees c.args.tree.value c.in_ok-hold.ensures.plains c.in_ok-plain.ensures.tree c.in_ok-hold.ensures.links h)
+    c.args.now.now.taken.links.items c.hold.new.links.items trees c.args.tree.now.value c.in_ok-hold.ensures.plains c.in_ok-plain.ensures.tree c.in_ok-hold.ensures.links h)
 
 pub returns-clause-lookup : goal.returns-clause-lookup
 returns-clause-lookup g c = c.count.ensures.lookup c.args.memory.now.plains.items c.in_ok-plain.ensures.lookup

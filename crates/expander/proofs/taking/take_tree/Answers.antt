@@ -21,37 +21,37 @@ pub returns-in_ok-plain-in-Some-clause-outcome : goal.returns-in_ok-plain-in-Som
 returns-in_ok-plain-in-Some-clause-outcome g c = λ given numbers before are more scope_is met.
     let q : Rc Plain Global = c.index-held-i.result in
     let stands : slice_get c.as_slice-held.result.now c.in-Some.i ≡ Some q = stands_at c.as_slice-held.result.now c.in-Some.i q (rw c.in-Some.is at c.in_ok-found.ensures.within) c.index-held-i.is in
-    let passes : is_match (scope_in c.args.scope.now) c.args.tree.value (rc_value q) ≡ true =
-    subst (λ (o : Option (Rc Plain Global)). IfSome o (λ x. is_match (scope_in c.args.scope.now) c.args.tree.value (rc_value x) ≡ true)) stands (rw c.in-Some.is at c.in_ok-found.ensures.found) in
+    let passes : is_match (scope_in c.args.scope.now) c.args.tree.now.value (rc_value q) ≡ true =
+    subst (λ (o : Option (Rc Plain Global)). IfSome o (λ x. is_match (scope_in c.args.scope.now) c.args.tree.now.value (rc_value x) ≡ true)) stands (rw c.in-Some.is at c.in_ok-found.ensures.found) in
     let here : slice_get c.args.memory.now.plains.items c.in-Some.i ≡ Some q =
     ap (λ (qs : List (Rc Plain Global)). slice_get qs c.in-Some.i) (sym c.as_slice-held.ensures.value) ∙ stands in
     let right : IsRight (world (g.G.FragmentGrammar.answer c.args.grammar.now) c.args.scope.now.edition) c.args.depth (numbers_in c.args.memory.now.by_tree) (rc_value q) =
     all_at (λ x. IsRight (world (g.G.FragmentGrammar.answer c.args.grammar.now) c.args.scope.now.edition) c.args.depth (numbers_in c.args.memory.now.by_tree) (rc_value x))
     c.args.memory.now.plains.items c.in-Some.i q c.requires.right.right here in
     let same : c.in_ok-plain-in-Some.plain.value ≡ rc_value q = search rules in
-    subst (λ (p : Plain). parts_for c.args.tree.value.inner p.outcome
-    ≡ parts_of (expansion (numbered_world (world (g.G.FragmentGrammar.answer c.args.grammar.now) c.args.scope.now.edition)) (scope_in c.args.scope.now) c.args.depth None c.args.tree.value.inner))
+    subst (λ (p : Plain). parts_for c.args.tree.now.value.inner p.outcome
+    ≡ parts_of (expansion (numbered_world (world (g.G.FragmentGrammar.answer c.args.grammar.now) c.args.scope.now.edition)) (scope_in c.args.scope.now) c.args.depth None c.args.tree.now.value.inner))
     (sym same)
     (matched_parts (world (g.G.FragmentGrammar.answer c.args.grammar.now) c.args.scope.now.edition) c.args.depth (numbers_in c.args.memory.now.by_tree) c.equal_pieces.ensures c.equal_trees.ensures
-    given numbers are more (scope_in c.args.scope.now) before scope_is met c.args.tree.value (rc_value q) c.requires.top right passes)
+    given numbers are more (scope_in c.args.scope.now) before scope_is met c.args.tree.now.value (rc_value q) c.requires.top right passes)
 
 pub returns-in_ok-plain-in-Some-clause-counted : goal.returns-in_ok-plain-in-Some-clause-counted
 returns-in_ok-plain-in-Some-clause-counted g c =
     ap is_some (sym c.in-Some.is) ∙ c.in_ok-found.ensures.any
-    ∙ ap (λ (qs : List (Rc Plain Global)). list_any (λ q. is_match (scope_in c.args.scope.now) c.args.tree.value (rc_value q)) qs) c.as_slice-held.ensures.value
+    ∙ ap (λ (qs : List (Rc Plain Global)). list_any (λ q. is_match (scope_in c.args.scope.now) c.args.tree.now.value (rc_value q)) qs) c.as_slice-held.ensures.value
     ∙ any_is (world (g.G.FragmentGrammar.answer c.args.grammar.now) c.args.scope.now.edition) c.args.depth (numbers_in c.args.memory.now.by_tree) (scope_in c.args.scope.now)
-    c.args.tree.value c.args.memory.now.plains.items c.requires.top c.requires.right.right
+    c.args.tree.now.value c.args.memory.now.plains.items c.requires.top c.requires.right.right
 
 pub returns-in_ok-plain-in-None-clause-counted : goal.returns-in_ok-plain-in-None-clause-counted
 returns-in_ok-plain-in-None-clause-counted g c =
     ap is_some (sym c.in-None.is) ∙ c.in_ok-found.ensures.any
-    ∙ ap (λ (qs : List (Rc Plain Global)). list_any (λ q. is_match (scope_in c.args.scope.now) c.args.tree.value (rc_value q)) qs) c.as_slice-held.ensures.value
+    ∙ ap (λ (qs : List (Rc Plain Global)). list_any (λ q. is_match (scope_in c.args.scope.now) c.args.tree.now.value (rc_value q)) qs) c.as_slice-held.ensures.value
     ∙ any_is (world (g.G.FragmentGrammar.answer c.args.grammar.now) c.args.scope.now.edition) c.args.depth (numbers_in c.args.memory.now.by_tree) (scope_in c.args.scope.now)
-    c.args.tree.value c.args.memory.now.plains.items c.requires.top c.requires.right.right
+    c.args.tree.now.value c.args.memory.now.plains.items c.requires.top c.requires.right.right
 
 pub match_from-requires-clause-table : goal.match_from-requires-clause-table
 match_from-requires-clause-table g c = subst (Finds c.args.lookup.now) (sym c.as_slice-held.ensures.value) c.requires.lookup
 
 pub match_from-requires-clause-link : goal.match_from-requires-clause-link
 match_from-requires-clause-link g c =
-    subst (λ (qs : List (Rc Plain Global)). IfSome c.args.link (λ i. slice_get (plain_tops qs) i ≡ Some c.args.tree.value)) (sym c.as_slice-held.ensures.value) c.requires.link
+    subst (λ (qs : List (Rc Plain Global)). IfSome c.args.link (λ i. slice_get (plain_tops qs) i ≡ Some c.args.tree.now.value)) (sym c.as_slice-held.ensures.value) c.requires.link

@@ -3,11 +3,11 @@ use Rattle.expander.specs.MetTable.{scope_in}
 use Rattle.expander.specs.Names.{index_of}
 use Rattle.expander.specs.Outcomes.{numbered_of_known}
 use Rattle.expander.proofs.MetLemmas.{scope_none}
-use Rattle.expander.proofs.met.Scope.new.Goals as goal
+use Rattle.expander.proofs.met.Scope.with_room.Goals as goal
 
 pub returns-clause-none : goal.returns-clause-none
 unfolding scope_in
 returns-clause-none c = record {
-  finds = scope_none (λ k. numbered_of_known (rc_value k)) c.new-2.result.items (λ name. index_of c.new.result name) c.new.ensures;
-  starts = c.new-3.ensures;
+  finds = scope_none (λ k. numbered_of_known (rc_value k)) c.in_ok-known.known.items (λ name. index_of c.in_ok-names.names name) c.in_ok-names.ensures;
+  starts = c.in_ok-starts.ensures;
 }
