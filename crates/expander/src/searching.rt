@@ -270,7 +270,8 @@ pub(crate) fn expand_piece<G: FragmentGrammar>(
     if quiet {
         return Ok(unchanged(alloc));
     }
-    let steps = Vec::with_capacity(alloc, tree.token_trees().len())?;
+    let room = tree.token_trees().len().next_power_of_two();
+    let steps = Vec::with_capacity(alloc, room)?;
     let mut out = Building {
         steps,
         faults: Vec::new(alloc),
