@@ -13,10 +13,12 @@ mod PrintingLemmas
 mod OrderLemmas
 mod SharedPieceLemmas
 mod SortLemmas
+mod StretchLemmas
 mod KnownLemmas
 mod LineLemmas
 mod LinkLemmas
 mod MadeLemmas
+mod PassingLemmas
 mod RunLemmas
 mod RunRows
 mod MarkLemmas

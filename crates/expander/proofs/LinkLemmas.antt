@@ -9,6 +9,7 @@ use Rattle.expander.specs.Links.{AreLinked, LeadTo, definition_tops, linked, pla
 use Rattle.expander.specs.OwnPieces.{tree_at}
 use Rattle.expander.specs.PieceReading.{AreTheirs, IsMet}
 use Rattle.expander.specs.Plains.{tree_of}
+use Rattle.expander.specs.Sources.{all_in}
 use Rattle.expander.specs.declared.links.Link.{Link}
 use Rattle.expander.specs.declared.links.Link.TheVariants as link
 use Rattle.expander.specs.declared.numbered.Known.{Known}
@@ -91,17 +92,17 @@ mapped_from f (z ∷ xs) zero y e = (z, refl, cc)
 mapped_from f (z ∷ xs) (suc i) y e = mapped_from f xs i y e
 
 pub links_are : (ps ds : List Top) (links : List Link) (own : List OwnPiece) (sources : Sources) → LeadTo ps ds links (map tree_at own) → AreTheirs sources own
-    → AreLinked ps ds sources.list.items links
+    → AreLinked ps ds (all_in sources) links
 links_are ps ds links own sources h theirs = λ i s l s_is l_is.
     let there = mapped_from (λ (t : Top). Some t) (map tree_at own) i (linked ps ds l) (ap (λ os. slice_get os i) (sym h) ∙ mapped_at (linked ps ds) links i l l_is) in
     let o = mapped_from tree_at own i there.0 there.1 in
     sym there.2 ∙ ap (λ (t : Top). Some t) (sym o.2 ∙ sym (theirs i s o.0 s_is o.1))
 
 -- what a piece that was met is linked to
-pub met_link : (ps ds : List Top) (held : Sources) (links : List Link) (met : Option ℕ) (t : Top) → AreLinked ps ds held.list.items links → IsMet held met t
+pub met_link : (ps ds : List Top) (held : Sources) (links : List Link) (met : Option ℕ) (t : Top) → AreLinked ps ds (all_in held) links → IsMet held met t
     → (i : ℕ) → met ≡ Some i → (l : Link) → slice_get links i ≡ Some l → linked ps ds l ≡ Some t
 met_link ps ds held links None t are is i e l l_is = cc
 met_link ps ds held links (Some j) t are is i e l l_is =
     let same : j ≡ i = cc in
-    are i is.1.0 l (ap (slice_get held.list.items) (sym same) ∙ is.1.1) l_is
+    are i is.1.0 l (ap (slice_get (all_in held)) (sym same) ∙ is.1.1) l_is
     ∙ ap (λ (s : Source). Some (rc_value s.tree)) is.1.2 ∙ ap (λ (x : Top). Some x) is.2

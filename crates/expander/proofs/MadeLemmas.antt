@@ -7,41 +7,32 @@ use Rattle.std.proofs.lemmas.List.{length-map, map-append}
 use Rattle.std.proofs.lemmas.Option.{slice_get_within}
 use Rattle.tt.specs.Tops.{Top}
 use Rattle.expander.specs.OwnPieces.{tree_at}
-use Rattle.expander.specs.PieceReading.{AddsPiece, AreMade, AreTheirs}
+use Rattle.expander.specs.PieceReading.{AreMade, AreTheirs}
+use Rattle.expander.specs.Sources.{all_in, pieces_of}
 use Rattle.expander.specs.declared.own_pieces.OwnPiece.{OwnPiece}
 use Rattle.expander.specs.declared.sources.Source.{Source}
 use Rattle.expander.specs.declared.sources.Sources.{Sources}
 
-pub made_none : AreMade [] []
-made_none = refl
-
-pub made_more : (at : ℕ) (s : Rc Source Global) (m : Option ℕ) (own next : List OwnPiece) (list more : List (Rc Source Global)) → AddsPiece at (rc_value s) m own next → more ≡ list ++ s ∷ []
-    → AreMade own list → AreMade next more
-made_more at s m own next list more adds more_is made =
-    ap (map (λ (s : Rc Source Global). rc_value (rc_value s).tree)) more_is ∙ map-append (λ (s : Rc Source Global). rc_value (rc_value s).tree) list (s ∷ [])
-    ∙ ap (λ (ts : List Top). ts ++ rc_value (rc_value s).tree ∷ []) made ∙ ap (λ (t : Top). map tree_at own ++ t ∷ []) (sym adds.tree)
-    ∙ sym (map-append tree_at own (adds.piece ∷ [])) ∙ ap (map tree_at) (sym adds.items)
-
-mapped_at : {X Y : Type 0} (f : X → Y) (xs : List X) (i : ℕ) (x : X) → slice_get xs i ≡ Some x → slice_get (map f xs) i ≡ Some (f x)
+pub mapped_at : {X Y : Type 0} (f : X → Y) (xs : List X) (i : ℕ) (x : X) → slice_get xs i ≡ Some x → slice_get (map f xs) i ≡ Some (f x)
 mapped_at f [] i x e = cc
 mapped_at f (z ∷ xs) zero x e = let same : z ≡ x = cc in ap (λ w. Some (f w)) same
 mapped_at f (z ∷ xs) (suc i) x e = mapped_at f xs i x e
 
-pub made_theirs : (sources : Sources) (own : List OwnPiece) → AreMade own sources.list.items → AreTheirs sources own
+pub made_theirs : (sources : Sources) (own : List OwnPiece) → AreMade own (all_in sources) → AreTheirs sources own
 made_theirs sources own made = λ i s o s_is o_is.
     same (rc_value (rc_value s).tree) (tree_at o)
-    (sym (mapped_at (λ (s : Rc Source Global). rc_value (rc_value s).tree) sources.list.items i s s_is) ∙ ap (λ (ts : List Top). slice_get ts i) made
+    (sym (mapped_at (λ (s : Rc Source Global). rc_value (rc_value s).tree) (all_in sources) i s s_is) ∙ ap (λ (ts : List Top). slice_get ts i) made
     ∙ mapped_at tree_at own i o o_is)
   where
     same : (a b : Top) → Some a ≡ Some b → a ≡ b
     same a b q = cc
 
 -- nor is one of the last piece, where it is not held
-pub last_theirs : (sources : Sources) (own now : List OwnPiece) (o : OwnPiece) → now ≡ own ++ o ∷ [] → AreMade own sources.list.items → AreTheirs sources now
+pub last_theirs : (sources : Sources) (own now : List OwnPiece) (o : OwnPiece) → now ≡ own ++ o ∷ [] → AreMade own (all_in sources) → AreTheirs sources now
 last_theirs sources own now o grown made = λ i s p s_is p_is.
-    let n : length sources.list.items ≡ length own =
-    sym (length-map sources.list.items (λ (s : Rc Source Global). rc_value (rc_value s).tree)) ∙ ap length made ∙ length-map own tree_at in
-    made_theirs sources own made i s p s_is (front_at own (o ∷ []) i p (rw n at (slice_get_within sources.list.items i s s_is)) (sym (ap (λ ps. slice_get ps i) grown) ∙ p_is))
+    let n : length (all_in sources) ≡ length own =
+    sym (length-map (all_in sources) (λ (s : Rc Source Global). rc_value (rc_value s).tree)) ∙ ap length made ∙ length-map own tree_at in
+    made_theirs sources own made i s p s_is (front_at own (o ∷ []) i p (rw n at (slice_get_within (all_in sources) i s s_is)) (sym (ap (λ ps. slice_get ps i) grown) ∙ p_is))
   where
     front_at : {X : Type 0} (xs ys : List X) (i : ℕ) (x : X) → i < length xs → slice_get (xs ++ ys) i ≡ Some x → slice_get xs i ≡ Some x
     front_at [] ys i x h e = absurd (omega (arith, h))
@@ -50,7 +41,7 @@ last_theirs sources own now o grown made = λ i s p s_is p_is.
 
 -- no source is of no piece
 pub none_theirs : (sources : Sources) (own : List OwnPiece) → sources.list.items ≡ [] → AreTheirs sources own
-none_theirs sources own none = λ i s o s_is o_is. absurd (no_source sources.list.items none i s s_is)
+none_theirs sources own none = λ i s o s_is o_is. absurd (no_source (all_in sources) (ap pieces_of none) i s s_is)
   where
     no_source : (list : List (Rc Source Global)) → list ≡ [] → (i : ℕ) (s : Rc Source Global) → slice_get list i ≡ Some s → ⊥
     no_source [] e i s q = cc

@@ -26,13 +26,13 @@ use Rattle.bridge.specs.declared.fault.ReadFault.{ReadFault}
 use Rattle.expander.specs.ByTrees.{own_top}
 use Rattle.expander.specs.OwnPieces.{AreOwn, own_of, own_shown, tree_at}
 use Rattle.bridge.specs.Parts.{begins_with_mark, part_steps, placed_on, starts_with_mark, steps_before}
-use Rattle.expander.specs.PieceReading.{AddsPiece, AreMet, IsBlank, IsLastPiece, IsMet, IsReadPiece, IsSourceHere, KeepsSource, Passed}
+use Rattle.expander.specs.PieceReading.{AddsPieces, IsBlank, IsLastPiece, IsReadPiece, IsSourceHere, KeepsSource, Passed}
 use Rattle.expander.specs.Pieces.{cut, first_start, pieces, relative, separated}
-use Rattle.expander.specs.Sources.{IsSource, IsOpen, IsWhole, StandsFirst, StandsHere, bytes_of, chars_ahead}
+use Rattle.expander.specs.Sources.{AreReadAs, IsCutout, IsOpen, IsWhole, StandsHere, bytes_of, chars_ahead}
 use Rattle.expander.specs.declared.own_pieces.OwnPiece.{OwnPiece}
 use Rattle.expander.specs.declared.pieces.Shape.TheVariants.{Whole}
+use Rattle.expander.specs.declared.sources.Cutout.{Cutout}
 use Rattle.expander.specs.declared.sources.Source.{Source}
-use Rattle.expander.specs.declared.sources.Sources.{Sources}
 use Rattle.expander.proofs.ApartLemmas.{separated-joined}
 
 -- ---- trees elsewhere
@@ -96,7 +96,7 @@ with_front-joined : (f g : Forest) (r : Result Forest ReadFault) → with_front 
 with_front-joined f g (Ok h) = ap Ok (sym (joined_assoc f g h))
 with_front-joined f g (Err e) = refl
 
-placed_append : (at : ℕ) (bytes rest : List ℕ) (tokens left : List Token) → bytes_of tokens ≡ length bytes
+pub placed_append : (at : ℕ) (bytes rest : List ℕ) (tokens left : List Token) → bytes_of tokens ≡ length bytes
     → placed_from at (bytes ++ rest) (tokens ++ left) ≡ placed_from at bytes tokens ++ placed_from (at + length bytes) rest left
 placed_append at [] rest [] left e = ap (λ (n : ℕ). placed_from n rest left) (omega arith)
 placed_append at (b ∷ bytes) rest [] left e = absurd (omega (arith, e))
@@ -133,7 +133,7 @@ abbrev pub NextLaw : Type 0
 NextLaw = (text : List ℕ) (at : ℕ) (left : List Token) (t : Token) (ts : List Token)
     → IsUtf8 text → AreTokensFrom text at left → left ≡ t ∷ ts → AreTokensFrom text (at + t.len) ts
 
-stand_behind : NextLaw → (text : List ℕ) → IsUtf8 text → (at : ℕ) (tokens left : List Token) → AreTokensFrom text at (tokens ++ left)
+pub stand_behind : NextLaw → (text : List ℕ) → IsUtf8 text → (at : ℕ) (tokens left : List Token) → AreTokensFrom text at (tokens ++ left)
     → AreTokensFrom text (at + bytes_of tokens) left
 stand_behind next text utf8 at [] left here = subst (λ (n : ℕ). AreTokensFrom text n left) (omega arith) here
 stand_behind next text utf8 at (t ∷ tokens) left here =
@@ -141,22 +141,6 @@ stand_behind next text utf8 at (t ∷ tokens) left here =
     let same : at + t.len + bytes_of tokens ≡ at + bytes_of (t ∷ tokens) = omega (arith, sum) in
     subst (λ (n : ℕ). AreTokensFrom text n left) same
     (stand_behind next text utf8 (at + t.len) tokens left (next text at (t ∷ (tokens ++ left)) t (tokens ++ left) utf8 here refl))
-
-pub blank_passed : NextLaw → (text : List ℕ) → IsUtf8 text → (at : ℕ) (t : Token) (left more : List Token) (own : List OwnPiece)
-    → left ≡ t ∷ more → IsBlank t.kind → Passed text at left own → Passed text (at + t.len) more own
-blank_passed next text utf8 at t left more own is blank p =
-    let first : PlacedToken = record { kind = t.kind; start = at; text = take t.len (drop at text) } in
-    record {
-      front = p.front;
-      ps = p.ps;
-      here = next text at left t more utf8 p.here is;
-      reads = p.reads
-          ∙ ap (λ (ts : List Token). with_front p.front (reading (steps_of (placed_from at (drop at text) ts)))) is
-          ∙ ap (λ (ss : List TextStep). with_front p.front (reading (ss ++ steps_of (placed_from (at + t.len) (drop t.len (drop at text)) more)))) (blank first (placed_from (at + t.len) (drop t.len (drop at text)) more))
-          ∙ ap (λ (bs : List ℕ). with_front p.front (reading (steps_of (placed_from (at + t.len) bs more)))) (drop-drop t.len at text);
-      cuts = p.cuts;
-      are_own = p.are_own;
-    }
 
 -- where all tokens were passed the pieces are all
 pub all_passed : (text : List ℕ) (at : ℕ) (left : List Token) (own : List OwnPiece) → left ≡ [] → Passed text at left own
@@ -169,9 +153,14 @@ all_passed text at left own none p = (
   ),
 )
 
+-- the first tokens of a text hang on their own bytes and the two characters behind them
+abbrev pub FirstLaw : Type 0
+FirstLaw = (k n : ℕ) (text other : List ℕ) → IsUtf8 text → bytes_of (take k (tokens_of (chars text))) ≡ n
+    → take n text ≡ take n other → take 2 (chars (drop n text)) ≡ take 2 (chars (drop n other))
+    → take k (tokens_of (chars other)) ≡ take k (tokens_of (chars text))
+
 -- ---- what is known of parts of a text
 pub record PartLaws : Type 0 where
-  pub behind : (f : Forest) (more : List TextStep) → reading (map step (walk f) ++ more) ≡ with_front f (reading more)
   pub tokens : (a b : List PlacedToken) → steps_of (a ++ b) ≡ steps_before a b ++ steps_of b
   pub elsewhere : (at count : ℕ) (text : List ℕ) (tokens : List Token) (f : Forest)
       → IsReading (part_steps 0 count text tokens) f → IsReading (part_steps at count text tokens) (map_spans (placed_on at) f)
@@ -180,10 +169,7 @@ pub record PartLaws : Type 0 where
   pub equal : (at : ℕ) (text s rest : List ℕ) (tokens ts more : List Token) (after : List PlacedToken)
       → text ≡ s ++ rest → tokens ≡ ts ++ more → bytes_of ts ≡ length s → starts_with_mark after ≡ begins_with_mark more
       → part_steps at (length ts) text tokens ≡ steps_before (placed_from at s ts) after
-  pub next : NextLaw
-  pub first : (k n : ℕ) (text other : List ℕ) → IsUtf8 text → bytes_of (take k (tokens_of (chars text))) ≡ n
-      → take n text ≡ take n other → take 2 (chars (drop n text)) ≡ take 2 (chars (drop n other))
-      → take k (tokens_of (chars other)) ≡ take k (tokens_of (chars text))
+  pub first : FirstLaw
 
 -- trees in places of their own are no other elsewhere
 abbrev pub SameTreeLaw : Type 0
@@ -193,112 +179,121 @@ abbrev pub AtFirstLaw : Type 0
 AtFirstLaw = (f : Forest) → first_start f ≡ 0 → relative f ≡ f
 
 -- a piece in the text, whose tree is in places of its own
-own_at : SameTreeLaw → AtFirstLaw → (p : Forest) (at : ℕ) (o : OwnPiece) → p ≢ empty → first_start p ≡ 0 → o.start ≡ at → tree_at o ≡ own_top p
-    → own_shown o ≡ own_of (map_spans (placed_on at) p)
-own_at same_tree at_first p at o some first start tree =
-    let tree_is : tree_at o ≡ own_top (relative (map_spans (placed_on at) p)) = tree ∙ ap own_top (sym (same_tree at p ∙ at_first p first)) in
-    let start_is : o.start ≡ first_start (map_spans (placed_on at) p) = start ∙ sym (first_placed at p some first) in
+own_is : SameTreeLaw → AtFirstLaw → (p : Forest) (at : ℕ) (t : Top) → p ≢ empty → first_start p ≡ 0 → t ≡ own_top p
+    → own_of (map_spans (placed_on at) p) ≡ (at, t)
+own_is same_tree at_first p at t some first tree =
+    let tree_is : own_top (relative (map_spans (placed_on at) p)) ≡ t = ap own_top (same_tree at p ∙ at_first p first) ∙ sym tree in
+    let start_is : first_start (map_spans (placed_on at) p) ≡ at = first_placed at p some first in
     λ i. (start_is i, tree_is i)
 
--- one that is held
-own_piece : (laws : PartLaws) (s : Source) (is : IsSource s) (at : ℕ) (o : OwnPiece) → o.start ≡ at → tree_at o ≡ rc_value s.tree
-    → own_shown o ≡ own_of (map_spans (placed_on at) (separated is.forest))
-own_piece laws s is at o start tree =
-    own_at laws.same_tree laws.at_first (separated is.forest) at o (some_whole (separated is.forest) is.whole) is.at_first start (tree ∙ is.tree)
+-- where tokens stand first in a text they are its first
+pub stands_tokens : (c : Cutout) (tokens : List Token) → IsCutout c tokens → (text : List ℕ) (left : List Token) → left ≡ tokens_of (chars text) → StandsHere c text
+    → left ≡ tokens ++ drop c.count left
+stands_tokens c tokens is text left are here =
+    sym (take-append-drop c.count left) ∙ ap (λ (ts : List Token). ts ++ drop c.count left) (ap (take c.count) are ∙ is.same text here)
 
--- where a piece stands its tokens do
-stands_tokens : (s : Source) (is : IsSource s) (text : List ℕ) (left : List Token) → left ≡ tokens_of (chars text) → StandsHere s text
-    → left ≡ is.tokens ++ drop s.count left
-stands_tokens s is text left are here =
-    sym (take-append-drop s.count left) ∙ ap (λ (ts : List Token). ts ++ drop s.count left) (ap (take s.count) are ∙ is.same text here)
+-- a token that is read as nothing
+pub blank_reads : (t : Token) (bytes : List ℕ) (mark : Bool) → IsBlank t.kind → AreReadAs bytes (t ∷ []) mark (λ at. [])
+blank_reads t bytes mark blank = record {
+  forest = λ at. empty;
+  ps = λ at. [];
+  reads = λ at after follows.
+      let first : PlacedToken = record { kind = t.kind; start = at; text = take t.len bytes } in
+      ap (λ (ss : List TextStep). ss ++ steps_of after) (blank first after);
+  cuts = λ at g. refl;
+  are = λ at. refl;
+}
 
--- a piece more
-pub source_passed : (laws : PartLaws) (text : List ℕ) → IsUtf8 text → (s : Source) (at : ℕ) (left : List Token) (own now : List OwnPiece) (o : OwnPiece)
-    → IsSource s → StandsFirst s (drop at text) left → o.start ≡ at → tree_at o ≡ rc_value s.tree → now ≡ own ++ o ∷ [] → Passed text at left own
-    → Passed text (at + length s.bytes) (drop s.count left) now
-source_passed laws text utf8 s at left own now o is stands start tree grown p =
-    let n : ℕ = length s.bytes in
-    let k : ℕ = s.count in
-    let f : Forest = map_spans (placed_on at) is.forest in
-    let tokens : left ≡ is.tokens ++ drop k left = stands_tokens s is (drop at text) left p.here.tokens stands.here in
-    let later : List PlacedToken = placed_from (at + n) (drop n (drop at text)) (drop k left) in
-    let placed : placed_from at (drop at text) left ≡ placed_from at s.bytes is.tokens ++ later =
-    ap (λ (bs : List ℕ). placed_from at bs left) stands.here.bytes
-    ∙ ap (placed_from at (s.bytes ++ drop n (drop at text))) tokens
-    ∙ placed_append at s.bytes (drop n (drop at text)) is.tokens (drop k left) is.long in
+-- what is passed of a text is read behind what was
+pub passed_on : ((f : Forest) (more : List TextStep) → reading (map step (walk f) ++ more) ≡ with_front f (reading more)) → NextLaw → (text : List ℕ) → IsUtf8 text
+    → (at : ℕ) (bytes : List ℕ) (tokens : List Token) (mark : Bool) (shown : ℕ → List (ℕ × Top)) (left more : List Token) (own now : List OwnPiece)
+    → AreReadAs bytes tokens mark shown → left ≡ tokens ++ more → drop at text ≡ bytes ++ drop (length bytes) (drop at text) → bytes_of tokens ≡ length bytes
+    → begins_with_mark more ≡ mark → AddsPieces (shown at) own now → Passed text at left own → Passed text (at + length bytes) more now
+passed_on behind next text utf8 at bytes tokens mark shown left more own now are left_is bytes_are long mark_is adds p =
+    let n : ℕ = length bytes in
+    let f : Forest = are.forest at in
+    let later : List PlacedToken = placed_from (at + n) (drop n (drop at text)) more in
+    let placed : placed_from at (drop at text) left ≡ placed_from at bytes tokens ++ later =
+    ap (λ (bs : List ℕ). placed_from at bs left) bytes_are
+    ∙ ap (placed_from at (bytes ++ drop n (drop at text))) left_is
+    ∙ placed_append at bytes (drop n (drop at text)) tokens more long in
     let steps : steps_of (placed_from at (drop at text) left) ≡ map step (walk f) ++ steps_of later =
-    ap steps_of placed ∙ is.reads at later (first_mark (at + n) (drop n (drop at text)) (drop k left) ∙ stands.mark) in
+    ap steps_of placed ∙ are.reads at later (first_mark (at + n) (drop n (drop at text)) more ∙ mark_is) in
     record {
       front = joined p.front f;
-      ps = p.ps ++ map_spans (placed_on at) (separated is.forest) ∷ [];
-      here = subst (λ (m : ℕ). AreTokensFrom text (at + m) (drop k left)) is.long
-          (stand_behind laws.next text utf8 at is.tokens (drop k left) (subst (AreTokensFrom text at) tokens p.here));
+      ps = p.ps ++ are.ps at;
+      here = subst (λ (m : ℕ). AreTokensFrom text (at + m) more) long (stand_behind next text utf8 at tokens more (subst (AreTokensFrom text at) left_is p.here));
       reads = p.reads
           ∙ ap (λ (ss : List TextStep). with_front p.front (reading ss)) steps
-          ∙ ap (with_front p.front) (laws.behind f (steps_of later))
+          ∙ ap (with_front p.front) (behind f (steps_of later))
           ∙ with_front-joined p.front f (reading (steps_of later))
-          ∙ ap (λ (bs : List ℕ). with_front (joined p.front f) (reading (steps_of (placed_from (at + n) bs (drop k left))))) (drop-drop n at text);
+          ∙ ap (λ (bs : List ℕ). with_front (joined p.front f) (reading (steps_of (placed_from (at + n) bs more)))) (drop-drop n at text);
       cuts = λ g.
           ap pieces (joined_assoc p.front f g)
           ∙ p.cuts (joined f g)
-          ∙ ap (λ (ps : List Forest). p.ps ++ ps) (pieces_behind (placed_on at) is.forest g is.whole)
-          ∙ sym (append_assoc p.ps (map_spans (placed_on at) (separated is.forest) ∷ []) (pieces g));
-      are_own = ap (map own_shown) grown
-          ∙ map-append own_shown own (o ∷ [])
-          ∙ ap (λ (xs : List (ℕ × Top)). xs ++ own_shown o ∷ []) p.are_own
-          ∙ ap (λ (x : ℕ × Top). map own_of p.ps ++ x ∷ []) (own_piece laws s is at o start tree)
-          ∙ sym (map-append own_of p.ps (map_spans (placed_on at) (separated is.forest) ∷ []));
+          ∙ ap (λ (ps : List Forest). p.ps ++ ps) (are.cuts at g)
+          ∙ sym (append_assoc p.ps (are.ps at) (pieces g));
+      are_own = ap (map own_shown) adds.items
+          ∙ map-append own_shown own adds.more
+          ∙ ap (λ (xs : List (ℕ × Top)). xs ++ map own_shown adds.more) p.are_own
+          ∙ ap (λ (xs : List (ℕ × Top)). map own_of p.ps ++ xs) (adds.are ∙ sym (are.are at))
+          ∙ sym (map-append own_of p.ps (are.ps at));
     }
 
 -- ---- a piece that was read by itself
 
 -- a text that begins with the same bytes, before the same characters, has the same first tokens
-same_tokens : (laws : PartLaws) (s : Source) (bytes : List ℕ) (left : List Token) (n : ℕ) → IsUtf8 bytes → left ≡ tokens_of (chars bytes)
-    → n ≡ bytes_of (take s.count left) → s.bytes ≡ take n bytes → length s.bytes ≡ n → chars_ahead s.ahead ≡ take 2 (chars (drop n bytes))
-    → (text : List ℕ) → StandsHere s text → take s.count (tokens_of (chars text)) ≡ take s.count left
-same_tokens laws s bytes left n utf8 are n_is bytes_are size ahead text here =
-    let sum : bytes_of (take s.count (tokens_of (chars bytes))) ≡ n = ap (λ (ts : List Token). bytes_of (take s.count ts)) (sym are) ∙ sym n_is in
-    let begins : take n text ≡ s.bytes =
-    ap (take n) here.bytes ∙ take-append-le n s.bytes (drop (length s.bytes) text) (omega (arith, size)) ∙ take_all n s.bytes (omega (arith, size)) in
+pub same_tokens : FirstLaw → (c : Cutout) (bytes : List ℕ) (left : List Token) (n : ℕ) → IsUtf8 bytes → left ≡ tokens_of (chars bytes)
+    → n ≡ bytes_of (take c.count left) → c.bytes ≡ take n bytes → length c.bytes ≡ n → chars_ahead c.ahead ≡ take 2 (chars (drop n bytes))
+    → (text : List ℕ) → StandsHere c text → take c.count (tokens_of (chars text)) ≡ take c.count left
+same_tokens first c bytes left n utf8 are n_is bytes_are size ahead text here =
+    let sum : bytes_of (take c.count (tokens_of (chars bytes))) ≡ n = ap (λ (ts : List Token). bytes_of (take c.count ts)) (sym are) ∙ sym n_is in
+    let begins : take n text ≡ c.bytes =
+    ap (take n) here.bytes ∙ take-append-le n c.bytes (drop (length c.bytes) text) (omega (arith, size)) ∙ take_all n c.bytes (omega (arith, size)) in
     let two : take 2 (chars (drop n bytes)) ≡ take 2 (chars (drop n text)) =
     sym ahead ∙ sym here.ahead ∙ ap (λ (m : ℕ). take 2 (chars (drop m text))) size in
-    laws.first s.count n bytes text utf8 sum (sym bytes_are ∙ sym begins) two ∙ ap (take s.count) (sym are)
+    first c.count n bytes text utf8 sum (sym bytes_are ∙ sym begins) two ∙ ap (take c.count) (sym are)
 
-pub is_source : (laws : PartLaws) (s : Source) (bytes : List ℕ) (left : List Token) (n : ℕ) (f : Forest) (t : Top)
-    → IsUtf8 bytes → left ≡ tokens_of (chars bytes) → s.count ≤ length left → 1 ≤ s.count → n ≤ length bytes → n ≡ bytes_of (take s.count left)
-    → s.bytes ≡ take n bytes → chars_ahead s.ahead ≡ take 2 (chars (drop n bytes)) → s.mark ≡ begins_with_mark (drop s.count left) → rc_value s.tree ≡ t
-    → t.delimiter ≡ text_top → t.inner ≡ separated f → IsReading (part_steps 0 s.count bytes left) f → IsWhole t.inner → first_start t.inner ≡ 0
-    → IsSource s × StandsFirst s bytes left
-is_source laws s bytes left n f t utf8 are within some fits n_is bytes_are ahead mark_is tree top inner read whole first =
-    let tokens : List Token = take s.count left in
-    let k : length tokens ≡ s.count = length-take-le s.count left within in
-    let m : length s.bytes ≡ n = ap length bytes_are ∙ length-take-le n bytes fits in
-    let long : bytes_of tokens ≡ length s.bytes = sym n_is ∙ sym m in
-    let stands_bytes : bytes ≡ s.bytes ++ drop (length s.bytes) bytes =
-    sym (take-append-drop n bytes) ∙ ap (λ (bs : List ℕ). bs ++ drop n bytes) (sym bytes_are) ∙ ap (λ (i : ℕ). s.bytes ++ drop i bytes) (sym m) in
-    let left_is : left ≡ tokens ++ drop s.count left = sym (take-append-drop s.count left) in
-    let equal_steps : (at : ℕ) (after : List PlacedToken) → starts_with_mark after ≡ s.mark → part_steps at s.count bytes left ≡ steps_before (placed_from at s.bytes tokens) after =
-    λ at after follows. ap (λ (i : ℕ). part_steps at i bytes left) (sym k)
-    ∙ laws.equal at bytes s.bytes (drop (length s.bytes) bytes) left tokens (drop s.count left) after stands_bytes left_is long (follows ∙ mark_is) in (
+-- the first tokens of a text, which were cut out of it, stand first in it
+pub is_cutout : FirstLaw → (c : Cutout) (bytes : List ℕ) (left : List Token) (n : ℕ) → IsUtf8 bytes → left ≡ tokens_of (chars bytes)
+    → c.count ≤ length left → 1 ≤ c.count → n ≤ length bytes → n ≡ bytes_of (take c.count left) → c.bytes ≡ take n bytes
+    → chars_ahead c.ahead ≡ take 2 (chars (drop n bytes)) → IsCutout c (take c.count left) × StandsHere c bytes
+is_cutout first c bytes left n utf8 are within some fits n_is bytes_are ahead =
+    let m : length c.bytes ≡ n = ap length bytes_are ∙ length-take-le n bytes fits in
+    let stands_bytes : bytes ≡ c.bytes ++ drop (length c.bytes) bytes =
+    sym (take-append-drop n bytes) ∙ ap (λ (bs : List ℕ). bs ++ drop n bytes) (sym bytes_are) ∙ ap (λ (i : ℕ). c.bytes ++ drop i bytes) (sym m) in (
       record {
-        forest = f;
-        tokens = tokens;
-        count = k;
+        count = length-take-le c.count left within;
         some = some;
-        long = long;
-        same = same_tokens laws s bytes left n utf8 are n_is bytes_are m ahead;
-        reads = λ at after follows.
-            laws.tokens (placed_from at s.bytes tokens) after
-            ∙ ap (λ (ss : List TextStep). ss ++ steps_of after) (sym (equal_steps at after follows) ∙ laws.elsewhere at s.count bytes left f read);
-        whole = subst IsWhole inner whole;
-        at_first = ap first_start (sym inner) ∙ first;
-        tree = tree ∙ (λ i. record { delimiter = top i; inner = inner i });
+        long = sym n_is ∙ sym m;
+        same = same_tokens first c bytes left n utf8 are n_is bytes_are m ahead;
       },
-      record {
-        here = record { bytes = stands_bytes; ahead = ap (λ (i : ℕ). take 2 (chars (drop i bytes))) m ∙ sym ahead };
-        mark = sym mark_is;
-      },
+      record { bytes = stands_bytes; ahead = ap (λ (i : ℕ). take 2 (chars (drop i bytes))) m ∙ sym ahead },
     )
+
+-- what tokens of one piece are read as
+piece_reads : (laws : PartLaws) (s : Source) (bytes : List ℕ) (left : List Token) (f : Forest) (t : Top)
+    → IsCutout s.cutout (take s.cutout.count left) → StandsHere s.cutout bytes → s.cutout.mark ≡ begins_with_mark (drop s.cutout.count left)
+    → rc_value s.tree ≡ t → t.delimiter ≡ text_top → t.inner ≡ separated f → IsReading (part_steps 0 s.cutout.count bytes left) f → IsWhole t.inner → first_start t.inner ≡ 0
+    → AreReadAs s.cutout.bytes (take s.cutout.count left) s.cutout.mark (λ at. (at, rc_value s.tree) ∷ [])
+piece_reads laws s bytes left f t is here mark_is tree top inner read whole first =
+    let k : ℕ = s.cutout.count in
+    let tokens : List Token = take k left in
+    let left_is : left ≡ tokens ++ drop k left = sym (take-append-drop k left) in
+    let equal_steps : (at : ℕ) (after : List PlacedToken) → starts_with_mark after ≡ s.cutout.mark → part_steps at k bytes left ≡ steps_before (placed_from at s.cutout.bytes tokens) after =
+    λ at after follows. ap (λ (i : ℕ). part_steps at i bytes left) (sym is.count)
+    ∙ laws.equal at bytes s.cutout.bytes (drop (length s.cutout.bytes) bytes) left tokens (drop k left) after here.bytes left_is is.long (follows ∙ mark_is) in
+    let is_whole : IsWhole (separated f) = subst IsWhole inner whole in
+    let tree_is : rc_value s.tree ≡ own_top (separated f) = tree ∙ (λ i. record { delimiter = top i; inner = inner i }) in
+    record {
+      forest = λ at. map_spans (placed_on at) f;
+      ps = λ at. map_spans (placed_on at) (separated f) ∷ [];
+      reads = λ at after follows.
+          laws.tokens (placed_from at s.cutout.bytes tokens) after
+          ∙ ap (λ (ss : List TextStep). ss ++ steps_of after) (sym (equal_steps at after follows) ∙ laws.elsewhere at k bytes left f read);
+      cuts = λ at g. pieces_behind (placed_on at) f g is_whole;
+      are = λ at. ap (λ (x : ℕ × Top). x ∷ []) (own_is laws.same_tree laws.at_first (separated f) at (rc_value s.tree) (some_whole (separated f) is_whole) (ap first_start (sym inner) ∙ first) tree_is);
+    }
 
 -- what was read, with what it was read from
 pub source_here : (laws : PartLaws) (bytes word : List ℕ) (left first after : List Token) (count n : ℕ) (t : Top) (s : Source)
@@ -306,11 +301,17 @@ pub source_here : (laws : PartLaws) (bytes word : List ℕ) (left first after : 
     → word ≡ take n bytes → first ≡ take count left → after ≡ drop count left
     → KeepsSource word (drop n bytes) count after t s → IsReadPiece (part_steps 0 count bytes left) Whole t → IsSourceHere bytes left s
 source_here laws bytes word left first after count n t s utf8 are within some fits n_is word_is first_is after_is kept read =
-    let c : s.count ≡ count = kept.count_is in
-    let is = is_source laws s bytes left n read.forest t utf8 are (rw c within) (rw c some) fits (n_is ∙ ap bytes_of first_is ∙ ap (λ (i : ℕ). bytes_of (take i left)) (sym c))
-    (kept.bytes ∙ word_is) kept.ahead (kept.mark ∙ ap begins_with_mark after_is ∙ ap (λ (i : ℕ). begins_with_mark (drop i left)) (sym c)) kept.tree read.top read.apart
+    let c : s.cutout.count ≡ count = kept.count_is in
+    let is = is_cutout laws.first s.cutout bytes left n utf8 are (rw c within) (rw c some) fits (n_is ∙ ap bytes_of first_is ∙ ap (λ (i : ℕ). bytes_of (take i left)) (sym c))
+    (kept.bytes ∙ word_is) kept.ahead in
+    let mark_is : s.cutout.mark ≡ begins_with_mark (drop s.cutout.count left) =
+    kept.mark ∙ ap begins_with_mark after_is ∙ ap (λ (i : ℕ). begins_with_mark (drop i left)) (sym c) in
+    let reads = piece_reads laws s bytes left read.forest t is.0 is.1 mark_is kept.tree read.top read.apart
     (subst (λ (i : ℕ). IsReading (part_steps 0 i bytes left) read.forest) (sym c) read.read) read.shaped read.at_first in
-    record { right = is.0; stands = is.1 }
+    record {
+      right = record { tokens = take s.cutout.count left; cutout = is.0; reads = reads };
+      stands = record { here = is.1; mark = sym mark_is };
+    }
 
 -- one more token of a list
 pub one_more : (left more : List Token) (t : Token) → left ≡ t ∷ more → (drop 1 left ≡ more) × (length (drop 1 left) < length left)
@@ -318,26 +319,12 @@ one_more left more t e =
     let is : drop 1 left ≡ more = ap (drop 1) e in
     (is, omega (arith, ap length is, ap length e))
 
-pub piece_passed : (laws : PartLaws) (text : List ℕ) → IsUtf8 text → (s : Source) (at : ℕ) (left : List Token) (own now : List OwnPiece)
-    → (m : Option ℕ) → IsSourceHere (drop at text) left s → AddsPiece at s m own now → Passed text at left own
-    → Passed text (at + length s.bytes) (drop s.count left) now
-piece_passed laws text utf8 s at left own now m is adds p =
-    source_passed laws text utf8 s at left own now adds.piece is.right is.stands adds.start adds.tree adds.items p
-
--- a piece more that is the held one that it names
-pub piece_met : (held : Sources) (s : Source) (at : ℕ) (m : Option ℕ) (own now : List OwnPiece) → AddsPiece at s m own now → IsMet held m (rc_value s.tree)
-    → AreMet held own → AreMet held now
-piece_met held s at m own now adds is all =
-    let one : IsMet held adds.piece.met (tree_at adds.piece) = rw (adds.met, adds.tree) is in
-    subst (AreMet held) (sym adds.items) (All-append (λ (o : OwnPiece). IsMet held o.met (tree_at o)) own (adds.piece ∷ []) all
-    (All-cons (λ (o : OwnPiece). IsMet held o.met (tree_at o)) adds.piece [] one (All-nil (λ (o : OwnPiece). IsMet held o.met (tree_at o)))))
-
--- fewer tokens are left behind a piece
-pub piece_shortens : (text : List ℕ) (at : ℕ) (left : List Token) (s : Source) → AreTokensFrom text at left → IsSourceHere (drop at text) left s
-    → length (drop s.count left) < length left
-piece_shortens text at left s here is =
-    let tokens = stands_tokens s is.right (drop at text) left here.tokens is.stands.here in
-    omega (arith, is.right.some, is.right.count, ap length tokens, length-append is.right.tokens (drop s.count left))
+-- fewer tokens are left behind those that stand first
+pub fewer_left : (c : Cutout) (tokens : List Token) → IsCutout c tokens → (text : List ℕ) (left : List Token) → left ≡ tokens_of (chars text) → StandsHere c text
+    → length (drop c.count left) < length left
+fewer_left c tokens is text left are here =
+    let whole = stands_tokens c tokens is text left are here in
+    omega (arith, is.some, is.count, ap length whole, length-append tokens (drop c.count left))
 
 -- ---- the last piece, which nothing ends
 pub record LastLaws : Type 0 where
@@ -373,7 +360,8 @@ last_read laws text at left own o now grown is p =
     let are : pieces (joined p.front f) ≡ p.ps ++ map_spans (placed_on at) (separated is.forest) ∷ [] =
     p.cuts f ∙ ap (λ (ps : List Forest). p.ps ++ ps) last in
     let its_own : own_shown o ≡ own_of (map_spans (placed_on at) (separated is.forest)) =
-    own_at laws.same_tree laws.at_first (separated is.forest) at o (some_open (separated is.forest) is.opens) is.at_first is.start is.tree in (
+    (λ i. (is.start i, tree_at o))
+    ∙ sym (own_is laws.same_tree laws.at_first (separated is.forest) at (tree_at o) (some_open (separated is.forest) is.opens) is.at_first is.tree) in (
       joined p.front f,
       whole,
       ap (map own_shown) grown

@@ -29,7 +29,7 @@ use Rattle.expander.specs.Replies.{HasCause, Replies}
 use Rattle.expander.specs.Reuse.{HeldPiece, IsHeld, looked_held}
 use Rattle.expander.specs.Shown.{ShowsMeaning, ShowsOutput}
 use Rattle.expander.specs.State.{State, layers_of}
-use Rattle.expander.specs.Sources.{AreSources}
+use Rattle.expander.specs.Sources.{AreSources, all_in}
 use Rattle.expander.specs.TakenTexts.{TakesText}
 use Rattle.expander.specs.Takings.{IsTaken, NeedsMore}
 use Rattle.expander.specs.TextTurn.{is_unmatched}
@@ -72,7 +72,7 @@ module _ (equal : (f g : Forest) → (same_forest f g ≡ true) ↔ (f ≡ g)) (
 
   -- it is held rightly
   taken_right : (now : Taken) → IsTaken (world grammar edition) edition depth old (layers grammar edition) (definition_trees ps) (news now) now
-      → (sources : Sources) → AreSources sources → AreLinked (plain_tops now.plains.items) (definition_tops now.numbers.definitions.items) sources.list.items now.links.items → IsMemory (world grammar edition) depth edition (memory_of now sources)
+      → (sources : Sources) → AreSources sources → AreLinked (plain_tops now.plains.items) (definition_tops now.numbers.definitions.items) (all_in sources) now.links.items → IsMemory (world grammar edition) depth edition (memory_of now sources)
   taken_right now t sources are links = record {
     unread = λ e. absurd (cc e);
     numbers = numbers_now equal old.given (numbers_in old.by_tree) (trees_of old) (definition_trees ps) now.numbers.given (numbers_in now.numbers.by_tree) t.numbers.numbers;
@@ -87,7 +87,7 @@ module _ (equal : (f g : Forest) → (same_forest f g ≡ true) ↔ (f ≡ g)) (
 
   pub takes_text : (now : Taken) (e : Expanded) → IsTaken (world grammar edition) edition depth old (layers grammar edition) (definition_trees ps) (news now) now
       → ((steps : List PlacedStep) → HasOutput now.steps steps → ShowsOutput now.faults.items now.expanded steps e)
-      → (sources : Sources) → AreSources sources → AreLinked (plain_tops now.plains.items) (definition_tops now.numbers.definitions.items) sources.list.items now.links.items → TakesText grammar edition depth old ps e (memory_of now sources)
+      → (sources : Sources) → AreSources sources → AreLinked (plain_tops now.plains.items) (definition_tops now.numbers.definitions.items) (all_in sources) now.links.items → TakesText grammar edition depth old ps e (memory_of now sources)
   takes_text now e t shown sources are links =
       let shows : ShowsOutput now.faults.items now.expanded (flat_map output_of (map present (news now))) e = shown (flat_map output_of (map present (news now))) t.steps in
       record {

@@ -50,6 +50,7 @@ pub mod ByTrees
 pub mod NumberedTexts
 pub mod TakenTexts
 pub mod Cutting
+pub mod PartTrees
 pub mod OwnPieces
 pub mod Sources
 pub mod PieceReading

@@ -5,6 +5,7 @@ use Rattle.tt.specs.Tops.{Top}
 use Rattle.tt_data.specs.Forest.{Forest, map_spans}
 use Rattle.expander.specs.ByTrees.{own_top}
 use Rattle.expander.specs.Held.{StandFromFirst, moved_on}
+use Rattle.expander.specs.PartTrees.{part_tree}
 use Rattle.expander.specs.Pieces.{first_start, relative}
 use Rattle.expander.specs.declared.own_pieces.OwnPiece.{OwnPiece}
 use Rattle.expander.specs.declared.own_pieces.PieceTree.{PieceTree}
@@ -14,6 +15,7 @@ use Rattle.expander.specs.declared.own_pieces.PieceTree.TheVariants as held
 abbrev pub tree_in : PieceTree → Top
 tree_in (held.Alone tree) = rc_value tree
 tree_in (held.Source source) = rc_value (rc_value source).tree
+tree_in (held.Part placed) = part_tree (rc_value placed.stretch).parts.items placed.at
 
 -- the same of the piece
 abbrev pub tree_at : OwnPiece → Top

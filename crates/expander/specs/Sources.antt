@@ -1,5 +1,5 @@
 -- What is held of the text that was read last, to read the next one by.
-use Rattle.std.specs.Prelude.{◌≡◌, ℕ, ◌≤◌, All, List, [], ◌∷◌, ◌++◌, Option, None, Some, chars, drop, length, map, slice_get, take, ⊤}
+use Rattle.std.specs.Prelude.{◌≡◌, ℕ, ◌+◌, ◌≤◌, All, Bool, List, [], ◌∷◌, ◌++◌, Option, None, Some, chars, drop, flat_map, length, map, slice_get, take, ⊤}
 use Rattle.std.specs.Global.{Global}
 use Rattle.std.specs.List.{sum_by}
 use Rattle.std.specs.Rc.{rc_value}
@@ -11,14 +11,19 @@ use Rattle.rustc_lexer.specs.declared.token.Token.{Token}
 use Rattle.tt_data.specs.Forest.{Forest, joined, map_spans}
 use Rattle.tt_data.specs.Walk.{walk}
 use Rattle.tt_data.specs.declared.span.Span.{Span}
-use Rattle.expander.specs.ByTrees.{own_top}
-use Rattle.bridge.specs.Parts.{begins_with_mark, placed_on, starts_with_mark}
-use Rattle.expander.specs.Pieces.{cut, first_start, separated}
+use Rattle.tt.specs.Tops.{Top}
+use Rattle.bridge.specs.Parts.{begins_with_mark, starts_with_mark}
+use Rattle.expander.specs.OwnPieces.{own_of}
+use Rattle.expander.specs.Pieces.{cut, pieces}
 use Rattle.expander.specs.declared.pieces.Shape.{Shape}
 use Rattle.expander.specs.declared.pieces.Shape.TheVariants.{Open, Other, Whole}
 use Rattle.expander.specs.declared.sources.Ahead.{Ahead}
+use Rattle.expander.specs.declared.sources.Cutout.{Cutout}
+use Rattle.expander.specs.declared.sources.HeldStretch.{HeldStretch}
+use Rattle.expander.specs.declared.sources.Part.{Part}
 use Rattle.expander.specs.declared.sources.Source.{Source}
 use Rattle.expander.specs.declared.sources.Sources.{Sources}
+use Rattle.expander.specs.declared.sources.Stretch.{Stretch}
 
 -- one whole piece, wherever it stands and whatever follows
 abbrev pub IsWhole : Forest → Type 0
@@ -47,39 +52,89 @@ one_ahead (Some c) more = c ∷ more
 abbrev pub chars_ahead : Ahead → List ℕ
 chars_ahead a = one_ahead a.first (one_ahead a.second [])
 
--- the bytes of a piece stand first in a text, before the characters that were ahead
-pub record StandsHere (s : Source) (text : List ℕ) : Type 0 where
-  pub bytes : text ≡ s.bytes ++ drop (length s.bytes) text
-  pub ahead : take 2 (chars (drop (length s.bytes) text)) ≡ chars_ahead s.ahead
+-- these tokens stand first in a text, by their bytes and the characters that were ahead
+pub record StandsHere (c : Cutout) (text : List ℕ) : Type 0 where
+  pub bytes : text ≡ c.bytes ++ drop (length c.bytes) text
+  pub ahead : take 2 (chars (drop (length c.bytes) text)) ≡ chars_ahead c.ahead
 
--- where a piece stands first in a text its tokens are the text's first, and they are read as one whole piece wherever
--- they stand, where a punct follows as it did
+-- where they stand first in a text its first tokens are these
+pub record IsCutout (c : Cutout) (tokens : List Token) : Type 0 where
+  pub count : length tokens ≡ c.count
+  pub some : 1 ≤ c.count
+  pub long : bytes_of tokens ≡ length c.bytes
+  pub same : (text : List ℕ) → StandsHere c text → take c.count (tokens_of (chars text)) ≡ tokens
+
+-- tokens with these bytes are read as trees wherever they stand, where a punct follows as it did, and where they stand
+-- these trees are pieces that start at these places and have these trees of their own
+pub record AreReadAs (bytes : List ℕ) (tokens : List Token) (mark : Bool) (shown : ℕ → List (ℕ × Top)) : Type 0 where
+  pub forest : ℕ → Forest
+  pub ps : ℕ → List Forest
+  pub reads : (at : ℕ) (after : List PlacedToken) → starts_with_mark after ≡ mark
+      → steps_of (placed_from at bytes tokens ++ after) ≡ map step (walk (forest at)) ++ steps_of after
+  pub cuts : (at : ℕ) (g : Forest) → pieces (joined (forest at) g) ≡ ps at ++ pieces g
+  pub are : (at : ℕ) → map own_of (ps at) ≡ shown at
+
+-- the tokens of a piece are read as it, wherever they stand
 pub record IsSource (s : Source) : Type 0 where
-  pub forest : Forest
   pub tokens : List Token
-  pub count : length tokens ≡ s.count
-  pub some : 1 ≤ s.count
-  pub long : bytes_of tokens ≡ length s.bytes
-  pub same : (text : List ℕ) → StandsHere s text → take s.count (tokens_of (chars text)) ≡ tokens
-  pub reads : (at : ℕ) (after : List PlacedToken) → starts_with_mark after ≡ s.mark
-      → steps_of (placed_from at s.bytes tokens ++ after) ≡ map step (walk (map_spans (placed_on at) forest)) ++ steps_of after
-  pub whole : IsWhole (separated forest)
-  pub at_first : first_start (separated forest) ≡ 0
-  pub tree : rc_value s.tree ≡ own_top (separated forest)
+  pub cutout : IsCutout s.cutout tokens
+  pub reads : AreReadAs s.cutout.bytes tokens s.cutout.mark (λ at. (at, rc_value s.tree) ∷ [])
 
--- a piece stands first in a text with these tokens, and a punct follows as it did
-pub record StandsFirst (s : Source) (text : List ℕ) (left : List Token) : Type 0 where
-  pub here : StandsHere s text
-  pub mark : begins_with_mark (drop s.count left) ≡ s.mark
+-- the tree of a part
+abbrev pub part_top : Part → Top
+part_top p = rc_value (rc_value p.source).tree
 
--- each piece is right by itself
-abbrev pub AreListed : List (Rc Source Global) → Type 0
-AreListed list = All (λ (q : Rc Source Global). IsSource (rc_value q)) list
+-- where a part stands whose stretch stands here, and its tree
+abbrev pub part_shown : ℕ → Part → ℕ × Top
+part_shown at p = (at + p.before, part_top p)
+
+-- each part begins in its stretch, and is right by itself
+abbrev pub AreParts : ℕ → List Part → Type 0
+AreParts bytes parts = All (λ (p : Part). (p.before ≤ bytes) × IsSource (rc_value p.source)) parts
+
+-- the tokens of a stretch are read as its parts, wherever they stand
+pub record IsStretch (s : Stretch) : Type 0 where
+  pub tokens : List Token
+  pub cutout : IsCutout s.cutout tokens
+  pub reads : AreReadAs s.cutout.bytes tokens s.cutout.mark (λ at. map (part_shown at) s.parts.items)
+  pub parts : AreParts (length s.cutout.bytes) s.parts.items
+
+-- tokens stand first in a text with these tokens, and a punct follows as it did
+pub record StandsFirst (c : Cutout) (text : List ℕ) (left : List Token) : Type 0 where
+  pub here : StandsHere c text
+  pub mark : begins_with_mark (drop c.count left) ≡ c.mark
+
+-- the pieces of parts
+abbrev pub sources_of : List Part → List (Rc Source Global)
+sources_of parts = map (λ (p : Part). p.source) parts
+
+-- the pieces of stretches, in order
+abbrev pub pieces_of : List HeldStretch → List (Rc Source Global)
+pieces_of list = flat_map (λ (h : HeldStretch). sources_of (rc_value h.stretch).parts.items) list
+
+-- each stretch knows how many pieces are held before it, the first of them so many
+abbrev pub AreCounted : ℕ → List HeldStretch → Type 0
+AreCounted n [] = ⊤
+AreCounted n (h ∷ more) = (h.first ≡ n) × AreCounted (n + length (rc_value h.stretch).parts.items) more
+
+-- stretches are right by themselves, and know how many pieces are held before them
+pub record AreListed (list : List HeldStretch) : Type 0 where
+  pub right : All (λ (h : HeldStretch). IsStretch (rc_value h.stretch)) list
+  pub counted : AreCounted 0 list
+
+-- all pieces that are held
+abbrev pub all_in : Sources → List (Rc Source Global)
+all_in sources = pieces_of sources.list.items
 
 -- the held piece of this number
 abbrev pub IsHeldAt : Sources → ℕ → Source → Type 0
-IsHeldAt sources i s = (q : Rc Source Global) × (slice_get sources.list.items i ≡ Some q) × (rc_value q ≡ s)
+IsHeldAt sources i s = (q : Rc Source Global) × (slice_get (all_in sources) i ≡ Some q) × (rc_value q ≡ s)
 
--- so is each that is held
+-- a held stretch, and its pieces among all that are held
+pub record IsHeldStretch (sources : Sources) (h : HeldStretch) : Type 0 where
+  pub right : IsStretch (rc_value h.stretch)
+  pub among : (i : ℕ) (p : Part) → slice_get (rc_value h.stretch).parts.items i ≡ Some p → slice_get (all_in sources) (h.first + i) ≡ Some p.source
+
+-- all that is held is right
 abbrev pub AreSources : Sources → Type 0
 AreSources sources = AreListed sources.list.items

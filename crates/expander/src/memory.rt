@@ -10,6 +10,7 @@ ghost use Rattle.expander.specs.Memories.{IsMemory, held_in, trees_of};
 ghost use Rattle.expander.specs.OwnPieces.{tree_at};
 ghost use Rattle.expander.specs.PieceReading.{IsMet};
 ghost use Rattle.expander.specs.Plains.{IsPlain};
+ghost use Rattle.expander.specs.Sources.{all_in};
 
 use crate::by_tree::ByTree;
 use crate::links::Link;
@@ -73,7 +74,7 @@ impl Memory {
 
     // What a piece was, where it was met.
     fn link_of(&self, own: &OwnPiece) -> Option<Link>
-        requires linked { AreLinked (plain_tops self.now.plains.items) (definition_tops self.now.definitions.items) self.now.sources.list.items self.now.links.items }
+        requires linked { AreLinked (plain_tops self.now.plains.items) (definition_tops self.now.definitions.items) (all_in self.now.sources) self.now.links.items }
         requires met { IsMet self.now.sources own.now.met (tree_at own.now) }
         ensures { IfSome result (λ link. linked (plain_tops self.now.plains.items) (definition_tops self.now.definitions.items) link ≡ Some (tree_at own.now)) }
     {
@@ -88,7 +89,7 @@ impl Memory {
 
     /// The index of the plain piece that a piece was, where it was met.
     pub(crate) fn plain_at(&self, own: &OwnPiece) -> Option<usize>
-        requires linked { AreLinked (plain_tops self.now.plains.items) (definition_tops self.now.definitions.items) self.now.sources.list.items self.now.links.items }
+        requires linked { AreLinked (plain_tops self.now.plains.items) (definition_tops self.now.definitions.items) (all_in self.now.sources) self.now.links.items }
         requires met { IsMet self.now.sources own.now.met (tree_at own.now) }
         ensures { IfSome result (λ i. slice_get (plain_tops self.now.plains.items) i ≡ Some (tree_at own.now)) }
     {
@@ -100,7 +101,7 @@ impl Memory {
 
     /// The definition that a piece was, where it was met.
     pub(crate) fn definition_at(&self, own: &OwnPiece) -> Option<&Rc<Known>>
-        requires linked { AreLinked (plain_tops self.now.plains.items) (definition_tops self.now.definitions.items) self.now.sources.list.items self.now.links.items }
+        requires linked { AreLinked (plain_tops self.now.plains.items) (definition_tops self.now.definitions.items) (all_in self.now.sources) self.now.links.items }
         requires met { IsMet self.now.sources own.now.met (tree_at own.now) }
         requires listed { AreInTable self.now.by_tree self.now.definitions.items }
         ensures { IfSome result (λ k. known_in self.now.by_tree (tree_at own.now) ≡ Some k.now.value) }
@@ -144,7 +145,7 @@ impl Memory {
 
     /// Whether a piece is a definition. The tree of one that was met is not looked at.
     pub(crate) fn is_definition(&self, own: &OwnPiece) -> bool
-        requires linked { AreLinked (plain_tops self.now.plains.items) (definition_tops self.now.definitions.items) self.now.sources.list.items self.now.links.items }
+        requires linked { AreLinked (plain_tops self.now.plains.items) (definition_tops self.now.definitions.items) (all_in self.now.sources) self.now.links.items }
         requires met { IsMet self.now.sources own.now.met (tree_at own.now) }
         requires plain { All (λ q. IsPlain (rc_value q)) self.now.plains.items }
         ensures { result ≡ is_some (definition_of (tree_at own.now).inner) }

@@ -8,6 +8,7 @@ use crate::copies::again;
 use crate::own_places::{own_tree, start_of};
 use crate::own_tree::OwnTree;
 use crate::pieces::next_piece;
+use crate::placed::Placed;
 use crate::sources::Source;
 use std::alloc::Global;
 use std::rc::Rc;
@@ -19,6 +20,7 @@ use tt_data::TtFault;
 pub(crate) enum PieceTree {
     Alone(Rc<OwnTree>),
     Source(Rc<Source>),
+    Part(Placed),
 }
 
 impl PieceTree {
@@ -29,6 +31,7 @@ impl PieceTree {
         match self {
             PieceTree::Alone(tree) => tree,
             PieceTree::Source(source) => &source.as_ref().tree,
+            PieceTree::Part(placed) => placed.tree(),
         }
     }
 }

@@ -6,19 +6,20 @@ ghost use Rattle.rustc_lexer.specs.Standing.{AreTokensFrom};
 ghost use Rattle.tt_data.specs.fault.TtFault.TheVariants as fault;
 ghost use Rattle.bridge.specs.Parts.{part_steps};
 ghost use Rattle.expander.specs.OwnPieces.{tree_at};
-ghost use Rattle.expander.specs.PieceReading.{AddsPiece, AreMade, AreMet, AreTheirs, IsBlank, IsLastPiece, IsMet, IsReadPiece, IsSourceHere, KeepsSource, Passed};
+ghost use Rattle.expander.specs.PieceReading.{AreMet, AreTheirs, IsBlank, IsLastPiece, IsMet, IsPassing, IsReadPiece, IsSourceHere, KeepsSource};
 ghost use Rattle.expander.specs.ReadPieces.{IsReadInPieces};
-ghost use Rattle.expander.specs.Sources.{AreListed, AreSources, bytes_of, chars_ahead};
+ghost use Rattle.expander.specs.Sources.{AreSources, bytes_of, chars_ahead};
 ghost use Rattle.expander.specs.Words.{HoldsText};
 ghost use Rattle.expander.specs.declared.read_pieces.ReadPieces.TheVariants.{Pieces};
 
 use crate::own_pieces::{OwnPiece, PieceTree};
 use crate::own_places::start_of;
 use crate::own_tree::OwnTree;
+use crate::passing::{Passing, behind, pass_stretch};
 use crate::piece_end::piece_end;
 use crate::pieces::{Shape, set_apart, shape_of};
 use crate::seeking::{Seeker, seek_source};
-use crate::sources::{Ahead, Source, Sources, ahead_at};
+use crate::sources::{Ahead, Cutout, Source, Sources, ahead_at};
 use crate::word::{Word, Words};
 use bridge::{Names, Read, begins_with_mark, read_part};
 use rustc_lexer::{Token, TokenKind, laws};
@@ -111,13 +112,13 @@ fn source_of(
         Ok(tree) => tree,
         Err(e) => return Err(AllocError::from(e)),
     };
-    let source = Source {
+    let cutout = Cutout {
         bytes,
         ahead,
         count,
         mark,
-        tree,
     };
+    let source = Source { cutout, tree };
     match Rc::new(alloc, source) {
         Ok(source) => Ok(source),
         Err(e) => Err(AllocError::from(e)),
@@ -142,8 +143,6 @@ fn read_source(
     bridge::laws::parts_of_a_text();
     bridge::laws::parts_at_other_places();
     bridge::laws::equal_parts();
-    bridge::laws::reading_behind();
-    laws::next_token();
     laws::first_tokens();
     let Some(count) = piece_end(tokens) else {
         return Ok(None);
@@ -216,14 +215,6 @@ fn words_of(alloc: Global, text: &str, held: &Sources) -> Result<Words, AllocErr
     }
 }
 
-// What was passed of a text.
-#[derive(Drop)]
-struct Passing {
-    own: Vec<OwnPiece>,
-    list: Vec<Rc<Source>>,
-    seeker: Seeker,
-}
-
 // The piece that stands first, held or read, and its number where it is held.
 fn next_source(
     alloc: Global,
@@ -253,43 +244,45 @@ fn next_source(
     }
 }
 
-// The piece stands at this place, told by the held one of this number, if by one.
-fn pass(
-    own: &mut Vec<OwnPiece>,
-    list: &mut Vec<Rc<Source>>,
-    at: u32,
-    source: Rc<Source>,
-    met: Option<usize>,
-) -> Result<(), AllocError>
-    ensures own { OnOk result (AddsPiece at (rc_value source) met own.old.items own.new.items) }
-    ensures list { OnOk result (list.new.items ≡ list.old.items ++ source ∷ []) }
-{
-    let tree = PieceTree::Source(source.clone()?);
-    own.push(OwnPiece {
-        start: at,
-        tree,
-        met,
-    })?;
-    list.push(source)?;
-    Ok(())
-}
-
-// What follows the first tokens and their bytes: where it begins, and its tokens.
-fn behind<'a>(tokens: &'a [Token], at: u32, len: usize, count: usize) -> Option<(u32, &'a [Token])>
-    ensures { IfSome result (λ r. (r.0 ≡ at + len) × (r.1.now ≡ drop count tokens.now)) }
-{
-    let Ok(len) = u32::try_from(len) else {
-        return None;
-    };
-    let end = at.checked_add(len)?;
-    if count > tokens.len() {
-        return None;
-    }
-    let (_, after) = tokens.split_at(count);
-    Some((end, after))
-}
-
 // The next token or piece is passed: how many bytes and tokens it has.
+fn pass_one(
+    alloc: Global,
+    names: &mut Names,
+    words: &Words,
+    held: &Sources,
+    now: &mut Passing,
+    text: &str,
+    at: u32,
+    left: &[Token],
+) -> Result<Option<(usize, usize)>, TtFault>
+    requires small { length text.now < 2 ^ 32 }
+    requires words { HoldsText words.now text.now }
+    requires right { AreSources held.now }
+    requires passing { IsPassing held.now text.now at left.now now.old }
+    ensures passing { IfOk result (λ size. IfSome size (λ n. IsPassing held.now text.now (at + n.0) (drop n.1 left.now) now.new)) }
+    ensures shorter { IfOk result (λ size. IfSome size (λ n. length (drop n.1 left.now) < length left.now)) }
+    ensures none { IfOk result (λ size. size ≡ None → IsPassing held.now text.now at left.now now.new) }
+    ensures memory { IsOkUnless result fault.Memory }
+{
+    bridge::laws::reading_behind();
+    laws::next_token();
+    let Some((token, _more)) = left.split_first() else {
+        return Ok(None);
+    };
+    if is_blank(token.kind) {
+        return Ok(Some((token.len as usize, 1)));
+    }
+    let seeker = &mut now.seeker;
+    let Some((source, met)) = next_source(alloc, names, words, held, seeker, text, at, left)? else {
+        return Ok(None);
+    };
+    let bytes = source.as_ref().cutout.bytes.len();
+    let count = source.as_ref().cutout.count;
+    now.pass(at, source, met)?;
+    Ok(Some((bytes, count)))
+}
+
+// The next stretch, piece or token is passed: how many bytes and tokens it has.
 fn pass_next(
     alloc: Global,
     names: &mut Names,
@@ -301,55 +294,37 @@ fn pass_next(
     left: &[Token],
 ) -> Result<Option<(usize, usize)>, TtFault>
     requires small { length text.now < 2 ^ 32 }
-    requires tokens { AreTokensFrom text.now at left.now }
     requires words { HoldsText words.now text.now }
     requires right { AreSources held.now }
-    ensures passed { IfOk result (λ size. IfSome size (λ n. Passed text.now at left.now now.old.own.items → Passed text.now (at + n.0) (drop n.1 left.now) now.new.own.items)) }
-    ensures listed { IfOk result (λ size. IfSome size (λ n. AreListed now.old.list.items → AreListed now.new.list.items)) }
-    ensures made { IfOk result (λ size. IfSome size (λ n. AreMade now.old.own.items now.old.list.items → AreMade now.new.own.items now.new.list.items)) }
-    ensures met { IfOk result (λ size. IfSome size (λ n. AreMet held.now now.old.own.items → AreMet held.now now.new.own.items)) }
+    requires passing { IsPassing held.now text.now at left.now now.old }
+    ensures passing { IfOk result (λ size. IfSome size (λ n. IsPassing held.now text.now (at + n.0) (drop n.1 left.now) now.new)) }
     ensures shorter { IfOk result (λ size. IfSome size (λ n. length (drop n.1 left.now) < length left.now)) }
-    ensures none { IfOk result (λ size. size ≡ None → (now.new.own ≡ now.old.own) × (now.new.list ≡ now.old.list)) }
+    ensures none { IfOk result (λ size. size ≡ None → IsPassing held.now text.now at left.now now.new) }
     ensures memory { IsOkUnless result fault.Memory }
 {
-    bridge::laws::parts_of_a_text();
-    bridge::laws::parts_at_other_places();
-    bridge::laws::equal_parts();
-    bridge::laws::reading_behind();
-    laws::next_token();
-    laws::first_tokens();
-    let Some((token, _more)) = left.split_first() else {
-        return Ok(None);
-    };
-    if is_blank(token.kind) {
-        return Ok(Some((token.len as usize, 1)));
+    if let Some(size) = pass_stretch(alloc, words, held, now, text, at, left)? {
+        return Ok(Some(size));
     }
-    let seeker = &mut now.seeker;
-    let Some((source, met)) = next_source(alloc, names, words, held, seeker, text, at, left)? else {
-        return Ok(None);
-    };
-    let bytes = source.as_ref().bytes.len();
-    let count = source.as_ref().count;
-    pass(&mut now.own, &mut now.list, at, source, met)?;
-    Ok(Some((bytes, count)))
+    now.end_long(alloc, words, text, at, left)?;
+    pass_one(alloc, names, words, held, now, text, at, left)
 }
 
 // The pieces of a text whose last one, which nothing ends, is left, and what is held of them: the last one is not.
 fn with_last(
     alloc: Global,
     names: &mut Names,
-    passed: Passing,
+    words: &Words,
+    mut now: Passing,
     text: &str,
     at: u32,
     left: &[Token],
 ) -> Result<Option<(Vec<OwnPiece>, Sources)>, TtFault>
     requires small { length text.now < 2 ^ 32 }
-    requires passed { Passed text.now at left.now passed.own.items }
-    requires listed { AreListed passed.list.items }
-    requires made { AreMade passed.own.items passed.list.items }
+    requires words { HoldsText words.now text.now }
+    requires passing { (held : Sources) × IsPassing held text.now at left.now now }
     ensures read { IfOk result (λ read. IfSome read (λ p. IsReadInPieces text.now (Pieces p.0 p.1))) }
     ensures theirs { IfOk result (λ read. IfSome read (λ p. AreTheirs p.1 p.0.items)) }
-    ensures met { IfOk result (λ read. IfSome read (λ p. (held : Sources) → AreMet held passed.own.items → AreMet held p.0.items)) }
+    ensures met { (held : Sources) → AreMet held now.own.items → IfOk result (λ read. IfSome read (λ p. AreMet held p.0.items)) }
     ensures memory { IsOkUnless result fault.Memory }
 {
     bridge::laws::parts_of_a_text();
@@ -358,26 +333,12 @@ fn with_last(
     let Some(last) = read_last(alloc, names, text, at, left)? else {
         return Ok(None);
     };
-    let Passing { mut own, list, .. } = passed;
+    now.end(alloc, words, text, at, left)?;
+    let Passing { mut own, list, .. } = now;
     if let Err(e) = own.push(last) {
         return Err(AllocError::from(e).into());
     }
     Ok(Some((own, Sources { list })))
-}
-
-// No piece was passed. There is room for one more than are held.
-fn nothing_passed(alloc: Global, held: &Sources) -> Result<Passing, AllocError>
-    ensures own { IfOk result (λ now. now.own.items ≡ []) }
-    ensures list { IfOk result (λ now. now.list.items ≡ []) }
-{
-    let room = held.list.len().saturating_add(1);
-    let own = Vec::with_capacity(alloc, room)?;
-    let list = Vec::with_capacity(alloc, room)?;
-    Ok(Passing {
-        own,
-        list,
-        seeker: Seeker::new(held),
-    })
 }
 
 /// The pieces of a text, and what is held of them: none where one of them cannot be read by itself.
@@ -398,7 +359,7 @@ pub(crate) fn read_by_pieces(
     laws::tokens_begin();
     let mut names = Names::new(alloc);
     let words = words_of(alloc, text, held)?;
-    let mut now = nothing_passed(alloc, held)?;
+    let mut now = Passing::new(alloc, held, tokens)?;
     let mut at: u32 = 0;
     let mut left = tokens;
     while !left.is_empty() {
@@ -406,7 +367,7 @@ pub(crate) fn read_by_pieces(
             alloc, &mut names, &words, held, &mut now, text, at, left,
         )?
         else {
-            return with_last(alloc, &mut names, now, text, at, left);
+            return with_last(alloc, &mut names, &words, now, text, at, left);
         };
         let Some((end, after)) = behind(left, at, len, count) else {
             return Ok(None);
@@ -414,6 +375,7 @@ pub(crate) fn read_by_pieces(
         at = end;
         left = after;
     }
+    now.end(alloc, &words, text, at, left)?;
     let Passing { own, list, .. } = now;
     Ok(Some((own, Sources { list })))
 }

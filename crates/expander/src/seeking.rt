@@ -10,17 +10,14 @@ use rustc_lexer::Token;
 use std::rc::Rc;
 use tt_data::TtFault;
 
-// How many held pieces are looked at ahead.
-const RUN: usize = 32;
-
 // How many held pieces are tried at a place.
 const TRIED: usize = 16;
 
 /// Where the next held piece is looked for.
 #[derive(Drop)]
 pub(crate) struct Seeker {
-    // Behind the one that was met last.
-    next: usize,
+    /// Behind the one that was met last.
+    pub next: usize,
     // Where that was before the last leap.
     left: usize,
     // How many may be tried far ahead: as many as are held, and some more for each place of the text, so that all take
@@ -36,7 +33,7 @@ impl Seeker {
         Seeker {
             next: 0,
             left: 0,
-            saved: held.list.len(),
+            saved: held.len(),
             missed: false,
         }
     }
@@ -44,6 +41,12 @@ impl Seeker {
     // This one was met, near the one that was met last.
     fn step(&mut self, i: usize) {
         self.next = i.saturating_add(1);
+        self.missed = false;
+    }
+
+    /// So many were met, one behind another, where the next one was looked for.
+    pub(crate) fn pass(&mut self, count: usize) {
+        self.next = self.next.saturating_add(count);
         self.missed = false;
     }
 
@@ -67,7 +70,7 @@ fn seek_far(
     ensures memory { IsOkUnless result fault.Memory }
 {
     let from = seeker.next.saturating_add(TRIED);
-    let ahead = held.list.len().saturating_sub(from);
+    let ahead = held.len().saturating_sub(from);
     if seeker.saved < ahead {
         return Ok(None);
     }
@@ -78,31 +81,6 @@ fn seek_far(
     }
     seeker.saved = seeker.saved.saturating_sub(ahead);
     Ok(None)
-}
-
-// How much there is of a held piece, by its tokens and its last byte.
-fn size_of(source: &Source) -> usize {
-    match source.bytes.as_slice().last() {
-        Some(last) => source.count.saturating_add(*last as usize),
-        None => source.count,
-    }
-}
-
-// Looks at the held pieces from this one on, where it is the first of a run of them, so that the processor waits once for
-// all that they have, and not at each. It tells whether there is a number of how much that is.
-fn look_ahead(held: &Sources, from: usize) -> bool {
-    if from % RUN != 0 {
-        return true;
-    }
-    let end = from.saturating_add(RUN).min(held.list.len());
-    let mut sum: usize = 0;
-    for i in from..end {
-        let Some(more) = sum.checked_add(size_of(held.list[i].as_ref())) else {
-            return false;
-        };
-        sum = more;
-    }
-    true
 }
 
 /// A held piece that stands first in a text with these tokens, and its place: those behind the one that was met last
@@ -118,9 +96,6 @@ pub(crate) fn seek_source(
     ensures number { IfOk result (λ found. IfSome found (λ p. IsHeldAt held.now p.0 (rc_value p.1))) }
     ensures memory { IsOkUnless result fault.Memory }
 {
-    if !look_ahead(held, seeker.next) {
-        return Err(TtFault::Memory);
-    }
     seeker.saved = seeker.saved.saturating_add(TRIED);
     if let Some((i, source)) = find_source(held, seeker.next, text, tokens, TRIED)? {
         seeker.step(i);

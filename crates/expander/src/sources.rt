@@ -1,10 +1,10 @@
 // What is held of the text that was read last, to read the next one by.
-ghost use Rattle.std.specs.Prelude.{◌≡◌, ◌≤◌, ◌++◌, [], IfOk, IfSome, IsOkUnless, chars, drop, length, take, true};
+ghost use Rattle.std.specs.Prelude.{◌≡◌, ◌≤◌, ◌++◌, [], IfOk, IfSome, IsOkUnless, Some, chars, drop, length, slice_get, take, true};
 ghost use Rattle.bridge.specs.Parts.{begins_with_mark};
 ghost use Rattle.std.specs.Rc.{rc_value};
 ghost use Rattle.tt_data.specs.fault.TtFault.TheVariants as fault;
 ghost use Rattle.expander.specs.PieceReading.{IsSourceHere};
-ghost use Rattle.expander.specs.Sources.{AreSources, IsHeldAt, StandsFirst, chars_ahead};
+ghost use Rattle.expander.specs.Sources.{AreSources, IsHeldAt, IsHeldStretch, IsSource, StandsFirst, all_in, chars_ahead};
 
 use crate::own_tree::OwnTree;
 use crate::word::Word;
@@ -21,24 +21,53 @@ pub(crate) struct Ahead {
     second: Option<char>,
 }
 
-/// A piece with what it was read from.
+/// Some tokens of a text, and what they stood before: where their bytes stand before the same, they are the same tokens.
 #[derive(Drop)]
-pub(crate) struct Source {
-    /// The bytes of its tokens.
+pub(crate) struct Cutout {
+    /// The bytes of the tokens.
     pub bytes: Word,
     pub ahead: Ahead,
-    /// How many tokens it has, blanks between them included.
+    /// How many tokens there are, blanks included.
     pub count: usize,
     /// Whether a token that is read as a punct followed.
     pub mark: bool,
+}
+
+/// A piece with what it was read from.
+#[derive(Drop)]
+pub(crate) struct Source {
+    pub cutout: Cutout,
     /// Its tree, in places of its own.
     pub tree: Rc<OwnTree>,
+}
+
+/// A piece of a stretch.
+#[derive(Drop)]
+pub(crate) struct Part {
+    /// How many bytes of the stretch stand before it.
+    pub before: u32,
+    pub source: Rc<Source>,
+}
+
+/// Pieces that stood one behind another, with the blanks around them.
+#[derive(Drop)]
+pub(crate) struct Stretch {
+    pub cutout: Cutout,
+    pub parts: Vec<Part>,
+}
+
+/// A stretch that is held.
+#[derive(Drop)]
+pub(crate) struct HeldStretch {
+    /// How many pieces are held before it.
+    pub first: usize,
+    pub stretch: Rc<Stretch>,
 }
 
 /// What is held of the text that was read last: its pieces, in order.
 #[derive(Drop)]
 pub(crate) struct Sources {
-    pub list: Vec<Rc<Source>>,
+    pub list: Vec<HeldStretch>,
 }
 
 impl Sources {
@@ -51,6 +80,64 @@ impl Sources {
             list: Vec::new(alloc),
         }
     }
+
+    /// How many pieces there are.
+    pub(crate) fn len(&self) -> usize {
+        match self.list.last() {
+            Some(held) => held.first.saturating_add(held.stretch.as_ref().parts.len()),
+            None => 0,
+        }
+    }
+
+    // The stretch that has the piece of this number, if one has it.
+    fn stretch_with(&self, number: usize) -> Option<&HeldStretch>
+        requires { AreSources self.now }
+        ensures { IfSome result (λ h. IsHeldStretch self.now h.now) }
+    {
+        let (mut low, mut high) = (0, self.list.len());
+        while high - low > 1 {
+            let middle = low + (high - low) / 2;
+            if self.list[middle].first <= number {
+                low = middle;
+            } else {
+                high = middle;
+            }
+        }
+        if low < self.list.len() {
+            Some(&self.list[low])
+        } else {
+            None
+        }
+    }
+
+    /// The piece of this number.
+    pub(crate) fn get(&self, number: usize) -> Option<&Rc<Source>>
+        requires { AreSources self.now }
+        ensures held { IfSome result (λ q. slice_get (all_in self.now) number ≡ Some q.now) }
+        ensures right { IfSome result (λ q. IsSource (rc_value q.now)) }
+    {
+        let held = self.stretch_with(number)?;
+        let at = number.checked_sub(held.first)?;
+        let parts = held.stretch.as_ref().parts.as_slice();
+        if at < parts.len() {
+            Some(&parts[at].source)
+        } else {
+            None
+        }
+    }
+
+    /// The stretch that begins with the piece of this number, if one does.
+    pub(crate) fn begins(&self, number: usize) -> Option<&HeldStretch>
+        requires { AreSources self.now }
+        ensures { IfSome result (λ h. IsHeldStretch self.now h.now) }
+    {
+        let held = self.stretch_with(number)?;
+        if held.first == number {
+            Some(held)
+        } else {
+            None
+        }
+    }
 }
 
 // Whether a text begins with these bytes.
@@ -58,6 +145,16 @@ fn begins_with_bytes(text: &[u8], first: &[u8]) -> bool
     ensures { result ≡ true → text.now ≡ first.now ++ drop (length first.now) text.now }
 {
     text.starts_with(first)
+}
+
+/// The first two characters of a text.
+pub(crate) fn ahead_of(text: &str) -> Ahead
+    ensures { chars_ahead result ≡ take 2 (chars text.now) }
+{
+    let mut chars = text.chars();
+    let first = chars.next();
+    let second = chars.next();
+    Ahead { first, second }
 }
 
 /// The characters behind a place: none where it stands between no two characters.
@@ -68,10 +165,7 @@ pub(crate) fn ahead_at(text: &str, at: usize) -> Option<Ahead>
     if !text.is_char_boundary(at) {
         return None;
     }
-    let mut chars = text[at..].chars();
-    let first = chars.next();
-    let second = chars.next();
-    Some(Ahead { first, second })
+    Some(ahead_of(&text[at..]))
 }
 
 // Whether these are the characters behind a place.
@@ -95,13 +189,13 @@ fn is_followed(tokens: &[Token], count: usize, mark: bool) -> bool
     begins_with_mark(after) == mark
 }
 
-// Whether the piece stands first in a text with these tokens.
-fn stands_first(source: &Source, text: &str, tokens: &[Token]) -> bool
-    ensures { result ≡ true → StandsFirst source.now text.now tokens.now }
+/// Whether these tokens stand first in a text with these tokens, before the same.
+pub(crate) fn stands_first(cutout: &Cutout, text: &str, tokens: &[Token]) -> bool
+    ensures { result ≡ true → StandsFirst cutout.now text.now tokens.now }
 {
-    begins_with_bytes(text.as_bytes(), source.bytes.as_slice())
-        && is_ahead(source.ahead, text, source.bytes.len())
-        && is_followed(tokens, source.count, source.mark)
+    begins_with_bytes(text.as_bytes(), cutout.bytes.as_slice())
+        && is_ahead(cutout.ahead, text, cutout.bytes.len())
+        && is_followed(tokens, cutout.count, cutout.mark)
 }
 
 /// A held piece that stands first in a text with these tokens, and its place: so many from `next` on are tried.
@@ -117,10 +211,11 @@ pub(crate) fn find_source(
     ensures number { IfOk result (λ found. IfSome found (λ p. IsHeldAt held.now p.0 (rc_value p.1))) }
     ensures memory { IsOkUnless result fault.Memory }
 {
-    let last = next.saturating_add(tried).min(held.list.len());
-    for i in next..last {
-        let source = &held.list[i];
-        if stands_first(source.as_ref(), text, tokens) {
+    for i in next..next.saturating_add(tried) {
+        let Some(source) = held.get(i) else {
+            return Ok(None);
+        };
+        if stands_first(&source.as_ref().cutout, text, tokens) {
             return match source.clone() {
                 Ok(source) => Ok(Some((i, source))),
                 Err(_) => Err(TtFault::Memory),

@@ -1,20 +1,27 @@
-use Rattle.std.proofs.lemmas.List.Elements.{All-nil}
-use Rattle.std.specs.Rc.{rc_value}
-use Rattle.expander.specs.OwnPieces.{tree_at}
-use Rattle.expander.specs.PieceReading.{IsMet}
-use Rattle.expander.specs.Sources.{IsSource}
-use Rattle.expander.specs.declared.own_pieces.OwnPiece.{OwnPiece}
-use Rattle.expander.proofs.MadeLemmas.{made_none, made_theirs}
-use Rattle.expander.proofs.ReadPartLemmas.{none_passed}
+use Rattle.std.proofs.Common.{◌≡◌, [], rules}
+use Rattle.expander.specs.PieceReading.{AreMet, IsPassing}
+use Rattle.expander.proofs.MadeLemmas.{made_theirs}
+use Rattle.expander.proofs.PassingLemmas.{made_all, no_item}
+use Rattle.expander.proofs.ReadPartLemmas.{all_passed}
 use Rattle.expander.proofs.reading.read_by_pieces.Goals as goal
 
-pub loop-left-init : goal.loop-left-init
-loop-left-init c = (
-  rw (c.in_ok-now.ensures.own, c.requires.tokens) (none_passed c.args.text.now (c.tokens_begin.ensures c.args.text.now c.utf8.text)),
-  rw c.in_ok-now.ensures.list (All-nil (λ q. IsSource (rc_value q))),
-  rw c.in_ok-now.ensures.own (All-nil (λ (o : OwnPiece). IsMet c.args.held.now o.met (tree_at o))),
-  rw (c.in_ok-now.ensures.own, c.in_ok-now.ensures.list) made_none,
-)
+pub with_last-requires-clause-passing : goal.with_last-requires-clause-passing
+with_last-requires-clause-passing c = (c.args.held.now, search rules)
+
+pub returns-in_default-clause-met : goal.returns-in_default-clause-met
+returns-in_default-clause-met c =
+    let p : IsPassing c.args.held.now c.args.text.now c.loop-names.at c.loop-names.left.now c.pass_next.new.now = search rules in
+    c.with_last.ensures.met c.args.held.now p.met
+
+pub returns-clause-read : goal.returns-clause-read
+returns-clause-read c =
+    let p : IsPassing c.args.held.now c.args.text.now c.loop-names.at c.loop-names.left.now c.end.new.self = c.in_ok-end.ensures.passing c.args.held.now c.loop-names.invariant in
+    let none : c.loop-names.left.now ≡ [] = no_item c.loop-names.left.now (search rules) in
+    let all = all_passed c.args.text.now c.loop-names.at c.loop-names.left.now c.end.new.self.own.items none p.passed in
+    (all.0, all.1.0, all.1.1, p.listed)
 
 pub returns-clause-theirs : goal.returns-clause-theirs
-returns-clause-theirs c = made_theirs (record { list = c.loop-left.now.list }) c.loop-left.now.own.items c.loop-left.invariant.3
+returns-clause-theirs c =
+    let p : IsPassing c.args.held.now c.args.text.now c.loop-names.at c.loop-names.left.now c.end.new.self = c.in_ok-end.ensures.passing c.args.held.now c.loop-names.invariant in
+    made_theirs (record { list = c.end.new.self.list }) c.end.new.self.own.items
+    (made_all c.args.held.now c.args.text.now c.loop-names.at c.loop-names.left.now c.end.new.self p c.in_ok-end.ensures.none)

@@ -7,13 +7,11 @@ use Rattle.expander.proofs.reading.read_source.Goals as goal
 pub returns-clause-found : goal.returns-clause-found
 returns-clause-found c =
     let parts : PartLaws = record {
-      behind = c.reading_behind.ensures;
       tokens = c.parts_of_a_text.ensures.tokens;
       elsewhere = c.parts_at_other_places.ensures.steps;
       same_tree = c.parts_at_other_places.ensures.relative;
       at_first = c.parts_at_other_places.ensures.first;
       equal = c.equal_parts.ensures.steps;
-      next = c.next_token.ensures.others;
       first = c.first_tokens.ensures.bytes;
     } in
     let some : 1 ≤ c.in-Some.count = omega (arith, c.if-count-eq0.false) in

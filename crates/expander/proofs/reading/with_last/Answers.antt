@@ -1,4 +1,7 @@
+use Rattle.std.proofs.Common.{rules}
+use Rattle.expander.specs.PieceReading.{IsPassing}
 use Rattle.expander.proofs.MadeLemmas.{last_theirs}
+use Rattle.expander.proofs.PassingLemmas.{made_all}
 use Rattle.expander.proofs.ReadPartLemmas.{LastLaws, last_read}
 use Rattle.expander.proofs.reading.with_last.Goals as goal
 
@@ -11,10 +14,13 @@ returns-clause-read c =
       same_tree = c.parts_at_other_places.ensures.relative;
       at_first = c.parts_at_other_places.ensures.first;
     } in
-    let is = last_read laws c.args.text.now c.args.at c.args.left.now c.args.passed.own.items c.in-Some.last _ c.in_default-push.ensures.items
-    (rw c.in-Some.is at c.in_ok-last.ensures.last) c.requires.passed in
-    (is.0, is.1, is.2, c.requires.listed)
+    let p : IsPassing c.requires.passing.0 c.args.text.now c.args.at c.args.left.now c.end.new.self = c.in_ok-end.ensures.passing c.requires.passing.0 c.requires.passing.1 in
+    let is = last_read laws c.args.text.now c.args.at c.args.left.now c.end.new.self.own.items c.in-Some.last _ c.in_default-push.ensures.items
+    (rw c.in-Some.is at c.in_ok-last.ensures.last) p.passed in
+    (is.0, is.1, is.2, p.listed)
 
 pub returns-clause-theirs : goal.returns-clause-theirs
 returns-clause-theirs c =
-    last_theirs (record { list = c.args.passed.list }) c.args.passed.own.items _ c.in-Some.last c.in_default-push.ensures.items c.requires.made
+    let p : IsPassing c.requires.passing.0 c.args.text.now c.args.at c.args.left.now c.end.new.self = c.in_ok-end.ensures.passing c.requires.passing.0 c.requires.passing.1 in
+    last_theirs (record { list = c.end.new.self.list }) c.end.new.self.own.items _ c.in-Some.last c.in_default-push.ensures.items
+    (made_all c.requires.passing.0 c.args.text.now c.args.at c.args.left.now c.end.new.self p c.in_ok-end.ensures.none)

@@ -1,10 +1,10 @@
-use Rattle.std.proofs.Common.{◌≡◌, ◌∙◌, IsUtf8, ap, chars, drop, rules, take, List, ℕ}
+use Rattle.std.proofs.Common.{◌≡◌, ◌∙◌, IsUtf8, ap, chars, rules, take, List, ℕ}
 use Rattle.expander.proofs.AheadLemmas.{two_ahead}
-use Rattle.expander.proofs.sources.ahead_at.Goals as goal
+use Rattle.expander.proofs.sources.ahead_of.Goals as goal
 
-pub returns-clause-ahead : goal.returns-clause-ahead
-returns-clause-ahead c =
-    let rest : c.chars-chars.result.rest.now ≡ drop c.args.at c.args.text.now = search rules in
+pub returns : goal.returns
+returns c =
+    let rest : c.chars-chars.result.rest.now ≡ c.args.text.now = search rules in
     let utf8 : IsUtf8 c.chars-chars.result.rest.now = search rules in
     two_ahead _ c.chars-chars.result.rest.now c.next-first.new.self.rest.now c.next-first.result c.next-second.result utf8 c.next-first.ensures.steps.0 c.next-second.ensures.steps.2
     ∙ ap (λ (bs : List ℕ). take 2 (chars bs)) rest
