@@ -16,6 +16,7 @@ use Rattle.expander.specs.Memories.{IsMemory, IsRight, looked_plain, piece_of}
 use Rattle.expander.specs.Held.{Numbered}
 use Rattle.expander.specs.NumberedTexts.{inner_of}
 use Rattle.expander.specs.Numbering.{numbered_by}
+use Rattle.expander.specs.OwnTrees.{tree_hash}
 use Rattle.expander.specs.Plains.{tree_of}
 use Rattle.expander.specs.Reuse.{IsHeld, looked_held}
 use Rattle.expander.specs.Sources.{AreSources}
@@ -25,9 +26,9 @@ use Rattle.expander.specs.declared.numbered.Known.{Known}
 use Rattle.expander.specs.declared.plain.Plain.{Plain}
 
 -- nothing is held rightly
-pub nothing : (m : code.Memory) → m.plains.items ≡ [] → m.definitions.items ≡ [] → ((t : Top) → known_in m.by_tree t ≡ None) → AreSources m.sources → m.links.items ≡ []
+pub nothing : (m : code.Memory) → m.plains.items ≡ [] → m.hashes.items ≡ [] → m.definitions.items ≡ [] → ((t : Top) → known_in m.by_tree t ≡ None) → AreSources m.sources → m.links.items ≡ []
     → (world : World Definition) (edition : Edition) (depth : ℕ) → IsMemory world depth edition m
-nothing m plains definitions none sources links world edition depth = record {
+nothing m plains hashes definitions none sources links world edition depth = record {
   unread = λ e. plains;
   numbers = record { within = λ t n e. absurd (no n (sym (empty t) ∙ e)); apart = λ t u n e f. absurd (no n (sym (empty t) ∙ e)) };
   have = λ t. ap is_some (empty t) ∙ ap (λ (ks : List (Rc Known Global)). list_any (same_forest t) (map (λ k. inner_of (rc_value k)) ks)) (sym definitions);
@@ -36,6 +37,7 @@ nothing m plains definitions none sources links world edition depth = record {
   read = λ t k e. absurd (no_known k (sym (none t) ∙ e));
   right = subst (λ (qs : List (Rc Plain Global)). All (λ q. IsRight world depth (numbers_in m.by_tree) (rc_value q)) qs) (sym plains)
       (All-nil (λ q. IsRight world depth (numbers_in m.by_tree) (rc_value q)));
+  hashes = hashes ∙ ap (map (λ (x : Rc Plain Global). tree_hash (tree_of (rc_value x)))) (sym plains);
   sources = sources;
   linked = λ i s l e f. absurd (no_link m.links.items links i l f);
 }

@@ -30,6 +30,7 @@ use Rattle.expander.specs.OutputSteps.{HasOutput, PutsOut}
 use Rattle.expander.specs.Outcomes.{Parts, numbered_of_known, parts_for, parts_of}
 use Rattle.expander.specs.Pieces.{first_start, relative}
 use Rattle.expander.specs.Placing.{resolved_faults, resolved_steps, told_if_broken}
+use Rattle.expander.specs.OwnTrees.{tree_hash}
 use Rattle.expander.specs.Plains.{finds_of, tree_of}
 use Rattle.expander.specs.Reuse.{HeldPiece, IsHeld, matches}
 use Rattle.expander.specs.Takings.{Grows, HasTaken, IsTaken}
@@ -189,6 +190,7 @@ module _ (grammar : Grammar) (edition : Edition) (depth : ℕ) (old : Memory) (p
   module _ (equal : (f g : Forest) → (same_forest f g ≡ true) ↔ (f ≡ g)) (q : Rc Plain Global) (matched : Bool) (scope_is : next.scope ≡ now.scope) (numbers_are : next.taken.numbers ≡ now.taken.numbers)
       (top : tree_of (rc_value q) ≡ own_top r) (part : HasItsPart (rc_value q))
       (plains_are : next.taken.plains.items ≡ now.taken.plains.items ++ q ∷ [])
+      (hashes_are : next.taken.hashes.items ≡ now.taken.hashes.items ++ tree_hash (tree_of (rc_value q)) ∷ [])
       (steps : PutsOut now.taken.steps next.taken.steps (resolved_steps start now.scope.starts (parts_for (tree_of (rc_value q)).inner (rc_value q).outcome).steps))
       (faults : next.taken.faults.items ≡ now.taken.faults.items ++ resolved_faults start now.scope.starts (rc_value q).outcome.faults.items)
       (counted : matched ≡ list_any (matches (scope_in now.scope) r) held)
@@ -247,6 +249,9 @@ module _ (grammar : Grammar) (edition : Edition) (depth : ℕ) (old : Memory) (p
           right = subst (λ n. All (λ q. IsRight W depth (numbers_in n.by_tree) (rc_value q)) next.taken.plains.items) (sym numbers_are)
               (subst (All (λ q. IsRight W depth (numbers_in now.taken.numbers.by_tree) (rc_value q))) (sym plains_are)
               (all_more (λ q. IsRight W depth (numbers_in now.taken.numbers.by_tree) (rc_value q)) now.taken.plains.items q has.taken.right (right_now plain)));
+          hashes = hashes_are ∙ ap (λ (hs : List ℕ). hs ++ tree_hash (tree_of (rc_value q)) ∷ []) has.taken.hashes
+              ∙ sym (map-append (λ (x : Rc Plain Global). tree_hash (tree_of (rc_value x))) now.taken.plains.items (q ∷ []))
+              ∙ ap (map (λ (x : Rc Plain Global). tree_hash (tree_of (rc_value x)))) (sym plains_are);
           steps = subst (HasOutput next.taken.steps)
               (ap (λ l. flat_map output_of (map present done) ++ l) put_steps ∙ sym (flat_present output_of done k))
               (steps (flat_map output_of (map present done)) has.taken.steps);
@@ -273,7 +278,7 @@ module _ (grammar : Grammar) (edition : Edition) (depth : ℕ) (old : Memory) (p
   module _ (law : LooksAtNoPlace W) (k : Known) (tree_is : k.tree ≡ own_top r) (definition : is_some (definition_of r) ≡ true)
       (number_is : numbers_in next.taken.numbers.by_tree r ≡ Some k.number) (grows : Grows now.taken next.taken) (read : IsRead edition k)
       (table_read : AllRead edition next.taken.numbers.by_tree) (scope_read : AreRead next.scope) (edition_is : next.scope.edition ≡ edition)
-      (plains_are : next.taken.plains ≡ now.taken.plains) (steps_are : next.taken.steps ≡ now.taken.steps)
+      (plains_are : next.taken.plains ≡ now.taken.plains) (hashes_are : next.taken.hashes ≡ now.taken.hashes) (steps_are : next.taken.steps ≡ now.taken.steps)
       (expanded_are : next.taken.expanded ≡ now.taken.expanded) (faults : next.taken.faults.items ≡ now.taken.faults.items ++ told_if_broken start k) where
     module _ (before : List Met) (trees : List Forest) (done : List Kept) (has : Has before trees done now)
         (numbered : HasNumbered old.given old.by_tree (trees_of old) (trees ++ r ∷ []) next.taken.numbers)
@@ -308,6 +313,7 @@ module _ (grammar : Grammar) (edition : Edition) (depth : ℕ) (old : Memory) (p
               ∙ sym (append-nil (filter_map held_of done)) ∙ sym (filter_map_more held_of done (met m));
           right = subst (λ ps. All (λ q. IsRight W depth numbers (rc_value q)) ps.items) (sym plains_are)
               (right_grows W depth (numbers_in now.taken.numbers.by_tree) numbers grows now.taken.plains.items has.taken.right);
+          hashes = ap (λ hs. hs.items) hashes_are ∙ has.taken.hashes ∙ ap (λ ps. map (λ (x : Rc Plain Global). tree_hash (tree_of (rc_value x))) ps.items) (sym plains_are);
           steps = subst (λ s. HasOutput s (flat_map output_of (map present (done ++ met m ∷ [])))) (sym steps_are)
               (subst (HasOutput now.taken.steps) (sym (append-nil (flat_map output_of (map present done))) ∙ sym (flat_present output_of done (met m))) has.taken.steps);
           faults = faults ∙ ap (λ l. l ++ told_if_broken start k) has.taken.faults
@@ -334,8 +340,8 @@ module _ (grammar : Grammar) (edition : Edition) (depth : ℕ) (old : Memory) (p
 -- no piece so far
 pub none_taken : (grammar : Grammar) (edition : Edition) (depth : ℕ) (old : Memory) → IsMemory (world grammar edition) depth edition old → (now : Taken)
     → now.numbers.given ≡ old.given → now.numbers.definitions.items ≡ [] → ((t : Top) → known_in now.numbers.by_tree t ≡ None) → now.plains.items ≡ []
-    → HasOutput now.steps [] → now.faults.items ≡ [] → now.expanded ≡ 0 → IsTaken (world grammar edition) edition depth old (layers grammar edition) [] [] now
-none_taken grammar edition depth old right now given definitions none plains steps faults expanded = record {
+    → now.hashes.items ≡ [] → HasOutput now.steps [] → now.faults.items ≡ [] → now.expanded ≡ 0 → IsTaken (world grammar edition) edition depth old (layers grammar edition) [] [] now
+none_taken grammar edition depth old right now given definitions none plains hashes steps faults expanded = record {
   numbers = record {
     numbers = record {
       numbers = record {
@@ -356,6 +362,7 @@ none_taken grammar edition depth old right now given definitions none plains ste
   plains = ap (map (λ q. piece_of (world grammar edition) depth (rc_value q))) plains;
   right = subst (All (λ q. IsRight (world grammar edition) depth (numbers_in now.numbers.by_tree) (rc_value q))) (sym plains)
       (All-nil (λ q. IsRight (world grammar edition) depth (numbers_in now.numbers.by_tree) (rc_value q)));
+  hashes = hashes ∙ ap (map (λ (x : Rc Plain Global). tree_hash (tree_of (rc_value x)))) (sym plains);
   steps = steps;
   faults = faults;
   expanded = expanded;

@@ -8,7 +8,8 @@ use Rattle.tt.specs.Tops.{Top}
 use Rattle.expander.specs.Chains.{last_place, place_before}
 use Rattle.expander.specs.Held.{Numbered}
 use Rattle.expander.specs.Outcomes.{find_of}
-use Rattle.expander.specs.Plains.{IsMatchAt, finds_of, is_match, tree_of}
+use Rattle.expander.specs.OwnTrees.{tree_hash}
+use Rattle.expander.specs.Plains.{AreHashes, IsMatchAt, finds_of, is_match, tree_of}
 use Rattle.expander.specs.Reuse.{agrees, same_number}
 use Rattle.expander.specs.SameTops.{same_top}
 use Rattle.expander.specs.declared.outcome.Find.{Find}
@@ -130,3 +131,42 @@ linked_is_match equal scope t held i q stands is agree =
     mapped_at f [] i x e = cc
     mapped_at f (z ∷ xs) zero x e = let same : z ≡ x = cc in ap (λ w. Some (f w)) same
     mapped_at f (z ∷ xs) (suc i) x e = mapped_at f xs i x e
+
+-- ---- hashes
+
+-- there are as many hashes as pieces
+pub hashes_length : (hashes : List ℕ) (held : List (Rc Plain Global)) → AreHashes hashes held → length hashes ≡ length held
+hashes_length hashes held are = ap length are ∙ mapped_length (λ (q : Rc Plain Global). tree_hash (tree_in q)) held
+
+-- a hash is that of the tree of the piece at its place
+pub hash_at : (hashes : List ℕ) (held : List (Rc Plain Global)) → AreHashes hashes held → (i h : ℕ) (q : Rc Plain Global) → slice_get hashes i ≡ Some h → slice_get held i ≡ Some q → h ≡ tree_hash (tree_in q)
+hash_at hashes held are i h q there here =
+    sym (at_place (λ (x : Rc Plain Global). tree_hash (tree_in x)) held i q h here (ap (λ (hs : List ℕ). slice_get hs i) (sym are) ∙ there))
+
+one_at : {X : Type 0} (xs : List X) (i : ℕ) → i < length xs → (x : X) × (x ≡ get_or xs i x)
+one_at [] i h = absurd (omega (arith, h))
+one_at (y ∷ xs) zero h = (y, refl)
+one_at (y ∷ xs) (suc i) h = one_at xs i (omega (arith, h))
+
+number_at : (ns : List ℕ) (i : ℕ) → i < length ns → slice_get ns i ≡ Some (get_or ns i 0)
+number_at [] i h = absurd (omega (arith, h))
+number_at (n ∷ ns) zero h = refl
+number_at (n ∷ ns) (suc i) h = number_at ns i (omega (arith, h))
+
+module _ (equal : (a b : Top) → (same_top a b ≡ true) ↔ (a ≡ b)) (scope : List ℕ → Option Numbered) (tree : Top) (hashes : List ℕ) (held : List (Rc Plain Global)) (are : AreHashes hashes held) (i : ℕ)
+    (within : i < length held) where
+  -- the hash of a tree that the piece at this place may stand for
+  pub hash_found : (q : Rc Plain Global) → slice_get held i ≡ Some q → test scope tree q ≡ true → get_or hashes i 0 ≡ tree_hash tree
+  hash_found q here passes =
+      hash_at hashes held are i (get_or hashes i 0) q (number_at hashes i (subst (λ (n : ℕ). i < n) (sym (hashes_length hashes held are)) within)) here
+      ∙ ap tree_hash (decides equal (tree_in q) tree (only equal scope tree q passes))
+
+  -- a piece with another hash is passed by
+  pub other_hash : (get_or hashes i 0 ≡ tree_hash tree → ⊥) → list_any (test scope tree) (drop i held) ≡ list_any (test scope tree) (drop (i + 1) held)
+  other_hash differ =
+      let one = one_at held i within in
+      passed_by (test scope tree) held i one.0 within one.1 (fails one.0 (stands_at held i one.0 within one.1) (test scope tree one.0) refl)
+    where
+      fails : (q : Rc Plain Global) → slice_get held i ≡ Some q → (b : Bool) → test scope tree q ≡ b → test scope tree q ≡ false
+      fails q here true e = absurd (differ (hash_found q here e))
+      fails q here false e = e

@@ -59,6 +59,7 @@ abbrev pub memory_of : Taken → Sources → code.Memory
 memory_of now sources = record {
   was_read = true;
   plains = now.plains;
+  hashes = now.hashes;
   definitions = now.numbers.definitions;
   by_tree = now.numbers.by_tree;
   given = now.numbers.given;
@@ -81,6 +82,7 @@ module _ (equal : (f g : Forest) → (same_forest f g ≡ true) ↔ (f ≡ g)) (
     listed = t.numbers.listed;
     read = t.table_read;
     right = t.right;
+    hashes = t.hashes;
     sources = are;
     linked = links;
   }

@@ -15,7 +15,7 @@ use Rattle.expander.specs.Links.{AreLinked, definition_tops, plain_tops}
 use Rattle.expander.specs.NumberedTexts.{inner_of}
 use Rattle.expander.specs.Numbering.{AreNumbers, HaveNumbers, numbered_by}
 use Rattle.expander.specs.Outcomes.{parts_for, parts_of}
-use Rattle.expander.specs.Plains.{IsPlain, finds_of, tree_of}
+use Rattle.expander.specs.Plains.{AreHashes, IsPlain, finds_of, tree_of}
 use Rattle.expander.specs.Reuse.{HeldPiece, IsHeld}
 use Rattle.expander.specs.Sources.{AreSources, all_in}
 use Rattle.expander.specs.declared.memory.Memory as code
@@ -57,5 +57,6 @@ module _ (world : World Definition) (depth : ℕ) where
     pub listed : AreInTable m.by_tree m.definitions.items
     pub read : AllRead edition m.by_tree
     pub right : All (λ q. IsRight (numbers_in m.by_tree) (rc_value q)) m.plains.items
+    pub hashes : AreHashes m.hashes.items m.plains.items
     pub sources : AreSources m.sources
     pub linked : AreLinked (plain_tops m.plains.items) (definition_tops m.definitions.items) (all_in m.sources) m.links.items

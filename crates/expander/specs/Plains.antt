@@ -9,6 +9,7 @@ use Rattle.expander.specs.Chains.{AreChained}
 use Rattle.expander.specs.Definitions.{definition_of}
 use Rattle.expander.specs.Held.{Numbered}
 use Rattle.expander.specs.Outcomes.{find_of}
+use Rattle.expander.specs.OwnTrees.{tree_hash}
 use Rattle.expander.specs.Reuse.{agrees}
 use Rattle.expander.specs.SameTops.{same_top}
 use Rattle.expander.specs.declared.plain.Lookup.{Lookup}
@@ -29,6 +30,10 @@ finds_of q = map find_of q.outcome.finds.items
 -- a held piece with this tree, whose names find what they found
 abbrev pub is_match : (List ℕ → Option Numbered) → Top → Plain → Bool
 is_match scope tree q = same_top tree (tree_of q) && agrees scope (finds_of q)
+
+-- these are the hashes of the trees of these pieces, in their order
+abbrev pub AreHashes : List ℕ → List (Rc Plain Global) → Type 0
+AreHashes hashes held = hashes ≡ map (λ (q : Rc Plain Global). tree_hash (tree_of (rc_value q))) held
 
 -- the table, where it was made, is of these pieces
 abbrev pub Finds : Lookup → List (Rc Plain Global) → Type 0

@@ -19,6 +19,7 @@ use Rattle.expander.specs.Numbering.{number_by, numbered_by}
 use Rattle.expander.specs.Numbers.{needed}
 use Rattle.expander.specs.OutputSteps.{HasOutput}
 use Rattle.expander.specs.Pieces.{relative}
+use Rattle.expander.specs.Plains.{AreHashes}
 use Rattle.expander.specs.TextTurn.{held_of, is_unmatched}
 use Rattle.expander.specs.declared.memory.Memory.{Memory}
 use Rattle.expander.specs.World.{world}
@@ -55,6 +56,7 @@ module _ (world : World Definition) (edition : Edition) (depth : ℕ) (old : Mem
     pub table_read : AllRead edition now.numbers.by_tree
     pub plains : map (λ q. piece_of world depth (rc_value q)) now.plains.items ≡ filter_map held_of done
     pub right : All (λ q. IsRight world depth (numbers_in now.numbers.by_tree) (rc_value q)) now.plains.items
+    pub hashes : AreHashes now.hashes.items now.plains.items
     pub steps : HasOutput now.steps (flat_map output_of (map present done))
     pub faults : now.faults.items ≡ flat_map (member_faults layers) (map present done)
     pub expanded : now.expanded ≡ length (filter (is_unmatched (map (λ q. piece_of world depth (rc_value q)) old.plains.items)) done)

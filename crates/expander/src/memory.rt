@@ -31,6 +31,8 @@ pub(crate) struct Memory {
     pub was_read: bool,
     /// Its plain pieces, in order.
     pub plains: Vec<Rc<Plain>>,
+    /// The hashes of their trees.
+    pub hashes: Vec<u64>,
     /// Its definitions, in order.
     pub definitions: Vec<Rc<Known>>,
     pub by_tree: ByTree,
@@ -64,6 +66,7 @@ impl Memory {
         Memory {
             was_read: false,
             plains: Vec::new(alloc),
+            hashes: Vec::new(alloc),
             definitions: Vec::new(alloc),
             by_tree: ByTree::new(alloc),
             given: 0,

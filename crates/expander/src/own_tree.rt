@@ -90,6 +90,13 @@ impl OwnTree {
         &self.tree
     }
 
+    /// The hash of the tree, which is kept.
+    pub(crate) fn kept_hash(&self) -> u64
+        ensures { result ≡ tree_hash self.now }
+    {
+        self.hash
+    }
+
     /// Whether it is a definition.
     pub(crate) fn is_definition(&self) -> bool
         ensures { result ≡ is_some (definition_of self.now.inner) }

@@ -7,7 +7,7 @@ ghost use Rattle.expander.specs.Chains.{AreChained};
 ghost use Rattle.expander.specs.MetTable.{AreRead, scope_in};
 ghost use Rattle.expander.specs.Outcomes.{find_of};
 ghost use Rattle.expander.specs.Links.{plain_tops};
-ghost use Rattle.expander.specs.Plains.{Finds, IsMatchAt, finds_of, is_match, tree_of};
+ghost use Rattle.expander.specs.Plains.{AreHashes, Finds, IsMatchAt, finds_of, is_match, tree_of};
 ghost use Rattle.expander.specs.Reuse.{agrees, same_number};
 ghost use Rattle.tt.specs.Tops.{Top};
 
@@ -122,16 +122,23 @@ fn last_match(
     None
 }
 
-// The same, but the first, and each piece is looked at.
-fn first_match(scope: &Scope, held: &[Rc<Plain>], tree: &Rc<OwnTree>) -> Option<usize>
+// The same, but the first. The hash of each piece's tree is looked at, and a piece only where it is the hash of this tree.
+fn first_match(
+    scope: &Scope,
+    held: &[Rc<Plain>],
+    hashes: &[u64],
+    tree: &Rc<OwnTree>,
+) -> Option<usize>
     requires read { AreRead scope.now }
+    requires hashes { AreHashes hashes.now held.now }
     ensures any { is_some result ≡ list_any (λ q. is_match (scope_in scope.now) tree.now.value (rc_value q)) held.now }
     ensures found { IfSome result (λ i. IfSome (slice_get held.now i) (λ q. is_match (scope_in scope.now) tree.now.value (rc_value q) ≡ true)) }
     ensures within { IfSome result (λ i. i < length held.now) }
 {
     laws::equal_trees();
+    let hash = tree.as_ref().kept_hash();
     for i in 0..held.len() {
-        if is_match(scope, tree, held[i].as_ref()) {
+        if hashes[i] == hash && is_match(scope, tree, held[i].as_ref()) {
             return Some(i);
         }
     }
@@ -203,9 +210,11 @@ impl Lookup {
         alloc: Global,
         scope: &Scope,
         held: &[Rc<Plain>],
+        hashes: &[u64],
         tree: &Rc<OwnTree>,
     ) -> Result<Option<usize>, AllocError>
         requires read { AreRead scope.now }
+        requires hashes { AreHashes hashes.now held.now }
         requires table { Finds self.old held.now }
         ensures table { OnOk result (Finds self.new held.now) }
         ensures any { IfOk result (λ at. is_some at ≡ list_any (λ q. is_match (scope_in scope.now) tree.now.value (rc_value q)) held.now) }
@@ -214,7 +223,7 @@ impl Lookup {
     {
         if self.times < TIMES {
             self.times += 1;
-            return Ok(first_match(scope, held, tree));
+            return Ok(first_match(scope, held, hashes, tree));
         }
         self.find_in_table(alloc, scope, held, tree)
     }
@@ -226,11 +235,13 @@ pub(crate) fn match_from(
     alloc: Global,
     scope: &Scope,
     held: &[Rc<Plain>],
+    hashes: &[u64],
     lookup: &mut Lookup,
     link: Option<usize>,
     tree: &Rc<OwnTree>,
 ) -> Result<Option<usize>, AllocError>
     requires read { AreRead scope.now }
+    requires hashes { AreHashes hashes.now held.now }
     requires table { Finds lookup.old held.now }
     requires link { IfSome link (λ i. slice_get (plain_tops held.now) i ≡ Some tree.now.value) }
     ensures table { OnOk result (Finds lookup.new held.now) }
@@ -245,5 +256,5 @@ pub(crate) fn match_from(
     if at < held.len() && is_match(scope, tree, held[at].as_ref()) {
         return Ok(Some(at));
     }
-    lookup.find(alloc, scope, held, tree)
+    lookup.find(alloc, scope, held, hashes, tree)
 }

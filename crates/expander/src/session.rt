@@ -311,6 +311,7 @@ fn expand_pieces<G: FragmentGrammar>(
     let Taken {
         numbers,
         plains,
+        hashes,
         steps,
         faults,
         expanded,
@@ -320,6 +321,7 @@ fn expand_pieces<G: FragmentGrammar>(
     let memory = Memory {
         was_read: true,
         plains,
+        hashes,
         definitions: numbers.definitions,
         by_tree: numbers.by_tree,
         given: numbers.given,

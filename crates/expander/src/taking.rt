@@ -24,6 +24,7 @@ ghost use Rattle.expander.specs.OtherPlaces.{LooksAtNoPlace};
 ghost use Rattle.expander.specs.Outcomes.{parts_for, parts_of};
 ghost use Rattle.expander.specs.OutputSteps.{PutsOut};
 ghost use Rattle.expander.specs.OwnPieces.{IsOwn, IsOwnPiece, piece_at, tree_at};
+ghost use Rattle.expander.specs.OwnTrees.{tree_hash};
 ghost use Rattle.expander.specs.PieceReading.{AreMet, IsMet as IsMetIn};
 ghost use Rattle.expander.specs.Pieces.{first_start, relative};
 ghost use Rattle.expander.specs.Placing.{resolved_faults, resolved_steps};
@@ -86,7 +87,8 @@ fn expanded<G: FragmentGrammar>(
     }
 }
 
-/// A tree with its outcome: a held piece that matches, with its place, or else the tree is expanded.
+/// A tree with its outcome: a held piece that matches, with its place, or else the tree is expanded. The tree's hash comes
+/// with either.
 pub(crate) fn take_tree<G: FragmentGrammar>(
     alloc: Global,
     grammar: &G,
@@ -96,7 +98,7 @@ pub(crate) fn take_tree<G: FragmentGrammar>(
     lookup: &mut Lookup,
     link: Option<usize>,
     tree: &Rc<OwnTree>,
-) -> Result<(Rc<Plain>, Option<usize>), TtFault>
+) -> Result<(Rc<Plain>, Option<usize>, u64), TtFault>
     requires read { AreRead scope.now }
     requires lookup { Finds lookup.old memory.now.plains.items }
     requires link { IfSome link (λ i. slice_get (plain_tops memory.now.plains.items) i ≡ Some tree.now.value) }
@@ -104,6 +106,7 @@ pub(crate) fn take_tree<G: FragmentGrammar>(
     requires right { IsMemory (world (G.answer grammar.now) scope.now.edition) depth scope.now.edition memory.now }
     ensures lookup { OnOk result (Finds lookup.new memory.now.plains.items) }
     ensures tree { IfOk result (λ r. tree_of r.0.value ≡ tree.now.value) }
+    ensures hash { IfOk result (λ r. r.2 ≡ tree_hash tree.now.value) }
     ensures part { IfOk result (λ r. HasItsPart r.0.value) }
     ensures outcome { (given : ℕ) (numbers : Forest → Option ℕ) (before : List Met) → AreNumbers given numbers →
         ((t : Forest) (n : ℕ) → numbers_in memory.now.by_tree t ≡ Some n → numbers t ≡ Some n) →
@@ -118,15 +121,16 @@ pub(crate) fn take_tree<G: FragmentGrammar>(
     laws::equal_pieces();
     tt::laws::equal_trees();
     let held = memory.plains.as_slice();
-    let found = match_from(alloc, scope, held, lookup, link, tree)?;
+    let hashes = memory.hashes.as_slice();
+    let found = match_from(alloc, scope, held, hashes, lookup, link, tree)?;
     match found {
         Some(i) => {
             let plain = held[i].clone()?;
-            Ok((plain, Some(i)))
+            Ok((plain, Some(i), hashes[i]))
         }
         None => {
             let plain = expanded(alloc, grammar, scope, depth, tree.clone()?)?;
-            Ok((plain, None))
+            Ok((plain, None, tree.as_ref().kept_hash()))
         }
     }
 }
@@ -138,6 +142,8 @@ pub(crate) struct Taken {
     pub numbers: Numbering,
     /// The plain ones, in order.
     pub plains: Vec<Rc<Plain>>,
+    /// The hashes of their trees.
+    pub hashes: Vec<u64>,
     pub steps: PlacedSteps,
     /// Without those of the steps.
     pub faults: Vec<Fault>,
@@ -190,10 +196,12 @@ fn nothing_taken(alloc: Global, memory: &Memory, room: Room) -> Result<Taken, Al
     let steps = no_steps(alloc, room.bytes, room.pieces)?;
     let numbers = nothing_numbered(alloc, memory.given, room.definitions)?;
     let plains = Vec::with_capacity(alloc, room.pieces)?;
+    let hashes = Vec::with_capacity(alloc, room.pieces)?;
     let links = Vec::with_capacity(alloc, room.pieces)?;
     Ok(Taken {
         numbers,
         plains,
+        hashes,
         steps,
         faults: Vec::new(alloc),
         expanded: 0,
@@ -310,17 +318,21 @@ fn put_plain(
     put_faults(faults, start, starts, plain.outcome.faults.as_slice())
 }
 
-// A piece is held, and linked.
+// A piece is held, with the hash of its tree, and linked.
 fn hold(
     plains: &mut Vec<Rc<Plain>>,
+    hashes: &mut Vec<u64>,
     links: &mut Vec<Link>,
     plain: Rc<Plain>,
+    hash: u64,
 ) -> Result<(), AllocError>
     ensures plains { OnOk result (plains.new.items ≡ plains.old.items ++ plain ∷ []) }
+    ensures hashes { OnOk result (hashes.new.items ≡ hashes.old.items ++ hash ∷ []) }
     ensures links { OnOk result (links.new.items ≡ links.old.items ++ as_link.Plain (length plains.old.items) ∷ []) }
 {
     add_link(links, Link::Plain(plains.len()))?;
     plains.push(plain)?;
+    hashes.push(hash)?;
     Ok(())
 }
 
@@ -368,7 +380,7 @@ fn take_plain<G: FragmentGrammar>(
     laws::equal_pieces();
     let scope = &now.scope;
     let lookup = &mut now.lookup;
-    let (plain, at) = take_tree(alloc, grammar, scope, depth, memory, lookup, link, tree)?;
+    let (plain, at, hash) = take_tree(alloc, grammar, scope, depth, memory, lookup, link, tree)?;
     put_plain(
         alloc,
         &scope.starts,
@@ -377,7 +389,14 @@ fn take_plain<G: FragmentGrammar>(
         start,
         plain.as_ref(),
     )?;
-    hold(&mut now.taken.plains, &mut now.taken.links, plain)?;
+    let taken = &mut now.taken;
+    hold(
+        &mut taken.plains,
+        &mut taken.hashes,
+        &mut taken.links,
+        plain,
+        hash,
+    )?;
     count(now, at);
     Ok(())
 }

@@ -3,15 +3,24 @@ use Rattle.std.specs.Prelude.{IfSome, slice_get}
 use Rattle.std.specs.Rc.{rc_value}
 use Rattle.std.specs.declared.rc.Rc.{Rc}
 use Rattle.expander.specs.MetTable.{scope_in}
+use Rattle.expander.specs.OwnTrees.{tree_hash}
 use Rattle.expander.specs.Plains.{is_match}
 use Rattle.expander.specs.declared.plain.Plain.{Plain}
-use Rattle.expander.proofs.PlainLemmas.{any_found, passed_by, stands_at, test}
+use Rattle.expander.proofs.PlainLemmas.{any_found, other_hash, passed_by, stands_at, test}
 use Rattle.expander.proofs.plain.first_match.Goals as goal
+use Rattle.expander.proofs.plain.first_match.Goals.{else-hashes-i-via-then-hashes-i+else-is_match, else-hashes-i-via-else-hashes-i}
 
 pub loop-i-preserved : goal.loop-i-preserved
 loop-i-preserved c =
-    let fails : test (scope_in c.args.scope.now) c.args.tree.now.value c.index-held-i.result ≡ false = search rules in
-    c.loop-i.invariant ∙ passed_by (test (scope_in c.args.scope.now) c.args.tree.now.value) c.args.held.now c.loop-i.i c.index-held-i.result c.loop-i-test.true c.index-held-i.is fails
+    c.loop-i.invariant
+    ∙ elim c.else-hashes-i.branch [
+      | else-hashes-i-via-then-hashes-i+else-is_match w ↦
+          let fails : test (scope_in c.args.scope.now) c.args.tree.now.value w.index-held-i.result ≡ false = search rules in
+          passed_by (test (scope_in c.args.scope.now) c.args.tree.now.value) c.args.held.now c.loop-i.i w.index-held-i.result c.loop-i-test.true w.index-held-i.is fails
+      | else-hashes-i-via-else-hashes-i w ↦
+          let hash_is : c.kept_hash-hash.result ≡ tree_hash c.args.tree.now.value = search rules in
+          other_hash c.equal_trees.ensures (scope_in c.args.scope.now) c.args.tree.now.value c.args.hashes.now c.args.held.now c.requires.hashes c.loop-i.i c.loop-i-test.true (λ e. w.if-hashes-i.false (e ∙ sym hash_is))
+    ]
 
 pub returns-then-is_match-clause-any : goal.returns-then-is_match-clause-any
 returns-then-is_match-clause-any c =

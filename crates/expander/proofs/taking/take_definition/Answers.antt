@@ -32,7 +32,7 @@ returns-clause-taken c = λ grammar depth piece law have start_is tree_is before
     c.in_ok-known.ensures.grows
     (c.in_ok-known.ensures.read c.requires.can.old_read c.requires.can.table_read)
     (c.in_ok-known.ensures.table_read c.requires.can.old_read c.requires.can.table_read)
-    c.in_ok-define.ensures.read c.in_ok-define.ensures.edition refl refl refl
+    c.in_ok-define.ensures.read c.in_ok-define.ensures.edition refl refl refl refl
     (c.in_ok-tell_if_broken.ensures ∙ ap (λ n. c.args.now.now.taken.faults.items ++ told_if_broken n c.as_ref.result.now) start_is
     ∙ ap (λ (x : Known). c.args.now.now.taken.faults.items ++ told_if_broken (first_start piece) x) same)
     before trees done has

@@ -1,4 +1,4 @@
-use Rattle.std.proofs.Common.{Global, ◌≡◌, ◌∙◌, ap, sym, subst, rules, ◌++◌, ◌∷◌, [], map}
+use Rattle.std.proofs.Common.{Global, ℕ, ◌≡◌, ◌∙◌, ap, sym, subst, rules, ◌++◌, ◌∷◌, [], map}
 use Rattle.std.specs.Prelude.{is_some}
 use Rattle.std.specs.List.{list_any}
 use Rattle.std.specs.Rc.{rc_value}
@@ -12,6 +12,7 @@ use Rattle.expander.specs.Outcomes.{parts_for}
 use Rattle.expander.specs.OutputSteps.{PutsOut}
 use Rattle.expander.specs.Pieces.{first_start}
 use Rattle.expander.specs.Placing.{resolved_faults, resolved_steps}
+use Rattle.expander.specs.OwnTrees.{tree_hash}
 use Rattle.expander.specs.Plains.{tree_of}
 use Rattle.expander.specs.Reuse.{matches}
 use Rattle.expander.specs.World.{world}
@@ -34,6 +35,8 @@ returns-clause-taken g c = λ piece start_is tree_is before trees done has.
     (ap (λ (t : Taken). t.numbers) c.count.ensures.taken)
     (c.in_ok-plain.ensures.tree ∙ tree_is) c.in_ok-plain.ensures.part
     (ap (λ (t : Taken). t.plains.items) c.count.ensures.taken ∙ c.in_ok-hold.ensures.plains)
+    (ap (λ (t : Taken). t.hashes.items) c.count.ensures.taken ∙ c.in_ok-hold.ensures.hashes
+    ∙ ap (λ (n : ℕ). c.args.now.now.taken.hashes.items ++ n ∷ []) (c.in_ok-plain.ensures.hash ∙ ap tree_hash (sym c.in_ok-plain.ensures.tree)))
     (subst (λ (t : Taken). PutsOut c.args.now.now.taken.steps t.steps (resolved_steps (first_start piece) c.args.now.now.scope.starts (parts_for (tree_of (rc_value q)).inner (rc_value q).outcome).steps))
     (sym c.count.ensures.taken)
     (subst (λ n. PutsOut c.args.now.now.taken.steps c.put_plain.new.steps (resolved_steps n c.args.now.now.scope.starts (parts_for (tree_of (rc_value q)).inner (rc_value q).outcome).steps)) start_is

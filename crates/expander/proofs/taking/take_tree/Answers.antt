@@ -1,4 +1,4 @@
-use Rattle.std.proofs.Common.{◌≡◌, ◌∙◌, List, Option, Some, Global, ap, subst, sym, rules, true}
+use Rattle.std.proofs.Common.{◌≡◌, ◌∙◌, ℕ, List, Option, Some, Global, ap, subst, sym, rules, true}
 use Rattle.std.specs.Prelude.{IfSome, None, is_some, slice_get}
 use Rattle.std.specs.List.{list_any}
 use Rattle.std.specs.Rc.{rc_value}
@@ -10,7 +10,7 @@ use Rattle.expander.specs.Memories.{IsRight}
 use Rattle.expander.specs.MetTable.{scope_in}
 use Rattle.expander.specs.Outcomes.{parts_for, parts_of}
 use Rattle.expander.specs.Links.{plain_tops}
-use Rattle.expander.specs.Plains.{Finds, is_match}
+use Rattle.expander.specs.Plains.{AreHashes, Finds, is_match}
 use Rattle.expander.specs.World.{world}
 use Rattle.expander.specs.declared.plain.Plain.{Plain}
 use Rattle.expander.proofs.PlainLemmas.{stands_at}
@@ -55,3 +55,8 @@ match_from-requires-clause-table g c = subst (Finds c.args.lookup.now) (sym c.as
 pub match_from-requires-clause-link : goal.match_from-requires-clause-link
 match_from-requires-clause-link g c =
     subst (λ (qs : List (Rc Plain Global)). IfSome c.args.link (λ i. slice_get (plain_tops qs) i ≡ Some c.args.tree.now.value)) (sym c.as_slice-held.ensures.value) c.requires.link
+
+pub match_from-requires-clause-hashes : goal.match_from-requires-clause-hashes
+match_from-requires-clause-hashes g c =
+    subst (λ (hs : List ℕ). AreHashes hs c.as_slice-held.result.now) (sym c.as_slice-hashes.ensures.value)
+    (subst (AreHashes c.args.memory.now.hashes.items) (sym c.as_slice-held.ensures.value) c.requires.right.hashes)
