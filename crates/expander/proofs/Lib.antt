@@ -9,6 +9,7 @@ mod WholeLemmas
 mod AheadLemmas
 mod ReadPartLemmas
 mod OwnPieceLemmas
+mod LeftOutLemmas
 mod PrintingLemmas
 mod OrderLemmas
 mod SharedPieceLemmas

@@ -1,39 +1,38 @@
 -- What a piece prints by itself, and how it is put out.
-use Rattle.std.proofs.Common.{Global, ◌⊎◌, inl, inr, ◌≡◌, ℕ, ◌+◌, ◌<◌, ◌≤◌, drop, get_or, append_assoc, append-nil, length, subst, List, [], ◌∷◌, ◌++◌, refl, sym, ap, ◌∙◌, Bool, true, false, ◌&&◌, nat_eq, arith, if◌then◌else◌}
-use Rattle.std.specs.Prelude.{◌||◌, IfOk, Option, Some, None, Result, Ok, Err, filter, map, option_map, unwrap_or}
-use Rattle.std.specs.Rc.{rc_value}
-use Rattle.std.specs.declared.rc.Rc.{Rc}
+use Rattle.std.proofs.Common.{◌≡◌, ℕ, ◌+◌, ◌<◌, ◌≤◌, drop, get_or, append_assoc, append-nil, length, length-append, subst, List, [], ◌∷◌, ◌++◌, refl, sym, ap, ◌∙◌, Bool, true, false, ◌&&◌, nat_eq, arith, if◌then◌else◌}
+use Rattle.std.specs.Prelude.{◌||◌, IfOk, Some, Result, Ok, Err, filter, map}
 use Rattle.std.specs.List.{list_all, list_any}
 use Rattle.std.proofs.lemmas.Bool.Decides.{nat_tests}
-use Rattle.std.proofs.lemmas.List.{at_drop_all, drop_more, map-append}
-use Rattle.std.proofs.lemmas.Simd.{map-map}
-use Rattle.tt_data.specs.Spans.{leaf_with, span_of}
+use Rattle.std.proofs.lemmas.List.{at_drop_all, drop_more, length-map, map-append}
 use Rattle.tt_data.specs.Walk.{Step, at_leaf, opens, closes, step_with}
-use Rattle.tt_data.specs.declared.leaf.Leaf.{Leaf}
 use Rattle.tt_data.specs.declared.leaf.Leaf.TheVariants as as_leaf
 use Rattle.tt_data.specs.declared.span.Span.{Span}
 use Rattle.bridge.specs.HeldSpans.{is_anchored, shifted}
 use Rattle.bridge.specs.declared.held_spans.Shift.{Shift}
+use Rattle.bridge.specs.PrintedParts.{IsPartOf, PartState}
 use Rattle.bridge.specs.Printers.{HasPut}
 use Rattle.bridge.specs.Printing as bare_printing
-use Rattle.bridge.specs.Printing.{is_visible_step, step_span}
+use Rattle.bridge.specs.Printing.{is_visible_step, left_out_from, step_span}
+use Rattle.bridge.specs.Spelling.{spelling}
 use Rattle.expander.specs.Changes.{placed_with}
-use Rattle.expander.specs.Expansion.{PlacedStep, placed}
-use Rattle.expander.specs.Faults.{place, fault_at, is_definition_word}
-use Rattle.expander.specs.HeldParts.{HasPrinted, PrintsOn, PutsHeld, PutsQuiet, has_word, told_in}
+use Rattle.expander.specs.Expansion.{PlacedStep}
+use Rattle.expander.specs.Faults.{place, fault_at, is_definition_word, unspellable}
+use Rattle.expander.specs.HeldParts.{HasPrinted, IsQuietPart, PrintsOn, PutsHeld, PutsQuiet, has_word}
 use Rattle.expander.specs.Outcomes.{placed_of}
-use Rattle.expander.specs.OutputSteps.{PutsOut, places_of, ranges_of, words_told}
+use Rattle.expander.specs.OutputSteps.{PutsOut, faults_at, numbers_left_out, told_from, words_told}
 use Rattle.expander.specs.Held.{moved_on}
 use Rattle.expander.specs.Placing.{base_at, resolved_by}
 use Rattle.expander.specs.Starts.{start_at}
-use Rattle.expander.specs.Printing.{steps_of, visible}
+use Rattle.expander.specs.Printing.{left_out, spelling_before, steps_of, visible}
 use Rattle.expander.specs.declared.faults.FaultKind.TheVariants.{NestedDefinition}
 use Rattle.expander.specs.declared.held_part.HeldPart.{HeldPart}
 use Rattle.expander.specs.declared.held_part.OwnPrint.{OwnPrint}
 use Rattle.expander.specs.declared.outcome.OwnStep.{OwnStep}
 use Rattle.expander.specs.declared.output.PlacedSteps.{PlacedSteps}
+use Rattle.expander.specs.declared.output.Told.{Told}
 use Rattle.expander.specs.declared.starts.Starts.{Starts}
-use Rattle.expander.proofs.PrintingLemmas.{places_of-append, visible-append, words_told-append}
+use Rattle.expander.proofs.LeftOutLemmas.{none_elsewhere, not_before, not_behind, skip_behind, told_from-append}
+use Rattle.expander.proofs.PrintingLemmas.{visible-append, visible_bare, words_told-append}
 
 -- ---- steps that are printed one behind the other
 
@@ -87,78 +86,13 @@ kept_left own i s inside is =
 pub kept_done : (own : List OwnStep) (i : ℕ) → length own ≤ i → map placed_of (drop i own) ≡ []
 kept_done own i past = at_drop_all (map placed_of) own i past
 
--- ---- where their faults are told
-
-abbrev pub told_of : List PlacedStep → List Span
-told_of steps = map place (visible steps)
-
-pub told-append : (xs ys : List PlacedStep) → told_of (xs ++ ys) ≡ told_of xs ++ told_of ys
-told-append xs ys = ap (map place) (visible-append xs ys) ∙ map-append place (visible xs) (visible ys)
-
--- one more of the steps that are kept
-pub told_step : (own : List OwnStep) (i : ℕ) (s : OwnStep) (old new : List Span) → i < length own → s ≡ get_or own i s
-    → new ≡ old ++ told_of (placed_of s ∷ []) → old ++ told_of (map placed_of (drop i own)) ≡ told_of (map placed_of own)
-    → new ++ told_of (map placed_of (drop (i + 1) own)) ≡ told_of (map placed_of own)
-told_step own i s old new inside is adds h =
-    let later : List Span = told_of (map placed_of (drop (i + 1) own)) in
-    ap (λ l. l ++ later) adds ∙ append_assoc old (told_of (placed_of s ∷ [])) later
-    ∙ ap (λ l. old ++ l) (sym (ap told_of (kept_left own i s inside is) ∙ told-append (placed_of s ∷ []) (map placed_of (drop (i + 1) own)))) ∙ h
-
-pub told_all : (own : List OwnStep) (i : ℕ) (now : List Span) → length own ≤ i
-    → now ++ told_of (map placed_of (drop i own)) ≡ told_of (map placed_of own) → now ≡ told_of (map placed_of own)
-told_all own i now past h = sym (append-nil now) ∙ sym (ap (λ l. now ++ told_of l) (kept_done own i past)) ∙ h
-
--- an invisible step has no fault of its own
-pub told_invisible : (s : PlacedStep) → is_visible_step s.step ≡ false → told_of (s ∷ []) ≡ []
-told_invisible s e = ap (λ (b : Bool). map place (if b then s ∷ [] else [])) e
-
-pub told_visible : (s : PlacedStep) → is_visible_step s.step ≡ true → told_of (s ∷ []) ≡ place s ∷ []
-told_visible s e = ap (λ (b : Bool). map place (if b then s ∷ [] else [])) e
-
--- ---- the tokens of a tree that stays as it is
-
-told_itself : (ws : List Step) → told_of (placed None ws) ≡ map step_span (bare_printing.visible ws)
-told_itself [] = refl
-told_itself (w ∷ ws) = go (is_visible_step w) (told_itself ws)
-  where
-    go : (b : Bool) → told_of (placed None ws) ≡ map step_span (bare_printing.visible ws)
-        → map place (if b then record { step = w; outer = None } ∷ visible (placed None ws) else visible (placed None ws))
-        ≡ map step_span (if b then w ∷ bare_printing.visible ws else bare_printing.visible ws)
-    go true e = ap (λ l. step_span w ∷ l) e
-    go false e = e
-
-bare_of : (ws : List Step) → steps_of (placed None ws) ≡ ws
-bare_of [] = refl
-bare_of (w ∷ ws) = ap (λ l. w ∷ l) (bare_of ws)
-
--- faults of its tokens are told at these themselves
-pub tree_told : (ws : List Step) (spans : List Span) → spans ≡ map step_span (bare_printing.visible (steps_of (placed None ws))) → spans ≡ told_of (placed None ws)
-tree_told ws spans is = is ∙ ap (λ l. map step_span (bare_printing.visible l)) (bare_of ws) ∙ sym (told_itself ws)
-
 -- ---- the same steps at other places
 
 module _ (f : Span → Span) where
-  span_with : (l : Leaf) → span_of (leaf_with f l) ≡ f (span_of l)
-  span_with (as_leaf.Literal l) = refl
-  span_with (as_leaf.Punct p) = refl
-  span_with (as_leaf.Ident i) = refl
-
-  step_span_with : (s : Step) → step_span (step_with f s) ≡ f (step_span s)
-  step_span_with (at_leaf l) = span_with l
-  step_span_with (opens kind span) = refl
-  step_span_with (closes kind span) = refl
-
   visible_step_with : (s : Step) → is_visible_step (step_with f s) ≡ is_visible_step s
   visible_step_with (at_leaf l) = refl
   visible_step_with (opens kind span) = refl
   visible_step_with (closes kind span) = refl
-
-  place_with : (s : PlacedStep) → place (placed_with f s) ≡ f (place s)
-  place_with s = go s.outer
-    where
-      go : (o : Option Span) → place (record { step = step_with f s.step; outer = option_map f o }) ≡ f (place (record { step = s.step; outer = o }))
-      go None = step_span_with s.step
-      go (Some span) = refl
 
   word_with : (s : Step) → is_definition_word (step_with f s) ≡ is_definition_word s
   word_with (at_leaf (as_leaf.Literal l)) = refl
@@ -178,10 +112,6 @@ module _ (f : Span → Span) where
           ≡ map (placed_with f) (if b then s ∷ visible more else visible more)
       go true e = ap (λ l. placed_with f s ∷ l) e
       go false e = e
-
-  map_place_with : (xs : List PlacedStep) → map place (map (placed_with f) xs) ≡ map f (map place xs)
-  map_place_with [] = refl
-  map_place_with (s ∷ more) = ap (λ l. place (placed_with f s) ∷ l) (map_place_with more) ∙ ap (λ x. x ∷ map f (map place more)) (place_with s)
 
   steps_with : (xs : List PlacedStep) → steps_of (map (placed_with f) xs) ≡ map (step_with f) (steps_of xs)
   steps_with [] = refl
@@ -206,36 +136,93 @@ quiet_told (s ∷ more) quiet = go (is_visible_step s.step) (is_definition_word 
         ∙ later h
     go false false is h later = later h
 
--- a part is put out
-pub puts_part : (old new : PlacedSteps) (steps : List PlacedStep) (f : Span → Span) (told : List Span)
-    → ((before : List Step) → HasPut old.printer before → HasPut new.printer (before ++ map (step_with f) (steps_of steps)))
-    → has_word (steps_of steps) ≡ false → told ≡ map f (told_of steps)
-    → ranges_of new.places ≡ ranges_of old.places ++ map (λ (s : Span). s.range) told → new.nested.items ≡ old.nested.items
-    → PutsOut old new (map (placed_with f) steps)
-puts_part old new steps f told puts quiet told_is places nested before has = record {
-  printer = subst (HasPut new.printer)
-      (ap (λ l. steps_of before ++ l) (sym (steps_with f steps)) ∙ sym (map-append (λ (s : PlacedStep). s.step) before moved))
-      (puts (steps_of before) has.printer);
-  places = places ∙ ap (λ l. l ++ map (λ (s : Span). s.range) told) has.places
-      ∙ ap (λ l. places_of before ++ map (λ (s : Span). s.range) l) (told_is ∙ sym (map_place_with f (visible steps)) ∙ ap (map place) (sym (visible_with f steps)))
-      ∙ ap (λ l. places_of before ++ l) (map-map (λ (s : Span). s.range) place (visible moved))
-      ∙ sym (places_of-append before moved);
-  nested = nested ∙ has.nested ∙ sym (append-nil (words_told before))
-      ∙ ap (λ l. words_told before ++ l) (sym (quiet_told moved (ap has_word (steps_with f steps) ∙ word_steps_with f (steps_of steps) ∙ quiet)))
-      ∙ sym (words_told-append before moved);
-}
-  where
+-- the visible tokens of steps, and of those behind them
+visible_steps : (xs ys : List PlacedStep) → steps_of (visible (xs ++ ys)) ≡ steps_of (visible xs) ++ steps_of (visible ys)
+visible_steps xs ys = ap steps_of (visible-append xs ys) ∙ map-append (λ (s : PlacedStep). s.step) (visible xs) (visible ys)
+
+-- no token of a part is left out, whatever follows
+part_is_whole : (part : PartState) (steps more : List PlacedStep) → IsQuietPart part steps → length part.tokens ≡ length (steps_of (visible steps))
+    → left_out_from (0 + length (steps_of (visible steps))) (steps_of (visible more)) ≡ left_out_from 0 (steps_of (visible steps) ++ steps_of (visible more))
+part_is_whole part steps more quiet long =
+    let from : 0 + length (steps_of (visible steps)) ≡ length part.tokens + 0 = omega (arith, long) in
+    ap (λ n. left_out_from n (steps_of (visible more))) from
+    ∙ ap (left_out_from (length part.tokens + 0)) (visible_bare more)
+    ∙ (quiet.printed (steps_of more)).left_out
+    ∙ ap (λ l. left_out_from 0 (bare_printing.visible l)) (sym (map-append (λ (s : PlacedStep). s.step) steps more))
+    ∙ ap (left_out_from 0) (sym (visible_bare (steps ++ more)) ∙ visible_steps steps more)
+
+module _
+    -- a spelling hangs on no place, and a part has the places of all its visible tokens
+    (hangs : (h : Span → Span) (s : Step) (more : List Step) → spelling (step_with h s) (map (step_with h) more) ≡ spelling s more)
+    (whole : (part : PartState) (steps : List Step) → IsPartOf part steps → part.tokens ≡ map step_span (bare_printing.visible steps)) where
+  part_length : (part : PartState) (steps : List PlacedStep) → IsQuietPart part steps → length part.tokens ≡ length (steps_of (visible steps))
+  part_length part steps quiet =
+      ap length (whole part (steps_of steps) quiet.printed) ∙ length-map (bare_printing.visible (steps_of steps)) step_span ∙ ap length (sym (visible_bare steps))
+
+  -- a part is put out
+  module _ (old new : PlacedSteps) (part : PartState) (steps : List PlacedStep) (f : Span → Span) (quiet : IsQuietPart part steps) where
     moved : List PlacedStep
     moved = map (placed_with f) steps
 
+    -- its tokens elsewhere
+    tokens_moved : steps_of (visible moved) ≡ map (step_with f) (steps_of (visible steps))
+    unfolding moved
+    tokens_moved = ap steps_of (visible_with f steps) ∙ steps_with f (visible steps)
+
+    as_many : length (visible moved) ≡ length (steps_of (visible steps))
+    as_many =
+        sym (length-map (visible moved) (λ (s : PlacedStep). s.step)) ∙ ap length tokens_moved ∙ length-map (steps_of (visible steps)) (step_with f)
+
+    -- no number of its tokens is told
+    none_told : (before more : List PlacedStep) (k : ℕ) → length (visible before) ≤ k → k < length (visible before) + length (visible moved)
+        → list_any (nat_eq k) (numbers_left_out (before ++ (moved ++ more))) ≡ false
+    none_told before more k low high =
+        let bs = steps_of (visible before) in
+        let xs = steps_of (visible steps) in
+        let ys = steps_of (visible more) in
+        let is : steps_of (visible (before ++ (moved ++ more))) ≡ bs ++ (map (step_with f) xs ++ ys) =
+        visible_steps before (moved ++ more) ∙ ap (λ l. bs ++ l) (visible_steps moved more ∙ ap (λ l. l ++ ys) tokens_moved) in
+        let many : length bs ≡ length (visible before) = length-map (visible before) (λ (s : PlacedStep). s.step) in
+        let none : list_any (nat_eq k) (left_out_from (0 + length bs) (map (step_with f) xs ++ ys)) ≡ false =
+        ap (list_any (nat_eq k)) (none_elsewhere hangs f 0 (0 + length bs) xs ys (part_is_whole part steps more quiet (part_length part steps quiet)))
+        ∙ not_behind k (0 + length bs + length xs) ys (omega (arith, high, many, as_many)) in
+        ap (λ l. list_any (nat_eq k) (left_out_from 0 l)) is ∙ not_before bs (map (step_with f) xs ++ ys) 0 k (omega (arith, low, many)) none
+
+    pub puts_part : ((before : List Step) → HasPut old.printer before → HasPut new.printer (before ++ map (step_with f) (steps_of steps)))
+        → new.count ≡ old.count + length part.tokens → new.told.items ≡ old.told.items → new.nested.items ≡ old.nested.items
+        → PutsOut old new (map (placed_with f) steps)
+    unfolding moved
+    puts_part puts counted told nested before has =
+        let longer : new.count ≡ old.count + length (visible moved) = counted ∙ ap (λ n. old.count + n) (part_length part steps quiet ∙ sym as_many) in
+        record {
+          printer = subst (HasPut new.printer)
+              (ap (λ l. steps_of before ++ l) (sym (steps_with f steps)) ∙ sym (map-append (λ (s : PlacedStep). s.step) before moved))
+              (puts (steps_of before) has.printer);
+          count = longer ∙ ap (λ n. n + length (visible moved)) has.count ∙ sym (length-append (visible before) (visible moved)) ∙ ap length (sym (visible-append before moved));
+          told = λ more.
+              let is : (before ++ moved) ++ more ≡ before ++ (moved ++ more) = append_assoc before moved more in
+              let numbers = numbers_left_out (before ++ (moved ++ more)) in
+              let behind : List Told = told_from (old.count + length (visible moved)) (visible more) in
+              ap (λ l. faults_at (l ++ told_from new.count (visible more)) (numbers_left_out ((before ++ moved) ++ more))) told
+              ∙ ap (λ n. faults_at (old.told.items ++ told_from n (visible more)) (numbers_left_out ((before ++ moved) ++ more))) longer
+              ∙ ap (λ l. faults_at (old.told.items ++ behind) (numbers_left_out l)) is
+              ∙ sym (skip_behind old.told.items old.count (visible moved) behind numbers
+              (λ k low high. none_told before more k (omega (arith, low, has.count)) (omega (arith, high, has.count))))
+              ∙ ap (λ l. faults_at (old.told.items ++ l) numbers)
+              (sym (told_from-append old.count (visible moved) (visible more)) ∙ ap (told_from old.count) (sym (visible-append moved more)))
+              ∙ has.told (moved ++ more)
+              ∙ ap (λ l. unspellable (left_out spelling_before (visible l))) (sym is);
+          nested = nested ∙ has.nested ∙ sym (append-nil (words_told before))
+              ∙ ap (λ l. words_told before ++ l) (sym (quiet_told moved (ap has_word (steps_with f steps) ∙ word_steps_with f (steps_of steps) ∙ quiet.words)))
+              ∙ sym (words_told-append before moved);
+        }
+
 -- a part that is put out at the places of a piece in the text
-pub held_puts : {E : Type 0} → (start : ℕ) (starts : Starts) (old new : PlacedSteps) (p : HeldPart) (spans told : List Span) (result : Result Bool E)
-    → spans ≡ map (resolved_by start starts) p.printed.tokens → told ≡ map (resolved_by start starts) (told_in p)
-    → IfOk result (PutsQuiet old new p.printed spans told) → IfOk result (PutsHeld old new (Some p) start starts)
-held_puts start starts old new p spans told (Ok true) spans_is told_is puts =
-    λ steps right. puts steps (resolved_by start starts) right.quiet spans_is (told_is ∙ ap (map (resolved_by start starts)) right.told)
-held_puts start starts old new p spans told (Ok false) spans_is told_is puts = puts
-held_puts start starts old new p spans told (Err e) spans_is told_is puts = puts
+pub held_puts : {E : Type 0} → (start : ℕ) (starts : Starts) (old new : PlacedSteps) (p : HeldPart) (spans : List Span) (result : Result Bool E)
+    → spans ≡ map (resolved_by start starts) p.printed.tokens → IfOk result (PutsQuiet old new p.printed spans) → IfOk result (PutsHeld old new (Some p) start starts)
+held_puts start starts old new p spans (Ok true) is puts = λ steps right. puts steps (resolved_by start starts) right is
+held_puts start starts old new p spans (Ok false) is puts = puts
+held_puts start starts old new p spans (Err e) is puts = puts
 
 -- ---- places that are not computed yet
 
@@ -265,21 +252,3 @@ all_shifted start starts a (s ∷ more) all =
         → map (shifted (shift_at start starts a)) (s ∷ more) ≡ map (resolved_by start starts) (s ∷ more)
     go true is h later = ap (λ x. x ∷ map (shifted (shift_at start starts a)) more) (shifted_is start starts a s is) ∙ ap (λ l. resolved_by start starts s ∷ l) (later h)
     go false is h later = absurd (cc)
-
--- spans of the piece itself have no other anchor than any
-pub own_anchored : (a : ℕ) (spans : List Span) → list_all (is_anchored 0) spans ≡ true → list_all (is_anchored a) spans ≡ true
-own_anchored a [] all = refl
-own_anchored a (s ∷ more) all = go (nat_eq s.anchor 0) all (own_anchored a more)
-  where
-    go : (t : Bool) → ((t || t) && list_all (is_anchored 0) more) ≡ true → (list_all (is_anchored 0) more ≡ true → list_all (is_anchored a) more ≡ true)
-        → ((t || nat_eq s.anchor a) && list_all (is_anchored a) more) ≡ true
-    go true h later = later h
-    go false h later = absurd (cc)
-
-pub other_anchored : (a b : ℕ) (spans : List Span) → ((b ≡ a) ⊎ ((b ≡ a → ⊥) × (b ≡ 0))) → list_all (is_anchored b) spans ≡ true → list_all (is_anchored a) spans ≡ true
-other_anchored a b spans (inl same) h = subst (λ (n : ℕ). list_all (is_anchored n) spans ≡ true) same h
-other_anchored a b spans (inr none) h = own_anchored a spans (subst (λ (n : ℕ). list_all (is_anchored n) spans ≡ true) none.1 h)
-
--- where faults of its tokens are told
-pub told_here : (p : HeldPart) (o : Option (Rc (List Span) Global)) → p.told ≡ o → told_in p ≡ unwrap_or (option_map (λ told. rc_value told) o) p.printed.tokens
-told_here p o is = ap (λ (o : Option (Rc (List Span) Global)). unwrap_or (option_map (λ told. rc_value told) o) p.printed.tokens) is

@@ -1,6 +1,6 @@
 -- Steps that are put out, and what is printed of them.
-use Rattle.std.proofs.Common.{◌≡◌, ℕ, ◌+◌, ◌<◌, add-one, drop, drop-cons, get_or, append_assoc, append-nil, length, length-append, subst, List, [], ◌∷◌, ◌++◌, refl, sym, ap, ◌∙◌, arith, Bool, true, false, if◌then◌else◌}
-use Rattle.std.specs.Prelude.{◌||◌, Option, Some, None, codes, filter, map, is_some, slice_get}
+use Rattle.std.proofs.Common.{◌≡◌, ℕ, ◌+◌, append_assoc, append-nil, length, length-append, subst, List, [], ◌∷◌, ◌++◌, refl, sym, ap, ◌∙◌, Bool, true, false, if◌then◌else◌}
+use Rattle.std.specs.Prelude.{◌||◌, Option, Some, None, codes, filter, map, is_some}
 use Rattle.std.specs.Str.{bytes_eq, chars, is_utf8}
 use Rattle.std.specs.Char.{encode_utf8}
 use Rattle.std.proofs.lemmas.List.{map-append}
@@ -23,13 +23,14 @@ use Rattle.bridge.specs.Printing as bare_printing
 use Rattle.bridge.specs.Printing.{is_visible_step, left_out_from, print_of}
 use Rattle.bridge.specs.Spelling.{leaf_spelling, spelling}
 use Rattle.expander.specs.declared.faults.Fault.{Fault}
-use Rattle.expander.specs.declared.faults.FaultKind.TheVariants.{NestedDefinition, Unspellable}
+use Rattle.expander.specs.declared.faults.FaultKind.TheVariants.{NestedDefinition}
 use Rattle.expander.specs.declared.output.PlacedSteps.{PlacedSteps}
 use Rattle.expander.specs.Expanded.{origin_of}
 use Rattle.expander.specs.Expansion.{PlacedStep}
 use Rattle.expander.specs.Faults.{place, fault_at, is_definition_word, nested, unspellable}
-use Rattle.expander.specs.OutputSteps.{HasOutput, PutsOut, faults_in, places_of, ranges_of, told_in, told_at, tokens_in, words_told}
-use Rattle.expander.specs.Printing.{bare, visible, printed, left_out, spelled, spelling_before, steps_of, text_of, unspelled}
+use Rattle.expander.specs.OutputSteps.{HasOutput, PutsOut, faults_at, faults_in, numbers_left_out, told_from, tokens_in, words_told}
+use Rattle.expander.specs.Printing.{bare, visible, printed, left_out, spelled, spelling_before, steps_of, text_of}
+use Rattle.expander.proofs.LeftOutLemmas.{told_from-append, told_one_by_one}
 
 -- ---- steps are put out one behind the other
 
@@ -42,10 +43,6 @@ visible-append (s ∷ more) ys = go (is_visible_step s.step) (visible-append mor
     go true e = ap (λ l. s ∷ l) e
     go false e = e
 
-pub places_of-append : (xs ys : List PlacedStep) → places_of (xs ++ ys) ≡ places_of xs ++ places_of ys
-places_of-append xs ys =
-    ap (map (λ s. (place s).range)) (visible-append xs ys) ∙ map-append (λ s. (place s).range) (visible xs) (visible ys)
-
 pub words_told-append : (xs ys : List PlacedStep) → words_told (xs ++ ys) ≡ words_told xs ++ words_told ys
 words_told-append xs ys =
     let told : PlacedStep → Fault = λ s. fault_at NestedDefinition (place s) in
@@ -54,20 +51,42 @@ words_told-append xs ys =
     ∙ ap (map told) (filter-append is_word (visible xs) (visible ys))
     ∙ map-append told (filter is_word (visible xs)) (filter is_word (visible ys))
 
+-- no step was put out
+pub nothing_told : (more : List PlacedStep) → faults_at (told_from 0 (visible more)) (numbers_left_out more) ≡ unspellable (left_out spelling_before (visible more))
+nothing_told more = told_one_by_one 0 (visible more)
+
 -- one step is put out
 pub puts_step : (old new : PlacedSteps) (s : PlacedStep)
     → ((steps : List Step) → HasPut old.printer steps → HasPut new.printer (steps ++ s.step ∷ []))
-    → ranges_of new.places ≡ ranges_of old.places ++ places_of (s ∷ []) → new.nested.items ≡ old.nested.items ++ words_told (s ∷ [])
+    → new.count ≡ old.count + length (visible (s ∷ [])) → new.told.items ≡ old.told.items ++ told_from old.count (visible (s ∷ []))
+    → new.nested.items ≡ old.nested.items ++ words_told (s ∷ [])
     → PutsOut old new (s ∷ [])
-puts_step old new s puts places told before has = record {
+puts_step old new s puts count told words before has = record {
   printer = subst (HasPut new.printer) (sym (map-append (λ (s : PlacedStep). s.step) before (s ∷ []))) (puts (steps_of before) has.printer);
-  places = places ∙ ap (λ l. l ++ places_of (s ∷ [])) has.places ∙ sym (places_of-append before (s ∷ []));
-  nested = told ∙ ap (λ l. l ++ words_told (s ∷ [])) has.nested ∙ sym (words_told-append before (s ∷ []));
+  count = count ∙ ap (λ n. n + length here) has.count ∙ sym (length-append (visible before) here) ∙ ap length (sym (visible-append before (s ∷ [])));
+  told = λ more.
+      let one : visible (s ∷ more) ≡ here ++ visible more = visible-append (s ∷ []) more in
+      let is : (before ++ s ∷ []) ++ more ≡ before ++ (s ∷ more) = append_assoc before (s ∷ []) more in
+      ap (λ l. faults_at (l ++ told_from new.count (visible more)) (numbers_left_out ((before ++ s ∷ []) ++ more))) told
+      ∙ ap (λ n. faults_at ((old.told.items ++ told_from old.count here) ++ told_from n (visible more)) (numbers_left_out ((before ++ s ∷ []) ++ more))) count
+      ∙ ap (λ l. faults_at l (numbers_left_out ((before ++ s ∷ []) ++ more)))
+      (append_assoc old.told.items (told_from old.count here) (told_from (old.count + length here) (visible more))
+      ∙ ap (λ l. old.told.items ++ l) (sym (told_from-append old.count here (visible more)) ∙ ap (told_from old.count) (sym one)))
+      ∙ ap (λ l. faults_at (old.told.items ++ told_from old.count (visible (s ∷ more))) (numbers_left_out l)) is
+      ∙ has.told (s ∷ more)
+      ∙ ap (λ l. unspellable (left_out spelling_before (visible l))) (sym is);
+  nested = words ∙ ap (λ l. l ++ words_told (s ∷ [])) has.nested ∙ sym (words_told-append before (s ∷ []));
 }
+  where
+    here : List PlacedStep
+    here = visible (s ∷ [])
 
--- an invisible step leaves places and words as they are
-pub invisible_places : (s : PlacedStep) → is_visible_step s.step ≡ false → places_of (s ∷ []) ≡ []
-invisible_places s e = ap (λ (b : Bool). map (λ s. (place s).range) (if b then s ∷ [] else [])) e
+-- a visible step, and an invisible one
+pub one_visible : (s : PlacedStep) → is_visible_step s.step ≡ true → visible (s ∷ []) ≡ s ∷ []
+one_visible s e = ap (λ (b : Bool). if b then s ∷ [] else []) e
+
+pub none_visible : (s : PlacedStep) → is_visible_step s.step ≡ false → visible (s ∷ []) ≡ []
+none_visible s e = ap (λ (b : Bool). if b then s ∷ [] else []) e
 
 pub invisible_words : (s : PlacedStep) → is_visible_step s.step ≡ false → words_told (s ∷ []) ≡ []
 invisible_words s e =
@@ -129,28 +148,6 @@ origins_are xs =
     ∙ ap (map place) (sym (tokens_bare xs))
     ∙ map-map place bare (tokens_in xs)
 
--- ---- the tokens that are left out, by their numbers
-
--- a number as long as the list is the first behind it
-at_end : {X : Type 0} (xs : List X) (y : X) (ys : List X) → slice_get (xs ++ y ∷ ys) (length xs) ≡ Some y
-at_end [] y ys = refl
-at_end (x ∷ xs) y ys = at_end xs y ys
-
-told_left_out : (places before : List TextRange) (n : ℕ) (xs : List PlacedStep) → places ≡ before ++ map (λ s. (place s).range) xs → length before ≡ n
-    → told_at places (left_out_from n (steps_of xs)) ≡ unspellable (left_out spelling_before xs)
-told_left_out places before n [] is counted = refl
-told_left_out places before n (s ∷ more) is counted =
-    let range : TextRange = (place s).range in
-    let later : List TextRange = map (λ s. (place s).range) more in
-    go (spelling_before s.step more) (ap (λ l. slice_get l n) is ∙ ap (slice_get (before ++ range ∷ later)) (sym counted) ∙ at_end before range later)
-    (told_left_out places (before ++ range ∷ []) (n + 1) more (is ∙ sym (append_assoc before (range ∷ []) later)) (omega (arith, length-append before (range ∷ []), counted)))
-  where
-    go : (o : Option (List ℕ)) → slice_get places n ≡ Some (place s).range
-        → told_at places (left_out_from (n + 1) (steps_of more)) ≡ unspellable (left_out spelling_before more)
-        → told_at places (bare_printing.unspelled n o ++ left_out_from (n + 1) (steps_of more)) ≡ unspellable (unspelled spelling_before s o ++ left_out spelling_before more)
-    go None here e = ap (λ x. told_in x ++ told_at places (left_out_from (n + 1) (steps_of more))) here ∙ ap (λ l. fault_at Unspellable (place s) ∷ l) e
-    go (Some text) here e = e
-
 -- ---- the words that begin a definition are always printed
 
 abbrev word_at : Span → List ℕ → Leaf
@@ -209,15 +206,13 @@ nested_are (s ∷ more) = go (is_definition_word s.step) (spelling_before s.step
 -- ---- all faults of the steps that were put out
 
 pub faults_are : (out : PlacedSteps) (all : List PlacedStep) → HasOutput out all
-    → out.nested.items ++ told_at (ranges_of out.places) (print_of (steps_of all)).left_out ≡ faults_in all
+    → out.nested.items ++ faults_at out.told.items (print_of (steps_of all)).left_out ≡ faults_in all
 faults_are out all has =
-    ap (λ l. l ++ told_at (ranges_of out.places) (print_of (steps_of all)).left_out) (has.nested ∙ sym (nested_are (visible all)))
+    let none : all ++ [] ≡ all = append-nil all in
+    ap (λ l. l ++ faults_at out.told.items (print_of (steps_of all)).left_out) (has.nested ∙ sym (nested_are (visible all)))
     ∙ ap (λ l. nested (tokens_in all) ++ l)
-    (ap (λ steps. told_at (ranges_of out.places) (left_out_from 0 steps)) (sym (visible_bare all))
-    ∙ told_left_out (ranges_of out.places) [] 0 (visible all) has.places refl)
-
--- a number's fault comes before those of the numbers behind it
-pub told_first : (places : List TextRange) (numbers : List ℕ) (i : ℕ) (d : ℕ) (o : Option TextRange) → i < length numbers → o ≡ slice_get places (get_or numbers i d)
-    → told_at places (drop i numbers) ≡ told_in o ++ told_at places (drop (i + 1) numbers)
-told_first places numbers i d o below is =
-    ap (told_at places) (drop-cons numbers i d below) ∙ rw (add-one i, ← is) refl
+    (ap (λ steps. faults_at out.told.items (left_out_from 0 steps)) (sym (visible_bare all))
+    ∙ ap (λ l. faults_at l (numbers_left_out all)) (sym (append-nil out.told.items))
+    ∙ ap (λ l. faults_at (out.told.items ++ []) (numbers_left_out l)) (sym none)
+    ∙ has.told []
+    ∙ ap (λ l. unspellable (left_out spelling_before (visible l))) none)

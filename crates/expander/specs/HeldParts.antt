@@ -1,28 +1,23 @@
 -- What a piece prints by itself, and how that is put out.
-use Rattle.std.specs.Prelude.{◌≡◌, ℕ, List, ◌++◌, Bool, true, false, Option, IfSome, map, option_map, unwrap_or}
+use Rattle.std.specs.Prelude.{◌≡◌, ℕ, List, ◌++◌, Bool, true, false, Option, IfSome, map}
 use Rattle.std.specs.List.{list_any}
-use Rattle.std.specs.Rc.{rc_value}
 use Rattle.bridge.specs.PrintedParts.{IsPartOf, PartState}
 use Rattle.bridge.specs.Printers.{HasPut}
 use Rattle.tt_data.specs.Walk.{Step}
 use Rattle.tt_data.specs.declared.span.Span.{Span}
 use Rattle.expander.specs.Changes.{placed_with}
 use Rattle.expander.specs.Expansion.{PlacedStep}
-use Rattle.expander.specs.Faults.{is_definition_word, place}
+use Rattle.expander.specs.Faults.{is_definition_word}
 use Rattle.expander.specs.Outcomes.{parts_for}
 use Rattle.expander.specs.OutputSteps.{PutsOut}
 use Rattle.expander.specs.Placing.{resolved_steps}
 use Rattle.expander.specs.Plains.{tree_of}
-use Rattle.expander.specs.Printing.{steps_of, visible}
+use Rattle.expander.specs.Printing.{steps_of}
 use Rattle.expander.specs.declared.held_part.HeldPart.{HeldPart}
 use Rattle.expander.specs.declared.held_part.OwnPrint.{OwnPrint}
 use Rattle.expander.specs.declared.output.PlacedSteps.{PlacedSteps}
 use Rattle.expander.specs.declared.plain.Plain.{Plain}
 use Rattle.expander.specs.declared.starts.Starts.{Starts}
-
--- where a fault of each of its tokens is told
-abbrev pub told_in : HeldPart → List Span
-told_in p = unwrap_or (option_map (λ told. rc_value told) p.told) p.printed.tokens
 
 -- some step is a word that begins a definition
 abbrev pub has_word : List Step → Bool
@@ -42,21 +37,19 @@ pub record IsQuietPart (part : PartState) (steps : List PlacedStep) : Type 0 whe
   pub printed : IsPartOf part (steps_of steps)
   pub words : has_word (steps_of steps) ≡ false
 
--- the same with the places where faults of the tokens are told
-pub record IsPartFor (p : HeldPart) (steps : List PlacedStep) : Type 0 where
-  pub quiet : IsQuietPart p.printed steps
-  pub told : told_in p ≡ map place (visible steps)
+-- the same of a part that is held
+abbrev pub IsPartFor : HeldPart → List PlacedStep → Type 0
+IsPartFor p steps = IsQuietPart p.printed steps
 
 -- the part of a plain piece, where it has one, is what its steps print
 abbrev pub HasItsPart : Plain → Type 0
 HasItsPart q = IfSome q.part (λ p. IsPartFor p (parts_for (tree_of q).inner q.outcome).steps)
 
--- a part is put out, its tokens at the first places and their faults at the second; or nothing is
-abbrev pub PutsQuiet : PlacedSteps → PlacedSteps → PartState → List Span → List Span → Bool → Type 0
-PutsQuiet old new part spans told true =
-    (steps : List PlacedStep) (f : Span → Span) → IsQuietPart part steps → spans ≡ map f part.tokens
-    → told ≡ map f (map place (visible steps)) → PutsOut old new (map (placed_with f) steps)
-PutsQuiet old new part spans told false = new ≡ old
+-- a part is put out, its tokens at these places; or nothing is
+abbrev pub PutsQuiet : PlacedSteps → PlacedSteps → PartState → List Span → Bool → Type 0
+PutsQuiet old new part spans true =
+    (steps : List PlacedStep) (f : Span → Span) → IsQuietPart part steps → spans ≡ map f part.tokens → PutsOut old new (map (placed_with f) steps)
+PutsQuiet old new part spans false = new ≡ old
 
 -- the part of a piece that starts here is put out at its places in the text; or nothing is
 abbrev pub PutsHeld : PlacedSteps → PlacedSteps → Option HeldPart → ℕ → Starts → Bool → Type 0

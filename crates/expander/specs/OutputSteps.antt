@@ -1,31 +1,43 @@
 -- What the code keeps of an output: its steps as they are printed, and where their faults are told.
-use Rattle.std.specs.Prelude.{◌≡◌, ℕ, List, [], ◌∷◌, ◌++◌, Option, Some, None, filter, flat_map, map, slice_get}
+use Rattle.std.specs.Prelude.{◌≡◌, ℕ, ◌+◌, List, [], ◌∷◌, ◌++◌, filter, if◌then◌else◌, length, map, nat_eq}
 use Rattle.bridge.specs.Printers.{HasPut}
-use Rattle.tt_data.specs.declared.span.Span.{Span}
-use Rattle.tt_data.specs.declared.span.TextRange.{TextRange}
+use Rattle.bridge.specs.Printing.{left_out_from}
 use Rattle.expander.specs.declared.faults.Fault.{Fault}
 use Rattle.expander.specs.declared.faults.FaultKind.TheVariants.{NestedDefinition, Unspellable}
 use Rattle.expander.specs.declared.output.PlacedSteps.{PlacedSteps}
+use Rattle.expander.specs.declared.output.Told.{Told}
 use Rattle.expander.specs.Expansion.{PlacedStep}
 use Rattle.expander.specs.Faults.{place, fault_at, is_definition_word, nested, unspellable}
 use Rattle.expander.specs.Printing.{PrintedToken, visible, printed, left_out, spelling_before, steps_of}
 
--- the ranges of places
-abbrev pub ranges_of : List Span → List TextRange
-ranges_of spans = map (λ s. s.range) spans
+-- where faults of these tokens are told, of which the first has this number
+abbrev pub told_from : ℕ → List PlacedStep → List Told
+told_from n [] = []
+told_from n (s ∷ more) = record { number = n; range = (place s).range } ∷ told_from (n + 1) more
 
--- where a fault of each visible step is told
-abbrev pub places_of : List PlacedStep → List TextRange
-places_of steps = map (λ s. (place s).range) (visible steps)
+-- the faults of the tokens of these numbers, each at the first place that is told of it; numbers and places go up
+abbrev pub faults_at : List Told → List ℕ → List Fault
+faults_at [] numbers = []
+faults_at (t ∷ more) [] = []
+faults_at (t ∷ more) (n ∷ numbers) =
+    if nat_eq t.number n then record { kind = Unspellable; range = t.range } ∷ faults_at more numbers else faults_at more (n ∷ numbers)
+
+-- the numbers of the visible tokens that are left out
+abbrev pub numbers_left_out : List PlacedStep → List ℕ
+numbers_left_out steps = left_out_from 0 (steps_of (visible steps))
 
 -- the faults of the visible words that begin a definition
 abbrev pub words_told : List PlacedStep → List Fault
 words_told steps = map (λ s. fault_at NestedDefinition (place s)) (filter (λ s. is_definition_word s.step) (visible steps))
 
--- just these steps were put out so far
+-- just these steps were put out so far: whatever follows, if places of it are told one by one, the faults of all tokens that
+-- are left out are told
 pub record HasOutput (out : PlacedSteps) (steps : List PlacedStep) : Type 0 where
   pub printer : HasPut out.printer (steps_of steps)
-  pub places : ranges_of out.places ≡ places_of steps
+  pub count : out.count ≡ length (visible steps)
+  pub told : (more : List PlacedStep)
+      → faults_at (out.told.items ++ told_from out.count (visible more)) (numbers_left_out (steps ++ more))
+      ≡ unspellable (left_out spelling_before (visible (steps ++ more)))
   pub nested : out.nested.items ≡ words_told steps
 
 -- these steps were put out behind all that were
@@ -39,11 +51,3 @@ tokens_in steps = printed spelling_before (visible steps)
 -- the faults of the tokens that are printed, and of those that are left out
 abbrev pub faults_in : List PlacedStep → List Fault
 faults_in steps = nested (tokens_in steps) ++ unspellable (left_out spelling_before (visible steps))
-
-abbrev pub told_in : Option TextRange → List Fault
-told_in None = []
-told_in (Some range) = record { kind = Unspellable; range = range } ∷ []
-
--- the faults of the visible tokens of these numbers, which are left out
-abbrev pub told_at : List TextRange → List ℕ → List Fault
-told_at places numbers = flat_map (λ n. told_in (slice_get places n)) numbers

@@ -1,28 +1,34 @@
 // The output of an expansion: steps of walks, printed as they come, and where their faults are told.
-ghost use Rattle.std.specs.Prelude.{◌≡◌, ◌∷◌, [], ◌++◌, List, true, slice_get, IfOk, OnOk, map};
-ghost use Rattle.std.specs.Rc.{rc_value};
+ghost use Rattle.std.specs.Prelude.{◌≡◌, ◌+◌, ◌∷◌, [], ◌++◌, List, true, IfOk, OnOk, map};
 ghost use Rattle.bridge.specs.HeldSpans.{shifted};
 ghost use Rattle.bridge.specs.PrintedTrees.{placed_in};
 ghost use Rattle.bridge.specs.Printing.{is_visible_step, print_of};
 ghost use Rattle.bridge.specs.WalkSteps.{step_of};
-ghost use Rattle.tt_data.specs.declared.span.Span.{Span};
 ghost use Rattle.expander.specs.Expansion.{PlacedStep, placed};
 ghost use Rattle.expander.specs.HeldParts.{PutsQuiet};
-ghost use Rattle.expander.specs.OutputSteps.{HasOutput, PutsOut, faults_in, places_of, ranges_of, told_at, words_told};
+ghost use Rattle.expander.specs.OutputSteps.{HasOutput, PutsOut, faults_at, faults_in, told_from, words_told};
 ghost use Rattle.expander.specs.Printing.{steps_of};
 
 use crate::faults::{Fault, FaultKind, is_definition_word, place};
-use bridge::{HeldSpans, Placed, Places, PrintedPart, Printer, Shift, WalkStep};
+use bridge::{Placed, PrintedPart, Printer, Shift, WalkStep, laws};
 use std::alloc::{AllocError, Global};
-use std::rc::Rc;
 use tt_data::{DelimiterKind, Span, TextRange};
 
-/// Steps that were put out. They are printed and not kept: a token takes its text and two places.
+// Where a fault of the visible token of this number is told.
+#[derive(Clone, Copy)]
+struct Told {
+    number: usize,
+    range: TextRange,
+}
+
+/// Steps that were put out. They are printed and not kept: a token takes its text and two places, or one in a part.
 #[derive(Drop)]
 pub(crate) struct PlacedSteps {
     printer: Printer,
-    // Where a fault of each visible token is told, printed or left out.
-    places: Places,
+    // How many visible tokens were put, printed or left out.
+    count: usize,
+    // Where faults of those that are in no part are told. None that is in a part is left out.
+    told: Vec<Told>,
     // The faults of the words that begin a definition.
     nested: Vec<Fault>,
 }
@@ -32,10 +38,10 @@ pub(crate) fn no_steps(alloc: Global, bytes: usize, parts: usize) -> Result<Plac
     ensures { IfOk result (λ steps. HasOutput steps []) }
 {
     let printer = Printer::with_room(alloc, bytes, parts)?;
-    let places = Places::with_room(alloc, parts)?;
     Ok(PlacedSteps {
         printer,
-        places,
+        count: 0,
+        told: Vec::new(alloc),
         nested: Vec::new(alloc),
     })
 }
@@ -74,13 +80,18 @@ fn push_place(
     outer: Option<Span>,
 ) -> Result<(), AllocError>
     requires { is_visible_step (step_of step.now) ≡ true }
-    ensures places { OnOk result (ranges_of steps.new.places ≡ ranges_of steps.old.places ++ places_of (placed outer (step_of step.now ∷ []))) }
+    ensures count { OnOk result (steps.new.count ≡ steps.old.count + 1) }
+    ensures told { OnOk result (steps.new.told.items ≡ steps.old.told.items ++ told_from steps.old.count (placed outer (step_of step.now ∷ []))) }
     ensures nested { OnOk result (steps.new.nested.items ≡ steps.old.nested.items ++ words_told (placed outer (step_of step.now ∷ []))) }
     ensures printer { steps.new.printer ≡ steps.old.printer }
 {
-    let span = place(step, outer);
-    steps.places.push(span)?;
-    let range = span.range;
+    let Some(count) = steps.count.checked_add(1) else {
+        return Err(AllocError);
+    };
+    let range = place(step, outer).range;
+    let number = steps.count;
+    steps.told.push(Told { number, range })?;
+    steps.count = count;
     if is_definition_word(step) {
         let kind = FaultKind::NestedDefinition;
         steps.nested.push(Fault { kind, range })?;
@@ -88,19 +99,22 @@ fn push_place(
     Ok(())
 }
 
-/// Adds a part, its tokens at the first places and faults of them told at the second: `false`, and nothing is done, where it
-/// can't be put at once.
+/// Adds a part, its tokens at these places: `false`, and nothing is done, where it can't be put at once.
 pub(crate) fn put_part(
     steps: &mut PlacedSteps,
     part: &PrintedPart,
     spans: &[Span],
-    told: &[Span],
 ) -> Result<bool, AllocError>
-    ensures { IfOk result (PutsQuiet steps.old steps.new part.now spans.now told.now) }
+    ensures { IfOk result (PutsQuiet steps.old steps.new part.now spans.now) }
 {
+    laws::parts_are_printed_whole();
+    laws::spelling_hangs_on_shapes();
+    let Some(count) = steps.count.checked_add(part.spans().len()) else {
+        return Err(AllocError);
+    };
     match steps.printer.put_part(part, spans) {
         Ok(true) => {
-            steps.places.extend_from_slice(told)?;
+            steps.count = count;
             Ok(true)
         }
         Ok(false) => Ok(false),
@@ -108,51 +122,46 @@ pub(crate) fn put_part(
     }
 }
 
-/// Adds a part, its tokens and the places where faults of them are told at their own places, shifted: `false`, and nothing
-/// is done, where it can't be put at once.
+/// Adds a part, its tokens at their own places, shifted: `false`, and nothing is done, where it can't be put at once.
 pub(crate) fn put_part_at(
     steps: &mut PlacedSteps,
     part: &PrintedPart,
-    told: &Rc<HeldSpans>,
     shift: Shift,
 ) -> Result<bool, AllocError>
-    ensures { IfOk result (PutsQuiet steps.old steps.new part.now (map (shifted shift) part.now.tokens) (map (shifted shift) (rc_value told.now))) }
+    ensures { IfOk result (PutsQuiet steps.old steps.new part.now (map (shifted shift) part.now.tokens)) }
 {
-    if !told.fits(shift) {
-        return Ok(false);
-    }
+    laws::parts_are_printed_whole();
+    laws::spelling_hangs_on_shapes();
+    let Some(count) = steps.count.checked_add(part.spans().len()) else {
+        return Err(AllocError);
+    };
     match steps.printer.put_part_at(part, shift) {
-        Ok(true) => match steps.places.push_held(told, shift) {
-            Ok(true) => Ok(true),
-            _ => Err(AllocError),
-        },
+        Ok(true) => {
+            steps.count = count;
+            Ok(true)
+        }
         Ok(false) => Ok(false),
         Err(_) => Err(AllocError),
     }
 }
 
-// Where a fault of the visible token of this number is told.
-fn place_at(places: &Places, number: usize) -> Option<TextRange>
-    ensures { result ≡ slice_get (ranges_of places.now) number }
-{
-    match places.get(number) {
-        Some(span) => Some(span.range),
-        None => None,
-    }
-}
-
-// Adds a fault for each visible token of these numbers.
+// Adds a fault for each visible token of these numbers. They and those that are told go up.
 fn push_left_out(
     faults: &mut Vec<Fault>,
-    places: &Places,
+    told: &[Told],
     numbers: &[usize],
 ) -> Result<(), AllocError>
-    ensures { OnOk result (faults.new.items ≡ faults.old.items ++ told_at (ranges_of places.now) numbers.now) }
+    ensures { OnOk result (faults.new.items ≡ faults.old.items ++ faults_at told.now numbers.now) }
 {
-    for number in numbers {
-        if let Some(range) = place_at(places, *number) {
-            let kind = FaultKind::Unspellable;
+    let mut next = 0;
+    for place in told {
+        if next == numbers.len() {
+            return Ok(());
+        }
+        if place.number == numbers[next] {
+            let (kind, range) = (FaultKind::Unspellable, place.range);
             faults.push(Fault { kind, range })?;
+            next += 1;
         }
     }
     Ok(())
@@ -167,6 +176,6 @@ pub(crate) fn finish(steps: PlacedSteps, faults: &mut Vec<Fault>) -> Result<Plac
         return Err(AllocError);
     };
     faults.extend_from_slice(steps.nested.as_slice())?;
-    push_left_out(faults, &steps.places, printed.left_out.as_slice())?;
+    push_left_out(faults, steps.told.as_slice(), printed.left_out.as_slice())?;
     Ok(printed)
 }

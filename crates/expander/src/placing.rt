@@ -1,14 +1,11 @@
 // What a piece gives in places of its own, put out at its places in the text.
-ghost use Rattle.std.specs.Prelude.{◌≡◌, ◌∷◌, [], ◌++◌, IfOk, IfSome, None, OnOk, Some, option_map, map, true};
-ghost use Rattle.std.specs.List.{list_all};
-ghost use Rattle.std.specs.Rc.{rc_value};
-ghost use Rattle.bridge.specs.HeldSpans.{is_anchored};
+ghost use Rattle.std.specs.Prelude.{◌≡◌, ◌∷◌, [], ◌++◌, IfOk, IfSome, None, OnOk, Some, option_map, map};
 ghost use Rattle.bridge.specs.WalkSteps.{step_of};
 ghost use Rattle.tt_data.specs.Spans.{leaf_with, span_of};
 ghost use Rattle.tt_data.specs.Walk.{at_leaf, step_with, walk};
 ghost use Rattle.tt_data.specs.declared.span.Span.{Span};
 ghost use Rattle.expander.specs.Expansion.{placed};
-ghost use Rattle.expander.specs.HeldParts.{PutsHeld, told_in};
+ghost use Rattle.expander.specs.HeldParts.{PutsHeld};
 ghost use Rattle.expander.specs.OutputSteps.{PutsOut};
 ghost use Rattle.expander.specs.Outcomes.{parts_for, placed_of};
 ghost use Rattle.expander.specs.Placing.{base_at, range_from, resolved_by, resolved_faults, resolved_steps, told_if_broken};
@@ -20,9 +17,8 @@ use crate::outcome::{Outcome, OwnStep, lent};
 use crate::output::{PlacedSteps, push_step, put_part, put_part_at};
 use crate::starts::Starts;
 use crate::walk::Walk;
-use bridge::{HeldSpans, Shift, WalkStep};
+use bridge::{Shift, WalkStep};
 use std::alloc::{AllocError, Global};
-use std::rc::Rc;
 use tt::TopSubtree;
 use tt_data::{Ident, Leaf, Punct, Span, TextRange};
 
@@ -205,29 +201,6 @@ fn resolved_all(
     Ok(all)
 }
 
-// The only anchor of these spans besides 0, where they have but one.
-fn anchor_of(spans: &HeldSpans, told: &HeldSpans) -> Option<u32>
-    ensures { IfSome result (λ a. (list_all (is_anchored a) spans.now ≡ true) × (list_all (is_anchored a) told.now ≡ true)) }
-{
-    let anchor = spans.anchor()?;
-    let other = told.anchor()?;
-    if other == anchor || other == 0 {
-        Some(anchor)
-    } else {
-        None
-    }
-}
-
-// Where faults of a part's tokens are told.
-fn told_of(part: &HeldPart) -> &Rc<HeldSpans>
-    ensures { rc_value result.now ≡ told_in part.now }
-{
-    match &part.told {
-        Some(told) => told,
-        None => part.printed.held(),
-    }
-}
-
 // Puts out what a piece prints by itself, with places that are not computed yet: `false`, and nothing is done, where it
 // can't be put so.
 fn put_shifted(
@@ -238,12 +211,11 @@ fn put_shifted(
 ) -> Result<bool, AllocError>
     ensures { IfOk result (PutsHeld steps.old steps.new (Some part.now) start starts.now) }
 {
-    let told = told_of(part);
-    let Some(anchor) = anchor_of(part.printed.held(), told) else {
+    let Some(anchor) = part.printed.held().anchor() else {
         return Ok(false);
     };
     let base = base_at(start, starts, anchor);
-    put_part_at(steps, &part.printed, told, Shift { start, base })
+    put_part_at(steps, &part.printed, Shift { start, base })
 }
 
 // The same with all places computed.
@@ -257,8 +229,7 @@ fn put_printed(
     ensures { IfOk result (PutsHeld steps.old steps.new (Some part.now) start starts.now) }
 {
     let spans = resolved_all(alloc, start, starts, part.printed.spans())?;
-    let told = resolved_all(alloc, start, starts, told_of(part).as_slice())?;
-    put_part(steps, &part.printed, spans.as_slice(), told.as_slice())
+    put_part(steps, &part.printed, spans.as_slice())
 }
 
 /// Puts out what a piece prints by itself, if anything is held of that: `false`, and nothing is done, where it can't be put at

@@ -1,7 +1,10 @@
-use Rattle.std.proofs.Common.{◌≡◌, ◌++◌, drop}
-use Rattle.expander.specs.OutputSteps.{ranges_of, told_at}
+use Rattle.std.proofs.Common.{◌≡◌, ◌≤◌, ◌++◌, drop, length}
+use Rattle.expander.specs.OutputSteps.{faults_at}
 use Rattle.expander.proofs.output.push_left_out.Given as goal
 
-abbrev pub invariant-loop-number : goal.invariant-loop-number
-invariant-loop-number l =
-    l.faults.items ++ told_at (ranges_of l.places) (drop l.number-index l.numbers) ≡ l.initial.faults.items ++ told_at (ranges_of l.places) l.numbers
+abbrev pub invariant-loop-place : goal.invariant-loop-place
+invariant-loop-place l =
+    record {
+      within : l.next ≤ length l.numbers;
+      told : l.faults.items ++ faults_at (drop l.place-index l.told) (drop l.next l.numbers) ≡ l.initial.faults.items ++ faults_at l.told l.numbers;
+    }
