@@ -10,7 +10,7 @@ ghost use Rattle.expander.specs.Memories.{IsMemory, held_in, trees_of};
 ghost use Rattle.expander.specs.OwnPieces.{tree_at};
 ghost use Rattle.expander.specs.PieceReading.{IsMet};
 ghost use Rattle.expander.specs.Plains.{IsPlain};
-ghost use Rattle.expander.specs.Sources.{all_in};
+ghost use Rattle.expander.specs.Sources.{AreSources, all_in};
 
 use crate::by_tree::ByTree;
 use crate::links::Link;
@@ -117,7 +117,9 @@ impl Memory {
 
     /// Looks at the held pieces that may be met next, where this one is the first of a run of them, so that the processor
     /// waits once for all that they have, and not at each. It tells whether there is a number of how much that is.
-    pub(crate) fn look_ahead(&self, own: &OwnPiece) -> bool {
+    pub(crate) fn look_ahead(&self, own: &OwnPiece) -> bool
+        requires { AreSources self.now.sources }
+    {
         let Some(at) = own.met else {
             return true;
         };
@@ -135,13 +137,22 @@ impl Memory {
         true
     }
 
-    // How much there is of the piece that has this link: 0 where it is no plain one.
-    fn size_at(&self, at: usize) -> usize {
-        let Some(Link::Plain(i)) = link_at(self.links.as_slice(), at) else {
-            return 0;
-        };
-        match self.plains.get(i) {
-            Some(plain) => plain.as_ref().size(),
+    // How much there is of the held piece of this number.
+    fn size_at(&self, at: usize) -> usize
+        requires { AreSources self.now.sources }
+    {
+        match link_at(self.links.as_slice(), at) {
+            Some(Link::Plain(i)) => match self.plains.get(i) {
+                Some(plain) => plain.as_ref().size(),
+                None => 0,
+            },
+            Some(Link::Definition(i)) => match (self.definitions.get(i), self.sources.get(at)) {
+                (Some(known), Some(source)) => known
+                    .as_ref()
+                    .size()
+                    .saturating_add(source.as_ref().size()),
+                _ => 0,
+            },
             None => 0,
         }
     }

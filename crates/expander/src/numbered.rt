@@ -76,4 +76,12 @@ impl Known {
             rules,
         })
     }
+
+    /// How long the name is, and the number.
+    pub(crate) fn size(&self) -> usize {
+        self.name
+            .as_str()
+            .len()
+            .saturating_add(self.number as usize)
+    }
 }

@@ -36,6 +36,17 @@ pub(crate) struct Find {
     pub known: Option<Rc<Known>>,
 }
 
+impl Find {
+    /// How long the name is, and the number of what it finds.
+    pub(crate) fn size(&self) -> usize {
+        let name = self.name.as_str().len();
+        match &self.known {
+            Some(known) => name.saturating_add(known.as_ref().number as usize),
+            None => name,
+        }
+    }
+}
+
 /// What an expansion gives of a tree.
 #[derive(Drop)]
 pub(crate) struct Outcome {

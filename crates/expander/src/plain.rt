@@ -30,12 +30,15 @@ pub(crate) struct Plain {
 }
 
 impl Plain {
-    /// How many names it looked up, and how many tokens it prints by itself.
+    /// How much there is of the first name that it looked up, and how many tokens it prints by itself.
     pub(crate) fn size(&self) -> usize {
-        let names = self.outcome.finds.len();
+        let name = match self.outcome.finds.first() {
+            Some(find) => find.size(),
+            None => 0,
+        };
         match &self.part {
-            Some(part) => names.saturating_add(part.printed.spans().len()),
-            None => names,
+            Some(part) => name.saturating_add(part.printed.spans().len()),
+            None => name,
         }
     }
 }

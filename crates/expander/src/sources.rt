@@ -41,6 +41,14 @@ pub(crate) struct Source {
     pub tree: Rc<OwnTree>,
 }
 
+impl Source {
+    /// How many tokens there are, and one more for a definition.
+    pub(crate) fn size(&self) -> usize {
+        let more = usize::from(self.tree.as_ref().is_definition());
+        self.cutout.count.saturating_add(more)
+    }
+}
+
 /// A piece of a stretch.
 #[derive(Drop)]
 pub(crate) struct Part {
