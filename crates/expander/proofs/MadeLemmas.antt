@@ -1,9 +1,9 @@
 -- Sources and the pieces that they are of.
-use Rattle.std.proofs.Common.{◌≡◌, ◌<◌, ℕ, arith, length, zero, suc, List, [], ◌∷◌, ◌++◌, map, Option, Some, refl, ap, sym, ◌∙◌, Global}
+use Rattle.std.proofs.Common.{◌≡◌, ◌<◌, ℕ, arith, length, zero, suc, List, [], ◌∷◌, ◌++◌, map, Some, ap, sym, ◌∙◌, Global}
 use Rattle.std.specs.Prelude.{slice_get}
 use Rattle.std.specs.Rc.{rc_value}
 use Rattle.std.specs.declared.rc.Rc.{Rc}
-use Rattle.std.proofs.lemmas.List.{length-map, map-append}
+use Rattle.std.proofs.lemmas.List.{length-map}
 use Rattle.std.proofs.lemmas.Option.{slice_get_within}
 use Rattle.tt.specs.Tops.{Top}
 use Rattle.expander.specs.OwnPieces.{tree_at}

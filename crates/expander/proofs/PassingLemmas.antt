@@ -1,5 +1,5 @@
 -- A text that is passed stretch by stretch and piece by piece.
-use Rattle.std.proofs.Common.{◌≡◌, ℕ, ◌+◌, ◌-◌, ◌<◌, ◌≤◌, zero, suc, Bool, List, [], ◌∷◌, ◌++◌, Option, None, Some, append_assoc, append-nil, length, map, take, drop, refl, ap, sym, subst, ◌∙◌, arith, Global}
+use Rattle.std.proofs.Common.{◌≡◌, ℕ, ◌+◌, ◌-◌, ◌<◌, ◌≤◌, zero, suc, List, [], ◌∷◌, ◌++◌, Option, None, Some, append_assoc, append-nil, length, map, take, drop, refl, ap, sym, subst, ◌∙◌, arith, Global}
 use Rattle.std.specs.Prelude.{All, IfSome, IsUtf8, chars, flat_map, slice_get}
 use Rattle.std.specs.Rc.{rc_value}
 use Rattle.std.specs.declared.rc.Rc.{Rc}
@@ -21,7 +21,6 @@ use Rattle.expander.specs.PieceReading.{AddsPieces, AddsStretch, AreMade, AreMet
 use Rattle.expander.specs.Sources.{AreCounted, AreListed, AreParts, AreReadAs, AreSources, IsHeldStretch, IsSource, IsStretch, StandsFirst, all_in, bytes_of, part_shown, part_top, pieces_of, sources_of}
 use Rattle.expander.specs.declared.own_pieces.OwnPiece.{OwnPiece}
 use Rattle.expander.specs.declared.own_pieces.PieceTree.TheVariants as as_tree
-use Rattle.expander.specs.declared.passing.Begun.{Begun}
 use Rattle.expander.specs.declared.passing.Passing.{Passing}
 use Rattle.expander.specs.declared.placed.Placed.{Placed}
 use Rattle.expander.specs.declared.sources.HeldStretch.{HeldStretch}
@@ -31,7 +30,7 @@ use Rattle.expander.specs.declared.sources.Sources.{Sources}
 use Rattle.expander.specs.declared.sources.Stretch.{Stretch}
 use Rattle.expander.proofs.ChainLemmas.{get_front}
 use Rattle.expander.proofs.MadeLemmas.{mapped_at}
-use Rattle.expander.proofs.ReadPartLemmas.{NextLaw, blank_reads, fewer_left, none_passed, passed_on, stands_tokens}
+use Rattle.expander.proofs.ReadPartLemmas.{NextLaw, blank_reads, none_passed, passed_on, stands_tokens}
 use Rattle.expander.proofs.StretchLemmas.{begun_more, parts_longer}
 
 -- ---- pieces of stretches

@@ -1,8 +1,7 @@
 -- Pieces that are read by themselves, and the text that they are part of.
 use Rattle.std.proofs.Common.{◌≡◌, ◌≢◌, ℕ, ◌+◌, ◌-◌, ◌<◌, ◌≤◌, Bool, true, false, List, [], ◌∷◌, ◌++◌, append_assoc, append-nil, length, map, take, drop, refl, ap, sym, subst, ◌∙◌, arith, if◌then◌else◌}
-use Rattle.std.specs.Prelude.{IsUtf8, Option, Result, Ok, Err, chars}
+use Rattle.std.specs.Prelude.{IsUtf8, Result, Ok, Err, chars}
 use Rattle.std.specs.Rc.{rc_value}
-use Rattle.std.proofs.lemmas.List.Elements.{All-append, All-cons, All-nil}
 use Rattle.std.proofs.lemmas.List.Sums.{sum_by-cons}
 use Rattle.std.proofs.lemmas.List.{drop-append-le, drop-drop, length-append, length-drop, length-take-le, map-append, take-append-drop, take-append-le, take_all}
 use Rattle.std.proofs.Math.Seq.{drop-length}

@@ -1,16 +1,15 @@
 -- Stretches: pieces one behind another, with the blanks around them.
-use Rattle.std.proofs.Common.{◌≡◌, ℕ, ◌+◌, ◌-◌, ◌<◌, ◌≤◌, zero, suc, Bool, List, [], ◌∷◌, ◌++◌, append_assoc, length, map, take, drop, refl, ap, sym, subst, ◌∙◌, arith}
-use Rattle.std.specs.Prelude.{All, IsUtf8, chars}
+use Rattle.std.proofs.Common.{◌≡◌, ℕ, ◌+◌, ◌-◌, ◌≤◌, zero, suc, Bool, List, [], ◌∷◌, ◌++◌, append_assoc, length, map, take, drop, refl, ap, sym, subst, ◌∙◌, arith}
+use Rattle.std.specs.Prelude.{IsUtf8, chars}
 use Rattle.std.specs.Rc.{rc_value}
-use Rattle.std.proofs.lemmas.List.Elements.{All-append, All-cons, All-nil, All-weaker}
+use Rattle.std.proofs.lemmas.List.Elements.{All-nil, All-weaker}
 use Rattle.std.proofs.lemmas.Str.{IsUtf8-drop}
-use Rattle.std.proofs.lemmas.List.{drop-drop, length-append, length-drop, length-take-le, map-append, take-append-drop, take-append-le, take_all}
+use Rattle.std.proofs.lemmas.List.{drop-drop, length-append, length-drop, length-take-le, map-append, take-append-le, take_all}
 use Rattle.std.proofs.lemmas.List.Sums.{sum_by-append}
 use Rattle.tt.specs.Tops.{Top}
 use Rattle.tt_data.proofs.ForestLemmas.{joined_assoc, walk-joined}
 use Rattle.tt_data.specs.Forest.{Forest, empty, joined}
-use Rattle.tt_data.specs.Walk.{Step, walk}
-use Rattle.rustc_lexer.specs.Lexing.{tokens_of}
+use Rattle.tt_data.specs.Walk.{walk}
 use Rattle.rustc_lexer.specs.Standing.{AreTokensFrom}
 use Rattle.rustc_lexer.specs.declared.token.Token.{Token}
 use Rattle.bridge.specs.Parts.{begins_with_mark, starts_with_mark}
@@ -19,11 +18,11 @@ use Rattle.bridge.specs.TokenSteps.{steps_of}
 use Rattle.expander.specs.OwnPieces.{own_of}
 use Rattle.expander.specs.PieceReading.{IsBegun}
 use Rattle.expander.specs.Pieces.{pieces}
-use Rattle.expander.specs.Sources.{AreParts, AreReadAs, IsCutout, IsSource, IsStretch, StandsHere, bytes_of, chars_ahead, part_shown}
+use Rattle.expander.specs.Sources.{AreParts, AreReadAs, IsCutout, IsSource, IsStretch, bytes_of, chars_ahead, part_shown}
 use Rattle.expander.specs.declared.passing.Begun.{Begun}
 use Rattle.expander.specs.declared.sources.Part.{Part}
 use Rattle.expander.specs.declared.sources.Stretch.{Stretch}
-use Rattle.expander.proofs.ReadPartLemmas.{FirstLaw, NextLaw, is_cutout, placed_append, stand_behind}
+use Rattle.expander.proofs.ReadPartLemmas.{FirstLaw, is_cutout, placed_append}
 
 take_split : (n m : ℕ) (xs : List ℕ) → take (n + m) xs ≡ take n xs ++ take m (drop n xs)
 take_split zero m xs = ap (λ (k : ℕ). take k xs) (omega arith)

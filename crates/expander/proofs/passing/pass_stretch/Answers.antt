@@ -1,7 +1,5 @@
-use Rattle.std.proofs.Common.{◌≡◌, ◌+◌, List, ℕ, drop, length, rules, sym}
+use Rattle.std.proofs.Common.{◌≡◌, ◌+◌, drop, length, rules, sym}
 use Rattle.std.specs.Rc.{rc_value}
-use Rattle.rustc_lexer.specs.Standing.{AreTokensFrom}
-use Rattle.rustc_lexer.specs.declared.token.Token.{Token}
 use Rattle.expander.specs.PieceReading.{IsPassing}
 use Rattle.expander.specs.Sources.{IsHeldStretch, StandsFirst}
 use Rattle.expander.specs.declared.sources.Cutout.{Cutout}

@@ -1,5 +1,5 @@
 use Rattle.std.proofs.Common.{◌≡◌, [], rules}
-use Rattle.expander.specs.PieceReading.{AreMet, IsPassing}
+use Rattle.expander.specs.PieceReading.{IsPassing}
 use Rattle.expander.proofs.MadeLemmas.{made_theirs}
 use Rattle.expander.proofs.PassingLemmas.{made_all, no_item}
 use Rattle.expander.proofs.ReadPartLemmas.{all_passed}

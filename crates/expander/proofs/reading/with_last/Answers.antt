@@ -1,4 +1,3 @@
-use Rattle.std.proofs.Common.{rules}
 use Rattle.expander.specs.PieceReading.{IsPassing}
 use Rattle.expander.proofs.MadeLemmas.{last_theirs}
 use Rattle.expander.proofs.PassingLemmas.{made_all}

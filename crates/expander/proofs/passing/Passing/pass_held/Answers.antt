@@ -1,5 +1,4 @@
-use Rattle.std.proofs.Common.{refl, rules}
-use Rattle.expander.specs.PieceReading.{AddsStretch}
+use Rattle.std.proofs.Common.{rules}
 use Rattle.expander.proofs.passing.Passing.pass_held.Goals as goal
 
 pub returns-clause-list : goal.returns-clause-list
