@@ -23,6 +23,7 @@ use Rattle.expander.specs.declared.own_pieces.OwnPiece.{OwnPiece}
 use Rattle.expander.specs.declared.own_pieces.PieceTree.TheVariants as as_tree
 use Rattle.expander.specs.declared.passing.Passing.{Passing}
 use Rattle.expander.specs.declared.placed.Placed.{Placed}
+use Rattle.expander.specs.declared.seeking.Seeker.{Seeker}
 use Rattle.expander.specs.declared.sources.HeldStretch.{HeldStretch}
 use Rattle.expander.specs.declared.sources.Part.{Part}
 use Rattle.expander.specs.declared.sources.Source.{Source}
@@ -350,6 +351,11 @@ stretch_is_passed laws held text utf8 at left old new h is stands adds met liste
       first = rw list (first ∙ as_many new.own.items (pieces_of (old.list.items ++ k ∷ [])) made);
       made = rw (list, parts, append-nil (pieces_of (old.list.items ++ k ∷ []))) made;
     }
+
+-- where pieces are looked for does not matter
+pub sought : (held : Sources) (text : List ℕ) (at : ℕ) (left : List Token) (old : Passing) (seeker : Seeker) → IsPassing held text at left old
+    → IsPassing held text at left (record old { seeker = seeker })
+sought held text at left old seeker p = record { passed = p.passed; met = p.met; begun = p.begun; listed = p.listed; first = p.first; made = p.made }
 
 -- at first nothing was passed
 pub nothing_passed : (held : Sources) (text : List ℕ) (now : Passing) → AreTokensFrom text 0 (tokens_of (chars text)) → now.own.items ≡ [] → now.list.items ≡ []

@@ -267,7 +267,7 @@ pub(crate) fn pass_stretch(
     requires passing { IsPassing held.now text.now at left.now now.old }
     ensures passing { IfOk result (λ size. IfSome size (λ n. IsPassing held.now text.now (at + n.0) (drop n.1 left.now) now.new)) }
     ensures shorter { IfOk result (λ size. IfSome size (λ n. length (drop n.1 left.now) < length left.now)) }
-    ensures none { IfOk result (λ size. size ≡ None → now.new ≡ now.old) }
+    ensures none { IfOk result (λ size. size ≡ None → IsPassing held.now text.now at left.now now.new) }
 {
     laws::next_token();
     bridge::laws::reading_behind();
@@ -275,7 +275,7 @@ pub(crate) fn pass_stretch(
         return Ok(None);
     };
     let cutout = &next.stretch.as_ref().cutout;
-    if !stands_first(cutout, &text[at as usize..], left) {
+    if !now.seeker.tries() || !stands_first(cutout, &text[at as usize..], left) {
         return Ok(None);
     }
     let (len, count) = (cutout.bytes.len(), cutout.count);

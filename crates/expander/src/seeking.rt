@@ -10,7 +10,7 @@ use rustc_lexer::Token;
 use std::rc::Rc;
 use tt_data::TtFault;
 
-// How many held pieces are tried at a place.
+// How many held pieces are tried at a place, and at how many places a stretch.
 const TRIED: usize = 16;
 
 /// Where the next held piece is looked for.
@@ -25,6 +25,8 @@ pub(crate) struct Seeker {
     saved: usize,
     // Whether none was met at the last place.
     missed: bool,
+    // How often a stretch was tried since a piece was met.
+    trials: usize,
 }
 
 impl Seeker {
@@ -35,6 +37,7 @@ impl Seeker {
             left: 0,
             saved: held.len(),
             missed: false,
+            trials: 0,
         }
     }
 
@@ -42,12 +45,23 @@ impl Seeker {
     fn step(&mut self, i: usize) {
         self.next = i.saturating_add(1);
         self.missed = false;
+        self.trials = 0;
     }
 
     /// So many were met, one behind another, where the next one was looked for.
     pub(crate) fn pass(&mut self, count: usize) {
         self.next = self.next.saturating_add(count);
         self.missed = false;
+        self.trials = 0;
+    }
+
+    /// Whether a stretch is tried once more where pieces of none were met: so few times that all trials take linear time.
+    pub(crate) fn tries(&mut self) -> bool {
+        if self.trials >= TRIED {
+            return false;
+        }
+        self.trials += 1;
+        true
     }
 
     // This one was met elsewhere.

@@ -3,7 +3,7 @@ use Rattle.std.specs.Rc.{rc_value}
 use Rattle.expander.specs.PieceReading.{IsPassing}
 use Rattle.expander.specs.Sources.{IsHeldStretch, StandsFirst}
 use Rattle.expander.specs.declared.sources.Cutout.{Cutout}
-use Rattle.expander.proofs.PassingLemmas.{PassLaws, stretch_is_passed}
+use Rattle.expander.proofs.PassingLemmas.{PassLaws, sought, stretch_is_passed}
 use Rattle.expander.proofs.ReadPartLemmas.{fewer_left}
 use Rattle.expander.proofs.passing.pass_stretch.Goals as goal
 
@@ -15,7 +15,8 @@ returns-clause-passing c =
     let text : c.range_from.result.now ≡ drop c.args.at c.args.text.now = search rules in
     let cut : c.as_ref.result.now.cutout ≡ k = search rules in
     let stands : StandsFirst k (drop c.args.at c.args.text.now) c.args.left.now = search rules in
-    let p : IsPassing c.args.held.now c.args.text.now c.args.at c.args.left.now c.end.new.self = c.in_ok-end.ensures.passing c.args.held.now c.requires.passing in
+    let p : IsPassing c.args.held.now c.args.text.now c.args.at c.args.left.now c.end.new.self = c.in_ok-end.ensures.passing c.args.held.now
+    (sought c.args.held.now c.args.text.now c.args.at c.args.left.now c.args.now.now c.tries.new.self c.requires.passing) in
     let size : c.len-len.result ≡ length k.bytes = search rules in
     let end_is : c.in-Some-behind.«end» ≡ c.args.at + length k.bytes = search rules in
     let after : c.in-Some-behind.after.now ≡ drop k.count c.args.left.now = search rules in
