@@ -58,7 +58,7 @@ nothing m plains hashes definitions none sources links world edition depth = rec
 module _ (world : World Definition) (depth : ℕ) (numbers : Forest → Option ℕ) where
   -- the count sees what is held
   pub looked_is : (q : Plain) → IsRight world depth numbers q → looked_held (piece_of world depth q) ≡ looked_plain q
-  looked_is q right = λ i. record { tree = (tree_of q).inner; finds = map (λ f. (f.0, option_map (λ (d : Numbered). d.definition.piece) f.1)) ((sym right.parts i).finds) }
+  looked_is q right = λ i. record { tree = (tree_of q).inner; finds = map (λ f. (f.0, option_map (λ (d : Numbered). d.definition.piece) f.1)) (sym right.parts.finds i) }
 
   pub all_looked : (qs : List (Rc Plain Global)) → All (λ q. IsRight world depth numbers (rc_value q)) qs
       → map looked_held (map (λ q. piece_of world depth (rc_value q)) qs) ≡ map (λ q. looked_plain (rc_value q)) qs

@@ -1,6 +1,6 @@
 -- What a piece prints by itself, and how it is put out.
 use Rattle.std.proofs.Common.{◌≡◌, ℕ, ◌+◌, ◌<◌, ◌≤◌, drop, get_or, append_assoc, append-nil, length, length-append, subst, List, [], ◌∷◌, ◌++◌, refl, sym, ap, ◌∙◌, Bool, true, false, ◌&&◌, nat_eq, arith, if◌then◌else◌}
-use Rattle.std.specs.Prelude.{◌||◌, IfOk, Some, Result, Ok, Err, filter, map}
+use Rattle.std.specs.Prelude.{◌||◌, IfOk, Result, Ok, Err, filter, map}
 use Rattle.std.specs.List.{list_all, list_any}
 use Rattle.std.proofs.lemmas.Bool.Decides.{nat_tests}
 use Rattle.std.proofs.lemmas.List.{at_drop_all, drop_more, length-map, map-append}
@@ -25,7 +25,6 @@ use Rattle.expander.specs.Placing.{base_at, resolved_by}
 use Rattle.expander.specs.Starts.{start_at}
 use Rattle.expander.specs.Printing.{left_out, spelling_before, steps_of, visible}
 use Rattle.expander.specs.declared.faults.FaultKind.TheVariants.{NestedDefinition}
-use Rattle.expander.specs.declared.held_part.HeldPart.{HeldPart}
 use Rattle.expander.specs.declared.held_part.OwnPrint.{OwnPrint}
 use Rattle.expander.specs.declared.outcome.OwnStep.{OwnStep}
 use Rattle.expander.specs.declared.output.PlacedSteps.{PlacedSteps}
@@ -218,8 +217,8 @@ module _
         }
 
 -- a part that is put out at the places of a piece in the text
-pub held_puts : {E : Type 0} → (start : ℕ) (starts : Starts) (old new : PlacedSteps) (p : HeldPart) (spans : List Span) (result : Result Bool E)
-    → spans ≡ map (resolved_by start starts) p.printed.tokens → IfOk result (PutsQuiet old new p.printed spans) → IfOk result (PutsHeld old new (Some p) start starts)
+pub held_puts : {E : Type 0} → (start : ℕ) (starts : Starts) (old new : PlacedSteps) (p : PartState) (spans : List Span) (result : Result Bool E)
+    → spans ≡ map (resolved_by start starts) p.tokens → IfOk result (PutsQuiet old new p spans) → IfOk result (PutsHeld old new p start starts)
 held_puts start starts old new p spans (Ok true) is puts = λ steps right. puts steps (resolved_by start starts) right is
 held_puts start starts old new p spans (Ok false) is puts = puts
 held_puts start starts old new p spans (Err e) is puts = puts

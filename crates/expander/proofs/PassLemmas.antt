@@ -17,7 +17,7 @@ use Rattle.expander.specs.Definitions.{Definition, definition_of, or_else}
 use Rattle.expander.specs.Editions.{IsRead}
 use Rattle.expander.specs.Expansion.{Outcome, World, expansion}
 use Rattle.expander.specs.Held.{IsMet, Kept, Met, Numbered, definition_trees, kept, kept_of, met, met_of, numbered_scope, numbered_world, present, with_met}
-use Rattle.expander.specs.HeldParts.{HasItsPart}
+use Rattle.expander.specs.HeldParts.{Holds}
 use Rattle.expander.specs.Knowns.{definition_in}
 use Rattle.expander.specs.Layered.{layers}
 use Rattle.expander.specs.Meaning.{Layers, member_faults, output_of}
@@ -27,7 +27,7 @@ use Rattle.expander.specs.NumberedTexts.{HasNumbered, inner_of}
 use Rattle.expander.specs.Numbering.{AreNumbered, AreNumbers, by_either, number_by, numbered_by}
 use Rattle.expander.specs.OtherPlaces.{LooksAtNoPlace}
 use Rattle.expander.specs.OutputSteps.{HasOutput, PutsOut}
-use Rattle.expander.specs.Outcomes.{Parts, numbered_of_known, parts_for, parts_of}
+use Rattle.expander.specs.Outcomes.{numbered_of_known, parts_of}
 use Rattle.expander.specs.Pieces.{first_start, relative}
 use Rattle.expander.specs.Placing.{resolved_faults, resolved_steps, told_if_broken}
 use Rattle.expander.specs.OwnTrees.{tree_hash}
@@ -37,7 +37,9 @@ use Rattle.expander.specs.Takings.{Grows, HasTaken, IsTaken}
 use Rattle.expander.specs.TextTurn.{held_of, is_unmatched}
 use Rattle.expander.specs.World.{world}
 use Rattle.expander.specs.declared.memory.Memory.{Memory}
+use Rattle.expander.specs.declared.met.Scope.{Scope}
 use Rattle.expander.specs.declared.numbered.Known.{Known}
+use Rattle.expander.specs.declared.output.PlacedSteps.{PlacedSteps}
 use Rattle.expander.specs.declared.plain.Plain.{Plain}
 use Rattle.expander.specs.declared.taking.Taken.{Taken}
 use Rattle.expander.specs.declared.taking.Taking.{Taking}
@@ -103,7 +105,7 @@ right_grows w depth one two more (q ∷ qs) h =
     let held : IsHeld w depth (numbered_by two) piece =
     All-head (IsHeld w depth (numbered_by two)) piece []
     (more_held w depth (numbered_by one) (numbered_by two) more (piece ∷ []) (All-cons (IsHeld w depth (numbered_by one)) piece [] here.held (All-nil (IsHeld w depth (numbered_by one))))) in
-    All-cons (λ x. IsRight w depth two (rc_value x)) q qs (record { top = here.top; parts = here.parts; held = held; plain = here.plain; part = here.part })
+    All-cons (λ x. IsRight w depth two (rc_value x)) q qs (record { top = here.top; parts = here.parts; held = held; plain = here.plain })
     (right_grows w depth one two more qs (All-tail (λ x. IsRight w depth one (rc_value x)) q qs h))
 
 -- the numbers of both texts
@@ -122,7 +124,7 @@ module _ (given : ℕ) (old : Forest → Option ℕ) (known trees : List Forest)
 
 module _ (equal : (f g : Forest) → (same_forest f g ≡ true) ↔ (f ≡ g)) (w : World Definition) (depth : ℕ) (numbers : Forest → Option ℕ) (before : List Met)
     (known : All (IsMet (numbered_by numbers)) before) (tree : Forest) (q : Plain) (top : tree_of q ≡ own_top tree)
-    (parts : parts_for tree q.outcome ≡ parts_of (expansion (numbered_world w) (numbered_scope before) depth None tree)) where
+    (parts : Holds q (parts_of (expansion (numbered_world w) (numbered_scope before) depth None tree))) where
   trees_same : (tree_of q).inner ≡ tree
   trees_same = ap (λ (t : Top). t.inner) top
 
@@ -130,18 +132,34 @@ module _ (equal : (f g : Forest) → (same_forest f g ≡ true) ↔ (f ≡ g)) (
   pub piece_found : piece_of w depth q ≡ record { tree = tree; outcome = expansion (numbered_world w) (numbered_scope before) depth None tree }
   piece_found =
       ap (λ (t : Forest). record { tree = t; outcome = expansion (numbered_world w) (scope_of (finds_of q)) depth None t }) trees_same
-      ∙ ap (λ (p : Parts). record { tree = tree; outcome = expansion (numbered_world w) (scope_of p.finds) depth None tree }) parts
+      ∙ ap (λ (fs : List (List ℕ × Option Numbered)). record { tree = tree; outcome = expansion (numbered_world w) (scope_of fs) depth None tree }) parts.finds
       ∙ ap (λ (o : Outcome Numbered). record { tree = tree; outcome = o }) (expansion_by_finds (numbered_world w) (numbered_scope before) depth None tree)
 
-  pub piece_right : is_some (definition_of tree) ≡ false → HasItsPart q → IsRight w depth numbers q
-  piece_right plain part = record {
+  pub piece_right : is_some (definition_of tree) ≡ false → IsRight w depth numbers q
+  piece_right plain = record {
     top = ap (λ (t : Top). t.delimiter) top;
-    parts = ap (λ (t : Forest). parts_for t q.outcome) trees_same ∙ parts ∙ ap (λ (p : HeldPiece). parts_of p.outcome) (sym piece_found);
+    parts = subst (λ (p : HeldPiece). Holds q (parts_of p.outcome)) (sym piece_found) parts;
     held = subst (IsHeld w depth (numbered_by numbers)) (sym piece_found)
         (fresh_is_held equal w depth (numbered_by numbers) (numbered_scope before) (met_scope equal (numbered_by numbers) before known) tree);
     plain = ap (λ (t : Forest). is_some (definition_of t)) trees_same ∙ plain;
-    part = part;
   }
+
+-- what an expansion under a scope gives
+abbrev pub expanded_in : Grammar → Edition → Scope → ℕ → Forest → Outcome Numbered
+expanded_in grammar edition scope depth f = expansion (numbered_world (world grammar edition)) (scope_in scope) depth None f
+
+-- a piece that was put out where it is lent
+pub put_lent : (grammar : Grammar) (edition : Edition) (scope : Scope) (depth start : ℕ) (r : Forest) (old new : PlacedSteps) (q lent : Plain)
+    → lent ≡ q → tree_of q ≡ own_top r → Holds q (parts_of (expanded_in grammar edition scope depth r))
+    → (Holds lent (parts_of (expanded_in grammar edition scope depth (tree_of lent).inner))
+    → PutsOut old new (resolved_steps start scope.starts (expanded_in grammar edition scope depth (tree_of lent).inner).steps))
+    → PutsOut old new (resolved_steps start scope.starts (expanded_in grammar edition scope depth r).steps)
+put_lent grammar edition scope depth start r old new q lent is top holds puts =
+    let here : (tree_of q).inner ≡ r = ap (λ (t : Top). t.inner) top in
+    subst (λ (f : Forest). PutsOut old new (resolved_steps start scope.starts (expanded_in grammar edition scope depth f).steps)) here
+    (subst (λ (p : Plain). Holds p (parts_of (expanded_in grammar edition scope depth (tree_of p).inner))
+    → PutsOut old new (resolved_steps start scope.starts (expanded_in grammar edition scope depth (tree_of p).inner).steps)) is puts
+    (subst (λ (f : Forest). Holds q (parts_of (expanded_in grammar edition scope depth f))) (sym here) holds))
 
 -- ---- one more piece
 
@@ -174,53 +192,53 @@ module _ (grammar : Grammar) (edition : Edition) (depth : ℕ) (old : Memory) (p
   pub parts_taken : (t : Top) (q : Plain) → t ≡ own_top r
       → ((given : ℕ) (numbers : Forest → Option ℕ) (before : List Met) → AreNumbers given numbers → MoreNumbers (numbers_in old.by_tree) numbers
       → scope_in now.scope ≡ numbered_scope before → All (IsMet (numbered_by numbers)) before
-      → parts_for t.inner q.outcome ≡ parts_of (expansion (numbered_world W) (scope_in now.scope) depth None t.inner))
+      → Holds q (parts_of (expansion (numbered_world W) (scope_in now.scope) depth None t.inner)))
       → (before : List Met) (trees : List Forest) (done : List Kept) → Has before trees done now
-      → parts_for r q.outcome ≡ parts_of (expansion (numbered_world W) (scope_in now.scope) depth None r)
+      → Holds q (parts_of (expansion (numbered_world W) (scope_in now.scope) depth None r))
   parts_taken t q tree_is outcome before trees done has =
       let are = has.taken.numbers.numbers in
       let numbers : Forest → Option ℕ = numbers_in now.taken.numbers.by_tree in
       let both : Forest → Option ℕ = by_either numbers (numbers_in old.by_tree) in
-      subst (λ (u : Top). parts_for u.inner q.outcome ≡ parts_of (expansion (numbered_world W) (scope_in now.scope) depth None u.inner)) tree_is
+      subst (λ (u : Top). Holds q (parts_of (expansion (numbered_world W) (scope_in now.scope) depth None u.inner))) tree_is
       (outcome now.taken.numbers.given both before are.numbers
       (old_stays old.given (numbers_in old.by_tree) (trees_of old) trees now.taken.numbers.given numbers are) has.met.finds
       (known_grows numbers both (now_stays old.given (numbers_in old.by_tree) (trees_of old) trees now.taken.numbers.given numbers are) before has.known))
 
   -- a plain piece, put out and held
   module _ (equal : (f g : Forest) → (same_forest f g ≡ true) ↔ (f ≡ g)) (q : Rc Plain Global) (matched : Bool) (scope_is : next.scope ≡ now.scope) (numbers_are : next.taken.numbers ≡ now.taken.numbers)
-      (top : tree_of (rc_value q) ≡ own_top r) (part : HasItsPart (rc_value q))
+      (top : tree_of (rc_value q) ≡ own_top r)
       (plains_are : next.taken.plains.items ≡ now.taken.plains.items ++ q ∷ [])
       (hashes_are : next.taken.hashes.items ≡ now.taken.hashes.items ++ tree_hash (tree_of (rc_value q)) ∷ [])
-      (steps : PutsOut now.taken.steps next.taken.steps (resolved_steps start now.scope.starts (parts_for (tree_of (rc_value q)).inner (rc_value q).outcome).steps))
-      (faults : next.taken.faults.items ≡ now.taken.faults.items ++ resolved_faults start now.scope.starts (rc_value q).outcome.faults.items)
+      (steps : Holds (rc_value q) (parts_of (expansion (numbered_world W) (scope_in now.scope) depth None r))
+      → PutsOut now.taken.steps next.taken.steps (resolved_steps start now.scope.starts (expansion (numbered_world W) (scope_in now.scope) depth None r).steps))
+      (faults : next.taken.faults.items ≡ now.taken.faults.items ++ resolved_faults start now.scope.starts (rc_value q).faults.items)
       (counted : matched ≡ list_any (matches (scope_in now.scope) r) held)
       (expanded : next.taken.expanded ≡ now.taken.expanded + cond matched 0 1) where
     module _ (before : List Met) (trees : List Forest) (done : List Kept) (has : Has before trees done now)
-        (parts : parts_for r (rc_value q).outcome ≡ parts_of (expansion (numbered_world W) (scope_in now.scope) depth None r)) where
+        (parts : Holds (rc_value q) (parts_of (expansion (numbered_world W) (scope_in now.scope) depth None r))) where
       abbrev E : Outcome Numbered
       E = expansion (numbered_world W) (numbered_scope before) depth None r
 
       abbrev k : Kept
       k = kept start before r E
 
-      parts_now : parts_for r (rc_value q).outcome ≡ parts_of E
-      parts_now = parts ∙ ap (λ s. parts_of (expansion (numbered_world W) s depth None r)) has.met.finds
+      parts_now : Holds (rc_value q) (parts_of E)
+      parts_now = subst (λ s. Holds (rc_value q) (parts_of (expansion (numbered_world W) s depth None r))) has.met.finds parts
 
       found : piece_of W depth (rc_value q) ≡ record { tree = r; outcome = E }
       found = piece_found equal W depth (numbers_in now.taken.numbers.by_tree) before has.known r (rc_value q) top parts_now
 
       right_now : is_some (definition_of r) ≡ false → IsRight W depth (numbers_in now.taken.numbers.by_tree) (rc_value q)
-      right_now plain = piece_right equal W depth (numbers_in now.taken.numbers.by_tree) before has.known r (rc_value q) top parts_now plain part
+      right_now plain = piece_right equal W depth (numbers_in now.taken.numbers.by_tree) before has.known r (rc_value q) top parts_now plain
 
-      put_steps : resolved_steps start now.scope.starts (parts_for (tree_of (rc_value q)).inner (rc_value q).outcome).steps ≡ output_of (present k)
+      put_steps : resolved_steps start now.scope.starts (expansion (numbered_world W) (scope_in now.scope) depth None r).steps ≡ output_of (present k)
       put_steps =
-          ap (λ (t : Top). resolved_steps start now.scope.starts (parts_for t.inner (rc_value q).outcome).steps) top
-          ∙ ap (λ (p : Parts). resolved_steps start now.scope.starts p.steps) parts_now
+          ap (λ s. resolved_steps start now.scope.starts (expansion (numbered_world W) s depth None r).steps) has.met.finds
           ∙ kept_steps L start now.scope.starts before has.met.starts r E
 
-      put_faults : resolved_faults start now.scope.starts (rc_value q).outcome.faults.items ≡ member_faults L (present k)
+      put_faults : resolved_faults start now.scope.starts (rc_value q).faults.items ≡ member_faults L (present k)
       put_faults =
-          ap (λ (p : Parts). resolved_faults start now.scope.starts p.faults) parts_now
+          ap (λ fs. resolved_faults start now.scope.starts fs) parts_now.faults
           ∙ kept_faults L start now.scope.starts before has.met.starts r E
 
       number_more : ◌≡◌ {A = ℕ} (cond matched 0 1) (cond (is_unmatched held k) 1 0)
@@ -254,8 +272,8 @@ module _ (grammar : Grammar) (edition : Edition) (depth : ℕ) (old : Memory) (p
               ∙ ap (map (λ (x : Rc Plain Global). tree_hash (tree_of (rc_value x)))) (sym plains_are);
           steps = subst (HasOutput next.taken.steps)
               (ap (λ l. flat_map output_of (map present done) ++ l) put_steps ∙ sym (flat_present output_of done k))
-              (steps (flat_map output_of (map present done)) has.taken.steps);
-          faults = faults ∙ ap (λ l. l ++ resolved_faults start now.scope.starts (rc_value q).outcome.faults.items) has.taken.faults
+              (steps parts (flat_map output_of (map present done)) has.taken.steps);
+          faults = faults ∙ ap (λ l. l ++ resolved_faults start now.scope.starts (rc_value q).faults.items) has.taken.faults
               ∙ ap (λ l. flat_map (member_faults L) (map present done) ++ l) put_faults ∙ sym (flat_present (member_faults L) done k);
           expanded = expanded ∙ ap (λ n. n + cond matched 0 1) has.taken.expanded
               ∙ ap (λ n. length (filter (is_unmatched held) done) + n) number_more ∙ sym (counted_more (is_unmatched held) done k);

@@ -5,7 +5,6 @@ use Rattle.std.specs.List.{list_any}
 use Rattle.std.specs.Rc.{rc_value}
 use Rattle.std.specs.declared.rc.Rc.{Rc}
 use Rattle.std.proofs.lemmas.List.Elements.{All-cons, All-head, All-nil, All-tail}
-use Rattle.std.proofs.lemmas.Bool.{and_parts}
 use Rattle.expander.proofs.NumberedLemmas.{own_is}
 use Rattle.bridge.specs.ReadText.{text_top}
 use Rattle.tt.specs.Tops.{Top}
@@ -13,11 +12,12 @@ use Rattle.tt_data.specs.Forest.{Forest}
 use Rattle.expander.specs.ByTrees.{own_top}
 use Rattle.expander.specs.Count.{same_forest}
 use Rattle.expander.specs.Definitions.{Definition}
-use Rattle.expander.specs.Expansion.{World, expansion}
+use Rattle.expander.specs.Expansion.{Outcome, World, expansion}
 use Rattle.expander.specs.Held.{IsMet, Met, Numbered, numbered_scope, numbered_world}
 use Rattle.expander.specs.Memories.{IsRight, piece_of}
 use Rattle.expander.specs.Numbering.{AreNumbers, numbered_by}
-use Rattle.expander.specs.Outcomes.{Parts, parts_for, parts_of}
+use Rattle.expander.specs.HeldParts.{Holds}
+use Rattle.expander.specs.Outcomes.{parts_of}
 use Rattle.expander.specs.Plains.{finds_of, is_match, tree_of}
 use Rattle.expander.specs.Reuse.{HeldPiece, IsHeld, agrees, matches}
 use Rattle.expander.specs.SameTops.{same_top}
@@ -35,7 +35,7 @@ module _ (world : World Definition) (depth : ℕ) (old : Forest → Option ℕ) 
       → is_match scope t q ≡ matches scope t.inner (piece_of world depth q)
   matches_is scope t q is right =
       ap (λ (b : Bool). b && agrees scope (finds_of q)) (same_is t (tree_of q) is right.top)
-      ∙ ap (λ (p : Parts). same_forest t.inner (tree_of q).inner && agrees scope p.finds) right.parts
+      ∙ ap (λ (fs : List (List ℕ × Option Numbered)). same_forest t.inner (tree_of q).inner && agrees scope fs) right.parts.finds
 
   pub any_is : (scope : List ℕ → Option Numbered) (t : Top) (qs : List (Rc Plain Global)) → t.delimiter ≡ text_top → All (λ q. IsRight world depth old (rc_value q)) qs
       → list_any (λ q. is_match scope t (rc_value q)) qs ≡ list_any (matches scope t.inner) (map (λ q. piece_of world depth (rc_value q)) qs)
@@ -50,7 +50,7 @@ module _ (world : World Definition) (depth : ℕ) (old : Forest → Option ℕ) 
     pub matched_parts : (given : ℕ) (now : Forest → Option ℕ) → AreNumbers given now → ((t : Forest) (n : ℕ) → old t ≡ Some n → now t ≡ Some n)
         → (scope : List ℕ → Option Numbered) (before : List Met) → scope ≡ numbered_scope before → All (IsMet (numbered_by now)) before
         → (t : Top) (q : Plain) → t.delimiter ≡ text_top → IsRight world depth old q → is_match scope t q ≡ true
-        → parts_for t.inner q.outcome ≡ parts_of (expansion (numbered_world world) scope depth None t.inner)
+        → Holds q (parts_of (expansion (numbered_world world) scope depth None t.inner))
     matched_parts given now are more scope before scope_is met t q is right e =
         let piece : HeldPiece = piece_of world depth q in
         let held : IsHeld world depth (numbered_by now) piece =
@@ -60,9 +60,8 @@ module _ (world : World Definition) (depth : ℕ) (old : Forest → Option ℕ) 
         ap (λ (s : List ℕ → Option Numbered). matches s t.inner piece) (sym scope_is) ∙ sym (matches_is scope t q is right) ∙ e in
         let outcome : piece.outcome ≡ expansion (numbered_world world) (numbered_scope before) depth None t.inner =
         match_is equal world depth (numbered_by now) (numbers_tell given now are) (numbered_scope before) (met_scope equal (numbered_by now) before met) t.inner piece held matching in
-        let trees : t ≡ tree_of q = (same t (tree_of q)).0 (and_parts _ _ e).0 in
-        ap (λ (u : Top). parts_for u.inner q.outcome) trees ∙ right.parts ∙ ap parts_of outcome
-        ∙ ap (λ (s : List ℕ → Option Numbered). parts_of (expansion (numbered_world world) s depth None t.inner)) (sym scope_is)
+        subst (λ (s : List ℕ → Option Numbered). Holds q (parts_of (expansion (numbered_world world) s depth None t.inner))) (sym scope_is)
+        (subst (λ (o : Outcome Numbered). Holds q (parts_of o)) outcome right.parts)
 
 -- one of all
 pub all_at : {X : Type 0} (P : X → Type 0) (xs : List X) (i : ℕ) (x : X) → All P xs → slice_get xs i ≡ Some x → P x

@@ -1,19 +1,21 @@
 -- What a piece prints by itself, and how that is put out.
-use Rattle.std.specs.Prelude.{◌≡◌, ℕ, List, ◌++◌, Bool, true, false, Option, IfSome, map}
+use Rattle.std.specs.Prelude.{◌≡◌, ℕ, List, ◌++◌, Bool, true, false, map, option_map}
 use Rattle.std.specs.List.{list_any}
 use Rattle.bridge.specs.PrintedParts.{IsPartOf, PartState}
 use Rattle.bridge.specs.Printers.{HasPut}
+use Rattle.tt_data.specs.Forest.{Forest}
 use Rattle.tt_data.specs.Walk.{Step}
 use Rattle.tt_data.specs.declared.span.Span.{Span}
 use Rattle.expander.specs.Changes.{placed_with}
 use Rattle.expander.specs.Expansion.{PlacedStep}
 use Rattle.expander.specs.Faults.{is_definition_word}
-use Rattle.expander.specs.Outcomes.{parts_for}
+use Rattle.expander.specs.Outcomes.{Parts, steps_for}
 use Rattle.expander.specs.OutputSteps.{PutsOut}
 use Rattle.expander.specs.Placing.{resolved_steps}
-use Rattle.expander.specs.Plains.{tree_of}
+use Rattle.expander.specs.Plains.{finds_of, tree_of}
 use Rattle.expander.specs.Printing.{steps_of}
-use Rattle.expander.specs.declared.held_part.HeldPart.{HeldPart}
+use Rattle.expander.specs.declared.held_part.HeldOutput.{HeldOutput}
+use Rattle.expander.specs.declared.held_part.HeldOutput.TheVariants as held
 use Rattle.expander.specs.declared.held_part.OwnPrint.{OwnPrint}
 use Rattle.expander.specs.declared.output.PlacedSteps.{PlacedSteps}
 use Rattle.expander.specs.declared.plain.Plain.{Plain}
@@ -37,13 +39,16 @@ pub record IsQuietPart (part : PartState) (steps : List PlacedStep) : Type 0 whe
   pub printed : IsPartOf part (steps_of steps)
   pub words : has_word (steps_of steps) ≡ false
 
--- the same of a part that is held
-abbrev pub IsPartFor : HeldPart → List PlacedStep → Type 0
-IsPartFor p steps = IsQuietPart p.printed steps
+-- what is held for a tree is what these steps print, or they themselves
+abbrev pub IsOutputOf : Forest → HeldOutput → List PlacedStep → Type 0
+IsOutputOf tree (held.Part p) steps = IsQuietPart p steps
+IsOutputOf tree (held.Steps own) steps = steps_for tree (option_map (λ s. s.items) own) ≡ steps
 
--- the part of a plain piece, where it has one, is what its steps print
-abbrev pub HasItsPart : Plain → Type 0
-HasItsPart q = IfSome q.part (λ p. IsPartFor p (parts_for (tree_of q).inner q.outcome).steps)
+-- what is held of a plain piece is these parts of an outcome
+pub record Holds (q : Plain) (parts : Parts) : Type 0 where
+  pub output : IsOutputOf (tree_of q).inner q.output parts.steps
+  pub faults : q.faults.items ≡ parts.faults
+  pub finds : finds_of q ≡ parts.finds
 
 -- a part is put out, its tokens at these places; or nothing is
 abbrev pub PutsQuiet : PlacedSteps → PlacedSteps → PartState → List Span → Bool → Type 0
@@ -52,7 +57,7 @@ PutsQuiet old new part spans true =
 PutsQuiet old new part spans false = new ≡ old
 
 -- the part of a piece that starts here is put out at its places in the text; or nothing is
-abbrev pub PutsHeld : PlacedSteps → PlacedSteps → Option HeldPart → ℕ → Starts → Bool → Type 0
+abbrev pub PutsHeld : PlacedSteps → PlacedSteps → PartState → ℕ → Starts → Bool → Type 0
 PutsHeld old new part start starts true =
-    (steps : List PlacedStep) → IfSome part (λ p. IsPartFor p steps) → PutsOut old new (resolved_steps start starts steps)
+    (steps : List PlacedStep) → IsQuietPart part steps → PutsOut old new (resolved_steps start starts steps)
 PutsHeld old new part start starts false = new ≡ old

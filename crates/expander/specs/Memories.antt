@@ -10,11 +10,11 @@ use Rattle.expander.specs.Count.{Looked}
 use Rattle.expander.specs.Definitions.{Definition}
 use Rattle.expander.specs.Expansion.{World, expansion}
 use Rattle.expander.specs.Held.{Numbered, numbered_world}
-use Rattle.expander.specs.HeldParts.{HasItsPart}
+use Rattle.expander.specs.HeldParts.{Holds}
 use Rattle.expander.specs.Links.{AreLinked, definition_tops, plain_tops}
 use Rattle.expander.specs.NumberedTexts.{inner_of}
 use Rattle.expander.specs.Numbering.{AreNumbers, HaveNumbers, numbered_by}
-use Rattle.expander.specs.Outcomes.{parts_for, parts_of}
+use Rattle.expander.specs.Outcomes.{parts_of}
 use Rattle.expander.specs.Plains.{AreHashes, IsPlain, finds_of, tree_of}
 use Rattle.expander.specs.Reuse.{HeldPiece, IsHeld}
 use Rattle.expander.specs.Sources.{AreSources, all_in}
@@ -41,11 +41,9 @@ module _ (world : World Definition) (depth : ℕ) where
   -- a plain piece has a tree of its own, which is no definition, and is what its expansion is
   pub record IsRight (numbers : Forest → Option ℕ) (q : Plain) : Type 0 where
     pub top : (tree_of q).delimiter ≡ text_top
-    pub parts : parts_for (tree_of q).inner q.outcome ≡ parts_of (piece_of q).outcome
+    pub parts : Holds q (parts_of (piece_of q).outcome)
     pub held : IsHeld world depth (numbered_by numbers) (piece_of q)
     pub plain : IsPlain q
-    -- what it prints by itself, where that is held
-    pub part : HasItsPart q
 
   -- what is held is right by the numbers of the definitions that are held
   pub record IsMemory (edition : Edition) (m : code.Memory) : Type 0 where

@@ -25,7 +25,7 @@ IsPlain q = is_some (definition_of (tree_of q).inner) ≡ false
 
 -- what its names found
 abbrev pub finds_of : Plain → List (List ℕ × Option Numbered)
-finds_of q = map find_of q.outcome.finds.items
+finds_of q = map find_of q.finds.items
 
 -- a held piece with this tree, whose names find what they found
 abbrev pub is_match : (List ℕ → Option Numbered) → Top → Plain → Bool

@@ -1,24 +1,27 @@
 // What a piece prints by itself.
-ghost use Rattle.std.specs.Prelude.{◌≡◌, ◌∷◌, ◌||◌, [], IfOk, IfSome, List, None, OnOk, Option, map};
+ghost use Rattle.std.specs.Prelude.{◌≡◌, ◌∷◌, ◌||◌, [], IfOk, IfSome, List, None, OnOk, Option, map, option_map};
 ghost use Rattle.bridge.specs.WalkSteps.{step_of};
 ghost use Rattle.tt_data.specs.Walk.{walk};
 ghost use Rattle.tt_data.specs.declared.span.Span.{Span};
 ghost use Rattle.expander.specs.Expansion.{PlacedStep, placed};
 ghost use Rattle.expander.specs.Faults.{is_definition_word};
-ghost use Rattle.expander.specs.HeldParts.{HasPrinted, IsPartFor, IsQuietPart, PrintsOn};
-ghost use Rattle.expander.specs.Outcomes.{parts_for, placed_of};
+ghost use Rattle.expander.specs.HeldParts.{HasPrinted, IsOutputOf, IsQuietPart, PrintsOn};
+ghost use Rattle.expander.specs.Outcomes.{placed_of, steps_for};
 
 use crate::faults::is_definition_word;
-use crate::outcome::{Outcome, OwnStep, lent};
+use crate::outcome::{OwnStep, lent};
 use crate::walk::Walk;
 use bridge::{PrintedPart, Printer, WalkStep};
 use std::alloc::{AllocError, Global};
 use tt::TopSubtree;
 
-/// What a piece prints by itself, at places of its own: no token is a word that begins a definition.
+/// What is held of the steps that a piece gives, at places of its own.
 #[derive(Drop)]
-pub(crate) struct HeldPart {
-    pub printed: PrintedPart,
+pub(crate) enum HeldOutput {
+    /// What they print by themselves, where no token is a word that begins a definition. They are not kept then.
+    Part(PrintedPart),
+    /// The steps: none where the tree stays as it is.
+    Steps(Option<Vec<OwnStep>>),
 }
 
 // Steps of a piece, which are printed by themselves as they come.
@@ -93,21 +96,32 @@ fn part_of(own: OwnPrint) -> Result<Option<PrintedPart>, AllocError>
     }
 }
 
-/// What the steps that are held for a tree print: none where they are no part by themselves, or one is a word that begins a
-/// definition.
-pub(crate) fn held_part(
+// Prints the steps for a tree.
+fn print_all(
     alloc: Global,
     tree: &TopSubtree,
-    outcome: &Outcome,
-) -> Result<Option<HeldPart>, AllocError>
-    ensures { IfOk result (λ o. IfSome o (λ p. IsPartFor p (parts_for tree.now.inner outcome.now).steps)) }
+    steps: &Option<Vec<OwnStep>>,
+) -> Result<OwnPrint, AllocError>
+    ensures { IfOk result (λ own. HasPrinted own (steps_for tree.now.inner (option_map (λ s. s.items) steps.now))) }
 {
-    let own = match &outcome.steps {
-        None => print_tree(alloc, tree)?,
-        Some(own) => print_steps(alloc, own.as_slice())?,
-    };
+    match steps {
+        None => print_tree(alloc, tree),
+        Some(own) => print_steps(alloc, own.as_slice()),
+    }
+}
+
+/// What is held of the steps for a tree: what they print, unless they are no part by themselves, or one is a word that
+/// begins a definition.
+pub(crate) fn held_output(
+    alloc: Global,
+    tree: &TopSubtree,
+    steps: Option<Vec<OwnStep>>,
+) -> Result<HeldOutput, AllocError>
+    ensures { IfOk result (λ o. IsOutputOf tree.now.inner o (steps_for tree.now.inner (option_map (λ s. s.items) steps))) }
+{
+    let own = print_all(alloc, tree, &steps)?;
     match part_of(own)? {
-        Some(printed) => Ok(Some(HeldPart { printed })),
-        None => Ok(None),
+        Some(part) => Ok(HeldOutput::Part(part)),
+        None => Ok(HeldOutput::Steps(steps)),
     }
 }

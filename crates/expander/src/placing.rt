@@ -1,5 +1,5 @@
 // What a piece gives in places of its own, put out at its places in the text.
-ghost use Rattle.std.specs.Prelude.{◌≡◌, ◌∷◌, [], ◌++◌, IfOk, IfSome, None, OnOk, Some, option_map, map};
+ghost use Rattle.std.specs.Prelude.{◌≡◌, ◌∷◌, [], ◌++◌, IfOk, IfSome, None, OnOk, option_map, map};
 ghost use Rattle.bridge.specs.WalkSteps.{step_of};
 ghost use Rattle.tt_data.specs.Spans.{leaf_with, span_of};
 ghost use Rattle.tt_data.specs.Walk.{at_leaf, step_with, walk};
@@ -7,17 +7,16 @@ ghost use Rattle.tt_data.specs.declared.span.Span.{Span};
 ghost use Rattle.expander.specs.Expansion.{placed};
 ghost use Rattle.expander.specs.HeldParts.{PutsHeld};
 ghost use Rattle.expander.specs.OutputSteps.{PutsOut};
-ghost use Rattle.expander.specs.Outcomes.{parts_for, placed_of};
+ghost use Rattle.expander.specs.Outcomes.{placed_of, steps_for};
 ghost use Rattle.expander.specs.Placing.{base_at, range_from, resolved_by, resolved_faults, resolved_steps, told_if_broken};
 
 use crate::faults::{Fault, FaultKind};
-use crate::held_part::HeldPart;
 use crate::numbered::Known;
-use crate::outcome::{Outcome, OwnStep, lent};
+use crate::outcome::{OwnStep, lent};
 use crate::output::{PlacedSteps, push_step, put_part, put_part_at};
 use crate::starts::Starts;
 use crate::walk::Walk;
-use bridge::{Shift, WalkStep};
+use bridge::{PrintedPart, Shift, WalkStep};
 use std::alloc::{AllocError, Global};
 use tt::TopSubtree;
 use tt_data::{Ident, Leaf, Punct, Span, TextRange};
@@ -165,18 +164,18 @@ fn put_tree(
     Ok(())
 }
 
-/// Puts out the steps that are held for a tree, at their places in the text.
+/// Puts out the steps for a tree, at their places in the text.
 pub(crate) fn put_steps(
     alloc: Global,
     steps: &mut PlacedSteps,
     start: u32,
     starts: &Starts,
     tree: &TopSubtree,
-    outcome: &Outcome,
+    own: &Option<Vec<OwnStep>>,
 ) -> Result<(), AllocError>
-    ensures { OnOk result (PutsOut steps.old steps.new (resolved_steps start starts.now (parts_for tree.now.inner outcome.now).steps)) }
+    ensures { OnOk result (PutsOut steps.old steps.new (resolved_steps start starts.now (steps_for tree.now.inner (option_map (λ s. s.items) own.now)))) }
 {
-    match &outcome.steps {
+    match own {
         None => put_tree(alloc, steps, start, starts, tree),
         Some(own) => put_own_steps(steps, start, starts, own.as_slice()),
     }
@@ -207,15 +206,15 @@ fn put_shifted(
     steps: &mut PlacedSteps,
     start: u32,
     starts: &Starts,
-    part: &HeldPart,
+    part: &PrintedPart,
 ) -> Result<bool, AllocError>
-    ensures { IfOk result (PutsHeld steps.old steps.new (Some part.now) start starts.now) }
+    ensures { IfOk result (PutsHeld steps.old steps.new part.now start starts.now) }
 {
-    let Some(anchor) = part.printed.held().anchor() else {
+    let Some(anchor) = part.held().anchor() else {
         return Ok(false);
     };
     let base = base_at(start, starts, anchor);
-    put_part_at(steps, &part.printed, Shift { start, base })
+    put_part_at(steps, part, Shift { start, base })
 }
 
 // The same with all places computed.
@@ -224,34 +223,28 @@ fn put_printed(
     steps: &mut PlacedSteps,
     start: u32,
     starts: &Starts,
-    part: &HeldPart,
+    part: &PrintedPart,
 ) -> Result<bool, AllocError>
-    ensures { IfOk result (PutsHeld steps.old steps.new (Some part.now) start starts.now) }
+    ensures { IfOk result (PutsHeld steps.old steps.new part.now start starts.now) }
 {
-    let spans = resolved_all(alloc, start, starts, part.printed.spans())?;
-    put_part(steps, &part.printed, spans.as_slice())
+    let spans = resolved_all(alloc, start, starts, part.spans())?;
+    put_part(steps, part, spans.as_slice())
 }
 
-/// Puts out what a piece prints by itself, if anything is held of that: `false`, and nothing is done, where it can't be put at
-/// once.
+/// Puts out what a piece prints by itself: `false`, and nothing is done, where it can't be put at once.
 pub(crate) fn put_held(
     alloc: Global,
     steps: &mut PlacedSteps,
     start: u32,
     starts: &Starts,
-    part: &Option<HeldPart>,
+    part: &PrintedPart,
 ) -> Result<bool, AllocError>
     ensures { IfOk result (PutsHeld steps.old steps.new part.now start starts.now) }
 {
-    match part {
-        Some(part) => {
-            if put_shifted(steps, start, starts, part)? {
-                return Ok(true);
-            }
-            put_printed(alloc, steps, start, starts, part)
-        }
-        None => Ok(false),
+    if put_shifted(steps, start, starts, part)? {
+        return Ok(true);
     }
+    put_printed(alloc, steps, start, starts, part)
 }
 
 // Adds a fault of a piece, at its place in the text.

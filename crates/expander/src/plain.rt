@@ -12,33 +12,37 @@ ghost use Rattle.expander.specs.Reuse.{agrees, same_number};
 ghost use Rattle.tt.specs.Tops.{Top};
 
 use crate::chains::Chains;
-use crate::held_part::HeldPart;
+use crate::faults::FaultKind;
+use crate::held_part::HeldOutput;
 use crate::met::Scope;
-use crate::outcome::{Find, Outcome};
+use crate::outcome::Find;
 use crate::own_tree::OwnTree;
 use std::alloc::{AllocError, Global};
 use std::rc::Rc;
 use tt::laws;
+use tt_data::Span;
 
-/// A plain piece in places of its own, with its outcome.
+/// A plain piece in places of its own, with what its expansion gives.
 #[derive(Drop)]
 pub(crate) struct Plain {
     pub tree: Rc<OwnTree>,
-    pub outcome: Outcome,
-    /// What it prints by itself, where that may be put out at once.
-    pub part: Option<HeldPart>,
+    pub output: HeldOutput,
+    /// Each fault with the span of the name that it is told at.
+    pub faults: Vec<(FaultKind, Span)>,
+    /// Each name that was looked up, in order.
+    pub finds: Vec<Find>,
 }
 
 impl Plain {
     /// How much there is of the first name that it looked up, and how many tokens it prints by itself.
     pub(crate) fn size(&self) -> usize {
-        let name = match self.outcome.finds.first() {
+        let name = match self.finds.first() {
             Some(find) => find.size(),
             None => 0,
         };
-        match &self.part {
-            Some(part) => name.saturating_add(part.printed.spans().len()),
-            None => name,
+        match &self.output {
+            HeldOutput::Part(part) => name.saturating_add(part.spans().len()),
+            HeldOutput::Steps(_) => name,
         }
     }
 }
@@ -73,7 +77,7 @@ fn is_match(scope: &Scope, tree: &Rc<OwnTree>, held: &Plain) -> bool
     requires { AreRead scope.now }
     ensures { result ≡ is_match (scope_in scope.now) tree.now.value held.now }
 {
-    *tree == held.tree && agrees(scope, held.outcome.finds.as_slice())
+    *tree == held.tree && agrees(scope, held.finds.as_slice())
 }
 
 // Whether the names of a held piece find what they are held to find.
@@ -81,7 +85,7 @@ fn finds_again(scope: &Scope, held: &Plain) -> bool
     requires { AreRead scope.now }
     ensures { result ≡ agrees (scope_in scope.now) (finds_of held.now) }
 {
-    agrees(scope, held.outcome.finds.as_slice())
+    agrees(scope, held.finds.as_slice())
 }
 
 // The place of a held piece, where it may stand for the tree that it has.

@@ -11,7 +11,7 @@ ghost use Rattle.expander.specs.ByTrees.{known_in, numbers_in, own_top};
 ghost use Rattle.expander.specs.Definitions.{definition_of};
 ghost use Rattle.expander.specs.Expansion.{expansion};
 ghost use Rattle.expander.specs.Held.{IsMet, Met, definition_trees, kept_after, numbered_scope, numbered_world};
-ghost use Rattle.expander.specs.HeldParts.{HasItsPart};
+ghost use Rattle.expander.specs.HeldParts.{Holds};
 ghost use Rattle.expander.specs.Layered.{layers};
 ghost use Rattle.expander.specs.Links.{plain_tops};
 ghost use Rattle.expander.specs.Meaning.{members_after};
@@ -21,7 +21,7 @@ ghost use Rattle.expander.specs.NumberedTexts.{HasNumbered};
 ghost use Rattle.expander.specs.Numbering.{AreNumbers, HaveNumbers, number_by, numbered_by};
 ghost use Rattle.expander.specs.Numbers.{needed};
 ghost use Rattle.expander.specs.OtherPlaces.{LooksAtNoPlace};
-ghost use Rattle.expander.specs.Outcomes.{parts_for, parts_of};
+ghost use Rattle.expander.specs.Outcomes.{parts_of};
 ghost use Rattle.expander.specs.OutputSteps.{PutsOut};
 ghost use Rattle.expander.specs.OwnPieces.{IsOwn, IsOwnPiece, piece_at, tree_at};
 ghost use Rattle.expander.specs.OwnTrees.{tree_hash};
@@ -38,13 +38,14 @@ ghost use Rattle.expander.specs.World.{world};
 
 use crate::by_tree::ByTree;
 use crate::faults::Fault;
-use crate::held_part::held_part;
+use crate::held_part::{HeldOutput, held_output};
 use crate::laws;
 use crate::links::Link;
 use crate::memory::Memory;
 use crate::met::Scope;
 use crate::numbered::Known;
 use crate::numbering::{Numbering, number};
+use crate::outcome::Outcome;
 use crate::output::{PlacedSteps, no_steps};
 use crate::own_pieces::OwnPiece;
 use crate::own_tree::OwnTree;
@@ -52,10 +53,10 @@ use crate::placing::{put_faults, put_held, put_steps, tell_if_broken};
 use crate::plain::{Lookup, Plain, match_from};
 use crate::searching::expand_piece;
 use crate::session::Refusal;
-use crate::starts::Starts;
 use mbe::FragmentGrammar;
 use std::alloc::{AllocError, Global};
 use std::rc::Rc;
+use tt::TopSubtree;
 use tt_data::{Edition, TtFault};
 
 // A tree, expanded.
@@ -68,18 +69,22 @@ fn expanded<G: FragmentGrammar>(
 ) -> Result<Rc<Plain>, TtFault>
     requires { AreRead scope.now }
     ensures tree { IfOk result (λ q. tree_of q.value ≡ tree.value) }
-    ensures part { IfOk result (λ q. HasItsPart q.value) }
-    ensures outcome { IfOk result (λ q. parts_for tree.value.inner q.value.outcome
-        ≡ parts_of (expansion (numbered_world (world (G.answer grammar.now) scope.now.edition)) (scope_in scope.now) depth None tree.value.inner)) }
+    ensures holds { IfOk result (λ q. Holds q.value
+        (parts_of (expansion (numbered_world (world (G.answer grammar.now) scope.now.edition)) (scope_in scope.now) depth None tree.value.inner))) }
     ensures tokens { result ≡ Err TtFault.Tokens →
         (expansion (numbered_world (world (G.answer grammar.now) scope.now.edition)) (scope_in scope.now) depth None tree.value.inner).bursts ≡ true }
 {
-    let outcome = expand_piece(alloc, grammar, scope, depth, tree.as_ref().tree())?;
-    let part = held_part(alloc, tree.as_ref().tree(), &outcome)?;
+    let Outcome {
+        steps,
+        faults,
+        finds,
+    } = expand_piece(alloc, grammar, scope, depth, tree.as_ref().tree())?;
+    let output = held_output(alloc, tree.as_ref().tree(), steps)?;
     let plain = Plain {
         tree,
-        outcome,
-        part,
+        output,
+        faults,
+        finds,
     };
     match Rc::new(alloc, plain) {
         Ok(plain) => Ok(plain),
@@ -107,12 +112,11 @@ pub(crate) fn take_tree<G: FragmentGrammar>(
     ensures lookup { OnOk result (Finds lookup.new memory.now.plains.items) }
     ensures tree { IfOk result (λ r. tree_of r.0.value ≡ tree.now.value) }
     ensures hash { IfOk result (λ r. r.2 ≡ tree_hash tree.now.value) }
-    ensures part { IfOk result (λ r. HasItsPart r.0.value) }
-    ensures outcome { (given : ℕ) (numbers : Forest → Option ℕ) (before : List Met) → AreNumbers given numbers →
+    ensures holds { (given : ℕ) (numbers : Forest → Option ℕ) (before : List Met) → AreNumbers given numbers →
         ((t : Forest) (n : ℕ) → numbers_in memory.now.by_tree t ≡ Some n → numbers t ≡ Some n) →
         scope_in scope.now ≡ numbered_scope before → All (IsMet (numbered_by numbers)) before →
-        IfOk result (λ r. parts_for tree.now.value.inner r.0.value.outcome
-        ≡ parts_of (expansion (numbered_world (world (G.answer grammar.now) scope.now.edition)) (scope_in scope.now) depth None tree.now.value.inner)) }
+        IfOk result (λ r. Holds r.0.value
+        (parts_of (expansion (numbered_world (world (G.answer grammar.now) scope.now.edition)) (scope_in scope.now) depth None tree.now.value.inner))) }
     ensures counted { IfOk result (λ r. is_some r.1 ≡ list_any (matches (scope_in scope.now) tree.now.value.inner)
         (map (λ q. piece_of (world (G.answer grammar.now) scope.now.edition) depth (rc_value q)) memory.now.plains.items)) }
     ensures tokens { result ≡ Err TtFault.Tokens →
@@ -282,40 +286,81 @@ fn take_definition(
     Ok(())
 }
 
-// The steps of a piece are put out: at once where what it prints by itself is held and can be put here.
-fn put_plain_steps(
+// A tree is expanded once more, since its steps are not kept, and these are put out.
+fn put_anew<G: FragmentGrammar>(
     alloc: Global,
-    starts: &Starts,
+    grammar: &G,
+    scope: &Scope,
+    depth: u8,
+    steps: &mut PlacedSteps,
+    start: u32,
+    tree: &TopSubtree,
+) -> Result<(), TtFault>
+    requires { AreRead scope.now }
+    ensures steps { OnOk result (PutsOut steps.old steps.new (resolved_steps start scope.now.starts
+        (expansion (numbered_world (world (G.answer grammar.now) scope.now.edition)) (scope_in scope.now) depth None tree.now.inner).steps)) }
+    ensures tokens { result ≡ Err TtFault.Tokens →
+        (expansion (numbered_world (world (G.answer grammar.now) scope.now.edition)) (scope_in scope.now) depth None tree.now.inner).bursts ≡ true }
+{
+    let outcome = expand_piece(alloc, grammar, scope, depth, tree)?;
+    put_steps(alloc, steps, start, &scope.starts, tree, &outcome.steps)?;
+    Ok(())
+}
+
+// The steps of a piece are put out: at once where it is held what they print by themselves, and that can be put here.
+fn put_output<G: FragmentGrammar>(
+    alloc: Global,
+    grammar: &G,
+    scope: &Scope,
+    depth: u8,
     steps: &mut PlacedSteps,
     start: u32,
     plain: &Plain,
-) -> Result<(), AllocError>
-    requires part { HasItsPart plain.now }
-    ensures { OnOk result (PutsOut steps.old steps.new (resolved_steps start starts.now (parts_for (tree_of plain.now).inner plain.now.outcome).steps)) }
+) -> Result<(), TtFault>
+    requires { AreRead scope.now }
+    ensures steps { Holds plain.now (parts_of (expansion (numbered_world (world (G.answer grammar.now) scope.now.edition)) (scope_in scope.now) depth None (tree_of plain.now).inner)) →
+        OnOk result (PutsOut steps.old steps.new (resolved_steps start scope.now.starts
+        (expansion (numbered_world (world (G.answer grammar.now) scope.now.edition)) (scope_in scope.now) depth None (tree_of plain.now).inner).steps)) }
+    ensures tokens { result ≡ Err TtFault.Tokens →
+        (expansion (numbered_world (world (G.answer grammar.now) scope.now.edition)) (scope_in scope.now) depth None (tree_of plain.now).inner).bursts ≡ true }
 {
-    let done = put_held(alloc, steps, start, starts, &plain.part)?;
-    if done {
-        return Ok(());
-    }
     let tree = plain.tree.as_ref().tree();
-    put_steps(alloc, steps, start, starts, tree, &plain.outcome)
+    match &plain.output {
+        HeldOutput::Part(part) => {
+            if put_held(alloc, steps, start, &scope.starts, part)? {
+                return Ok(());
+            }
+            put_anew(alloc, grammar, scope, depth, steps, start, tree)
+        }
+        HeldOutput::Steps(own) => {
+            put_steps(alloc, steps, start, &scope.starts, tree, own)?;
+            Ok(())
+        }
+    }
 }
 
-// A piece with its outcome is put out.
-fn put_plain(
+// A piece with what its expansion gives is put out.
+fn put_plain<G: FragmentGrammar>(
     alloc: Global,
-    starts: &Starts,
+    grammar: &G,
+    scope: &Scope,
+    depth: u8,
     steps: &mut PlacedSteps,
     faults: &mut Vec<Fault>,
     start: u32,
     plain: &Plain,
-) -> Result<(), AllocError>
-    requires part { HasItsPart plain.now }
-    ensures steps { OnOk result (PutsOut steps.old steps.new (resolved_steps start starts.now (parts_for (tree_of plain.now).inner plain.now.outcome).steps)) }
-    ensures faults { OnOk result (faults.new.items ≡ faults.old.items ++ resolved_faults start starts.now plain.now.outcome.faults.items) }
+) -> Result<(), TtFault>
+    requires { AreRead scope.now }
+    ensures steps { Holds plain.now (parts_of (expansion (numbered_world (world (G.answer grammar.now) scope.now.edition)) (scope_in scope.now) depth None (tree_of plain.now).inner)) →
+        OnOk result (PutsOut steps.old steps.new (resolved_steps start scope.now.starts
+        (expansion (numbered_world (world (G.answer grammar.now) scope.now.edition)) (scope_in scope.now) depth None (tree_of plain.now).inner).steps)) }
+    ensures faults { OnOk result (faults.new.items ≡ faults.old.items ++ resolved_faults start scope.now.starts plain.now.faults.items) }
+    ensures tokens { result ≡ Err TtFault.Tokens →
+        (expansion (numbered_world (world (G.answer grammar.now) scope.now.edition)) (scope_in scope.now) depth None (tree_of plain.now).inner).bursts ≡ true }
 {
-    put_plain_steps(alloc, starts, steps, start, plain)?;
-    put_faults(faults, start, starts, plain.outcome.faults.as_slice())
+    put_output(alloc, grammar, scope, depth, steps, start, plain)?;
+    put_faults(faults, start, &scope.starts, plain.faults.as_slice())?;
+    Ok(())
 }
 
 // A piece is held, with the hash of its tree, and linked.
@@ -381,15 +426,17 @@ fn take_plain<G: FragmentGrammar>(
     let scope = &now.scope;
     let lookup = &mut now.lookup;
     let (plain, at, hash) = take_tree(alloc, grammar, scope, depth, memory, lookup, link, tree)?;
+    let taken = &mut now.taken;
     put_plain(
         alloc,
-        &scope.starts,
-        &mut now.taken.steps,
-        &mut now.taken.faults,
+        grammar,
+        scope,
+        depth,
+        &mut taken.steps,
+        &mut taken.faults,
         start,
         plain.as_ref(),
     )?;
-    let taken = &mut now.taken;
     hold(
         &mut taken.plains,
         &mut taken.hashes,

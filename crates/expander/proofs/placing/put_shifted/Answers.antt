@@ -8,7 +8,7 @@ use Rattle.expander.proofs.placing.put_shifted.Goals as goal
 
 pub returns : goal.returns
 returns c =
-    let tokens = c.args.part.now.printed.tokens in
+    let tokens = c.args.part.now.tokens in
     let own_is : c.deref.result.now ≡ tokens = search rules in
     held_puts c.args.start c.args.starts.now c.args.steps.now _ c.args.part.now _ c.put_part_at.result
     (ap (λ (b : ℕ). map (shifted (record { start = c.args.start; base = b })) tokens) c.base_at-base.ensures

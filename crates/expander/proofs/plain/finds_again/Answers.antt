@@ -10,4 +10,4 @@ pub returns : goal.returns
 returns c =
     c.agrees.ensures
     ∙ ap (list_all (λ f. same_number (scope_in c.args.scope.now (find_of f).0) (find_of f).1)) c.as_slice.ensures.value
-    ∙ agrees_mapped (scope_in c.args.scope.now) c.args.held.now.outcome.finds.items
+    ∙ agrees_mapped (scope_in c.args.scope.now) c.args.held.now.finds.items

@@ -14,5 +14,5 @@ returns-then-eq c =
     let same : same_top c.args.tree.now.value (tree_of c.args.held.now) ≡ true = search rules in
     c.agrees.ensures
     ∙ ap (list_all (λ f. same_number (scope_in c.args.scope.now (find_of f).0) (find_of f).1)) c.as_slice.ensures.value
-    ∙ agrees_mapped (scope_in c.args.scope.now) c.args.held.now.outcome.finds.items
+    ∙ agrees_mapped (scope_in c.args.scope.now) c.args.held.now.finds.items
     ∙ ap (λ (b : Bool). b && agrees (scope_in c.args.scope.now) (finds_of c.args.held.now)) (sym same)

@@ -8,12 +8,10 @@ use Rattle.tt_data.specs.declared.edition.Edition.{Edition}
 use Rattle.expander.specs.Definitions.{definition_of}
 use Rattle.expander.specs.Memories.{piece_of}
 use Rattle.expander.specs.MetTable.{scope_in}
-use Rattle.expander.specs.Outcomes.{parts_for}
 use Rattle.expander.specs.OutputSteps.{PutsOut}
-use Rattle.expander.specs.Pieces.{first_start}
+use Rattle.expander.specs.Pieces.{first_start, relative}
 use Rattle.expander.specs.Placing.{resolved_faults, resolved_steps}
 use Rattle.expander.specs.OwnTrees.{tree_hash}
-use Rattle.expander.specs.Plains.{tree_of}
 use Rattle.expander.specs.Reuse.{matches}
 use Rattle.expander.specs.World.{world}
 use Rattle.expander.specs.declared.plain.Plain.{Plain}
@@ -21,7 +19,7 @@ use Rattle.expander.specs.declared.taking.Taken.{Taken}
 use Rattle.expander.specs.Links.{definition_tops}
 use Rattle.expander.specs.Takings.{AreLinks}
 use Rattle.expander.proofs.LinkLemmas.{plain_more}
-use Rattle.expander.proofs.PassLemmas.{one_plain_piece, parts_taken}
+use Rattle.expander.proofs.PassLemmas.{expanded_in, one_plain_piece, parts_taken, put_lent}
 use Rattle.expander.proofs.taking.take_plain.Goals as goal
 
 pub returns-clause-taken : goal.returns-clause-taken
@@ -33,23 +31,24 @@ returns-clause-taken g c = λ piece start_is tree_is before trees done has.
     one_plain_piece A ed c.args.depth c.args.memory.now piece c.args.now.now c.count.new.now c.equal_pieces.ensures q (is_some c.in_ok-plain.at)
     c.count.ensures.scope
     (ap (λ (t : Taken). t.numbers) c.count.ensures.taken)
-    (c.in_ok-plain.ensures.tree ∙ tree_is) c.in_ok-plain.ensures.part
+    (c.in_ok-plain.ensures.tree ∙ tree_is)
     (ap (λ (t : Taken). t.plains.items) c.count.ensures.taken ∙ c.in_ok-hold.ensures.plains)
     (ap (λ (t : Taken). t.hashes.items) c.count.ensures.taken ∙ c.in_ok-hold.ensures.hashes
     ∙ ap (λ (n : ℕ). c.args.now.now.taken.hashes.items ++ n ∷ []) (c.in_ok-plain.ensures.hash ∙ ap tree_hash (sym c.in_ok-plain.ensures.tree)))
-    (subst (λ (t : Taken). PutsOut c.args.now.now.taken.steps t.steps (resolved_steps (first_start piece) c.args.now.now.scope.starts (parts_for (tree_of (rc_value q)).inner (rc_value q).outcome).steps))
+    (λ holds.
+    subst (λ (t : Taken). PutsOut c.args.now.now.taken.steps t.steps (resolved_steps (first_start piece) c.args.now.now.scope.starts (expanded_in A ed c.args.now.now.scope c.args.depth (relative piece)).steps))
     (sym c.count.ensures.taken)
-    (subst (λ n. PutsOut c.args.now.now.taken.steps c.put_plain.new.steps (resolved_steps n c.args.now.now.scope.starts (parts_for (tree_of (rc_value q)).inner (rc_value q).outcome).steps)) start_is
-    (subst (λ (p : Plain). PutsOut c.args.now.now.taken.steps c.put_plain.new.steps (resolved_steps c.args.start c.args.now.now.scope.starts (parts_for (tree_of p).inner p.outcome).steps)) lent
-    c.in_ok-put_plain.ensures.steps)))
+    (subst (λ n. PutsOut c.args.now.now.taken.steps c.put_plain.new.steps (resolved_steps n c.args.now.now.scope.starts (expanded_in A ed c.args.now.now.scope c.args.depth (relative piece)).steps)) start_is
+    (put_lent A ed c.args.now.now.scope c.args.depth c.args.start (relative piece) c.args.now.now.taken.steps c.put_plain.new.steps (rc_value q) c.as_ref.result.now lent
+    (c.in_ok-plain.ensures.tree ∙ tree_is) holds c.in_ok-put_plain.ensures.steps)))
     (ap (λ (t : Taken). t.faults.items) c.count.ensures.taken ∙ c.in_ok-put_plain.ensures.faults
-    ∙ ap (λ (p : Plain). c.args.now.now.taken.faults.items ++ resolved_faults c.args.start c.args.now.now.scope.starts p.outcome.faults.items) lent
-    ∙ ap (λ n. c.args.now.now.taken.faults.items ++ resolved_faults n c.args.now.now.scope.starts (rc_value q).outcome.faults.items) start_is)
+    ∙ ap (λ (p : Plain). c.args.now.now.taken.faults.items ++ resolved_faults c.args.start c.args.now.now.scope.starts p.faults.items) lent
+    ∙ ap (λ n. c.args.now.now.taken.faults.items ++ resolved_faults n c.args.now.now.scope.starts (rc_value q).faults.items) start_is)
     (c.in_ok-plain.ensures.counted
     ∙ ap (λ (t : Top). list_any (matches (scope_in c.args.now.now.scope) t.inner) (map (λ q. piece_of (world A ed) c.args.depth (rc_value q)) c.args.memory.now.plains.items)) tree_is)
     (ap (λ (t : Taken). t.expanded) c.count.ensures.taken)
     before trees done has
-    (parts_taken A ed c.args.depth c.args.memory.now piece c.args.now.now c.count.new.now c.args.tree.now.value (rc_value q) tree_is c.in_ok-plain.ensures.outcome before trees done has)
+    (parts_taken A ed c.args.depth c.args.memory.now piece c.args.now.now c.count.new.now c.args.tree.now.value (rc_value q) tree_is c.in_ok-plain.ensures.holds before trees done has)
     (ap (λ (t : Top). is_some (definition_of t.inner)) (sym tree_is) ∙ c.requires.plain)
 
 pub returns-clause-links : goal.returns-clause-links

@@ -8,7 +8,8 @@ use Rattle.expander.specs.Expansion.{expansion}
 use Rattle.expander.specs.Held.{numbered_world}
 use Rattle.expander.specs.Memories.{IsRight}
 use Rattle.expander.specs.MetTable.{scope_in}
-use Rattle.expander.specs.Outcomes.{parts_for, parts_of}
+use Rattle.expander.specs.HeldParts.{Holds}
+use Rattle.expander.specs.Outcomes.{parts_of}
 use Rattle.expander.specs.Links.{plain_tops}
 use Rattle.expander.specs.Plains.{AreHashes, Finds, is_match}
 use Rattle.expander.specs.World.{world}
@@ -17,8 +18,8 @@ use Rattle.expander.proofs.PlainLemmas.{stands_at}
 use Rattle.expander.proofs.TakingLemmas.{all_at, any_is, matched_parts}
 use Rattle.expander.proofs.taking.take_tree.Goals as goal
 
-pub returns-in_ok-plain-in-Some-clause-outcome : goal.returns-in_ok-plain-in-Some-clause-outcome
-returns-in_ok-plain-in-Some-clause-outcome g c = λ given numbers before are more scope_is met.
+pub returns-in_ok-plain-in-Some-clause-holds : goal.returns-in_ok-plain-in-Some-clause-holds
+returns-in_ok-plain-in-Some-clause-holds g c = λ given numbers before are more scope_is met.
     let q : Rc Plain Global = c.index-held-i.result in
     let stands : slice_get c.as_slice-held.result.now c.in-Some.i ≡ Some q = stands_at c.as_slice-held.result.now c.in-Some.i q (rw c.in-Some.is at c.in_ok-found.ensures.within) c.index-held-i.is in
     let passes : is_match (scope_in c.args.scope.now) c.args.tree.now.value (rc_value q) ≡ true =
@@ -29,8 +30,8 @@ returns-in_ok-plain-in-Some-clause-outcome g c = λ given numbers before are mor
     all_at (λ x. IsRight (world (g.G.FragmentGrammar.answer c.args.grammar.now) c.args.scope.now.edition) c.args.depth (numbers_in c.args.memory.now.by_tree) (rc_value x))
     c.args.memory.now.plains.items c.in-Some.i q c.requires.right.right here in
     let same : c.in_ok-plain-in-Some.plain.value ≡ rc_value q = search rules in
-    subst (λ (p : Plain). parts_for c.args.tree.now.value.inner p.outcome
-    ≡ parts_of (expansion (numbered_world (world (g.G.FragmentGrammar.answer c.args.grammar.now) c.args.scope.now.edition)) (scope_in c.args.scope.now) c.args.depth None c.args.tree.now.value.inner))
+    subst (λ (p : Plain). Holds p
+    (parts_of (expansion (numbered_world (world (g.G.FragmentGrammar.answer c.args.grammar.now) c.args.scope.now.edition)) (scope_in c.args.scope.now) c.args.depth None c.args.tree.now.value.inner)))
     (sym same)
     (matched_parts (world (g.G.FragmentGrammar.answer c.args.grammar.now) c.args.scope.now.edition) c.args.depth (numbers_in c.args.memory.now.by_tree) c.equal_pieces.ensures c.equal_trees.ensures
     given numbers are more (scope_in c.args.scope.now) before scope_is met c.args.tree.now.value (rc_value q) c.requires.top right passes)
