@@ -1,8 +1,9 @@
 -- What a piece prints by itself, and how it is put out.
 use Rattle.std.proofs.Common.{◌≡◌, ℕ, ◌+◌, ◌<◌, ◌≤◌, drop, get_or, append_assoc, append-nil, length, length-append, subst, List, [], ◌∷◌, ◌++◌, refl, sym, ap, ◌∙◌, Bool, true, false, ◌&&◌, nat_eq, arith, if◌then◌else◌}
-use Rattle.std.specs.Prelude.{◌||◌, IfOk, Result, Ok, Err, filter, map}
+use Rattle.std.specs.Prelude.{◌||◌, IfOk, None, Option, Some, Result, Ok, Err, filter, map, option_map, unwrap_or}
 use Rattle.std.specs.List.{list_all, list_any}
 use Rattle.std.proofs.lemmas.Bool.Decides.{nat_tests}
+use Rattle.std.proofs.lemmas.List.Elements.{filter-append}
 use Rattle.std.proofs.lemmas.List.{at_drop_all, drop_more, length-map, map-append}
 use Rattle.tt_data.specs.Walk.{Step, at_leaf, opens, closes, step_with}
 use Rattle.tt_data.specs.declared.leaf.Leaf.TheVariants as as_leaf
@@ -17,7 +18,7 @@ use Rattle.bridge.specs.Spelling.{spelling}
 use Rattle.expander.specs.Changes.{placed_with}
 use Rattle.expander.specs.Expansion.{PlacedStep}
 use Rattle.expander.specs.Faults.{place, fault_at, is_definition_word, unspellable}
-use Rattle.expander.specs.HeldParts.{HasPrinted, IsQuietPart, PrintsOn, PutsHeld, PutsQuiet, has_word}
+use Rattle.expander.specs.HeldParts.{HasPrinted, IsHeldPart, PrintsOn, PutsHeld, PutsPart, word_places}
 use Rattle.expander.specs.Outcomes.{placed_of}
 use Rattle.expander.specs.OutputSteps.{PutsOut, faults_at, numbers_left_out, told_from, words_told}
 use Rattle.expander.specs.Held.{moved_on}
@@ -26,6 +27,7 @@ use Rattle.expander.specs.Starts.{start_at}
 use Rattle.expander.specs.Printing.{left_out, spelling_before, steps_of, visible}
 use Rattle.expander.specs.declared.faults.FaultKind.TheVariants.{NestedDefinition}
 use Rattle.expander.specs.declared.held_part.OwnPrint.{OwnPrint}
+use Rattle.expander.specs.declared.held_part.HeldPart.{HeldPart}
 use Rattle.expander.specs.declared.outcome.OwnStep.{OwnStep}
 use Rattle.expander.specs.declared.output.PlacedSteps.{PlacedSteps}
 use Rattle.expander.specs.declared.output.Told.{Told}
@@ -35,28 +37,50 @@ use Rattle.expander.proofs.PrintingLemmas.{visible-append, visible_bare, words_t
 
 -- ---- steps that are printed one behind the other
 
-any_append : {X : Type 0} (p : X → Bool) (xs ys : List X) → list_any p (xs ++ ys) ≡ (list_any p xs || list_any p ys)
-any_append p [] ys = refl
-any_append p (x ∷ xs) ys = go (p x) (any_append p xs ys)
+-- where the words of steps are told, and of those behind them
+word_places-append : (xs ys : List PlacedStep) → word_places (xs ++ ys) ≡ word_places xs ++ word_places ys
+word_places-append xs ys =
+    let is_word : PlacedStep → Bool = λ s. is_definition_word s.step in
+    ap (λ l. map place (filter is_word l)) (visible-append xs ys)
+    ∙ ap (map place) (filter-append is_word (visible xs) (visible ys))
+    ∙ map-append place (filter is_word (visible xs)) (filter is_word (visible ys))
+
+-- a step that is such a word, and another
+pub one_word : (s : PlacedStep) → is_definition_word s.step ≡ true → word_places (s ∷ []) ≡ place s ∷ []
+one_word s e =
+    ap (λ (b : Bool). map place (filter (λ s. is_definition_word s.step) (if b then s ∷ [] else []))) (is_seen s.step e)
+    ∙ ap (λ (b : Bool). map place (if b then s ∷ [] else [])) e
   where
-    go : (b : Bool) → list_any p (xs ++ ys) ≡ (list_any p xs || list_any p ys) → (b || list_any p (xs ++ ys)) ≡ ((b || list_any p xs) || list_any p ys)
-    go true e = refl
-    go false e = e
+    is_seen : (x : Step) → is_definition_word x ≡ true → is_visible_step x ≡ true
+    is_seen (at_leaf l) e = refl
+    is_seen (opens kind span) e = cc
+    is_seen (closes kind span) e = cc
+
+pub no_word : (s : PlacedStep) → is_definition_word s.step ≡ false → word_places (s ∷ []) ≡ []
+no_word s e = go (is_visible_step s.step)
+  where
+    go : (b : Bool) → map place (filter (λ s. is_definition_word s.step) (if b then s ∷ [] else [])) ≡ []
+    go true = ap (λ (b : Bool). map place (if b then s ∷ [] else [])) e
+    go false = refl
+
+-- what is told of elements, one behind the other
+pub mapped_more : {X Y : Type 0} (F : X → Y) (xs : List X) (i : ℕ) (d : X) (old before after : List Y) → i < length xs
+    → after ≡ before ++ F (get_or xs i d) ∷ [] → before ++ map F (drop i xs) ≡ old ++ map F xs → after ++ map F (drop (i + 1) xs) ≡ old ++ map F xs
+mapped_more F xs i d old before after inside pushed h =
+    ap (λ l. l ++ map F (drop (i + 1) xs)) pushed ∙ append_assoc before (F (get_or xs i d) ∷ []) (map F (drop (i + 1) xs))
+    ∙ ap (λ l. before ++ map F l) (sym (drop_more xs i d inside)) ∙ h
+
+pub mapped_done : {X Y : Type 0} (F : X → Y) (xs : List X) (i : ℕ) (now whole : List Y) → length xs ≤ i → now ++ map F (drop i xs) ≡ whole → now ≡ whole
+mapped_done F xs i now whole past h = sym (append-nil now) ∙ sym (ap (λ l. now ++ l) (at_drop_all (map F) xs i past)) ∙ h
 
 -- one step is printed
 pub prints_step : (old new : OwnPrint) (s : PlacedStep)
     → ((steps : List Step) → HasPut old.printer steps → HasPut new.printer (steps ++ s.step ∷ []))
-    → new.has_word ≡ (old.has_word || is_definition_word s.step) → PrintsOn old new (s ∷ [])
+    → new.words.items ≡ old.words.items ++ word_places (s ∷ []) → PrintsOn old new (s ∷ [])
 prints_step old new s puts words before has = record {
   printer = subst (HasPut new.printer) (sym (map-append (λ (s : PlacedStep). s.step) before (s ∷ []))) (puts (steps_of before) has.printer);
-  words = words ∙ ap (λ b. b || is_definition_word s.step) has.words ∙ ap (λ b. has_word (steps_of before) || b) (sym (one (is_definition_word s.step)))
-      ∙ sym (any_append is_definition_word (steps_of before) (s.step ∷ []))
-      ∙ ap has_word (sym (map-append (λ (s : PlacedStep). s.step) before (s ∷ [])));
+  words = words ∙ ap (λ l. l ++ word_places (s ∷ [])) has.words ∙ sym (word_places-append before (s ∷ []));
 }
-  where
-    one : (b : Bool) → (b || false) ≡ b
-    one true = refl
-    one false = refl
 
 -- what was printed, and what is left of the whole
 pub record StillPrints (own : OwnPrint) (whole left : List PlacedStep) : Type 0 where
@@ -116,37 +140,56 @@ module _ (f : Span → Span) where
   steps_with [] = refl
   steps_with (s ∷ more) = ap (λ l. step_with f s.step ∷ l) (steps_with more)
 
-  word_steps_with : (ss : List Step) → has_word (map (step_with f) ss) ≡ has_word ss
-  word_steps_with [] = refl
-  word_steps_with (s ∷ more) =
-      ap (λ b. b || has_word (map (step_with f) more)) (word_with s) ∙ ap (λ b. is_definition_word s || b) (word_steps_with more)
+  span_with : (s : Step) → step_span (step_with f s) ≡ f (step_span s)
+  span_with (at_leaf (as_leaf.Literal l)) = refl
+  span_with (at_leaf (as_leaf.Punct p)) = refl
+  span_with (at_leaf (as_leaf.Ident i)) = refl
+  span_with (opens kind span) = refl
+  span_with (closes kind span) = refl
 
--- no fault is told of quiet steps
-quiet_told : (xs : List PlacedStep) → has_word (steps_of xs) ≡ false → words_told xs ≡ []
-quiet_told [] quiet = refl
-quiet_told (s ∷ more) quiet = go (is_visible_step s.step) (is_definition_word s.step) refl quiet (quiet_told more)
-  where
-    go : (b w : Bool) → is_definition_word s.step ≡ w → (w || has_word (steps_of more)) ≡ false
-        → (has_word (steps_of more) ≡ false → words_told more ≡ [])
-        → map (λ s. fault_at NestedDefinition (place s)) (filter (λ s. is_definition_word s.step) (if b then s ∷ visible more else visible more)) ≡ []
-    go b true is h later = cc
-    go true false is h later =
-        ap (λ (w : Bool). map (λ s. fault_at NestedDefinition (place s)) (if w then s ∷ filter (λ s. is_definition_word s.step) (visible more) else filter (λ s. is_definition_word s.step) (visible more))) is
-        ∙ later h
-    go false false is h later = later h
+  place_with : (s : PlacedStep) → place (placed_with f s) ≡ f (place s)
+  place_with s = go s.outer
+    where
+      go : (o : Option Span) → unwrap_or (option_map f o) (step_span (step_with f s.step)) ≡ f (unwrap_or o (step_span s.step))
+      go None = span_with s.step
+      go (Some span) = refl
+
+  -- the faults of the words among these steps, at other places
+  words_with : (xs : List PlacedStep)
+      → map (λ s. fault_at NestedDefinition (place s)) (filter (λ s. is_definition_word s.step) (map (placed_with f) xs))
+      ≡ map (fault_at NestedDefinition) (map f (map place (filter (λ s. is_definition_word s.step) xs)))
+  words_with [] = refl
+  words_with (s ∷ more) =
+      ap (λ (b : Bool). map (λ s. fault_at NestedDefinition (place s)) (if b then placed_with f s ∷ filter (λ s. is_definition_word s.step) (map (placed_with f) more)
+      else filter (λ s. is_definition_word s.step) (map (placed_with f) more))) (word_with s.step)
+      ∙ go (is_definition_word s.step) (words_with more)
+    where
+      go : (b : Bool) → map (λ s. fault_at NestedDefinition (place s)) (filter (λ s. is_definition_word s.step) (map (placed_with f) more))
+          ≡ map (fault_at NestedDefinition) (map f (map place (filter (λ s. is_definition_word s.step) more)))
+          → map (λ s. fault_at NestedDefinition (place s)) (if b then placed_with f s ∷ filter (λ s. is_definition_word s.step) (map (placed_with f) more)
+          else filter (λ s. is_definition_word s.step) (map (placed_with f) more))
+          ≡ map (fault_at NestedDefinition) (map f (map place (if b then s ∷ filter (λ s. is_definition_word s.step) more else filter (λ s. is_definition_word s.step) more)))
+      go true e =
+          ap (λ (span : Span). fault_at NestedDefinition span ∷ map (λ s. fault_at NestedDefinition (place s)) (filter (λ s. is_definition_word s.step) (map (placed_with f) more))) (place_with s)
+          ∙ ap (λ l. fault_at NestedDefinition (f (place s)) ∷ l) e
+      go false e = e
+
+  words_moved : (xs : List PlacedStep) → words_told (map (placed_with f) xs) ≡ map (fault_at NestedDefinition) (map f (word_places xs))
+  words_moved xs =
+      ap (λ l. map (λ s. fault_at NestedDefinition (place s)) (filter (λ s. is_definition_word s.step) l)) (visible_with xs) ∙ words_with (visible xs)
 
 -- the visible tokens of steps, and of those behind them
 visible_steps : (xs ys : List PlacedStep) → steps_of (visible (xs ++ ys)) ≡ steps_of (visible xs) ++ steps_of (visible ys)
 visible_steps xs ys = ap steps_of (visible-append xs ys) ∙ map-append (λ (s : PlacedStep). s.step) (visible xs) (visible ys)
 
 -- no token of a part is left out, whatever follows
-part_is_whole : (part : PartState) (steps more : List PlacedStep) → IsQuietPart part steps → length part.tokens ≡ length (steps_of (visible steps))
+part_is_whole : (part : PartState) (steps more : List PlacedStep) → IsPartOf part (steps_of steps) → length part.tokens ≡ length (steps_of (visible steps))
     → left_out_from (0 + length (steps_of (visible steps))) (steps_of (visible more)) ≡ left_out_from 0 (steps_of (visible steps) ++ steps_of (visible more))
-part_is_whole part steps more quiet long =
+part_is_whole part steps more printed long =
     let from : 0 + length (steps_of (visible steps)) ≡ length part.tokens + 0 = omega (arith, long) in
     ap (λ n. left_out_from n (steps_of (visible more))) from
     ∙ ap (left_out_from (length part.tokens + 0)) (visible_bare more)
-    ∙ (quiet.printed (steps_of more)).left_out
+    ∙ (printed (steps_of more)).left_out
     ∙ ap (λ l. left_out_from 0 (bare_printing.visible l)) (sym (map-append (λ (s : PlacedStep). s.step) steps more))
     ∙ ap (left_out_from 0) (sym (visible_bare (steps ++ more)) ∙ visible_steps steps more)
 
@@ -154,12 +197,12 @@ module _
     -- a spelling hangs on no place, and a part has the places of all its visible tokens
     (hangs : (h : Span → Span) (s : Step) (more : List Step) → spelling (step_with h s) (map (step_with h) more) ≡ spelling s more)
     (whole : (part : PartState) (steps : List Step) → IsPartOf part steps → part.tokens ≡ map step_span (bare_printing.visible steps)) where
-  part_length : (part : PartState) (steps : List PlacedStep) → IsQuietPart part steps → length part.tokens ≡ length (steps_of (visible steps))
-  part_length part steps quiet =
-      ap length (whole part (steps_of steps) quiet.printed) ∙ length-map (bare_printing.visible (steps_of steps)) step_span ∙ ap length (sym (visible_bare steps))
+  part_length : (part : PartState) (steps : List PlacedStep) → IsPartOf part (steps_of steps) → length part.tokens ≡ length (steps_of (visible steps))
+  part_length part steps printed =
+      ap length (whole part (steps_of steps) printed) ∙ length-map (bare_printing.visible (steps_of steps)) step_span ∙ ap length (sym (visible_bare steps))
 
   -- a part is put out
-  module _ (old new : PlacedSteps) (part : PartState) (steps : List PlacedStep) (f : Span → Span) (quiet : IsQuietPart part steps) where
+  module _ (old new : PlacedSteps) (part : PartState) (steps : List PlacedStep) (f : Span → Span) (is_part : IsPartOf part (steps_of steps)) where
     moved : List PlacedStep
     moved = map (placed_with f) steps
 
@@ -183,16 +226,16 @@ module _
         visible_steps before (moved ++ more) ∙ ap (λ l. bs ++ l) (visible_steps moved more ∙ ap (λ l. l ++ ys) tokens_moved) in
         let many : length bs ≡ length (visible before) = length-map (visible before) (λ (s : PlacedStep). s.step) in
         let none : list_any (nat_eq k) (left_out_from (0 + length bs) (map (step_with f) xs ++ ys)) ≡ false =
-        ap (list_any (nat_eq k)) (none_elsewhere hangs f 0 (0 + length bs) xs ys (part_is_whole part steps more quiet (part_length part steps quiet)))
+        ap (list_any (nat_eq k)) (none_elsewhere hangs f 0 (0 + length bs) xs ys (part_is_whole part steps more is_part (part_length part steps is_part)))
         ∙ not_behind k (0 + length bs + length xs) ys (omega (arith, high, many, as_many)) in
         ap (λ l. list_any (nat_eq k) (left_out_from 0 l)) is ∙ not_before bs (map (step_with f) xs ++ ys) 0 k (omega (arith, low, many)) none
 
-    pub puts_part : ((before : List Step) → HasPut old.printer before → HasPut new.printer (before ++ map (step_with f) (steps_of steps)))
-        → new.count ≡ old.count + length part.tokens → new.told.items ≡ old.told.items → new.nested.items ≡ old.nested.items
-        → PutsOut old new (map (placed_with f) steps)
+    pub puts_part : (words : List Span) → words ≡ map f (word_places steps) → ((before : List Step) → HasPut old.printer before → HasPut new.printer (before ++ map (step_with f) (steps_of steps)))
+        → new.count ≡ old.count + length part.tokens → new.told.items ≡ old.told.items
+        → new.nested.items ≡ old.nested.items ++ map (fault_at NestedDefinition) words → PutsOut old new (map (placed_with f) steps)
     unfolding moved
-    puts_part puts counted told nested before has =
-        let longer : new.count ≡ old.count + length (visible moved) = counted ∙ ap (λ n. old.count + n) (part_length part steps quiet ∙ sym as_many) in
+    puts_part words words_are puts counted told nested before has =
+        let longer : new.count ≡ old.count + length (visible moved) = counted ∙ ap (λ n. old.count + n) (part_length part steps is_part ∙ sym as_many) in
         record {
           printer = subst (HasPut new.printer)
               (ap (λ l. steps_of before ++ l) (sym (steps_with f steps)) ∙ sym (map-append (λ (s : PlacedStep). s.step) before moved))
@@ -211,17 +254,20 @@ module _
               (sym (told_from-append old.count (visible moved) (visible more)) ∙ ap (told_from old.count) (sym (visible-append moved more)))
               ∙ has.told (moved ++ more)
               ∙ ap (λ l. unspellable (left_out spelling_before (visible l))) (sym is);
-          nested = nested ∙ has.nested ∙ sym (append-nil (words_told before))
-              ∙ ap (λ l. words_told before ++ l) (sym (quiet_told moved (ap has_word (steps_with f steps) ∙ word_steps_with f (steps_of steps) ∙ quiet.words)))
+          nested = nested ∙ ap (λ l. l ++ map (fault_at NestedDefinition) words) has.nested
+              ∙ ap (λ l. words_told before ++ map (fault_at NestedDefinition) l) words_are
+              ∙ ap (λ l. words_told before ++ l) (sym (words_moved f steps))
               ∙ sym (words_told-append before moved);
         }
 
 -- a part that is put out at the places of a piece in the text
-pub held_puts : {E : Type 0} → (start : ℕ) (starts : Starts) (old new : PlacedSteps) (p : PartState) (spans : List Span) (result : Result Bool E)
-    → spans ≡ map (resolved_by start starts) p.tokens → IfOk result (PutsQuiet old new p spans) → IfOk result (PutsHeld old new p start starts)
-held_puts start starts old new p spans (Ok true) is puts = λ steps right. puts steps (resolved_by start starts) right is
-held_puts start starts old new p spans (Ok false) is puts = puts
-held_puts start starts old new p spans (Err e) is puts = puts
+pub held_puts : {E : Type 0} → (start : ℕ) (starts : Starts) (old new : PlacedSteps) (p : HeldPart) (spans words : List Span) (result : Result Bool E)
+    → spans ≡ map (resolved_by start starts) p.printed.tokens → words ≡ map (resolved_by start starts) p.words.items
+    → IfOk result (PutsPart old new p.printed spans words) → IfOk result (PutsHeld old new p start starts)
+held_puts start starts old new p spans words (Ok true) is are puts =
+    λ steps right. puts steps (resolved_by start starts) right.printed is (are ∙ ap (map (resolved_by start starts)) right.words)
+held_puts start starts old new p spans words (Ok false) is are puts = puts
+held_puts start starts old new p spans words (Err e) is are puts = puts
 
 -- ---- places that are not computed yet
 

@@ -1,47 +1,46 @@
 -- What a piece prints by itself, and how that is put out.
-use Rattle.std.specs.Prelude.{◌≡◌, ℕ, List, ◌++◌, Bool, true, false, map, option_map}
-use Rattle.std.specs.List.{list_any}
+use Rattle.std.specs.Prelude.{◌≡◌, ℕ, List, ◌++◌, Bool, true, false, filter, map, option_map}
 use Rattle.bridge.specs.PrintedParts.{IsPartOf, PartState}
 use Rattle.bridge.specs.Printers.{HasPut}
 use Rattle.tt_data.specs.Forest.{Forest}
-use Rattle.tt_data.specs.Walk.{Step}
 use Rattle.tt_data.specs.declared.span.Span.{Span}
 use Rattle.expander.specs.Changes.{placed_with}
 use Rattle.expander.specs.Expansion.{PlacedStep}
-use Rattle.expander.specs.Faults.{is_definition_word}
+use Rattle.expander.specs.Faults.{is_definition_word, place}
 use Rattle.expander.specs.Outcomes.{Parts, steps_for}
 use Rattle.expander.specs.OutputSteps.{PutsOut}
 use Rattle.expander.specs.Placing.{resolved_steps}
 use Rattle.expander.specs.Plains.{finds_of, tree_of}
-use Rattle.expander.specs.Printing.{steps_of}
+use Rattle.expander.specs.Printing.{steps_of, visible}
 use Rattle.expander.specs.declared.held_part.HeldOutput.{HeldOutput}
+use Rattle.expander.specs.declared.held_part.HeldPart.{HeldPart}
 use Rattle.expander.specs.declared.held_part.HeldOutput.TheVariants as held
 use Rattle.expander.specs.declared.held_part.OwnPrint.{OwnPrint}
 use Rattle.expander.specs.declared.output.PlacedSteps.{PlacedSteps}
 use Rattle.expander.specs.declared.plain.Plain.{Plain}
 use Rattle.expander.specs.declared.starts.Starts.{Starts}
 
--- some step is a word that begins a definition
-abbrev pub has_word : List Step → Bool
-has_word steps = list_any is_definition_word steps
+-- where the faults of the visible words that begin a definition are told
+abbrev pub word_places : List PlacedStep → List Span
+word_places steps = map place (filter (λ s. is_definition_word s.step) (visible steps))
 
 -- just these steps were printed by themselves so far
 pub record HasPrinted (own : OwnPrint) (steps : List PlacedStep) : Type 0 where
   pub printer : HasPut own.printer (steps_of steps)
-  pub words : own.has_word ≡ has_word (steps_of steps)
+  pub words : own.words.items ≡ word_places steps
 
 -- these steps were printed behind all that were
 abbrev pub PrintsOn : OwnPrint → OwnPrint → List PlacedStep → Type 0
 PrintsOn old new steps = (before : List PlacedStep) → HasPrinted old before → HasPrinted new (before ++ steps)
 
--- it is what is printed of these steps, none of which is a word that begins a definition
-pub record IsQuietPart (part : PartState) (steps : List PlacedStep) : Type 0 where
-  pub printed : IsPartOf part (steps_of steps)
-  pub words : has_word (steps_of steps) ≡ false
+-- it is what is printed of these steps, with where their words that begin a definition are told
+pub record IsHeldPart (part : HeldPart) (steps : List PlacedStep) : Type 0 where
+  pub printed : IsPartOf part.printed (steps_of steps)
+  pub words : part.words.items ≡ word_places steps
 
 -- what is held for a tree is what these steps print, or they themselves
 abbrev pub IsOutputOf : Forest → HeldOutput → List PlacedStep → Type 0
-IsOutputOf tree (held.Part p) steps = IsQuietPart p steps
+IsOutputOf tree (held.Part p) steps = IsHeldPart p steps
 IsOutputOf tree (held.Steps own) steps = steps_for tree (option_map (λ s. s.items) own) ≡ steps
 
 -- what is held of a plain piece is these parts of an outcome
@@ -50,14 +49,14 @@ pub record Holds (q : Plain) (parts : Parts) : Type 0 where
   pub faults : q.faults.items ≡ parts.faults
   pub finds : finds_of q ≡ parts.finds
 
--- a part is put out, its tokens at these places; or nothing is
-abbrev pub PutsQuiet : PlacedSteps → PlacedSteps → PartState → List Span → Bool → Type 0
-PutsQuiet old new part spans true =
-    (steps : List PlacedStep) (f : Span → Span) → IsQuietPart part steps → spans ≡ map f part.tokens → PutsOut old new (map (placed_with f) steps)
-PutsQuiet old new part spans false = new ≡ old
+-- a part is put out, its tokens at these places, and the faults of its words are told at those; or nothing is
+abbrev pub PutsPart : PlacedSteps → PlacedSteps → PartState → List Span → List Span → Bool → Type 0
+PutsPart old new part spans words true = (steps : List PlacedStep) (f : Span → Span) → IsPartOf part (steps_of steps)
+    → spans ≡ map f part.tokens → words ≡ map f (word_places steps) → PutsOut old new (map (placed_with f) steps)
+PutsPart old new part spans words false = new ≡ old
 
 -- the part of a piece that starts here is put out at its places in the text; or nothing is
-abbrev pub PutsHeld : PlacedSteps → PlacedSteps → PartState → ℕ → Starts → Bool → Type 0
+abbrev pub PutsHeld : PlacedSteps → PlacedSteps → HeldPart → ℕ → Starts → Bool → Type 0
 PutsHeld old new part start starts true =
-    (steps : List PlacedStep) → IsQuietPart part steps → PutsOut old new (resolved_steps start starts steps)
+    (steps : List PlacedStep) → IsHeldPart part steps → PutsOut old new (resolved_steps start starts steps)
 PutsHeld old new part start starts false = new ≡ old

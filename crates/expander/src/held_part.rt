@@ -1,25 +1,31 @@
 // What a piece prints by itself.
-ghost use Rattle.std.specs.Prelude.{◌≡◌, ◌∷◌, ◌||◌, [], IfOk, IfSome, List, None, OnOk, Option, map, option_map};
+ghost use Rattle.std.specs.Prelude.{◌≡◌, ◌∷◌, [], ◌++◌, IfOk, IfSome, List, None, OnOk, map, option_map};
 ghost use Rattle.bridge.specs.WalkSteps.{step_of};
 ghost use Rattle.tt_data.specs.Walk.{walk};
-ghost use Rattle.tt_data.specs.declared.span.Span.{Span};
 ghost use Rattle.expander.specs.Expansion.{PlacedStep, placed};
-ghost use Rattle.expander.specs.Faults.{is_definition_word};
-ghost use Rattle.expander.specs.HeldParts.{HasPrinted, IsOutputOf, IsQuietPart, PrintsOn};
+ghost use Rattle.expander.specs.HeldParts.{HasPrinted, IsHeldPart, IsOutputOf, PrintsOn, word_places};
 ghost use Rattle.expander.specs.Outcomes.{placed_of, steps_for};
 
-use crate::faults::is_definition_word;
+use crate::faults::{is_definition_word, place};
 use crate::outcome::{OwnStep, lent};
 use crate::walk::Walk;
 use bridge::{PrintedPart, Printer, WalkStep};
 use std::alloc::{AllocError, Global};
 use tt::TopSubtree;
+use tt_data::Span;
+
+/// What steps print by themselves, and where their words that begin a definition are told.
+#[derive(Drop)]
+pub(crate) struct HeldPart {
+    pub printed: PrintedPart,
+    pub words: Vec<Span>,
+}
 
 /// What is held of the steps that a piece gives, at places of its own.
 #[derive(Drop)]
 pub(crate) enum HeldOutput {
-    /// What they print by themselves, where no token is a word that begins a definition. They are not kept then.
-    Part(PrintedPart),
+    /// What they print by themselves, where that is a part. They are not kept then.
+    Part(HeldPart),
     /// The steps: none where the tree stays as it is.
     Steps(Option<Vec<OwnStep>>),
 }
@@ -28,8 +34,8 @@ pub(crate) enum HeldOutput {
 #[derive(Drop)]
 struct OwnPrint {
     printer: Printer,
-    // Whether one of them is a word that begins a definition.
-    has_word: bool,
+    // Where those that are words that begin a definition are told.
+    words: Vec<Span>,
 }
 
 // No step so far.
@@ -38,22 +44,33 @@ fn nothing_printed(alloc: Global) -> OwnPrint
 {
     OwnPrint {
         printer: Printer::new(alloc),
-        has_word: false,
+        words: Vec::new(alloc),
     }
 }
 
-// Whether there is a word that begins a definition once this step is met.
-fn has_word_then(has_word: bool, step: &WalkStep<'_>) -> bool
-    ensures { result ≡ (has_word || is_definition_word (step_of step.now)) }
+// Adds where a step is told that is a word that begins a definition.
+fn add_word(
+    words: &mut Vec<Span>,
+    step: &WalkStep<'_>,
+    outer: Option<Span>,
+) -> Result<(), AllocError>
+    ensures { OnOk result (words.new.items ≡ words.old.items ++ word_places (placed outer (step_of step.now ∷ []))) }
 {
-    has_word || is_definition_word(step)
+    if is_definition_word(step) {
+        words.push(place(step, outer))?;
+    }
+    Ok(())
 }
 
-// Prints one step.
-fn print_step(own: &mut OwnPrint, step: &WalkStep<'_>) -> Result<(), AllocError>
-    ensures { OnOk result ((outer : Option Span) → PrintsOn own.old own.new (placed outer (step_of step.now ∷ []))) }
+// Prints one step, which is placed at this name, or at none.
+fn print_step(
+    own: &mut OwnPrint,
+    step: &WalkStep<'_>,
+    outer: Option<Span>,
+) -> Result<(), AllocError>
+    ensures { OnOk result (PrintsOn own.old own.new (placed outer (step_of step.now ∷ []))) }
 {
-    own.has_word = has_word_then(own.has_word, step);
+    add_word(&mut own.words, step, outer)?;
     match own.printer.put_step(step) {
         Ok(()) => Ok(()),
         Err(_) => Err(AllocError),
@@ -67,7 +84,7 @@ fn print_tree(alloc: Global, tree: &TopSubtree) -> Result<OwnPrint, AllocError>
     let mut own = nothing_printed(alloc);
     let mut rest = Walk::new(alloc, &tree.iter());
     while let Some(step) = rest.next()? {
-        print_step(&mut own, &step)?;
+        print_step(&mut own, &step, None)?;
     }
     Ok(own)
 }
@@ -78,20 +95,19 @@ fn print_steps(alloc: Global, steps: &[OwnStep]) -> Result<OwnPrint, AllocError>
 {
     let mut own = nothing_printed(alloc);
     for step in steps {
-        print_step(&mut own, &lent(&step.kind))?;
+        print_step(&mut own, &lent(&step.kind), step.outer)?;
     }
     Ok(own)
 }
 
-// The part that was printed, if it is one and no token is a word that begins a definition.
-fn part_of(own: OwnPrint) -> Result<Option<PrintedPart>, AllocError>
-    ensures { IfOk result (λ o. IfSome o (λ part. (steps : List PlacedStep) → HasPrinted own steps → IsQuietPart part steps)) }
+// The part that was printed, if it is one.
+fn part_of(own: OwnPrint) -> Result<Option<HeldPart>, AllocError>
+    ensures { IfOk result (λ o. IfSome o (λ part. (steps : List PlacedStep) → HasPrinted own steps → IsHeldPart part steps)) }
 {
-    if own.has_word {
-        return Ok(None);
-    }
-    match own.printer.into_part() {
-        Ok(part) => Ok(part),
+    let OwnPrint { printer, words } = own;
+    match printer.into_part() {
+        Ok(Some(printed)) => Ok(Some(HeldPart { printed, words })),
+        Ok(None) => Ok(None),
         Err(_) => Err(AllocError),
     }
 }
@@ -110,8 +126,7 @@ fn print_all(
     }
 }
 
-/// What is held of the steps for a tree: what they print, unless they are no part by themselves, or one is a word that
-/// begins a definition.
+/// What is held of the steps for a tree: what they print, unless they are no part by themselves.
 pub(crate) fn held_output(
     alloc: Global,
     tree: &TopSubtree,

@@ -5,9 +5,11 @@ ghost use Rattle.bridge.specs.PrintedTrees.{placed_in};
 ghost use Rattle.bridge.specs.Printing.{is_visible_step, print_of};
 ghost use Rattle.bridge.specs.WalkSteps.{step_of};
 ghost use Rattle.expander.specs.Expansion.{PlacedStep, placed};
-ghost use Rattle.expander.specs.HeldParts.{PutsQuiet};
+ghost use Rattle.expander.specs.Faults.{fault_at};
+ghost use Rattle.expander.specs.HeldParts.{PutsPart};
 ghost use Rattle.expander.specs.OutputSteps.{HasOutput, PutsOut, faults_at, faults_in, told_from, words_told};
 ghost use Rattle.expander.specs.Printing.{steps_of};
+ghost use Rattle.expander.specs.declared.faults.FaultKind.TheVariants as as_kind;
 
 use crate::faults::{Fault, FaultKind, is_definition_word, place};
 use bridge::{Placed, PrintedPart, Printer, Shift, WalkStep, laws};
@@ -99,13 +101,26 @@ fn push_place(
     Ok(())
 }
 
-/// Adds a part, its tokens at these places: `false`, and nothing is done, where it can't be put at once.
+// Tells each word that begins a definition, at these places.
+fn tell_words(nested: &mut Vec<Fault>, words: &[Span]) -> Result<(), AllocError>
+    ensures { OnOk result (nested.new.items ≡ nested.old.items ++ map (fault_at as_kind.NestedDefinition) words.now) }
+{
+    for word in words {
+        let (kind, range) = (FaultKind::NestedDefinition, word.range);
+        nested.push(Fault { kind, range })?;
+    }
+    Ok(())
+}
+
+/// Adds a part, its tokens at these places, and its words that begin a definition told at those: `false`, and nothing is done,
+/// where it can't be put at once.
 pub(crate) fn put_part(
     steps: &mut PlacedSteps,
     part: &PrintedPart,
     spans: &[Span],
+    words: &[Span],
 ) -> Result<bool, AllocError>
-    ensures { IfOk result (PutsQuiet steps.old steps.new part.now spans.now) }
+    ensures { IfOk result (PutsPart steps.old steps.new part.now spans.now words.now) }
 {
     laws::parts_are_printed_whole();
     laws::spelling_hangs_on_shapes();
@@ -115,6 +130,7 @@ pub(crate) fn put_part(
     match steps.printer.put_part(part, spans) {
         Ok(true) => {
             steps.count = count;
+            tell_words(&mut steps.nested, words)?;
             Ok(true)
         }
         Ok(false) => Ok(false),
@@ -122,13 +138,14 @@ pub(crate) fn put_part(
     }
 }
 
-/// Adds a part, its tokens at their own places, shifted: `false`, and nothing is done, where it can't be put at once.
+/// The same, its tokens at their own places, shifted.
 pub(crate) fn put_part_at(
     steps: &mut PlacedSteps,
     part: &PrintedPart,
     shift: Shift,
+    words: &[Span],
 ) -> Result<bool, AllocError>
-    ensures { IfOk result (PutsQuiet steps.old steps.new part.now (map (shifted shift) part.now.tokens)) }
+    ensures { IfOk result (PutsPart steps.old steps.new part.now (map (shifted shift) part.now.tokens) words.now) }
 {
     laws::parts_are_printed_whole();
     laws::spelling_hangs_on_shapes();
@@ -138,6 +155,7 @@ pub(crate) fn put_part_at(
     match steps.printer.put_part_at(part, shift) {
         Ok(true) => {
             steps.count = count;
+            tell_words(&mut steps.nested, words)?;
             Ok(true)
         }
         Ok(false) => Ok(false),

@@ -12,11 +12,12 @@ ghost use Rattle.expander.specs.Placing.{base_at, range_from, resolved_by, resol
 
 use crate::faults::{Fault, FaultKind};
 use crate::numbered::Known;
+use crate::held_part::HeldPart;
 use crate::outcome::{OwnStep, lent};
 use crate::output::{PlacedSteps, push_step, put_part, put_part_at};
 use crate::starts::Starts;
 use crate::walk::Walk;
-use bridge::{PrintedPart, Shift, WalkStep};
+use bridge::{Shift, WalkStep};
 use std::alloc::{AllocError, Global};
 use tt::TopSubtree;
 use tt_data::{Ident, Leaf, Punct, Span, TextRange};
@@ -206,15 +207,17 @@ fn put_shifted(
     steps: &mut PlacedSteps,
     start: u32,
     starts: &Starts,
-    part: &PrintedPart,
+    part: &HeldPart,
+    words: &[Span],
 ) -> Result<bool, AllocError>
+    requires { words.now ≡ map (resolved_by start starts.now) part.now.words.items }
     ensures { IfOk result (PutsHeld steps.old steps.new part.now start starts.now) }
 {
-    let Some(anchor) = part.held().anchor() else {
+    let Some(anchor) = part.printed.held().anchor() else {
         return Ok(false);
     };
     let base = base_at(start, starts, anchor);
-    put_part_at(steps, part, Shift { start, base })
+    put_part_at(steps, &part.printed, Shift { start, base }, words)
 }
 
 // The same with all places computed.
@@ -223,12 +226,14 @@ fn put_printed(
     steps: &mut PlacedSteps,
     start: u32,
     starts: &Starts,
-    part: &PrintedPart,
+    part: &HeldPart,
+    words: &[Span],
 ) -> Result<bool, AllocError>
+    requires { words.now ≡ map (resolved_by start starts.now) part.now.words.items }
     ensures { IfOk result (PutsHeld steps.old steps.new part.now start starts.now) }
 {
-    let spans = resolved_all(alloc, start, starts, part.spans())?;
-    put_part(steps, part, spans.as_slice())
+    let spans = resolved_all(alloc, start, starts, part.printed.spans())?;
+    put_part(steps, &part.printed, spans.as_slice(), words)
 }
 
 /// Puts out what a piece prints by itself: `false`, and nothing is done, where it can't be put at once.
@@ -237,14 +242,15 @@ pub(crate) fn put_held(
     steps: &mut PlacedSteps,
     start: u32,
     starts: &Starts,
-    part: &PrintedPart,
+    part: &HeldPart,
 ) -> Result<bool, AllocError>
     ensures { IfOk result (PutsHeld steps.old steps.new part.now start starts.now) }
 {
-    if put_shifted(steps, start, starts, part)? {
+    let words = resolved_all(alloc, start, starts, part.words.as_slice())?;
+    if put_shifted(steps, start, starts, part, words.as_slice())? {
         return Ok(true);
     }
-    put_printed(alloc, steps, start, starts, part)
+    put_printed(alloc, steps, start, starts, part, words.as_slice())
 }
 
 // Adds a fault of a piece, at its place in the text.

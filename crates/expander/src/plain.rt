@@ -41,7 +41,7 @@ impl Plain {
             None => 0,
         };
         match &self.output {
-            HeldOutput::Part(part) => name.saturating_add(part.spans().len()),
+            HeldOutput::Part(part) => name.saturating_add(part.printed.spans().len()),
             HeldOutput::Steps(_) => name,
         }
     }

@@ -1,5 +1,5 @@
-use Rattle.std.proofs.Common.{refl}
+use Rattle.std.proofs.Common.{rules}
 use Rattle.expander.proofs.held_part.nothing_printed.Goals as goal
 
 pub returns : goal.returns
-returns c = record { printer = c.new.ensures; words = refl }
+returns c = record { printer = c.new.ensures; words = search rules }

@@ -10,7 +10,7 @@ loop-step-preserved c =
     still_prints c.loop-step.own _ _ (placed_of c.step-item.result ∷ []) _ _ c.loop-step.invariant
     (kept_left c.args.steps.now c.loop-step.step-index c.step-item.result c.loop-step-test.true c.step-item.is)
     (subst (λ (s : Step). PrintsOn c.loop-step.own c.print_step.new.own (record { step = s; outer = c.step-item.result.outer } ∷ [])) c.lent.ensures
-    (c.in_ok-print_step.ensures c.step-item.result.outer))
+    c.in_ok-print_step.ensures)
 
 pub returns : goal.returns
 returns c = all_printed c.loop-step.own _ _ c.loop-step.invariant (kept_done c.args.steps.now c.loop-step.step-index c.loop-step-test.false)

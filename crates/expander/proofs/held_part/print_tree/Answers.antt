@@ -18,4 +18,4 @@ loop-rest-preserved c =
     let is = step_left {D = Numbered} None (λ f. just None (walk f)) (walk_search None) c.loop-rest.rest c.next.new.self c.in-Some.step now
     (λ l first. ap (λ f. just None (walk f)) first) in
     still_prints c.loop-rest.own _ _ (placed None (step_of c.in-Some.step ∷ [])) _ _ c.loop-rest.invariant
-    (ap (λ (o : Outcome Numbered). o.steps) is) (c.in_ok-print_step.ensures None)
+    (ap (λ (o : Outcome Numbered). o.steps) is) c.in_ok-print_step.ensures

@@ -8,10 +8,10 @@ use Rattle.expander.proofs.placing.put_shifted.Goals as goal
 
 pub returns : goal.returns
 returns c =
-    let tokens = c.args.part.now.tokens in
+    let tokens = c.args.part.now.printed.tokens in
     let own_is : c.deref.result.now ≡ tokens = search rules in
-    held_puts c.args.start c.args.starts.now c.args.steps.now _ c.args.part.now _ c.put_part_at.result
+    held_puts c.args.start c.args.starts.now c.args.steps.now _ c.args.part.now _ c.args.words.now c.put_part_at.result
     (ap (λ (b : ℕ). map (shifted (record { start = c.args.start; base = b })) tokens) c.base_at-base.ensures
     ∙ all_shifted c.args.start c.args.starts.now c.in-Some.anchor tokens
     (subst (λ (spans : List Span). list_all (is_anchored c.in-Some.anchor) spans ≡ true) own_is c.in-Some.ensures))
-    c.put_part_at.ensures
+    c.requires c.put_part_at.ensures
