@@ -119,7 +119,8 @@ impl Printer {
     }
 
     /// Puts a part behind what was put before, with its tokens at these places, as its steps would be put; `false`,
-    /// and nothing is done, where a group is open, a quote waits, or the token printed last ends no line.
+    /// and nothing is done, where a group is open, a quote waits, or what stands behind the token printed last hangs
+    /// on what follows, as behind a punct that isn't `Alone` and ends no line.
     pub fn put_part(&mut self, part: &PrintedPart, places: &[Span]) -> Result<bool, TtFault>
         ensures puts { IfOk result (PutsPart self.old self.new part.now places.now) }
         ensures told { IfOk result (λ done. done ≡ takes_parts self.old) }
