@@ -80,7 +80,19 @@ impl Printer {
     pub fn with_room(alloc: Global, bytes: usize, parts: usize) -> Result<Printer, AllocError>
         ensures { IfOk result (λ printer. HasPut printer []) }
     {
-        let out = nothing_with_room(alloc, bytes, parts)?;
+        let out = nothing_with_room(alloc, bytes, parts, 0)?;
+        Ok(Printer { out })
+    }
+
+    /// The same, with room for a text of so many bytes, and for so many tokens put one by one.
+    pub fn with_token_room(
+        alloc: Global,
+        bytes: usize,
+        tokens: usize,
+    ) -> Result<Printer, AllocError>
+        ensures { IfOk result (λ printer. HasPut printer []) }
+    {
+        let out = nothing_with_room(alloc, bytes, 0, tokens)?;
         Ok(Printer { out })
     }
 
