@@ -33,6 +33,7 @@ use Rattle.tt_data.specs.declared.leaf.Leaf.TheVariants as as_leaf
 use Rattle.tt_data.specs.declared.leaf.LitKind.TheVariants as form
 use Rattle.tt_data.specs.declared.leaf.Punct.{Punct}
 use Rattle.tt_data.specs.declared.leaf.Spacing.TheVariants.{Alone}
+use Rattle.tt_data.specs.declared.span.Span.{Span}
 use Rattle.bridge.specs.PlainTexts.{is_mark_char, is_plain_byte}
 use Rattle.bridge.specs.Spelling.{is_one, is_plain_name, is_short_text, is_text_of, leaf_spelling, same_form, same_rawness, spelled_leaf}
 use Rattle.bridge.specs.TokenSteps.{mark_leaf, text_steps}
@@ -95,6 +96,23 @@ name_spelled i raw u short is sum one =
     spelled_as (as_leaf.Ident i) i.sym (stays i (no_dollar i is)) (ap (λ r. prefix_of r ++ i.sym) raw)
     (sym (told_of_one i.sym _ (as_leaf.Ident i) true u short sum one
     (λ p more same. sym (ap (λ r. same_rawness r is_raw.No && bytes_eq i.sym p.text) raw ∙ (ap (bytes_eq i.sym) same ∙ same_text i.sym)))))
+
+-- `$crate` is spelled `crate`
+crate_told : (span : Span) → is_text_of (as_leaf.Ident (record { sym = codes "crate"; span = span; is_raw = is_raw.No })) (codes "crate") ≡ true
+unfolding chars is_utf8 encode_utf8 is_xid_start is_xid_continue in_ranges xid_start_ranges xid_continue_ranges
+crate_told span = refl
+
+abbrev shown : Ident → Option (List ℕ)
+shown i =
+    if is_text_of (as_leaf.Ident i) (displayed_leaf (as_leaf.Ident i)) then Some (displayed_leaf (as_leaf.Ident i)) else None
+
+pub dollar_crate_spelled : (i : Ident) → is_plain_name (codes "$crate") i ≡ true → leaf_spelling (as_leaf.Ident i) ≡ Some (codes "crate")
+dollar_crate_spelled i h = ap (λ u. shown (if u then record i { sym = codes "crate" } else i)) h ∙ by_rawness i.is_raw h
+  where
+    by_rawness : (r : IdentIsRaw) → (same_rawness r is_raw.No && bytes_eq i.sym (codes "$crate")) ≡ true
+        → shown (record { sym = codes "crate"; span = i.span; is_raw = r }) ≡ Some (codes "crate")
+    by_rawness is_raw.No told = ap (λ u. if u then Some (codes "crate") else None) (crate_told i.span)
+    by_rawness is_raw.Yes told = absurd (cc)
 
 pub marked : {T : Type 0} (p : Punct) (o : Option T) (text_in : T → List ℕ) → IfSome o (λ t. text_in t ≡ p.char ∷ []) → IfSome o (λ t. is_mark_char p.char ≡ true)
     → IfSome o (λ t. leaf_spelling (as_leaf.Punct p) ≡ Some (text_in t))

@@ -1,5 +1,5 @@
 -- A part put behind what was printed: its steps at other places print the same text, and nothing of them is left out.
-use Rattle.std.proofs.Common.{◌≡◌, ℕ, ◌+◌, ◌≤◌, Bool, true, false, not, ◌&&◌, List, [], ◌∷◌, ◌++◌, length, map, refl, sym, ap, ◌∙◌, subst, arith, append_assoc, nat_eq, if◌then◌else◌}
+use Rattle.std.proofs.Common.{◌≡◌, ℕ, ◌+◌, ◌≤◌, Bool, true, false, not, ◌&&◌, List, [], ◌∷◌, ◌++◌, length, map, refl, sym, ap, ◌∙◌, subst, arith, append_assoc, nat_eq, ◌||◌, if◌then◌else◌}
 use Rattle.std.specs.Prelude.{Option, Some, None, codes, is_some}
 use Rattle.std.proofs.lemmas.Bool.Decides.{nat_tests}
 use Rattle.std.proofs.lemmas.List.{append-nil, length-append, length-map}
@@ -8,12 +8,14 @@ use Rattle.tt_data.specs.Walk.{Step, at_leaf, opens, closes, step_with}
 use Rattle.tt_data.specs.declared.leaf.Leaf.TheVariants as as_leaf
 use Rattle.tt_data.specs.declared.span.Span.{Span}
 use Rattle.bridge.specs.declared.edge.Edge.{Edge}
-use Rattle.bridge.specs.Edges.{are_joined, edge_of, gap_between}
-use Rattle.bridge.specs.PartSteps.{PutsBehind, line_behind, part_behind}
-use Rattle.bridge.specs.PrintedParts.{IsPartOf, PartState, PutsPart, ends_last_line, takes_parts}
+use Rattle.bridge.specs.declared.edge.Edge.TheVariants.{Mark, ClosingBrace, Other}
+use Rattle.bridge.specs.Edges.{edge_of, gap_between, gap_outside, has_one_gap, is_comment_or_guard}
+use Rattle.bridge.specs.PartSteps.{PutsBehind, one_gap, part_behind}
+use Rattle.bridge.specs.PrintedParts.{IsPartOf, PartState, PutsPart, has_last_gap, takes_parts}
 use Rattle.bridge.specs.Printers.{Continues, PrinterState, Prints, continued, pending}
 use Rattle.bridge.specs.Printing.{Print, PrintedToken, depth_after, gap, is_visible_step, left_out_from, print_of, printed, spans_of, spelled, step_span, text_from, unspelled, visible}
 use Rattle.bridge.specs.Spelling.{spelling}
+use Rattle.bridge.specs.Text.{char}
 use Rattle.bridge.proofs.SpanLemmas.{printed_text_moved, spelling_moved, visible_moved}
 
 -- ---- steps at other places
@@ -113,7 +115,7 @@ told_moved n m f (x ∷ xs) ys e =
     ∙ told_moved (n + 1) (m + 1) f xs ys first.1.1
     ∙ ap (λ k. left_out_from k ys) place
 
--- ---- the line behind what was printed
+-- ---- what stands behind what was printed
 
 some_text : (depth : ℕ) (a : PrintedToken) (more : List PrintedToken) → 1 ≤ length (text_from depth (a ∷ more))
 some_text depth a [] = omega (arith, length-append a.text (codes "\n"))
@@ -126,12 +128,38 @@ some_more last [] = omega arith
 some_more last (b ∷ more) =
     omega (arith, length-append (gap_between 0 last (edge_of b.step)) (text_from 0 (b ∷ more)), some_text 0 b more)
 
-on_a_line : (last : Option Edge) (tokens : List PrintedToken) → ends_last_line last ≡ true → 1 ≤ length (text_from 0 tokens)
-    → continued 0 last tokens ≡ line_behind last ++ text_from 0 tokens
-on_a_line None tokens ends some = refl
-on_a_line (Some last) [] ends some = absurd (omega (arith, some))
-on_a_line (Some last) (b ∷ more) ends some =
-    ap (λ u. (if u then codes "\n" else if are_joined last (edge_of b.step) then [] else codes " ") ++ text_from 0 (b ∷ more)) ends
+-- behind a mark that ends a line, or is neither joined nor a quote
+mark_gap : (c : ℕ) (joined : Bool) (next : Edge) → has_one_gap (Mark c joined) ≡ true → gap_between 0 (Mark c joined) next ≡ gap_outside (Mark c joined)
+mark_gap c joined next one = by_next next
+  where
+    joins : (semi quote joined marks : Bool) → (semi || (not quote && not joined)) ≡ true
+        → (if semi then codes "\n" else if quote || (joined && marks) then [] else codes " ") ≡ (if semi then codes "\n" else codes " ")
+    joins true quote joined marks h = refl
+    joins false true joined marks h = absurd (cc)
+    joins false false true marks h = absurd (cc)
+    joins false false false marks h = refl
+
+    alone : (semi quote joined : Bool) → (semi || (not quote && not joined)) ≡ true
+        → (if semi then codes "\n" else if quote then [] else codes " ") ≡ (if semi then codes "\n" else codes " ")
+    alone true quote joined h = refl
+    alone false true joined h = absurd (cc)
+    alone false false joined h = refl
+
+    by_next : (next : Edge) → gap_between 0 (Mark c joined) next ≡ gap_outside (Mark c joined)
+    by_next (Mark d other) = joins (nat_eq c (char ";")) (nat_eq c (char "'")) joined (not (nat_eq d (char "'")) && not (is_comment_or_guard c d)) one
+    by_next ClosingBrace = alone (nat_eq c (char ";")) (nat_eq c (char "'")) joined one
+    by_next Other = alone (nat_eq c (char ";")) (nat_eq c (char "'")) joined one
+
+gap_whatever_follows : (last next : Edge) → has_one_gap last ≡ true → gap_between 0 last next ≡ gap_outside last
+gap_whatever_follows (Mark c joined) next one = mark_gap c joined next one
+gap_whatever_follows ClosingBrace next one = refl
+gap_whatever_follows Other next one = refl
+
+behind_the_gap : (last : Option Edge) (tokens : List PrintedToken) → has_last_gap last ≡ true → 1 ≤ length (text_from 0 tokens)
+    → continued 0 last tokens ≡ one_gap last ++ text_from 0 tokens
+behind_the_gap None tokens one some = refl
+behind_the_gap (Some last) [] one some = absurd (omega (arith, some))
+behind_the_gap (Some last) (b ∷ more) one some = ap (λ g. g ++ text_from 0 (b ∷ more)) (gap_whatever_follows last (edge_of b.step) one)
 
 -- ---- a part
 
@@ -163,24 +191,24 @@ part_before p steps more has =
       told = ap (λ k. left_out_from k ys) long ∙ all.left_out ∙ ap (left_out_from 0) same;
     }
 
--- the part's text stands on a line of its own
-part_text : (s : PrinterState) (p : PartState) (f : Span → Span) (xs ys : List Step) → ends_last_line s.last ≡ true → Before p xs ys
-    → ((s.text ++ line_behind s.last) ++ p.text) ++ continued 0 (Some p.last) (printed ys) ≡ s.text ++ continued 0 s.last (printed (map (step_with f) xs ++ ys))
-part_text s p f xs ys ends part =
-    let line = line_behind s.last in
+-- the part's text stands behind the gap
+part_text : (s : PrinterState) (p : PartState) (f : Span → Span) (xs ys : List Step) → has_last_gap s.last ≡ true → Before p xs ys
+    → ((s.text ++ one_gap s.last) ++ p.text) ++ continued 0 (Some p.last) (printed ys) ≡ s.text ++ continued 0 s.last (printed (map (step_with f) xs ++ ys))
+part_text s p f xs ys one part =
+    let between = one_gap s.last in
     let rest = continued 0 (Some p.last) (printed ys) in
     let moved = printed (map (step_with f) xs ++ ys) in
     let own : p.text ++ rest ≡ text_from 0 moved = part.text ∙ sym (same_text f xs ys) in
     let some : 1 ≤ length (text_from 0 moved) = omega (arith, ap length own, length-append p.text rest, some_more p.last (printed ys)) in
-    append_assoc (s.text ++ line) p.text rest
-    ∙ append_assoc s.text line (p.text ++ rest)
-    ∙ ap (λ t. s.text ++ (line ++ t)) own
-    ∙ ap (λ t. s.text ++ t) (sym (on_a_line s.last moved ends some))
+    append_assoc (s.text ++ between) p.text rest
+    ∙ append_assoc s.text between (p.text ++ rest)
+    ∙ ap (λ t. s.text ++ (between ++ t)) own
+    ∙ ap (λ t. s.text ++ t) (sym (behind_the_gap s.last moved one some))
 
 part_prints : (s : PrinterState) (p : PartState) (places : List Span) (f : Span → Span) (xs ys : List Step) (all : Print) → s.depth ≡ 0
-    → ends_last_line s.last ≡ true → places ≡ map f p.tokens → Before p xs ys → Prints s (map (step_with f) xs ++ ys) all
+    → has_last_gap s.last ≡ true → places ≡ map f p.tokens → Before p xs ys → Prints s (map (step_with f) xs ++ ys) all
     → Prints (part_behind s p places) ys all
-part_prints s p places f xs ys all depth ends at part has =
+part_prints s p places f xs ys all depth one at part has =
     let zs = map (step_with f) xs in
     let n = length s.tokens + length s.left_out in
     let moved : places ≡ map step_span zs = at ∙ ap (map f) part.tokens ∙ sym (spans_moved f xs) in
@@ -190,8 +218,8 @@ part_prints s p places f xs ys all depth ends at part has =
     let long : length (s.tokens ++ places) + length s.left_out ≡ n + length xs =
     omega (arith, length-append s.tokens places, ap length moved, length-map zs step_span, length-map xs (step_with f)) in
     record {
-      text = ap (λ d. ((s.text ++ line_behind s.last) ++ p.text) ++ continued d (Some p.last) (printed ys)) depth
-          ∙ part_text s p f xs ys ends part
+      text = ap (λ d. ((s.text ++ one_gap s.last) ++ p.text) ++ continued d (Some p.last) (printed ys)) depth
+          ∙ part_text s p f xs ys one part
           ∙ ap (λ d. s.text ++ continued d s.last (printed (zs ++ ys))) (sym depth) ∙ has.text;
       tokens = append_assoc s.tokens places (spans_of (printed ys))
           ∙ ap (λ l. s.tokens ++ (l ++ spans_of (printed ys))) moved ∙ ap (λ l. s.tokens ++ l) (sym spans) ∙ has.tokens;
@@ -220,13 +248,13 @@ part_put s p places takes = λ before steps f part at has more.
     let ys = visible more in
     let all = print_of (before ++ (moved ++ more)) in
     let same : visible (moved ++ more) ≡ map (step_with f) xs ++ ys = visible-append moved more ∙ ap (λ l. l ++ ys) (visible_moved f steps) in
-    all_three (nat_eq s.depth 0) (no_wait s.waiting) (ends_last_line s.last) takes
-    (λ depth waits ends.
+    all_three (nat_eq s.depth 0) (no_wait s.waiting) (has_last_gap s.last) takes
+    (λ depth waits one.
     let shallow : s.depth ≡ 0 = grind (arith, nat_tests) in
     let alone : s.waiting ≡ None = none s.waiting waits in
     let now : Prints s (map (step_with f) xs ++ ys) all =
     subst (λ l. Prints s l all) same (subst (λ w. Prints s (pending w ++ visible (moved ++ more)) all) alone (has (moved ++ more))) in
-    let later : Prints (part_behind s p places) ys all = part_prints s p places f xs ys all shallow ends at (part_before p steps more part) now in
+    let later : Prints (part_behind s p places) ys all = part_prints s p places f xs ys all shallow one at (part_before p steps more part) now in
     subst (λ l. Continues (part_behind s p places) ys (print_of l)) (sym (append_assoc before moved more))
     (subst (λ w. Prints (part_behind s p places) (pending w ++ ys) all) (sym alone) later))
 

@@ -31,6 +31,12 @@ ends_line (Mark c joined) = nat_eq c (char ";")
 ends_line ClosingBrace = true
 ends_line Other = false
 
+-- the same stands behind it whatever follows, outside all groups: the end of a line, or a space
+abbrev pub has_one_gap : Edge → Bool
+has_one_gap (Mark c joined) = nat_eq c (char ";") || (not (nat_eq c (char "'")) && not joined)
+has_one_gap ClosingBrace = true
+has_one_gap Other = true
+
 -- the two characters begin a comment or a guarded string
 abbrev pub is_comment_or_guard : ℕ → ℕ → Bool
 is_comment_or_guard c d =
@@ -55,3 +61,7 @@ gap_between depth last next =
     if nat_eq depth 0 && ends_line last then codes "\n"
     else if are_joined last next then []
     else codes " "
+
+-- what stands behind a token that has one gap, outside all groups
+abbrev pub gap_outside : Edge → List ℕ
+gap_outside last = if ends_line last then codes "\n" else codes " "

@@ -3,7 +3,7 @@ use Rattle.std.specs.Prelude.{◌≡◌, ℕ, List, [], ◌++◌, Bool, true, fa
 use Rattle.tt_data.specs.Walk.{Step, step_with}
 use Rattle.tt_data.specs.declared.span.Span.{Span}
 use Rattle.bridge.specs.declared.edge.Edge.{Edge}
-use Rattle.bridge.specs.Edges.{ends_line}
+use Rattle.bridge.specs.Edges.{has_one_gap}
 use Rattle.bridge.specs.Printers.{HasPut, PrinterState}
 
 -- what is printed of steps by themselves
@@ -25,14 +25,15 @@ IsPartOf part steps = HasPut (just_part part) steps
 abbrev pub is_part : PrinterState → Bool
 is_part s = nat_eq s.depth 0 && (not (is_some s.waiting) && (nat_eq (length s.left_out) 0 && is_some s.last))
 
--- a line ends behind the token printed last, if there is one
-abbrev pub ends_last_line : Option Edge → Bool
-ends_last_line None = true
-ends_last_line (Some last) = ends_line last
+-- the same stands behind the token printed last, if there is one, whatever follows
+abbrev pub has_last_gap : Option Edge → Bool
+has_last_gap None = true
+has_last_gap (Some last) = has_one_gap last
 
--- whether a part may be put behind: no group is open, no quote waits, and the token printed last ends a line
+-- whether a part may be put behind: no group is open, no quote waits, and what stands behind the token printed last
+-- does not hang on what follows
 abbrev pub takes_parts : PrinterState → Bool
-takes_parts s = nat_eq s.depth 0 && (not (is_some s.waiting) && ends_last_line s.last)
+takes_parts s = nat_eq s.depth 0 && (not (is_some s.waiting) && has_last_gap s.last)
 
 -- the part was put with its tokens at these places; or nothing was done
 abbrev pub PutsPart : PrinterState → PrinterState → PartState → List Span → Bool → Type 0

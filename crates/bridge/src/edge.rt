@@ -1,6 +1,6 @@
 // What stands between two printed tokens.
 ghost use Rattle.std.specs.Prelude.{◌≡◌};
-ghost use Rattle.bridge.specs.Edges.{are_joined, closing_edge, ends_line, gap_between, gap_text, is_comment_or_guard, leaf_edge};
+ghost use Rattle.bridge.specs.Edges.{are_joined, closing_edge, ends_line, gap_between, gap_outside, gap_text, has_one_gap, is_comment_or_guard, leaf_edge};
 
 use tt_data::{DelimiterKind, Leaf, Spacing};
 
@@ -88,4 +88,21 @@ pub(crate) fn gap_between(depth: usize, last: Edge, next: Edge) -> Gap
     } else {
         Gap::Space
     }
+}
+
+/// Whether the same stands behind the token whatever follows, outside all groups.
+pub(crate) fn has_one_gap(edge: Edge) -> bool
+    ensures { result ≡ has_one_gap edge }
+{
+    match edge {
+        Edge::Mark(char, is_joined) => char == ';' || (char != '\'' && !is_joined),
+        Edge::ClosingBrace | Edge::Other => true,
+    }
+}
+
+/// The text of what stands there.
+pub(crate) fn gap_outside(edge: Edge) -> &'static str
+    ensures { result.now ≡ gap_outside edge }
+{
+    if ends_line(edge) { "\n" } else { " " }
 }

@@ -364,16 +364,17 @@ pub(crate) fn nothing(alloc: Global) -> Output
     nothing_in(alloc, String::new(alloc), Places::new(alloc))
 }
 
-/// The same, with room for so many bytes and so many parts.
+/// The same, with room for so many bytes, so many parts, and so many tokens put one by one.
 pub(crate) fn nothing_with_room(
     alloc: Global,
     bytes: usize,
     parts: usize,
+    tokens: usize,
 ) -> Result<Output, AllocError>
     ensures { IfOk result (λ out. state_of out ≡ nothing_put) }
 {
     let text = String::with_capacity(alloc, bytes)?;
-    let tokens = Places::with_room(alloc, parts)?;
+    let tokens = Places::with_room(alloc, parts, tokens)?;
     Ok(nothing_in(alloc, text, tokens))
 }
 

@@ -66,17 +66,14 @@ impl Places {
         }
     }
 
-    /// No place, with room for so many runs of held ones.
-    pub fn with_room(alloc: Global, runs: usize) -> Result<Places, AllocError>
+    /// No place, with room for so many runs of held ones, and for so many others.
+    pub fn with_room(alloc: Global, runs: usize, own: usize) -> Result<Places, AllocError>
         ensures { IfOk result (λ places. places ≡ []) }
     {
         let runs = Vec::with_capacity(alloc, runs)?;
+        let own = Vec::with_capacity(alloc, own)?;
         Ok(Places {
-            parts: Parts {
-                runs,
-                held: 0,
-                own: Vec::new(alloc),
-            },
+            parts: Parts { runs, held: 0, own },
         })
     }
 

@@ -1,8 +1,8 @@
 // Leaves that show how they are spelled: their text needs no lexing.
-ghost use Rattle.std.specs.Prelude.{◌≡◌, ◌↔◌, ◌<◌, ◌^◌, ◌∷◌, [], true, IfSome, IsTrue, Some, length};
+ghost use Rattle.std.specs.Prelude.{◌≡◌, ◌↔◌, ◌<◌, ◌^◌, ◌∷◌, [], true, IfSome, IsTrue, Some, codes, length};
 ghost use Rattle.std.specs.List.{list_all};
 ghost use Rattle.bridge.specs.PlainTexts.{is_mark_char, is_plain_byte};
-ghost use Rattle.bridge.specs.Spelling.{is_text_of, leaf_spelling};
+ghost use Rattle.bridge.specs.Spelling.{is_plain_name, is_text_of, leaf_spelling};
 ghost use Rattle.rustc_lexer.specs.Character.{is_digit};
 ghost use Rattle.tt_data.specs.Displayed.{displayed_leaf};
 ghost use Rattle.tt_data.specs.declared.leaf.Leaf.TheVariants as as_leaf;
@@ -68,6 +68,24 @@ fn name_text(ident: &Ident) -> Option<&str>
     }
 }
 
+/// Whether the name is `$crate`.
+pub(crate) fn is_dollar_crate(ident: &Ident) -> bool
+    ensures { result ≡ is_plain_name (codes "$crate") ident.now }
+{
+    ident.is_raw.no() && ident.sym.as_str() == "$crate"
+}
+
+// How a name is spelled that is an identifier, or `$crate`, which is none.
+fn ident_text(ident: &Ident) -> Option<&str>
+    ensures { IfSome result (λ t. leaf_spelling (as_leaf.Ident ident.now) ≡ Some t.now) }
+{
+    let text = name_text(ident);
+    if text.is_none() && is_dollar_crate(ident) {
+        return Some("crate");
+    }
+    text
+}
+
 // Whether the text has digits alone.
 fn has_digits_alone(text: &str) -> bool
     ensures { IsTrue result → list_all is_digit text.now ≡ true }
@@ -129,7 +147,7 @@ pub(crate) fn plain_text(leaf: &Leaf) -> Option<&str>
     ensures { IfSome result (λ t. leaf_spelling leaf.now ≡ Some t.now) }
 {
     match leaf {
-        Leaf::Ident(ident) => name_text(ident),
+        Leaf::Ident(ident) => ident_text(ident),
         Leaf::Punct(punct) => punct_text(punct),
         Leaf::Literal(literal) => number_text(literal),
     }

@@ -7,7 +7,7 @@ ghost use Rattle.bridge.specs.PartSteps.{PutsBehind, part_behind, text_behind};
 ghost use Rattle.bridge.specs.PrintedParts.{is_part, just_part, takes_parts};
 ghost use Rattle.tt_data.specs.fault.TtFault.TheVariants.{Memory};
 
-use crate::edge::{Edge, ends_line};
+use crate::edge::{Edge, gap_outside, has_one_gap};
 use crate::held_spans::{HeldSpans, Shift};
 use crate::output::Output;
 use std::marker::Model;
@@ -57,27 +57,27 @@ pub(crate) fn takes_parts(out: &Output) -> bool
         return false;
     }
     match out.last {
-        Some(last) => ends_line(last),
+        Some(last) => has_one_gap(last),
         None => true,
     }
 }
 
-// Puts a part's text on a line of its own.
+// Puts a part's text behind what was put.
 fn put_text(out: &mut Output, part: &PrintedPart) -> Result<(), TtFault>
     ensures puts { OnOk result (state_of out.new ≡ text_behind (state_of out.old) part.now) }
     ensures depth { out.new.depth ≡ out.old.depth }
     ensures grows { Grows (state_of out.old) (state_of out.new) }
     ensures memory { IsOkUnless result Memory }
 {
-    if out.last.is_some() {
-        out.text.push('\n')?;
+    if let Some(last) = out.last {
+        out.text.push_str(gap_outside(last))?;
     }
     out.text.push_str(part.text.as_str())?;
     out.last = Some(part.last);
     Ok(())
 }
 
-/// Puts a part on a line of its own, with its tokens at these places.
+/// Puts a part behind what was put, with its tokens at these places.
 pub(crate) fn put_behind(
     out: &mut Output,
     part: &PrintedPart,
@@ -94,7 +94,7 @@ pub(crate) fn put_behind(
     Ok(())
 }
 
-/// Puts a part on a line of its own, with its tokens at their own places, shifted: `false`, and nothing is done, where
+/// Puts a part behind what was put, with its tokens at their own places, shifted: `false`, and nothing is done, where
 /// they do not fit.
 pub(crate) fn put_shifted(
     out: &mut Output,
@@ -116,7 +116,7 @@ pub(crate) fn put_shifted(
     }
 }
 
-/// What was put, as a part, where it is one.
+/// What was put, as a part, where it is one. Room of its text that isn't used is given back.
 pub(crate) fn as_part(out: Output) -> Result<Option<PrintedPart>, TtFault>
     ensures part { IfOk result (λ o. IfSome o (λ part. state_of out ≡ just_part part)) }
     ensures told { IfOk result (λ o. is_some o ≡ is_part (state_of out)) }
@@ -129,16 +129,14 @@ pub(crate) fn as_part(out: Output) -> Result<Option<PrintedPart>, TtFault>
         return Ok(None);
     };
     let alloc = *out.left_out.allocator();
+    let mut text = out.text;
+    text.shrink_to_fit();
     let mut tokens = out.tokens;
     let Ok(spans) = tokens.take_spans() else {
         return Err(TtFault::Memory);
     };
     match Rc::new(alloc, HeldSpans::new(spans)) {
-        Ok(tokens) => Ok(Some(PrintedPart {
-            text: out.text,
-            tokens,
-            last,
-        })),
+        Ok(tokens) => Ok(Some(PrintedPart { text, tokens, last })),
         Err(_) => Err(TtFault::Memory),
     }
 }

@@ -80,7 +80,19 @@ impl Printer {
     pub fn with_room(alloc: Global, bytes: usize, parts: usize) -> Result<Printer, AllocError>
         ensures { IfOk result (λ printer. HasPut printer []) }
     {
-        let out = nothing_with_room(alloc, bytes, parts)?;
+        let out = nothing_with_room(alloc, bytes, parts, 0)?;
+        Ok(Printer { out })
+    }
+
+    /// The same, with room for a text of so many bytes, and for so many tokens put one by one.
+    pub fn with_token_room(
+        alloc: Global,
+        bytes: usize,
+        tokens: usize,
+    ) -> Result<Printer, AllocError>
+        ensures { IfOk result (λ printer. HasPut printer []) }
+    {
+        let out = nothing_with_room(alloc, bytes, 0, tokens)?;
         Ok(Printer { out })
     }
 
@@ -119,7 +131,8 @@ impl Printer {
     }
 
     /// Puts a part behind what was put before, with its tokens at these places, as its steps would be put; `false`,
-    /// and nothing is done, where a group is open, a quote waits, or the token printed last ends no line.
+    /// and nothing is done, where a group is open, a quote waits, or what stands behind the token printed last hangs
+    /// on what follows, as behind a punct that isn't `Alone` and ends no line.
     pub fn put_part(&mut self, part: &PrintedPart, places: &[Span]) -> Result<bool, TtFault>
         ensures puts { IfOk result (PutsPart self.old self.new part.now places.now) }
         ensures told { IfOk result (λ done. done ≡ takes_parts self.old) }

@@ -1,8 +1,8 @@
 // How a leaf is spelled: by its displayed text, where that is one token that is read as the leaf.
-ghost use Rattle.std.specs.Prelude.{◌≡◌, ◌<◌, ◌^◌, List, [], ◌∷◌, Some, None, chars, length, codes, IfOk, IsOkUnless, option_map, string_bytes, if◌then◌else◌};
+ghost use Rattle.std.specs.Prelude.{◌≡◌, ◌<◌, ◌^◌, List, [], ◌∷◌, Some, None, chars, length, IfOk, IsOkUnless, option_map, string_bytes, if◌then◌else◌};
 ghost use Rattle.bridge.specs.ReadSteps.{MayCut};
 ghost use Rattle.bridge.specs.Reading.{PlacedToken};
-ghost use Rattle.bridge.specs.Spelling.{is_plain_name, is_text_of, is_that_leaf, leaf_spelling, same_form, same_leaf, same_rawness};
+ghost use Rattle.bridge.specs.Spelling.{is_text_of, is_that_leaf, leaf_spelling, same_form, same_leaf, same_rawness};
 ghost use Rattle.bridge.specs.TokenSteps.{steps_of_sort};
 ghost use Rattle.rustc_lexer.specs.Lexing.{tokens_of};
 ghost use Rattle.tt.specs.TokenLiterals.{IsLiteralToken, literal_in};
@@ -13,12 +13,12 @@ ghost use Rattle.tt_data.specs.declared.span.Span.{Span};
 ghost use Rattle.std.specs.Str.{IsCharBoundary};
 
 use crate::leaves::name_in;
-use crate::plain::is_plain_string;
+use crate::plain::{is_dollar_crate, is_plain_string};
 use crate::sort::{Sort, sort_of};
 use rustc_lexer::{FrontmatterAllowed, Token, tokenize};
 use std::alloc::Global;
 use tt::literal_parts;
-use tt_data::{Ident, IdentIsRaw, Leaf, LitKind, Literal, Symbol, TtFault};
+use tt_data::{IdentIsRaw, Leaf, LitKind, Literal, TtFault};
 
 // Whether two literals are of one form. What is no literal has none.
 fn are_of_one_form(first: LitKind, second: LitKind) -> bool
@@ -137,13 +137,6 @@ fn own_text(alloc: Global, leaf: &Leaf) -> Result<Option<String>, TtFault>
     }
 }
 
-// Whether the name is `$crate`.
-fn is_dollar_crate(ident: &Ident) -> bool
-    ensures { result ≡ is_plain_name (codes "$crate") ident.now }
-{
-    ident.is_raw.no() && ident.sym.as_str() == "$crate"
-}
-
 /// The text that the leaf is spelled by, where it has one: `$crate` is spelled `crate`. `Memory` is
 /// the only error.
 pub(crate) fn leaf_spelling(alloc: Global, leaf: &Leaf) -> Result<Option<String>, TtFault>
@@ -151,12 +144,7 @@ pub(crate) fn leaf_spelling(alloc: Global, leaf: &Leaf) -> Result<Option<String>
     ensures memory { IsOkUnless result Memory }
 {
     match leaf {
-        Leaf::Ident(ident) if is_dollar_crate(ident) => {
-            let sym = Symbol::new(alloc, "crate")?;
-            let span = ident.span;
-            let is_raw = ident.is_raw;
-            own_text(alloc, &Leaf::Ident(Ident { sym, span, is_raw }))
-        }
+        Leaf::Ident(ident) if is_dollar_crate(ident) => Ok(Some(String::from_str(alloc, "crate")?)),
         _ => own_text(alloc, leaf),
     }
 }

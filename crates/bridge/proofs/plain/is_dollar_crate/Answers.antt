@@ -1,5 +1,5 @@
 use Rattle.std.proofs.Common.{rules}
-use Rattle.bridge.proofs.spelling.is_dollar_crate.Goals as goal
+use Rattle.bridge.proofs.plain.is_dollar_crate.Goals as goal
 
 pub returns-then-no : goal.returns-then-no
 returns-then-no c = search rules
