@@ -116,7 +116,7 @@ pub(crate) fn put_shifted(
     }
 }
 
-/// What was put, as a part, where it is one. Room of its text that isn't used is given back.
+/// What was put, as a part, where it is one. Room of its text and its places that is not used is given back.
 pub(crate) fn as_part(out: Output) -> Result<Option<PrintedPart>, TtFault>
     ensures part { IfOk result (λ o. IfSome o (λ part. state_of out ≡ just_part part)) }
     ensures told { IfOk result (λ o. is_some o ≡ is_part (state_of out)) }
@@ -132,9 +132,10 @@ pub(crate) fn as_part(out: Output) -> Result<Option<PrintedPart>, TtFault>
     let mut text = out.text;
     text.shrink_to_fit();
     let mut tokens = out.tokens;
-    let Ok(spans) = tokens.take_spans() else {
+    let Ok(mut spans) = tokens.take_spans() else {
         return Err(TtFault::Memory);
     };
+    spans.shrink_to_fit();
     match Rc::new(alloc, HeldSpans::new(spans)) {
         Ok(tokens) => Ok(Some(PrintedPart { text, tokens, last })),
         Err(_) => Err(TtFault::Memory),

@@ -38,14 +38,19 @@ struct OwnPrint {
     words: Vec<Span>,
 }
 
-// No step so far.
-fn nothing_printed(alloc: Global) -> OwnPrint
-    ensures { HasPrinted result [] }
+// About how many bytes a token takes with what stands before it.
+const TOKEN: usize = 6;
+
+// No step so far, with room for so many.
+fn nothing_printed(alloc: Global, count: usize) -> Result<OwnPrint, AllocError>
+    ensures { IfOk result (λ own. HasPrinted own []) }
 {
-    OwnPrint {
-        printer: Printer::new(alloc),
+    let bytes = count.saturating_mul(TOKEN);
+    let printer = Printer::with_token_room(alloc, bytes, count)?;
+    Ok(OwnPrint {
+        printer,
         words: Vec::new(alloc),
-    }
+    })
 }
 
 // Adds where a step is told that is a word that begins a definition.
@@ -81,7 +86,9 @@ fn print_step(
 fn print_tree(alloc: Global, tree: &TopSubtree) -> Result<OwnPrint, AllocError>
     ensures { IfOk result (λ own. HasPrinted own (placed None (walk tree.now.inner))) }
 {
-    let mut own = nothing_printed(alloc);
+    // a group is one token of the tree, and two brackets
+    let count = tree.token_trees().len();
+    let mut own = nothing_printed(alloc, count.saturating_add(count / 2))?;
     let mut rest = Walk::new(alloc, &tree.iter());
     while let Some(step) = rest.next()? {
         print_step(&mut own, &step, None)?;
@@ -93,7 +100,7 @@ fn print_tree(alloc: Global, tree: &TopSubtree) -> Result<OwnPrint, AllocError>
 fn print_steps(alloc: Global, steps: &[OwnStep]) -> Result<OwnPrint, AllocError>
     ensures { IfOk result (λ own. HasPrinted own (map placed_of steps.now)) }
 {
-    let mut own = nothing_printed(alloc);
+    let mut own = nothing_printed(alloc, steps.len())?;
     for step in steps {
         print_step(&mut own, &lent(&step.kind), step.outer)?;
     }

@@ -11,8 +11,8 @@ ghost use Rattle.expander.specs.Outcomes.{placed_of, steps_for};
 ghost use Rattle.expander.specs.Placing.{base_at, range_from, resolved_by, resolved_faults, resolved_steps, told_if_broken};
 
 use crate::faults::{Fault, FaultKind};
-use crate::numbered::Known;
 use crate::held_part::HeldPart;
+use crate::numbered::Known;
 use crate::outcome::{OwnStep, lent};
 use crate::output::{PlacedSteps, push_step, put_part, put_part_at};
 use crate::starts::Starts;

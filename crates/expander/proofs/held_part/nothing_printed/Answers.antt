@@ -2,4 +2,4 @@ use Rattle.std.proofs.Common.{rules}
 use Rattle.expander.proofs.held_part.nothing_printed.Goals as goal
 
 pub returns : goal.returns
-returns c = record { printer = c.new.ensures; words = search rules }
+returns c = record { printer = c.in_ok-printer.ensures; words = search rules }
