@@ -18,7 +18,7 @@ use Rattle.bridge.specs.Spelling.{spelling}
 use Rattle.expander.specs.Changes.{placed_with}
 use Rattle.expander.specs.Expansion.{PlacedStep}
 use Rattle.expander.specs.Faults.{place, fault_at, is_definition_word, unspellable}
-use Rattle.expander.specs.HeldParts.{HasPrinted, IsHeldPart, PrintsOn, PutsHeld, PutsPart, word_places}
+use Rattle.expander.specs.HeldParts.{HasPrinted, PrintsOn, PutsHeld, PutsPart, word_places}
 use Rattle.expander.specs.Outcomes.{placed_of}
 use Rattle.expander.specs.OutputSteps.{PutsOut, faults_at, numbers_left_out, told_from, words_told}
 use Rattle.expander.specs.Held.{moved_on}

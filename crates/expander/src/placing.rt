@@ -5,6 +5,7 @@ ghost use Rattle.tt_data.specs.Spans.{leaf_with, span_of};
 ghost use Rattle.tt_data.specs.Walk.{at_leaf, step_with, walk};
 ghost use Rattle.tt_data.specs.declared.span.Span.{Span};
 ghost use Rattle.expander.specs.Expansion.{placed};
+ghost use Rattle.expander.specs.Held.{moved_on};
 ghost use Rattle.expander.specs.HeldParts.{PutsHeld};
 ghost use Rattle.expander.specs.OutputSteps.{PutsOut};
 ghost use Rattle.expander.specs.Outcomes.{placed_of, steps_for};
@@ -42,16 +43,22 @@ fn range_from(base: u32, range: TextRange) -> Option<TextRange>
     Some(TextRange { start, end })
 }
 
-// A span of a piece that starts here, as a span of the text: none where that is past `u32::MAX`, as in no text.
-fn resolved(start: u32, starts: &Starts, span: Span) -> Option<Span>
-    ensures { IfSome result (λ s. s ≡ resolved_by start starts.now span) }
+// A span of a piece whose places count from here, as a span of the text: none where that is past `u32::MAX`, as in no text.
+fn resolved_from(base: u32, span: Span) -> Option<Span>
+    ensures { IfSome result (λ s. s ≡ moved_on base span) }
 {
-    let base = base_at(start, starts, span.anchor);
     Some(Span {
         range: range_from(base, span.range)?,
         anchor: 0,
         ctx: span.ctx,
     })
+}
+
+// A span of a piece that starts here, as a span of the text: none where that is past `u32::MAX`, as in no text.
+fn resolved(start: u32, starts: &Starts, span: Span) -> Option<Span>
+    ensures { IfSome result (λ s. s ≡ resolved_by start starts.now span) }
+{
+    resolved_from(base_at(start, starts, span.anchor), span)
 }
 
 // The same where there is one.
@@ -182,6 +189,26 @@ pub(crate) fn put_steps(
     }
 }
 
+// Where the places of the anchor that was met last count from.
+#[derive(Clone, Copy)]
+struct Base {
+    anchor: u32,
+    place: u32,
+}
+
+// The same of this anchor, which is looked up where it is another.
+fn base_behind(last: Base, start: u32, starts: &Starts, anchor: u32) -> Base
+    requires { last.place ≡ base_at start starts.now last.anchor }
+    ensures place { result.place ≡ base_at start starts.now anchor }
+    ensures anchor { result.anchor ≡ anchor }
+{
+    if anchor == last.anchor {
+        return last;
+    }
+    let place = base_at(start, starts, anchor);
+    Base { anchor, place }
+}
+
 // Spans of a piece, as spans of the text.
 fn resolved_all(
     alloc: Global,
@@ -192,8 +219,13 @@ fn resolved_all(
     ensures { IfOk result (λ all. all.items ≡ map (resolved_by start starts.now) own.now) }
 {
     let mut all = Vec::with_capacity(alloc, own.len())?;
+    let mut base = Base {
+        anchor: 0,
+        place: start,
+    };
     for span in own {
-        let Some(span) = resolved(start, starts, *span) else {
+        base = base_behind(base, start, starts, span.anchor);
+        let Some(span) = resolved_from(base.place, *span) else {
             return Err(AllocError);
         };
         all.push(span)?;
