@@ -35,37 +35,54 @@ fn put(printer: &mut Printer, part: &PrintedPart) -> Result<bool, TtFault> {
 }
 
 #[test]
-fn puts_parts_on_lines_of_their_own(rt: HostRuntime) -> Result<(), Fail> {
+fn puts_parts_behind_one_another(rt: HostRuntime) -> Result<(), Fail> {
     let line = part_of(&rt, "a;")?;
     let item = part_of(&rt, "f {b;}")?;
     let word = part_of(&rt, "c")?;
     assert!(rt; line.spans().len() == 2 && item.spans().len() == 5 && word.spans().len() == 1);
-    let mut printer = Printer::new(rt.alloc());
+    let mut printer = Printer::with_token_room(rt.alloc(), 24, 8)?;
     assert!(rt;
         put(&mut printer, &line)? && put(&mut printer, &item)? && put(&mut printer, &word)?
     );
-    assert!(rt; !put(&mut printer, &line)?, "no line ends behind a name");
+    assert!(rt; put(&mut printer, &line)?, "a space stands behind a name");
     let Ok(printed) = printer.finish() else {
         return Err(Fail::new("no memory"));
     };
     assert!(rt;
-        printed.text.as_str() == "a ;\nf { b ; }\nc\n",
+        printed.text.as_str() == "a ;\nf { b ; }\nc a ;\n",
         "{:?}",
         printed.text
     );
-    assert!(rt; printed.tokens.len() == 8 && printed.left_out.is_empty());
+    assert!(rt; printed.tokens.len() == 10 && printed.left_out.is_empty());
+    Ok(())
+}
+
+// Puts a punct that is joined to what follows.
+fn put_joined(printer: &mut Printer, char: char) -> Result<(), TtFault> {
+    let spacing = Spacing::Joint;
+    let span = Span::default();
+    let punct = Leaf::Punct(Punct {
+        char,
+        spacing,
+        span,
+    });
+    printer.put_step(&WalkStep::Leaf(&punct))
+}
+
+#[test]
+fn no_part_is_put_behind_a_joined_punct(rt: HostRuntime) -> Result<(), Fail> {
+    let mut printer = printer_of(&rt, "a")?;
+    put_joined(&mut printer, '<')?;
+    let line = part_of(&rt, "b;")?;
+    assert!(rt; !put(&mut printer, &line)?, "what follows may be joined");
+    assert!(rt; printer.into_part()?.is_some());
     Ok(())
 }
 
 #[test]
 fn a_quote_at_the_end_is_no_part(rt: HostRuntime) -> Result<(), Fail> {
     let mut printer = printer_of(&rt, "a;")?;
-    let quote = Leaf::Punct(Punct {
-        char: '\'',
-        spacing: Spacing::Joint,
-        span: Span::default(),
-    });
-    printer.put_step(&WalkStep::Leaf(&quote))?;
+    put_joined(&mut printer, '\'')?;
     let line = part_of(&rt, "b;")?;
     assert!(rt; !put(&mut printer, &line)?, "a quote waits");
     assert!(rt; printer.into_part()?.is_none());
