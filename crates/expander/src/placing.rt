@@ -268,6 +268,25 @@ fn put_printed(
     put_part(steps, &part.printed, spans.as_slice(), words)
 }
 
+// Puts out what a piece prints by itself, its words told at these places: `false`, and nothing is done, where it can't be put at
+// once.
+fn put_told(
+    alloc: Global,
+    steps: &mut PlacedSteps,
+    start: u32,
+    starts: &Starts,
+    part: &HeldPart,
+    words: &[Span],
+) -> Result<bool, AllocError>
+    requires { words.now ≡ map (resolved_by start starts.now) part.now.words.items }
+    ensures { IfOk result (PutsHeld steps.old steps.new part.now start starts.now) }
+{
+    if put_shifted(steps, start, starts, part, words)? {
+        return Ok(true);
+    }
+    put_printed(alloc, steps, start, starts, part, words)
+}
+
 /// Puts out what a piece prints by itself: `false`, and nothing is done, where it can't be put at once.
 pub(crate) fn put_held(
     alloc: Global,
@@ -278,11 +297,12 @@ pub(crate) fn put_held(
 ) -> Result<bool, AllocError>
     ensures { IfOk result (PutsHeld steps.old steps.new part.now start starts.now) }
 {
-    let words = resolved_all(alloc, start, starts, part.words.as_slice())?;
-    if put_shifted(steps, start, starts, part, words.as_slice())? {
-        return Ok(true);
+    let words = part.words.as_slice();
+    if words.is_empty() {
+        return put_told(alloc, steps, start, starts, part, words);
     }
-    put_printed(alloc, steps, start, starts, part, words.as_slice())
+    let words = resolved_all(alloc, start, starts, words)?;
+    put_told(alloc, steps, start, starts, part, words.as_slice())
 }
 
 // Adds a fault of a piece, at its place in the text.
