@@ -45,24 +45,6 @@ word_places-append xs ys =
     ∙ ap (map place) (filter-append is_word (visible xs) (visible ys))
     ∙ map-append place (filter is_word (visible xs)) (filter is_word (visible ys))
 
--- a step that is such a word, and another
-pub one_word : (s : PlacedStep) → is_definition_word s.step ≡ true → word_places (s ∷ []) ≡ place s ∷ []
-one_word s e =
-    ap (λ (b : Bool). map place (filter (λ s. is_definition_word s.step) (if b then s ∷ [] else []))) (is_seen s.step e)
-    ∙ ap (λ (b : Bool). map place (if b then s ∷ [] else [])) e
-  where
-    is_seen : (x : Step) → is_definition_word x ≡ true → is_visible_step x ≡ true
-    is_seen (at_leaf l) e = refl
-    is_seen (opens kind span) e = cc
-    is_seen (closes kind span) e = cc
-
-pub no_word : (s : PlacedStep) → is_definition_word s.step ≡ false → word_places (s ∷ []) ≡ []
-no_word s e = go (is_visible_step s.step)
-  where
-    go : (b : Bool) → map place (filter (λ s. is_definition_word s.step) (if b then s ∷ [] else [])) ≡ []
-    go true = ap (λ (b : Bool). map place (if b then s ∷ [] else [])) e
-    go false = refl
-
 -- what is told of elements, one behind the other
 pub mapped_more : {X Y : Type 0} (F : X → Y) (xs : List X) (i : ℕ) (d : X) (old before after : List Y) → i < length xs
     → after ≡ before ++ F (get_or xs i d) ∷ [] → before ++ map F (drop i xs) ≡ old ++ map F xs → after ++ map F (drop (i + 1) xs) ≡ old ++ map F xs

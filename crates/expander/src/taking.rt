@@ -307,7 +307,7 @@ fn put_anew<G: FragmentGrammar>(
     Ok(())
 }
 
-// The steps of a piece are put out: at once where it is held what they print by themselves, and that can be put here.
+// The steps of a piece are put out: at once where what they print by themselves is held and can be put here.
 fn put_output<G: FragmentGrammar>(
     alloc: Global,
     grammar: &G,
