@@ -47,3 +47,4 @@ mod WordLemmas
 mod FrontRowLemmas
 mod StartLemmas
 mod PlainLemmas
+mod HeldLemmas

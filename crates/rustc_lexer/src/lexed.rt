@@ -3,6 +3,7 @@ ghost use Rattle.std.specs.Prelude.{◌≡◌, ◌+◌, ◌-◌, ◌<◌, ◌≤
 ghost use Rattle.rustc_lexer.specs.Edit.{edited, kept};
 ghost use Rattle.rustc_lexer.specs.Lexing.{tokens_of};
 
+use crate::held::HeldTokens;
 use crate::marks::{Mark, move_marks, refine};
 use crate::mend::mend;
 use crate::token::{FrontmatterAllowed, Token};
@@ -25,7 +26,7 @@ pub struct Kept {
 #[derive(Drop)]
 pub struct LexedText {
     text: String,
-    tokens: Vec<Token>,
+    tokens: HeldTokens,
     marks: Vec<Mark>,
 }
 
@@ -39,8 +40,8 @@ impl Model for LexedText {
 
     ghost view = { λ t. string_bytes t.text };
 
-    ghost invariant = { λ t. (length (string_bytes t.text) < 2 ^ 32) × (t.tokens.items ≡ tokens_of (chars (string_bytes t.text)))
-        × All (IsMark t.tokens.items) t.marks.items };
+    ghost invariant = { λ t. (length (string_bytes t.text) < 2 ^ 32) × (t.tokens ≡ tokens_of (chars (string_bytes t.text)))
+        × All (IsMark t.tokens) t.marks.items };
 }
 
 impl LexedText {
@@ -50,6 +51,7 @@ impl LexedText {
         ensures { IfOk result (λ t. t ≡ text.now) }
     {
         let tokens = tokenize(text, FrontmatterAllowed::No).collect(alloc)?;
+        let tokens = HeldTokens::new(tokens);
         let text = String::from_str(alloc, text)?;
         let marks = Vec::new(alloc);
         Ok(LexedText {
@@ -104,8 +106,9 @@ impl LexedText {
         ensures err { OnErr result (self.new ≡ self.old) }
     {
         let alloc = *self.text.allocator();
-        let held = self.tokens.len();
-        let near = refine(&self.text, &mut self.marks, &self.tokens, start)?;
+        let tokens = &self.tokens;
+        let held = tokens.as_slice().len();
+        let near = refine(&self.text, &mut self.marks, tokens.as_slice(), start)?;
         let mended = mend(
             alloc,
             &mut self.text,

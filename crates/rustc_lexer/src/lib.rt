@@ -13,6 +13,7 @@ mod character;
 mod clear;
 mod comment;
 mod cursor;
+mod held;
 pub mod laws;
 mod lexed;
 mod lexeme;

@@ -7,6 +7,7 @@ ghost use Rattle.rustc_lexer.specs.Mending.{IsBegun, IsChanged, IsMark, IsMended
 ghost use Rattle.rustc_lexer.specs.Remaining.{tokens_left};
 
 use crate::clear::is_clear;
+use crate::held::HeldTokens;
 use crate::marks::{Mark, Mended, first_from};
 use crate::token::{FrontmatterAllowed, Token};
 use crate::tokenize;
@@ -84,29 +85,13 @@ fn relex(
     Ok((fresh, met, place))
 }
 
-// Puts the tokens in the place of those from `start` to `stop`.
-fn put_in(
-    tokens: &mut Vec<Token>,
-    start: usize,
-    stop: usize,
-    fresh: Vec<Token>,
-) -> Result<(), AllocError>
-    requires order { start ≤ stop }
-    requires within { stop ≤ length tokens.old.items }
-    ensures tokens { OnOk result (tokens.new.items ≡ splice tokens.old.items start stop fresh.items) }
-    ensures err { OnErr result (tokens.new.items ≡ tokens.old.items) }
-{
-    tokens.splice(start..stop, fresh)?;
-    Ok(())
-}
-
 // Lexes the text from the front on, up to the first boundary that is one of the old tokens' too, of which the one behind `stop`
 // tokens is at `to`; and puts these tokens in the place of the old ones up to this boundary. The boundary among the new tokens,
 // and how many old ones are in front of it.
 fn relex_into(
     alloc: Global,
     text: &str,
-    tokens: &mut Vec<Token>,
+    tokens: &mut HeldTokens,
     front: Mark,
     stop: usize,
     to: usize,
@@ -114,16 +99,16 @@ fn relex_into(
     requires small { length text.now < 2 ^ 32 }
     requires at { IsCharBoundary text.now front.place }
     requires order { front.tokens ≤ stop }
-    requires within { stop ≤ length tokens.old.items }
-    requires same_end { length text.now ≡ to + total (drop stop tokens.old.items) }
-    ensures relexed { IfOk result (λ r. IsRelexed text.now tokens.old.items tokens.new.items front.tokens front.place stop to r.1 r.0) }
-    ensures err { OnErr result (tokens.new.items ≡ tokens.old.items) }
+    requires within { stop ≤ length tokens.old }
+    requires same_end { length text.now ≡ to + total (drop stop tokens.old) }
+    ensures relexed { IfOk result (λ r. IsRelexed text.now tokens.old tokens.new front.tokens front.place stop to r.1 r.0) }
+    ensures err { OnErr result (tokens.new ≡ tokens.old) }
 {
     let (fresh, met, place) = relex(
         alloc,
         &text[front.place..],
         front.place,
-        &tokens[stop..],
+        &tokens.as_slice()[stop..],
         to,
     )?;
     let new = Mark {
@@ -131,7 +116,7 @@ fn relex_into(
         place,
     };
     let behind = stop + met;
-    put_in(tokens, front.tokens, behind, fresh)?;
+    tokens.replace(front.tokens, behind, fresh)?;
     Ok((new, behind))
 }
 
@@ -226,20 +211,20 @@ fn put_back(text: &mut String, start: usize, stop: usize, gone: &str)
 fn mend_tokens(
     alloc: Global,
     text: &str,
-    tokens: &mut Vec<Token>,
+    tokens: &mut HeldTokens,
     found: Found,
     stop: usize,
     end: usize,
 ) -> Result<Mended, AllocError>
     requires small { length text.now < 2 ^ 32 }
-    requires changed { IsChanged text.now tokens.old.items found.front.tokens found.front.place found.passed found.boundary stop «end» }
-    ensures tokens { OnOk result (tokens.new.items ≡ tokens_of (chars text.now)) }
-    ensures mended { IfOk result (IsMended tokens.old.items tokens.new.items) }
+    requires changed { IsChanged text.now tokens.old found.front.tokens found.front.place found.passed found.boundary stop «end» }
+    ensures tokens { OnOk result (tokens.new ≡ tokens_of (chars text.now)) }
+    ensures mended { IfOk result (IsMended tokens.old tokens.new) }
     ensures kept { IfOk result (λ m.
-        (w : IsChanged text.now tokens.old.items found.front.tokens found.front.place found.passed found.boundary stop «end») →
+        (w : IsChanged text.now tokens.old found.front.tokens found.front.place found.passed found.boundary stop «end») →
         kept w.old w.start stop w.replacement
-        ≡ record { front = m.front.tokens; lexed = m.new.tokens - m.front.tokens; back = length tokens.old.items - m.old.tokens }) }
-    ensures err { OnErr result (tokens.new.items ≡ tokens.old.items) }
+        ≡ record { front = m.front.tokens; lexed = m.new.tokens - m.front.tokens; back = length tokens.old - m.old.tokens }) }
+    ensures err { OnErr result (tokens.new ≡ tokens.old) }
 {
     let Found {
         front,
@@ -260,14 +245,14 @@ fn mend_tokens(
 pub fn mend(
     alloc: Global,
     text: &mut String,
-    tokens: &mut Vec<Token>,
+    tokens: &mut HeldTokens,
     near: Mark,
     start: usize,
     stop: usize,
     replacement: &str,
 ) -> Result<Mended, AllocError>
-    requires tokens { tokens.old.items ≡ tokens_of (chars (string_bytes text.old)) }
-    requires near { IsMark tokens.old.items near }
+    requires tokens { tokens.old ≡ tokens_of (chars (string_bytes text.old)) }
+    requires near { IsMark tokens.old near }
     requires clear { 0 < near.tokens → is_clear_of (string_bytes text.old) start near.place ≡ true }
     requires start { IsCharBoundary (string_bytes text.old) start }
     requires stop { IsCharBoundary (string_bytes text.old) stop }
@@ -275,14 +260,14 @@ pub fn mend(
     requires small { length (string_bytes text.old) < 2 ^ 32 }
     requires fits { length (string_bytes text.old) - (stop - start) + length replacement.now < 2 ^ 32 }
     ensures text { OnOk result (string_bytes text.new ≡ edited (string_bytes text.old) start stop replacement.now) }
-    ensures tokens { OnOk result (tokens.new.items ≡ tokens_of (chars (string_bytes text.new))) }
-    ensures mended { IfOk result (IsMended tokens.old.items tokens.new.items) }
+    ensures tokens { OnOk result (tokens.new ≡ tokens_of (chars (string_bytes text.new))) }
+    ensures mended { IfOk result (IsMended tokens.old tokens.new) }
     ensures kept { IfOk result (λ m. kept (string_bytes text.old) start stop replacement.now
-        ≡ record { front = m.front.tokens; lexed = m.new.tokens - m.front.tokens; back = length tokens.old.items - m.old.tokens }) }
+        ≡ record { front = m.front.tokens; lexed = m.new.tokens - m.front.tokens; back = length tokens.old - m.old.tokens }) }
     ensures err { OnErr result (string_bytes text.new ≡ string_bytes text.old) }
-    ensures err_tokens { OnErr result (tokens.new.items ≡ tokens.old.items) }
+    ensures err_tokens { OnErr result (tokens.new ≡ tokens.old) }
 {
-    let found = find(text, tokens, near, start, stop);
+    let found = find(text, tokens.as_slice(), near, start, stop);
     let gone = replace(alloc, text, start, stop, replacement)?;
     let end = start + replacement.len();
     match mend_tokens(alloc, text, tokens, found, stop, end) {

@@ -4,13 +4,13 @@ use Rattle.rustc_lexer.proofs.mend.mend.Goals as goal
 
 pub mend_tokens-requires-clause-changed : goal.mend_tokens-requires-clause-changed
 mend_tokens-requires-clause-changed c =
-    changed _ _ _ _ _ _ _ _ _ _ _ _ _ c.deref.utf8 c.deref.ensures c.deref-3.ensures c.deref-2.ensures.value
+    changed _ _ _ _ _ _ _ _ _ _ _ _ _ c.deref.utf8 c.deref.ensures c.deref-2.ensures c.as_slice.ensures
     c.requires.start c.requires.stop c.requires.order c.requires.small c.in_ok-gone.ensures.text c.requires.tokens c.find-found.ensures.begun c.find-found.ensures.scan
 
 pub returns-in-Ok-clause-kept : goal.returns-in-Ok-clause-kept
 unfolding changed
 returns-in-Ok-clause-kept c =
-    c.in-Ok.ensures.kept (changed _ _ _ _ _ _ _ _ _ _ _ _ _ c.deref.utf8 c.deref.ensures c.deref-3.ensures c.deref-2.ensures.value
+    c.in-Ok.ensures.kept (changed _ _ _ _ _ _ _ _ _ _ _ _ _ c.deref.utf8 c.deref.ensures c.deref-2.ensures c.as_slice.ensures
     c.requires.start c.requires.stop c.requires.order c.requires.small c.in_ok-gone.ensures.text c.requires.tokens c.find-found.ensures.begun c.find-found.ensures.scan)
 
 pub put_back-requires-clause-start : goal.put_back-requires-clause-start

@@ -1,6 +1,16 @@
-use Rattle.std.proofs.Common.{arith}
+use Rattle.std.proofs.Common.{refl, ◌+◌, arith}
+use Rattle.std.proofs.lemmas.List.{length-drop}
+use Rattle.rustc_lexer.proofs.MarkLemmas.{text_mark_fits}
 use Rattle.rustc_lexer.proofs.SplicedLemmas.{front_boundary, same_length, changed_tokens, changed_counts, changed_marks, changed_fits}
 use Rattle.rustc_lexer.proofs.mend.mend_tokens.Goals as goal
+
+pub overflow_add-front : goal.overflow_add-front
+overflow_add-front c =
+    let w = c.requires.changed in
+    let k = c.args.found.front.tokens in
+    let many = length-drop k c.args.tokens.now in
+    let mark = text_mark_fits w.old c.args.tokens.now (record { tokens = k + c.args.found.passed; place = _ }) w.utf8 w.small w.tokens (omega (arith, many, w.begun.within, w.scan.within), refl) in
+    omega (arith, mark.0)
 
 pub relex_into-requires-clause-at : goal.relex_into-requires-clause-at
 relex_into-requires-clause-at c = front_boundary _ _ _ _ _ _ _ _ c.utf8.text c.requires.changed
