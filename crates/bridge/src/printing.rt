@@ -130,9 +130,16 @@ impl Printer {
         }
     }
 
+    /// Whether a part may be put behind what was put: no group is open, no quote waits, and what stands behind the
+    /// token printed last does not hang on what follows, as it does behind a punct that isn't `Alone` and ends no line.
+    pub fn takes_parts(&self) -> bool
+        ensures { result ≡ takes_parts self.now }
+    {
+        takes_parts(&self.out)
+    }
+
     /// Puts a part behind what was put before, with its tokens at these places, as its steps would be put; `false`,
-    /// and nothing is done, where a group is open, a quote waits, or what stands behind the token printed last hangs
-    /// on what follows, as behind a punct that isn't `Alone` and ends no line.
+    /// and nothing is done, where none may be put there.
     pub fn put_part(&mut self, part: &PrintedPart, places: &[Span]) -> Result<bool, TtFault>
         ensures puts { IfOk result (PutsPart self.old self.new part.now places.now) }
         ensures told { IfOk result (λ done. done ≡ takes_parts self.old) }

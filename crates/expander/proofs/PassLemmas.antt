@@ -39,7 +39,6 @@ use Rattle.expander.specs.World.{world}
 use Rattle.expander.specs.declared.memory.Memory.{Memory}
 use Rattle.expander.specs.declared.met.Scope.{Scope}
 use Rattle.expander.specs.declared.numbered.Known.{Known}
-use Rattle.expander.specs.declared.output.PlacedSteps.{PlacedSteps}
 use Rattle.expander.specs.declared.plain.Plain.{Plain}
 use Rattle.expander.specs.declared.taking.Taken.{Taken}
 use Rattle.expander.specs.declared.taking.Taking.{Taking}
@@ -148,18 +147,13 @@ module _ (equal : (f g : Forest) → (same_forest f g ≡ true) ↔ (f ≡ g)) (
 abbrev pub expanded_in : Grammar → Edition → Scope → ℕ → Forest → Outcome Numbered
 expanded_in grammar edition scope depth f = expansion (numbered_world (world grammar edition)) (scope_in scope) depth None f
 
--- a piece that was put out where it is lent
-pub put_lent : (grammar : Grammar) (edition : Edition) (scope : Scope) (depth start : ℕ) (r : Forest) (old new : PlacedSteps) (q lent : Plain)
-    → lent ≡ q → tree_of q ≡ own_top r → Holds q (parts_of (expanded_in grammar edition scope depth r))
-    → (Holds lent (parts_of (expanded_in grammar edition scope depth (tree_of lent).inner))
-    → PutsOut old new (resolved_steps start scope.starts (expanded_in grammar edition scope depth (tree_of lent).inner).steps))
-    → PutsOut old new (resolved_steps start scope.starts (expanded_in grammar edition scope depth r).steps)
-put_lent grammar edition scope depth start r old new q lent is top holds puts =
-    let here : (tree_of q).inner ≡ r = ap (λ (t : Top). t.inner) top in
-    subst (λ (f : Forest). PutsOut old new (resolved_steps start scope.starts (expanded_in grammar edition scope depth f).steps)) here
-    (subst (λ (p : Plain). Holds p (parts_of (expanded_in grammar edition scope depth (tree_of p).inner))
-    → PutsOut old new (resolved_steps start scope.starts (expanded_in grammar edition scope depth (tree_of p).inner).steps)) is puts
-    (subst (λ (f : Forest). Holds q (parts_of (expanded_in grammar edition scope depth f))) (sym here) holds))
+-- what follows from what is held of a piece for its tree, for a tree that it has
+pub for_tree : (grammar : Grammar) (edition : Edition) (scope : Scope) (depth : ℕ) (r : Forest) (p : Plain) (P : Forest → Type 0)
+    → tree_of p ≡ own_top r → Holds p (parts_of (expanded_in grammar edition scope depth r))
+    → (Holds p (parts_of (expanded_in grammar edition scope depth (tree_of p).inner)) → P (tree_of p).inner) → P r
+for_tree grammar edition scope depth r p P top holds gives =
+    let here : (tree_of p).inner ≡ r = ap (λ (t : Top). t.inner) top in
+    subst P here (gives (subst (λ (f : Forest). Holds p (parts_of (expanded_in grammar edition scope depth f))) (sym here) holds))
 
 -- ---- one more piece
 

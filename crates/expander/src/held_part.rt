@@ -26,7 +26,7 @@ pub(crate) struct HeldPart {
 pub(crate) enum HeldOutput {
     /// What they print by themselves, where that is a part. They are not kept then.
     Part(HeldPart),
-    /// The steps: none where the tree stays as it is.
+    /// The steps, where they are no part, or could not be put as one: none where the tree stays as it is.
     Steps(Option<Vec<OwnStep>>),
 }
 
@@ -133,14 +133,18 @@ fn print_all(
     }
 }
 
-/// What is held of the steps for a tree: what they print, unless they are no part by themselves.
+/// What is held of the steps for a tree: what they print, where that is wanted and they are a part by themselves.
 pub(crate) fn held_output(
     alloc: Global,
     tree: &TopSubtree,
     steps: Option<Vec<OwnStep>>,
+    as_part: bool,
 ) -> Result<HeldOutput, AllocError>
     ensures { IfOk result (λ o. IsOutputOf tree.now.inner o (steps_for tree.now.inner (option_map (λ s. s.items) steps))) }
 {
+    if !as_part {
+        return Ok(HeldOutput::Steps(steps));
+    }
     let own = print_all(alloc, tree, &steps)?;
     match part_of(own)? {
         Some(part) => Ok(HeldOutput::Part(part)),

@@ -112,6 +112,11 @@ fn tell_words(nested: &mut Vec<Fault>, words: &[Span]) -> Result<(), AllocError>
     Ok(())
 }
 
+/// Whether a part can be added.
+pub(crate) fn takes_parts(steps: &PlacedSteps) -> bool {
+    steps.printer.takes_parts()
+}
+
 /// Adds a part, its tokens at these places, and its words that begin a definition told at those: `false`, and nothing is done,
 /// where it can't be put at once.
 pub(crate) fn put_part(

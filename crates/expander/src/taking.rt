@@ -1,5 +1,5 @@
 // The pieces of a text over what is held.
-ghost use Rattle.std.specs.Prelude.{◌≡◌, ◌≢◌, ℕ, ◌+◌, ◌<◌, ◌≤◌, ◌^◌, [], ◌∷◌, ◌++◌, All, List, IfOk, IfSome, OnOk, None, Err, Option, Some, false, if◌then◌else◌, is_some, length, map, slice_get, true};
+ghost use Rattle.std.specs.Prelude.{◌≡◌, ◌≢◌, ℕ, ◌+◌, ◌<◌, ◌≤◌, ◌^◌, [], ◌∷◌, ◌++◌, All, List, IfOk, IfSome, IsOkUnless, OnOk, None, Err, Option, Some, false, if◌then◌else◌, is_some, length, map, slice_get, true};
 ghost use Rattle.std.specs.Global.{Global as GhostGlobal};
 ghost use Rattle.std.specs.List.{list_any};
 ghost use Rattle.std.specs.Rc.{rc_value};
@@ -7,6 +7,7 @@ ghost use Rattle.bridge.specs.ReadText.{text_top};
 ghost use Rattle.mbe.specs.Grammar.{Grammar};
 ghost use Rattle.tt_data.specs.Forest.{Forest};
 ghost use Rattle.tt_data.specs.declared.edition.Edition.{Edition};
+ghost use Rattle.tt_data.specs.fault.TtFault.TheVariants as as_fault;
 ghost use Rattle.expander.specs.ByTrees.{known_in, numbers_in, own_top};
 ghost use Rattle.expander.specs.Definitions.{definition_of};
 ghost use Rattle.expander.specs.Expansion.{expansion};
@@ -46,7 +47,7 @@ use crate::met::Scope;
 use crate::numbered::Known;
 use crate::numbering::{Numbering, number};
 use crate::outcome::Outcome;
-use crate::output::{PlacedSteps, no_steps};
+use crate::output::{PlacedSteps, no_steps, takes_parts};
 use crate::own_pieces::OwnPiece;
 use crate::own_tree::OwnTree;
 use crate::placing::{put_faults, put_held, put_steps, tell_if_broken};
@@ -56,16 +57,27 @@ use crate::session::Refusal;
 use mbe::FragmentGrammar;
 use std::alloc::{AllocError, Global};
 use std::rc::Rc;
-use tt::TopSubtree;
 use tt_data::{Edition, TtFault};
 
-// A tree, expanded.
+// A plain piece that is shared.
+fn shared(alloc: Global, plain: Plain) -> Result<Rc<Plain>, TtFault>
+    ensures same { IfOk result (λ q. q.value ≡ plain) }
+    ensures memory { IsOkUnless result as_fault.Memory }
+{
+    match Rc::new(alloc, plain) {
+        Ok(plain) => Ok(plain),
+        Err(_) => Err(TtFault::Memory),
+    }
+}
+
+// A tree, expanded, and what it prints held as a part where that is wanted.
 fn expanded<G: FragmentGrammar>(
     alloc: Global,
     grammar: &G,
     scope: &Scope,
     depth: u8,
     tree: Rc<OwnTree>,
+    as_part: bool,
 ) -> Result<Rc<Plain>, TtFault>
     requires { AreRead scope.now }
     ensures tree { IfOk result (λ q. tree_of q.value ≡ tree.value) }
@@ -79,21 +91,18 @@ fn expanded<G: FragmentGrammar>(
         faults,
         finds,
     } = expand_piece(alloc, grammar, scope, depth, tree.as_ref().tree())?;
-    let output = held_output(alloc, tree.as_ref().tree(), steps)?;
+    let output = held_output(alloc, tree.as_ref().tree(), steps, as_part)?;
     let plain = Plain {
         tree,
         output,
         faults,
         finds,
     };
-    match Rc::new(alloc, plain) {
-        Ok(plain) => Ok(plain),
-        Err(_) => Err(TtFault::Memory),
-    }
+    shared(alloc, plain)
 }
 
-/// A tree with its outcome: a held piece that matches, with its place, or else the tree is expanded. The tree's hash comes
-/// with either.
+/// A tree with its outcome: a held piece that matches, with its place, or else the tree is expanded, and what it prints
+/// held as a part where that is wanted. The tree's hash comes with either.
 pub(crate) fn take_tree<G: FragmentGrammar>(
     alloc: Global,
     grammar: &G,
@@ -103,6 +112,7 @@ pub(crate) fn take_tree<G: FragmentGrammar>(
     lookup: &mut Lookup,
     link: Option<usize>,
     tree: &Rc<OwnTree>,
+    as_part: bool,
 ) -> Result<(Rc<Plain>, Option<usize>, u64), TtFault>
     requires read { AreRead scope.now }
     requires lookup { Finds lookup.old memory.now.plains.items }
@@ -133,7 +143,7 @@ pub(crate) fn take_tree<G: FragmentGrammar>(
             Ok((plain, Some(i), hashes[i]))
         }
         None => {
-            let plain = expanded(alloc, grammar, scope, depth, tree.clone()?)?;
+            let plain = expanded(alloc, grammar, scope, depth, tree.clone()?, as_part)?;
             Ok((plain, None, tree.as_ref().kept_hash()))
         }
     }
@@ -286,7 +296,7 @@ fn take_definition(
     Ok(())
 }
 
-// A tree is expanded once more, since its steps are not kept, and these are put out.
+// A tree is expanded once more, since its steps are not kept. These are put out, and held.
 fn put_anew<G: FragmentGrammar>(
     alloc: Global,
     grammar: &G,
@@ -294,20 +304,32 @@ fn put_anew<G: FragmentGrammar>(
     depth: u8,
     steps: &mut PlacedSteps,
     start: u32,
-    tree: &TopSubtree,
-) -> Result<(), TtFault>
+    tree: Rc<OwnTree>,
+) -> Result<Rc<Plain>, TtFault>
     requires { AreRead scope.now }
     ensures steps { OnOk result (PutsOut steps.old steps.new (resolved_steps start scope.now.starts
-        (expansion (numbered_world (world (G.answer grammar.now) scope.now.edition)) (scope_in scope.now) depth None tree.now.inner).steps)) }
+        (expansion (numbered_world (world (G.answer grammar.now) scope.now.edition)) (scope_in scope.now) depth None tree.value.inner).steps)) }
+    ensures tree { IfOk result (λ q. tree_of q.value ≡ tree.value) }
+    ensures holds { IfOk result (λ q. Holds q.value
+        (parts_of (expansion (numbered_world (world (G.answer grammar.now) scope.now.edition)) (scope_in scope.now) depth None tree.value.inner))) }
     ensures tokens { result ≡ Err TtFault.Tokens →
-        (expansion (numbered_world (world (G.answer grammar.now) scope.now.edition)) (scope_in scope.now) depth None tree.now.inner).bursts ≡ true }
+        (expansion (numbered_world (world (G.answer grammar.now) scope.now.edition)) (scope_in scope.now) depth None tree.value.inner).bursts ≡ true }
 {
-    let outcome = expand_piece(alloc, grammar, scope, depth, tree)?;
-    put_steps(alloc, steps, start, &scope.starts, tree, &outcome.steps)?;
-    Ok(())
+    let own = tree.as_ref().tree();
+    let outcome = expand_piece(alloc, grammar, scope, depth, own)?;
+    put_steps(alloc, steps, start, &scope.starts, own, &outcome.steps)?;
+    let plain = Plain {
+        tree,
+        output: HeldOutput::Steps(outcome.steps),
+        faults: outcome.faults,
+        finds: outcome.finds,
+    };
+    let plain = shared(alloc, plain)?;
+    Ok(plain)
 }
 
-// The steps of a piece are put out: at once where what they print by themselves is held and can be put here.
+// What a piece prints is put out, and what is to be held of it answered: the same, or the same with its steps, where what it
+// prints by itself can't be put here at once.
 fn put_output<G: FragmentGrammar>(
     alloc: Global,
     grammar: &G,
@@ -315,31 +337,34 @@ fn put_output<G: FragmentGrammar>(
     depth: u8,
     steps: &mut PlacedSteps,
     start: u32,
-    plain: &Plain,
-) -> Result<(), TtFault>
+    plain: Rc<Plain>,
+) -> Result<Rc<Plain>, TtFault>
     requires { AreRead scope.now }
-    ensures steps { Holds plain.now (parts_of (expansion (numbered_world (world (G.answer grammar.now) scope.now.edition)) (scope_in scope.now) depth None (tree_of plain.now).inner)) →
+    ensures steps { Holds plain.value (parts_of (expansion (numbered_world (world (G.answer grammar.now) scope.now.edition)) (scope_in scope.now) depth None (tree_of plain.value).inner)) →
         OnOk result (PutsOut steps.old steps.new (resolved_steps start scope.now.starts
-        (expansion (numbered_world (world (G.answer grammar.now) scope.now.edition)) (scope_in scope.now) depth None (tree_of plain.now).inner).steps)) }
+        (expansion (numbered_world (world (G.answer grammar.now) scope.now.edition)) (scope_in scope.now) depth None (tree_of plain.value).inner).steps)) }
+    ensures tree { IfOk result (λ q. tree_of q.value ≡ tree_of plain.value) }
+    ensures holds { Holds plain.value (parts_of (expansion (numbered_world (world (G.answer grammar.now) scope.now.edition)) (scope_in scope.now) depth None (tree_of plain.value).inner)) →
+        IfOk result (λ q. Holds q.value (parts_of (expansion (numbered_world (world (G.answer grammar.now) scope.now.edition)) (scope_in scope.now) depth None (tree_of plain.value).inner))) }
     ensures tokens { result ≡ Err TtFault.Tokens →
-        (expansion (numbered_world (world (G.answer grammar.now) scope.now.edition)) (scope_in scope.now) depth None (tree_of plain.now).inner).bursts ≡ true }
+        (expansion (numbered_world (world (G.answer grammar.now) scope.now.edition)) (scope_in scope.now) depth None (tree_of plain.value).inner).bursts ≡ true }
 {
-    let tree = plain.tree.as_ref().tree();
-    match &plain.output {
+    let Plain { tree, output, .. } = plain.as_ref();
+    match output {
         HeldOutput::Part(part) => {
             if put_held(alloc, steps, start, &scope.starts, part)? {
-                return Ok(());
+                return Ok(plain);
             }
-            put_anew(alloc, grammar, scope, depth, steps, start, tree)
+            put_anew(alloc, grammar, scope, depth, steps, start, tree.clone()?)
         }
         HeldOutput::Steps(own) => {
-            put_steps(alloc, steps, start, &scope.starts, tree, own)?;
-            Ok(())
+            put_steps(alloc, steps, start, &scope.starts, tree.as_ref().tree(), own)?;
+            Ok(plain)
         }
     }
 }
 
-// A piece with what its expansion gives is put out.
+// A piece with what its expansion gives is put out, and what is to be held of it is answered.
 fn put_plain<G: FragmentGrammar>(
     alloc: Global,
     grammar: &G,
@@ -348,19 +373,22 @@ fn put_plain<G: FragmentGrammar>(
     steps: &mut PlacedSteps,
     faults: &mut Vec<Fault>,
     start: u32,
-    plain: &Plain,
-) -> Result<(), TtFault>
+    plain: Rc<Plain>,
+) -> Result<Rc<Plain>, TtFault>
     requires { AreRead scope.now }
-    ensures steps { Holds plain.now (parts_of (expansion (numbered_world (world (G.answer grammar.now) scope.now.edition)) (scope_in scope.now) depth None (tree_of plain.now).inner)) →
+    ensures steps { Holds plain.value (parts_of (expansion (numbered_world (world (G.answer grammar.now) scope.now.edition)) (scope_in scope.now) depth None (tree_of plain.value).inner)) →
         OnOk result (PutsOut steps.old steps.new (resolved_steps start scope.now.starts
-        (expansion (numbered_world (world (G.answer grammar.now) scope.now.edition)) (scope_in scope.now) depth None (tree_of plain.now).inner).steps)) }
-    ensures faults { OnOk result (faults.new.items ≡ faults.old.items ++ resolved_faults start scope.now.starts plain.now.faults.items) }
+        (expansion (numbered_world (world (G.answer grammar.now) scope.now.edition)) (scope_in scope.now) depth None (tree_of plain.value).inner).steps)) }
+    ensures faults { IfOk result (λ q. faults.new.items ≡ faults.old.items ++ resolved_faults start scope.now.starts q.value.faults.items) }
+    ensures tree { IfOk result (λ q. tree_of q.value ≡ tree_of plain.value) }
+    ensures holds { Holds plain.value (parts_of (expansion (numbered_world (world (G.answer grammar.now) scope.now.edition)) (scope_in scope.now) depth None (tree_of plain.value).inner)) →
+        IfOk result (λ q. Holds q.value (parts_of (expansion (numbered_world (world (G.answer grammar.now) scope.now.edition)) (scope_in scope.now) depth None (tree_of plain.value).inner))) }
     ensures tokens { result ≡ Err TtFault.Tokens →
-        (expansion (numbered_world (world (G.answer grammar.now) scope.now.edition)) (scope_in scope.now) depth None (tree_of plain.now).inner).bursts ≡ true }
+        (expansion (numbered_world (world (G.answer grammar.now) scope.now.edition)) (scope_in scope.now) depth None (tree_of plain.value).inner).bursts ≡ true }
 {
-    put_output(alloc, grammar, scope, depth, steps, start, plain)?;
-    put_faults(faults, start, &scope.starts, plain.faults.as_slice())?;
-    Ok(())
+    let plain = put_output(alloc, grammar, scope, depth, steps, start, plain)?;
+    put_faults(faults, start, &scope.starts, plain.as_ref().faults.as_slice())?;
+    Ok(plain)
 }
 
 // A piece is held, with the hash of its tree, and linked.
@@ -425,9 +453,12 @@ fn take_plain<G: FragmentGrammar>(
     laws::equal_pieces();
     let scope = &now.scope;
     let lookup = &mut now.lookup;
-    let (plain, at, hash) = take_tree(alloc, grammar, scope, depth, memory, lookup, link, tree)?;
+    let as_part = takes_parts(&now.taken.steps);
+    let (found, at, hash) = take_tree(
+        alloc, grammar, scope, depth, memory, lookup, link, tree, as_part,
+    )?;
     let taken = &mut now.taken;
-    put_plain(
+    let plain = put_plain(
         alloc,
         grammar,
         scope,
@@ -435,7 +466,7 @@ fn take_plain<G: FragmentGrammar>(
         &mut taken.steps,
         &mut taken.faults,
         start,
-        plain.as_ref(),
+        found,
     )?;
     hold(
         &mut taken.plains,
