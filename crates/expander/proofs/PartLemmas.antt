@@ -18,9 +18,9 @@ use Rattle.bridge.specs.Spelling.{spelling}
 use Rattle.expander.specs.Changes.{placed_with}
 use Rattle.expander.specs.Expansion.{PlacedStep}
 use Rattle.expander.specs.Faults.{place, fault_at, is_definition_word, unspellable}
-use Rattle.expander.specs.HeldParts.{HasPrinted, PrintsOn, PutsHeld, PutsPart, word_places}
+use Rattle.expander.specs.HeldParts.{HasPrinted, PrintsOn, PutsHeld, PutsPart}
 use Rattle.expander.specs.Outcomes.{placed_of}
-use Rattle.expander.specs.OutputSteps.{PutsOut, faults_at, numbers_left_out, told_from, words_told}
+use Rattle.expander.specs.OutputSteps.{PutsOut, faults_at, numbers_left_out, told_from, word_places, words_told}
 use Rattle.expander.specs.Held.{moved_on}
 use Rattle.expander.specs.Placing.{base_at, resolved_by}
 use Rattle.expander.specs.Starts.{start_at}
@@ -33,17 +33,9 @@ use Rattle.expander.specs.declared.output.PlacedSteps.{PlacedSteps}
 use Rattle.expander.specs.declared.output.Told.{Told}
 use Rattle.expander.specs.declared.starts.Starts.{Starts}
 use Rattle.expander.proofs.LeftOutLemmas.{none_elsewhere, not_before, not_behind, skip_behind, told_from-append}
-use Rattle.expander.proofs.PrintingLemmas.{visible-append, visible_bare, words_told-append}
+use Rattle.expander.proofs.PrintingLemmas.{visible-append, visible_bare, word_places-append, words_told-append}
 
 -- ---- steps that are printed one behind the other
-
--- where the words of steps are told, and of those behind them
-word_places-append : (xs ys : List PlacedStep) → word_places (xs ++ ys) ≡ word_places xs ++ word_places ys
-word_places-append xs ys =
-    let is_word : PlacedStep → Bool = λ s. is_definition_word s.step in
-    ap (λ l. map place (filter is_word l)) (visible-append xs ys)
-    ∙ ap (map place) (filter-append is_word (visible xs) (visible ys))
-    ∙ map-append place (filter is_word (visible xs)) (filter is_word (visible ys))
 
 -- what is told of elements, one behind the other
 pub mapped_more : {X Y : Type 0} (F : X → Y) (xs : List X) (i : ℕ) (d : X) (old before after : List Y) → i < length xs
@@ -138,27 +130,26 @@ module _ (f : Span → Span) where
 
   -- the faults of the words among these steps, at other places
   words_with : (xs : List PlacedStep)
-      → map (λ s. fault_at NestedDefinition (place s)) (filter (λ s. is_definition_word s.step) (map (placed_with f) xs))
-      ≡ map (fault_at NestedDefinition) (map f (map place (filter (λ s. is_definition_word s.step) xs)))
+      → map place (filter (λ s. is_definition_word s.step) (map (placed_with f) xs)) ≡ map f (map place (filter (λ s. is_definition_word s.step) xs))
   words_with [] = refl
   words_with (s ∷ more) =
-      ap (λ (b : Bool). map (λ s. fault_at NestedDefinition (place s)) (if b then placed_with f s ∷ filter (λ s. is_definition_word s.step) (map (placed_with f) more)
+      ap (λ (b : Bool). map place (if b then placed_with f s ∷ filter (λ s. is_definition_word s.step) (map (placed_with f) more)
       else filter (λ s. is_definition_word s.step) (map (placed_with f) more))) (word_with s.step)
       ∙ go (is_definition_word s.step) (words_with more)
     where
-      go : (b : Bool) → map (λ s. fault_at NestedDefinition (place s)) (filter (λ s. is_definition_word s.step) (map (placed_with f) more))
-          ≡ map (fault_at NestedDefinition) (map f (map place (filter (λ s. is_definition_word s.step) more)))
-          → map (λ s. fault_at NestedDefinition (place s)) (if b then placed_with f s ∷ filter (λ s. is_definition_word s.step) (map (placed_with f) more)
+      go : (b : Bool) → map place (filter (λ s. is_definition_word s.step) (map (placed_with f) more)) ≡ map f (map place (filter (λ s. is_definition_word s.step) more))
+          → map place (if b then placed_with f s ∷ filter (λ s. is_definition_word s.step) (map (placed_with f) more)
           else filter (λ s. is_definition_word s.step) (map (placed_with f) more))
-          ≡ map (fault_at NestedDefinition) (map f (map place (if b then s ∷ filter (λ s. is_definition_word s.step) more else filter (λ s. is_definition_word s.step) more)))
+          ≡ map f (map place (if b then s ∷ filter (λ s. is_definition_word s.step) more else filter (λ s. is_definition_word s.step) more))
       go true e =
-          ap (λ (span : Span). fault_at NestedDefinition span ∷ map (λ s. fault_at NestedDefinition (place s)) (filter (λ s. is_definition_word s.step) (map (placed_with f) more))) (place_with s)
-          ∙ ap (λ l. fault_at NestedDefinition (f (place s)) ∷ l) e
+          ap (λ (span : Span). span ∷ map place (filter (λ s. is_definition_word s.step) (map (placed_with f) more))) (place_with s)
+          ∙ ap (λ l. f (place s) ∷ l) e
       go false e = e
 
   words_moved : (xs : List PlacedStep) → words_told (map (placed_with f) xs) ≡ map (fault_at NestedDefinition) (map f (word_places xs))
   words_moved xs =
-      ap (λ l. map (λ s. fault_at NestedDefinition (place s)) (filter (λ s. is_definition_word s.step) l)) (visible_with xs) ∙ words_with (visible xs)
+      ap (λ l. map (fault_at NestedDefinition) (map place (filter (λ s. is_definition_word s.step) l))) (visible_with xs)
+      ∙ ap (map (fault_at NestedDefinition)) (words_with (visible xs))
 
 -- the visible tokens of steps, and of those behind them
 visible_steps : (xs ys : List PlacedStep) → steps_of (visible (xs ++ ys)) ≡ steps_of (visible xs) ++ steps_of (visible ys)

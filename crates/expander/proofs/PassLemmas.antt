@@ -22,7 +22,7 @@ use Rattle.expander.specs.Knowns.{definition_in}
 use Rattle.expander.specs.Layered.{layers}
 use Rattle.expander.specs.Meaning.{Layers, member_faults, output_of}
 use Rattle.expander.specs.Memories.{IsMemory, IsRight, piece_of, trees_of}
-use Rattle.expander.specs.MetTable.{AreRead, HasMet, scope_in}
+use Rattle.expander.specs.MetTable.{expanded_under, AreRead, HasMet, scope_in}
 use Rattle.expander.specs.NumberedTexts.{HasNumbered, inner_of}
 use Rattle.expander.specs.Numbering.{AreNumbered, AreNumbers, by_either, number_by, numbered_by}
 use Rattle.expander.specs.OtherPlaces.{LooksAtNoPlace}
@@ -143,17 +143,13 @@ module _ (equal : (f g : Forest) → (same_forest f g ≡ true) ↔ (f ≡ g)) (
     plain = ap (λ (t : Forest). is_some (definition_of t)) trees_same ∙ plain;
   }
 
--- what an expansion under a scope gives
-abbrev pub expanded_in : Grammar → Edition → Scope → ℕ → Forest → Outcome Numbered
-expanded_in grammar edition scope depth f = expansion (numbered_world (world grammar edition)) (scope_in scope) depth None f
-
 -- what follows from what is held of a piece for its tree, for a tree that it has
-pub for_tree : (grammar : Grammar) (edition : Edition) (scope : Scope) (depth : ℕ) (r : Forest) (p : Plain) (P : Forest → Type 0)
-    → tree_of p ≡ own_top r → Holds p (parts_of (expanded_in grammar edition scope depth r))
-    → (Holds p (parts_of (expanded_in grammar edition scope depth (tree_of p).inner)) → P (tree_of p).inner) → P r
-for_tree grammar edition scope depth r p P top holds gives =
+pub for_tree : (grammar : Grammar) (scope : Scope) (depth : ℕ) (r : Forest) (p : Plain) (P : Forest → Type 0)
+    → tree_of p ≡ own_top r → Holds p (parts_of (expanded_under grammar scope depth r))
+    → (Holds p (parts_of (expanded_under grammar scope depth (tree_of p).inner)) → P (tree_of p).inner) → P r
+for_tree grammar scope depth r p P top holds gives =
     let here : (tree_of p).inner ≡ r = ap (λ (t : Top). t.inner) top in
-    subst P here (gives (subst (λ (f : Forest). Holds p (parts_of (expanded_in grammar edition scope depth f))) (sym here) holds))
+    subst P here (gives (subst (λ (f : Forest). Holds p (parts_of (expanded_under grammar scope depth f))) (sym here) holds))
 
 -- ---- one more piece
 

@@ -28,7 +28,7 @@ use Rattle.expander.specs.declared.output.PlacedSteps.{PlacedSteps}
 use Rattle.expander.specs.Expanded.{origin_of}
 use Rattle.expander.specs.Expansion.{PlacedStep}
 use Rattle.expander.specs.Faults.{place, fault_at, is_definition_word, nested, unspellable}
-use Rattle.expander.specs.OutputSteps.{HasOutput, PutsOut, faults_at, faults_in, numbers_left_out, told_from, tokens_in, words_told}
+use Rattle.expander.specs.OutputSteps.{HasOutput, PutsOut, faults_at, faults_in, numbers_left_out, told_from, tokens_in, word_places, words_told}
 use Rattle.expander.specs.Printing.{bare, visible, printed, left_out, spelled, spelling_before, steps_of, text_of}
 use Rattle.expander.proofs.LeftOutLemmas.{told_from-append, told_one_by_one}
 
@@ -43,13 +43,16 @@ visible-append (s ∷ more) ys = go (is_visible_step s.step) (visible-append mor
     go true e = ap (λ l. s ∷ l) e
     go false e = e
 
-pub words_told-append : (xs ys : List PlacedStep) → words_told (xs ++ ys) ≡ words_told xs ++ words_told ys
-words_told-append xs ys =
-    let told : PlacedStep → Fault = λ s. fault_at NestedDefinition (place s) in
+-- where the words of steps are told, and of those behind them
+pub word_places-append : (xs ys : List PlacedStep) → word_places (xs ++ ys) ≡ word_places xs ++ word_places ys
+word_places-append xs ys =
     let is_word : PlacedStep → Bool = λ s. is_definition_word s.step in
-    ap (λ l. map told (filter is_word l)) (visible-append xs ys)
-    ∙ ap (map told) (filter-append is_word (visible xs) (visible ys))
-    ∙ map-append told (filter is_word (visible xs)) (filter is_word (visible ys))
+    ap (λ l. map place (filter is_word l)) (visible-append xs ys)
+    ∙ ap (map place) (filter-append is_word (visible xs) (visible ys))
+    ∙ map-append place (filter is_word (visible xs)) (filter is_word (visible ys))
+
+pub words_told-append : (xs ys : List PlacedStep) → words_told (xs ++ ys) ≡ words_told xs ++ words_told ys
+words_told-append xs ys = ap (map (fault_at NestedDefinition)) (word_places-append xs ys) ∙ map-append (fault_at NestedDefinition) (word_places xs) (word_places ys)
 
 -- no step was put out
 pub nothing_told : (more : List PlacedStep) → faults_at (told_from 0 (visible more)) (numbers_left_out more) ≡ unspellable (left_out spelling_before (visible more))
@@ -90,7 +93,7 @@ none_visible s e = ap (λ (b : Bool). if b then s ∷ [] else []) e
 
 pub invisible_words : (s : PlacedStep) → is_visible_step s.step ≡ false → words_told (s ∷ []) ≡ []
 invisible_words s e =
-    ap (λ (b : Bool). map (λ s. fault_at NestedDefinition (place s)) (filter (λ s. is_definition_word s.step) (if b then s ∷ [] else []))) e
+    ap (λ (b : Bool). map (fault_at NestedDefinition) (map place (filter (λ s. is_definition_word s.step) (if b then s ∷ [] else [])))) e
 
 -- no step, and some steps behind others
 pub puts_none : (out : PlacedSteps) → PutsOut out out []
@@ -190,14 +193,14 @@ word_is_printed : (s : PlacedStep) (more : List PlacedStep) → is_definition_wo
 word_is_printed s more is none = let no : false ≡ true = ap is_some (sym none) ∙ word_spelled s.step (steps_of more) is in cc
 
 nested_are : (xs : List PlacedStep)
-    → nested (printed spelling_before xs) ≡ map (λ s. fault_at NestedDefinition (place s)) (filter (λ s. is_definition_word s.step) xs)
+    → nested (printed spelling_before xs) ≡ map (fault_at NestedDefinition) (map place (filter (λ s. is_definition_word s.step) xs))
 nested_are [] = refl
 nested_are (s ∷ more) = go (is_definition_word s.step) (spelling_before s.step more) refl refl (nested_are more)
   where
     go : (b : Bool) (o : Option (List ℕ)) → is_definition_word s.step ≡ b → spelling_before s.step more ≡ o
-        → nested (printed spelling_before more) ≡ map (λ s. fault_at NestedDefinition (place s)) (filter (λ s. is_definition_word s.step) more)
+        → nested (printed spelling_before more) ≡ map (fault_at NestedDefinition) (map place (filter (λ s. is_definition_word s.step) more))
         → nested (spelled spelling_before s o ++ printed spelling_before more)
-        ≡ map (λ s. fault_at NestedDefinition (place s)) (filter (λ s. is_definition_word s.step) (s ∷ more))
+        ≡ map (fault_at NestedDefinition) (map place (filter (λ s. is_definition_word s.step) (s ∷ more)))
     go true None is has rest = absurd (word_is_printed s more is has)
     go false None is has rest = rw is rest
     go true (Some text) is has rest = rw is (ap (λ l. fault_at NestedDefinition (place s) ∷ l) rest)

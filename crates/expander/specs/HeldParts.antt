@@ -1,17 +1,16 @@
 -- What a piece prints by itself, and how that is put out.
-use Rattle.std.specs.Prelude.{◌≡◌, ℕ, List, ◌++◌, Bool, true, false, filter, map, option_map}
+use Rattle.std.specs.Prelude.{◌≡◌, ℕ, List, ◌++◌, Bool, true, false, map, option_map}
 use Rattle.bridge.specs.PrintedParts.{IsPartOf, PartState}
 use Rattle.bridge.specs.Printers.{HasPut}
 use Rattle.tt_data.specs.Forest.{Forest}
 use Rattle.tt_data.specs.declared.span.Span.{Span}
 use Rattle.expander.specs.Changes.{placed_with}
 use Rattle.expander.specs.Expansion.{PlacedStep}
-use Rattle.expander.specs.Faults.{is_definition_word, place}
 use Rattle.expander.specs.Outcomes.{Parts, steps_for}
-use Rattle.expander.specs.OutputSteps.{PutsOut}
+use Rattle.expander.specs.OutputSteps.{PutsOut, word_places}
 use Rattle.expander.specs.Placing.{resolved_steps}
 use Rattle.expander.specs.Plains.{finds_of, tree_of}
-use Rattle.expander.specs.Printing.{steps_of, visible}
+use Rattle.expander.specs.Printing.{steps_of}
 use Rattle.expander.specs.declared.held_part.HeldOutput.{HeldOutput}
 use Rattle.expander.specs.declared.held_part.HeldPart.{HeldPart}
 use Rattle.expander.specs.declared.held_part.HeldOutput.TheVariants as held
@@ -19,10 +18,6 @@ use Rattle.expander.specs.declared.held_part.OwnPrint.{OwnPrint}
 use Rattle.expander.specs.declared.output.PlacedSteps.{PlacedSteps}
 use Rattle.expander.specs.declared.plain.Plain.{Plain}
 use Rattle.expander.specs.declared.starts.Starts.{Starts}
-
--- where the faults of the visible words that begin a definition are told
-abbrev pub word_places : List PlacedStep → List Span
-word_places steps = map place (filter (λ s. is_definition_word s.step) (visible steps))
 
 -- just these steps were printed by themselves so far
 pub record HasPrinted (own : OwnPrint) (steps : List PlacedStep) : Type 0 where

@@ -2,6 +2,7 @@
 use Rattle.std.specs.Prelude.{◌≡◌, ℕ, ◌+◌, List, [], ◌∷◌, ◌++◌, filter, if◌then◌else◌, length, map, nat_eq}
 use Rattle.bridge.specs.Printers.{HasPut}
 use Rattle.bridge.specs.Printing.{left_out_from}
+use Rattle.tt_data.specs.declared.span.Span.{Span}
 use Rattle.expander.specs.declared.faults.Fault.{Fault}
 use Rattle.expander.specs.declared.faults.FaultKind.TheVariants.{NestedDefinition, Unspellable}
 use Rattle.expander.specs.declared.output.PlacedSteps.{PlacedSteps}
@@ -26,9 +27,13 @@ faults_at (t ∷ more) (n ∷ numbers) =
 abbrev pub numbers_left_out : List PlacedStep → List ℕ
 numbers_left_out steps = left_out_from 0 (steps_of (visible steps))
 
--- the faults of the visible words that begin a definition
+-- where the faults of the visible words that begin a definition are told
+abbrev pub word_places : List PlacedStep → List Span
+word_places steps = map place (filter (λ s. is_definition_word s.step) (visible steps))
+
+-- these faults
 abbrev pub words_told : List PlacedStep → List Fault
-words_told steps = map (λ s. fault_at NestedDefinition (place s)) (filter (λ s. is_definition_word s.step) (visible steps))
+words_told steps = map (fault_at NestedDefinition) (word_places steps)
 
 -- just these steps were put out so far: whatever follows, if places of it are told one by one, the faults of all tokens that
 -- are left out are told

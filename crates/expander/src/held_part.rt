@@ -3,7 +3,8 @@ ghost use Rattle.std.specs.Prelude.{◌≡◌, ◌∷◌, [], ◌++◌, IfOk, If
 ghost use Rattle.bridge.specs.WalkSteps.{step_of};
 ghost use Rattle.tt_data.specs.Walk.{walk};
 ghost use Rattle.expander.specs.Expansion.{PlacedStep, placed};
-ghost use Rattle.expander.specs.HeldParts.{HasPrinted, IsHeldPart, IsOutputOf, PrintsOn, word_places};
+ghost use Rattle.expander.specs.HeldParts.{HasPrinted, IsHeldPart, IsOutputOf, PrintsOn};
+ghost use Rattle.expander.specs.OutputSteps.{word_places};
 ghost use Rattle.expander.specs.Outcomes.{placed_of, steps_for};
 
 use crate::faults::{is_definition_word, place};

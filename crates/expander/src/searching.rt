@@ -7,10 +7,10 @@ ghost use Rattle.mbe_rules.specs.declared.macro_call_style.MacroCallStyle.TheVar
 ghost use Rattle.tt_data.specs.Forest.{Forest, joined};
 ghost use Rattle.tt_data.specs.Walk.{walk};
 ghost use Rattle.expander.specs.CallSteps.{call_at};
-ghost use Rattle.expander.specs.Expansion.{World, expansion, just, placed};
+ghost use Rattle.expander.specs.Expansion.{World, just, placed};
 ghost use Rattle.expander.specs.Editions.{IsRead};
 ghost use Rattle.expander.specs.Held.{Numbered, numbered_world};
-ghost use Rattle.expander.specs.MetTable.{AreRead, scope_in};
+ghost use Rattle.expander.specs.MetTable.{AreRead, expanded_under, scope_in};
 ghost use Rattle.tt_data.specs.declared.edition.Edition.{Edition};
 ghost use Rattle.tt_data.specs.declared.span.Span.{Span};
 ghost use Rattle.expander.specs.Outcomes.{find_of, numbered_of_known, parts_for, parts_of};
@@ -262,9 +262,9 @@ pub(crate) fn expand_piece<G: FragmentGrammar>(
 ) -> Result<Outcome, TtFault>
     requires { AreRead scope.now }
     ensures outcome { IfOk result (λ o. parts_for tree.now.inner o
-        ≡ parts_of (expansion (numbered_world (world (G.answer grammar.now) scope.now.edition)) (scope_in scope.now) depth None tree.now.inner)) }
+        ≡ parts_of (expanded_under (G.answer grammar.now) scope.now depth tree.now.inner)) }
     ensures tokens { result ≡ Err TtFault.Tokens →
-        (expansion (numbered_world (world (G.answer grammar.now) scope.now.edition)) (scope_in scope.now) depth None tree.now.inner).bursts ≡ true }
+        (expanded_under (G.answer grammar.now) scope.now depth tree.now.inner).bursts ≡ true }
 {
     let quiet = is_quiet(alloc, &tree.iter())?;
     if quiet {

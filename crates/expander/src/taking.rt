@@ -10,14 +10,13 @@ ghost use Rattle.tt_data.specs.declared.edition.Edition.{Edition};
 ghost use Rattle.tt_data.specs.fault.TtFault.TheVariants as as_fault;
 ghost use Rattle.expander.specs.ByTrees.{known_in, numbers_in, own_top};
 ghost use Rattle.expander.specs.Definitions.{definition_of};
-ghost use Rattle.expander.specs.Expansion.{expansion};
-ghost use Rattle.expander.specs.Held.{IsMet, Met, definition_trees, kept_after, numbered_scope, numbered_world};
+ghost use Rattle.expander.specs.Held.{IsMet, Met, definition_trees, kept_after, numbered_scope};
 ghost use Rattle.expander.specs.HeldParts.{Holds};
 ghost use Rattle.expander.specs.Layered.{layers};
 ghost use Rattle.expander.specs.Links.{plain_tops};
 ghost use Rattle.expander.specs.Meaning.{members_after};
 ghost use Rattle.expander.specs.Memories.{IsMemory, piece_of, trees_of};
-ghost use Rattle.expander.specs.MetTable.{AreRead, HasMet, scope_in};
+ghost use Rattle.expander.specs.MetTable.{AreRead, HasMet, expanded_under, scope_in};
 ghost use Rattle.expander.specs.NumberedTexts.{HasNumbered};
 ghost use Rattle.expander.specs.Numbering.{AreNumbers, HaveNumbers, number_by, numbered_by};
 ghost use Rattle.expander.specs.Numbers.{needed};
@@ -82,9 +81,9 @@ fn expanded<G: FragmentGrammar>(
     requires { AreRead scope.now }
     ensures tree { IfOk result (λ q. tree_of q.value ≡ tree.value) }
     ensures holds { IfOk result (λ q. Holds q.value
-        (parts_of (expansion (numbered_world (world (G.answer grammar.now) scope.now.edition)) (scope_in scope.now) depth None tree.value.inner))) }
+        (parts_of (expanded_under (G.answer grammar.now) scope.now depth tree.value.inner))) }
     ensures tokens { result ≡ Err TtFault.Tokens →
-        (expansion (numbered_world (world (G.answer grammar.now) scope.now.edition)) (scope_in scope.now) depth None tree.value.inner).bursts ≡ true }
+        (expanded_under (G.answer grammar.now) scope.now depth tree.value.inner).bursts ≡ true }
 {
     let Outcome {
         steps,
@@ -126,11 +125,11 @@ pub(crate) fn take_tree<G: FragmentGrammar>(
         ((t : Forest) (n : ℕ) → numbers_in memory.now.by_tree t ≡ Some n → numbers t ≡ Some n) →
         scope_in scope.now ≡ numbered_scope before → All (IsMet (numbered_by numbers)) before →
         IfOk result (λ r. Holds r.0.value
-        (parts_of (expansion (numbered_world (world (G.answer grammar.now) scope.now.edition)) (scope_in scope.now) depth None tree.now.value.inner))) }
+        (parts_of (expanded_under (G.answer grammar.now) scope.now depth tree.now.value.inner))) }
     ensures counted { IfOk result (λ r. is_some r.1 ≡ list_any (matches (scope_in scope.now) tree.now.value.inner)
         (map (λ q. piece_of (world (G.answer grammar.now) scope.now.edition) depth (rc_value q)) memory.now.plains.items)) }
     ensures tokens { result ≡ Err TtFault.Tokens →
-        (expansion (numbered_world (world (G.answer grammar.now) scope.now.edition)) (scope_in scope.now) depth None tree.now.value.inner).bursts ≡ true }
+        (expanded_under (G.answer grammar.now) scope.now depth tree.now.value.inner).bursts ≡ true }
 {
     laws::equal_pieces();
     tt::laws::equal_trees();
@@ -308,12 +307,12 @@ fn put_anew<G: FragmentGrammar>(
 ) -> Result<Rc<Plain>, TtFault>
     requires { AreRead scope.now }
     ensures steps { OnOk result (PutsOut steps.old steps.new (resolved_steps start scope.now.starts
-        (expansion (numbered_world (world (G.answer grammar.now) scope.now.edition)) (scope_in scope.now) depth None tree.value.inner).steps)) }
+        (expanded_under (G.answer grammar.now) scope.now depth tree.value.inner).steps)) }
     ensures tree { IfOk result (λ q. tree_of q.value ≡ tree.value) }
     ensures holds { IfOk result (λ q. Holds q.value
-        (parts_of (expansion (numbered_world (world (G.answer grammar.now) scope.now.edition)) (scope_in scope.now) depth None tree.value.inner))) }
+        (parts_of (expanded_under (G.answer grammar.now) scope.now depth tree.value.inner))) }
     ensures tokens { result ≡ Err TtFault.Tokens →
-        (expansion (numbered_world (world (G.answer grammar.now) scope.now.edition)) (scope_in scope.now) depth None tree.value.inner).bursts ≡ true }
+        (expanded_under (G.answer grammar.now) scope.now depth tree.value.inner).bursts ≡ true }
 {
     let own = tree.as_ref().tree();
     let outcome = expand_piece(alloc, grammar, scope, depth, own)?;
@@ -340,14 +339,14 @@ fn put_output<G: FragmentGrammar>(
     plain: Rc<Plain>,
 ) -> Result<Rc<Plain>, TtFault>
     requires { AreRead scope.now }
-    ensures steps { Holds plain.value (parts_of (expansion (numbered_world (world (G.answer grammar.now) scope.now.edition)) (scope_in scope.now) depth None (tree_of plain.value).inner)) →
+    ensures steps { Holds plain.value (parts_of (expanded_under (G.answer grammar.now) scope.now depth (tree_of plain.value).inner)) →
         OnOk result (PutsOut steps.old steps.new (resolved_steps start scope.now.starts
-        (expansion (numbered_world (world (G.answer grammar.now) scope.now.edition)) (scope_in scope.now) depth None (tree_of plain.value).inner).steps)) }
+        (expanded_under (G.answer grammar.now) scope.now depth (tree_of plain.value).inner).steps)) }
     ensures tree { IfOk result (λ q. tree_of q.value ≡ tree_of plain.value) }
-    ensures holds { Holds plain.value (parts_of (expansion (numbered_world (world (G.answer grammar.now) scope.now.edition)) (scope_in scope.now) depth None (tree_of plain.value).inner)) →
-        IfOk result (λ q. Holds q.value (parts_of (expansion (numbered_world (world (G.answer grammar.now) scope.now.edition)) (scope_in scope.now) depth None (tree_of plain.value).inner))) }
+    ensures holds { Holds plain.value (parts_of (expanded_under (G.answer grammar.now) scope.now depth (tree_of plain.value).inner)) →
+        IfOk result (λ q. Holds q.value (parts_of (expanded_under (G.answer grammar.now) scope.now depth (tree_of plain.value).inner))) }
     ensures tokens { result ≡ Err TtFault.Tokens →
-        (expansion (numbered_world (world (G.answer grammar.now) scope.now.edition)) (scope_in scope.now) depth None (tree_of plain.value).inner).bursts ≡ true }
+        (expanded_under (G.answer grammar.now) scope.now depth (tree_of plain.value).inner).bursts ≡ true }
 {
     let Plain { tree, output, .. } = plain.as_ref();
     match output {
@@ -376,15 +375,15 @@ fn put_plain<G: FragmentGrammar>(
     plain: Rc<Plain>,
 ) -> Result<Rc<Plain>, TtFault>
     requires { AreRead scope.now }
-    ensures steps { Holds plain.value (parts_of (expansion (numbered_world (world (G.answer grammar.now) scope.now.edition)) (scope_in scope.now) depth None (tree_of plain.value).inner)) →
+    ensures steps { Holds plain.value (parts_of (expanded_under (G.answer grammar.now) scope.now depth (tree_of plain.value).inner)) →
         OnOk result (PutsOut steps.old steps.new (resolved_steps start scope.now.starts
-        (expansion (numbered_world (world (G.answer grammar.now) scope.now.edition)) (scope_in scope.now) depth None (tree_of plain.value).inner).steps)) }
+        (expanded_under (G.answer grammar.now) scope.now depth (tree_of plain.value).inner).steps)) }
     ensures faults { IfOk result (λ q. faults.new.items ≡ faults.old.items ++ resolved_faults start scope.now.starts q.value.faults.items) }
     ensures tree { IfOk result (λ q. tree_of q.value ≡ tree_of plain.value) }
-    ensures holds { Holds plain.value (parts_of (expansion (numbered_world (world (G.answer grammar.now) scope.now.edition)) (scope_in scope.now) depth None (tree_of plain.value).inner)) →
-        IfOk result (λ q. Holds q.value (parts_of (expansion (numbered_world (world (G.answer grammar.now) scope.now.edition)) (scope_in scope.now) depth None (tree_of plain.value).inner))) }
+    ensures holds { Holds plain.value (parts_of (expanded_under (G.answer grammar.now) scope.now depth (tree_of plain.value).inner)) →
+        IfOk result (λ q. Holds q.value (parts_of (expanded_under (G.answer grammar.now) scope.now depth (tree_of plain.value).inner))) }
     ensures tokens { result ≡ Err TtFault.Tokens →
-        (expansion (numbered_world (world (G.answer grammar.now) scope.now.edition)) (scope_in scope.now) depth None (tree_of plain.value).inner).bursts ≡ true }
+        (expanded_under (G.answer grammar.now) scope.now depth (tree_of plain.value).inner).bursts ≡ true }
 {
     let plain = put_output(alloc, grammar, scope, depth, steps, start, plain)?;
     put_faults(faults, start, &scope.starts, plain.as_ref().faults.as_slice())?;
@@ -448,7 +447,7 @@ fn take_plain<G: FragmentGrammar>(
     ensures lookup { OnOk result (Finds now.new.lookup memory.now.plains.items) }
     ensures expanded { OnOk result (now.new.taken.expanded ≤ now.old.taken.expanded + 1) }
     ensures tokens { result ≡ Err TtFault.Tokens →
-        (expansion (numbered_world (world (G.answer grammar.now) now.old.scope.edition)) (scope_in now.old.scope) depth None tree.now.value.inner).bursts ≡ true }
+        (expanded_under (G.answer grammar.now) now.old.scope depth tree.now.value.inner).bursts ≡ true }
 {
     laws::equal_pieces();
     let scope = &now.scope;
