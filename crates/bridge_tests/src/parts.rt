@@ -44,6 +44,7 @@ fn puts_parts_behind_one_another(rt: HostRuntime) -> Result<(), Fail> {
     assert!(rt;
         put(&mut printer, &line)? && put(&mut printer, &item)? && put(&mut printer, &word)?
     );
+    assert!(rt; printer.takes_parts());
     assert!(rt; put(&mut printer, &line)?, "a space stands behind a name");
     let Ok(printed) = printer.finish() else {
         return Err(Fail::new("no memory"));
@@ -74,6 +75,7 @@ fn no_part_is_put_behind_a_joined_punct(rt: HostRuntime) -> Result<(), Fail> {
     let mut printer = printer_of(&rt, "a")?;
     put_joined(&mut printer, '<')?;
     let line = part_of(&rt, "b;")?;
+    assert!(rt; !printer.takes_parts());
     assert!(rt; !put(&mut printer, &line)?, "what follows may be joined");
     assert!(rt; printer.into_part()?.is_some());
     Ok(())
