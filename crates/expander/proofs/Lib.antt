@@ -13,6 +13,7 @@ mod LeftOutLemmas
 mod PrintingLemmas
 mod OrderLemmas
 mod SharedPieceLemmas
+mod FoundAgainLemmas
 mod SortLemmas
 mod StretchLemmas
 mod KnownLemmas

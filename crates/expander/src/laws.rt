@@ -12,7 +12,7 @@ ghost use Rattle.expander.specs.Expanded.{Expanded};
 ghost use Rattle.expander.specs.Faults.{comes_before, in_order};
 ghost use Rattle.expander.specs.FixedPoint.{IsFixedPoint, RepliesWith};
 ghost use Rattle.expander.specs.Held.{IsMet, Known, Met, TellsApart, definition_trees, kept_after, numbered_scope, numbered_world, present, trees_in};
-ghost use Rattle.expander.specs.Laws.{AreAllPlain, ExpandsNothing, Fails, HasNoWord, definitions_after};
+ghost use Rattle.expander.specs.Laws.{AreAllPlain, ExpandsNothing, Fails, FindsAsBefore, HasNoWord, definitions_after};
 ghost use Rattle.expander.specs.Layered.{layers};
 ghost use Rattle.expander.specs.Meaning.{Layers, ReadMeaning, faults_of, meaning, member_faults, members, members_after, output, output_of};
 ghost use Rattle.expander.specs.Numbers.{AreEntries, Numbering, needed, number_in, number_of, tree_of, with_trees};
@@ -24,7 +24,7 @@ ghost use Rattle.expander.specs.Reuse.{HeldPiece, IsHeld, looked_at, looked_held
 ghost use Rattle.expander.specs.State.{State, layers_of};
 ghost use Rattle.expander.specs.TextTurn.{InEntries, IsNext, IsTurn, held_of, is_unmatched, kept_entries, numbering_of, taken_after};
 ghost use Rattle.expander.specs.declared.calls.Call.{Call};
-ghost use Rattle.expander.specs.Definitions.{Definition, definition_of};
+ghost use Rattle.expander.specs.Definitions.{Definition, definition_of, nearest};
 ghost use Rattle.expander.specs.World.{world};
 ghost use Rattle.expander.specs.declared.faults.Fault.{Fault};
 ghost use Rattle.expander.specs.declared.faults.FaultKind.{FaultKind};
@@ -231,6 +231,34 @@ pub fn a_piece_that_finds_the_same_does_not_count()
         finds_within p.finds q.finds ≡ true → finds_within q.finds p.finds ≡ true →
         expanded_count (Some held) (p ∷ ps) ≡ expanded_count (Some held) ps }
 {
+    equal_pieces();
+}
+
+/// A piece does not count where its tree is that of a piece of an earlier text, and each name that was looked up in that one
+/// finds, among the definitions that now stand before it, an equal definition, or none as it did: `piece`. So those count
+/// that stand before it and behind it: `others`.
+pub fn a_piece_that_finds_as_before_does_not_count()
+    ensures piece { (grammar : Grammar) (edition : Edition) (depth : ℕ) (text other : List ℕ) (f g p q : Forest) (ones twos more_ones more_twos : List Forest) →
+        IsUtf8 text → IsUtf8 other → text_reading text ≡ Ok f → text_reading other ≡ Ok g →
+        pieces f ≡ ones ++ p ∷ more_ones → pieces g ≡ twos ++ q ∷ more_twos → relative p ≡ relative q →
+        FindsAsBefore (nearest (definitions_after [] twos)) (expansion (world grammar edition) (nearest (definitions_after [] ones)) depth None p).finds →
+        expanded_count (Some (looked_of (members (layers grammar edition) depth f)))
+        (looked_of (members_after (layers grammar edition) depth (definitions_after [] twos) (q ∷ []))) ≡ 0 }
+    ensures others { (grammar : Grammar) (edition : Edition) (depth : ℕ) (text other : List ℕ) (f g p q : Forest) (ones twos more_ones more_twos : List Forest) →
+        IsUtf8 text → IsUtf8 other → text_reading text ≡ Ok f → text_reading other ≡ Ok g →
+        pieces f ≡ ones ++ p ∷ more_ones → pieces g ≡ twos ++ q ∷ more_twos → relative p ≡ relative q →
+        FindsAsBefore (nearest (definitions_after [] twos)) (expansion (world grammar edition) (nearest (definitions_after [] ones)) depth None p).finds →
+        expanded_count (Some (looked_of (members (layers grammar edition) depth f))) (looked_of (members (layers grammar edition) depth g))
+        ≡ expanded_count (Some (looked_of (members (layers grammar edition) depth f))) (looked_of (members_after (layers grammar edition) depth [] twos))
+        + expanded_count (Some (looked_of (members (layers grammar edition) depth f)))
+        (looked_of (members_after (layers grammar edition) depth (definitions_after [] (twos ++ q ∷ [])) more_twos)) }
+{
+    mbe_rules::laws::rules_at_other_places();
+    mbe::laws::fit_at_other_places();
+    mbe::laws::bursts_at_other_places();
+    bridge::laws::reading_is_a_relation();
+    bridge::laws::tokens_follow_one_another();
+    bridge::laws::tokens_are_written();
     equal_pieces();
 }
 
