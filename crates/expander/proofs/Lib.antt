@@ -14,6 +14,9 @@ mod PrintingLemmas
 mod OrderLemmas
 mod SharedPieceLemmas
 mod FoundAgainLemmas
+mod TokenFormLemmas
+mod TokenRowLemmas
+mod PieceTokenLemmas
 mod SortLemmas
 mod StretchLemmas
 mod KnownLemmas

@@ -72,7 +72,7 @@ is_punct_with f (as_leaf.Literal l) = refl
 is_punct_with f (as_leaf.Punct p) = refl
 is_punct_with f (as_leaf.Ident i) = refl
 
-separated_with : (f : Span → Span) (g : Forest) → separated (map_spans f g) ≡ map_spans f (separated g)
+pub separated_with : (f : Span → Span) (g : Forest) → separated (map_spans f g) ≡ map_spans f (separated g)
 separated_with f empty = refl
 separated_with f (leaf l rest) =
     ap (λ (b : Bool). leaf (if b then alone (leaf_with f l) else leaf_with f l) (separated (map_spans f rest))) (is_punct_with f l)

@@ -17,7 +17,8 @@ ghost use Rattle.expander.specs.Layered.{layers};
 ghost use Rattle.expander.specs.Meaning.{Layers, ReadMeaning, faults_of, meaning, member_faults, members, members_after, output, output_of};
 ghost use Rattle.expander.specs.Numbers.{AreEntries, Numbering, needed, number_in, number_of, tree_of, with_trees};
 ghost use Rattle.expander.specs.OtherPlaces.{CommutesWithMarker, definition_with};
-ghost use Rattle.expander.specs.Pieces.{cut, pieces, put_together, relative};
+ghost use Rattle.expander.specs.PieceTokens.{written_in};
+ghost use Rattle.expander.specs.Pieces.{cut, pieces, put_together, relative, separated};
 ghost use Rattle.expander.specs.Printing.{left_out};
 ghost use Rattle.expander.specs.Replies.{HasCause, IsReplyTo, NeedsNumbers, Replies, definitions_in};
 ghost use Rattle.expander.specs.Reuse.{HeldPiece, IsHeld, looked_at, looked_held, matches};
@@ -37,7 +38,8 @@ ghost use Rattle.expander.specs.declared.session.Refusal.{Refusal};
 ghost use Rattle.expander.specs.declared.session.Refusal.TheVariants.{Numbers};
 ghost use Rattle.expander.specs.declared.session.Reply.{Reply};
 ghost use Rattle.expander.specs.declared.session.Reply.TheVariants.{Read};
-ghost use Rattle.bridge.specs.TokenSteps.{text_reading};
+ghost use Rattle.bridge.specs.Reading.{reading};
+ghost use Rattle.bridge.specs.TokenSteps.{steps_of, text_reading};
 ghost use Rattle.mbe.specs.Grammar.{Grammar};
 ghost use Rattle.tt_data.specs.Forest.{Forest, joined, map_spans};
 ghost use Rattle.tt_data.specs.Walk.{walk};
@@ -302,6 +304,30 @@ pub fn the_same_pieces_are_not_expanded_again()
     bridge::laws::tokens_follow_one_another();
     bridge::laws::tokens_are_written();
     equal_pieces();
+}
+
+/// Two texts whose pieces are written in the same tokens, with the same white space and comments between the tokens of a
+/// piece: nothing is said of the white space and the plain comments before, between and behind the pieces. Each piece in
+/// places of its own is what its tokens are read as by themselves: `read`. So the texts have the same pieces: `same`. No
+/// piece of the one counts against those of the other, and a session that last read the one expands none for the other.
+pub fn blanks_between_pieces_count_nothing()
+    ensures read { (text : List ℕ) (f : Forest) → IsUtf8 text → text_reading text ≡ Ok f →
+        All (λ p. (k : Forest) × (reading (steps_of (written_in text p)) ≡ Ok k) × (relative p ≡ separated k)) (pieces f) }
+    ensures same { (text other : List ℕ) (f g : Forest) →
+        IsUtf8 text → IsUtf8 other → text_reading text ≡ Ok f → text_reading other ≡ Ok g →
+        map (written_in text) (pieces f) ≡ map (written_in other) (pieces g) → map relative (pieces f) ≡ map relative (pieces g) }
+    ensures counted { (grammar : Grammar) (edition : Edition) (depth : ℕ) (text other : List ℕ) (f g : Forest) →
+        IsUtf8 text → IsUtf8 other → text_reading text ≡ Ok f → text_reading other ≡ Ok g →
+        map (written_in text) (pieces f) ≡ map (written_in other) (pieces g) →
+        expanded_count (Some (looked_of (members (layers grammar edition) depth f))) (looked_of (members (layers grammar edition) depth g)) ≡ 0 }
+    ensures replied { (grammar : Grammar) (edition : Edition) (depth : ℕ) (text other : List ℕ) (f g : Forest) (reply : Reply) →
+        IsUtf8 text → IsUtf8 other → text_reading text ≡ Ok f → text_reading other ≡ Ok g →
+        map (written_in text) (pieces f) ≡ map (written_in other) (pieces g) →
+        IsReplyTo (layers grammar edition) depth other (Some (looked_of (members (layers grammar edition) depth f))) reply → ExpandsNothing reply }
+{
+    bridge::laws::reading_is_a_relation();
+    rustc_lexer::laws::token_lengths();
+    the_same_pieces_are_not_expanded_again();
 }
 
 /// A reply to a text of fewer than 2^31 bytes tells no fault where none of the text's names begins a definition.
