@@ -16,6 +16,8 @@ mod SharedPieceLemmas
 mod FoundAgainLemmas
 mod TokenFormLemmas
 mod TokenRowLemmas
+mod TokenStepLemmas
+mod PieceTreeLemmas
 mod PieceTokenLemmas
 mod SortLemmas
 mod StretchLemmas

@@ -13,12 +13,11 @@ use Rattle.tt_data.specs.declared.leaf.IdentIsRaw.TheVariants as is_raw
 use Rattle.tt_data.specs.declared.leaf.Leaf.TheVariants as as_leaf
 use Rattle.tt_data.specs.declared.leaf.Spacing.TheVariants.{Alone, Joint}
 use Rattle.tt_data.specs.declared.span.Span.{Span}
-use Rattle.bridge.specs.Parts.{starts_with_mark}
-use Rattle.bridge.specs.Pieces.{moved_back}
+use Rattle.bridge.specs.Parts.{starts_with_mark, steps_before}
 use Rattle.bridge.specs.Reading.{PlacedToken, TextStep, bad, placed_from, range_of, step, written_at}
 use Rattle.bridge.specs.Text.{char}
-use Rattle.bridge.specs.TokenSteps.{doc_steps, doc_text, name_at, name_in, punct_at, sort_of, spacing_before, steps_of, steps_of_sort}
-use Rattle.expander.specs.PieceTokens.{counted_from, is_between}
+use Rattle.bridge.specs.TokenSteps.{doc_steps, doc_text, is_mark, name_at, name_in, punct_at, sort_of, spacing_before, steps_of_sort}
+use Rattle.expander.specs.PieceTokens.{is_between}
 use Rattle.expander.specs.Sources.{bytes_of}
 use Rattle.expander.proofs.TokenFormLemmas.{Form, blank, by_form, closing, doc, form_steps, mark, name, neither, opening, quoted_name, value}
 
@@ -123,66 +122,6 @@ part_between n from to before part behind row first last =
     append_nothing [] = refl
     append_nothing (t ∷ l) = ap (λ m. t ∷ m) (append_nothing l)
 
--- ---- what they are read as, in places counted from one of them
-
--- a step with its place counted from n on
-abbrev pub step_back : ℕ → TextStep → TextStep
-step_back n (step s) = step (step_with (moved_back n) s)
-step_back n (bad range) = bad (record { start = range.start - n; «end» = range.«end» - n })
-
-module _ (n : ℕ) where
-  spacing_back : (after : List PlacedToken) → spacing_before (map (counted_from n) after) ≡ spacing_before after
-  spacing_back [] = refl
-  spacing_back (t ∷ more) = refl
-
-  at_back : (t : PlacedToken) → n ≤ t.start → written_at (range_of (counted_from n t)) ≡ moved_back n (written_at (range_of t))
-  at_back t h =
-      let e : t.start - n + length t.text ≡ t.start + length t.text - n = omega (arith, h) in
-      ap (λ (k : ℕ). written_at (record { start = t.start - n; «end» = k })) e
-
-  form_back : (form : Form) (t : PlacedToken) (after : List PlacedToken) → n ≤ t.start
-      → form_steps form (counted_from n t) (map (counted_from n) after) ≡ map (step_back n) (form_steps form t after)
-  form_back blank t after h = refl
-  form_back (name raw) t after h = ap (λ (span : Span). step (name_at (name_in raw t.text) raw span) ∷ []) (at_back t h)
-  form_back (mark c) t after h =
-      ap (λ (span : Span). step (punct_at c (spacing_before (map (counted_from n) after)) span) ∷ []) (at_back t h)
-      ∙ ap (λ spacing. step (punct_at c spacing (moved_back n (written_at (range_of t)))) ∷ []) (spacing_back after)
-  form_back (opening k) t after h = ap (λ (span : Span). step (opens k span) ∷ []) (at_back t h)
-  form_back (closing k) t after h = ap (λ (span : Span). step (closes k span) ∷ []) (at_back t h)
-  form_back quoted_name t after h =
-      let behind : t.start - n + 1 ≡ t.start + 1 - n = omega (arith, h) in
-      let last : t.start - n + length t.text ≡ t.start + length t.text - n = omega (arith, h) in
-      ap (λ (k : ℕ). step (punct_at (char "'") Joint (written_at (record { start = t.start - n; «end» = k })))
-      ∷ step (name_at (drop 1 t.text) is_raw.No (written_at (record { start = k; «end» = t.start - n + length t.text }))) ∷ [])
-      behind
-      ∙ ap (λ (k : ℕ). step (punct_at (char "'") Joint (written_at (record { start = t.start - n; «end» = t.start + 1 - n })))
-      ∷ step (name_at (drop 1 t.text) is_raw.No (written_at (record { start = t.start + 1 - n; «end» = k }))) ∷ [])
-      last
-  form_back (doc Outer is_block) t after h = ap (λ (span : Span). map step (doc_steps Outer (doc_text is_block t.text) span)) (at_back t h)
-  form_back (doc Inner is_block) t after h = ap (λ (span : Span). map step (doc_steps Inner (doc_text is_block t.text) span)) (at_back t h)
-  form_back (value f suffix_start) t after h =
-      ap (λ (span : Span). step (at_leaf (as_leaf.Literal (literal_in f suffix_start t.text span))) ∷ []) (at_back t h)
-  form_back neither t after h =
-      let e : t.start - n + length t.text ≡ t.start + length t.text - n = omega (arith, h) in
-      ap (λ (k : ℕ). bad (record { start = t.start - n; «end» = k }) ∷ []) e
-
-  sort_back : (t : PlacedToken) (after : List PlacedToken) → n ≤ t.start
-      → steps_of_sort (sort_of t.kind) (counted_from n t) (map (counted_from n) after) ≡ map (step_back n) (steps_of_sort (sort_of t.kind) t after)
-  sort_back t after h =
-      by_form (λ read is_one. read (counted_from n t) (map (counted_from n) after) ≡ map (step_back n) (read t after)) (λ form. form_back form t after h) t.kind
-
-  pub steps_back : (m : ℕ) (ts : List PlacedToken) → n ≤ m → InRow m ts → steps_of (map (counted_from n) ts) ≡ map (step_back n) (steps_of ts)
-  steps_back m [] h row = refl
-  steps_back m (t ∷ ts) h row =
-      ap (λ (l : List TextStep). l ++ steps_of (map (counted_from n) ts)) (sort_back t ts (omega (arith, h, row.0)))
-      ∙ ap (λ (l : List TextStep). map (step_back n) (steps_of_sort (sort_of t.kind) t ts) ++ l) (steps_back (m + length t.text) ts (omega (arith, h)) row.2)
-      ∙ sym (map-append (step_back n) (steps_of_sort (sort_of t.kind) t ts) (steps_of ts))
-
--- steps of a walk, in these places
-pub walk_back : (n : ℕ) (steps : List Step) → map (step_back n) (map step steps) ≡ map step (map (step_with (moved_back n)) steps)
-walk_back n [] = refl
-walk_back n (s ∷ more) = ap (λ (xs : List TextStep). step (step_with (moved_back n) s) ∷ xs) (walk_back n more)
-
 -- ---- a token before others
 
 -- what one token is read as hangs on the others only by whether a punct follows
@@ -206,3 +145,89 @@ form_before neither t a b e = refl
 pub sort_before : (t : PlacedToken) (a b : List PlacedToken) → starts_with_mark a ≡ starts_with_mark b
     → steps_of_sort (sort_of t.kind) t a ≡ steps_of_sort (sort_of t.kind) t b
 sort_before t a b e = by_form (λ read is_one. read t a ≡ read t b) (λ form. form_before form t a b e) t.kind
+
+-- ---- at other places
+
+starts_at_others : (F : PlacedToken → PlacedToken) → ((t : PlacedToken) → (F t).kind ≡ t.kind) → (ts others : List PlacedToken)
+    → starts_with_mark (map F ts ++ others) ≡ starts_with_mark (map F (ts ++ others))
+starts_at_others F same [] [] = refl
+starts_at_others F same [] (t ∷ others) = ap (λ k. is_mark (sort_of k)) (sym (same t))
+starts_at_others F same (t ∷ ts) others = refl
+
+module _ (shift : ℕ → ℕ) where
+  -- a token with its place changed
+  abbrev pub shifted_token : PlacedToken → PlacedToken
+  shifted_token t = record t { start = shift t.start }
+
+  abbrev pub shifted_span : Span → Span
+  shifted_span s = record s { range = record { start = shift s.range.start; «end» = shift s.range.«end» } }
+
+  abbrev pub shifted_step : TextStep → TextStep
+  shifted_step (step s) = step (step_with shifted_span s)
+  shifted_step (bad range) = bad (record { start = shift range.start; «end» = shift range.«end» })
+
+  -- the places behind its start are changed as its start is
+  abbrev pub Goes : PlacedToken → Type 0
+  Goes t = (k : ℕ) → shift (t.start + k) ≡ shift t.start + k
+
+  abbrev pub AllGo : List PlacedToken → Type 0
+  AllGo [] = Unit {0}
+  AllGo (t ∷ ts) = Goes t × AllGo ts
+
+  spacing_shifted : (after : List PlacedToken) → spacing_before (map shifted_token after) ≡ spacing_before after
+  spacing_shifted [] = refl
+  spacing_shifted (t ∷ more) = refl
+
+  at_shifted : (t : PlacedToken) → Goes t → written_at (range_of (shifted_token t)) ≡ shifted_span (written_at (range_of t))
+  at_shifted t h = ap (λ (k : ℕ). written_at (record { start = shift t.start; «end» = k })) (sym (h (length t.text)))
+
+  form_shifted : (form : Form) (t : PlacedToken) (after : List PlacedToken) → Goes t
+      → form_steps form (shifted_token t) (map shifted_token after) ≡ map shifted_step (form_steps form t after)
+  form_shifted blank t after h = refl
+  form_shifted (name raw) t after h = ap (λ (span : Span). step (name_at (name_in raw t.text) raw span) ∷ []) (at_shifted t h)
+  form_shifted (mark c) t after h =
+      ap (λ (span : Span). step (punct_at c (spacing_before (map shifted_token after)) span) ∷ []) (at_shifted t h)
+      ∙ ap (λ spacing. step (punct_at c spacing (shifted_span (written_at (range_of t)))) ∷ []) (spacing_shifted after)
+  form_shifted (opening k) t after h = ap (λ (span : Span). step (opens k span) ∷ []) (at_shifted t h)
+  form_shifted (closing k) t after h = ap (λ (span : Span). step (closes k span) ∷ []) (at_shifted t h)
+  form_shifted quoted_name t after h =
+      ap (λ (k : ℕ). step (punct_at (char "'") Joint (written_at (record { start = shift t.start; «end» = k })))
+      ∷ step (name_at (drop 1 t.text) is_raw.No (written_at (record { start = k; «end» = shift t.start + length t.text }))) ∷ [])
+      (sym (h 1))
+      ∙ ap (λ (k : ℕ). step (punct_at (char "'") Joint (written_at (record { start = shift t.start; «end» = shift (t.start + 1) })))
+      ∷ step (name_at (drop 1 t.text) is_raw.No (written_at (record { start = shift (t.start + 1); «end» = k }))) ∷ [])
+      (sym (h (length t.text)))
+  form_shifted (doc Outer is_block) t after h = ap (λ (span : Span). map step (doc_steps Outer (doc_text is_block t.text) span)) (at_shifted t h)
+  form_shifted (doc Inner is_block) t after h = ap (λ (span : Span). map step (doc_steps Inner (doc_text is_block t.text) span)) (at_shifted t h)
+  form_shifted (value f suffix_start) t after h =
+      ap (λ (span : Span). step (at_leaf (as_leaf.Literal (literal_in f suffix_start t.text span))) ∷ []) (at_shifted t h)
+  form_shifted neither t after h = ap (λ (k : ℕ). bad (record { start = shift t.start; «end» = k }) ∷ []) (sym (h (length t.text)))
+
+  sort_shifted : (t : PlacedToken) (after : List PlacedToken) → Goes t
+      → steps_of_sort (sort_of t.kind) (shifted_token t) (map shifted_token after) ≡ map shifted_step (steps_of_sort (sort_of t.kind) t after)
+  sort_shifted t after h =
+      by_form (λ read is_one. read (shifted_token t) (map shifted_token after) ≡ map shifted_step (read t after)) (λ form. form_shifted form t after h) t.kind
+
+  pub steps_shifted : (ts others : List PlacedToken) → AllGo ts → steps_before (map shifted_token ts) others ≡ map shifted_step (steps_before ts others)
+  steps_shifted [] others h = refl
+  steps_shifted (t ∷ ts) others h =
+      ap (λ (l : List TextStep). l ++ steps_before (map shifted_token ts) others)
+      (sort_before (shifted_token t) (map shifted_token ts ++ others) (map shifted_token (ts ++ others)) (starts_at_others shifted_token (λ u. refl) ts others)
+      ∙ sort_shifted t (ts ++ others) h.0)
+      ∙ ap (λ (l : List TextStep). map shifted_step (steps_of_sort (sort_of t.kind) t (ts ++ others)) ++ l) (steps_shifted ts others h.1)
+      ∙ sym (map-append shifted_step (steps_of_sort (sort_of t.kind) t (ts ++ others)) (steps_before ts others))
+
+  -- steps of a walk
+  pub walk_shifted : (steps : List Step) → map shifted_step (map step steps) ≡ map step (map (step_with shifted_span) steps)
+  walk_shifted [] = refl
+  walk_shifted (s ∷ more) = ap (λ (xs : List TextStep). step (step_with shifted_span s) ∷ xs) (walk_shifted more)
+
+-- places counted from n on
+pub all_back : (n m : ℕ) (ts : List PlacedToken) → n ≤ m → InRow m ts → AllGo (λ k. k - n) ts
+all_back n m [] h row = tt
+all_back n m (t ∷ ts) h row = (λ k. omega (arith, h, row.0), all_back n (m + length t.text) ts (omega (arith, h)) row.2)
+
+-- places counted on from n
+pub all_on : (n : ℕ) (ts : List PlacedToken) → AllGo (λ k. n + k) ts
+all_on n [] = tt
+all_on n (t ∷ ts) = (λ k. omega arith, all_on n ts)
