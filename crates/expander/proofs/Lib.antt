@@ -19,6 +19,7 @@ mod TokenRowLemmas
 mod TokenStepLemmas
 mod PieceTreeLemmas
 mod PieceTokenLemmas
+mod PieceWordLemmas
 mod SortLemmas
 mod StretchLemmas
 mod KnownLemmas

@@ -13,14 +13,14 @@ use Rattle.bridge.specs.Parts.{steps_before}
 use Rattle.bridge.specs.Reading.{IsReading, PlacedToken, TextStep, reading, step}
 use Rattle.bridge.specs.TokenSteps.{sort_of, spacing_before, steps_of, steps_of_sort, text_reading, text_steps}
 use Rattle.bridge.specs.declared.fault.ReadFault.{ReadFault}
-use Rattle.expander.specs.PieceTokens.{counted_from, is_between, last_end, tokens_in, written_in}
+use Rattle.expander.specs.PieceTokens.{AreBlank, AreWords, counted_from, counted_on, is_between, last_end, tokens_in, written_in}
 use Rattle.expander.specs.Pieces.{first_start, moved_back, pieces, put_together, relative, separated}
 use Rattle.expander.specs.Sources.{bytes_of}
 use Rattle.expander.proofs.CuttingLemmas.{put_together-cut}
 use Rattle.expander.proofs.PieceTreeLemmas.{ArePieces, HasFirst, HasLast, Unjoined, cut_pieces, end_separated, ended_separated, first_separated, first_step, is_ended, last_step, spaced_separated, spaced_trees, unjoin}
 use Rattle.expander.proofs.ReadPartLemmas.{separated_with}
-use Rattle.expander.proofs.TokenRowLemmas.{InRow, all_back, end_append, end_from, in_row, part_between, row_behind, row_front, shifted_step, steps_shifted, walk_shifted}
-use Rattle.expander.proofs.TokenStepLemmas.{HasBlanks, HasPart, take_blanks, take_part}
+use Rattle.expander.proofs.TokenRowLemmas.{InRow, all_back, end_append, end_from, in_row, on_again, part_between, row_behind, row_front, shifted_step, steps_shifted, walk_shifted}
+use Rattle.expander.proofs.TokenStepLemmas.{HasBlanks, HasPart, none_are_blank, take_blanks, take_part}
 
 -- ---- each piece by its own tokens
 
@@ -52,9 +52,12 @@ before_none (t ∷ ts) =
 -- the first piece of those that are left, which these trees are
 record TakesPiece (all before ts : List PlacedToken) (p behind : Forest) : Type 0 where
   read : IsRead all p
-  passed : List PlacedToken
+  blanks : List PlacedToken
+  are_blank : AreBlank blanks
+  part : List PlacedToken
   rest : List PlacedToken
-  split : ts ≡ passed ++ rest
+  split : ts ≡ blanks ++ (part ++ rest)
+  word : map (counted_on (first_start p)) (word_in all p) ≡ part
   left : steps_of rest ≡ map step (walk behind)
 
 take_piece : (all before ts : List PlacedToken) (a behind : Forest) → InRow 0 all → all ≡ before ++ ts → a ≢ empty → (is_ended a ≡ false → walk behind ≡ [])
@@ -96,24 +99,48 @@ take_piece all before ts a behind row are some ends read =
                 ∙ ap (map step) (sym (walk-map_spans (moved_back m) (spaced_trees spacing a)));
             is = sym (separated_with (moved_back m) (spaced_trees spacing a) ∙ ap (map_spans (moved_back m)) (spaced_separated spacing a));
           };
-      passed = b.blanks ++ part;
+      blanks = b.blanks;
+      are_blank = b.are_blank;
+      part = part;
       rest = p.rest;
-      split = b.split ∙ ap (λ l. b.blanks ++ l) p.split ∙ sym (append_assoc b.blanks part p.rest);
+      split = b.split ∙ ap (λ l. b.blanks ++ l) p.split;
+      word = ap (λ l. map (counted_on m) (map (counted_from m) l)) between ∙ on_again m from part (omega (arith, start)) row_its;
       left = p.left;
     }
 
-all_read : (all before ts : List PlacedToken) (f : Forest) (ps : List Forest) → InRow 0 all → all ≡ before ++ ts → steps_of ts ≡ map step (walk f) → separated f ≡ put_together ps → ArePieces ps
-    → All (IsRead all) ps
-all_read all before ts f [] row are read is pieces_are = All-nil (IsRead all)
-all_read all before ts f (p ∷ ps) row are read is pieces_are =
-    let u : Unjoined f p (put_together ps) = unjoin f p (put_together ps) is in
+first_piece : (all before ts : List PlacedToken) (f p : Forest) (ps : List Forest) → InRow 0 all → all ≡ before ++ ts → steps_of ts ≡ map step (walk f) → ArePieces (p ∷ ps)
+    → (u : Unjoined f p (put_together ps)) → TakesPiece all before ts p u.behind
+first_piece all before ts f p ps row are read pieces_are u =
     let some : u.first ≢ empty = λ e. pieces_are.0 (sym u.one ∙ ap separated e) in
     let ends : is_ended u.first ≡ false → walk u.behind ≡ [] =
     λ h. no_trees u.behind (u.two ∙ ap put_together (pieces_are.1 (ap is_ended (sym u.one) ∙ ended_separated u.first ∙ h))) in
-    let t : TakesPiece all before ts (separated u.first) u.behind = take_piece all before ts u.first u.behind row are some ends (read ∙ ap (λ g. map step (walk g)) u.is) in
-    All-cons (IsRead all) p ps (subst (IsRead all) u.one t.read)
-    (all_read all (before ++ t.passed) t.rest u.behind ps row
-    (are ∙ ap (λ l. before ++ l) t.split ∙ sym (append_assoc before t.passed t.rest)) t.left u.two pieces_are.2)
+    subst (λ q. TakesPiece all before ts q u.behind) u.one
+    (take_piece all before ts u.first u.behind row are some ends (read ∙ ap (λ g. map step (walk g)) u.is))
+
+-- all tokens that are left are read as pieces, with blank ones between them
+abbrev AllRead : List PlacedToken → List Forest → List PlacedToken → Type 0
+AllRead all ps ts = All (IsRead all) ps × AreWords (map (word_in all) ps) ts
+
+with_piece : (all before ts : List PlacedToken) (p behind : Forest) (ps : List Forest) (t : TakesPiece all before ts p behind) → AllRead all ps t.rest → AllRead all (p ∷ ps) ts
+with_piece all before ts p behind ps t later = (
+  All-cons (IsRead all) p ps t.read later.0,
+  (
+    t.rest,
+    record { blanks = t.blanks; are_blank = t.are_blank; from = first_start p; is = t.split ∙ ap (λ l. t.blanks ++ (l ++ t.rest)) (sym t.word) },
+    later.1,
+  ),
+)
+
+all_read : (all before ts : List PlacedToken) (f : Forest) (ps : List Forest) → InRow 0 all → all ≡ before ++ ts → steps_of ts ≡ map step (walk f) → separated f ≡ put_together ps → ArePieces ps
+    → AllRead all ps ts
+all_read all before ts f [] row are read is pieces_are = (All-nil (IsRead all), none_are_blank ts (read ∙ ap (map step) (no_trees f is)))
+all_read all before ts f (p ∷ ps) row are read is pieces_are =
+    let u : Unjoined f p (put_together ps) = unjoin f p (put_together ps) is in
+    let t : TakesPiece all before ts p u.behind = first_piece all before ts f p ps row are read pieces_are u in
+    let passed : List PlacedToken = t.blanks ++ t.part in
+    with_piece all before ts p u.behind ps t
+    (all_read all (before ++ passed) t.rest u.behind ps row
+    (are ∙ ap (λ l. before ++ l) (t.split ∙ sym (append_assoc t.blanks t.part t.rest)) ∙ sym (append_assoc before passed t.rest)) t.left u.two pieces_are.2)
 
 -- ---- the pieces of a text
 
@@ -130,11 +157,18 @@ tree_from (Ok k) = separated k
 tree_from (Err fault) = empty
 
 module _ (laws : TokenLaws) where
-  pub pieces_read : (text : List ℕ) (f : Forest) → IsUtf8 text → text_reading text ≡ Ok f → All (IsRead (tokens_in text)) (pieces f)
-  pieces_read text f is_text read =
+  all_tokens : (text : List ℕ) (f : Forest) → IsUtf8 text → text_reading text ≡ Ok f → AllRead (tokens_in text) (pieces f) (tokens_in text)
+  all_tokens text f is_text read =
       all_read (tokens_in text) [] (tokens_in text) f (pieces f)
       (in_row 0 text (tokens_of (chars text)) (laws.positive text is_text) (omega (arith, laws.whole text is_text))) refl
       (laws.walk_read (text_steps text) f read) (sym (put_together-cut (separated f))) (cut_pieces (separated f) empty)
+
+  pub pieces_read : (text : List ℕ) (f : Forest) → IsUtf8 text → text_reading text ≡ Ok f → All (IsRead (tokens_in text)) (pieces f)
+  pieces_read text f is_text read = (all_tokens text f is_text read).0
+
+  -- the tokens of a text are those of its pieces, with blank ones between them
+  pub words_are_own : (text : List ℕ) (f : Forest) → IsUtf8 text → text_reading text ≡ Ok f → AreWords (map (written_in text) (pieces f)) (tokens_in text)
+  words_are_own text f is_text read = (all_tokens text f is_text read).1
 
   abbrev pub IsItsOwn : List ℕ → Forest → Type 0
   IsItsOwn text p = (k : Forest) × (reading (steps_of (written_in text p)) ≡ Ok k) × (relative p ≡ separated k)

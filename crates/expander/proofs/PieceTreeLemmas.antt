@@ -1,7 +1,9 @@
 -- The trees of a piece: its first step and its last one, and its `;`.
-use Rattle.std.proofs.Common.{◌≡◌, ◌≢◌, ℕ, Bool, true, false, List, [], ◌∷◌, ◌++◌, append_assoc, refl, sym, ap, ◌∙◌, if◌then◌else◌}
+use Rattle.std.proofs.Common.{◌≡◌, ◌≢◌, Bool, true, false, List, [], ◌∷◌, ◌++◌, append_assoc, refl, sym, ap, ◌∙◌, if◌then◌else◌, inl, inr}
+use Rattle.std.specs.Prelude.{◌⊎◌}
 use Rattle.tt.specs.Building.{alone}
-use Rattle.tt_data.specs.Forest.{Forest, empty, leaf, group, joined}
+use Rattle.tt_data.proofs.ForestLemmas.{joined_assoc, map_spans-joined}
+use Rattle.tt_data.specs.Forest.{Forest, empty, leaf, group, joined, map_spans}
 use Rattle.tt_data.specs.Spans.{span_of}
 use Rattle.tt_data.specs.Walk.{Step, at_leaf, closes, opens, walk}
 use Rattle.tt_data.specs.declared.delimiter.Delimiter.{Delimiter}
@@ -11,8 +13,10 @@ use Rattle.tt_data.specs.declared.leaf.Spacing.{Spacing}
 use Rattle.tt_data.specs.declared.span.Span.{Span}
 use Rattle.bridge.specs.Text.{is_punct}
 use Rattle.expander.specs.PieceTokens.{last_end}
-use Rattle.expander.specs.Pieces.{cut_from, ends_piece, first_start, separated}
+use Rattle.expander.specs.Pieces.{cut, cut_from, ends_piece, first_start, separated}
+use Rattle.expander.specs.Sources.{IsOpen, IsWhole}
 use Rattle.expander.proofs.TokenStepLemmas.{is_end, spaced, starts_at, stops_at, with_spacing}
+use Rattle.expander.proofs.WholeLemmas.{IsBegunAlways, ends_always, group_always, leaf_always, more_always, none_begun, open_always}
 
 -- ---- the first step and the last one of trees
 
@@ -217,3 +221,43 @@ cut_pieces (leaf l rest) begun =
 cut_pieces (group d inner rest) begun =
     one_more (ends_piece begun d) (joined begun (group d inner empty)) (cut_from rest empty) (cut_from rest (joined begun (group d inner empty)))
     (λ h. ended_group begun d inner) (cut_pieces rest empty) (cut_pieces rest (joined begun (group d inner empty)))
+
+-- a piece that ends by itself wherever it stands, or the last one, which nothing ends
+abbrev pub IsShaped : Forest → List Forest → Type 0
+IsShaped p ps = (IsWhole p × (is_ended p ≡ true)) ⊎ (IsOpen p × (ps ≡ []))
+
+abbrev pub AreShaped : List Forest → Type 0
+AreShaped [] = Unit {0}
+AreShaped (p ∷ ps) = IsShaped p ps × AreShaped ps
+
+-- one tree more
+tree_more : (begun tree : Forest) → IsBegunAlways begun empty begun → IsBegunAlways (joined begun tree) tree begun
+tree_more begun tree b = record {
+  split = refl;
+  same = λ f after.
+      b.same f (joined (map_spans f tree) after)
+      ∙ ap cut (sym (joined_assoc (map_spans f begun) (map_spans f tree) after) ∙ ap (λ (g : Forest). joined g after) (sym (map_spans-joined f begun tree)));
+}
+
+shape_or : (b : Bool) (p : Forest) (ps qs : List Forest) → (b ≡ true → IsWhole p × (is_ended p ≡ true)) → AreShaped ps → (b ≡ false → AreShaped qs) → AreShaped (if b then p ∷ ps else qs)
+shape_or true p ps qs whole are others = (inl (whole refl), are)
+shape_or false p ps qs whole are others = others refl
+
+pub cut_shapes : (f begun : Forest) → IsBegunAlways begun empty begun → AreShaped (cut_from f begun)
+cut_shapes empty empty b = tt
+cut_shapes empty (leaf l begun) b = (inr (open_always (leaf l begun) empty (leaf l begun) b refl (λ e. cc), refl), tt)
+cut_shapes empty (group d inner begun) b = (inr (open_always (group d inner begun) empty (group d inner begun) b refl (λ e. cc), refl), tt)
+cut_shapes (leaf l rest) begun b =
+    let tree : Forest = leaf l empty in
+    let all : Forest = joined begun tree in
+    shape_or (is_punct ";" l) all (cut_from rest empty) (cut_from rest all)
+    (λ e. (ends_always all tree empty begun tree (tree_more begun tree b) refl refl (leaf_always l begun true (sym e)), ended_leaf begun l ∙ e))
+    (cut_shapes rest empty (none_begun empty))
+    (λ e. cut_shapes rest all (more_always all tree empty begun tree (tree_more begun tree b) refl (leaf_always l begun false (sym e))))
+cut_shapes (group d inner rest) begun b =
+    let tree : Forest = group d inner empty in
+    let all : Forest = joined begun tree in
+    shape_or (ends_piece begun d) all (cut_from rest empty) (cut_from rest all)
+    (λ e. (ends_always all tree empty begun tree (tree_more begun tree b) refl refl (group_always d inner begun true (sym e)), ended_group begun d inner))
+    (cut_shapes rest empty (none_begun empty))
+    (λ e. cut_shapes rest all (more_always all tree empty begun tree (tree_more begun tree b) refl (group_always d inner begun false (sym e))))

@@ -36,7 +36,7 @@ use Rattle.expander.proofs.ApartLemmas.{separated-joined}
 
 -- ---- trees elsewhere
 
-span_with : (f : Span → Span) (l : Leaf) → span_of (leaf_with f l) ≡ f (span_of l)
+pub span_with : (f : Span → Span) (l : Leaf) → span_of (leaf_with f l) ≡ f (span_of l)
 span_with f (as_leaf.Literal l) = refl
 span_with f (as_leaf.Punct p) = refl
 span_with f (as_leaf.Ident i) = refl

@@ -1,6 +1,7 @@
 -- What a kind of token is read as, by forms that have names here.
-use Rattle.std.proofs.Common.{ℕ, ◌+◌, Bool, true, false, List, [], ◌∷◌, length, map, drop, Option, Some, None}
+use Rattle.std.proofs.Common.{◌≡◌, ℕ, ◌+◌, Bool, true, false, List, [], ◌∷◌, length, map, drop, Option, Some, None, refl}
 use Rattle.rustc_lexer.specs.declared.token.DocStyle.{DocStyle}
+use Rattle.rustc_lexer.specs.declared.token.DocStyle.TheVariants.{Outer, Inner}
 use Rattle.rustc_lexer.specs.declared.token.TokenKind.{TokenKind}
 use Rattle.rustc_lexer.specs.declared.token.TokenKind.TheVariants as kind
 use Rattle.tt.specs.TokenLiterals.{literal_in}
@@ -15,6 +16,7 @@ use Rattle.tt_data.specs.declared.leaf.Spacing.TheVariants.{Joint}
 use Rattle.bridge.specs.Reading.{PlacedToken, TextStep, bad, range_of, step, written_at}
 use Rattle.bridge.specs.Text.{char}
 use Rattle.bridge.specs.TokenSteps.{doc_steps, doc_text, is_mark, literal_form, literal_sort, name_at, name_in, punct_at, sort_of, spacing_before, steps_of_sort}
+use Rattle.expander.specs.PieceTokens.{is_blank_kind}
 
 pub data Form : Type 0 where
   blank : Form
@@ -88,3 +90,30 @@ module _ (P : (PlacedToken → List PlacedToken → List TextStep) → Bool → 
   by_form kind.CloseBrace = h (closing Brace)
   by_form kind.CloseBracket = h (closing Bracket)
   by_form _ = h neither
+
+-- ---- blank tokens
+
+-- they are read as nothing
+pub blank_is_nothing : (k : TokenKind) (t : PlacedToken) (after : List PlacedToken) → is_blank_kind k ≡ true → steps_of_sort (sort_of k) t after ≡ []
+blank_is_nothing kind.Whitespace t after h = refl
+blank_is_nothing (kind.LineComment None) t after h = refl
+blank_is_nothing (kind.BlockComment None true) t after h = refl
+blank_is_nothing _ t after h = cc
+
+-- and no others are
+pub nothing_is_blank : (k : TokenKind) (t : PlacedToken) (after : List PlacedToken) → steps_of_sort (sort_of k) t after ≡ [] → is_blank_kind k ≡ true
+nothing_is_blank kind.Whitespace t after e = refl
+nothing_is_blank (kind.LineComment None) t after e = refl
+nothing_is_blank (kind.LineComment (Some Outer)) t after e = cc
+nothing_is_blank (kind.LineComment (Some Inner)) t after e = cc
+nothing_is_blank (kind.BlockComment None true) t after e = refl
+nothing_is_blank (kind.BlockComment (Some Outer) true) t after e = cc
+nothing_is_blank (kind.BlockComment (Some Inner) true) t after e = cc
+nothing_is_blank (kind.Lifetime true) t after e = cc
+nothing_is_blank (kind.Lifetime false) t after e = cc
+nothing_is_blank (kind.Literal k suffix_start) t after e = go (literal_form k) e
+  where
+    go : (o : Option LitKind) → steps_of_sort (literal_sort o suffix_start) t after ≡ [] → false ≡ true
+    go None h = cc
+    go (Some f) h = cc
+nothing_is_blank _ t after e = cc

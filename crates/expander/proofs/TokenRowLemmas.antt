@@ -17,7 +17,7 @@ use Rattle.bridge.specs.Parts.{starts_with_mark, steps_before}
 use Rattle.bridge.specs.Reading.{PlacedToken, TextStep, bad, placed_from, range_of, step, written_at}
 use Rattle.bridge.specs.Text.{char}
 use Rattle.bridge.specs.TokenSteps.{doc_steps, doc_text, is_mark, name_at, name_in, punct_at, sort_of, spacing_before, steps_of_sort}
-use Rattle.expander.specs.PieceTokens.{is_between}
+use Rattle.expander.specs.PieceTokens.{counted_from, counted_on, is_between}
 use Rattle.expander.specs.Sources.{bytes_of}
 use Rattle.expander.proofs.TokenFormLemmas.{Form, blank, by_form, closing, doc, form_steps, mark, name, neither, opening, quoted_name, value}
 
@@ -231,3 +231,11 @@ all_back n m (t ∷ ts) h row = (λ k. omega (arith, h, row.0), all_back n (m + 
 pub all_on : (n : ℕ) (ts : List PlacedToken) → AllGo (λ k. n + k) ts
 all_on n [] = tt
 all_on n (t ∷ ts) = (λ k. omega arith, all_on n ts)
+
+-- counted from n, and on again
+pub on_again : (n m : ℕ) (ts : List PlacedToken) → n ≤ m → InRow m ts → map (counted_on n) (map (counted_from n) ts) ≡ ts
+on_again n m [] h row = refl
+on_again n m (t ∷ ts) h row =
+    let e : n + (t.start - n) ≡ t.start = omega (arith, h, row.0) in
+    ap (λ (k : ℕ). record { kind = t.kind; start = k; text = t.text } ∷ map (counted_on n) (map (counted_from n) ts)) e
+    ∙ ap (λ l. t ∷ l) (on_again n (m + length t.text) ts (omega (arith, h)) row.2)

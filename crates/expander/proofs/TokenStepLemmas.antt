@@ -1,5 +1,6 @@
 -- The tokens that the first steps of a text are read from.
 use Rattle.std.proofs.Common.{◌≡◌, ℕ, ◌+◌, Bool, true, false, ◌&&◌, not, List, [], ◌∷◌, ◌++◌, append_assoc, append-nil, length, map, refl, sym, ap, subst, ◌∙◌, if◌then◌else◌}
+use Rattle.std.proofs.lemmas.List.Elements.{All-cons, All-nil}
 use Rattle.std.proofs.lemmas.List.{map-append}
 use Rattle.rustc_lexer.specs.declared.token.DocStyle.TheVariants.{Outer, Inner}
 use Rattle.tt_data.specs.Walk.{Step, at_leaf, closes, opens}
@@ -13,7 +14,8 @@ use Rattle.bridge.specs.Printing.{step_span}
 use Rattle.bridge.specs.Reading.{PlacedToken, TextStep, bad, range_of, step, written_at}
 use Rattle.bridge.specs.Text.{is_punct}
 use Rattle.bridge.specs.TokenSteps.{mark_leaf, sort_of, spacing_before, steps_of, steps_of_sort}
-use Rattle.expander.proofs.TokenFormLemmas.{Form, blank, by_form, closing, doc, form_steps, is_mark_form, mark, name, neither, opening, quoted_name, value}
+use Rattle.expander.specs.PieceTokens.{AreBlank, is_blank_kind}
+use Rattle.expander.proofs.TokenFormLemmas.{Form, blank, by_form, closing, doc, form_steps, is_mark_form, mark, name, neither, nothing_is_blank, opening, quoted_name, value}
 use Rattle.expander.proofs.TokenRowLemmas.{InRow, end_from, sort_before}
 
 -- ---- steps
@@ -210,6 +212,7 @@ take_part n (t ∷ ts) xs x ys row e h =
 -- the tokens before the first that is read as steps
 pub record HasBlanks (n : ℕ) (ts : List PlacedToken) (x : Step) : Type 0 where
   pub blanks : List PlacedToken
+  pub are_blank : AreBlank blanks
   pub rest : List PlacedToken
   pub split : ts ≡ blanks ++ rest
   pub starts : end_from n blanks ≡ starts_at x
@@ -222,9 +225,23 @@ take_blanks n (t ∷ ts) x xs row e =
     (λ none.
     let same : steps_of (t ∷ ts) ≡ steps_of ts = ap (λ (l : List TextStep). l ++ steps_of ts) none in
     let b : HasBlanks (n + length t.text) ts x = take_blanks (n + length t.text) ts x xs row.2 (sym same ∙ e) in
-    record { blanks = t ∷ b.blanks; rest = b.rest; split = ap (λ (l : List PlacedToken). t ∷ l) b.split; starts = b.starts; left = b.left ∙ sym same })
+    record { blanks = t ∷ b.blanks; are_blank = blank_more t b.blanks none b.are_blank; rest = b.rest; split = ap (λ (l : List PlacedToken). t ∷ l) b.split; starts = b.starts; left = b.left ∙ sym same })
     (λ s more are.
     let first : step s ∷ map step more ++ steps_of ts ≡ step x ∷ map step xs = ap (λ (l : List TextStep). l ++ steps_of ts) (sym are.are) ∙ e in
     let same : s ≡ x = cc in
-    record { blanks = []; rest = t ∷ ts; split = refl; starts = sym row.0 ∙ sym are.starts ∙ ap starts_at same; left = refl })
+    record { blanks = []; are_blank = All-nil (λ (u : PlacedToken). is_blank_kind u.kind ≡ true); rest = t ∷ ts; split = refl; starts = sym row.0 ∙ sym are.starts ∙ ap starts_at same; left = refl })
     (λ range fault. absurd (let k : bad range ∷ steps_of ts ≡ step x ∷ map step xs = ap (λ (l : List TextStep). l ++ steps_of ts) (sym fault) ∙ e in cc))
+  where
+    blank_more : (u : PlacedToken) (us : List PlacedToken) → steps_of_sort (sort_of u.kind) u ts ≡ [] → AreBlank us → AreBlank (u ∷ us)
+    blank_more u us none h = All-cons (λ (v : PlacedToken). is_blank_kind v.kind ≡ true) u us (nothing_is_blank u.kind u ts none) h
+
+-- tokens that are read as nothing
+pub none_are_blank : (ts : List PlacedToken) → steps_of ts ≡ [] → AreBlank ts
+none_are_blank [] e = All-nil (λ (t : PlacedToken). is_blank_kind t.kind ≡ true)
+none_are_blank (t ∷ ts) e =
+    let parts = both_none (steps_of_sort (sort_of t.kind) t ts) (steps_of ts) e in
+    All-cons (λ (u : PlacedToken). is_blank_kind u.kind ≡ true) t ts (nothing_is_blank t.kind t ts parts.0) (none_are_blank ts parts.1)
+  where
+    both_none : (xs ys : List TextStep) → xs ++ ys ≡ [] → (xs ≡ []) × (ys ≡ [])
+    both_none [] ys k = (refl, k)
+    both_none (x ∷ xs) ys k = absurd (cc k)

@@ -17,7 +17,7 @@ ghost use Rattle.expander.specs.Layered.{layers};
 ghost use Rattle.expander.specs.Meaning.{Layers, ReadMeaning, faults_of, meaning, member_faults, members, members_after, output, output_of};
 ghost use Rattle.expander.specs.Numbers.{AreEntries, Numbering, needed, number_in, number_of, tree_of, with_trees};
 ghost use Rattle.expander.specs.OtherPlaces.{CommutesWithMarker, definition_with};
-ghost use Rattle.expander.specs.PieceTokens.{written_in};
+ghost use Rattle.expander.specs.PieceTokens.{AreWords, tokens_in, written_in};
 ghost use Rattle.expander.specs.Pieces.{cut, pieces, put_together, relative, separated};
 ghost use Rattle.expander.specs.Printing.{left_out};
 ghost use Rattle.expander.specs.Replies.{HasCause, IsReplyTo, NeedsNumbers, Replies, definitions_in};
@@ -306,11 +306,10 @@ pub fn the_same_pieces_are_not_expanded_again()
     equal_pieces();
 }
 
-/// Two texts whose pieces are written in the same tokens, with the same white space and comments between the tokens of a
-/// piece: nothing is said of the white space and the plain comments before, between and behind the pieces. Each piece in
-/// places of its own is what its tokens are read as by themselves: `read`. So the texts have the same pieces: `same`. No
-/// piece of the one counts against those of the other, and a session that last read the one expands none for the other.
-pub fn blanks_between_pieces_count_nothing()
+/// Each piece of a text, in places of its own, is what its tokens are read as by themselves, from its first to its last:
+/// `read`. So where the pieces of two texts are written in the same tokens, in order, the pieces are the same: `same`. Then
+/// no piece of the one counts against those of the other, and a session that last read the one expands none for the other.
+pub fn pieces_hang_on_their_tokens()
     ensures read { (text : List ℕ) (f : Forest) → IsUtf8 text → text_reading text ≡ Ok f →
         All (λ p. (k : Forest) × (reading (steps_of (written_in text p)) ≡ Ok k) × (relative p ≡ separated k)) (pieces f) }
     ensures same { (text other : List ℕ) (f g : Forest) →
@@ -326,6 +325,29 @@ pub fn blanks_between_pieces_count_nothing()
         IsReplyTo (layers grammar edition) depth other (Some (looked_of (members (layers grammar edition) depth f))) reply → ExpandsNothing reply }
 {
     bridge::laws::reading_is_a_relation();
+    rustc_lexer::laws::token_lengths();
+    the_same_pieces_are_not_expanded_again();
+}
+
+/// White space and plain comments may change before, between and behind pieces. The tokens of a text that was read are those
+/// of its pieces in order, each piece's from its first to its last, and before, between and behind them white space and
+/// comments that are no doc comments: `own`. Any other text whose tokens are so of the same pieces is read too, and has the
+/// same pieces in places of their own: `read`. None of its pieces counts against those of the first text, and a session that
+/// last read the first expands none for it: `counted`, `replied`.
+pub fn blanks_between_pieces_count_nothing()
+    ensures own { (text : List ℕ) (f : Forest) → IsUtf8 text → text_reading text ≡ Ok f → AreWords (map (written_in text) (pieces f)) (tokens_in text) }
+    ensures read { (text other : List ℕ) (f : Forest) → IsUtf8 text → text_reading text ≡ Ok f → AreWords (map (written_in text) (pieces f)) (tokens_in other) →
+        (g : Forest) × (text_reading other ≡ Ok g) × (map relative (pieces f) ≡ map relative (pieces g)) }
+    ensures counted { (grammar : Grammar) (edition : Edition) (depth : ℕ) (text other : List ℕ) (f g : Forest) →
+        IsUtf8 text → IsUtf8 other → text_reading text ≡ Ok f → text_reading other ≡ Ok g → AreWords (map (written_in text) (pieces f)) (tokens_in other) →
+        expanded_count (Some (looked_of (members (layers grammar edition) depth f))) (looked_of (members (layers grammar edition) depth g)) ≡ 0 }
+    ensures replied { (grammar : Grammar) (edition : Edition) (depth : ℕ) (text other : List ℕ) (f : Forest) (reply : Reply) →
+        IsUtf8 text → IsUtf8 other → text_reading text ≡ Ok f → AreWords (map (written_in text) (pieces f)) (tokens_in other) →
+        IsReplyTo (layers grammar edition) depth other (Some (looked_of (members (layers grammar edition) depth f))) reply → ExpandsNothing reply }
+{
+    bridge::laws::reading_is_a_relation();
+    bridge::laws::parts_of_a_text();
+    bridge::laws::parts_at_other_places();
     rustc_lexer::laws::token_lengths();
     the_same_pieces_are_not_expanded_again();
 }
