@@ -118,7 +118,7 @@ resolved_expansion world law table tells start before h depth tree =
     expansion-with (resolve start before) (resolve_definition start before) (numbered_world world) world (present_world world law start before)
     (numbered_scope before) (nearest (map present_definition before)) (present_scope table tells start before h) depth None tree
 
-definition_there : (p : Forest) → StandFromFirst p → definition_of p ≡ option_map (definition_with (moved_on (first_start p))) (definition_of (relative p))
+pub definition_there : (p : Forest) → StandFromFirst p → definition_of p ≡ option_map (definition_with (moved_on (first_start p))) (definition_of (relative p))
 definition_there p h = ap definition_of (sym (piece_and_back (first_start p) p h)) ∙ definition_of-with (moved_on (first_start p)) (relative p)
 
 -- the members of a text are its pieces in places of their own, taken to the text

@@ -13,6 +13,13 @@ mod LeftOutLemmas
 mod PrintingLemmas
 mod OrderLemmas
 mod SharedPieceLemmas
+mod FoundAgainLemmas
+mod TokenFormLemmas
+mod TokenRowLemmas
+mod TokenStepLemmas
+mod PieceTreeLemmas
+mod PieceTokenLemmas
+mod PieceWordLemmas
 mod SortLemmas
 mod StretchLemmas
 mod KnownLemmas

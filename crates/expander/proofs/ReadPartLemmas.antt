@@ -36,7 +36,7 @@ use Rattle.expander.proofs.ApartLemmas.{separated-joined}
 
 -- ---- trees elsewhere
 
-span_with : (f : Span → Span) (l : Leaf) → span_of (leaf_with f l) ≡ f (span_of l)
+pub span_with : (f : Span → Span) (l : Leaf) → span_of (leaf_with f l) ≡ f (span_of l)
 span_with f (as_leaf.Literal l) = refl
 span_with f (as_leaf.Punct p) = refl
 span_with f (as_leaf.Ident i) = refl
@@ -72,7 +72,7 @@ is_punct_with f (as_leaf.Literal l) = refl
 is_punct_with f (as_leaf.Punct p) = refl
 is_punct_with f (as_leaf.Ident i) = refl
 
-separated_with : (f : Span → Span) (g : Forest) → separated (map_spans f g) ≡ map_spans f (separated g)
+pub separated_with : (f : Span → Span) (g : Forest) → separated (map_spans f g) ≡ map_spans f (separated g)
 separated_with f empty = refl
 separated_with f (leaf l rest) =
     ap (λ (b : Bool). leaf (if b then alone (leaf_with f l) else leaf_with f l) (separated (map_spans f rest))) (is_punct_with f l)

@@ -117,7 +117,7 @@ module _ (equal : (f g : Forest) → (same_forest f g ≡ true) ↔ (f ≡ g)) w
   piece_is : (table : Forest → ℕ → Type 0) (d : Numbered) (h : IsNumbered table d) → d.definition.piece ≡ h.tree
   piece_is table d h = definition_piece h.tree d.definition h.definition
 
-  same_found-same : (o : Option Forest) → same_found o o ≡ true
+  pub same_found-same : (o : Option Forest) → same_found o o ≡ true
   same_found-same None = refl
   same_found-same (Some f) = forest_same f
 
@@ -127,7 +127,7 @@ module _ (equal : (f g : Forest) → (same_forest f g ≡ true) ↔ (f ≡ g)) w
   or_left : (a b : Bool) → a ≡ true → (a || b) ≡ true
   or_left a b e = ap (λ t. t || b) e
 
-  or_right : (a b : Bool) → b ≡ true → (a || b) ≡ true
+  pub or_right : (a b : Bool) → b ≡ true → (a || b) ≡ true
   or_right true b e = refl
   or_right false b e = e
 
@@ -150,7 +150,7 @@ module _ (equal : (f g : Forest) → (same_forest f g ≡ true) ↔ (f ≡ g)) w
   looked_same l = and_from _ _ (forest_same l.tree) (and_from _ _ (within_same l.finds) (within_same l.finds))
 
   -- equal trees, the same number
-  number_by_tree : (table : Forest → ℕ → Type 0) → Tells table → (name : List ℕ) (a b : Option Numbered)
+  pub number_by_tree : (table : Forest → ℕ → Type 0) → Tells table → (name : List ℕ) (a b : Option Numbered)
       → FoundIs (IsNumbered table) (name, a) → FoundIs (IsNumbered table) (name, b)
       → same_found (option_map (λ (d : Numbered). d.definition.piece) a) (option_map (λ (d : Numbered). d.definition.piece) b) ≡ true → same_number b a ≡ true
   number_by_tree table tells name None None h g e = refl

@@ -92,16 +92,16 @@ members_more l depth before [] qs = refl
 members_more l depth before (p ∷ ps) qs =
     ap (λ (ms : List Member). member l depth before p (definition_of p) ∷ ms) (members_more l depth (with_definition (definition_of p) before) ps qs)
 
-looked_more : (l : Layers) (depth : ℕ) (ps qs : List Forest)
+pub looked_more : (l : Layers) (depth : ℕ) (ps qs : List Forest)
     → looked_of (members_after l depth [] (ps ++ qs)) ≡ looked_of (members_after l depth [] ps) ++ looked_of (members_after l depth (definitions_after [] ps) qs)
 looked_more l depth ps qs =
     ap looked_of (members_more l depth [] ps qs) ∙ filter_map-append _ (members_after l depth [] ps) (members_after l depth (definitions_after [] ps) qs)
 
-all_front : {X : Type 0} → (P : X → Type 0) (xs ys : List X) → All P (xs ++ ys) → All P xs
+pub all_front : {X : Type 0} → (P : X → Type 0) (xs ys : List X) → All P (xs ++ ys) → All P xs
 all_front P [] ys h = All-nil P
 all_front P (x ∷ xs) ys h = All-cons P x xs (All-head P x (xs ++ ys) h) (all_front P xs ys (All-tail P x (xs ++ ys) h))
 
-any_front : (test : Looked → Bool) (ls more : List Looked) → list_any test ls ≡ true → list_any test (ls ++ more) ≡ true
+pub any_front : (test : Looked → Bool) (ls more : List Looked) → list_any test ls ≡ true → list_any test (ls ++ more) ≡ true
 any_front test [] more h = cc
 any_front test (l ∷ ls) more h = go (test l) h (any_front test ls more)
   where

@@ -31,7 +31,7 @@ are_pieces table number_of (p ∷ ps) h g =
     All-cons (IsPiece table number_of) p ps (record { from = All-head StandFromFirst p ps h; numbered = All-head (HasNumber table number_of) p ps g })
     (are_pieces table number_of ps (All-tail StandFromFirst p ps h) (All-tail (HasNumber table number_of) p ps g))
 
-mets : (table : Forest → ℕ → Type 0) (before : List Met) → All (StandsInText table) before → All (IsMet table) before
+pub mets : (table : Forest → ℕ → Type 0) (before : List Met) → All (StandsInText table) before → All (IsMet table) before
 mets table [] h = All-nil (IsMet table)
 mets table (m ∷ before) h =
     All-cons (IsMet table) m before (All-head (StandsInText table) m before h).numbered (mets table before (All-tail (StandsInText table) m before h))
@@ -39,7 +39,7 @@ mets table (m ∷ before) h =
 module _ (equal : (f g : Forest) → (same_forest f g ≡ true) ↔ (f ≡ g)) where
   -- ---- what is held decides nothing but where an outcome comes from
 
-  met_there : (world : World Definition) (depth : ℕ) (table : Forest → ℕ → Type 0) (number_of : Forest → ℕ) (p : Forest) (d : Definition)
+  pub met_there : (world : World Definition) (depth : ℕ) (table : Forest → ℕ → Type 0) (number_of : Forest → ℕ) (p : Forest) (d : Definition)
       → IsPiece table number_of p → definition_of (relative p) ≡ Some d → StandsInText table (met_of world depth number_of p d)
   met_there world depth table number_of p d h e = record {
     numbered = record { tree = relative p; entry = h.numbered d e; definition = e };
@@ -104,7 +104,7 @@ module _ (equal : (f g : Forest) → (same_forest f g ≡ true) ↔ (f ≡ g)) w
   -- ---- the count
 
   -- a definition that was found, as the count sees it
-  found_seen : (table : Forest → ℕ → Type 0) → Tells table → (start : ℕ) (before : List Met) → All (StandsInText table) before → (name : List ℕ) (o : Option Met) → nearest_met before name ≡ o
+  pub found_seen : (table : Forest → ℕ → Type 0) → Tells table → (start : ℕ) (before : List Met) → All (StandsInText table) before → (name : List ℕ) (o : Option Met) → nearest_met before name ≡ o
       → found_piece (option_map (resolve_definition start before) (option_map numbered_of o)) ≡ option_map (λ (d : Numbered). d.definition.piece) (option_map numbered_of o)
   found_seen table tells start before h name None e = refl
   found_seen table tells start before h name (Some m) e =

@@ -1,8 +1,9 @@
 -- Words of the laws.
-use Rattle.std.specs.Prelude.{◌≡◌, ◌⊎◌, ℕ, Bool, true, not, Option, None, List, [], ◌∷◌, is_none}
+use Rattle.std.specs.Prelude.{◌≡◌, ◌⊎◌, ℕ, Bool, true, not, All, Option, None, List, [], ◌∷◌, is_none}
 use Rattle.std.specs.List.{list_all}
 use Rattle.tt_data.specs.Forest.{Forest}
 use Rattle.tt_data.specs.Walk.{walk}
+use Rattle.expander.specs.Count.{found_piece}
 use Rattle.expander.specs.Definitions.{Definition, definition_of}
 use Rattle.expander.specs.Faults.{is_definition_word}
 use Rattle.expander.specs.Meaning.{with_definition}
@@ -30,3 +31,12 @@ ExpandsNothing (Unread fault) = ⊥
 abbrev pub definitions_after : List Definition → List Forest → List Definition
 definitions_after before [] = before
 definitions_after before (p ∷ ps) = definitions_after (with_definition (definition_of p) before) ps
+
+-- a name that was looked up finds an equal definition in this scope, or none as it did: equal in places counted from the
+-- first token of each
+abbrev pub IsFoundAgain : (List ℕ → Option Definition) → (List ℕ × Option Definition) → Type 0
+IsFoundAgain scope find = found_piece (scope find.0) ≡ found_piece find.1
+
+-- each of the names that were looked up finds so
+abbrev pub FindsAsBefore : (List ℕ → Option Definition) → List (List ℕ × Option Definition) → Type 0
+FindsAsBefore scope finds = All (IsFoundAgain scope) finds

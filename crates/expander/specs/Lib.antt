@@ -22,6 +22,7 @@ pub mod Watch
 pub mod Lines
 pub mod Runs
 pub mod Laws
+pub mod PieceTokens
 pub mod FixedPoint
 pub mod Agreement
 pub mod Changes

@@ -12,19 +12,20 @@ ghost use Rattle.expander.specs.Expanded.{Expanded};
 ghost use Rattle.expander.specs.Faults.{comes_before, in_order};
 ghost use Rattle.expander.specs.FixedPoint.{IsFixedPoint, RepliesWith};
 ghost use Rattle.expander.specs.Held.{IsMet, Known, Met, TellsApart, definition_trees, kept_after, numbered_scope, numbered_world, present, trees_in};
-ghost use Rattle.expander.specs.Laws.{AreAllPlain, ExpandsNothing, Fails, HasNoWord, definitions_after};
+ghost use Rattle.expander.specs.Laws.{AreAllPlain, ExpandsNothing, Fails, FindsAsBefore, HasNoWord, definitions_after};
 ghost use Rattle.expander.specs.Layered.{layers};
 ghost use Rattle.expander.specs.Meaning.{Layers, ReadMeaning, faults_of, meaning, member_faults, members, members_after, output, output_of};
 ghost use Rattle.expander.specs.Numbers.{AreEntries, Numbering, needed, number_in, number_of, tree_of, with_trees};
 ghost use Rattle.expander.specs.OtherPlaces.{CommutesWithMarker, definition_with};
-ghost use Rattle.expander.specs.Pieces.{cut, pieces, put_together, relative};
+ghost use Rattle.expander.specs.PieceTokens.{AreWords, tokens_in, written_in};
+ghost use Rattle.expander.specs.Pieces.{cut, pieces, put_together, relative, separated};
 ghost use Rattle.expander.specs.Printing.{left_out};
 ghost use Rattle.expander.specs.Replies.{HasCause, IsReplyTo, NeedsNumbers, Replies, definitions_in};
 ghost use Rattle.expander.specs.Reuse.{HeldPiece, IsHeld, looked_at, looked_held, matches};
 ghost use Rattle.expander.specs.State.{State, layers_of};
 ghost use Rattle.expander.specs.TextTurn.{InEntries, IsNext, IsTurn, held_of, is_unmatched, kept_entries, numbering_of, taken_after};
 ghost use Rattle.expander.specs.declared.calls.Call.{Call};
-ghost use Rattle.expander.specs.Definitions.{Definition, definition_of};
+ghost use Rattle.expander.specs.Definitions.{Definition, definition_of, nearest};
 ghost use Rattle.expander.specs.World.{world};
 ghost use Rattle.expander.specs.declared.faults.Fault.{Fault};
 ghost use Rattle.expander.specs.declared.faults.FaultKind.{FaultKind};
@@ -37,7 +38,8 @@ ghost use Rattle.expander.specs.declared.session.Refusal.{Refusal};
 ghost use Rattle.expander.specs.declared.session.Refusal.TheVariants.{Numbers};
 ghost use Rattle.expander.specs.declared.session.Reply.{Reply};
 ghost use Rattle.expander.specs.declared.session.Reply.TheVariants.{Read};
-ghost use Rattle.bridge.specs.TokenSteps.{text_reading};
+ghost use Rattle.bridge.specs.Reading.{reading};
+ghost use Rattle.bridge.specs.TokenSteps.{steps_of, text_reading};
 ghost use Rattle.mbe.specs.Grammar.{Grammar};
 ghost use Rattle.tt_data.specs.Forest.{Forest, joined, map_spans};
 ghost use Rattle.tt_data.specs.Walk.{walk};
@@ -234,6 +236,34 @@ pub fn a_piece_that_finds_the_same_does_not_count()
     equal_pieces();
 }
 
+/// A piece does not count where its tree is that of a piece of an earlier text, and each name that was looked up in that one
+/// finds, among the definitions that now stand before it, an equal definition, or none as it did: `piece`. So those count
+/// that stand before it and behind it: `others`.
+pub fn a_piece_that_finds_as_before_does_not_count()
+    ensures piece { (grammar : Grammar) (edition : Edition) (depth : ℕ) (text other : List ℕ) (f g p q : Forest) (ones twos more_ones more_twos : List Forest) →
+        IsUtf8 text → IsUtf8 other → text_reading text ≡ Ok f → text_reading other ≡ Ok g →
+        pieces f ≡ ones ++ p ∷ more_ones → pieces g ≡ twos ++ q ∷ more_twos → relative p ≡ relative q →
+        FindsAsBefore (nearest (definitions_after [] twos)) (expansion (world grammar edition) (nearest (definitions_after [] ones)) depth None p).finds →
+        expanded_count (Some (looked_of (members (layers grammar edition) depth f)))
+        (looked_of (members_after (layers grammar edition) depth (definitions_after [] twos) (q ∷ []))) ≡ 0 }
+    ensures others { (grammar : Grammar) (edition : Edition) (depth : ℕ) (text other : List ℕ) (f g p q : Forest) (ones twos more_ones more_twos : List Forest) →
+        IsUtf8 text → IsUtf8 other → text_reading text ≡ Ok f → text_reading other ≡ Ok g →
+        pieces f ≡ ones ++ p ∷ more_ones → pieces g ≡ twos ++ q ∷ more_twos → relative p ≡ relative q →
+        FindsAsBefore (nearest (definitions_after [] twos)) (expansion (world grammar edition) (nearest (definitions_after [] ones)) depth None p).finds →
+        expanded_count (Some (looked_of (members (layers grammar edition) depth f))) (looked_of (members (layers grammar edition) depth g))
+        ≡ expanded_count (Some (looked_of (members (layers grammar edition) depth f))) (looked_of (members_after (layers grammar edition) depth [] twos))
+        + expanded_count (Some (looked_of (members (layers grammar edition) depth f)))
+        (looked_of (members_after (layers grammar edition) depth (definitions_after [] (twos ++ q ∷ [])) more_twos)) }
+{
+    mbe_rules::laws::rules_at_other_places();
+    mbe::laws::fit_at_other_places();
+    mbe::laws::bursts_at_other_places();
+    bridge::laws::reading_is_a_relation();
+    bridge::laws::tokens_follow_one_another();
+    bridge::laws::tokens_are_written();
+    equal_pieces();
+}
+
 /// Where two texts begin with the same pieces in places of their own, as before a definition that is added, changed or
 /// removed, those of the one do not count against those of the other: `front`. All that counts is behind them: `behind`.
 pub fn pieces_before_a_change_do_not_count()
@@ -274,6 +304,52 @@ pub fn the_same_pieces_are_not_expanded_again()
     bridge::laws::tokens_follow_one_another();
     bridge::laws::tokens_are_written();
     equal_pieces();
+}
+
+/// Each piece of a text, in places of its own, is what its tokens are read as by themselves, from its first to its last:
+/// `read`. So where the pieces of two texts are written in the same tokens, in order, the pieces are the same: `same`. Then
+/// no piece of the one counts against those of the other, and a session that last read the one expands none for the other.
+pub fn pieces_hang_on_their_tokens()
+    ensures read { (text : List ℕ) (f : Forest) → IsUtf8 text → text_reading text ≡ Ok f →
+        All (λ p. (k : Forest) × (reading (steps_of (written_in text p)) ≡ Ok k) × (relative p ≡ separated k)) (pieces f) }
+    ensures same { (text other : List ℕ) (f g : Forest) →
+        IsUtf8 text → IsUtf8 other → text_reading text ≡ Ok f → text_reading other ≡ Ok g →
+        map (written_in text) (pieces f) ≡ map (written_in other) (pieces g) → map relative (pieces f) ≡ map relative (pieces g) }
+    ensures counted { (grammar : Grammar) (edition : Edition) (depth : ℕ) (text other : List ℕ) (f g : Forest) →
+        IsUtf8 text → IsUtf8 other → text_reading text ≡ Ok f → text_reading other ≡ Ok g →
+        map (written_in text) (pieces f) ≡ map (written_in other) (pieces g) →
+        expanded_count (Some (looked_of (members (layers grammar edition) depth f))) (looked_of (members (layers grammar edition) depth g)) ≡ 0 }
+    ensures replied { (grammar : Grammar) (edition : Edition) (depth : ℕ) (text other : List ℕ) (f g : Forest) (reply : Reply) →
+        IsUtf8 text → IsUtf8 other → text_reading text ≡ Ok f → text_reading other ≡ Ok g →
+        map (written_in text) (pieces f) ≡ map (written_in other) (pieces g) →
+        IsReplyTo (layers grammar edition) depth other (Some (looked_of (members (layers grammar edition) depth f))) reply → ExpandsNothing reply }
+{
+    bridge::laws::reading_is_a_relation();
+    rustc_lexer::laws::token_lengths();
+    the_same_pieces_are_not_expanded_again();
+}
+
+/// White space and plain comments may change before, between and behind pieces. The tokens of a text that was read are those
+/// of its pieces in order, each piece's from its first to its last, and before, between and behind them white space and
+/// comments that are no doc comments: `own`. Any other text whose tokens are so of the same pieces is read too, and has the
+/// same pieces in places of their own: `read`. None of its pieces counts against those of the first text, and a session that
+/// last read the first expands none for it: `counted`, `replied`.
+pub fn blanks_between_pieces_count_nothing()
+    ensures own { (text : List ℕ) (f : Forest) → IsUtf8 text → text_reading text ≡ Ok f → AreWords (map (written_in text) (pieces f)) (tokens_in text) }
+    ensures read { (text other : List ℕ) (f : Forest) → IsUtf8 text → text_reading text ≡ Ok f → AreWords (map (written_in text) (pieces f)) (tokens_in other) →
+        (g : Forest) × (text_reading other ≡ Ok g) × (map relative (pieces f) ≡ map relative (pieces g)) }
+    ensures counted { (grammar : Grammar) (edition : Edition) (depth : ℕ) (text other : List ℕ) (f g : Forest) →
+        IsUtf8 text → IsUtf8 other → text_reading text ≡ Ok f → text_reading other ≡ Ok g → AreWords (map (written_in text) (pieces f)) (tokens_in other) →
+        expanded_count (Some (looked_of (members (layers grammar edition) depth f))) (looked_of (members (layers grammar edition) depth g)) ≡ 0 }
+    ensures replied { (grammar : Grammar) (edition : Edition) (depth : ℕ) (text other : List ℕ) (f : Forest) (reply : Reply) →
+        IsUtf8 text → IsUtf8 other → text_reading text ≡ Ok f → AreWords (map (written_in text) (pieces f)) (tokens_in other) →
+        IsReplyTo (layers grammar edition) depth other (Some (looked_of (members (layers grammar edition) depth f))) reply → ExpandsNothing reply }
+{
+    bridge::laws::reading_is_a_relation();
+    bridge::laws::parts_of_a_text();
+    bridge::laws::parts_at_other_places();
+    rustc_lexer::laws::token_lengths();
+    the_same_pieces_are_not_expanded_again();
 }
 
 /// A reply to a text of fewer than 2^31 bytes tells no fault where none of the text's names begins a definition.
