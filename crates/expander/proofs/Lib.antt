@@ -33,6 +33,7 @@ mod TurnLemmas
 mod FirstCallLemmas
 mod SearchLemmas
 mod PartedLemmas
+mod PartedListLemmas
 mod ForestLemmas
 mod WordLemmas
 mod QuietLemmas

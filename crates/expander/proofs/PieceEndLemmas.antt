@@ -56,9 +56,9 @@ none_behind empty g e = e
 none_behind (leaf l f) g e = cc
 none_behind (group d inner f) g e = cc
 
-record IsOne (one : Forest) : Type 0 where
-  some : one ≢ empty
-  alone : (a b : Forest) → one ≡ joined a b → (a ≡ empty) ⊎ (b ≡ empty)
+pub record IsOne (one : Forest) : Type 0 where
+  pub some : one ≢ empty
+  pub alone : (a b : Forest) → one ≡ joined a b → (a ≡ empty) ⊎ (b ≡ empty)
 
 one_leaf : (l : Leaf) → IsOne (leaf l empty)
 one_leaf l = record { some = λ e. cc; alone = parts }
@@ -68,7 +68,7 @@ one_leaf l = record { some = λ e. cc; alone = parts }
     parts (leaf m a) b e = let h : joined a b ≡ empty = cc in inr (none_behind a b h)
     parts (group d inner a) b e = cc
 
-one_group : (d : Delimiter) (inside : Forest) → IsOne (group d inside empty)
+pub one_group : (d : Delimiter) (inside : Forest) → IsOne (group d inside empty)
 one_group d inside = record { some = λ e. cc; alone = parts }
   where
     parts : (a b : Forest) → group d inside empty ≡ joined a b → (a ≡ empty) ⊎ (b ≡ empty)
@@ -77,7 +77,7 @@ one_group d inside = record { some = λ e. cc; alone = parts }
     parts (group k inner a) b e = let h : joined a b ≡ empty = cc in inr (none_behind a b h)
 
 -- trees and one more, parted: nothing is behind, or the one is the last of what is
-split_one : (one : Forest) → IsOne one → (begun front behind : Forest) → joined begun one ≡ joined front behind
+pub split_one : (one : Forest) → IsOne one → (begun front behind : Forest) → joined begun one ≡ joined front behind
     → (behind ≡ empty) ⊎ ((more : Forest) × (begun ≡ joined front more))
 split_one one is begun empty behind e = inr (begun, refl)
 split_one one is empty (leaf l front) behind e = elim (is.alone (leaf l front) behind e) [ inl h ↦ absurd (cc h) | inr h ↦ inl h ]
@@ -97,7 +97,7 @@ split_one one is (group c inside begun) (group d inner front) behind e =
 split_one one is (leaf k begun) (group d inner front) behind e = cc
 split_one one is (group c inside begun) (leaf l front) behind e = cc
 
-behind_same : (a f g : Forest) → joined a f ≡ joined a g → f ≡ g
+pub behind_same : (a f g : Forest) → joined a f ≡ joined a g → f ≡ g
 behind_same empty f g e = e
 behind_same (leaf l a) f g e = behind_same a f g cc
 behind_same (group d inner a) f g e = behind_same a f g cc

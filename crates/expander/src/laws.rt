@@ -1,9 +1,9 @@
 //! Laws of the definitions, for those who read them. A call does nothing: it only states.
-ghost use Rattle.std.specs.Prelude.{◌≡◌, ◌↔◌, ℕ, ◌+◌, ◌≤◌, ◌<◌, ◌^◌, true, All, Contains, List, [], ◌∷◌, ◌++◌, filter, filter_map, flat_map, length, map, IsUtf8, Option, Some, None, Ok, option_map, unwrap_or};
+ghost use Rattle.std.specs.Prelude.{◌≡◌, ◌↔◌, ℕ, ◌+◌, ◌≤◌, ◌<◌, ◌^◌, false, true, All, Contains, List, [], ◌∷◌, ◌++◌, filter, filter_map, flat_map, length, map, IsUtf8, Option, Some, None, Ok, option_map, unwrap_or};
 ghost use Rattle.std.specs.List.Sorted.{IsPermutation, IsSortedBy};
 ghost use Rattle.expander.specs.Agreement.{FoundIn, scope_of};
 ghost use Rattle.expander.specs.Answers.{AreAnswers, ShowTheSame, last_text};
-ghost use Rattle.expander.specs.Calls.{marked, unmarked};
+ghost use Rattle.expander.specs.Calls.{is_colons, marked, unmarked};
 ghost use Rattle.expander.specs.CallSteps.{call_at, first_call};
 ghost use Rattle.expander.specs.Changes.{outcome_with};
 ghost use Rattle.expander.specs.Count.{Looked, expanded_count, finds_within, is_same, looked_of, same_forest};
@@ -39,8 +39,10 @@ ghost use Rattle.expander.specs.declared.session.Reply.{Reply};
 ghost use Rattle.expander.specs.declared.session.Reply.TheVariants.{Read};
 ghost use Rattle.bridge.specs.TokenSteps.{text_reading};
 ghost use Rattle.mbe.specs.Grammar.{Grammar};
-ghost use Rattle.tt_data.specs.Forest.{Forest, empty, group, joined, map_spans};
+ghost use Rattle.tt_data.specs.Forest.{Forest, empty, group, joined, leaf, map_spans};
 ghost use Rattle.tt_data.specs.declared.delimiter.Delimiter.{Delimiter};
+ghost use Rattle.tt_data.specs.declared.leaf.Leaf.TheVariants as as_leaf;
+ghost use Rattle.tt_data.specs.declared.leaf.Punct.{Punct};
 ghost use Rattle.tt_data.specs.Walk.{walk};
 ghost use Rattle.tt_data.specs.declared.edition.Edition.{Edition};
 ghost use Rattle.tt_data.specs.declared.span.Span.{Span};
@@ -76,6 +78,13 @@ pub fn a_failed_call_stays()
     ensures { (world : World Definition) (scope : List ℕ → Option Definition) (depth : ℕ) (outer : Option Span) (f passed : Forest) (c : Call) (d : Definition) →
         call_at f ≡ Some c → scope c.name.sym ≡ Some d → Fails (world.broken d) depth (world.fit d c.argument) → f ≡ joined passed c.rest →
         (expansion world scope depth outer f).steps ≡ placed outer (walk passed) ++ (expansion world scope depth outer c.rest).steps }
+{}
+
+/// No call is parted behind a group, whatever follows: `groups`. Nor before a call, where no `::` stands there: `calls`.
+pub fn where_lists_are_parted()
+    ensures groups { (front : Forest) (d : Delimiter) (inner rest : Forest) → IsParted (joined front (group d inner empty)) rest }
+    ensures calls { (front rest : Forest) (c : Call) → call_at rest ≡ Some c →
+        ((f : Forest) (p q : Punct) → front ≡ joined f (leaf (as_leaf.Punct p) (leaf (as_leaf.Punct q) empty)) → is_colons p q ≡ false) → IsParted front rest }
 {}
 
 /// A list that is parted at no call is expanded part by part: steps, faults and finds of the front are followed by those
