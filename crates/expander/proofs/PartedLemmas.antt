@@ -120,9 +120,10 @@ colons_less f c e = omega (arith, colons_smaller f c e, ap size (colons_is_call 
 colons_passed : (f : Forest) (c : Call) → call_behind_colons f ≡ Some c → (w : Forest) × (f ≡ joined w c.rest)
 colons_passed f c e =
     let k = colons_is_call f c e in
-    let opened : (w : Forest) × (f ≡ joined w c.from_group) = colons_opened f c e in
-    (joined opened.0 (group k.brackets c.argument empty),
-      opened.1 ∙ ap (joined opened.0) k.group_is ∙ sym (joined_assoc opened.0 (group k.brackets c.argument empty) c.rest))
+    let opened : (w : Forest) × (f ≡ joined w c.from_group) = colons_opened f c e in (
+      joined opened.0 (group k.brackets c.argument empty),
+      opened.1 ∙ ap (joined opened.0) k.group_is ∙ sym (joined_assoc opened.0 (group k.brackets c.argument empty) c.rest),
+    )
 
 module _ {D : Type 0} (world : World D) (scope : List ℕ → Option D) (deeper : Deeper D) (outer : Option Span) where
   abbrev search : Forest → Outcome D

@@ -89,7 +89,7 @@ module _ (d : Delimiter) (inside rest : Forest) where
   group_last f a b e some = elim (split_one (group d inside empty) (one_group d inside) f a b e) [
     | inl h ↦ absurd (some h)
     | inr h ↦
-      (h.0, behind_same a b (to_group h.0) (sym e ∙ ap to_group h.1 ∙ joined_assoc a h.0 (group d inside empty)))
+        (h.0, behind_same a b (to_group h.0) (sym e ∙ ap to_group h.1 ∙ joined_assoc a h.0 (group d inside empty)))
   ]
 
   pub parted_behind_group : (f : Forest) → IsParted (to_group f) rest

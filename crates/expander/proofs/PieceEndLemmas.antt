@@ -122,12 +122,12 @@ is_last : (one : Forest) → IsOne one → (begun b last : Forest) → joined be
 is_last one is begun b last e ends = elim (split_one one is begun b last e) [
   | inl h ↦ absurd (nothing (rw h at ends))
   | inr h ↦
-    let whole : joined b (joined h.0 one) ≡ joined b last = sym (joined_assoc b h.0 one) ∙ ap (λ f. joined f one) (sym h.1) ∙ e in
-    let tail : joined h.0 one ≡ last = behind_same b (joined h.0 one) last whole in
-    let none : h.0 ≡ empty = only_one b h.0 one is.some (ap (is_ender b) tail ∙ ends) in
-    let same : begun ≡ b = h.1 ∙ ap (joined b) none ∙ joined-empty b in
-    let end : one ≡ last = ap (λ f. joined f one) (sym none) ∙ tail in
-    ap (λ f. is_ender f one) same ∙ ap (is_ender b) end ∙ ends
+      let whole : joined b (joined h.0 one) ≡ joined b last = sym (joined_assoc b h.0 one) ∙ ap (λ f. joined f one) (sym h.1) ∙ e in
+      let tail : joined h.0 one ≡ last = behind_same b (joined h.0 one) last whole in
+      let none : h.0 ≡ empty = only_one b h.0 one is.some (ap (is_ender b) tail ∙ ends) in
+      let same : begun ≡ b = h.1 ∙ ap (joined b) none ∙ joined-empty b in
+      let end : one ≡ last = ap (λ f. joined f one) (sym none) ∙ tail in
+      ap (λ f. is_ender f one) same ∙ ap (is_ender b) end ∙ ends
 ]
   where
     nothing : is_ender b empty ≡ true → ⊥
@@ -157,7 +157,7 @@ false_true b e h = cc
 unended_more : (begun one : Forest) → IsOne one → IsUnended begun → is_ender begun one ≡ false → IsUnended (joined begun one)
 unended_more begun one is un goes_on front behind e ended = elim (split_one one is begun front behind e) [
   | inl h ↦ false_true (is_ender begun one) goes_on
-    (is_last one is begun ended.begun ended.last (e ∙ ap (joined front) h ∙ joined-empty front ∙ ended.is) ended.ends)
+      (is_last one is begun ended.begun ended.last (e ∙ ap (joined front) h ∙ joined-empty front ∙ ended.is) ended.ends)
   | inr h ↦ un front h.0 h.1 ended
 ]
 

@@ -37,7 +37,7 @@ ghost use Rattle.expander.specs.declared.session.Refusal.{Refusal};
 ghost use Rattle.expander.specs.declared.session.Refusal.TheVariants.{Numbers};
 ghost use Rattle.expander.specs.declared.session.Reply.{Reply};
 ghost use Rattle.expander.specs.declared.session.Reply.TheVariants.{Read};
-ghost use Rattle.bridge.specs.TokenSteps.{text_reading};
+ghost use Rattle.bridge.specs.TokenSteps.{escaped, text_reading};
 ghost use Rattle.mbe.specs.Grammar.{Grammar};
 ghost use Rattle.tt_data.specs.Forest.{Forest, empty, group, joined, leaf, map_spans};
 ghost use Rattle.tt_data.specs.declared.delimiter.Delimiter.{Delimiter};
@@ -138,10 +138,13 @@ pub fn quiet_texts_have_no_fault()
 {}
 
 /// A text of fewer than 2^31 bytes that was read has no fault where none of its names begins a definition: each of its
-/// tokens has a spelling. (In a longer one the escapes of a doc comment could make a literal that is too long for a text.)
+/// tokens has a spelling: `short`. (In a longer one the escapes of a doc comment could make a literal that is too long for a
+/// text.) So it is of a text of fewer than 2^32 bytes once each `"` and `\` of it is escaped: `escaped_text`.
 pub fn no_fault_without_definition_words()
-    ensures { (grammar : Grammar) (edition : Edition) (depth : ℕ) (text : List ℕ) (f : Forest) (m : ReadMeaning) →
+    ensures short { (grammar : Grammar) (edition : Edition) (depth : ℕ) (text : List ℕ) (f : Forest) (m : ReadMeaning) →
         IsUtf8 text → length text < 2 ^ 31 → text_reading text ≡ Ok f → HasNoWord f → meaning (layers grammar edition) depth text ≡ Ok m → m.faults ≡ [] }
+    ensures escaped_text { (grammar : Grammar) (edition : Edition) (depth : ℕ) (text : List ℕ) (f : Forest) (m : ReadMeaning) →
+        IsUtf8 text → length (escaped text) < 2 ^ 32 → text_reading text ≡ Ok f → HasNoWord f → meaning (layers grammar edition) depth text ≡ Ok m → m.faults ≡ [] }
 {
     bridge::laws::reading_is_a_relation();
     bridge::laws::read_texts_are_printed_whole();
@@ -320,10 +323,14 @@ pub fn the_same_pieces_are_not_expanded_again()
     equal_pieces();
 }
 
-/// A reply to a text of fewer than 2^31 bytes tells no fault where none of the text's names begins a definition.
+/// A reply to a text of fewer than 2^31 bytes tells no fault where none of the text's names begins a definition: `short`.
+/// So it is of a text of fewer than 2^32 bytes once each `"` and `\` of it is escaped: `escaped_text`.
 pub fn replies_without_definition_words_tell_no_fault()
-    ensures { (grammar : Grammar) (edition : Edition) (depth : ℕ) (text : List ℕ) (f : Forest) (earlier : Option (List Looked)) (e : Expanded) →
+    ensures short { (grammar : Grammar) (edition : Edition) (depth : ℕ) (text : List ℕ) (f : Forest) (earlier : Option (List Looked)) (e : Expanded) →
         IsUtf8 text → length text < 2 ^ 31 → text_reading text ≡ Ok f → HasNoWord f →
+        IsReplyTo (layers grammar edition) depth text earlier (Read e) → e.faults ≡ [] }
+    ensures escaped_text { (grammar : Grammar) (edition : Edition) (depth : ℕ) (text : List ℕ) (f : Forest) (earlier : Option (List Looked)) (e : Expanded) →
+        IsUtf8 text → length (escaped text) < 2 ^ 32 → text_reading text ≡ Ok f → HasNoWord f →
         IsReplyTo (layers grammar edition) depth text earlier (Read e) → e.faults ≡ [] }
 {
     no_fault_without_definition_words();
