@@ -3,7 +3,6 @@ use Rattle.std.proofs.Common.{◌≡◌, ℕ, ◌+◌, ◌-◌, ◌<◌, ◌≤�
 use Rattle.std.specs.Prelude.{IsSome, Some, None, nat_eq}
 use Rattle.std.specs.Str.{IsAscii, IsCharBoundary, IsUtf8, chars}
 use Rattle.std.proofs.lemmas.Bool.Decides.{nat_tests}
-use Rattle.std.proofs.lemmas.List.{length-drop, length-take-le}
 use Rattle.std.proofs.lemmas.Str.{IsCharBoundary-before_ascii, IsUtf8-append, IsUtf8-between, IsUtf8-drop, IsUtf8-from_ascii, IsUtf8-take, chars-IsAscii, chars-append}
 use Rattle.std.proofs.lemmas.Str.Ascii.{IsAscii-cons, IsAscii-nil}
 use Rattle.rustc_lexer.specs.Character.{utf8_len}
@@ -22,7 +21,7 @@ use Rattle.bridge.specs.Spelling.{leaf_spelling}
 use Rattle.bridge.specs.TokenSteps.{doc_text, escaped, without_last_return}
 use Rattle.bridge.proofs.BackLemmas.{chars_one}
 use Rattle.bridge.proofs.EscapeLemmas.{no_return, return_taken}
-use Rattle.bridge.proofs.EscapedLemmas.{escaped_chars, escaped_long, escaped_utf8}
+use Rattle.bridge.proofs.EscapedLemmas.{escaped_chars, escaped_drop, escaped_joined, escaped_take, escaped_utf8}
 use Rattle.bridge.proofs.PlainLemmas.{quoted, string_by}
 
 -- ---- the text of a comment
@@ -38,14 +37,15 @@ without_return_utf8 (b ∷ bs) u = by_test (nat_eq (get_or (b ∷ bs) (length bs
         (IsUtf8-take (b ∷ bs) (length bs) u (IsCharBoundary-before_ascii (b ∷ bs) (length bs) (omega arith) (omega (arith, last))))
     by_test false e = subst IsUtf8 (no_return (b ∷ bs) (length bs) (omega arith) e) u
 
-without_return_long : (bs : List ℕ) → length (without_last_return bs) ≤ length bs
-without_return_long [] = omega arith
-without_return_long (b ∷ []) = by_test (nat_eq b 13)
+without_return_escaped : (bs : List ℕ) → length (escaped (without_last_return bs)) ≤ length (escaped bs)
+without_return_escaped [] = omega arith
+without_return_escaped (b ∷ []) = by_test (nat_eq b 13)
   where
-    by_test : (t : Bool) → length (if t then [] else b ∷ []) ≤ 1
+    by_test : (t : Bool) → length (escaped (if t then [] else b ∷ [])) ≤ length (escaped (b ∷ []))
     by_test true = omega arith
     by_test false = omega arith
-without_return_long (b ∷ c ∷ more) = omega (arith, without_return_long (c ∷ more))
+without_return_escaped (b ∷ c ∷ more) =
+    omega (arith, without_return_escaped (c ∷ more), escaped_joined (b ∷ []) (without_last_return (c ∷ more)), escaped_joined (b ∷ []) (c ∷ more))
 
 doc_utf8 : (is_block : Bool) (s : List ℕ) → IsUtf8 s → IsCharBoundary s 3 → EndsBlock is_block s → IsUtf8 (doc_text is_block s)
 doc_utf8 false s u b h = without_return_utf8 (drop 3 s) (IsUtf8-drop s 3 u b)
@@ -53,9 +53,9 @@ doc_utf8 true s u b h =
     let n : length s - 2 - 3 ≡ length s - 5 = omega arith in
     subst (λ k. IsUtf8 (take k (drop 3 s))) n (IsUtf8-between s 3 (length s - 2) u (omega (arith, h.0)) b h.1)
 
-doc_long : (is_block : Bool) (s : List ℕ) → 3 ≤ length s → length (doc_text is_block s) + 3 ≤ length s
-doc_long false s some = omega (arith, without_return_long (drop 3 s), length-drop 3 s)
-doc_long true s some = omega (arith, length-take-le (length s - 5) (drop 3 s) (omega (arith, length-drop 3 s)))
+doc_escaped : (is_block : Bool) (s : List ℕ) → 3 ≤ length s → length (escaped (doc_text is_block s)) + 3 ≤ length (escaped s)
+doc_escaped false s some = omega (arith, without_return_escaped (drop 3 s), escaped_drop 3 s some)
+doc_escaped true s some = omega (arith, escaped_take (length s - 5) (drop 3 s), escaped_drop 3 s some)
 
 -- ---- its literal
 
@@ -84,12 +84,12 @@ escaped_spelled bs span u short whole one =
     (subst (λ cs. tokens_of cs ≡ record { kind = kind.Literal (literal.Str true) (utf8_len cs); len = utf8_len cs } ∷ []) (sym (quoted_chars bs u)) (one (chars bs))) in
     ap (λ b. is_some (if b then Some (displayed_leaf (as_leaf.Literal l)) else None)) told
 
--- the literal of a doc comment, in a text of fewer than 2^31 bytes
-pub doc_spelled : (is_block : Bool) (s : List ℕ) (span : Span) → IsUtf8 s → length s < 2 ^ 31 → IsCharBoundary s 3 → EndsBlock is_block s
+-- the literal of a doc comment, which is less than 2^32 bytes when it is escaped
+pub doc_spelled : (is_block : Bool) (s : List ℕ) (span : Span) → IsUtf8 s → length (escaped s) < 2 ^ 32 → IsCharBoundary s 3 → EndsBlock is_block s
     → ((text : List ℕ) → IsUtf8 text → sum_by (λ (t : Token). t.len) (tokens_of (chars text)) ≡ length text)
     → ((cs : List ℕ) → tokens_of (quoted (with_escapes cs))
     ≡ record { kind = kind.Literal (literal.Str true) (utf8_len (quoted (with_escapes cs))); len = utf8_len (quoted (with_escapes cs)) } ∷ [])
     → IsSome (leaf_spelling (as_leaf.Literal (literal_of (escaped (doc_text is_block s)) [] form.Str span)))
 doc_spelled is_block s span u fits b h whole one =
     escaped_spelled (doc_text is_block s) span (doc_utf8 is_block s u b h)
-    (omega (arith, escaped_long (doc_text is_block s), doc_long is_block s b.0, fits)) whole one
+    (omega (arith, doc_escaped is_block s b.0, fits)) whole one

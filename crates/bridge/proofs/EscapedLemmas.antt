@@ -1,9 +1,10 @@
 -- Escaped texts, by their bytes and by their characters.
-use Rattle.std.proofs.Common.{◌≡◌, ℕ, ◌≤◌, List, [], ◌∷◌, ◌++◌, Bool, true, false, length, get_or, refl, sym, ap, ◌∙◌, arith, if◌then◌else◌}
+use Rattle.std.proofs.Common.{◌≡◌, ℕ, ◌+◌, ◌-◌, ◌≤◌, List, [], ◌∷◌, ◌++◌, Bool, true, false, length, take, drop, get_or, refl, sym, ap, ◌∙◌, arith, length-append, if◌then◌else◌}
+use Rattle.std.specs.List.{slice_range}
 use Rattle.std.specs.Prelude.{◌*◌, ◌&&◌, ◌||◌, not, nat_eq, encode_utf8}
 use Rattle.std.specs.Str.{IsUtf8, all_scalars, chars, encode_utf8_all}
 use Rattle.std.proofs.lemmas.Bool.{and_parts}
-use Rattle.std.proofs.lemmas.List.{append-nil}
+use Rattle.std.proofs.lemmas.List.{append-nil, length-take-le, take-append-drop}
 use Rattle.std.proofs.lemmas.List.Concat.{flat_map-append}
 use Rattle.std.proofs.lemmas.Str.{chars_from_encodes, encode_ascii, inside_one}
 use Rattle.memchr.specs.Find.{is_byte2}
@@ -89,3 +90,30 @@ escaped_long (b ∷ bs) = by_test (escaped_long bs) (nat_eq b 92 || nat_eq b 34)
     by_test : length (escaped bs) ≤ 2 * length bs → (u : Bool) → length ((if u then 92 ∷ b ∷ [] else b ∷ []) ++ escaped bs) ≤ 2 * length (b ∷ bs)
     by_test later true = omega (arith, later)
     by_test later false = omega (arith, later)
+
+-- and no shorter
+pub escaped_short : (bs : List ℕ) → length bs ≤ length (escaped bs)
+escaped_short [] = omega arith
+escaped_short (b ∷ bs) = by_test (escaped_short bs) (nat_eq b 92 || nat_eq b 34)
+  where
+    by_test : length bs ≤ length (escaped bs) → (u : Bool) → length (b ∷ bs) ≤ length ((if u then 92 ∷ b ∷ [] else b ∷ []) ++ escaped bs)
+    by_test later true = omega (arith, later)
+    by_test later false = omega (arith, later)
+
+-- ---- parts of a text
+
+pub escaped_joined : (front bs : List ℕ) → length (escaped (front ++ bs)) ≡ length (escaped front) + length (escaped bs)
+escaped_joined front bs =
+    ap length (flat_map-append (λ b. if nat_eq b 92 || nat_eq b 34 then 92 ∷ b ∷ [] else b ∷ []) front bs) ∙ length-append (escaped front) (escaped bs)
+
+in_two : (n : ℕ) (bs : List ℕ) → length (escaped bs) ≡ length (escaped (take n bs)) + length (escaped (drop n bs))
+in_two n bs = ap (λ xs. length (escaped xs)) (sym (take-append-drop n bs)) ∙ escaped_joined (take n bs) (drop n bs)
+
+pub escaped_take : (n : ℕ) (bs : List ℕ) → length (escaped (take n bs)) ≤ length (escaped bs)
+escaped_take n bs = omega (arith, in_two n bs)
+
+pub escaped_drop : (n : ℕ) (bs : List ℕ) → n ≤ length bs → length (escaped (drop n bs)) + n ≤ length (escaped bs)
+escaped_drop n bs some = omega (arith, in_two n bs, escaped_short (take n bs), length-take-le n bs some)
+
+pub escaped_slice : (bs : List ℕ) (at stop : ℕ) → at ≤ length bs → length (escaped (slice_range bs at stop)) ≤ length (escaped bs)
+escaped_slice bs at stop some = omega (arith, escaped_take (stop - at) (drop at bs), escaped_drop at bs some)

@@ -50,9 +50,9 @@ use Rattle.bridge.specs.Text.{is_char, is_punct, is_visible}
 use Rattle.bridge.specs.TokenSteps.{doc_text, escaped, literal_form, literal_sort, mark_leaf, name_in, name_leaf, sort_of, spacing_before, steps_of, steps_of_sort, text_steps}
 use Rattle.bridge.proofs.CutLemmas.{boundary_in, may_cut}
 use Rattle.bridge.proofs.DocLemmas.{doc_spelled}
+use Rattle.bridge.proofs.EscapedLemmas.{escaped_slice}
 use Rattle.bridge.proofs.PlainLemmas.{mark_spelled, quoted}
 use Rattle.bridge.proofs.ShapeLemmas.{closing_spelled, opening_spelled}
-use Rattle.bridge.proofs.TokenSpellings.{slice_long}
 use Rattle.rustc_lexer.proofs.TestLemmas.{no, told_of_any}
 
 -- ---- steps that all have a spelling
@@ -230,16 +230,15 @@ pub record TokenLaws (text : List ℕ) : Type 0 where
   pub name : (at : ℕ) (t : Token) (span : Span) → IsTokenAt text at t → sort_of t.kind ≡ QuotedName →
       IsSome (leaf_spelling (name_leaf (drop 1 (slice_range text at (at + t.len))) is_raw.No span))
 
-module _ (text : List ℕ) (fits : length text < 2 ^ 31) (laws : TokenLaws text) where
+module _ (text : List ℕ) (fits : length (escaped text) < 2 ^ 32) (laws : TokenLaws text) where
   comment_spelled : (at : ℕ) (t : Token) → IsTokenAt text at t → (style : DocStyle) (is_block : Bool) → sort_of t.kind ≡ Doc style is_block → (span : Span) →
       IsSome (leaf_spelling (as_leaf.Literal (literal_of (escaped (doc_text is_block (slice_range text at (at + t.len)))) [] form.Str span)))
   comment_spelled at t h style is_block sort span =
       let s : List ℕ = slice_range text at (at + t.len) in
-      let long = slice_long text at t.len h.stop.0 in
       let cut : MayCut (Doc style is_block) s =
       subst (λ x. MayCut x s) sort
       (may_cut t.kind s h.utf8 (laws.shape at t h) (boundary_in text at t.len (suffix_of t.kind) (laws.within at t h) h.stop.0 (laws.boundary at t h))) in
-      doc_spelled is_block s span h.utf8 (omega (arith, long, fits, h.stop.0)) cut.0 cut.1 laws.sums laws.escaped
+      doc_spelled is_block s span h.utf8 (omega (arith, escaped_slice text at (at + t.len) (omega (arith, h.stop.0)), fits)) cut.0 cut.1 laws.sums laws.escaped
 
   known : (at : ℕ) (t : Token) → IsTokenAt text at t → HasSpellings t.kind at (slice_range text at (at + t.len))
   known at t h = record {

@@ -12,7 +12,7 @@ ghost use Rattle.bridge.specs.declared.fault.ReadFaultKind.{ReadFaultKind};
 ghost use Rattle.tt_data.specs.Forest.{Forest, joined, map_spans};
 ghost use Rattle.bridge.specs.Spelling.{leaf_spelling, spelling};
 ghost use Rattle.bridge.specs.Text.{is_visible};
-ghost use Rattle.bridge.specs.TokenSteps.{name_leaf, sort_of, steps_of, steps_of_sort, text_steps};
+ghost use Rattle.bridge.specs.TokenSteps.{escaped, name_leaf, sort_of, steps_of, steps_of_sort, text_steps};
 ghost use Rattle.bridge.specs.declared.sort.Sort.TheVariants.{QuotedName};
 ghost use Rattle.tt_data.specs.declared.leaf.IdentIsRaw.TheVariants.{No};
 ghost use Rattle.rustc_lexer.specs.Standing.{IsTokenAt};
@@ -112,12 +112,17 @@ pub fn read_leaves_have_spellings()
 }
 
 /// Where a text has fewer than 2^31 bytes and is read, each of its tokens has a spelling: nothing is left out of what is
-/// printed of it, and nothing where each `;` of its top list stands alone.
+/// printed of it, and nothing where each `;` of its top list stands alone. So it is where the text has fewer than 2^32 bytes
+/// once each `"` and `\` of it is escaped, as doc comments are: `escaped_text`, `escaped_pieces`.
 pub fn read_texts_are_printed_whole()
     ensures text { (text : List ℕ) (f : Forest) →
         IsUtf8 text → length text < 2 ^ 31 → IsReading (text_steps text) f → (print_of (walk f)).left_out ≡ [] }
     ensures pieces { (text : List ℕ) (f : Forest) →
         IsUtf8 text → length text < 2 ^ 31 → IsReading (text_steps text) f → (print_of (walk (separated f))).left_out ≡ [] }
+    ensures escaped_text { (text : List ℕ) (f : Forest) →
+        IsUtf8 text → length (escaped text) < 2 ^ 32 → IsReading (text_steps text) f → (print_of (walk f)).left_out ≡ [] }
+    ensures escaped_pieces { (text : List ℕ) (f : Forest) →
+        IsUtf8 text → length (escaped text) < 2 ^ 32 → IsReading (text_steps text) f → (print_of (walk (separated f))).left_out ≡ [] }
 {
     read_leaves_have_spellings();
     rustc_lexer::laws::next_token();

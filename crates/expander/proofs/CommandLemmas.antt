@@ -1,11 +1,11 @@
 -- A turn of a session is an answer, and answers one after another are those of all commands.
-use Rattle.std.proofs.Common.{◌≡◌, ℕ, List, [], ◌∷◌, ◌++◌, Option, None, refl, ap, sym, subst, ◌∙◌, append_assoc, append-nil}
+use Rattle.std.proofs.Common.{◌≡◌, ℕ, ◌<◌, ◌^◌, List, [], ◌∷◌, ◌++◌, Option, None, refl, ap, sym, subst, ◌∙◌, append_assoc, append-nil, arith}
 use Rattle.std.specs.Prelude.{Result}
 use Rattle.bridge.specs.declared.fault.ReadFault.{ReadFault}
 use Rattle.tt_data.specs.Forest.{Forest}
 use Rattle.tt_data.specs.declared.edition.Edition.{Edition}
 use Rattle.mbe.specs.Grammar.{Grammar}
-use Rattle.expander.specs.Answers.{AreAnswers, IsAnswer, given, last_looked, last_trees, reads_after, text_after}
+use Rattle.expander.specs.Answers.{AreAnswers, IsAnswer, given, last_looked, last_reads, last_trees, reads_after, text_after}
 use Rattle.expander.specs.CommandTurns.{Turn}
 use Rattle.expander.specs.Count.{Looked}
 use Rattle.expander.specs.Layered.{layers}
@@ -146,11 +146,13 @@ pub record Running {G : Type 0} (layers : Layers) (depth : ℕ) (text : List ℕ
   pub reads : List (List ℕ)
   pub remembers : Remembers layers depth s reads
   pub more : (later : List Answer) → AreAnswers layers depth s.text reads rest later → AreAnswers layers depth text [] commands (answers ++ later)
+  pub reads_are : (later : List Answer) → last_reads text [] commands (answers ++ later) ≡ last_reads s.text reads rest later
 
 -- where a run stands: the session is set as it was, and its answers are on the way
 pub record Stands {G : Type 0} (answer_of : G → Grammar) (s : State G) (text : List ℕ) (grammar : G) (edition : Edition) (depth : ℕ)
     (commands rest : List Command) (answers : List Answer) : Type 0 where
   pub is_set : IsSet s grammar edition depth
+  pub few : s.given < 2 ^ 32
   pub run : Running (layers (answer_of grammar) edition) depth text commands s rest answers
 
 pub stands_first : {G : Type 0} → (answer_of : G → Grammar) (s : State G) (text : List ℕ) (grammar : G) (edition : Edition) (depth : ℕ)
@@ -161,6 +163,7 @@ stands_first answer_of s text grammar edition depth commands rest answers is all
     let L : Layers = layers (answer_of grammar) edition in
     record {
       is_set = record { grammar_is = ap (λ s. s.grammar) is; edition_is = ap (λ s. s.edition) is; depth_is = ap (λ s. s.depth) is };
+      few = omega (arith, ap (λ s. s.given) is);
       run = record {
         reads = [];
         remembers = record {
@@ -171,14 +174,17 @@ stands_first answer_of s text grammar edition depth commands rest answers is all
         more = λ later h. subst (λ (xs : List Answer). AreAnswers L depth text [] commands (xs ++ later)) (sym none)
             (subst (λ (cs : List Command). AreAnswers L depth text [] cs later) all
             (subst (λ (t : List ℕ). AreAnswers L depth t [] rest later) (ap (λ s. s.text) is) h));
+        reads_are = λ later. ap (λ (xs : List Answer). last_reads text [] commands (xs ++ later)) none
+            ∙ ap (λ (cs : List Command). last_reads text [] cs later) (sym all)
+            ∙ ap (λ (t : List ℕ). last_reads t [] rest later) (sym (ap (λ s. s.text) is));
       };
     }
 
 pub stands_next : {G : Type 0} → (answer_of : G → Grammar) (old new : State G) (text : List ℕ) (grammar : G) (edition : Edition) (depth : ℕ)
     (commands rest after : List Command) (command : Command) (answer : Answer) (answers answers' : List Answer)
-    → rest ≡ command ∷ after → answers' ≡ answers ++ answer ∷ [] → Turn (layers_of answer_of old) old new command answer
+    → rest ≡ command ∷ after → answers' ≡ answers ++ answer ∷ [] → Turn (layers_of answer_of old) old new command answer → (old.given < 2 ^ 32 → new.given < 2 ^ 32)
     → Stands answer_of old text grammar edition depth commands rest answers → Stands answer_of new text grammar edition depth commands after answers'
-stands_next answer_of old new text grammar edition depth commands rest after command answer answers answers' first pushed turn st =
+stands_next answer_of old new text grammar edition depth commands rest after command answer answers answers' first pushed turn few st =
     let is : IsSet old grammar edition depth = st.is_set in
     let reads : List (List ℕ) = st.run.reads in
     let L : Layers = layers (answer_of grammar) edition in
@@ -190,6 +196,7 @@ stands_next answer_of old new text grammar edition depth commands rest after com
         edition_is = g.is_set.edition_is ∙ is.edition_is;
         depth_is = g.is_set.depth_is ∙ is.depth_is;
       };
+      few = few st.few;
       run = record {
         reads = next;
         remembers = g.remembers;
@@ -199,6 +206,11 @@ stands_next answer_of old new text grammar edition depth commands rest after com
             (g.answers, subst (λ (t : List ℕ). AreAnswers L depth t next after later) g.text h) in
             let joined : answers ++ (answer ∷ later) ≡ answers' ++ later = sym (ap (λ (xs : List Answer). xs ++ later) pushed ∙ append_assoc answers (answer ∷ []) later) in
             subst (λ (xs : List Answer). AreAnswers L depth text [] commands xs) joined (st.run.more (answer ∷ later) here);
+        reads_are = λ later. ap (λ (xs : List Answer). last_reads text [] commands xs)
+            (ap (λ (xs : List Answer). xs ++ later) pushed ∙ append_assoc answers (answer ∷ []) later)
+            ∙ st.run.reads_are (answer ∷ later)
+            ∙ ap (λ (cs : List Command). last_reads old.text reads cs (answer ∷ later)) first
+            ∙ ap (λ (t : List ℕ). last_reads t next after later) (sym g.text);
       };
     }
 
@@ -209,3 +221,16 @@ stands_last answer_of s text grammar edition depth commands rest answers none st
     let L : Layers = layers (answer_of grammar) edition in
     subst (λ (xs : List Answer). AreAnswers L depth text [] commands xs) (append-nil answers)
     (st.run.more [] (subst (λ (cs : List Command). AreAnswers L depth s.text st.run.reads cs []) (sym none) tt))
+
+pub stands_few : {G : Type 0} → (answer_of : G → Grammar) (s : State G) (text : List ℕ) (grammar : G) (edition : Edition) (depth : ℕ)
+    (commands rest : List Command) (answers : List Answer)
+    → rest ≡ [] → Stands answer_of s text grammar edition depth commands rest answers
+    → given (layers (answer_of grammar) edition) depth (last_reads text [] commands answers) < 2 ^ 32
+stands_few answer_of s text grammar edition depth commands rest answers none st =
+    let L : Layers = layers (answer_of grammar) edition in
+    let reads_are : last_reads text [] commands answers ≡ st.run.reads =
+    ap (λ (xs : List Answer). last_reads text [] commands xs) (sym (append-nil answers))
+    ∙ st.run.reads_are []
+    ∙ ap (λ (cs : List Command). last_reads s.text st.run.reads cs []) none in
+    let same : given L depth (last_reads text [] commands answers) ≡ s.given = ap (given L depth) reads_are ∙ sym st.run.remembers.given_is in
+    subst (λ (n : ℕ). n < 2 ^ 32) (sym same) st.few

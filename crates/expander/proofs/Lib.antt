@@ -4,6 +4,7 @@ mod TextRows
 mod MacroRows
 mod AttributeLemmas
 mod CuttingLemmas
+mod PieceEndLemmas
 mod ApartLemmas
 mod WholeLemmas
 mod AheadLemmas
@@ -38,6 +39,8 @@ mod DefinitionLemmas
 mod TurnLemmas
 mod FirstCallLemmas
 mod SearchLemmas
+mod PartedLemmas
+mod PartedListLemmas
 mod ForestLemmas
 mod WordLemmas
 mod QuietLemmas

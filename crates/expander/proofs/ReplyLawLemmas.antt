@@ -1,6 +1,6 @@
 -- What a session replies to texts that share pieces.
 use Rattle.std.proofs.Common.{◌≡◌, ◌↔◌, ℕ, Bool, true, false, cond, List, [], ◌∷◌, ◌++◌, Option, Some, refl, ap, sym, subst, ◌∙◌, length}
-use Rattle.std.specs.Prelude.{All, Contains, IsUtf8, Result, Ok, Err, filter, not, ◌&&◌, ◌||◌, ◌<◌, ◌^◌}
+use Rattle.std.specs.Prelude.{All, Contains, IsUtf8, Result, Ok, Err, filter, not, ◌&&◌, ◌||◌}
 use Rattle.std.specs.List.{list_any}
 use Rattle.std.proofs.lemmas.List.Elements.{All-cons, All-contains, All-head, All-nil, All-tail}
 use Rattle.bridge.specs.TokenSteps.{text_reading}
@@ -27,12 +27,14 @@ faults_are : (r : Result ReadMeaning ReadFault) (earlier : Option (List Looked))
 faults_are (Ok m) earlier e none h = h.faults ∙ none m refl
 faults_are (Err fault) earlier e none h = absurd h
 
-pub quiet_reply : ((grammar : Grammar) (edition : Edition) (depth : ℕ) (text : List ℕ) (f : Forest) (m : ReadMeaning) →
-    IsUtf8 text → length text < 2 ^ 31 → text_reading text ≡ Ok f → HasNoWord f → meaning (layers grammar edition) depth text ≡ Ok m → m.faults ≡ [])
+-- where the text is short enough, by whatever measure
+pub quiet_reply : (short : List ℕ → Type 0)
+    → ((grammar : Grammar) (edition : Edition) (depth : ℕ) (text : List ℕ) (f : Forest) (m : ReadMeaning) →
+    IsUtf8 text → short text → text_reading text ≡ Ok f → HasNoWord f → meaning (layers grammar edition) depth text ≡ Ok m → m.faults ≡ [])
     → (grammar : Grammar) (edition : Edition) (depth : ℕ) (text : List ℕ) (f : Forest) (earlier : Option (List Looked)) (e : Expanded)
-    → IsUtf8 text → length text < 2 ^ 31 → text_reading text ≡ Ok f → HasNoWord f
+    → IsUtf8 text → short text → text_reading text ≡ Ok f → HasNoWord f
     → IsReplyTo (layers grammar edition) depth text earlier (Read e) → e.faults ≡ []
-quiet_reply law grammar edition depth text f earlier e is_text fits read quiet h =
+quiet_reply short law grammar edition depth text f earlier e is_text fits read quiet h =
     faults_are (meaning (layers grammar edition) depth text) earlier e (λ m is. law grammar edition depth text f m is_text fits read quiet is) h
 
 -- ---- a piece that is among the earlier ones

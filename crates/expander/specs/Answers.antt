@@ -36,6 +36,12 @@ abbrev pub last_text : List ℕ → List Command → List Answer → List ℕ
 last_text text (command ∷ commands) (answer ∷ answers) = last_text (text_after text command answer) commands answers
 last_text text _ _ = text
 
+-- the texts that were read behind all commands, by their answers, the newest first
+abbrev pub last_reads : List ℕ → List (List ℕ) → List Command → List Answer → List (List ℕ)
+last_reads text reads (command ∷ commands) (answer ∷ answers) =
+    last_reads (text_after text command answer) (reads_after text reads answer) commands answers
+last_reads text reads _ _ = reads
+
 -- two replies show the same, whatever pieces were expanded for them
 abbrev pub ShowTheSame : Reply → Reply → Type 0
 ShowTheSame (Read e) (Read f) = (e.printed ≡ f.printed) × (e.faults ≡ f.faults) × (e.origins ≡ f.origins)

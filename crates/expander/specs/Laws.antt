@@ -1,18 +1,48 @@
 -- Words of the laws.
-use Rattle.std.specs.Prelude.{◌≡◌, ◌⊎◌, ℕ, Bool, true, not, All, Option, None, List, [], ◌∷◌, is_none}
+use Rattle.std.specs.Prelude.{◌≡◌, ◌⊎◌, ℕ, Bool, true, not, All, Option, None, List, [], ◌∷◌, is_none, ◌≢◌, zero, suc, false}
 use Rattle.std.specs.List.{list_all}
-use Rattle.tt_data.specs.Forest.{Forest}
+use Rattle.bridge.specs.Text.{is_punct}
+use Rattle.tt_data.specs.Forest.{Forest, empty, leaf, group, joined}
 use Rattle.tt_data.specs.Walk.{walk}
 use Rattle.expander.specs.Count.{found_piece}
+use Rattle.expander.specs.CallSteps.{call_at, call_behind_colons}
 use Rattle.expander.specs.Definitions.{Definition, definition_of}
 use Rattle.expander.specs.Faults.{is_definition_word}
 use Rattle.expander.specs.Meaning.{with_definition}
+use Rattle.expander.specs.Pieces.{ends_piece}
+use Rattle.expander.specs.declared.faults.FaultKind.{FaultKind}
+use Rattle.expander.specs.declared.faults.FaultKind.TheVariants.{CannotExpand, BrokenDefinition, RecursionLimit}
 use Rattle.expander.specs.declared.session.Reply.{Reply}
 use Rattle.expander.specs.declared.session.Reply.TheVariants.{Read, Unread}
 
 -- a call fails: its definition is broken, no level is left, or nothing fits
 abbrev pub Fails : Bool → ℕ → Option Forest → Type 0
 Fails broken depth given = (broken ≡ true) ⊎ (depth ≡ 0) ⊎ (given ≡ None)
+
+-- why it fails
+abbrev pub why_failed : Bool → ℕ → FaultKind
+why_failed true depth = BrokenDefinition
+why_failed false zero = RecursionLimit
+why_failed false (suc n) = CannotExpand
+
+-- a list is parted at no call: where none begins in the front, none begins there when the rest follows; nor does what
+-- would be one but for the `::` before it
+pub record IsParted (front rest : Forest) : Type 0 where
+  pub calls : (a b : Forest) → front ≡ joined a b → b ≢ empty → call_at b ≡ None → call_at (joined b rest) ≡ None
+  pub colons : (a b : Forest) → front ≡ joined a b → b ≢ empty → call_behind_colons b ≡ None → call_behind_colons (joined b rest) ≡ None
+
+-- one tree that ends the piece which `begun` begins
+abbrev pub is_ender : Forest → Forest → Bool
+is_ender begun (leaf l empty) = is_punct ";" l
+is_ender begun (group d inner empty) = ends_piece begun d
+is_ender begun _ = false
+
+-- the last tree of a list ends the piece which those before it begin
+pub record IsEnded (p : Forest) : Type 0 where
+  pub begun : Forest
+  pub last : Forest
+  pub is : p ≡ joined begun last
+  pub ends : is_ender begun last ≡ true
 
 -- none of the pieces is a definition
 abbrev pub AreAllPlain : List Forest → Type 0

@@ -46,7 +46,8 @@ definitions_in (Err fault) = []
 abbrev pub given_after : ℕ → List Forest → Result ReadMeaning ReadFault → ℕ
 given_after given trees m = given + needed trees (definitions_in m)
 
--- those would be more than there are
+-- those would be more than there are: then no text is read, since a session never gives so many (`numbers` of its
+-- `expansion`)
 abbrev pub NeedsNumbers : ℕ → List Forest → Result ReadMeaning ReadFault → Type 0
 NeedsNumbers given trees m = 2 ^ 32 ≤ given_after given trees m
 

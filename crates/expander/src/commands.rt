@@ -1,6 +1,6 @@
 //! Lists of commands, each of which a session answers.
 ghost use Rattle.std.specs.Prelude.{◌<◌, ◌^◌, [], length, IfOk};
-ghost use Rattle.expander.specs.Answers.{AreAnswers};
+ghost use Rattle.expander.specs.Answers.{AreAnswers, given, last_reads};
 ghost use Rattle.expander.specs.CommandTurns.{Edits, Turn};
 ghost use Rattle.expander.specs.Layered.{layers};
 ghost use Rattle.expander.specs.State.{layers_of};
@@ -38,7 +38,8 @@ pub enum Answer {
 
 /// The answers to these commands, one to each, of a session that begins with this text: each by the text at its turn.
 ///
-/// It is refused itself where there is no memory for the session or the list of answers.
+/// It is refused itself where there is no memory for the session or the list of answers. No more than `u32::MAX` definitions
+/// are numbered in all the texts that are read: `numbers`.
 pub fn replay<G: FragmentGrammar + Drop>(
     alloc: Global,
     text: &str,
@@ -48,7 +49,8 @@ pub fn replay<G: FragmentGrammar + Drop>(
     commands: &[Command],
 ) -> Result<Vec<Answer>, AllocError>
     requires { length text.now < 2 ^ 32 }
-    ensures { IfOk result (λ answers. AreAnswers (layers (G.answer grammar) edition) depth text.now [] commands.now answers.items) }
+    ensures answers { IfOk result (λ answers. AreAnswers (layers (G.answer grammar) edition) depth text.now [] commands.now answers.items) }
+    ensures numbers { IfOk result (λ answers. given (layers (G.answer grammar) edition) depth (last_reads text.now [] commands.now answers.items) < 2 ^ 32) }
 {
     let mut session = Session::new(alloc, text, grammar, edition, depth)?;
     let mut answers = Vec::new(alloc);
@@ -61,7 +63,8 @@ pub fn replay<G: FragmentGrammar + Drop>(
 
 // The answer to one command.
 fn answer_to<G: FragmentGrammar + Drop>(session: &mut Session<G>, command: &Command) -> Answer
-    ensures { Turn (layers_of G.answer session.old) session.old session.new command.now result }
+    ensures turn { Turn (layers_of G.answer session.old) session.old session.new command.now result }
+    ensures few { session.old.given < 2 ^ 32 → session.new.given < 2 ^ 32 }
 {
     match command {
         Command::Edit {

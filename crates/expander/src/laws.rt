@@ -1,18 +1,18 @@
 //! Laws of the definitions, for those who read them. A call does nothing: it only states.
-ghost use Rattle.std.specs.Prelude.{◌≡◌, ◌↔◌, ℕ, ◌+◌, ◌≤◌, ◌<◌, ◌^◌, true, All, Contains, List, [], ◌∷◌, ◌++◌, filter, filter_map, flat_map, length, map, IsUtf8, Option, Some, None, Ok, option_map};
+ghost use Rattle.std.specs.Prelude.{◌≡◌, ◌↔◌, ℕ, ◌+◌, ◌≤◌, ◌<◌, ◌^◌, false, true, All, Contains, List, [], ◌∷◌, ◌++◌, filter, filter_map, flat_map, length, map, IsUtf8, Option, Some, None, Ok, option_map, unwrap_or};
 ghost use Rattle.std.specs.List.Sorted.{IsPermutation, IsSortedBy};
 ghost use Rattle.expander.specs.Agreement.{FoundIn, scope_of};
 ghost use Rattle.expander.specs.Answers.{AreAnswers, ShowTheSame, last_text};
-ghost use Rattle.expander.specs.Calls.{marked, unmarked};
+ghost use Rattle.expander.specs.Calls.{is_colons, marked, unmarked};
 ghost use Rattle.expander.specs.CallSteps.{call_at, first_call};
 ghost use Rattle.expander.specs.Changes.{outcome_with};
 ghost use Rattle.expander.specs.Count.{Looked, expanded_count, finds_within, is_same, looked_of, same_forest};
-ghost use Rattle.expander.specs.Expansion.{World, expansion, placed};
+ghost use Rattle.expander.specs.Expansion.{World, expansion, followed_by, grouped, placed};
 ghost use Rattle.expander.specs.Expanded.{Expanded};
 ghost use Rattle.expander.specs.Faults.{comes_before, in_order};
 ghost use Rattle.expander.specs.FixedPoint.{IsFixedPoint, RepliesWith};
 ghost use Rattle.expander.specs.Held.{IsMet, Known, Met, TellsApart, definition_trees, kept_after, numbered_scope, numbered_world, present, trees_in};
-ghost use Rattle.expander.specs.Laws.{AreAllPlain, ExpandsNothing, Fails, FindsAsBefore, HasNoWord, definitions_after};
+ghost use Rattle.expander.specs.Laws.{AreAllPlain, ExpandsNothing, Fails, FindsAsBefore, HasNoWord, definitions_after, IsEnded, IsParted, why_failed};
 ghost use Rattle.expander.specs.Layered.{layers};
 ghost use Rattle.expander.specs.Meaning.{Layers, ReadMeaning, faults_of, meaning, member_faults, members, members_after, output, output_of};
 ghost use Rattle.expander.specs.Numbers.{AreEntries, Numbering, needed, number_in, number_of, tree_of, with_trees};
@@ -39,9 +39,12 @@ ghost use Rattle.expander.specs.declared.session.Refusal.TheVariants.{Numbers};
 ghost use Rattle.expander.specs.declared.session.Reply.{Reply};
 ghost use Rattle.expander.specs.declared.session.Reply.TheVariants.{Read};
 ghost use Rattle.bridge.specs.Reading.{reading};
-ghost use Rattle.bridge.specs.TokenSteps.{steps_of, text_reading};
+ghost use Rattle.bridge.specs.TokenSteps.{steps_of, text_reading, escaped};
 ghost use Rattle.mbe.specs.Grammar.{Grammar};
-ghost use Rattle.tt_data.specs.Forest.{Forest, joined, map_spans};
+ghost use Rattle.tt_data.specs.Forest.{Forest, empty, group, joined, leaf, map_spans};
+ghost use Rattle.tt_data.specs.declared.delimiter.Delimiter.{Delimiter};
+ghost use Rattle.tt_data.specs.declared.leaf.Leaf.TheVariants as as_leaf;
+ghost use Rattle.tt_data.specs.declared.leaf.Punct.{Punct};
 ghost use Rattle.tt_data.specs.Walk.{walk};
 ghost use Rattle.tt_data.specs.declared.edition.Edition.{Edition};
 ghost use Rattle.tt_data.specs.declared.span.Span.{Span};
@@ -63,9 +66,13 @@ pub fn calls_are_met_from_the_left()
 {}
 
 /// The pieces of a list, one after another, are the list, and each of them is one piece: only its last tree may end it.
+/// That tree does end each piece that another follows, so a list is cut behind such trees alone: `ended`. Where trees that
+/// a piece begins with end with one, they are the whole piece: `within`.
 pub fn pieces_are_the_list()
     ensures whole { (f : Forest) → put_together (cut f) ≡ f }
     ensures each { (f : Forest) → All (λ p. cut p ≡ p ∷ []) (cut f) }
+    ensures ended { (f p q : Forest) (front behind : List Forest) → cut f ≡ front ++ p ∷ q ∷ behind → IsEnded p }
+    ensures within { (f : Forest) → All (λ p. (front behind : Forest) → p ≡ joined front behind → IsEnded front → behind ≡ empty) (cut f) }
 {}
 
 /// A call that fails stays with the trees that it has, its argument unexpanded, before the expansion of those behind it.
@@ -73,6 +80,43 @@ pub fn a_failed_call_stays()
     ensures { (world : World Definition) (scope : List ℕ → Option Definition) (depth : ℕ) (outer : Option Span) (f passed : Forest) (c : Call) (d : Definition) →
         call_at f ≡ Some c → scope c.name.sym ≡ Some d → Fails (world.broken d) depth (world.fit d c.argument) → f ≡ joined passed c.rest →
         (expansion world scope depth outer f).steps ≡ placed outer (walk passed) ++ (expansion world scope depth outer c.rest).steps }
+{}
+
+/// No call is parted behind a group, whatever follows: `groups`. Nor before a call, where no `::` stands there: `calls`.
+pub fn where_lists_are_parted()
+    ensures groups { (front : Forest) (d : Delimiter) (inner rest : Forest) → IsParted (joined front (group d inner empty)) rest }
+    ensures calls { (front rest : Forest) (c : Call) → call_at rest ≡ Some c →
+        ((f : Forest) (p q : Punct) → front ≡ joined f (leaf (as_leaf.Punct p) (leaf (as_leaf.Punct q) empty)) → is_colons p q ≡ false) → IsParted front rest }
+{}
+
+/// A list that is parted at no call is expanded part by part: steps, faults and finds of the front are followed by those
+/// of the rest: `lists`. A group at the beginning is expanded inside its brackets: `groups`.
+pub fn expansions_part_by_part()
+    ensures lists { (world : World Definition) (scope : List ℕ → Option Definition) (depth : ℕ) (outer : Option Span) (front rest : Forest) →
+        IsParted front rest →
+        expansion world scope depth outer (joined front rest) ≡ followed_by (expansion world scope depth outer front) (expansion world scope depth outer rest) }
+    ensures groups { (world : World Definition) (scope : List ℕ → Option Definition) (depth : ℕ) (outer : Option Span) (d : Delimiter) (inner rest : Forest) →
+        expansion world scope depth outer (group d inner rest)
+        ≡ followed_by (grouped outer d (expansion world scope depth outer inner)) (expansion world scope depth outer rest) }
+{}
+
+/// A call that fails stays with the trees that it has wherever it stands in a list, between the expansions of what is in
+/// front of it and behind it: `steps`. It has one fault, which says why it failed, at its name or at that of the outermost
+/// call that was expanded around it: `faults`. Of the names in it its own alone is looked up: `finds`.
+pub fn a_failed_call_stays_anywhere()
+    ensures steps { (world : World Definition) (scope : List ℕ → Option Definition) (depth : ℕ) (outer : Option Span) (front passed : Forest) (c : Call) (d : Definition) →
+        call_at (joined passed c.rest) ≡ Some c → scope c.name.sym ≡ Some d → Fails (world.broken d) depth (world.fit d c.argument) → IsParted front (joined passed c.rest) →
+        (expansion world scope depth outer (joined front (joined passed c.rest))).steps
+        ≡ (expansion world scope depth outer front).steps ++ (placed outer (walk passed) ++ (expansion world scope depth outer c.rest).steps) }
+    ensures faults { (world : World Definition) (scope : List ℕ → Option Definition) (depth : ℕ) (outer : Option Span) (front passed : Forest) (c : Call) (d : Definition) →
+        call_at (joined passed c.rest) ≡ Some c → scope c.name.sym ≡ Some d → Fails (world.broken d) depth (world.fit d c.argument) → IsParted front (joined passed c.rest) →
+        (expansion world scope depth outer (joined front (joined passed c.rest))).faults
+        ≡ (expansion world scope depth outer front).faults
+        ++ (why_failed (world.broken d) depth, unwrap_or outer c.name.span) ∷ (expansion world scope depth outer c.rest).faults }
+    ensures finds { (world : World Definition) (scope : List ℕ → Option Definition) (depth : ℕ) (outer : Option Span) (front passed : Forest) (c : Call) (d : Definition) →
+        call_at (joined passed c.rest) ≡ Some c → scope c.name.sym ≡ Some d → Fails (world.broken d) depth (world.fit d c.argument) → IsParted front (joined passed c.rest) →
+        (expansion world scope depth outer (joined front (joined passed c.rest))).finds
+        ≡ (expansion world scope depth outer front).finds ++ (c.name.sym, Some d) ∷ (expansion world scope depth outer c.rest).finds }
 {}
 
 /// Where no piece is a definition, the output is the walk of the pieces, and no fault is told of a call, whatever the
@@ -96,10 +140,13 @@ pub fn quiet_texts_have_no_fault()
 {}
 
 /// A text of fewer than 2^31 bytes that was read has no fault where none of its names begins a definition: each of its
-/// tokens has a spelling. (In a longer one the escapes of a doc comment could make a literal that is too long for a text.)
+/// tokens has a spelling: `short`. (In a longer one the escapes of a doc comment could make a literal that is too long for a
+/// text.) So it is of a text of fewer than 2^32 bytes once each `"` and `\` of it is escaped: `escaped_text`.
 pub fn no_fault_without_definition_words()
-    ensures { (grammar : Grammar) (edition : Edition) (depth : ℕ) (text : List ℕ) (f : Forest) (m : ReadMeaning) →
+    ensures short { (grammar : Grammar) (edition : Edition) (depth : ℕ) (text : List ℕ) (f : Forest) (m : ReadMeaning) →
         IsUtf8 text → length text < 2 ^ 31 → text_reading text ≡ Ok f → HasNoWord f → meaning (layers grammar edition) depth text ≡ Ok m → m.faults ≡ [] }
+    ensures escaped_text { (grammar : Grammar) (edition : Edition) (depth : ℕ) (text : List ℕ) (f : Forest) (m : ReadMeaning) →
+        IsUtf8 text → length (escaped text) < 2 ^ 32 → text_reading text ≡ Ok f → HasNoWord f → meaning (layers grammar edition) depth text ≡ Ok m → m.faults ≡ [] }
 {
     bridge::laws::reading_is_a_relation();
     bridge::laws::read_texts_are_printed_whole();
@@ -352,10 +399,14 @@ pub fn blanks_between_pieces_count_nothing()
     the_same_pieces_are_not_expanded_again();
 }
 
-/// A reply to a text of fewer than 2^31 bytes tells no fault where none of the text's names begins a definition.
+/// A reply to a text of fewer than 2^31 bytes tells no fault where none of the text's names begins a definition: `short`.
+/// So it is of a text of fewer than 2^32 bytes once each `"` and `\` of it is escaped: `escaped_text`.
 pub fn replies_without_definition_words_tell_no_fault()
-    ensures { (grammar : Grammar) (edition : Edition) (depth : ℕ) (text : List ℕ) (f : Forest) (earlier : Option (List Looked)) (e : Expanded) →
+    ensures short { (grammar : Grammar) (edition : Edition) (depth : ℕ) (text : List ℕ) (f : Forest) (earlier : Option (List Looked)) (e : Expanded) →
         IsUtf8 text → length text < 2 ^ 31 → text_reading text ≡ Ok f → HasNoWord f →
+        IsReplyTo (layers grammar edition) depth text earlier (Read e) → e.faults ≡ [] }
+    ensures escaped_text { (grammar : Grammar) (edition : Edition) (depth : ℕ) (text : List ℕ) (f : Forest) (earlier : Option (List Looked)) (e : Expanded) →
+        IsUtf8 text → length (escaped text) < 2 ^ 32 → text_reading text ≡ Ok f → HasNoWord f →
         IsReplyTo (layers grammar edition) depth text earlier (Read e) → e.faults ≡ [] }
 {
     no_fault_without_definition_words();

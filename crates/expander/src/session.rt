@@ -177,7 +177,7 @@ impl<G: FragmentGrammar> Model for Session<G> {
 
     ghost view = { λ s. record { text = s.text; grammar = s.grammar; edition = s.edition; depth = s.depth; held = held_in s.memory; trees = trees_of s.memory; given = s.memory.given } };
 
-    ghost invariant = { λ s. (length s.text < 2 ^ 32) × IsMemory (world (G.answer s.grammar) s.edition) s.depth s.edition s.memory };
+    ghost invariant = { λ s. (length s.text < 2 ^ 32) × IsMemory (world (G.answer s.grammar) s.edition) s.depth s.edition s.memory × (s.memory.given < 2 ^ 32) };
 }
 
 impl<G: FragmentGrammar + Drop> Session<G> {
@@ -253,11 +253,13 @@ impl<G: FragmentGrammar + Drop> Session<G> {
     /// The expansion of the text, or its reading fault. Refused where there is no memory left, where what is read of the
     /// text has more than `u32::MAX` tokens, which doc comments alone can bring about, or where a call's result would
     /// have so many, which is never where no level of calls is left; and where so many definitions would have been
-    /// numbered. Pieces that the last text that was read had as well are not expanded again.
+    /// numbered. Pieces that the last text that was read had as well are not expanded again. No more than `u32::MAX`
+    /// definitions are numbered in all, so a text for which that would be more has no `Read`: `numbers`.
     pub fn expansion(&mut self) -> Result<Reply, Refusal>
         ensures reply { IfOk result (λ reply. Replies (layers_of G.answer self.old) self.old self.new reply) }
         ensures same { OnErr result (self.new ≡ self.old) }
         ensures cause { IfErr result (HasCause (layers_of G.answer self.old) self.old) }
+        ensures numbers { self.new.given < 2 ^ 32 }
     {
         mbe_rules::laws::rules_at_other_places();
         mbe::laws::fit_at_other_places();

@@ -1,9 +1,10 @@
 use Rattle.std.proofs.Common.{arith}
+use Rattle.bridge.proofs.EscapedLemmas.{escaped_long, escaped_short}
 use Rattle.bridge.proofs.ReadSpelledLemmas.{TokenLaws, nothing_left_out, read_spelled, separated_spelled}
 use Rattle.bridge.proofs.laws.read_texts_are_printed_whole.Goals as goal
 
-pub returns-clause-text : goal.returns-clause-text
-returns-clause-text c = λ text f u fits read.
+pub returns-clause-escaped_text : goal.returns-clause-escaped_text
+returns-clause-escaped_text c = λ text f u fits read.
     let laws : TokenLaws text = record {
       begin = c.tokens_begin.ensures text u;
       here = λ at left t ts. c.next_token.ensures.here text at left t ts u;
@@ -13,13 +14,13 @@ returns-clause-text c = λ text f u fits read.
       boundary = λ at t. c.suffix_starts.ensures.boundary text at t u;
       sums = c.token_lengths.ensures.whole;
       escaped = c.one_escaped_string.ensures;
-      leaf = λ at t more l. c.read_leaves_have_spellings.ensures.leaves text at t more l u (omega (arith, fits));
-      name = λ at t span. c.read_leaves_have_spellings.ensures.names text at t span u (omega (arith, fits));
+      leaf = λ at t more l. c.read_leaves_have_spellings.ensures.leaves text at t more l u (omega (arith, escaped_short text, fits));
+      name = λ at t span. c.read_leaves_have_spellings.ensures.names text at t span u (omega (arith, escaped_short text, fits));
     } in
     nothing_left_out _ (read_spelled text fits laws f read)
 
-pub returns-clause-pieces : goal.returns-clause-pieces
-returns-clause-pieces c = λ text f u fits read.
+pub returns-clause-escaped_pieces : goal.returns-clause-escaped_pieces
+returns-clause-escaped_pieces c = λ text f u fits read.
     let laws : TokenLaws text = record {
       begin = c.tokens_begin.ensures text u;
       here = λ at left t ts. c.next_token.ensures.here text at left t ts u;
@@ -29,7 +30,13 @@ returns-clause-pieces c = λ text f u fits read.
       boundary = λ at t. c.suffix_starts.ensures.boundary text at t u;
       sums = c.token_lengths.ensures.whole;
       escaped = c.one_escaped_string.ensures;
-      leaf = λ at t more l. c.read_leaves_have_spellings.ensures.leaves text at t more l u (omega (arith, fits));
-      name = λ at t span. c.read_leaves_have_spellings.ensures.names text at t span u (omega (arith, fits));
+      leaf = λ at t more l. c.read_leaves_have_spellings.ensures.leaves text at t more l u (omega (arith, escaped_short text, fits));
+      name = λ at t span. c.read_leaves_have_spellings.ensures.names text at t span u (omega (arith, escaped_short text, fits));
     } in
     nothing_left_out _ (separated_spelled f (read_spelled text fits laws f read))
+
+pub returns-clause-text : goal.returns-clause-text
+returns-clause-text c = λ text f u fits. returns-clause-escaped_text c text f u (omega (arith, escaped_long text, fits))
+
+pub returns-clause-pieces : goal.returns-clause-pieces
+returns-clause-pieces c = λ text f u fits. returns-clause-escaped_pieces c text f u (omega (arith, escaped_long text, fits))

@@ -1,6 +1,6 @@
 use Rattle.std.proofs.Common.{◌∙◌, ap, drop, arith, length, ◌<◌, ◌≡◌, ◌∷◌, ◌+◌, drop-cons, add-one, suc, sym, refl}
 use Rattle.std.proofs.lemmas.List.{drop_all}
-use Rattle.expander.proofs.CommandLemmas.{stands_first, stands_next, stands_last}
+use Rattle.expander.proofs.CommandLemmas.{stands_few, stands_first, stands_last, stands_next}
 use Rattle.expander.specs.declared.commands.Command.{Command}
 use Rattle.expander.proofs.commands.replay.Goals as goal
 
@@ -18,10 +18,16 @@ loop-command-preserved g c =
     let rest : drop k commands ≡ command ∷ drop (k + 1) commands =
     drop-cons commands k command lt ∙ ap (λ (x : Command). x ∷ drop (suc k) commands) (sym c.command-item.is) ∙ ap (λ n. command ∷ drop n commands) (sym (add-one k)) in
     stands_next (g.G.FragmentGrammar.answer) c.loop-command.session c.answer_to-answer.new.session c.args.text.now c.args.grammar c.args.edition c.args.depth commands _ _ command
-    c.answer_to-answer.result c.loop-command.answers.items _ rest c.in_ok-push.ensures.items c.answer_to-answer.ensures c.loop-command.invariant
+    c.answer_to-answer.result c.loop-command.answers.items _ rest c.in_ok-push.ensures.items c.answer_to-answer.ensures.turn c.answer_to-answer.ensures.few c.loop-command.invariant
 
-pub returns : goal.returns
-returns g c =
+pub returns-clause-answers : goal.returns-clause-answers
+returns-clause-answers g c =
     stands_last (g.G.FragmentGrammar.answer) c.loop-command.session c.args.text.now c.args.grammar c.args.edition c.args.depth c.args.commands.now
+    (drop c.loop-command.command-index c.args.commands.now) c.loop-command.answers.items
+    (drop_all c.loop-command.command-index c.args.commands.now (omega arith)) c.loop-command.invariant
+
+pub returns-clause-numbers : goal.returns-clause-numbers
+returns-clause-numbers g c =
+    stands_few (g.G.FragmentGrammar.answer) c.loop-command.session c.args.text.now c.args.grammar c.args.edition c.args.depth c.args.commands.now
     (drop c.loop-command.command-index c.args.commands.now) c.loop-command.answers.items
     (drop_all c.loop-command.command-index c.args.commands.now (omega arith)) c.loop-command.invariant

@@ -1,5 +1,10 @@
+use Rattle.std.proofs.Common.{◌<◌, ◌^◌, length}
+use Rattle.bridge.specs.TokenSteps.{escaped}
 use Rattle.expander.proofs.ReplyLawLemmas.{quiet_reply}
 use Rattle.expander.proofs.laws.replies_without_definition_words_tell_no_fault.Goals as goal
 
-pub returns : goal.returns
-returns c = quiet_reply c.no_fault_without_definition_words.ensures
+pub returns-clause-short : goal.returns-clause-short
+returns-clause-short c = quiet_reply (λ text. length text < 2 ^ 31) c.no_fault_without_definition_words.ensures.short
+
+pub returns-clause-escaped_text : goal.returns-clause-escaped_text
+returns-clause-escaped_text c = quiet_reply (λ text. length (escaped text) < 2 ^ 32) c.no_fault_without_definition_words.ensures.escaped_text

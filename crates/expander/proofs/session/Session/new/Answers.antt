@@ -1,4 +1,4 @@
-use Rattle.std.proofs.Common.{◌<◌, ◌^◌, List, length, subst, sym, ℕ}
+use Rattle.std.proofs.Common.{◌<◌, ◌^◌, List, arith, length, subst, sym, ℕ}
 use Rattle.expander.specs.World.{world}
 use Rattle.expander.proofs.session.Session.new.Goals as goal
 
@@ -6,4 +6,5 @@ pub invariant_of-result : goal.invariant_of-result
 invariant_of-result g c = (
   subst (λ (text : List ℕ). length text < 2 ^ 32) (sym c.in_ok-text.ensures) c.requires,
   c.new-2.ensures.right (world (g.G.FragmentGrammar.answer c.args.grammar) c.args.edition) c.args.edition c.args.depth,
+  omega (arith, c.new-2.ensures.given),
 )
