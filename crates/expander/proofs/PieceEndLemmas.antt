@@ -1,7 +1,7 @@
 -- Which trees end pieces.
 use Rattle.std.proofs.Common.{◌≡◌, ◌≢◌, List, [], ◌∷◌, ◌++◌, refl, sym, ap, subst, ◌∙◌, Bool, true, false, inl, inr, if◌then◌else◌}
 use Rattle.std.specs.Prelude.{◌⊎◌, All}
-use Rattle.std.proofs.lemmas.List.Elements.{All-nil, All-cons}
+use Rattle.std.proofs.lemmas.List.Elements.{All-nil, All-cons, All-head, All-tail}
 use Rattle.bridge.specs.Text.{is_punct}
 use Rattle.tt_data.specs.Flat.{joined-empty}
 use Rattle.tt_data.specs.Forest.{Forest, empty, leaf, group, joined}
@@ -9,7 +9,7 @@ use Rattle.tt_data.proofs.ForestLemmas.{joined_assoc}
 use Rattle.tt_data.specs.declared.delimiter.Delimiter.{Delimiter}
 use Rattle.tt_data.specs.declared.leaf.Leaf.{Leaf}
 use Rattle.expander.specs.Laws.{IsEnded, is_ender}
-use Rattle.expander.specs.Pieces.{cut, cut_from, ends_piece}
+use Rattle.expander.specs.Pieces.{cut, cut_from, ends_piece, put_together}
 
 -- ---- each piece that another follows
 
@@ -185,3 +185,86 @@ all_last (group d inner rest) begun un =
 -- no tree of a piece ends one but its last
 pub ends_within : (f : Forest) → All EndsLast (cut f)
 ends_within f = all_last f empty nothing_unended
+
+-- ---- no other pieces
+
+-- of a list in parts the first does not end a piece, unless it is all
+not_here : (begun one p : Forest) → EndsLast (joined begun (joined one p)) → is_ender begun one ≡ true → p ≡ empty
+not_here begun one p h e = h (joined begun one) p (sym (joined_assoc begun one p)) (record { begun = begun; last = one; is = refl; ends = e })
+
+more_last : (begun one p : Forest) → EndsLast (joined begun (joined one p)) → EndsLast (joined (joined begun one) p)
+more_last begun one p h = λ front behind e. h front behind (sym (joined_assoc begun one p) ∙ e)
+
+more_ended : (begun one p : Forest) → IsEnded (joined begun (joined one p)) → IsEnded (joined (joined begun one) p)
+more_ended begun one p h = record { begun = h.begun; last = h.last; is = joined_assoc begun one p ∙ h.is; ends = h.ends }
+
+-- a tree that ends no piece does not end the list
+still_more : (begun one p : Forest) → IsOne one → IsEnded (joined begun (joined one p)) → is_ender begun one ≡ false → p ≢ empty
+still_more begun one p is h e none =
+    let whole : joined begun one ≡ joined h.begun h.last = ap (joined begun) (sym (joined-empty one) ∙ ap (joined one) (sym none)) ∙ h.is in
+    false_true (is_ender begun one) e (is_last one is begun h.begun h.last whole h.ends)
+
+-- one tree and more
+in_parts : (begun one p : Forest) → p ≡ empty → joined begun one ≡ joined begun (joined one p)
+in_parts begun one p none = ap (joined begun) (sym (ap (joined one) none ∙ joined-empty one))
+
+cut_step : (begun one p rest : Forest) (b : Bool) → IsOne one → EndsLast (joined begun (joined one p)) → IsEnded (joined begun (joined one p)) → is_ender begun one ≡ b
+    → (p ≢ empty → cut_from (joined p rest) (joined begun one) ≡ joined (joined begun one) p ∷ cut_from rest empty)
+    → (if b then joined begun one ∷ cut_from (joined p rest) empty else cut_from (joined p rest) (joined begun one)) ≡ joined begun (joined one p) ∷ cut_from rest empty
+cut_step begun one p rest true is h ended e later =
+    let none : p ≡ empty = not_here begun one p h e in
+    ap (λ x. joined begun one ∷ cut_from (joined x rest) empty) none ∙ ap (λ x. x ∷ cut_from rest empty) (in_parts begun one p none)
+cut_step begun one p rest false is h ended e later =
+    later (still_more begun one p is ended e) ∙ ap (λ x. x ∷ cut_from rest empty) (joined_assoc begun one p)
+
+-- a piece that is ended is cut off
+cut_off : (p begun rest : Forest) → p ≢ empty → EndsLast (joined begun p) → IsEnded (joined begun p) → cut_from (joined p rest) begun ≡ joined begun p ∷ cut_from rest empty
+cut_off empty begun rest some h ended = absurd (some refl)
+cut_off (leaf l p) begun rest some h ended =
+    cut_step begun (leaf l empty) p rest (is_punct ";" l) (one_leaf l) h ended refl
+    (λ more. cut_off p (joined begun (leaf l empty)) rest more (more_last begun (leaf l empty) p h) (more_ended begun (leaf l empty) p ended))
+cut_off (group d inner p) begun rest some h ended =
+    cut_step begun (group d inner empty) p rest (ends_piece begun d) (one_group d inner) h ended refl
+    (λ more. cut_off p (joined begun (group d inner empty)) rest more (more_last begun (group d inner empty) p h) (more_ended begun (group d inner empty) p ended))
+
+left_step : (begun one p : Forest) (b : Bool) → EndsLast (joined begun (joined one p)) → is_ender begun one ≡ b → cut_from p (joined begun one) ≡ joined (joined begun one) p ∷ []
+    → (if b then joined begun one ∷ cut_from p empty else cut_from p (joined begun one)) ≡ joined begun (joined one p) ∷ []
+left_step begun one p true h e later =
+    let none : p ≡ empty = not_here begun one p h e in
+    ap (λ x. joined begun one ∷ cut_from x empty) none ∙ ap (λ x. x ∷ []) (in_parts begun one p none)
+left_step begun one p false h e later = later ∙ ap (λ x. x ∷ []) (joined_assoc begun one p)
+
+-- what is left at the end is a piece
+left_over : (p begun : Forest) → joined begun p ≢ empty → EndsLast (joined begun p) → cut_from p begun ≡ joined begun p ∷ []
+left_over empty empty some h = absurd (some refl)
+left_over empty (leaf l begun) some h = ap (λ x. x ∷ []) (sym (joined-empty (leaf l begun)))
+left_over empty (group d inner begun) some h = ap (λ x. x ∷ []) (sym (joined-empty (group d inner begun)))
+left_over (leaf l p) begun some h =
+    left_step begun (leaf l empty) p (is_punct ";" l) h refl
+    (left_over p (joined begun (leaf l empty)) (λ x. some (sym (joined_assoc begun (leaf l empty) p) ∙ x)) (more_last begun (leaf l empty) p h))
+left_over (group d inner p) begun some h =
+    left_step begun (group d inner empty) p (ends_piece begun d) h refl
+    (left_over p (joined begun (group d inner empty)) (λ x. some (sym (joined_assoc begun (group d inner empty) p) ∙ x)) (more_last begun (group d inner empty) p h))
+
+abbrev pub HasTrees : Forest → Type 0
+HasTrees p = p ≢ empty
+
+cut_back : (ps : List Forest) → All HasTrees ps → AreEnded ps → All EndsLast ps → cut (put_together ps) ≡ ps
+unfolding AreEnded
+cut_back [] some ended last = refl
+cut_back (p ∷ []) some ended last =
+    ap cut (joined-empty p) ∙ left_over p empty (All-head HasTrees p [] some) (All-head EndsLast p [] last)
+cut_back (p ∷ q ∷ ps) some ended last =
+    cut_off p empty (put_together (q ∷ ps)) (All-head HasTrees p (q ∷ ps) some) (All-head EndsLast p (q ∷ ps) last) ended.0
+    ∙ ap (λ xs. p ∷ xs) (cut_back (q ∷ ps) (All-tail HasTrees p (q ∷ ps) some) ended.1 (All-tail EndsLast p (q ∷ ps) last))
+
+ended_all : (ps : List Forest) → ((front behind : List Forest) (p q : Forest) → ps ≡ front ++ p ∷ q ∷ behind → IsEnded p) → AreEnded ps
+unfolding AreEnded
+ended_all [] h = tt
+ended_all (p ∷ []) h = tt
+ended_all (p ∷ q ∷ ps) h = (h [] ps p q refl, ended_all (q ∷ ps) (λ front behind r s e. h (p ∷ front) behind r s (ap (λ xs. p ∷ xs) e)))
+
+-- pieces that end so are those of their list
+pub only_pieces : (ps : List Forest) → All HasTrees ps → ((front behind : List Forest) (p q : Forest) → ps ≡ front ++ p ∷ q ∷ behind → IsEnded p)
+    → All EndsLast ps → cut (put_together ps) ≡ ps
+only_pieces ps some ended last = cut_back ps some (ended_all ps ended) last

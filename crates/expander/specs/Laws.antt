@@ -25,8 +25,8 @@ why_failed true depth = BrokenDefinition
 why_failed false zero = RecursionLimit
 why_failed false (suc n) = CannotExpand
 
--- a list is parted at no call: where none begins in the front, none begins there when the rest follows; nor does what
--- would be one but for the `::` before it
+-- a front and what follows it are parted at no call: at each tree of the front, where no call begins without the rest,
+-- none begins with it; nor does what would be one but for the `::` before it
 pub record IsParted (front rest : Forest) : Type 0 where
   pub calls : (a b : Forest) → front ≡ joined a b → b ≢ empty → call_at b ≡ None → call_at (joined b rest) ≡ None
   pub colons : (a b : Forest) → front ≡ joined a b → b ≢ empty → call_behind_colons b ≡ None → call_behind_colons (joined b rest) ≡ None

@@ -1,5 +1,5 @@
 //! Laws of the definitions, for those who read them. A call does nothing: it only states.
-ghost use Rattle.std.specs.Prelude.{◌≡◌, ◌↔◌, ℕ, ◌+◌, ◌≤◌, ◌<◌, ◌^◌, false, true, All, Contains, List, [], ◌∷◌, ◌++◌, filter, filter_map, flat_map, length, map, IsUtf8, Option, Some, None, Ok, option_map, unwrap_or};
+ghost use Rattle.std.specs.Prelude.{◌≡◌, ◌≢◌, ◌↔◌, ℕ, ◌+◌, ◌≤◌, ◌<◌, ◌^◌, false, true, All, Contains, List, [], ◌∷◌, ◌++◌, filter, filter_map, flat_map, length, map, IsUtf8, Option, Some, None, Ok, option_map, unwrap_or};
 ghost use Rattle.std.specs.List.Sorted.{IsPermutation, IsSortedBy};
 ghost use Rattle.expander.specs.Agreement.{FoundIn, scope_of};
 ghost use Rattle.expander.specs.Answers.{AreAnswers, ShowTheSame, last_text};
@@ -67,12 +67,16 @@ pub fn calls_are_met_from_the_left()
 
 /// The pieces of a list, one after another, are the list, and each of them is one piece: only its last tree may end it.
 /// That tree does end each piece that another follows, so a list is cut behind such trees alone: `ended`. Where trees that
-/// a piece begins with end with one, they are the whole piece: `within`.
+/// a piece begins with end with one, they are the whole piece: `within`. Pieces of which both is so, and of which none is
+/// empty, are those of the list that they make together: `only`.
 pub fn pieces_are_the_list()
     ensures whole { (f : Forest) → put_together (cut f) ≡ f }
     ensures each { (f : Forest) → All (λ p. cut p ≡ p ∷ []) (cut f) }
     ensures ended { (f p q : Forest) (front behind : List Forest) → cut f ≡ front ++ p ∷ q ∷ behind → IsEnded p }
     ensures within { (f : Forest) → All (λ p. (front behind : Forest) → p ≡ joined front behind → IsEnded front → behind ≡ empty) (cut f) }
+    ensures only { (ps : List Forest) → All (λ p. p ≢ empty) ps →
+        ((front behind : List Forest) (p q : Forest) → ps ≡ front ++ p ∷ q ∷ behind → IsEnded p) →
+        All (λ p. (front behind : Forest) → p ≡ joined front behind → IsEnded front → behind ≡ empty) ps → cut (put_together ps) ≡ ps }
 {}
 
 /// A call that fails stays with the trees that it has, its argument unexpanded, before the expansion of those behind it.
