@@ -1,10 +1,11 @@
 -- A piece whose earlier look-ups find the same now is not expanded again.
 use Rattle.std.proofs.Common.{◌≡◌, ℕ, ◌+◌, Bool, true, false, List, [], ◌∷◌, ◌++◌, map, Option, Some, None, refl, ap, sym, subst, ◌∙◌, option_map, arith, append_assoc, length, length-append}
-use Rattle.std.specs.Prelude.{All, IsUtf8, Ok, filter, filter_map, not, ◌||◌}
+use Rattle.std.specs.Prelude.{All, IsUtf8, Ok, Result, filter, filter_map, not, ◌||◌}
 use Rattle.std.specs.List.{list_any}
 use Rattle.std.proofs.lemmas.Bool.{and_from}
 use Rattle.std.proofs.lemmas.List.Elements.{All-cons, All-head, All-nil, All-tail, filter-append}
 use Rattle.bridge.specs.TokenSteps.{text_reading}
+use Rattle.bridge.specs.declared.fault.ReadFault.{ReadFault}
 use Rattle.mbe.specs.Grammar.{Grammar}
 use Rattle.tt_data.specs.Forest.{Forest}
 use Rattle.tt_data.specs.declared.edition.Edition.{Edition}
@@ -12,17 +13,20 @@ use Rattle.expander.specs.Agreement.{FoundIn}
 use Rattle.expander.specs.Changes.{find_with, outcome_with}
 use Rattle.expander.specs.Count.{Looked, expanded_count, found_piece, is_same, looked_of, same_found}
 use Rattle.expander.specs.Definitions.{Definition, definition_of, nearest}
+use Rattle.expander.specs.Expanded.{Expanded}
 use Rattle.expander.specs.Expansion.{World, Outcome, expansion}
 use Rattle.expander.specs.Held.{HasNumber, IsNumbered, Known, Met, Numbered, StandFromFirst, Tells, definition_trees, kept_after, kept_of, met_of, moved_on, nearest_met, numbered_scope, numbered_world, present_definition, resolve, resolve_definition, with_met}
 use Rattle.expander.specs.Laws.{FindsAsBefore, IsFoundAgain, definitions_after}
 use Rattle.expander.specs.Layered.{layers}
-use Rattle.expander.specs.Meaning.{Layers, member, members, members_after, with_definition}
+use Rattle.expander.specs.Meaning.{Layers, meaning_from, member, members, members_after, with_definition}
 use Rattle.expander.specs.Numbers.{Numbering, number_of, tree_of, with_trees}
 use Rattle.expander.specs.OtherPlaces.{definition_with}
 use Rattle.expander.specs.Pieces.{first_start, pieces, relative}
+use Rattle.expander.specs.Replies.{IsMeant, IsReplyTo}
 use Rattle.expander.specs.Reuse.{FoundIs, IsHeld, agrees, looked_at, looked_held, same_number}
 use Rattle.expander.specs.TextTurn.{StandsInText, held_of}
 use Rattle.expander.specs.World.{world}
+use Rattle.expander.specs.declared.session.Reply.TheVariants.{Read}
 use Rattle.expander.proofs.FindsLemmas.{expansion_found}
 use Rattle.expander.proofs.HeldLemmas.{definition_there, members_present, present_scope, resolved_expansion}
 use Rattle.expander.proofs.NumberLemmas.{all_known, tells_apart, with_trees_are}
@@ -283,3 +287,10 @@ module _ (laws : TurnLaws) (grammar : Grammar) (edition : Edition) (depth : ℕ)
       ∙ ap (λ (n : ℕ). expanded_count (Some earlier) begun + n) (counts_more earlier its others)
       ∙ ap (λ (n : ℕ). expanded_count (Some earlier) begun + (n + expanded_count (Some earlier) others)) piece_does_not_count
       ∙ ap (λ (n : ℕ). expanded_count (Some earlier) begun + n) (omega arith)
+
+  -- so does a session that last read the earlier text
+  pub others_replied : (e : Expanded) → IsReplyTo all_here depth other (Some earlier) (Read e)
+      → e.expanded ≡ expanded_count (Some earlier) (looked_of (members_after all_here depth [] twos))
+      + expanded_count (Some earlier) (looked_of (members_after all_here depth (definitions_after [] (twos ++ q ∷ [])) more_twos))
+  others_replied e h =
+      (subst (λ (r : Result Forest ReadFault). IsMeant (meaning_from all_here depth r) (Some earlier) (Read e)) read_too h).expanded ∙ others_count

@@ -20,7 +20,7 @@ use Rattle.expander.proofs.CuttingLemmas.{put_together-cut}
 use Rattle.expander.proofs.PieceTreeLemmas.{ArePieces, HasFirst, HasLast, Unjoined, cut_pieces, end_separated, ended_separated, first_separated, first_step, is_ended, last_step, spaced_separated, spaced_trees, unjoin}
 use Rattle.expander.proofs.ReadPartLemmas.{separated_with}
 use Rattle.expander.proofs.TokenRowLemmas.{InRow, all_back, end_append, end_from, in_row, on_again, part_between, row_behind, row_front, shifted_step, steps_shifted, walk_shifted}
-use Rattle.expander.proofs.TokenStepLemmas.{HasBlanks, HasPart, none_are_blank, take_blanks, take_part}
+use Rattle.expander.proofs.TokenStepLemmas.{HasBlanks, HasPart, is_end, none_are_blank, spaced, take_blanks, take_part}
 
 -- ---- each piece by its own tokens
 
@@ -60,6 +60,54 @@ record TakesPiece (all before ts : List PlacedToken) (p behind : Forest) : Type 
   word : map (counted_on (first_start p)) (word_in all p) ≡ part
   left : steps_of rest ≡ map step (walk behind)
 
+-- the trees of a piece from its tokens, which stand in a row from here on and are these of all
+piece_read : (all part : List PlacedToken) (from : ℕ) (a : Forest) (xs : List Step) (x : Step) → InRow from part → from ≡ first_start (separated a)
+    → filter (is_between (first_start (separated a)) (last_end (separated a))) all ≡ part
+    → ((others : List PlacedToken) → (is_end x ≡ false → spacing_before others ≡ Alone) → steps_before part others ≡ map step (xs ++ spaced (spacing_before others) x ∷ []))
+    → ((spacing : Spacing) → walk (spaced_trees spacing a) ≡ xs ++ spaced spacing x ∷ []) → is_end x ≡ is_ended a → IsRead all (separated a)
+piece_read all part from a xs x row start between before again ends others follows =
+    let m : ℕ = first_start (separated a) in
+    let trees : Forest = spaced_trees (spacing_before others) a in
+    record {
+      trees = map_spans (moved_back m) trees;
+      read = ap (λ l. steps_before (map (counted_from m) l) others) between
+          ∙ steps_shifted (λ k. k - m) part others (all_back m from part (omega (arith, start)) row)
+          ∙ ap (map (shifted_step (λ k. k - m))) (before others (λ h. follows (ended_separated a ∙ sym ends ∙ h)) ∙ ap (map step) (sym (again (spacing_before others))))
+          ∙ walk_shifted (λ k. k - m) (walk trees)
+          ∙ ap (map step) (sym (walk-map_spans (moved_back m) trees));
+      is = sym (separated_with (moved_back m) trees ∙ ap (map_spans (moved_back m)) (spaced_separated (spacing_before others) a));
+    }
+
+-- from the first step of a piece and its last, the blank tokens before it and its own
+piece_from : (all before ts : List PlacedToken) (a behind : Forest) → InRow 0 all → all ≡ before ++ ts → (first : HasFirst a) (last : HasLast a)
+    → (b : HasBlanks (end_from 0 before) ts first.first) → HasPart (end_from (end_from 0 before) b.blanks) b.rest last.front last.last (walk behind)
+    → TakesPiece all before ts (separated a) behind
+piece_from all before ts a behind row are first last b p =
+    let from : ℕ = end_from (end_from 0 before) b.blanks in
+    let part : List PlacedToken = p.first ∷ p.more in
+    let start : from ≡ first_start (separated a) = b.starts ∙ first.starts ∙ sym (first_separated a) in
+    let stop : end_from from part ≡ last_end (separated a) = p.stops ∙ last.stops ∙ sym (end_separated a) in
+    let split : ts ≡ b.blanks ++ (part ++ p.rest) = b.split ∙ ap (λ l. b.blanks ++ l) p.split in
+    let all_is : all ≡ (before ++ b.blanks) ++ (part ++ p.rest) = are ∙ ap (λ l. before ++ l) split ∙ sym (append_assoc before b.blanks (part ++ p.rest)) in
+    let row_all : InRow 0 ((before ++ b.blanks) ++ (part ++ p.rest)) = subst (InRow 0) all_is row in
+    let row_part : InRow from part =
+    row_front from part p.rest (subst (λ k. InRow k (part ++ p.rest)) (end_append 0 before b.blanks) (row_behind 0 (before ++ b.blanks) (part ++ p.rest) row_all)) in
+    let between : filter (is_between (first_start (separated a)) (last_end (separated a))) all ≡ part =
+    ap (filter (is_between (first_start (separated a)) (last_end (separated a)))) all_is
+    ∙ part_between 0 (first_start (separated a)) (last_end (separated a)) (before ++ b.blanks) part p.rest row_all
+    (end_append 0 before b.blanks ∙ start) (ap (λ k. end_from k part) (sym start) ∙ stop) in
+    let m : ℕ = first_start (separated a) in
+    record {
+      read = piece_read all part from a last.front last.last row_part start between p.before last.again last.ends;
+      blanks = b.blanks;
+      are_blank = b.are_blank;
+      part = part;
+      rest = p.rest;
+      split = split;
+      word = ap (λ l. map (counted_on m) (map (counted_from m) l)) between ∙ on_again m from part (omega (arith, start)) row_part;
+      left = p.left;
+    }
+
 take_piece : (all before ts : List PlacedToken) (a behind : Forest) → InRow 0 all → all ≡ before ++ ts → a ≢ empty → (is_ended a ≡ false → walk behind ≡ [])
     → steps_of ts ≡ map step (walk (joined a behind)) → TakesPiece all before ts (separated a) behind
 take_piece all before ts a behind row are some ends read =
@@ -70,43 +118,11 @@ take_piece all before ts a behind row are some ends read =
     let row_here : InRow n ts = row_behind 0 before ts (subst (InRow 0) are row) in
     let b : HasBlanks n ts first.first =
     take_blanks n ts first.first (first.more ++ walk behind) row_here (both ∙ ap (λ (w : List Step). map step (w ++ walk behind)) first.is) in
-    let from : ℕ = end_from n b.blanks in
-    let row_part : InRow from b.rest = row_behind n b.blanks b.rest (subst (InRow n) b.split row_here) in
+    let row_part : InRow (end_from n b.blanks) b.rest = row_behind n b.blanks b.rest (subst (InRow n) b.split row_here) in
     let whole : steps_of b.rest ≡ map step (last.front ++ last.last ∷ walk behind) =
     b.left ∙ both ∙ ap (λ (w : List Step). map step (w ++ walk behind)) last.is ∙ ap (map step) (append_assoc last.front (last.last ∷ []) (walk behind)) in
-    let p : HasPart from b.rest last.front last.last (walk behind) = take_part from b.rest last.front last.last (walk behind) row_part whole (λ h. ends (sym last.ends ∙ h)) in
-    let part : List PlacedToken = p.first ∷ p.more in
-    let piece : Forest = separated a in
-    let start : from ≡ first_start piece = b.starts ∙ first.starts ∙ sym (first_separated a) in
-    let stop : end_from from part ≡ last_end piece = p.stops ∙ last.stops ∙ sym (end_separated a) in
-    let all_is : all ≡ (before ++ b.blanks) ++ (part ++ p.rest) =
-    are ∙ ap (λ l. before ++ l) (b.split ∙ ap (λ l. b.blanks ++ l) p.split) ∙ sym (append_assoc before b.blanks (part ++ p.rest)) in
-    let between : filter (is_between (first_start piece) (last_end piece)) all ≡ part =
-    ap (filter (is_between (first_start piece) (last_end piece))) all_is
-    ∙ part_between 0 (first_start piece) (last_end piece) (before ++ b.blanks) part p.rest (subst (InRow 0) all_is row)
-    (end_append 0 before b.blanks ∙ start) (ap (λ k. end_from k part) (sym start) ∙ stop) in
-    let row_its : InRow from part = row_front from part p.rest (subst (InRow from) p.split row_part) in
-    let m : ℕ = first_start piece in
-    record {
-      read = λ others follows.
-          let spacing : Spacing = spacing_before others in
-          record {
-            trees = map_spans (moved_back m) (spaced_trees spacing a);
-            read = ap (λ l. steps_before (map (counted_from m) l) others) between
-                ∙ steps_shifted (λ k. k - m) part others (all_back m from part (omega (arith, start)) row_its)
-                ∙ ap (map (shifted_step (λ k. k - m))) (p.before others (λ h. follows (ended_separated a ∙ sym last.ends ∙ h)) ∙ ap (map step) (sym (last.again spacing)))
-                ∙ walk_shifted (λ k. k - m) (walk (spaced_trees spacing a))
-                ∙ ap (map step) (sym (walk-map_spans (moved_back m) (spaced_trees spacing a)));
-            is = sym (separated_with (moved_back m) (spaced_trees spacing a) ∙ ap (map_spans (moved_back m)) (spaced_separated spacing a));
-          };
-      blanks = b.blanks;
-      are_blank = b.are_blank;
-      part = part;
-      rest = p.rest;
-      split = b.split ∙ ap (λ l. b.blanks ++ l) p.split;
-      word = ap (λ l. map (counted_on m) (map (counted_from m) l)) between ∙ on_again m from part (omega (arith, start)) row_its;
-      left = p.left;
-    }
+    piece_from all before ts a behind row are first last b
+    (take_part (end_from n b.blanks) b.rest last.front last.last (walk behind) row_part whole (λ h. ends (sym last.ends ∙ h)))
 
 first_piece : (all before ts : List PlacedToken) (f p : Forest) (ps : List Forest) → InRow 0 all → all ≡ before ++ ts → steps_of ts ≡ map step (walk f) → ArePieces (p ∷ ps)
     → (u : Unjoined f p (put_together ps)) → TakesPiece all before ts p u.behind

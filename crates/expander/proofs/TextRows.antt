@@ -1,6 +1,6 @@
 -- Worked rows of texts, by computation: what each means, by the small grammar and in edition 2024.
-use Rattle.std.proofs.Common.{◌≡◌, ℕ, List, [], ◌∷◌, ◌++◌, map, refl}
-use Rattle.std.specs.Prelude.{codes, Some}
+use Rattle.std.proofs.Common.{◌≡◌, ℕ, List, [], ◌∷◌, ◌++◌, length, map, refl}
+use Rattle.std.specs.Prelude.{codes, Result, Ok, Err, Some}
 use Rattle.std.specs.Char.{encode_utf8}
 use Rattle.std.specs.Str.{chars, is_utf8}
 use Rattle.ucd_derived.specs.Binary.{is_xid_start, is_xid_continue}
@@ -8,14 +8,20 @@ use Rattle.ucd_derived.specs.XidContinueRanges.{xid_continue_ranges}
 use Rattle.ucd_derived.specs.XidStartRanges.{xid_start_ranges}
 use Rattle.ucd_table.specs.Rows.{in_ranges}
 use Rattle.expander.specs.declared.faults.FaultKind.TheVariants.{CannotExpand, BrokenDefinition, NestedDefinition, Unspellable}
+use Rattle.tt_data.specs.Forest.{Forest}
 use Rattle.tt_data.specs.Walk.{at_leaf}
 use Rattle.tt_data.specs.declared.leaf.Leaf.TheVariants as as_leaf
 use Rattle.tt_data.specs.declared.leaf.Spacing.TheVariants.{Alone, Joint}
 use Rattle.tt_data.specs.declared.span.Span.{Span}
 use Rattle.tt_data.specs.declared.span.SyntaxContext.TheVariants.{Written}
+use Rattle.bridge.specs.Reading.{PlacedToken}
+use Rattle.bridge.specs.TokenSteps.{text_reading}
+use Rattle.bridge.specs.declared.fault.ReadFault.{ReadFault}
 use Rattle.expander.specs.Expansion.{PlacedStep, placed}
 use Rattle.expander.specs.Meaning.{meaning}
 use Rattle.expander.specs.OutputSteps.{faults_in, tokens_in}
+use Rattle.expander.specs.PieceTokens.{written_in}
+use Rattle.expander.specs.Pieces.{pieces}
 use Rattle.expander.specs.Printing.{text_of}
 use Rattle.expander.specs.Runs.{run_layers}
 use Rattle.expander.proofs.Rows.{Shown, gives, shown, lines, fault}
@@ -158,3 +164,20 @@ printed_text = refl
 printed_again : of (codes "/ / # # += 'c x ;" ∷ []) ≡ gives (lines (codes "/ / # # += 'c x ;" ∷ [])) []
 unfolding chars is_utf8 is_xid_start is_xid_continue in_ranges xid_start_ranges xid_continue_ranges encode_utf8
 printed_again = refl
+
+-- what the pieces of a text are written in
+abbrev words_of : List ℕ → Result Forest ReadFault → List (List PlacedToken)
+words_of text (Ok f) = map (written_in text) (pieces f)
+words_of text (Err fault) = []
+
+abbrev words : List ℕ → List (List PlacedToken)
+words text = words_of text (text_reading text)
+
+-- white space and a comment between pieces change none of them
+blanks_between : words (codes "a=b; c{ 1 }x") ≡ words (codes " a=b;/* d */c{ 1 } x // e")
+unfolding chars is_utf8 is_xid_start is_xid_continue in_ranges xid_start_ranges xid_continue_ranges
+blanks_between = refl
+
+its_words : map length (words (codes "a=b; c{ 1 }x")) ≡ 4 ∷ 6 ∷ 1 ∷ []
+unfolding chars is_utf8 is_xid_start is_xid_continue in_ranges xid_start_ranges xid_continue_ranges
+its_words = refl

@@ -289,7 +289,7 @@ pub fn a_piece_that_finds_the_same_does_not_count()
 
 /// A piece does not count where its tree is that of a piece of an earlier text, and each name that was looked up in that one
 /// finds, among the definitions that now stand before it, an equal definition, or none as it did: `piece`. So those count
-/// that stand before it and behind it: `others`.
+/// that stand before it and behind it: `others`, and `replied` of a session that last read the earlier text.
 pub fn a_piece_that_finds_as_before_does_not_count()
     ensures piece { (grammar : Grammar) (edition : Edition) (depth : ℕ) (text other : List ℕ) (f g p q : Forest) (ones twos more_ones more_twos : List Forest) →
         IsUtf8 text → IsUtf8 other → text_reading text ≡ Ok f → text_reading other ≡ Ok g →
@@ -303,6 +303,14 @@ pub fn a_piece_that_finds_as_before_does_not_count()
         FindsAsBefore (nearest (definitions_after [] twos)) (expansion (world grammar edition) (nearest (definitions_after [] ones)) depth None p).finds →
         expanded_count (Some (looked_of (members (layers grammar edition) depth f))) (looked_of (members (layers grammar edition) depth g))
         ≡ expanded_count (Some (looked_of (members (layers grammar edition) depth f))) (looked_of (members_after (layers grammar edition) depth [] twos))
+        + expanded_count (Some (looked_of (members (layers grammar edition) depth f)))
+        (looked_of (members_after (layers grammar edition) depth (definitions_after [] (twos ++ q ∷ [])) more_twos)) }
+    ensures replied { (grammar : Grammar) (edition : Edition) (depth : ℕ) (text other : List ℕ) (f g p q : Forest) (ones twos more_ones more_twos : List Forest) (e : Expanded) →
+        IsUtf8 text → IsUtf8 other → text_reading text ≡ Ok f → text_reading other ≡ Ok g →
+        pieces f ≡ ones ++ p ∷ more_ones → pieces g ≡ twos ++ q ∷ more_twos → relative p ≡ relative q →
+        FindsAsBefore (nearest (definitions_after [] twos)) (expansion (world grammar edition) (nearest (definitions_after [] ones)) depth None p).finds →
+        IsReplyTo (layers grammar edition) depth other (Some (looked_of (members (layers grammar edition) depth f))) (Read e) →
+        e.expanded ≡ expanded_count (Some (looked_of (members (layers grammar edition) depth f))) (looked_of (members_after (layers grammar edition) depth [] twos))
         + expanded_count (Some (looked_of (members (layers grammar edition) depth f)))
         (looked_of (members_after (layers grammar edition) depth (definitions_after [] (twos ++ q ∷ [])) more_twos)) }
 {

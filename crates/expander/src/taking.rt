@@ -357,7 +357,14 @@ fn put_output<G: FragmentGrammar>(
             put_anew(alloc, grammar, scope, depth, steps, start, tree.clone()?)
         }
         HeldOutput::Steps(own) => {
-            put_steps(alloc, steps, start, &scope.starts, tree.as_ref().tree(), own)?;
+            put_steps(
+                alloc,
+                steps,
+                start,
+                &scope.starts,
+                tree.as_ref().tree(),
+                own,
+            )?;
             Ok(plain)
         }
     }
@@ -386,7 +393,12 @@ fn put_plain<G: FragmentGrammar>(
         (expanded_under (G.answer grammar.now) scope.now depth (tree_of plain.value).inner).bursts ≡ true }
 {
     let plain = put_output(alloc, grammar, scope, depth, steps, start, plain)?;
-    put_faults(faults, start, &scope.starts, plain.as_ref().faults.as_slice())?;
+    put_faults(
+        faults,
+        start,
+        &scope.starts,
+        plain.as_ref().faults.as_slice(),
+    )?;
     Ok(plain)
 }
 
