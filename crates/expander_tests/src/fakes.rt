@@ -42,7 +42,8 @@ pub(crate) enum End {
     TakesNothing,
 }
 
-/// Takes at most `most` bytes a call, has room for `room` bytes, and counts its flushes, which may fail.
+/// Takes at most `most` bytes a call, has room for `room` bytes, and counts its flushes, which may fail. It knows whether it was
+/// asked after a call that failed.
 #[derive(Drop)]
 pub(crate) struct Narrow {
     pub got: Vec<u8>,
@@ -51,26 +52,41 @@ pub(crate) struct Narrow {
     pub end: End,
     pub flushes: u8,
     pub flush_fails: Option<io::ErrorKind>,
+    pub failed: bool,
+    pub asked_again: bool,
 }
 
 impl Write for Narrow {
     fn write(&mut self, buf: &[u8]) -> io::Result<usize> {
+        if self.failed {
+            self.asked_again = true;
+        }
         let taken = buf.len().min(self.most).min(self.room);
         if taken == 0 {
+            self.failed = true;
             return match self.end {
                 End::Fails(kind) => Err(io::Error::from(kind)),
                 End::TakesNothing => Ok(0),
             };
         }
-        self.got.extend_from_slice(&buf[..taken])?;
+        if let Err(refusal) = self.got.extend_from_slice(&buf[..taken]) {
+            self.failed = true;
+            return Err(io::Error::from(refusal));
+        }
         self.room -= taken;
         Ok(taken)
     }
 
     fn flush(&mut self) -> io::Result<()> {
+        if self.failed {
+            self.asked_again = true;
+        }
         self.flushes = self.flushes.saturating_add(1);
         match self.flush_fails {
-            Some(kind) => Err(io::Error::from(kind)),
+            Some(kind) => {
+                self.failed = true;
+                Err(io::Error::from(kind))
+            }
             None => Ok(()),
         }
     }
@@ -97,5 +113,7 @@ pub(crate) fn wide(alloc: Global) -> Narrow {
         end: End::TakesNothing,
         flushes: 0,
         flush_fails: None,
+        failed: false,
+        asked_again: false,
     }
 }

@@ -1,15 +1,15 @@
 //! Commands and their answers, worked out by hand, and where printed tokens come from.
 use crate::rows::prints_itself;
 use crate::sessions::expansion_of;
-use expander::{Answer, Command, Edition, Refusal, Reply, Session, SmallGrammar, replay};
+use expander::{Answer, Command, Edition, Fault, Refusal, Reply, Session, SmallGrammar, replay};
 use fragment_grammar::FragmentGrammar;
 use grammar_fakes::Counting;
 use std::alloc::{AllocError, Global};
 use std::cell::Cell;
 use std::test::Fail;
 
-// A text and commands, and what answers them: for a text that is read what is printed, and how many pieces are expanded. A
-// command is `!`, to expand, or an edit: two places and a replacement. `~` stands for a line feed.
+// A text and commands, and what answers them: for a text that is read what is printed, how many pieces are expanded, and the
+// faults with their places. A command is `!`, to expand, or an edit: two places and a replacement. `~` stands for a line feed.
 const REPLAYS: &str = r"
 a;|0 1 b|!|5 5 x|! @ edited|b ;~ 1|bad edit|b ;~ 0
 (|!|1 1 )|! @ GroupLeftOpen 0 1|edited|( )~ 1
@@ -25,6 +25,8 @@ a+b|!|3 3 ;|!|0 0 ~|! @ a + b~ 1|edited|a + b ;~ 1|edited|a + b ;~ 0
 ab;|0 2 c|! @ edited|c ;~ 1
 |0 0 c|1 1 ;|! @ edited|edited|c ;~ 1
 a;~b|!|0 1 c|!|! @ a ;~b~ 2|edited|c ;~b~ 1|c ;~b~ 0
+macro_rules! m { () => { 1 } }~m!(a);~|!|0 0 ~|! @ m ! ( a ) ;~ 1 CannotExpand 31 32|edited|m ! ( a ) ;~ 0 CannotExpand 32 33
+macro_rules! m { a }~m!{} macro;~|!|0 0 ~|! @ m ! { }~macro ;~ 2 BrokenDefinition 13 14 BrokenDefinition 21 22 NestedDefinition 26 31|edited|m ! { }~macro ;~ 0 BrokenDefinition 14 15 BrokenDefinition 22 23 NestedDefinition 27 32
 a;~b|!|4 4 +c|!|0 0 ~|!|7 7 ;|! @ a ;~b~ 2|edited|a ;~b + c~ 1|edited|a ;~b + c~ 0|edited|a ;~b + c ;~ 1
 ";
 
@@ -36,6 +38,7 @@ macro_rules! t { ($x:expr) => { $x } }~t!(1);~t!(2);~|!|! @ 2
 macro_rules! t { ($x:expr) => { $x } }~t!(1);~t!(2);~|!|0 0 ~|! @ 2
 macro_rules! t { ($x:expr) => { $x } }~t!(1);~t!(2);~|!|49 50 3|! @ 3
 macro_rules! t { ($x:expr) => { $x } }~t!(1);~t!(2);~|!|53 53 t!(4);|! @ 3
+macro_rules! s { ($($y:tt)*) => { x +$($y)* } }~macro_rules! t { ($x:expr) => { $x } }~s!{}t!(1);~|!|0 0 ~|!|! @ 1
 ";
 
 // A text, and the places of its printed tokens: one of a template, one of an argument, one that two calls carry, those of
@@ -78,6 +81,16 @@ fn command_of(alloc: Global, word: &str) -> Result<Command, Fail> {
     })
 }
 
+// Puts faults with their places behind what an answer prints.
+fn push_faults(alloc: Global, all: &mut String, faults: &[Fault]) -> Result<(), Fail> {
+    for fault in faults {
+        let range = fault.range;
+        let told = format!(in alloc; " {:?} {} {}", fault.kind, range.start, range.end)?;
+        all.push_str(told.as_str())?;
+    }
+    Ok(())
+}
+
 // Puts an answer behind others.
 fn push_answer(alloc: Global, all: &mut String, answer: &Answer) -> Result<(), Fail> {
     if !all.is_empty() {
@@ -89,6 +102,7 @@ fn push_answer(alloc: Global, all: &mut String, answer: &Answer) -> Result<(), F
         Answer::Reply(Reply::Read(found)) => {
             let printed = swapped(alloc, found.printed(), '\n', '~')?;
             all.push_str(format!(in alloc; "{printed} {}", found.expanded())?.as_str())?;
+            push_faults(alloc, all, found.faults())?;
         }
         Answer::Reply(Reply::Unread(fault)) => {
             let range = fault.range;

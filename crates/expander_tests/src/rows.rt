@@ -248,7 +248,11 @@ fn answered_by_one_step(alloc: Global, text: &str) -> Result<String, Fail> {
     let Some(expansion) = expansion_by(alloc, OneStep, Edition::Edition2024, 128, text)? else {
         return Err(Fail::new("a text is not read"));
     };
-    let mut answer = row_of(alloc, expansion.printed())?;
+    let printed = expansion.printed();
+    if expansion.faults().is_empty() && !prints_itself(alloc, printed)? {
+        return Err(Fail::new(printed));
+    }
+    let mut answer = row_of(alloc, printed)?;
     answer.push_str(" ¦")?;
     for fault in expansion.faults() {
         write!(

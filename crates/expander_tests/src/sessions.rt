@@ -126,8 +126,9 @@ fn nested(
 
 #[test]
 fn deep_groups(rt: HostRuntime) -> Result<(), Fail> {
-    let call = "macro_rules! m { ($a:tt) => { $a } }\nm!{";
-    let cases = [(call, 500, "}"), ("", 1_000_000, "")];
+    let one = "macro_rules! m { ($a:tt) => { $a } }\nm!{";
+    let any = "macro_rules! m { ($($t:tt)*) => { $($t)* } }\nm!{";
+    let cases = [(one, 500, "}"), (any, 1_000_000, "}"), ("", 1_000_000, "")];
     for (before, levels, after) in cases {
         let (text, printed) = nested(rt.alloc(), before, levels, after)?;
         let tokens = 2 * levels as usize + 1;
