@@ -3,7 +3,6 @@ use Rattle.std.proofs.Common.{◌≡◌, ℕ, ◌+◌, ◌<◌, ◌≤◌, drop,
 use Rattle.std.specs.Prelude.{◌||◌, IfOk, None, Option, Some, Result, Ok, Err, filter, map, option_map, unwrap_or}
 use Rattle.std.specs.List.{list_all, list_any}
 use Rattle.std.proofs.lemmas.Bool.Decides.{nat_tests}
-use Rattle.std.proofs.lemmas.List.Elements.{filter-append}
 use Rattle.std.proofs.lemmas.List.{at_drop_all, drop_more, length-map, map-append}
 use Rattle.tt_data.specs.Walk.{Step, at_leaf, opens, closes, step_with}
 use Rattle.tt_data.specs.declared.leaf.Leaf.TheVariants as as_leaf

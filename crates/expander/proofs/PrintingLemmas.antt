@@ -22,7 +22,6 @@ use Rattle.bridge.specs.Printers.{HasPut}
 use Rattle.bridge.specs.Printing as bare_printing
 use Rattle.bridge.specs.Printing.{is_visible_step, left_out_from, print_of}
 use Rattle.bridge.specs.Spelling.{leaf_spelling, spelling}
-use Rattle.expander.specs.declared.faults.Fault.{Fault}
 use Rattle.expander.specs.declared.faults.FaultKind.TheVariants.{NestedDefinition}
 use Rattle.expander.specs.declared.output.PlacedSteps.{PlacedSteps}
 use Rattle.expander.specs.Expanded.{origin_of}
