@@ -13,7 +13,7 @@ use Rattle.bridge.specs.Parts.{steps_before}
 use Rattle.bridge.specs.Reading.{IsReading, PlacedToken, TextStep, reading, step}
 use Rattle.bridge.specs.TokenSteps.{sort_of, spacing_before, steps_of, steps_of_sort, text_reading, text_steps}
 use Rattle.bridge.specs.declared.fault.ReadFault.{ReadFault}
-use Rattle.expander.specs.PieceTokens.{AreBlank, AreWords, counted_from, counted_on, is_between, last_end, tokens_in, written_in}
+use Rattle.expander.specs.PieceTokens.{AreBlank, AreWords, counted_from, counted_on, is_between, last_end, placed_tokens, written_in}
 use Rattle.expander.specs.Pieces.{first_start, moved_back, pieces, put_together, relative, separated}
 use Rattle.expander.specs.Sources.{bytes_of}
 use Rattle.expander.proofs.CuttingLemmas.{put_together-cut}
@@ -173,17 +173,17 @@ tree_from (Ok k) = separated k
 tree_from (Err fault) = empty
 
 module _ (laws : TokenLaws) where
-  all_tokens : (text : List ℕ) (f : Forest) → IsUtf8 text → text_reading text ≡ Ok f → AllRead (tokens_in text) (pieces f) (tokens_in text)
+  all_tokens : (text : List ℕ) (f : Forest) → IsUtf8 text → text_reading text ≡ Ok f → AllRead (placed_tokens text) (pieces f) (placed_tokens text)
   all_tokens text f is_text read =
-      all_read (tokens_in text) [] (tokens_in text) f (pieces f)
+      all_read (placed_tokens text) [] (placed_tokens text) f (pieces f)
       (in_row 0 text (tokens_of (chars text)) (laws.positive text is_text) (omega (arith, laws.whole text is_text))) refl
       (laws.walk_read (text_steps text) f read) (sym (put_together-cut (separated f))) (cut_pieces (separated f) empty)
 
-  pub pieces_read : (text : List ℕ) (f : Forest) → IsUtf8 text → text_reading text ≡ Ok f → All (IsRead (tokens_in text)) (pieces f)
+  pub pieces_read : (text : List ℕ) (f : Forest) → IsUtf8 text → text_reading text ≡ Ok f → All (IsRead (placed_tokens text)) (pieces f)
   pieces_read text f is_text read = (all_tokens text f is_text read).0
 
   -- the tokens of a text are those of its pieces, with blank ones between them
-  pub words_are_own : (text : List ℕ) (f : Forest) → IsUtf8 text → text_reading text ≡ Ok f → AreWords (map (written_in text) (pieces f)) (tokens_in text)
+  pub words_are_own : (text : List ℕ) (f : Forest) → IsUtf8 text → text_reading text ≡ Ok f → AreWords (map (written_in text) (pieces f)) (placed_tokens text)
   words_are_own text f is_text read = (all_tokens text f is_text read).1
 
   abbrev pub IsItsOwn : List ℕ → Forest → Type 0
@@ -192,11 +192,11 @@ module _ (laws : TokenLaws) where
   pub pieces_are_own : (text : List ℕ) (f : Forest) → IsUtf8 text → text_reading text ≡ Ok f → All (IsItsOwn text) (pieces f)
   pieces_are_own text f is_text read = go (pieces f) (pieces_read text f is_text read)
     where
-      go : (ps : List Forest) → All (IsRead (tokens_in text)) ps → All (IsItsOwn text) ps
+      go : (ps : List Forest) → All (IsRead (placed_tokens text)) ps → All (IsItsOwn text) ps
       go [] h = All-nil (IsItsOwn text)
       go (p ∷ ps) h =
-          let r : IsReadBefore (written_in text p) [] p = All-head (IsRead (tokens_in text)) p ps h [] (λ e. refl) in
-          All-cons (IsItsOwn text) p ps (r.trees, laws.read_walk (steps_of (written_in text p)) r.trees (sym (before_none (written_in text p)) ∙ r.read), r.is) (go ps (All-tail (IsRead (tokens_in text)) p ps h))
+          let r : IsReadBefore (written_in text p) [] p = All-head (IsRead (placed_tokens text)) p ps h [] (λ e. refl) in
+          All-cons (IsItsOwn text) p ps (r.trees, laws.read_walk (steps_of (written_in text p)) r.trees (sym (before_none (written_in text p)) ∙ r.read), r.is) (go ps (All-tail (IsRead (placed_tokens text)) p ps h))
 
   trees_are : (text : List ℕ) (ps : List Forest) → All (IsItsOwn text) ps → map relative ps ≡ map (λ ts. tree_from (reading (steps_of ts))) (map (written_in text) ps)
   unfolding tree_from

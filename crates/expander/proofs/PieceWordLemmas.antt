@@ -14,7 +14,7 @@ use Rattle.bridge.specs.Parts.{placed_on, steps_before}
 use Rattle.bridge.specs.Reading.{PlacedToken, TextStep, step}
 use Rattle.bridge.specs.TokenSteps.{spacing_before, steps_of, text_reading, text_steps}
 use Rattle.bridge.specs.declared.fault.ReadFault.{ReadFault}
-use Rattle.expander.specs.PieceTokens.{AreBlank, AreWords, BeginsWith, counted_on, is_blank_kind, tokens_in, written_in}
+use Rattle.expander.specs.PieceTokens.{AreBlank, AreWords, BeginsWith, counted_on, is_blank_kind, placed_tokens, written_in}
 use Rattle.expander.specs.Pieces.{cut, first_start, moved_back, pieces, put_together, relative, separated}
 use Rattle.expander.proofs.ApartLemmas.{separated-joined}
 use Rattle.expander.proofs.CuttingLemmas.{put_together-cut}
@@ -137,15 +137,15 @@ module _ (laws : WordLaws) where
       one_word ts words.0 (word_in all p) p ps shapes.0 read words.1 (words_read all ps shapes.1 (All-tail (IsRead all) p ps reads) words.0 words.2)
 
   -- a text of the same words is read, with the same pieces
-  pub other_is_read : (text other : List ℕ) (f : Forest) → IsUtf8 text → text_reading text ≡ Ok f → AreWords (map (written_in text) (pieces f)) (tokens_in other)
+  pub other_is_read : (text other : List ℕ) (f : Forest) → IsUtf8 text → text_reading text ≡ Ok f → AreWords (map (written_in text) (pieces f)) (placed_tokens other)
       → (g : Forest) × (text_reading other ≡ Ok g) × (map relative (pieces f) ≡ map relative (pieces g))
   other_is_read text other f is_text read words =
-      let h : HasPieces (tokens_in other) (pieces f) =
-      words_read (tokens_in text) (pieces f) (cut_shapes (separated f) empty (none_begun empty)) (pieces_read laws.token text f is_text read) (tokens_in other) words in
+      let h : HasPieces (placed_tokens other) (pieces f) =
+      words_read (placed_tokens text) (pieces f) (cut_shapes (separated f) empty (none_begun empty)) (pieces_read laws.token text f is_text read) (placed_tokens other) words in
       (h.trees, laws.token.read_walk (text_steps other) h.trees h.read, sym h.same)
 
   -- or with the pieces that it is known to have
-  pub same_words : (text other : List ℕ) (f g : Forest) → IsUtf8 text → text_reading text ≡ Ok f → text_reading other ≡ Ok g → AreWords (map (written_in text) (pieces f)) (tokens_in other)
+  pub same_words : (text other : List ℕ) (f g : Forest) → IsUtf8 text → text_reading text ≡ Ok f → text_reading other ≡ Ok g → AreWords (map (written_in text) (pieces f)) (placed_tokens other)
       → map relative (pieces f) ≡ map relative (pieces g)
   same_words text other f g is_text read read_too words =
       let is = other_is_read text other f is_text read words in

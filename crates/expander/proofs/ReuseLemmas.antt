@@ -127,7 +127,7 @@ module _ (equal : (f g : Forest) → (same_forest f g ≡ true) ↔ (f ≡ g)) w
   or_left : (a b : Bool) → a ≡ true → (a || b) ≡ true
   or_left a b e = ap (λ t. t || b) e
 
-  pub or_right : (a b : Bool) → b ≡ true → (a || b) ≡ true
+  or_right : (a b : Bool) → b ≡ true → (a || b) ≡ true
   or_right true b e = refl
   or_right false b e = e
 

@@ -1,5 +1,5 @@
 -- Words of the laws.
-use Rattle.std.specs.Prelude.{◌≡◌, ◌⊎◌, ℕ, Bool, true, not, All, Option, None, List, [], ◌∷◌, is_none, ◌≢◌, zero, suc, false}
+use Rattle.std.specs.Prelude.{◌≡◌, ◌≢◌, ◌⊎◌, ℕ, zero, suc, Bool, true, false, not, All, Option, None, List, [], ◌∷◌, is_none}
 use Rattle.std.specs.List.{list_all}
 use Rattle.bridge.specs.Text.{is_punct}
 use Rattle.tt_data.specs.Forest.{Forest, empty, leaf, group, joined}

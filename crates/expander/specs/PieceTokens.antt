@@ -25,12 +25,12 @@ abbrev pub counted_from : ℕ → PlacedToken → PlacedToken
 counted_from n t = record t { start = t.start - n }
 
 -- the tokens of a text, each with its kind, its place and its bytes
-abbrev pub tokens_in : List ℕ → List PlacedToken
-tokens_in text = placed_from 0 text (tokens_of (chars text))
+abbrev pub placed_tokens : List ℕ → List PlacedToken
+placed_tokens text = placed_from 0 text (tokens_of (chars text))
 
 -- those from a piece's first to its last, white space and comments between them too, in places counted from the first
 abbrev pub written_in : List ℕ → Forest → List PlacedToken
-written_in text p = map (counted_from (first_start p)) (filter (is_between (first_start p) (last_end p)) (tokens_in text))
+written_in text p = map (counted_from (first_start p)) (filter (is_between (first_start p) (last_end p)) (placed_tokens text))
 
 -- white space, and a whole comment that is no doc comment
 abbrev pub is_blank_kind : TokenKind → Bool

@@ -12,12 +12,12 @@ ghost use Rattle.expander.specs.Expanded.{Expanded};
 ghost use Rattle.expander.specs.Faults.{comes_before, in_order};
 ghost use Rattle.expander.specs.FixedPoint.{IsFixedPoint, RepliesWith};
 ghost use Rattle.expander.specs.Held.{IsMet, Known, Met, TellsApart, definition_trees, kept_after, numbered_scope, numbered_world, present, trees_in};
-ghost use Rattle.expander.specs.Laws.{AreAllPlain, ExpandsNothing, Fails, FindsAsBefore, HasNoWord, definitions_after, IsEnded, IsParted, why_failed};
+ghost use Rattle.expander.specs.Laws.{AreAllPlain, ExpandsNothing, Fails, FindsAsBefore, HasNoWord, IsEnded, IsParted, definitions_after, why_failed};
 ghost use Rattle.expander.specs.Layered.{layers};
 ghost use Rattle.expander.specs.Meaning.{Layers, ReadMeaning, faults_of, meaning, member_faults, members, members_after, output, output_of};
 ghost use Rattle.expander.specs.Numbers.{AreEntries, Numbering, needed, number_in, number_of, tree_of, with_trees};
 ghost use Rattle.expander.specs.OtherPlaces.{CommutesWithMarker, definition_with};
-ghost use Rattle.expander.specs.PieceTokens.{AreWords, tokens_in, written_in};
+ghost use Rattle.expander.specs.PieceTokens.{AreWords, placed_tokens, written_in};
 ghost use Rattle.expander.specs.Pieces.{cut, pieces, put_together, relative, separated};
 ghost use Rattle.expander.specs.Printing.{left_out};
 ghost use Rattle.expander.specs.Replies.{HasCause, IsReplyTo, NeedsNumbers, Replies, definitions_in};
@@ -39,7 +39,7 @@ ghost use Rattle.expander.specs.declared.session.Refusal.TheVariants.{Numbers};
 ghost use Rattle.expander.specs.declared.session.Reply.{Reply};
 ghost use Rattle.expander.specs.declared.session.Reply.TheVariants.{Read};
 ghost use Rattle.bridge.specs.Reading.{reading};
-ghost use Rattle.bridge.specs.TokenSteps.{steps_of, text_reading, escaped};
+ghost use Rattle.bridge.specs.TokenSteps.{escaped, steps_of, text_reading};
 ghost use Rattle.mbe.specs.Grammar.{Grammar};
 ghost use Rattle.tt_data.specs.Forest.{Forest, empty, group, joined, leaf, map_spans};
 ghost use Rattle.tt_data.specs.declared.delimiter.Delimiter.{Delimiter};
@@ -394,14 +394,14 @@ pub fn pieces_hang_on_their_tokens()
 /// same pieces in places of their own: `read`. None of its pieces counts against those of the first text, and a session that
 /// last read the first expands none for it: `counted`, `replied`.
 pub fn blanks_between_pieces_count_nothing()
-    ensures own { (text : List ℕ) (f : Forest) → IsUtf8 text → text_reading text ≡ Ok f → AreWords (map (written_in text) (pieces f)) (tokens_in text) }
-    ensures read { (text other : List ℕ) (f : Forest) → IsUtf8 text → text_reading text ≡ Ok f → AreWords (map (written_in text) (pieces f)) (tokens_in other) →
+    ensures own { (text : List ℕ) (f : Forest) → IsUtf8 text → text_reading text ≡ Ok f → AreWords (map (written_in text) (pieces f)) (placed_tokens text) }
+    ensures read { (text other : List ℕ) (f : Forest) → IsUtf8 text → text_reading text ≡ Ok f → AreWords (map (written_in text) (pieces f)) (placed_tokens other) →
         (g : Forest) × (text_reading other ≡ Ok g) × (map relative (pieces f) ≡ map relative (pieces g)) }
     ensures counted { (grammar : Grammar) (edition : Edition) (depth : ℕ) (text other : List ℕ) (f g : Forest) →
-        IsUtf8 text → IsUtf8 other → text_reading text ≡ Ok f → text_reading other ≡ Ok g → AreWords (map (written_in text) (pieces f)) (tokens_in other) →
+        IsUtf8 text → IsUtf8 other → text_reading text ≡ Ok f → text_reading other ≡ Ok g → AreWords (map (written_in text) (pieces f)) (placed_tokens other) →
         expanded_count (Some (looked_of (members (layers grammar edition) depth f))) (looked_of (members (layers grammar edition) depth g)) ≡ 0 }
     ensures replied { (grammar : Grammar) (edition : Edition) (depth : ℕ) (text other : List ℕ) (f : Forest) (reply : Reply) →
-        IsUtf8 text → IsUtf8 other → text_reading text ≡ Ok f → AreWords (map (written_in text) (pieces f)) (tokens_in other) →
+        IsUtf8 text → IsUtf8 other → text_reading text ≡ Ok f → AreWords (map (written_in text) (pieces f)) (placed_tokens other) →
         IsReplyTo (layers grammar edition) depth other (Some (looked_of (members (layers grammar edition) depth f))) reply → ExpandsNothing reply }
 {
     bridge::laws::reading_is_a_relation();

@@ -94,7 +94,7 @@ fn widened(
     if added <= room + gone {
         return Ok(room);
     }
-    let more = added.saturating_add(MORE);
+    let more = (added - (room + gone)).saturating_add(MORE);
     let alloc = *items.allocator();
     items.splice(0..0, Vec::from_elem(alloc, NOTHING, more)?)?;
     Ok(room + more)
