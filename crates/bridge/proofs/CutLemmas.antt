@@ -13,7 +13,7 @@ use Rattle.rustc_lexer.specs.declared.token.LiteralKind.TheVariants as literal
 use Rattle.rustc_lexer.specs.declared.token.TokenKind.{TokenKind}
 use Rattle.rustc_lexer.specs.declared.token.TokenKind.TheVariants as kind
 use Rattle.bridge.specs.ReadSteps.{MayCut}
-use Rattle.bridge.specs.TokenSteps.{sort_of}
+use Rattle.bridge.specs.TokenSteps.{class_of}
 
 -- behind the character of one byte that ends the first of two parts
 behind : (bs front rest : List ℕ) (q : ℕ) → IsUtf8 bs → q < 128 → bs ≡ front ++ (q ∷ rest) → IsCharBoundary bs (length front + 1)
@@ -41,8 +41,8 @@ block_cut bs inner suffix a b c u small none e =
     let n : length bs ≡ length {A = ℕ} (a ∷ (b ∷ (c ∷ inner))) + 2 = ap length split ∙ length-append (a ∷ (b ∷ (c ∷ inner))) (42 ∷ 47 ∷ []) in
     (line_cut bs _ a b c u small e, (omega (arith, n), before_two bs (a ∷ (b ∷ (c ∷ inner))) 42 47 (omega arith) split))
 
--- a token can be cut as one of its sort is: a literal begins and ends just as its form does
-pub may_cut : (k : TokenKind) (bs : List ℕ) → IsUtf8 bs → (is_ended k ≡ true → HasByteShape k bs) → IsCharBoundary bs (suffix_of k) → MayCut (sort_of k) bs
+-- a token can be cut as one of its class is: a literal begins and ends just as its form does
+pub may_cut : (k : TokenKind) (bs : List ℕ) → IsUtf8 bs → (is_ended k ≡ true → HasByteShape k bs) → IsCharBoundary bs (suffix_of k) → MayCut (class_of k) bs
 may_cut kind.RawIdent bs u h b = let s = h refl in behind bs (114 ∷ []) _ 35 u (omega arith) s.is
 may_cut (kind.Lifetime false) bs u h b = let s = h refl in behind bs [] _ 39 u (omega arith) s.is
 may_cut (kind.LineComment (Some Outer)) bs u h b = let s = h refl in (line_cut bs _ 47 47 47 u (omega arith) s.is, tt)

@@ -22,7 +22,7 @@ use Rattle.bridge.specs.TokenSteps.{doc_text, escaped, without_last_return}
 use Rattle.bridge.proofs.BackLemmas.{chars_one}
 use Rattle.bridge.proofs.EscapeLemmas.{no_return, return_taken}
 use Rattle.bridge.proofs.EscapedLemmas.{escaped_chars, escaped_drop, escaped_joined, escaped_take, escaped_utf8}
-use Rattle.bridge.proofs.PlainLemmas.{quoted, string_by}
+use Rattle.bridge.proofs.FastSpellingLemmas.{quoted, string_by}
 
 -- ---- the text of a comment
 

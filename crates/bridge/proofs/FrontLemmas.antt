@@ -9,7 +9,7 @@ use Rattle.tt_data.specs.Walk.{at_leaf, opens, closes, walk}
 use Rattle.bridge.proofs.ReadingLemmas.{read_from-walk}
 use Rattle.bridge.specs.Reading.{TextStep, step, bad, closed, read_from, reading, with_front}
 use Rattle.bridge.specs.Text.{same_kind}
-use Rattle.bridge.specs.declared.fault.ReadFaultKind.TheVariants.{CloserDoesNotFit}
+use Rattle.bridge.specs.declared.reading.outcome.ReadFaultKind.TheVariants.{CloserDoesNotFit}
 
 -- trees put in front of the outermost list
 abbrev below : Forest → List Opened → List Opened

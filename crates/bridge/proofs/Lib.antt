@@ -21,11 +21,11 @@ mod PieceLemmas
 mod SpellingLemmas
 mod EdgeLemmas
 mod PrintStepLemmas
-mod PrintedPartLemmas
-mod PlaceLemmas
+mod PrintedChunkLemmas
+mod SpanListLemmas
 mod OrderLemmas
 mod WrittenLemmas
-mod PlainLemmas
+mod FastSpellingLemmas
 mod PartLemmas
 mod DocLemmas
 mod ReadSpelledLemmas

@@ -12,13 +12,13 @@ use Rattle.tt_data.specs.Forest.{Forest, empty, leaf, group, head_of, joined, pr
 use Rattle.tt_data.specs.Spans.{span_of}
 use Rattle.tt_data.specs.Walk.{Step, closes, walk}
 use Rattle.tt_data.specs.declared.tree.TokenTree.TheVariants as token
-use Rattle.bridge.specs.declared.sort.Sort.{Sort}
-use Rattle.bridge.specs.declared.sort.Sort.TheVariants.{Blank, Name, Mark, Opening, Closing, QuotedName, Doc, Value, Neither}
+use Rattle.bridge.specs.declared.reading.classify.TokenClass.{TokenClass}
+use Rattle.bridge.specs.declared.reading.classify.TokenClass.TheVariants.{Blank, Name, Mark, Opening, Closing, QuotedName, Doc, Value, Neither}
 use Rattle.bridge.specs.Order.{AreFrom, FollowOneAnother}
 use Rattle.bridge.specs.Pieces.{IsFrom, StandsBehindFirst, StandsFrom}
 use Rattle.bridge.specs.Printing.{step_span}
 use Rattle.bridge.specs.Reading.{IsReading, PlacedToken, TextStep, bad, placed_from, range_of, step, written_at}
-use Rattle.bridge.specs.TokenSteps.{sort_of, steps_of, steps_of_sort, text_steps}
+use Rattle.bridge.specs.TokenSteps.{class_of, steps_of, steps_of_class, text_steps}
 
 -- ---- what a text is read as, faults too
 
@@ -70,37 +70,37 @@ ends_behind n k = omega arith
 one_within : (t : PlacedToken) → IsFrom t.start (written_at (range_of t)) × (t.start ≤ t.start + length t.text)
 one_within t = ((le_refl t.start, ends_behind t.start (length t.text)), ends_behind t.start (length t.text))
 
-sort_within : (sort : Sort) (t : PlacedToken) (more : List PlacedToken) → 1 ≤ length t.text → AreWithin t.start (t.start + length t.text) (steps_of_sort sort t more)
-sort_within Blank t more some = tt
-sort_within (Name raw) t more some = ((one_within t).0, (one_within t).1, tt)
-sort_within (Mark c) t more some = ((one_within t).0, (one_within t).1, tt)
-sort_within (Opening k) t more some = ((one_within t).0, (one_within t).1, tt)
-sort_within (Closing k) t more some = ((one_within t).0, (one_within t).1, tt)
-sort_within QuotedName t more some =
+class_within : (class : TokenClass) (t : PlacedToken) (more : List PlacedToken) → 1 ≤ length t.text → AreWithin t.start (t.start + length t.text) (steps_of_class class t more)
+class_within Blank t more some = tt
+class_within (Name raw) t more some = ((one_within t).0, (one_within t).1, tt)
+class_within (Mark c) t more some = ((one_within t).0, (one_within t).1, tt)
+class_within (Opening k) t more some = ((one_within t).0, (one_within t).1, tt)
+class_within (Closing k) t more some = ((one_within t).0, (one_within t).1, tt)
+class_within QuotedName t more some =
     ((le_refl t.start, omega arith), ends_behind t.start (length t.text), ((omega arith, omega arith), omega (arith, some), tt))
-sort_within (Doc Outer is_block) t more some =
+class_within (Doc Outer is_block) t more some =
     let at = (one_within t).0 in let le = (one_within t).1 in (at, le, (at, le, (at, le, (at, le, (at, le, (at, le, tt))))))
-sort_within (Doc Inner is_block) t more some =
+class_within (Doc Inner is_block) t more some =
     let at = (one_within t).0 in let le = (one_within t).1 in (at, le, (at, le, (at, le, (at, le, (at, le, (at, le, (at, le, tt)))))))
-sort_within (Value f at) t more some = ((one_within t).0, (one_within t).1, tt)
-sort_within Neither t more some = tt
+class_within (Value f at) t more some = ((one_within t).0, (one_within t).1, tt)
+class_within Neither t more some = tt
 
-sort_follow : (sort : Sort) (t : PlacedToken) (more : List PlacedToken) → 1 ≤ length t.text → Follow (steps_of_sort sort t more)
-sort_follow Blank t more some = tt
-sort_follow (Name raw) t more some = ((one_within t).0, tt, tt)
-sort_follow (Mark c) t more some = ((one_within t).0, tt, tt)
-sort_follow (Opening k) t more some = ((one_within t).0, tt, tt)
-sort_follow (Closing k) t more some = ((one_within t).0, tt, tt)
-sort_follow QuotedName t more some =
+class_follow : (class : TokenClass) (t : PlacedToken) (more : List PlacedToken) → 1 ≤ length t.text → Follow (steps_of_class class t more)
+class_follow Blank t more some = tt
+class_follow (Name raw) t more some = ((one_within t).0, tt, tt)
+class_follow (Mark c) t more some = ((one_within t).0, tt, tt)
+class_follow (Opening k) t more some = ((one_within t).0, tt, tt)
+class_follow (Closing k) t more some = ((one_within t).0, tt, tt)
+class_follow QuotedName t more some =
     ((le_refl t.start, omega arith), ((omega arith, omega arith), tt), ((omega arith, omega (arith, some)), tt, tt))
-sort_follow (Doc Outer is_block) t more some =
+class_follow (Doc Outer is_block) t more some =
     let at = (one_within t).0 in
     (at, (at, (at, (at, (at, (at, tt))))), (at, (at, (at, (at, (at, tt)))), (at, (at, (at, (at, tt))), (at, (at, (at, tt)), (at, (at, tt), (at, tt, tt))))))
-sort_follow (Doc Inner is_block) t more some =
+class_follow (Doc Inner is_block) t more some =
     let at = (one_within t).0 in
     (at, (at, (at, (at, (at, (at, (at, tt)))))), (at, (at, (at, (at, (at, (at, tt))))), (at, (at, (at, (at, (at, tt)))), (at, (at, (at, (at, tt))), (at, (at, (at, tt)), (at, (at, tt), (at, tt, tt)))))))
-sort_follow (Value f at) t more some = ((one_within t).0, tt, tt)
-sort_follow Neither t more some = tt
+class_follow (Value f at) t more some = ((one_within t).0, tt, tt)
+class_follow Neither t more some = tt
 
 -- ---- all tokens
 
@@ -128,11 +128,11 @@ ordered start text (t ∷ more) c =
     let others = placed_from (start + t.len) (drop t.len text) more in
     let behind = ordered (start + t.len) (drop t.len text) more rest in
     let end = start + length (take t.len text) in
-    let here = sort_within (sort_of t.kind) p others some in
+    let here = class_within (class_of t.kind) p others some in
     let next : AllFrom end (steps_of others) = from_weaker end (start + t.len) (steps_of others) (omega (arith, long)) behind.from in
     record {
-      from = within_from start end (steps_of_sort (sort_of t.kind) p others) (steps_of others) here (from_weaker start end (steps_of others) (omega arith) next);
-      follow = both_follow start end (steps_of_sort (sort_of t.kind) p others) (steps_of others) here (sort_follow (sort_of t.kind) p others some) next behind.follow;
+      from = within_from start end (steps_of_class (class_of t.kind) p others) (steps_of others) here (from_weaker start end (steps_of others) (omega arith) next);
+      follow = both_follow start end (steps_of_class (class_of t.kind) p others) (steps_of others) here (class_follow (class_of t.kind) p others some) next behind.follow;
     }
 
 steps_from : (n : ℕ) (ss : List Step) → AllFrom n (map step ss) → AreFrom n ss

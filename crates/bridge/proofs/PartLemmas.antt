@@ -22,17 +22,17 @@ use Rattle.bridge.specs.Parts.{begins_with_mark, part_steps, placed_on, starts_w
 use Rattle.bridge.specs.Pieces.{first_start, moved_back, relative}
 use Rattle.bridge.specs.Reading.{IsReading, PlacedToken, TextStep, bad, placed_from, range_of, step, written_at}
 use Rattle.bridge.specs.Text.{char}
-use Rattle.bridge.specs.TokenSteps.{doc_steps, doc_text, name_at, name_in, punct_at, sort_of, spacing_before, steps_of, steps_of_sort, text_steps}
-use Rattle.bridge.specs.declared.sort.Sort.{Sort}
-use Rattle.bridge.specs.declared.sort.Sort.TheVariants.{Blank, Name, Mark, Opening, Closing, QuotedName, Doc, Value, Neither}
+use Rattle.bridge.specs.TokenSteps.{doc_steps, doc_text, name_at, name_in, punct_at, class_of, spacing_before, steps_of, steps_of_class, text_steps}
+use Rattle.bridge.specs.declared.reading.classify.TokenClass.{TokenClass}
+use Rattle.bridge.specs.declared.reading.classify.TokenClass.TheVariants.{Blank, Name, Mark, Opening, Closing, QuotedName, Doc, Value, Neither}
 
 -- ---- side by side
 
 pub steps_of-append : (a b : List PlacedToken) → steps_of (a ++ b) ≡ steps_before a b ++ steps_of b
 steps_of-append [] b = refl
 steps_of-append (t ∷ a) b =
-    ap (λ s. steps_of_sort (sort_of t.kind) t (a ++ b) ++ s) (steps_of-append a b)
-    ∙ sym (append_assoc (steps_of_sort (sort_of t.kind) t (a ++ b)) (steps_before a b) (steps_of b))
+    ap (λ s. steps_of_class (class_of t.kind) t (a ++ b) ++ s) (steps_of-append a b)
+    ∙ sym (append_assoc (steps_of_class (class_of t.kind) t (a ++ b)) (steps_before a b) (steps_of b))
 
 abbrev bytes_of : List Token → ℕ
 bytes_of tokens = sum_by (λ t. t.len) tokens
@@ -66,8 +66,8 @@ length-placed at text (t ∷ more) = ap suc (length-placed (at + t.len) (drop t.
 steps_before-nil : (ps : List PlacedToken) → steps_before ps [] ≡ steps_of ps
 steps_before-nil [] = refl
 steps_before-nil (t ∷ more) =
-    ap (λ after. steps_of_sort (sort_of t.kind) t after ++ steps_before more []) (append-nil more)
-    ∙ ap (λ s. steps_of_sort (sort_of t.kind) t more ++ s) (steps_before-nil more)
+    ap (λ after. steps_of_class (class_of t.kind) t after ++ steps_before more []) (append-nil more)
+    ∙ ap (λ s. steps_of_class (class_of t.kind) t more ++ s) (steps_before-nil more)
 
 whole_part : (ps : List PlacedToken) (n : ℕ) → length ps ≡ n → steps_before (take n ps) (drop n ps) ≡ steps_of ps
 whole_part ps n e =
@@ -83,15 +83,15 @@ whole_text text tokens are =
 -- the first token of a part
 pub part_more : (at left : ℕ) (text : List ℕ) (t : Token) (more : List Token) → 0 < left
     → part_steps at left text (t ∷ more)
-    ≡ steps_of_sort (sort_of t.kind) (record { kind = t.kind; start = at; text = take t.len text }) (placed_from (at + t.len) (drop t.len text) more)
+    ≡ steps_of_class (class_of t.kind) (record { kind = t.kind; start = at; text = take t.len text }) (placed_from (at + t.len) (drop t.len text) more)
     ++ part_steps (at + t.len) (left - 1) (drop t.len text) more
 part_more at zero text t more some = absurd (omega (arith, some))
 part_more at (suc n) text t more some =
     let less : suc n - 1 ≡ n = omega arith in
-    ap (λ after. steps_of_sort (sort_of t.kind) (record { kind = t.kind; start = at; text = take t.len text }) after
+    ap (λ after. steps_of_class (class_of t.kind) (record { kind = t.kind; start = at; text = take t.len text }) after
     ++ part_steps (at + t.len) n (drop t.len text) more)
     (take-append-drop n (placed_from (at + t.len) (drop t.len text) more))
-    ∙ ap (λ k. steps_of_sort (sort_of t.kind) (record { kind = t.kind; start = at; text = take t.len text }) (placed_from (at + t.len) (drop t.len text) more)
+    ∙ ap (λ k. steps_of_class (class_of t.kind) (record { kind = t.kind; start = at; text = take t.len text }) (placed_from (at + t.len) (drop t.len text) more)
     ++ part_steps (at + t.len) k (drop t.len text) more)
     (sym less)
 
@@ -127,16 +127,16 @@ module _ (n : ℕ) where
   spacing-moved [] = refl
   spacing-moved (t ∷ more) = refl
 
-  sort-moved : (sort : Sort) (t : PlacedToken) (after : List PlacedToken)
-      → steps_of_sort sort (moved_token t) (map moved_token after) ≡ map moved_step (steps_of_sort sort t after)
-  sort-moved Blank t after = refl
-  sort-moved (Name raw) t after = ap (λ span. step (name_at (name_in raw t.text) raw span) ∷ []) (at-moved t)
-  sort-moved (Mark c) t after =
+  class-moved : (class : TokenClass) (t : PlacedToken) (after : List PlacedToken)
+      → steps_of_class class (moved_token t) (map moved_token after) ≡ map moved_step (steps_of_class class t after)
+  class-moved Blank t after = refl
+  class-moved (Name raw) t after = ap (λ span. step (name_at (name_in raw t.text) raw span) ∷ []) (at-moved t)
+  class-moved (Mark c) t after =
       ap (λ span. step (punct_at c (spacing_before (map moved_token after)) span) ∷ []) (at-moved t)
       ∙ ap (λ spacing. step (punct_at c spacing (placed_on n (written_at (range_of t)))) ∷ []) (spacing-moved after)
-  sort-moved (Opening k) t after = ap (λ span. step (opens k span) ∷ []) (at-moved t)
-  sort-moved (Closing k) t after = ap (λ span. step (closes k span) ∷ []) (at-moved t)
-  sort-moved QuotedName t after =
+  class-moved (Opening k) t after = ap (λ span. step (opens k span) ∷ []) (at-moved t)
+  class-moved (Closing k) t after = ap (λ span. step (closes k span) ∷ []) (at-moved t)
+  class-moved QuotedName t after =
       let behind : n + t.start + 1 ≡ n + (t.start + 1) = omega arith in
       let last : n + t.start + length t.text ≡ n + (t.start + length t.text) = omega arith in
       ap (λ k. step (punct_at (char "'") Joint (written_at (record { start = n + t.start; «end» = k })))
@@ -145,21 +145,21 @@ module _ (n : ℕ) where
       ∙ ap (λ k. step (punct_at (char "'") Joint (written_at (record { start = n + t.start; «end» = n + (t.start + 1) })))
       ∷ step (name_at (drop 1 t.text) is_raw.No (written_at (record { start = n + (t.start + 1); «end» = k }))) ∷ [])
       last
-  sort-moved (Doc Outer is_block) t after = ap (λ span. map step (doc_steps Outer (doc_text is_block t.text) span)) (at-moved t)
-  sort-moved (Doc Inner is_block) t after = ap (λ span. map step (doc_steps Inner (doc_text is_block t.text) span)) (at-moved t)
-  sort-moved (Value f suffix_start) t after =
+  class-moved (Doc Outer is_block) t after = ap (λ span. map step (doc_steps Outer (doc_text is_block t.text) span)) (at-moved t)
+  class-moved (Doc Inner is_block) t after = ap (λ span. map step (doc_steps Inner (doc_text is_block t.text) span)) (at-moved t)
+  class-moved (Value f suffix_start) t after =
       ap (λ span. step (at_leaf (as_leaf.Literal (literal_in f suffix_start t.text span))) ∷ []) (at-moved t)
-  sort-moved Neither t after = ap (λ range. bad range ∷ []) (range-moved t)
+  class-moved Neither t after = ap (λ range. bad range ∷ []) (range-moved t)
 
   before-moved : (ps after : List PlacedToken)
       → steps_before (map moved_token ps) (map moved_token after) ≡ map moved_step (steps_before ps after)
   before-moved [] after = refl
   before-moved (t ∷ more) after =
-      ap (λ xs. steps_of_sort (sort_of t.kind) (moved_token t) xs ++ steps_before (map moved_token more) (map moved_token after))
+      ap (λ xs. steps_of_class (class_of t.kind) (moved_token t) xs ++ steps_before (map moved_token more) (map moved_token after))
       (sym (map-append moved_token more after))
-      ∙ ap (λ xs. xs ++ steps_before (map moved_token more) (map moved_token after)) (sort-moved (sort_of t.kind) t (more ++ after))
-      ∙ ap (λ xs. map moved_step (steps_of_sort (sort_of t.kind) t (more ++ after)) ++ xs) (before-moved more after)
-      ∙ sym (map-append moved_step (steps_of_sort (sort_of t.kind) t (more ++ after)) (steps_before more after))
+      ∙ ap (λ xs. xs ++ steps_before (map moved_token more) (map moved_token after)) (class-moved (class_of t.kind) t (more ++ after))
+      ∙ ap (λ xs. map moved_step (steps_of_class (class_of t.kind) t (more ++ after)) ++ xs) (before-moved more after)
+      ∙ sym (map-append moved_step (steps_of_class (class_of t.kind) t (more ++ after)) (steps_before more after))
 
   drop-moved : (k : ℕ) (ps : List PlacedToken) → drop k (map moved_token ps) ≡ map moved_token (drop k ps)
   drop-moved zero ps = refl
@@ -241,18 +241,18 @@ spacing-mark : (after : List PlacedToken) → spacing_before after ≡ (if start
 spacing-mark [] = refl
 spacing-mark (t ∷ more) = refl
 
-sort-before : (sort : Sort) (t : PlacedToken) (a b : List PlacedToken) → starts_with_mark a ≡ starts_with_mark b → steps_of_sort sort t a ≡ steps_of_sort sort t b
-sort-before Blank t a b e = refl
-sort-before (Name raw) t a b e = refl
-sort-before (Mark c) t a b e =
+class-before : (class : TokenClass) (t : PlacedToken) (a b : List PlacedToken) → starts_with_mark a ≡ starts_with_mark b → steps_of_class class t a ≡ steps_of_class class t b
+class-before Blank t a b e = refl
+class-before (Name raw) t a b e = refl
+class-before (Mark c) t a b e =
     ap (λ spacing. step (punct_at c spacing (written_at (range_of t))) ∷ [])
     (spacing-mark a ∙ ap (λ m. if m then Joint else Alone) e ∙ sym (spacing-mark b))
-sort-before (Opening k) t a b e = refl
-sort-before (Closing k) t a b e = refl
-sort-before QuotedName t a b e = refl
-sort-before (Doc style is_block) t a b e = refl
-sort-before (Value f suffix_start) t a b e = refl
-sort-before Neither t a b e = refl
+class-before (Opening k) t a b e = refl
+class-before (Closing k) t a b e = refl
+class-before QuotedName t a b e = refl
+class-before (Doc style is_block) t a b e = refl
+class-before (Value f suffix_start) t a b e = refl
+class-before Neither t a b e = refl
 
 starts-before : (ps a b : List PlacedToken) → starts_with_mark a ≡ starts_with_mark b → starts_with_mark (ps ++ a) ≡ starts_with_mark (ps ++ b)
 starts-before [] a b e = e
@@ -261,8 +261,8 @@ starts-before (t ∷ more) a b e = refl
 steps-before : (ps a b : List PlacedToken) → starts_with_mark a ≡ starts_with_mark b → steps_before ps a ≡ steps_before ps b
 steps-before [] a b e = refl
 steps-before (t ∷ more) a b e =
-    ap (λ s. s ++ steps_before more a) (sort-before (sort_of t.kind) t (more ++ a) (more ++ b) (starts-before more a b e))
-    ∙ ap (λ s. steps_of_sort (sort_of t.kind) t (more ++ b) ++ s) (steps-before more a b e)
+    ap (λ s. s ++ steps_before more a) (class-before (class_of t.kind) t (more ++ a) (more ++ b) (starts-before more a b e))
+    ∙ ap (λ s. steps_of_class (class_of t.kind) t (more ++ b) ++ s) (steps-before more a b e)
 
 placed-within : (at : ℕ) (s rest : List ℕ) (ts more : List Token) → sum_by (λ t. t.len) ts ≤ length s
     → take (length ts) (placed_from at (s ++ rest) (ts ++ more)) ≡ placed_from at s ts

@@ -17,9 +17,9 @@ use Rattle.tt_data.specs.declared.leaf.Punct.{Punct}
 use Rattle.tt_data.specs.declared.leaf.Spacing.{Spacing}
 use Rattle.tt_data.specs.declared.leaf.Spacing.TheVariants.{Alone, Joint, JointHidden}
 use Rattle.tt_data.specs.declared.span.Span.{Span}
-use Rattle.bridge.specs.declared.edge.Edge.{Edge}
+use Rattle.bridge.specs.declared.printing.spacing.Edge.{Edge}
 use Rattle.bridge.specs.Edges.{edge_of, gap_between}
-use Rattle.bridge.specs.Outputs.{Grows, IsLonger, gap_behind, printed_so_far}
+use Rattle.bridge.specs.PrintStates.{Grows, IsLonger, gap_behind, printed_so_far}
 use Rattle.bridge.specs.Printers.{Continues, PrinterState, Prints, continued, pending, quote_at}
 use Rattle.bridge.specs.Printing.{Print, PrintedToken, depth_after, is_visible_step, left_out_from, printed, spans_of, spelled, step_span, text_from, unspelled, visible}
 use Rattle.bridge.specs.PrintSteps.{is_name_leaf}

@@ -15,7 +15,7 @@ use Rattle.rustc_lexer.specs.Cursors.{suffix_of}
 use Rattle.rustc_lexer.specs.Lexing.{tokens_of}
 use Rattle.rustc_lexer.specs.Literals.{with_escapes}
 use Rattle.rustc_lexer.specs.Shapes.{HasByteShape, is_ended}
-use Rattle.rustc_lexer.specs.Standing.{AreTokensFrom, IsTokenAt}
+use Rattle.rustc_lexer.specs.TokensAt.{AreTokensFrom, IsTokenAt}
 use Rattle.rustc_lexer.specs.declared.token.DocStyle.{DocStyle}
 use Rattle.rustc_lexer.specs.declared.token.DocStyle.TheVariants.{Outer, Inner}
 use Rattle.rustc_lexer.specs.declared.token.LiteralKind.{LiteralKind}
@@ -36,9 +36,9 @@ use Rattle.tt_data.specs.declared.leaf.Punct.{Punct}
 use Rattle.tt_data.specs.declared.leaf.Spacing.{Spacing}
 use Rattle.tt_data.specs.declared.leaf.Spacing.TheVariants.{Alone}
 use Rattle.tt_data.specs.declared.span.Span.{Span}
-use Rattle.bridge.specs.declared.sort.Sort.{Sort}
-use Rattle.bridge.specs.declared.sort.Sort.TheVariants.{Blank, Name, Mark, Opening, Closing, QuotedName, Doc, Value, Neither}
-use Rattle.bridge.specs.PlainTexts.{is_mark_char}
+use Rattle.bridge.specs.declared.reading.classify.TokenClass.{TokenClass}
+use Rattle.bridge.specs.declared.reading.classify.TokenClass.TheVariants.{Blank, Name, Mark, Opening, Closing, QuotedName, Doc, Value, Neither}
+use Rattle.bridge.specs.FastSpellings.{is_mark_char}
 use Rattle.tt.specs.Building.{alone}
 use Rattle.bridge.specs.Pieces.{separated}
 use Rattle.bridge.specs.Printing.{is_visible_step, left_out_from, print_of, unspelled, visible}
@@ -47,11 +47,11 @@ use Rattle.bridge.specs.Reading.{IsReading, PlacedToken, TextStep, bad, placed_f
 use Rattle.bridge.specs.Spelling.{begins_with_name, is_spelled, leaf_spelling, quote_spelling, spelling}
 use Rattle.tt.specs.Glued.{is_joint}
 use Rattle.bridge.specs.Text.{is_char, is_punct, is_visible}
-use Rattle.bridge.specs.TokenSteps.{doc_text, escaped, literal_form, literal_sort, mark_leaf, name_in, name_leaf, sort_of, spacing_before, steps_of, steps_of_sort, text_steps}
+use Rattle.bridge.specs.TokenSteps.{doc_text, escaped, literal_form, literal_class, mark_leaf, name_in, name_leaf, class_of, spacing_before, steps_of, steps_of_class, text_steps}
 use Rattle.bridge.proofs.CutLemmas.{boundary_in, may_cut}
 use Rattle.bridge.proofs.DocLemmas.{doc_spelled}
 use Rattle.bridge.proofs.EscapedLemmas.{escaped_slice}
-use Rattle.bridge.proofs.PlainLemmas.{mark_spelled, quoted}
+use Rattle.bridge.proofs.FastSpellingLemmas.{mark_spelled, quoted}
 use Rattle.bridge.proofs.ShapeLemmas.{closing_spelled, opening_spelled}
 use Rattle.rustc_lexer.proofs.TestLemmas.{no, told_of_any}
 
@@ -75,13 +75,13 @@ readable_all (s ∷ more) = ap (λ l. s ∷ l) (readable_all more)
 -- ---- sorts
 
 -- a mark is no quote, and brackets are visible
-abbrev Shows : Sort → Type 0
+abbrev Shows : TokenClass → Type 0
 Shows (Mark c) = is_mark_char c ≡ true
 Shows (Opening k) = is_visible k ≡ true
 Shows (Closing k) = is_visible k ≡ true
 Shows _ = Unit {0}
 
-literal_shows : (k : LiteralKind) (n : ℕ) → Shows (literal_sort (literal_form k) n)
+literal_shows : (k : LiteralKind) (n : ℕ) → Shows (literal_class (literal_form k) n)
 literal_shows (literal.Int base bare) n = tt
 literal_shows (literal.Float base bare) n = tt
 literal_shows (literal.Char true) n = tt
@@ -94,7 +94,7 @@ literal_shows (literal.RawByteStr (Some m)) n = tt
 literal_shows (literal.RawCStr (Some m)) n = tt
 literal_shows _ n = tt
 
-kind_shows : (k : TokenKind) → Shows (sort_of k)
+kind_shows : (k : TokenKind) → Shows (class_of k)
 kind_shows (kind.Literal k n) = literal_shows k n
 kind_shows kind.Semi = refl
 kind_shows kind.Comma = refl
@@ -138,9 +138,9 @@ kind_shows _ = tt
 -- what is known of a token with this text: what it is read as where it is one leaf, the name of a lifetime, and the
 -- literal of a doc comment have a spelling
 record HasSpellings (k : TokenKind) (start : ℕ) (text : List ℕ) : Type 0 where
-  pub leaf : (more : List PlacedToken) (l : Leaf) → steps_of_sort (sort_of k) (record { kind = k; start = start; text = text }) more ≡ step (at_leaf l) ∷ [] → IsSome (leaf_spelling l)
-  pub name : sort_of k ≡ QuotedName → (span : Span) → IsSome (leaf_spelling (name_leaf (drop 1 text) is_raw.No span))
-  pub comment : (style : DocStyle) (is_block : Bool) → sort_of k ≡ Doc style is_block → (span : Span) →
+  pub leaf : (more : List PlacedToken) (l : Leaf) → steps_of_class (class_of k) (record { kind = k; start = start; text = text }) more ≡ step (at_leaf l) ∷ [] → IsSome (leaf_spelling l)
+  pub name : class_of k ≡ QuotedName → (span : Span) → IsSome (leaf_spelling (name_leaf (drop 1 text) is_raw.No span))
+  pub comment : (style : DocStyle) (is_block : Bool) → class_of k ≡ Doc style is_block → (span : Span) →
       IsSome (leaf_spelling (as_leaf.Literal (literal_of (escaped (doc_text is_block text)) [] form.Str span)))
 
 mark_no_quote : (c : ℕ) → is_mark_char c ≡ true → nat_eq c 39 ≡ false
@@ -171,24 +171,24 @@ module _ (k : TokenKind) (start : ℕ) (text : List ℕ) (known : HasSpellings k
   abbrev place : Span
   place = written_at (range_of here)
 
-  by_sort : (sort : Sort) → sort_of k ≡ sort → Shows sort → AreSpelled (readable (steps_of_sort sort here more ++ rest))
-  by_sort Blank e s = later
-  by_sort (Name raw) e s = (refl, known.leaf more (name_leaf (name_in raw text) raw place) (ap (λ x. steps_of_sort x here more) e), later)
-  by_sort (Mark c) e s =
+  by_class : (class : TokenClass) → class_of k ≡ class → Shows class → AreSpelled (readable (steps_of_class class here more ++ rest))
+  by_class Blank e s = later
+  by_class (Name raw) e s = (refl, known.leaf more (name_leaf (name_in raw text) raw place) (ap (λ x. steps_of_class x here more) e), later)
+  by_class (Mark c) e s =
       let q : Punct = record { char = c; spacing = spacing_before more; span = place } in
       let some : IsSome (spelling (at_leaf (as_leaf.Punct q)) (readable rest)) =
       subst (λ u. IsSome (if u then quote_spelling (is_joint (spacing_before more) && begins_with_name (readable rest)) else leaf_spelling (as_leaf.Punct q)))
       (sym (mark_no_quote c s)) (mark_some c (spacing_before more) place s) in
       (refl, some, later)
-  by_sort (Opening d) e s = (s, opening_spelled d place (readable rest) s, later)
-  by_sort (Closing d) e s = (s, closing_spelled d place (readable rest) s, later)
-  by_sort QuotedName e s =
+  by_class (Opening d) e s = (s, opening_spelled d place (readable rest) s, later)
+  by_class (Closing d) e s = (s, closing_spelled d place (readable rest) s, later)
+  by_class QuotedName e s =
       let behind : Span = written_at (record { start = start + 1; «end» = start + length text }) in
       let name = known.name e behind in
       (refl, ap (λ u. is_some (quote_spelling u)) (some_spelled (leaf_spelling (name_leaf (drop 1 text) is_raw.No behind)) name), (refl, name, later))
-  by_sort (Doc Outer is_block) e s =
+  by_class (Doc Outer is_block) e s =
       (refl, mark_some 35 Alone place refl, (refl, refl, (refl, doc_name place, (refl, mark_some 61 Alone place refl, (refl, known.comment Outer is_block e place, (refl, refl, later))))))
-  by_sort (Doc Inner is_block) e s = (
+  by_class (Doc Inner is_block) e s = (
     refl,
     mark_some 35 Alone place refl,
     (
@@ -209,8 +209,8 @@ module _ (k : TokenKind) (start : ℕ) (text : List ℕ) (known : HasSpellings k
       ),
     ),
   )
-  by_sort (Value f n) e s = (refl, known.leaf more (as_leaf.Literal (literal_in f n text place)) (ap (λ x. steps_of_sort x here more) e), later)
-  by_sort Neither e s = later
+  by_class (Value f n) e s = (refl, known.leaf more (as_leaf.Literal (literal_in f n text place)) (ap (λ x. steps_of_class x here more) e), later)
+  by_class Neither e s = later
 
 -- ---- all tokens
 
@@ -226,24 +226,24 @@ pub record TokenLaws (text : List ℕ) : Type 0 where
   pub escaped : (cs : List ℕ) → tokens_of (quoted (with_escapes cs))
       ≡ record { kind = kind.Literal (literal.Str true) (utf8_len (quoted (with_escapes cs))); len = utf8_len (quoted (with_escapes cs)) } ∷ []
   pub leaf : (at : ℕ) (t : Token) (more : List PlacedToken) (l : Leaf) → IsTokenAt text at t →
-      steps_of_sort (sort_of t.kind) (record { kind = t.kind; start = at; text = slice_range text at (at + t.len) }) more ≡ step (at_leaf l) ∷ [] → IsSome (leaf_spelling l)
-  pub name : (at : ℕ) (t : Token) (span : Span) → IsTokenAt text at t → sort_of t.kind ≡ QuotedName →
+      steps_of_class (class_of t.kind) (record { kind = t.kind; start = at; text = slice_range text at (at + t.len) }) more ≡ step (at_leaf l) ∷ [] → IsSome (leaf_spelling l)
+  pub name : (at : ℕ) (t : Token) (span : Span) → IsTokenAt text at t → class_of t.kind ≡ QuotedName →
       IsSome (leaf_spelling (name_leaf (drop 1 (slice_range text at (at + t.len))) is_raw.No span))
 
 module _ (text : List ℕ) (fits : length (escaped text) < 2 ^ 32) (laws : TokenLaws text) where
-  comment_spelled : (at : ℕ) (t : Token) → IsTokenAt text at t → (style : DocStyle) (is_block : Bool) → sort_of t.kind ≡ Doc style is_block → (span : Span) →
+  comment_spelled : (at : ℕ) (t : Token) → IsTokenAt text at t → (style : DocStyle) (is_block : Bool) → class_of t.kind ≡ Doc style is_block → (span : Span) →
       IsSome (leaf_spelling (as_leaf.Literal (literal_of (escaped (doc_text is_block (slice_range text at (at + t.len)))) [] form.Str span)))
-  comment_spelled at t h style is_block sort span =
+  comment_spelled at t h style is_block class span =
       let s : List ℕ = slice_range text at (at + t.len) in
       let cut : MayCut (Doc style is_block) s =
-      subst (λ x. MayCut x s) sort
+      subst (λ x. MayCut x s) class
       (may_cut t.kind s h.utf8 (laws.shape at t h) (boundary_in text at t.len (suffix_of t.kind) (laws.within at t h) h.stop.0 (laws.boundary at t h))) in
       doc_spelled is_block s span h.utf8 (omega (arith, escaped_slice text at (at + t.len) (omega (arith, h.stop.0)), fits)) cut.0 cut.1 laws.sums laws.escaped
 
   known : (at : ℕ) (t : Token) → IsTokenAt text at t → HasSpellings t.kind at (slice_range text at (at + t.len))
   known at t h = record {
     leaf = λ more l. laws.leaf at t more l h;
-    name = λ sort span. laws.name at t span h sort;
+    name = λ class span. laws.name at t span h class;
     comment = comment_spelled at t h;
   }
 
@@ -257,7 +257,7 @@ module _ (text : List ℕ) (fits : length (escaped text) < 2 ^ 32) (laws : Token
       let later : AreSpelled (readable (steps_of others)) =
       subst (λ r. AreSpelled (readable (steps_of (placed_from (at + t.len) r more)))) (sym (drop-drop t.len at text))
       (all_spelled (at + t.len) more (laws.others at (t ∷ more) t more from refl)) in
-      by_sort t.kind at (take t.len (drop at text)) told others (steps_of others) later (sort_of t.kind) refl (kind_shows t.kind)
+      by_class t.kind at (take t.len (drop at text)) told others (steps_of others) later (class_of t.kind) refl (kind_shows t.kind)
 
   pub read_spelled : (f : Forest) → IsReading (text_steps text) f → AreSpelled (walk f)
   read_spelled f read = subst AreSpelled (ap readable read ∙ readable_all (walk f)) (all_spelled 0 (tokens_of (chars text)) laws.begin)

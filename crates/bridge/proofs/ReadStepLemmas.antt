@@ -19,11 +19,11 @@ use Rattle.tt.proofs.Limits.{count-extended}
 use Rattle.bridge.proofs.ReadingLemmas.{closed_walk, walk_open-joined}
 use Rattle.bridge.specs.ReadSteps.{IsClosed, IsRefusal, IsStepRefusal, Takes, first_kind, spacing_at, steps_in, trees_of}
 use Rattle.bridge.specs.Reading.{DoesNotFit, IsFault, PlacedToken, TextStep, bad, bad_at, closer_at, left_open, range_of, step, walk_open, written_at}
-use Rattle.bridge.specs.TokenSteps.{spacing_before, steps_of_sort}
-use Rattle.bridge.specs.declared.fault.ReadFault.{ReadFault}
-use Rattle.bridge.specs.declared.fault.ReadFaultKind.TheVariants.{BadToken, CloserDoesNotFit, GroupLeftOpen}
-use Rattle.bridge.specs.declared.sort.Sort.{Sort}
-use Rattle.bridge.specs.declared.sort.Sort.TheVariants.{Blank, Name, Mark, Opening, Closing, QuotedName, Doc, Value, Neither}
+use Rattle.bridge.specs.TokenSteps.{spacing_before, steps_of_class}
+use Rattle.bridge.specs.declared.reading.outcome.ReadFault.{ReadFault}
+use Rattle.bridge.specs.declared.reading.outcome.ReadFaultKind.TheVariants.{BadToken, CloserDoesNotFit, GroupLeftOpen}
+use Rattle.bridge.specs.declared.reading.classify.TokenClass.{TokenClass}
+use Rattle.bridge.specs.declared.reading.classify.TokenClass.TheVariants.{Blank, Name, Mark, Opening, Closing, QuotedName, Doc, Value, Neither}
 
 -- ---- trees
 
@@ -51,9 +51,9 @@ spacing_before-is [] = refl
 spacing_before-is (t ∷ more) = refl
 
 -- a token that is no bracket is read as its trees
-plain_steps : (sort : Sort) (t : PlacedToken) (after : List PlacedToken) → ((k : DelimiterKind) → sort ≡ Opening k → ⊥)
-    → ((k : DelimiterKind) → sort ≡ Closing k → ⊥) → (sort ≡ Neither → ⊥)
-    → steps_of_sort sort t after ≡ map step (walk (trees_of sort t.text (range_of t) (first_kind after)))
+plain_steps : (class : TokenClass) (t : PlacedToken) (after : List PlacedToken) → ((k : DelimiterKind) → class ≡ Opening k → ⊥)
+    → ((k : DelimiterKind) → class ≡ Closing k → ⊥) → (class ≡ Neither → ⊥)
+    → steps_of_class class t after ≡ map step (walk (trees_of class t.text (range_of t) (first_kind after)))
 plain_steps Blank t after a b n = refl
 plain_steps (Name raw) t after a b n = refl
 plain_steps (Mark c) t after a b n = rw (spacing_before-is after) refl
@@ -65,15 +65,15 @@ plain_steps (Opening k) t after a b n = absurd (a k refl)
 plain_steps (Closing k) t after a b n = absurd (b k refl)
 plain_steps Neither t after a b n = absurd (n refl)
 
-pub plain_at : (sort : Sort) (t : PlacedToken) (after : List PlacedToken) (text : List ℕ) (range : TextRange) (next : Option TokenKind)
-    → t.text ≡ text → range_of t ≡ range → first_kind after ≡ next → ((k : DelimiterKind) → sort ≡ Opening k → ⊥)
-    → ((k : DelimiterKind) → sort ≡ Closing k → ⊥) → (sort ≡ Neither → ⊥)
-    → steps_of_sort sort t after ≡ map step (walk (trees_of sort text range next))
-plain_at sort t after text range next same at follows a b n =
-    plain_steps sort t after a b n
-    ∙ ap (λ x. map step (walk (trees_of sort x (range_of t) (first_kind after)))) same
-    ∙ ap (λ r. map step (walk (trees_of sort text r (first_kind after)))) at
-    ∙ ap (λ k. map step (walk (trees_of sort text range k))) follows
+pub plain_at : (class : TokenClass) (t : PlacedToken) (after : List PlacedToken) (text : List ℕ) (range : TextRange) (next : Option TokenKind)
+    → t.text ≡ text → range_of t ≡ range → first_kind after ≡ next → ((k : DelimiterKind) → class ≡ Opening k → ⊥)
+    → ((k : DelimiterKind) → class ≡ Closing k → ⊥) → (class ≡ Neither → ⊥)
+    → steps_of_class class t after ≡ map step (walk (trees_of class text range next))
+plain_at class t after text range next same at follows a b n =
+    plain_steps class t after a b n
+    ∙ ap (λ x. map step (walk (trees_of class x (range_of t) (first_kind after)))) same
+    ∙ ap (λ r. map step (walk (trees_of class text r (first_kind after)))) at
+    ∙ ap (λ k. map step (walk (trees_of class text range k))) follows
 
 -- ---- brackets
 
@@ -129,9 +129,9 @@ pub faults_bad : (old new : Building) (range : TextRange) (fault : ReadFault) �
 faults_bad old new range fault is = λ more. rw is (bad_at old.groups old.here range more refl)
 
 -- nothing is put in for what is no leaf and no attribute
-pub no_trees : (sort : Sort) (text : List ℕ) (range : TextRange) (next : Option TokenKind) → ((raw : IdentIsRaw) → sort ≡ Name raw → ⊥)
-    → ((c : ℕ) → sort ≡ Mark c → ⊥) → (sort ≡ QuotedName → ⊥) → ((style : DocStyle) (is_block : Bool) → sort ≡ Doc style is_block → ⊥)
-    → ((f : LitKind) (at : ℕ) → sort ≡ Value f at → ⊥) → trees_of sort text range next ≡ empty
+pub no_trees : (class : TokenClass) (text : List ℕ) (range : TextRange) (next : Option TokenKind) → ((raw : IdentIsRaw) → class ≡ Name raw → ⊥)
+    → ((c : ℕ) → class ≡ Mark c → ⊥) → (class ≡ QuotedName → ⊥) → ((style : DocStyle) (is_block : Bool) → class ≡ Doc style is_block → ⊥)
+    → ((f : LitKind) (at : ℕ) → class ≡ Value f at → ⊥) → trees_of class text range next ≡ empty
 no_trees Blank text range next n m q d v = refl
 no_trees (Opening kind) text range next n m q d v = refl
 no_trees (Closing kind) text range next n m q d v = refl

@@ -13,9 +13,9 @@ use Rattle.bridge.specs.ReadText.{IsReadRefusal, text_top}
 use Rattle.bridge.specs.Reading.{IsFault, PlacedToken, TextStep, placed_from, range_of}
 use Rattle.bridge.proofs.PartLemmas.{part_more}
 use Rattle.bridge.specs.Parts.{part_steps}
-use Rattle.bridge.specs.TokenSteps.{sort_of, steps_of_sort}
-use Rattle.bridge.specs.declared.fault.ReadFault.{ReadFault}
-use Rattle.bridge.specs.declared.sort.Sort.{Sort}
+use Rattle.bridge.specs.TokenSteps.{class_of, steps_of_class}
+use Rattle.bridge.specs.declared.reading.outcome.ReadFault.{ReadFault}
+use Rattle.bridge.specs.declared.reading.classify.TokenClass.{TokenClass}
 
 -- what is in the tree under construction, and what so many of the tokens that are left add, are all steps of the part
 pub record IsReadSoFar (steps : List TextStep) (text : List ℕ) (start left : ℕ) (rest : List Token) (b : Building) : Type 0 where
@@ -55,43 +55,43 @@ module _ (text : List ℕ) (start : ℕ) (t : Token) (more : List Token) (word :
   at_token P h = h (token_at text start t) (behind text start t more) spelt placed (next_is (start + t.len) (drop t.len (drop start text)))
 
 -- what one token adds, by what it adds wherever it stands so
-at_takes : (text : List ℕ) (start : ℕ) (t : Token) (more : List Token) (word : List ℕ) (next : Option TokenKind) (sort : Sort) (old new : Building) (added expected : Option ReadFault)
+at_takes : (text : List ℕ) (start : ℕ) (t : Token) (more : List Token) (word : List ℕ) (next : Option TokenKind) (class : TokenClass) (old new : Building) (added expected : Option ReadFault)
     → word ≡ slice_range text start (start + t.len) → start + t.len ≤ length text → ((from : ℕ) (rest : List ℕ) → first_kind (placed_from from rest more) ≡ next)
-    → sort ≡ sort_of t.kind → added ≡ expected
-    → ((p : PlacedToken) (after : List PlacedToken) → p.text ≡ word → range_of p ≡ record { start = start; «end» = start + t.len } → first_kind after ≡ next → Takes (steps_of_sort sort p after) old new added)
+    → class ≡ class_of t.kind → added ≡ expected
+    → ((p : PlacedToken) (after : List PlacedToken) → p.text ≡ word → range_of p ≡ record { start = start; «end» = start + t.len } → first_kind after ≡ next → Takes (steps_of_class class p after) old new added)
     → Takes (steps_at text start t more) old new expected
-at_takes text start t more word next sort old new added expected word_is fits next_is is so h =
-    let all = at_token text start t more word next word_is fits next_is (λ p after. Takes (steps_of_sort sort p after) old new added) h in
-    let told = subst (λ a. Takes (steps_of_sort sort (token_at text start t) (behind text start t more)) old new a) so all in
-    subst (λ s. Takes (steps_of_sort s (token_at text start t) (behind text start t more)) old new expected) is told
+at_takes text start t more word next class old new added expected word_is fits next_is is so h =
+    let all = at_token text start t more word next word_is fits next_is (λ p after. Takes (steps_of_class class p after) old new added) h in
+    let told = subst (λ a. Takes (steps_of_class class (token_at text start t) (behind text start t more)) old new a) so all in
+    subst (λ s. Takes (steps_of_class s (token_at text start t) (behind text start t more)) old new expected) is told
 
-at_refusal : (text : List ℕ) (start : ℕ) (t : Token) (more : List Token) (word : List ℕ) (next : Option TokenKind) (sort : Sort) (old : Building) (e : TtFault)
+at_refusal : (text : List ℕ) (start : ℕ) (t : Token) (more : List Token) (word : List ℕ) (next : Option TokenKind) (class : TokenClass) (old : Building) (e : TtFault)
     → word ≡ slice_range text start (start + t.len) → start + t.len ≤ length text → ((from : ℕ) (rest : List ℕ) → first_kind (placed_from from rest more) ≡ next)
-    → sort ≡ sort_of t.kind
-    → ((p : PlacedToken) (after : List PlacedToken) → p.text ≡ word → range_of p ≡ record { start = start; «end» = start + t.len } → first_kind after ≡ next → IsStepRefusal (steps_of_sort sort p after) old e)
+    → class ≡ class_of t.kind
+    → ((p : PlacedToken) (after : List PlacedToken) → p.text ≡ word → range_of p ≡ record { start = start; «end» = start + t.len } → first_kind after ≡ next → IsStepRefusal (steps_of_class class p after) old e)
     → IsStepRefusal (steps_at text start t more) old e
-at_refusal text start t more word next sort old e word_is fits next_is is h =
-    let all = at_token text start t more word next word_is fits next_is (λ p after. IsStepRefusal (steps_of_sort sort p after) old e) h in
-    subst (λ s. IsStepRefusal (steps_of_sort s (token_at text start t) (behind text start t more)) old e) is all
+at_refusal text start t more word next class old e word_is fits next_is is h =
+    let all = at_token text start t more word next word_is fits next_is (λ p after. IsStepRefusal (steps_of_class class p after) old e) h in
+    subst (λ s. IsStepRefusal (steps_of_class s (token_at text start t) (behind text start t more)) old e) is all
 
 -- the same of what is answered
-pub all_take : (r : Result (Option ReadFault) TtFault) (text : List ℕ) (start : ℕ) (t : Token) (more : List Token) (word : List ℕ) (next : Option TokenKind) (sort : Sort) (old new : Building)
+pub all_take : (r : Result (Option ReadFault) TtFault) (text : List ℕ) (start : ℕ) (t : Token) (more : List Token) (word : List ℕ) (next : Option TokenKind) (class : TokenClass) (old new : Building)
     → word ≡ slice_range text start (start + t.len) → start + t.len ≤ length text → ((from : ℕ) (rest : List ℕ) → first_kind (placed_from from rest more) ≡ next)
-    → sort ≡ sort_of t.kind
-    → IfOk r (λ added. (p : PlacedToken) (after : List PlacedToken) → p.text ≡ word → range_of p ≡ record { start = start; «end» = start + t.len } → first_kind after ≡ next → Takes (steps_of_sort sort p after) old new added)
+    → class ≡ class_of t.kind
+    → IfOk r (λ added. (p : PlacedToken) (after : List PlacedToken) → p.text ≡ word → range_of p ≡ record { start = start; «end» = start + t.len } → first_kind after ≡ next → Takes (steps_of_class class p after) old new added)
     → IfOk r (Takes (steps_at text start t more) old new)
-all_take (Ok added) text start t more word next sort old new word_is fits next_is is h =
-    at_takes text start t more word next sort old new added added word_is fits next_is is refl h
-all_take (Err e) text start t more word next sort old new word_is fits next_is is h = tt
+all_take (Ok added) text start t more word next class old new word_is fits next_is is h =
+    at_takes text start t more word next class old new added added word_is fits next_is is refl h
+all_take (Err e) text start t more word next class old new word_is fits next_is is h = tt
 
-pub all_refuse : (r : Result (Option ReadFault) TtFault) (text : List ℕ) (start : ℕ) (t : Token) (more : List Token) (word : List ℕ) (next : Option TokenKind) (sort : Sort) (old : Building)
+pub all_refuse : (r : Result (Option ReadFault) TtFault) (text : List ℕ) (start : ℕ) (t : Token) (more : List Token) (word : List ℕ) (next : Option TokenKind) (class : TokenClass) (old : Building)
     → word ≡ slice_range text start (start + t.len) → start + t.len ≤ length text → ((from : ℕ) (rest : List ℕ) → first_kind (placed_from from rest more) ≡ next)
-    → sort ≡ sort_of t.kind
-    → IfErr r (λ e. (p : PlacedToken) (after : List PlacedToken) → p.text ≡ word → range_of p ≡ record { start = start; «end» = start + t.len } → first_kind after ≡ next → IsStepRefusal (steps_of_sort sort p after) old e)
+    → class ≡ class_of t.kind
+    → IfErr r (λ e. (p : PlacedToken) (after : List PlacedToken) → p.text ≡ word → range_of p ≡ record { start = start; «end» = start + t.len } → first_kind after ≡ next → IsStepRefusal (steps_of_class class p after) old e)
     → IfErr r (IsStepRefusal (steps_at text start t more) old)
-all_refuse (Ok added) text start t more word next sort old word_is fits next_is is h = tt
-all_refuse (Err e) text start t more word next sort old word_is fits next_is is h =
-    at_refusal text start t more word next sort old e word_is fits next_is is h
+all_refuse (Ok added) text start t more word next class old word_is fits next_is is h = tt
+all_refuse (Err e) text start t more word next class old word_is fits next_is is h =
+    at_refusal text start t more word next class old e word_is fits next_is is h
 
 -- one token more was read
 abbrev others_steps : List ℕ → ℕ → ℕ → Token → List Token → List TextStep

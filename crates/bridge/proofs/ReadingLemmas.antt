@@ -12,8 +12,8 @@ use Rattle.tt_data.specs.declared.delimiter.DelimiterKind.TheVariants.{Parenthes
 use Rattle.tt_data.specs.declared.span.Span.{Span}
 use Rattle.bridge.specs.Reading.{DoesNotFit, IsFault, IsReading, TextStep, bad, bad_at, closed, closer_at, left_open, read_from, reading, step, walk_open}
 use Rattle.bridge.specs.Text.{same_kind}
-use Rattle.bridge.specs.declared.fault.ReadFault.{ReadFault}
-use Rattle.bridge.specs.declared.fault.ReadFaultKind.TheVariants.{CloserDoesNotFit}
+use Rattle.bridge.specs.declared.reading.outcome.ReadFault.{ReadFault}
+use Rattle.bridge.specs.declared.reading.outcome.ReadFaultKind.TheVariants.{CloserDoesNotFit}
 
 pub same_kind-self : (k : DelimiterKind) → same_kind k k ≡ true
 same_kind-self Parenthesis = refl

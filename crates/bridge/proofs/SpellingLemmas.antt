@@ -15,7 +15,7 @@ use Rattle.tt_data.specs.declared.leaf.Leaf.{Leaf}
 use Rattle.bridge.specs.ReadSteps.{MayCut}
 use Rattle.bridge.specs.Reading.{PlacedToken, placed_from}
 use Rattle.bridge.specs.Spelling.{is_one, is_that_leaf, is_text_of}
-use Rattle.bridge.specs.TokenSteps.{sort_of, steps_of, steps_of_sort, text_steps}
+use Rattle.bridge.specs.TokenSteps.{class_of, steps_of, steps_of_class, text_steps}
 use Rattle.bridge.proofs.CutLemmas.{may_cut}
 
 -- the one token is as long as the text
@@ -28,7 +28,7 @@ whole_slice text n long =
     rw e (take_all n text (omega (arith, long)))
 
 pub cut_whole : (text : List ℕ) (t : Token) → IsUtf8 text → sum_by (λ (x : Token). x.len) (tokens_of (chars text)) ≡ length text → tokens_of (chars text) ≡ t ∷ []
-    → (is_ended t.kind ≡ true → HasByteShape t.kind (slice_range text 0 (0 + t.len))) → IsCharBoundary text (0 + suffix_of t.kind) → MayCut (sort_of t.kind) text
+    → (is_ended t.kind ≡ true → HasByteShape t.kind (slice_range text 0 (0 + t.len))) → IsCharBoundary text (0 + suffix_of t.kind) → MayCut (class_of t.kind) text
 cut_whole text t u sum one shape boundary =
     let whole = whole_slice text t.len (one_len text t sum one) in
     let none : 0 + suffix_of t.kind ≡ suffix_of t.kind = omega arith in
@@ -39,7 +39,7 @@ all_true a b c d e f g = rw (e, f, g) refl
 
 pub told_of_one : (text : List ℕ) (t : Token) (l : Leaf) (b : Bool) → IsUtf8 text → length text < 2 ^ 32
     → sum_by (λ (x : Token). x.len) (tokens_of (chars text)) ≡ length text → tokens_of (chars text) ≡ t ∷ []
-    → ((p : PlacedToken) (more : List PlacedToken) → p.text ≡ text → b ≡ is_that_leaf l (steps_of_sort (sort_of t.kind) p more))
+    → ((p : PlacedToken) (more : List PlacedToken) → p.text ≡ text → b ≡ is_that_leaf l (steps_of_class (class_of t.kind) p more))
     → b ≡ is_text_of l text
 told_of_one text t l b u short sum one told =
     let long = one_len text t sum one in
@@ -49,5 +49,5 @@ told_of_one text t l b u short sum one told =
     let single : is_one (tokens_of (chars text)) ≡ true = ap is_one one in
     let read : is_that_leaf l (text_steps text) ≡ b =
     ap (λ ts. is_that_leaf l (steps_of (placed_from 0 text ts))) one
-    ∙ (ap (is_that_leaf l) (append-nil (steps_of_sort (sort_of t.kind) p [])) ∙ sym (told p [] all)) in
+    ∙ (ap (is_that_leaf l) (append-nil (steps_of_class (class_of t.kind) p [])) ∙ sym (told p [] all)) in
     sym (all_true (nat_lt (length text) (2 ^ 32)) (is_utf8 text) (is_one (tokens_of (chars text))) (is_that_leaf l (text_steps text)) small (is_utf8-from_IsUtf8 text u) single ∙ read)

@@ -16,7 +16,7 @@ use Rattle.rustc_lexer.specs.Cursors.{suffix_of}
 use Rattle.rustc_lexer.specs.Lexing.{tokens_of}
 use Rattle.rustc_lexer.specs.Seams.{stands_alone}
 use Rattle.rustc_lexer.specs.Shapes.{HasByteShape, is_ended}
-use Rattle.rustc_lexer.specs.Standing.{IsTokenAt}
+use Rattle.rustc_lexer.specs.TokensAt.{IsTokenAt}
 use Rattle.rustc_lexer.specs.declared.token.DocStyle.TheVariants.{Outer, Inner}
 use Rattle.rustc_lexer.specs.declared.token.LiteralKind.{LiteralKind}
 use Rattle.rustc_lexer.specs.declared.token.LiteralKind.TheVariants as literal
@@ -33,24 +33,24 @@ use Rattle.tt_data.specs.declared.leaf.Leaf.TheVariants as as_leaf
 use Rattle.tt_data.specs.declared.leaf.LitKind.{LitKind}
 use Rattle.tt_data.specs.declared.leaf.Punct.{Punct}
 use Rattle.tt_data.specs.declared.span.Span.{Span}
-use Rattle.bridge.specs.declared.sort.Sort.{Sort}
-use Rattle.bridge.specs.declared.sort.Sort.TheVariants.{Blank, Name, Mark, Opening, Closing, QuotedName, Doc, Value, Neither}
-use Rattle.bridge.specs.PlainTexts.{is_mark_char}
+use Rattle.bridge.specs.declared.reading.classify.TokenClass.{TokenClass}
+use Rattle.bridge.specs.declared.reading.classify.TokenClass.TheVariants.{Blank, Name, Mark, Opening, Closing, QuotedName, Doc, Value, Neither}
+use Rattle.bridge.specs.FastSpellings.{is_mark_char}
 use Rattle.bridge.specs.ReadSteps.{MayCut}
 use Rattle.bridge.specs.Reading.{PlacedToken, range_of, step, written_at}
 use Rattle.bridge.specs.Spelling.{is_plain_name, is_that_leaf, leaf_spelling, same_form, same_rawness}
-use Rattle.bridge.specs.TokenSteps.{literal_form, literal_sort, name_leaf, sort_of, spacing_before, steps_of_sort}
+use Rattle.bridge.specs.TokenSteps.{literal_form, literal_class, name_leaf, class_of, spacing_before, steps_of_class}
 use Rattle.bridge.proofs.BackLemmas.{chars_one}
 use Rattle.bridge.proofs.AgainLemmas.{literal_by, same_bytes, stays}
 use Rattle.bridge.proofs.CutLemmas.{boundary_in, may_cut}
-use Rattle.bridge.proofs.PlainLemmas.{mark_spelled, name_spelled, same_text, spelled_as}
+use Rattle.bridge.proofs.FastSpellingLemmas.{mark_spelled, name_spelled, same_text, spelled_as}
 use Rattle.bridge.proofs.SpellingLemmas.{told_of_one}
-use Rattle.bridge.proofs.WordLemmas.{is_single_sort}
+use Rattle.bridge.proofs.WordLemmas.{is_single_class}
 use Rattle.rustc_lexer.proofs.TestLemmas.{no}
 
 -- ---- kinds
 
-alone_value : (k : LiteralKind) (n : ℕ) → is_single_sort (literal_sort (literal_form k) n) ≡ true → stands_alone (kind.Literal k n) ≡ true
+alone_value : (k : LiteralKind) (n : ℕ) → is_single_class (literal_class (literal_form k) n) ≡ true → stands_alone (kind.Literal k n) ≡ true
 alone_value (literal.Int base empty) n h = refl
 alone_value (literal.Float base empty) n h = refl
 alone_value (literal.Char true) n h = refl
@@ -64,7 +64,7 @@ alone_value (literal.RawCStr (Some m)) n h = refl
 alone_value _ n h = no h
 
 -- tokens that are read as one leaf stand alone
-single_alone : (k : TokenKind) → is_single_sort (sort_of k) ≡ true → stands_alone k ≡ true
+single_alone : (k : TokenKind) → is_single_class (class_of k) ≡ true → stands_alone k ≡ true
 single_alone (kind.Literal k n) h = alone_value k n h
 single_alone kind.Whitespace h = no h
 single_alone kind.RawLifetime h = no h
@@ -78,9 +78,9 @@ single_alone (kind.BlockComment (Some style) true) h = no h
 single_alone (kind.BlockComment (Some style) false) h = no h
 single_alone _ h = refl
 
--- what a sort tells of its token: a mark is one of those that are spelled, a raw name is a raw identifier, and a value's
+-- what a class tells of its token: a mark is one of those that are spelled, a raw name is a raw identifier, and a value's
 -- form is no error
-abbrev Tells : Sort → TokenKind → Type 0
+abbrev Tells : TokenClass → TokenKind → Type 0
 Tells (Mark c) k = is_mark_char c ≡ true
 Tells (Name is_raw.Yes) k = k ≡ kind.RawIdent
 Tells (Value f n) k = same_form f f ≡ true
@@ -90,7 +90,7 @@ Tells _ k = Unit {0}
 nat_same : (n : ℕ) → nat_eq n n ≡ true
 nat_same n = grind (arith, nat_tests)
 
-literal_tells : (k : LiteralKind) (n : ℕ) (t : TokenKind) → Tells (literal_sort (literal_form k) n) t
+literal_tells : (k : LiteralKind) (n : ℕ) (t : TokenKind) → Tells (literal_class (literal_form k) n) t
 literal_tells (literal.Int base empty) n t = refl
 literal_tells (literal.Float base empty) n t = refl
 literal_tells (literal.Char true) n t = refl
@@ -103,7 +103,7 @@ literal_tells (literal.RawByteStr (Some m)) n t = nat_same m
 literal_tells (literal.RawCStr (Some m)) n t = nat_same m
 literal_tells _ n t = tt
 
-kind_tells : (k : TokenKind) → Tells (sort_of k) k
+kind_tells : (k : TokenKind) → Tells (class_of k) k
 kind_tells (kind.Literal k n) = literal_tells k n (kind.Literal k n)
 kind_tells kind.RawIdent = refl
 kind_tells kind.Semi = refl
@@ -159,22 +159,22 @@ no_dollar s t i is one = by_test (bytes_eq i.sym (codes "$crate")) refl i.is_raw
     by_test true e is_raw.No =
         (let n : 2 ≡ 1 = sym two_tokens ∙ ap (λ x. length (tokens_of (chars x))) (sym (same_bytes i.sym (codes "$crate") e) ∙ is) ∙ ap length one in absurd (omega (arith, n)))
 
-name_is : (s : List ℕ) (t : Token) (span : Span) → OneToken s t → sort_of t.kind ≡ Name is_raw.No →
+name_is : (s : List ℕ) (t : Token) (span : Span) → OneToken s t → class_of t.kind ≡ Name is_raw.No →
     leaf_spelling (as_leaf.Ident (record { sym = s; span = span; is_raw = is_raw.No })) ≡ Some s
-name_is s t span o sort =
+name_is s t span o class =
     let i : Ident = record { sym = s; span = span; is_raw = is_raw.No } in
     spelled_as (as_leaf.Ident i) s (stays i (no_dollar s t i refl o.one)) refl
     (sym (told_of_one s t (as_leaf.Ident i) true o.utf8 o.short o.sum o.one
-    (λ p more same. sym (ap (λ x. is_that_leaf (as_leaf.Ident i) (steps_of_sort x p more)) sort ∙ ap (bytes_eq s) same ∙ same_text s))))
+    (λ p more same. sym (ap (λ x. is_that_leaf (as_leaf.Ident i) (steps_of_class x p more)) class ∙ ap (bytes_eq s) same ∙ same_text s))))
 
-raw_name_is : (s : List ℕ) (t : Token) (span : Span) → OneToken s t → sort_of t.kind ≡ Name is_raw.Yes → HasByteShape kind.RawIdent s →
+raw_name_is : (s : List ℕ) (t : Token) (span : Span) → OneToken s t → class_of t.kind ≡ Name is_raw.Yes → HasByteShape kind.RawIdent s →
     leaf_spelling (as_leaf.Ident (record { sym = drop 2 s; span = span; is_raw = is_raw.Yes })) ≡ Some s
-raw_name_is s t span o sort shape =
+raw_name_is s t span o class shape =
     let i : Ident = record { sym = drop 2 s; span = span; is_raw = is_raw.Yes } in
     let shown : codes "r#" ++ drop 2 s ≡ s = ap (λ x. codes "r#" ++ drop 2 x) shape.is ∙ sym shape.is in
     spelled_as (as_leaf.Ident i) s (stays i refl) shown
     (sym (told_of_one s t (as_leaf.Ident i) true o.utf8 o.short o.sum o.one
-    (λ p more same. sym (ap (λ x. is_that_leaf (as_leaf.Ident i) (steps_of_sort x p more)) sort ∙ ap (λ x. bytes_eq (drop 2 s) (drop 2 x)) same ∙ same_text (drop 2 s)))))
+    (λ p more same. sym (ap (λ x. is_that_leaf (as_leaf.Ident i) (steps_of_class x p more)) class ∙ ap (λ x. bytes_eq (drop 2 s) (drop 2 x)) same ∙ same_text (drop 2 s)))))
 
 -- a literal is displayed as its token
 literal_shown : (f : LitKind) (n : ℕ) (s : List ℕ) → IsLiteralToken f n s → literal_by f (inside_of f n s) (drop n s) ≡ s
@@ -191,52 +191,52 @@ literal_shown f n s w =
     ap (λ x. literal_by f x (drop n s)) inside ∙ ap (literal_by f w.text) last
     ∙ (let even : literal_by f w.text w.suffix ≡ b ++ inner = simp append_assoc in even) ∙ sym w.is
 
-value_is : (f : LitKind) (n : ℕ) (s : List ℕ) (t : Token) (span : Span) → OneToken s t → sort_of t.kind ≡ Value f n → IsLiteralToken f n s → same_form f f ≡ true →
+value_is : (f : LitKind) (n : ℕ) (s : List ℕ) (t : Token) (span : Span) → OneToken s t → class_of t.kind ≡ Value f n → IsLiteralToken f n s → same_form f f ≡ true →
     leaf_spelling (as_leaf.Literal (literal_in f n s span)) ≡ Some s
-value_is f n s t span o sort w form =
+value_is f n s t span o class w form =
     let l : Leaf = as_leaf.Literal (literal_in f n s span) in
     let inside : List ℕ = inside_of f n s in
     spelled_as l s refl (literal_shown f n s w)
     (sym (told_of_one s t l true o.utf8 o.short o.sum o.one
     (λ p more same. sym (
-    ap (λ x. is_that_leaf l (steps_of_sort x p more)) sort
+    ap (λ x. is_that_leaf l (steps_of_class x p more)) class
     ∙ ap (λ x. same_form f f && (bytes_eq inside (inside_of f n x) && bytes_eq (drop n s) (drop n x))) same
     ∙ ap (λ u. u && (bytes_eq inside inside && bytes_eq (drop n s) (drop n s))) form
     ∙ ap (λ u. u && bytes_eq (drop n s) (drop n s)) (same_text inside) ∙ same_text (drop n s)))))
 
 -- ---- what is read of a token
 
--- a token that is read as one leaf, by its sort
-by_sort : (sort : Sort) (s : List ℕ) (t : Token) (p : PlacedToken) (more : List PlacedToken) (l : Leaf) → sort_of t.kind ≡ sort → p.text ≡ s →
-    (is_single_sort sort ≡ true → OneToken s t) → Tells sort t.kind → MayCut sort s → (is_ended t.kind ≡ true → HasByteShape t.kind s) →
-    steps_of_sort sort p more ≡ step (at_leaf l) ∷ [] → IsSome (leaf_spelling l)
-by_sort (Name is_raw.No) s t p more l sort same one tells cut shape read =
+-- a token that is read as one leaf, by its class
+by_class : (class : TokenClass) (s : List ℕ) (t : Token) (p : PlacedToken) (more : List PlacedToken) (l : Leaf) → class_of t.kind ≡ class → p.text ≡ s →
+    (is_single_class class ≡ true → OneToken s t) → Tells class t.kind → MayCut class s → (is_ended t.kind ≡ true → HasByteShape t.kind s) →
+    steps_of_class class p more ≡ step (at_leaf l) ∷ [] → IsSome (leaf_spelling l)
+by_class (Name is_raw.No) s t p more l class same one tells cut shape read =
     let span : Span = written_at (range_of p) in
     let is : as_leaf.Ident (record { sym = p.text; span = span; is_raw = is_raw.No }) ≡ l = cc in
     ap (λ m. is_some (leaf_spelling m)) (sym is) ∙ ap (λ x. is_some (leaf_spelling (as_leaf.Ident (record { sym = x; span = span; is_raw = is_raw.No })))) same
-    ∙ ap is_some (name_is s t span (one refl) sort)
-by_sort (Name is_raw.Yes) s t p more l sort same one tells cut shape read =
+    ∙ ap is_some (name_is s t span (one refl) class)
+by_class (Name is_raw.Yes) s t p more l class same one tells cut shape read =
     let span : Span = written_at (range_of p) in
     let is : as_leaf.Ident (record { sym = drop 2 p.text; span = span; is_raw = is_raw.Yes }) ≡ l = cc in
     let raw : HasByteShape kind.RawIdent s = subst (λ k. HasByteShape k s) tells (shape (ap is_ended tells)) in
     ap (λ m. is_some (leaf_spelling m)) (sym is) ∙ ap (λ x. is_some (leaf_spelling (as_leaf.Ident (record { sym = drop 2 x; span = span; is_raw = is_raw.Yes })))) same
-    ∙ ap is_some (raw_name_is s t span (one refl) sort raw)
-by_sort (Mark c) s t p more l sort same one tells cut shape read =
+    ∙ ap is_some (raw_name_is s t span (one refl) class raw)
+by_class (Mark c) s t p more l class same one tells cut shape read =
     let q : Punct = record { char = c; spacing = spacing_before more; span = written_at (range_of p) } in
     let is : as_leaf.Punct q ≡ l = cc in
     ap (λ m. is_some (leaf_spelling m)) (sym is) ∙ ap is_some (mark_spelled q tells)
-by_sort (Value f n) s t p more l sort same one tells cut shape read =
+by_class (Value f n) s t p more l class same one tells cut shape read =
     let span : Span = written_at (range_of p) in
     let is : as_leaf.Literal (literal_in f n p.text span) ≡ l = cc in
     ap (λ m. is_some (leaf_spelling m)) (sym is) ∙ ap (λ x. is_some (leaf_spelling (as_leaf.Literal (literal_in f n x span)))) same
-    ∙ ap is_some (value_is f n s t span (one refl) sort cut.1 tells)
-by_sort Blank s t p more l sort same one tells cut shape read = absurd (cc)
-by_sort (Opening k) s t p more l sort same one tells cut shape read = absurd (cc)
-by_sort (Closing k) s t p more l sort same one tells cut shape read = absurd (cc)
-by_sort QuotedName s t p more l sort same one tells cut shape read = absurd (cc)
-by_sort (Doc Outer is_block) s t p more l sort same one tells cut shape read = absurd (let n = ap length read in omega (arith, n))
-by_sort (Doc Inner is_block) s t p more l sort same one tells cut shape read = absurd (let n = ap length read in omega (arith, n))
-by_sort Neither s t p more l sort same one tells cut shape read = absurd (cc)
+    ∙ ap is_some (value_is f n s t span (one refl) class cut.1 tells)
+by_class Blank s t p more l class same one tells cut shape read = absurd (cc)
+by_class (Opening k) s t p more l class same one tells cut shape read = absurd (cc)
+by_class (Closing k) s t p more l class same one tells cut shape read = absurd (cc)
+by_class QuotedName s t p more l class same one tells cut shape read = absurd (cc)
+by_class (Doc Outer is_block) s t p more l class same one tells cut shape read = absurd (let n = ap length read in omega (arith, n))
+by_class (Doc Inner is_block) s t p more l class same one tells cut shape read = absurd (let n = ap length read in omega (arith, n))
+by_class Neither s t p more l class same one tells cut shape read = absurd (cc)
 
 pub slice_long : (text : List ℕ) (at n : ℕ) → at + n ≤ length text → length (slice_range text at (at + n)) ≡ n
 slice_long text at n l =
@@ -248,13 +248,13 @@ pub leaf_has_spelling : (text : List ℕ) (at : ℕ) (t : Token) (more : List Pl
     (stands_alone t.kind ≡ true → tokens_of (chars (slice_range text at (at + t.len))) ≡ t ∷ []) →
     ((s : List ℕ) → IsUtf8 s → sum_by (λ (x : Token). x.len) (tokens_of (chars s)) ≡ length s) →
     (is_ended t.kind ≡ true → HasByteShape t.kind (slice_range text at (at + t.len))) → suffix_of t.kind ≤ t.len → IsCharBoundary text (at + suffix_of t.kind) →
-    steps_of_sort (sort_of t.kind) (record { kind = t.kind; start = at; text = slice_range text at (at + t.len) }) more ≡ step (at_leaf l) ∷ [] →
+    steps_of_class (class_of t.kind) (record { kind = t.kind; start = at; text = slice_range text at (at + t.len) }) more ≡ step (at_leaf l) ∷ [] →
     IsSome (leaf_spelling l)
 leaf_has_spelling text at t more l u fits h alone sums shape within boundary read =
     let s : List ℕ = slice_range text at (at + t.len) in
     let long = slice_long text at t.len h.stop.0 in
     let cut = may_cut t.kind s h.utf8 shape (boundary_in text at t.len (suffix_of t.kind) within h.stop.0 boundary) in
-    by_sort (sort_of t.kind) s t (record { kind = t.kind; start = at; text = s }) more l refl refl
+    by_class (class_of t.kind) s t (record { kind = t.kind; start = at; text = s }) more l refl refl
     (λ single. record { utf8 = h.utf8; short = omega (arith, long, fits, h.stop.0); sum = sums s h.utf8; one = alone (single_alone t.kind single) })
     (kind_tells t.kind) cut shape read
 
@@ -264,14 +264,14 @@ pub name_has_spelling : (text : List ℕ) (at : ℕ) (t : Token) (span : Span) �
     ((cs : List ℕ) → is_ident cs ≡ true → tokens_of cs ≡ record { kind = kind.Ident; len = utf8_len cs } ∷ []) →
     (t.kind ≡ kind.Lifetime false → is_ident (drop 1 (chars (slice_range text at (at + t.len)))) ≡ true) →
     (is_ended t.kind ≡ true → HasByteShape t.kind (slice_range text at (at + t.len))) → suffix_of t.kind ≤ t.len → IsCharBoundary text (at + suffix_of t.kind) →
-    sort_of t.kind ≡ QuotedName → IsSome (leaf_spelling (name_leaf (drop 1 (slice_range text at (at + t.len))) is_raw.No span))
-name_has_spelling text at t span u fits h sums one named shape within boundary sort =
+    class_of t.kind ≡ QuotedName → IsSome (leaf_spelling (name_leaf (drop 1 (slice_range text at (at + t.len))) is_raw.No span))
+name_has_spelling text at t span u fits h sums one named shape within boundary class =
     let s : List ℕ = slice_range text at (at + t.len) in
     let r : List ℕ = drop 1 s in
     let long = slice_long text at t.len h.stop.0 in
-    let lifetime : t.kind ≡ kind.Lifetime false = subst (λ x. Tells x t.kind) sort (kind_tells t.kind) in
+    let lifetime : t.kind ≡ kind.Lifetime false = subst (λ x. Tells x t.kind) class (kind_tells t.kind) in
     let cut : MayCut QuotedName s =
-    subst (λ x. MayCut x s) sort (may_cut t.kind s h.utf8 shape (boundary_in text at t.len (suffix_of t.kind) within h.stop.0 boundary)) in
+    subst (λ x. MayCut x s) class (may_cut t.kind s h.utf8 shape (boundary_in text at t.len (suffix_of t.kind) within h.stop.0 boundary)) in
     let form : HasByteShape (kind.Lifetime false) s = subst (λ k. HasByteShape k s) lifetime (shape (ap is_ended lifetime)) in
     let split : s ≡ 39 ∷ r = form.is ∙ ap (λ x. 39 ∷ drop 1 x) (sym form.is) in
     let all : chars s ≡ 39 ∷ chars r = ap chars split ∙ chars_one 39 r (omega arith) in

@@ -7,10 +7,10 @@ use Rattle.tt_data.specs.declared.leaf.Leaf.{Leaf}
 use Rattle.tt_data.specs.declared.leaf.Leaf.TheVariants as as_leaf
 use Rattle.tt.specs.Glued.{is_alone}
 use Rattle.bridge.specs.Text.{char}
-use Rattle.bridge.specs.declared.edge.Edge.{Edge}
-use Rattle.bridge.specs.declared.edge.Gap.{Gap}
-use Rattle.bridge.specs.declared.edge.Gap.TheVariants.{Nothing, Space, Line}
-use Rattle.bridge.specs.declared.edge.Edge.TheVariants.{Mark, ClosingBrace, Other}
+use Rattle.bridge.specs.declared.printing.spacing.Edge.{Edge}
+use Rattle.bridge.specs.declared.printing.spacing.Gap.{Gap}
+use Rattle.bridge.specs.declared.printing.spacing.Gap.TheVariants.{Nothing, Space, Line}
+use Rattle.bridge.specs.declared.printing.spacing.Edge.TheVariants.{Mark, ClosingBrace, Other}
 
 abbrev pub leaf_edge : Leaf → Edge
 leaf_edge (as_leaf.Punct p) = Mark p.char (not (is_alone p.spacing))

@@ -5,10 +5,10 @@ use Rattle.tt_data.specs.declared.leaf.IdentIsRaw.TheVariants.{No}
 use Rattle.tt_data.specs.declared.leaf.Leaf.{Leaf}
 use Rattle.tt_data.specs.declared.leaf.Leaf.TheVariants as as_leaf
 use Rattle.bridge.specs.Spelling.{same_rawness}
-use Rattle.bridge.specs.declared.steps.Outer.{Outer}
-use Rattle.bridge.specs.declared.steps.Walk.{Walk}
-use Rattle.bridge.specs.declared.walk_step.WalkStep.{WalkStep}
-use Rattle.bridge.specs.WalkSteps.{step_of}
+use Rattle.bridge.specs.declared.printing.event.OpenGroup.{OpenGroup}
+use Rattle.bridge.specs.declared.printing.event.Events.{Events}
+use Rattle.bridge.specs.declared.printing.event.TokenEvent.{TokenEvent}
+use Rattle.bridge.specs.TokenEvents.{step_of}
 
 -- the leaf is a name that isn't raw
 abbrev pub is_name_leaf : Leaf → Bool
@@ -16,15 +16,15 @@ is_name_leaf (as_leaf.Ident i) = same_rawness i.is_raw No
 is_name_leaf l = false
 
 -- the steps behind the trees that are left, where these groups are open, the innermost first
-abbrev pub steps_around : List Outer → List Step
+abbrev pub steps_around : List OpenGroup → List Step
 steps_around [] = []
 steps_around (o ∷ outer) = closes o.kind o.close_span ∷ (walk o.rest ++ steps_around outer)
 
 -- the steps that are left
-abbrev pub steps_left : Walk → List Step
+abbrev pub steps_left : Events → List Step
 steps_left w = walk w.here ++ steps_around (reverse w.around.items)
 
 -- the first of the steps was taken, if there was one, and the others are left
-abbrev pub Gives : List Step → Option WalkStep → List Step → Type 0
+abbrev pub Gives : List Step → Option TokenEvent → List Step → Type 0
 Gives old None new = (old ≡ []) × (new ≡ [])
 Gives old (Some s) new = old ≡ step_of s ∷ new

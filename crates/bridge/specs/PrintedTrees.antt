@@ -1,11 +1,11 @@
 -- What a printer answers, as the definition of printed text has it.
 use Rattle.std.specs.Prelude.{string_bytes}
 use Rattle.bridge.specs.Printing.{Print}
-use Rattle.bridge.specs.declared.printing.Placed.{Placed}
-use Rattle.bridge.specs.declared.printing.Printed.{Printed}
+use Rattle.bridge.specs.declared.printing.printer.LazyPrinted.{LazyPrinted}
+use Rattle.bridge.specs.declared.printing.printer.Printed.{Printed}
 
-abbrev pub placed_in : Placed → Print
-placed_in p = record { text = string_bytes p.text; tokens = p.tokens; left_out = p.left_out.items }
+abbrev pub lazy_print_in : LazyPrinted → Print
+lazy_print_in p = record { text = string_bytes p.text; tokens = p.tokens; left_out = p.left_out.items }
 
 abbrev pub print_in : Printed → Print
 print_in p = record { text = string_bytes p.text; tokens = p.tokens.items; left_out = p.left_out.items }

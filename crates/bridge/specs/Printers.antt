@@ -4,7 +4,7 @@ use Rattle.tt_data.specs.Walk.{Step, at_leaf}
 use Rattle.tt_data.specs.declared.leaf.Leaf.TheVariants as as_leaf
 use Rattle.tt_data.specs.declared.leaf.Spacing.TheVariants.{Joint}
 use Rattle.tt_data.specs.declared.span.Span.{Span}
-use Rattle.bridge.specs.declared.edge.Edge.{Edge}
+use Rattle.bridge.specs.declared.printing.spacing.Edge.{Edge}
 use Rattle.bridge.specs.Edges.{edge_of, gap_between}
 use Rattle.bridge.specs.Printing.{Print, PrintedToken, left_out_from, print_of, printed, spans_of, text_from, visible}
 use Rattle.bridge.specs.Text.{char}

@@ -20,12 +20,12 @@ use Rattle.tt_data.specs.declared.leaf.Spacing.{Spacing}
 use Rattle.tt_data.specs.declared.leaf.Spacing.TheVariants.{Alone, Joint}
 use Rattle.tt_data.specs.declared.span.Span.{Span}
 use Rattle.tt_data.specs.declared.span.TextRange.{TextRange}
-use Rattle.bridge.specs.declared.fault.ReadFault.{ReadFault}
-use Rattle.bridge.specs.declared.sort.Sort.{Sort}
-use Rattle.bridge.specs.declared.sort.Sort.TheVariants.{Name, Mark, QuotedName, Doc, Value}
+use Rattle.bridge.specs.declared.reading.outcome.ReadFault.{ReadFault}
+use Rattle.bridge.specs.declared.reading.classify.TokenClass.{TokenClass}
+use Rattle.bridge.specs.declared.reading.classify.TokenClass.TheVariants.{Name, Mark, QuotedName, Doc, Value}
 use Rattle.bridge.specs.Reading.{IsFault, PlacedToken, TextStep, placed_from, step, walk_open, written_at}
 use Rattle.bridge.specs.Text.{char}
-use Rattle.bridge.specs.TokenSteps.{doc_text, escaped, is_mark, mark_leaf, name_in, name_leaf, sort_of, steps_of_sort}
+use Rattle.bridge.specs.TokenSteps.{doc_text, escaped, is_mark, mark_leaf, name_in, name_leaf, class_of, steps_of_class}
 
 -- ---- the trees that are put in for one token
 
@@ -55,7 +55,7 @@ doc_trees style text span =
 -- a punct is `Joint` before another punct
 abbrev pub is_next_mark : Option TokenKind → Bool
 is_next_mark None = false
-is_next_mark (Some kind) = is_mark (sort_of kind)
+is_next_mark (Some kind) = is_mark (class_of kind)
 
 abbrev pub spacing_at : Option TokenKind → Spacing
 spacing_at next = if is_next_mark next then Joint else Alone
@@ -65,7 +65,7 @@ first_kind [] = None
 first_kind (t ∷ more) = Some t.kind
 
 -- what a token is read as that is no bracket, before a token of the next kind
-abbrev pub trees_of : Sort → List ℕ → TextRange → Option TokenKind → Forest
+abbrev pub trees_of : TokenClass → List ℕ → TextRange → Option TokenKind → Forest
 trees_of (Name raw) text range next = leaf (name_leaf (name_in raw text) raw (written_at range)) empty
 trees_of (Mark c) text range next = leaf (mark_leaf c (spacing_at next) (written_at range)) empty
 trees_of QuotedName text range next = quoted_name text range
@@ -80,8 +80,8 @@ abbrev pub EndsBlock : Bool → List ℕ → Type 0
 EndsBlock false text = Unit {0}
 EndsBlock true text = (5 ≤ length text) × IsCharBoundary text (length text - 2)
 
--- a token can be cut as one of its sort is
-abbrev pub MayCut : Sort → List ℕ → Type 0
+-- a token can be cut as one of its class is
+abbrev pub MayCut : TokenClass → List ℕ → Type 0
 MayCut (Name is_raw.Yes) text = IsCharBoundary text 2
 MayCut QuotedName text = IsCharBoundary text 1
 MayCut (Doc style is_block) text = IsCharBoundary text 3 × EndsBlock is_block text
@@ -97,7 +97,7 @@ token_at text start t = record { kind = t.kind; start = start; text = take t.len
 -- what it is read as, before the others
 abbrev pub steps_at : List ℕ → ℕ → Token → List Token → List TextStep
 steps_at text start t more =
-    steps_of_sort (sort_of t.kind) (token_at text start t) (placed_from (start + t.len) (drop t.len (drop start text)) more)
+    steps_of_class (class_of t.kind) (token_at text start t) (placed_from (start + t.len) (drop t.len (drop start text)) more)
 
 -- ---- what becomes of a tree under construction
 

@@ -7,8 +7,8 @@ use Rattle.tt_data.specs.declared.delimiter.DelimiterKind.TheVariants.{Invisible
 use Rattle.tt_data.specs.fault.TtFault.{TtFault}
 use Rattle.tt_data.specs.fault.TtFault.TheVariants.{Memory, Tokens}
 use Rattle.bridge.specs.Reading.{IsFault, IsReading, TextStep, step, walk_open, written_at}
-use Rattle.bridge.specs.declared.outcome.Read.{Read}
-use Rattle.bridge.specs.declared.outcome.Read.TheVariants.{Tree, Fault}
+use Rattle.bridge.specs.declared.reading.outcome.Read.{Read}
+use Rattle.bridge.specs.declared.reading.outcome.Read.TheVariants.{Tree, Fault}
 
 -- no brackets stand round a text; they are placed at its first byte
 abbrev pub text_top : Delimiter

@@ -3,19 +3,19 @@ ghost use Rattle.std.specs.Prelude.{◌≡◌, ◌↔◌, ◌<◌, ◌^◌, ◌+
 ghost use Rattle.bridge.specs.Order.{AreWritten, FollowOneAnother};
 ghost use Rattle.bridge.specs.Parts.{begins_with_mark, part_steps, placed_on, starts_with_mark, steps_before};
 ghost use Rattle.bridge.specs.Pieces.{StandsBehindFirst, first_start, relative, separated};
-ghost use Rattle.bridge.specs.PrintedParts.{IsPartOf, PartState};
+ghost use Rattle.bridge.specs.PrintedChunks.{IsChunkOf, ChunkState};
 ghost use Rattle.bridge.specs.Printing.{is_quote, print_of, step_span, visible};
 ghost use Rattle.bridge.specs.Reading.{IsFault, IsReading, PlacedToken, TextStep, placed_from, reading, step, with_front};
 ghost use Rattle.bridge.specs.ReadsBack.{PrintsAgain, ReadsBack};
-ghost use Rattle.bridge.specs.declared.fault.ReadFault.{ReadFault};
-ghost use Rattle.bridge.specs.declared.fault.ReadFaultKind.{ReadFaultKind};
+ghost use Rattle.bridge.specs.declared.reading.outcome.ReadFault.{ReadFault};
+ghost use Rattle.bridge.specs.declared.reading.outcome.ReadFaultKind.{ReadFaultKind};
 ghost use Rattle.tt_data.specs.Forest.{Forest, joined, map_spans};
 ghost use Rattle.bridge.specs.Spelling.{leaf_spelling, spelling};
 ghost use Rattle.bridge.specs.Text.{is_visible};
-ghost use Rattle.bridge.specs.TokenSteps.{escaped, name_leaf, sort_of, steps_of, steps_of_sort, text_steps};
-ghost use Rattle.bridge.specs.declared.sort.Sort.TheVariants.{QuotedName};
+ghost use Rattle.bridge.specs.TokenSteps.{escaped, name_leaf, class_of, steps_of, steps_of_class, text_steps};
+ghost use Rattle.bridge.specs.declared.reading.classify.TokenClass.TheVariants.{QuotedName};
 ghost use Rattle.tt_data.specs.declared.leaf.IdentIsRaw.TheVariants.{No};
-ghost use Rattle.rustc_lexer.specs.Standing.{IsTokenAt};
+ghost use Rattle.rustc_lexer.specs.TokensAt.{IsTokenAt};
 ghost use Rattle.rustc_lexer.specs.declared.token.Token.{Token};
 ghost use Rattle.std.specs.List.{slice_range};
 ghost use Rattle.tt_data.specs.Walk.{Step, at_leaf, opens, closes, step_with, walk};
@@ -23,7 +23,7 @@ ghost use Rattle.tt_data.specs.declared.leaf.Leaf.{Leaf};
 ghost use Rattle.tt_data.specs.declared.delimiter.DelimiterKind.{DelimiterKind};
 ghost use Rattle.tt_data.specs.declared.span.Span.{Span};
 
-use crate::fault::{ReadFault, ReadFaultKind};
+use crate::reading::outcome::{ReadFault, ReadFaultKind};
 
 /// The reading that is computed is the one that is defined: the forest whose walk the steps are, or
 /// the first fault. So no steps have two forests, two first faults, or one of each.
@@ -97,10 +97,10 @@ pub fn spelling_hangs_on_shapes()
 pub fn read_leaves_have_spellings()
     ensures leaves { (text : List ℕ) (at : ℕ) (t : Token) (more : List PlacedToken) (l : Leaf) →
         IsUtf8 text → length text < 2 ^ 32 → IsTokenAt text at t →
-        steps_of_sort (sort_of t.kind) (record { kind = t.kind; start = at; text = slice_range text at (at + t.len) }) more ≡ step (at_leaf l) ∷ [] →
+        steps_of_class (class_of t.kind) (record { kind = t.kind; start = at; text = slice_range text at (at + t.len) }) more ≡ step (at_leaf l) ∷ [] →
         IsSome (leaf_spelling l) }
     ensures names { (text : List ℕ) (at : ℕ) (t : Token) (span : Span) →
-        IsUtf8 text → length text < 2 ^ 32 → IsTokenAt text at t → sort_of t.kind ≡ QuotedName →
+        IsUtf8 text → length text < 2 ^ 32 → IsTokenAt text at t → class_of t.kind ≡ QuotedName →
         IsSome (leaf_spelling (name_leaf (drop 1 (slice_range text at (at + t.len))) No span)) }
 {
     rustc_lexer::laws::name_of_a_lifetime();
@@ -155,7 +155,7 @@ pub fn places_do_not_print()
 
 /// A part has the places of all visible steps, in order: none of them is left out.
 pub fn parts_are_printed_whole()
-    ensures { (part : PartState) (steps : List Step) → IsPartOf part steps → part.tokens ≡ map step_span (visible steps) }
+    ensures { (part : ChunkState) (steps : List Step) → IsChunkOf part steps → part.tokens ≡ map step_span (visible steps) }
 {}
 
 /// Two faults are equal by `==` exactly where they are the same, places included.

@@ -10,7 +10,7 @@ ghost use Rattle.tt_data.specs.Forest.{head_of, size};
 ghost use Rattle.tt_data.specs.Spans.{delimiter_with, leaf_with, span_of, token_with};
 ghost use Rattle.tt_data.specs.fault.TtFault.TheVariants as fault;
 
-use crate::leaves::written_at;
+use crate::reading::leaf::written_at;
 use std::alloc::Global;
 use tt::{TokenTreesView, TopSubtree, TtElement};
 use tt_data::{

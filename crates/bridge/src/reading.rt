@@ -1,24 +1,30 @@
-//! Reading: the tokens of a text as trees.
+//! Reading: the tokens of a text as trees. Each token is classified, and added to the trees under construction as a leaf, a doc
+//! comment or a bracket.
 ghost use Rattle.std.specs.Prelude.{◌≡◌, ◌≢◌, ◌+◌, ◌<◌, ◌≤◌, ◌^◌, ℕ, List, [], length, drop, chars, true, false, IfOk, IfErr, OnOk};
 ghost use Rattle.bridge.specs.Parts.{begins_with_mark, part_steps};
 ghost use Rattle.bridge.specs.ReadSteps.{IsClosed, IsRefusal, IsStepRefusal, MayCut, Takes, first_kind, spacing_at, steps_at, steps_in, trees_of};
 ghost use Rattle.bridge.specs.ReadText.{IsRead, IsReadRefusal, text_top};
 ghost use Rattle.bridge.specs.Reading.{DoesNotFit, IsFault, PlacedToken, placed_from, range_of};
-ghost use Rattle.bridge.specs.TokenSteps.{is_mark, sort_of, steps_of_sort, text_steps};
-ghost use Rattle.bridge.specs.declared.sort.Sort.TheVariants.{Closing};
+ghost use Rattle.bridge.specs.TokenSteps.{class_of, is_mark, steps_of_class, text_steps};
+ghost use Rattle.bridge.specs.declared.reading.classify.TokenClass.TheVariants.{Closing};
 ghost use Rattle.rustc_lexer.specs.Lexing.{tokens_of};
-ghost use Rattle.rustc_lexer.specs.Standing.{AreTokensFrom, IsTokenAt};
+ghost use Rattle.rustc_lexer.specs.TokensAt.{AreTokensFrom, IsTokenAt};
 ghost use Rattle.tt.specs.Building.{count_of, extended};
 ghost use Rattle.tt_data.specs.Forest.{size};
 
-use crate::doc_comment::{add_doc, doc_text};
-use crate::fault::{ReadFault, ReadFaultKind};
-use crate::leaves::{
+pub(crate) mod classify;
+mod doc_comment;
+pub(crate) mod leaf;
+pub(crate) mod name_cache;
+pub(crate) mod outcome;
+
+use crate::reading::classify::{TokenClass, class_of};
+use crate::reading::doc_comment::{add_doc, doc_text};
+use crate::reading::leaf::{
     add_literal, add_mark, add_name, add_quoted_name, name_in, open_group, written_at,
 };
-use crate::names::Names;
-use crate::outcome::Read;
-use crate::sort::{Sort, sort_of};
+use crate::reading::name_cache::NameCache;
+use crate::reading::outcome::{Read, ReadFault, ReadFaultKind};
 use rustc_lexer::{Token, TokenKind, laws};
 use std::alloc::Global;
 use tt::TopSubtreeBuilder;
@@ -26,9 +32,9 @@ use tt_data::{Delimiter, DelimiterKind, Spacing, TextRange, TtFault};
 
 // Whether a token of this kind is read as a punct.
 fn is_mark(kind: TokenKind) -> bool
-    ensures { result ≡ is_mark (sort_of kind) }
+    ensures { result ≡ is_mark (class_of kind) }
 {
-    matches!(sort_of(kind), Sort::Mark(_))
+    matches!(class_of(kind), TokenClass::Mark(_))
 }
 
 // How a punct stands before the next token.
@@ -43,28 +49,28 @@ fn spacing_at(next: Option<TokenKind>) -> Spacing
 
 // Puts in what a token is read as that is no bracket.
 fn add_trees(
-    names: &mut Names,
+    names: &mut NameCache,
     builder: &mut TopSubtreeBuilder,
-    sort: Sort,
+    class: TokenClass,
     text: &str,
     range: TextRange,
     next: Option<TokenKind>,
 ) -> Result<(), TtFault>
     requires some { range.start < range.«end» }
     requires short { length text.now < 2 ^ 32 }
-    requires cut { MayCut sort text.now }
-    ensures ok { OnOk result (builder.new.tree ≡ extended builder.old.tree (trees_of sort text.now range next)) }
-    ensures refused { IfErr result (IsRefusal (count_of builder.old.tree + size (trees_of sort text.now range next))) }
+    requires cut { MayCut class text.now }
+    ensures ok { OnOk result (builder.new.tree ≡ extended builder.old.tree (trees_of class text.now range next)) }
+    ensures refused { IfErr result (IsRefusal (count_of builder.old.tree + size (trees_of class text.now range next))) }
 {
     let span = written_at(range);
-    match sort {
-        Sort::Name(is_raw) => add_name(names, builder, name_in(is_raw, text), is_raw, span),
-        Sort::Mark(char) => add_mark(builder, char, spacing_at(next), span),
-        Sort::QuotedName => add_quoted_name(names, builder, text, range),
-        Sort::Doc { style, is_block } => {
+    match class {
+        TokenClass::Name(is_raw) => add_name(names, builder, name_in(is_raw, text), is_raw, span),
+        TokenClass::Mark(char) => add_mark(builder, char, spacing_at(next), span),
+        TokenClass::QuotedName => add_quoted_name(names, builder, text, range),
+        TokenClass::Doc { style, is_block } => {
             add_doc(names, builder, style, doc_text(is_block, text), span)
         }
-        Sort::Value { form, suffix_start } => {
+        TokenClass::Value { form, suffix_start } => {
             add_literal(names.alloc, builder, form, suffix_start, text, span)
         }
         _ => Ok(()),
@@ -89,7 +95,7 @@ fn close(
     range: TextRange,
 ) -> Option<ReadFault>
     ensures { (t : PlacedToken) (after : List PlacedToken) → range_of t ≡ range →
-        Takes (steps_of_sort (Closing kind) t after) builder.old.tree builder.new.tree result }
+        Takes (steps_of_class (Closing kind) t after) builder.old.tree builder.new.tree result }
 {
     if close_innermost(builder, kind, range) {
         return None;
@@ -100,31 +106,31 @@ fn close(
 
 // Puts in what a token is read as, before a token of the next kind, or answers the fault.
 fn add(
-    names: &mut Names,
+    names: &mut NameCache,
     builder: &mut TopSubtreeBuilder,
-    sort: Sort,
+    class: TokenClass,
     text: &str,
     range: TextRange,
     next: Option<TokenKind>,
 ) -> Result<Option<ReadFault>, TtFault>
     requires some { range.start < range.«end» }
     requires short { length text.now < 2 ^ 32 }
-    requires cut { MayCut sort text.now }
+    requires cut { MayCut class text.now }
     ensures takes { IfOk result (λ fault. (t : PlacedToken) (after : List PlacedToken) →
         t.text ≡ text.now → range_of t ≡ range → first_kind after ≡ next →
-        Takes (steps_of_sort sort t after) builder.old.tree builder.new.tree fault) }
+        Takes (steps_of_class class t after) builder.old.tree builder.new.tree fault) }
     ensures refused { IfErr result (λ e. (t : PlacedToken) (after : List PlacedToken) →
         t.text ≡ text.now → range_of t ≡ range → first_kind after ≡ next →
-        IsStepRefusal (steps_of_sort sort t after) builder.old.tree e) }
+        IsStepRefusal (steps_of_class class t after) builder.old.tree e) }
 {
-    match sort {
-        Sort::Opening(kind) => open_group(builder, kind, written_at(range))?,
-        Sort::Closing(kind) => return Ok(close(builder, kind, range)),
-        Sort::Neither => {
+    match class {
+        TokenClass::Opening(kind) => open_group(builder, kind, written_at(range))?,
+        TokenClass::Closing(kind) => return Ok(close(builder, kind, range)),
+        TokenClass::Neither => {
             let kind = ReadFaultKind::BadToken;
             return Ok(Some(ReadFault { kind, range }));
         }
-        _ => add_trees(names, builder, sort, text, range, next)?,
+        _ => add_trees(names, builder, class, text, range, next)?,
     }
     Ok(None)
 }
@@ -174,7 +180,7 @@ pub fn begins_with_mark(tokens: &[Token]) -> bool
 
 // Puts in what the token is read as that stands at the byte `start`, before the others, or answers the fault.
 fn add_token(
-    names: &mut Names,
+    names: &mut NameCache,
     builder: &mut TopSubtreeBuilder,
     text: &str,
     start: u32,
@@ -191,13 +197,13 @@ fn add_token(
     let end = start + token.len;
     let word = &text[start as usize..end as usize];
     let range = TextRange { start, end };
-    let sort = sort_of(token.kind);
-    add(names, builder, sort, word, range, first_kind(more))
+    let class = class_of(token.kind);
+    add(names, builder, class, word, range, first_kind(more))
 }
 
 // What the first `count` tokens of the text are read as by themselves.
 fn read_first(
-    names: &mut Names,
+    names: &mut NameCache,
     text: &str,
     tokens: &[Token],
     count: usize,
@@ -235,7 +241,7 @@ fn read_first(
 /// A punct that ends them is joined to the token behind it, as it is in the text. The errors are those
 /// of [`read`].
 pub fn read_part(
-    names: &mut Names,
+    names: &mut NameCache,
     text: &str,
     start: u32,
     tokens: &[Token],
@@ -261,5 +267,5 @@ pub fn read(alloc: Global, text: &str, tokens: &[Token]) -> Result<Read, TtFault
     ensures refused { IfErr result (IsReadRefusal (text_steps text.now)) }
 {
     laws::tokens_begin();
-    read_first(&mut Names::new(alloc), text, tokens, tokens.len())
+    read_first(&mut NameCache::new(alloc), text, tokens, tokens.len())
 }

@@ -5,10 +5,12 @@
 #![tactic(auto)]
 
 #[cfg(test)]
-mod parts;
+mod chunks;
 #[cfg(test)]
 mod pieces;
 #[cfg(test)]
 mod prints;
+#[cfg(test)]
+mod rows;
 #[cfg(test)]
 mod texts;

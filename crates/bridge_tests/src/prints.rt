@@ -1,5 +1,6 @@
 //! Trees and the texts that are printed of them.
-use bridge::{Printed, Printer, Read, WalkStep, print, read};
+use crate::rows::text_of;
+use bridge::{Printed, Printer, Read, TokenEvent, print, read};
 use rustc_lexer::LexedText;
 use std::alloc::Global;
 use std::fmt::Write;
@@ -29,31 +30,33 @@ fn printed_of(rt: &HostRuntime, text: &str) -> Result<Printed, Fail> {
     Ok(print(rt.alloc(), tree.token_trees())?)
 }
 
+// A text, and what is printed of it.
+const TEXTS: &str = r#"
+ ¦ 
+x+/*c*/=y ¦ x + = y⏎
+x+=1 ¦ x += 1⏎
+fn f<'a>(x: &'a T) {} ¦ fn f < 'a > ( x : & 'a T ) { }⏎
+/// a "b"⏎struct S;⏎ ¦ # [ doc = " a \"b\"" ] struct S ;⏎
+//! a⏎x ¦ # ! [ doc = " a" ] x⏎
+/** b */s ¦ # [ doc = " b " ] s⏎
+0x 1e r#fn b'x' ¦ 0x 1e r#fn b'x'⏎
+{a;b};c ¦ { a ; b }⏎;⏎c⏎
+"#;
+
 #[test]
 fn prints_texts(rt: HostRuntime) -> Result<(), Fail> {
-    let cases = [
-        ("", ""),
-        ("x+/*c*/=y", "x + = y\n"),
-        ("x+=1", "x += 1\n"),
-        ("fn f<'a>(x: &'a T) {}", "fn f < 'a > ( x : & 'a T ) { }\n"),
-        (
-            "/// a \"b\"\nstruct S;\n",
-            "# [ doc = \" a \\\"b\\\"\" ] struct S ;\n",
-        ),
-        ("//! a\nx", "# ! [ doc = \" a\" ] x\n"),
-        ("/** b */s", "# [ doc = \" b \" ] s\n"),
-        ("0x 1e r#fn b'x'", "0x 1e r#fn b'x'\n"),
-        ("{a;b};c", "{ a ; b }\n;\nc\n"),
-    ];
-    for (text, want) in cases {
-        let got = printed_of(&rt, text)?;
-        assert!(rt;
-            got.text.as_str() == want,
-            "{text:?} is printed {:?}",
-            got.text
-        );
-        let again = printed_of(&rt, got.text.as_str())?;
-        assert!(rt; again.text.as_str() == want);
+    for row in TEXTS.lines() {
+        if let Some((text, want)) = row.split_once(" ¦ ") {
+            let got = printed_of(&rt, text_of(rt.alloc(), text)?.as_str())?;
+            let want = text_of(rt.alloc(), want)?;
+            assert!(rt; got.text.as_str() == want.as_str(), "{row}: {:?}", got.text);
+            let again = printed_of(&rt, got.text.as_str())?;
+            assert!(rt;
+                again.text.as_str() == want.as_str(),
+                "{row}: {:?}",
+                again.text
+            );
+        }
     }
     Ok(())
 }
@@ -143,14 +146,14 @@ fn one_by_one(alloc: Global, trees: TokenTreesView<'_>) -> Result<Printed, TtFau
 }
 
 // The step that a character stands for, which is this leaf where it is no bracket.
-fn step_for(char: char, leaf: &Leaf) -> WalkStep<'_> {
+fn step_for(char: char, leaf: &Leaf) -> TokenEvent<'_> {
     let span = Span::default();
     match char {
-        '(' => WalkStep::Opens(DelimiterKind::Parenthesis, span),
-        '<' => WalkStep::Opens(DelimiterKind::Invisible, span),
-        ')' => WalkStep::Closes(DelimiterKind::Parenthesis, span),
-        '>' => WalkStep::Closes(DelimiterKind::Invisible, span),
-        _ => WalkStep::Leaf(leaf),
+        '(' => TokenEvent::Opens(DelimiterKind::Parenthesis, span),
+        '<' => TokenEvent::Opens(DelimiterKind::Invisible, span),
+        ')' => TokenEvent::Closes(DelimiterKind::Parenthesis, span),
+        '>' => TokenEvent::Closes(DelimiterKind::Invisible, span),
+        _ => TokenEvent::Leaf(leaf),
     }
 }
 
@@ -160,8 +163,8 @@ fn step_by_step(alloc: Global, text: &str) -> Result<Printed, TtFault> {
     for char in text.chars() {
         let leaf = leaf_for(alloc, char)?;
         let step = step_for(char, &leaf);
-        if printer.put_step(&step).is_err() {
-            printer.put_step(&step)?;
+        if printer.put_event(&step).is_err() {
+            printer.put_event(&step)?;
         }
     }
     match printer.finish() {
@@ -170,58 +173,84 @@ fn step_by_step(alloc: Global, text: &str) -> Result<Printed, TtFault> {
     }
 }
 
+// What characters stand for, and what is printed of it, with the number of tokens and the numbers of those left out.
+const TREES: &str = r#"
+'a ¦ 'a⏎2 []
+'r ¦ r#r⏎1 [0]
+'<a> ¦ 'a⏎2 []
+'(a) ¦ ( a )⏎3 [0]
+''a. ¦ 'a⏎2 [0, 3]
+. ¦ 0 [0]
+?"a ¦ a⏎1 [0, 1]
+$::a ¦ crate :: a⏎4 []
+// ¦ / /⏎2 []
+/*## ¦ / *# #⏎4 []
+a<+>= ¦ a +=⏎3 []
+<<>> ¦ 0 []
+a?a' ¦ a a⏎2 [1, 3]
+\a ¦ a⏎1 [0]
+"#;
+
 #[test]
 fn prints_trees(rt: HostRuntime) -> Result<(), Fail> {
-    let cases = [
-        ("'a", "'a\n2 []"),
-        ("'r", "r#r\n1 [0]"),
-        ("'<a>", "'a\n2 []"),
-        ("'(a)", "( a )\n3 [0]"),
-        ("''a.", "'a\n2 [0, 3]"),
-        (".", "0 [0]"),
-        ("?\"a", "a\n1 [0, 1]"),
-        ("$::a", "crate :: a\n4 []"),
-        ("//", "/ /\n2 []"),
-        ("/*##", "/ *# #\n4 []"),
-        ("a<+>=", "a +=\n3 []"),
-        ("<<>>", "0 []"),
-        ("a?a'", "a a\n2 [1, 3]"),
-        ("\\a", "a\n1 [0]"),
-    ];
-    for (text, want) in cases {
-        let tree = tree_of(rt.alloc(), text)?;
-        let whole = shown(&rt, &print(rt.alloc(), tree.token_trees())?)?;
-        assert!(rt; whole.as_str() == want, "{text:?} is printed {whole:?}");
-        let parts = shown(&rt, &one_by_one(rt.alloc(), tree.token_trees())?)?;
-        assert!(rt;
-            parts.as_str() == want,
-            "{text:?} is printed in parts {parts:?}"
-        );
-        let steps = shown(&rt, &step_by_step(rt.alloc(), text)?)?;
-        assert!(rt;
-            steps.as_str() == want,
-            "{text:?} is printed in steps {steps:?}"
-        );
+    let alloc = rt.alloc();
+    for row in TREES.lines() {
+        if let Some((text, want)) = row.split_once(" ¦ ") {
+            let want = text_of(alloc, want)?;
+            let tree = tree_of(alloc, text)?;
+            let whole = shown(&rt, &print(alloc, tree.token_trees())?)?;
+            let parts = shown(&rt, &one_by_one(alloc, tree.token_trees())?)?;
+            let steps = shown(&rt, &step_by_step(alloc, text)?)?;
+            assert!(rt; whole.as_str() == want.as_str(), "{row}: {whole:?}");
+            assert!(rt;
+                parts.as_str() == want.as_str(),
+                "{row} in parts: {parts:?}"
+            );
+            assert!(rt;
+                steps.as_str() == want.as_str(),
+                "{row} in steps: {steps:?}"
+            );
+        }
     }
     Ok(())
 }
 
-// Each call that takes memory once more where it was refused: for runs in which one request fails.
+// The tree of what the characters stand for, made once more where that was refused.
+fn made(alloc: Global, text: &str) -> Result<TopSubtree, TtFault> {
+    match tree_of(alloc, text) {
+        Err(TtFault::Memory) => tree_of(alloc, text),
+        answer => answer,
+    }
+}
+
+// What is printed of trees, once more where that was refused.
+fn printed_whole(alloc: Global, trees: TokenTreesView<'_>) -> Result<Printed, TtFault> {
+    match print(alloc, trees) {
+        Err(TtFault::Memory) => print(alloc, trees),
+        answer => answer,
+    }
+}
+
+// Whether this is printed of trees, and seven tokens, where the tokens 3 and 8 are left out.
+fn is_printed(printed: &Printed, text: &str) -> bool {
+    printed.text.as_str() == text
+        && printed.tokens.len() == 7
+        && printed.left_out.as_slice() == [3, 8].as_slice()
+}
+
+// For runs in which one request fails.
+fn prints_in_both_ways(alloc: Global) -> Result<bool, TtFault> {
+    let tree = made(alloc, "'<a>(?$)//'")?;
+    let is_whole = is_printed(
+        &printed_whole(alloc, tree.token_trees())?,
+        "'a ( crate ) / /\n",
+    );
+    let parts = one_by_one(alloc, tree.token_trees())?;
+    Ok(is_whole && is_printed(&parts, "'a ( crate ) / /\n"))
+}
+
 #[test]
 fn refused_calls(rt: HostRuntime) -> Result<(), Fail> {
-    let alloc = rt.alloc();
-    let text = "'<a>(?$)//'";
-    let tree = match tree_of(alloc, text) {
-        Err(TtFault::Memory) => tree_of(alloc, text)?,
-        answer => answer?,
-    };
-    let whole = match print(alloc, tree.token_trees()) {
-        Err(TtFault::Memory) => print(alloc, tree.token_trees())?,
-        answer => answer?,
-    };
-    let parts = one_by_one(alloc, tree.token_trees())?;
-    assert!(rt; whole.text.as_str() == "'a ( crate ) / /\n");
-    assert!(rt; parts.text.as_str() == "'a ( crate ) / /\n");
-    assert!(rt; parts.tokens.len() == 7 && parts.left_out.as_slice() == [3, 8].as_slice());
+    assert!(rt; prints_in_both_ways(rt.alloc())?);
     Ok(())
 }

@@ -1,9 +1,10 @@
 //! Texts and what they are read as.
 ghost use Rattle.rustc_lexer.specs.Lexing.{tokens_of};
-ghost use Rattle.rustc_lexer.specs.Standing.{AreTokensFrom};
+ghost use Rattle.rustc_lexer.specs.TokensAt.{AreTokensFrom};
 ghost use Rattle.std.specs.Prelude.{◌≡◌, ◌<◌, ◌^◌, IfSome, chars, length};
 
-use bridge::{Names, Read, begins_with_mark, read, read_part};
+use crate::rows::text_of;
+use bridge::{NameCache, Read, begins_with_mark, read, read_part};
 use rustc_lexer::{LexedText, Token, laws};
 use std::fmt::Write;
 use std::test::Fail;
@@ -71,67 +72,74 @@ fn part_shown(
     if rest.len() < count {
         return Err(Fail::new("a text is short"));
     }
-    let mut names = Names::new(rt.alloc());
+    let mut names = NameCache::new(rt.alloc());
     let answer = read_part(&mut names, held.text(), start, rest, count)?;
     Ok((displayed(rt, answer)?, begins_with_mark(rest)))
 }
 
+// A text, how many tokens stand before a part and in it, the part's trees or fault, and whether it begins with a punct.
+const PARTS: &str = "
+a;b+=c ¦ 2 2 ¦ b + ¦ false
+a;b+=c ¦ 3 2 ¦ += ¦ true
+a; (b) c ¦ 3 3 ¦ (b) ¦ false
+a; ## b ¦ 3 1 ¦ BadToken 0..2 ¦ false
+a;b{c ¦ 2 2 ¦ GroupLeftOpen 1..2 ¦ false
+a ¦ 1 0 ¦  ¦ false
+";
+
 #[test]
 fn reads_parts(rt: HostRuntime) -> Result<(), Fail> {
-    let cases = [
-        ("a;b+=c", 2, 2, "b +", false),
-        ("a;b+=c", 3, 2, "+=", true),
-        ("a; (b) c", 3, 3, "(b)", false),
-        ("a; ## b", 3, 1, "BadToken 0..2", false),
-        ("a;b{c", 2, 2, "GroupLeftOpen 1..2", false),
-        ("a", 1, 0, "", false),
-    ];
-    for (text, before, count, want, want_mark) in cases {
-        let (got, is_mark) = part_shown(&rt, text, before, count)?;
-        assert!(rt; got.as_str() == want, "{text:?} has the part {got:?}");
-        assert!(rt;
-            is_mark == want_mark,
-            "{text:?} begins with a mark: {is_mark:?}"
-        );
+    for row in PARTS.lines() {
+        if let Some((text, rest)) = row.split_once(" ¦ ") {
+            if let Some((numbers, want)) = rest.split_once(" ¦ ") {
+                let (before, count) = numbers.split_once(' ').unwrap_or(("0", "0"));
+                let (before, count) = (before.parse::<usize>()?, count.parse::<usize>()?);
+                let (got, is_mark) = part_shown(&rt, text, before, count)?;
+                let got = format!(in rt.alloc(); "{got} ¦ {is_mark:?}")?;
+                assert!(rt; got.as_str() == want, "{row}: {got}");
+            }
+        }
     }
     Ok(())
 }
 
+// A text, and the trees or the fault that it is read as.
+const TEXTS: &str = r###"
+ ¦ 
+x+/*c*/=y ¦ x + = y
+a>>=b;c{d}e..=f ¦ a >>= b ; c {d} e ..= f
+fn f<'a>(x: &'a T) {} ¦ fn f < 'a > (x : & 'a T) {}
+/// a "b"␍⏎s; ¦ # [doc = " a \"b\""] s ;
+//! a\⏎x ¦ # ! [doc = " a\\"] x
+/** b */s ¦ # [doc = " b "] s
+0x 1e r#fn b'x' ¦ 0x 1e r#fn b'x'
+1u8 'a' c"b" br##""#"##s ¦ 1u8 'a' c"b" br##""#"##s
+fn f( { ¦ GroupLeftOpen 6..7
+(] ¦ CloserDoesNotFit 1..2
+a) ¦ CloserDoesNotFit 1..2
+a ## b ¦ BadToken 2..4
+"abc ¦ BadToken 0..4
+( b'x ¦ BadToken 2..5
+/* /* */ ¦ BadToken 0..8
+'1 ¦ BadToken 0..2
+'r#a ¦ BadToken 0..4
+a#b ¦ BadToken 0..1
+'a#b ¦ BadToken 0..2
+k#a ¦ BadToken 0..3
+⌖a ¦ BadToken 0..3
+#"a"# ¦ BadToken 0..2
+a ␀ ¦ BadToken 2..3
+a \ ¦ BadToken 2..3
+"###;
+
 #[test]
 fn reads_texts(rt: HostRuntime) -> Result<(), Fail> {
-    let cases = [
-        ("", ""),
-        ("x+/*c*/=y", "x + = y"),
-        ("a>>=b;c{d}e..=f", "a >>= b ; c {d} e ..= f"),
-        ("fn f<'a>(x: &'a T) {}", "fn f < 'a > (x : & 'a T) {}"),
-        ("/// a \"b\"\r\ns;", "# [doc = \" a \\\"b\\\"\"] s ;"),
-        ("//! a\\\nx", "# ! [doc = \" a\\\\\"] x"),
-        ("/** b */s", "# [doc = \" b \"] s"),
-        ("0x 1e r#fn b'x'", "0x 1e r#fn b'x'"),
-        (
-            "1u8 'a' c\"b\" br##\"\"#\"##s",
-            "1u8 'a' c\"b\" br##\"\"#\"##s",
-        ),
-        ("fn f( {", "GroupLeftOpen 6..7"),
-        ("(]", "CloserDoesNotFit 1..2"),
-        ("a)", "CloserDoesNotFit 1..2"),
-        ("a ## b", "BadToken 2..4"),
-        ("\"abc", "BadToken 0..4"),
-        ("( b'x", "BadToken 2..5"),
-        ("/* /* */", "BadToken 0..8"),
-        ("'1", "BadToken 0..2"),
-        ("'r#a", "BadToken 0..4"),
-        ("a#b", "BadToken 0..1"),
-        ("'a#b", "BadToken 0..2"),
-        ("k#a", "BadToken 0..3"),
-        ("\u{feff}a", "BadToken 0..3"),
-        ("#\"a\"#", "BadToken 0..2"),
-        ("a \0", "BadToken 2..3"),
-        ("a \\", "BadToken 2..3"),
-    ];
-    for (text, want) in cases {
-        let got = shown(&rt, text)?;
-        assert!(rt; got.as_str() == want, "{text:?} is read as {got:?}");
+    for row in TEXTS.lines() {
+        if let Some((text, want)) = row.split_once(" ¦ ") {
+            let text = text_of(rt.alloc(), text)?;
+            let got = shown(&rt, text.as_str())?;
+            assert!(rt; got.as_str() == want, "{row}: {got}");
+        }
     }
     Ok(())
 }

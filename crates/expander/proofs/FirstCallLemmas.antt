@@ -6,12 +6,12 @@ use Rattle.tt_data.specs.declared.delimiter.Delimiter.{Delimiter}
 use Rattle.tt_data.specs.declared.leaf.Ident.{Ident}
 use Rattle.tt_data.specs.declared.leaf.Leaf.{Leaf}
 use Rattle.tt_data.specs.declared.leaf.Punct.{Punct}
-use Rattle.expander.specs.declared.calls.Call.{Call}
-use Rattle.expander.specs.CallSteps.{bare_call, call_behind_colons, crate_call, call_at, first_call}
-use Rattle.expander.specs.Calls.{Path, bare, from_crate, other, Marked, call, marked, unmarked}
-use Rattle.expander.proofs.CallLemmas.{no_call}
-use Rattle.expander.proofs.MarkLemmas.{unmarked-marked}
-use Rattle.expander.proofs.TurnLemmas.{is_open, IsCall, neither, call_is_call, colons_is_call}
+use Rattle.expander_model.specs.declared.call.Call.{Call}
+use Rattle.expander_model.specs.CallSteps.{bare_call, call_behind_colons, crate_call, call_at, first_call}
+use Rattle.expander_model.specs.Calls.{Path, bare, from_crate, other, Marked, call, marked, unmarked}
+use Rattle.expander_scope.proofs.CallLemmas.{no_call}
+use Rattle.expander_scope.proofs.MarkLemmas.{unmarked-marked}
+use Rattle.expander_scope.proofs.TurnLemmas.{is_open, IsCall, neither, call_is_call, colons_is_call}
 
 first_open : (path : Path) (name : Ident) (bang : Punct) (d : Delimiter) (a rest : Marked) → is_open path ≡ true
     → first_call (call path name bang d a rest)

@@ -15,29 +15,29 @@ use Rattle.tt_data.specs.declared.leaf.Leaf.{Leaf}
 use Rattle.tt_data.specs.declared.leaf.Leaf.TheVariants as as_leaf
 use Rattle.tt_data.specs.declared.leaf.Spacing.{Spacing}
 use Rattle.mbe.specs.Grammar.{Grammar}
-use Rattle.bridge.specs.declared.fault.ReadFault.{ReadFault}
+use Rattle.bridge.specs.declared.reading.outcome.ReadFault.{ReadFault}
 use Rattle.bridge.specs.Printing as bare_printing
 use Rattle.bridge.specs.Printing.{depth_after, left_out_from, print_of}
 use Rattle.bridge.specs.Reading.{IsReading, TextStep, reading}
 use Rattle.bridge.specs.ReadsBack.{AreReadAs, IsReadAs, PrintsAgain, ReadsBack}
 use Rattle.bridge.specs.Spelling.{is_plain_name, same_leaf, same_rawness, spelled_leaf}
 use Rattle.bridge.specs.TokenSteps.{text_reading, text_steps}
-use Rattle.expander.specs.declared.faults.Fault.{Fault}
-use Rattle.expander.specs.declared.faults.FaultKind.TheVariants.{NestedDefinition}
-use Rattle.expander.specs.Expansion.{PlacedStep, placed}
-use Rattle.expander.specs.Faults.{comes_before, fault_at, in_order, is_definition_word, nested, place, put_in_order}
+use Rattle.expander_model.specs.declared.fault.Fault.{Fault}
+use Rattle.expander_model.specs.declared.fault.FaultKind.TheVariants.{NestedDefinition}
+use Rattle.expander_model.specs.Expansion.{PlacedStep, placed}
+use Rattle.expander_model.specs.Faults.{comes_before, fault_at, in_order, is_definition_word, nested, place, put_in_order}
 use Rattle.expander.specs.FixedPoint.{IsFixedPoint, PrintsItself}
-use Rattle.expander.specs.Laws.{AreAllPlain, HasNoWord}
-use Rattle.expander.specs.Layered.{layers}
-use Rattle.expander.specs.Meaning.{Layers, ReadMeaning, faults_of, meaning_from, meaning_of, member_faults, members, output_of}
-use Rattle.expander.specs.OutputSteps.{tokens_in}
-use Rattle.expander.specs.Pieces.{pieces, separated}
-use Rattle.expander.specs.Printing.{PrintedToken, bare, left_out, spelling_before, steps_of, text_of, unspelled, visible}
+use Rattle.expander_session.specs.Laws.{AreAllPlain, HasNoWord}
+use Rattle.expander_session.specs.Layered.{layers}
+use Rattle.expander_model.specs.Meaning.{Layers, ReadMeaning, faults_of, meaning_from, meaning_of, member_faults, members, output_of}
+use Rattle.expander_session.specs.Emitting.{tokens_in}
+use Rattle.expander_model.specs.Pieces.{pieces, separated}
+use Rattle.expander_model.specs.Printing.{PrintedToken, bare, left_out, spelling_before, steps_of, text_of, unspelled, visible}
 use Rattle.expander.proofs.ForestLemmas.{AreWalked, steps_of-placed, walked_members}
-use Rattle.expander.proofs.PrintingLemmas.{text_is, tokens_bare, visible_bare}
+use Rattle.expander_session.proofs.PrintingLemmas.{text_is, tokens_bare, visible_bare}
 use Rattle.expander.proofs.QuietLemmas.{quiet_text}
 use Rattle.expander.proofs.SearchLemmas.{plain_output}
-use Rattle.expander.proofs.WordLemmas.{quiet_plain, is_quiet}
+use Rattle.expander_session.proofs.WordLemmas.{quiet_plain, is_quiet}
 
 -- ---- no fault at all
 

@@ -1,15 +1,15 @@
 -- Replies to texts that print themselves.
 use Rattle.std.proofs.Common.{◌≡◌, ℕ, List, [], refl, subst, ◌∙◌, sym}
 use Rattle.std.specs.Prelude.{Option, Result, Ok, Err}
-use Rattle.bridge.specs.declared.fault.ReadFault.{ReadFault}
-use Rattle.expander.specs.declared.session.Reply.{Reply}
-use Rattle.expander.specs.declared.session.Reply.TheVariants.{Read, Unread}
-use Rattle.expander.specs.Count.{Looked}
-use Rattle.expander.specs.Expanded.{Expanded}
+use Rattle.bridge.specs.declared.reading.outcome.ReadFault.{ReadFault}
+use Rattle.expander_session.specs.declared.session.Reply.{Reply}
+use Rattle.expander_session.specs.declared.session.Reply.TheVariants.{Read, Unread}
+use Rattle.expander_session.specs.Count.{Looked}
+use Rattle.expander_session.specs.Expanded.{Expanded}
 use Rattle.expander.specs.FixedPoint.{IsFixedPoint, PrintsItself, RepliesWith}
-use Rattle.expander.specs.Layered.{layers}
-use Rattle.expander.specs.Meaning.{ReadMeaning, meaning}
-use Rattle.expander.specs.Replies.{IsMeant, IsReplyTo}
+use Rattle.expander_session.specs.Layered.{layers}
+use Rattle.expander_model.specs.Meaning.{ReadMeaning, meaning}
+use Rattle.expander_session.specs.Replies.{IsMeant, IsReplyTo}
 use Rattle.mbe.specs.Grammar.{Grammar}
 use Rattle.tt_data.specs.declared.edition.Edition.{Edition}
 

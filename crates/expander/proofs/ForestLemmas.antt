@@ -8,11 +8,11 @@ use Rattle.tt_data.specs.Walk.{Step, at_leaf, opens, closes, walk}
 use Rattle.tt_data.specs.declared.delimiter.Delimiter.{Delimiter}
 use Rattle.tt_data.specs.declared.leaf.Ident.{Ident}
 use Rattle.tt_data.specs.declared.span.Span.{Span}
-use Rattle.expander.specs.Calls.{Path, bare, from_crate, other, Marked, none, token, inside, call, marked, unmarked}
-use Rattle.expander.specs.Definitions.{Definition, definition_of, nearest}
-use Rattle.expander.specs.Expansion.{PlacedStep, World, Outcome, Deeper, CallSite, placed, just, followed_by, grouped, fitted, at_level, unbroken, looked_up, at_call, before_group, whole_call, search_calls, expansion}
-use Rattle.expander.specs.Meaning.{Layers, member, members_after, output_of, with_definition}
-use Rattle.expander.specs.Printing.{steps_of}
+use Rattle.expander_model.specs.Calls.{Path, bare, from_crate, other, Marked, none, token, inside, call, marked, unmarked}
+use Rattle.expander_model.specs.Definitions.{Definition, definition_of, nearest}
+use Rattle.expander_model.specs.Expansion.{PlacedStep, World, Outcome, Deeper, CallSite, placed, just, followed_by, grouped, fitted, at_level, unbroken, looked_up, at_call, before_group, whole_call, search_calls, expansion}
+use Rattle.expander_model.specs.Meaning.{Layers, member, members_after, output_of, with_definition}
+use Rattle.expander_model.specs.Printing.{steps_of}
 
 -- the steps are the walk of trees, their places aside
 pub record AreWalked (steps : List PlacedStep) : Type 0 where

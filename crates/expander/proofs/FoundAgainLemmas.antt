@@ -5,40 +5,40 @@ use Rattle.std.specs.List.{list_any}
 use Rattle.std.proofs.lemmas.Bool.{and_from}
 use Rattle.std.proofs.lemmas.List.Elements.{All-cons, All-head, All-nil, All-tail, filter-append}
 use Rattle.bridge.specs.TokenSteps.{text_reading}
-use Rattle.bridge.specs.declared.fault.ReadFault.{ReadFault}
+use Rattle.bridge.specs.declared.reading.outcome.ReadFault.{ReadFault}
 use Rattle.mbe.specs.Grammar.{Grammar}
 use Rattle.tt_data.specs.Forest.{Forest}
 use Rattle.tt_data.specs.declared.edition.Edition.{Edition}
-use Rattle.expander.specs.Agreement.{FoundIn}
-use Rattle.expander.specs.Changes.{find_with, outcome_with}
-use Rattle.expander.specs.Count.{Looked, expanded_count, found_piece, is_same, looked_of, same_found}
-use Rattle.expander.specs.Definitions.{Definition, definition_of, nearest}
-use Rattle.expander.specs.Expanded.{Expanded}
-use Rattle.expander.specs.Expansion.{World, Outcome, expansion}
-use Rattle.expander.specs.Held.{HasNumber, IsNumbered, Known, Met, Numbered, StandFromFirst, Tells, definition_trees, kept_after, kept_of, met_of, moved_on, nearest_met, numbered_scope, numbered_world, present_definition, resolve, resolve_definition, with_met}
-use Rattle.expander.specs.Laws.{FindsAsBefore, IsFoundAgain, definitions_after}
-use Rattle.expander.specs.Layered.{layers}
-use Rattle.expander.specs.Meaning.{Layers, meaning_from, member, members, members_after, with_definition}
-use Rattle.expander.specs.Numbers.{Numbering, number_of, tree_of, with_trees}
-use Rattle.expander.specs.OtherPlaces.{definition_with}
-use Rattle.expander.specs.Pieces.{first_start, pieces, relative}
-use Rattle.expander.specs.Replies.{IsMeant, IsReplyTo}
-use Rattle.expander.specs.Reuse.{FoundIs, IsHeld, agrees, looked_at, looked_held, same_number}
-use Rattle.expander.specs.TextTurn.{StandsInText, held_of}
-use Rattle.expander.specs.World.{world}
-use Rattle.expander.specs.declared.session.Reply.TheVariants.{Read}
-use Rattle.expander.proofs.FindsLemmas.{expansion_found}
-use Rattle.expander.proofs.HeldLemmas.{definition_there, members_present, present_scope, resolved_expansion}
-use Rattle.expander.proofs.NumberLemmas.{all_known, tells_apart, with_trees_are}
-use Rattle.expander.proofs.PlaceLemmas.{resolved_piece}
-use Rattle.expander.proofs.ReadPlaceLemmas.{pieces_stand}
-use Rattle.expander.proofs.ReuseLemmas.{fresh_is_held, match_is_same, met_scope, number_by_tree, same_found-same}
+use Rattle.expander_session.specs.Agreement.{FoundIn}
+use Rattle.expander_model.specs.Changes.{find_with, outcome_with}
+use Rattle.expander_session.specs.Count.{Looked, expanded_count, found_piece, is_same, looked_of, same_found}
+use Rattle.expander_model.specs.Definitions.{Definition, definition_of, nearest}
+use Rattle.expander_session.specs.Expanded.{Expanded}
+use Rattle.expander_model.specs.Expansion.{World, Outcome, expansion}
+use Rattle.expander_model.specs.Held.{HasNumber, IsNumbered, Known, Met, Numbered, StandFromFirst, Tells, definition_trees, kept_after, kept_of, met_of, moved_on, nearest_met, numbered_scope, numbered_world, present_definition, resolve, resolve_definition, with_met}
+use Rattle.expander_session.specs.Laws.{FindsAsBefore, IsFoundAgain, definitions_after}
+use Rattle.expander_session.specs.Layered.{layers}
+use Rattle.expander_model.specs.Meaning.{Layers, meaning_from, member, members, members_after, with_definition}
+use Rattle.expander_scope.specs.Numbers.{Numbering, number_of, tree_of, with_trees}
+use Rattle.expander_model.specs.OtherPlaces.{definition_with}
+use Rattle.expander_model.specs.Pieces.{first_start, pieces, relative}
+use Rattle.expander_session.specs.Replies.{IsMeant, IsReplyTo}
+use Rattle.expander_session.specs.Reuse.{FoundIs, IsHeld, agrees, looked_at, looked_held, same_number}
+use Rattle.expander_session.specs.TextTurn.{StandsInText, held_of}
+use Rattle.expander_model.specs.World.{world}
+use Rattle.expander_session.specs.declared.session.Reply.TheVariants.{Read}
+use Rattle.expander_session.proofs.FindsLemmas.{expansion_found}
+use Rattle.expander_scope.proofs.HeldLemmas.{definition_there, members_present, present_scope, resolved_expansion}
+use Rattle.expander_session.proofs.NumberLemmas.{all_known, tells_apart, with_trees_are}
+use Rattle.expander_model.proofs.PlaceLemmas.{resolved_piece}
+use Rattle.expander_session.proofs.ReadPlaceLemmas.{pieces_stand}
+use Rattle.expander_session.proofs.ReuseLemmas.{fresh_is_held, match_is_same, met_scope, number_by_tree, same_found-same}
 use Rattle.expander.proofs.SelfMatchLemmas.{AllMatch, none_counts}
 use Rattle.expander.proofs.SharedPieceLemmas.{all_front, any_front, looked_more}
-use Rattle.expander.proofs.TextPlaceLemmas.{all_numbered, tells}
-use Rattle.expander.proofs.TextTurnLemmas.{IsPiece, are_pieces, found_seen, kept_are, looked_are_held, met_there, mets}
-use Rattle.expander.proofs.WholeTurnLemmas.{TurnLaws}
-use Rattle.expander.proofs.WorldLemmas.{world_at_other_places}
+use Rattle.expander_session.proofs.TextPlaceLemmas.{all_numbered, tells}
+use Rattle.expander_session.proofs.TextTurnLemmas.{IsPiece, are_pieces, found_seen, kept_are, looked_are_held, met_there, mets}
+use Rattle.expander_session.proofs.WholeTurnLemmas.{TurnLaws}
+use Rattle.expander_session.proofs.WorldLemmas.{world_at_other_places}
 
 -- ---- lists
 

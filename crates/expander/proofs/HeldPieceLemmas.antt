@@ -2,13 +2,14 @@
 use Rattle.std.proofs.Common.{◌≡◌, ◌↔◌, ℕ, true, List, None}
 use Rattle.std.specs.Prelude.{All}
 use Rattle.tt_data.specs.Forest.{Forest}
-use Rattle.expander.specs.Count.{is_same, same_forest}
-use Rattle.expander.specs.Definitions.{Definition}
-use Rattle.expander.specs.Expansion.{World, expansion}
-use Rattle.expander.specs.Held.{IsMet, Known, Met, TellsApart, numbered_scope, numbered_world}
-use Rattle.expander.specs.Reuse.{HeldPiece, IsHeld, looked_at, looked_held, matches}
-use Rattle.expander.proofs.ReuseLemmas.{fresh_is_held, match_is, match_is_same, met_scope}
-use Rattle.expander.proofs.TextPlaceLemmas.{tells}
+use Rattle.expander_session.specs.Count.{is_same}
+use Rattle.expander_model.specs.EqualTrees.{same_forest}
+use Rattle.expander_model.specs.Definitions.{Definition}
+use Rattle.expander_model.specs.Expansion.{World, expansion}
+use Rattle.expander_model.specs.Held.{IsMet, Known, Met, TellsApart, numbered_scope, numbered_world}
+use Rattle.expander_session.specs.Reuse.{HeldPiece, IsHeld, looked_at, looked_held, matches}
+use Rattle.expander_session.proofs.ReuseLemmas.{fresh_is_held, match_is, match_is_same, met_scope}
+use Rattle.expander_session.proofs.TextPlaceLemmas.{tells}
 
 module _ (equal : (f g : Forest) → (same_forest f g ≡ true) ↔ (f ≡ g)) (world : World Definition) (depth : ℕ) (number_of : Forest → ℕ) (trees : List Forest) (before : List Met) (tree : Forest) where
   pub outcome : (q : HeldPiece) → TellsApart number_of trees → All (IsMet (Known number_of trees)) before → IsHeld world depth (Known number_of trees) q

@@ -12,10 +12,10 @@ use Rattle.ucd_table.specs.Rows.{in_ranges}
 use Rattle.small_grammar.specs.Answer.{answer}
 use Rattle.small_grammar.specs.SmallGrammar.{lifetime, arrow, arg, generics, seg, tpath, bound, type_rule, path, post, atom, operand, binop, expr, num, pat_rule, pat_top, meta_item, vis}
 use Rattle.small_grammar.specs.Tokens.{token_at}
-use Rattle.expander.specs.declared.faults.FaultKind.TheVariants.{CannotExpand}
-use Rattle.expander.specs.Layered.{layers}
-use Rattle.expander.specs.Meaning.{meaning}
-use Rattle.expander.specs.Runs.{run_layers}
+use Rattle.expander_model.specs.declared.fault.FaultKind.TheVariants.{CannotExpand}
+use Rattle.expander_session.specs.Layered.{layers}
+use Rattle.expander_model.specs.Meaning.{meaning}
+use Rattle.expander_run.specs.Runs.{run_layers}
 use Rattle.expander.proofs.Rows.{Shown, gives, shown, lines, fault}
 
 abbrev of : List (List ℕ) → Shown

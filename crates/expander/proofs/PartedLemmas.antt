@@ -8,17 +8,17 @@ use Rattle.tt_data.specs.declared.delimiter.Delimiter.{Delimiter}
 use Rattle.tt_data.specs.declared.leaf.Leaf.{Leaf}
 use Rattle.tt_data.specs.declared.leaf.Punct.{Punct}
 use Rattle.tt_data.specs.declared.span.Span.{Span}
-use Rattle.expander.specs.declared.calls.Call.{Call}
-use Rattle.expander.specs.declared.faults.FaultKind.{FaultKind}
-use Rattle.expander.specs.declared.faults.FaultKind.TheVariants.{CannotExpand}
-use Rattle.expander.specs.CallSteps.{bare_call, call_behind_colons, crate_call, call_at}
-use Rattle.expander.specs.Calls.{Path, bare, from_crate, other, call, marked}
-use Rattle.expander.specs.Definitions.{or_else}
-use Rattle.expander.specs.Expansion.{World, Outcome, Deeper, CallSite, placed, just, followed_by, found, grouped, fitted, unbroken, search_calls, expansion}
-use Rattle.expander.specs.Laws.{Fails, IsParted, why_failed}
-use Rattle.expander.proofs.CallLemmas.{IsBare, IsBehind, IsOfCrate, is_bare, is_behind, is_of_crate, marked_bare, marked_behind, marked_of_crate}
-use Rattle.expander.proofs.OutcomeLemmas.{followed_assoc}
-use Rattle.expander.proofs.TurnLemmas.{call_passed, colons_is_call, colons_opened, colons_smaller, known_search, leaf_search, rest_smaller}
+use Rattle.expander_model.specs.declared.call.Call.{Call}
+use Rattle.expander_model.specs.declared.fault.FaultKind.{FaultKind}
+use Rattle.expander_model.specs.declared.fault.FaultKind.TheVariants.{CannotExpand}
+use Rattle.expander_model.specs.CallSteps.{bare_call, call_behind_colons, crate_call, call_at}
+use Rattle.expander_model.specs.Calls.{Path, bare, from_crate, other, call, marked}
+use Rattle.expander_model.specs.Definitions.{or_else}
+use Rattle.expander_model.specs.Expansion.{World, Outcome, Deeper, CallSite, placed, just, followed_by, found, grouped, fitted, unbroken, search_calls, expansion}
+use Rattle.expander_session.specs.Laws.{Fails, IsParted, why_failed}
+use Rattle.expander_scope.proofs.CallLemmas.{IsBare, IsBehind, IsOfCrate, is_bare, is_behind, is_of_crate, marked_bare, marked_behind, marked_of_crate}
+use Rattle.expander_scope.proofs.OutcomeLemmas.{followed_assoc}
+use Rattle.expander_scope.proofs.TurnLemmas.{call_passed, colons_is_call, colons_opened, colons_smaller, known_search, leaf_search, rest_smaller}
 
 -- ---- a call with more behind it
 

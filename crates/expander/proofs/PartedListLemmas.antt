@@ -7,14 +7,14 @@ use Rattle.tt_data.specs.declared.delimiter.Delimiter.{Delimiter}
 use Rattle.tt_data.specs.declared.leaf.Ident.{Ident}
 use Rattle.tt_data.specs.declared.leaf.Leaf.TheVariants as as_leaf
 use Rattle.tt_data.specs.declared.leaf.Punct.{Punct}
-use Rattle.expander.specs.declared.calls.Call.{Call}
-use Rattle.expander.specs.CallSteps.{bare_call, call_behind_colons, crate_call, call_at}
-use Rattle.expander.specs.Calls.{is_colons, is_dollar_crate}
-use Rattle.expander.specs.Definitions.{or_else}
-use Rattle.expander.specs.Laws.{IsParted}
+use Rattle.expander_model.specs.declared.call.Call.{Call}
+use Rattle.expander_model.specs.CallSteps.{bare_call, call_behind_colons, crate_call, call_at}
+use Rattle.expander_model.specs.Calls.{is_colons, is_dollar_crate}
+use Rattle.expander_model.specs.Definitions.{or_else}
+use Rattle.expander_session.specs.Laws.{IsParted}
 use Rattle.small_grammar.specs.Text.{◌>>◌}
 use Rattle.bridge.specs.Text.{is_char, is_visible}
-use Rattle.expander.proofs.CallLemmas.{is_bare, is_of_crate}
+use Rattle.expander_scope.proofs.CallLemmas.{is_bare, is_of_crate}
 use Rattle.expander.proofs.PieceEndLemmas.{behind_same, one_group, split_one}
 
 -- ---- tests before a call

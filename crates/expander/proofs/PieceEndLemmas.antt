@@ -8,8 +8,8 @@ use Rattle.tt_data.specs.Forest.{Forest, empty, leaf, group, joined}
 use Rattle.tt_data.proofs.ForestLemmas.{joined_assoc}
 use Rattle.tt_data.specs.declared.delimiter.Delimiter.{Delimiter}
 use Rattle.tt_data.specs.declared.leaf.Leaf.{Leaf}
-use Rattle.expander.specs.Laws.{IsEnded, is_ender}
-use Rattle.expander.specs.Pieces.{cut, cut_from, ends_piece, put_together}
+use Rattle.expander_session.specs.Laws.{IsEnded, is_ender}
+use Rattle.expander_model.specs.Pieces.{cut, cut_from, ends_piece, put_together}
 
 -- ---- each piece that another follows
 

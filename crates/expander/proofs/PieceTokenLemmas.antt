@@ -11,14 +11,14 @@ use Rattle.tt_data.specs.declared.leaf.Spacing.{Spacing}
 use Rattle.tt_data.specs.declared.leaf.Spacing.TheVariants.{Alone}
 use Rattle.bridge.specs.Parts.{steps_before}
 use Rattle.bridge.specs.Reading.{IsReading, PlacedToken, TextStep, reading, step}
-use Rattle.bridge.specs.TokenSteps.{sort_of, spacing_before, steps_of, steps_of_sort, text_reading, text_steps}
-use Rattle.bridge.specs.declared.fault.ReadFault.{ReadFault}
+use Rattle.bridge.specs.TokenSteps.{class_of, spacing_before, steps_of, steps_of_class, text_reading, text_steps}
+use Rattle.bridge.specs.declared.reading.outcome.ReadFault.{ReadFault}
 use Rattle.expander.specs.PieceTokens.{AreBlank, AreWords, counted_from, counted_on, is_between, last_end, placed_tokens, written_in}
-use Rattle.expander.specs.Pieces.{first_start, moved_back, pieces, put_together, relative, separated}
-use Rattle.expander.specs.Sources.{bytes_of}
-use Rattle.expander.proofs.CuttingLemmas.{put_together-cut}
+use Rattle.expander_model.specs.Pieces.{first_start, moved_back, pieces, put_together, relative, separated}
+use Rattle.expander_reparse.specs.Segments.{bytes_of}
+use Rattle.expander_model.proofs.SplittingLemmas.{put_together-cut}
 use Rattle.expander.proofs.PieceTreeLemmas.{ArePieces, HasFirst, HasLast, Unjoined, cut_pieces, end_separated, ended_separated, first_separated, first_step, is_ended, last_step, spaced_separated, spaced_trees, unjoin}
-use Rattle.expander.proofs.ReadPartLemmas.{separated_with}
+use Rattle.expander_reparse.proofs.PieceReadingLemmas.{separated_with}
 use Rattle.expander.proofs.TokenRowLemmas.{InRow, all_back, end_append, end_from, in_row, on_again, part_between, row_behind, row_front, shifted_step, steps_shifted, walk_shifted}
 use Rattle.expander.proofs.TokenStepLemmas.{HasBlanks, HasPart, is_end, none_are_blank, spaced, take_blanks, take_part}
 
@@ -46,8 +46,8 @@ no_trees (group d inner f) e = absurd (cc e)
 before_none : (ts : List PlacedToken) → steps_before ts [] ≡ steps_of ts
 before_none [] = refl
 before_none (t ∷ ts) =
-    ap (λ after. steps_of_sort (sort_of t.kind) t after ++ steps_before ts []) (append-nil ts)
-    ∙ ap (λ l. steps_of_sort (sort_of t.kind) t ts ++ l) (before_none ts)
+    ap (λ after. steps_of_class (class_of t.kind) t after ++ steps_before ts []) (append-nil ts)
+    ∙ ap (λ l. steps_of_class (class_of t.kind) t ts ++ l) (before_none ts)
 
 -- the first piece of those that are left, which these trees are
 record TakesPiece (all before ts : List PlacedToken) (p behind : Forest) : Type 0 where
@@ -108,9 +108,9 @@ piece_from all before ts a behind row are first last b p =
       left = p.left;
     }
 
-take_piece : (all before ts : List PlacedToken) (a behind : Forest) → InRow 0 all → all ≡ before ++ ts → a ≢ empty → (is_ended a ≡ false → walk behind ≡ [])
+evaluate_piece : (all before ts : List PlacedToken) (a behind : Forest) → InRow 0 all → all ≡ before ++ ts → a ≢ empty → (is_ended a ≡ false → walk behind ≡ [])
     → steps_of ts ≡ map step (walk (joined a behind)) → TakesPiece all before ts (separated a) behind
-take_piece all before ts a behind row are some ends read =
+evaluate_piece all before ts a behind row are some ends read =
     let first : HasFirst a = first_step a some in
     let last : HasLast a = last_step a some in
     let n : ℕ = end_from 0 before in
@@ -131,7 +131,7 @@ first_piece all before ts f p ps row are read pieces_are u =
     let ends : is_ended u.first ≡ false → walk u.behind ≡ [] =
     λ h. no_trees u.behind (u.two ∙ ap put_together (pieces_are.1 (ap is_ended (sym u.one) ∙ ended_separated u.first ∙ h))) in
     subst (λ q. TakesPiece all before ts q u.behind) u.one
-    (take_piece all before ts u.first u.behind row are some ends (read ∙ ap (λ g. map step (walk g)) u.is))
+    (evaluate_piece all before ts u.first u.behind row are some ends (read ∙ ap (λ g. map step (walk g)) u.is))
 
 -- all tokens that are left are read as pieces, with blank ones between them
 abbrev AllRead : List PlacedToken → List Forest → List PlacedToken → Type 0

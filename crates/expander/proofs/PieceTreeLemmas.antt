@@ -13,10 +13,10 @@ use Rattle.tt_data.specs.declared.leaf.Spacing.{Spacing}
 use Rattle.tt_data.specs.declared.span.Span.{Span}
 use Rattle.bridge.specs.Text.{is_punct}
 use Rattle.expander.specs.PieceTokens.{last_end}
-use Rattle.expander.specs.Pieces.{cut, cut_from, ends_piece, first_start, separated}
-use Rattle.expander.specs.Sources.{IsOpen, IsWhole}
+use Rattle.expander_model.specs.Pieces.{cut, cut_from, ends_piece, first_start, separated}
+use Rattle.expander_model.specs.Splitting.{IsOpen, IsWhole}
 use Rattle.expander.proofs.TokenStepLemmas.{is_end, spaced, starts_at, stops_at, with_spacing}
-use Rattle.expander.proofs.WholeLemmas.{IsBegunAlways, ends_always, group_always, leaf_always, more_always, none_begun, open_always}
+use Rattle.expander_model.proofs.WholeLemmas.{IsBegunAlways, ends_always, group_always, leaf_always, more_always, none_begun, open_always}
 
 -- ---- the first step and the last one of trees
 

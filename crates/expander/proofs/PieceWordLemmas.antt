@@ -13,18 +13,18 @@ use Rattle.tt_data.specs.declared.span.Span.{Span}
 use Rattle.bridge.specs.Parts.{placed_on, steps_before}
 use Rattle.bridge.specs.Reading.{PlacedToken, TextStep, step}
 use Rattle.bridge.specs.TokenSteps.{spacing_before, steps_of, text_reading, text_steps}
-use Rattle.bridge.specs.declared.fault.ReadFault.{ReadFault}
+use Rattle.bridge.specs.declared.reading.outcome.ReadFault.{ReadFault}
 use Rattle.expander.specs.PieceTokens.{AreBlank, AreWords, BeginsWith, counted_on, is_blank_kind, placed_tokens, written_in}
-use Rattle.expander.specs.Pieces.{cut, first_start, moved_back, pieces, put_together, relative, separated}
-use Rattle.expander.proofs.ApartLemmas.{separated-joined}
-use Rattle.expander.proofs.CuttingLemmas.{put_together-cut}
+use Rattle.expander_model.specs.Pieces.{cut, first_start, moved_back, pieces, put_together, relative, separated}
+use Rattle.expander_model.proofs.ApartLemmas.{separated-joined}
+use Rattle.expander_model.proofs.SplittingLemmas.{put_together-cut}
 use Rattle.expander.proofs.PieceTokenLemmas.{IsRead, IsReadBefore, TokenLaws, pieces_read, word_in}
 use Rattle.expander.proofs.PieceTreeLemmas.{AreShaped, IsShaped, cut_shapes, is_ended}
-use Rattle.expander.proofs.ReadPartLemmas.{separated_with, span_with}
+use Rattle.expander_reparse.proofs.PieceReadingLemmas.{separated_with, span_with}
 use Rattle.expander.proofs.TokenFormLemmas.{blank_is_nothing}
 use Rattle.expander.proofs.TokenRowLemmas.{all_on, shifted_step, steps_shifted, walk_shifted}
 use Rattle.expander.proofs.TokenStepLemmas.{no_mark}
-use Rattle.expander.proofs.WholeLemmas.{none_begun}
+use Rattle.expander_model.proofs.WholeLemmas.{none_begun}
 
 -- ---- blank tokens
 

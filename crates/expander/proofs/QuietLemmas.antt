@@ -6,15 +6,15 @@ use Rattle.std.proofs.lemmas.Bool.{and_from, and_parts}
 use Rattle.tt_data.specs.Forest.{Forest}
 use Rattle.tt_data.specs.Walk.{Step, walk}
 use Rattle.bridge.specs.Printing.{is_visible_step}
-use Rattle.expander.specs.Expansion.{PlacedStep, placed}
-use Rattle.expander.specs.Faults.{fault_at, place, is_definition_word, nested, unspellable, in_order}
-use Rattle.expander.specs.declared.faults.FaultKind.TheVariants.{NestedDefinition}
-use Rattle.expander.specs.Laws.{AreAllPlain, HasNoWord}
-use Rattle.expander.specs.Meaning.{Layers, members, output, tokens_of, faults_of}
-use Rattle.expander.specs.Pieces.{pieces, separated}
-use Rattle.expander.specs.Printing.{PrintedToken, visible, spelled, printed, left_out}
+use Rattle.expander_model.specs.Expansion.{PlacedStep, placed}
+use Rattle.expander_model.specs.Faults.{fault_at, place, is_definition_word, nested, unspellable, in_order}
+use Rattle.expander_model.specs.declared.fault.FaultKind.TheVariants.{NestedDefinition}
+use Rattle.expander_session.specs.Laws.{AreAllPlain, HasNoWord}
+use Rattle.expander_model.specs.Meaning.{Layers, members, output, tokens_of, faults_of}
+use Rattle.expander_model.specs.Pieces.{pieces, separated}
+use Rattle.expander_model.specs.Printing.{PrintedToken, visible, spelled, printed, left_out}
 use Rattle.expander.proofs.SearchLemmas.{plain_output, plain_faults}
-use Rattle.expander.proofs.WordLemmas.{quiet_plain, quiet_separated, is_quiet}
+use Rattle.expander_session.proofs.WordLemmas.{quiet_plain, quiet_separated, is_quiet}
 
 -- ---- what is printed of quiet steps
 

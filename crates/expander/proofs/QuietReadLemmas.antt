@@ -4,23 +4,23 @@ use Rattle.std.specs.Prelude.{None, Result, Ok}
 use Rattle.bridge.specs.Pieces as bare_pieces
 use Rattle.bridge.specs.Printing as bare_printing
 use Rattle.bridge.specs.Printing.{left_out_from, print_of}
-use Rattle.bridge.specs.declared.fault.ReadFault.{ReadFault}
+use Rattle.bridge.specs.declared.reading.outcome.ReadFault.{ReadFault}
 use Rattle.mbe.specs.Grammar.{Grammar}
 use Rattle.tt_data.specs.Forest.{Forest}
 use Rattle.tt_data.specs.Walk.{walk}
 use Rattle.tt_data.specs.declared.edition.Edition.{Edition}
-use Rattle.expander.specs.Expansion.{PlacedStep, placed}
-use Rattle.expander.specs.Laws.{HasNoWord}
-use Rattle.expander.specs.Layered.{layers}
-use Rattle.expander.specs.Meaning.{ReadMeaning, meaning_from, meaning_of, members, output}
-use Rattle.expander.specs.Pieces.{separated}
-use Rattle.expander.specs.Printing.{left_out, spelling_before, visible}
+use Rattle.expander_model.specs.Expansion.{PlacedStep, placed}
+use Rattle.expander_session.specs.Laws.{HasNoWord}
+use Rattle.expander_session.specs.Layered.{layers}
+use Rattle.expander_model.specs.Meaning.{ReadMeaning, meaning_from, meaning_of, members, output}
+use Rattle.expander_model.specs.Pieces.{separated}
+use Rattle.expander_model.specs.Printing.{left_out, spelling_before, visible}
 use Rattle.expander.proofs.FixedLemmas.{none_left_out}
 use Rattle.expander.proofs.ForestLemmas.{steps_of-placed}
-use Rattle.expander.proofs.PrintingLemmas.{visible_bare}
+use Rattle.expander_session.proofs.PrintingLemmas.{visible_bare}
 use Rattle.expander.proofs.QuietLemmas.{quiet_text}
 use Rattle.expander.proofs.SearchLemmas.{plain_output}
-use Rattle.expander.proofs.WordLemmas.{quiet_plain}
+use Rattle.expander_session.proofs.WordLemmas.{quiet_plain}
 
 module _ (grammar : Grammar) (edition : Edition) (depth : ℕ) (f : Forest) (quiet : HasNoWord f)
     (whole : (print_of (walk (bare_pieces.separated f))).left_out ≡ []) where

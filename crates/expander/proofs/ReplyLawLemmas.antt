@@ -4,20 +4,21 @@ use Rattle.std.specs.Prelude.{All, Contains, IsUtf8, Result, Ok, Err, filter, no
 use Rattle.std.specs.List.{list_any}
 use Rattle.std.proofs.lemmas.List.Elements.{All-cons, All-contains, All-head, All-nil, All-tail}
 use Rattle.bridge.specs.TokenSteps.{text_reading}
-use Rattle.bridge.specs.declared.fault.ReadFault.{ReadFault}
+use Rattle.bridge.specs.declared.reading.outcome.ReadFault.{ReadFault}
 use Rattle.mbe.specs.Grammar.{Grammar}
 use Rattle.tt_data.specs.Forest.{Forest}
 use Rattle.tt_data.specs.declared.edition.Edition.{Edition}
-use Rattle.expander.specs.Answers.{ShowTheSame}
-use Rattle.expander.specs.Count.{Looked, expanded_count, finds_within, is_same, looked_of, same_forest}
-use Rattle.expander.specs.Expanded.{Expanded}
-use Rattle.expander.specs.Laws.{ExpandsNothing, HasNoWord}
-use Rattle.expander.specs.Layered.{layers}
-use Rattle.expander.specs.Meaning.{ReadMeaning, meaning}
-use Rattle.expander.specs.Replies.{IsMeant, IsReplyTo, Replies, looked_in}
-use Rattle.expander.specs.State.{State, layers_of}
-use Rattle.expander.specs.declared.session.Reply.{Reply}
-use Rattle.expander.specs.declared.session.Reply.TheVariants.{Read, Unread}
+use Rattle.expander_session.specs.Answers.{ShowTheSame}
+use Rattle.expander_session.specs.Count.{Looked, expanded_count, finds_within, is_same, looked_of}
+use Rattle.expander_model.specs.EqualTrees.{same_forest}
+use Rattle.expander_session.specs.Expanded.{Expanded}
+use Rattle.expander_session.specs.Laws.{ExpandsNothing, HasNoWord}
+use Rattle.expander_session.specs.Layered.{layers}
+use Rattle.expander_model.specs.Meaning.{ReadMeaning, meaning}
+use Rattle.expander_session.specs.Replies.{IsMeant, IsReplyTo, Replies, looked_in}
+use Rattle.expander_session.specs.State.{State, layers_of}
+use Rattle.expander_session.specs.declared.session.Reply.{Reply}
+use Rattle.expander_session.specs.declared.session.Reply.TheVariants.{Read, Unread}
 use Rattle.expander.proofs.SelfMatchLemmas.{AllMatch, no_new_piece}
 
 -- ---- texts without words of definitions

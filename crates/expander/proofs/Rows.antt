@@ -7,13 +7,13 @@ use Rattle.ucd_derived.specs.Binary.{is_xid_start, is_xid_continue}
 use Rattle.ucd_derived.specs.XidContinueRanges.{xid_continue_ranges}
 use Rattle.ucd_derived.specs.XidStartRanges.{xid_start_ranges}
 use Rattle.ucd_table.specs.Rows.{in_ranges}
-use Rattle.expander.specs.declared.faults.Fault.{Fault}
-use Rattle.expander.specs.declared.faults.FaultKind.{FaultKind}
-use Rattle.expander.specs.declared.faults.FaultKind.TheVariants.{CannotExpand, BrokenDefinition, RecursionLimit, NestedDefinition}
-use Rattle.bridge.specs.declared.fault.ReadFault.{ReadFault}
-use Rattle.bridge.specs.declared.fault.ReadFaultKind.TheVariants.{BadToken, CloserDoesNotFit, GroupLeftOpen}
-use Rattle.expander.specs.Meaning.{meaning, ReadMeaning}
-use Rattle.expander.specs.Runs.{run_layers}
+use Rattle.expander_model.specs.declared.fault.Fault.{Fault}
+use Rattle.expander_model.specs.declared.fault.FaultKind.{FaultKind}
+use Rattle.expander_model.specs.declared.fault.FaultKind.TheVariants.{CannotExpand, BrokenDefinition, RecursionLimit, NestedDefinition}
+use Rattle.bridge.specs.declared.reading.outcome.ReadFault.{ReadFault}
+use Rattle.bridge.specs.declared.reading.outcome.ReadFaultKind.TheVariants.{BadToken, CloserDoesNotFit, GroupLeftOpen}
+use Rattle.expander_model.specs.Meaning.{meaning, ReadMeaning}
+use Rattle.expander_run.specs.Runs.{run_layers}
 
 -- what a row shows of a text's meaning
 pub data Shown : Type 0 where

@@ -1,17 +1,17 @@
 -- What is replied hangs on the present text.
 use Rattle.std.proofs.Common.{◌≡◌, ℕ, List, [], ◌∷◌, ◌++◌, sym, ◌∙◌, subst}
 use Rattle.std.specs.Prelude.{Option, Result, Ok, Err}
-use Rattle.bridge.specs.declared.fault.ReadFault.{ReadFault}
-use Rattle.expander.specs.Answers.{AreAnswers, ShowTheSame, last_looked, last_text, reads_after, text_after}
-use Rattle.expander.specs.Count.{Looked}
-use Rattle.expander.specs.Meaning.{Layers, ReadMeaning, meaning}
-use Rattle.expander.specs.Replies.{IsMeant, IsReplyTo}
-use Rattle.expander.specs.declared.session.Reply.{Reply}
-use Rattle.expander.specs.declared.session.Reply.TheVariants.{Read, Unread}
-use Rattle.expander.specs.declared.commands.Answer.{Answer}
-use Rattle.expander.specs.declared.commands.Answer.TheVariants.{Reply as Replied}
-use Rattle.expander.specs.declared.commands.Command.{Command}
-use Rattle.expander.specs.declared.commands.Command.TheVariants.{Expand}
+use Rattle.bridge.specs.declared.reading.outcome.ReadFault.{ReadFault}
+use Rattle.expander_session.specs.Answers.{AreAnswers, ShowTheSame, last_looked, last_text, reads_after, text_after}
+use Rattle.expander_session.specs.Count.{Looked}
+use Rattle.expander_model.specs.Meaning.{Layers, ReadMeaning, meaning}
+use Rattle.expander_session.specs.Replies.{IsMeant, IsReplyTo}
+use Rattle.expander_session.specs.declared.session.Reply.{Reply}
+use Rattle.expander_session.specs.declared.session.Reply.TheVariants.{Read, Unread}
+use Rattle.expander_session.specs.declared.commands.Answer.{Answer}
+use Rattle.expander_session.specs.declared.commands.Answer.TheVariants.{Reply as Replied}
+use Rattle.expander_session.specs.declared.commands.Command.{Command}
+use Rattle.expander_session.specs.declared.commands.Command.TheVariants.{Expand}
 
 same_meant : (m : Result ReadMeaning ReadFault) (a b : Option (List Looked)) (reply other : Reply) → IsMeant m a reply → IsMeant m b other → ShowTheSame reply other
 same_meant (Ok m) a b (Read e) (Read f) h k = (h.printed ∙ sym k.printed, h.faults ∙ sym k.faults, h.origins ∙ sym k.origins)

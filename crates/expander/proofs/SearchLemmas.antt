@@ -11,19 +11,19 @@ use Rattle.tt_data.specs.declared.leaf.Ident.{Ident}
 use Rattle.tt_data.specs.declared.leaf.Leaf.TheVariants as as_leaf
 use Rattle.tt_data.specs.declared.leaf.Punct.{Punct}
 use Rattle.tt_data.specs.declared.span.Span.{Span}
-use Rattle.expander.specs.declared.calls.Call.{Call}
-use Rattle.expander.specs.Definitions.{Definition}
-use Rattle.expander.specs.CallSteps.{call_at}
-use Rattle.expander.specs.Calls.{Path, bare, from_crate, other, Marked, none, token, inside, call, marked, unmarked, in_front}
-use Rattle.expander.specs.Definitions.{definition_of}
-use Rattle.expander.specs.Expansion.{World, Outcome, Deeper, CallSite, placed, just, followed_by, grouped, fitted, unbroken, at_call, before_group, search_calls, expansion}
-use Rattle.expander.specs.Faults.{fault_at}
-use Rattle.expander.specs.Laws.{Fails, AreAllPlain}
-use Rattle.expander.specs.Meaning.{Layers, members_after, output_of, member_faults}
-use Rattle.expander.specs.Pieces.{cut, put_together}
-use Rattle.expander.proofs.CuttingLemmas.{put_together-cut}
-use Rattle.expander.proofs.MarkLemmas.{unmarked-marked}
-use Rattle.expander.proofs.TurnLemmas.{known_search}
+use Rattle.expander_model.specs.declared.call.Call.{Call}
+use Rattle.expander_model.specs.Definitions.{Definition}
+use Rattle.expander_model.specs.CallSteps.{call_at}
+use Rattle.expander_model.specs.Calls.{Path, bare, from_crate, other, Marked, none, token, inside, call, marked, unmarked, in_front}
+use Rattle.expander_model.specs.Definitions.{definition_of}
+use Rattle.expander_model.specs.Expansion.{World, Outcome, Deeper, CallSite, placed, just, followed_by, grouped, fitted, unbroken, at_call, before_group, search_calls, expansion}
+use Rattle.expander_model.specs.Faults.{fault_at}
+use Rattle.expander_session.specs.Laws.{Fails, AreAllPlain}
+use Rattle.expander_model.specs.Meaning.{Layers, members_after, output_of, member_faults}
+use Rattle.expander_model.specs.Pieces.{cut, put_together}
+use Rattle.expander_model.proofs.SplittingLemmas.{put_together-cut}
+use Rattle.expander_scope.proofs.MarkLemmas.{unmarked-marked}
+use Rattle.expander_scope.proofs.TurnLemmas.{known_search}
 
 -- ---- a failed call
 

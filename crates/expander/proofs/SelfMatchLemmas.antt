@@ -4,8 +4,9 @@ use Rattle.std.specs.Prelude.{All, filter, not, ◌||◌}
 use Rattle.std.specs.List.{list_any}
 use Rattle.std.proofs.lemmas.List.Elements.{All-cons, All-head, All-nil, All-tail}
 use Rattle.tt_data.specs.Forest.{Forest}
-use Rattle.expander.specs.Count.{Looked, expanded_count, is_same, same_forest}
-use Rattle.expander.proofs.ReuseLemmas.{looked_same}
+use Rattle.expander_session.specs.Count.{Looked, expanded_count, is_same}
+use Rattle.expander_model.specs.EqualTrees.{same_forest}
+use Rattle.expander_session.proofs.ReuseLemmas.{looked_same}
 
 -- pieces that all have a match
 abbrev pub AllMatch : List Looked → List Looked → Type 0

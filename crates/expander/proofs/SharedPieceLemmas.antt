@@ -4,35 +4,35 @@ use Rattle.std.specs.Prelude.{All, Contains, IsUtf8, Ok, Result, filter_map, fin
 use Rattle.std.specs.List.{cons_option, list_any}
 use Rattle.std.proofs.lemmas.List.Elements.{All-cons, All-head, All-nil, All-tail, filter_map-append}
 use Rattle.bridge.specs.TokenSteps.{text_reading}
-use Rattle.bridge.specs.declared.fault.ReadFault.{ReadFault}
+use Rattle.bridge.specs.declared.reading.outcome.ReadFault.{ReadFault}
 use Rattle.mbe.specs.Grammar.{Grammar}
 use Rattle.tt_data.specs.Forest.{Forest}
 use Rattle.tt_data.specs.declared.edition.Edition.{Edition}
-use Rattle.expander.specs.Count.{Looked, expanded_count, is_same, looked_of}
-use Rattle.expander.specs.Definitions.{Definition, definition_of}
-use Rattle.expander.specs.Expansion.{World, expansion}
-use Rattle.expander.specs.Held.{HasNumber, IsMet, Known, Met, Numbered, StandFromFirst, Tells, definition_trees, kept_after, kept_of, met_of, nearest_met, numbered_of, numbered_scope, numbered_world, with_met}
-use Rattle.expander.specs.Laws.{ExpandsNothing, definitions_after}
-use Rattle.expander.specs.Layered.{layers}
-use Rattle.expander.specs.Meaning.{Layers, Member, member, members, members_after, meaning_from, with_definition}
-use Rattle.expander.specs.Numbers.{Numbering, number_of, tree_of, with_trees}
-use Rattle.expander.specs.Pieces.{pieces, relative}
-use Rattle.expander.specs.Replies.{IsMeant, IsReplyTo}
-use Rattle.expander.specs.Reuse.{HeldPiece, looked_held}
+use Rattle.expander_session.specs.Count.{Looked, expanded_count, is_same, looked_of}
+use Rattle.expander_model.specs.Definitions.{Definition, definition_of}
+use Rattle.expander_model.specs.Expansion.{World, expansion}
+use Rattle.expander_model.specs.Held.{HasNumber, IsMet, Known, Met, Numbered, StandFromFirst, Tells, definition_trees, kept_after, kept_of, met_of, nearest_met, numbered_of, numbered_scope, numbered_world, with_met}
+use Rattle.expander_session.specs.Laws.{ExpandsNothing, definitions_after}
+use Rattle.expander_session.specs.Layered.{layers}
+use Rattle.expander_model.specs.Meaning.{Layers, Member, member, members, members_after, meaning_from, with_definition}
+use Rattle.expander_scope.specs.Numbers.{Numbering, number_of, tree_of, with_trees}
+use Rattle.expander_model.specs.Pieces.{pieces, relative}
+use Rattle.expander_session.specs.Replies.{IsMeant, IsReplyTo}
+use Rattle.expander_session.specs.Reuse.{HeldPiece, looked_held}
 use Rattle.small_grammar.specs.Text.{same_text}
-use Rattle.expander.specs.TextTurn.{StandsInText, held_of}
-use Rattle.expander.specs.World.{world}
-use Rattle.expander.specs.declared.session.Reply.{Reply}
-use Rattle.expander.specs.declared.session.Reply.TheVariants.{Read, Unread}
-use Rattle.expander.proofs.HeldLemmas.{members_present}
-use Rattle.expander.proofs.NumberLemmas.{all_known, tells_apart, with_trees_are}
-use Rattle.expander.proofs.ReadPlaceLemmas.{pieces_stand}
+use Rattle.expander_session.specs.TextTurn.{StandsInText, held_of}
+use Rattle.expander_model.specs.World.{world}
+use Rattle.expander_session.specs.declared.session.Reply.{Reply}
+use Rattle.expander_session.specs.declared.session.Reply.TheVariants.{Read, Unread}
+use Rattle.expander_scope.proofs.HeldLemmas.{members_present}
+use Rattle.expander_session.proofs.NumberLemmas.{all_known, tells_apart, with_trees_are}
+use Rattle.expander_session.proofs.ReadPlaceLemmas.{pieces_stand}
 use Rattle.expander.proofs.ReplyLawLemmas.{behind_counts}
 use Rattle.expander.proofs.SelfMatchLemmas.{AllMatch, all_match, no_new_piece, none_counts}
-use Rattle.expander.proofs.TextPlaceLemmas.{all_numbered, tells}
-use Rattle.expander.proofs.TextTurnLemmas.{are_pieces, kept_are, looked_are_held}
-use Rattle.expander.proofs.WholeTurnLemmas.{TurnLaws}
-use Rattle.expander.proofs.WorldLemmas.{world_at_other_places}
+use Rattle.expander_session.proofs.TextPlaceLemmas.{all_numbered, tells}
+use Rattle.expander_session.proofs.TextTurnLemmas.{are_pieces, kept_are, looked_are_held}
+use Rattle.expander_session.proofs.WholeTurnLemmas.{TurnLaws}
+use Rattle.expander_session.proofs.WorldLemmas.{world_at_other_places}
 
 -- ---- of pieces in places of their own only the trees decide what is held
 

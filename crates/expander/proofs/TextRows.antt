@@ -7,7 +7,7 @@ use Rattle.ucd_derived.specs.Binary.{is_xid_start, is_xid_continue}
 use Rattle.ucd_derived.specs.XidContinueRanges.{xid_continue_ranges}
 use Rattle.ucd_derived.specs.XidStartRanges.{xid_start_ranges}
 use Rattle.ucd_table.specs.Rows.{in_ranges}
-use Rattle.expander.specs.declared.faults.FaultKind.TheVariants.{CannotExpand, BrokenDefinition, NestedDefinition, Unspellable}
+use Rattle.expander_model.specs.declared.fault.FaultKind.TheVariants.{CannotExpand, BrokenDefinition, NestedDefinition, Unspellable}
 use Rattle.tt_data.specs.Forest.{Forest}
 use Rattle.tt_data.specs.Walk.{at_leaf}
 use Rattle.tt_data.specs.declared.leaf.Leaf.TheVariants as as_leaf
@@ -16,14 +16,14 @@ use Rattle.tt_data.specs.declared.span.Span.{Span}
 use Rattle.tt_data.specs.declared.span.SyntaxContext.TheVariants.{Written}
 use Rattle.bridge.specs.Reading.{PlacedToken}
 use Rattle.bridge.specs.TokenSteps.{text_reading}
-use Rattle.bridge.specs.declared.fault.ReadFault.{ReadFault}
-use Rattle.expander.specs.Expansion.{PlacedStep, placed}
-use Rattle.expander.specs.Meaning.{meaning}
-use Rattle.expander.specs.OutputSteps.{faults_in, tokens_in}
+use Rattle.bridge.specs.declared.reading.outcome.ReadFault.{ReadFault}
+use Rattle.expander_model.specs.Expansion.{PlacedStep, placed}
+use Rattle.expander_model.specs.Meaning.{meaning}
+use Rattle.expander_session.specs.Emitting.{faults_in, tokens_in}
 use Rattle.expander.specs.PieceTokens.{written_in}
-use Rattle.expander.specs.Pieces.{pieces}
-use Rattle.expander.specs.Printing.{text_of}
-use Rattle.expander.specs.Runs.{run_layers}
+use Rattle.expander_model.specs.Pieces.{pieces}
+use Rattle.expander_model.specs.Printing.{text_of}
+use Rattle.expander_run.specs.Runs.{run_layers}
 use Rattle.expander.proofs.Rows.{Shown, gives, shown, lines, fault}
 
 abbrev at : ℕ → ℕ → Span

@@ -15,7 +15,7 @@ use Rattle.tt_data.specs.declared.leaf.LitKind.{LitKind}
 use Rattle.tt_data.specs.declared.leaf.Spacing.TheVariants.{Joint}
 use Rattle.bridge.specs.Reading.{PlacedToken, TextStep, bad, range_of, step, written_at}
 use Rattle.bridge.specs.Text.{char}
-use Rattle.bridge.specs.TokenSteps.{doc_steps, doc_text, is_mark, literal_form, literal_sort, name_at, name_in, punct_at, sort_of, spacing_before, steps_of_sort}
+use Rattle.bridge.specs.TokenSteps.{doc_steps, doc_text, is_mark, literal_form, literal_class, name_at, name_in, punct_at, class_of, spacing_before, steps_of_class}
 use Rattle.expander.specs.PieceTokens.{is_blank_kind}
 
 pub data Form : Type 0 where
@@ -47,12 +47,12 @@ is_mark_form (mark c) = true
 is_mark_form _ = false
 
 module _ (P : (PlacedToken → List PlacedToken → List TextStep) → Bool → Type 0) (h : (form : Form) → P (form_steps form) (is_mark_form form)) where
-  by_literal : (o : Option LitKind) (n : ℕ) → P (steps_of_sort (literal_sort o n)) (is_mark (literal_sort o n))
+  by_literal : (o : Option LitKind) (n : ℕ) → P (steps_of_class (literal_class o n)) (is_mark (literal_class o n))
   by_literal None n = h neither
   by_literal (Some f) n = h (value f n)
 
   -- what holds of each form holds of each kind
-  pub by_form : (k : TokenKind) → P (steps_of_sort (sort_of k)) (is_mark (sort_of k))
+  pub by_form : (k : TokenKind) → P (steps_of_class (class_of k)) (is_mark (class_of k))
   by_form kind.Whitespace = h blank
   by_form (kind.LineComment None) = h blank
   by_form (kind.LineComment (Some style)) = h (doc style false)
@@ -94,14 +94,14 @@ module _ (P : (PlacedToken → List PlacedToken → List TextStep) → Bool → 
 -- ---- blank tokens
 
 -- they are read as nothing
-pub blank_is_nothing : (k : TokenKind) (t : PlacedToken) (after : List PlacedToken) → is_blank_kind k ≡ true → steps_of_sort (sort_of k) t after ≡ []
+pub blank_is_nothing : (k : TokenKind) (t : PlacedToken) (after : List PlacedToken) → is_blank_kind k ≡ true → steps_of_class (class_of k) t after ≡ []
 blank_is_nothing kind.Whitespace t after h = refl
 blank_is_nothing (kind.LineComment None) t after h = refl
 blank_is_nothing (kind.BlockComment None true) t after h = refl
 blank_is_nothing _ t after h = cc
 
 -- and no others are
-pub nothing_is_blank : (k : TokenKind) (t : PlacedToken) (after : List PlacedToken) → steps_of_sort (sort_of k) t after ≡ [] → is_blank_kind k ≡ true
+pub nothing_is_blank : (k : TokenKind) (t : PlacedToken) (after : List PlacedToken) → steps_of_class (class_of k) t after ≡ [] → is_blank_kind k ≡ true
 nothing_is_blank kind.Whitespace t after e = refl
 nothing_is_blank (kind.LineComment None) t after e = refl
 nothing_is_blank (kind.LineComment (Some Outer)) t after e = cc
@@ -113,7 +113,7 @@ nothing_is_blank (kind.Lifetime true) t after e = cc
 nothing_is_blank (kind.Lifetime false) t after e = cc
 nothing_is_blank (kind.Literal k suffix_start) t after e = go (literal_form k) e
   where
-    go : (o : Option LitKind) → steps_of_sort (literal_sort o suffix_start) t after ≡ [] → false ≡ true
+    go : (o : Option LitKind) → steps_of_class (literal_class o suffix_start) t after ≡ [] → false ≡ true
     go None h = cc
     go (Some f) h = cc
 nothing_is_blank _ t after e = cc

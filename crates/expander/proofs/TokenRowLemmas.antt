@@ -16,9 +16,9 @@ use Rattle.tt_data.specs.declared.span.Span.{Span}
 use Rattle.bridge.specs.Parts.{starts_with_mark, steps_before}
 use Rattle.bridge.specs.Reading.{PlacedToken, TextStep, bad, placed_from, range_of, step, written_at}
 use Rattle.bridge.specs.Text.{char}
-use Rattle.bridge.specs.TokenSteps.{doc_steps, doc_text, is_mark, name_at, name_in, punct_at, sort_of, spacing_before, steps_of_sort}
+use Rattle.bridge.specs.TokenSteps.{doc_steps, doc_text, is_mark, name_at, name_in, punct_at, class_of, spacing_before, steps_of_class}
 use Rattle.expander.specs.PieceTokens.{counted_from, counted_on, is_between}
-use Rattle.expander.specs.Sources.{bytes_of}
+use Rattle.expander_reparse.specs.Segments.{bytes_of}
 use Rattle.expander.proofs.TokenFormLemmas.{Form, blank, by_form, closing, doc, form_steps, mark, name, neither, opening, quoted_name, value}
 
 -- each token has bytes and begins where the one before it ends, the first of them here
@@ -143,7 +143,7 @@ form_before (value f suffix_start) t a b e = refl
 form_before neither t a b e = refl
 
 pub sort_before : (t : PlacedToken) (a b : List PlacedToken) → starts_with_mark a ≡ starts_with_mark b
-    → steps_of_sort (sort_of t.kind) t a ≡ steps_of_sort (sort_of t.kind) t b
+    → steps_of_class (class_of t.kind) t a ≡ steps_of_class (class_of t.kind) t b
 sort_before t a b e = by_form (λ read is_one. read t a ≡ read t b) (λ form. form_before form t a b e) t.kind
 
 -- ---- at other places
@@ -151,7 +151,7 @@ sort_before t a b e = by_form (λ read is_one. read t a ≡ read t b) (λ form. 
 starts_at_others : (F : PlacedToken → PlacedToken) → ((t : PlacedToken) → (F t).kind ≡ t.kind) → (ts others : List PlacedToken)
     → starts_with_mark (map F ts ++ others) ≡ starts_with_mark (map F (ts ++ others))
 starts_at_others F same [] [] = refl
-starts_at_others F same [] (t ∷ others) = ap (λ k. is_mark (sort_of k)) (sym (same t))
+starts_at_others F same [] (t ∷ others) = ap (λ k. is_mark (class_of k)) (sym (same t))
 starts_at_others F same (t ∷ ts) others = refl
 
 module _ (shift : ℕ → ℕ) where
@@ -204,7 +204,7 @@ module _ (shift : ℕ → ℕ) where
   form_shifted neither t after h = ap (λ (k : ℕ). bad (record { start = shift t.start; «end» = k }) ∷ []) (sym (h (length t.text)))
 
   sort_shifted : (t : PlacedToken) (after : List PlacedToken) → Goes t
-      → steps_of_sort (sort_of t.kind) (shifted_token t) (map shifted_token after) ≡ map shifted_step (steps_of_sort (sort_of t.kind) t after)
+      → steps_of_class (class_of t.kind) (shifted_token t) (map shifted_token after) ≡ map shifted_step (steps_of_class (class_of t.kind) t after)
   sort_shifted t after h =
       by_form (λ read is_one. read (shifted_token t) (map shifted_token after) ≡ map shifted_step (read t after)) (λ form. form_shifted form t after h) t.kind
 
@@ -214,8 +214,8 @@ module _ (shift : ℕ → ℕ) where
       ap (λ (l : List TextStep). l ++ steps_before (map shifted_token ts) others)
       (sort_before (shifted_token t) (map shifted_token ts ++ others) (map shifted_token (ts ++ others)) (starts_at_others shifted_token (λ u. refl) ts others)
       ∙ sort_shifted t (ts ++ others) h.0)
-      ∙ ap (λ (l : List TextStep). map shifted_step (steps_of_sort (sort_of t.kind) t (ts ++ others)) ++ l) (steps_shifted ts others h.1)
-      ∙ sym (map-append shifted_step (steps_of_sort (sort_of t.kind) t (ts ++ others)) (steps_before ts others))
+      ∙ ap (λ (l : List TextStep). map shifted_step (steps_of_class (class_of t.kind) t (ts ++ others)) ++ l) (steps_shifted ts others h.1)
+      ∙ sym (map-append shifted_step (steps_of_class (class_of t.kind) t (ts ++ others)) (steps_before ts others))
 
   -- steps of a walk
   pub walk_shifted : (steps : List Step) → map shifted_step (map step steps) ≡ map step (map (step_with shifted_span) steps)

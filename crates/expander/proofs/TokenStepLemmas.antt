@@ -13,7 +13,7 @@ use Rattle.bridge.specs.Parts.{starts_with_mark, steps_before}
 use Rattle.bridge.specs.Printing.{step_span}
 use Rattle.bridge.specs.Reading.{PlacedToken, TextStep, bad, range_of, step, written_at}
 use Rattle.bridge.specs.Text.{is_punct}
-use Rattle.bridge.specs.TokenSteps.{mark_leaf, sort_of, spacing_before, steps_of, steps_of_sort}
+use Rattle.bridge.specs.TokenSteps.{mark_leaf, class_of, spacing_before, steps_of, steps_of_class}
 use Rattle.expander.specs.PieceTokens.{AreBlank, is_blank_kind}
 use Rattle.expander.proofs.TokenFormLemmas.{Form, blank, by_form, closing, doc, form_steps, is_mark_form, mark, name, neither, nothing_is_blank, opening, quoted_name, value}
 use Rattle.expander.proofs.TokenRowLemmas.{InRow, end_from, sort_before}
@@ -96,8 +96,8 @@ form_cases (doc Inner is_block) t after X nothing steps fault =
 form_cases (value f suffix_start) t after X nothing steps fault = steps _ [] (record { are = refl; starts = refl; stops = refl; quiet = refl; elsewhere = λ others h. refl })
 form_cases neither t after X nothing steps fault = fault _ refl
 
-sort_cases : (t : PlacedToken) (after : List PlacedToken) (X : Type 0) → (steps_of_sort (sort_of t.kind) t after ≡ [] → X)
-    → ((s : Step) (more : List Step) → AreSteps t after (steps_of_sort (sort_of t.kind) t) s more → X) → ((range : TextRange) → steps_of_sort (sort_of t.kind) t after ≡ bad range ∷ [] → X) → X
+sort_cases : (t : PlacedToken) (after : List PlacedToken) (X : Type 0) → (steps_of_class (class_of t.kind) t after ≡ [] → X)
+    → ((s : Step) (more : List Step) → AreSteps t after (steps_of_class (class_of t.kind) t) s more → X) → ((range : TextRange) → steps_of_class (class_of t.kind) t after ≡ bad range ∷ [] → X) → X
 sort_cases t after X =
     by_form (λ read is_one. (read t after ≡ [] → X) → ((s : Step) (more : List Step) → AreSteps t after (read t) s more → X) → ((range : TextRange) → read t after ≡ bad range ∷ [] → X) → X)
     (λ form. form_cases form t after X) t.kind
@@ -163,7 +163,7 @@ pub record HasPart (n : ℕ) (ts : List PlacedToken) (xs : List Step) (x : Step)
   pub left : steps_of rest ≡ map step ys
 
 -- with one more token before them
-part_with : (n : ℕ) (t : PlacedToken) (ts : List PlacedToken) (front xs : List Step) (x : Step) (ys : List Step) → steps_of_sort (sort_of t.kind) t ts ≡ map step front
+part_with : (n : ℕ) (t : PlacedToken) (ts : List PlacedToken) (front xs : List Step) (x : Step) (ys : List Step) → steps_of_class (class_of t.kind) t ts ≡ map step front
     → HasPart (n + length t.text) ts xs x ys → HasPart n (t ∷ ts) (front ++ xs) x ys
 part_with n t ts front xs x ys read p = record {
   first = t;
@@ -198,7 +198,7 @@ take_part n (t ∷ ts) xs x ys row e h =
       split = refl;
       stops = ap (λ (k : ℕ). k + length t.text) (sym row.0) ∙ sym are.stops ∙ ap stops_at last;
       before = λ others follows.
-          append-nil (steps_of_sort (sort_of t.kind) t others)
+          append-nil (steps_of_class (class_of t.kind) t others)
           ∙ are.elsewhere others (λ k. follows (ap is_end (sym last) ∙ k) ∙ sym (no_mark ts (tail ∙ ap (map step) (h (ap is_end (sym last) ∙ k)))))
           ∙ ap (map step) (spaces (spacing_before others));
       left = tail;
@@ -232,14 +232,14 @@ take_blanks n (t ∷ ts) x xs row e =
     record { blanks = []; are_blank = All-nil (λ (u : PlacedToken). is_blank_kind u.kind ≡ true); rest = t ∷ ts; split = refl; starts = sym row.0 ∙ sym are.starts ∙ ap starts_at same; left = refl })
     (λ range fault. absurd (let k : bad range ∷ steps_of ts ≡ step x ∷ map step xs = ap (λ (l : List TextStep). l ++ steps_of ts) (sym fault) ∙ e in cc))
   where
-    blank_more : (u : PlacedToken) (us : List PlacedToken) → steps_of_sort (sort_of u.kind) u ts ≡ [] → AreBlank us → AreBlank (u ∷ us)
+    blank_more : (u : PlacedToken) (us : List PlacedToken) → steps_of_class (class_of u.kind) u ts ≡ [] → AreBlank us → AreBlank (u ∷ us)
     blank_more u us none h = All-cons (λ (v : PlacedToken). is_blank_kind v.kind ≡ true) u us (nothing_is_blank u.kind u ts none) h
 
 -- tokens that are read as nothing
 pub none_are_blank : (ts : List PlacedToken) → steps_of ts ≡ [] → AreBlank ts
 none_are_blank [] e = All-nil (λ (t : PlacedToken). is_blank_kind t.kind ≡ true)
 none_are_blank (t ∷ ts) e =
-    let parts = both_none (steps_of_sort (sort_of t.kind) t ts) (steps_of ts) e in
+    let parts = both_none (steps_of_class (class_of t.kind) t ts) (steps_of ts) e in
     All-cons (λ (u : PlacedToken). is_blank_kind u.kind ≡ true) t ts (nothing_is_blank t.kind t ts parts.0) (none_are_blank ts parts.1)
   where
     both_none : (xs ys : List TextStep) → xs ++ ys ≡ [] → (xs ≡ []) × (ys ≡ [])

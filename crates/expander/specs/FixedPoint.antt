@@ -1,13 +1,13 @@
 -- Texts that print themselves.
 use Rattle.std.specs.Prelude.{◌≡◌, ℕ, List, [], Result, Ok, Err}
 use Rattle.bridge.specs.TokenSteps.{text_reading}
-use Rattle.bridge.specs.declared.fault.ReadFault.{ReadFault}
-use Rattle.expander.specs.declared.session.Reply.{Reply}
-use Rattle.expander.specs.declared.session.Reply.TheVariants.{Read, Unread}
-use Rattle.expander.specs.Laws.{AreAllPlain}
-use Rattle.expander.specs.Layered.{layers}
-use Rattle.expander.specs.Meaning.{ReadMeaning, meaning}
-use Rattle.expander.specs.Pieces.{pieces}
+use Rattle.bridge.specs.declared.reading.outcome.ReadFault.{ReadFault}
+use Rattle.expander_session.specs.declared.session.Reply.{Reply}
+use Rattle.expander_session.specs.declared.session.Reply.TheVariants.{Read, Unread}
+use Rattle.expander_session.specs.Laws.{AreAllPlain}
+use Rattle.expander_session.specs.Layered.{layers}
+use Rattle.expander_model.specs.Meaning.{ReadMeaning, meaning}
+use Rattle.expander_model.specs.Pieces.{pieces}
 use Rattle.mbe.specs.Grammar.{Grammar}
 use Rattle.tt_data.specs.Forest.{Forest}
 use Rattle.tt_data.specs.declared.edition.Edition.{Edition}

@@ -6,7 +6,7 @@ use Rattle.rustc_lexer.specs.declared.token.TokenKind.{TokenKind}
 use Rattle.rustc_lexer.specs.declared.token.TokenKind.TheVariants as kind
 use Rattle.tt_data.specs.Forest.{Forest, empty, leaf, group}
 use Rattle.tt_data.specs.Spans.{span_of}
-use Rattle.expander.specs.Pieces.{first_start}
+use Rattle.expander_model.specs.Pieces.{first_start}
 
 -- where the last token of trees ends
 abbrev pub last_end : Forest → ℕ

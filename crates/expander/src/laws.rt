@@ -1,43 +1,44 @@
 //! Laws of the definitions, for those who read them. A call does nothing: it only states.
 ghost use Rattle.std.specs.Prelude.{◌≡◌, ◌≢◌, ◌↔◌, ℕ, ◌+◌, ◌≤◌, ◌<◌, ◌^◌, false, true, All, Contains, List, [], ◌∷◌, ◌++◌, filter, filter_map, flat_map, length, map, IsUtf8, Option, Some, None, Ok, option_map, unwrap_or};
 ghost use Rattle.std.specs.List.Sorted.{IsPermutation, IsSortedBy};
-ghost use Rattle.expander.specs.Agreement.{FoundIn, scope_of};
-ghost use Rattle.expander.specs.Answers.{AreAnswers, ShowTheSame, last_text};
-ghost use Rattle.expander.specs.Calls.{is_colons, marked, unmarked};
-ghost use Rattle.expander.specs.CallSteps.{call_at, first_call};
-ghost use Rattle.expander.specs.Changes.{outcome_with};
-ghost use Rattle.expander.specs.Count.{Looked, expanded_count, finds_within, is_same, looked_of, same_forest};
-ghost use Rattle.expander.specs.Expansion.{World, expansion, followed_by, grouped, placed};
-ghost use Rattle.expander.specs.Expanded.{Expanded};
-ghost use Rattle.expander.specs.Faults.{comes_before, in_order};
+ghost use Rattle.expander_session.specs.Agreement.{FoundIn, scope_of};
+ghost use Rattle.expander_session.specs.Answers.{AreAnswers, ShowTheSame, last_text};
+ghost use Rattle.expander_model.specs.Calls.{is_colons, marked, unmarked};
+ghost use Rattle.expander_model.specs.CallSteps.{call_at, first_call};
+ghost use Rattle.expander_model.specs.Changes.{outcome_with};
+ghost use Rattle.expander_session.specs.Count.{Looked, expanded_count, finds_within, is_same, looked_of};
+ghost use Rattle.expander_model.specs.EqualTrees.{same_forest};
+ghost use Rattle.expander_model.specs.Expansion.{World, expansion, followed_by, grouped, placed};
+ghost use Rattle.expander_session.specs.Expanded.{Expanded};
+ghost use Rattle.expander_model.specs.Faults.{comes_before, in_order};
 ghost use Rattle.expander.specs.FixedPoint.{IsFixedPoint, RepliesWith};
-ghost use Rattle.expander.specs.Held.{IsMet, Known, Met, TellsApart, definition_trees, kept_after, numbered_scope, numbered_world, present, trees_in};
-ghost use Rattle.expander.specs.Laws.{AreAllPlain, ExpandsNothing, Fails, FindsAsBefore, HasNoWord, IsEnded, IsParted, definitions_after, why_failed};
-ghost use Rattle.expander.specs.Layered.{layers};
-ghost use Rattle.expander.specs.Meaning.{Layers, ReadMeaning, faults_of, meaning, member_faults, members, members_after, output, output_of};
-ghost use Rattle.expander.specs.Numbers.{AreEntries, Numbering, needed, number_in, number_of, tree_of, with_trees};
-ghost use Rattle.expander.specs.OtherPlaces.{CommutesWithMarker, definition_with};
+ghost use Rattle.expander_model.specs.Held.{IsMet, Known, Met, TellsApart, definition_trees, kept_after, numbered_scope, numbered_world, present, trees_in};
+ghost use Rattle.expander_session.specs.Laws.{AreAllPlain, ExpandsNothing, Fails, FindsAsBefore, HasNoWord, IsEnded, IsParted, definitions_after, why_failed};
+ghost use Rattle.expander_session.specs.Layered.{layers};
+ghost use Rattle.expander_model.specs.Meaning.{Layers, ReadMeaning, faults_of, meaning, member_faults, members, members_after, output, output_of};
+ghost use Rattle.expander_scope.specs.Numbers.{AreEntries, Numbering, needed, number_in, number_of, tree_of, with_trees};
+ghost use Rattle.expander_model.specs.OtherPlaces.{CommutesWithMarker, definition_with};
 ghost use Rattle.expander.specs.PieceTokens.{AreWords, placed_tokens, written_in};
-ghost use Rattle.expander.specs.Pieces.{cut, pieces, put_together, relative, separated};
-ghost use Rattle.expander.specs.Printing.{left_out};
-ghost use Rattle.expander.specs.Replies.{HasCause, IsReplyTo, NeedsNumbers, Replies, definitions_in};
-ghost use Rattle.expander.specs.Reuse.{HeldPiece, IsHeld, looked_at, looked_held, matches};
-ghost use Rattle.expander.specs.State.{State, layers_of};
-ghost use Rattle.expander.specs.TextTurn.{InEntries, IsNext, IsTurn, held_of, is_unmatched, kept_entries, numbering_of, taken_after};
-ghost use Rattle.expander.specs.declared.calls.Call.{Call};
-ghost use Rattle.expander.specs.Definitions.{Definition, definition_of, nearest};
-ghost use Rattle.expander.specs.World.{world};
-ghost use Rattle.expander.specs.declared.faults.Fault.{Fault};
-ghost use Rattle.expander.specs.declared.faults.FaultKind.{FaultKind};
-ghost use Rattle.expander.specs.declared.commands.Answer.{Answer};
-ghost use Rattle.expander.specs.declared.commands.Answer.TheVariants.{Reply as Replied};
-ghost use Rattle.expander.specs.declared.commands.Command.{Command};
-ghost use Rattle.expander.specs.declared.commands.Command.TheVariants.{Expand};
-ghost use Rattle.expander.specs.declared.program.Status.{Status};
-ghost use Rattle.expander.specs.declared.session.Refusal.{Refusal};
-ghost use Rattle.expander.specs.declared.session.Refusal.TheVariants.{Numbers};
-ghost use Rattle.expander.specs.declared.session.Reply.{Reply};
-ghost use Rattle.expander.specs.declared.session.Reply.TheVariants.{Read};
+ghost use Rattle.expander_model.specs.Pieces.{cut, pieces, put_together, relative, separated};
+ghost use Rattle.expander_model.specs.Printing.{left_out};
+ghost use Rattle.expander_session.specs.Replies.{HasCause, IsReplyTo, NeedsNumbers, Replies, definitions_in};
+ghost use Rattle.expander_session.specs.Reuse.{HeldPiece, IsHeld, looked_at, looked_held, matches};
+ghost use Rattle.expander_session.specs.State.{State, layers_of};
+ghost use Rattle.expander_session.specs.TextTurn.{InEntries, IsNext, IsTurn, held_of, is_unmatched, kept_entries, numbering_of, taken_after};
+ghost use Rattle.expander_model.specs.declared.call.Call.{Call};
+ghost use Rattle.expander_model.specs.Definitions.{Definition, definition_of, nearest};
+ghost use Rattle.expander_model.specs.World.{world};
+ghost use Rattle.expander_model.specs.declared.fault.Fault.{Fault};
+ghost use Rattle.expander_model.specs.declared.fault.FaultKind.{FaultKind};
+ghost use Rattle.expander_session.specs.declared.commands.Answer.{Answer};
+ghost use Rattle.expander_session.specs.declared.commands.Answer.TheVariants.{Reply as Replied};
+ghost use Rattle.expander_session.specs.declared.commands.Command.{Command};
+ghost use Rattle.expander_session.specs.declared.commands.Command.TheVariants.{Expand};
+ghost use Rattle.expander_run.specs.declared.program.Status.{Status};
+ghost use Rattle.expander_scope.specs.declared.refusal.Refusal.{Refusal};
+ghost use Rattle.expander_scope.specs.declared.refusal.Refusal.TheVariants.{Numbers};
+ghost use Rattle.expander_session.specs.declared.session.Reply.{Reply};
+ghost use Rattle.expander_session.specs.declared.session.Reply.TheVariants.{Read};
 ghost use Rattle.bridge.specs.Reading.{reading};
 ghost use Rattle.bridge.specs.TokenSteps.{escaped, steps_of, text_reading};
 ghost use Rattle.mbe.specs.Grammar.{Grammar};
@@ -49,9 +50,11 @@ ghost use Rattle.tt_data.specs.Walk.{walk};
 ghost use Rattle.tt_data.specs.declared.edition.Edition.{Edition};
 ghost use Rattle.tt_data.specs.declared.span.Span.{Span};
 
-use crate::faults::{Fault, FaultKind};
-use crate::program::Status;
-use crate::session::Refusal;
+use expander_model::fault::{Fault, FaultKind};
+pub use expander_model::laws::equal_pieces;
+use expander_run::program::Status;
+use expander_scope::refusal::Refusal;
+pub use expander_session::laws::definitions_are_no_more_than_bytes;
 use fragment_grammar::FragmentGrammar;
 
 /// A forest's calls are marked and nothing else: the marks taken off give the forest back.
@@ -441,18 +444,6 @@ pub fn numbers_tell_trees_apart()
     equal_pieces();
 }
 
-/// A text has at most as many definitions as bytes: `counted`. So where none was numbered before and the text has fewer than
-/// 2^32 bytes, there are numbers for them all: `numbered`.
-pub fn definitions_are_no_more_than_bytes()
-    ensures counted { (grammar : Grammar) (edition : Edition) (depth : ℕ) (text : List ℕ) →
-        IsUtf8 text → length (definitions_in (meaning (layers grammar edition) depth text)) ≤ length text }
-    ensures numbered { (grammar : Grammar) (edition : Edition) (depth : ℕ) (text : List ℕ) →
-        IsUtf8 text → length text < 2 ^ 32 → NeedsNumbers 0 [] (meaning (layers grammar edition) depth text) → ⊥ }
-{
-    bridge::laws::reading_is_a_relation();
-    rustc_lexer::laws::token_lengths();
-}
-
 /// A session that has numbered no definition yet, as a new one, over a text of fewer than 2^32 bytes, never answers `Numbers`.
 pub fn a_first_answer_lacks_no_numbers<G: FragmentGrammar>()
     ensures { (s : State G) → IsUtf8 s.text → length s.text < 2 ^ 32 → s.given ≡ 0 → s.trees ≡ [] →
@@ -481,13 +472,6 @@ pub fn what_is_held_stays_right()
     bridge::laws::tokens_follow_one_another();
     bridge::laws::tokens_are_written();
     equal_pieces();
-}
-
-/// The trees of two pieces are equal by `==` exactly where they are the same, places included.
-pub fn equal_pieces()
-    ensures { (f g : Forest) → (same_forest f g ≡ true) ↔ (f ≡ g) }
-{
-    tt::laws::equal_trees();
 }
 
 /// Faults put in order are the same faults, and none comes before the one that it follows.

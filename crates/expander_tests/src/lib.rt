@@ -1,13 +1,14 @@
 //! Tests of the expander's public calls, in a crate of their own so that the expander is proved once.
 //!
-//! Expected values were worked out by hand. What definitions alone decide stands as rows in the expander's `proofs/`;
-//! here each call is run, with memory and without, and with readers and writers that fail.
+//! Expected values were worked out by hand. What definitions alone decide stands as rows in the expander's `proofs/`, and
+//! what texts give with 128 levels in the stored run of the program `replay`. Here are other levels, other grammars, and
+//! calls that no script makes, with memory and without, and with readers and writers that fail.
 #![tactic(auto)]
 
 #[cfg(test)]
 mod fakes;
 #[cfg(test)]
-mod replays;
+mod levels;
 #[cfg(test)]
 mod rows;
 #[cfg(test)]

@@ -1,166 +1,176 @@
 //! Runs over readers and writers of which some fail.
 use crate::fakes::{End, Narrow, Pieces, whole, wide};
+use crate::rows::{row_of, text_of};
 use expander::{Status, Watched, run};
 use std::alloc::Global;
 use std::io;
+use std::test::Fail;
 
-const TEXT: &str = "let x = y ;\n";
+// Who fails, after how many bytes, and how; the text; the status, who was seen to fail, and how often the output and the
+// told faults were flushed; what is printed; what is told. `⏎` stands for the end of a line.
+const ROWS: &str = r#"
+- 0 - ¦  ¦ 0 - 1 0 ¦  ¦
+- 0 - ¦ let x = y ;⏎ ¦ 0 - 1 0 ¦ let x = y ;⏎ ¦
+- 0 - ¦ macro_rules! m { (a) => { b } }⏎m!{a} m!{c}⏎ ¦ 1 - 1 1 ¦ b m ! { c }⏎ ¦ line 2, byte column 7: no rule matches this call⏎
+- 0 - ¦ macro_rules! l { () => { l!{} } }⏎l!{}⏎ ¦ 1 - 1 1 ¦ l ! { }⏎ ¦ line 2, byte column 1: recursion limit reached⏎
+- 0 - ¦ macro_rules! m { a }⏎ ¦ 1 - 1 1 ¦  ¦ line 1, byte column 14: broken macro definition⏎
+- 0 - ¦ "é" macro ;⏎⏎macro_rules x ;⏎ ¦ 1 - 1 1 ¦ "é" macro ;⏎macro_rules x ;⏎ ¦ line 1, byte column 6: macro definition in the output⏎line 3, byte column 1: macro definition in the output⏎
+- 0 - ¦ fn f( { ¦ 1 - 0 1 ¦  ¦ line 1, byte column 7: group left open⏎
+- 0 - ¦ (] ¦ 1 - 0 1 ¦  ¦ line 1, byte column 2: closing bracket does not fit⏎
+- 0 - ¦ ⏎## ¦ 1 - 0 1 ¦  ¦ line 2, byte column 1: bad token⏎
+reader 0 Interrupted ¦ let x = y ;⏎ ¦ 1 reader 0 1 ¦  ¦ read failed⏎
+reader 5 Other ¦ let x = y ;⏎ ¦ 1 reader 0 1 ¦  ¦ read failed⏎
+reader 12 Interrupted ¦ let x = y ;⏎ ¦ 1 reader 0 1 ¦  ¦ read failed⏎
+writer 0 Interrupted ¦ let x = y ;⏎ ¦ 1 writer 0 1 ¦  ¦ write failed⏎
+writer 1 Other ¦ let x = y ;⏎ ¦ 1 writer 0 1 ¦ l ¦ write failed⏎
+writer 5 nothing ¦ let x = y ;⏎ ¦ 1 writer 0 1 ¦ let x ¦ write failed⏎
+writer 11 Other ¦ let x = y ;⏎ ¦ 1 writer 0 1 ¦ let x = y ; ¦ write failed⏎
+flush 0 BrokenPipe ¦ let x = y ;⏎ ¦ 1 writer 1 1 ¦ let x = y ;⏎ ¦ write failed⏎
+faults 0 Other ¦ ## ¦ 1 faults 0 0 ¦  ¦
+faults 3 nothing ¦ ## ¦ 1 faults 0 0 ¦  ¦ lin
+faults 8 Interrupted ¦ ## ¦ 1 faults 0 0 ¦  ¦ line 1,
+"#;
 
-// What was seen of a run.
-#[derive(Drop)]
-struct Seen {
-    status: Status,
-    read_failed: bool,
-    asked_again: bool,
-    write_failed: bool,
-    writer: Narrow,
-    told: Narrow,
-}
-
-// Runs over a reader and two writers.
-fn watch_run(alloc: Global, reader: Pieces<'_>, writer: Narrow, faults: Narrow) -> Seen {
-    let mut reader = Watched::new(reader);
-    let mut writer = Watched::new(writer);
-    let mut faults = Watched::new(faults);
-    let status = run(alloc, &mut reader, &mut writer, &mut faults, 128);
-    Seen {
-        status,
-        read_failed: reader.failed(),
-        asked_again: reader.into_inner().asked_again,
-        write_failed: writer.failed(),
-        writer: writer.into_inner(),
-        told: faults.into_inner(),
+fn kind_of(how: &str) -> io::ErrorKind {
+    match how {
+        "Interrupted" => io::ErrorKind::Interrupted,
+        "BrokenPipe" => io::ErrorKind::BrokenPipe,
+        _ => io::ErrorKind::Other,
     }
 }
 
-#[test]
-fn a_text_is_answered(rt: HostRuntime) {
-    let cases: [(&[u8], &str, &str, u8, u8); 7] = [
-        (b"", "", "", 0, 1),
-        (
-            b"macro_rules! m { (a) => { b } }\nm!{a} m!{c}\n",
-            "b m ! { c }\n",
-            "line 2, byte column 7: no rule matches this call\n",
-            1,
-            1,
-        ),
-        (b"let x = y ;\n", "let x = y ;\n", "", 0, 1),
-        (
-            b"\"\xc3\xa9\" macro ;\n\nmacro_rules x ;\n",
-            "\"\u{e9}\" macro ;\nmacro_rules x ;\n",
-            "line 1, byte column 6: macro definition in the output\nline 3, byte column 1: macro definition in the output\n",
-            1,
-            1,
-        ),
-        (
-            b"fn f( {",
-            "",
-            "line 1, byte column 7: group left open\n",
-            1,
-            0,
-        ),
-        (b"\n##", "", "line 2, byte column 1: bad token\n", 1, 0),
-        (b"\xff", "", "input is not UTF-8\n", 1, 0),
-    ];
-    for (input, printed, told, status, flushes) in cases {
-        for most in [1, 3, 4096] {
-            let reader = Pieces {
-                most,
-                ..whole(input)
-            };
-            let writer = Narrow {
-                most,
-                ..wide(rt.alloc())
-            };
-            let seen = watch_run(rt.alloc(), reader, writer, wide(rt.alloc()));
-            assert_eq!(rt; seen.status, Status(status), "at {printed}, by {most}");
-            assert!(rt; !seen.read_failed && !seen.write_failed);
-            assert_eq!(rt; seen.writer.got.as_slice(), printed.as_bytes());
-            assert_eq!(rt; seen.writer.flushes, flushes);
-            assert_eq!(rt; seen.told.got.as_slice(), told.as_bytes());
-            assert_eq!(rt; seen.told.flushes, u8::from(!told.is_empty()));
-        }
+// How many bytes one of them gives or takes before it fails, if it is the one that fails.
+fn room_of(name: &str, who: &str, room: usize) -> Option<usize> {
+    if name == who { Some(room) } else { None }
+}
+
+// A writer that takes so many bytes a call.
+fn writer(alloc: Global, most: usize, room: Option<usize>, how: &str) -> Narrow {
+    Narrow {
+        most,
+        room: room.unwrap_or(200),
+        end: if how == "nothing" {
+            End::TakesNothing
+        } else {
+            End::Fails(kind_of(how))
+        },
+        ..wide(alloc)
     }
 }
 
-#[test]
-fn a_read_that_fails_is_the_last_and_writes_nothing(rt: HostRuntime) {
-    for kind in [io::ErrorKind::Interrupted, io::ErrorKind::Other] {
-        for cut in [0, 5, 12] {
-            let reader = Pieces {
-                cut: Some(cut),
-                kind,
-                ..whole(TEXT.as_bytes())
-            };
-            let seen = watch_run(rt.alloc(), reader, wide(rt.alloc()), wide(rt.alloc()));
-            assert_eq!(rt; seen.status, Status(1), "at {cut}");
-            assert!(rt; seen.read_failed && !seen.asked_again && !seen.write_failed);
-            assert!(rt; seen.writer.got.is_empty());
-            assert_eq!(rt; seen.told.got.as_slice(), b"read failed\n".as_slice());
-        }
-    }
+// How often writers were flushed and what they got, as a row has it.
+fn got_by(alloc: Global, output: &Narrow, faults: &Narrow) -> Result<String, Fail> {
+    let printed = row_of(alloc, str::from_utf8(output.got.as_slice())?)?;
+    let told = row_of(alloc, str::from_utf8(faults.got.as_slice())?)?;
+    let (first, second) = (output.flushes, faults.flushes);
+    Ok(format!(in alloc; "{first} {second} ¦ {printed} ¦ {told}")?)
 }
 
-#[test]
-fn a_write_that_fails_leaves_a_front(rt: HostRuntime) {
-    let ends = [
-        End::Fails(io::ErrorKind::Interrupted),
-        End::Fails(io::ErrorKind::Other),
-        End::TakesNothing,
-    ];
-    for end in ends {
-        for room in [0, 1, 5, 11] {
-            let writer = Narrow {
-                room,
-                end,
-                ..wide(rt.alloc())
-            };
-            let seen = watch_run(rt.alloc(), whole(TEXT.as_bytes()), writer, wide(rt.alloc()));
-            assert_eq!(rt; seen.status, Status(1), "at {room}");
-            assert!(rt; seen.write_failed && !seen.writer.asked_again && !seen.read_failed);
-            assert_eq!(rt; seen.writer.got.as_slice(), &TEXT.as_bytes()[..room]);
-            assert_eq!(rt; seen.told.got.as_slice(), b"write failed\n".as_slice());
-        }
-    }
-}
-
-#[test]
-fn lines_that_cannot_be_told_leave_a_front(rt: HostRuntime) {
-    for room in [0, 3, 8] {
-        let faults = Narrow {
-            room,
-            ..wide(rt.alloc())
-        };
-        let seen = watch_run(rt.alloc(), whole(b"##"), wide(rt.alloc()), faults);
-        assert_eq!(rt; seen.status, Status(1), "at {room}");
-        assert_eq!(rt; seen.told.got.as_slice(), &b"line 1, byte"[..room]);
-        assert!(rt; seen.told.failed && !seen.told.asked_again && seen.told.flushes == 0);
-    }
-}
-
-#[test]
-fn a_flush_that_fails_is_a_write_that_failed(rt: HostRuntime) {
-    let writer = Narrow {
-        flush_fails: Some(io::ErrorKind::BrokenPipe),
-        ..wide(rt.alloc())
+// What a run over bytes shows, as a row has it, where so many are read or written a call.
+fn shown(alloc: Global, fails: &str, input: &[u8], most: usize) -> Result<String, Fail> {
+    let (who, rest) = fails.split_once(' ').unwrap_or(("-", "0 -"));
+    let (room, how) = rest.split_once(' ').unwrap_or(("0", "-"));
+    let room = room.parse::<usize>()?;
+    let mut reader = Watched::new(Pieces {
+        most,
+        cut: room_of("reader", who, room),
+        kind: kind_of(how),
+        ..whole(input)
+    });
+    let mut output = Watched::new(Narrow {
+        flush_fails: if who == "flush" {
+            Some(kind_of(how))
+        } else {
+            None
+        },
+        ..writer(alloc, most, room_of("writer", who, room), how)
+    });
+    let mut faults = Watched::new(writer(alloc, most, room_of("faults", who, room), how));
+    let Status(status) = run(alloc, &mut reader, &mut output, &mut faults, 128);
+    let failed = if reader.failed() {
+        "reader"
+    } else if output.failed() {
+        "writer"
+    } else if faults.failed() {
+        "faults"
+    } else {
+        "-"
     };
-    let seen = watch_run(rt.alloc(), whole(TEXT.as_bytes()), writer, wide(rt.alloc()));
-    assert_eq!(rt; seen.status, Status(1));
-    assert!(rt; seen.write_failed && !seen.writer.asked_again);
-    assert_eq!(rt; seen.writer.got.as_slice(), TEXT.as_bytes());
+    let (output, faults) = (output.into_inner(), faults.into_inner());
+    if reader.into_inner().asked_again || output.asked_again || faults.asked_again {
+        return Err(Fail::new("a call follows one that failed"));
+    }
+    let got = got_by(alloc, &output, &faults)?;
+    Ok(format!(in alloc; "{status} {failed} {got}")?)
+}
+
+#[test]
+fn runs(rt: HostRuntime) -> Result<(), Fail> {
+    let alloc = rt.alloc();
+    for row in ROWS.lines() {
+        if let Some((fails, call)) = row.split_once(" ¦ ") {
+            if let Some((text, want)) = call.split_once(" ¦ ") {
+                let input = text_of(alloc, text)?;
+                for most in [1, 3, 4096] {
+                    let got = shown(alloc, fails, input.as_bytes(), most)?;
+                    assert!(rt; got.as_str().trim_end() == want, "{row}: {got}");
+                }
+            }
+        }
+    }
+    let got = shown(alloc, "- 0 -", b"\xff", 3)?;
+    assert!(rt; got.as_str() == "1 - 0 1 ¦  ¦ input is not UTF-8⏎", "{got}");
+    Ok(())
+}
+
+// A text with so many groups in one another around a `x`.
+fn nested(alloc: Global, before: &str, levels: usize, after: &str) -> Result<String, Fail> {
+    let begun = "(".repeat(alloc, levels)?;
+    let ended = ")".repeat(alloc, levels)?;
+    Ok(format!(in alloc; "{before}{begun}x{ended}{after}")?)
+}
+
+// How many bytes are printed of it, without a fault.
+fn printed(alloc: Global, before: &str, levels: usize, after: &str) -> Result<usize, Fail> {
+    let text = nested(alloc, before, levels, after)?;
+    let mut reader = Watched::new(Pieces {
+        most: 4096,
+        ..whole(text.as_bytes())
+    });
+    let mut output = Watched::new(Narrow {
+        most: 4096,
+        room: 10_000_000,
+        ..wide(alloc)
+    });
+    let mut faults = Watched::new(wide(alloc));
+    if run(alloc, &mut reader, &mut output, &mut faults, 128) != Status(0) {
+        return Err(Fail::new("there is a fault"));
+    }
+    Ok(output.into_inner().got.len())
+}
+
+#[test]
+fn deep_groups(rt: HostRuntime) -> Result<(), Fail> {
+    let alloc = rt.alloc();
+    let one = "macro_rules! m { ($a:tt) => { $a } }\nm!{";
+    let any = "macro_rules! m { ($($t:tt)*) => { $($t)* } }\nm!{";
+    assert!(rt; printed(alloc, one, 500, "}")? == 2_002);
+    assert!(rt; printed(alloc, any, 1_000_000, "}")? == 4_000_002);
+    assert!(rt; printed(alloc, "", 1_000_000, "")? == 4_000_002);
+    Ok(())
 }
 
 // For runs of the tests in which a request for memory is refused; the writer's own may be the one.
 #[test]
 fn a_refused_run_writes_all_or_nothing(rt: HostRuntime) {
-    let seen = watch_run(
-        rt.alloc(),
-        whole(TEXT.as_bytes()),
-        wide(rt.alloc()),
-        wide(rt.alloc()),
-    );
-    let got = seen.writer.got.as_slice();
-    let answered = seen.status == Status(0) && got == TEXT.as_bytes();
-    let refused = seen.status == Status(1) && (got.is_empty() || seen.write_failed);
-    assert!(rt; !seen.read_failed && (answered || refused));
+    let mut reader = Watched::new(whole(b"let x = y ;\n"));
+    let mut writer = Watched::new(wide(rt.alloc()));
+    let mut faults = Watched::new(wide(rt.alloc()));
+    let status = run(rt.alloc(), &mut reader, &mut writer, &mut faults, 128);
+    let failed = writer.failed();
+    let writer = writer.into_inner();
+    let got = writer.got.as_slice();
+    let answered = status == Status(0) && got == b"let x = y ;\n".as_slice();
+    let refused = status == Status(1) && (got.is_empty() || failed);
+    assert!(rt; !reader.failed() && (answered || refused));
 }

@@ -1,165 +1,170 @@
-//! Sessions over texts whose expansions were worked out by hand.
-use expander::FaultKind::RecursionLimit;
-use expander::{
-    Edition, Expansion, Fault, FaultKind, Refusal, Reply, Session, SmallGrammar, TextRange,
-};
-use std::alloc::{AllocError, Global};
-use std::process::Abort;
+//! Sessions with a grammar that is no grammar of Rust, and counts how often it is asked.
+use expander::{Answer, Command, Edition, Expansion, Reply, Session, replay};
+use fragment_grammar::FragmentGrammar;
+use std::alloc::Global;
+use std::cell::Cell;
+use std::fmt::Write;
 use std::test::Fail;
+use test_grammars::{Counting, OneStep};
 
-// A text and its levels, what it prints, its faults, how many pieces are expanded and how many tokens printed.
-type Row<'a> = (&'a str, u8, &'a str, &'a [Fault], usize, usize);
+// A text, an edit, what is printed then, the faults with their places, and how often the grammar is asked before and behind the
+// edit: once for each fragment, but for those in pieces that the text had before as well.
+const ROWS: &str = r"
+macro_rules! t { ($x:ty $y:ident) => { $x z } } t!{'a} ¦ 0 0  ¦ z ¦ Unspellable 48 49 ¦ 1
+macro_rules! t { ($x:path $y:ident) => { $x z } } t!{'a} ¦ 0 0  ¦ 'z ¦ ¦ 1
+macro_rules! t { ($x:path $y:ident) => { $x r#z } } t!{'a} ¦ 0 0  ¦ r#z ¦ Unspellable 52 53 ¦ 1
+macro_rules! t { ($x:expr) => { $x } } t!{1} t!{2} ¦ 0 0  ¦ 1 2 ¦ ¦ 2
+macro_rules! t { ($x:expr) => { $x } } t!{1} t!{2} ¦ 0 0   ¦ 1 2 ¦ ¦ 2
+macro_rules! t { ($x:expr) => { $x } } t!{1} t!{2} ¦ 48 49 3 ¦ 1 3 ¦ ¦ 3
+macro_rules! t { ($x:expr) => { $x } } t!{1} t!{2} ¦ 50 50 t!{4} ¦ 1 2 4 ¦ ¦ 3
+macro_rules! s { ($($y:tt)*) => { x +$($y)* } } macro_rules! t { ($x:expr) => { $x } } s!{}t!{1} ¦ 0 0   ¦ x + 1 ¦ ¦ 1
+";
 
-pub(crate) fn fault(kind: FaultKind, start: u32, end: u32) -> Fault {
-    let range = TextRange { start, end };
-    Fault { kind, range }
-}
-
-// The expansion of a text that can be read.
-pub(crate) fn expansion_of(
-    rt: &impl Abort,
-    alloc: Global,
-    text: &str,
-    depth: u8,
-) -> Result<Expansion, Fail> {
-    assert!(rt; text.len() < 10_000_000);
-    let mut session = Session::new(alloc, text, SmallGrammar, Edition::Edition2024, depth)?;
-    assert!(rt; session.text() == text);
-    match session.expansion()? {
-        Reply::Read(expansion) => Ok(expansion),
-        Reply::Unread(_) => Err(Fail::new("the text is not read")),
-    }
-}
-
-// Asserts what a text shows.
-fn shows(rt: &impl Abort, alloc: Global, row: Row<'_>) -> Result<(), Fail> {
-    let (text, depth, printed, faults, expanded, tokens) = row;
-    let found = expansion_of(rt, alloc, text, depth)?;
-    assert!(rt;
-        found.printed() == printed,
-        "{:?} of {text:?}",
-        found.printed()
-    );
-    assert!(rt;
-        found.faults() == faults,
-        "{:?} of {text:?}",
-        found.faults()
-    );
-    assert!(rt;
-        found.expanded() == expanded,
-        "{} of {text:?}",
-        found.expanded()
-    );
-    assert!(rt; found.tokens() == tokens, "{} of {text:?}", found.tokens());
-    if found.tokens() > 0 {
-        assert!(rt; found.origin(0).is_some());
-    }
-    Ok(())
-}
-
-// A call whose result has it again in a group: each level gives a group more.
-#[test]
-fn recursion_ends_by_depth(rt: HostRuntime) -> Result<(), Fail> {
-    let text = "macro_rules! l { () => { (l!{}) } }\nl!{}\n";
-    let faults = [fault(RecursionLimit, 36, 37)];
-    for depth in [0, 3, 255] {
-        let mut printed = String::new(rt.alloc());
-        for _ in 0..depth {
-            printed.push_str("( ")?;
+// The edit that words say.
+fn edit_of(alloc: Global, words: &str) -> Result<Command, Fail> {
+    if let Some((start, rest)) = words.split_once(' ') {
+        if let Some((end, replacement)) = rest.split_once(' ') {
+            return Ok(Command::Edit {
+                start: start.parse::<usize>()?,
+                end: end.parse::<usize>()?,
+                replacement: String::from_str(alloc, replacement)?,
+            });
         }
-        printed.push_str("l ! { }")?;
-        for _ in 0..depth {
-            printed.push_str(" )")?;
+    }
+    Err(Fail::new("no edit"))
+}
+
+// What the last answer prints, its faults, and how often the grammar was asked, as a row has it.
+fn shown(alloc: Global, answers: &[Answer], calls: u64) -> Result<String, Fail> {
+    let mut shown = String::new(alloc);
+    if let Some(Answer::Reply(Reply::Read(found))) = answers.last() {
+        write!(shown, "{} ¦", found.printed().trim_end())?;
+        for fault in found.faults() {
+            let range = fault.range;
+            write!(shown, " {:?} {} {}", fault.kind, range.start, range.end)?;
         }
-        printed.push_str("\n")?;
-        let tokens = 2 * usize::from(depth) + 4;
-        shows(
-            &rt,
-            rt.alloc(),
-            (text, depth, printed.as_str(), &faults, 1, tokens),
-        )?;
     }
-    Ok(())
+    write!(shown, " ¦ {calls}")?;
+    Ok(shown)
 }
 
-// Each level doubles the calls: with ten levels 1,024 are left, each with a fault.
-#[test]
-fn results_that_double_end_by_depth(rt: HostRuntime) -> Result<(), Fail> {
-    let text = "macro_rules! d { ($a:tt) => { d!($a) d!($a) } }\nd!(x);\n";
-    let mut printed = String::new(rt.alloc());
-    let mut faults = Vec::new(rt.alloc());
-    for _ in 0..1024 {
-        printed.push_str("d ! ( x ) ")?;
-        faults.push(fault(RecursionLimit, 48, 49))?;
+// What a row says of a text and an edit.
+fn told(alloc: Global, text: &str, edit: &str) -> Result<String, Fail> {
+    if text.len() >= 10_000_000 {
+        return Err(Fail::new("a text is long"));
     }
-    printed.push_str(";\n")?;
-    shows(
-        &rt,
-        rt.alloc(),
-        (text, 10, printed.as_str(), faults.as_slice(), 1, 5121),
-    )
-}
-
-// A text of so many groups in one another around a `x`, and what it prints.
-fn nested(
-    alloc: Global,
-    before: &str,
-    levels: u32,
-    after: &str,
-) -> Result<(String, String), AllocError> {
-    let mut text = String::from_str(alloc, before)?;
-    let mut printed = String::new(alloc);
-    for _ in 0..levels {
-        text.push_str("(")?;
-        printed.push_str("( ")?;
-    }
-    text.push_str("x")?;
-    printed.push_str("x")?;
-    for _ in 0..levels {
-        text.push_str(")")?;
-        printed.push_str(" )")?;
-    }
-    text.push_str(after)?;
-    printed.push_str("\n")?;
-    Ok((text, printed))
-}
-
-#[test]
-fn deep_groups(rt: HostRuntime) -> Result<(), Fail> {
-    let one = "macro_rules! m { ($a:tt) => { $a } }\nm!{";
-    let any = "macro_rules! m { ($($t:tt)*) => { $($t)* } }\nm!{";
-    let cases = [(one, 500, "}"), (any, 1_000_000, "}"), ("", 1_000_000, "")];
-    for (before, levels, after) in cases {
-        let (text, printed) = nested(rt.alloc(), before, levels, after)?;
-        let tokens = 2 * levels as usize + 1;
-        shows(
-            &rt,
-            rt.alloc(),
-            (text.as_str(), 128, printed.as_str(), &[], 1, tokens),
-        )?;
-    }
-    Ok(())
-}
-
-// For runs of the tests in which a request for memory is refused: the session is as it was, and answers when it is asked
-// again.
-#[test]
-fn a_refused_expansion_can_be_asked_again(rt: HostRuntime) -> Result<(), Fail> {
-    let text = "macro_rules! m { ($a:tt) => { ($a) } }\nm!{ x } y;\n";
-    let Ok(mut session) = Session::new(rt.alloc(), text, SmallGrammar, Edition::Edition2024, 128)
-    else {
-        return Ok(());
+    let calls = Cell::new(0);
+    let grammar = Counting {
+        inner: OneStep,
+        calls: &calls,
     };
+    let commands = vec![in alloc; Command::Expand, edit_of(alloc, edit)?, Command::Expand]?;
+    let commands = commands.as_slice();
+    let answers = replay(alloc, text, grammar, Edition::Edition2024, 128, commands)?;
+    shown(alloc, answers.as_slice(), calls.get())
+}
+
+// Pieces that are held are not expanded again.
+#[test]
+fn the_grammar_is_asked_for_what_is_new(rt: HostRuntime) -> Result<(), Fail> {
+    for row in ROWS.lines() {
+        if let Some((text, rest)) = row.split_once(" ¦ ") {
+            if let Some((edit, want)) = rest.split_once(" ¦ ") {
+                let got = told(rt.alloc(), text, edit)?;
+                assert!(rt; got.as_str() == want, "{row}: {got}");
+            }
+        }
+    }
+    Ok(())
+}
+
+// What the session's text gives, asked for once more where that was refused, which leaves the session as it was.
+fn expanded<G: FragmentGrammar + Drop>(
+    session: &mut Session<G>,
+    calls: &Cell<u64>,
+) -> Result<Expansion, Fail> {
+    calls.set(0);
     let reply = match session.expansion() {
         Ok(reply) => reply,
-        Err(refusal) => {
-            assert!(rt; refusal == Refusal::Memory && session.text() == text);
+        Err(_refusal) => {
+            calls.set(0);
             session.expansion()?
         }
     };
-    let Reply::Read(found) = reply else {
-        return Err(Fail::new("the text is not read"));
+    match reply {
+        Reply::Read(found) => Ok(found),
+        Reply::Unread(_fault) => Err(Fail::new("the text is not read")),
+    }
+}
+
+// Puts a replacement, once more where that was refused, which leaves the session as it was.
+fn edit<G: FragmentGrammar + Drop>(
+    session: &mut Session<G>,
+    start: usize,
+    end: usize,
+    replacement: &str,
+) -> Result<(), Fail> {
+    for _ in 0..2 {
+        let is_edit = session.is_boundary(start)
+            && session.is_boundary(end)
+            && session.fits(start, end, replacement.len());
+        if is_edit && session.edit(start, end, replacement).is_ok() {
+            return Ok(());
+        }
+    }
+    Err(Fail::new("no edit"))
+}
+
+// Edits a session over `aé;`.
+fn is_edited<G: FragmentGrammar + Drop>(
+    alloc: Global,
+    session: &mut Session<G>,
+    calls: &Cell<u64>,
+) -> Result<bool, Fail> {
+    let bounds = session.is_boundary(3) && !session.is_boundary(2) && !session.is_boundary(5);
+    let fits = session.fits(1, 3, 4_294_967_293) && !session.fits(1, 3, 4_294_967_294);
+    edit(session, 1, 3, "bc")?;
+    let is_text = session.text() == "abc;";
+    let found = expanded(session, calls)?;
+    let copy = match found.try_clone(alloc) {
+        Ok(copy) => copy,
+        Err(_) => found.try_clone(alloc)?,
     };
-    assert!(rt; found.printed() == "( x ) y ;\n" && found.faults().is_empty());
+    Ok(bounds && fits && is_text && copy.printed() == "abc ;\n" && copy.tokens() == 2)
+}
+
+// An expansion that is refused between edits lets go of nothing that is held, so that afterwards the grammar is asked for
+// the changed piece alone.
+fn is_held<G: FragmentGrammar + Drop>(
+    session: &mut Session<G>,
+    calls: &Cell<u64>,
+) -> Result<bool, Fail> {
+    let _first = expanded(session, calls)?;
+    edit(session, 49, 50, "3")?;
+    let found = expanded(session, calls)?;
+    Ok(calls.get() == 1 && found.printed() == "1 ;\n3 ;\n" && found.expanded() == 1)
+}
+
+// Both, also in runs of the tests in which a request for memory is refused.
+#[test]
+fn refused_calls_can_be_made_again(rt: HostRuntime) -> Result<(), Fail> {
+    let calls = Cell::new(0);
+    let inner = OneStep;
+    let grammar = Counting {
+        inner,
+        calls: &calls,
+    };
+    let edition = Edition::Edition2024;
+    if let Ok(mut session) = Session::new(rt.alloc(), "aé;", grammar, edition, 128) {
+        assert!(rt; is_edited(rt.alloc(), &mut session, &calls)?);
+    }
+    let grammar = Counting {
+        inner,
+        calls: &calls,
+    };
+    let text = "macro_rules! t { ($x:expr) => { $x } }\nt!(1);\nt!(2);\n";
+    if let Ok(mut session) = Session::new(rt.alloc(), text, grammar, edition, 128) {
+        assert!(rt; is_held(&mut session, &calls)?);
+    }
     Ok(())
 }

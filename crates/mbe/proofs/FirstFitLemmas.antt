@@ -11,7 +11,7 @@ use Rattle.mbe_rules.specs.declared.macro_call_style.MacroCallStyle.{MacroCallSt
 use Rattle.mbe_rules.specs.declared.rules.Rule.{Rule}
 use Rattle.mbe.specs.Bursts.{bursts}
 use Rattle.mbe.specs.Fit.{styled_fit, or_later, fit_from}
-use Rattle.mbe.specs.Grammar.{Grammar}
+use Rattle.mbe_matcher.specs.Grammar.{Grammar}
 
 or-false : (a b : Bool) → (a || b) ≡ false → (a ≡ false) × (b ≡ false)
 or-false true b e = absurd (cc e)

@@ -3,16 +3,22 @@ use Rattle.std.proofs.Common.{◌≡◌, refl, sym, ap, ◌∙◌, ℕ, ◌<◌,
 use Rattle.std.proofs.lemmas.List.{get_or-map, length-map}
 use Rattle.std.proofs.lemmas.Slice.Eq.{bytes_eq-Decides}
 use Rattle.tt_data.specs.Forest.{Forest, empty, leaf, group}
+use Rattle.tt_data.specs.declared.leaf.Ident.{Ident}
 use Rattle.tt_data.specs.declared.leaf.Leaf.TheVariants as as_leaf
 use Rattle.tt.specs.FirstTrees.{first_ident}
 use Rattle.mbe_rules.specs.Items.{Items, done, item, word, puncts, lifetime, dollar, group_of, repetition}
 use Rattle.mbe_rules.specs.Ops.{items_of, rule_of}
 use Rattle.mbe_rules.specs.Text.{same_text}
 use Rattle.mbe_rules.specs.declared.rules.Rule.{Rule}
-use Rattle.mbe.specs.Blocked.{is_blocked}
+use Rattle.mbe_matcher.specs.Blocked.{is_blocked}
 use Rattle.mbe.specs.Keys.{first_key, key_from, keys_of, name_key}
-use Rattle.mbe.specs.Units.{place}
-use Rattle.mbe.proofs.LentLemmas.{unnamed}
+use Rattle.mbe_matcher.specs.Units.{place}
+use Rattle.mbe_matcher.proofs.LentLemmas as lent
+use Rattle.mbe_matcher.proofs.LentLemmas.{unnamed}
+
+-- a list that begins with a name
+pub a_name_first : (f : Forest) (x : Ident × Forest) → first_ident f ≡ Some x → f ≡ leaf (as_leaf.Ident x.0) x.1
+a_name_first = lent.an_ident
 
 pub no_name : (f : Forest) → first_ident f ≡ None → None ≡ name_key f
 no_name empty e = refl

@@ -22,12 +22,13 @@ use Rattle.mbe_rules.specs.declared.macro_call_style.MacroCallStyle.TheVariants.
 use Rattle.mbe_rules.specs.declared.parser.MetaVarKind.{MetaVarKind}
 use Rattle.mbe_rules.specs.declared.parser.MetaVarKind.TheVariants as kind
 use Rattle.mbe_rules.proofs.Written.{trees}
-use Rattle.mbe.specs.Bindings.{bindings}
-use Rattle.mbe.specs.Fit.{fit, most_rounds}
-use Rattle.mbe.specs.Fragments.{taken}
-use Rattle.mbe.specs.Grammar.{Grammar}
-use Rattle.mbe.specs.Output.{output}
-use Rattle.mbe.specs.Readings.{the_reading}
+use Rattle.mbe_matcher.specs.Bindings.{bindings}
+use Rattle.mbe.specs.Fit.{fit}
+use Rattle.mbe_transcriber.specs.Limits.{most_rounds}
+use Rattle.mbe_matcher.specs.Fragments.{taken}
+use Rattle.mbe_matcher.specs.Grammar.{Grammar}
+use Rattle.mbe_transcriber.specs.Output.{output}
+use Rattle.mbe_matcher.specs.Readings.{the_reading}
 
 -- ---- grammars of the rows
 

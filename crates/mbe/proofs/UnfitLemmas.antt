@@ -4,7 +4,7 @@ use Rattle.mbe_rules.specs.Ops.{rule_of}
 use Rattle.mbe_rules.specs.declared.macro_call_style.MacroCallStyle.{MacroCallStyle}
 use Rattle.mbe_rules.specs.declared.rules.Rule.{Rule}
 use Rattle.mbe.specs.Fit.{same_style}
-use Rattle.mbe.specs.declared.failure.Candidate.{Candidate}
+use Rattle.mbe.specs.declared.recovery.Candidate.{Candidate}
 use Rattle.mbe.specs.Unfit.{has_style, has_style_at, IsOfStyle}
 
 -- a rule of this style was found, or none is among the rules that were passed

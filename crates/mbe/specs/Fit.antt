@@ -5,10 +5,11 @@ use Rattle.tt_data.specs.declared.span.Span.{Span}
 use Rattle.mbe_rules.specs.Items.{Rule}
 use Rattle.mbe_rules.specs.declared.macro_call_style.MacroCallStyle.{MacroCallStyle}
 use Rattle.mbe_rules.specs.declared.macro_call_style.MacroCallStyle.TheVariants.{FnLike, Attr, Derive}
-use Rattle.mbe.specs.Bindings.{bindings}
-use Rattle.mbe.specs.Filling.{filled}
-use Rattle.mbe.specs.Grammar.{Grammar}
-use Rattle.mbe.specs.Readings.{the_reading}
+use Rattle.mbe_matcher.specs.Bindings.{bindings}
+use Rattle.mbe_transcriber.specs.Filling.{filled}
+use Rattle.mbe_transcriber.specs.Limits.{most_rounds}
+use Rattle.mbe_matcher.specs.Grammar.{Grammar}
+use Rattle.mbe_matcher.specs.Readings.{the_reading}
 
 -- two styles of calls are one
 abbrev pub same_style : MacroCallStyle → MacroCallStyle → Bool
@@ -16,10 +17,6 @@ same_style FnLike FnLike = true
 same_style Attr Attr = true
 same_style Derive Derive = true
 same_style _ _ = false
-
--- the rounds that a repetition of a template may have
-abbrev pub most_rounds : ℕ
-most_rounds = 65535
 
 -- the forest of rule n, or else what a later rule gives
 abbrev pub or_later : ℕ → Option Forest → Option (ℕ × Forest) → Option (ℕ × Forest)

@@ -6,26 +6,26 @@ use Rattle.mbe_rules.specs.Ops as ops
 use Rattle.mbe_rules.specs.Parsing.{no_rules}
 use Rattle.mbe_rules.specs.declared.errors.ParseError.{ParseError}
 use Rattle.mbe_rules.specs.declared.rules.Rule.{Rule}
-use Rattle.mbe.specs.declared.kept.Kept.{Kept}
-use Rattle.mbe.specs.declared.kept.Kept.TheVariants.{Read, Broken}
+use Rattle.mbe.specs.declared.declarative_macro.Definition.{Definition}
+use Rattle.mbe.specs.declared.declarative_macro.Definition.TheVariants.{Read, Broken}
 
 -- what is read of its definition: its rules, and the first fault
-abbrev pub kept_rules : Kept → Rules
+abbrev pub kept_rules : Definition → Rules
 kept_rules (Read rules keys) = ops.rules_of rules
 kept_rules (Broken err) = no_rules (Some err)
 
 -- the rules, as they are kept
-abbrev pub kept_list : Kept → List Rule
+abbrev pub kept_list : Definition → List Rule
 kept_list (Read rules keys) = rules.list.items
 kept_list (Broken err) = []
 
 -- the fault, as it is kept
-abbrev pub kept_fault : Kept → Option ParseError
+abbrev pub kept_fault : Definition → Option ParseError
 kept_fault (Read rules keys) = rules.err
 kept_fault (Broken err) = Some err
 
 -- the numbers of the names that the patterns begin with, as they are kept
-abbrev pub kept_keys : Kept → List (Option ℕ)
+abbrev pub kept_keys : Definition → List (Option ℕ)
 kept_keys (Read rules keys) = keys.items
 kept_keys (Broken err) = []
 

@@ -1,39 +1,40 @@
 -- which rule fits an argument, and what it gives, in reading order
-pub mod Grammar
-pub mod Units
-pub mod Fragments
-pub mod Paths
-pub mod Readings
-pub mod Bindings
-pub mod Filling
 pub mod Fit
 pub mod Kept
 pub mod Macros
 pub mod MacroEquality
 -- what a call gives, and when it gives too much
-pub mod Markers
 pub mod Answers
-pub mod Missing
 pub mod Unfit
-pub mod Output
 pub mod Bursts
--- how readings and bindings are held, as `match_pattern`, `bindings_of` and `Bindings` tell them
-pub mod Threads
-pub mod Bound
+-- the definitions of the crates below that these rest on
+pub use Rattle.mbe_matcher.specs.Grammar
+pub use Rattle.mbe_matcher.specs.Units
+pub use Rattle.mbe_matcher.specs.Fragments
+pub use Rattle.mbe_matcher.specs.Paths
+pub use Rattle.mbe_matcher.specs.Readings
+pub use Rattle.mbe_matcher.specs.Bindings
+pub use Rattle.mbe_matcher.specs.Missing
+pub use Rattle.mbe_matcher.specs.Threads
+pub use Rattle.mbe_matcher.specs.Bound
+pub use Rattle.mbe_matcher.specs.Waiting
+pub use Rattle.mbe_matcher.specs.Positions
+pub use Rattle.mbe_matcher.specs.Places
+pub use Rattle.mbe_matcher.specs.Settled
+pub use Rattle.mbe_matcher.specs.Rounds
+pub use Rattle.mbe_matcher.specs.Going
+pub use Rattle.mbe_matcher.specs.Blocked
+pub use Rattle.mbe_matcher.specs.Collecting
+pub use Rattle.mbe_transcriber.specs.Filling
+pub use Rattle.mbe_transcriber.specs.Limits
+pub use Rattle.mbe_transcriber.specs.Markers
+pub use Rattle.mbe_transcriber.specs.Output
+pub use Rattle.mbe_transcriber.specs.Room
+pub use Rattle.mbe_transcriber.specs.Putting
+pub use Rattle.mbe_transcriber.specs.Uses
+pub use Rattle.mbe_transcriber.specs.Given
+pub use Rattle.mbe_transcriber.specs.Tasks
+pub use Rattle.mbe_transcriber.specs.Walks
 -- what the functions inside the crate promise each other
-pub mod Waiting
-pub mod Positions
-pub mod Places
-pub mod Settled
-pub mod Rounds
-pub mod Going
-pub mod Blocked
 pub mod Keys
-pub mod Collecting
-pub mod Room
-pub mod Putting
-pub mod Uses
-pub mod Given
-pub mod Tasks
 pub mod FailureTasks
-pub mod Walks

@@ -8,7 +8,7 @@ use Rattle.mbe_rules.specs.contracts.errors.ParseErrorEq.TheImpl.Laws as fault_l
 use Rattle.mbe_rules.specs.contracts.rules.RulePartialEq.TheImpl as of_rule
 use Rattle.mbe_rules.specs.contracts.rules.RuleEq.TheImpl.Laws as rule_laws
 use Rattle.mbe.specs.Kept.{kept_fault, kept_list}
-use Rattle.mbe.specs.declared.kept.DeclarativeMacro.{DeclarativeMacro}
+use Rattle.mbe.specs.declared.declarative_macro.DeclarativeMacro.{DeclarativeMacro}
 
 -- two are equal where their faults are, and their rules, one by one
 abbrev pub same_macro : DeclarativeMacro → DeclarativeMacro → Bool

@@ -6,7 +6,7 @@ use Rattle.tt_data.specs.declared.span.SyntaxContext.TheVariants.{Written, Made}
 use Rattle.mbe_rules.specs.Items.{Rule, Rules}
 use Rattle.mbe_rules.specs.Styles.{style_bit}
 use Rattle.mbe.specs.Kept.{kept_rules}
-use Rattle.mbe.specs.declared.kept.DeclarativeMacro.{DeclarativeMacro}
+use Rattle.mbe.specs.declared.declarative_macro.DeclarativeMacro.{DeclarativeMacro}
 
 -- what is read of a macro's definition: its rules, and the first fault
 abbrev pub rules_of : DeclarativeMacro → Rules

@@ -10,9 +10,9 @@ ghost use Rattle.mbe_rules.specs.Relabelling.{rule_with};
 ghost use Rattle.mbe_rules.specs.declared.macro_call_style.MacroCallStyle.{MacroCallStyle};
 ghost use Rattle.mbe.specs.Bursts.{bursts};
 ghost use Rattle.mbe.specs.Fit.{fit, fit_with};
-ghost use Rattle.mbe.specs.Grammar.{Grammar};
-ghost use Rattle.mbe.specs.Paths.{IsPath, has_clash};
-ghost use Rattle.mbe.specs.Readings.{Move, State, start, next, has_used_up, takings, the_reading};
+ghost use Rattle.mbe_matcher.specs.Grammar.{Grammar};
+ghost use Rattle.mbe_matcher.specs.Paths.{IsPath, has_clash};
+ghost use Rattle.mbe_matcher.specs.Readings.{Move, State, start, next, has_used_up, takings, the_reading};
 
 use mbe_rules::MacroCallStyle;
 use tt_data::{Edition, Span, SyntaxContext};

@@ -1,40 +1,22 @@
-//! Macros by example: which rule of a definition fits an argument.
+//! Macros by example: definitions, and what their calls give.
 #![tactic(auto)]
 
-mod bindings;
-mod blocked;
-mod choices;
-mod collecting;
-mod declarative;
+mod declarative_macro;
 mod expand;
-mod expressions;
-mod failure;
-mod filling;
-mod fit;
-mod fragment;
-mod kept;
-mod keys;
 pub mod laws;
-mod lone;
-mod matcher;
-mod place;
-mod putting;
-mod rounds;
-mod same;
-mod threads;
-mod transcriber;
-mod uses;
-mod walk;
+mod parse;
+mod recovery;
+mod rule_index;
+mod select_rule;
 
-pub use bindings::{Binding, Bindings};
-pub use collecting::bindings_of;
-pub use fragment::{PassedFragment, expect_fragment, pass_fragment};
+pub use declarative_macro::DeclarativeMacro;
 pub use fragment_grammar::{FragmentGrammar, Prefix, PrefixEntryPoint};
-pub use kept::DeclarativeMacro;
-pub use matcher::match_pattern;
+pub use mbe_matcher::{
+    Binding, Bindings, Entry, Move, PassedFragment, bindings_of, expect_fragment, match_pattern,
+    pass_fragment,
+};
 pub use mbe_rules::{
     CountError, ExpandError, ExpandErrorKind, ExpandResult, MacroCallStyle, MacroCallStyles,
     MatchedArmIndex, ParseError, ValueResult,
 };
-pub use threads::{Entry, Move};
 pub use tt::{Delimiter, DelimiterKind, Punct};

@@ -80,7 +80,7 @@ module _ (edition : SyntaxContext → Edition) where
     skipped (suc n) (leaf l rest) = skipped n rest
     skipped (suc n) (group d inner rest) = skipped n rest
 
-    -- the rules after one, where what stands between them is passed
+    -- the rules after one, where what comes between them is passed
     abbrev next_rules : Option Forest → spec.Rules
     next_rules None = no_rules (Some between.fault)
     next_rules (Some g) = rules_after edition between 0 g
@@ -153,7 +153,7 @@ module _ (edition : SyntaxContext → Edition) where
         ∙ sym (all ∙ ap (rules_before (map ops.rule_of rs)) (rules-first rest some ∙ ap by_first (sym read) ∙ ap (λ o. with_rule (ops.rule_of r) (next_rules o)) none)
         ∙ ap (λ (us : List spec.Rule). record { list = us; err = Some between.fault }) (sym (map-push rs r) ∙ ap (map ops.rule_of) (sym pushed)))
 
-    -- a rule, and the trees after what stands behind it
+    -- a rule, and the trees after what comes after it
     pub one-more : (rs news : List Rule) (r : Rule) (trees rest behind next : Forest) → (rest ≡ empty → ⊥) → news ≡ rs ++ (r ∷ []) →
         rules_after edition between 0 trees ≡ rules_before (map ops.rule_of rs) (rules_after edition between 0 rest) →
         Ok (ops.rule_of r, behind) ≡ rule_in edition (parts_read rest (rule_shape (signs rest))) →

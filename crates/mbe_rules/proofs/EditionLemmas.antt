@@ -5,7 +5,7 @@ use Rattle.tt_data.specs.declared.edition.Edition.{Edition}
 use Rattle.tt_data.specs.declared.span.SyntaxContext.{SyntaxContext}
 use Rattle.tt_data.specs.declared.span.SyntaxContext.TheVariants.{Written, Made}
 use Rattle.mbe_rules.specs.Reading.{edition_in}
-use Rattle.mbe_rules.specs.declared.editions.Editions.{Editions}
+use Rattle.mbe_rules.specs.declared.parse.editions.Editions.{Editions}
 
 pub same_function : (e : Editions) (edition : SyntaxContext → Edition) → e.written ≡ edition Written → e.made ≡ edition Made →
     edition_in e ≡ edition

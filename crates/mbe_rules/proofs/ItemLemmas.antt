@@ -31,7 +31,7 @@ joined_items-grouping (item i rest) js ks = ap (item i) (joined_items-grouping r
 joined_items-grouping (group_of d inner rest) js ks = ap (group_of d inner) (joined_items-grouping rest js ks)
 joined_items-grouping (repetition body sep op rest) js ks = ap (repetition body sep op) (joined_items-grouping rest js ks)
 
--- items behind items behind items
+-- items after items after items
 pub behind-behind : (is js : Items) (r : Parsed Items) → behind is (behind js r) ≡ behind (joined_items is js) r
 behind-behind is js (Ok ks) = ap Ok (sym (joined_items-grouping is js ks))
 behind-behind is js (Err e) = refl

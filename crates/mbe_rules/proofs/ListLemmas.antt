@@ -1,4 +1,4 @@
--- Lists in one another, one step after another.
+-- Nested lists, one step after another.
 use Rattle.std.proofs.Common.{◌≡◌, refl, sym, ap, ◌∙◌, suc, ◌+◌, ◌*◌, List, [], ◌∷◌, ◌++◌, Ok, Err, arith}
 use Rattle.tt_data.specs.Forest.{Forest, empty, size}
 use Rattle.tt_data.specs.declared.edition.Edition.{Edition}
@@ -11,10 +11,10 @@ use Rattle.mbe_rules.specs.Parsed.{Parsed, ◌>>=◌}
 use Rattle.mbe_rules.specs.Patterns.{Mode, items_of}
 use Rattle.mbe_rules.specs.Reading.{behind}
 use Rattle.mbe_rules.specs.declared.errors.ParseError.{ParseError}
-use Rattle.mbe_rules.specs.declared.items.Around.{Around}
-use Rattle.mbe_rules.specs.declared.items.Enclosing.{Enclosing}
-use Rattle.mbe_rules.specs.declared.items.Found.TheVariants as found
-use Rattle.mbe_rules.specs.declared.items.Nest.{Nest}
+use Rattle.mbe_rules.specs.declared.parse.items.Around.{Around}
+use Rattle.mbe_rules.specs.declared.parse.items.Enclosing.{Enclosing}
+use Rattle.mbe_rules.specs.declared.parse.items.Found.TheVariants as found
+use Rattle.mbe_rules.specs.declared.parse.items.Nest.{Nest}
 use Rattle.mbe_rules.specs.declared.parser.Op.{Op}
 use Rattle.mbe_rules.proofs.ItemLemmas.{behind-behind, behind-done, items_of-push}
 

@@ -50,7 +50,7 @@ pub nothing-Repeat : (o : Op) (v : Vec Op Global) (sep : Option Separator) (k : 
 nothing-Repeat o v sep k e =
     ap (λ x. can_match_nothing (put_op x done)) e ∙ ap can_match_nothing (put-Repeat v sep k done) ∙ and-true _
 
--- a list has an empty round where its first item or the others have one
+-- a list has an empty iteration where its first item or the others have one
 pub empty_round-put : (o : Op) (rest : Items) → has_empty_round (put_op o rest) ≡ (has_empty_round (put_op o done) || has_empty_round rest)
 empty_round-put (Repeat' shape row None k) rest =
     rw (or-false (has_empty_round (row_items row))) (or-or (can_match_nothing (row_items row)) (has_empty_round (row_items row)) (has_empty_round rest))

@@ -273,7 +273,7 @@ definitions =
     ∷ ("($($(a)+)+) => {}", (FnLike ∷ [], None))
     ∷ ("([$($($v:vis)+),*]) => {}", (FnLike ∷ [], Some RepetitionEmptyTokenTree))
     -- what is told first: the shape of a rule before its pattern, that before its template, a repetition's operator
-    -- before its items, and an empty round in a rule that stands before all of these
+    -- before its items, and an empty iteration in a rule that comes before all of these
     ∷ ("($x) =", ([], expected "expected `>`"))
     ∷ ("($x) => {$+}", ([], unexpected "missing fragment specifier"))
     ∷ ("(a) => {b}; ($x) => {}; c", (FnLike ∷ [], unexpected "missing fragment specifier"))

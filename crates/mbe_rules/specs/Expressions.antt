@@ -1,4 +1,4 @@
--- Expressions over variables: what stands in `${..}`.
+-- Expressions over variables: what is in `${..}`.
 -- (Rust's unstable book, `macro_metavar_expr` and `macro_metavar_expr_concat`.)
 use Rattle.std.specs.Prelude.{ℕ, ◌^◌, ◌&&◌, not, List, [], ◌∷◌, if◌then◌else◌, Option, Some, None, option_map, option_and_then, nat_lt}
 use Rattle.std.specs.Str.{all_ascii_digits}
@@ -15,11 +15,11 @@ abbrev pub number_of_digits : List ℕ → Option ℕ
 number_of_digits [] = None
 number_of_digits ds = if all_ascii_digits ds && nat_lt (digits_value 10 ds) (2 ^ 64) then Some (digits_value 10 ds) else None
 
--- the same, with the `+` that may stand before the digits
+-- the same, with the `+` that may come before the digits
 abbrev pub number_in : List ℕ → Option ℕ
 number_in text = number_of_digits (without_leading_plus text)
 
--- a depth: a literal without suffix that spells a number, of whatever form it is; nothing stands for 0
+-- a depth: a literal without suffix that spells a number, of whatever form it is; nothing means 0
 abbrev pub depth_in : List Sign → Option ℕ
 depth_in [] = Some 0
 depth_in (literal text suffix ∷ []) = if is_nil suffix then number_in text else None
@@ -30,7 +30,7 @@ abbrev pub variable_in : List Sign → Option (List ℕ × List Sign)
 variable_in (punct d ∷ name n ∷ more) = if is_character "$" d && not (is "_" n) then Some (n, more) else None
 variable_in _ = None
 
--- a depth after a comma; nothing stands for 0
+-- a depth after a comma; nothing means 0
 abbrev pub depth_after : List Sign → Option ℕ
 depth_after [] = Some 0
 depth_after (punct c ∷ more) = if is_character "," c then depth_in more else None

@@ -13,14 +13,14 @@ use Rattle.mbe_rules.specs.declared.parser.RepeatKind.{RepeatKind}
 use Rattle.mbe_rules.specs.declared.parser.RepeatKind.TheVariants.{OneOrMore}
 use Rattle.mbe_rules.specs.declared.macro_call_style.MacroCallStyle.{MacroCallStyle}
 
--- a part of `${concat(..)}`: a text that stands for itself, or a variable
+-- a part of `${concat(..)}`: a text that means itself, or a variable
 pub data Part : Type 0 where
   itself : List ℕ → Part
   value_of : List ℕ → Part
 
 -- what a `$` begins that holds no items of its own
 pub data Dollar : Type 0 where
-  -- `$name:kind`, where another word than those for kinds names none; in a template `$name`, with none
+  -- `$name:kind`, where another word than the fragment specifiers names none; in a template `$name`, with none
   variable : (name : List ℕ) → Option MetaVarKind → Dollar
   -- `${count($name, depth)}` and its like
   count_of : (name : List ℕ) → (depth : ℕ) → Dollar
@@ -37,10 +37,10 @@ pub data Item : Type 0 where
   puncts : List Punct → Item
   -- in a pattern, a quote and its name
   lifetime : Punct → Ident → Item
-  -- what a `$` begins, with the place of the `$`
+  -- what a `$` begins, with the span of the `$`
   dollar : Dollar → Span → Item
 
--- what stands between the rounds of a repetition
+-- what separates the iterations of a repetition
 pub data Separator : Type 0 where
   literal_between : Literal → Separator
   ident_between : Ident → Separator
@@ -73,7 +73,7 @@ variables (item _ rest) = variables rest
 variables (group_of d inner rest) = variables inner ++ variables rest
 variables (repetition body sep op rest) = variables body ++ variables rest
 
--- a repetition that may have no round
+-- a repetition that may have no iteration
 abbrev pub may_skip : RepeatKind → Bool
 may_skip OneOrMore = false
 may_skip _ = true
@@ -85,7 +85,7 @@ can_match_nothing (item (dollar (variable n (Some Vis)) s) rest) = can_match_not
 can_match_nothing (repetition body sep op rest) = (may_skip op || can_match_nothing body) && can_match_nothing rest
 can_match_nothing _ = false
 
--- whether a repetition without separator, anywhere in a pattern, can match nothing in a round
+-- whether a repetition without separator, anywhere in a pattern, can match nothing in an iteration
 abbrev pub has_empty_round : Items → Bool
 has_empty_round done = false
 has_empty_round (item i rest) = has_empty_round rest

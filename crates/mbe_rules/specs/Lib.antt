@@ -8,7 +8,7 @@ pub mod Expressions
 pub mod Patterns
 pub mod Parsing
 pub mod Editions
--- what the program's rules stand for, when two are equal, and the same rules at other places
+-- what the program's rules mean, when two are equal, and the same rules at other places
 pub mod Ops
 pub mod Likeness
 pub mod Relabelling

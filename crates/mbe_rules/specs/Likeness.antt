@@ -1,4 +1,4 @@
--- When two separators are alike: they are of one sort and have the same text, and literals the same suffix; places, spacing, rawness
+-- When two separators are alike: they are of one sort and have the same text, and literals the same suffix; spans, spacing, rawness
 -- and the forms of literals don't count.
 use Rattle.std.specs.Prelude.{ℕ, Bool, ◌&&◌, ◌==◌, List, []}
 use Rattle.std.specs.Str.{bytes_eq}

@@ -1,4 +1,4 @@
--- What the reading of lists in one another answers up to a point, in the words of the definitions.
+-- What the reading of nested lists answers up to a point, in the words of the definitions.
 use Rattle.std.specs.Prelude.{◌≡◌, ℕ, suc, ◌+◌, ◌*◌, ◌<◌, List, [], ◌∷◌, option_map, Result, Ok, Err}
 use Rattle.tt_data.specs.Forest.{Forest, empty, size}
 use Rattle.tt_data.specs.declared.edition.Edition.{Edition}
@@ -10,14 +10,14 @@ use Rattle.mbe_rules.specs.Parsed.{Parsed, ◌>>=◌}
 use Rattle.mbe_rules.specs.Patterns.{Mode, items_of}
 use Rattle.mbe_rules.specs.Reading.{behind, ops_read}
 use Rattle.mbe_rules.specs.declared.errors.ParseError.{ParseError}
-use Rattle.mbe_rules.specs.declared.items.Around.{Around}
-use Rattle.mbe_rules.specs.declared.items.Enclosing.{Enclosing}
-use Rattle.mbe_rules.specs.declared.items.Enclosing.TheVariants.{Group, Repetition}
-use Rattle.mbe_rules.specs.declared.items.Found.{Found}
-use Rattle.mbe_rules.specs.declared.items.Found.TheVariants as found
-use Rattle.mbe_rules.specs.declared.items.Nest.{Nest}
-use Rattle.mbe_rules.specs.declared.items.Step.{Step}
-use Rattle.mbe_rules.specs.declared.items.Step.TheVariants.{More, Last}
+use Rattle.mbe_rules.specs.declared.parse.items.Around.{Around}
+use Rattle.mbe_rules.specs.declared.parse.items.Enclosing.{Enclosing}
+use Rattle.mbe_rules.specs.declared.parse.items.Enclosing.TheVariants.{Group, Repetition}
+use Rattle.mbe_rules.specs.declared.parse.items.Found.{Found}
+use Rattle.mbe_rules.specs.declared.parse.items.Found.TheVariants as found
+use Rattle.mbe_rules.specs.declared.parse.items.Nest.{Nest}
+use Rattle.mbe_rules.specs.declared.parse.items.Step.{Step}
+use Rattle.mbe_rules.specs.declared.parse.items.Step.TheVariants.{More, Last}
 
 -- the item that has these items inside, as a list of one
 abbrev pub enclosed : Enclosing → Items → Items
@@ -42,7 +42,7 @@ abbrev pub IsLess : ℕ → Step → Type 0
 IsLess n (More o) = weight o < n
 IsLess n (Last r) = Unit {0}
 
--- what stands at the head of a list is nothing where no tree is; else fewer trees are left, with those inside it
+-- what is at the head of a list is nothing where no tree is; else fewer trees are left, with those inside it
 abbrev pub Leaves : Forest → Result Found ParseError → Type 0
 Leaves f (Ok found.Nothing) = f ≡ empty
 Leaves f (Ok (found.Item o rest)) = size rest < size f

@@ -23,7 +23,7 @@ expand_message kind.LimitExceeded = codes "Expand exceed limit"
 expand_message kind.NoMatchingRule = codes "no rule matches input tokens"
 expand_message kind.UnexpectedToken = codes "unexpected token in input"
 
--- why rounds cannot be counted
+-- why iterations cannot be counted
 abbrev pub count_message : CountError → List ℕ
 count_message OutOfBounds = codes "${count} out of bounds"
 count_message Misplaced = codes "${count} misplaced"

@@ -1,4 +1,4 @@
--- What the rules that a program keeps stand for.
+-- What the rules that a program keeps mean.
 use Rattle.std.specs.Prelude.{List, [], ◌∷◌, map, option_map}
 use Rattle.tt_data.specs.declared.leaf.Leaf.TheVariants as as_leaf
 use Rattle.mbe_rules.specs.Items as spec

@@ -14,7 +14,7 @@ abbrev pub ◌>>=◌ : {A B : Type 0} → Parsed A → (A → Parsed B) → Pars
 Ok a >>= f = f a
 Err e >>= f = Err e
 
--- the fault that a token stands where it may not, with this text
+-- the fault that a token is where it may not be, with this text
 abbrev pub unexpected : {A : Type 0} → String → Parsed A
 unexpected text = Err (UnexpectedToken (codes text))
 

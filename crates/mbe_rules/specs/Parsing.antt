@@ -32,7 +32,7 @@ abbrev pub a_greater : List Sign → Parsed (List Sign)
 a_greater (punct c ∷ more) = if is_character ">" c then Ok more else expected "expected `>`"
 a_greater _ = expected "expected `>`"
 
--- a pattern, `=>` and a template, each of the two a group, where n trees stand before them
+-- a pattern, `=>` and a template, each of the two a group, where n trees come before them
 abbrev pub arms : MacroCallStyle → ℕ → List Sign → Parsed (MacroCallStyle × ℕ)
 arms style n ts = do
   after_pattern ← a_group ts
@@ -41,12 +41,12 @@ arms style n ts = do
   rest ← a_group after_arrow
   Ok (style, n)
 
--- after the word for a style a group has to stand; what is in it doesn't count
+-- after the keyword for a style a group has to come; what is in it doesn't count
 abbrev pub with_parentheses : MacroCallStyle → ℕ → List Sign → Parsed (MacroCallStyle × ℕ)
 with_parentheses style n (bracketed ∷ more) = arms style (suc n) more
 with_parentheses style n _ = expected "expected `()`"
 
--- a rule of one of the styles, where n trees stand before it
+-- a rule of one of the styles, where n trees come before it
 abbrev pub styled : ℕ → List Sign → Parsed (MacroCallStyle × ℕ)
 styled n (name w ∷ more) =
     if is "attr" w then with_parentheses Attr (suc n) more
@@ -54,7 +54,7 @@ styled n (name w ∷ more) =
     else arms FnLike n (name w ∷ more)
 styled n ts = arms FnLike n ts
 
--- the shape of the rule at the head of a list: its style, and how many trees stand before its pattern; an `unsafe`
+-- the shape of the rule at the head of a list: its style, and how many trees come before its pattern; an `unsafe`
 -- before it all changes nothing
 abbrev pub rule_shape : List Sign → Parsed (MacroCallStyle × ℕ)
 rule_shape (name w ∷ more) = if is "unsafe" w then styled 1 more else styled 0 (name w ∷ more)
@@ -62,7 +62,7 @@ rule_shape ts = styled 0 ts
 
 -- ---- definitions
 
--- what may stand between rules, and the fault where something else does
+-- what may separate rules, and the fault where something else does
 pub record Delimiting : Type 0 where
   pub is_between : ℕ → Bool
   pub fault : ParseError
@@ -97,7 +97,7 @@ abbrev pub rule_then : Parsed Rule → Rules → Rules
 rule_then (Err e) more = no_rules (Some e)
 rule_then (Ok r) more = with_rule r more
 
--- a definition of which a rule can go round without end has this fault before all others
+-- a definition of which a rule can repeat without end has this fault before all others
 abbrev pub ending : Rules → Rules
 ending rules =
     if list_any (λ r. has_empty_round r.pattern) rules.list

@@ -55,7 +55,7 @@ trees_of dollar_crate = 1
 trees_of two_dollars = 1
 trees_of (begun d n) = n
 
--- `$crate`, as an identifier at the place of its `$`
+-- `$crate`, as an identifier with the span of its `$`
 abbrev pub crate_at : Span → Leaf
 crate_at span = as_leaf.Ident (record { sym = codes "$crate"; span = span; is_raw = is_raw.No })
 
@@ -93,13 +93,13 @@ with_group d inner rest = inner >>= λ i. rest >>= λ j. Ok (group_of d i j)
 abbrev pub with_head : Punct → Forest → (ℕ → Parsed Items) → Head → Parsed Items
 with_head p rest after h = with_item (item_of h p rest) (after (trees_of h))
 
--- a repetition with this separator and operator: its items, and those after it; its own fault is told before theirs
+-- a repetition with this separator and operator: its items, and those after it; its own fault comes before theirs
 abbrev pub with_repetition : Forest → Parsed Items → (ℕ → Parsed Items) → Between × RepeatKind → Parsed Items
 with_repetition rest inner after b =
     inner >>= λ i. after (trees_between b.0 + 1) >>= λ j. Ok (repetition i (separator_in b.0 rest) b.1 j)
 
 module _ (edition : SyntaxContext → Edition) where
-  -- what a word after the colon lets a variable take, by the edition of the place where it is written
+  -- what a fragment specifier lets a variable take, by the edition of the context where it is written
   abbrev pub kind_of : Ident → Option MetaVarKind
   kind_of k =
       if is_word "path" k then Some kind.Path
@@ -119,7 +119,7 @@ module _ (edition : SyntaxContext → Edition) where
       else if is_word "literal" k then Some kind.Literal
       else None
 
-  -- a variable of this name: in a pattern a colon and a word for what it takes must follow
+  -- a variable of this name: in a pattern a colon and a fragment specifier must follow
   abbrev pub variable_after : Mode → List ℕ → Forest → Parsed Head
   variable_after in_template n f = Ok (begun (variable n None) 1)
   variable_after in_pattern n (leaf (as_leaf.Punct c) (leaf (as_leaf.Ident k) rest)) =

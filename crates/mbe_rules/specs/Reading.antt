@@ -22,18 +22,18 @@ use Rattle.mbe_rules.specs.Patterns.{Mode, in_pattern, in_template, Head, trees_
 use Rattle.mbe_rules.specs.Repetitions.{Between, trees_between, separator_in, operator_of}
 use Rattle.mbe_rules.specs.Text.{is_char, is_word}
 use Rattle.mbe_rules.specs.Trees.{past, inside}
-use Rattle.mbe_rules.specs.declared.definitions.Delimiting as definitions
-use Rattle.mbe_rules.specs.declared.definitions.Delimiting.TheVariants.{Semicolon, SemicolonOrComma}
-use Rattle.mbe_rules.specs.declared.editions.Editions.{Editions}
+use Rattle.mbe_rules.specs.declared.parse.definition.Delimiting as definition
+use Rattle.mbe_rules.specs.declared.parse.definition.Delimiting.TheVariants.{Semicolon, SemicolonOrComma}
+use Rattle.mbe_rules.specs.declared.parse.editions.Editions.{Editions}
 use Rattle.mbe_rules.specs.declared.errors.ParseError.{ParseError}
-use Rattle.mbe_rules.specs.declared.heads.Mode as heads
-use Rattle.mbe_rules.specs.declared.heads.Mode.TheVariants.{Pattern, Template}
+use Rattle.mbe_rules.specs.declared.parse.dollar.Mode as parse_mode
+use Rattle.mbe_rules.specs.declared.parse.dollar.Mode.TheVariants.{Pattern, Template}
 use Rattle.mbe_rules.specs.declared.macro_call_style.MacroCallStyle.{MacroCallStyle}
 use Rattle.mbe_rules.specs.declared.parser.Op.{Op}
 use Rattle.mbe_rules.specs.declared.parser.RepeatKind.{RepeatKind}
 use Rattle.mbe_rules.specs.declared.parser.Separator.{Separator}
 use Rattle.mbe_rules.specs.declared.rules.Rule.{Rule}
-use Rattle.mbe_rules.specs.declared.shapes.RuleParts.{RuleParts}
+use Rattle.mbe_rules.specs.declared.parse.rule.RuleParts.{RuleParts}
 
 -- ---- what is asked
 
@@ -43,7 +43,7 @@ edition_in e Written = e.written
 edition_in e Made = e.made
 
 -- whether a pattern or a template is read
-abbrev pub mode_of : heads.Mode → Mode
+abbrev pub mode_of : parse_mode.Mode → Mode
 mode_of Pattern = in_pattern
 mode_of Template = in_template
 
@@ -82,12 +82,12 @@ ops_read (Err e) = Err e
 abbrev pub head_read : Punct → Forest → Parsed Head → Parsed Read
 head_read p f h = h >>= λ x. Ok (item (item_of x p f) done, past (trees_of x) f)
 
--- the word behind a colon, and the trees after it
+-- the fragment specifier after a colon, and the trees after it
 abbrev pub typing : Forest → Option (Ident × Forest)
 typing (leaf (as_leaf.Punct c) (leaf (as_leaf.Ident k) rest)) = if is_char ":" c && not (is_word "_" k) then Some (k, rest) else None
 typing _ = None
 
--- a variable of this name and place, by the trees after the name
+-- a variable of this name and span, by the trees after the name
 abbrev pub variable_read : (SyntaxContext → Edition) → Mode → Span → List ℕ → Forest → Parsed Read
 variable_read edition in_template s n f = Ok (item (dollar (variable n None) s) done, f)
 variable_read edition in_pattern s n (leaf (as_leaf.Punct c) (leaf (as_leaf.Ident k) rest)) =
@@ -158,24 +158,24 @@ rule_in edition parts = parts >>= λ p. rule_of edition p.style p.pattern p.temp
 abbrev pub rules_before : List spec.Rule → spec.Rules → spec.Rules
 rules_before rs more = record { list = rs ++ more.list; err = more.err }
 
--- what may stand between rules
-abbrev pub delimiting_of : definitions.Delimiting → Delimiting
+-- what may separate rules
+abbrev pub delimiting_of : definition.Delimiting → Delimiting
 delimiting_of Semicolon = by_semicolon
 delimiting_of SemicolonOrComma = by_semicolon_or_comma
 
--- the trees after what stands between rules; none are needed where none are left
+-- the trees after what separates rules; none are needed where none are left
 abbrev pub after_delimiter : Delimiting → Forest → Option Forest
 after_delimiter between empty = Some empty
 after_delimiter between (leaf (as_leaf.Punct p) rest) = if between.is_between p.char then Some rest else None
 after_delimiter between _ = None
 
--- ---- rounds of nothing
+-- ---- empty iterations
 
--- whether items can match nothing; none where a repetition in them has an empty round
+-- whether items can match nothing; none where a repetition in them has an empty iteration
 abbrev pub rounds_of : Items → Option Bool
 rounds_of is = if has_empty_round is then None else Some (can_match_nothing is)
 
--- the same of a repetition, by whether its rounds are kept apart, and whether its body can match nothing
+-- the same of a repetition, by whether its iterations have a separator, and whether its body can match nothing
 abbrev pub round_of : Bool → RepeatKind → Bool → Option Bool
 round_of false k true = None
 round_of _ k b = Some (may_skip k || b)

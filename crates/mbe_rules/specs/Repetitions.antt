@@ -1,4 +1,4 @@
--- Repetitions: what stands after `$(..)`, a separator and an operator.
+-- Repetitions: what comes after `$(..)`, a separator and an operator.
 -- (The Rust Reference, "Macros By Example": MacroRepSep, MacroRepOp.)
 use Rattle.std.specs.Prelude.{ℕ, List, ◌∷◌, if◌then◌else◌, Option, Some, None, option_map, Err}
 use Rattle.tt_data.specs.Forest.{Forest, leaf}
@@ -34,7 +34,7 @@ trees_between an_ident = 1
 trees_between a_lifetime = 2
 trees_between (some_puncts n) = n
 
--- after a separator of this form an operator has to stand
+-- after a separator of this form an operator has to come
 abbrev pub then_operator : Between → List Sign → Option (Between × RepeatKind)
 then_operator between (punct c ∷ more) = option_map (λ op. (between, op)) (operator_of c)
 then_operator between _ = None

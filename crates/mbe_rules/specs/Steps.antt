@@ -11,11 +11,11 @@ use Rattle.mbe_rules.specs.Trees.{Sign, signs}
 use Rattle.mbe_rules.specs.declared.parser.ConcatElement.{ConcatElement}
 use Rattle.mbe_rules.specs.declared.parser.Op.{Op}
 
--- what an item of the program stands for, as a list of one
+-- what an item of the program means, as a list of one
 abbrev pub meaning : Option Op → Option Items
 meaning o = option_map (λ op. put_op op done) o
 
--- what a `$` at this place begins, as a list of one
+-- what a `$` with this span begins, as a list of one
 abbrev pub standing_at : Span → Option Dollar → Option Items
 standing_at s d = option_map (λ x. item (dollar x s) done) d
 
@@ -32,16 +32,16 @@ function_called (Some x) = function_of x.0 (signs x.1)
 abbrev pub parts_of : Option (Vec ConcatElement Global) → Option (List Part)
 parts_of v = option_map (λ (es : Vec ConcatElement Global). map part_of es.items) v
 
--- a part, and the signs behind it from a comma on
+-- a part, and the signs after it from a comma on
 abbrev pub parts_behind : Option ConcatElement → List Sign → Option (List Part)
 parts_behind None ss = None
 parts_behind (Some e) ss = part_then (part_of e) ss
 
--- a part, and the signs behind its comma, if it has one
+-- a part, and the signs after its comma, if it has one
 abbrev pub comma_behind : Bool → Part → List Sign → Option (List Part)
 comma_behind there p ss = if there then with_part p (parts_in ss) else None
 
--- a part, and those of the signs behind it and its comma
+-- a part, and those of the signs after it and its comma
 abbrev pub parts_after : Option ConcatElement → List Sign → Option (List Part)
 parts_after None ss = None
 parts_after (Some e) ss = with_part (part_of e) (parts_in ss)

@@ -1,4 +1,4 @@
--- Trees at the head of a list, by their number; and what they are, places aside.
+-- Trees at the head of a list, by their number; and what they are, spans aside.
 use Rattle.std.specs.Prelude.{ℕ, suc, List, [], ◌∷◌}
 use Rattle.tt_data.specs.Forest.{Forest, empty, leaf, group}
 use Rattle.tt_data.specs.declared.leaf.Leaf.{Leaf}
@@ -27,16 +27,16 @@ abbrev pub inside : Forest → Forest
 inside (group d inner rest) = inner
 inside f = empty
 
--- ---- what trees are, places aside
+-- ---- what trees are, spans aside
 
--- a tree without its place: a name, a literal, a character of punctuation, or some group
+-- a tree without its span: a name, a literal, a character of punctuation, or some group
 pub data Sign : Type 0 where
   name : List ℕ → Sign
   literal : (text suffix : List ℕ) → Sign
   punct : ℕ → Sign
   bracketed : Sign
 
--- a leaf without its place
+-- a leaf without its span
 abbrev pub sign_of : Leaf → Sign
 sign_of (as_leaf.Ident i) = name i.sym
 sign_of (as_leaf.Literal l) = literal l.text l.suffix

@@ -7,7 +7,7 @@ ghost use Rattle.tt.specs.Glued.{characters};
 use symbols::Symbol;
 use tt_data::{Delimiter, Ident, Literal, Punct, Span};
 
-/// What a variable of a pattern takes, by the word after its colon. (The Rust Reference, "Macros By
+/// What a variable of a pattern takes, by its fragment specifier. (The Rust Reference, "Macros By
 /// Example": metavariables.)
 #[derive(Clone, Copy, PartialEq, Eq, Debug)]
 pub enum MetaVarKind {
@@ -54,7 +54,7 @@ pub enum RepeatKind {
     ZeroOrOne,
 }
 
-/// What stands between the rounds of a repetition.
+/// What separates the iterations of a repetition.
 #[derive(Debug, Drop)]
 pub enum Separator {
     /// A literal.
@@ -117,7 +117,7 @@ impl Eq for Separator {
 /// A part of `${concat(..)}`.
 #[derive(PartialEq, Eq, Debug, Drop)]
 pub enum ConcatElement {
-    /// A word or a literal, by its text.
+    /// An identifier or a literal, by its text.
     Text(Symbol),
     /// `$name`
     Var(Symbol),
@@ -127,7 +127,7 @@ pub enum ConcatElement {
 /// levels of repetitions.
 #[derive(PartialEq, Eq, Debug, Drop)]
 pub enum Op {
-    /// `$name:kind`, where `kind` is `None` if the word names none; and `$name` in a template, without one.
+    /// `$name:kind`, where `kind` is `None` if the specifier names none; and `$name` in a template, without one.
     Var {
         name: Symbol,
         kind: Option<MetaVarKind>,

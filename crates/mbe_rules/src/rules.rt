@@ -19,6 +19,6 @@ pub struct Rule {
 pub struct Rules {
     /// The rules before the fault, and the one right before it where a separator is missing.
     pub list: Vec<Rule>,
-    /// The first fault; a round of nothing in one of the rules is told before all others.
+    /// The first fault; an empty iteration in one of the rules comes before all others.
     pub err: Option<ParseError>,
 }

@@ -1,4 +1,4 @@
-//! Whether a pattern can go round without end.
+//! Whether a pattern can repeat without end.
 ghost use Rattle.std.specs.Prelude.{◌≡◌};
 ghost use Rattle.mbe_rules.specs.Items.{done, can_match_nothing, has_empty_round};
 ghost use Rattle.mbe_rules.specs.Ops.{put_op, items_of};
@@ -34,8 +34,8 @@ pub fn can_match_nothing(ops: &[Op]) -> bool
     true
 }
 
-// Whether a repetition can match nothing, by whether its round can: none where nothing stands between such
-// rounds, which would have no end.
+// Whether a repetition can match nothing, by whether its iteration can: none where nothing separates such
+// iterations, which would have no end.
 fn round(is_apart: bool, kind: RepeatKind, nothing: bool) -> Option<bool>
     ensures { result ≡ round_of is_apart kind nothing }
 {
@@ -45,7 +45,7 @@ fn round(is_apart: bool, kind: RepeatKind, nothing: bool) -> Option<bool>
     Some(nothing || kind != RepeatKind::OneOrMore)
 }
 
-// Whether an item can match nothing: none where it has an empty round.
+// Whether an item can match nothing: none where it has an empty iteration.
 #[cycle(rounds)]
 fn op_rounds(op: &Op) -> Option<bool>
     ensures { result ≡ rounds_of (put_op op.now done) }
@@ -68,7 +68,7 @@ fn op_rounds(op: &Op) -> Option<bool>
     }
 }
 
-// Whether a list of items can match nothing: none where it has an empty round. Each item is seen once.
+// Whether a list of items can match nothing: none where it has an empty iteration. Each item is seen once.
 #[cycle(rounds)]
 fn rounds(ops: &[Op]) -> Option<bool>
     ensures { result ≡ rounds_of (items_of ops.now) }
@@ -80,7 +80,7 @@ fn rounds(ops: &[Op]) -> Option<bool>
     Some(nothing)
 }
 
-/// Whether a repetition without separator, anywhere in a list of items, can match nothing in a round.
+/// Whether a repetition without separator, anywhere in a list of items, can match nothing in an iteration.
 pub fn has_empty_round(ops: &[Op]) -> bool
     ensures { result ≡ has_empty_round (items_of ops.now) }
 {

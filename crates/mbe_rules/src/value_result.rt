@@ -13,7 +13,7 @@ pub type ExpandResult<T> = ValueResult<T, ExpandError>;
 /// The index of the rule that was taken, among all rules of its macro.
 pub type MatchedArmIndex = Option<u32>;
 
-/// A value, and the error that was met on the way to it, if there was one.
+/// A value, and the error that came up on the way to it, if there was one.
 #[derive(PartialEq, Eq, Debug, Drop)]
 pub struct ValueResult<T, E> {
     pub value: T,
@@ -71,7 +71,7 @@ impl<T, E> ValueResult<T, E> {
         }
     }
 
-    /// The same value, with what `f` makes of the error, if there is one.
+    /// This value, with what `f` makes of the error, if there is one.
     pub fn map_err<E2, F: FnOnce(E) -> E2>(self, f: F) -> ValueResult<T, E2>
         requires { ForSome self.err (F.pre f) }
         ensures value { result.value ≡ self.value }
@@ -116,7 +116,7 @@ impl<T, E> ValueResult<T, E> {
         }
     }
 
-    /// The same value with the same error. A clone of each has to be the same.
+    /// Clones of the value and of the error. A clone of each has to be equal to it.
     ///
     /// # Errors
     ///

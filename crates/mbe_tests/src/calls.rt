@@ -2,12 +2,12 @@
 //! rule and the printed text, in which `⏎` stands for the end of a line; or, of a call that no rule fits, the error, where
 //! it is told, the number of the nearest rule if there is one, and its tree as it is displayed.
 use crate::texts::answered;
-use grammar_fakes::{AllSteps, Faults, OneStep};
 use mbe::FragmentGrammar;
 use small_grammar::SmallGrammar;
 use std::alloc::Global;
 use std::fmt::Write;
 use std::test::Fail;
+use test_grammars::{AllSteps, Faults, OneStep};
 use tt::Edition;
 
 const WITH_THE_SMALL_GRAMMAR: &str = r#"

@@ -1,13 +1,23 @@
 //! What a grammar takes at the head of a list.
 use crate::texts::{call_site, trees};
-use grammar_fakes::{AllSteps, Faults, OneStep};
 use mbe::{FragmentGrammar, PrefixEntryPoint, expect_fragment};
 use std::alloc::Global;
 use std::fmt::Write;
 use std::test::Fail;
+use test_grammars::{AllSteps, Faults, OneStep};
 use tt::DelimSpan;
 
-// The trees that are passed, those that are left, and the error with its place.
+// A grammar, what it is asked for, and a list; the trees that are passed, those that are left, and the error with its place.
+const ROWS: &str = "
+OneStep Expr ¦ a b ¦ a | b |
+OneStep Ty ¦ (a b) c ¦ (a b) | c | expected Ty at 0..1
+OneStep Vis ¦  ¦  |  |
+OneStep Item ¦  ¦  |  | expected Item at 77..78
+AllSteps Block ¦ {a} b ¦ {a} b |  |
+Faults Vis ¦ a ¦  | a | expected Vis at 0..1
+";
+
+// What is passed of a text, as a row has it.
 fn passed<G: FragmentGrammar>(
     alloc: Global,
     grammar: &G,
@@ -19,28 +29,35 @@ fn passed<G: FragmentGrammar>(
     let end = DelimSpan::from_single(call_site());
     let found = expect_fragment(alloc, grammar, &mut rest, entry, end)?;
     let mut shown = String::new(alloc);
-    write!(shown, "{} | {}", found.value, rest.remaining())?;
+    write!(shown, "{} | {} |", found.value, rest.remaining())?;
     if let Some(err) = found.err {
         let at = err.span().range;
-        write!(shown, " | {} at {}..{}", err, at.start, at.end)?;
+        write!(shown, " {} at {}..{}", err, at.start, at.end)?;
     }
     Ok(shown)
 }
 
+// The same by a grammar and an entry point that are named.
+fn passed_by(alloc: Global, call: &str, text: &str) -> Result<String, Fail> {
+    match call {
+        "OneStep Expr" => passed(alloc, &OneStep, PrefixEntryPoint::Expr, text),
+        "OneStep Ty" => passed(alloc, &OneStep, PrefixEntryPoint::Ty, text),
+        "OneStep Vis" => passed(alloc, &OneStep, PrefixEntryPoint::Vis, text),
+        "OneStep Item" => passed(alloc, &OneStep, PrefixEntryPoint::Item, text),
+        "AllSteps Block" => passed(alloc, &AllSteps, PrefixEntryPoint::Block, text),
+        _ => passed(alloc, &Faults, PrefixEntryPoint::Vis, text),
+    }
+}
+
 #[test]
 fn are_passed(rt: HostRuntime) -> Result<(), Fail> {
-    let alloc = rt.alloc();
-    let got = passed(alloc, &OneStep, PrefixEntryPoint::Expr, "a b")?;
-    assert!(rt; got.as_str() == "a | b", "{got}");
-    let got = passed(alloc, &OneStep, PrefixEntryPoint::Ty, "(a b) c")?;
-    assert!(rt; got.as_str() == "(a b) | c | expected Ty at 0..1", "{got}");
-    let got = passed(alloc, &OneStep, PrefixEntryPoint::Vis, "")?;
-    assert!(rt; got.as_str() == " | ", "{got}");
-    let got = passed(alloc, &OneStep, PrefixEntryPoint::Item, "")?;
-    assert!(rt; got.as_str() == " |  | expected Item at 77..78", "{got}");
-    let got = passed(alloc, &AllSteps, PrefixEntryPoint::Block, "{a} b")?;
-    assert!(rt; got.as_str() == "{a} b | ", "{got}");
-    let got = passed(alloc, &Faults, PrefixEntryPoint::Vis, "a")?;
-    assert!(rt; got.as_str() == " | a | expected Vis at 0..1", "{got}");
+    for row in ROWS.lines() {
+        if let Some((call, rest)) = row.split_once(" ¦ ") {
+            if let Some((text, want)) = rest.split_once(" ¦ ") {
+                let got = passed_by(rt.alloc(), call, text)?;
+                assert!(rt; got.as_str() == want, "{row}: {got}");
+            }
+        }
+    }
     Ok(())
 }

@@ -61,18 +61,32 @@ fn nested(alloc: Global, depth: usize, text: &str) -> Result<String, Fail> {
     Ok(all)
 }
 
-#[test]
-fn nested_deep(rt: HostRuntime) -> Result<(), Fail> {
-    let alloc = rt.alloc();
-    let depth = 20_000;
+// A rule for groups in one another.
+fn deep_rule(alloc: Global, depth: usize) -> Result<String, Fail> {
     let pattern = nested(alloc, depth, "$x:tt")?;
     let template = nested(alloc, depth, "$x")?;
-    let rules = format!(in alloc; "({pattern}) => {{{template}}}")?;
-    let argument = trees(alloc, &nested(alloc, depth, "a")?)?;
-    let (rule, tree) = given(alloc, &rules, &argument)?;
-    assert!(rt; rule == Some(0) && tree.token_trees().len() == depth + 1);
-    let argument = trees(alloc, &nested(alloc, depth, "a b")?)?;
-    let (rule, tree) = given(alloc, &rules, &argument)?;
-    assert!(rt; rule.is_none() && tree.token_trees().len() >= depth);
+    Ok(format!(in alloc; "({pattern}) => {{{template}}}")?)
+}
+
+// The rule that fits so many groups around a text, and how many tokens it gives.
+fn given_deep(
+    alloc: Global,
+    rules: &str,
+    depth: usize,
+    text: &str,
+) -> Result<(Option<u32>, usize), Fail> {
+    let argument = trees(alloc, nested(alloc, depth, text)?.as_str())?;
+    let (rule, tree) = given(alloc, rules, &argument)?;
+    Ok((rule, tree.token_trees().len()))
+}
+
+#[test]
+fn nested_deep(rt: HostRuntime) -> Result<(), Fail> {
+    let depth = 20_000;
+    let rules = deep_rule(rt.alloc(), depth)?;
+    let (rule, len) = given_deep(rt.alloc(), rules.as_str(), depth, "a")?;
+    assert!(rt; rule == Some(0) && len == depth + 1);
+    let (rule, len) = given_deep(rt.alloc(), rules.as_str(), depth, "a b")?;
+    assert!(rt; rule.is_none() && len >= depth);
     Ok(())
 }

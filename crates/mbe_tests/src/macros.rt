@@ -6,7 +6,17 @@ use mbe::{
 };
 use small_grammar::SmallGrammar;
 use std::alloc::Global;
+use std::fmt::Write;
 use std::test::Fail;
+
+// Rules, and what is told of their macro: how many they are, the styles of calls that they are for, and the fault.
+const ROWS: &str = "
+ ¦ 0 FnLike ¦
+(a) => {b} ¦ 1 FnLike ¦
+derive() (a) => {b}; attr() (a) => {c}; attr() (c) => {} ¦ 3 Attr Derive ¦
+(a) => {b} (c) => {d} ¦ 1 FnLike ¦ expected `;`
+($($($v:vis),+)*) => {} ¦ 1 FnLike ¦ empty token tree in repetition
+";
 
 // The macro of these rules.
 fn macro_rules(alloc: Global, rules: &str) -> Result<DeclarativeMacro, Fail> {
@@ -14,75 +24,72 @@ fn macro_rules(alloc: Global, rules: &str) -> Result<DeclarativeMacro, Fail> {
     Ok(DeclarativeMacro::parse_macro_rules(alloc, &body, at_2024)?)
 }
 
-#[test]
-fn of_a_fault_alone(rt: HostRuntime) -> Result<(), Fail> {
-    let broken = DeclarativeMacro::from_err(ParseError::InvalidRepeat);
-    assert!(rt; broken.num_rules() == 0);
-    assert!(rt; broken.rule_styles() == MacroCallStyles::FN_LIKE);
-    assert!(rt; broken.err() == Some(&ParseError::InvalidRepeat));
-    let copy = broken.try_clone(rt.alloc())?;
-    assert!(rt; copy == broken);
-    Ok(())
+// What is told of a macro, as a row has it, where its copy is the same.
+fn told(alloc: Global, found: &DeclarativeMacro) -> Result<String, Fail> {
+    if found.try_clone(alloc)? != *found {
+        return Err(Fail::new("a copy differs"));
+    }
+    let styles = found.rule_styles();
+    let styles = if styles == MacroCallStyles::FN_LIKE {
+        "FnLike"
+    } else if styles == MacroCallStyles::ATTR.union(MacroCallStyles::DERIVE) {
+        "Attr Derive"
+    } else {
+        "others"
+    };
+    let mut told = format!(in alloc; "{} {styles} ¦", found.num_rules())?;
+    if let Some(err) = found.err() {
+        write!(told, " {err}")?;
+    }
+    Ok(told)
 }
 
 #[test]
 fn of_rules(rt: HostRuntime) -> Result<(), Fail> {
-    let cases = [
-        ("", 0, MacroCallStyles::FN_LIKE, ""),
-        ("(a) => {b}", 1, MacroCallStyles::FN_LIKE, ""),
-        (
-            "derive() (a) => {b}; attr() (a) => {c}; attr() (c) => {}",
-            3,
-            MacroCallStyles::ATTR.union(MacroCallStyles::DERIVE),
-            "",
-        ),
-        (
-            "(a) => {b} (c) => {d}",
-            1,
-            MacroCallStyles::FN_LIKE,
-            "expected `;`",
-        ),
-        (
-            "($($($v:vis),+)*) => {}",
-            1,
-            MacroCallStyles::FN_LIKE,
-            "empty token tree in repetition",
-        ),
-    ];
-    for (rules, count, styles, fault) in cases {
-        let found = macro_rules(rt.alloc(), rules)?;
-        assert!(rt;
-            found.num_rules() == count && found.rule_styles() == styles,
-            "{rules}"
-        );
-        let told = match found.err() {
-            Some(err) => format!(in rt.alloc(); "{err}")?,
-            None => String::new(rt.alloc()),
-        };
-        assert!(rt; told.as_str() == fault, "{rules}: {told}");
-        assert!(rt; found.try_clone(rt.alloc())? == found, "{rules}");
+    for row in ROWS.lines() {
+        if let Some((rules, want)) = row.split_once(" ¦ ") {
+            let got = told(rt.alloc(), &macro_rules(rt.alloc(), rules)?)?;
+            assert!(rt; got.as_str() == want, "{rules}: {got}");
+        }
     }
+    let broken = DeclarativeMacro::from_err(ParseError::InvalidRepeat);
+    assert!(rt; told(rt.alloc(), &broken)?.as_str() == "0 FnLike ¦ invalid repeat");
     Ok(())
+}
+
+// Whether the macros of these rules are equal.
+fn are_equal(alloc: Global, first: &str, second: &str) -> Result<bool, Fail> {
+    let first = macro_rules(alloc, first)?;
+    Ok(macro_rules(alloc, second)? == first)
 }
 
 #[test]
 fn compared(rt: HostRuntime) -> Result<(), Fail> {
-    let first = macro_rules(rt.alloc(), "($($a:tt)a*) => {}")?;
-    assert!(rt; macro_rules(rt.alloc(), "($($a:tt)a*) => {}")? == first);
-    assert!(rt; macro_rules(rt.alloc(), "($($a:tt)b*) => {}")? != first);
-    assert!(rt; macro_rules(rt.alloc(), "($($a:tt)a+) => {}")? != first);
+    let rules = "($($a:tt)a*) => {}";
+    assert!(rt; are_equal(rt.alloc(), rules, rules)?);
+    assert!(rt; !are_equal(rt.alloc(), rules, "($($a:tt)b*) => {}")?);
+    assert!(rt; !are_equal(rt.alloc(), rules, "($($a:tt)a+) => {}")?);
     Ok(())
+}
+
+// What is told of a macro by the word `macro`, which has this body, and this argument if it has one.
+fn told_by_word(alloc: Global, argument: &str, body: &str) -> Result<String, Fail> {
+    let body = trees(alloc, body)?;
+    if argument.is_empty() {
+        let found = DeclarativeMacro::parse_macro2(alloc, None, &body, at_2021)?;
+        return told(alloc, &found);
+    }
+    let argument = trees(alloc, argument)?;
+    let found = DeclarativeMacro::parse_macro2(alloc, Some(&argument), &body, at_2021)?;
+    told(alloc, &found)
 }
 
 #[test]
 fn by_the_word_macro(rt: HostRuntime) -> Result<(), Fail> {
-    let args = trees(rt.alloc(), "$x:expr")?;
-    let body = trees(rt.alloc(), "$x + 1")?;
-    let found = DeclarativeMacro::parse_macro2(rt.alloc(), Some(&args), &body, at_2021)?;
-    assert!(rt; found.num_rules() == 1 && found.err().is_none());
-    let body = trees(rt.alloc(), "(a) => {b}, (c) => {d}; (e) => {f}")?;
-    let found = DeclarativeMacro::parse_macro2(rt.alloc(), None, &body, at_2021)?;
-    assert!(rt; found.num_rules() == 3 && found.err().is_none());
+    let got = told_by_word(rt.alloc(), "$x:expr", "$x + 1")?;
+    assert!(rt; got.as_str() == "1 FnLike ¦", "{got}");
+    let got = told_by_word(rt.alloc(), "", "(a) => {b}, (c) => {d}; (e) => {f}")?;
+    assert!(rt; got.as_str() == "3 FnLike ¦", "{got}");
     Ok(())
 }
 

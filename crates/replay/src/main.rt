@@ -1,8 +1,8 @@
 //! Answers a script of edits and expansions, which is read from standard input. What scripts say, and what is told of
-//! them, is told in the crate `scripts`. A bad line ends the run with its number, on standard error, and status 1.
+//! them, is told in the crate `replay_script`. A bad line ends the run with its number, on standard error, and status 1.
 #![tactic(auto)]
 
-use scripts::answer_script;
+use replay_script::answer_script;
 use std::io;
 use std::process::ExitCode;
 

@@ -16,8 +16,8 @@ use Rattle.rustc_lexer.specs.Lexeme.{Lexeme, lexeme, lexeme_of, quoted, string, 
 use Rattle.rustc_lexer.specs.Lexing.{tokens_of, token_of}
 use Rattle.rustc_lexer.specs.Literals.{bare, literal, quoted_body, string_body, raw_form}
 use Rattle.rustc_lexer.specs.Seams.{is_whole_literal, stands_alone}
-use Rattle.rustc_lexer.specs.Standing.{IsTokenAt}
-use Rattle.rustc_lexer.specs.Stretch.{Stretch, further}
+use Rattle.rustc_lexer.specs.TokensAt.{IsTokenAt}
+use Rattle.rustc_lexer.specs.Scanned.{Scanned, further}
 use Rattle.rustc_lexer.specs.declared.token.LiteralKind.{LiteralKind}
 use Rattle.rustc_lexer.specs.declared.token.LiteralKind.TheVariants.{Byte, Char, Str, ByteStr, CStr, RawStr, RawByteStr, RawCStr}
 use Rattle.rustc_lexer.specs.declared.token.Token.{Token}
@@ -99,17 +99,17 @@ literal_whole true l n cs k h = refl
 literal_whole false l n cs k h = sym k ∙ h
 
 -- a literal that is whole exactly where its body is
-literal_kept : {A : Type 0} (kind : A → LiteralKind) (whole : A → Bool) (body : List ℕ → Stretch A) (m : ℕ) (cs : List ℕ) →
+literal_kept : {A : Type 0} (kind : A → LiteralKind) (whole : A → Bool) (body : List ℕ → Scanned A) (m : ℕ) (cs : List ℕ) →
     ((v : A) → is_whole_literal (kind v) ≡ whole v) → (whole (body cs).value ≡ true → (body cs).size ≤ m → body (take m cs) ≡ body cs) →
     Kept m (λ xs. literal (whole (body xs).value) (kind (body xs).value) (body xs).size xs) cs
 unfolding Kept
 literal_kept {A} kind whole body m cs k lf h e =
-    let s : Stretch A = body cs in
+    let s : Scanned A = body cs in
     let all = literal_whole (whole s.value) (kind s.value) s.size cs (k s.value) h in
     let long = literal_long (whole s.value) (kind s.value) s.size cs in
     let fits : (literal true (kind s.value) s.size cs).size ≤ m =
     (let same : (literal true (kind s.value) s.size cs).size ≡ m = ap (λ u. (literal u (kind s.value) s.size cs).size) (sym all) ∙ e in omega (arith, same)) in
-    ap (λ (r : Stretch A). literal (whole r.value) (kind r.value) r.size (take m cs)) (lf all (omega (arith, long, e)))
+    ap (λ (r : Scanned A). literal (whole r.value) (kind r.value) r.size (take m cs)) (lf all (omega (arith, long, e)))
     ∙ ap (λ u. literal u (kind s.value) s.size (take m cs)) all
     ∙ suffix_cut (kind s.value) s.size m cs fits
     ∙ ap (λ u. literal u (kind s.value) s.size cs) (sym all)
@@ -130,17 +130,17 @@ raw_kept kind p m cs k =
     (λ h l. ap (λ xs. further p (raw_form xs)) (drop_cut p m cs (omega (arith, l))) ∙ ap (further p) (raw_form_cut (m - p) (drop p cs) h (omega (arith, l))))
 
 quoted_long : (kind : Bool → LiteralKind) (p : ℕ) (cs : List ℕ) → p + (quoted_body (drop p cs)).size ≤ (quoted kind p cs).size
-quoted_long kind p cs = (let body : Stretch Bool = further p (quoted_body (drop p cs)) in literal_long body.value (kind body.value) body.size cs)
+quoted_long kind p cs = (let body : Scanned Bool = further p (quoted_body (drop p cs)) in literal_long body.value (kind body.value) body.size cs)
 
 string_long : (kind : Bool → LiteralKind) (p : ℕ) (cs : List ℕ) → p ≤ (string kind p cs).size
 string_long kind p cs =
-    let body : Stretch Bool = further p (string_body (drop p cs)) in
+    let body : Scanned Bool = further p (string_body (drop p cs)) in
     let long = literal_long body.value (kind body.value) body.size cs in omega (arith, long)
 
 raw_long : (kind : Option ℕ → LiteralKind) (p : ℕ) (cs : List ℕ) → ((v : Option ℕ) → is_whole_literal (kind v) ≡ is_some v) →
     stands_alone (raw_string kind p cs).value ≡ true → p + 1 ≤ (raw_string kind p cs).size
 raw_long kind p cs k h =
-    let form : Stretch (Option ℕ) = further p (raw_form (drop p cs)) in
+    let form : Scanned (Option ℕ) = further p (raw_form (drop p cs)) in
     let long = literal_long (is_some form.value) (kind form.value) form.size cs in
     let all = literal_whole (is_some form.value) (kind form.value) form.size cs (k form.value) h in
     omega (arith, long, raw_form_long (drop p cs) all)

@@ -5,7 +5,7 @@ use Rattle.std.proofs.lemmas.Bool.Decides.{nat_tests}
 use Rattle.std.proofs.lemmas.List.{drop-drop, length-drop}
 use Rattle.memchr.specs.Find.{is_byte, is_byte2}
 use Rattle.rustc_lexer.specs.Character.{char_at, is}
-use Rattle.rustc_lexer.specs.Stretch.{Stretch, further, IsRead}
+use Rattle.rustc_lexer.specs.Scanned.{Scanned, further, IsRead}
 use Rattle.rustc_lexer.specs.Comments.{block_body}
 use Rattle.rustc_lexer.specs.Literals.{quoted_rest, string_body, raw_body, raw_form, hashes, hashes_of}
 use Rattle.rustc_lexer.proofs.EscapeLemmas.{string_from, string_same, quoted_from, quoted_same}
@@ -30,17 +30,17 @@ found_passes p (c ∷ cs) d ds e = by_test (p c) refl e (λ again. found_passes 
 -- ---- bodies, one step on
 
 -- a body that takes one character and goes on
-one_more : {A : Type 0} (s : Stretch A) (c : ℕ) (cs : List ℕ) → Leads (further 1 s) (c ∷ cs) s cs
+one_more : {A : Type 0} (s : Scanned A) (c : ℕ) (cs : List ℕ) → Leads (further 1 s) (c ∷ cs) s cs
 one_more s c cs = record { value = refl; rest = drop_more s.size c cs }
 
-two_more : {A : Type 0} (s : Stretch A) (c d : ℕ) (cs : List ℕ) → Leads (further 2 s) (c ∷ d ∷ cs) s cs
+two_more : {A : Type 0} (s : Scanned A) (c d : ℕ) (cs : List ℕ) → Leads (further 2 s) (c ∷ d ∷ cs) s cs
 two_more s c d cs = record { value = refl; rest = drop-drop s.size 2 (c ∷ d ∷ cs) }
 
-stays : {A : Type 0} (s : Stretch A) (cs : List ℕ) → Leads s cs s cs
+stays : {A : Type 0} (s : Scanned A) (cs : List ℕ) → Leads s cs s cs
 stays s cs = record { value = refl; rest = refl }
 
 -- where nothing is passed over
-at_once : (f : List ℕ → Stretch Bool) (cs : List ℕ) (k : ℕ) → k ≡ 0 → Leads (f cs) cs (f (drop k cs)) (drop k cs)
+at_once : (f : List ℕ → Scanned Bool) (cs : List ℕ) (k : ℕ) → k ≡ 0 → Leads (f cs) cs (f (drop k cs)) (drop k cs)
 at_once f cs k e = rw e (stays (f cs) cs)
 
 -- ---- strings
@@ -228,7 +228,7 @@ pub told_of : (test : ℕ → Bool) (d e : ℕ) (answer told : Bool) → answer 
 told_of test d e answer told made is_char is_told = ap test (sym is_char) ∙ sym made ∙ is_told
 
 -- the same over the texts that spell these characters
-pub over_texts : (f g : List ℕ → Stretch Bool) {rest next cs ds : List ℕ} → rest ≡ cs → next ≡ ds → Leads (f cs) cs (g ds) ds → Leads (f rest) rest (g next) next
+pub over_texts : (f g : List ℕ → Scanned Bool) {rest next cs ds : List ℕ} → rest ≡ cs → next ≡ ds → Leads (f cs) cs (g ds) ds → Leads (f rest) rest (g next) next
 over_texts f g {rest} {next} {cs} {ds} e h l =
     subst (λ xs. Leads (f xs) xs (g next) next) (sym e) (subst (λ xs. Leads (f cs) cs (g xs) xs) (sym h) l)
 

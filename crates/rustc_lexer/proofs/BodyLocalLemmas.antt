@@ -5,13 +5,13 @@ use Rattle.std.proofs.lemmas.Bool.Decides.{nat_tests}
 use Rattle.rustc_lexer.specs.Character.{char_at, begins, is}
 use Rattle.rustc_lexer.specs.Comments.{block_body}
 use Rattle.rustc_lexer.specs.Literals.{quoted_rest, string_body, raw_body, raw_form, hashes_of}
-use Rattle.rustc_lexer.specs.Stretch.{Stretch, further}
+use Rattle.rustc_lexer.specs.Scanned.{Scanned, further}
 use Rattle.rustc_lexer.proofs.AgreeLemmas.{Agree, agree_less, agree_at, agree_drop, agree_tail, agree_end, agree_end_too, prefix_len_local, at_least_local}
 use Rattle.rustc_lexer.proofs.EscapeLemmas.{string_from, string_same, quoted_from, quoted_same}
 use Rattle.rustc_lexer.proofs.PositiveLemmas.{choice}
 
 -- a choice that is answered alike is the same where its branches are the same within n characters
-pub same_choice : {A : Type 0} (n : ℕ) (b e : Bool) (x y u v : Stretch A) → e ≡ b → (if b then x else y).size < n →
+pub same_choice : {A : Type 0} (n : ℕ) (b e : Bool) (x y u v : Scanned A) → e ≡ b → (if b then x else y).size < n →
     (x.size < n → u ≡ x) → (y.size < n → v ≡ y) → (if e then u else v) ≡ (if b then x else y)
 same_choice n true e x y u v s l f g = rw s (f l)
 same_choice n false e x y u v s l f g = rw s (g l)
@@ -81,20 +81,20 @@ raw_local h (suc n) (c ∷ cs) (d ∷ ds) a l =
     same_test false a l = ap (nat_le h) (prefix_len_local (is "#") n cs ds a (omega (arith, hashes_inside h cs)))
 
 -- a raw form that begins with n hashes
-abbrev pub form_at : ℕ → List ℕ → Stretch (Option ℕ)
+abbrev pub form_at : ℕ → List ℕ → Scanned (Option ℕ)
 form_at n cs =
-    let body : Stretch Bool = further 1 (raw_body n (drop 1 (drop n cs))) in
+    let body : Scanned Bool = further 1 (raw_body n (drop 1 (drop n cs))) in
     if is "\"" (char_at cs n) then further n (record { value = hashes_of body.value n; size = body.size })
     else further n (record { value = None; size = length (take 1 (drop n cs)) })
 
 form_long : (n : ℕ) (cs : List ℕ) → n ≤ (form_at n cs).size
-form_long n cs = choice (λ (s : Stretch (Option ℕ)). n ≤ s.size) (is "\"" (char_at cs n)) _ _ (λ h. omega arith) (λ h. omega arith)
+form_long n cs = choice (λ (s : Scanned (Option ℕ)). n ≤ s.size) (is "\"" (char_at cs n)) _ _ (λ h. omega arith) (λ h. omega arith)
 
 form_local : (n m : ℕ) (cs ds : List ℕ) → Agree m cs ds → n < m → (form_at n cs).size < m → form_at n ds ≡ form_at n cs
 form_local n m cs ds a k l =
     same_choice m (is "\"" (char_at cs n)) (is "\"" (char_at ds n)) _ _ _ _ (ap (is "\"") (agree_at n a k)) l
     (λ h. (let b : Agree (n + (1 + (m - n - 1))) cs ds = agree_less _ a (omega arith) in
-    ap (λ (body : Stretch Bool). further n (record { value = hashes_of body.value n; size = body.size }))
+    ap (λ (body : Scanned Bool). further n (record { value = hashes_of body.value n; size = body.size }))
     (ap (further 1) (raw_local n (m - n - 1) (drop 1 (drop n cs)) (drop 1 (drop n ds)) (agree_drop 1 (agree_drop n b)) (omega arith)))))
     (λ h. (let b : Agree (n + 1) cs ds = agree_less _ a (omega arith) in
     ap (λ xs. further n (record { value = None; size = length xs })) (sym (agree_drop n b).same)))
@@ -109,7 +109,7 @@ raw_form_local m cs ds a l =
 -- ---- block comments
 
 -- what follows `c` and `d`, where these open a comment, or end one
-abbrev pub block_step : Bool → Bool → ℕ → ℕ → List ℕ → Stretch Bool
+abbrev pub block_step : Bool → Bool → ℕ → ℕ → List ℕ → Scanned Bool
 block_step opens ends depth d cs =
     elim opens [
       | true ↦ further 2 (block_body (suc depth) cs)

@@ -8,7 +8,7 @@ use Rattle.std.proofs.lemmas.List.Folds.{list_any-append}
 use Rattle.std.proofs.lemmas.List.Sums.{sum_by-cons}
 use Rattle.std.specs.List.{position_or_len, list_any}
 use Rattle.rustc_lexer.specs.Edit.{ends_from, boundaries_from, moves_to}
-use Rattle.rustc_lexer.specs.Mending.{total, count_to_meeting}
+use Rattle.rustc_lexer.specs.Relexing.{total, count_to_meeting}
 use Rattle.rustc_lexer.specs.declared.token.Token.{Token}
 
 -- ---- the boundaries behind k tokens

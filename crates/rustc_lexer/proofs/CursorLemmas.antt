@@ -9,7 +9,7 @@ use Rattle.rustc_lexer.specs.Character.{char_at, is, identifier_len}
 use Rattle.rustc_lexer.specs.Cursors.{next_token, past_token, next_guarded, past_guarded, pending_past, guarded_of, later_suffix, suffix_of, bytes_of}
 use Rattle.rustc_lexer.specs.Lexeme.{Lexeme, lexeme}
 use Rattle.rustc_lexer.specs.Literals.{hashes, string_body, guard_end, guarded_body, guarded_string}
-use Rattle.rustc_lexer.specs.Stretch.{Stretch, further, IsRead}
+use Rattle.rustc_lexer.specs.Scanned.{Scanned, further, IsRead}
 use Rattle.rustc_lexer.specs.declared.token.TokenKind.{TokenKind}
 use Rattle.rustc_lexer.proofs.CutLemmas.{behind_chars}
 use Rattle.rustc_lexer.proofs.SuffixLemmas.{suffix_inside}
@@ -81,7 +81,7 @@ pub guarded_read : (text body mark closed left : List ℕ) (n : ℕ) → chars b
     chars left ≡ drop (identifier_len (chars closed)) (chars closed) → IsUtf8 left → IsRead (guarded_body n (chars text)) text true left
 guarded_read text body mark closed left n e r hashes_on suffix u =
     let cs : List ℕ = chars text in
-    let b : Stretch Bool = further 1 (string_body (drop 1 cs)) in
+    let b : Scanned Bool = further 1 (string_body (drop 1 cs)) in
     let all : IsRead b text true mark =
     subst (λ xs. IsRead (further 1 (string_body xs)) text true mark) e (read_further (string_body (chars body)) text body mark true 1 e r) in
     let ds : List ℕ = drop b.size cs in
@@ -138,7 +138,7 @@ pub guarded_unended : (n : ℕ) (text body mark : List ℕ) → chars body ≡ d
     IsRead (guarded_body n (chars text)) text false mark
 guarded_unended n text body mark e r =
     let cs : List ℕ = chars text in
-    let b : Stretch Bool = further 1 (string_body (drop 1 cs)) in
+    let b : Scanned Bool = further 1 (string_body (drop 1 cs)) in
     let all : IsRead b text false mark = subst (λ xs. IsRead (further 1 (string_body xs)) text false mark) e (read_further (string_body (chars body)) text body mark false 1 e r) in
     record { value = all.value; rest = all.rest ∙ ap (λ k. drop k cs) (size_is b.value b.size (b.size + guard_end n (drop b.size cs)) all.value); utf8 = all.utf8 }
   where

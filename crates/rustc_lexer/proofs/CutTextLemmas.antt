@@ -16,7 +16,7 @@ use Rattle.rustc_lexer.specs.Character.{char_at, begins_at, is, is_id_start, is_
 use Rattle.rustc_lexer.specs.Lexeme.{numeral}
 use Rattle.rustc_lexer.specs.Literals.{with_suffix, quoted_rest, quoted_body, string_body, raw_body, raw_form, hashes_of}
 use Rattle.rustc_lexer.specs.Numbers.{run, sign_len, is_exponent_mark, exponent, after_fraction, fraction, begins_fraction, after_run, based, number}
-use Rattle.rustc_lexer.specs.Stretch.{Stretch, further}
+use Rattle.rustc_lexer.specs.Scanned.{Scanned, further}
 use Rattle.rustc_lexer.proofs.AgreeLemmas.{Agree, agree_at, at_least_local}
 use Rattle.rustc_lexer.proofs.BlankLemmas.{is_solid, start_stops}
 use Rattle.rustc_lexer.proofs.BodyLocalLemmas.{form_at}
@@ -118,7 +118,7 @@ identifier_cut (suc m) (c ∷ cs) l = by_test (is_id_start c) l (λ k. prefix_cu
 -- ---- bodies
 
 -- a choice that is answered alike is the same where its branches are the same up to m characters
-pub same_if : {A : Type 0} (m : ℕ) (b : Bool) (x y u v : Stretch A) → (if b then x else y).size ≤ m →
+pub same_if : {A : Type 0} (m : ℕ) (b : Bool) (x y u v : Scanned A) → (if b then x else y).size ≤ m →
     (x.size ≤ m → u ≡ x) → (y.size ≤ m → v ≡ y) → (if b then u else v) ≡ (if b then x else y)
 same_if m true x y u v l f g = f l
 same_if m false x y u v l f g = g l
@@ -143,7 +143,7 @@ pub string_cut : (m : ℕ) (cs : List ℕ) → (string_body cs).size ≤ m → s
 string_cut m cs = rw (string_same cs, string_same (take m cs)) (string_from_cut false m cs)
 
 -- what is left of a character, behind a test for its end and one for a missing quote
-abbrev quoted_step : Bool → Bool → Stretch Bool → Stretch Bool
+abbrev quoted_step : Bool → Bool → Scanned Bool → Scanned Bool
 quoted_step ends breaks more = if ends then record { value = true; size = 1 } else if breaks then record { value = false; size = 0 } else further 1 more
 
 quoted_from_long : (e : Bool) (cs : List ℕ) → (quoted_from e cs).value ≡ true → 1 ≤ (quoted_from e cs).size
@@ -181,7 +181,7 @@ quoted_long cs = rw (quoted_same cs) (quoted_from_long false cs)
 quoted_cut : (m : ℕ) (cs : List ℕ) → (quoted_rest cs).value ≡ true → (quoted_rest cs).size ≤ m → quoted_rest (take m cs) ≡ quoted_rest cs
 quoted_cut m cs = rw (quoted_same cs, quoted_same (take m cs)) (quoted_from_cut false m cs)
 
-abbrev quoted_with : Bool → List ℕ → Stretch Bool
+abbrev quoted_with : Bool → List ℕ → Scanned Bool
 quoted_with u xs = if u then record { value = true; size = 2 } else quoted_rest xs
 
 -- no quote stands behind one character that may stand alone
@@ -212,7 +212,7 @@ quoted_body_cut m cs h l = by_test (is_short cs) refl h l
         ap (λ u. quoted_with u (take m cs)) no ∙ quoted_cut m cs h l
 
 -- a raw body of which the first character is c, and in which k hashes follow it
-abbrev raw_step : ℕ → Bool → Stretch Bool → Stretch Bool
+abbrev raw_step : ℕ → Bool → Scanned Bool → Scanned Bool
 raw_step n ends more = if ends then record { value = true; size = 1 + n } else further 1 more
 
 raw_long : (n : ℕ) (cs : List ℕ) → (raw_body n cs).value ≡ true → 1 ≤ (raw_body n cs).size
@@ -245,7 +245,7 @@ raw_cut n (suc m) (c ∷ cs) h l = by_test (is "\"" c && nat_le n (prefix_len (i
     by_test false e h l again =
         (let same = goes_on (is "\"" c) e in ap (λ u. raw_step n u (raw_body n (take m cs))) same ∙ ap (further 1) (again h (omega (arith, l))))
 
-abbrev with_hashes : ℕ → Stretch Bool → Stretch (Option ℕ)
+abbrev with_hashes : ℕ → Scanned Bool → Scanned (Option ℕ)
 with_hashes n body = record { value = hashes_of body.value n; size = body.size }
 
 hashes_whole : (u : Bool) (n : ℕ) → is_some (hashes_of u n) ≡ true → u ≡ true
@@ -253,7 +253,7 @@ hashes_whole true n h = refl
 hashes_whole false n h = absurd (let t : false ≡ true = h in cc)
 
 -- a form whose quote stands there or not
-abbrev form_with : Bool → ℕ → List ℕ → Stretch (Option ℕ)
+abbrev form_with : Bool → ℕ → List ℕ → Scanned (Option ℕ)
 form_with u n cs =
     if u then further n (with_hashes n (further 1 (raw_body n (drop 1 (drop n cs)))))
     else further n (record { value = None; size = length (take 1 (drop n cs)) })
@@ -272,7 +272,7 @@ form_cut n m cs h l = by_test (is "\"" (char_at cs n)) refl h l
         ap (drop 1) (drop_cut n m cs (omega (arith, l))) ∙ drop_cut 1 (m - n) (drop n cs) (omega (arith, l)) in
         ap (λ u. form_with u n (take m cs)) quote
         ∙ ap (λ xs. further n (with_hashes n (further 1 (raw_body n xs)))) rest
-        ∙ ap (λ (s : Stretch Bool). further n (with_hashes n (further 1 s))) (raw_cut n (m - n - 1) body done (omega (arith, l)))
+        ∙ ap (λ (s : Scanned Bool). further n (with_hashes n (further 1 s))) (raw_cut n (m - n - 1) body done (omega (arith, l)))
 
 form_long : (n : ℕ) (cs : List ℕ) → n ≤ (form_at n cs).size
 form_long n cs = by_test (is "\"" (char_at cs n))
@@ -298,10 +298,10 @@ raw_form_cut m cs h l =
 -- ---- numbers: what is read up to m characters, where no point stands behind it
 
 -- nothing that belongs to a number stands behind what f reads of the cut text
-unfoldable pub Goes : {A : Type 0} → ℕ → (List ℕ → Stretch A) → List ℕ → Type 0
+unfoldable pub Goes : {A : Type 0} → ℕ → (List ℕ → Scanned A) → List ℕ → Type 0
 Goes m f cs = (f cs).size ≤ m → is "." (char_at (take m cs) (f cs).size) ≡ false → f (take m cs) ≡ f cs
 
-goes_if : {A : Type 0} (m : ℕ) (cs : List ℕ) (t : List ℕ → Bool) (f g : List ℕ → Stretch A) →
+goes_if : {A : Type 0} (m : ℕ) (cs : List ℕ) (t : List ℕ → Bool) (f g : List ℕ → Scanned A) →
     (t cs ≡ true → (f cs).size ≤ m → t (take m cs) ≡ true) →
     (t cs ≡ false → (g cs).size ≤ m → is "." (char_at (take m cs) (g cs).size) ≡ false → t (take m cs) ≡ false) →
     (t cs ≡ true → Goes m f cs) → (t cs ≡ false → Goes m g cs) → Goes m (λ xs. if t xs then f xs else g xs) cs
@@ -317,11 +317,11 @@ goes_if m cs t f g stays fails lf lg l p = by_test (t cs) (t (take m cs)) stays 
     by_test true v stays fails lf lg l p = (let same = stays refl l in rw same (lf refl l p))
     by_test false v stays fails lf lg l p = (let same = fails refl l p in rw same (lg refl l p))
 
-goes_same : {A : Type 0} (m : ℕ) (s : Stretch A) (cs : List ℕ) → Goes m (λ _. s) cs
+goes_same : {A : Type 0} (m : ℕ) (s : Scanned A) (cs : List ℕ) → Goes m (λ _. s) cs
 unfolding Goes
 goes_same m s cs l p = refl
 
-goes_further : {A : Type 0} (m p : ℕ) (f : List ℕ → Stretch A) (cs : List ℕ) → Goes (m - p) f (drop p cs) → Goes m (λ xs. further p (f (drop p xs))) cs
+goes_further : {A : Type 0} (m p : ℕ) (f : List ℕ → Scanned A) (cs : List ℕ) → Goes (m - p) f (drop p cs) → Goes m (λ xs. further p (f (drop p xs))) cs
 unfolding Goes
 goes_further m p f cs lf l q =
     let inside : p ≤ m = omega (arith, l) in
@@ -337,12 +337,12 @@ run_cut p m cs l =
     ap (λ k. record { value = list_any p (take k (take m cs)); size = k }) (prefix_cut (λ c. p c || is "_" c) m cs l)
     ∙ ap (λ xs. record { value = list_any p xs; size = n }) (take-take n m cs l)
 
-goes_behind : {A : Type 0} (m : ℕ) (p : ℕ → Bool) (f : List ℕ → Stretch A) (cs : List ℕ) → ((k : ℕ) (xs : List ℕ) → Goes k f xs) →
+goes_behind : {A : Type 0} (m : ℕ) (p : ℕ → Bool) (f : List ℕ → Scanned A) (cs : List ℕ) → ((k : ℕ) (xs : List ℕ) → Goes k f xs) →
     Goes m (λ xs. further (run p xs).size (f (drop (run p xs).size xs))) cs
 unfolding Goes
 goes_behind m p f cs lf l q =
     let n : ℕ = (run p cs).size in
-    ap (λ (d : Stretch Bool). further d.size (f (drop d.size (take m cs)))) (run_cut p m cs (omega (arith, l)))
+    ap (λ (d : Scanned Bool). further d.size (f (drop d.size (take m cs)))) (run_cut p m cs (omega (arith, l)))
     ∙ goes_further m n f cs (lf (m - n) (drop n cs)) l q
 
 -- a test of the first character, where what passes it is read
@@ -364,7 +364,7 @@ exponent_goes base m cs l p =
     ∙ ap (λ xs. exponent_of base n (run is_digit xs)) (drop_cut n m cs (omega (arith, l)))
     ∙ ap (exponent_of base n) (run_cut is_digit (m - n) (drop n cs) (omega (arith, l)))
 
-mark_goes : (X : List ℕ → Stretch LiteralKind) (base : Base) (m : ℕ) (cs : List ℕ) → ((k : ℕ) → Goes k X cs) →
+mark_goes : (X : List ℕ → Scanned LiteralKind) (base : Base) (m : ℕ) (cs : List ℕ) → ((k : ℕ) → Goes k X cs) →
     Goes m (λ xs. if is_exponent_mark (char_at xs 0) then further 1 (exponent base (drop 1 xs)) else X xs) cs
 mark_goes X base m cs other =
     goes_if m cs (λ xs. is_exponent_mark (char_at xs 0)) (λ xs. further 1 (exponent base (drop 1 xs))) X
@@ -422,7 +422,7 @@ mark_no_point c h = by_test (is "." c) refl
     by_test true e = (let same : c ≡ 46 = grind (arith, nat_tests, e) in let t : is_exponent_mark 46 ≡ true = ap is_exponent_mark (sym same) ∙ h in absurd (let f : false ≡ true = t in cc))
 
 -- what follows a run that no point follows
-abbrev after_digits : Base → List ℕ → Stretch LiteralKind
+abbrev after_digits : Base → List ℕ → Scanned LiteralKind
 after_digits base xs = if is_exponent_mark (char_at xs 0) then further 1 (exponent base (drop 1 xs)) else record { value = Int base false; size = 0 }
 
 fraction_fails : (base : Base) (m : ℕ) (cs : List ℕ) → (after_digits base cs).size ≤ m →
@@ -442,13 +442,13 @@ after_run_goes base m cs =
     (λ h. goes_further m 1 (fraction base) cs (fraction_goes base (m - 1) (drop 1 cs)))
     (λ h. mark_goes (λ _. record { value = Int base false; size = 0 }) base m cs (λ k. goes_same k _ cs))
 
-behind_goes : (base : Base) (digits : Stretch Bool) (m : ℕ) (cs : List ℕ) → Goes m (behind_base base digits) cs
+behind_goes : (base : Base) (digits : Scanned Bool) (m : ℕ) (cs : List ℕ) → Goes m (behind_base base digits) cs
 behind_goes base digits m cs =
     goes_if m cs (λ _. digits.value) (λ xs. further digits.size (after_run base (drop digits.size xs))) (λ _. record { value = Int base true; size = digits.size })
     (λ h l. h) (λ h l p. h)
     (λ h. goes_further m digits.size (after_run base) cs (after_run_goes base (m - digits.size) (drop digits.size cs))) (λ h. goes_same m _ cs)
 
-behind_long : (base : Base) (digits : Stretch Bool) (cs : List ℕ) → digits.size ≤ (behind_base base digits cs).size
+behind_long : (base : Base) (digits : Scanned Bool) (cs : List ℕ) → digits.size ≤ (behind_base base digits cs).size
 behind_long base digits cs = by_test digits.value
   where
     by_test : (u : Bool) → digits.size ≤ (if u then further digits.size (after_run base (drop digits.size cs)) else record { value = Int base true; size = digits.size }).size
@@ -517,5 +517,5 @@ pub numeral_cut : (m : ℕ) (cs : List ℕ) → (numeral cs).size ≡ m → nume
 unfolding Goes
 numeral_cut m cs e =
     let n : ℕ = (number cs).size in
-    ap (λ (w : Stretch LiteralKind). with_suffix w.value w.size (take m cs)) (number_goes m cs (omega (arith, e)) (suffix_no_point n m cs e))
+    ap (λ (w : Scanned LiteralKind). with_suffix w.value w.size (take m cs)) (number_goes m cs (omega (arith, e)) (suffix_no_point n m cs e))
     ∙ suffix_cut (number cs).value n m cs (omega (arith, e))

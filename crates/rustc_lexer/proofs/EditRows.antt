@@ -6,7 +6,7 @@ use Rattle.ucd_derived.specs.XidContinueRanges.{xid_continue_ranges}
 use Rattle.ucd_derived.specs.XidStartRanges.{xid_start_ranges}
 use Rattle.ucd_table.specs.Rows.{in_ranges}
 use Rattle.rustc_lexer.specs.Edit.{kept}
-use Rattle.rustc_lexer.specs.declared.lexed.Kept.{Kept}
+use Rattle.rustc_lexer.specs.declared.relex.Kept.{Kept}
 
 -- so many tokens in front, lexed again, and behind
 abbrev counts : ℕ → ℕ → ℕ → Kept

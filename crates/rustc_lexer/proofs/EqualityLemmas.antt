@@ -10,7 +10,7 @@ use mathlib.Core.Logic.{inl, inr}
 use Rattle.std.proofs.lemmas.Bool.{false≢true, eqb-true}
 use Rattle.std.specs.Cmp.{first_so, second_so}
 use Rattle.std.specs.Cmp.Derive.{points}
-use Rattle.rustc_lexer.specs.contracts.lexed.KeptPartialEq.TheImpl as of_kept
+use Rattle.rustc_lexer.specs.contracts.relex.KeptPartialEq.TheImpl as of_kept
 use Rattle.rustc_lexer.specs.contracts.token.GuardedStrPartialEq.TheImpl as of_guarded
 use Rattle.rustc_lexer.specs.contracts.token.LiteralKindPartialEq.TheImpl as of_literal
 use Rattle.rustc_lexer.specs.contracts.token.TokenKindPartialEq.TheImpl as of_kind

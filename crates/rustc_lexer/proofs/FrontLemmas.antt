@@ -7,10 +7,10 @@ use Rattle.std.proofs.lemmas.Str.{chars-append, IsUtf8-take, IsCharBoundary-star
 use Rattle.rustc_lexer.specs.Character.{utf8_len}
 use Rattle.rustc_lexer.specs.Edit.{edited, is_clear_of}
 use Rattle.rustc_lexer.specs.Lexing.{tokens_of, place}
-use Rattle.rustc_lexer.specs.Mending.{total}
+use Rattle.rustc_lexer.specs.Relexing.{total}
 use Rattle.rustc_lexer.proofs.AgreeLemmas.{Agree, agree_less}
 use Rattle.rustc_lexer.proofs.CutLemmas.{IsBehind, behind_chars}
-use Rattle.rustc_lexer.proofs.MendLemmas.{not_clear, boundary_in_rest}
+use Rattle.rustc_lexer.proofs.RelexLemmas.{not_clear, boundary_in_rest}
 use Rattle.rustc_lexer.proofs.PlaceLemmas.{rest_of_tokens, place_in_bytes, first_tokens, same_place}
 
 -- the first k tokens of a text, which end at `at`, are those of its edited text too

@@ -4,12 +4,12 @@ use Rattle.unicode_ident.proofs.IdentLemmas.{is_xid_start-ascii}
 use Rattle.rustc_lexer.specs.Character.{char_at, is_whitespace, is_id_start, is_digit}
 use Rattle.rustc_lexer.specs.Comments.{line_comment, block_comment}
 use Rattle.rustc_lexer.specs.Lexeme.{lexeme, lexeme_of, white_space, word, numeral}
-use Rattle.rustc_lexer.specs.Stretch.{Stretch, IsRead}
-use Rattle.rustc_lexer.specs.Words.{sign, uncommented}
+use Rattle.rustc_lexer.specs.Scanned.{Scanned, IsRead}
+use Rattle.rustc_lexer.specs.FirstCharacter.{sign, uncommented}
 use Rattle.rustc_lexer.specs.declared.token.TokenKind.TheVariants.{Slash}
 
 -- what was read is what equals it
-pub read_as : {A : Type 0} {s t : Stretch A} {text left : List ℕ} {told : A} → t ≡ s → IsRead s text told left → IsRead t text told left
+pub read_as : {A : Type 0} {s t : Scanned A} {text left : List ℕ} {told : A} → t ≡ s → IsRead s text told left → IsRead t text told left
 read_as {A} {s} {t} {text} {left} {told} e r = subst (λ x. IsRead x text told left) (sym e) r
 
 pub by_white : (cs : List ℕ) (c : ℕ) → char_at cs 0 ≡ c → is_whitespace c ≡ true → uncommented cs ≡ white_space cs

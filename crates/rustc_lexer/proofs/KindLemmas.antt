@@ -3,7 +3,7 @@ use Rattle.std.proofs.Common.{◌≡◌, ℕ, Bool, true, false, not, ◌||◌, 
 use Rattle.std.proofs.lemmas.Grind.{common_steps}
 use Rattle.std.specs.Option.{is_some}
 use Rattle.rustc_lexer.specs.Character.{char_at, begins, is, is_whitespace, is_id_start, is_digit, continues, identifier_len}
-use Rattle.rustc_lexer.specs.Stretch.{Stretch, further}
+use Rattle.rustc_lexer.specs.Scanned.{Scanned, further}
 use Rattle.rustc_lexer.specs.Literals.{literal, quoted_body, string_body, raw_form}
 use Rattle.rustc_lexer.specs.Lexeme.{Lexeme, lexeme, quoted, string, raw_string, one_char_kind, plain_word, word, is_prefix_mark, lifetime, begins_lifetime, begins_guarded}
 use Rattle.rustc_lexer.specs.declared.token.LiteralKind.{LiteralKind}
@@ -28,15 +28,15 @@ literal_inside whole kind n cs = choice IsInside whole _ _ (λ _. refl) (λ _. r
 
 quoted_inside : (kind : Bool → LiteralKind) (p : ℕ) (cs : List ℕ) → IsInside (quoted kind p cs)
 quoted_inside kind p cs =
-    let body : Stretch Bool = further p (quoted_body (drop p cs)) in literal_inside body.value (kind body.value) body.size cs
+    let body : Scanned Bool = further p (quoted_body (drop p cs)) in literal_inside body.value (kind body.value) body.size cs
 
 string_inside : (kind : Bool → LiteralKind) (p : ℕ) (cs : List ℕ) → IsInside (string kind p cs)
 string_inside kind p cs =
-    let body : Stretch Bool = further p (string_body (drop p cs)) in literal_inside body.value (kind body.value) body.size cs
+    let body : Scanned Bool = further p (string_body (drop p cs)) in literal_inside body.value (kind body.value) body.size cs
 
 raw_inside : (kind : Option ℕ → LiteralKind) (p : ℕ) (cs : List ℕ) → IsInside (raw_string kind p cs)
 raw_inside kind p cs =
-    let form : Stretch (Option ℕ) = further p (raw_form (drop p cs)) in literal_inside (is_some form.value) (kind form.value) form.size cs
+    let form : Scanned (Option ℕ) = further p (raw_form (drop p cs)) in literal_inside (is_some form.value) (kind form.value) form.size cs
 
 plain_inside : (cs : List ℕ) → IsInside (plain_word cs)
 unfolding IsInside

@@ -7,7 +7,7 @@ mod CutLemmas
 pub mod CutTextLemmas
 pub mod AloneLemmas
 pub mod QuotedNameLemmas
-mod StandingLemmas
+mod TokensAtLemmas
 mod Rows
 mod KindLemmas
 mod FirstByteLemmas
@@ -24,10 +24,10 @@ mod PlaceLemmas
 mod FirstBytesLemmas
 mod BoundaryLemmas
 mod MeetingLemmas
-mod MendLemmas
+mod RelexLemmas
 mod FrontLemmas
-mod MendedLemmas
-mod MarkLemmas
+mod RelexedLemmas
+mod CheckpointLemmas
 mod SplicedLemmas
 mod NearLemmas
 mod ShebangLemmas
@@ -47,4 +47,4 @@ mod WordLemmas
 mod FrontRowLemmas
 mod StartLemmas
 mod PlainLemmas
-mod HeldLemmas
+mod GapBufferLemmas

@@ -6,7 +6,7 @@ use Rattle.std.proofs.lemmas.List.{drop-drop}
 use Rattle.rustc_lexer.specs.Character.{char_at, begins, is, is_id_start, is_id_continue, is_digit, continues}
 use Rattle.rustc_lexer.specs.Literals.{bare}
 use Rattle.rustc_lexer.specs.Lexeme.{lifetime}
-use Rattle.rustc_lexer.specs.Stretch.{IsRead}
+use Rattle.rustc_lexer.specs.Scanned.{IsRead}
 use Rattle.rustc_lexer.specs.declared.token.LiteralKind.TheVariants.{Char}
 use Rattle.rustc_lexer.specs.declared.token.TokenKind.TheVariants.{RawLifetime, UnknownPrefixLifetime, Lifetime}
 use Rattle.rustc_lexer.proofs.RunLemmas.{first_of_drop}

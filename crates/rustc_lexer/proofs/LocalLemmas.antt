@@ -7,7 +7,7 @@ use Rattle.rustc_lexer.specs.Lexeme.{Lexeme, lexeme_of, white_space, quoted, str
 use Rattle.std.specs.Option.{is_some}
 use Rattle.rustc_lexer.specs.Literals.{with_suffix, bare, literal, quoted_rest, quoted_body, string_body, raw_form}
 use Rattle.rustc_lexer.specs.Numbers.{run, sign_len, is_exponent_mark, exponent, after_fraction, fraction, begins_fraction, after_run, based, number}
-use Rattle.rustc_lexer.specs.Stretch.{Stretch, further}
+use Rattle.rustc_lexer.specs.Scanned.{Scanned, further}
 use Rattle.rustc_lexer.proofs.AgreeLemmas.{Agree, agree_less, agree_at, agree_drop, prefix_len_local, identifier_local}
 use Rattle.rustc_lexer.proofs.BodyLocalLemmas.{string_local, quoted_local, raw_form_local, block_local}
 use Rattle.rustc_lexer.proofs.PositiveLemmas.{choice}
@@ -20,11 +20,11 @@ use Rattle.rustc_lexer.specs.declared.token.TokenKind.{TokenKind}
 use Rattle.rustc_lexer.specs.declared.token.TokenKind.TheVariants.{Whitespace, RawIdent, ForcedKeywordIdent, UnknownPrefixLifetime, RawLifetime, Lifetime, BlockComment, Literal}
 
 -- what is read from cs, and has at least j characters, is read from ds too where this agrees two characters further
-unfoldable pub Local : {A : Type 0} → ℕ → (List ℕ → Stretch A) → List ℕ → List ℕ → Type 0
+unfoldable pub Local : {A : Type 0} → ℕ → (List ℕ → Scanned A) → List ℕ → List ℕ → Type 0
 Local j f cs ds = j ≤ (f cs).size → Agree ((f cs).size + 2) cs ds → f ds ≡ f cs
 
 -- a choice is local where its test is answered alike and both its branches are local
-local_if : {A : Type 0} (j : ℕ) (cs ds : List ℕ) (b : List ℕ → Bool) (f g : List ℕ → Stretch A) → (Agree (j + 2) cs ds → b ds ≡ b cs) →
+local_if : {A : Type 0} (j : ℕ) (cs ds : List ℕ) (b : List ℕ → Bool) (f g : List ℕ → Scanned A) → (Agree (j + 2) cs ds → b ds ≡ b cs) →
     (b cs ≡ true → Local j f cs ds) → (b cs ≡ false → Local j g cs ds) → Local j (λ xs. if b xs then f xs else g xs) cs ds
 unfolding Local
 local_if j cs ds b f g t lf lg h a = by_test (b cs) (b ds) (t (agree_less (j + 2) a (omega arith))) lf lg h a
@@ -38,12 +38,12 @@ local_if j cs ds b f g t lf lg h a = by_test (b cs) (b ds) (t (agree_less (j + 2
     by_test false v e lf lg h a = rw e (lg refl h a)
 
 -- what is read in any case
-local_same : {A : Type 0} (j : ℕ) (s : Stretch A) (cs ds : List ℕ) → Local j (λ _. s) cs ds
+local_same : {A : Type 0} (j : ℕ) (s : Scanned A) (cs ds : List ℕ) → Local j (λ _. s) cs ds
 unfolding Local
 local_same j s cs ds h a = refl
 
 -- what is read behind m characters
-local_further : {A : Type 0} (m : ℕ) (f : List ℕ → Stretch A) (cs ds : List ℕ) → Local 0 f (drop m cs) (drop m ds) →
+local_further : {A : Type 0} (m : ℕ) (f : List ℕ → Scanned A) (cs ds : List ℕ) → Local 0 f (drop m cs) (drop m ds) →
     Local 0 (λ xs. further m (f (drop m xs))) cs ds
 unfolding Local
 local_further m f cs ds lf h a =
@@ -58,12 +58,12 @@ run_local p n cs ds a l =
     rw (e, sym (agree_less (run p cs).size a (omega arith)).same)
 
 -- what is read behind a run
-local_behind : {A : Type 0} (p : ℕ → Bool) (f : List ℕ → Stretch A) (cs ds : List ℕ) → ((xs ys : List ℕ) → Local 0 f xs ys) →
+local_behind : {A : Type 0} (p : ℕ → Bool) (f : List ℕ → Scanned A) (cs ds : List ℕ) → ((xs ys : List ℕ) → Local 0 f xs ys) →
     Local 0 (λ xs. further (run p xs).size (f (drop (run p xs).size xs))) cs ds
 unfolding Local
 local_behind p f cs ds lf h a =
     let n : ℕ = (run p cs).size in
-    let e : (run p ds).size ≡ n = ap (λ (s : Stretch Bool). s.size) (run_local p _ cs ds a (omega arith)) in
+    let e : (run p ds).size ≡ n = ap (λ (s : Scanned Bool). s.size) (run_local p _ cs ds a (omega arith)) in
     let b : Agree (n + ((f (drop n cs)).size + 2)) cs ds = agree_less _ a (omega arith) in
     rw e (ap (further n) (lf (drop n cs) (drop n ds) (omega arith) (agree_drop n b)))
 
@@ -71,7 +71,7 @@ sign_local : (cs ds : List ℕ) → Agree 1 cs ds → sign_len ds ≡ sign_len c
 sign_local cs ds a = ap (λ c. if is "+" c || is "-" c then 1 else 0) (agree_at 0 a (omega arith))
 
 -- an exponent with a sign of n characters and these digits
-abbrev pub exponent_of : Base → ℕ → Stretch Bool → Stretch LiteralKind
+abbrev pub exponent_of : Base → ℕ → Scanned Bool → Scanned LiteralKind
 exponent_of base n digits = record { value = Float base (not digits.value); size = n + digits.size }
 
 exponent_local : (base : Base) (cs ds : List ℕ) → Local 0 (exponent base) cs ds
@@ -100,14 +100,14 @@ after_run_local base cs ds =
     (λ k. local_further 1 (exponent base) cs ds (exponent_local base (drop 1 cs) (drop 1 ds))) (λ k. local_same 0 _ cs ds))
 
 -- what `based` reads behind the run `digits`
-abbrev pub behind_base : Base → Stretch Bool → List ℕ → Stretch LiteralKind
+abbrev pub behind_base : Base → Scanned Bool → List ℕ → Scanned LiteralKind
 behind_base base digits cs =
     if digits.value then further digits.size (after_run base (drop digits.size cs)) else record { value = Int base true; size = digits.size }
 
-behind_long : (base : Base) (digits : Stretch Bool) (cs : List ℕ) → digits.size ≤ (behind_base base digits cs).size
-behind_long base digits cs = choice (λ (s : Stretch LiteralKind). digits.size ≤ s.size) digits.value _ _ (λ h. omega arith) (λ h. omega arith)
+behind_long : (base : Base) (digits : Scanned Bool) (cs : List ℕ) → digits.size ≤ (behind_base base digits cs).size
+behind_long base digits cs = choice (λ (s : Scanned LiteralKind). digits.size ≤ s.size) digits.value _ _ (λ h. omega arith) (λ h. omega arith)
 
-behind_local : (base : Base) (digits : Stretch Bool) (cs ds : List ℕ) → Local 0 (behind_base base digits) cs ds
+behind_local : (base : Base) (digits : Scanned Bool) (cs ds : List ℕ) → Local 0 (behind_base base digits) cs ds
 behind_local base digits cs ds =
     local_if 0 cs ds (λ xs. digits.value) _ _ (λ a. refl)
     (λ h. local_further digits.size (after_run base) cs ds (after_run_local base (drop digits.size cs) (drop digits.size ds))) (λ h. local_same 0 _ cs ds)
@@ -131,7 +131,7 @@ number_local cs ds =
 -- ---- suffixes
 
 pub literal_long : (whole : Bool) (kind : LiteralKind) (n : ℕ) (cs : List ℕ) → n ≤ (literal whole kind n cs).size
-literal_long whole kind n cs = choice (λ (s : Stretch TokenKind). n ≤ s.size) whole _ _ (λ h. omega arith) (λ h. omega arith)
+literal_long whole kind n cs = choice (λ (s : Scanned TokenKind). n ≤ s.size) whole _ _ (λ h. omega arith) (λ h. omega arith)
 
 bare_local : (kind : LiteralKind) (n : ℕ) (cs ds : List ℕ) → Agree n cs ds → bare kind n ds ≡ bare kind n cs
 bare_local kind n cs ds a = ap (λ xs. record { value = Literal kind (utf8_len xs); size = n }) (sym a.same)
@@ -149,7 +149,7 @@ literal_local false kind n cs ds a = bare_local kind n cs ds (agree_less n a (om
 numeral_local : (cs ds : List ℕ) → Local 1 numeral cs ds
 unfolding Local
 numeral_local cs ds h a =
-    ap (λ (w : Stretch LiteralKind). with_suffix w.value w.size ds) (number_local cs ds (omega arith) (agree_less _ a (omega arith)))
+    ap (λ (w : Scanned LiteralKind). with_suffix w.value w.size ds) (number_local cs ds (omega arith) (agree_less _ a (omega arith)))
     ∙ suffix_local (number cs).value (number cs).size cs ds (agree_less _ a (omega arith))
 
 -- ---- literals in quotes
@@ -166,7 +166,7 @@ quoted_body_local cs ds =
 quoted_row : (kind : Bool → LiteralKind) (p : ℕ) (cs ds : List ℕ) → Local 1 (quoted kind p) cs ds
 unfolding Local
 quoted_row kind p cs ds h a =
-    let body : Stretch Bool = further p (quoted_body (drop p cs)) in
+    let body : Scanned Bool = further p (quoted_body (drop p cs)) in
     let long = literal_long body.value (kind body.value) body.size cs in
     let b : Agree (p + ((quoted_body (drop p cs)).size + 2)) cs ds = agree_less _ a (omega arith) in
     rw (quoted_body_local (drop p cs) (drop p ds) (omega arith) (agree_drop p b))
@@ -175,7 +175,7 @@ quoted_row kind p cs ds h a =
 string_row : (kind : Bool → LiteralKind) (p : ℕ) (cs ds : List ℕ) → Local 1 (string kind p) cs ds
 unfolding Local
 string_row kind p cs ds h a =
-    let body : Stretch Bool = further p (string_body (drop p cs)) in
+    let body : Scanned Bool = further p (string_body (drop p cs)) in
     let long = literal_long body.value (kind body.value) body.size cs in
     let b : Agree (p + ((string_body (drop p cs)).size + 2)) cs ds = agree_less _ a (omega arith) in
     rw (string_local _ (drop p cs) (drop p ds) (agree_drop p b) (omega arith))
@@ -184,7 +184,7 @@ string_row kind p cs ds h a =
 raw_row : (kind : Option ℕ → LiteralKind) (p : ℕ) (cs ds : List ℕ) → Local 1 (raw_string kind p) cs ds
 unfolding Local
 raw_row kind p cs ds h a =
-    let form : Stretch (Option ℕ) = further p (raw_form (drop p cs)) in
+    let form : Scanned (Option ℕ) = further p (raw_form (drop p cs)) in
     let long = literal_long (is_some form.value) (kind form.value) form.size cs in
     let b : Agree (p + ((raw_form (drop p cs)).size + 2)) cs ds = agree_less _ a (omega arith) in
     rw (raw_form_local _ (drop p cs) (drop p ds) (agree_drop p b) (omega arith))
@@ -209,7 +209,7 @@ line_row cs ds e h a =
     rw (style, prefix_len_local (λ c. not (c == 10)) _ cs ds a (omega arith))
 
 -- the comment with this body
-abbrev block_with : Option DocStyle → Stretch Bool → Stretch TokenKind
+abbrev block_with : Option DocStyle → Scanned Bool → Scanned TokenKind
 block_with style body = record { value = BlockComment style body.value; size = body.size }
 
 block_row : (cs ds : List ℕ) → Local 1 block_comment cs ds

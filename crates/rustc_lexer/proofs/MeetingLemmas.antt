@@ -3,7 +3,7 @@ use Rattle.std.proofs.Common.{◌≡◌, ℕ, suc, ◌+◌, ◌≤◌, ◌<◌, 
 use Rattle.std.proofs.lemmas.List.{drop_more, length-drop}
 use Rattle.std.proofs.lemmas.List.Sums.{sum_by_push, sum_by_more, sum_by-drop_more}
 use Rattle.std.proofs.Math.Seq.{take-append_seam}
-use Rattle.rustc_lexer.specs.Mending.{total, count_to_meeting}
+use Rattle.rustc_lexer.specs.Relexing.{total, count_to_meeting}
 use Rattle.rustc_lexer.proofs.BoundaryLemmas.{total_cons, meet_here, meet_new, meet_old}
 use Rattle.rustc_lexer.specs.declared.token.Token.{Token}
 

@@ -1,4 +1,4 @@
--- The count of the tokens well before an edit, begun at a mark.
+-- The count of the tokens well before an edit, begun at a checkpoint.
 use Rattle.std.proofs.Common.{◌≡◌, ℕ, zero, suc, ◌+◌, ◌-◌, ◌≤◌, ◌<◌, Bool, true, List, [], ◌∷◌, ◌++◌, length, take, drop, get_or, refl, sym, ◌∙◌, ap, subst, arith, chars, IsUtf8, IsCharBoundary, length-append}
 use Rattle.std.proofs.Math.Seq.{take-add}
 use Rattle.std.proofs.lemmas.Bool.Decides.{nat_tests}
@@ -8,13 +8,13 @@ use Rattle.std.proofs.lemmas.Str.{chars-append}
 use Rattle.std.specs.List.{prefix_len}
 use Rattle.rustc_lexer.specs.Edit.{ends_from, front_of, is_clear_of}
 use Rattle.rustc_lexer.specs.Lexing.{tokens_of}
-use Rattle.rustc_lexer.specs.Mending.{IsMark, total}
+use Rattle.rustc_lexer.specs.Relexing.{IsCheckpoint, total}
 use Rattle.rustc_lexer.proofs.BoundaryLemmas.{ends_drop, ends_length, total_cons}
 use Rattle.rustc_lexer.proofs.FrontLemmas.{clear_before, clear_two}
-use Rattle.rustc_lexer.proofs.MendLemmas.{utf8_between}
-use Rattle.rustc_lexer.proofs.MendedLemmas.{total_append}
-use Rattle.rustc_lexer.proofs.StandingLemmas.{token_places}
-use Rattle.rustc_lexer.specs.declared.marks.Mark.{Mark}
+use Rattle.rustc_lexer.proofs.RelexLemmas.{utf8_between}
+use Rattle.rustc_lexer.proofs.RelexedLemmas.{total_append}
+use Rattle.rustc_lexer.proofs.TokensAtLemmas.{token_places}
+use Rattle.rustc_lexer.specs.declared.relex.checkpoints.Checkpoint.{Checkpoint}
 use Rattle.rustc_lexer.specs.declared.token.Token.{Token}
 
 -- what lies in front of a place that is two characters before `start` is so too
@@ -59,9 +59,9 @@ all_pass p xs (suc k) l h =
     let rest = ap (λ n. prefix_len p (drop n xs)) count in
     omega (arith, before, step, rest)
 
--- the count goes on from a mark that is far enough before `start`
-pub front_from : (text : List ℕ) (ts : List Token) (start : ℕ) (m : Mark) → IsUtf8 text → IsCharBoundary text start → ts ≡ tokens_of (chars text) →
-    IsMark ts m → (0 < m.tokens → is_clear_of text start m.place ≡ true) →
+-- the count goes on from a checkpoint that is far enough before `start`
+pub front_from : (text : List ℕ) (ts : List Token) (start : ℕ) (m : Checkpoint) → IsUtf8 text → IsCharBoundary text start → ts ≡ tokens_of (chars text) →
+    IsCheckpoint ts m → (0 < m.tokens → is_clear_of text start m.place ≡ true) →
     front_of text start ≡ m.tokens + prefix_len (is_clear_of text start) (ends_from m.place (drop m.tokens ts))
 front_from text ts start m u b f h clear =
     let k : ℕ = m.tokens in
@@ -72,9 +72,9 @@ front_from text ts start m u b f h clear =
     let pass : (i : ℕ) → i < k → is_clear_of text start (get_or ends i 0) ≡ true = λ i below.
     let parts = ap (λ n. total (take n ts)) (rest_of i k below) ∙ ap total (take-add (i + 1) (k - (i + 1)) ts)
     ∙ total_append (take (i + 1) ts) (take (k - (i + 1)) (drop (i + 1) ts)) in
-    let at_mark : is_clear_of text start (total (take k ts)) ≡ true = ap (is_clear_of text start) (sym h.1) ∙ clear (omega arith) in
+    let at_checkpoint : is_clear_of text start (total (take k ts)) ≡ true = ap (is_clear_of text start) (sym h.1) ∙ clear (omega arith) in
     ap (is_clear_of text start) (first_end ts i (omega (arith, h.0)))
-    ∙ clear_sooner text start (total (take (i + 1) ts)) (total (take k ts)) u (place (i + 1)) (place k) (omega (arith, parts)) at_mark in
+    ∙ clear_sooner text start (total (take (i + 1) ts)) (total (take k ts)) u (place (i + 1)) (place k) (omega (arith, parts)) at_checkpoint in
     ap (λ xs. prefix_len (is_clear_of text start) (ends_from 0 xs)) (sym f)
     ∙ all_pass (is_clear_of text start) ends k (omega (arith, ends_length 0 ts, h.0)) pass
     ∙ ap (λ xs. k + prefix_len (is_clear_of text start) xs) (ends_drop k 0 ts ∙ ap (λ n. ends_from n (drop k ts)) here)
@@ -82,6 +82,6 @@ front_from text ts start m u b f h clear =
     rest_of : (i k : ℕ) → i < k → k ≡ i + 1 + (k - (i + 1))
     rest_of i k l = omega arith
 
--- a mark stands between two characters
-pub mark_boundary : (text : List ℕ) (m : Mark) → IsUtf8 text → IsMark (tokens_of (chars text)) m → IsCharBoundary text m.place
-mark_boundary text m u h = subst (IsCharBoundary text) (sym h.1) (token_places text m.tokens u).boundary
+-- a checkpoint stands between two characters
+pub checkpoint_boundary : (text : List ℕ) (m : Checkpoint) → IsUtf8 text → IsCheckpoint (tokens_of (chars text)) m → IsCharBoundary text m.place
+checkpoint_boundary text m u h = subst (IsCharBoundary text) (sym h.1) (token_places text m.tokens u).boundary

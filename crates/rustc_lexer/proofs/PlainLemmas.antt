@@ -14,7 +14,7 @@ use Rattle.rustc_lexer.specs.Lexeme.{Lexeme, is_prefix_mark, lexeme, lexeme_of, 
 use Rattle.rustc_lexer.specs.Lexing.{tokens_of, token_of}
 use Rattle.rustc_lexer.specs.Literals.{literal, stands_for_itself, string_body, with_escapes, with_suffix}
 use Rattle.rustc_lexer.specs.Numbers.{after_run, decimal, number, run}
-use Rattle.rustc_lexer.specs.Stretch.{Stretch, further}
+use Rattle.rustc_lexer.specs.Scanned.{Scanned, further}
 use Rattle.rustc_lexer.specs.declared.token.Base.TheVariants.{Decimal}
 use Rattle.rustc_lexer.specs.declared.token.LiteralKind.{LiteralKind}
 use Rattle.rustc_lexer.specs.declared.token.LiteralKind.TheVariants.{Int, Str}
@@ -231,7 +231,7 @@ module _ (c : ℕ) (cs : List ℕ) (d : is_digit c ≡ true) (h : list_all is_di
       let all : list_all is_digit (c ∷ cs) ≡ true = ap (λ u. u && list_all is_digit cs) d ∙ h in
       run_of_all is_digit (λ x. is_digit x || is "_" x) (c ∷ cs) (λ x e. ap (λ u. u || is "_" x) e) all
 
-  abbrev whole_number : Stretch LiteralKind
+  abbrev whole_number : Scanned LiteralKind
   whole_number = record { value = Int Decimal false; size = size_of_all }
 
   decimal_whole : decimal (c ∷ cs) ≡ whole_number
@@ -253,7 +253,7 @@ module _ (c : ℕ) (cs : List ℕ) (d : is_digit c ≡ true) (h : list_all is_di
   whole_literal = lexeme_of (Literal (Int Decimal false) (utf8_len (c ∷ cs))) size_of_all
 
   numeral_whole : numeral (c ∷ cs) ≡ whole_literal
-  numeral_whole = ap (λ (s : Stretch LiteralKind). with_suffix s.value s.size (c ∷ cs)) number_whole ∙ without_suffix (Int Decimal false) (c ∷ cs)
+  numeral_whole = ap (λ (s : Scanned LiteralKind). with_suffix s.value s.size (c ∷ cs)) number_whole ∙ without_suffix (Int Decimal false) (c ∷ cs)
 
   digits_lexeme : lexeme (c ∷ cs) ≡ whole_literal
   digits_lexeme =
@@ -303,7 +303,7 @@ string_lexeme cs h =
     let size : 1 + (length cs + 1) ≡ length t = omega (arith, length-append cs (34 ∷ [])) in
     let no_start = double_no_start in
     rw no_start (
-    ap (λ (b : Stretch Bool). literal b.value (Str b.value) (1 + b.size) t) (body_whole cs h)
+    ap (λ (b : Scanned Bool). literal b.value (Str b.value) (1 + b.size) t) (body_whole cs h)
     ∙ ap (λ n. with_suffix (Str true) n t) size
     ∙ without_suffix (Str true) t)
 
@@ -342,7 +342,7 @@ escaped_lexeme cs =
     let size : 1 + (length (with_escapes cs) + 1) ≡ length t = omega (arith, length-append (with_escapes cs) (34 ∷ [])) in
     let no_start = double_no_start in
     rw no_start (
-    ap (λ (b : Stretch Bool). literal b.value (Str b.value) (1 + b.size) t) (escaped_body cs)
+    ap (λ (b : Scanned Bool). literal b.value (Str b.value) (1 + b.size) t) (escaped_body cs)
     ∙ ap (λ n. with_suffix (Str true) n t) size
     ∙ without_suffix (Str true) t)
 

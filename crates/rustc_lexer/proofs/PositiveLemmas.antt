@@ -4,7 +4,7 @@ use Rattle.std.proofs.lemmas.Bool.Decides.{nat_tests}
 use Rattle.std.specs.List.{position_or_len}
 use Rattle.std.specs.Option.{is_some}
 use Rattle.rustc_lexer.specs.Character.{char_at, begins, is, is_whitespace, is_id_start, is_digit, continues}
-use Rattle.rustc_lexer.specs.Stretch.{Stretch, further}
+use Rattle.rustc_lexer.specs.Scanned.{Scanned, further}
 use Rattle.rustc_lexer.specs.Literals.{literal, quoted_body, string_body, raw_form}
 use Rattle.rustc_lexer.specs.Numbers.{number}
 use Rattle.rustc_lexer.specs.Lexeme.{lexeme, quoted, string, raw_string, plain_word, word, lifetime, begins_lifetime, begins_guarded}
@@ -16,7 +16,7 @@ pub choice : {A : Type 0} (P : A → Type 0) (b : Bool) (x y : A) → (b ≡ tru
 choice P true x y h k = h refl
 choice P false x y h k = k refl
 
-unfoldable HasCharacters : {A : Type 0} → Stretch A → Type 0
+unfoldable HasCharacters : {A : Type 0} → Scanned A → Type 0
 HasCharacters s = 1 ≤ s.size
 
 literal_positive : (whole : Bool) (kind : LiteralKind) (n : ℕ) (cs : List ℕ) → 1 ≤ n → HasCharacters (literal whole kind n cs)
@@ -25,17 +25,17 @@ literal_positive whole kind n cs h = choice HasCharacters whole _ _ (λ _. omega
 
 quoted_positive : (kind : Bool → LiteralKind) (p : ℕ) (cs : List ℕ) → 1 ≤ p → HasCharacters (quoted kind p cs)
 quoted_positive kind p cs h =
-    let body : Stretch Bool = further p (quoted_body (drop p cs)) in
+    let body : Scanned Bool = further p (quoted_body (drop p cs)) in
     literal_positive body.value (kind body.value) body.size cs (omega arith)
 
 string_positive : (kind : Bool → LiteralKind) (p : ℕ) (cs : List ℕ) → 1 ≤ p → HasCharacters (string kind p cs)
 string_positive kind p cs h =
-    let body : Stretch Bool = further p (string_body (drop p cs)) in
+    let body : Scanned Bool = further p (string_body (drop p cs)) in
     literal_positive body.value (kind body.value) body.size cs (omega arith)
 
 raw_positive : (kind : Option ℕ → LiteralKind) (p : ℕ) (cs : List ℕ) → 1 ≤ p → HasCharacters (raw_string kind p cs)
 raw_positive kind p cs h =
-    let form : Stretch (Option ℕ) = further p (raw_form (drop p cs)) in
+    let form : Scanned (Option ℕ) = further p (raw_form (drop p cs)) in
     literal_positive (is_some form.value) (kind form.value) form.size cs (omega arith)
 
 number_positive : (c : ℕ) (cs : List ℕ) → is_digit c ≡ true → HasCharacters (number (c ∷ cs))

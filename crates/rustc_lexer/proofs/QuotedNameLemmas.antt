@@ -5,10 +5,10 @@ use Rattle.std.specs.List.{list_all, prefix_len, slice_range}
 use Rattle.std.specs.Option.{is_some}
 use Rattle.std.specs.Prelude.{chars}
 use Rattle.rustc_lexer.specs.Character.{char_at, begins, is, is_whitespace, is_id_start, is_id_continue, is_digit, is_ident, continues, identifier_len}
-use Rattle.rustc_lexer.specs.Stretch.{Stretch, further}
+use Rattle.rustc_lexer.specs.Scanned.{Scanned, further}
 use Rattle.rustc_lexer.specs.Literals.{literal, quoted_body, string_body, raw_form}
 use Rattle.rustc_lexer.specs.Lexeme.{Lexeme, lexeme, quoted, string, raw_string, one_char_kind, is_prefix_mark, plain_word, word, lifetime, begins_lifetime, begins_guarded}
-use Rattle.rustc_lexer.specs.Standing.{IsTokenAt}
+use Rattle.rustc_lexer.specs.TokensAt.{IsTokenAt}
 use Rattle.rustc_lexer.specs.declared.token.LiteralKind.{LiteralKind}
 use Rattle.rustc_lexer.specs.declared.token.LiteralKind.TheVariants.{Byte, Char, Str, ByteStr, CStr, RawStr, RawByteStr, RawCStr}
 use Rattle.rustc_lexer.specs.declared.token.Token.{Token}
@@ -45,15 +45,15 @@ literal_named t whole kind n cs = no_name t _ (literal_kind whole kind n cs)
 
 quoted_named : (kind : Bool → LiteralKind) (p : ℕ) (cs : List ℕ) → Named cs (quoted kind p cs)
 quoted_named kind p cs =
-    let body : Stretch Bool = further p (quoted_body (drop p cs)) in literal_named cs body.value (kind body.value) body.size cs
+    let body : Scanned Bool = further p (quoted_body (drop p cs)) in literal_named cs body.value (kind body.value) body.size cs
 
 string_named : (kind : Bool → LiteralKind) (p : ℕ) (cs : List ℕ) → Named cs (string kind p cs)
 string_named kind p cs =
-    let body : Stretch Bool = further p (string_body (drop p cs)) in literal_named cs body.value (kind body.value) body.size cs
+    let body : Scanned Bool = further p (string_body (drop p cs)) in literal_named cs body.value (kind body.value) body.size cs
 
 raw_named : (kind : Option ℕ → LiteralKind) (p : ℕ) (cs : List ℕ) → Named cs (raw_string kind p cs)
 raw_named kind p cs =
-    let form : Stretch (Option ℕ) = further p (raw_form (drop p cs)) in literal_named cs (is_some form.value) (kind form.value) form.size cs
+    let form : Scanned (Option ℕ) = further p (raw_form (drop p cs)) in literal_named cs (is_some form.value) (kind form.value) form.size cs
 
 word_kind_named : (u : Bool) → is_name_kind (if u then UnknownPrefix else Ident) ≡ false
 word_kind_named true = refl

@@ -9,8 +9,8 @@ use Rattle.memchr.specs.Find.{is_byte}
 use Rattle.rustc_lexer.specs.Character.{char_at, is, utf8_len}
 use Rattle.rustc_lexer.specs.Literals.{hashes, raw_body}
 use Rattle.rustc_lexer.specs.RawForms.{most_hashes, up_to_quote, possible_end, body_validity}
-use Rattle.rustc_lexer.specs.declared.raw.RawStrError.TheVariants.{NoTerminator}
-use Rattle.rustc_lexer.specs.Stretch.{IsRead}
+use Rattle.rustc_lexer.specs.declared.raw_str.RawStrError.TheVariants.{NoTerminator}
+use Rattle.rustc_lexer.specs.Scanned.{IsRead}
 use Rattle.rustc_lexer.proofs.BodyLemmas.{found_passes}
 use Rattle.rustc_lexer.proofs.CutLemmas.{length_encodes}
 use Rattle.rustc_lexer.proofs.TokenLemmas.{bytes_passed, chars_at_most, length_text}

@@ -2,8 +2,8 @@
 use Rattle.std.specs.Prelude.{◌≡◌, ℕ, ⊤, Some, None, Result, Ok, Err, codes, replicate, ◌++◌, refl}
 use Prim.Native.String.{String}
 use Rattle.rustc_lexer.specs.RawForms.{validity}
-use Rattle.rustc_lexer.specs.declared.raw.RawStrError.{RawStrError}
-use Rattle.rustc_lexer.specs.declared.raw.RawStrError.TheVariants.{InvalidStarter, NoTerminator, TooManyDelimiters}
+use Rattle.rustc_lexer.specs.declared.raw_str.RawStrError.{RawStrError}
+use Rattle.rustc_lexer.specs.declared.raw_str.RawStrError.TheVariants.{InvalidStarter, NoTerminator, TooManyDelimiters}
 
 -- the answer for the text that is written, behind a prefix of p characters
 abbrev of : ℕ → String → Result ⊤ RawStrError

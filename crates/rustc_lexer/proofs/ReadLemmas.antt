@@ -4,14 +4,14 @@ use Rattle.std.specs.List.{prefix_len, list_any}
 use Rattle.std.proofs.lemmas.List.{drop-drop}
 use Rattle.std.proofs.lemmas.Bool.Decides.{nat_tests}
 use Rattle.rustc_lexer.specs.Character.{char_at, is, utf8_len}
-use Rattle.rustc_lexer.specs.Stretch.{Stretch, IsRead, further}
+use Rattle.rustc_lexer.specs.Scanned.{Scanned, IsRead, further}
 use Rattle.rustc_lexer.specs.Literals.{literal}
 use Rattle.rustc_lexer.specs.declared.token.LiteralKind.{LiteralKind}
 use Rattle.rustc_lexer.specs.declared.token.TokenKind.{TokenKind}
 use Rattle.rustc_lexer.proofs.TokenLemmas.{bytes_passed}
 
 -- what was read behind n characters
-pub read_further : {A : Type 0} (s : Stretch A) (text behind left : List ℕ) (told : A) (n : ℕ) →
+pub read_further : {A : Type 0} (s : Scanned A) (text behind left : List ℕ) (told : A) (n : ℕ) →
     chars behind ≡ drop n (chars text) → IsRead s behind told left → IsRead (further n s) text told left
 read_further s text behind left told n e r =
     record {
@@ -20,12 +20,12 @@ read_further s text behind left told n e r =
       utf8 = r.utf8;
     }
 
-pub read_by : {A : Type 0} {s t : Stretch A} {text behind left : List ℕ} {told : A} (n : ℕ) →
+pub read_by : {A : Type 0} {s t : Scanned A} {text behind left : List ℕ} {told : A} (n : ℕ) →
     t ≡ further n s → chars behind ≡ drop n (chars text) → IsRead s behind told left → IsRead t text told left
 read_by {A} {s} {t} {text} {behind} {left} {told} n same e r =
     subst (λ x. IsRead x text told left) (sym same) (read_further s text behind left told n e r)
 
-pub retold : {A : Type 0} {s : Stretch A} {text left : List ℕ} {told was : A} → told ≡ was → IsRead s text was left → IsRead s text told left
+pub retold : {A : Type 0} {s : Scanned A} {text left : List ℕ} {told was : A} → told ≡ was → IsRead s text was left → IsRead s text told left
 retold e r = record { value = e ∙ r.value; rest = r.rest; utf8 = r.utf8 }
 
 -- what equals a character that is not w is not w
@@ -41,11 +41,11 @@ pub three_behind : (text one two three : List ℕ) → chars one ≡ drop 1 (cha
 three_behind text one two three e f g = g ∙ ap (drop 1) (two_behind text one two e f) ∙ drop-drop 1 2 (chars text)
 
 -- a literal whose body was read behind its prefix of p characters
-pub literal_read : {A : Type 0} (body : List ℕ → Stretch A) (whole : A → Bool) (kind : A → LiteralKind) (p : ℕ)
+pub literal_read : {A : Type 0} (body : List ℕ → Scanned A) (whole : A → Bool) (kind : A → LiteralKind) (p : ℕ)
     {text behind rest left : List ℕ} {told : A} {token : TokenKind} →
     chars behind ≡ drop p (chars text) → IsRead (body (chars behind)) behind told rest →
     ((n : ℕ) → chars rest ≡ drop n (chars text) → IsRead (literal (whole told) (kind told) n (chars text)) text token left) →
-    IsRead (let b : Stretch A = further p (body (drop p (chars text))) in literal (whole b.value) (kind b.value) b.size (chars text)) text token left
+    IsRead (let b : Scanned A = further p (body (drop p (chars text))) in literal (whole b.value) (kind b.value) b.size (chars text)) text token left
 literal_read {A} body whole kind p {text} {behind} {rest} {left} {told} {token} e r made =
     let cs : List ℕ = chars text in
     let all = read_further (body (chars behind)) text behind rest told p e r in
@@ -94,13 +94,13 @@ digit_in_run d (c ∷ cs) none under = by_first (is "_" c) (d c) refl refl (digi
 -- ---- reading on
 
 -- what is read from `ds` on is what is read from `cs` on: it tells the same, and leaves the same
-pub record Leads {A : Type 0} (s : Stretch A) (cs : List ℕ) (t : Stretch A) (ds : List ℕ) : Type 0 where
+pub record Leads {A : Type 0} (s : Scanned A) (cs : List ℕ) (t : Scanned A) (ds : List ℕ) : Type 0 where
   pub value : t.value ≡ s.value
   pub rest : drop t.size ds ≡ drop s.size cs
 
-pub leads_on : {A : Type 0} {s t r : Stretch A} {cs ds es : List ℕ} → Leads s cs t ds → Leads t ds r es → Leads s cs r es
+pub leads_on : {A : Type 0} {s t r : Scanned A} {cs ds es : List ℕ} → Leads s cs t ds → Leads t ds r es → Leads s cs r es
 leads_on l m = record { value = m.value ∙ l.value; rest = m.rest ∙ l.rest }
 
-pub read_at_end : {A : Type 0} {s t : Stretch A} {text rest left : List ℕ} {told : A} →
+pub read_at_end : {A : Type 0} {s t : Scanned A} {text rest left : List ℕ} {told : A} →
     Leads s (chars text) t (chars rest) → IsRead t rest told left → IsRead s text told left
 read_at_end l r = record { value = r.value ∙ l.value; rest = r.rest ∙ l.rest; utf8 = r.utf8 }

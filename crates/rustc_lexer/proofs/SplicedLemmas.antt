@@ -1,4 +1,4 @@
--- Old and mended tokens, side by side.
+-- Old and relexed tokens, side by side.
 use Rattle.std.proofs.Common.{◌≡◌, ℕ, ◌+◌, ◌-◌, ◌≤◌, ◌<◌, ◌^◌, Fits, w64, List, ◌++◌, length, take, drop, refl, sym, ◌∙◌, ap, subst, arith, append_assoc, chars, IsUtf8, IsCharBoundary, length-append}
 use Rattle.std.specs.List.{replace_range, splice}
 use Rattle.std.proofs.lemmas.List.{drop-drop, length-drop, length-take-le, take-append-drop, take-append-le}
@@ -6,12 +6,12 @@ use Rattle.std.proofs.lemmas.Str.{IsCharBoundary-at_seam, IsUtf8-append, IsUtf8-
 use Rattle.std.proofs.Math.Seq.{take-length, drop-append-add}
 use Rattle.rustc_lexer.specs.Edit.{edited, kept}
 use Rattle.rustc_lexer.specs.Lexing.{tokens_of}
-use Rattle.rustc_lexer.specs.Mending.{IsBegun, IsChanged, IsMark, IsMended, IsRelexed, IsScan, count_to_meeting, lexed_again, total}
+use Rattle.rustc_lexer.specs.Relexing.{IsBegun, IsChanged, IsCheckpoint, IsRelexed, IsSpliced, IsScan, count_to_meeting, lexed_again, total}
 use Rattle.rustc_lexer.proofs.FrontLemmas.{IsFront}
-use Rattle.rustc_lexer.proofs.MendedLemmas.{IsFound, edited_behind, edited_size, found, front_found, mended_counts, mended_tokens, old_end, to_text_end, total_append, total_split}
-use Rattle.rustc_lexer.specs.declared.lexed.Kept.{Kept}
-use Rattle.rustc_lexer.specs.declared.marks.Mark.{Mark}
-use Rattle.rustc_lexer.specs.declared.marks.Mended.{Mended}
+use Rattle.rustc_lexer.proofs.RelexedLemmas.{IsFound, edited_behind, edited_size, found, front_found, relexed_counts, relexed_tokens, old_end, to_text_end, total_append, total_split}
+use Rattle.rustc_lexer.specs.declared.relex.Kept.{Kept}
+use Rattle.rustc_lexer.specs.declared.relex.checkpoints.Checkpoint.{Checkpoint}
+use Rattle.rustc_lexer.specs.declared.relex.checkpoints.Relexed.{Relexed}
 use Rattle.rustc_lexer.specs.declared.token.Token.{Token}
 
 -- ---- tokens with others in the place of some
@@ -24,8 +24,8 @@ drop_front xs ys n e =
     let here : n ≡ length xs + 0 = omega (arith, e) in
     ap (λ k. drop k (xs ++ ys)) here ∙ drop-append-add xs ys 0
 
-pub spliced : (ts new fresh : List Token) (m : Mended) → new ≡ splice ts m.front.tokens m.old.tokens fresh → IsMark ts m.front → IsMark ts m.old →
-    m.new.tokens ≡ m.front.tokens + length fresh → m.new.place ≡ m.front.place + total fresh → IsMended ts new m
+pub spliced : (ts new fresh : List Token) (m : Relexed) → new ≡ splice ts m.front.tokens m.old.tokens fresh → IsCheckpoint ts m.front → IsCheckpoint ts m.old →
+    m.new.tokens ≡ m.front.tokens + length fresh → m.new.place ≡ m.front.place + total fresh → IsRelexed ts new m
 spliced ts new fresh m e f b count place =
     let k : ℕ = m.front.tokens in
     let front : List Token = take k ts in
@@ -93,7 +93,7 @@ pub relexed : (ts tokens walked fresh : List Token) (text rest : List ℕ) (k at
     fresh ≡ take (count_to_meeting at (tokens_of (chars rest)) to walked) (tokens_of (chars rest)) →
     length fresh ≡ count_to_meeting at (tokens_of (chars rest)) to walked → met ≤ length walked → at + total fresh ≡ place →
     to + total (take met walked) ≡ place → rest ≡ drop at text → walked ≡ drop stop ts → stop ≤ length ts →
-    IsRelexed text ts tokens k at stop to (stop + met) (record { tokens = k + size; place = place })
+    IsSpliced text ts tokens k at stop to (stop + met) (record { tokens = k + size; place = place })
 relexed ts tokens walked fresh text rest k at to stop met place size is_size put read count within here there is_rest is_walked l =
     let as_read : List ℕ → List Token → Type 0 = λ bs old. fresh ≡ take (count_to_meeting at (tokens_of (chars bs)) to old) (tokens_of (chars bs)) in
     let counted : List ℕ → List Token → Type 0 = λ bs old. length fresh ≡ count_to_meeting at (tokens_of (chars bs)) to old in
@@ -113,11 +113,11 @@ relexed ts tokens walked fresh text rest k at to stop met place size is_size put
       within = omega (arith, left, within, length-drop stop ts, l);
     }
 
-pub relexed_of : (new bytes : List ℕ) (ts tokens : List Token) (k at stop to behind : ℕ) (m : Mark) → bytes ≡ new →
-    IsRelexed bytes ts tokens k at stop to behind m → IsRelexed new ts tokens k at stop to behind m
-relexed_of new bytes ts tokens k at stop to behind m e r = subst (λ bs. IsRelexed bs ts tokens k at stop to behind m) e r
+pub relexed_of : (new bytes : List ℕ) (ts tokens : List Token) (k at stop to behind : ℕ) (m : Checkpoint) → bytes ≡ new →
+    IsSpliced bytes ts tokens k at stop to behind m → IsSpliced new ts tokens k at stop to behind m
+relexed_of new bytes ts tokens k at stop to behind m e r = subst (λ bs. IsSpliced bs ts tokens k at stop to behind m) e r
 
-pub old_fits : (text : List ℕ) (ts : List Token) (place behind at k : ℕ) → IsMark ts (record { tokens = behind; place = place }) → at ≡ total (take k ts) →
+pub old_fits : (text : List ℕ) (ts : List Token) (place behind at k : ℕ) → IsCheckpoint ts (record { tokens = behind; place = place }) → at ≡ total (take k ts) →
     at + total (drop k ts) ≡ length text → length text < 2 ^ 32 → Fits w64 place
 old_fits text ts place behind at k m e whole small = omega (arith, m.1, total_split behind ts, total_split k ts, e, whole, small)
 
@@ -138,7 +138,7 @@ module _ (text new : List ℕ) (start stop : ℕ) (replacement : List ℕ) (ts :
       let rest = ap total behind_front in
       omega (arith, size, all, rest, total_split passed (drop k ts), s.place, s.behind, c.0, o)
 
-  module _ (tokens : List Token) (behind : ℕ) (m : Mark) (r : IsRelexed new ts tokens k at (k + passed) (bound - stop + (start + length replacement)) behind m) where
+  module _ (tokens : List Token) (behind : ℕ) (m : Checkpoint) (r : IsSpliced new ts tokens k at (k + passed) (bound - stop + (start + length replacement)) behind m) where
     abbrev met : ℕ
     met = behind - (k + passed)
 
@@ -156,22 +156,22 @@ module _ (text new : List ℕ) (start stop : ℕ) (replacement : List ℕ) (ts :
         within : met ≤ length (drop (k + passed) ts)
         within = (let size = length-drop (k + passed) ts in omega (arith, size, r.within))
 
-    pub tokens_mended : tokens ≡ tokens_of (chars new)
-    tokens_mended =
-        r.placed ∙ ap (λ n. splice ts k n fresh) (sym there) ∙ mended_tokens text new start stop replacement ts k at passed bound met fresh u v b.0 e f found_here
+    pub tokens_relexed : tokens ≡ tokens_of (chars new)
+    tokens_relexed =
+        r.placed ∙ ap (λ n. splice ts k n fresh) (sym there) ∙ relexed_tokens text new start stop replacement ts k at passed bound met fresh u v b.0 e f found_here
 
-    pub counts_mended : kept text start stop replacement ≡ record { front = k; lexed = m.tokens - k; back = length ts - behind }
-    counts_mended =
+    pub counts_relexed : kept text start stop replacement ≡ record { front = k; lexed = m.tokens - k; back = length ts - behind }
+    counts_relexed =
         let lexed : length fresh ≡ m.tokens - k = omega (arith, r.lexed) in
-        mended_counts text new start stop replacement ts k at passed bound met fresh u v o b.0 e f w.count found_here
+        relexed_counts text new start stop replacement ts k at passed bound met fresh u v o b.0 e f w.count found_here
         ∙ ap (λ n. counts n (k + passed + met)) lexed
         ∙ ap (λ n. counts (m.tokens - k) n) there
       where
         counts : ℕ → ℕ → Kept
         counts n back = record { front = k; lexed = n; back = length ts - back }
 
-    pub marks_mended : IsMended ts tokens (record { front = record { tokens = k; place = at }; old = record { tokens = behind; place = m.place - (start + length replacement) + stop }; new = m })
-    marks_mended =
+    pub checkpoints_relexed : IsRelexed ts tokens (record { front = record { tokens = k; place = at }; old = record { tokens = behind; place = m.place - (start + length replacement) + stop }; new = m })
+    checkpoints_relexed =
         let ends = old_end ts k passed met at bound w.is_at s.place in
         let same = ap (λ n. total (take n ts)) there in
         let rest = ap (λ xs. total (take met xs)) behind_front in
@@ -210,24 +210,24 @@ module _ (new : List ℕ) (ts : List Token) (k at passed bound stop moved : ℕ)
       to_the_same_end w.old new w.start stop w.replacement ts k at passed bound w.utf8 v w.begins w.ends w.order w.text w.tokens w.begun w.scan
       ∙ ap (λ n. bound - stop + n + total (drop (k + passed) ts)) (sym w.place)
 
-  module _ (tokens : List Token) (behind : ℕ) (m : Mark) (r : IsRelexed new ts tokens k at (k + passed) (bound - stop + moved) behind m) where
-    again : IsRelexed new ts tokens k at (k + passed) (bound - stop + (w.start + length w.replacement)) behind m
-    again = subst (λ n. IsRelexed new ts tokens k at (k + passed) (bound - stop + n) behind m) w.place r
+  module _ (tokens : List Token) (behind : ℕ) (m : Checkpoint) (r : IsSpliced new ts tokens k at (k + passed) (bound - stop + moved) behind m) where
+    again : IsSpliced new ts tokens k at (k + passed) (bound - stop + (w.start + length w.replacement)) behind m
+    again = subst (λ n. IsSpliced new ts tokens k at (k + passed) (bound - stop + n) behind m) w.place r
 
     pub changed_tokens : tokens ≡ tokens_of (chars new)
     changed_tokens =
-        tokens_mended w.old new w.start stop w.replacement ts k at passed bound w.utf8 v w.begins w.ends w.order w.text w.tokens w.begun w.scan tokens behind m again
+        tokens_relexed w.old new w.start stop w.replacement ts k at passed bound w.utf8 v w.begins w.ends w.order w.text w.tokens w.begun w.scan tokens behind m again
 
     pub changed_counts : kept w.old w.start stop w.replacement ≡ record { front = k; lexed = m.tokens - k; back = length ts - behind }
     changed_counts =
-        counts_mended w.old new w.start stop w.replacement ts k at passed bound w.utf8 v w.begins w.ends w.order w.text w.tokens w.begun w.scan tokens behind m again
+        counts_relexed w.old new w.start stop w.replacement ts k at passed bound w.utf8 v w.begins w.ends w.order w.text w.tokens w.begun w.scan tokens behind m again
 
-    pub changed_marks : IsMended ts tokens (record { front = record { tokens = k; place = at }; old = record { tokens = behind; place = m.place - moved + stop }; new = m })
-    changed_marks =
-        let marks = marks_mended w.old new w.start stop w.replacement ts k at passed bound w.utf8 v w.begins w.ends w.order w.text w.tokens w.begun w.scan tokens behind m again in
-        subst (λ n. IsMended ts tokens (record { front = record { tokens = k; place = at }; old = record { tokens = behind; place = m.place - n + stop }; new = m })) (sym w.place) marks
+    pub changed_checkpoints : IsRelexed ts tokens (record { front = record { tokens = k; place = at }; old = record { tokens = behind; place = m.place - moved + stop }; new = m })
+    changed_checkpoints =
+        let checkpoints = checkpoints_relexed w.old new w.start stop w.replacement ts k at passed bound w.utf8 v w.begins w.ends w.order w.text w.tokens w.begun w.scan tokens behind m again in
+        subst (λ n. IsRelexed ts tokens (record { front = record { tokens = k; place = at }; old = record { tokens = behind; place = m.place - n + stop }; new = m })) (sym w.place) checkpoints
 
     pub changed_fits : Fits w64 (m.place - moved + stop)
     changed_fits =
         let whole = to_text_end w.old ts (drop k ts) k at w.utf8 w.tokens refl w.begun.is_at in
-        old_fits w.old ts _ behind at k changed_marks.back w.begun.is_at whole w.small
+        old_fits w.old ts _ behind at k changed_checkpoints.back w.begun.is_at whole w.small

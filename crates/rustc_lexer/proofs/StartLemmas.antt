@@ -4,7 +4,7 @@ use Rattle.std.proofs.lemmas.Bool.Decides.{nat_tests}
 use Rattle.unicode_ident.proofs.IdentLemmas.{is_xid_start-ascii}
 use Rattle.rustc_lexer.specs.Character.{ascii_part, char_at, is_whitespace, is_id_start, is_digit}
 use Rattle.rustc_lexer.specs.Lexeme.{is_prefix_mark, lexeme, lexeme_of, one_char_kind, white_space, word}
-use Rattle.rustc_lexer.specs.Words.{sign, begins_more, start_of, start_told}
+use Rattle.rustc_lexer.specs.FirstCharacter.{sign, begins_more, start_of, start_told}
 use Rattle.rustc_lexer.proofs.FrontRowLemmas.{by_letter, by_sign, by_white, no_comment, no_start}
 use Rattle.rustc_lexer.proofs.WordLemmas.{either_left, either_right}
 

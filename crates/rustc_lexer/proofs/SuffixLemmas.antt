@@ -6,12 +6,12 @@ use Rattle.std.proofs.lemmas.Str.{IsCharBoundary-from_rest, IsUtf8-drop}
 use Rattle.std.specs.List.{slice_range}
 use Rattle.std.specs.Option.{is_some}
 use Rattle.rustc_lexer.specs.Character.{char_at, begins, is, is_whitespace, is_id_start, is_digit, continues, identifier_len, utf8_len}
-use Rattle.rustc_lexer.specs.Stretch.{Stretch, further}
+use Rattle.rustc_lexer.specs.Scanned.{Scanned, further}
 use Rattle.rustc_lexer.specs.Cursors.{suffix_of}
 use Rattle.rustc_lexer.specs.Literals.{literal, quoted_body, string_body, raw_form}
 use Rattle.rustc_lexer.specs.Lexeme.{Lexeme, lexeme, lexeme_of, quoted, string, raw_string, one_char_kind, plain_word, word, is_prefix_mark, lifetime, begins_lifetime, begins_guarded}
 use Rattle.rustc_lexer.specs.Numbers.{number}
-use Rattle.rustc_lexer.specs.Standing.{IsTokenAt}
+use Rattle.rustc_lexer.specs.TokensAt.{IsTokenAt}
 use Rattle.rustc_lexer.specs.declared.token.Token.{Token}
 use Rattle.rustc_lexer.specs.declared.token.LiteralKind.{LiteralKind}
 use Rattle.rustc_lexer.specs.declared.token.LiteralKind.TheVariants.{Byte, Char, Str, ByteStr, CStr, RawStr, RawByteStr, RawCStr}
@@ -43,15 +43,15 @@ literal_suffix whole kind n cs = choice (SuffixInside cs) whole _ _ (λ _. (n, o
 
 quoted_suffix : (kind : Bool → LiteralKind) (p : ℕ) (cs : List ℕ) → SuffixInside cs (quoted kind p cs)
 quoted_suffix kind p cs =
-    let body : Stretch Bool = further p (quoted_body (drop p cs)) in literal_suffix body.value (kind body.value) body.size cs
+    let body : Scanned Bool = further p (quoted_body (drop p cs)) in literal_suffix body.value (kind body.value) body.size cs
 
 string_suffix : (kind : Bool → LiteralKind) (p : ℕ) (cs : List ℕ) → SuffixInside cs (string kind p cs)
 string_suffix kind p cs =
-    let body : Stretch Bool = further p (string_body (drop p cs)) in literal_suffix body.value (kind body.value) body.size cs
+    let body : Scanned Bool = further p (string_body (drop p cs)) in literal_suffix body.value (kind body.value) body.size cs
 
 raw_suffix : (kind : Option ℕ → LiteralKind) (p : ℕ) (cs : List ℕ) → SuffixInside cs (raw_string kind p cs)
 raw_suffix kind p cs =
-    let form : Stretch (Option ℕ) = further p (raw_form (drop p cs)) in literal_suffix (is_some form.value) (kind form.value) form.size cs
+    let form : Scanned (Option ℕ) = further p (raw_form (drop p cs)) in literal_suffix (is_some form.value) (kind form.value) form.size cs
 
 plain_suffix : (cs : List ℕ) → SuffixInside cs (plain_word cs)
 plain_suffix cs = no_suffix cs (plain_word cs) (by_mark (is_prefix_mark (char_at cs (identifier_len cs))))

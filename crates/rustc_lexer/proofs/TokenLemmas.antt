@@ -5,7 +5,7 @@ use Rattle.std.proofs.lemmas.List.{nil_from_length}
 use Rattle.rustc_lexer.specs.Character.{utf8_len}
 use Rattle.rustc_lexer.specs.Lexeme.{Lexeme, lexeme}
 use Rattle.rustc_lexer.specs.Lexing.{tokens_after, tokens_of, token_of}
-use Rattle.rustc_lexer.specs.Stretch.{IsRead}
+use Rattle.rustc_lexer.specs.Scanned.{IsRead}
 use Rattle.rustc_lexer.proofs.CutLemmas.{length_encodes}
 use Rattle.rustc_lexer.proofs.PositiveLemmas.{lexeme_positive}
 use Rattle.rustc_lexer.specs.declared.token.TokenKind.{TokenKind}

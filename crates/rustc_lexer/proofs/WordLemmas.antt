@@ -7,8 +7,8 @@ use Rattle.unicode_ident.proofs.IdentLemmas.{is_xid_continue-ascii, is_xid_start
 use Rattle.unicode_ident.specs.Ident.{is_xid_start}
 use Rattle.rustc_lexer.specs.Character.{begins, char_at, is_id_start, is_id_continue, identifier_len}
 use Rattle.rustc_lexer.specs.Lexeme.{is_prefix_mark, marked_word, plain_word, quoted, raw_string, string, word}
-use Rattle.rustc_lexer.specs.Stretch.{IsRead}
-use Rattle.rustc_lexer.specs.Words.{r_word, b_word, c_word, k_word, word_kind}
+use Rattle.rustc_lexer.specs.Scanned.{IsRead}
+use Rattle.rustc_lexer.specs.FirstCharacter.{r_word, b_word, c_word, k_word, word_kind}
 use Rattle.rustc_lexer.specs.declared.token.LiteralKind.TheVariants.{Byte, ByteStr, CStr, RawStr, RawByteStr, RawCStr}
 use Rattle.rustc_lexer.specs.declared.token.TokenKind.{TokenKind}
 use Rattle.rustc_lexer.specs.declared.token.TokenKind.TheVariants.{Ident, RawIdent, UnknownPrefix}

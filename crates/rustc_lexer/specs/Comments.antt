@@ -2,7 +2,7 @@
 use Rattle.std.specs.Prelude.{ℕ, zero, suc, Bool, true, false, not, ◌||◌, ◌&&◌, ◌==◌, List, [], ◌∷◌, drop, Option, Some, None, if◌then◌else◌}
 use Rattle.std.specs.List.{position_or_len}
 use Rattle.rustc_lexer.specs.Character.{begins, is}
-use Rattle.rustc_lexer.specs.Stretch.{Stretch, further}
+use Rattle.rustc_lexer.specs.Scanned.{Scanned, further}
 use Rattle.rustc_lexer.specs.declared.token.DocStyle.{DocStyle}
 use Rattle.rustc_lexer.specs.declared.token.DocStyle.TheVariants.{Outer, Inner}
 use Rattle.rustc_lexer.specs.declared.token.TokenKind.{TokenKind}
@@ -15,7 +15,7 @@ line_style cs =
     else if begins "///" cs && not (begins "////" cs) then Some Outer else None
 
 -- a line comment goes up to the end of its line
-abbrev pub line_comment : List ℕ → Stretch TokenKind
+abbrev pub line_comment : List ℕ → Scanned TokenKind
 line_comment cs = record { value = LineComment (line_style cs); size = position_or_len (λ c. c == 10) cs }
 
 -- whether a block comment documents: `/*!` what it stands in, and `/**` what follows, but `/***` and `/**/` nothing
@@ -26,7 +26,7 @@ block_style cs =
 
 -- what is left of a block comment in which so many other comments are open: up to and with its own `*/`, where each `/*`
 -- opens one more and each `*/` ends the innermost; or the whole text, and then it isn't terminated
-abbrev pub block_body : ℕ → List ℕ → Stretch Bool
+abbrev pub block_body : ℕ → List ℕ → Scanned Bool
 block_body depth [] = record { value = false; size = 0 }
 block_body depth (c ∷ []) = record { value = false; size = 1 }
 block_body depth (c ∷ d ∷ cs) =
@@ -39,7 +39,7 @@ block_body depth (c ∷ d ∷ cs) =
     ]
 
 -- a block comment: `/*` and what is left then
-abbrev pub block_comment : List ℕ → Stretch TokenKind
+abbrev pub block_comment : List ℕ → Scanned TokenKind
 block_comment cs =
-    let body : Stretch Bool = further 2 (block_body 0 (drop 2 cs)) in
+    let body : Scanned Bool = further 2 (block_body 0 (drop 2 cs)) in
     record { value = BlockComment (block_style cs) body.value; size = body.size }

@@ -3,7 +3,7 @@ use Rattle.std.specs.Prelude.{ℕ, ◌+◌, Bool, ◌==◌, List, take, drop, le
 use Rattle.rustc_lexer.specs.Character.{utf8_len}
 use Rattle.rustc_lexer.specs.Lexeme.{Lexeme, lexeme}
 use Rattle.rustc_lexer.specs.Literals.{hashes, guarded_string}
-use Rattle.rustc_lexer.specs.Stretch.{Stretch}
+use Rattle.rustc_lexer.specs.Scanned.{Scanned}
 use Rattle.rustc_lexer.specs.declared.token.Token.{Token}
 use Rattle.rustc_lexer.specs.declared.token.TokenKind.{TokenKind}
 use Rattle.rustc_lexer.specs.declared.token.TokenKind.TheVariants.{Literal, Eof}
@@ -49,7 +49,7 @@ guarded_of n pending len (Some terminated) = Some (record { n_hashes = n; termin
 
 abbrev pub next_guarded : Unread → Option GuardedStr
 next_guarded u =
-    let s : Stretch (Option Bool) = guarded_string (chars u.rest) in
+    let s : Scanned (Option Bool) = guarded_string (chars u.rest) in
     guarded_of (hashes (chars u.rest)).size u.pending (bytes_of s.size u.rest) s.value
 
 -- what is left behind it: where there was none, the hashes count in the next token
@@ -59,7 +59,7 @@ pending_past taken (Some terminated) = 0
 
 abbrev pub past_guarded : Unread → Unread
 past_guarded u =
-    let s : Stretch (Option Bool) = guarded_string (chars u.rest) in
+    let s : Scanned (Option Bool) = guarded_string (chars u.rest) in
     record {
       rest = drop (bytes_of s.size u.rest) u.rest;
       pending = pending_past (u.pending + bytes_of s.size u.rest) s.value;

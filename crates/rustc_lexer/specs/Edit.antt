@@ -2,7 +2,7 @@
 use Rattle.std.specs.Prelude.{ℕ, ◌+◌, ◌-◌, Bool, ◌&&◌, ◌==◌, nat_le, List, [], ◌∷◌, ◌++◌, length, take, drop, get_or, chars}
 use Rattle.std.specs.List.{prefix_len, position_or_len, list_any}
 use Rattle.rustc_lexer.specs.Lexing.{tokens_of}
-use Rattle.rustc_lexer.specs.declared.lexed.Kept.{Kept}
+use Rattle.rustc_lexer.specs.declared.relex.Kept.{Kept}
 use Rattle.rustc_lexer.specs.declared.token.Token.{Token}
 
 -- the text, with the replacement in place of its bytes from `start` to `stop`

@@ -6,7 +6,7 @@ use Rattle.rustc_lexer.specs.Character.{char_at, begins, is, is_whitespace, is_i
 use Rattle.rustc_lexer.specs.Comments.{line_comment, block_comment}
 use Rattle.rustc_lexer.specs.Literals.{literal, with_suffix, bare, quoted_body, string_body, raw_form}
 use Rattle.rustc_lexer.specs.Numbers.{number}
-use Rattle.rustc_lexer.specs.Stretch.{Stretch, further}
+use Rattle.rustc_lexer.specs.Scanned.{Scanned, further}
 use Rattle.rustc_lexer.specs.declared.token.LiteralKind.{LiteralKind}
 use Rattle.rustc_lexer.specs.declared.token.LiteralKind.TheVariants.{Char, Byte, Str, ByteStr, CStr, RawStr, RawByteStr, RawCStr}
 use Rattle.rustc_lexer.specs.declared.token.TokenKind.{TokenKind}
@@ -14,7 +14,7 @@ use Rattle.rustc_lexer.specs.declared.token.TokenKind.TheVariants.{Whitespace, I
 
 -- a lexeme: its kind, and how many characters it takes
 abbrev pub Lexeme : Type 0
-Lexeme = Stretch TokenKind
+Lexeme = Scanned TokenKind
 
 -- the lexeme of a kind that takes that many characters
 abbrev pub lexeme_of : TokenKind → ℕ → Lexeme
@@ -29,19 +29,19 @@ white_space cs = lexeme_of Whitespace (prefix_len is_whitespace cs)
 -- a character: behind its prefix of p characters, of which the last is the quote
 abbrev pub quoted : (Bool → LiteralKind) → ℕ → List ℕ → Lexeme
 quoted kind p cs =
-    let body : Stretch Bool = further p (quoted_body (drop p cs)) in
+    let body : Scanned Bool = further p (quoted_body (drop p cs)) in
     literal body.value (kind body.value) body.size cs
 
 -- a string: behind its prefix of p characters, of which the last is the quote
 abbrev pub string : (Bool → LiteralKind) → ℕ → List ℕ → Lexeme
 string kind p cs =
-    let body : Stretch Bool = further p (string_body (drop p cs)) in
+    let body : Scanned Bool = further p (string_body (drop p cs)) in
     literal body.value (kind body.value) body.size cs
 
 -- a raw string: behind its prefix of p characters, of which the last is the `r`
 abbrev pub raw_string : (Option ℕ → LiteralKind) → ℕ → List ℕ → Lexeme
 raw_string kind p cs =
-    let form : Stretch (Option ℕ) = further p (raw_form (drop p cs)) in
+    let form : Scanned (Option ℕ) = further p (raw_form (drop p cs)) in
     literal (is_some form.value) (kind form.value) form.size cs
 
 -- a number and its suffix

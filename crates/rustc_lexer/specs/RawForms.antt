@@ -3,8 +3,8 @@ use Rattle.std.specs.Prelude.{ℕ, ◌+◌, max, ◌&&◌, ◌==◌, nat_le, ⊤
 use Rattle.std.specs.List.{prefix_len}
 use Rattle.rustc_lexer.specs.Character.{char_at, is, utf8_len}
 use Rattle.rustc_lexer.specs.Literals.{hashes, raw_body}
-use Rattle.rustc_lexer.specs.declared.raw.RawStrError.{RawStrError}
-use Rattle.rustc_lexer.specs.declared.raw.RawStrError.TheVariants.{InvalidStarter, NoTerminator, TooManyDelimiters}
+use Rattle.rustc_lexer.specs.declared.raw_str.RawStrError.{RawStrError}
+use Rattle.rustc_lexer.specs.declared.raw_str.RawStrError.TheVariants.{InvalidStarter, NoTerminator, TooManyDelimiters}
 
 -- the most hashes that follow a `"`
 abbrev pub most_hashes : List ℕ → ℕ

@@ -1,8 +1,6 @@
 //! The classes of characters that the grammar of Rust knows.
-ghost use Rattle.std.specs.Prelude.{◌≡◌, chars};
-ghost use Rattle.rustc_lexer.specs.Character.{is_whitespace, is_horizontal_whitespace, is_id_start, is_id_continue, is_ident};
-
-use crate::steps::{Continue, skip_while, split_first};
+ghost use Rattle.std.specs.Prelude.{◌≡◌};
+ghost use Rattle.rustc_lexer.specs.Character.{is_whitespace, is_horizontal_whitespace, is_id_start, is_id_continue};
 
 /// The version of Unicode that tells letters and digits.
 pub const UNICODE_VERSION: (u8, u8, u8) = (18, 0, 0);
@@ -46,15 +44,4 @@ pub fn is_id_continue(c: char) -> bool
         return c.is_ascii_alphanumeric() || c == '_';
     }
     unicode_ident::is_xid_continue(c)
-}
-
-/// Whether the text is an identifier: one character that may begin it, and others that may go on.
-/// Keywords and `_` are.
-pub fn is_ident(string: &str) -> bool
-    ensures { result ≡ is_ident (chars string.now) }
-{
-    match split_first(string) {
-        Some((c, after)) => is_id_start(c) && skip_while::<Continue>(after).is_empty(),
-        None => false,
-    }
 }

@@ -2,9 +2,9 @@
 ghost use Rattle.std.specs.Prelude.{◌≡◌, ◌&&◌, true, codes, chars};
 ghost use Rattle.rustc_lexer.specs.Character.{begins, is};
 ghost use Rattle.rustc_lexer.specs.Comments.{line_style, line_comment, block_style, block_body, block_comment};
-ghost use Rattle.rustc_lexer.specs.Stretch.{IsRead};
+ghost use Rattle.rustc_lexer.specs.Scanned.{IsRead};
 
-use crate::steps::{behind, first, from_line_feed, second, split_first, third};
+use crate::scan::{behind, first, from_line_feed, second, split_first, third};
 use crate::token::{DocStyle, TokenKind};
 
 // A line comment, up to the end of its line.

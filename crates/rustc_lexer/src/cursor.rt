@@ -3,9 +3,9 @@ ghost use Rattle.std.specs.Prelude.{◌≡◌, ◌<◌, ◌+◌, ◌^◌, length
 ghost use Rattle.rustc_lexer.specs.Character.{char_at};
 ghost use Rattle.rustc_lexer.specs.Cursors.{Unread, next_token, past_token, next_guarded, past_guarded, later_suffix, suffix_of};
 
-use crate::lexeme::first_lexeme;
+use crate::first_token::first_lexeme;
 use crate::literal::{count_hashes, guarded_string};
-use crate::steps::{first, third};
+use crate::scan::{first, third};
 use crate::token::{FrontmatterAllowed, GuardedStr, Token, TokenKind};
 use std::marker::Model;
 

@@ -18,8 +18,8 @@ ghost use Rattle.rustc_lexer.specs.Lexing.{place, reach, token_of, tokens_of};
 ghost use Rattle.rustc_lexer.specs.Literals.{stands_for_itself, with_escapes};
 ghost use Rattle.rustc_lexer.specs.Seams.{begins_longer, begins_white, ends_here, is_blank, is_sign, is_whole, stands_alone};
 ghost use Rattle.rustc_lexer.specs.Shapes.{HasByteShape, HasShape, is_ended};
-ghost use Rattle.rustc_lexer.specs.Standing.{AreTokensFrom, IsTokenAt};
-ghost use Rattle.rustc_lexer.specs.declared.lexed.Kept.{Kept};
+ghost use Rattle.rustc_lexer.specs.TokensAt.{AreTokensFrom, IsTokenAt};
+ghost use Rattle.rustc_lexer.specs.declared.relex.Kept.{Kept};
 ghost use Rattle.rustc_lexer.specs.declared.token.Base.TheVariants.{Decimal};
 ghost use Rattle.rustc_lexer.specs.declared.token.GuardedStr.{GuardedStr};
 ghost use Rattle.rustc_lexer.specs.declared.token.LiteralKind.{LiteralKind};
@@ -28,7 +28,7 @@ ghost use Rattle.rustc_lexer.specs.declared.token.Token.{Token};
 ghost use Rattle.rustc_lexer.specs.declared.token.TokenKind.{TokenKind};
 ghost use Rattle.rustc_lexer.specs.declared.token.TokenKind.TheVariants.{Eof, Ident, Lifetime, Literal, Whitespace};
 
-use crate::lexed::Kept;
+use crate::relex::Kept;
 use crate::token::{GuardedStr, LiteralKind, Token, TokenKind};
 
 /// The tokens of a text begin at its first byte.

@@ -3,10 +3,10 @@ ghost use Rattle.std.specs.Prelude.{◌≡◌, ◌<◌, ◌≤◌, ◌^◌, ◌-
 ghost use Rattle.std.specs.List.{prefix_len};
 ghost use Rattle.rustc_lexer.specs.Character.{is, identifier_len};
 ghost use Rattle.rustc_lexer.specs.Literals.{with_suffix, bare, literal, quoted_body, quoted_rest, string_body, raw_body, raw_form, hashes, hashes_of, guarded_body, guarded_string};
-ghost use Rattle.rustc_lexer.specs.Stretch.{IsRead};
+ghost use Rattle.rustc_lexer.specs.Scanned.{IsRead};
 
 use crate::character::is_id_start;
-use crate::steps::{
+use crate::scan::{
     Continue, Hash, behind, first, from_quote, from_quote_or_escape, second, skip_while,
     split_first,
 };

@@ -1,10 +1,10 @@
 //! Numbers.
 ghost use Rattle.std.specs.Prelude.{◌≡◌, chars};
 ghost use Rattle.rustc_lexer.specs.Numbers.{digit_of, run, is_exponent_mark, exponent, after_fraction, fraction, begins_fraction, after_run, based, decimal, number};
-ghost use Rattle.rustc_lexer.specs.Stretch.{IsRead};
+ghost use Rattle.rustc_lexer.specs.Scanned.{IsRead};
 
 use crate::character::is_id_start;
-use crate::steps::{
+use crate::scan::{
     DecimalRun, HexRun, Underscore, behind, first, is_digit, is_hex_digit, second, skip_while,
 };
 use crate::token::{Base, LiteralKind};

@@ -2,12 +2,12 @@
 ghost use Rattle.std.specs.Prelude.{◌≡◌, ◌<◌, ◌^◌, not, ◌==◌, ◌&&◌, codes, length, chars};
 ghost use Rattle.rustc_lexer.specs.Character.{char_at, begins, is, is_id_start};
 ghost use Rattle.rustc_lexer.specs.Lexeme.{begins_lifetime, lifetime, quote, quoted};
-ghost use Rattle.rustc_lexer.specs.Stretch.{IsRead};
+ghost use Rattle.rustc_lexer.specs.Scanned.{IsRead};
 ghost use Rattle.rustc_lexer.specs.declared.token.LiteralKind.TheVariants.{Char};
 
 use crate::character::is_id_start;
 use crate::literal::{bare, literal, quoted_body};
-use crate::steps::{Continue, begins, behind, first, is_digit, second, skip_while, third};
+use crate::scan::{Continue, begins, behind, first, is_digit, second, skip_while, third};
 use crate::token::{LiteralKind, TokenKind};
 
 // A lifetime or a character.

@@ -3,8 +3,8 @@ ghost use Rattle.std.specs.Prelude.{◌≡◌, ◌<◌, ◌≤◌, ◌^◌, leng
 ghost use Rattle.rustc_lexer.specs.Lexing.{tokens_of};
 ghost use Rattle.rustc_lexer.specs.Shebang.{is_blank, is_open_bracket, begins_with_bracket, first_line, shebang};
 
+use crate::lex::tokenize;
 use crate::token::{FrontmatterAllowed, TokenKind};
-use crate::tokenize;
 
 /// The length in bytes of the `#!` at the front of a script and the rest of that line, without the
 /// line's end (`\n` or `\r\n`).

@@ -1,7 +1,7 @@
 //! The tokens of a text, one after another.
 ghost use Rattle.std.specs.Prelude.{◌<◌, ◌^◌, length};
 
-use crate::lexeme::first_lexeme;
+use crate::first_token::first_lexeme;
 use crate::token::Token;
 
 /// The tokens of a text, in order. [`crate::tokenize`] makes it.

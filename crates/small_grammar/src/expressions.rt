@@ -1,9 +1,8 @@
-// Expressions: each function answers the trees behind what it is named for, or none.
+// Expressions: each function answers the trees after what it is named for, or none.
 ghost use Rattle.std.specs.Prelude.{◌≡◌, Some};
 ghost use Rattle.small_grammar.specs.Expressions.{◌⨾◌, ◌∣◌, many, maybe};
 ghost use Rattle.small_grammar.specs.SmallGrammar.{takes, path, post, atom, operand, binop, expr, name, literal, number, brace, group, generics, type, word, glued};
 
-use crate::copies::again;
 use crate::names::name;
 use crate::operators::{binop, reference, sign};
 use crate::tokens::{glued, group, group_of, literal, number, parts, word};
@@ -17,7 +16,7 @@ use tt_data::DelimiterKind;
 pub(crate) fn path<'a>(trees: &TtIter<'a>) -> Option<TtIter<'a>>
     ensures { result ≡ takes path trees.now }
 {
-    let rest = name(&glued(trees, Operator::Two(':', ':')).unwrap_or(again(trees)))?;
+    let rest = name(&glued(trees, Operator::Two(':', ':')).unwrap_or(trees.copied()))?;
     Some(more_parts(rest))
 }
 
@@ -94,7 +93,7 @@ fn plain_atom<'a>(trees: &TtIter<'a>) -> Option<TtIter<'a>>
     }
 }
 
-// A block behind `const` or `unsafe`.
+// A block after `const` or `unsafe`.
 fn marked_block<'a>(trees: &TtIter<'a>) -> Option<TtIter<'a>>
     ensures { result ≡ takes ((word "const" ∣ word "unsafe") ⨾ brace) trees.now }
 {
@@ -120,7 +119,7 @@ pub(crate) fn call<'a>(trees: &TtIter<'a>) -> Option<TtIter<'a>>
     group(&rest)
 }
 
-// An operand without signs before and calls behind it.
+// An operand without signs before it and calls after it.
 #[tactic(auto, unfolding(crate::specs::SmallGrammar::atom))]
 fn atom<'a>(trees: &TtIter<'a>) -> Option<TtIter<'a>>
     ensures { result ≡ takes atom trees.now }
@@ -150,14 +149,14 @@ fn prefix<'a>(trees: &TtIter<'a>) -> Option<TtIter<'a>>
 fn prefixes<'a>(trees: &TtIter<'a>) -> TtIter<'a>
     ensures { Some result ≡ takes (many (glued "- ! *" ∣ glued "& &&" ⨾ maybe (word "mut"))) trees.now }
 {
-    let mut rest = again(trees);
+    let mut rest = trees.copied();
     while let Some(next) = prefix(&rest) {
         rest = next;
     }
     rest
 }
 
-// The calls and members behind an operand, as many as there are.
+// The calls and members after an operand, as many as there are.
 fn posts<'a>(trees: TtIter<'a>) -> TtIter<'a>
     ensures { Some result ≡ takes (many post) trees.entry }
 {

@@ -5,7 +5,6 @@ ghost use Rattle.small_grammar.specs.Expressions.{◌⨾◌, ◌∣◌, maybe};
 ghost use Rattle.small_grammar.specs.Laws.{shape-within, shape-takes};
 ghost use Rattle.small_grammar.specs.SmallGrammar.{takes, vis, meta_item, group, glued, expr};
 
-use crate::copies::again;
 use crate::expressions::{expr, path};
 use crate::names::restriction;
 use crate::patterns::{pat, pat_top};
@@ -28,7 +27,7 @@ fn vis<'a>(trees: &TtIter<'a>) -> TtIter<'a>
     ensures { Some result ≡ takes vis trees.now }
 {
     match word(trees, "pub") {
-        None => again(trees),
+        None => trees.copied(),
         Some(rest) => restriction(&rest).unwrap_or(rest),
     }
 }
@@ -55,7 +54,7 @@ fn with_value<'a>(trees: TtIter<'a>) -> TtIter<'a>
     }
 }
 
-// The trees behind what the entry point asks for.
+// The trees after what the entry point asks for.
 fn behind<'a>(entry: PrefixEntryPoint, trees: &TtIter<'a>) -> Option<TtIter<'a>>
     ensures { result ≡ takes (entry_rule entry) trees.now }
 {

@@ -1,4 +1,6 @@
-//! Laws of the small grammar, for proofs above this crate. A call does nothing: it only states.
+//! Laws of the small grammar, for proofs above this crate.
+//!
+//! A call does nothing: it only states. The function that calls it has the clauses of the law in its own proof.
 ghost use Rattle.std.specs.Prelude.{◌≡◌, ◌≢◌, ◌≤◌, false, Option};
 ghost use Rattle.tt_data.specs.Forest.{Forest, map_spans};
 ghost use Rattle.tt_data.specs.declared.span.Span.{Span};

@@ -4,7 +4,6 @@
 //! what such rules mean. Each function of the code is one rule or one alternative of a rule.
 #![tactic(auto)]
 
-mod copies;
 mod expressions;
 mod grammar;
 pub mod laws;

@@ -1,11 +1,10 @@
-// Patterns: each function answers the trees behind what it is named for, or none.
+// Patterns: each function answers the trees after what it is named for, or none.
 ghost use Rattle.std.specs.Prelude.{◌≡◌, ◌≤◌, Some, None};
 ghost use Rattle.tt_data.specs.Forest.{size};
 ghost use Rattle.small_grammar.specs.Expressions.{◌⨾◌, ◌∣◌, many, maybe};
 ghost use Rattle.small_grammar.specs.Signs.{reference_sign, binding_sign, bare_pattern};
 ghost use Rattle.small_grammar.specs.SmallGrammar.{takes, pat, pat_top, num, name, word, paren, brace, bracket, group, glued, path};
 
-use crate::copies::again;
 use crate::expressions::{call, path};
 use crate::names::name;
 use crate::operators::{range, reference};
@@ -19,7 +18,7 @@ use tt_data::DelimiterKind;
 fn num<'a>(trees: &TtIter<'a>) -> Option<TtIter<'a>>
     ensures { result ≡ takes num trees.now }
 {
-    literal(&glued(trees, Operator::One('-')).unwrap_or(again(trees)))
+    literal(&glued(trees, Operator::One('-')).unwrap_or(trees.copied()))
 }
 
 // The end of a range, where it is there.
@@ -62,7 +61,7 @@ fn reference_sign<'a>(trees: &TtIter<'a>) -> Option<TtIter<'a>>
 fn binding_sign<'a>(trees: &TtIter<'a>) -> Option<TtIter<'a>>
     ensures { result ≡ takes binding_sign trees.now }
 {
-    let rest = word(trees, "ref").unwrap_or(again(trees));
+    let rest = word(trees, "ref").unwrap_or(trees.copied());
     let rest = word(&rest, "mut").unwrap_or(rest);
     let rest = name(&rest)?;
     glued(&rest, Operator::One('@'))
@@ -133,13 +132,13 @@ fn bare_pattern<'a>(trees: &TtIter<'a>) -> Option<TtIter<'a>>
     }
 }
 
-// The trees behind all signs of references that stand before a pattern.
+// The trees after all signs of references that come before a pattern.
 fn behind_references<'a>(trees: &TtIter<'a>) -> TtIter<'a>
     ensures same { takes pat result ≡ takes pat trees.now }
     ensures no_more { takes reference_sign result ≡ None }
     ensures further { size result ≤ size trees.now }
 {
-    let mut rest = again(trees);
+    let mut rest = trees.copied();
     while let Some(next) = reference_sign(&rest) {
         rest = next;
     }
@@ -188,6 +187,6 @@ fn alternatives<'a>(trees: TtIter<'a>) -> TtIter<'a>
 pub(crate) fn pat_top<'a>(trees: &TtIter<'a>) -> Option<TtIter<'a>>
     ensures { result ≡ takes pat_top trees.now }
 {
-    let rest = pat(&glued(trees, Operator::One('|')).unwrap_or(again(trees)))?;
+    let rest = pat(&glued(trees, Operator::One('|')).unwrap_or(trees.copied()))?;
     Some(alternatives(rest))
 }

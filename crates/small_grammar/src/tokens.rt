@@ -1,4 +1,4 @@
-// Single tokens at the beginning of a list: each function answers the trees behind the token, or none.
+// Single tokens at the beginning of a list: each function answers the trees after the token, or none.
 ghost use Rattle.std.specs.Prelude.{◌≡◌, [], ◌∷◌};
 ghost use Rattle.small_grammar.specs.Expressions.{◌∣◌};
 ghost use Rattle.small_grammar.specs.Signs.{joint_punct};

@@ -1,11 +1,10 @@
-// Types and their paths: each function answers the trees behind what it is named for, or none.
+// Types and their paths: each function answers the trees after what it is named for, or none.
 ghost use Rattle.std.specs.Prelude.{◌≡◌, ◌≤◌, [], ◌∷◌, Some, None};
 ghost use Rattle.tt_data.specs.Forest.{size};
 ghost use Rattle.small_grammar.specs.Expressions.{◌⨾◌, ◌∣◌, many, maybe};
 ghost use Rattle.small_grammar.specs.Signs.{type_sign, bare_type};
 ghost use Rattle.small_grammar.specs.SmallGrammar.{takes, type, arrow, arg, generics, seg, tpath, bound, lifetime, name, literal, group, paren, bracket, single, word};
 
-use crate::copies::again;
 use crate::names::name;
 use crate::tokens::{group, group_of, lifetime, literal, parts, punct, two_puncts, word};
 use tt::TtIter;
@@ -76,7 +75,7 @@ fn with_call<'a>(trees: TtIter<'a>) -> TtIter<'a>
 fn signed_literal<'a>(trees: &TtIter<'a>) -> Option<TtIter<'a>>
     ensures { result ≡ takes (maybe (single "-") ⨾ literal) trees.now }
 {
-    let rest = punct(trees, '-').unwrap_or(again(trees));
+    let rest = punct(trees, '-').unwrap_or(trees.copied());
     literal(&rest)
 }
 
@@ -88,7 +87,7 @@ fn binding_sign<'a>(trees: &TtIter<'a>) -> Option<TtIter<'a>>
     punct(&rest, '=')
 }
 
-// `&`, `*const` or `*mut`: what may stand before a type.
+// `&`, `*const` or `*mut`: what may come before a type.
 fn type_sign<'a>(trees: &TtIter<'a>) -> Option<TtIter<'a>>
     ensures { result ≡ takes type_sign trees.now }
 {
@@ -98,13 +97,13 @@ fn type_sign<'a>(trees: &TtIter<'a>) -> Option<TtIter<'a>>
     }
 }
 
-// The trees behind all that stand before a type.
+// The trees after all such prefixes of a type.
 fn behind_signs<'a>(trees: &TtIter<'a>) -> TtIter<'a>
     ensures same { takes type result ≡ takes type trees.now }
     ensures no_more { takes type_sign result ≡ None }
     ensures further { size result ≤ size trees.now }
 {
-    let mut rest = again(trees);
+    let mut rest = trees.copied();
     while let Some(next) = type_sign(&rest) {
         rest = next;
     }
@@ -137,7 +136,7 @@ fn bare_type<'a>(trees: &TtIter<'a>) -> Option<TtIter<'a>>
     Some(with_call(rest))
 }
 
-// Bounds behind `dyn` or `impl`.
+// Bounds after `dyn` or `impl`.
 #[cycle(types)]
 fn bounds<'a>(trees: &TtIter<'a>) -> Option<TtIter<'a>>
     ensures { result ≡ takes ((word "dyn" ∣ word "impl") ⨾ bound ⨾ many (single "+" ⨾ bound)) trees.now }
@@ -163,7 +162,7 @@ fn bound<'a>(trees: &TtIter<'a>) -> Option<TtIter<'a>>
 {
     match lifetime(trees) {
         Some(rest) => Some(rest),
-        None => tpath(&punct(trees, '?').unwrap_or(again(trees))),
+        None => tpath(&punct(trees, '?').unwrap_or(trees.copied())),
     }
 }
 
@@ -185,7 +184,7 @@ fn arrow<'a>(trees: TtIter<'a>) -> TtIter<'a>
 pub(crate) fn tpath<'a>(trees: &TtIter<'a>) -> Option<TtIter<'a>>
     ensures { result ≡ takes tpath trees.now }
 {
-    let rest = seg(&two_puncts(trees, ':', ':').unwrap_or(again(trees)))?;
+    let rest = seg(&two_puncts(trees, ':', ':').unwrap_or(trees.copied()))?;
     Some(more_segs(rest))
 }
 

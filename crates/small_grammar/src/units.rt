@@ -1,9 +1,8 @@
-// Units: the operator that stands at the beginning of a list of trees.
+// The operator at the beginning of a list of trees.
 ghost use Rattle.std.specs.Prelude.{◌≡◌};
 ghost use Rattle.tt.specs.Glued.{characters};
 ghost use Rattle.small_grammar.specs.Tokens.{operator_of, first_operator};
 
-use crate::copies::again;
 use tt::TtIter;
 use tt_data::Punct;
 
@@ -27,11 +26,11 @@ fn operator_of(puncts: &[Punct]) -> Option<Operator>
     }
 }
 
-/// The operator at the beginning, and the trees behind it.
+/// The operator at the beginning, and the trees after it.
 pub(crate) fn first_operator<'a>(trees: &TtIter<'a>) -> Option<(Operator, TtIter<'a>)>
     ensures { result ≡ first_operator trees.now }
 {
-    let mut rest = again(trees);
+    let mut rest = trees.copied();
     let Ok(puncts) = rest.expect_glued_punct() else {
         return None;
     };

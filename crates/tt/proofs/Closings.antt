@@ -2,7 +2,7 @@
 use Rattle.std.proofs.Common.{◌≡◌, ℕ, ◌≤◌, sym, length, List, [], ◌∷◌, ◌++◌, take, set, arith, Option, Some, None, inl, inr, length-append}
 use Rattle.std.proofs.lemmas.List.{take-append-le, take-set, length-set, length-take, take_at}
 use Rattle.tt_data.specs.declared.tree.TokenTree.{TokenTree}
-use Rattle.tt.specs.declared.builder.Opening.{Opening}
+use Rattle.tt.specs.declared.top_subtree.builder.Opening.{Opening}
 use Rattle.tt.specs.BuilderTokens.{start_of, IsHeld, IsCut, IsTreeAt}
 use Rattle.tt.proofs.Points.{start_fits}
 

@@ -6,8 +6,8 @@ use Rattle.std.specs.Cmp.Lexicographic.{pointwise}
 use Rattle.tt_data.proofs.EqualityLemmas.{IsEquality, tokens}
 use Rattle.tt.specs.Tops.{tokens_of, tree_of}
 use Rattle.tt.proofs.Groups.{tree_of-tokens_of}
-use Rattle.tt.specs.contracts.top.TopSubtreePartialEq.TheImpl as of_tree
-use Rattle.tt.specs.contracts.top.TopSubtreeEq.TheImpl.Laws as tree_laws
+use Rattle.tt.specs.contracts.top_subtree.TopSubtreePartialEq.TheImpl as of_tree
+use Rattle.tt.specs.contracts.top_subtree.TopSubtreeEq.TheImpl.Laws as tree_laws
 
 -- lists that are equal item by item are the same
 same_items : {A : Type 0} (E : A → A → Bool) → IsEquality E → (xs ys : List A) → pointwise E xs ys ≡ true → xs ≡ ys

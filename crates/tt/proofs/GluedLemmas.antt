@@ -1,4 +1,4 @@
--- Glued puncts: what they stand before, how many they are, and the same at other places.
+-- Glued puncts: what they come before, how many they are, and the same at other places.
 use Rattle.std.proofs.Common.{◌≡◌, ◌≤◌, Bool, true, false, refl, ap, ◌∙◌, arith, List, [], ◌∷◌, length, map, Option, Some, None, if◌then◌else◌}
 use Rattle.std.proofs.lemmas.List.{length-map}
 use Rattle.std.specs.Prelude.{option_map}
@@ -18,7 +18,7 @@ first_punct-is (leaf (as_leaf.Literal q) rest) g p e = cc
 first_punct-is empty g p e = cc
 first_punct-is (group d inner rest) g p e = cc
 
--- ---- what they stand before
+-- ---- what they come before
 
 -- puncts as trees
 abbrev pub punct_trees : List Punct → Forest
@@ -53,7 +53,7 @@ second-head : (p : Punct) (x : Forest) (o : Option (Punct × Forest)) → first_
 second-head p x None e = refl
 second-head p x (Some (q, y)) e = rw (first_punct-is x y q e) (third-head p q y (first_punct y) refl)
 
--- the puncts and the trees behind them are the list
+-- the puncts and the trees after them are the list
 pub glued-in_front : (p : Punct) (x : Forest) → in_front (glued_at p x) ≡ leaf (as_leaf.Punct p) x
 glued-in_front p x = second-head p x (first_punct x) refl
 
@@ -87,7 +87,7 @@ module _ (f : Span → Span) where
   abbrev pub punct_with : Punct → Punct
   punct_with p = record p { span = f p.span }
 
-  -- puncts and the trees behind them, at other places
+  -- puncts and the trees after them, at other places
   abbrev pub glued_with : List Punct × Forest → List Punct × Forest
   glued_with g = (map punct_with g.0, map_spans f g.1)
 

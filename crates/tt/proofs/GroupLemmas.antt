@@ -55,7 +55,7 @@ counts_fewer tokens more s whole all fewer =
     ap size (sym p.rest_is) ∙ (size-whole (drop s.len more) p.rest_whole ∙ length-drop s.len more) in
     rw all (only_more s.delimiter (front s.len (forest_of more)) (back s.len (forest_of more)) (omega (arith, left, p.fits, fewer)))
 
--- what stands after the head of one group
+-- what comes after the head of one group
 pub record Inside (tokens : List TokenTree) : Type 0 where
   pub whole : IsPreorder (take (length tokens - 1) (drop 1 tokens))
   pub trees : forest_of (take (length tokens - 1) (drop 1 tokens)) ≡ (group_in (forest_of tokens)).inner

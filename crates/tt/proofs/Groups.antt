@@ -45,7 +45,7 @@ group_of (token.Subtree s ∷ more) one =
       head_is = ap (λ t. t ∷ more) (first ∙ ap (head_of s.delimiter) (omega (arith, counts)));
     }
 
--- whole trees behind a head that counts them
+-- whole trees after a head that counts them
 pub with_head_token : (tokens : List TokenTree) (d : Delimiter) (n : ℕ) → n ≡ length tokens - 1 → 0 < length tokens → IsPreorder (drop 1 tokens)
     → IsOneGroup (set tokens 0 (head_of d n))
 with_head_token [] d n counts some whole = absurd (omega (arith, some))

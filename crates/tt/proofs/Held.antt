@@ -8,7 +8,7 @@ use Rattle.tt.specs.BuilderTokens.{here_of, groups_of, IsHeld}
 use Rattle.tt_data.specs.declared.delimiter.Delimiter.{Delimiter}
 use Rattle.tt_data.specs.declared.tree.TokenTree.{TokenTree}
 use Rattle.tt_data.specs.declared.tree.TokenTree.TheVariants as token
-use Rattle.tt.specs.declared.builder.Opening.{Opening}
+use Rattle.tt.specs.declared.top_subtree.builder.Opening.{Opening}
 
 -- whole trees with whole trees after them
 whole-append : (tokens : List TokenTree) (g : Forest) → IsPreorder tokens → IsPreorder (tokens ++ preorder g)

@@ -8,7 +8,7 @@ use Rattle.tt_data.specs.declared.delimiter.Delimiter.{Delimiter}
 use Rattle.tt_data.specs.declared.leaf.Leaf.{Leaf}
 use Rattle.tt_data.specs.declared.tree.TokenTree.{TokenTree}
 use Rattle.tt_data.specs.declared.tree.TokenTree.TheVariants as token
-use Rattle.tt.specs.declared.builder.Opening.{Opening}
+use Rattle.tt.specs.declared.top_subtree.builder.Opening.{Opening}
 use Rattle.tt.specs.Building.{last_alone}
 use Rattle.tt.specs.BuilderTokens.{start_of, here_of, groups_of, IsHeld, IsCut, IsTreeAt}
 use Rattle.tt.specs.Records.{alone_token}

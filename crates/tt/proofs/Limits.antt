@@ -7,7 +7,7 @@ use Rattle.tt_data.specs.Flat.{length-preorder}
 use Rattle.tt_data.specs.fault.TtFault.{TtFault}
 use Rattle.tt_data.specs.fault.TtFault.TheVariants as fault
 use Rattle.tt_data.specs.declared.tree.TokenTree.{TokenTree}
-use Rattle.tt.specs.declared.builder.Opening.{Opening}
+use Rattle.tt.specs.declared.top_subtree.builder.Opening.{Opening}
 use Rattle.tt.specs.Building.{Building, count_in, count_of, extended, most_tokens}
 use Rattle.tt.specs.BuilderTokens.{here_of, groups_of, IsHeld}
 

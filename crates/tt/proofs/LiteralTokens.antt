@@ -1,4 +1,4 @@
--- Where a token that is a literal may be cut: behind its first quote, and before its last one.
+-- Where a token that is a literal may be cut: after its first quote, and before its last one.
 use Rattle.std.proofs.Common.{◌≡◌, ℕ, ◌+◌, ◌-◌, ◌<◌, List, [], ◌∷◌, ◌++◌, length, get_or, sym, ap, ◌∙◌, append_assoc, arith}
 use Rattle.std.proofs.Math.Seq.{get_or-append_seam}
 use Rattle.std.proofs.lemmas.List.{length-append}
@@ -9,7 +9,7 @@ use Rattle.tt.specs.TokenLiterals.{IsLiteralToken, form_begin, form_end}
 use Rattle.tt_data.specs.declared.leaf.LitKind.{LitKind}
 use Rattle.tt_data.specs.declared.leaf.LitKind.TheVariants.{Byte, Char, Integer, Float, Str, StrRaw, ByteStr, ByteStrRaw, CStr, CStrRaw, Err}
 
--- behind a character of one byte
+-- after a character of one byte
 behind : (bs front rest : List ℕ) (q : ℕ) → IsUtf8 bs → q < 128 → bs ≡ front ++ (q ∷ rest) → IsCharBoundary bs (length front + 1)
 behind bs front rest q u small e =
     let at : get_or bs (length front) 0 ≡ q = ap (λ l. get_or l (length front) 0) e ∙ get_or-append_seam front q rest 0 in
@@ -23,7 +23,7 @@ before bs front rest q small e =
     let n : length bs ≡ length front + length {A = ℕ} (q ∷ rest) = ap length e ∙ length-append front (q ∷ rest) in
     IsCharBoundary-before_ascii bs (length front) (omega (arith, n)) (omega (arith, at, small))
 
--- behind letters, hashes and a quote
+-- after letters, hashes and a quote
 behind_begin : (bs letters hashes rest : List ℕ) (q : ℕ) → IsUtf8 bs → q < 128 → bs ≡ (letters ++ (hashes ++ (q ∷ []))) ++ rest
     → IsCharBoundary bs (length (letters ++ (hashes ++ (q ∷ []))))
 behind_begin bs letters hashes rest q u small e =

@@ -16,7 +16,7 @@ abbrev outside : List Around → List Around
 outside [] = []
 outside (a ∷ outer) = outer
 
--- two lists that are the same with one more behind each
+-- two lists that are the same with one more after each
 same_last : (xs ys : List ℕ) (a b : ℕ) → xs ++ a ∷ [] ≡ ys ++ b ∷ [] → (xs ≡ ys) × (a ≡ b)
 same_last [] [] a b e = (refl, cc)
 same_last [] (y ∷ []) a b e = absurd cc
@@ -28,7 +28,7 @@ same_last (x ∷ xs) (y ∷ ys) a b e =
     let head : x ≡ y = cc in
     (rw (head, (same_last xs ys a b more).0) refl, (same_last xs ys a b more).1)
 
--- a list with one more behind is not empty
+-- a list with one more after is not empty
 is_some : (xs : List ℕ) (x : ℕ) → xs ++ x ∷ [] ≢ []
 is_some [] x e = absurd cc
 is_some (y ∷ xs) x e = absurd cc
@@ -111,7 +111,7 @@ pub held : (tokens : List TokenTree) (start at : ℕ) (kept : List ℕ) (p : Pla
 held tokens start at kept p stands kept_are =
     (placed tokens start at p stands, subst (λ (q : Place). AreNearest kept q.around) (sym (found tokens start at p stands)) kept_are)
 
--- what a list is without its first and with one more behind it, or with its first too
+-- what a list is without its first and with one more after it, or with its first too
 pub without_first : (old rest new : List ℕ) (x : ℕ) → new ≡ rest ++ x ∷ [] → rest ≡ drop 1 old → (gone : List ℕ) × (gone ++ new ≡ old ++ x ∷ [])
 without_first old rest new x last less =
     (take 1 old, rw (last, less) (sym (append_assoc (take 1 old) (drop 1 old) (x ∷ [])) ∙ ap (λ xs. xs ++ x ∷ []) (take-append-drop 1 old)))

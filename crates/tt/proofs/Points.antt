@@ -8,7 +8,7 @@ use Rattle.tt_data.proofs.FlatLemmas.{forest_of-append_whole}
 use Rattle.tt_data.proofs.ForestLemmas.{joined-front-back}
 use Rattle.tt_data.specs.declared.delimiter.Delimiter.{Delimiter}
 use Rattle.tt_data.specs.declared.tree.TokenTree.{TokenTree}
-use Rattle.tt.specs.declared.builder.Opening.{Opening}
+use Rattle.tt.specs.declared.top_subtree.builder.Opening.{Opening}
 use Rattle.tt.specs.Building.{Point, Opened, count_in, list_in, cut_to, cut_in, cut_back}
 use Rattle.tt.specs.BuilderTokens.{start_of, here_of, groups_of, IsHeld}
 use Rattle.tt.proofs.Limits.{size-whole, counted}
@@ -60,7 +60,7 @@ pub start_fits : (tokens : List TokenTree) (os : List Opening) → IsHeld tokens
 start_fits tokens [] held = omega (arith, held.0)
 start_fits tokens (o ∷ outer) held = omega (arith, held.0)
 
--- what stands before the innermost list: the top's token, and those that its open groups count
+-- what comes before the innermost list: the top's token, and those that its open groups count
 pub start_counts : (tokens : List TokenTree) (os : List Opening) → IsHeld tokens os → start_of os ≡ 1 + count_in (groups_of tokens os)
 start_counts tokens [] held = refl
 start_counts tokens (o ∷ outer) held =

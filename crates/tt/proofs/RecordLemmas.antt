@@ -59,7 +59,7 @@ no_head-only [] e = refl
 no_head-only (token.Leaf l ∷ rest) e = refl
 no_head-only (token.Subtree t ∷ rest) e = cc
 
--- the trees behind a token, by the tokens behind it
+-- the trees after a token, by the tokens after it
 module _ {A : Type 0} (of : List TokenTree → Option (A × List TokenTree)) (trees_of : Forest → Option (A × Forest))
     (same : (tokens : List TokenTree) → option_map (λ (p : A × List TokenTree). (p.0, forest_of p.1)) (of tokens) ≡ trees_of (forest_of tokens)) where
   pub found : (tokens : List TokenTree) (f : Forest) (a : A) (more : List TokenTree) → Some (a, more) ≡ of tokens → forest_of tokens ≡ f

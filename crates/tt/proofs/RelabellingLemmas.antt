@@ -83,7 +83,7 @@ module _ {S : Type 0} where
   pub nothing_tells : (m : HashMap ℕ ℕ S) → IsEmpty m → Tells [] [] m
   nothing_tells m none q = ap (λ es. lookup (nat_eq q) es) none
 
-  -- one more anchor, which was not met, stands for itself
+  -- one more anchor, which was not met, means itself
   pub met_tells : (met : List ℕ) (a : ℕ) (old new : HashMap ℕ ℕ S) → Tells met [] old
       → ((q : ℕ) → get nat_eq new q ≡ cond (nat_eq a q) (Some a) (get nat_eq old q)) → Tells (met ++ a ∷ []) [] new
   met_tells met a old new tells put q = ⊎_elim

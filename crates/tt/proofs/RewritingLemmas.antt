@@ -18,9 +18,9 @@ use Rattle.std.specs.Borrow.{Bor}
 use Rattle.std.specs.Fn.{CalledAt, Mut}
 use Rattle.tt_data.specs.declared.tree.TokenTree.{TokenTree}
 use Rattle.tt.specs.Views.{forest}
-use Rattle.tt.specs.declared.transform.Around.{Around}
-use Rattle.tt.specs.declared.transform.TransformTtAction.{TransformTtAction}
-use Rattle.tt.specs.declared.transform.TransformTtAction.TheVariants.{Keep, ReplaceWith}
+use Rattle.tt.specs.declared.top_subtree.transform.Around.{Around}
+use Rattle.tt.specs.declared.top_subtree.transform.TransformTtAction.{TransformTtAction}
+use Rattle.tt.specs.declared.top_subtree.transform.TransformTtAction.TheVariants.{Keep, ReplaceWith}
 use Rattle.tt.specs.declared.view.TokenTreesView.{TokenTreesView}
 use Rattle.tt.specs.Building.{Building, Opened, closed, closed_in, count_in, count_of}
 use Rattle.tt.specs.Tops.{Top, forest_of_top, only_group}
@@ -119,7 +119,7 @@ module _ (trees : Forest) (calls : List Call) (around : List Around) (groups : L
         done_with (group d f empty) f2 _ others2 g (joined_assoc here (group d f empty) f2) k,
       ))
 
--- a group is left: it stands after the trees before it
+-- a group is left: it comes after the trees before it
 pub group_left : (trees : Forest) (calls : List Call) (a : Around) (outer : List Around) (o : Opened) (groups : List Opened) (here : Forest)
     → IsUnderWay trees calls empty (a ∷ outer) (o ∷ groups) here
     → IsUnderWay trees calls a.rest outer groups (joined o.before (group (closed_by a o) here empty))

@@ -13,7 +13,7 @@ use Rattle.tt_data.specs.declared.tree.TokenTree.TheVariants as token
 use Rattle.tt_data.specs.Forest.{Forest, empty, leaf, group, preorder}
 use Rattle.tt_data.specs.Names.{ident_of}
 use Rattle.tt_data.specs.Walk.{at_leaf, opens, closes}
-use Rattle.tt.specs.declared.builder.Opening.{Opening}
+use Rattle.tt.specs.declared.top_subtree.builder.Opening.{Opening}
 use Rattle.tt.specs.declared.iter.TtElement.TheVariants as element
 use Rattle.tt.specs.BuilderTokens.{here_of, groups_of, begins_invisible, moved_back}
 use Rattle.tt.specs.Records.{alone_token}
@@ -123,7 +123,7 @@ held_groups = refl
 held_here : here_of unclosed_tokens openings ≡ unclosed.here
 held_here = refl
 
--- a point stands after more leaves, and after groups that were opened and closed past it
+-- a point comes after more leaves, and after groups that were opened and closed past it
 stands_past_leaves : cut_back (point_of unclosed) (pushed unclosed (comma 3)) ≡ Some unclosed
 stands_past_leaves = refl
 
@@ -155,7 +155,7 @@ no_such_list = refl
 one_reached : Reached start (opened start Brace (at 0))
 one_reached = by_open start Brace (at 0) itself
 
--- `a` and an invisible group round `,`: the group is the third token
+-- `a` and an invisible group around `,`: the group is the third token
 abbrev hidden : Building
 hidden = closed (pushed (opened (pushed start (name (codes "a") 0)) Invisible (at 1)) (comma 2)) (at 2)
 
@@ -436,7 +436,7 @@ pretty_sum : pretty_text sum ≡ codes "a + b"
 unfolding lib.Utf8.encode
 pretty_sum = refl
 
--- `a(,)b` has spaces round its group and none inside
+-- `a(,)b` has spaces around its group and none inside
 displayed_group : displayed_text trees ≡ codes "a (,) b"
 unfolding lib.Utf8.encode
 displayed_group = refl
@@ -494,7 +494,7 @@ hidden_row = refl
 shift_row : glued_count (in_front 62 JointHidden (in_front 62 Joint (in_front 61 Joint (in_front 61 Alone empty)))) ≡ 3
 shift_row = refl
 
--- `->` is one of two, `=>` too, and what is behind them is left
+-- `->` is one of two, `=>` too, and what is after them is left
 arrow_row : first_glued (in_front 45 Joint (in_front 62 Alone (in_front 59 Alone empty)))
     ≡ Some (record { char = 45; spacing = Joint; span = at 0 } ∷ record { char = 62; spacing = Alone; span = at 0 } ∷ [], in_front 59 Alone empty)
 arrow_row = refl

@@ -1,6 +1,6 @@
 -- A list of trees is walked up to its first separator.
 --     Passing      the trees passed so far have no separator, and what is asked of all trees is asked of those that are left
---     nothing_passed, passes, is_passed, ends_at, ends_all      at the beginning;  behind a tree that is none;  by whatever means they are known;  at a separator;  where no tree is left
+--     nothing_passed, passes, is_passed, ends_at, ends_all      at the beginning;  after a tree that is none;  by whatever means they are known;  at a separator;  where no tree is left
 use Rattle.std.proofs.Common.{◌≡◌, refl, sym, ap, ◌∙◌, Bool, true, false, Option, Some, None, if◌then◌else◌, ◌<◌, ◌+◌, ℕ, List, [], ◌∷◌, ◌++◌, subst, length, cond, option_map, arith}
 use Rattle.std.specs.List.{count_by}
 use Rattle.std.proofs.lemmas.Fn.{FoldsTo-push}

@@ -8,7 +8,7 @@ use Rattle.tt_data.specs.Flat.{front-zero, front-joined, joined-empty}
 use Rattle.tt_data.proofs.ForestLemmas.{joined-front-back, joined_assoc, size-joined}
 use Rattle.tt_data.specs.declared.delimiter.Delimiter.{Delimiter}
 use Rattle.tt_data.specs.declared.tree.TokenTree.{TokenTree}
-use Rattle.tt.specs.declared.builder.Opening.{Opening}
+use Rattle.tt.specs.declared.top_subtree.builder.Opening.{Opening}
 use Rattle.tt.specs.Building.{Opened, count_in, list_in, last_alone, unwrapped, unwrapped_after, unwrapped_in}
 use Rattle.tt.specs.BuilderTokens.{here_of, groups_of, IsHeld, IsSettled}
 use Rattle.tt.proofs.Held.{here_of-append, groups_of-append, here_of-closed, groups_of-closed, with_head}
@@ -26,7 +26,7 @@ front-past (group d inner rest) b n m e =
     let less : n - 1 - size inner ≡ size rest + m = omega (arith, e) in
     rw (lt-ltb (size inner) n (omega (arith, e)), front-past rest b (n - 1 - size inner) m less) refl
 
--- behind a place where a tree ends, one ends exactly where one of those after the place does
+-- after a place where a tree ends, one ends exactly where one of those after the place does
 pub end_after : (known more : ℕ) (f : Forest) → size (front known f) ≡ known
     → (size (front more (back known f)) ≡ more) ↔ (size (front (known + more) f) ≡ known + more)
 end_after known more f end =
@@ -37,7 +37,7 @@ end_after known more f end =
     ap size past ∙ size-joined a (front more (back known f)) ∙ ap (λ n. n + size (front more (back known f))) end in
     (λ e. omega (arith, counts, e), λ e. omega (arith, counts, e))
 
--- the tokens behind a place where a tree is known to end, if there are as many
+-- the tokens after a place where a tree is known to end, if there are as many
 pub record Behind (tokens : List TokenTree) (known : ℕ) : Type 0 where
   pub ends : size (front known (forest_of tokens)) ≡ known
   pub whole : IsPreorder (take (length tokens - known) (drop known tokens))

@@ -33,7 +33,7 @@ step s tokens more inner rest whole all front_is back_is =
       gives = rw (all, front_is, back_is, p.inner_is, p.rest_is, p.counted) refl;
     }
 
--- a list of trees that ends in another: what stands before that other is whole trees
+-- a list of trees that ends in another: what comes before that other is whole trees
 pub record Passed (all rest : List TokenTree) (now : Forest) : Type 0 where
   pub fits : length rest ≤ length all
   pub whole : IsPreorder (take (length all - length rest) all)

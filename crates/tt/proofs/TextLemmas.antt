@@ -1,4 +1,4 @@
--- One tree more is printed: what is written, and what stands before the next token.
+-- One tree more is printed: what is written, and what comes before the next token.
 use Rattle.std.proofs.Common.{◌≡◌, ℕ, List, [], ◌∷◌, ◌++◌, Bool, true, false, codes, ap, refl, sym, ◌∙◌, append_assoc}
 use Rattle.std.proofs.lemmas.Bool.{false≢true}
 use Rattle.tt_data.specs.declared.delimiter.Delimiter.{Delimiter}
@@ -130,7 +130,7 @@ module _ (touches : Spacing → Bool) where
         rw (append_assoc (((done ++ space) ++ o) ++ inside) k more, append_assoc ((done ++ space) ++ o) inside (k ++ more), append_assoc (done ++ space) o (inside ++ (k ++ more)), append_assoc done space (o ++ (inside ++ (k ++ more))))
         (ap (λ t. done ++ t) (sym (group_text space d inner rest seen)) ∙ all)
 
-  -- what stands behind the trees left stands behind all
+  -- what comes after the trees left comes after all
   module _ (space : List ℕ) (left rest : Forest) (behind : List ℕ) (so_far : space_behind touches space (walk left) ≡ behind) where
     pub leaf_behind : (l : Leaf) (next : List ℕ) → left ≡ leaf l rest → next ≡ space_after touches l → space_behind touches next (walk rest) ≡ behind
     leaf_behind l next first next_is = rw next_is (rw first at so_far)

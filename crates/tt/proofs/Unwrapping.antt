@@ -10,7 +10,7 @@ use Rattle.tt_data.proofs.ForestLemmas.{joined-front-back}
 use Rattle.tt_data.specs.declared.tree.Subtree.{Subtree}
 use Rattle.tt_data.specs.declared.tree.TokenTree.{TokenTree}
 use Rattle.tt_data.specs.declared.tree.TokenTree.TheVariants as token
-use Rattle.tt.specs.declared.builder.Opening.{Opening}
+use Rattle.tt.specs.declared.top_subtree.builder.Opening.{Opening}
 use Rattle.tt.specs.Building.{count_in, is_invisible, unwrapped, unwrapped_after, unwrapped_in}
 use Rattle.tt.specs.BuilderTokens.{here_of, groups_of, IsHeld, IsCut, begins_invisible, moved_back}
 use Rattle.tt.proofs.Limits.{size-whole}

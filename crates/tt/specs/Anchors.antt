@@ -3,8 +3,8 @@ use Rattle.std.specs.Prelude.{◌≡◌, ℕ, List, [], Some, None, nat_eq, if�
 use Rattle.std.specs.HashMap.{HashMap, get}
 use Rattle.std.specs.List.{list_any, IsDistinct}
 use Rattle.std.specs.Option.{unwrap_or}
-use Rattle.tt.specs.declared.relabel.Anchors.{Anchors}
-use Rattle.tt.specs.declared.relabel.Renaming.{Renaming}
+use Rattle.tt.specs.declared.top_subtree.relabel.Anchors.{Anchors}
+use Rattle.tt.specs.declared.storage.renaming.Renaming.{Renaming}
 use Rattle.tt.specs.Relabelling.{renamed}
 
 -- what a table has in place of an anchor: the anchor itself where it has no entry
@@ -15,7 +15,7 @@ answer_in answers a = unwrap_or (get nat_eq answers a) a
 abbrev pub Tells : {S : Type 0} → List ℕ → List (ℕ × ℕ) → HashMap ℕ ℕ S → Type 0
 Tells met entries answers = (a : ℕ) → get nat_eq answers a ≡ (if list_any (nat_eq a) met then Some (renamed entries a) else None)
 
--- each anchor that was met stands there once, and stands for itself
+-- each anchor that was met is there once, and means itself
 abbrev pub StandForThemselves : Anchors → Type 0
 StandForThemselves t = IsDistinct nat_eq t.met.items × Tells t.met.items [] t.answers
 

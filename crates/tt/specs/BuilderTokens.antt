@@ -2,11 +2,11 @@
 use Rattle.std.specs.Prelude.{◌≡◌, ℕ, ◌+◌, ◌-◌, ◌<◌, ◌≤◌, ◌⊎◌, List, [], ◌∷◌, length, take, drop, Option, Some, None, Bool, false, nat_lt, if◌then◌else◌}
 use Rattle.tt_data.specs.declared.tree.TokenTree.{TokenTree}
 use Rattle.tt_data.specs.declared.tree.TokenTree.TheVariants as token
-use Rattle.tt.specs.declared.builder.Opening.{Opening}
+use Rattle.tt.specs.declared.top_subtree.builder.Opening.{Opening}
 use Rattle.tt_data.specs.Forest.{Forest, forest_of, IsPreorder, size, front}
 use Rattle.tt.specs.Building.{Opened, count_in, is_invisible}
 
--- how many tokens stand before those trees that are in the innermost list; openings come innermost first
+-- how many tokens come before those trees that are in the innermost list; openings come innermost first
 abbrev pub start_of : List Opening → ℕ
 start_of [] = 1
 start_of (o ∷ outer) = o.at + 1
@@ -22,7 +22,7 @@ groups_of tokens [] = []
 groups_of tokens (o ∷ outer) =
     record { kind = o.kind; open_span = o.open_span; before = here_of (take o.at tokens) outer } ∷ groups_of (take o.at tokens) outer
 
--- each opening stands among the tokens, and between two openings, and after the last, stand whole trees
+-- each opening is among the tokens, and between two openings, and after the last, come whole trees
 abbrev pub IsHeld : List TokenTree → List Opening → Type 0
 IsHeld tokens [] = (0 < length tokens) × IsPreorder (drop 1 tokens)
 IsHeld tokens (o ∷ outer) = (o.at < length tokens) × IsPreorder (drop (o.at + 1) tokens) × IsHeld (take o.at tokens) outer
@@ -37,7 +37,7 @@ abbrev pub IsTreeAt : Option ℕ → List TokenTree → List Opening → Type 0
 IsTreeAt None tokens openings = Unit {0}
 IsTreeAt (Some at) tokens openings = (at < length tokens) × IsCut at tokens openings
 
--- whole trees end right before this place, in the list that it is in: where an open group's token stands, in the list around the group
+-- whole trees end right before this place, in the list that it is in: where an open group's token is, in the list around the group
 abbrev pub IsSettled : ℕ → List Opened → Forest → Type 0
 IsSettled at [] here = (0 < at) × (size (front (at - 1) here) ≡ at - 1)
 IsSettled at (o ∷ outer) here =

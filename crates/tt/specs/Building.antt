@@ -70,7 +70,7 @@ last_alone (group d inner rest) = group d inner (last_alone rest)
 abbrev pub opened : Building → DelimiterKind → Span → Building
 opened b kind open_span = record b { groups = record { kind = kind; open_span = open_span; before = b.here } ∷ b.groups; here = empty }
 
--- with the first of these open groups closed: it stands after the trees before it
+-- with the first of these open groups closed: it comes after the trees before it
 abbrev pub closed_in : List Opened → Building → Span → Building
 closed_in [] b close_span = b
 closed_in (o ∷ outer) b close_span =
@@ -97,7 +97,7 @@ pub record Point : Type 0 where
   pub tokens : ℕ
   pub depth : ℕ
 
--- where a builder stands now
+-- the point that a builder is at
 abbrev pub point_of : Building → Point
 point_of b = record { tokens = count_of b; depth = length b.groups }
 
@@ -118,7 +118,7 @@ cut_to tokens groups here =
 abbrev pub cut_in : Point → List Opened → Forest → Option (List Opened × Forest)
 cut_in p groups here = option_and_then (λ l. cut_to p.tokens l.0 l.1) (list_in p.depth groups here)
 
--- the tree under construction at a point, where the point stands: just so many groups are open there, and no closed group lies across it
+-- the tree under construction at a point, where the point is valid: just so many groups are open there, and no closed group lies across it
 abbrev pub cut_back : Point → Building → Option Building
 cut_back p b = option_map (λ g. record { top = b.top; groups = g.0; here = g.1 }) (cut_in p b.groups b.here)
 
@@ -129,7 +129,7 @@ pub data Reached (b : Building) : Building → Type 0 where
   by_open : (t : Building) (kind : DelimiterKind) (span : Span) → Reached b t → Reached b (opened t kind span)
   by_close : (t : Building) (span : Span) → length b.groups < length t.groups → Reached b t → Reached b (closed t span)
 
--- whether brackets of this sort stand in no text
+-- whether brackets of this sort have no text
 abbrev pub is_invisible : DelimiterKind → Bool
 is_invisible Invisible = true
 is_invisible _ = false

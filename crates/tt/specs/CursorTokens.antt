@@ -21,7 +21,7 @@ pub record Stands (tokens : List TokenTree) (start at : ℕ) (p : Place) : Type 
   pub start_is : start ≡ start_in p.around
   pub at_is : at ≡ start + size p.before
 
--- the place among these trees, which stand after those trees in a list with those groups around it: as many of their tokens as `at` come before the place, and as many as `start` before the innermost list (0 where that is this one)
+-- the place among these trees, which come after those trees in a list with those groups around it: as many of their tokens as `at` come before the place, and as many as `start` before the innermost list (0 where that is this one)
 abbrev pub place_in : List Around → Forest → Forest → ℕ → ℕ → Place
 place_in around before empty start at = record { around = around; before = before; after = empty }
 place_in around before (leaf l rest) start at =

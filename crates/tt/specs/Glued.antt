@@ -27,12 +27,12 @@ is_three a b c =
     (is_one_of "." a && (is_one_of "." b && is_one_of ".=" c))
     || ((is_one_of "<" a && (is_one_of "<" b && is_one_of "=" c)) || (is_one_of ">" a && (is_one_of ">" b && is_one_of "=" c)))
 
--- a punct behind which none stands directly
+-- a punct with none right after it
 abbrev pub is_alone : Spacing → Bool
 is_alone Alone = true
 is_alone _ = false
 
--- a punct right behind which another stands
+-- a punct with another right after it
 abbrev pub is_joint : Spacing → Bool
 is_joint Joint = true
 is_joint _ = false
@@ -45,26 +45,26 @@ is_pair p q = not (is_alone p.spacing) && is_two p.char q.char
 abbrev pub is_triple : Punct → Punct → Punct → Bool
 is_triple p q r = not (is_alone p.spacing) && (is_joint q.spacing && is_three p.char q.char r.char)
 
--- what two puncts begin with that stand side by side, with the trees behind it: an operator of both, or the first punct
+-- what two puncts side by side begin, with the trees after it: an operator of both, or the first punct
 abbrev pub glued_two : Punct → Forest → Punct → Forest → List Punct × Forest
 glued_two p behind_one q behind_two = if is_pair p q then (p ∷ q ∷ [], behind_two) else (p ∷ [], behind_one)
 
--- the same, where a third punct may stand behind them
+-- the same, where a third punct may come after them
 abbrev pub glued_third : Punct → Forest → Punct → Forest → Option (Punct × Forest) → List Punct × Forest
 glued_third p behind_one q behind_two None = glued_two p behind_one q behind_two
 glued_third p behind_one q behind_two (Some (r, rest)) =
     if is_triple p q r then (p ∷ q ∷ r ∷ [], rest) else glued_two p behind_one q behind_two
 
--- the longest operator that a punct begins, where a second may stand behind it
+-- the longest operator that a punct begins, where a second may come after it
 abbrev pub glued_second : Punct → Forest → Option (Punct × Forest) → List Punct × Forest
 glued_second p rest None = (p ∷ [], rest)
 glued_second p rest (Some (q, behind)) = glued_third p rest q behind (first_punct behind)
 
--- the longest operator that a punct begins before these trees, with the trees behind it
+-- the longest operator that a punct begins before these trees, with the trees after it
 abbrev pub glued_at : Punct → Forest → List Punct × Forest
 glued_at p rest = glued_second p rest (first_punct rest)
 
--- the operator that a list of trees begins with, with the trees behind it
+-- the operator that a list of trees begins with, with the trees after it
 abbrev pub first_glued : Forest → Option (List Punct × Forest)
 first_glued (leaf (as_leaf.Punct p) rest) = Some (glued_at p rest)
 first_glued _ = None

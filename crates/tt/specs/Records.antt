@@ -8,14 +8,14 @@ use Rattle.tt_data.specs.declared.leaf.Punct.{Punct}
 use Rattle.tt_data.specs.declared.tree.Subtree.{Subtree}
 use Rattle.tt_data.specs.declared.tree.TokenTree.{TokenTree}
 use Rattle.tt_data.specs.declared.tree.TokenTree.TheVariants as token
-use Rattle.tt.specs.declared.records.Tokens.{Tokens}
+use Rattle.tt.specs.declared.storage.Tokens.{Tokens}
 use Rattle.tt.specs.Building.{alone}
 
 -- its tokens, one after the other
 unfoldable pub items : Tokens → List TokenTree
 items t = t.records.now
 
--- the first token, where it is the head of a group, and those behind it
+-- the first token, where it is the head of a group, and those after it
 abbrev pub head_in : List TokenTree → Option (Subtree × List TokenTree)
 head_in (token.Subtree s ∷ more) = Some (s, more)
 head_in _ = None
@@ -45,7 +45,7 @@ abbrev pub as_head : TokenTree → Option Subtree
 as_head (token.Subtree s) = Some s
 as_head (token.Leaf l) = None
 
--- the head of a group that stands at a place, where one does
+-- the head of a group that begins at a place, where one does
 abbrev pub head_at : List TokenTree → ℕ → Option Subtree
 head_at tokens at = option_and_then as_head (slice_get tokens at)
 

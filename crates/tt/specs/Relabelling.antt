@@ -15,11 +15,11 @@ abbrev pub renamed : List (ℕ × ℕ) → ℕ → ℕ
 renamed [] a = a
 renamed (e ∷ more) a = if nat_eq e.0 a then e.1 else renamed more a
 
--- a place with its anchor changed by h
+-- a span with its anchor changed by h
 abbrev pub anchor_with : (ℕ → ℕ) → Span → Span
 anchor_with h s = record { range = s.range; anchor = h s.anchor; ctx = s.ctx }
 
--- a tree with the anchor of each place changed by h, those of its own brackets too
+-- a tree with the anchor of each span changed by h, those of its own brackets too
 abbrev pub relabelled : (ℕ → ℕ) → Top → Top
 relabelled h t = record { delimiter = delimiter_with (anchor_with h) t.delimiter; inner = map_spans (anchor_with h) t.inner }
 

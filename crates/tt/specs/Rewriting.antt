@@ -8,8 +8,8 @@ use Rattle.tt_data.specs.declared.leaf.Leaf.{Leaf}
 use Rattle.tt_data.specs.declared.tree.TokenTree.{TokenTree}
 use Rattle.tt_data.specs.declared.tree.TokenTree.TheVariants as token
 use Rattle.tt_data.specs.Forest.{Forest, empty, leaf, group, joined, size, head_of}
-use Rattle.tt.specs.declared.transform.TransformTtAction.{TransformTtAction}
-use Rattle.tt.specs.declared.transform.TransformTtAction.TheVariants.{Keep, ReplaceWith}
+use Rattle.tt.specs.declared.top_subtree.transform.TransformTtAction.{TransformTtAction}
+use Rattle.tt.specs.declared.top_subtree.transform.TransformTtAction.TheVariants.{Keep, ReplaceWith}
 use Rattle.tt.specs.Building.{Building, pushed, extended, opened}
 use Rattle.tt.specs.Tops.{Top, forest_of_top}
 use Rattle.tt.specs.Views.{forest}

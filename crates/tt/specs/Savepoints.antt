@@ -1,7 +1,7 @@
 -- Points of a walk.
 use Rattle.tt_data.specs.Forest.{Forest}
 use Rattle.tt.specs.Views.{forest}
-use Rattle.tt.specs.declared.savepoint.TtIterSavepoint.{TtIterSavepoint}
+use Rattle.tt.specs.declared.iter.savepoint.TtIterSavepoint.{TtIterSavepoint}
 
 -- the trees that were left at a point
 abbrev pub left_at : TtIterSavepoint → Forest

@@ -26,7 +26,7 @@ module _ (p : TtElement → Bool) where
   until_separator (group d inner rest) =
       if p (element.Subtree (record { delimiter = d; len = size inner }) inner) then empty else group d inner (until_separator rest)
 
-  -- the trees behind the first separator, where there is one
+  -- the trees after the first separator, where there is one
   abbrev pub behind_separator : Forest → Option Forest
   behind_separator empty = None
   behind_separator (leaf l rest) = if p (element.Leaf l) then Some rest else behind_separator rest
@@ -54,7 +54,7 @@ module _ {F : Type 0} (g : Mut F (TtElement × Unit {0}) Bool) where
   abbrev pub Refuses : F → Forest → F → Type 0
   Refuses test f after = FoldsTo (λ (q : F) (t : TtElement) (q' : F). Called g q (t, tt) false q') test (elements f) after
 
-  -- and then it was true of the tree behind them, where any are left
+  -- and then it was true of the tree after them, where any are left
   abbrev pub IsAsked : Forest → F → Forest → Option Forest → F → Type 0
   IsAsked f test piece None after = (f ≡ piece) × Refuses test piece after
   IsAsked f test piece (Some more) after =

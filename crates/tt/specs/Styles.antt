@@ -16,7 +16,7 @@ touches_in Pretty = touches_pretty
 abbrev pub space_if : Bool → List ℕ
 space_if spaced = if spaced then codes " " else []
 
--- what stands before a token behind these steps, with this before their own first: the same where they have no token
+-- what comes before a token after these steps, with this before their own first: the same where they have no token
 abbrev pub space_behind : (Spacing → Bool) → List ℕ → List Step → List ℕ
 space_behind touches space [] = space
 space_behind touches space (at_leaf l ∷ more) = space_behind touches (space_after touches l) more

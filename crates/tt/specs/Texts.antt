@@ -36,12 +36,12 @@ touches_pretty Joint = true
 touches_pretty JointHidden = false
 
 module _ (touches : Spacing → Bool) where
-  -- what stands between a leaf and the token after it: a space, or nothing
+  -- what comes between a leaf and the token after it: a space, or nothing
   abbrev pub space_after : Leaf → List ℕ
   space_after (as_leaf.Punct p) = if touches p.spacing then [] else codes " "
   space_after l = codes " "
 
-  -- the text of the steps of a walk, with this before the first token; nothing stands right inside brackets, a space behind them, and invisible ones are no tokens
+  -- the text of the steps of a walk, with this before the first token; nothing comes right inside brackets, a space after them, and invisible ones are no tokens
   abbrev pub text_after : List ℕ → List Step → List ℕ
   text_after space [] = []
   text_after space (at_leaf l ∷ more) = space ++ (displayed_leaf l ++ text_after (space_after l) more)

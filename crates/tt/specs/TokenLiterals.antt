@@ -6,22 +6,22 @@ use Rattle.tt_data.specs.declared.leaf.LitKind.{LitKind}
 use Rattle.tt_data.specs.declared.leaf.Literal.{Literal}
 use Rattle.tt_data.specs.declared.span.Span.{Span}
 
--- what stands before the text of a literal: letters, hashes and a quote
+-- what comes before the text of a literal: letters, hashes and a quote
 abbrev pub form_begin : LitKind → List ℕ
 form_begin form = form_letters form ++ form_hashes form ++ form_quote form
 
--- what stands behind its text: a quote and hashes
+-- what comes after its text: a quote and hashes
 abbrev pub form_end : LitKind → List ℕ
 form_end form = form_quote form ++ form_hashes form
 
--- a token begins and ends as a literal of this form does, and what is behind the byte at this place is its suffix
+-- a token begins and ends as a literal of this form does, and what is after the byte at this place is its suffix
 pub record IsLiteralToken (form : LitKind) (suffix_start : ℕ) (token : List ℕ) : Type 0 where
   pub text : List ℕ
   pub suffix : List ℕ
   pub is : token ≡ form_begin form ++ (text ++ (form_end form ++ suffix))
   pub starts : suffix_start ≡ length (form_begin form ++ (text ++ form_end form))
 
--- what stands in a token between what a literal begins and ends with, where the suffix starts at a place
+-- what is in a token between what a literal begins and ends with, where the suffix starts at a place
 abbrev pub inside_of : LitKind → ℕ → List ℕ → List ℕ
 inside_of form suffix_start token = take (suffix_start - length (form_begin form) - length (form_end form)) (drop (length (form_begin form)) token)
 

@@ -44,7 +44,7 @@ abbrev pub is_leaf : Option TokenTree → Bool
 is_leaf (Some (token.Leaf l)) = true
 is_leaf found = false
 
--- whether a leaf stands at this place of a flat list
+-- whether a leaf is at this place of a flat list
 abbrev pub has_leaf_at : ℕ → List TokenTree → Bool
 has_leaf_at n tokens = is_leaf (slice_get tokens n)
 

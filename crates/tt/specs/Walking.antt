@@ -1,10 +1,10 @@
--- Where a walk that rewrites trees stands, and what a step of it does.
+-- Where a walk that rewrites trees is, and what a step of it does.
 use Rattle.std.specs.Prelude.{◌≡◌, List, ◌∷◌, reverse, is_none, if◌then◌else◌}
 use Rattle.tt_data.specs.declared.span.Span.{Span}
 use Rattle.tt_data.specs.declared.tree.Subtree.{Subtree}
 use Rattle.tt_data.specs.Forest.{Forest}
-use Rattle.tt.specs.declared.transform.Around.{Around}
-use Rattle.tt.specs.declared.transform.Walk.{Walk}
+use Rattle.tt.specs.declared.top_subtree.transform.Around.{Around}
+use Rattle.tt.specs.declared.top_subtree.transform.Walk.{Walk}
 use Rattle.tt.specs.Building.{Building, closed}
 use Rattle.tt.specs.Rewriting.{Call, with_answer}
 

@@ -1,4 +1,7 @@
 //! A place in a list of trees that walks through it, leaf by leaf and bracket by bracket.
+//!
+//! A `Cursor` goes into groups and out of them again, where a `TtIter` passes a group as one tree. Its contracts
+//! see it as a place among trees: those before it, those after it, and the groups around it.
 ghost use Rattle.tt.specs.CursorTokens.{BeginsListOf, IsNextOut, Reaches};
 ghost use Rattle.tt.specs.Places.{two_leaves};
 ghost use Rattle.tt.specs.Records.{items, as_head};
@@ -6,7 +9,7 @@ ghost use Rattle.tt.specs.Views.{forest};
 ghost use Rattle.tt_data.specs.declared.tree.TokenTree.{TokenTree};
 ghost use Rattle.std.specs.Prelude.{◌≡◌, ◌≢◌, ⊤, IsTrue, ◌↔◌, ◌+◌, ◌<◌, ◌≤◌, ◌++◌, ◌∷◌, ℕ, List, length, [], Some, IsNone};
 
-use crate::records::Tokens;
+use crate::storage::Tokens;
 use crate::view::TokenTreesView;
 use arrayvec::ArrayVec;
 use std::alloc::AllocError;
@@ -61,7 +64,7 @@ impl<'a> Clone for Cursor<'a> {
     }
 }
 
-// The same places once more.
+// A clone of the nearest places.
 fn copied(nearest: &ArrayVec<usize, NEAREST>) -> ArrayVec<usize, NEAREST>
     ensures { result ≡ nearest.now }
 {
@@ -116,7 +119,7 @@ fn list_around(tokens: Tokens<'_>, head: usize) -> usize
     0
 }
 
-// The same, where the last of the nearest places, if there are any, is that one, which goes.
+// `list_around`, from the last of the nearest places, which is taken out, where there are any.
 fn next_out(nearest: &mut ArrayVec<usize, NEAREST>, tokens: Tokens<'_>, head: usize) -> usize
     requires { head ≤ length (items tokens) }
     ensures { IsNextOut (items tokens.entry) head nearest.old.items nearest.new.items result }
@@ -249,5 +252,16 @@ impl<'a> Cursor<'a> {
     {
         let (before, _) = self.tokens.split_at(self.at);
         TokenTreesView { tokens: before }
+    }
+}
+
+impl<'a> TokenTreesView<'a> {
+    ghost use Rattle.tt.specs.Places.{beginning};
+
+    /// A place in the list, before the first tree.
+    pub fn cursor(&self) -> Cursor<'a>
+        ensures { result ≡ beginning (forest self.now) }
+    {
+        Cursor::new(*self)
     }
 }

@@ -10,7 +10,7 @@ ghost use Rattle.tt.specs.Texts.{opening_text, closing_text, space_after, text_a
 ghost use Rattle.tt.specs.Views.{forest};
 
 use crate::iter::{TtElement, TtIter};
-use crate::top::TopSubtree;
+use crate::top_subtree::TopSubtree;
 use crate::view::{SubtreeView, TokenTreesView};
 use std::alloc::Global;
 use std::fmt::{self, Display};
@@ -73,7 +73,7 @@ impl fmt::Display for Prettily<'_> {
 }
 
 /// The text of these trees: their tokens with a space between two of them, but none right inside
-/// brackets and none behind a `Joint` punct. Invisible brackets are no tokens.
+/// brackets and none after a `Joint` punct. Invisible brackets are no tokens.
 ///
 /// `Memory` is its only error.
 pub fn pretty(alloc: Global, tkns: TokenTreesView<'_>) -> Result<String, TtFault>
@@ -96,8 +96,8 @@ fn write_all<W: fmt::Write>(
     write_trees(trees.iter(), style, &mut spaced, f)
 }
 
-// Writes the text of these trees behind a token: `spaced` is whether a space stands before the first
-// token of theirs, and then whether one stands before the next.
+// Writes the text of these trees after a token: `spaced` is whether a space comes before the first
+// token of theirs, and then whether one comes before the next.
 fn write_trees<W: fmt::Write>(
     trees: TtIter<'_>,
     style: Style,
@@ -158,7 +158,7 @@ fn space_if(spaced: bool) -> &'static str
     if spaced { " " } else { "" }
 }
 
-// Whether a space stands between a leaf and the token after it.
+// Whether a space comes between a leaf and the token after it.
 fn is_spaced(leaf: &Leaf, style: Style) -> bool
     ensures { space_if result ≡ space_after (touches_in style) leaf.now }
 {

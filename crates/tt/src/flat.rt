@@ -1,5 +1,5 @@
 //! The tokens of a list of trees, one by one.
-use crate::records::Tokens;
+use crate::storage::Tokens;
 use std::marker::Model;
 use tt_data::TokenTree;
 

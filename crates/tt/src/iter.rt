@@ -1,14 +1,22 @@
 //! Walks over a list of trees, tree by tree.
+//!
+//! A `TtIter` is before the trees that are left, and its contracts see it as the list of those. It gives each
+//! tree as a `TtElement`, and takes no memory. What a walk can be asked besides is in the modules below this one:
+//! the first tree where it is of a sort, what is expected next, and points of a walk.
 ghost use Rattle.std.specs.Prelude.{◌≡◌, ⊤, IsTrue, ◌↔◌};
 
-use crate::records::Tokens;
-use crate::tokens::same_leaf;
-use crate::view::TokenTreesView;
+pub(crate) mod expect;
+mod peek;
+mod savepoint;
+
+use crate::storage::{Tokens, same_leaf};
+use crate::view::{SubtreeView, TokenTreesView};
+pub use savepoint::TtIterSavepoint;
 use std::alloc::AllocError;
 use std::marker::Model;
 use tt_data::{Leaf, Span, Subtree, TokenTree};
 
-/// A walk over a list of trees. It stands before the trees that are left.
+/// A walk over a list of trees. It is before the trees that are left.
 #[derive(Debug, Drop)]
 pub struct TtIter<'a> {
     pub(crate) tokens: Tokens<'a>,
@@ -39,7 +47,7 @@ pub enum TtElement<'a> {
 impl<'a> TtElement<'a> {
     ghost use Rattle.tt.specs.Elements.{place_of};
 
-    /// The place where the tree begins: a group begins with its opening bracket.
+    /// The span of the tree's first token: of a group that of its opening bracket.
     pub fn first_span(&self) -> Span
         ensures { result ≡ place_of self.now }
     {
@@ -55,12 +63,12 @@ impl<'a> Clone for TtElement<'a> {
 
     ghost is_infallible = { λ _. ⊤ };
 
-    /// The same tree. It is never refused.
+    /// A clone of the tree. Memory is never refused.
     fn clone(&self) -> Result<TtElement<'a>, AllocError> {
         match self {
             TtElement::Leaf(leaf) => Ok(TtElement::Leaf(same_leaf(leaf))),
             TtElement::Subtree(subtree, inner) => {
-                Ok(TtElement::Subtree(*subtree, inner.remaining().iter()))
+                Ok(TtElement::Subtree(*subtree, inner.copied()))
             }
         }
     }
@@ -73,7 +81,7 @@ impl<'a> Clone for TtIter<'a> {
 
     /// A walk of its own over the trees that are left. It is never refused.
     fn clone(&self) -> Result<TtIter<'a>, AllocError> {
-        Ok(self.remaining().iter())
+        Ok(self.copied())
     }
 }
 
@@ -134,11 +142,22 @@ impl<'a> TtIter<'a> {
         }
     }
 
-    /// The place where the next tree begins: none where no trees are left.
+    /// The span of the next token: none where no trees are left.
     pub fn next_span(&self) -> Option<Span>
         ensures { result ≡ first_place self.now }
     {
         self.tokens.first_span()
+    }
+
+    /// A second walk over the trees that are left. Memory is never refused.
+    ///
+    /// Of a walk that is not borrowed write `TtIter::copied(&walk)`: there `walk.copied()` is `Iterator::copied`.
+    pub fn copied(&self) -> TtIter<'a>
+        ensures { result ≡ self.now }
+    {
+        TtIter {
+            tokens: self.tokens,
+        }
     }
 
     /// The trees that are left.
@@ -171,5 +190,29 @@ impl<'a> TtIter<'a> {
         let count = then.tokens.len() - self.tokens.len();
         let (passed, _) = then.tokens.split_at(count);
         TokenTreesView { tokens: passed }
+    }
+}
+
+impl<'a> TokenTreesView<'a> {
+    ghost use Rattle.tt.specs.Views.{forest};
+
+    /// A walk over the trees, before the first.
+    #[tactic(auto, unfolding(crate::specs::Views::forest))]
+    pub fn iter(&self) -> TtIter<'a>
+        ensures { result ≡ forest self.now }
+    {
+        let tokens = self.tokens;
+        TtIter { tokens }
+    }
+}
+
+impl<'a> SubtreeView<'a> {
+    ghost use Rattle.tt.specs.Views.{top_of};
+
+    /// A walk over the trees inside the group.
+    pub fn iter(&self) -> TtIter<'a>
+        ensures { result ≡ (top_of self.now).inner }
+    {
+        self.token_trees().iter()
     }
 }

@@ -1,4 +1,6 @@
-//! Laws of places and of trees under construction, for proofs above this crate. A call does nothing: it only states.
+//! Laws of places and of trees under construction, for proofs above this crate.
+//!
+//! A call does nothing: it only states. The function that calls it has the clauses of the law in its own proof.
 ghost use Rattle.std.specs.Prelude.{◌≡◌, ◌↔◌, ℕ, Bool, true, List, [], ◌∷◌, ◌+◌, length, map, nat_eq, Some, option_map};
 ghost use Rattle.std.specs.List.{IsDistinct, count_by, list_any};
 ghost use Rattle.std.specs.Option.{unwrap_or};
@@ -12,15 +14,15 @@ ghost use Rattle.tt.specs.Relabelling.{anchor_with, anchors_of, by_first_use, re
 ghost use Rattle.tt.specs.Tops.{Top, tokens_of};
 ghost use Rattle.tt_data.specs.Spans.{token_with};
 ghost use Rattle.tt.specs.declared.iter.TtElement.{TtElement};
-ghost use Rattle.tt.specs.declared.transform.TransformTtAction.{TransformTtAction};
+ghost use Rattle.tt.specs.declared.top_subtree.transform.TransformTtAction.{TransformTtAction};
 ghost use Rattle.tt.specs.declared.view.SubtreeView.{SubtreeView};
 ghost use Rattle.tt.specs.declared.view.TokenTreesView.{TokenTreesView};
 
 use crate::buffer::Cursor;
-use crate::builder::SubtreeBuilderRestorePoint;
 use crate::iter::{TtElement, TtIter};
-use crate::top::TopSubtree;
-use crate::transform::TransformTtAction;
+use crate::top_subtree::TopSubtree;
+use crate::top_subtree::builder::SubtreeBuilderRestorePoint;
+use crate::top_subtree::transform::TransformTtAction;
 use crate::view::{SubtreeView, TokenTreesView};
 
 /// A cursor goes over the walk of its list step by step: at the beginning all steps are after it,
@@ -32,7 +34,7 @@ pub fn walk_of_a_cursor()
     ensures done { (p : Place) → IsEnd p → steps_after p ≡ [] }
 {}
 
-/// A point of a builder stands as long as only leaves and groups come after it, and no group is
+/// A point of a builder is valid as long as only leaves and groups come after it, and no group is
 /// closed that was open there. The tree is cut back to what it was.
 pub fn points_stand()
     ensures { (b t : Building) → Reached b t → cut_back (point_of b) t ≡ Some b }
@@ -63,7 +65,7 @@ pub fn anchors_by_first_use()
     ensures all { (xs : List ℕ) (a : ℕ) → list_any (nat_eq a) xs ≡ true → list_any (nat_eq a) (by_first_use xs) ≡ true }
 {}
 
-/// Two trees are equal by `==` exactly where they are the same tree, places included.
+/// Two trees are equal by `==` exactly where they are the same tree, spans included.
 pub fn equal_trees()
     ensures { (a b : Top) → (⟦<TopSubtree as PartialEq>⟧.eq a b ≡ true) ↔ (a ≡ b) }
 {}

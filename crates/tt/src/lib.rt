@@ -2,39 +2,32 @@
 //!
 //! A list of trees is seen by every contract as its forest (`tt_data/specs/Forest.antt`), whatever
 //! borrows it: a view, an iterator's rest or a whole tree. No contract of these names a token's place;
-//! `set_token` takes one, and a builder's contracts tell that of the group that was closed last.
+//! `set_token` takes one, and a builder's contracts give that of the group that was closed last.
 //! `specs/Building.antt` says what a tree under construction is.
 #![tactic(auto)]
 
-mod buffer;
-mod builder;
+pub mod buffer;
 mod display;
-mod expect;
-mod first_trees;
 mod flat;
-mod iter;
+mod flatten;
+pub mod iter;
 pub mod laws;
 mod literals;
-mod records;
-mod relabel;
-mod savepoint;
 mod split;
-mod tokens;
-mod top;
-mod transform;
+mod storage;
+mod top_subtree;
 mod view;
 
 pub use buffer::Cursor;
-pub use builder::{ExpectedDelimiters, SubtreeBuilderRestorePoint, TopSubtreeBuilder};
 pub use display::pretty;
-pub use expect::MAX_GLUED_PUNCT_LEN;
 pub use flat::FlatTokens;
-pub use iter::{TtElement, TtIter};
+pub use iter::expect::MAX_GLUED_PUNCT_LEN;
+pub use iter::{TtElement, TtIter, TtIterSavepoint};
 pub use literals::{literal_parts, token_to_literal};
-pub use savepoint::TtIterSavepoint;
 pub use split::Split;
-pub use top::TopSubtree;
-pub use transform::{TransformTtAction, transform_tt};
+pub use top_subtree::TopSubtree;
+pub use top_subtree::builder::{ExpectedDelimiters, SubtreeBuilderRestorePoint, TopSubtreeBuilder};
+pub use top_subtree::transform::{TransformTtAction, transform_tt};
 pub use tt_data::{
     DelimSpan, Delimiter, DelimiterKind, Edition, Ident, IdentIsRaw, Leaf, Lit, LitKind, Literal,
     Punct, Spacing, Span, Subtree, Symbol, SyntaxContext, TextRange, TextSize, TokenTree, TtFault,

@@ -7,7 +7,7 @@ ghost use Rattle.tt_data.specs.fault.TtFault.TheVariants.{Memory};
 use std::alloc::Global;
 use tt_data::{LitKind, Literal, Span, TtFault};
 
-// How many bytes of letters, hashes and a quote stand before the text.
+// How many bytes of letters, hashes and a quote come before the text.
 fn begin_len(kind: LitKind) -> usize
     ensures { result ≡ length (form_begin kind) }
 {
@@ -20,7 +20,7 @@ fn begin_len(kind: LitKind) -> usize
     }
 }
 
-// How many bytes of a quote and hashes stand behind the text.
+// How many bytes of a quote and hashes come after the text.
 fn end_len(kind: LitKind) -> usize
     ensures { result ≡ length (form_end kind) }
 {
@@ -33,7 +33,7 @@ fn end_len(kind: LitKind) -> usize
     }
 }
 
-/// What stands between the quotes of the literal that the whole token `text` is, and its suffix, which
+/// The text between the quotes of the literal that the whole token `text` is, and its suffix, which
 /// starts at the byte `suffix_start`. Of a number, and of what was no literal, it is all before the suffix.
 pub fn literal_parts(text: &str, kind: LitKind, suffix_start: u32) -> (&str, &str)
     requires boundary { IsCharBoundary text.now suffix_start }
@@ -46,7 +46,7 @@ pub fn literal_parts(text: &str, kind: LitKind, suffix_start: u32) -> (&str, &st
     (inside, &text[start..])
 }
 
-/// The literal that the whole token `text` is: what stands between its quotes, and the suffix, which
+/// The literal that the whole token `text` is: the text between its quotes, and the suffix, which
 /// starts at the byte `suffix_start`. A number, and what was no literal, has all before its suffix
 /// as its text.
 ///

@@ -28,7 +28,7 @@ impl<'a> TokenTreesView<'a> {
     }
 }
 
-// The trees before the first for which the test is true, and what is behind it: none where there is no such tree.
+// The trees before the first for which the test is true, and what is after it: none where there is no such tree.
 fn cut<'a, F: FnMut(TtElement<'a>) -> bool>(
     trees: TtIter<'a>,
     test: &mut F,

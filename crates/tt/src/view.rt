@@ -4,10 +4,8 @@ ghost use Rattle.tt_data.specs.Forest.{IsPreorder, forest_of};
 ghost use Rattle.tt.specs.Records.{items};
 ghost use Rattle.tt.specs.Groups.{is_one_group};
 
-use crate::buffer::Cursor;
 use crate::flat::FlatTokens;
-use crate::iter::TtIter;
-use crate::records::Tokens;
+use crate::storage::Tokens;
 use tt_data::{DelimiterKind, Span, Subtree, TokenTree};
 
 /// A list of trees.
@@ -23,7 +21,6 @@ impl<'a> TokenTreesView<'a> {
     ghost use Rattle.tt.specs.Elements.{first_place, last_place};
     ghost use Rattle.tt.specs.Groups.{stripped};
     ghost use Rattle.tt.specs.Tops.{only_group};
-    ghost use Rattle.tt.specs.Places.{beginning};
     ghost use Rattle.tt.specs.Views.{forest, top_of};
 
     /// The list without trees.
@@ -34,22 +31,6 @@ impl<'a> TokenTreesView<'a> {
         TokenTreesView {
             tokens: Tokens::empty(),
         }
-    }
-
-    /// A walk over the trees, before the first.
-    #[tactic(auto, unfolding(crate::specs::Views::forest))]
-    pub fn iter(&self) -> TtIter<'a>
-        ensures { result ≡ forest self.now }
-    {
-        let tokens = self.tokens;
-        TtIter { tokens }
-    }
-
-    /// A place in the list, before the first tree.
-    pub fn cursor(&self) -> Cursor<'a>
-        ensures { result ≡ beginning (forest self.now) }
-    {
-        Cursor::new(*self)
     }
 
     /// A walk over all tokens, each group's head before what it has inside.
@@ -74,22 +55,24 @@ impl<'a> TokenTreesView<'a> {
     }
 
     /// Whether there are no trees.
+    #[tactic(auto, unfolding(crate::specs::Views::forest))]
     pub fn is_empty(&self) -> bool
         ensures { IsTrue result ↔ (forest self.now ≡ empty) }
     {
-        self.iter().is_empty()
+        self.tokens.is_empty()
     }
 
-    /// The place where the first tree begins: none where there are no trees.
+    /// The span of the first token: none where there are no trees.
+    #[tactic(auto, unfolding(crate::specs::Views::forest))]
     pub fn first_span(&self) -> Option<Span>
         ensures { result ≡ first_place (forest self.now) }
     {
-        self.iter().next_span()
+        self.tokens.first_span()
     }
 
-    /// The place of the last of all tokens: none where there are no trees.
+    /// The span of the last of all tokens: none where there are no trees.
     ///
-    /// A leaf has its own place, and a group, which is last where nothing is inside, that of its
+    /// A leaf has its own span, and a group, which is last where nothing is inside, that of its
     /// closing bracket.
     #[tactic(auto, unfolding(crate::specs::Views::forest))]
     pub fn last_span(&self) -> Option<Span>
@@ -165,13 +148,6 @@ impl<'a> SubtreeView<'a> {
             Some((_, inside)) => TokenTreesView { tokens: inside },
             None => unreachable!(),
         }
-    }
-
-    /// A walk over the trees inside the group.
-    pub fn iter(&self) -> TtIter<'a>
-        ensures { result ≡ (top_of self.now).inner }
-    {
-        self.token_trees().iter()
     }
 
     /// The head of the group: its brackets, and how many tokens are inside.

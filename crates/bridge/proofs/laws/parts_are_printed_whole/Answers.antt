@@ -1,4 +1,4 @@
-use Rattle.bridge.proofs.PrintedPartLemmas.{whole_part}
+use Rattle.bridge.proofs.PrintedChunkLemmas.{whole_part}
 use Rattle.bridge.proofs.laws.parts_are_printed_whole.Goals as goal
 
 pub returns : goal.returns

@@ -7,6 +7,6 @@ returns-clause-leaves c = λ text at t more l u fits here read.
     (c.token_shapes.ensures.bytes text at t here) (c.suffix_starts.ensures.within text at t here) (c.suffix_starts.ensures.boundary text at t u here) read
 
 pub returns-clause-names : goal.returns-clause-names
-returns-clause-names c = λ text at t span u fits here sort.
+returns-clause-names c = λ text at t span u fits here class.
     name_has_spelling text at t span u fits here c.token_lengths.ensures.whole c.one_identifier.ensures (c.name_of_a_lifetime.ensures text at t here)
-    (c.token_shapes.ensures.bytes text at t here) (c.suffix_starts.ensures.within text at t here) (c.suffix_starts.ensures.boundary text at t u here) sort
+    (c.token_shapes.ensures.bytes text at t here) (c.suffix_starts.ensures.within text at t here) (c.suffix_starts.ensures.boundary text at t u here) class

@@ -22,14 +22,14 @@ returns-in_err-add_trees-in_default c = record {
   refused =
       handed_on c.from_residual-in_err-add_trees-in_default.result _ _ c.from_residual-in_err-add_trees-in_default.ensures.1
       (λ t after same at follows.
-      let plain = plain_at c.args.sort t after _ _ _ same at follows c.in_default.not-Opening c.in_default.not-Closing c.in_default.not-Neither in
+      let plain = plain_at c.args.class t after _ _ _ same at follows c.in_default.not-Opening c.in_default.not-Closing c.in_default.not-Neither in
       refuses_trees c.args.builder.now.tree _ _ _ plain c.in_err-add_trees-in_default.ensures.refused);
 }
 
 pub returns-in_ok-add_trees-in_default : goal.returns-in_ok-add_trees-in_default
 returns-in_ok-add_trees-in_default c = record {
   takes = λ t after same at follows.
-      let plain = plain_at c.args.sort t after _ _ _ same at follows c.in_default.not-Opening c.in_default.not-Closing c.in_default.not-Neither in
+      let plain = plain_at c.args.class t after _ _ _ same at follows c.in_default.not-Opening c.in_default.not-Closing c.in_default.not-Neither in
       takes_trees c.args.builder.now.tree c.add_trees.new.builder.tree _ _ plain c.in_ok-add_trees-in_default.ensures.ok;
   refused = tt;
 }

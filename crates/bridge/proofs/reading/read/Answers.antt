@@ -1,7 +1,7 @@
 -- All tokens are a part of the text.
 use Rattle.std.proofs.Common.{sym, subst}
 use Rattle.std.specs.Prelude.{IfErr, IfOk}
-use Rattle.rustc_lexer.specs.Standing.{AreTokensFrom}
+use Rattle.rustc_lexer.specs.TokensAt.{AreTokensFrom}
 use Rattle.bridge.specs.ReadText.{IsRead, IsReadRefusal}
 use Rattle.bridge.proofs.PartLemmas.{whole_text}
 use Rattle.bridge.proofs.reading.read.Goals as goal

@@ -1,4 +1,4 @@
-use Rattle.rustc_lexer.specs.Standing.{AreTokensFrom}
+use Rattle.rustc_lexer.specs.TokensAt.{AreTokensFrom}
 use Rattle.bridge.specs.Parts.{part_steps}
 use Rattle.bridge.proofs.ReadTokensLemmas.{IsReadSoFar}
 use Rattle.bridge.proofs.reading.read_first.Given as goal

@@ -1,4 +1,4 @@
-use Rattle.rustc_lexer.specs.Standing.{AreTokensFrom}
+use Rattle.rustc_lexer.specs.TokensAt.{AreTokensFrom}
 use Rattle.bridge_tests.proofs.texts.after_first.Given as goal
 
 abbrev pub invariant-loop-left : goal.invariant-loop-left

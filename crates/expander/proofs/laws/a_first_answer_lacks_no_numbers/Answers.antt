@@ -1,4 +1,4 @@
-use Rattle.expander.proofs.DefinitionCountLemmas.{first_has_numbers}
+use Rattle.expander_session.proofs.DefinitionCountLemmas.{first_has_numbers}
 use Rattle.expander.proofs.laws.a_first_answer_lacks_no_numbers.Goals as goal
 
 pub returns : goal.returns

@@ -1,7 +1,7 @@
 use Rattle.expander.proofs.FoundAgainLemmas.{others_count, others_replied, piece_does_not_count}
-use Rattle.expander.proofs.ReadPlaceLemmas.{OrderLaws}
-use Rattle.expander.proofs.WholeTurnLemmas.{TurnLaws}
-use Rattle.expander.proofs.WorldLemmas.{RuleLaws}
+use Rattle.expander_session.proofs.ReadPlaceLemmas.{OrderLaws}
+use Rattle.expander_session.proofs.WholeTurnLemmas.{TurnLaws}
+use Rattle.expander_session.proofs.WorldLemmas.{RuleLaws}
 use Rattle.expander.proofs.laws.a_piece_that_finds_as_before_does_not_count.Goals as goal
 
 pub returns-clause-piece : goal.returns-clause-piece

@@ -1,6 +1,6 @@
-use Rattle.expander.proofs.ReadPlaceLemmas.{OrderLaws}
-use Rattle.expander.proofs.WholeTurnLemmas.{TurnLaws, counted, held_rightly, looked_is, taken}
-use Rattle.expander.proofs.WorldLemmas.{RuleLaws}
+use Rattle.expander_session.proofs.ReadPlaceLemmas.{OrderLaws}
+use Rattle.expander_session.proofs.WholeTurnLemmas.{TurnLaws, counted, held_rightly, looked_is, taken}
+use Rattle.expander_session.proofs.WorldLemmas.{RuleLaws}
 use Rattle.expander.proofs.laws.a_text_over_what_is_held.Goals as goal
 
 pub returns-clause-taken : goal.returns-clause-taken

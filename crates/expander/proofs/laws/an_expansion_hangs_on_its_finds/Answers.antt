@@ -1,5 +1,5 @@
-use Rattle.expander.proofs.AgreementLemmas.{same_expansion}
-use Rattle.expander.proofs.FindsLemmas.{expansion_by_finds, expansion_found}
+use Rattle.expander_session.proofs.AgreementLemmas.{same_expansion}
+use Rattle.expander_session.proofs.FindsLemmas.{expansion_by_finds, expansion_found}
 use Rattle.expander.proofs.laws.an_expansion_hangs_on_its_finds.Goals as goal
 
 pub returns-clause-agreed : goal.returns-clause-agreed

@@ -1,6 +1,6 @@
 use Rattle.std.proofs.Common.{[]}
-use Rattle.expander.specs.Pieces.{pieces}
-use Rattle.expander.proofs.TreeLemmas.{trees_of_members}
+use Rattle.expander_model.specs.Pieces.{pieces}
+use Rattle.expander_session.proofs.TreeLemmas.{trees_of_members}
 use Rattle.expander.proofs.laws.definitions_are_pieces.Goals as goal
 
 pub returns : goal.returns

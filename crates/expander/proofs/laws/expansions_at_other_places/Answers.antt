@@ -1,5 +1,5 @@
-use Rattle.expander.proofs.DefinitionPlaceLemmas.{definition_of-with}
-use Rattle.expander.proofs.WorldLemmas.{RuleLaws, expansion_there}
+use Rattle.expander_scope.proofs.DefinitionPlaceLemmas.{definition_of-with}
+use Rattle.expander_session.proofs.WorldLemmas.{RuleLaws, expansion_there}
 use Rattle.expander.proofs.laws.expansions_at_other_places.Goals as goal
 
 pub returns-clause-definitions : goal.returns-clause-definitions

@@ -1,4 +1,4 @@
-use Rattle.expander.proofs.SortLemmas.{in_order-same, in_order-is_sorted}
+use Rattle.expander_model.proofs.SortLemmas.{in_order-same, in_order-is_sorted}
 use Rattle.expander.proofs.laws.faults_are_put_in_order.Goals as goal
 
 pub returns-clause-same : goal.returns-clause-same

@@ -1,4 +1,4 @@
-use Rattle.expander.proofs.NumberLemmas.{all_known, given_are, numbers_stay, tells_apart, with_trees_are}
+use Rattle.expander_session.proofs.NumberLemmas.{all_known, given_are, numbers_stay, tells_apart, with_trees_are}
 use Rattle.expander.proofs.laws.numbers_tell_trees_apart.Goals as goal
 
 pub returns-clause-apart : goal.returns-clause-apart

@@ -1,4 +1,4 @@
-use Rattle.expander.proofs.CuttingLemmas.{put_together-cut, cut_alone}
+use Rattle.expander_model.proofs.SplittingLemmas.{put_together-cut, cut_alone}
 use Rattle.expander.proofs.PieceEndLemmas.{ends_within, only_pieces, piece_ended}
 use Rattle.expander.proofs.laws.pieces_are_the_list.Goals as goal
 

@@ -1,7 +1,7 @@
-use Rattle.expander.proofs.ReadPlaceLemmas.{OrderLaws}
+use Rattle.expander_session.proofs.ReadPlaceLemmas.{OrderLaws}
 use Rattle.expander.proofs.SharedPieceLemmas.{all_is_behind, fronts_do_not_count}
-use Rattle.expander.proofs.WholeTurnLemmas.{TurnLaws}
-use Rattle.expander.proofs.WorldLemmas.{RuleLaws}
+use Rattle.expander_session.proofs.WholeTurnLemmas.{TurnLaws}
+use Rattle.expander_session.proofs.WorldLemmas.{RuleLaws}
 use Rattle.expander.proofs.laws.pieces_before_a_change_do_not_count.Goals as goal
 
 pub returns-clause-front : goal.returns-clause-front

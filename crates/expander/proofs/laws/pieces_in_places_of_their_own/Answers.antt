@@ -1,6 +1,6 @@
-use Rattle.expander.proofs.ReadPlaceLemmas.{OrderLaws}
-use Rattle.expander.proofs.TextPlaceLemmas.{text_members}
-use Rattle.expander.proofs.WorldLemmas.{RuleLaws}
+use Rattle.expander_session.proofs.ReadPlaceLemmas.{OrderLaws}
+use Rattle.expander_session.proofs.TextPlaceLemmas.{text_members}
+use Rattle.expander_session.proofs.WorldLemmas.{RuleLaws}
 use Rattle.expander.proofs.laws.pieces_in_places_of_their_own.Goals as goal
 
 pub returns : goal.returns

@@ -1,7 +1,7 @@
-use Rattle.expander.proofs.ReadPlaceLemmas.{OrderLaws}
+use Rattle.expander_session.proofs.ReadPlaceLemmas.{OrderLaws}
 use Rattle.expander.proofs.SharedPieceLemmas.{same_pieces_counted, same_pieces_replied}
-use Rattle.expander.proofs.WholeTurnLemmas.{TurnLaws}
-use Rattle.expander.proofs.WorldLemmas.{RuleLaws}
+use Rattle.expander_session.proofs.WholeTurnLemmas.{TurnLaws}
+use Rattle.expander_session.proofs.WorldLemmas.{RuleLaws}
 use Rattle.expander.proofs.laws.the_same_pieces_are_not_expanded_again.Goals as goal
 
 pub returns-clause-counted : goal.returns-clause-counted

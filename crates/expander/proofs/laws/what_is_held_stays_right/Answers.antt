@@ -1,7 +1,7 @@
-use Rattle.expander.proofs.KeptLemmas.{next_entries, next_held, next_turn}
-use Rattle.expander.proofs.ReadPlaceLemmas.{OrderLaws}
-use Rattle.expander.proofs.WholeTurnLemmas.{TurnLaws}
-use Rattle.expander.proofs.WorldLemmas.{RuleLaws}
+use Rattle.expander_session.proofs.KeptLemmas.{next_entries, next_held, next_turn}
+use Rattle.expander_session.proofs.ReadPlaceLemmas.{OrderLaws}
+use Rattle.expander_session.proofs.WholeTurnLemmas.{TurnLaws}
+use Rattle.expander_session.proofs.WorldLemmas.{RuleLaws}
 use Rattle.expander.proofs.laws.what_is_held_stays_right.Goals as goal
 
 pub returns-clause-turn : goal.returns-clause-turn

@@ -1,4 +1,4 @@
-use Rattle.rustc_lexer.proofs.StandingLemmas.{token_here, other_tokens}
+use Rattle.rustc_lexer.proofs.TokensAtLemmas.{token_here, other_tokens}
 use Rattle.rustc_lexer.proofs.laws.next_token.Goals as goal
 
 pub returns-clause-here : goal.returns-clause-here

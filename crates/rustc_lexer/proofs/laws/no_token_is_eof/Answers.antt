@@ -1,4 +1,4 @@
-use Rattle.rustc_lexer.proofs.StandingLemmas.{no_token_is_eof}
+use Rattle.rustc_lexer.proofs.TokensAtLemmas.{no_token_is_eof}
 use Rattle.rustc_lexer.proofs.laws.no_token_is_eof.Goals as goal
 
 pub returns : goal.returns

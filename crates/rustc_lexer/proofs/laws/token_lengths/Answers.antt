@@ -1,4 +1,4 @@
-use Rattle.rustc_lexer.proofs.StandingLemmas.{lengths_positive, token_places, lengths_whole}
+use Rattle.rustc_lexer.proofs.TokensAtLemmas.{lengths_positive, token_places, lengths_whole}
 use Rattle.rustc_lexer.proofs.laws.token_lengths.Goals as goal
 
 pub returns-clause-positive : goal.returns-clause-positive

@@ -1,4 +1,4 @@
-use Rattle.rustc_lexer.proofs.StandingLemmas.{tokens_begin}
+use Rattle.rustc_lexer.proofs.TokensAtLemmas.{tokens_begin}
 use Rattle.rustc_lexer.proofs.laws.tokens_begin.Goals as goal
 
 pub returns : goal.returns

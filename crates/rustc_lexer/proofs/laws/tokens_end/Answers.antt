@@ -1,4 +1,4 @@
-use Rattle.rustc_lexer.proofs.StandingLemmas.{tokens_end}
+use Rattle.rustc_lexer.proofs.TokensAtLemmas.{tokens_end}
 use Rattle.rustc_lexer.proofs.laws.tokens_end.Goals as goal
 
 pub returns : goal.returns

@@ -2,7 +2,7 @@ use Rattle.std.proofs.Common.{◌≡◌, ◌∙◌, ap, sym, subst, chars, refl}
 use Rattle.std.specs.List.{prefix_len}
 use Rattle.rustc_lexer.specs.Character.{is, is_digit, is_hex_digit}
 use Rattle.rustc_lexer.specs.Numbers.{digit_of, run}
-use Rattle.rustc_lexer.specs.Stretch.{IsRead}
+use Rattle.rustc_lexer.specs.Scanned.{IsRead}
 use Rattle.rustc_lexer.specs.declared.token.Base.{Base}
 use Rattle.rustc_lexer.specs.declared.token.Base.TheVariants.{Binary, Octal, Decimal, Hexadecimal}
 use Rattle.rustc_lexer.proofs.RunLemmas.{first_of_drop}

@@ -1,7 +1,7 @@
 use Rattle.std.proofs.Common.{◌≡◌, ◌+◌, true, false, ◌&&◌, ◌∙◌, sym, ap, subst, chars, drop, rules}
 use Rattle.std.proofs.lemmas.List.{drop-drop}
 use Rattle.rustc_lexer.specs.Character.{char_at, begins, is_id_start, continues}
-use Rattle.rustc_lexer.specs.Stretch.{IsRead}
+use Rattle.rustc_lexer.specs.Scanned.{IsRead}
 use Rattle.rustc_lexer.specs.declared.token.TokenKind.TheVariants.{Lifetime}
 use Rattle.rustc_lexer.proofs.ReadLemmas.{two_behind, three_behind, retold}
 use Rattle.rustc_lexer.proofs.LifetimeLemmas.{raw_lifetime, one_letter, name_rest, unknown_prefix, plain_lifetime, is_numbered, mark_of}

@@ -21,7 +21,7 @@ binding-ty-requires t c =
 
 pub bound-tpath-requires : goal.bound-tpath-requires
 bound-tpath-requires t c = (
-  let s = maybe_shorter (single "?") c.args.trees.now c.again.result c.unwrap_or.result c.punct.result c.punct.ensures c.again.ensures c.unwrap_or.ensures in
+  let s = maybe_shorter (single "?") c.args.trees.now c.copied.result c.unwrap_or.result c.punct.result c.punct.ensures c.copied.ensures c.unwrap_or.ensures in
       omega (arith, s, c.decreases),
   tt,
 )
@@ -49,7 +49,7 @@ seg-arrow-requires t c =
 
 pub tpath-seg-requires : goal.tpath-seg-requires
 tpath-seg-requires t c = (
-  let s = maybe_shorter (single "::") c.args.trees.now c.again.result c.unwrap_or.result c.two_puncts.result c.two_puncts.ensures c.again.ensures c.unwrap_or.ensures in
+  let s = maybe_shorter (single "::") c.args.trees.now c.copied.result c.unwrap_or.result c.two_puncts.result c.two_puncts.ensures c.copied.ensures c.unwrap_or.ensures in
       omega (arith, s, c.decreases),
   tt,
 )
@@ -57,7 +57,7 @@ tpath-seg-requires t c = (
 pub tpath-more_segs-requires : goal.tpath-more_segs-requires
 unfolding seg
 tpath-more_segs-requires t c = (
-  let s = maybe_shorter (single "::") c.args.trees.now c.again.result c.unwrap_or.result c.two_puncts.result c.two_puncts.ensures c.again.ensures c.unwrap_or.ensures in
+  let s = maybe_shorter (single "::") c.args.trees.now c.copied.result c.unwrap_or.result c.two_puncts.result c.two_puncts.ensures c.copied.ensures c.unwrap_or.ensures in
       let p = shorter seg c.unwrap_or.result c.in_ok-rest.rest (sym c.seg.ensures ∙ c.in_ok-rest.was) in
       omega (arith, s, p, c.decreases),
   tt,

@@ -1,6 +1,0 @@
-use Rattle.std.proofs.Common.{◌≡◌, take}
-use Rattle.bridge.specs.Places.{spans_in}
-use Rattle.bridge.proofs.places.copied.Given as goal
-
-abbrev pub invariant-loop-i : goal.invariant-loop-i
-invariant-loop-i l = l.spans.items ≡ take l.i (spans_in l.parts)

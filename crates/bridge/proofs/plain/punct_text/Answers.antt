@@ -1,5 +1,0 @@
-use Rattle.bridge.proofs.PlainLemmas.{marked}
-use Rattle.bridge.proofs.plain.punct_text.Goals as goal
-
-pub returns : goal.returns
-returns c = marked c.args.punct.now c.mark_text.result _ c.mark_text.ensures.text c.mark_text.ensures.mark

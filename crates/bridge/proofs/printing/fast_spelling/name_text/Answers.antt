@@ -1,0 +1,13 @@
+use Rattle.std.proofs.Common.{◌<◌, ◌^◌, ◌≡◌, ap, chars, length, refl, subst, sym, true, ◌∙◌, IsUtf8, Some}
+use Rattle.rustc_lexer.specs.Character.{is_ident}
+use Rattle.bridge.proofs.FastSpellingLemmas.{name_spelled}
+use Rattle.bridge.proofs.printing.fast_spelling.name_text.Goals as goal
+
+pub returns-then-is_ident : goal.returns-then-is_ident
+returns-then-is_ident c =
+    let i = c.args.ident.now in
+    let same = c.as_str-name.ensures in
+    let utf8 : IsUtf8 i.sym = subst IsUtf8 same c.as_str-name.utf8 in
+    let is : is_ident (chars i.sym) ≡ true = ap (λ t. is_ident (chars t)) (sym same) ∙ (sym c.is_ident.ensures ∙ c.if-is_ident.true) in
+    let short : length i.sym < 2 ^ 32 = subst (λ t. length t < 2 ^ 32) same (c.if-is_short.ensures.0 refl) in
+    name_spelled i (c.if-no.ensures.0 refl) utf8 short is (c.token_lengths.ensures.whole i.sym utf8) (c.one_identifier.ensures (chars i.sym) is) ∙ ap Some (sym same)

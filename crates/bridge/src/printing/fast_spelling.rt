@@ -1,0 +1,154 @@
+//! The fast path of spelling: leaves whose kind and text show how they are spelled, so that the text needs no lexing.
+ghost use Rattle.std.specs.Prelude.{◌≡◌, ◌↔◌, ◌<◌, ◌^◌, ◌∷◌, [], true, IfSome, IsTrue, Some, codes, length};
+ghost use Rattle.std.specs.List.{list_all};
+ghost use Rattle.bridge.specs.FastSpellings.{is_mark_char, is_plain_byte};
+ghost use Rattle.bridge.specs.Spelling.{is_plain_name, is_text_of, leaf_spelling};
+ghost use Rattle.rustc_lexer.specs.Character.{is_digit};
+ghost use Rattle.tt_data.specs.Displayed.{displayed_leaf};
+ghost use Rattle.tt_data.specs.declared.leaf.Leaf.TheVariants as as_leaf;
+
+use rustc_lexer::{is_ident, laws};
+use tt_data::{Ident, Leaf, LitKind, Literal, Punct};
+
+// Whether a text is no longer than a text may be that has tokens.
+fn is_short(text: &str) -> bool
+    ensures { IsTrue result ↔ (length text.now < 2 ^ 32) }
+{
+    text.len() <= u32::MAX as usize
+}
+
+// The text of a character that is a punct in a text, but for the quote.
+fn mark_text(char: char) -> Option<&'static str>
+    ensures text { IfSome result (λ t. t.now ≡ char ∷ []) }
+    ensures mark { IfSome result (λ t. is_mark_char char ≡ true) }
+{
+    match char {
+        ';' => Some(";"),
+        ',' => Some(","),
+        '.' => Some("."),
+        '@' => Some("@"),
+        '#' => Some("#"),
+        '~' => Some("~"),
+        '?' => Some("?"),
+        ':' => Some(":"),
+        '$' => Some("$"),
+        '=' => Some("="),
+        '!' => Some("!"),
+        '<' => Some("<"),
+        '>' => Some(">"),
+        '-' => Some("-"),
+        '&' => Some("&"),
+        '|' => Some("|"),
+        '+' => Some("+"),
+        '*' => Some("*"),
+        '/' => Some("/"),
+        '^' => Some("^"),
+        '%' => Some("%"),
+        _ => None,
+    }
+}
+
+fn punct_text(punct: &Punct) -> Option<&'static str>
+    ensures { IfSome result (λ t. leaf_spelling (as_leaf.Punct punct.now) ≡ Some t.now) }
+{
+    mark_text(punct.char)
+}
+
+// The name where it is not raw and an identifier.
+fn name_text(ident: &Ident) -> Option<&str>
+    ensures { IfSome result (λ t. leaf_spelling (as_leaf.Ident ident.now) ≡ Some t.now) }
+{
+    laws::token_lengths();
+    laws::one_identifier();
+    let name = ident.sym.as_str();
+    if ident.is_raw.no() && is_short(name) && is_ident(name) {
+        Some(name)
+    } else {
+        None
+    }
+}
+
+/// Whether the name is `$crate`.
+pub(crate) fn is_dollar_crate(ident: &Ident) -> bool
+    ensures { result ≡ is_plain_name (codes "$crate") ident.now }
+{
+    ident.is_raw.no() && ident.sym.as_str() == "$crate"
+}
+
+// How a name is spelled that is an identifier, or `$crate`, which is none.
+fn ident_text(ident: &Ident) -> Option<&str>
+    ensures { IfSome result (λ t. leaf_spelling (as_leaf.Ident ident.now) ≡ Some t.now) }
+{
+    let text = name_text(ident);
+    if text.is_none() && is_dollar_crate(ident) {
+        return Some("crate");
+    }
+    text
+}
+
+// Whether the text has digits alone.
+fn has_digits_alone(text: &str) -> bool
+    ensures { IsTrue result → list_all is_digit text.now ≡ true }
+{
+    for byte in text.as_bytes() {
+        if !byte.is_ascii_digit() {
+            return false;
+        }
+    }
+    true
+}
+
+// The text of a number that is a row of digits without a suffix.
+fn number_text(literal: &Literal) -> Option<&str>
+    ensures { IfSome result (λ t. leaf_spelling (as_leaf.Literal literal.now) ≡ Some t.now) }
+{
+    laws::token_lengths();
+    laws::one_number();
+    let (text, suffix) = literal.text_and_suffix();
+    if literal.kind() == LitKind::Integer
+        && suffix.is_empty()
+        && is_short(text)
+        && !text.is_empty()
+        && has_digits_alone(text)
+    {
+        Some(text)
+    } else {
+        None
+    }
+}
+
+// Whether the text is of ASCII, without a quote and without a `\`.
+fn stands_for_itself(text: &str) -> bool
+    ensures { IsTrue result → list_all is_plain_byte text.now ≡ true }
+{
+    for byte in text.as_bytes() {
+        if !byte.is_ascii() || *byte == b'"' || *byte == b'\\' {
+            return false;
+        }
+    }
+    true
+}
+
+/// Whether the literal is a string whose displayed text is seen to be one token.
+pub(crate) fn is_plain_string(literal: &Literal) -> bool
+    ensures { IsTrue result → is_text_of (as_leaf.Literal literal.now) (displayed_leaf (as_leaf.Literal literal.now)) ≡ true }
+{
+    laws::token_lengths();
+    laws::one_string();
+    let (text, suffix) = literal.text_and_suffix();
+    if literal.kind() == LitKind::Str && suffix.is_empty() && text.len() < u32::MAX as usize - 2 {
+        return stands_for_itself(text);
+    }
+    false
+}
+
+/// How the leaf is spelled, where its kind and its text show that.
+pub(crate) fn fast_spelling(leaf: &Leaf) -> Option<&str>
+    ensures { IfSome result (λ t. leaf_spelling leaf.now ≡ Some t.now) }
+{
+    match leaf {
+        Leaf::Ident(ident) => ident_text(ident),
+        Leaf::Punct(punct) => punct_text(punct),
+        Leaf::Literal(literal) => number_text(literal),
+    }
+}

@@ -1,0 +1,150 @@
+//! How a leaf is spelled: by its displayed text, where that is one token that is read as the leaf.
+ghost use Rattle.std.specs.Prelude.{◌≡◌, ◌<◌, ◌^◌, List, [], ◌∷◌, Some, None, chars, length, IfOk, IsOkUnless, option_map, string_bytes, if◌then◌else◌};
+ghost use Rattle.bridge.specs.ReadSteps.{MayCut};
+ghost use Rattle.bridge.specs.Reading.{PlacedToken};
+ghost use Rattle.bridge.specs.Spelling.{is_text_of, is_that_leaf, leaf_spelling, same_form, same_leaf, same_rawness};
+ghost use Rattle.bridge.specs.TokenSteps.{steps_of_class};
+ghost use Rattle.rustc_lexer.specs.Lexing.{tokens_of};
+ghost use Rattle.tt.specs.TokenLiterals.{IsLiteralToken, literal_in};
+ghost use Rattle.tt_data.specs.Displayed.{displayed_leaf};
+ghost use Rattle.tt_data.specs.fault.TtFault.TheVariants.{Memory};
+ghost use Rattle.tt_data.specs.declared.leaf.Leaf.TheVariants as as_leaf;
+ghost use Rattle.tt_data.specs.declared.span.Span.{Span};
+ghost use Rattle.std.specs.Str.{IsCharBoundary};
+
+use crate::printing::fast_spelling::{is_dollar_crate, is_plain_string};
+use crate::reading::classify::{TokenClass, class_of};
+use crate::reading::leaf::name_in;
+use rustc_lexer::{FrontmatterAllowed, Token, tokenize};
+use std::alloc::Global;
+use tt::literal_parts;
+use tt_data::{IdentIsRaw, Leaf, LitKind, Literal, TtFault};
+
+// Whether two literals are of one form. What is no literal has none.
+fn are_of_one_form(first: LitKind, second: LitKind) -> bool
+    ensures { result ≡ same_form first second }
+{
+    match (first, second) {
+        (LitKind::Byte, LitKind::Byte) => true,
+        (LitKind::Char, LitKind::Char) => true,
+        (LitKind::Integer, LitKind::Integer) => true,
+        (LitKind::Float, LitKind::Float) => true,
+        (LitKind::Str, LitKind::Str) => true,
+        (LitKind::ByteStr, LitKind::ByteStr) => true,
+        (LitKind::CStr, LitKind::CStr) => true,
+        (LitKind::StrRaw(m), LitKind::StrRaw(n)) => m == n,
+        (LitKind::ByteStrRaw(m), LitKind::ByteStrRaw(n)) => m == n,
+        (LitKind::CStrRaw(m), LitKind::CStrRaw(n)) => m == n,
+        _ => false,
+    }
+}
+
+// Whether both names are raw, or neither.
+fn are_alike_raw(first: IdentIsRaw, second: IdentIsRaw) -> bool
+    ensures { result ≡ same_rawness first second }
+{
+    match first {
+        IdentIsRaw::No => second.no(),
+        IdentIsRaw::Yes => second.yes(),
+    }
+}
+
+// Whether the literal is the one that the whole token is.
+fn is_literal(literal: &Literal, form: LitKind, suffix_start: u32, text: &str) -> bool
+    requires boundary { IsCharBoundary text.now suffix_start }
+    requires token { IsLiteralToken form suffix_start text.now }
+    ensures { (span : Span) → result ≡ same_leaf (as_leaf.Literal literal.now) (as_leaf.Literal (literal_in form suffix_start text.now span)) }
+{
+    let (inside, suffix) = literal_parts(text, form, suffix_start);
+    are_of_one_form(literal.kind(), form) && literal.text() == inside && literal.suffix() == suffix
+}
+
+// Whether the leaf is what the whole token is read as, spans and spacing aside.
+fn is_read_as(leaf: &Leaf, class: TokenClass, text: &str) -> bool
+    requires { MayCut class text.now }
+    ensures { (t : PlacedToken) (more : List PlacedToken) → t.text ≡ text.now → result ≡ is_that_leaf leaf.now (steps_of_class class t more) }
+{
+    match (leaf, class) {
+        (Leaf::Ident(ident), TokenClass::Name(is_raw)) => {
+            let name = name_in(is_raw, text);
+            are_alike_raw(ident.is_raw, is_raw) && ident.sym.as_str() == name
+        }
+        (Leaf::Punct(punct), TokenClass::Mark(char)) => punct.char == char,
+        (Leaf::Literal(literal), TokenClass::Value { form, suffix_start }) => {
+            is_literal(literal, form, suffix_start, text)
+        }
+        _ => false,
+    }
+}
+
+// Whether the leaf is what the text is read as, which is this one token.
+fn is_token_of(leaf: &Leaf, token: Token, text: &str) -> bool
+    requires short { length text.now < 2 ^ 32 }
+    requires one { tokens_of (chars text.now) ≡ token ∷ [] }
+    ensures { result ≡ is_text_of leaf.now text.now }
+{
+    rustc_lexer::laws::tokens_begin();
+    rustc_lexer::laws::next_token();
+    rustc_lexer::laws::token_lengths();
+    rustc_lexer::laws::token_shapes();
+    rustc_lexer::laws::suffix_starts();
+    is_read_as(leaf, class_of(token.kind), text)
+}
+
+// Whether the text is one token, which is read as the leaf.
+fn is_text_of(leaf: &Leaf, text: &str) -> bool
+    ensures { result ≡ is_text_of leaf.now text.now }
+{
+    if text.len() > u32::MAX as usize {
+        return false;
+    }
+    let mut tokens = tokenize(text, FrontmatterAllowed::No);
+    let Some(token) = tokens.next() else {
+        return false;
+    };
+    if tokens.next().is_some() {
+        return false;
+    }
+    is_token_of(leaf, token, text)
+}
+
+// Whether the leaf is what its displayed text is read as, which is that text.
+fn is_own_text(leaf: &Leaf, text: &str) -> bool
+    requires { text.now ≡ displayed_leaf leaf.now }
+    ensures { result ≡ is_text_of leaf.now text.now }
+{
+    match leaf {
+        Leaf::Literal(literal) if is_plain_string(literal) => true,
+        _ => is_text_of(leaf, text),
+    }
+}
+
+// Most displayed texts have no more bytes.
+const MOST_TEXTS: usize = 64;
+
+// The displayed text of the leaf, where it is one token that is read as the leaf.
+fn own_text(alloc: Global, leaf: &Leaf) -> Result<Option<String>, TtFault>
+    ensures some { IfOk result (λ o. option_map string_bytes o ≡
+        (if is_text_of leaf.now (displayed_leaf leaf.now) then Some (displayed_leaf leaf.now) else None)) }
+    ensures memory { IsOkUnless result Memory }
+{
+    let mut text = String::with_capacity(alloc, MOST_TEXTS)?;
+    write!(text, "{leaf}")?;
+    if is_own_text(leaf, text.as_str()) {
+        Ok(Some(text))
+    } else {
+        Ok(None)
+    }
+}
+
+/// The text that the leaf is spelled by, where it has one: `$crate` is spelled `crate`. `Memory` is
+/// the only error.
+pub(crate) fn leaf_spelling(alloc: Global, leaf: &Leaf) -> Result<Option<String>, TtFault>
+    ensures spelling { IfOk result (λ o. option_map string_bytes o ≡ leaf_spelling leaf.now) }
+    ensures memory { IsOkUnless result Memory }
+{
+    match leaf {
+        Leaf::Ident(ident) if is_dollar_crate(ident) => Ok(Some(String::from_str(alloc, "crate")?)),
+        _ => own_text(alloc, leaf),
+    }
+}

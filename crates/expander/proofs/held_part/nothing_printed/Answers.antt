@@ -1,5 +1,0 @@
-use Rattle.std.proofs.Common.{rules}
-use Rattle.expander.proofs.held_part.nothing_printed.Goals as goal
-
-pub returns : goal.returns
-returns c = record { printer = c.in_ok-printer.ensures; words = search rules }

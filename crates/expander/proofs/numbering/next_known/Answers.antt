@@ -1,6 +1,0 @@
-use Rattle.std.proofs.Common.{subst, sym}
-use Rattle.expander.specs.Editions.{IsRead}
-use Rattle.expander.proofs.numbering.next_known.Goals as goal
-
-pub returns-in-Ok-clause-read : goal.returns-in-Ok-clause-read
-returns-in-Ok-clause-read c = subst (IsRead c.args.edition) (sym c.in-Ok.ensures.ok) c.in_ok-known.ensures.read

@@ -1,9 +1,0 @@
-use Rattle.std.proofs.Common.{length, refl, rules}
-use Rattle.expander.specs.declared.passing.Begun.{Begun}
-use Rattle.expander.proofs.StretchLemmas.{just_begun}
-use Rattle.expander.proofs.passing.begin.Goals as goal
-
-pub returns-clause-begun : goal.returns-clause-begun
-returns-clause-begun c = λ text here.
-    let b : Begun = record { first = c.args.first; from = c.args.from; tokens = length c.args.left.now; parts = c.new.result } in
-    just_begun text c.args.from c.args.left.now b refl refl (search rules) here

@@ -1,7 +1,0 @@
-use Rattle.std.proofs.Common.{◌≡◌, ◌++◌, drop}
-use Rattle.expander.specs.Placing.{resolved_faults}
-use Rattle.expander.proofs.placing.put_faults.Given as goal
-
-abbrev pub invariant-loop-told : goal.invariant-loop-told
-invariant-loop-told l =
-    l.faults.items ++ resolved_faults l.start l.starts (drop l.told-index l.own) ≡ l.initial.faults.items ++ resolved_faults l.start l.starts l.own

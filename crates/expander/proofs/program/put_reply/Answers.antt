@@ -1,8 +1,0 @@
-use Rattle.std.proofs.Common.{rules}
-use Rattle.expander.proofs.program.put_reply.Goals as goal
-
-pub returns-in-Read : goal.returns-in-Read
-returns-in-Read c = search rules
-
-pub returns-in-Unread : goal.returns-in-Unread
-returns-in-Unread c = search rules

@@ -1,6 +1,0 @@
-use Rattle.std.proofs.Common.{◌≡◌, take}
-use Rattle.expander.specs.Sources.{bytes_of}
-use Rattle.expander.proofs.reading.bytes_in.Given as goal
-
-abbrev pub invariant-loop-token : goal.invariant-loop-token
-invariant-loop-token l = l.sum ≡ bytes_of (take l.token-index l.fn.tokens)

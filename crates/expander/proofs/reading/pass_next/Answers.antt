@@ -1,8 +1,0 @@
-use Rattle.std.proofs.Common.{rules}
-use Rattle.expander.specs.PieceReading.{IsPassing}
-use Rattle.expander.proofs.reading.pass_next.Goals as goal
-
-pub pass_one-requires-clause-passing : goal.pass_one-requires-clause-passing
-pass_one-requires-clause-passing c =
-    let p : IsPassing c.args.held.now c.args.text.now c.args.at c.args.left.now c.pass_stretch.new.now = search rules in
-    c.in_ok-end_long.ensures c.args.held.now p

@@ -1,6 +1,0 @@
-use Rattle.std.proofs.lemmas.Bool.Decides.{Decides-eqb}
-use Rattle.std.proofs.lemmas.Slice.Eq.{starts_is}
-use Rattle.expander.proofs.sources.begins_with_bytes.Goals as goal
-
-pub returns : goal.returns
-returns c = (starts_is Decides-eqb c.args.text.now c.args.first.now c.starts_with.result c.starts_with.ensures.value).0

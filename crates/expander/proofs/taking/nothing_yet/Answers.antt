@@ -1,4 +1,0 @@
-use Rattle.expander.proofs.taking.nothing_yet.Goals as goal
-
-pub returns-clause-taken : goal.returns-clause-taken
-returns-clause-taken c = λ grammar depth right. c.in_ok-taken.ensures.taken grammar c.args.edition depth right

@@ -1,8 +1,0 @@
--- Where the definitions met so far start, in the table that holds it.
-use Rattle.std.specs.Prelude.{ℕ, nat_eq, unwrap_or}
-use Rattle.std.specs.HashMap.{get}
-use Rattle.expander.specs.declared.starts.Starts.{Starts}
-
--- where the nearest definition of a number starts
-unfoldable pub start_at : Starts → ℕ → ℕ
-start_at starts number = unwrap_or (get nat_eq starts.map number) 0

@@ -1,0 +1,10 @@
+-- lemmas by subject; the worked rows
+mod AttributeLemmas
+pub mod SplittingLemmas
+pub mod ApartLemmas
+pub mod WholeLemmas
+mod OrderLemmas
+pub mod SortLemmas
+mod RelativeSpanLemmas
+mod SamePieceLemmas
+pub mod PlaceLemmas

@@ -1,0 +1,45 @@
+-- A call as it is met from the left.
+use Rattle.std.specs.Prelude.{Option, Some, None}
+use Rattle.tt_data.specs.Forest.{Forest, group}
+use Rattle.expander_model.specs.declared.call.Call.{Call}
+use Rattle.expander_model.specs.Calls.{other, Marked, call, unmarked, is_colons, is_dollar_crate}
+use Rattle.expander_model.specs.Definitions.{or_else}
+use Rattle.small_grammar.specs.Text.{◌>>=◌, ◌>>◌}
+use Rattle.tt.specs.FirstTrees.{first_ident, first_punct, first_group}
+use Rattle.bridge.specs.Text.{is_char, is_visible}
+
+-- a name, `!` and a visible group
+abbrev pub bare_call : Forest → Option Call
+bare_call f = do
+  (name, after_name) ← first_ident f
+  (bang, after_bang) ← first_punct after_name
+  is_char "!" bang
+  (brackets, argument, rest) ← first_group after_bang
+  is_visible brackets.kind
+  Some (record { name = name; from_group = after_bang; argument = argument; rest = rest })
+
+-- what would be a call, but for the `::` before it
+abbrev pub call_behind_colons : Forest → Option Call
+call_behind_colons f = do
+  (first, after_first) ← first_punct f
+  (second, after_colons) ← first_punct after_first
+  is_colons first second
+  bare_call after_colons
+
+-- a call with its `$crate ::`
+abbrev pub crate_call : Forest → Option Call
+crate_call f = do
+  (name, after_name) ← first_ident f
+  is_dollar_crate name
+  call_behind_colons after_name
+
+-- the call that a list begins with
+abbrev pub call_at : Forest → Option Call
+call_at f = or_else (crate_call f) (bare_call f)
+
+-- the call that a list's marks begin with
+abbrev pub first_call : Marked → Option Call
+first_call (call (other first second) name bang d a rest) = None
+first_call (call path name bang d a rest) =
+    Some (record { name = name; from_group = group d (unmarked a) (unmarked rest); argument = unmarked a; rest = unmarked rest })
+first_call _ = None

@@ -1,0 +1,20 @@
+-- what a text means, in reading order
+pub mod Pieces
+pub mod Definitions
+pub mod Calls
+pub mod Expansion
+pub mod Printing
+pub mod Faults
+pub mod Meaning
+-- what the meaning of a text stands on
+pub mod World
+-- what the count of pieces and the laws rest on
+pub mod EqualTrees
+pub mod CallSteps
+pub mod Changes
+pub mod OtherPlaces
+pub mod Held
+-- what the functions inside the crate promise each other
+pub mod HashedTrees
+pub mod Splitting
+pub mod WalkSteps

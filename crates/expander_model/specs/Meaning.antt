@@ -1,0 +1,86 @@
+-- The meaning of a text: its reading fault, or the printed text and the faults of its expansion. (Of this project.)
+use Rattle.std.specs.Prelude.{ℕ, List, [], ◌∷◌, ◌++◌, Option, Some, None, Result, Ok, Err, map, flat_map, if◌then◌else◌}
+use Rattle.tt_data.specs.Forest.{Forest}
+use Rattle.tt_data.specs.Walk.{Step}
+use Rattle.expander_model.specs.declared.fault.Fault.{Fault}
+use Rattle.expander_model.specs.declared.fault.FaultKind.TheVariants.{BrokenDefinition}
+use Rattle.bridge.specs.declared.reading.outcome.ReadFault.{ReadFault}
+use Rattle.expander_model.specs.Pieces.{pieces}
+use Rattle.expander_model.specs.Definitions.{Definition, definition_of, nearest}
+use Rattle.expander_model.specs.Expansion.{World, Outcome, PlacedStep, expansion}
+use Rattle.expander_model.specs.Printing.{PrintedToken, visible, printed, left_out, text_of}
+use Rattle.expander_model.specs.Faults.{fault_at, nested, unspellable, in_order}
+
+-- what the layers below give: a text's forest or its reading fault, what definitions mean, and the text of a
+-- visible token before those that follow, or none
+pub record Layers : Type 0 where
+  pub read : List ℕ → Result Forest ReadFault
+  pub world : World Definition
+  pub spelling : Step → List PlacedStep → Option (List ℕ)
+
+-- a piece of a text: plain, with its expansion, or a definition
+pub data Member : Type 0 where
+  plain : Forest → Outcome Definition → Member
+  defining : Definition → Member
+
+-- what a text means that was read
+pub record ReadMeaning : Type 0 where
+  pub members : List Member
+  pub tokens : List PrintedToken
+  pub text : List ℕ
+  pub faults : List Fault
+
+abbrev pub with_definition : Option Definition → List Definition → List Definition
+with_definition None before = before
+with_definition (Some d) before = d ∷ before
+
+-- a plain piece's output; a definition has none
+abbrev pub output_of : Member → List PlacedStep
+output_of (plain piece outcome) = outcome.steps
+output_of (defining d) = []
+
+-- the visible tokens of all plain pieces, as one list
+abbrev pub output : List Member → List PlacedStep
+output ms = visible (flat_map output_of ms)
+
+module _ (layers : Layers) where
+  -- the faults of a piece's expansion, or that of a definition that is broken
+  abbrev pub member_faults : Member → List Fault
+  member_faults (plain piece outcome) = map (λ f. fault_at f.0 f.1) outcome.faults
+  member_faults (defining d) = if layers.world.broken d then fault_at BrokenDefinition d.name.span ∷ [] else []
+
+  -- the tokens that are printed, and the faults of a text, in order
+  abbrev pub tokens_of : List Member → List PrintedToken
+  tokens_of ms = printed layers.spelling (output ms)
+
+  abbrev pub faults_of : List Member → List Fault
+  faults_of ms =
+      in_order (flat_map member_faults ms
+      ++ (nested (tokens_of ms) ++ unspellable (left_out layers.spelling (output ms))))
+
+  abbrev pub meaning_of : List Member → ReadMeaning
+  meaning_of ms = record { members = ms; tokens = tokens_of ms; text = text_of (tokens_of ms); faults = faults_of ms }
+
+module _ (layers : Layers) (depth : ℕ) where
+  -- a piece under the definitions before it, which are given nearest first
+  abbrev pub member : List Definition → Forest → Option Definition → Member
+  member before piece (Some d) = defining d
+  member before piece None = plain piece (expansion layers.world (nearest before) depth None piece)
+
+  abbrev pub members_after : List Definition → List Forest → List Member
+  members_after before [] = []
+  members_after before (p ∷ ps) =
+      let d : Option Definition = definition_of p in
+      member before p d ∷ members_after (with_definition d before) ps
+
+  -- the pieces of a forest in order, each under those before it
+  abbrev pub members : Forest → List Member
+  members f = members_after [] (pieces f)
+
+  -- what a text means: no session, no edit and no earlier text is in it
+  abbrev pub meaning_from : Result Forest ReadFault → Result ReadMeaning ReadFault
+  meaning_from (Err fault) = Err fault
+  meaning_from (Ok f) = Ok (meaning_of layers (members f))
+
+  abbrev pub meaning : List ℕ → Result ReadMeaning ReadFault
+  meaning text = meaning_from (layers.read text)

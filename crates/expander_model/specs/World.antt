@@ -1,0 +1,35 @@
+-- What definitions mean: the rules that are read of them, and what the first that fits a call gives. (The Rust Reference, "Macros By Example".)
+use Rattle.std.specs.Prelude.{Option, option_map, is_some, if◌then◌else◌}
+use Rattle.tt_data.specs.Forest.{Forest}
+use Rattle.tt_data.specs.declared.edition.Edition.{Edition}
+use Rattle.tt_data.specs.declared.span.Span.{Span}
+use Rattle.tt_data.specs.declared.span.SyntaxContext.TheVariants.{Made}
+use Rattle.mbe_rules.specs.Items.{Rules}
+use Rattle.mbe_rules.specs.Parsing.{macro_of, macro_rules_of}
+use Rattle.mbe_rules.specs.declared.macro_call_style.MacroCallStyle.TheVariants.{FnLike}
+use Rattle.mbe.specs.Bursts as made_by
+use Rattle.mbe.specs.Fit.{fit}
+use Rattle.mbe.specs.Grammar.{Grammar}
+use Rattle.mbe.specs.Markers.{is_name}
+use Rattle.expander_model.specs.Definitions.{Definition}
+use Rattle.expander_model.specs.Expansion.{World}
+
+-- the rules of a definition, all of whose words are of this edition, with its first fault
+abbrev pub rules_in : Edition → Definition → Rules
+rules_in edition d =
+    if d.is_macro then macro_of (λ context. edition) d.arguments d.body else macro_rules_of (λ context. edition) d.body
+
+-- where a template's token stands in what a call gives: at its own place, but made
+abbrev pub made : Span → Span
+made span = record span { ctx = Made }
+
+-- what the first of these rules that fits an argument gives
+abbrev pub fit_of : Grammar → Rules → Forest → Option Forest
+fit_of grammar rules argument = option_map (λ r. r.1) (fit is_name grammar made rules.list FnLike argument)
+
+abbrev pub world : Grammar → Edition → World Definition
+world grammar edition = record {
+  broken = λ d. is_some (rules_in edition d).err;
+  fit = λ d argument. fit_of grammar (rules_in edition d) argument;
+  bursts = λ d argument. made_by.bursts is_name grammar made (rules_in edition d).list FnLike argument;
+}

@@ -1,0 +1,86 @@
+//! Finds the call that a list of trees begins with: a name, `!` and a visible group, side by side.
+ghost use Rattle.std.specs.Prelude.{◌≡◌, Option};
+ghost use Rattle.expander_model.specs.Calls.{is_colons};
+ghost use Rattle.expander_model.specs.CallSteps.{bare_call, call_behind_colons, crate_call, call_at};
+
+use tt::TtIter;
+use tt_data::{DelimiterKind, Ident, Punct, Spacing};
+
+/// A call at the beginning of a list of trees.
+#[derive(Drop)]
+pub struct Call<'a> {
+    pub name: Ident,
+    /// Its group, and the trees behind it.
+    pub from_group: TtIter<'a>,
+    pub argument: TtIter<'a>,
+    /// The trees behind it.
+    pub rest: TtIter<'a>,
+}
+
+// Whether two puncts are a `::`.
+fn is_colons(first: Punct, second: Punct) -> bool
+    ensures { result ≡ is_colons first second }
+{
+    first.char == ':' && second.char == ':' && first.spacing != Spacing::Alone
+}
+
+// A name, `!` and a visible group.
+#[inline(always)]
+fn bare_call<'a>(trees: &TtIter<'a>) -> Option<Call<'a>>
+    ensures { result ≡ bare_call trees.now }
+{
+    let (name, after_name) = trees.lent_ident()?;
+    let (bang, after_bang) = after_name.first_punct()?;
+    if bang.char != '!' {
+        return None;
+    }
+    let (brackets, argument, rest) = after_bang.first_group()?;
+    if brackets.kind == DelimiterKind::Invisible {
+        return None;
+    }
+    let Ok(name) = name.clone() else {
+        unreachable!()
+    };
+    Some(Call {
+        name,
+        from_group: after_bang,
+        argument,
+        rest,
+    })
+}
+
+/// What would be a call, but stands behind a `::` with which the trees begin.
+#[inline(always)]
+pub fn call_behind_colons<'a>(trees: &TtIter<'a>) -> Option<Call<'a>>
+    ensures { result ≡ call_behind_colons trees.now }
+{
+    let (first, after_first) = trees.first_punct()?;
+    let (second, after_colons) = after_first.first_punct()?;
+    if is_colons(first, second) {
+        bare_call(&after_colons)
+    } else {
+        None
+    }
+}
+
+// A call with its `$crate ::`.
+fn crate_call<'a>(trees: &TtIter<'a>) -> Option<Call<'a>>
+    ensures { result ≡ crate_call trees.now }
+{
+    let (name, after_name) = trees.lent_ident()?;
+    if name.sym.as_str() == "$crate" {
+        call_behind_colons(&after_name)
+    } else {
+        None
+    }
+}
+
+/// The call with which the trees begin.
+pub fn call_at<'a>(trees: &TtIter<'a>) -> Option<Call<'a>>
+    ensures { result ≡ call_at trees.now }
+{
+    match crate_call(trees) {
+        Some(call) => Some(call),
+        None => bare_call(trees),
+    }
+}

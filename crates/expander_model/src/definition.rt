@@ -1,0 +1,205 @@
+//! Tells whether a piece is a definition, and which parts it has.
+ghost use Rattle.std.specs.Prelude.{◌≡◌, Option, option_map, unwrap_or};
+ghost use Rattle.expander_model.specs.Definitions.{after_attribute, after_attributes, after_parenthesis, after_word, after_pub, after_macro_rules, is_semicolon, ends_definition, macro_rules_of, macro_body, macro_of, definition_of};
+ghost use Rattle.small_grammar.specs.Text.{has_text};
+
+use std::marker::Model;
+use tt::TtIter;
+use tt_data::{Delimiter, DelimiterKind, Ident, IdentIsRaw};
+
+/// A definition of a macro, its trees borrowed from the text.
+#[derive(Drop)]
+pub struct Definition<'a> {
+    pub name: Ident,
+    /// The group before the body, of a `macro` with a single rule.
+    pub arguments: Option<TtIter<'a>>,
+    pub body: TtIter<'a>,
+    /// Read by the rules of `macro`, not by those of `macro_rules`.
+    pub is_macro: bool,
+    /// The whole piece.
+    pub piece: TtIter<'a>,
+}
+
+impl<'a> Model for Definition<'a> {
+    ghost use Rattle.expander_model.specs.Definitions.{Definition, definition_code};
+
+    ghost Value = { Definition };
+
+    ghost coded = { definition_code };
+
+    ghost view = { λ d. record { name = d.name; arguments = d.arguments; body = d.body; is_macro = d.is_macro; piece = d.piece } };
+}
+
+// Whether the name is this word, and isn't raw.
+pub(crate) fn is_word(name: &Ident, word: &str) -> bool
+    ensures { result ≡ has_text word.now name.now }
+{
+    name.is_raw == IdentIsRaw::No && name.sym.as_str() == word
+}
+
+// What follows an outer attribute, where the list begins with one.
+fn after_attribute<'a>(trees: &TtIter<'a>) -> Option<TtIter<'a>>
+    ensures { result ≡ after_attribute trees.now }
+{
+    let (pound, after_pound) = trees.first_punct()?;
+    if pound.char != '#' {
+        return None;
+    }
+    let (brackets, _, rest) = after_pound.first_group()?;
+    if brackets.kind == DelimiterKind::Bracket {
+        Some(rest)
+    } else {
+        None
+    }
+}
+
+// What follows the outer attributes at the beginning.
+fn after_attributes<'a>(piece: &TtIter<'a>) -> TtIter<'a>
+    ensures { result ≡ after_attributes piece.now }
+{
+    let mut rest = piece.copied();
+    while let Some(after) = after_attribute(&rest) {
+        rest = after;
+    }
+    rest
+}
+
+// What follows a parenthesis group at the beginning.
+fn after_parenthesis<'a>(trees: &TtIter<'a>) -> Option<TtIter<'a>>
+    ensures { result ≡ after_parenthesis trees.now }
+{
+    let (brackets, _, rest) = trees.first_group()?;
+    if brackets.kind == DelimiterKind::Parenthesis {
+        Some(rest)
+    } else {
+        None
+    }
+}
+
+// What follows this word, which isn't raw, at the beginning.
+fn after_word<'a>(trees: &TtIter<'a>, word: &str) -> Option<TtIter<'a>>
+    ensures { result ≡ after_word word.now trees.now }
+{
+    let (name, rest) = trees.first_ident()?;
+    if is_word(&name, word) {
+        Some(rest)
+    } else {
+        None
+    }
+}
+
+// What follows a `pub`, with its parenthesis group, at the beginning.
+fn after_pub<'a>(trees: &TtIter<'a>) -> Option<TtIter<'a>>
+    ensures { result ≡ after_pub trees.now }
+{
+    let rest = after_word(trees, "pub")?;
+    match after_parenthesis(&rest) {
+        Some(after) => Some(after),
+        None => Some(rest),
+    }
+}
+
+// Whether there is nothing but a `;`.
+fn is_semicolon(trees: &TtIter<'_>) -> bool
+    ensures { result ≡ is_semicolon trees.now }
+{
+    match trees.first_punct() {
+        Some((punct, rest)) => punct.char == ';' && rest.is_empty(),
+        None => false,
+    }
+}
+
+fn ends_definition(brackets: Delimiter, rest: &TtIter<'_>) -> bool
+    ensures { result ≡ ends_definition brackets rest.now }
+{
+    match brackets.kind {
+        DelimiterKind::Brace => rest.is_empty(),
+        DelimiterKind::Parenthesis | DelimiterKind::Bracket => is_semicolon(rest),
+        DelimiterKind::Invisible => false,
+    }
+}
+
+// What follows `macro_rules !` at the beginning.
+fn after_macro_rules<'a>(trees: &TtIter<'a>) -> Option<TtIter<'a>>
+    ensures { result ≡ after_macro_rules trees.now }
+{
+    let rest = after_word(trees, "macro_rules")?;
+    let (bang, after_bang) = rest.first_punct()?;
+    if bang.char == '!' {
+        Some(after_bang)
+    } else {
+        None
+    }
+}
+
+// `macro_rules ! name { .. }`.
+fn macro_rules_of<'a>(piece: &TtIter<'a>, trees: &TtIter<'a>) -> Option<Definition<'a>>
+    ensures { result ≡ macro_rules_of piece.now trees.now }
+{
+    let after = after_macro_rules(trees)?;
+    let (name, after_name) = after.first_ident()?;
+    let (brackets, body, rest) = after_name.first_group()?;
+    if !ends_definition(brackets, &rest) {
+        return None;
+    }
+    Some(Definition {
+        name,
+        arguments: None,
+        body,
+        is_macro: false,
+        piece: piece.copied(),
+    })
+}
+
+// The body of a `macro`: `{ .. }`, or with its one rule's pattern `(..) { .. }`.
+fn macro_body<'a>(trees: &TtIter<'a>) -> Option<(Option<TtIter<'a>>, TtIter<'a>)>
+    ensures { result ≡ macro_body trees.now }
+{
+    let (brackets, inner, rest) = trees.first_group()?;
+    if rest.is_empty() {
+        return if brackets.kind == DelimiterKind::Brace {
+            Some((None, inner))
+        } else {
+            None
+        };
+    }
+    if brackets.kind != DelimiterKind::Parenthesis {
+        return None;
+    }
+    let (braces, body, last) = rest.first_group()?;
+    if braces.kind == DelimiterKind::Brace && last.is_empty() {
+        Some((Some(inner), body))
+    } else {
+        None
+    }
+}
+
+// `macro name { .. }` or `macro name(..) { .. }`.
+fn macro_of<'a>(piece: &TtIter<'a>, trees: &TtIter<'a>) -> Option<Definition<'a>>
+    ensures { result ≡ macro_of piece.now trees.now }
+{
+    let after = after_word(trees, "macro")?;
+    let (name, after_name) = after.first_ident()?;
+    let (arguments, body) = macro_body(&after_name)?;
+    Some(Definition {
+        name,
+        arguments,
+        body,
+        is_macro: true,
+        piece: piece.copied(),
+    })
+}
+
+/// The definition that a piece is, or `None` where it is plain.
+pub fn definition_of<'a>(piece: &TtIter<'a>) -> Option<Definition<'a>>
+    ensures { result ≡ definition_of piece.now }
+{
+    let rest = after_attributes(piece);
+    match macro_rules_of(piece, &rest) {
+        Some(definition) => Some(definition),
+        None => match after_pub(&rest) {
+            Some(after) => macro_of(piece, &after),
+            None => macro_of(piece, &rest),
+        },
+    }
+}

@@ -1,0 +1,141 @@
+//! Trees with piece-relative spans, each with its hash, which the cache looks trees up by.
+ghost use Rattle.std.specs.Prelude.{◌≡◌, is_some};
+ghost use Rattle.expander_model.specs.Definitions.{definition_of};
+ghost use Rattle.expander_model.specs.HashedTrees.{tree_hash};
+
+use crate::definition::definition_of;
+use std::hash::{Hash, Hasher};
+use std::marker::Model;
+use tt::TopSubtree;
+
+/// A tree of its own, with its hash, and whether it is a definition, which are computed once.
+#[derive(Drop)]
+pub struct HashedTree {
+    tree: TopSubtree,
+    hash: u64,
+    is_definition: bool,
+}
+
+impl Model for HashedTree {
+    ghost use Rattle.std.specs.Prelude.{◌≡◌, is_some};
+    ghost use Rattle.expander_model.specs.Definitions.{definition_of};
+    ghost use Rattle.tt.specs.Tops.{Top, top_code};
+    ghost use Rattle.expander_model.specs.HashedTrees.{tree_hash};
+
+    ghost Value = { Top };
+
+    ghost coded = { top_code };
+
+    ghost view = { λ t. t.tree };
+
+    ghost invariant = { λ t. (t.hash ≡ tree_hash t.tree) × (t.is_definition ≡ is_some (definition_of t.tree.inner)) };
+}
+
+// A hasher that takes little time for each write (FNV-1a).
+#[derive(Clone, Copy)]
+struct ByteHasher {
+    state: u64,
+}
+
+impl Hasher for ByteHasher {
+    ghost use Rattle.expander_model.specs.HashedTrees.{written};
+
+    ghost write = { written };
+
+    ghost finish = { λ h. h.state };
+
+    #[inline(always)]
+    fn finish(&self) -> u64 {
+        self.state
+    }
+
+    #[inline(always)]
+    fn write(&mut self, bytes: &[u8]) {
+        for byte in bytes {
+            self.state = (self.state ^ u64::from(*byte)).wrapping_mul(1_099_511_628_211);
+        }
+    }
+}
+
+// The hash of a tree.
+#[tactic(auto, unfolding(crate::specs::HashedTrees::hash_of))]
+fn hash_of(tree: &TopSubtree) -> u64
+    ensures { result ≡ tree_hash tree.now }
+{
+    let mut state = ByteHasher {
+        state: 14_695_981_039_346_656_037,
+    };
+    tree.hash(&mut state);
+    state.finish()
+}
+
+impl HashedTree {
+    /// The tree, whose hash is computed, and whether it is a definition.
+    pub fn new(tree: TopSubtree) -> Self
+        ensures { result ≡ tree }
+    {
+        let hash = hash_of(&tree);
+        let is_definition = definition_of(&tree.iter()).is_some();
+        HashedTree {
+            tree,
+            hash,
+            is_definition,
+        }
+    }
+
+    /// The tree.
+    pub fn tree(&self) -> &TopSubtree
+        ensures { result.now ≡ self.now }
+    {
+        &self.tree
+    }
+
+    /// The hash of the tree, which is kept.
+    pub fn kept_hash(&self) -> u64
+        ensures { result ≡ tree_hash self.now }
+    {
+        self.hash
+    }
+
+    /// Whether it is a definition.
+    pub fn is_definition(&self) -> bool
+        ensures { result ≡ is_some (definition_of self.now.inner) }
+    {
+        self.is_definition
+    }
+}
+
+// Two are equal where their trees are, and then their hashes are, which are looked at first.
+impl PartialEq for HashedTree {
+    ghost use Rattle.tt.specs.contracts.top_subtree.TopSubtreePartialEq.TheImpl.Laws as tree_laws;
+
+    ghost eq = { ⟦<TopSubtree as PartialEq>⟧.eq };
+
+    ghost laws = { tree_laws.laws-law };
+
+    fn eq(&self, other: &HashedTree) -> bool {
+        self.hash == other.hash && self.tree == other.tree
+    }
+}
+
+impl Eq for HashedTree {
+    ghost use Rattle.tt.specs.contracts.top_subtree.TopSubtreeEq.TheImpl.Laws as tree_laws;
+
+    ghost laws = { tree_laws.laws-law };
+}
+
+impl Hash for HashedTree {
+    ghost use Rattle.std.specs.Hash as fed;
+    ghost use Rattle.std.proofs.Common.{ap};
+    ghost use Rattle.tt.specs.contracts.top_subtree.TopSubtreeHash.TheImpl.Laws as tree_laws;
+    ghost use Rattle.expander_model.specs.HashedTrees.{hash_of};
+
+    ghost hash_input = { λ t. fed.u64 (tree_hash t) };
+
+    ghost respects_eq = { λ a b e. ap (λ writes. fed.u64 (hash_of writes)) (tree_laws.respects_eq-law a b e) };
+
+    /// Feeds the kept hash.
+    fn hash<H: Hasher>(&self, state: &mut H) {
+        state.write_u64(self.hash);
+    }
+}

@@ -1,0 +1,11 @@
+//! Laws of trees. A call does nothing: it only states.
+ghost use Rattle.std.specs.Prelude.{◌≡◌, ◌↔◌, true};
+ghost use Rattle.expander_model.specs.EqualTrees.{same_forest};
+ghost use Rattle.tt_data.specs.Forest.{Forest};
+
+/// The trees of two pieces are equal by `==` exactly where they are the same, places included.
+pub fn equal_pieces()
+    ensures { (f g : Forest) → (same_forest f g ≡ true) ↔ (f ≡ g) }
+{
+    tt::laws::equal_trees();
+}

@@ -1,0 +1,13 @@
+//! What a text falls into: its pieces, the definitions and calls among them, their faults, and trees whose spans count
+//! from a piece's first token. Everything here is told of one text by itself: nothing is cached.
+#![tactic(auto)]
+
+pub mod boundary;
+pub mod call;
+pub mod definition;
+pub mod fault;
+pub mod hashed_tree;
+pub mod laws;
+pub mod relative_spans;
+pub mod split;
+pub mod tree_walk;

@@ -1,0 +1,8 @@
+-- lemmas by subject; the worked rows
+mod LookaheadLemmas
+pub mod PieceReadingLemmas
+pub mod RelativePieceLemmas
+mod SegmentLemmas
+mod MadeLemmas
+mod SegmentBuilderLemmas
+pub mod ListLemmas

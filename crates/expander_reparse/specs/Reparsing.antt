@@ -1,0 +1,132 @@
+-- How a text is read piece by piece.
+use Rattle.std.specs.Prelude.{◌≡◌, ℕ, ◌+◌, ◌≤◌, ◌++◌, chars, drop, take, [], ◌∷◌, All, IfSome, List, None, Option, Some, length, map, slice_get}
+use Rattle.std.specs.Global.{Global}
+use Rattle.std.specs.Rc.{rc_value}
+use Rattle.std.specs.declared.rc.Rc.{Rc}
+use Rattle.bridge.specs.ReadText.{text_top}
+use Rattle.bridge.specs.Reading.{IsReading, PlacedToken, TextStep, placed_from, reading, with_front}
+use Rattle.bridge.specs.TokenSteps.{class_of, steps_of, steps_of_class, text_reading}
+use Rattle.rustc_lexer.specs.declared.token.TokenKind.{TokenKind}
+use Rattle.rustc_lexer.specs.TokensAt.{AreTokensFrom}
+use Rattle.rustc_lexer.specs.declared.token.Token.{Token}
+use Rattle.tt.specs.Tops.{Top}
+use Rattle.tt_data.specs.Forest.{Forest, joined}
+use Rattle.bridge.specs.Parts.{begins_with_mark, part_steps}
+use Rattle.expander_model.specs.HashedTrees.{own_top}
+use Rattle.expander_reparse.specs.RelativePieces.{AreOwn, own_shown, tree_at}
+use Rattle.expander_model.specs.Pieces.{first_start, pieces, separated}
+use Rattle.expander_reparse.specs.Segments.{AreListed, AreParts, AreReadAs, IsHeldAt, IsCachedPiece, OccursFirst, all_in, bytes_of, chars_ahead, part_shown, pieces_of, sources_of}
+use Rattle.expander_model.specs.Splitting.{HasShape, IsOpen}
+use Rattle.expander_reparse.specs.declared.piece.Piece.{Piece}
+use Rattle.expander_reparse.specs.declared.segment_builder.OpenSegment.{OpenSegment}
+use Rattle.expander_reparse.specs.declared.segment_builder.Reparse.{Reparse}
+use Rattle.expander_model.specs.declared.split.Shape.{Shape}
+use Rattle.expander_reparse.specs.declared.segment.CachedSegment.{CachedSegment}
+use Rattle.expander_reparse.specs.declared.segment.SegmentPart.{SegmentPart}
+use Rattle.expander_reparse.specs.declared.segment.CachedPiece.{CachedPiece}
+use Rattle.expander_reparse.specs.declared.segment.Segments.{Segments}
+use Rattle.expander_reparse.specs.declared.segment.Segment.{Segment}
+
+-- the tree of these steps, set apart, is of this shape and starts at its first place
+pub record IsReadPiece (steps : List TextStep) (shape : Shape) (t : Top) : Type 0 where
+  pub forest : Forest
+  pub read : IsReading steps forest
+  pub top : t.delimiter ≡ text_top
+  pub apart : t.inner ≡ separated forest
+  pub shaped : HasShape t.inner shape
+  pub at_first : first_start t.inner ≡ 0
+
+-- all that stands at this place of a text is this one piece, which nothing ends
+pub record IsLastPiece (text : List ℕ) (at : ℕ) (left : List Token) (o : Piece) : Type 0 where
+  pub forest : Forest
+  pub read : IsReading (part_steps 0 (length left) (drop at text) left) forest
+  pub opens : IsOpen (separated forest)
+  pub at_first : first_start (separated forest) ≡ 0
+  pub start : o.start ≡ at
+  pub tree : tree_at o ≡ own_top (separated forest)
+  pub met : o.met ≡ None
+
+-- a piece is the held one of this number, if one is named: its tree is that one's
+abbrev pub IsMet : Segments → Option ℕ → Top → Type 0
+IsMet held met tree = IfSome met (λ i. (s : CachedPiece) × IsHeldAt held i s × (rc_value s.tree ≡ tree))
+
+-- each piece is the held one that it names, if it names one
+abbrev pub AreMet : Segments → List Piece → Type 0
+AreMet held own = All (λ (o : Piece). IsMet held o.met (tree_at o)) own
+
+-- a piece with these bytes, before this text, with so many tokens, before these, and with this tree
+pub record KeepsCached (word behind : List ℕ) (count : ℕ) (after : List Token) (t : Top) (s : CachedPiece) : Type 0 where
+  pub bytes : s.cutout.bytes ≡ word
+  pub ahead : chars_ahead s.cutout.ahead ≡ take 2 (chars behind)
+  pub count_is : s.cutout.count ≡ count
+  pub mark : s.cutout.mark ≡ begins_with_mark after
+  pub tree : rc_value s.tree ≡ t
+
+-- a right piece stands first in a text with these tokens
+pub record IsCachedHere (text : List ℕ) (tokens : List Token) (s : CachedPiece) : Type 0 where
+  pub right : IsCachedPiece s
+  pub stands : OccursFirst s.cutout text tokens
+
+-- a token of this kind is read as nothing
+abbrev pub IsBlank : TokenKind → Type 0
+IsBlank kind = (t : PlacedToken) (more : List PlacedToken) → steps_of_class (class_of kind) t more ≡ []
+
+-- pieces more, which start at these places and have these trees
+pub record AddsPieces (shown : List (ℕ × Top)) (old new : List Piece) : Type 0 where
+  pub more : List Piece
+  pub items : new ≡ old ++ more
+  pub are : map own_shown more ≡ shown
+
+-- the first trees of a text were passed, whose pieces these are; from this place on these tokens are left
+pub record Passed (text : List ℕ) (at : ℕ) (left : List Token) (own : List Piece) : Type 0 where
+  pub front : Forest
+  pub ps : List Forest
+  pub here : AreTokensFrom text at left
+  pub reads : text_reading text ≡ with_front front (reading (steps_of (placed_from at (drop at text) left)))
+  pub cuts : (g : Forest) → pieces (joined front g) ≡ ps ++ pieces g
+  pub are_own : AreOwn ps own
+
+-- each source has the tree of the piece at its place
+abbrev pub AreTheirs : Segments → List Piece → Type 0
+AreTheirs sources own = (i : ℕ) (s : Rc CachedPiece Global) (o : Piece) → slice_get (all_in sources) i ≡ Some s → slice_get own i ≡ Some o
+    → rc_value (rc_value s).tree ≡ tree_at o
+
+-- just these sources are of these pieces
+abbrev pub AreMade : List Piece → List (Rc CachedPiece Global) → Type 0
+AreMade own list = map (λ (s : Rc CachedPiece Global). rc_value (rc_value s).tree) list ≡ map tree_at own
+
+-- since a segment was begun these tokens of a text were passed, and read as its parts
+pub record IsBegun (text : List ℕ) (at : ℕ) (left : List Token) (b : OpenSegment) : Type 0 where
+  pub tokens : List Token
+  pub here : AreTokensFrom text b.from (tokens ++ left)
+  pub count : b.tokens ≡ length (tokens ++ left)
+  pub ends : at ≡ b.from + bytes_of tokens
+  pub some : 1 ≤ length b.parts.items → 1 ≤ length tokens
+  pub reads : AreReadAs (take (bytes_of tokens) (drop b.from text)) tokens (begins_with_mark left) (λ n. map (part_shown n) b.parts.items)
+  pub parts : AreParts (bytes_of tokens) b.parts.items
+
+-- one more piece, which stands at this place, is part of a segment that is begun
+pub record TakesPart (at : ℕ) (source : Rc CachedPiece Global) (old new : OpenSegment) : Type 0 where
+  pub part : SegmentPart
+  pub source_is : part.source ≡ source
+  pub before : old.from + part.before ≡ at
+  pub parts : new.parts.items ≡ old.parts.items ++ part ∷ []
+  pub from : new.from ≡ old.from
+  pub tokens : new.tokens ≡ old.tokens
+  pub first : new.first ≡ old.first
+
+-- one more segment is held, behind so many pieces
+pub record AddsSegment (first : ℕ) (s : Segment) (old new : List CachedSegment) : Type 0 where
+  pub held : CachedSegment
+  pub first_is : held.first ≡ first
+  pub is : rc_value held.segment ≡ s
+  pub items : new ≡ old ++ held ∷ []
+
+-- a text was passed up to here: its pieces so far, the stretches that they are of, and what is held of them
+pub record IsReparse (held : Segments) (text : List ℕ) (at : ℕ) (left : List Token) (now : Reparse) : Type 0 where
+  pub passed : Passed text at left now.own.items
+  pub met : AreMet held now.own.items
+  pub begun : IsBegun text at left now.begun
+  pub listed : AreListed now.list.items
+  pub first : now.begun.first ≡ length (pieces_of now.list.items)
+  pub made : AreMade now.own.items (pieces_of now.list.items ++ sources_of now.begun.parts.items)

@@ -1,0 +1,12 @@
+//! A text read as its pieces over what is cached of the last one: segments whose bytes are there again are taken as a
+//! whole, and what an edit touched is read anew. The pieces are those that reading the whole text gives.
+#![tactic(auto)]
+
+mod incremental;
+pub mod parse;
+pub mod piece;
+mod resync;
+pub mod segment;
+mod segment_builder;
+mod segment_piece;
+mod shared_bytes;

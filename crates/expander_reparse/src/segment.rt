@@ -1,0 +1,234 @@
+//! What is cached of a text to read the next one by: segments, their pieces, and the bytes that they were read from.
+ghost use Rattle.std.specs.Prelude.{◌≡◌, ◌≤◌, ◌++◌, [], IfOk, IfSome, IsOkUnless, Some, chars, drop, length, slice_get, take, true};
+ghost use Rattle.bridge.specs.Parts.{begins_with_mark};
+ghost use Rattle.std.specs.Rc.{rc_value};
+ghost use Rattle.tt_data.specs.fault.TtFault.TheVariants as fault;
+ghost use Rattle.expander_reparse.specs.Reparsing.{IsCachedHere};
+ghost use Rattle.expander_reparse.specs.Segments.{AreSegments, IsHeldAt, IsCachedSegment, IsCachedPiece, OccursFirst, all_in, chars_ahead};
+
+use crate::shared_bytes::SharedBytes;
+use bridge::begins_with_mark;
+use expander_model::hashed_tree::HashedTree;
+use rustc_lexer::Token;
+use std::alloc::Global;
+use std::rc::Rc;
+use tt_data::TtFault;
+
+/// The two characters behind a piece, or as many as there are: with its own they tell its tokens.
+#[derive(Clone, Copy)]
+pub struct Lookahead {
+    first: Option<char>,
+    second: Option<char>,
+}
+
+/// Some tokens of a text, and what they stood before: where their bytes stand before the same, they are the same tokens.
+#[derive(Drop)]
+pub struct TokenRun {
+    /// The bytes of the tokens.
+    pub bytes: SharedBytes,
+    pub ahead: Lookahead,
+    /// How many tokens there are, blanks included.
+    pub count: usize,
+    /// Whether a token that is read as a punct followed.
+    pub mark: bool,
+}
+
+/// A piece with what it was read from.
+#[derive(Drop)]
+pub struct CachedPiece {
+    pub cutout: TokenRun,
+    /// Its tree, in places of its own.
+    pub tree: Rc<HashedTree>,
+}
+
+impl CachedPiece {
+    /// How many tokens there are, and one more for a definition.
+    pub fn size(&self) -> usize {
+        let more = usize::from(self.tree.as_ref().is_definition());
+        self.cutout.count.saturating_add(more)
+    }
+}
+
+/// A piece of a segment.
+#[derive(Drop)]
+pub struct SegmentPart {
+    /// How many bytes of the segment stand before it.
+    pub before: u32,
+    pub source: Rc<CachedPiece>,
+}
+
+/// Pieces that stood one behind another, with the blanks around them.
+#[derive(Drop)]
+pub struct Segment {
+    pub cutout: TokenRun,
+    pub parts: Vec<SegmentPart>,
+}
+
+/// A segment that is held.
+#[derive(Drop)]
+pub struct CachedSegment {
+    /// How many pieces are held before it.
+    pub first: usize,
+    pub segment: Rc<Segment>,
+}
+
+/// What is held of the text that was read last: its pieces, in order.
+#[derive(Drop)]
+pub struct Segments {
+    pub list: Vec<CachedSegment>,
+}
+
+impl Segments {
+    /// Before the first text that is read.
+    pub fn new(alloc: Global) -> Self
+        ensures right { AreSegments result }
+        ensures none { result.list.items ≡ [] }
+    {
+        Segments {
+            list: Vec::new(alloc),
+        }
+    }
+
+    /// How many pieces there are.
+    pub fn len(&self) -> usize {
+        match self.list.last() {
+            Some(held) => held.first.saturating_add(held.segment.as_ref().parts.len()),
+            None => 0,
+        }
+    }
+
+    // The segment that has the piece of this number, if one has it.
+    fn segment_with(&self, number: usize) -> Option<&CachedSegment>
+        requires { AreSegments self.now }
+        ensures { IfSome result (λ h. IsCachedSegment self.now h.now) }
+    {
+        let (mut low, mut high) = (0, self.list.len());
+        while high - low > 1 {
+            let middle = low + (high - low) / 2;
+            if self.list[middle].first <= number {
+                low = middle;
+            } else {
+                high = middle;
+            }
+        }
+        if low < self.list.len() {
+            Some(&self.list[low])
+        } else {
+            None
+        }
+    }
+
+    /// The piece of this number.
+    pub fn get(&self, number: usize) -> Option<&Rc<CachedPiece>>
+        requires { AreSegments self.now }
+        ensures held { IfSome result (λ q. slice_get (all_in self.now) number ≡ Some q.now) }
+        ensures right { IfSome result (λ q. IsCachedPiece (rc_value q.now)) }
+    {
+        let held = self.segment_with(number)?;
+        let at = number.checked_sub(held.first)?;
+        let parts = held.segment.as_ref().parts.as_slice();
+        if at < parts.len() {
+            Some(&parts[at].source)
+        } else {
+            None
+        }
+    }
+
+    /// The segment that begins with the piece of this number, if one does.
+    pub(crate) fn begins(&self, number: usize) -> Option<&CachedSegment>
+        requires { AreSegments self.now }
+        ensures { IfSome result (λ h. IsCachedSegment self.now h.now) }
+    {
+        let held = self.segment_with(number)?;
+        if held.first == number {
+            Some(held)
+        } else {
+            None
+        }
+    }
+}
+
+// Whether a text begins with these bytes.
+fn begins_with_bytes(text: &[u8], first: &[u8]) -> bool
+    ensures { result ≡ true → text.now ≡ first.now ++ drop (length first.now) text.now }
+{
+    text.starts_with(first)
+}
+
+/// The first two characters of a text.
+pub(crate) fn ahead_of(text: &str) -> Lookahead
+    ensures { chars_ahead result ≡ take 2 (chars text.now) }
+{
+    let mut chars = text.chars();
+    let first = chars.next();
+    let second = chars.next();
+    Lookahead { first, second }
+}
+
+/// The characters behind a place: none where it stands between no two characters.
+pub(crate) fn ahead_at(text: &str, at: usize) -> Option<Lookahead>
+    ensures ahead { IfSome result (λ a. chars_ahead a ≡ take 2 (chars (drop at text.now))) }
+    ensures within { IfSome result (λ a. at ≤ length text.now) }
+{
+    if !text.is_char_boundary(at) {
+        return None;
+    }
+    Some(ahead_of(&text[at..]))
+}
+
+// Whether these are the characters behind a place.
+fn is_ahead(ahead: Lookahead, text: &str, at: usize) -> bool
+    ensures { result ≡ true → take 2 (chars (drop at text.now)) ≡ chars_ahead ahead }
+{
+    match ahead_at(text, at) {
+        Some(now) => now.first == ahead.first && now.second == ahead.second,
+        None => false,
+    }
+}
+
+// Whether a punct follows the first tokens as it is held to.
+fn is_followed(tokens: &[Token], count: usize, mark: bool) -> bool
+    ensures { result ≡ true → begins_with_mark (drop count tokens.now) ≡ mark }
+{
+    if count > tokens.len() {
+        return false;
+    }
+    let (_, after) = tokens.split_at(count);
+    begins_with_mark(after) == mark
+}
+
+/// Whether these tokens stand first in a text with these tokens, before the same.
+pub(crate) fn occurs_first(cutout: &TokenRun, text: &str, tokens: &[Token]) -> bool
+    ensures { result ≡ true → OccursFirst cutout.now text.now tokens.now }
+{
+    begins_with_bytes(text.as_bytes(), cutout.bytes.as_slice())
+        && is_ahead(cutout.ahead, text, cutout.bytes.len())
+        && is_followed(tokens, cutout.count, cutout.mark)
+}
+
+/// A held piece that stands first in a text with these tokens, and its place: so many from `next` on are tried.
+pub(crate) fn find_cached(
+    held: &Segments,
+    next: usize,
+    text: &str,
+    tokens: &[Token],
+    tried: usize,
+) -> Result<Option<(usize, Rc<CachedPiece>)>, TtFault>
+    requires { AreSegments held.now }
+    ensures found { IfOk result (λ found. IfSome found (λ p. IsCachedHere text.now tokens.now (rc_value p.1))) }
+    ensures number { IfOk result (λ found. IfSome found (λ p. IsHeldAt held.now p.0 (rc_value p.1))) }
+    ensures memory { IsOkUnless result fault.Memory }
+{
+    for i in next..next.saturating_add(tried) {
+        let Some(source) = held.get(i) else {
+            return Ok(None);
+        };
+        if occurs_first(&source.as_ref().cutout, text, tokens) {
+            return match source.clone() {
+                Ok(source) => Ok(Some((i, source))),
+                Err(_) => Err(TtFault::Memory),
+            };
+        }
+    }
+    Ok(None)
+}

@@ -1,0 +1,290 @@
+//! Keeps the pieces of a text that were read so far, and the segments that are made of them.
+ghost use Rattle.std.specs.Prelude.{◌≡◌, ℕ, ◌+◌, ◌-◌, ◌<◌, ◌≤◌, ◌++◌, ◌∷◌, ◌^◌, [], IfOk, IfSome, List, None, OnOk, chars, drop, length, map, take};
+ghost use Rattle.std.specs.Rc.{rc_value};
+ghost use Rattle.rustc_lexer.specs.Lexing.{tokens_of};
+ghost use Rattle.rustc_lexer.specs.TokensAt.{AreTokensFrom};
+ghost use Rattle.expander_reparse.specs.Reparsing.{AddsPieces, AddsSegment, AreMet, IsBegun, IsMet, IsReparse, TakesPart};
+ghost use Rattle.expander_reparse.specs.Segments.{AreSegments, IsCachedSegment, IsSegment, part_shown};
+ghost use Rattle.expander_reparse.specs.ByteStores.{HoldsText};
+
+use crate::piece::{Piece, PieceTree};
+use crate::resync::Resync;
+use crate::segment::{
+    CachedPiece, CachedSegment, Segment, SegmentPart, Segments, TokenRun, ahead_of, occurs_first,
+};
+use crate::segment_piece::SegmentPiece;
+use crate::shared_bytes::ByteStore;
+use bridge::begins_with_mark;
+use rustc_lexer::{Token, laws};
+use std::alloc::{AllocError, Global};
+use std::rc::Rc;
+
+// How many pieces are held as one segment, if they were read one by one.
+const MOST: usize = 64;
+
+/// A segment that is begun.
+#[derive(Drop)]
+pub(crate) struct OpenSegment {
+    // How many pieces were passed before it.
+    first: usize,
+    // Where it begins, and how many tokens are left there.
+    from: u32,
+    tokens: usize,
+    parts: Vec<SegmentPart>,
+}
+
+/// What was passed of a text.
+#[derive(Drop)]
+pub(crate) struct Reparse {
+    pub own: Vec<Piece>,
+    /// The stretches that are ended.
+    pub list: Vec<CachedSegment>,
+    begun: OpenSegment,
+    pub seeker: Resync,
+}
+
+// A segment that begins here, behind so many pieces.
+fn begin(alloc: Global, first: usize, from: u32, left: &[Token]) -> OpenSegment
+    ensures begun { (text : List ℕ) → AreTokensFrom text from left.now → IsBegun text from left.now result }
+    ensures first { result.first ≡ first }
+    ensures parts { result.parts.items ≡ [] }
+{
+    OpenSegment {
+        first,
+        from,
+        tokens: left.len(),
+        parts: Vec::new(alloc),
+    }
+}
+
+// What follows the first tokens and their bytes: where it begins, and its tokens.
+pub(crate) fn behind<'a>(
+    tokens: &'a [Token],
+    at: u32,
+    len: usize,
+    count: usize,
+) -> Option<(u32, &'a [Token])>
+    ensures { IfSome result (λ r. (r.0 ≡ at + len) × (r.1.now ≡ drop count tokens.now)) }
+{
+    let Ok(len) = u32::try_from(len) else {
+        return None;
+    };
+    let end = at.checked_add(len)?;
+    if count > tokens.len() {
+        return None;
+    }
+    let (_, after) = tokens.split_at(count);
+    Some((end, after))
+}
+
+// The bytes of a text from one place to another.
+fn bytes_between(text: &str, from: u32, to: u32) -> &[u8]
+    requires { (from ≤ to) × (to ≤ length text.now) }
+    ensures { result.now ≡ take (to - from) (drop from text.now) }
+{
+    let (_, rest) = text.as_bytes().split_at(from as usize);
+    let (bytes, _) = rest.split_at((to - from) as usize);
+    bytes
+}
+
+// The segment that was begun, where it ends.
+fn segment_of(
+    alloc: Global,
+    words: &ByteStore,
+    begun: OpenSegment,
+    text: &str,
+    at: u32,
+    left: &[Token],
+) -> Result<Rc<Segment>, AllocError>
+    requires words { HoldsText words.now text.now }
+    requires begun { IsBegun text.now at left.now begun }
+    requires here { AreTokensFrom text.now at left.now }
+    requires some { 1 ≤ length begun.parts.items }
+    ensures right { IfOk result (λ s. IsSegment (rc_value s)) }
+    ensures parts { IfOk result (λ s. (rc_value s).parts ≡ begun.parts) }
+{
+    laws::first_tokens();
+    laws::next_token();
+    let bytes = bytes_between(text, begun.from, at);
+    let bytes = words.word(alloc, begun.from as usize, bytes)?;
+    let cutout = TokenRun {
+        bytes,
+        ahead: ahead_of(&text[at as usize..]),
+        count: begun.tokens - left.len(),
+        mark: begins_with_mark(left),
+    };
+    let parts = begun.parts;
+    match Rc::new(alloc, Segment { cutout, parts }) {
+        Ok(segment) => Ok(segment),
+        Err(e) => Err(AllocError::from(e)),
+    }
+}
+
+// The pieces of a held segment, which stands at this place.
+fn push_parts(own: &mut Vec<Piece>, at: u32, held: &CachedSegment) -> Result<(), AllocError>
+    requires within { at + length (rc_value held.now.segment).cutout.bytes < 2 ^ 32 }
+    requires right { IsSegment (rc_value held.now.segment) }
+    ensures own { OnOk result (AddsPieces (map (part_shown at) (rc_value held.now.segment).parts.items) own.old.items own.new.items) }
+    ensures met { (sources : Segments) → IsCachedSegment sources held.now → AreMet sources own.old.items → OnOk result (AreMet sources own.new.items) }
+{
+    let parts = held.segment.as_ref().parts.as_slice();
+    for i in 0..parts.len() {
+        let segment = held.segment.clone()?;
+        own.push(Piece {
+            start: at + parts[i].before,
+            tree: PieceTree::Part(SegmentPiece::new(segment, i)),
+            met: held.first.checked_add(i),
+        })?;
+    }
+    Ok(())
+}
+
+impl Reparse {
+    /// Nothing was passed of a text with these tokens. There is room for as many pieces as are held, and one more.
+    pub fn new(alloc: Global, held: &Segments, tokens: &[Token]) -> Result<Self, AllocError>
+        ensures { (text : List ℕ) → AreTokensFrom text 0 tokens.now → tokens.now ≡ tokens_of (chars text) → IfOk result (λ now. IsReparse held.now text 0 tokens.now now) }
+    {
+        let own = Vec::with_capacity(alloc, held.len().saturating_add(1))?;
+        let list = Vec::with_capacity(alloc, held.list.len().saturating_add(1))?;
+        Ok(Reparse {
+            own,
+            list,
+            begun: begin(alloc, 0, 0, tokens),
+            seeker: Resync::new(held),
+        })
+    }
+
+    /// The piece stands at this place, told by the held one of this number, if by one.
+    pub(crate) fn pass(
+        &mut self,
+        at: u32,
+        source: Rc<CachedPiece>,
+        met: Option<usize>,
+    ) -> Result<(), AllocError>
+        requires { self.old.begun.from ≤ at }
+        ensures own { OnOk result (AddsPieces ((at, rc_value (rc_value source).tree) ∷ []) self.old.own.items self.new.own.items) }
+        ensures met { (held : Segments) → IsMet held met (rc_value (rc_value source).tree) → AreMet held self.old.own.items → OnOk result (AreMet held self.new.own.items) }
+        ensures begun { OnOk result (TakesPart at source self.old.begun self.new.begun) }
+        ensures list { OnOk result (self.new.list ≡ self.old.list) }
+    {
+        let tree = PieceTree::Source(source.clone()?);
+        self.own.push(Piece {
+            start: at,
+            tree,
+            met,
+        })?;
+        let before = at - self.begun.from;
+        self.begun.parts.push(SegmentPart { before, source })?;
+        Ok(())
+    }
+
+    /// The segment that was begun ends here, and the next one begins. One that has no piece is not held.
+    pub fn end(
+        &mut self,
+        alloc: Global,
+        words: &ByteStore,
+        text: &str,
+        at: u32,
+        left: &[Token],
+    ) -> Result<(), AllocError>
+        requires words { HoldsText words.now text.now }
+        requires begun { IsBegun text.now at left.now self.old.begun }
+        requires here { AreTokensFrom text.now at left.now }
+        ensures passing { (held : Segments) → IsReparse held text.now at left.now self.old → OnOk result (IsReparse held text.now at left.now self.new) }
+        ensures none { OnOk result (self.new.begun.parts.items ≡ []) }
+        ensures own { OnOk result (self.new.own ≡ self.old.own) }
+    {
+        let next = begin(alloc, self.own.len(), at, left);
+        let begun = std::mem::replace(&mut self.begun, next);
+        if begun.parts.is_empty() {
+            return Ok(());
+        }
+        let first = begun.first;
+        let segment = segment_of(alloc, words, begun, text, at, left)?;
+        self.list.push(CachedSegment { first, segment })?;
+        Ok(())
+    }
+
+    /// Ends the open segment where it has as many pieces as a segment is to have.
+    pub(crate) fn end_long(
+        &mut self,
+        alloc: Global,
+        words: &ByteStore,
+        text: &str,
+        at: u32,
+        left: &[Token],
+    ) -> Result<(), AllocError>
+        requires words { HoldsText words.now text.now }
+        requires begun { IsBegun text.now at left.now self.old.begun }
+        requires here { AreTokensFrom text.now at left.now }
+        ensures { (held : Segments) → IsReparse held text.now at left.now self.old → OnOk result (IsReparse held text.now at left.now self.new) }
+    {
+        if self.begun.parts.len() < MOST {
+            return Ok(());
+        }
+        self.end(alloc, words, text, at, left)
+    }
+
+    // A held segment stands at this place, and the next one begins behind it.
+    fn take_cached(
+        &mut self,
+        alloc: Global,
+        at: u32,
+        held: &CachedSegment,
+        end: u32,
+        after: &[Token],
+    ) -> Result<(), AllocError>
+        requires within { at + length (rc_value held.now.segment).cutout.bytes < 2 ^ 32 }
+        requires right { IsSegment (rc_value held.now.segment) }
+        ensures own { OnOk result (AddsPieces (map (part_shown at) (rc_value held.now.segment).parts.items) self.old.own.items self.new.own.items) }
+        ensures met { (sources : Segments) → IsCachedSegment sources held.now → AreMet sources self.old.own.items → OnOk result (AreMet sources self.new.own.items) }
+        ensures list { OnOk result (AddsSegment (length self.old.own.items) (rc_value held.now.segment) self.old.list.items self.new.list.items) }
+        ensures begun { (text : List ℕ) → AreTokensFrom text «end» after.now → OnOk result (IsBegun text «end» after.now self.new.begun) }
+        ensures first { OnOk result (self.new.begun.first ≡ length self.new.own.items) }
+        ensures parts { OnOk result (self.new.begun.parts.items ≡ []) }
+    {
+        let first = self.own.len();
+        push_parts(&mut self.own, at, held)?;
+        let segment = held.segment.clone()?;
+        self.list.push(CachedSegment { first, segment })?;
+        self.seeker.pass(held.segment.as_ref().parts.len());
+        self.begun = begin(alloc, self.own.len(), end, after);
+        Ok(())
+    }
+}
+
+/// The held segment that may be next is passed, where it stands at this place: how many bytes and tokens it has.
+pub(crate) fn take_segment(
+    alloc: Global,
+    words: &ByteStore,
+    held: &Segments,
+    now: &mut Reparse,
+    text: &str,
+    at: u32,
+    left: &[Token],
+) -> Result<Option<(usize, usize)>, AllocError>
+    requires small { length text.now < 2 ^ 32 }
+    requires words { HoldsText words.now text.now }
+    requires right { AreSegments held.now }
+    requires passing { IsReparse held.now text.now at left.now now.old }
+    ensures passing { IfOk result (λ size. IfSome size (λ n. IsReparse held.now text.now (at + n.0) (drop n.1 left.now) now.new)) }
+    ensures shorter { IfOk result (λ size. IfSome size (λ n. length (drop n.1 left.now) < length left.now)) }
+    ensures none { IfOk result (λ size. size ≡ None → IsReparse held.now text.now at left.now now.new) }
+{
+    laws::next_token();
+    bridge::laws::reading_behind();
+    let Some(next) = held.begins(now.seeker.next) else {
+        return Ok(None);
+    };
+    let cutout = &next.segment.as_ref().cutout;
+    if !now.seeker.tries() || !occurs_first(cutout, &text[at as usize..], left) {
+        return Ok(None);
+    }
+    let (len, count) = (cutout.bytes.len(), cutout.count);
+    let Some((end, after)) = behind(left, at, len, count) else {
+        return Ok(None);
+    };
+    now.end(alloc, words, text, at, left)?;
+    now.take_cached(alloc, at, next, end, after)?;
+    Ok(Some((len, count)))
+}

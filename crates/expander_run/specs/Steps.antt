@@ -1,0 +1,44 @@
+-- What the steps of a run promise each other.
+use Rattle.std.specs.Prelude.{◌≡◌, ℕ, ◌≤◌, ◌^◌, Bool, true, false, List, length, take, Option, None, IfSome}
+use Rattle.std.specs.Io.KnownBytes.{Appends}
+use Rattle.expander_run.specs.Lines.{report}
+use Rattle.expander_session.specs.Replies.{IsReplyTo}
+use Rattle.expander_run.specs.Runs.{IsFlushed, IsInput, Stops, run_layers, is_of_reader, is_of_writer, printed_of}
+use Rattle.expander_run.specs.Watch.{Watch}
+use Rattle.expander_scope.specs.declared.refusal.Refusal.TheVariants.{Memory}
+use Rattle.expander_session.specs.Expanded.{Expanded}
+use Rattle.expander_session.specs.declared.session.Reply.{Reply}
+use Rattle.expander_session.specs.declared.session.Reply.TheVariants.{Read}
+use Rattle.expander_run.specs.declared.program.Stop.{Stop}
+use Rattle.expander_run.specs.declared.program.Stop.TheVariants.{TooLong, ReadFailed, Refused}
+
+-- why reading ends without all bytes, and whether the reader failed
+abbrev pub StopsReading : Stop → Option (List ℕ) → Bool → Type 0
+StopsReading TooLong input failed = IfSome input (λ bytes. 2 ^ 32 ≤ length bytes) × (failed ≡ false)
+StopsReading ReadFailed input failed = failed ≡ true
+StopsReading (Refused Memory) input failed = failed ≡ false
+StopsReading _ input failed = ⊥
+
+-- a reply to the whole input, and what is told of it
+pub record Replied (input : Option (List ℕ)) (depth : ℕ) (reply : Reply) (told : List ℕ) : Type 0 where
+  pub text : List ℕ
+  pub is_input : IsInput input text
+  pub is_reply : IsReplyTo run_layers depth text None reply
+  pub is_told : told ≡ report text reply
+
+-- why there is no reply, and whether the reader failed
+pub record StopsEarly (stop : Stop) (input : Option (List ℕ)) (depth : ℕ) (failed : Bool) : Type 0 where
+  pub cause : Stops stop input depth
+  pub reader : failed ≡ is_of_reader stop
+  pub writer : is_of_writer stop ≡ false
+
+-- all is written, flushed last, and nothing failed, or a front and the writer failed
+abbrev pub Puts : {W : Type 0} → Option (List ℕ) → Option (List ℕ) → Watch W → List ℕ → Bool → Type 0
+Puts old new writer bytes true = Appends old new bytes × (writer.flushed ≡ true) × (writer.failed ≡ false)
+Puts old new writer bytes false = ((k : ℕ) × Appends old new (take k bytes)) × (writer.failed ≡ true)
+
+-- what a reply prints is written, or a front of it and the writer failed
+abbrev pub PutsReply : {W : Type 0} → Option (List ℕ) → Option (List ℕ) → Watch W → Reply → Bool → Type 0
+PutsReply old new writer reply true = Appends old new (printed_of reply) × IsFlushed reply writer × (writer.failed ≡ false)
+PutsReply old new writer reply false =
+    (e : Expanded) × (reply ≡ Read e) × ((k : ℕ) × Appends old new (take k e.printed)) × (writer.failed ≡ true)

@@ -1,0 +1,6 @@
+//! The run of a program: from a reader to two writers, with its faults told by line and byte column.
+#![tactic(auto)]
+
+mod lines;
+pub mod program;
+pub mod watched;

@@ -1,0 +1,162 @@
+//! The lines by which a program tells its faults.
+ghost use Rattle.std.specs.Prelude.{◌≡◌, ◌++◌, ℕ, ◌≤◌, ◌<◌, ◌^◌, length, string_bytes, IfOk, OnOk};
+ghost use Rattle.expander_run.specs.Lines.{column_at, fault_lines, fault_words, line, line_at, line_of, read_fault_words, report, stop_line, stop_words};
+ghost use Rattle.expander_run.specs.Spots.{IsSpot, next_spot};
+
+use crate::program::Stop;
+use bridge::ReadFaultKind;
+use expander_model::fault::{Fault, FaultKind};
+use expander_scope::refusal::Refusal;
+use expander_session::session::Reply;
+use std::alloc::{AllocError, Global};
+
+// A place of a text: its byte, from 0, and its line and byte column, from 1.
+#[derive(Clone, Copy)]
+struct Spot {
+    at: usize,
+    line: usize,
+    column: usize,
+}
+
+// The place that a text begins at.
+const FIRST: Spot = Spot {
+    at: 0,
+    line: 1,
+    column: 1,
+};
+
+// The place behind one more byte.
+fn next_spot(spot: Spot, byte: u8) -> Spot
+    requires at { spot.at < 2 ^ 32 }
+    requires line { spot.line ≤ 2 ^ 32 }
+    requires column { spot.column ≤ 2 ^ 32 }
+    ensures { result ≡ next_spot spot byte }
+{
+    let at = spot.at + 1;
+    if byte == b'\n' {
+        Spot {
+            at,
+            line: spot.line + 1,
+            column: 1,
+        }
+    } else {
+        Spot {
+            at,
+            line: spot.line,
+            column: spot.column + 1,
+        }
+    }
+}
+
+// The place of a byte, reached from one before it.
+fn walked(text: &[u8], from: Spot, to: usize) -> Spot
+    requires short { length text.now < 2 ^ 32 }
+    requires from { IsSpot text.now from }
+    requires before { from.at ≤ to }
+    requires inside { to ≤ length text.now }
+    ensures spot { IsSpot text.now result }
+    ensures at { result.at ≡ to }
+{
+    let mut spot = from;
+    while spot.at < to {
+        spot = next_spot(spot, text[spot.at]);
+    }
+    spot
+}
+
+// The place of a byte, reached from another place. What is behind the text's end is at its end.
+fn spot_of(text: &[u8], last: Spot, start: u32) -> Spot
+    requires short { length text.now < 2 ^ 32 }
+    requires last { IsSpot text.now last }
+    ensures spot { IsSpot text.now result }
+    ensures line { result.line ≡ line_at text.now start }
+    ensures column { result.column ≡ column_at text.now start }
+{
+    let to = text.len().min(start as usize);
+    if last.at <= to {
+        walked(text, last, to)
+    } else {
+        walked(text, FIRST, to)
+    }
+}
+
+// What a fault is called.
+fn fault_words(kind: FaultKind) -> &'static str
+    ensures { result.now ≡ fault_words kind }
+{
+    match kind {
+        FaultKind::CannotExpand => "no rule matches this call",
+        FaultKind::BrokenDefinition => "broken macro definition",
+        FaultKind::RecursionLimit => "recursion limit reached",
+        FaultKind::NestedDefinition => "macro definition in the output",
+        FaultKind::Unspellable => "token without a spelling",
+    }
+}
+
+// What a fault of reading is called.
+fn read_fault_words(kind: ReadFaultKind) -> &'static str
+    ensures { result.now ≡ read_fault_words kind }
+{
+    match kind {
+        ReadFaultKind::BadToken => "bad token",
+        ReadFaultKind::CloserDoesNotFit => "closing bracket does not fit",
+        ReadFaultKind::GroupLeftOpen => "group left open",
+    }
+}
+
+/// The line that tells why a run stops.
+pub(crate) fn stop_line(stop: Stop) -> &'static str
+    ensures { result.now ≡ stop_line stop }
+{
+    match stop {
+        Stop::NotUtf8 => "input is not UTF-8\n",
+        Stop::TooLong => "input is too long\n",
+        Stop::ReadFailed => "read failed\n",
+        Stop::WriteFailed => "write failed\n",
+        Stop::Refused(Refusal::Memory) => "out of memory\n",
+        Stop::Refused(Refusal::Tokens) => "too many tokens\n",
+        Stop::Refused(Refusal::Numbers) => "too many definitions\n",
+    }
+}
+
+// Adds a line.
+fn push_line(lines: &mut String, spot: Spot, what: &str) -> Result<(), AllocError>
+    ensures { OnOk result (string_bytes lines.new ≡ string_bytes lines.old ++ line spot.line spot.column what.now) }
+{
+    let Spot {
+        line,
+        column,
+        at: _,
+    } = spot;
+    writeln!(lines, "line {line}, byte column {column}: {what}")
+}
+
+// A line for each fault. Each place is reached from the one before it.
+fn fault_lines(alloc: Global, text: &str, faults: &[Fault]) -> Result<String, AllocError>
+    requires { length text.now < 2 ^ 32 }
+    ensures { IfOk result (λ lines. string_bytes lines ≡ fault_lines text.now faults.now) }
+{
+    let mut lines = String::new(alloc);
+    let mut spot = FIRST;
+    for fault in faults {
+        spot = spot_of(text.as_bytes(), spot, fault.range.start);
+        push_line(&mut lines, spot, fault_words(fault.kind))?;
+    }
+    Ok(lines)
+}
+
+/// What is told of the reply to a text.
+pub(crate) fn report(alloc: Global, text: &str, reply: &Reply) -> Result<String, AllocError>
+    requires { length text.now < 2 ^ 32 }
+    ensures { IfOk result (λ told. string_bytes told ≡ report text.now reply.now) }
+{
+    match reply {
+        Reply::Read(expansion) => fault_lines(alloc, text, expansion.faults()),
+        Reply::Unread(fault) => {
+            let mut told = String::new(alloc);
+            let spot = spot_of(text.as_bytes(), FIRST, fault.range.start);
+            push_line(&mut told, spot, read_fault_words(fault.kind))?;
+            Ok(told)
+        }
+    }
+}

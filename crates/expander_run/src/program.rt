@@ -1,0 +1,204 @@
+//! The run of a program: it reads a text, expands it, writes what that prints and tells its faults.
+ghost use Rattle.std.specs.Prelude.{◌≡◌, ℕ, Err, [], ◌^◌, ◌<◌, false, List, length, take, Option, None, IfOk, IfErr, string_bytes};
+ghost use Rattle.std.specs.Io.KnownBytes.{Appends};
+ghost use Rattle.expander_model.specs.Meaning.{meaning};
+ghost use Rattle.expander_session.specs.Replies.{IsReplyTo, NeedsNumbers};
+ghost use Rattle.expander_run.specs.Lines.{report};
+ghost use Rattle.expander_run.specs.Runs.{IsAllOf, Runs, Tells, run_layers, status, status_of};
+ghost use Rattle.expander_session.specs.TooMany.{NeedsTooMany};
+ghost use Rattle.expander_run.specs.Steps.{Puts, PutsReply, Replied, StopsEarly, StopsReading};
+
+use crate::lines::{report, stop_line};
+use crate::watched::Watched;
+use expander_scope::refusal::Refusal;
+use expander_session::commands::{Answer, Command, replay};
+use expander_session::laws;
+use expander_session::session::Reply;
+use small_grammar::SmallGrammar;
+use std::alloc::Global;
+use std::io::{Read, Write};
+use tt_data::Edition;
+
+/// The status that a program ends with.
+#[derive(Clone, Copy, Debug, PartialEq, Eq)]
+pub struct Status(pub u8);
+
+/// Why a run stops without an answer.
+#[derive(Clone, Copy)]
+pub(crate) enum Stop {
+    /// The input is no UTF-8.
+    NotUtf8,
+    /// The input has more than `u32::MAX` bytes.
+    TooLong,
+    /// The reader failed.
+    ReadFailed,
+    /// The writer failed.
+    WriteFailed,
+    /// There was no memory left, or there are too many tokens.
+    Refused(Refusal),
+}
+
+/// Reads a text to its end, expands it with `depth` levels by the small grammar, its words of edition 2024, writes and flushes what that prints, and tells its faults.
+///
+/// The status is 0 where nothing was refused and the text has no fault, else 1. Nothing is written where
+/// the text is not read or the run is refused, but by a write that fails, which leaves a front of the
+/// printed text. Then `faults` gets a line for each fault, as `line 2, byte column 1: recursion limit reached`
+/// (both numbers from 1), or one line for why the run stops, as `read failed`, and is flushed. An error of any
+/// kind of a reader or a writer is the last that is asked of it: nothing is tried again.
+pub fn run<R: Read, W: Write, E: Write>(
+    alloc: Global,
+    reader: &mut Watched<R>,
+    writer: &mut Watched<W>,
+    faults: &mut Watched<E>,
+    depth: u8,
+) -> Status
+    requires reader_fresh { reader.old.failed ≡ false }
+    requires writer_fresh { writer.old.failed ≡ false }
+    requires faults_fresh { faults.old.failed ≡ false }
+    ensures runs { (stop : Option Stop) × Runs stop (R.remaining reader.old.inner) depth
+        (Appends (W.contents writer.old.inner) (W.contents writer.new.inner))
+        (Appends (E.contents faults.old.inner) (E.contents faults.new.inner)) reader.new writer.new faults.new result }
+    ensures untold { result ≡ status 0 → faults.new ≡ faults.old }
+{
+    match answer_input(alloc, reader, depth) {
+        Ok((reply, told)) => {
+            if put_reply(writer, &reply) {
+                tell(faults, told.as_str());
+                status_of(&reply)
+            } else {
+                tell(faults, stop_line(Stop::WriteFailed));
+                Status(1)
+            }
+        }
+        Err(stop) => {
+            tell(faults, stop_line(stop));
+            Status(1)
+        }
+    }
+}
+
+// The session's reply to the whole input, and what is told of it.
+fn answer_input<R: Read>(
+    alloc: Global,
+    reader: &mut Watched<R>,
+    depth: u8,
+) -> Result<(Reply, String), Stop>
+    requires { reader.old.failed ≡ false }
+    ensures replied { IfOk result (λ answer. Replied (R.remaining reader.old.inner) depth answer.0 (string_bytes answer.1)) }
+    ensures read { IfOk result (λ answer. reader.new.failed ≡ false) }
+    ensures stopped { IfErr result (λ stop. StopsEarly stop (R.remaining reader.old.inner) depth reader.new.failed) }
+{
+    let bytes = read_all(alloc, reader)?;
+    let text = std::str::from_utf8(bytes.as_slice()).map_err(|_| Stop::NotUtf8)?;
+    answer(alloc, text, depth).map_err(Stop::Refused)
+}
+
+// The reply of a session over this text, which has one command: to expand it.
+fn expanded(alloc: Global, text: &str, depth: u8) -> Result<Reply, Refusal>
+    requires { length text.now < 2 ^ 32 }
+    ensures reply { IfOk result (IsReplyTo run_layers depth text.now None) }
+    ensures tokens { result ≡ Err Refusal.Tokens → NeedsTooMany run_layers depth text.now }
+    ensures numbers { result ≡ Err Refusal.Numbers → NeedsNumbers 0 [] (meaning run_layers depth text.now) }
+{
+    let commands = [Command::Expand];
+    let edition = Edition::Edition2024;
+    let mut answers = replay(alloc, text, SmallGrammar, edition, depth, &commands)?;
+    match answers.pop() {
+        Some(Answer::Reply(reply)) => Ok(reply),
+        Some(Answer::Refused(refusal)) => Err(refusal),
+        _ => unreachable!("a command has an answer"),
+    }
+}
+
+// The reply of a session over this text, and what is told of it. The lines are made before anything is
+// written, so that want of memory is told alone.
+fn answer(alloc: Global, text: &str, depth: u8) -> Result<(Reply, String), Refusal>
+    requires { length text.now < 2 ^ 32 }
+    ensures reply { IfOk result (λ answer. IsReplyTo run_layers depth text.now None answer.0) }
+    ensures told { IfOk result (λ answer. string_bytes answer.1 ≡ report text.now answer.0) }
+    ensures tokens { result ≡ Err Refusal.Tokens → NeedsTooMany run_layers depth text.now }
+    ensures numbers { result ≡ Err Refusal.Numbers → ⊥ }
+{
+    laws::definitions_are_no_more_than_bytes();
+    let reply = expanded(alloc, text, depth)?;
+    let told = report(alloc, text, &reply)?;
+    Ok((reply, told))
+}
+
+// All bytes to the end, or why not.
+fn read_all<R: Read>(alloc: Global, reader: &mut Watched<R>) -> Result<Vec<u8>, Stop>
+    requires { reader.old.failed ≡ false }
+    ensures whole { IfOk result (λ bytes. IsAllOf (R.remaining reader.old.inner) bytes.items) }
+    ensures short { IfOk result (λ bytes. length bytes.items < 2 ^ 32) }
+    ensures read { IfOk result (λ bytes. reader.new.failed ≡ false) }
+    ensures stopped { IfErr result (λ stop. StopsReading stop (R.remaining reader.old.inner) reader.new.failed) }
+{
+    let mut bytes = Vec::new(alloc);
+    let mut buf = [0u8; 4096];
+    while bytes.len() <= u32::MAX as usize {
+        match reader.read(&mut buf) {
+            Ok(0) => return Ok(bytes),
+            Ok(n) => {
+                if bytes.extend_from_slice(&buf[..n]).is_err() {
+                    return Err(Stop::Refused(Refusal::Memory));
+                }
+            }
+            Err(_) => return Err(Stop::ReadFailed),
+        }
+    }
+    Err(Stop::TooLong)
+}
+
+// Whether all bytes were written and flushed.
+fn put<W: Write>(writer: &mut Watched<W>, bytes: &[u8]) -> bool
+    requires { writer.old.failed ≡ false }
+    ensures { Puts (W.contents writer.old.inner) (W.contents writer.new.inner) writer.new bytes.now result }
+{
+    let mut at = 0;
+    while at < bytes.len() {
+        match writer.write(&bytes[at..]) {
+            Ok(0) => return false,
+            Ok(n) => at += n,
+            Err(_) => return false,
+        }
+    }
+    writer.flush().is_ok()
+}
+
+// Whether what a reply prints was written and flushed.
+fn put_reply<W: Write>(writer: &mut Watched<W>, reply: &Reply) -> bool
+    requires { writer.old.failed ≡ false }
+    ensures { PutsReply (W.contents writer.old.inner) (W.contents writer.new.inner) writer.new reply.now result }
+{
+    match reply {
+        Reply::Read(expansion) => put(writer, expansion.printed().as_bytes()),
+        Reply::Unread(_) => true,
+    }
+}
+
+// Tells this, if it is something.
+fn tell<E: Write>(faults: &mut Watched<E>, told: &str)
+    requires { faults.old.failed ≡ false }
+    ensures told { Tells told.now (Appends (E.contents faults.old.inner) (E.contents faults.new.inner)) faults.new }
+    ensures untold { length told.now ≡ 0 → faults.new ≡ faults.old }
+{
+    if !told.is_empty() {
+        put(faults, told.as_bytes());
+    }
+}
+
+// 0 where the text is read and has no fault.
+fn status_of(reply: &Reply) -> Status
+    ensures { result ≡ status_of reply.now }
+{
+    match reply {
+        Reply::Read(expansion) => {
+            if expansion.faults().is_empty() {
+                Status(0)
+            } else {
+                Status(1)
+            }
+        }
+        Reply::Unread(_) => Status(1),
+    }
+}

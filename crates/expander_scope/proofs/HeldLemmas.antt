@@ -1,0 +1,156 @@
+-- What is made of a text in places of its own is what the text means.
+use Rattle.std.proofs.Common.{◌≡◌, ℕ, suc, Bool, true, false, cond, List, [], ◌∷◌, map, Option, Some, None, refl, ap, sym, subst, ◌∙◌, option_map, nat_eq}
+use Rattle.std.specs.Prelude.{All}
+use Rattle.std.proofs.lemmas.Bool.Decides.{Decides-eqb}
+use Rattle.std.proofs.lemmas.List.Elements.{All-cons, All-head, All-tail}
+use Rattle.tt_data.specs.Forest.{Forest, map_spans}
+use Rattle.tt_data.specs.declared.span.Span.{Span}
+use Rattle.expander_model.specs.Changes.{outcome_with, Changes, ScopeChange}
+use Rattle.expander_model.specs.Definitions.{Definition, definition_of, nearest}
+use Rattle.expander_model.specs.Expansion.{World, Outcome, expansion}
+use Rattle.expander_model.specs.Held.{Numbered, Met, anchored, anchored_definition, moved_on, numbered_world, nearest_met, numbered_of, numbered_scope, start_of, resolve, present_definition, resolve_definition, present, met_of, with_met, kept_of, kept_after, Tells, IsNumbered, IsMet, HasNumber, StandFromFirst}
+use Rattle.expander_model.specs.Meaning.{Layers, Member, plain, defining, member, with_definition, members_after}
+use Rattle.expander_model.specs.OtherPlaces.{LooksAtNoPlace, definition_with}
+use Rattle.expander_model.specs.Pieces.{first_start, relative}
+use Rattle.small_grammar.specs.Text.{same_text}
+use Rattle.expander_scope.proofs.ChangeLemmas.{expansion-with}
+use Rattle.expander_scope.proofs.DefinitionPlaceLemmas.{definition_with-with, definition_of-with}
+use Rattle.expander_model.proofs.PlaceLemmas.{piece_and_back, resolved_piece}
+
+nat_eq-same : (n : ℕ) → nat_eq n n ≡ true
+nat_eq-same n = (Decides-eqb n n).1 refl
+
+pub some_is : {X : Type 0} (x y : X) → Some x ≡ Some y → x ≡ y
+some_is x y e = ap (λ (o : Option _). elim o [ Some z ↦ z | None ↦ x ]) e
+
+-- equal numbers, equal definitions
+pub same_definition : (table : Forest → ℕ → Type 0) → Tells table → (m k : Numbered)
+    → IsNumbered table m → IsNumbered table k → m.number ≡ k.number → m.definition ≡ k.definition
+same_definition table tells m k h g e =
+    let trees : h.tree ≡ g.tree = tells.apart h.tree g.tree k.number (subst (table h.tree) e h.entry) g.entry in
+    some_is _ _ (sym h.definition ∙ ap definition_of trees ∙ g.definition)
+
+-- what is found has the name, and was met
+pub record IsFound (P : Met → Type 0) (name : List ℕ) (m : Met) : Type 0 where
+  pub named : same_text m.numbered.definition.name.sym name ≡ true
+  pub is_so : P m
+
+pub found_is : (P : Met → Type 0) (before : List Met) (name : List ℕ) (m : Met) → All P before → nearest_met before name ≡ Some m → IsFound P name m
+found_is P [] name m h e = cc
+found_is P (k ∷ before) name m h e = go (found_is P before name m (All-tail P k before h)) (same_text k.numbered.definition.name.sym name) refl e
+  where
+    go : (nearest_met before name ≡ Some m → IsFound P name m) → (t : Bool) → same_text k.numbered.definition.name.sym name ≡ t
+        → cond t (Some k) (nearest_met before name) ≡ Some m → IsFound P name m
+    go later true named e =
+        let same : k ≡ m = some_is k m e in
+        record { named = ap (λ (x : Met). same_text x.numbered.definition.name.sym name) (sym same) ∙ named; is_so = subst P same (All-head P k before h) }
+    go later false named e = later e
+
+-- the nearest definition of a name is the nearest of its number
+start_found : (table : Forest → ℕ → Type 0) → Tells table → (before : List Met) (name : List ℕ) (m : Met)
+    → All (IsMet table) before → nearest_met before name ≡ Some m → start_of before m.numbered.number ≡ m.start
+start_found table tells [] name m h e = cc
+start_found table tells (k ∷ before) name m h e =
+    go (start_found table tells before name m (All-tail (IsMet table) k before h)) (same_text k.numbered.definition.name.sym name) refl e
+  where
+    apart : (nearest_met before name ≡ Some m → start_of before m.numbered.number ≡ m.start) → same_text k.numbered.definition.name.sym name ≡ false → nearest_met before name ≡ Some m
+        → (b : Bool) → nat_eq k.numbered.number m.numbered.number ≡ b → cond b k.start (start_of before m.numbered.number) ≡ m.start
+    apart rest named e true equal =
+        let found : IsFound (IsMet table) name m = found_is (IsMet table) before name m (All-tail (IsMet table) k before h) e in
+        let definitions : k.numbered.definition ≡ m.numbered.definition = same_definition table tells k.numbered m.numbered (All-head (IsMet table) k before h) found.is_so ((Decides-eqb _ _).0 equal) in
+        let both : false ≡ true = sym named ∙ ap (λ (d : Definition). same_text d.name.sym name) definitions ∙ found.named in
+        cc
+    apart rest named e false other = rest e
+
+    go : (nearest_met before name ≡ Some m → start_of before m.numbered.number ≡ m.start) → (t : Bool) → same_text k.numbered.definition.name.sym name ≡ t
+        → cond t (Some k) (nearest_met before name) ≡ Some m → start_of (k ∷ before) m.numbered.number ≡ m.start
+    go rest true named e =
+        let same : k ≡ m = some_is k m e in
+        subst (λ (x : Met). start_of (k ∷ before) x.numbered.number ≡ x.start) same (ap (λ (b : Bool). cond b k.start (start_of before k.numbered.number)) (nat_eq-same k.numbered.number))
+    go rest false named e = apart rest named e (nat_eq k.numbered.number m.numbered.number) refl
+
+-- a met definition in the text is what its number stands for
+pub resolved_definition : (table : Forest → ℕ → Type 0) → Tells table → (start : ℕ) (before : List Met) (name : List ℕ) (m : Met)
+    → All (IsMet table) before → nearest_met before name ≡ Some m → present_definition m ≡ resolve_definition start before m.numbered
+resolved_definition table tells start before name m h e =
+    let is_met : IsMet table m = (found_is (IsMet table) before name m h e).is_so in
+    let one : (n : ℕ) × (m.numbered.number ≡ suc n) = tells.positive is_met.tree m.numbered.number is_met.entry in
+    let number : m.numbered.number ≡ suc one.0 = one.1 in
+    let change : Span → Span = λ s. resolve start before (anchored m.numbered.number s) in
+    let place : moved_on m.start ≡ change =
+    ap moved_on (sym (start_found table tells before name m h e) ∙ ap (start_of before) number)
+    ∙ ap (λ (n : ℕ). λ (s : Span). resolve start before (anchored n s)) (sym number) in
+    ap (λ (f : Span → Span). definition_with f m.numbered.definition) place
+    ∙ sym (definition_with-with (resolve start before) (anchored m.numbered.number) m.numbered.definition)
+
+nearest_present : (before : List Met) (name : List ℕ) → nearest (map present_definition before) name ≡ option_map present_definition (nearest_met before name)
+nearest_present [] name = refl
+nearest_present (m ∷ before) name = go (nearest_present before name) (same_text m.numbered.definition.name.sym name)
+  where
+    go : nearest (map present_definition before) name ≡ option_map present_definition (nearest_met before name) → (t : Bool) → cond t (Some (present_definition m)) (nearest (map present_definition before) name) ≡ option_map present_definition (cond t (Some m) (nearest_met before name))
+    go rest true = refl
+    go rest false = rest
+
+-- a name finds the present form of what it finds by number
+pub present_scope : (table : Forest → ℕ → Type 0) → Tells table → (start : ℕ) (before : List Met)
+    → All (IsMet table) before → ScopeChange (resolve_definition start before) (numbered_scope before) (nearest (map present_definition before))
+present_scope table tells start before h name = nearest_present before name ∙ go (nearest_met before name) refl
+  where
+    go : (o : Option Met) → nearest_met before name ≡ o → option_map present_definition o ≡ option_map (resolve_definition start before) (option_map numbered_of o)
+    go None e = refl
+    go (Some m) e = ap Some (resolved_definition table tells start before name m h e)
+
+-- the worlds of a session and of its text
+pub present_world : (world : World Definition) → LooksAtNoPlace world → (start : ℕ) (before : List Met)
+    → Changes (resolve start before) (resolve_definition start before) (numbered_world world) world
+present_world world law start before = record {
+  broken = λ d. law.broken (resolve start before) (anchored_definition d);
+  fit = λ d a. law.fit (resolve start before) (λ s. refl) (anchored_definition d) a;
+  bursts = λ d a. law.bursts (resolve start before) (λ s. refl) (anchored_definition d) a;
+}
+
+-- a piece's expansion in places of its own, taken to the text, is its expansion there
+pub resolved_expansion : (world : World Definition) → LooksAtNoPlace world → (table : Forest → ℕ → Type 0) → Tells table
+    → (start : ℕ) (before : List Met) → All (IsMet table) before → (depth : ℕ) (tree : Forest)
+    → expansion world (nearest (map present_definition before)) depth None (map_spans (resolve start before) tree)
+    ≡ outcome_with (resolve start before) (resolve_definition start before) (expansion (numbered_world world) (numbered_scope before) depth None tree)
+resolved_expansion world law table tells start before h depth tree =
+    expansion-with (resolve start before) (resolve_definition start before) (numbered_world world) world (present_world world law start before)
+    (numbered_scope before) (nearest (map present_definition before)) (present_scope table tells start before h) depth None tree
+
+pub definition_there : (p : Forest) → StandFromFirst p → definition_of p ≡ option_map (definition_with (moved_on (first_start p))) (definition_of (relative p))
+definition_there p h = ap definition_of (sym (piece_and_back (first_start p) p h)) ∙ definition_of-with (moved_on (first_start p)) (relative p)
+
+-- the members of a text are its pieces in places of their own, taken to the text
+pub members_present : (layers : Layers) → LooksAtNoPlace layers.world → (table : Forest → ℕ → Type 0) → Tells table → (number_of : Forest → ℕ) (depth : ℕ)
+    → (before : List Met) → All (IsMet table) before → (ps : List Forest) → All StandFromFirst ps → All (HasNumber table number_of) ps
+    → members_after layers depth (map present_definition before) ps ≡ map present (kept_after layers.world depth number_of before ps)
+members_present layers law table tells number_of depth before h [] g n = refl
+members_present layers law table tells number_of depth before h (p ∷ ps) g n =
+    let from : StandFromFirst p = All-head StandFromFirst p ps g in
+    ap (λ (o : Option Definition). member layers depth (map present_definition before) p o ∷ members_after layers depth (with_definition o (map present_definition before)) ps)
+    (definition_there p from)
+    ∙ go from (All-head (HasNumber table number_of) p ps n)
+    (λ now are. members_present layers law table tells number_of depth now are ps (All-tail StandFromFirst p ps g) (All-tail (HasNumber table number_of) p ps n))
+    (definition_of (relative p)) refl
+  where
+    go : StandFromFirst p → HasNumber table number_of p → ((now : List Met) → All (IsMet table) now
+        → members_after layers depth (map present_definition now) ps ≡ map present (kept_after layers.world depth number_of now ps))
+        → (o : Option Definition) → definition_of (relative p) ≡ o
+        → member layers depth (map present_definition before) p (option_map (definition_with (moved_on (first_start p))) o)
+        ∷ members_after layers depth (with_definition (option_map (definition_with (moved_on (first_start p))) o) (map present_definition before)) ps
+        ≡ map present (kept_of layers.world depth number_of before p o ∷ kept_after layers.world depth number_of (with_met layers.world depth number_of p o before) ps)
+    go from numbered later (Some d) e =
+        let here : IsMet table (met_of layers.world depth number_of p d) =
+        record { tree = relative p; entry = numbered d e; definition = e } in
+        ap (λ (ms : List Member). defining (definition_with (moved_on (first_start p)) d) ∷ ms)
+        (later (met_of layers.world depth number_of p d ∷ before) (All-cons (IsMet table) (met_of layers.world depth number_of p d) before here h))
+    go from numbered later None e =
+        let there : map_spans (resolve (first_start p) before) (relative p) ≡ p = resolved_piece (first_start p) before p from in
+        let scope : List ℕ → Option Definition = nearest (map present_definition before) in
+        let rest : List Member = members_after layers depth (map present_definition before) ps in
+        ap (λ (q : Forest). plain q (expansion layers.world scope depth None q) ∷ rest) (sym there)
+        ∙ ap (λ (o : Outcome Definition). plain (map_spans (resolve (first_start p) before) (relative p)) o ∷ rest)
+        (resolved_expansion layers.world law table tells (first_start p) before h depth (relative p))
+        ∙ ap (λ (ms : List Member). present (kept_of layers.world depth number_of before p None) ∷ ms)
+        (later before h)

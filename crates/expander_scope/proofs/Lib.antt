@@ -1,0 +1,15 @@
+-- lemmas by subject; the worked rows
+pub mod MarkLemmas
+pub mod OutcomeLemmas
+pub mod CallLemmas
+pub mod HandedLemmas
+mod DefinitionLemmas
+pub mod TurnLemmas
+pub mod ChangeLemmas
+pub mod DefinitionPlaceLemmas
+pub mod HeldLemmas
+pub mod DefinitionIdLemmas
+pub mod DefinitionTextLemmas
+mod ScopeLemmas
+mod CallResultLemmas
+mod AnchoredLemmas

@@ -1,0 +1,90 @@
+-- What names find in the table of definitions that were met, and where these start.
+use Rattle.std.proofs.Common.{◌≡◌, ℕ, ◌<◌, zero, suc, List, [], ◌∷◌, ◌++◌, length, length-append, refl, sym, ap, ◌∙◌, arith, Bool, true, false, if◌then◌else◌, nat_eq}
+use Rattle.std.proofs.Math.Path.{fun_ext}
+use Rattle.std.proofs.lemmas.List.Elements.{All-head, All-tail}
+use Rattle.std.specs.Prelude.{All, IfSome, OnErr, OnOk, Result, Ok, Err, Option, Some, None, option_map, option_and_then, slice_get}
+use Rattle.expander_model.specs.Held.{Met, Numbered, numbered_of, numbered_scope, nearest_met, start_of}
+use Rattle.small_grammar.specs.Text.{same_text}
+
+get_at : {X : Type 0} (xs : List X) (x : X) → slice_get (xs ++ x ∷ []) (length xs) ≡ Some x
+get_at [] x = refl
+get_at (y ∷ xs) x = get_at xs x
+
+get_before : {X : Type 0} (xs : List X) (x : X) (i : ℕ) → i < length xs → slice_get (xs ++ x ∷ []) i ≡ slice_get xs i
+get_before [] x i h = absurd (omega arith)
+get_before (y ∷ xs) x zero h = refl
+get_before (y ∷ xs) x (suc i) h = get_before xs x i (omega arith)
+
+-- an element of a list of which something is so
+pub all_get : {X : Type 0} (P : X → Type 0) (xs : List X) (i : ℕ) → All P xs → IfSome (slice_get xs i) P
+all_get P [] i h = tt
+all_get P (x ∷ xs) zero h = All-head P x xs h
+all_get P (x ∷ xs) (suc i) h = all_get P xs i (All-tail P x xs h)
+
+-- what the index of an element finds
+abbrev found_at : {X : Type 0} → (X → Numbered) → List X → Option ℕ → Option Numbered
+found_at view items index = option_map view (option_and_then (λ i. slice_get items i) index)
+
+module _ {X : Type 0} (view : X → Numbered) where
+  more_at : (xs : List X) (x : X) (o : Option ℕ) (b : Bool) → ((i : ℕ) → o ≡ Some i → i < length xs)
+      → found_at view (xs ++ x ∷ []) (if b then Some (length xs) else o) ≡ (if b then Some (view x) else found_at view xs o)
+  more_at xs x o true within = ap (option_map view) (get_at xs x)
+  more_at xs x None false within = refl
+  more_at xs x (Some i) false within = ap (option_map view) (get_before xs x i (within i refl))
+
+  none_at : (xs : List X) (o : Option ℕ) → o ≡ None → found_at view xs o ≡ None
+  none_at xs o e = ap (found_at view xs) e
+
+nearest_first : (m : Met) (before : List Met) (name : List ℕ)
+    → numbered_scope (m ∷ before) name ≡ (if same_text m.numbered.definition.name.sym name then Some m.numbered else numbered_scope before name)
+nearest_first m before name = go (same_text m.numbered.definition.name.sym name)
+  where
+    go : (b : Bool) → option_map numbered_of (if b then Some m else nearest_met before name) ≡ (if b then Some m.numbered else numbered_scope before name)
+    go true = refl
+    go false = refl
+
+module _ {X : Type 0} (view : X → Numbered) where
+  -- no definition was met
+  pub scope_none : (xs : List X) (names : List ℕ → Option ℕ) → ((name : List ℕ) → names name ≡ None) → (λ name. found_at view xs (names name)) ≡ numbered_scope []
+  scope_none xs names none = fun_ext (λ name. none_at view xs (names name) (none name))
+
+  -- one more definition: it stands at the end of the table, and its name gets its index
+  pub scope_more : (xs ys : List X) (x : X) (n start : ℕ) (name : List ℕ) (names later : List ℕ → Option ℕ) (before : List Met)
+      → ((other : List ℕ) (i : ℕ) → names other ≡ Some i → i < length xs) → n ≡ length xs → ys ≡ xs ++ x ∷ []
+      → ((other : List ℕ) → later other ≡ (if same_text name other then Some n else names other)) → name ≡ (view x).definition.name.sym
+      → (λ other. found_at view xs (names other)) ≡ numbered_scope before
+      → (λ other. found_at view ys (later other)) ≡ numbered_scope (record { start = start; numbered = view x } ∷ before)
+  scope_more xs ys x n start name names later before within counted items named is finds =
+      fun_ext (λ other.
+      rw (named other, items, counted) (more_at view xs x (names other) (same_text name other) (within other))
+      ∙ ap (λ (w : List ℕ). if same_text w other then Some (view x) else found_at view xs (names other)) is
+      ∙ ap (λ (f : List ℕ → Option Numbered). if same_text (view x).definition.name.sym other then Some (view x) else f other) finds
+      ∙ sym (nearest_first (record { start = start; numbered = view x }) before other))
+
+-- where definitions start, with one more
+pub start_more : (m : Met) (before : List Met) (starts later : ℕ → ℕ) → ((n : ℕ) → later n ≡ (if nat_eq m.numbered.number n then m.start else starts n))
+    → ((n : ℕ) → starts n ≡ start_of before n) → (n : ℕ) → later n ≡ start_of (m ∷ before) n
+start_more m before starts later is h n = is n ∙ ap (λ (s : ℕ). if nat_eq m.numbered.number n then m.start else s) (h n)
+
+-- one more element of which something is so
+pub all_more : {X : Type 0} (P : X → Type 0) (xs ys : List X) (x : X) → ys ≡ xs ++ x ∷ [] → ((i : ℕ) → IfSome (slice_get xs i) P) → P x → (i : ℕ) → IfSome (slice_get ys i) P
+all_more P xs ys x added h p i = rw added (go xs h i)
+  where
+    go : (zs : List _) → ((i : ℕ) → IfSome (slice_get zs i) P) → (i : ℕ) → IfSome (slice_get (zs ++ x ∷ []) i) P
+    go [] g zero = p
+    go [] g (suc i) = tt
+    go (z ∷ zs) g zero = g 0
+    go (z ∷ zs) g (suc i) = go zs (λ n. g (suc n)) i
+
+-- each index that a name stands for is one of the table, once one more name was put in, or was refused
+pub within_after : {X A E : Type 0} (r : Result A E) (xs ys : List X) (x : X) (n : ℕ) (text : List ℕ) (names later : List ℕ → Option ℕ)
+    → ((other : List ℕ) (i : ℕ) → names other ≡ Some i → i < length xs) → n ≡ length xs → ys ≡ xs ++ x ∷ []
+    → OnOk r ((other : List ℕ) → later other ≡ (if same_text text other then Some n else names other)) → OnErr r ((other : List ℕ) → later other ≡ names other)
+    → (other : List ℕ) (i : ℕ) → later other ≡ Some i → i < length ys
+within_after (Ok u) xs ys x n text names later within counted added named kept other i e = go (same_text text other) (sym (named other) ∙ e)
+  where
+    go : (b : Bool) → (if b then Some n else names other) ≡ Some i → i < length ys
+    go true f = let is : n ≡ i = cc in omega (arith, counted, ap length added, length-append xs (x ∷ []))
+    go false f = omega (arith, within other i f, ap length added, length-append xs (x ∷ []))
+within_after (Err u) xs ys x n text names later within counted added named kept other i e =
+    omega (arith, within other i (sym (kept other) ∙ e), ap length added, length-append xs (x ∷ []))

@@ -1,0 +1,10 @@
+use Rattle.expander_model.specs.WalkSteps.{groups_of}
+use Rattle.expander_scope.proofs.OutcomeLemmas.{work_of}
+use Rattle.expander_scope.proofs.CallResultLemmas.{QuietSoFar}
+use Rattle.expander_scope.proofs.expand.is_quiet.Given as goal
+
+abbrev pub invariant-steps : goal.invariant-steps
+invariant-steps l = QuietSoFar l.trees l.rest
+
+abbrev pub decreases-steps : goal.decreases-steps
+decreases-steps l = work_of l.rest.here (groups_of l.rest)

@@ -1,0 +1,55 @@
+-- One turn of the search of calls in a tree of its own: what is added for the trees that are passed.
+use Rattle.std.specs.Prelude.{◌≡◌, ◌<◌, ℕ, zero, suc, Bool, false, ◌&&◌, not, List, ◌++◌, map, Option, Some, None, Result, Ok, Err, if◌then◌else◌}
+use Rattle.tt_data.specs.Forest.{Forest, size}
+use Rattle.tt_data.specs.declared.span.Span.{Span}
+use Rattle.tt.specs.Tops.{Top}
+use Rattle.expander_scope.specs.declared.expand.Expanding.{Expanding}
+use Rattle.expander_model.specs.declared.fault.FaultKind.{FaultKind}
+use Rattle.expander_model.specs.declared.fault.FaultKind.TheVariants.{CannotExpand, BrokenDefinition, RecursionLimit}
+use Rattle.expander_model.specs.Calls.{marked}
+use Rattle.expander_model.specs.Expansion.{World, Outcome, Deeper, followed_by, search_calls, expansion}
+use Rattle.expander_model.specs.Held.{Numbered}
+use Rattle.expander_scope.specs.Outcomes.{find_of, placed_of}
+
+-- what a definition that isn't broken says to a call, by what it gives for the argument
+abbrev pub answer_at : ℕ → Option Forest → Result Forest FaultKind
+answer_at zero given = Err RecursionLimit
+answer_at (suc n) None = Err CannotExpand
+answer_at (suc n) (Some result) = Ok result
+
+module _ (world : World Numbered) where
+  -- what results are expanded by, with so many levels left
+  abbrev pub deeper_at : (List ℕ → Option Numbered) → ℕ → Deeper Numbered
+  deeper_at scope zero = None
+  deeper_at scope (suc n) = Some (expansion world scope n)
+
+  -- the expansion of what is left of a list
+  abbrev pub searched : (List ℕ → Option Numbered) → ℕ → Option Span → Forest → Outcome Numbered
+  searched scope depth outer f = search_calls world scope (deeper_at scope depth) outer (marked f)
+
+  -- what comes in a call's place with so many levels left, or the fault for which it stays
+  abbrev pub answer : Numbered → ℕ → Forest → Result Forest FaultKind
+  answer d depth argument = if world.broken d then Err BrokenDefinition else answer_at depth (world.fit d argument)
+
+  -- a level is left to ask the definition, and it makes too many tokens
+  abbrev pub makes_too_many : Numbered → ℕ → Forest → Bool
+  makes_too_many d zero argument = false
+  makes_too_many d (suc n) argument = not (world.broken d) && world.bursts d argument
+
+-- the trees of a result
+abbrev pub trees_of : Result Top FaultKind → Result Forest FaultKind
+trees_of (Ok top) = Ok top.inner
+trees_of (Err kind) = Err kind
+
+-- an outcome is added to what was given
+pub record Adds (old new : Expanding) (o : Outcome Numbered) : Type 0 where
+  pub steps : map placed_of new.steps.items ≡ map placed_of old.steps.items ++ o.steps
+  pub faults : new.faults.items ≡ old.faults.items ++ o.faults
+  pub finds : map find_of new.finds.items ≡ map find_of old.finds.items ++ o.finds
+
+-- the trees are passed up to others: what is added is what the search gives for those passed
+pub record Turn (search : Forest → Outcome Numbered) (old new : Expanding) (f g : Forest) : Type 0 where
+  pub outcome : Outcome Numbered
+  pub is : search f ≡ followed_by outcome (search g)
+  pub adds : Adds old new outcome
+  pub less : size g < size f

@@ -1,0 +1,14 @@
+-- what the contracts of `Session` rest on
+pub mod Refusals
+pub mod Numbers
+-- what the functions inside the crate promise each other
+pub mod MacroDefs
+pub mod Outcomes
+pub mod Editions
+pub mod OffsetTables
+pub mod ScopeTable
+pub mod Expanding
+pub mod DefinitionIds
+pub mod Interning
+pub mod DefinitionTexts
+pub mod NameTables

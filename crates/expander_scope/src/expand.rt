@@ -1,0 +1,291 @@
+//! Expands a tree with piece-relative spans: finds its calls from left to right, and searches what each gives.
+ghost use Rattle.std.specs.Prelude.{◌≡◌, ◌<◌, ℕ, ◌++◌, ◌∷◌, [], List, map, true, IfOk, OnOk, Option, None, Err, option_map};
+ghost use Rattle.mbe.specs.Bursts as made_by;
+ghost use Rattle.mbe.specs.Macros.{rules_of};
+ghost use Rattle.mbe.specs.Markers.{is_name};
+ghost use Rattle.mbe_rules.specs.declared.macro_call_style.MacroCallStyle.TheVariants as style;
+ghost use Rattle.tt_data.specs.Forest.{Forest, joined};
+ghost use Rattle.tt_data.specs.Walk.{walk};
+ghost use Rattle.expander_model.specs.CallSteps.{call_at};
+ghost use Rattle.expander_model.specs.Expansion.{World, just, placed};
+ghost use Rattle.expander_scope.specs.Editions.{IsRead};
+ghost use Rattle.expander_model.specs.Held.{Numbered, numbered_world};
+ghost use Rattle.expander_scope.specs.ScopeTable.{AreRead, expanded_under, scope_in};
+ghost use Rattle.tt_data.specs.declared.edition.Edition.{Edition};
+ghost use Rattle.tt_data.specs.declared.span.Span.{Span};
+ghost use Rattle.expander_scope.specs.Outcomes.{find_of, numbered_of_known, parts_for, parts_of};
+ghost use Rattle.expander_scope.specs.Expanding.{Adds, Turn, answer, makes_too_many, searched, trees_of};
+ghost use Rattle.expander_model.specs.World.{fit_of, made, world};
+
+use crate::macro_def::MacroDef;
+use crate::outcome::{Event, NameLookup, Outcome, push_own_step, push_own_walk};
+use crate::scope::Scope;
+use expander_model::call::{Call, call_at, call_behind_colons};
+use expander_model::fault::FaultKind;
+use expander_model::tree_walk::TreeWalk;
+use mbe::{DeclarativeMacro, FragmentGrammar, MacroCallStyle};
+use std::alloc::{AllocError, Global};
+use std::rc::Rc;
+use tt::{TopSubtree, TtIter};
+use tt_data::{Delimiter, Span, Symbol, SyntaxContext, TtFault};
+
+/// What a search has given so far.
+#[derive(Drop)]
+pub(crate) struct Expanding {
+    pub steps: Vec<Event>,
+    pub faults: Vec<(FaultKind, Span)>,
+    pub finds: Vec<NameLookup>,
+}
+
+// Adds a name that was looked up, with what it found.
+fn push_find(
+    finds: &mut Vec<NameLookup>,
+    name: &Symbol,
+    known: Option<&Rc<MacroDef>>,
+) -> Result<(), AllocError>
+    ensures { OnOk result (map find_of finds.new.items
+        ≡ map find_of finds.old.items ++ (name.now, option_map (λ k. numbered_of_known k.now.value) known.entry) ∷ []) }
+{
+    let Ok(name) = name.clone() else {
+        unreachable!()
+    };
+    let known = match known {
+        None => None,
+        Some(known) => Some(known.clone()?),
+    };
+    finds.push(NameLookup { name, known })?;
+    Ok(())
+}
+
+// Adds a fault at the span.
+fn push_told(
+    faults: &mut Vec<(FaultKind, Span)>,
+    kind: FaultKind,
+    at: Span,
+) -> Result<(), AllocError>
+    ensures { OnOk result (faults.new.items ≡ faults.old.items ++ (kind, at) ∷ []) }
+{
+    faults.push((kind, at))?;
+    Ok(())
+}
+
+// Adds the walk of the trees up to those behind, which are left then.
+fn keep<'a>(
+    alloc: Global,
+    outer: Option<Span>,
+    out: &mut Expanding,
+    trees: &mut TtIter<'a>,
+    behind: TtIter<'a>,
+) -> Result<(), AllocError>
+    requires { (passed : Forest) × (trees.old ≡ joined passed behind) }
+    ensures rest { OnOk result (trees.new ≡ behind.entry) }
+    ensures adds { (passed : Forest) → trees.old ≡ joined passed behind.entry → OnOk result (Adds out.old out.new (just outer (walk passed))) }
+{
+    let kept = behind.passed_since(trees.remaining()).iter();
+    push_own_walk(alloc, &mut out.steps, &kept, outer)?;
+    *trees = behind;
+    Ok(())
+}
+
+// What the first of the rules that fits the argument gives, its tokens marked as made, in no brackets at a place.
+fn fit<G: FragmentGrammar>(
+    alloc: Global,
+    grammar: &G,
+    rules: &DeclarativeMacro,
+    argument: &TtIter<'_>,
+    place: Span,
+) -> Result<Option<TopSubtree>, TtFault>
+    requires { (rules_of rules.now).err ≡ None }
+    ensures fit { IfOk result (λ given. option_map (λ t. t.inner) given ≡ fit_of (G.answer grammar.now) (rules_of rules.now) argument.now) }
+    ensures tokens { result ≡ Err TtFault.Tokens → made_by.bursts is_name (G.answer grammar.now) made (rules_of rules.now).list style.FnLike argument.now ≡ true }
+{
+    let mark = |span: Span|
+        ensures { result ≡ made span }
+    {
+        Span {
+            ctx: SyntaxContext::Made,
+            ..span
+        }
+    };
+    let top = Delimiter::invisible_spanned(place);
+    let argument = argument.remaining();
+    let style = MacroCallStyle::FnLike;
+    match rules.fit(alloc, grammar, argument, &mark, style, top)? {
+        Some((_, tree)) => Ok(Some(tree)),
+        None => Ok(None),
+    }
+}
+
+// What comes in the place of a call of the definition, or the fault for which the call stays.
+fn answer<G: FragmentGrammar>(
+    alloc: Global,
+    grammar: &G,
+    known: &MacroDef,
+    depth: u8,
+    argument: &TtIter<'_>,
+    place: Span,
+) -> Result<Result<TopSubtree, FaultKind>, TtFault>
+    ensures given { (edition : Edition) → IsRead edition known.now → IfOk result (λ given. trees_of given
+        ≡ answer (numbered_world (world (G.answer grammar.now) edition)) (numbered_of_known known.now) depth argument.now) }
+    ensures deep { IfOk result (λ given. OnOk given (0 < depth)) }
+    ensures tokens { (edition : Edition) → IsRead edition known.now → result ≡ Err TtFault.Tokens →
+        makes_too_many (numbered_world (world (G.answer grammar.now) edition)) (numbered_of_known known.now) depth argument.now ≡ true }
+{
+    if known.rules.err().is_some() {
+        return Ok(Err(FaultKind::BrokenDefinition));
+    }
+    if depth == 0 {
+        return Ok(Err(FaultKind::RecursionLimit));
+    }
+    let result = fit(alloc, grammar, &known.rules, argument, place)?;
+    Ok(result.ok_or(FaultKind::CannotExpand))
+}
+
+// Expands the call with which the trees begin, and passes over it: what comes in its place is searched by itself, with a
+// level less. A call that stays for a fault is passed as it is. Where the name finds nothing, what is passed ends before
+// the group, so that the search goes on inside.
+#[cycle(searching)]
+fn expand_call<'a, G: FragmentGrammar>(
+    alloc: Global,
+    grammar: &G,
+    scope: &Scope,
+    depth: u8,
+    outer: Option<Span>,
+    out: &mut Expanding,
+    trees: &mut TtIter<'a>,
+    call: Call<'a>,
+) -> Result<(), TtFault>
+    requires call { call_at trees.old ≡ Some call }
+    requires read { AreRead scope.now }
+    ensures turn { OnOk result (Turn (searched (numbered_world (world (G.answer grammar.now) scope.now.edition)) (scope_in scope.now) depth outer) out.old out.new trees.old trees.new) }
+    ensures tokens { result ≡ Err TtFault.Tokens →
+        (searched (numbered_world (world (G.answer grammar.now) scope.now.edition)) (scope_in scope.now) depth outer trees.old).bursts ≡ true }
+{
+    let Some(known) = scope.find(&call.name.sym) else {
+        push_find(&mut out.finds, &call.name.sym, None)?;
+        keep(alloc, outer, out, trees, call.from_group)?;
+        return Ok(());
+    };
+    push_find(&mut out.finds, &call.name.sym, Some(known))?;
+    let at = outer.unwrap_or(call.name.span);
+    match answer(alloc, grammar, known.as_ref(), depth, &call.argument, at)? {
+        Ok(result) => {
+            *trees = call.rest;
+            let inside = result.token_trees().iter();
+            search(alloc, grammar, scope, depth - 1, Some(at), out, &inside)
+        }
+        Err(kind) => {
+            push_told(&mut out.faults, kind, at)?;
+            keep(alloc, outer, out, trees, call.rest)?;
+            Ok(())
+        }
+    }
+}
+
+// Searches trees for calls, those in groups too, and expands them with so many levels left. What comes out is placed at
+// the name of the call around, or at none.
+#[cycle(searching)]
+fn search<G: FragmentGrammar>(
+    alloc: Global,
+    grammar: &G,
+    scope: &Scope,
+    depth: u8,
+    outer: Option<Span>,
+    out: &mut Expanding,
+    trees: &TtIter<'_>,
+) -> Result<(), TtFault>
+    requires { AreRead scope.now }
+    ensures adds { OnOk result (Adds out.old out.new (searched (numbered_world (world (G.answer grammar.now) scope.now.edition)) (scope_in scope.now) depth outer trees.now)) }
+    ensures tokens { result ≡ Err TtFault.Tokens →
+        (searched (numbered_world (world (G.answer grammar.now) scope.now.edition)) (scope_in scope.now) depth outer trees.now).bursts ≡ true }
+{
+    let mut walk = TreeWalk::new(alloc, trees);
+    'turns: loop {
+        if let Some(call) = call_at(&walk.here) {
+            expand_call(
+                alloc,
+                grammar,
+                scope,
+                depth,
+                outer,
+                out,
+                &mut walk.here,
+                call,
+            )?;
+        } else if let Some(call) = call_behind_colons(&walk.here) {
+            keep(alloc, outer, out, &mut walk.here, call.from_group)?;
+        } else if let Some(step) = walk.next()? {
+            push_own_step(&mut out.steps, &step, outer)?;
+        } else {
+            return Ok(());
+        }
+    }
+}
+
+// Whether no call is in the trees, nor what would be one but for the `::` before it.
+fn is_quiet(alloc: Global, trees: &TtIter<'_>) -> Result<bool, AllocError>
+    ensures { IfOk result (λ quiet. quiet ≡ true → (world : World Numbered) (scope : List ℕ → Option Numbered) (depth : ℕ) (outer : Option Span) →
+        searched world scope depth outer trees.now ≡ just outer (walk trees.now)) }
+{
+    let mut rest = TreeWalk::new(alloc, trees);
+    'steps: loop {
+        if call_at(&rest.here).is_some() {
+            return Ok(false);
+        }
+        if call_behind_colons(&rest.here).is_some() {
+            return Ok(false);
+        }
+        let Some(_step) = rest.next()? else {
+            return Ok(true);
+        };
+    }
+}
+
+// What a tree without calls gives: it stays as it is.
+fn unchanged(alloc: Global) -> Outcome
+    ensures { (tree : Forest) → parts_for tree result ≡ record { steps = placed None (walk tree); faults = []; finds = [] } }
+{
+    Outcome {
+        steps: None,
+        faults: Vec::new(alloc),
+        finds: Vec::new(alloc),
+    }
+}
+
+/// Expands a tree under the definitions of a scope, with so many levels of calls.
+pub fn expand_piece<G: FragmentGrammar>(
+    alloc: Global,
+    grammar: &G,
+    scope: &Scope,
+    depth: u8,
+    tree: &TopSubtree,
+) -> Result<Outcome, TtFault>
+    requires { AreRead scope.now }
+    ensures outcome { IfOk result (λ o. parts_for tree.now.inner o
+        ≡ parts_of (expanded_under (G.answer grammar.now) scope.now depth tree.now.inner)) }
+    ensures tokens { result ≡ Err TtFault.Tokens →
+        (expanded_under (G.answer grammar.now) scope.now depth tree.now.inner).bursts ≡ true }
+{
+    let quiet = is_quiet(alloc, &tree.iter())?;
+    if quiet {
+        return Ok(unchanged(alloc));
+    }
+    let room = tree.token_trees().len().next_power_of_two();
+    let steps = Vec::with_capacity(alloc, room)?;
+    let mut out = Expanding {
+        steps,
+        faults: Vec::new(alloc),
+        finds: Vec::new(alloc),
+    };
+    search(alloc, grammar, scope, depth, None, &mut out, &tree.iter())?;
+    let Expanding {
+        steps,
+        faults,
+        finds,
+    } = out;
+    Ok(Outcome {
+        steps: Some(steps),
+        faults,
+        finds,
+    })
+}

@@ -1,0 +1,87 @@
+//! Definitions with piece-relative spans, each with its id and the rules that are read of it.
+ghost use Rattle.std.specs.Prelude.{◌≡◌, IfOk, IsOkUnless, true, is_some};
+ghost use Rattle.tt_data.specs.Forest.{map_spans};
+ghost use Rattle.tt_data.specs.fault.TtFault.TheVariants.{Memory};
+ghost use Rattle.expander_model.specs.Definitions.{definition_of};
+ghost use Rattle.expander_model.specs.Held.{anchored};
+ghost use Rattle.expander_scope.specs.MacroDefs.{definition_in};
+
+use crate::rules::rules_in;
+use expander_model::definition::definition_of;
+use mbe::DeclarativeMacro;
+use std::alloc::Global;
+use tt::TopSubtree;
+use tt_data::{Edition, Symbol, TextRange, TtFault};
+
+/// A definition in places of its own, counted from its first token, with what is read of it.
+#[derive(Drop)]
+pub struct MacroDef {
+    /// What stands for the definition: equal ones have the same number, others have others.
+    pub number: u32,
+    /// The whole piece.
+    pub tree: TopSubtree,
+    pub name: Symbol,
+    /// Where its name stands.
+    pub place: TextRange,
+    /// Its rules. Their places have its number as their anchor.
+    pub rules: DeclarativeMacro,
+    ghost is_definition: { is_some (definition_of tree.inner) ≡ true },
+    ghost named: { name ≡ (definition_in tree.inner).name.sym },
+    ghost placed: { place ≡ (definition_in tree.inner).name.span.range },
+}
+
+// The tree, each place of which has this number as its anchor.
+fn anchored_tree(alloc: Global, number: u32, tree: &TopSubtree) -> Result<TopSubtree, TtFault>
+    ensures tree { IfOk result (λ t. t.inner ≡ map_spans (anchored number) tree.now.inner) }
+    ensures memory { IsOkUnless result Memory }
+{
+    let mut copy = tree.try_clone(alloc)?;
+    let answer = move |_anchor: u32|
+        ensures { result ≡ number }
+    { number };
+    copy.change_every_ast_id(alloc, answer)?;
+    Ok(copy)
+}
+
+impl MacroDef {
+    ghost use Rattle.expander_scope.specs.Editions.{IsRead};
+
+    /// The definition that a tree is, with this number, and what is read of it, all of whose words are of this edition.
+    pub fn new(
+        alloc: Global,
+        edition: Edition,
+        number: u32,
+        tree: TopSubtree,
+    ) -> Result<Self, TtFault>
+        requires { is_some (definition_of tree.inner) ≡ true }
+        ensures number { IfOk result (λ k. k.number ≡ number) }
+        ensures tree { IfOk result (λ k. k.tree ≡ tree) }
+        ensures read { IfOk result (IsRead edition) }
+        ensures memory { IsOkUnless result Memory }
+    {
+        let anchored = anchored_tree(alloc, number, &tree)?;
+        let Some(definition) = definition_of(&anchored.iter()) else {
+            unreachable!()
+        };
+        let place = definition.name.span.range;
+        let rules = rules_in(alloc, edition, &definition)?;
+        let Ok(name) = definition.name.sym.clone() else {
+            unreachable!()
+        };
+        Ok(MacroDef {
+            number,
+            tree,
+            name,
+            place,
+            rules,
+        })
+    }
+
+    /// How long the name is, and the number.
+    pub fn size(&self) -> usize {
+        self.name
+            .as_str()
+            .len()
+            .saturating_add(self.number as usize)
+    }
+}

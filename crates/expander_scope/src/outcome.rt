@@ -1,0 +1,119 @@
+//! The result of an expansion, with piece-relative spans: events, faults and look-ups.
+ghost use Rattle.std.specs.Prelude.{◌≡◌, ◌∷◌, [], ◌++◌, OnOk, map};
+ghost use Rattle.bridge.specs.TokenEvents.{step_of};
+ghost use Rattle.tt_data.specs.Walk.{walk};
+ghost use Rattle.expander_model.specs.Expansion.{placed};
+ghost use Rattle.expander_scope.specs.Outcomes.{kind_of, placed_of};
+
+use crate::macro_def::MacroDef;
+use bridge::TokenEvent;
+use expander_model::fault::FaultKind;
+use expander_model::tree_walk::TreeWalk;
+use std::alloc::{AllocError, Global};
+use std::rc::Rc;
+use tt::TtIter;
+use tt_data::{DelimiterKind, Leaf, Span, Symbol};
+
+/// A step of a walk over trees: a leaf, or a bracket of a group that may be invisible.
+#[derive(Drop)]
+pub enum EventKind {
+    Leaf(Leaf),
+    Opens(DelimiterKind, Span),
+    Closes(DelimiterKind, Span),
+}
+
+/// A step of the output, and the name of the outermost call that was expanded to give it, or none.
+#[derive(Drop)]
+pub struct Event {
+    pub kind: EventKind,
+    pub outer: Option<Span>,
+}
+
+/// A name that was looked up, and the definition found, or none.
+#[derive(Drop)]
+pub struct NameLookup {
+    pub name: Symbol,
+    pub known: Option<Rc<MacroDef>>,
+}
+
+impl NameLookup {
+    /// How long the name is, and the number of what it finds.
+    pub fn size(&self) -> usize {
+        let name = self.name.as_str().len();
+        match &self.known {
+            Some(known) => name.saturating_add(known.as_ref().number as usize),
+            None => name,
+        }
+    }
+}
+
+/// What an expansion gives of a tree.
+#[derive(Drop)]
+pub struct Outcome {
+    /// Its steps: none where the tree stays as it is.
+    pub steps: Option<Vec<Event>>,
+    /// Each fault with the span of the name that it is told at.
+    pub faults: Vec<(FaultKind, Span)>,
+    /// Each name that was looked up, in order.
+    pub finds: Vec<NameLookup>,
+}
+
+// The leaf once more. Its text gets one more owner, and so it is never refused.
+fn same_leaf(leaf: &Leaf) -> Leaf
+    ensures { result ≡ leaf.now }
+{
+    let Ok(leaf) = leaf.clone() else {
+        unreachable!()
+    };
+    leaf
+}
+
+fn kept_step(step: &TokenEvent<'_>) -> EventKind
+    ensures { kind_of result ≡ step_of step.now }
+{
+    match step {
+        TokenEvent::Leaf(leaf) => EventKind::Leaf(same_leaf(leaf)),
+        TokenEvent::Opens(kind, span) => EventKind::Opens(*kind, *span),
+        TokenEvent::Closes(kind, span) => EventKind::Closes(*kind, *span),
+    }
+}
+
+/// The step, lent.
+pub fn lent(kind: &EventKind) -> TokenEvent<'_>
+    ensures { step_of result ≡ kind_of kind.now }
+{
+    match kind {
+        EventKind::Leaf(leaf) => TokenEvent::Leaf(leaf),
+        EventKind::Opens(kind, span) => TokenEvent::Opens(*kind, *span),
+        EventKind::Closes(kind, span) => TokenEvent::Closes(*kind, *span),
+    }
+}
+
+/// Adds one step.
+pub(crate) fn push_own_step(
+    steps: &mut Vec<Event>,
+    step: &TokenEvent<'_>,
+    outer: Option<Span>,
+) -> Result<(), AllocError>
+    ensures { OnOk result (map placed_of steps.new.items ≡ map placed_of steps.old.items ++ placed outer (step_of step.now ∷ [])) }
+{
+    let kind = kept_step(step);
+    steps.push(Event { kind, outer })?;
+    Ok(())
+}
+
+/// Adds the walk of the trees, placed at the name of a call that was expanded, or at none.
+pub(crate) fn push_own_walk(
+    alloc: Global,
+    steps: &mut Vec<Event>,
+    trees: &TtIter<'_>,
+    outer: Option<Span>,
+) -> Result<(), AllocError>
+    ensures { OnOk result (map placed_of steps.new.items ≡ map placed_of steps.old.items ++ placed outer (walk trees.now)) }
+{
+    let mut rest = TreeWalk::new(alloc, trees);
+    while let Some(step) = rest.next()? {
+        push_own_step(steps, &step, outer)?;
+    }
+    Ok(())
+}

@@ -1,0 +1,37 @@
+//! Why a session gives no reply.
+ghost use Rattle.std.specs.Prelude.{◌≡◌};
+ghost use Rattle.expander_scope.specs.Refusals.{refusal_of};
+ghost use Rattle.expander_scope.specs.declared.refusal.Refusal.TheVariants.{Memory};
+
+use std::alloc::AllocError;
+use tt_data::TtFault;
+
+/// Why there is no reply. The session is as it was.
+#[derive(Clone, Copy, Debug, PartialEq, Eq)]
+pub enum Refusal {
+    /// There was no memory left.
+    Memory,
+    /// A tree would have more than `u32::MAX` tokens.
+    Tokens,
+    /// More than `u32::MAX` definitions would have been numbered.
+    Numbers,
+}
+
+impl From<TtFault> for Refusal {
+    ghost from_gives = { λ fault refusal. refusal ≡ refusal_of fault };
+
+    fn from(fault: TtFault) -> Refusal {
+        match fault {
+            TtFault::Tokens => Refusal::Tokens,
+            _ => Refusal::Memory,
+        }
+    }
+}
+
+impl From<AllocError> for Refusal {
+    ghost from_gives = { λ _ refusal. refusal ≡ Memory };
+
+    fn from(_: AllocError) -> Refusal {
+        Refusal::Memory
+    }
+}

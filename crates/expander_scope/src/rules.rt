@@ -1,0 +1,49 @@
+//! Reads the rules of a definition, by `mbe`.
+ghost use Rattle.std.specs.Prelude.{◌≡◌, IfOk, IsOkUnless};
+ghost use Rattle.tt_data.specs.fault.TtFault.TheVariants.{Memory};
+ghost use Rattle.mbe.specs.Macros.{rules_of};
+ghost use Rattle.expander_model.specs.World.{rules_in};
+
+use expander_model::definition::Definition;
+use mbe::DeclarativeMacro;
+use std::alloc::Global;
+use tt::{TopSubtree, TtIter};
+use tt_data::{Delimiter, Edition, Span, SyntaxContext, TtFault};
+
+// The trees as a tree of their own. They are some of a tree's, so that they are not too many.
+fn tree_of(alloc: Global, trees: &TtIter<'_>, place: Span) -> Result<TopSubtree, TtFault>
+    ensures trees { IfOk result (λ t. t.inner ≡ trees.now) }
+    ensures memory { IsOkUnless result Memory }
+{
+    let top = Delimiter::invisible_spanned(place);
+    match TopSubtree::from_token_trees(alloc, top, trees.remaining()) {
+        Err(_) => Err(TtFault::Memory),
+        tree => tree,
+    }
+}
+
+/// What is read of a definition, all of whose words are of this edition.
+pub(crate) fn rules_in(
+    alloc: Global,
+    edition: Edition,
+    definition: &Definition<'_>,
+) -> Result<DeclarativeMacro, TtFault>
+    ensures rules { IfOk result (λ m. rules_of m ≡ rules_in edition definition.now) }
+    ensures memory { IsOkUnless result Memory }
+{
+    let place = definition.name.span;
+    let words = move |_: SyntaxContext|
+        ensures { result ≡ edition }
+    { edition };
+    let body = tree_of(alloc, &definition.body, place)?;
+    if !definition.is_macro {
+        return DeclarativeMacro::parse_macro_rules(alloc, &body, words);
+    }
+    match &definition.arguments {
+        None => DeclarativeMacro::parse_macro2(alloc, None, &body, words),
+        Some(arguments) => {
+            let arguments = tree_of(alloc, arguments, place)?;
+            DeclarativeMacro::parse_macro2(alloc, Some(&arguments), &body, words)
+        }
+    }
+}

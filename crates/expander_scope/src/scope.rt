@@ -1,0 +1,76 @@
+//! The definitions before a piece: of each name the nearest, and where it starts.
+ghost use Rattle.std.specs.Prelude.{length};
+ghost use Rattle.expander_scope.specs.NameTables.{IsWithin};
+
+use crate::macro_def::MacroDef;
+use crate::name_table::NameTable;
+use crate::offsets::Offsets;
+use std::alloc::{AllocError, Global};
+use std::rc::Rc;
+use tt_data::{Edition, Symbol};
+
+/// The definitions met so far.
+#[derive(Drop)]
+pub struct Scope {
+    /// The edition of all words.
+    pub edition: Edition,
+    names: NameTable,
+    known: Vec<Rc<MacroDef>>,
+    /// Where the nearest definition of each number starts.
+    pub starts: Offsets,
+    ghost in_range: { IsWithin names (length known.items) },
+}
+
+impl Scope {
+    ghost use Rattle.std.specs.Prelude.{◌≡◌, ◌∷◌, [], List, IfOk, IfSome, OnOk, option_map};
+    ghost use Rattle.expander_scope.specs.Editions.{IsRead};
+    ghost use Rattle.expander_model.specs.Held.{Met};
+    ghost use Rattle.expander_scope.specs.ScopeTable.{AreRead, HasMet, scope_in};
+    ghost use Rattle.expander_scope.specs.Outcomes.{numbered_of_known};
+
+    /// No definition was met. There is room for so many.
+    pub fn with_room(alloc: Global, edition: Edition, count: usize) -> Result<Self, AllocError>
+        ensures none { IfOk result (λ scope. HasMet scope []) }
+        ensures edition { IfOk result (λ scope. scope.edition ≡ edition) }
+        ensures read { IfOk result AreRead }
+    {
+        let names = NameTable::with_room(alloc, count)?;
+        let known = Vec::with_capacity(alloc, count)?;
+        let starts = Offsets::with_room(alloc, count)?;
+        Ok(Scope {
+            edition,
+            names,
+            known,
+            starts,
+        })
+    }
+
+    /// One more definition, which starts here: from now on its name finds it.
+    pub fn define(&mut self, start: u32, known: Rc<MacroDef>) -> Result<(), AllocError>
+        requires rules { IsRead self.old.edition known.value }
+        requires read { AreRead self.old }
+        ensures met { (before : List Met) → HasMet self.old before →
+            OnOk result (HasMet self.new (record { start = start; numbered = numbered_of_known known.value } ∷ before)) }
+        ensures edition { OnOk result (self.new.edition ≡ self.old.edition) }
+        ensures read { OnOk result (AreRead self.new) }
+    {
+        let Ok(name) = known.as_ref().name.clone() else {
+            unreachable!()
+        };
+        let number = known.as_ref().number;
+        self.starts.insert(number, start)?;
+        let index = self.known.len();
+        self.known.push(known)?;
+        self.names.insert(name, index)
+    }
+
+    /// What a name finds.
+    #[tactic(auto, unfolding(crate::specs::ScopeTable::scope_in))]
+    pub fn find(&self, name: &Symbol) -> Option<&Rc<MacroDef>>
+        requires { AreRead self.now }
+        ensures found { option_map (λ k. numbered_of_known k.now.value) result ≡ scope_in self.now name.now }
+        ensures rules { IfSome result (λ k. IsRead self.now.edition k.now.value) }
+    {
+        self.known.get(self.names.get(name)?)
+    }
+}

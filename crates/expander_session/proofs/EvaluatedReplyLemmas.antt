@@ -1,0 +1,101 @@
+-- What a session replies that took a text over what it held.
+use Rattle.std.proofs.Common.{◌≡◌, ◌↔◌, ℕ, ◌+◌, ◌≤◌, ◌^◌, true, List, [], ◌++◌, map, Option, Some, None, refl, ap, sym, subst, ◌∙◌, arith, length, option_map}
+use Rattle.std.specs.Prelude.{All, IsUtf8, Ok, Result, filter, filter_map, unwrap_or}
+use Rattle.bridge.specs.TokenSteps.{text_reading}
+use Rattle.bridge.specs.declared.reading.outcome.ReadFault.{ReadFault}
+use Rattle.mbe.specs.Grammar.{Grammar}
+use Rattle.tt_data.specs.Forest.{Forest}
+use Rattle.tt_data.specs.declared.edition.Edition.{Edition}
+use Rattle.expander_session.specs.Count.{Looked, expanded_count, looked_of}
+use Rattle.expander_model.specs.EqualTrees.{same_forest}
+use Rattle.expander_session.specs.Expanded.{Expanded, origin_of}
+use Rattle.expander_model.specs.Held.{Kept, definition_trees, kept_after}
+use Rattle.expander_session.specs.Layered.{layers}
+use Rattle.expander_model.specs.Meaning.{Layers, ReadMeaning, meaning, meaning_from, meaning_of, members}
+use Rattle.expander_scope.specs.DefinitionIds.{AreNumbered, number_by, numbered_by}
+use Rattle.expander_scope.specs.Numbers.{needed}
+use Rattle.expander_model.specs.Pieces.{pieces}
+use Rattle.expander_session.specs.Replies.{IsMeant, NeedsNumbers, Replies, definitions_in, looked_in}
+use Rattle.expander_session.specs.Reuse.{HeldPiece, IsHeld, looked_held}
+use Rattle.expander_session.specs.State.{State}
+use Rattle.expander_session.specs.TextTurn.{held_of, is_unmatched}
+use Rattle.expander_model.specs.World.{world}
+use Rattle.expander_session.specs.declared.session.Reply.TheVariants.{Read}
+use Rattle.expander_scope.proofs.DefinitionIdLemmas.{needed_front}
+use Rattle.expander_session.proofs.EvaluatedLemmas.{taken_count, taken_looked}
+use Rattle.expander_session.proofs.TreeLemmas.{trees_of_members}
+use Rattle.expander_session.proofs.WholeTurnLemmas.{TurnLaws}
+
+same_earlier : (held : Option (List HeldPiece)) (now : List Looked)
+    → expanded_count (Some (map looked_held (unwrap_or held []))) now ≡ expanded_count (option_map (map looked_held) held) now
+same_earlier None now = refl
+same_earlier (Some held) now = refl
+
+-- what was held, and is right by its numbers
+pub record Had {G : Type 0} (grammar : Grammar) (edition : Edition) (s : State G) (numbers : Forest → Option ℕ) (held : Option (List HeldPiece)) : Type 0 where
+  pub view : s.held ≡ option_map (map looked_held) held
+  pub right : All (IsHeld (world grammar edition) s.depth (numbered_by numbers)) (unwrap_or held [])
+
+-- what is shown of a text
+pub record ShowsText (layers : Layers) (depth : ℕ) (f : Forest) (count : ℕ) (e : Expanded) : Type 0 where
+  pub printed : e.printed ≡ (meaning_of layers (members layers depth f)).text
+  pub faults : e.faults ≡ (meaning_of layers (members layers depth f)).faults
+  pub origins : e.origins ≡ map origin_of (meaning_of layers (members layers depth f)).tokens
+  pub expanded : e.expanded ≡ count
+
+-- a session that is the same but for what it holds
+pub record KeepsSetting {G : Type 0} (old new : State G) : Type 0 where
+  pub text : new.text ≡ old.text
+  pub grammar : new.grammar ≡ old.grammar
+  pub edition : new.edition ≡ old.edition
+  pub depth : new.depth ≡ old.depth
+
+module _ {G : Type 0} (grammar : Grammar) (edition : Edition) (s : State G) (f : Forest) (read : text_reading s.text ≡ Ok f) where
+  abbrev L : Layers
+  L = layers grammar edition
+
+  means : meaning L s.depth s.text ≡ Ok (meaning_of L (members L s.depth f))
+  means = ap (meaning_from L s.depth) read
+
+  trees_are : definition_trees (pieces f) ≡ definitions_in (meaning L s.depth s.text)
+  trees_are = sym (trees_of_members L s.depth [] (pieces f)) ∙ ap definitions_in (sym means)
+
+  -- more definitions than numbers
+  pub too_many_numbers : ((a b : Forest) → (same_forest a b ≡ true) ↔ (a ≡ b)) → (front more : List Forest) → definition_trees (pieces f) ≡ front ++ more
+      → 2 ^ 32 ≤ s.given + needed s.trees front → NeedsNumbers s.given s.trees (meaning L s.depth s.text)
+  too_many_numbers equal front more are many =
+      let n : needed s.trees front ≤ needed s.trees (front ++ more) = needed_front equal s.trees front more in
+      let all : 2 ^ 32 ≤ s.given + needed s.trees (front ++ more) = omega (arith, many, n) in
+      subst (λ (ts : List Forest). 2 ^ 32 ≤ s.given + needed s.trees ts) (sym are ∙ trees_are) all
+
+  module _ (laws : TurnLaws) (is_text : IsUtf8 s.text) (old : Forest → Option ℕ) (given : ℕ) (now : Forest → Option ℕ)
+      (are : AreNumbered s.given old s.trees (definition_trees (pieces f)) given now) (held : Option (List HeldPiece)) (had : Had grammar edition s old held) where
+    abbrev news : List Kept
+    news = kept_after (world grammar edition) s.depth (number_by now) [] (pieces f)
+
+    pub taken_reply : (new : State G) (e : Expanded) → ShowsText L s.depth f (length (filter (is_unmatched (unwrap_or held [])) news)) e → KeepsSetting s new
+        → new.held ≡ Some (map looked_held (filter_map held_of news)) → new.trees ≡ definition_trees (pieces f) → new.given ≡ given
+        → Replies L s new (Read e)
+    taken_reply new e shows keeps holds trees gives = (
+      subst (λ (m : Result ReadMeaning ReadFault). IsMeant m s.held (Read e)) (sym means)
+          (record {
+            printed = shows.printed;
+            faults = shows.faults;
+            origins = shows.origins;
+            expanded = shows.expanded
+                ∙ sym (taken_count laws grammar edition s.depth s.text f is_text read s.given old s.trees given now are (unwrap_or held []) had.right)
+                ∙ same_earlier held (looked_of (members L s.depth f))
+                ∙ ap (λ (o : Option (List Looked)). expanded_count o (looked_of (members L s.depth f))) (sym had.view);
+          }),
+      record {
+        text = keeps.text;
+        grammar = keeps.grammar;
+        edition = keeps.edition;
+        depth = keeps.depth;
+        held = holds
+            ∙ ap Some (sym (taken_looked laws grammar edition s.depth s.text f is_text read s.given old s.trees given now are (unwrap_or held []) had.right))
+            ∙ ap (λ (m : Result ReadMeaning ReadFault). Some (looked_in m)) (sym means);
+        trees = trees ∙ trees_are;
+        given = gives ∙ are.given_is ∙ ap (λ (ts : List Forest). s.given + needed s.trees ts) trees_are;
+      },
+    )

@@ -1,0 +1,30 @@
+-- lemmas by subject; the worked rows
+mod LeftOutLemmas
+pub mod PrintingLemmas
+mod MemoRefLemmas
+pub mod WordLemmas
+pub mod AgreementLemmas
+pub mod FindsLemmas
+mod TreeIndexLemmas
+pub mod WorldLemmas
+pub mod TreeLemmas
+pub mod ReadPlaceLemmas
+pub mod TextPlaceLemmas
+pub mod ReuseLemmas
+pub mod TextTurnLemmas
+pub mod WholeTurnLemmas
+pub mod NumberLemmas
+pub mod DefinitionCountLemmas
+pub mod KeptLemmas
+mod EvaluatedLemmas
+mod EvaluatedReplyLemmas
+mod ScopePieceLemmas
+mod AbsoluteSpanLemmas
+mod PartLemmas
+mod MemoLemmas
+mod CacheLemmas
+mod EvaluateLemmas
+mod PassLemmas
+mod PassLoopLemmas
+mod SessionLemmas
+mod CommandLemmas

@@ -1,0 +1,60 @@
+-- What a session holds of the last text that was read.
+use Rattle.std.specs.Prelude.{◌≡◌, ℕ, false, All, List, [], Option, Some, None, if◌then◌else◌, map, option_map}
+use Rattle.std.specs.Rc.{rc_value}
+use Rattle.bridge.specs.ReadText.{text_top}
+use Rattle.tt_data.specs.Forest.{Forest}
+use Rattle.tt_data.specs.declared.edition.Edition.{Edition}
+use Rattle.expander_session.specs.Agreement.{scope_of}
+use Rattle.expander_scope.specs.Interning.{AllRead, AreInTable, IsTable, definition_tops, numbers_in}
+use Rattle.expander_session.specs.Count.{Looked}
+use Rattle.expander_model.specs.Definitions.{Definition}
+use Rattle.expander_model.specs.Expansion.{World, expansion}
+use Rattle.expander_model.specs.Held.{Numbered, numbered_world}
+use Rattle.expander_session.specs.CachedOutputs.{Holds}
+use Rattle.expander_session.specs.MemoRefs.{AreLinked, plain_tops}
+use Rattle.expander_scope.specs.DefinitionTexts.{inner_of}
+use Rattle.expander_scope.specs.DefinitionIds.{AreNumbers, HaveNumbers, numbered_by}
+use Rattle.expander_scope.specs.Outcomes.{parts_of}
+use Rattle.expander_session.specs.Memos.{AreHashes, IsPlain, finds_of, tree_of}
+use Rattle.expander_session.specs.Reuse.{HeldPiece, IsHeld}
+use Rattle.expander_reparse.specs.Segments.{AreSegments, all_in}
+use Rattle.expander_session.specs.declared.cache.Cache as code
+use Rattle.expander_session.specs.declared.memo.Memo.{Memo}
+
+-- a plain piece, as the count sees it
+abbrev pub looked_plain : Memo → Looked
+looked_plain q = record { tree = (tree_of q).inner; finds = map (λ f. (f.0, option_map (λ (d : Numbered). d.definition.piece) f.1)) (finds_of q) }
+
+-- the plain pieces, as the count sees them: none before the first text that was read
+abbrev pub held_in : code.Cache → Option (List Looked)
+held_in m = if m.was_read then Some (map (λ q. looked_plain (rc_value q)) m.plains.items) else None
+
+-- the trees of the definitions
+abbrev pub trees_of : code.Cache → List Forest
+trees_of m = map (λ k. inner_of (rc_value k)) m.definitions.items
+
+module _ (world : World Definition) (depth : ℕ) where
+  -- a plain piece with its whole expansion, where each name finds what it is held to find
+  abbrev pub piece_of : Memo → HeldPiece
+  piece_of q = record { tree = (tree_of q).inner; outcome = expansion (numbered_world world) (scope_of (finds_of q)) depth None (tree_of q).inner }
+
+  -- a plain piece has a tree of its own, which is no definition, and is what its expansion is
+  pub record IsRight (numbers : Forest → Option ℕ) (q : Memo) : Type 0 where
+    pub top : (tree_of q).delimiter ≡ text_top
+    pub parts : Holds q (parts_of (piece_of q).outcome)
+    pub held : IsHeld world depth (numbered_by numbers) (piece_of q)
+    pub plain : IsPlain q
+
+  -- what is held is right by the numbers of the definitions that are held
+  pub record IsCache (edition : Edition) (m : code.Cache) : Type 0 where
+    -- no piece before the first text that was read
+    pub unread : m.was_read ≡ false → m.plains.items ≡ []
+    pub numbers : AreNumbers m.given (numbers_in m.by_tree)
+    pub have : HaveNumbers (numbers_in m.by_tree) (trees_of m)
+    pub table : IsTable m.by_tree
+    pub listed : AreInTable m.by_tree m.definitions.items
+    pub read : AllRead edition m.by_tree
+    pub right : All (λ q. IsRight (numbers_in m.by_tree) (rc_value q)) m.plains.items
+    pub hashes : AreHashes m.hashes.items m.plains.items
+    pub sources : AreSegments m.sources
+    pub linked : AreLinked (plain_tops m.plains.items) (definition_tops m.definitions.items) (all_in m.sources) m.links.items

@@ -1,0 +1,11 @@
+-- What the meaning of a text stands on: how it is read, what its definitions mean, and how tokens are spelled.
+use Rattle.tt_data.specs.declared.edition.Edition.{Edition}
+use Rattle.bridge.specs.TokenSteps.{text_reading}
+use Rattle.mbe.specs.Grammar.{Grammar}
+use Rattle.expander_model.specs.Meaning.{Layers}
+use Rattle.expander_model.specs.Printing.{spelling_before}
+use Rattle.expander_model.specs.World.{world}
+
+-- the layers for a grammar's answers and an edition
+abbrev pub layers : Grammar → Edition → Layers
+layers grammar edition = record { read = text_reading; world = world grammar edition; spelling = spelling_before }

@@ -1,0 +1,26 @@
+-- what a text means, in reading order
+pub mod Count
+-- what the meaning of a text stands on
+pub mod Layered
+-- what the contracts of `Session` and `replay`, and the laws, rest on
+pub mod State
+pub mod Expanded
+pub mod TooMany
+pub mod Replies
+pub mod Answers
+pub mod Laws
+pub mod Agreement
+pub mod Reuse
+pub mod TextTurn
+-- what the functions inside the crate promise each other
+pub mod TreeIndexes
+pub mod AbsoluteSpans
+pub mod Memos
+pub mod MemoRefs
+pub mod Caches
+pub mod Evaluating
+pub mod EvaluatedTexts
+pub mod Emitting
+pub mod Shown
+pub mod CommandTurns
+pub mod CachedOutputs

@@ -1,0 +1,46 @@
+-- Plain pieces as the code holds them.
+use Rattle.std.specs.Prelude.{◌≡◌, ℕ, ◌<◌, Bool, true, false, ◌&&◌, IfSome, List, Option, is_some, length, map, slice_get}
+use Rattle.std.specs.List.{list_any}
+use Rattle.std.specs.Global.{Global}
+use Rattle.std.specs.Rc.{rc_value}
+use Rattle.std.specs.declared.rc.Rc.{Rc}
+use Rattle.tt.specs.Tops.{Top}
+use Rattle.expander_session.specs.TreeIndexes.{AreChained}
+use Rattle.expander_model.specs.Definitions.{definition_of}
+use Rattle.expander_model.specs.Held.{Numbered}
+use Rattle.expander_scope.specs.Outcomes.{find_of}
+use Rattle.expander_model.specs.HashedTrees.{tree_hash}
+use Rattle.expander_session.specs.Reuse.{agrees}
+use Rattle.expander_model.specs.EqualTrees.{same_top}
+use Rattle.expander_session.specs.declared.memo.MemoIndex.{MemoIndex}
+use Rattle.expander_session.specs.declared.memo.Memo.{Memo}
+
+-- the tree of a piece
+abbrev pub tree_of : Memo → Top
+tree_of q = q.tree.value
+
+-- it is no definition
+abbrev pub IsPlain : Memo → Type 0
+IsPlain q = is_some (definition_of (tree_of q).inner) ≡ false
+
+-- what its names found
+abbrev pub finds_of : Memo → List (List ℕ × Option Numbered)
+finds_of q = map find_of q.finds.items
+
+-- a held piece with this tree, whose names find what they found
+abbrev pub is_match : (List ℕ → Option Numbered) → Top → Memo → Bool
+is_match scope tree q = same_top tree (tree_of q) && agrees scope (finds_of q)
+
+-- these are the hashes of the trees of these pieces, in their order
+abbrev pub AreHashes : List ℕ → List (Rc Memo Global) → Type 0
+AreHashes hashes held = hashes ≡ map (λ (q : Rc Memo Global). tree_hash (tree_of (rc_value q))) held
+
+-- the table, where it was made, is of these pieces
+abbrev pub Finds : MemoIndex → List (Rc Memo Global) → Type 0
+Finds lookup held = IfSome lookup.chains (λ c. AreChained c (map (λ q. tree_of (rc_value q)) held))
+
+-- the piece at this place is such a one
+pub record IsMatchAt (scope : List ℕ → Option Numbered) (tree : Top) (held : List (Rc Memo Global)) (i : ℕ) : Type 0 where
+  pub within : i < length held
+  pub any : true ≡ list_any (λ q. is_match scope tree (rc_value q)) held
+  pub found : IfSome (slice_get held i) (λ q. is_match scope tree (rc_value q) ≡ true)

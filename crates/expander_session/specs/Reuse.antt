@@ -1,0 +1,52 @@
+-- What is held of a text that was read, and what is taken from it.
+use Rattle.std.specs.Prelude.{◌≡◌, ℕ, Bool, true, false, ◌&&◌, All, List, Option, Some, None, map, nat_eq, option_map}
+use Rattle.std.specs.List.{list_all}
+use Rattle.tt_data.specs.Forest.{Forest}
+use Rattle.expander_session.specs.Agreement.{scope_of}
+use Rattle.expander_session.specs.Count.{Looked}
+use Rattle.expander_model.specs.EqualTrees.{same_forest}
+use Rattle.expander_model.specs.Definitions.{Definition}
+use Rattle.expander_model.specs.Expansion.{Outcome, World, expansion}
+use Rattle.expander_model.specs.Held.{IsNumbered, Numbered, numbered_world}
+
+-- a plain piece in places of its own, with its outcome
+pub record HeldPiece : Type 0 where
+  pub tree : Forest
+  pub outcome : Outcome Numbered
+
+-- a name finds a definition of the same number, or none in both
+abbrev pub same_number : Option Numbered → Option Numbered → Bool
+same_number None None = true
+same_number (Some a) (Some b) = nat_eq a.number b.number
+same_number _ _ = false
+
+-- the names of these finds find definitions of the same numbers
+abbrev pub agrees : (List ℕ → Option Numbered) → List (List ℕ × Option Numbered) → Bool
+agrees scope finds = list_all (λ f. same_number (scope f.0) f.1) finds
+
+-- a held piece with this tree, whose names find what they found
+abbrev pub matches : (List ℕ → Option Numbered) → Forest → HeldPiece → Bool
+matches scope tree q = same_forest tree q.tree && agrees scope q.outcome.finds
+
+-- the outcome of a match, or else a new one
+abbrev pub reused_outcome : Option HeldPiece → Outcome Numbered → Outcome Numbered
+reused_outcome (Some q) fresh = q.outcome
+reused_outcome None fresh = fresh
+
+-- what was found, if anything, is so
+abbrev pub FoundIs : (Numbered → Type 0) → (List ℕ × Option Numbered) → Type 0
+FoundIs P (name, None) = Unit {0}
+FoundIs P (name, Some d) = P d
+
+-- what is true of a held piece: its outcome is the expansion of its tree, where each name finds what it is held to find
+pub record IsHeld (world : World Definition) (depth : ℕ) (table : Forest → ℕ → Type 0) (q : HeldPiece) : Type 0 where
+  pub is : q.outcome ≡ expansion (numbered_world world) (scope_of q.outcome.finds) depth None q.tree
+  pub finds : All (FoundIs (IsNumbered table)) q.outcome.finds
+
+-- the piece as the count sees it
+abbrev pub looked_at : Forest → Outcome Numbered → Looked
+looked_at tree outcome = record { tree = tree; finds = map (λ f. (f.0, option_map (λ (d : Numbered). d.definition.piece) f.1)) outcome.finds }
+
+-- a held piece as the count sees it
+abbrev pub looked_held : HeldPiece → Looked
+looked_held q = looked_at q.tree q.outcome

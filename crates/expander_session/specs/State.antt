@@ -1,0 +1,46 @@
+-- What a session is.
+use Rattle.std.specs.Prelude.{ℕ, List, Option, refl}
+use Rattle.std.specs.Coded.{Coded, code_by, coded×, coded_ℕ, coded_list, coded_option}
+use Rattle.tt_data.specs.Coded.{forest_code}
+use Rattle.tt_data.specs.Forest.{Forest}
+use Rattle.tt_data.specs.contracts.edition.Edition as edition_row
+use Rattle.tt_data.specs.declared.edition.Edition.{Edition}
+use Rattle.mbe.specs.Grammar.{Grammar}
+use Rattle.expander_session.specs.Count.{Looked}
+use Rattle.expander_session.specs.Layered.{layers}
+use Rattle.expander_model.specs.Meaning.{Layers}
+
+-- a text, the grammar and the edition in which it is expanded, how many levels of calls are, and what is kept of the
+-- last text that was read
+pub record State (G : Type 0) : Type 0 where
+  pub text : List ℕ
+  pub grammar : G
+  pub edition : Edition
+  pub depth : ℕ
+  -- its plain pieces, with what their names found: none before the first text that was read
+  pub held : Option (List Looked)
+  -- its definitions, in places of their own
+  pub trees : List Forest
+  -- how many numbers were given to definitions so far
+  pub given : ℕ
+
+-- a piece that the count sees is stored as its parts
+abbrev pub looked_code : Coded Looked
+looked_code =
+    code_by (Forest × List (List ℕ × Option Forest))
+    (coded× forest_code (coded_list (coded× (coded_list coded_ℕ) (coded_option forest_code))))
+    (λ l. (l.tree, l.finds)) (λ p. record { tree = p.0; finds = p.1 }) (λ _. refl)
+
+-- a session is stored as its parts
+abbrev pub state_code : {G : Type 0} → Coded G → Coded (State G)
+state_code {G} grammar =
+    code_by (List ℕ × (G × (Edition × (ℕ × (Option (List Looked) × (List Forest × ℕ))))))
+    (coded× (coded_list coded_ℕ) (coded× grammar (coded× edition_row.the_row.coded (coded× coded_ℕ
+    (coded× (coded_option (coded_list looked_code)) (coded× (coded_list forest_code) coded_ℕ))))))
+    (λ s. (s.text, (s.grammar, (s.edition, (s.depth, (s.held, (s.trees, s.given)))))))
+    (λ p. record { text = p.0; grammar = p.1.0; edition = p.1.1.0; depth = p.1.1.1.0; held = p.1.1.1.1.0; trees = p.1.1.1.1.1.0; given = p.1.1.1.1.1.1 })
+    (λ _. refl)
+
+-- what the meaning of a session's text stands on, where the grammars give these answers
+abbrev pub layers_of : {G : Type 0} → (G → Grammar) → State G → Layers
+layers_of answer state = layers (answer state.grammar) state.edition

@@ -1,0 +1,173 @@
+//! What a session caches of the last text that was read.
+ghost use Rattle.std.specs.Prelude.{◌≡◌, ℕ, [], All, IfSome, None, Some, is_some, slice_get};
+ghost use Rattle.std.specs.Rc.{rc_value};
+ghost use Rattle.tt_data.specs.declared.edition.Edition.{Edition};
+ghost use Rattle.expander_scope.specs.Interning.{AreInTable, definition_tops, known_in};
+ghost use Rattle.expander_model.specs.Definitions.{Definition, definition_of};
+ghost use Rattle.expander_model.specs.Expansion.{World};
+ghost use Rattle.expander_session.specs.MemoRefs.{AreLinked, linked, plain_tops};
+ghost use Rattle.expander_session.specs.Caches.{IsCache, held_in, trees_of};
+ghost use Rattle.expander_reparse.specs.RelativePieces.{tree_at};
+ghost use Rattle.expander_reparse.specs.Reparsing.{IsMet};
+ghost use Rattle.expander_session.specs.Memos.{IsPlain};
+ghost use Rattle.expander_reparse.specs.Segments.{AreSegments, all_in};
+
+use crate::memo::Memo;
+use crate::memo_ref::MemoRef;
+use expander_reparse::piece::Piece;
+use expander_reparse::segment::Segments;
+use expander_scope::interner::Interner;
+use expander_scope::macro_def::MacroDef;
+use std::alloc::Global;
+use std::rc::Rc;
+
+// How many held pieces are looked at ahead.
+const RUN: usize = 32;
+
+/// What is held of a text that was read.
+#[derive(Drop)]
+pub(crate) struct Cache {
+    /// Whether a text was read.
+    pub was_read: bool,
+    /// Its plain pieces, in order.
+    pub plains: Vec<Rc<Memo>>,
+    /// The hashes of their trees.
+    pub hashes: Vec<u64>,
+    /// Its definitions, in order.
+    pub definitions: Vec<Rc<MacroDef>>,
+    pub by_tree: Interner,
+    /// How many numbers were given to definitions so far.
+    pub given: u32,
+    /// How its pieces were read.
+    pub sources: Segments,
+    /// What these are, in their order.
+    pub links: Vec<MemoRef>,
+}
+
+// The link of this index, if there are so many.
+fn link_at(links: &[MemoRef], at: usize) -> Option<MemoRef>
+    ensures { IfSome result (λ link. slice_get links.now at ≡ Some link) }
+{
+    if at < links.len() {
+        Some(links[at])
+    } else {
+        None
+    }
+}
+
+impl Cache {
+    /// Before the first text that is read.
+    pub fn new(alloc: Global) -> Self
+        ensures right { (world : World Definition) (edition : Edition) (depth : ℕ) → IsCache world depth edition result }
+        ensures held { held_in result ≡ None }
+        ensures trees { trees_of result ≡ [] }
+        ensures given { result.given ≡ 0 }
+    {
+        Cache {
+            was_read: false,
+            plains: Vec::new(alloc),
+            hashes: Vec::new(alloc),
+            definitions: Vec::new(alloc),
+            by_tree: Interner::new(alloc),
+            given: 0,
+            sources: Segments::new(alloc),
+            links: Vec::new(alloc),
+        }
+    }
+
+    // What a piece was, where it was met.
+    fn link_of(&self, own: &Piece) -> Option<MemoRef>
+        requires linked { AreLinked (plain_tops self.now.plains.items) (definition_tops self.now.definitions.items) (all_in self.now.sources) self.now.links.items }
+        requires met { IsMet self.now.sources own.now.met (tree_at own.now) }
+        ensures { IfSome result (λ link. linked (plain_tops self.now.plains.items) (definition_tops self.now.definitions.items) link ≡ Some (tree_at own.now)) }
+    {
+        let Some(at) = own.met else {
+            return None;
+        };
+        let Some(link) = link_at(self.links.as_slice(), at) else {
+            return None;
+        };
+        Some(link)
+    }
+
+    /// The index of the plain piece that a piece was, where it was met.
+    pub(crate) fn plain_at(&self, own: &Piece) -> Option<usize>
+        requires linked { AreLinked (plain_tops self.now.plains.items) (definition_tops self.now.definitions.items) (all_in self.now.sources) self.now.links.items }
+        requires met { IsMet self.now.sources own.now.met (tree_at own.now) }
+        ensures { IfSome result (λ i. slice_get (plain_tops self.now.plains.items) i ≡ Some (tree_at own.now)) }
+    {
+        match self.link_of(own) {
+            Some(MemoRef::Plain(i)) => Some(i),
+            _ => None,
+        }
+    }
+
+    /// The definition that a piece was, where it was met.
+    pub(crate) fn definition_at(&self, own: &Piece) -> Option<&Rc<MacroDef>>
+        requires linked { AreLinked (plain_tops self.now.plains.items) (definition_tops self.now.definitions.items) (all_in self.now.sources) self.now.links.items }
+        requires met { IsMet self.now.sources own.now.met (tree_at own.now) }
+        requires listed { AreInTable self.now.by_tree self.now.definitions.items }
+        ensures { IfSome result (λ k. known_in self.now.by_tree (tree_at own.now) ≡ Some k.now.value) }
+    {
+        match self.link_of(own) {
+            Some(MemoRef::Definition(i)) => self.definitions.get(i),
+            _ => None,
+        }
+    }
+
+    /// Looks at what is cached of some pieces ahead, so that the processor waits for all of it together: whether to go on
+    /// with it. This decides nothing but speed.
+    pub(crate) fn look_ahead(&self, own: &Piece, goes_on: bool) -> bool
+        requires { AreSegments self.now.sources }
+    {
+        let Some(at) = own.met else {
+            return goes_on;
+        };
+        if !goes_on || at % RUN != 0 {
+            return goes_on;
+        }
+        let end = at.saturating_add(RUN).min(self.links.len());
+        let mut sum: usize = 0;
+        for i in at..end {
+            let Some(more) = sum.checked_add(self.size_at(i)) else {
+                return false;
+            };
+            sum = more;
+        }
+        true
+    }
+
+    // How much there is of the held piece of this number.
+    fn size_at(&self, at: usize) -> usize
+        requires { AreSegments self.now.sources }
+    {
+        match link_at(self.links.as_slice(), at) {
+            Some(MemoRef::Plain(i)) => match self.plains.get(i) {
+                Some(plain) => plain.as_ref().size(),
+                None => 0,
+            },
+            Some(MemoRef::Definition(i)) => match (self.definitions.get(i), self.sources.get(at)) {
+                (Some(known), Some(source)) => known
+                    .as_ref()
+                    .size()
+                    .saturating_add(source.as_ref().size()),
+                _ => 0,
+            },
+            None => 0,
+        }
+    }
+
+    /// Whether a piece is a definition. The tree of one that was met is not looked at.
+    pub fn is_definition(&self, own: &Piece) -> bool
+        requires linked { AreLinked (plain_tops self.now.plains.items) (definition_tops self.now.definitions.items) (all_in self.now.sources) self.now.links.items }
+        requires met { IsMet self.now.sources own.now.met (tree_at own.now) }
+        requires plain { All (λ q. IsPlain (rc_value q)) self.now.plains.items }
+        ensures { result ≡ is_some (definition_of (tree_at own.now).inner) }
+    {
+        match self.link_of(own) {
+            Some(MemoRef::Plain(_)) => false,
+            Some(MemoRef::Definition(_)) => true,
+            None => own.tree.get().as_ref().is_definition(),
+        }
+    }
+}

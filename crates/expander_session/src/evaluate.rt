@@ -1,0 +1,568 @@
+//! Goes over the pieces of a text: resolves definitions, takes plain pieces from the cache or expands them, and emits
+//! what they give.
+ghost use Rattle.std.specs.Prelude.{◌≡◌, ◌≢◌, ℕ, ◌+◌, ◌<◌, ◌≤◌, ◌^◌, [], ◌∷◌, ◌++◌, All, List, IfOk, IfSome, IsOkUnless, OnOk, None, Err, Option, Some, false, if◌then◌else◌, is_some, length, map, slice_get, true};
+ghost use Rattle.std.specs.Global.{Global as GhostGlobal};
+ghost use Rattle.std.specs.List.{list_any};
+ghost use Rattle.std.specs.Rc.{rc_value};
+ghost use Rattle.bridge.specs.ReadText.{text_top};
+ghost use Rattle.mbe.specs.Grammar.{Grammar};
+ghost use Rattle.tt_data.specs.Forest.{Forest};
+ghost use Rattle.tt_data.specs.declared.edition.Edition.{Edition};
+ghost use Rattle.tt_data.specs.fault.TtFault.TheVariants as as_fault;
+ghost use Rattle.expander_scope.specs.Interning.{known_in, numbers_in};
+ghost use Rattle.expander_model.specs.HashedTrees.{own_top, tree_hash};
+ghost use Rattle.expander_model.specs.Definitions.{definition_of};
+ghost use Rattle.expander_model.specs.Held.{IsMet, Met, definition_trees, kept_after, numbered_scope};
+ghost use Rattle.expander_session.specs.CachedOutputs.{Holds};
+ghost use Rattle.expander_session.specs.Layered.{layers};
+ghost use Rattle.expander_session.specs.MemoRefs.{plain_tops};
+ghost use Rattle.expander_model.specs.Meaning.{members_after};
+ghost use Rattle.expander_session.specs.Caches.{IsCache, piece_of, trees_of};
+ghost use Rattle.expander_scope.specs.ScopeTable.{AreRead, HasMet, expanded_under, scope_in};
+ghost use Rattle.expander_scope.specs.DefinitionTexts.{HasNumbered};
+ghost use Rattle.expander_scope.specs.DefinitionIds.{AreNumbers, HaveNumbers, number_by, numbered_by};
+ghost use Rattle.expander_scope.specs.Numbers.{needed};
+ghost use Rattle.expander_model.specs.OtherPlaces.{LooksAtNoPlace};
+ghost use Rattle.expander_scope.specs.Outcomes.{parts_of};
+ghost use Rattle.expander_session.specs.Emitting.{PutsOut};
+ghost use Rattle.expander_reparse.specs.RelativePieces.{IsOwn, IsOwnPiece, piece_at, tree_at};
+ghost use Rattle.expander_reparse.specs.Reparsing.{AreMet, IsMet as IsMetIn};
+ghost use Rattle.expander_model.specs.Pieces.{first_start, relative};
+ghost use Rattle.expander_session.specs.AbsoluteSpans.{resolved_faults, resolved_steps};
+ghost use Rattle.expander_session.specs.Memos.{Finds, tree_of};
+ghost use Rattle.expander_session.specs.Reuse.{matches};
+ghost use Rattle.expander_session.specs.Evaluating.{AreLinks, CanDefine, Grows, IsEvaluated, MakesTooMany, NeedsMore, Evaluates};
+ghost use Rattle.expander_session.specs.TooMany.{bursts};
+ghost use Rattle.expander_session.specs.declared.memo_ref.MemoRef.TheVariants as as_link;
+ghost use Rattle.tt.specs.Tops.{Top};
+ghost use Rattle.expander_model.specs.World.{world};
+
+use crate::absolute_spans::{emit_cached, emit_events, put_faults, tell_if_broken};
+use crate::cache::Cache;
+use crate::cached_output::{CachedOutput, output_to_cache};
+use crate::emitter::{Emitter, no_steps, takes_chunks};
+use crate::memo::{Memo, MemoIndex, find_valid};
+use crate::memo_ref::MemoRef;
+use expander_model::fault::Fault;
+use expander_model::hashed_tree::HashedTree;
+use expander_model::laws;
+use expander_reparse::piece::Piece;
+use expander_scope::definition_ids::{DefinitionIds, number};
+use expander_scope::expand::expand_piece;
+use expander_scope::interner::Interner;
+use expander_scope::macro_def::MacroDef;
+use expander_scope::outcome::Outcome;
+use expander_scope::refusal::Refusal;
+use expander_scope::scope::Scope;
+use mbe::FragmentGrammar;
+use std::alloc::{AllocError, Global};
+use std::rc::Rc;
+use tt_data::{Edition, TtFault};
+
+// A plain piece that is shared.
+fn shared(alloc: Global, plain: Memo) -> Result<Rc<Memo>, TtFault>
+    ensures same { IfOk result (λ q. q.value ≡ plain) }
+    ensures memory { IsOkUnless result as_fault.Memory }
+{
+    match Rc::new(alloc, plain) {
+        Ok(plain) => Ok(plain),
+        Err(_) => Err(TtFault::Memory),
+    }
+}
+
+// A tree, expanded, and what it prints held as a part where that is wanted.
+fn expanded<G: FragmentGrammar>(
+    alloc: Global,
+    grammar: &G,
+    scope: &Scope,
+    depth: u8,
+    tree: Rc<HashedTree>,
+    as_part: bool,
+) -> Result<Rc<Memo>, TtFault>
+    requires { AreRead scope.now }
+    ensures tree { IfOk result (λ q. tree_of q.value ≡ tree.value) }
+    ensures holds { IfOk result (λ q. Holds q.value
+        (parts_of (expanded_under (G.answer grammar.now) scope.now depth tree.value.inner))) }
+    ensures tokens { result ≡ Err TtFault.Tokens →
+        (expanded_under (G.answer grammar.now) scope.now depth tree.value.inner).bursts ≡ true }
+{
+    let Outcome {
+        steps,
+        faults,
+        finds,
+    } = expand_piece(alloc, grammar, scope, depth, tree.as_ref().tree())?;
+    let output = output_to_cache(alloc, tree.as_ref().tree(), steps, as_part)?;
+    let plain = Memo {
+        tree,
+        output,
+        faults,
+        finds,
+    };
+    shared(alloc, plain)
+}
+
+/// A tree with its outcome: a held piece that matches, with its place, or else the tree is expanded, and what it prints
+/// held as a part where that is wanted. The tree's hash comes with either.
+pub(crate) fn evaluate_tree<G: FragmentGrammar>(
+    alloc: Global,
+    grammar: &G,
+    scope: &Scope,
+    depth: u8,
+    memory: &Cache,
+    lookup: &mut MemoIndex,
+    link: Option<usize>,
+    tree: &Rc<HashedTree>,
+    as_part: bool,
+) -> Result<(Rc<Memo>, Option<usize>, u64), TtFault>
+    requires read { AreRead scope.now }
+    requires lookup { Finds lookup.old memory.now.plains.items }
+    requires link { IfSome link (λ i. slice_get (plain_tops memory.now.plains.items) i ≡ Some tree.now.value) }
+    requires top { tree.now.value.delimiter ≡ text_top }
+    requires right { IsCache (world (G.answer grammar.now) scope.now.edition) depth scope.now.edition memory.now }
+    ensures lookup { OnOk result (Finds lookup.new memory.now.plains.items) }
+    ensures tree { IfOk result (λ r. tree_of r.0.value ≡ tree.now.value) }
+    ensures hash { IfOk result (λ r. r.2 ≡ tree_hash tree.now.value) }
+    ensures holds { (given : ℕ) (numbers : Forest → Option ℕ) (before : List Met) → AreNumbers given numbers →
+        ((t : Forest) (n : ℕ) → numbers_in memory.now.by_tree t ≡ Some n → numbers t ≡ Some n) →
+        scope_in scope.now ≡ numbered_scope before → All (IsMet (numbered_by numbers)) before →
+        IfOk result (λ r. Holds r.0.value
+        (parts_of (expanded_under (G.answer grammar.now) scope.now depth tree.now.value.inner))) }
+    ensures counted { IfOk result (λ r. is_some r.1 ≡ list_any (matches (scope_in scope.now) tree.now.value.inner)
+        (map (λ q. piece_of (world (G.answer grammar.now) scope.now.edition) depth (rc_value q)) memory.now.plains.items)) }
+    ensures tokens { result ≡ Err TtFault.Tokens →
+        (expanded_under (G.answer grammar.now) scope.now depth tree.now.value.inner).bursts ≡ true }
+{
+    laws::equal_pieces();
+    tt::laws::equal_trees();
+    let held = memory.plains.as_slice();
+    let hashes = memory.hashes.as_slice();
+    let found = find_valid(alloc, scope, held, hashes, lookup, link, tree)?;
+    match found {
+        Some(i) => {
+            let plain = held[i].clone()?;
+            Ok((plain, Some(i), hashes[i]))
+        }
+        None => {
+            let plain = expanded(alloc, grammar, scope, depth, tree.clone()?, as_part)?;
+            Ok((plain, None, tree.as_ref().kept_hash()))
+        }
+    }
+}
+
+/// What the pieces of a text so far give.
+#[derive(Drop)]
+pub(crate) struct Evaluated {
+    /// Their definitions.
+    pub numbers: DefinitionIds,
+    /// The plain ones, in order.
+    pub plains: Vec<Rc<Memo>>,
+    /// The hashes of their trees.
+    pub hashes: Vec<u64>,
+    pub steps: Emitter,
+    /// Without those of the steps.
+    pub faults: Vec<Fault>,
+    /// How many were expanded.
+    pub expanded: usize,
+    /// What each piece is.
+    pub links: Vec<MemoRef>,
+}
+
+// What the pieces of a text so far give, and what those that follow depend on.
+#[derive(Drop)]
+struct Evaluation {
+    scope: Scope,
+    taken: Evaluated,
+    // How held pieces are looked for.
+    lookup: MemoIndex,
+}
+
+// For how much room is made at first: how fast a text is answered hangs on it, and nothing else.
+#[derive(Clone, Copy)]
+struct Room {
+    definitions: usize,
+    pieces: usize,
+    // Of the text that is printed.
+    bytes: usize,
+}
+
+// No definition so far. There is room for so many.
+fn nothing_numbered(alloc: Global, given: u32, count: usize) -> Result<DefinitionIds, AllocError>
+    ensures given { IfOk result (λ n. n.given ≡ given) }
+    ensures definitions { IfOk result (λ n. n.definitions.items ≡ []) }
+    ensures table { IfOk result (λ n. (t : Top) → known_in n.by_tree t ≡ None) }
+{
+    let definitions = Vec::with_capacity(alloc, count)?;
+    let by_tree = Interner::with_room(alloc, count)?;
+    Ok(DefinitionIds {
+        given,
+        definitions,
+        by_tree,
+    })
+}
+
+// No piece so far. What is held longest is asked for last, so that what is freed before it leaves room below it for the next
+// text, and is not given back to the system each time.
+fn nothing_evaluated(alloc: Global, memory: &Cache, room: Room) -> Result<Evaluated, AllocError>
+    ensures links { IfOk result (λ taken. AreLinks taken []) }
+    ensures taken { IfOk result (λ taken. (grammar : Grammar) (edition : Edition) (depth : ℕ) → IsCache (world grammar edition) depth edition memory.now →
+        IsEvaluated (world grammar edition) edition depth memory.now (layers grammar edition) [] [] taken) }
+{
+    let steps = no_steps(alloc, room.bytes, room.pieces)?;
+    let numbers = nothing_numbered(alloc, memory.given, room.definitions)?;
+    let plains = Vec::with_capacity(alloc, room.pieces)?;
+    let hashes = Vec::with_capacity(alloc, room.pieces)?;
+    let links = Vec::with_capacity(alloc, room.pieces)?;
+    Ok(Evaluated {
+        numbers,
+        plains,
+        hashes,
+        steps,
+        faults: Vec::new(alloc),
+        expanded: 0,
+        links,
+    })
+}
+
+// Before the first piece.
+fn nothing_yet(
+    alloc: Global,
+    edition: Edition,
+    memory: &Cache,
+    room: Room,
+) -> Result<Evaluation, AllocError>
+    ensures links { IfOk result (λ now. AreLinks now.taken []) }
+    ensures taken { IfOk result (λ now. (grammar : Grammar) (depth : ℕ) → IsCache (world grammar edition) depth edition memory.now →
+        IsEvaluated (world grammar edition) edition depth memory.now (layers grammar edition) [] [] now.taken) }
+    ensures none { IfOk result (λ now. HasMet now.scope []) }
+    ensures edition { IfOk result (λ now. now.scope.edition ≡ edition) }
+    ensures read { IfOk result (λ now. AreRead now.scope) }
+    ensures lookup { IfOk result (λ now. (held : List (Rc Memo GhostGlobal)) → Finds now.lookup held) }
+{
+    let scope = Scope::with_room(alloc, edition, room.definitions)?;
+    let taken = nothing_evaluated(alloc, memory, room)?;
+    Ok(Evaluation {
+        scope,
+        taken,
+        lookup: MemoIndex::new(),
+    })
+}
+
+// A piece is linked.
+fn add_link(links: &mut Vec<MemoRef>, link: MemoRef) -> Result<(), AllocError>
+    ensures { OnOk result (links.new.items ≡ links.old.items ++ link ∷ []) }
+{
+    links.push(link)?;
+    Ok(())
+}
+
+// A definition, which may be held, is numbered, told where it is broken, and met.
+fn evaluate_definition(
+    alloc: Global,
+    memory: &Cache,
+    now: &mut Evaluation,
+    start: u32,
+    tree: Rc<HashedTree>,
+    held: Option<&Rc<MacroDef>>,
+) -> Result<(), Refusal>
+    requires definition { is_some (definition_of tree.value.inner) ≡ true }
+    requires top { tree.value.delimiter ≡ text_top }
+    requires held { IfSome held (λ k. known_in memory.now.by_tree tree.value ≡ Some k.now.value) }
+    requires can { CanDefine memory.now now.old }
+    ensures taken { (grammar : Grammar) (depth : ℕ) (piece : Forest) → LooksAtNoPlace (world grammar now.old.scope.edition) → HaveNumbers (numbers_in memory.now.by_tree) (trees_of memory.now) →
+        start ≡ first_start piece → tree.value ≡ own_top (relative piece) → OnOk result (Evaluates grammar now.old.scope.edition depth memory.now piece now.old now.new) }
+    ensures links { (trees : List Top) → AreLinks now.old.taken trees → OnOk result (AreLinks now.new.taken (trees ++ tree.value ∷ [])) }
+    ensures grows { OnOk result (Grows now.old.taken now.new.taken) }
+    ensures edition { OnOk result (now.new.scope.edition ≡ now.old.scope.edition) }
+    ensures lookup { OnOk result (now.new.lookup ≡ now.old.lookup) }
+    ensures expanded { OnOk result (now.new.taken.expanded ≡ now.old.taken.expanded) }
+    ensures cause { (trees : List Forest) → HaveNumbers (numbers_in memory.now.by_tree) (trees_of memory.now) →
+        HasNumbered memory.now.given memory.now.by_tree (trees_of memory.now) trees now.old.taken.numbers →
+        result ≡ Err Refusal.Numbers → 2 ^ 32 ≤ memory.now.given + needed (trees_of memory.now) (trees ++ tree.value.inner ∷ []) }
+    ensures tokens { result ≢ Err Refusal.Tokens }
+{
+    let edition = now.scope.edition;
+    let place = now.taken.numbers.definitions.len();
+    let known = number(
+        alloc,
+        edition,
+        &memory.by_tree,
+        &mut now.taken.numbers,
+        tree,
+        held,
+    )?;
+    tell_if_broken(&mut now.taken.faults, start, known.as_ref())?;
+    now.scope.define(start, known)?;
+    add_link(&mut now.taken.links, MemoRef::Definition(place))?;
+    Ok(())
+}
+
+// A tree is expanded once more, since its steps are not kept. These are put out, and held.
+fn emit_anew<G: FragmentGrammar>(
+    alloc: Global,
+    grammar: &G,
+    scope: &Scope,
+    depth: u8,
+    steps: &mut Emitter,
+    start: u32,
+    tree: Rc<HashedTree>,
+) -> Result<Rc<Memo>, TtFault>
+    requires { AreRead scope.now }
+    ensures steps { OnOk result (PutsOut steps.old steps.new (resolved_steps start scope.now.starts
+        (expanded_under (G.answer grammar.now) scope.now depth tree.value.inner).steps)) }
+    ensures tree { IfOk result (λ q. tree_of q.value ≡ tree.value) }
+    ensures holds { IfOk result (λ q. Holds q.value
+        (parts_of (expanded_under (G.answer grammar.now) scope.now depth tree.value.inner))) }
+    ensures tokens { result ≡ Err TtFault.Tokens →
+        (expanded_under (G.answer grammar.now) scope.now depth tree.value.inner).bursts ≡ true }
+{
+    let own = tree.as_ref().tree();
+    let outcome = expand_piece(alloc, grammar, scope, depth, own)?;
+    emit_events(alloc, steps, start, &scope.starts, own, &outcome.steps)?;
+    let plain = Memo {
+        tree,
+        output: CachedOutput::Steps(outcome.steps),
+        faults: outcome.faults,
+        finds: outcome.finds,
+    };
+    let plain = shared(alloc, plain)?;
+    Ok(plain)
+}
+
+// What a piece prints is put out, and what is to be held of it answered: the same, or the same with its steps, where what it
+// prints by itself can't be put here at once.
+fn emit_output<G: FragmentGrammar>(
+    alloc: Global,
+    grammar: &G,
+    scope: &Scope,
+    depth: u8,
+    steps: &mut Emitter,
+    start: u32,
+    plain: Rc<Memo>,
+) -> Result<Rc<Memo>, TtFault>
+    requires { AreRead scope.now }
+    ensures steps { Holds plain.value (parts_of (expanded_under (G.answer grammar.now) scope.now depth (tree_of plain.value).inner)) →
+        OnOk result (PutsOut steps.old steps.new (resolved_steps start scope.now.starts
+        (expanded_under (G.answer grammar.now) scope.now depth (tree_of plain.value).inner).steps)) }
+    ensures tree { IfOk result (λ q. tree_of q.value ≡ tree_of plain.value) }
+    ensures holds { Holds plain.value (parts_of (expanded_under (G.answer grammar.now) scope.now depth (tree_of plain.value).inner)) →
+        IfOk result (λ q. Holds q.value (parts_of (expanded_under (G.answer grammar.now) scope.now depth (tree_of plain.value).inner))) }
+    ensures tokens { result ≡ Err TtFault.Tokens →
+        (expanded_under (G.answer grammar.now) scope.now depth (tree_of plain.value).inner).bursts ≡ true }
+{
+    let Memo { tree, output, .. } = plain.as_ref();
+    match output {
+        CachedOutput::Part(part) => {
+            if emit_cached(alloc, steps, start, &scope.starts, part)? {
+                return Ok(plain);
+            }
+            emit_anew(alloc, grammar, scope, depth, steps, start, tree.clone()?)
+        }
+        CachedOutput::Steps(own) => {
+            emit_events(
+                alloc,
+                steps,
+                start,
+                &scope.starts,
+                tree.as_ref().tree(),
+                own,
+            )?;
+            Ok(plain)
+        }
+    }
+}
+
+// A piece with what its expansion gives is put out, and what is to be held of it is answered.
+fn emit_plain<G: FragmentGrammar>(
+    alloc: Global,
+    grammar: &G,
+    scope: &Scope,
+    depth: u8,
+    steps: &mut Emitter,
+    faults: &mut Vec<Fault>,
+    start: u32,
+    plain: Rc<Memo>,
+) -> Result<Rc<Memo>, TtFault>
+    requires { AreRead scope.now }
+    ensures steps { Holds plain.value (parts_of (expanded_under (G.answer grammar.now) scope.now depth (tree_of plain.value).inner)) →
+        OnOk result (PutsOut steps.old steps.new (resolved_steps start scope.now.starts
+        (expanded_under (G.answer grammar.now) scope.now depth (tree_of plain.value).inner).steps)) }
+    ensures faults { IfOk result (λ q. faults.new.items ≡ faults.old.items ++ resolved_faults start scope.now.starts q.value.faults.items) }
+    ensures tree { IfOk result (λ q. tree_of q.value ≡ tree_of plain.value) }
+    ensures holds { Holds plain.value (parts_of (expanded_under (G.answer grammar.now) scope.now depth (tree_of plain.value).inner)) →
+        IfOk result (λ q. Holds q.value (parts_of (expanded_under (G.answer grammar.now) scope.now depth (tree_of plain.value).inner))) }
+    ensures tokens { result ≡ Err TtFault.Tokens →
+        (expanded_under (G.answer grammar.now) scope.now depth (tree_of plain.value).inner).bursts ≡ true }
+{
+    let plain = emit_output(alloc, grammar, scope, depth, steps, start, plain)?;
+    put_faults(
+        faults,
+        start,
+        &scope.starts,
+        plain.as_ref().faults.as_slice(),
+    )?;
+    Ok(plain)
+}
+
+// A piece is held, with the hash of its tree, and linked.
+fn hold(
+    plains: &mut Vec<Rc<Memo>>,
+    hashes: &mut Vec<u64>,
+    links: &mut Vec<MemoRef>,
+    plain: Rc<Memo>,
+    hash: u64,
+) -> Result<(), AllocError>
+    ensures plains { OnOk result (plains.new.items ≡ plains.old.items ++ plain ∷ []) }
+    ensures hashes { OnOk result (hashes.new.items ≡ hashes.old.items ++ hash ∷ []) }
+    ensures links { OnOk result (links.new.items ≡ links.old.items ++ as_link.Plain (length plains.old.items) ∷ []) }
+{
+    add_link(links, MemoRef::Plain(plains.len()))?;
+    plains.push(plain)?;
+    hashes.push(hash)?;
+    Ok(())
+}
+
+// A piece is counted where no held one matches.
+fn count(now: &mut Evaluation, at: Option<usize>)
+    requires { now.old.taken.expanded + 1 < 2 ^ 64 }
+    ensures scope { now.new.scope ≡ now.old.scope }
+    ensures lookup { (held : List (Rc Memo GhostGlobal)) → Finds now.old.lookup held → Finds now.new.lookup held }
+    ensures taken { now.new.taken ≡ record now.old.taken { expanded = now.old.taken.expanded + (if is_some at then 0 else 1) } }
+{
+    match at {
+        Some(i) => now.lookup.next = i.saturating_add(1),
+        None => now.taken.expanded += 1,
+    }
+}
+
+// A plain piece is expanded where no held one matches, put out, and held.
+fn evaluate_plain<G: FragmentGrammar>(
+    alloc: Global,
+    grammar: &G,
+    depth: u8,
+    memory: &Cache,
+    now: &mut Evaluation,
+    start: u32,
+    tree: &Rc<HashedTree>,
+    link: Option<usize>,
+) -> Result<(), TtFault>
+    requires plain { is_some (definition_of tree.now.value.inner) ≡ false }
+    requires top { tree.now.value.delimiter ≡ text_top }
+    requires read { AreRead now.old.scope }
+    requires lookup { Finds now.old.lookup memory.now.plains.items }
+    requires link { IfSome link (λ i. slice_get (plain_tops memory.now.plains.items) i ≡ Some tree.now.value) }
+    requires right { IsCache (world (G.answer grammar.now) now.old.scope.edition) depth now.old.scope.edition memory.now }
+    requires room { now.old.taken.expanded + 1 < 2 ^ 64 }
+    ensures taken { (piece : Forest) → start ≡ first_start piece → tree.now.value ≡ own_top (relative piece) →
+        OnOk result (Evaluates (G.answer grammar.now) now.old.scope.edition depth memory.now piece now.old now.new) }
+    ensures links { (trees : List Top) → AreLinks now.old.taken trees → OnOk result (AreLinks now.new.taken (trees ++ tree.now.value ∷ [])) }
+    ensures numbers { OnOk result (now.new.taken.numbers ≡ now.old.taken.numbers) }
+    ensures edition { OnOk result (now.new.scope.edition ≡ now.old.scope.edition) }
+    ensures lookup { OnOk result (Finds now.new.lookup memory.now.plains.items) }
+    ensures expanded { OnOk result (now.new.taken.expanded ≤ now.old.taken.expanded + 1) }
+    ensures tokens { result ≡ Err TtFault.Tokens →
+        (expanded_under (G.answer grammar.now) now.old.scope depth tree.now.value.inner).bursts ≡ true }
+{
+    laws::equal_pieces();
+    let scope = &now.scope;
+    let lookup = &mut now.lookup;
+    let as_part = takes_chunks(&now.taken.steps);
+    let (found, at, hash) = evaluate_tree(
+        alloc, grammar, scope, depth, memory, lookup, link, tree, as_part,
+    )?;
+    let taken = &mut now.taken;
+    let plain = emit_plain(
+        alloc,
+        grammar,
+        scope,
+        depth,
+        &mut taken.steps,
+        &mut taken.faults,
+        start,
+        found,
+    )?;
+    hold(
+        &mut taken.plains,
+        &mut taken.hashes,
+        &mut taken.links,
+        plain,
+        hash,
+    )?;
+    count(now, at);
+    Ok(())
+}
+
+// The next piece is taken: a definition is met, a plain one is put out and held.
+fn evaluate_piece<G: FragmentGrammar>(
+    alloc: Global,
+    grammar: &G,
+    depth: u8,
+    memory: &Cache,
+    now: &mut Evaluation,
+    own: &Piece,
+) -> Result<(), Refusal>
+    requires right { IsCache (world (G.answer grammar.now) now.old.scope.edition) depth now.old.scope.edition memory.now }
+    requires can { CanDefine memory.now now.old }
+    requires places { LooksAtNoPlace (world (G.answer grammar.now) now.old.scope.edition) }
+    requires room { now.old.taken.expanded + 1 < 2 ^ 64 }
+    requires lookup { Finds now.old.lookup memory.now.plains.items }
+    requires own { IsOwn (piece_at own.now) own.now }
+    requires met { IsMetIn memory.now.sources own.now.met (tree_at own.now) }
+    ensures taken { OnOk result (Evaluates (G.answer grammar.now) now.old.scope.edition depth memory.now (piece_at own.now) now.old now.new) }
+    ensures links { (trees : List Top) → AreLinks now.old.taken trees → OnOk result (AreLinks now.new.taken (trees ++ tree_at own.now ∷ [])) }
+    ensures grows { OnOk result (Grows now.old.taken now.new.taken) }
+    ensures edition { OnOk result (now.new.scope.edition ≡ now.old.scope.edition) }
+    ensures lookup { OnOk result (Finds now.new.lookup memory.now.plains.items) }
+    ensures expanded { OnOk result (now.new.taken.expanded ≤ now.old.taken.expanded + 1) }
+    ensures tokens { result ≡ Err Refusal.Tokens → MakesTooMany (G.answer grammar.now) now.old.scope.edition depth (piece_at own.now) now.old }
+    ensures cause { (trees : List Forest) → HasNumbered memory.now.given memory.now.by_tree (trees_of memory.now) trees now.old.taken.numbers →
+        result ≡ Err Refusal.Numbers → 2 ^ 32 ≤ memory.now.given + needed (trees_of memory.now) (trees ++ definition_trees (piece_at own.now ∷ [])) }
+{
+    let tree = own.tree.get();
+    if memory.is_definition(own) {
+        let held = memory.definition_at(own);
+        return evaluate_definition(alloc, memory, now, own.start, tree.clone()?, held);
+    }
+    let link = memory.plain_at(own);
+    evaluate_plain(alloc, grammar, depth, memory, now, own.start, tree, link)?;
+    Ok(())
+}
+
+/// The pieces of a text of so many bytes, one after another, each under the definitions before it: a plain one is expanded,
+/// where no held one matches.
+pub(crate) fn evaluate_pieces<G: FragmentGrammar>(
+    alloc: Global,
+    grammar: &G,
+    edition: Edition,
+    depth: u8,
+    memory: &Cache,
+    pieces: &[Piece],
+    bytes: usize,
+) -> Result<Evaluated, Refusal>
+    requires right { IsCache (world (G.answer grammar.now) edition) depth edition memory.now }
+    requires own { All IsOwnPiece pieces.now }
+    requires met { AreMet memory.now.sources pieces.now }
+    ensures taken { IfOk result (λ now. IsEvaluated (world (G.answer grammar.now) edition) edition depth memory.now (layers (G.answer grammar.now) edition)
+        (definition_trees (map piece_at pieces.now)) (kept_after (world (G.answer grammar.now) edition) depth (number_by (numbers_in now.numbers.by_tree)) [] (map piece_at pieces.now)) now) }
+    ensures links { IfOk result (λ now. AreLinks now (map tree_at pieces.now)) }
+    ensures tokens { result ≡ Err Refusal.Tokens → list_any bursts (members_after (layers (G.answer grammar.now) edition) depth [] (map piece_at pieces.now)) ≡ true }
+    ensures numbers { result ≡ Err Refusal.Numbers → NeedsMore memory.now (map piece_at pieces.now) }
+{
+    mbe_rules::laws::rules_at_other_places();
+    mbe::laws::fit_at_other_places();
+    mbe::laws::bursts_at_other_places();
+    laws::equal_pieces();
+    let most = pieces.len();
+    let room = Room {
+        definitions: memory.definitions.len().saturating_add(1),
+        pieces: most,
+        bytes,
+    };
+    let mut now = nothing_yet(alloc, edition, memory, room)?;
+    let mut looks_ahead = true;
+    for own in pieces {
+        looks_ahead = memory.look_ahead(own, looks_ahead);
+        evaluate_piece(alloc, grammar, depth, memory, &mut now, own)?;
+    }
+    let Evaluation { taken, .. } = now;
+    Ok(taken)
+}

@@ -1,0 +1,19 @@
+//! Laws of how many definitions a text has. A call does nothing: it only states.
+ghost use Rattle.std.specs.Prelude.{ℕ, ◌≤◌, ◌<◌, ◌^◌, List, [], length, IsUtf8};
+ghost use Rattle.expander_session.specs.Layered.{layers};
+ghost use Rattle.expander_model.specs.Meaning.{meaning};
+ghost use Rattle.expander_session.specs.Replies.{NeedsNumbers, definitions_in};
+ghost use Rattle.mbe.specs.Grammar.{Grammar};
+ghost use Rattle.tt_data.specs.declared.edition.Edition.{Edition};
+
+/// A text has at most as many definitions as bytes: `counted`. So where none was numbered before and the text has fewer than
+/// 2^32 bytes, there are numbers for them all: `numbered`.
+pub fn definitions_are_no_more_than_bytes()
+    ensures counted { (grammar : Grammar) (edition : Edition) (depth : ℕ) (text : List ℕ) →
+        IsUtf8 text → length (definitions_in (meaning (layers grammar edition) depth text)) ≤ length text }
+    ensures numbered { (grammar : Grammar) (edition : Edition) (depth : ℕ) (text : List ℕ) →
+        IsUtf8 text → length text < 2 ^ 32 → NeedsNumbers 0 [] (meaning (layers grammar edition) depth text) → ⊥ }
+{
+    bridge::laws::reading_is_a_relation();
+    rustc_lexer::laws::token_lengths();
+}

@@ -1,0 +1,14 @@
+//! A session over a text: its cache, the evaluation of a text over it, and lists of edits and expansions.
+#![tactic(auto)]
+
+mod absolute_spans;
+mod cache;
+mod cached_output;
+pub mod commands;
+mod emitter;
+mod evaluate;
+pub mod laws;
+mod memo;
+mod memo_ref;
+pub mod session;
+mod tree_index;

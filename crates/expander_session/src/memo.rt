@@ -1,0 +1,268 @@
+//! Memos: expansions of plain pieces that are cached, and which of them is valid for a tree.
+ghost use Rattle.std.specs.Prelude.{◌≡◌, ◌<◌, IfOk, IfSome, List, OnOk, Some, is_some, length, map, slice_get, true};
+ghost use Rattle.std.specs.Global.{Global as GhostGlobal};
+ghost use Rattle.std.specs.List.{list_all, list_any};
+ghost use Rattle.std.specs.Rc.{rc_value};
+ghost use Rattle.expander_session.specs.TreeIndexes.{AreChained};
+ghost use Rattle.expander_scope.specs.ScopeTable.{AreRead, scope_in};
+ghost use Rattle.expander_scope.specs.Outcomes.{find_of};
+ghost use Rattle.expander_session.specs.MemoRefs.{plain_tops};
+ghost use Rattle.expander_session.specs.Memos.{AreHashes, Finds, IsMatchAt, finds_of, is_match, tree_of};
+ghost use Rattle.expander_session.specs.Reuse.{agrees, same_number};
+ghost use Rattle.tt.specs.Tops.{Top};
+
+use crate::cached_output::CachedOutput;
+use crate::tree_index::TreeIndex;
+use expander_model::fault::FaultKind;
+use expander_model::hashed_tree::HashedTree;
+use expander_scope::outcome::NameLookup;
+use expander_scope::scope::Scope;
+use std::alloc::{AllocError, Global};
+use std::rc::Rc;
+use tt::laws;
+use tt_data::Span;
+
+/// A plain piece in places of its own, with what its expansion gives.
+#[derive(Drop)]
+pub(crate) struct Memo {
+    pub tree: Rc<HashedTree>,
+    pub output: CachedOutput,
+    /// Each fault with the span of the name that it is told at.
+    pub faults: Vec<(FaultKind, Span)>,
+    /// Each name that was looked up, in order.
+    pub finds: Vec<NameLookup>,
+}
+
+impl Memo {
+    /// How much there is of the first name that it looked up, and how many tokens it prints by itself.
+    pub(crate) fn size(&self) -> usize {
+        let name = match self.finds.first() {
+            Some(find) => find.size(),
+            None => 0,
+        };
+        match &self.output {
+            CachedOutput::Part(part) => name.saturating_add(part.printed.spans().len()),
+            CachedOutput::Steps(_) => name,
+        }
+    }
+}
+
+// Whether a name finds what it is held to find.
+fn finds_the_same(scope: &Scope, find: &NameLookup) -> bool
+    requires { AreRead scope.now }
+    ensures { result ≡ same_number (scope_in scope.now (find_of find.now).0) (find_of find.now).1 }
+{
+    match (scope.find(&find.name), &find.known) {
+        (None, None) => true,
+        (Some(found), Some(known)) => found.as_ref().number == known.as_ref().number,
+        _ => false,
+    }
+}
+
+// Whether each name finds what it is held to find.
+fn agrees(scope: &Scope, finds: &[NameLookup]) -> bool
+    requires { AreRead scope.now }
+    ensures { result ≡ list_all (λ f. same_number (scope_in scope.now (find_of f).0) (find_of f).1) finds.now }
+{
+    for find in finds {
+        if !finds_the_same(scope, find) {
+            return false;
+        }
+    }
+    true
+}
+
+// Whether a held piece may stand for a tree.
+fn is_match(scope: &Scope, tree: &Rc<HashedTree>, held: &Memo) -> bool
+    requires { AreRead scope.now }
+    ensures { result ≡ is_match (scope_in scope.now) tree.now.value held.now }
+{
+    *tree == held.tree && agrees(scope, held.finds.as_slice())
+}
+
+// Whether the names of a held piece find what they are held to find.
+fn is_valid(scope: &Scope, held: &Memo) -> bool
+    requires { AreRead scope.now }
+    ensures { result ≡ agrees (scope_in scope.now) (finds_of held.now) }
+{
+    agrees(scope, held.finds.as_slice())
+}
+
+// The place of a held piece, where it may stand for the tree that it has.
+fn linked_memo(scope: &Scope, held: &[Rc<Memo>], link: Option<usize>) -> Option<usize>
+    requires read { AreRead scope.now }
+    requires within { IfSome link (λ i. i < length held.now) }
+    ensures { (t : Top) → IfSome link (λ i. slice_get (plain_tops held.now) i ≡ Some t) → IfSome result (λ i. IsMatchAt (scope_in scope.now) t held.now i) }
+{
+    laws::equal_trees();
+    let Some(i) = link else {
+        return None;
+    };
+    if is_valid(scope, held[i].as_ref()) {
+        Some(i)
+    } else {
+        None
+    }
+}
+
+// The memo that is valid for a tree: of those with an equal tree the last one.
+fn last_match(
+    scope: &Scope,
+    held: &[Rc<Memo>],
+    chains: &TreeIndex,
+    tree: &Rc<HashedTree>,
+) -> Option<usize>
+    requires read { AreRead scope.now }
+    requires chained { AreChained chains.now (map (λ q. tree_of (rc_value q)) held.now) }
+    ensures any { is_some result ≡ list_any (λ q. is_match (scope_in scope.now) tree.now.value (rc_value q)) held.now }
+    ensures found { IfSome result (λ i. IfSome (slice_get held.now i) (λ q. is_match (scope_in scope.now) tree.now.value (rc_value q) ≡ true)) }
+    ensures within { IfSome result (λ i. i < length held.now) }
+{
+    laws::equal_trees();
+    let mut at = chains.last(tree);
+    while let Some(i) = at {
+        if is_match(scope, tree, held[i].as_ref()) {
+            return Some(i);
+        }
+        at = chains.before(i);
+    }
+    None
+}
+
+// The first memo that is valid for a tree. Hashes are compared first, and a memo is looked at only where its tree has the
+// hash of this one.
+fn first_match(
+    scope: &Scope,
+    held: &[Rc<Memo>],
+    hashes: &[u64],
+    tree: &Rc<HashedTree>,
+) -> Option<usize>
+    requires read { AreRead scope.now }
+    requires hashes { AreHashes hashes.now held.now }
+    ensures any { is_some result ≡ list_any (λ q. is_match (scope_in scope.now) tree.now.value (rc_value q)) held.now }
+    ensures found { IfSome result (λ i. IfSome (slice_get held.now i) (λ q. is_match (scope_in scope.now) tree.now.value (rc_value q) ≡ true)) }
+    ensures within { IfSome result (λ i. i < length held.now) }
+{
+    laws::equal_trees();
+    let hash = tree.as_ref().kept_hash();
+    for i in 0..held.len() {
+        if hashes[i] == hash && is_match(scope, tree, held[i].as_ref()) {
+            return Some(i);
+        }
+    }
+    None
+}
+
+// The trees of held pieces.
+fn tree_index_of(alloc: Global, held: &[Rc<Memo>]) -> Result<TreeIndex, AllocError>
+    ensures { IfOk result (λ chains. AreChained chains (map (λ q. tree_of (rc_value q)) held.now)) }
+{
+    let mut chains = TreeIndex::new(alloc);
+    for plain in held {
+        chains.push(plain.as_ref().tree.clone()?)?;
+    }
+    Ok(chains)
+}
+
+/// How held pieces are looked for by their trees: one after another the first times, and then in a table.
+#[derive(Drop)]
+pub(crate) struct MemoIndex {
+    /// The place behind the held piece that matched last.
+    pub next: usize,
+    times: usize,
+    chains: Option<TreeIndex>,
+}
+
+// How often held pieces are looked at one after another.
+const TIMES: usize = 4;
+
+impl MemoIndex {
+    /// Nothing was looked for.
+    pub fn new() -> Self
+        ensures { (held : List (Rc Memo GhostGlobal)) → Finds result held }
+    {
+        MemoIndex {
+            next: 0,
+            times: 0,
+            chains: None,
+        }
+    }
+
+    // The place of a held piece that may stand for a tree, by the table, which is made at first.
+    fn find_in_table(
+        &mut self,
+        alloc: Global,
+        scope: &Scope,
+        held: &[Rc<Memo>],
+        tree: &Rc<HashedTree>,
+    ) -> Result<Option<usize>, AllocError>
+        requires read { AreRead scope.now }
+        requires table { Finds self.old held.now }
+        ensures table { OnOk result (Finds self.new held.now) }
+        ensures any { IfOk result (λ at. is_some at ≡ list_any (λ q. is_match (scope_in scope.now) tree.now.value (rc_value q)) held.now) }
+        ensures found { IfOk result (λ at. IfSome at (λ i. IfSome (slice_get held.now i) (λ q. is_match (scope_in scope.now) tree.now.value (rc_value q) ≡ true))) }
+        ensures within { IfOk result (λ at. IfSome at (λ i. i < length held.now)) }
+    {
+        if let Some(chains) = &self.chains {
+            return Ok(last_match(scope, held, chains, tree));
+        }
+        let chains = tree_index_of(alloc, held)?;
+        let found = last_match(scope, held, &chains, tree);
+        self.chains = Some(chains);
+        Ok(found)
+    }
+
+    // The place of a held piece that may stand for a tree.
+    fn find(
+        &mut self,
+        alloc: Global,
+        scope: &Scope,
+        held: &[Rc<Memo>],
+        hashes: &[u64],
+        tree: &Rc<HashedTree>,
+    ) -> Result<Option<usize>, AllocError>
+        requires read { AreRead scope.now }
+        requires hashes { AreHashes hashes.now held.now }
+        requires table { Finds self.old held.now }
+        ensures table { OnOk result (Finds self.new held.now) }
+        ensures any { IfOk result (λ at. is_some at ≡ list_any (λ q. is_match (scope_in scope.now) tree.now.value (rc_value q)) held.now) }
+        ensures found { IfOk result (λ at. IfSome at (λ i. IfSome (slice_get held.now i) (λ q. is_match (scope_in scope.now) tree.now.value (rc_value q) ≡ true))) }
+        ensures within { IfOk result (λ at. IfSome at (λ i. i < length held.now)) }
+    {
+        if self.times < TIMES {
+            self.times += 1;
+            return Ok(first_match(scope, held, hashes, tree));
+        }
+        self.find_in_table(alloc, scope, held, tree)
+    }
+}
+
+/// The place of a held piece that may stand for a tree: the one that is known to have it is tried first, and then the one
+/// that is behind the last that was found.
+pub(crate) fn find_valid(
+    alloc: Global,
+    scope: &Scope,
+    held: &[Rc<Memo>],
+    hashes: &[u64],
+    lookup: &mut MemoIndex,
+    link: Option<usize>,
+    tree: &Rc<HashedTree>,
+) -> Result<Option<usize>, AllocError>
+    requires read { AreRead scope.now }
+    requires hashes { AreHashes hashes.now held.now }
+    requires table { Finds lookup.old held.now }
+    requires link { IfSome link (λ i. slice_get (plain_tops held.now) i ≡ Some tree.now.value) }
+    ensures table { OnOk result (Finds lookup.new held.now) }
+    ensures any { IfOk result (λ found. is_some found ≡ list_any (λ q. is_match (scope_in scope.now) tree.now.value (rc_value q)) held.now) }
+    ensures found { IfOk result (λ found. IfSome found (λ i. IfSome (slice_get held.now i) (λ q. is_match (scope_in scope.now) tree.now.value (rc_value q) ≡ true))) }
+    ensures within { IfOk result (λ found. IfSome found (λ i. i < length held.now)) }
+{
+    if let Some(i) = linked_memo(scope, held, link) {
+        return Ok(Some(i));
+    }
+    let at = lookup.next;
+    if at < held.len() && is_match(scope, tree, held[at].as_ref()) {
+        return Ok(Some(at));
+    }
+    lookup.find(alloc, scope, held, hashes, tree)
+}

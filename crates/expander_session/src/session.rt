@@ -1,0 +1,321 @@
+//! A session over a text.
+ghost use Rattle.std.specs.Prelude.{◌≡◌, ◌+◌, ◌-◌, ◌<◌, ◌≤◌, ◌^◌, ◌↔◌, All, Err, List, [], length, IfOk, IfErr, OnOk, OnErr, IsTrue, IsCharBoundary, None, map, slice_get, true};
+ghost use Rattle.std.specs.List.{list_any};
+ghost use Rattle.rustc_lexer.specs.Edit.{edited};
+ghost use Rattle.expander_model.specs.Expansion.{PlacedStep};
+ghost use Rattle.expander_session.specs.Layered.{layers};
+ghost use Rattle.expander_model.specs.Meaning.{members_after};
+ghost use Rattle.expander_session.specs.Caches.{IsCache};
+ghost use Rattle.expander_session.specs.Emitting.{HasOutput};
+ghost use Rattle.expander_reparse.specs.RelativePieces.{IsOwnPiece, piece_at};
+ghost use Rattle.expander_reparse.specs.Reparsing.{AreMet, AreTheirs};
+ghost use Rattle.expander_session.specs.State.{State, layers_of};
+ghost use Rattle.expander_session.specs.Replies.{HasCause, Replies};
+ghost use Rattle.expander_session.specs.Shown.{ShowsOutput};
+ghost use Rattle.expander_reparse.specs.Segments.{AreSegments};
+ghost use Rattle.expander_session.specs.EvaluatedTexts.{EvaluatesText};
+ghost use Rattle.expander_session.specs.Evaluating.{NeedsMore};
+ghost use Rattle.expander_session.specs.TooMany.{bursts};
+ghost use Rattle.expander_model.specs.World.{world};
+
+use crate::cache::Cache;
+use crate::emitter::{Emitter, finish};
+use crate::evaluate::{Evaluated, evaluate_pieces};
+use bridge::{LazyPrinted, ReadFault, SpanList};
+use expander_model::fault::{Fault, sort_faults};
+use expander_model::laws;
+use expander_reparse::parse::{Parsed, read_pieces};
+use expander_reparse::piece::Piece;
+use expander_reparse::segment::Segments;
+use expander_scope::refusal::Refusal;
+use fragment_grammar::FragmentGrammar;
+use rustc_lexer::LexedText;
+use std::alloc::{AllocError, Global};
+use std::marker::Model;
+use tt_data::{Edition, TextRange, TtFault};
+
+/// The expansion of a text: what is printed, where it comes from, and the faults.
+#[derive(Drop)]
+pub struct Expansion {
+    printed: String,
+    faults: Vec<Fault>,
+    origins: SpanList,
+    expanded: usize,
+}
+
+impl Model for Expansion {
+    ghost use Rattle.std.specs.Prelude.{map, string_bytes};
+    ghost use Rattle.expander_session.specs.Expanded.{Expanded};
+
+    ghost Value = { Expanded };
+
+    ghost view = { λ e. record { printed = string_bytes e.printed; faults = e.faults.items; origins = map (λ s. s.range) e.origins; expanded = e.expanded } };
+}
+
+impl Expansion {
+    /// The printed text.
+    pub fn printed(&self) -> &str
+        ensures { result.now ≡ self.now.printed }
+    {
+        self.printed.as_str()
+    }
+
+    /// The faults, in order of start, end and kind.
+    pub fn faults(&self) -> &[Fault]
+        ensures { result.now ≡ self.now.faults }
+    {
+        self.faults.as_slice()
+    }
+
+    /// How many pieces were expanded: all that are no definitions, but for those that the last text that was read had as
+    /// well, with the same definitions for their names.
+    pub fn expanded(&self) -> usize
+        ensures { result ≡ self.now.expanded }
+    {
+        self.expanded
+    }
+
+    /// How many tokens are printed.
+    pub fn tokens(&self) -> usize
+        ensures { result ≡ length self.now.origins }
+    {
+        self.origins.len()
+    }
+
+    /// Where in the text the printed token of this number, from 0, comes from. A token that was written in the text, in a
+    /// call's argument too, comes from there, through however many calls it was carried. A token that a template gives
+    /// comes from the template, and what a `$` puts in of itself from this `$`. A doc comment's tokens come from the
+    /// comment.
+    pub fn origin(&self, i: usize) -> Option<TextRange>
+        requires { i < length self.now.origins }
+        ensures { result ≡ slice_get self.now.origins i }
+    {
+        match self.origins.get(i) {
+            Some(span) => Some(span.range),
+            None => None,
+        }
+    }
+
+    /// An equal expansion. Refused where there is no memory for it.
+    pub fn try_clone(&self, alloc: Global) -> Result<Expansion, AllocError>
+        ensures { IfOk result (λ e. e ≡ self.now) }
+    {
+        let printed = String::from_str(alloc, self.printed())?;
+        let faults = Vec::from_slice(alloc, self.faults())?;
+        let origins = self.origins.try_clone(alloc)?;
+        Ok(Expansion {
+            printed,
+            faults,
+            origins,
+            expanded: self.expanded,
+        })
+    }
+}
+
+/// What a text gives.
+#[derive(Drop)]
+pub enum Reply {
+    /// The text was read as trees and expanded.
+    Read(Expansion),
+    /// The text cannot be read as trees.
+    Unread(ReadFault),
+}
+
+/// A text that may be edited, and what its calls are expanded by: a grammar, an edition, and how many levels of calls
+/// are expanded.
+#[derive(Drop)]
+pub struct Session<G: FragmentGrammar> {
+    alloc: Global,
+    text: LexedText,
+    grammar: G,
+    edition: Edition,
+    depth: u8,
+    // What is held of the last text that was read.
+    memory: Cache,
+}
+
+impl<G: FragmentGrammar> Model for Session<G> {
+    ghost use Rattle.std.specs.Prelude.{length, ◌<◌, ◌^◌};
+    ghost use Rattle.expander_session.specs.Caches.{IsCache, held_in, trees_of};
+    ghost use Rattle.expander_session.specs.State.{State, state_code};
+    ghost use Rattle.expander_model.specs.World.{world};
+
+    ghost Value = { State G };
+
+    ghost coded = { state_code G.code };
+
+    ghost view = { λ s. record { text = s.text; grammar = s.grammar; edition = s.edition; depth = s.depth; held = held_in s.memory; trees = trees_of s.memory; given = s.memory.given } };
+
+    ghost invariant = { λ s. (length s.text < 2 ^ 32) × IsCache (world (G.answer s.grammar) s.edition) s.depth s.edition s.memory × (s.memory.given < 2 ^ 32) };
+}
+
+impl<G: FragmentGrammar + Drop> Session<G> {
+    /// A session over a text of at most `u32::MAX` bytes, whose words are of this edition. The grammar says what fragments
+    /// are, and `depth` how many levels of calls are expanded. Nothing is expanded yet. Refused where there is no memory
+    /// for a copy of the text and its tokens.
+    pub fn new(
+        alloc: Global,
+        text: &str,
+        grammar: G,
+        edition: Edition,
+        depth: u8,
+    ) -> Result<Self, AllocError>
+        requires { length text.now < 2 ^ 32 }
+        ensures { IfOk result (λ s. s ≡ record {
+          text = text.now;
+          grammar = grammar;
+          edition = edition;
+          depth = depth;
+          held = None;
+          trees = [];
+          given = 0;
+        }) }
+    {
+        let text = LexedText::new(alloc, text)?;
+        Ok(Session {
+            alloc,
+            text,
+            grammar,
+            edition,
+            depth,
+            memory: Cache::new(alloc),
+        })
+    }
+
+    /// The text.
+    pub fn text(&self) -> &str
+        ensures { result.now ≡ self.now.text }
+    {
+        self.text.text()
+    }
+
+    /// Whether the byte `at` is at most the text's length, and begins a character or ends the text.
+    pub fn is_boundary(&self, at: usize) -> bool
+        ensures { IsTrue result ↔ IsCharBoundary self.now.text at }
+    {
+        self.text.is_boundary(at)
+    }
+
+    /// Whether the bytes from `start` to `end` are in the text, and it has at most `u32::MAX` bytes once `replacement_len`
+    /// bytes stand in their place.
+    pub fn fits(&self, start: usize, end: usize, replacement_len: usize) -> bool
+        ensures { IsTrue result ↔ ((start ≤ «end») × («end» ≤ length self.now.text)
+            × (length self.now.text - («end» - start) + replacement_len < 2 ^ 32)) }
+    {
+        self.text.fits(start, end, replacement_len)
+    }
+
+    /// Puts the replacement in place of the bytes from `start` to `end`, which are boundaries of the text and fit. Refused
+    /// where there is no memory for the text or its tokens, and then nothing changes.
+    pub fn edit(&mut self, start: usize, end: usize, replacement: &str) -> Result<(), AllocError>
+        requires start { IsCharBoundary self.old.text start }
+        requires stop { IsCharBoundary self.old.text «end» }
+        requires order { start ≤ «end» }
+        requires fits { length self.old.text - («end» - start) + length replacement.now < 2 ^ 32 }
+        ensures ok { OnOk result (self.new ≡ record self.old { text = edited self.old.text start «end» replacement.now }) }
+        ensures err { OnErr result (self.new ≡ self.old) }
+    {
+        self.text.edit(start, end, replacement)?;
+        Ok(())
+    }
+
+    /// The expansion of the text, or its reading fault. Refused where there is no memory left, where what is read of the
+    /// text has more than `u32::MAX` tokens, which doc comments alone can bring about, or where a call's result would
+    /// have so many, which is never where no level of calls is left; and where so many definitions would have been
+    /// numbered. Pieces that the last text that was read had as well are not expanded again. No more than `u32::MAX`
+    /// definitions are numbered in all, so a text for which that would be more has no `Read`: `numbers`.
+    pub fn expansion(&mut self) -> Result<Reply, Refusal>
+        ensures reply { IfOk result (λ reply. Replies (layers_of G.answer self.old) self.old self.new reply) }
+        ensures same { OnErr result (self.new ≡ self.old) }
+        ensures cause { IfErr result (HasCause (layers_of G.answer self.old) self.old) }
+        ensures numbers { self.new.given < 2 ^ 32 }
+    {
+        mbe_rules::laws::rules_at_other_places();
+        mbe::laws::fit_at_other_places();
+        mbe::laws::bursts_at_other_places();
+        bridge::laws::reading_is_a_relation();
+        bridge::laws::tokens_follow_one_another();
+        bridge::laws::tokens_are_written();
+        laws::equal_pieces();
+        let (alloc, text, tokens) = (self.alloc, self.text.text(), self.text.tokens());
+        let (pieces, sources) = match read_pieces(alloc, text, tokens, &self.memory.sources)? {
+            Parsed::Fault(fault) => return Ok(Reply::Unread(fault)),
+            Parsed::Pieces(pieces, sources) => (pieces, sources),
+        };
+        let (expansion, memory) = expand_pieces(
+            alloc,
+            &self.grammar,
+            self.edition,
+            self.depth,
+            &self.memory,
+            pieces.as_slice(),
+            sources,
+            text.len(),
+        )?;
+        self.memory = memory;
+        Ok(Reply::Read(expansion))
+    }
+}
+
+// The expansion of the pieces of a text of so many bytes over what is held, and what is held afterwards, with how they were
+// read.
+fn expand_pieces<G: FragmentGrammar>(
+    alloc: Global,
+    grammar: &G,
+    edition: Edition,
+    depth: u8,
+    memory: &Cache,
+    pieces: &[Piece],
+    sources: Segments,
+    bytes: usize,
+) -> Result<(Expansion, Cache), Refusal>
+    requires right { IsCache (world (G.answer grammar.now) edition) depth edition memory.now }
+    requires own { All IsOwnPiece pieces.now }
+    requires sources { AreSegments sources }
+    requires theirs { AreTheirs sources pieces.now }
+    requires met { AreMet memory.now.sources pieces.now }
+    ensures taken { IfOk result (λ r. EvaluatesText (G.answer grammar.now) edition depth memory.now (map piece_at pieces.now) r.0 r.1) }
+    ensures tokens { result ≡ Err Refusal.Tokens → list_any bursts (members_after (layers (G.answer grammar.now) edition) depth [] (map piece_at pieces.now)) ≡ true }
+    ensures numbers { result ≡ Err Refusal.Numbers → NeedsMore memory.now (map piece_at pieces.now) }
+{
+    laws::equal_pieces();
+    let Evaluated {
+        numbers,
+        plains,
+        hashes,
+        steps,
+        faults,
+        expanded,
+        links,
+    } = evaluate_pieces(alloc, grammar, edition, depth, memory, pieces, bytes)?;
+    let expansion = expansion_of(steps, faults, expanded)?;
+    let memory = Cache {
+        was_read: true,
+        plains,
+        hashes,
+        definitions: numbers.definitions,
+        by_tree: numbers.by_tree,
+        given: numbers.given,
+        sources,
+        links,
+    };
+    Ok((expansion, memory))
+}
+
+// What these steps print, the places of its tokens, and all faults in order.
+fn expansion_of(
+    steps: Emitter,
+    mut faults: Vec<Fault>,
+    expanded: usize,
+) -> Result<Expansion, AllocError>
+    ensures { IfOk result (λ e. (all : List PlacedStep) → HasOutput steps all → ShowsOutput faults.items expanded all e) }
+{
+    let LazyPrinted { text, tokens, .. } = finish(steps, &mut faults)?;
+    sort_faults(&mut faults)?;
+    Ok(Expansion {
+        printed: text,
+        faults,
+        origins: tokens,
+        expanded,
+    })
+}

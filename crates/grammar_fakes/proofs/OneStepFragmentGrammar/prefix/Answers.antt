@@ -1,6 +1,0 @@
-use Rattle.tt.specs.Views.{forest}
-use Rattle.grammar_fakes.specs.FakeLaws.{one_step-is}
-use Rattle.grammar_fakes.proofs.OneStepFragmentGrammar.prefix.Goals as goal
-
-pub returns : goal.returns
-returns c = one_step-is c.args.entry (forest c.args.input) (λ e. let t = c.if-is_empty.ensures.1 e in cc)

@@ -1,6 +1,0 @@
--- The name stands among the entries that are left, or nowhere.
-use Rattle.mbe.proofs.BoundLemmas.{IsFrom}
-use Rattle.mbe.proofs.bindings.Bindings.position.Given as goal
-
-abbrev pub invariant-loop-i : goal.invariant-loop-i
-invariant-loop-i l = IsFrom l.name l.bound-items l.i

@@ -1,6 +1,0 @@
-use Rattle.std.proofs.Common.{◌≡◌, drop}
-use Rattle.mbe.specs.Threads.{head_taken}
-use Rattle.mbe.proofs.matcher.first_taken.Given as goal
-
-abbrev pub invariant-loop-w : goal.invariant-loop-w
-invariant-loop-w l = head_taken l.waiting ≡ head_taken (drop l.w-index l.waiting)

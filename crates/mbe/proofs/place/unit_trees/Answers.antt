@@ -1,6 +1,0 @@
-use Rattle.std.proofs.Common.{sym, ◌∙◌}
-use Rattle.mbe.proofs.PlaceLemmas.{no-glue}
-use Rattle.mbe.proofs.place.unit_trees.Goals as goal
-
-pub returns-then-count-eq0 : goal.returns-then-count-eq0
-returns-then-count-eq0 c = no-glue c.args.trees.now (sym c.glued_count-count.ensures ∙ c.if-count-eq0.true)

@@ -1,6 +1,0 @@
--- The bytes that were passed are the same.
-use Rattle.std.proofs.Common.{◌≡◌, take}
-use Rattle.mbe.proofs.same.is_equal.Given as goal
-
-abbrev pub invariant-loop-i : goal.invariant-loop-i
-invariant-loop-i l = take l.i l.first ≡ take l.i l.second

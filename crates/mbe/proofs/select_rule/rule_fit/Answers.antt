@@ -1,0 +1,19 @@
+-- Where the pattern cannot begin, nothing is given.
+use Rattle.std.proofs.Common.{sym, ap, ◌∙◌, [], option_map, option_and_then}
+use Rattle.tt.specs.Views.{forest}
+use Rattle.mbe_rules.specs.Ops.{items_of}
+use Rattle.mbe.specs.Answers.{within}
+use Rattle.mbe_matcher.specs.Bindings.{bindings}
+use Rattle.mbe_matcher.specs.Blocked.{is_blocked}
+use Rattle.mbe_transcriber.specs.Filling.{filled}
+use Rattle.mbe_transcriber.specs.Limits.{most_rounds}
+use Rattle.mbe_transcriber.specs.Markers.{is_name}
+use Rattle.mbe_matcher.specs.Units.{place}
+use Rattle.mbe_matcher.proofs.BlockedLemmas.{none-read}
+use Rattle.mbe.proofs.select_rule.rule_fit.Goals as goal
+
+pub returns-then-is_passed-clause-tree : goal.returns-then-is_passed-clause-tree
+returns-then-is_passed-clause-tree g c = λ mark marked.
+    sym (ap (λ o. option_map (within c.args.top) (option_and_then (λ ms. filled is_name most_rounds mark (bindings ms) (items_of c.args.rule.now.template.items)) o))
+    (none-read (g.G.FragmentGrammar.answer c.args.grammar.now) (items_of c.args.rule.now.pattern.items) (forest c.args.argument) c.requires.pattern
+    (sym (c.is_passed.ensures ∙ ap (λ ops. is_blocked (items_of ops) (place (forest c.args.argument) [])) c.deref.ensures.value) ∙ c.if-is_passed.true)))

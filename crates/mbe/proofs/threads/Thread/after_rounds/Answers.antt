@@ -1,9 +1,0 @@
--- Another round is the only way on, again and again.
-use Rattle.mbe.specs.Rounds.{stays}
-use Rattle.mbe.proofs.threads.Thread.after_rounds.Goals as goal
-
-pub returns-in_default : goal.returns-in_default
-returns-in_default g c = stays
-
-pub loop-more-init : goal.loop-more-init
-loop-more-init g c = (c.in-Some.ensures, c.past.ensures, stays)

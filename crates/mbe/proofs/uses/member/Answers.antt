@@ -1,9 +1,0 @@
-use Rattle.std.proofs.Common.{sym, arith}
-use Rattle.mbe.proofs.UsesLemmas.{value-at, value-past}
-use Rattle.mbe.proofs.uses.member.Goals as goal
-
-pub returns-then-number-values : goal.returns-then-number-values
-returns-then-number-values c = sym (value-at c.args.values.now c.args.number _ (omega arith) c.index-values-number.is)
-
-pub returns-else-number-values : goal.returns-else-number-values
-returns-else-number-values c = sym (value-past c.args.values.now c.args.number (omega arith))

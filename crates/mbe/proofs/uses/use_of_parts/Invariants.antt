@@ -1,8 +1,0 @@
--- What so far is used, and what the parts that are left use, is what all use.
-use Rattle.mbe.specs.Bound.{map_of}
-use Rattle.mbe.specs.Uses.{use_of}
-use Rattle.mbe.proofs.UsesLemmas.{PartsFrom}
-use Rattle.mbe.proofs.uses.use_of_parts.Given as goal
-
-abbrev pub invariant-loop-part : goal.invariant-loop-part
-invariant-loop-part l = PartsFrom l.rounds (map_of l.bindings) l.parts l.part-index (use_of l.all)

@@ -1,0 +1,289 @@
+//! How far a pattern reads an argument that it does not match.
+use crate::recovery::messages::{fault_at, partial_at};
+use crate::recovery::values::{Partial, Values};
+use bumpalo::Bump;
+use fragment_grammar::FragmentGrammar;
+use mbe_matcher::{
+    Choice, Consumed, Entry, Place, Seen, Thread, bindings_of, is_same_state, was_settled,
+    was_settled_twice,
+};
+use mbe_rules::{ExpandError, ExpandErrorKind, Op};
+use std::alloc::{AllocError, Global};
+use tt::{DelimSpan, Span, TokenTreesView, TtFault};
+
+// A call's argument, and where its brackets stand.
+#[derive(Clone, Copy)]
+pub(crate) struct Call<'a> {
+    pub(crate) argument: TokenTreesView<'a>,
+    pub(crate) ends: DelimSpan,
+}
+
+// What comes of a rule.
+#[derive(Drop)]
+pub(crate) struct Attempt<'a> {
+    // Why it does not fit: nothing where its pattern does.
+    pub(crate) error: Option<ExpandError>,
+    pub(crate) values: Values<'a>,
+    // The tokens that are left in the group where reading stopped.
+    left: usize,
+    // How many fragments and skips are bound.
+    bound: usize,
+}
+
+impl<'a> Attempt<'a> {
+    // Whether its rule comes nearer than another.
+    pub(crate) fn is_nearer(&self, other: &Attempt<'_>) -> bool {
+        if self.left != other.left {
+            return self.left < other.left;
+        }
+        self.bound > other.bound
+    }
+}
+
+// Where a thread ends: its moves, and the fragment that was at fault.
+#[derive(Clone, Copy)]
+struct Stop<'a> {
+    moves: Option<&'a Entry<'a>>,
+    partial: Option<Partial<'a>>,
+}
+
+// The threads that come to one place.
+#[derive(Drop)]
+struct Step<'a> {
+    // Those that can go on without taking anything, the next one last.
+    current: Vec<Thread<'a>>,
+    // Those that did.
+    seen: Vec<Seen<'a>>,
+    // Those that go on once something is taken, what that is, and whether they don't agree on it.
+    waiting: Vec<Thread<'a>>,
+    taken: Option<Consumed>,
+    has_clash: bool,
+    // Those at the pattern's end.
+    ended: Vec<Stop<'a>>,
+    // The last that was at fault.
+    faulty: Option<Stop<'a>>,
+}
+
+impl<'a> Step<'a> {
+    fn go_on(&mut self, choice: Option<Choice<'a>>) -> Result<(), AllocError> {
+        let Some(Choice { thread, taken }) = choice else {
+            return Ok(());
+        };
+        match (taken, self.taken) {
+            (None, _) => self.current.push(thread)?,
+            (Some(taken), before) => {
+                self.waiting.push(thread)?;
+                self.taken = Some(taken);
+                self.has_clash = self.has_clash || is_clash(taken, before);
+            }
+        }
+        Ok(())
+    }
+
+    // The thread that tells what is bound, after one of the steps before.
+    fn stop_after(&self, before: Stop<'a>) -> Stop<'a> {
+        match self.faulty {
+            Some(stop) => stop,
+            None => self.ended.first().copied().unwrap_or(before),
+        }
+    }
+
+    // What all threads take: nothing where none waits, or one takes a fragment beside another.
+    fn taken(&self) -> Option<Consumed> {
+        if self.has_clash { None } else { self.taken }
+    }
+}
+
+// Whether of two takings one is of a fragment.
+fn is_clash(taken: Consumed, before: Option<Consumed>) -> bool {
+    match (taken, before) {
+        (_, None) | (Consumed::Unit, Some(Consumed::Unit)) => false,
+        _ => true,
+    }
+}
+
+// The reading of an argument by a pattern.
+#[derive(Drop)]
+struct Reader<'a> {
+    alloc: Global,
+    arena: &'a Bump,
+    ends: DelimSpan,
+    // The first fault.
+    error: Option<ExpandError>,
+}
+
+impl<'a> Reader<'a> {
+    // Goes on with all threads, as far as they take nothing: the one that came last comes first.
+    fn step<G: FragmentGrammar>(
+        &mut self,
+        grammar: &G,
+        current: Vec<Thread<'a>>,
+        place: &Place<'a>,
+    ) -> Result<Step<'a>, TtFault> {
+        let mut step = Step {
+            current,
+            seen: Vec::new(self.alloc),
+            waiting: Vec::new(self.alloc),
+            taken: None,
+            has_clash: false,
+            ended: Vec::new(self.alloc),
+            faulty: None,
+        };
+        for _ in 0..u64::MAX {
+            let Some(thread) = step.current.pop() else {
+                break;
+            };
+            self.visit(grammar, &mut step, thread, place)?;
+        }
+        Ok(step)
+    }
+
+    // Goes on with a thread, unless two did in its state.
+    fn visit<G: FragmentGrammar>(
+        &mut self,
+        grammar: &G,
+        step: &mut Step<'a>,
+        thread: Thread<'a>,
+        place: &Place<'a>,
+    ) -> Result<(), TtFault> {
+        let twice = was_settled(&step.seen, &thread);
+        if twice && was_settled_twice(&step.seen, &thread) {
+            return Ok(());
+        }
+        let seen = Seen { thread, twice };
+        step.seen.push(seen).map_err(AllocError::from)?;
+        if thread.is_past_pattern() {
+            let end = Stop {
+                moves: thread.moves(),
+                partial: None,
+            };
+            return Ok(step.ended.push(end).map_err(AllocError::from)?);
+        }
+        let (first, second) = thread.choices(self.arena, grammar, place)?;
+        if first.is_none() && second.is_none() {
+            return self.stop(grammar, step, thread, place);
+        }
+        step.go_on(second)?;
+        step.go_on(first)?;
+        Ok(())
+    }
+
+    // A thread cannot go on.
+    fn stop<G: FragmentGrammar>(
+        &mut self,
+        grammar: &G,
+        step: &mut Step<'a>,
+        thread: Thread<'a>,
+        place: &Place<'a>,
+    ) -> Result<(), TtFault> {
+        let Some(op) = thread.next_item() else {
+            return Ok(());
+        };
+        let Some(fault) = fault_at(self.alloc, op, place.rest())? else {
+            return Ok(());
+        };
+        let span = place.rest().next_span().unwrap_or(self.ends.close_span);
+        self.tell(span, fault)?;
+        step.faulty = Some(Stop {
+            moves: thread.moves(),
+            partial: partial_at(grammar, op, place.rest()),
+        });
+        Ok(())
+    }
+
+    // The first fault is told.
+    fn tell(&mut self, span: Span, fault: ExpandErrorKind) -> Result<(), TtFault> {
+        if self.error.is_none() {
+            self.error = Some(ExpandError::new(self.alloc, span, fault)?);
+        }
+        Ok(())
+    }
+
+    // What comes of the rule where reading stops here.
+    fn outcome(
+        &mut self,
+        step: Step<'a>,
+        stop: Stop<'a>,
+        place: &Place<'a>,
+    ) -> Result<Attempt<'a>, TtFault> {
+        let mut stop = stop;
+        if let (true, [only]) = (place.is_end(), step.ended.as_slice()) {
+            stop = *only;
+            self.error = None;
+        } else if place.is_end() {
+            self.tell(self.ends.open_span, ExpandErrorKind::UnexpectedToken)?;
+        } else {
+            self.tell(self.ends.open_span, ExpandErrorKind::LeftoverTokens)?;
+        }
+        let values = Values::new(bindings_of(self.alloc, stop.moves)?, stop.partial)?;
+        Ok(Attempt {
+            error: self.error.take(),
+            bound: values.count(),
+            values,
+            left: place.rest().remaining().len(),
+        })
+    }
+}
+
+// The place of the second thread in the state of another.
+fn second_like(threads: &[Thread<'_>], other: &Thread<'_>) -> Option<usize> {
+    let mut one = false;
+    for (i, thread) in threads.iter().enumerate() {
+        if is_same_state(other, thread) {
+            if one {
+                return Some(i);
+            }
+            one = true;
+        }
+    }
+    None
+}
+
+// Of the threads in one state the first and the last.
+fn thinned<'a>(alloc: Global, threads: Vec<Thread<'a>>) -> Result<Vec<Thread<'a>>, AllocError> {
+    let mut kept = Vec::new(alloc);
+    for thread in threads {
+        if let Some(i) = second_like(&kept, &thread) {
+            if i < kept.len() {
+                let _ = kept.remove(i);
+            }
+        }
+        kept.push(thread)?;
+    }
+    Ok(kept)
+}
+
+// Reads an argument by a pattern as far as that goes.
+pub(crate) fn attempted<'a, G: FragmentGrammar>(
+    alloc: Global,
+    arena: &'a Bump,
+    grammar: &G,
+    pattern: &'a [Op],
+    call: Call<'a>,
+) -> Result<Attempt<'a>, TtFault> {
+    let mut reader = Reader {
+        alloc,
+        arena,
+        ends: call.ends,
+        error: None,
+    };
+    let mut place = Place::start(alloc, call.argument);
+    let first = Thread::start(pattern);
+    let mut threads = Vec::new(alloc);
+    threads.push(first).map_err(AllocError::from)?;
+    let mut step = reader.step(grammar, threads, &place)?;
+    let mut stop = step.stop_after(Stop {
+        moves: None,
+        partial: None,
+    });
+    for _ in 0..u64::MAX {
+        let Some(taken) = step.taken() else {
+            break;
+        };
+        place = place.after(taken)?;
+        let threads = thinned(alloc, step.waiting)?;
+        step = reader.step(grammar, threads, &place)?;
+        stop = step.stop_after(stop);
+    }
+    reader.outcome(step, stop, &place)
+}

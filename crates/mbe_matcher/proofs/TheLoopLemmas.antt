@@ -1,0 +1,202 @@
+-- A turn of the main loop, over the program's threads
+use Rattle.std.proofs.Common.{◌≡◌, refl, sym, ap, subst, ◌∙◌, ℕ, ◌≤◌, ◌<◌, Bool, true, false, List, [], ◌∷◌, ◌++◌, map, Some, None, length, get_or, arith}
+use Rattle.std.specs.List.{flat_map}
+use Rattle.std.proofs.lemmas.List.{append-nil}
+use Rattle.tt_data.specs.Forest.{Forest}
+use Rattle.mbe_rules.specs.Items.{Items, has_empty_round}
+use Rattle.mbe_rules.specs.Text.{is_nil}
+use Rattle.mbe_matcher.specs.Grammar.{Grammar}
+use Rattle.mbe_matcher.specs.Paths.{only, clash}
+use Rattle.mbe_matcher.specs.Places as q
+use Rattle.mbe_matcher.specs.Readings as r
+use Rattle.mbe_matcher.specs.Rounds.{Follows, stays, goes_on}
+use Rattle.mbe_matcher.specs.Threads as t
+use Rattle.mbe_matcher.specs.Settled.{Leads, IsKept, IsSound, IsSoundAt}
+use Rattle.mbe_matcher.specs.Units as u
+use Rattle.mbe_matcher.specs.Waiting.{ended, pending, prefixed, finished, settled_at, Each, heads, advanced_by, unless, IsFrom}
+use Rattle.mbe_matcher.specs.declared.position.Consumed.{Consumed}
+use Rattle.mbe_matcher.specs.declared.matcher.Seen.{Seen}
+use Rattle.mbe_matcher.specs.declared.matcher.SettleTask.TheVariants.{GoOn}
+use Rattle.mbe_matcher.specs.declared.matcher.Waiting as d
+use Rattle.mbe_matcher.specs.declared.matcher.Waiting.TheVariants.{Ended, Pending}
+use Rattle.mbe_matcher.specs.declared.thread.Thread.{Thread}
+use Rattle.mbe_matcher.proofs.MatchingLemmas.{outcome_at, outcome_later, begun-at}
+use Rattle.mbe_matcher.proofs.SoundLemmas.{Sound, AllFrom, AllTo, kept-at, advance-at, from-advanced-at, one_place-at, from-settled-at, over-at, sound-start}
+use Rattle.mbe_matcher.proofs.DueLemmas.{as_choice, more-due, none-yet}
+use Rattle.mbe_matcher.proofs.KeptLemmas.{kept-each}
+
+abbrev pub P : Type 0
+P = u.Place
+
+-- the waiting threads lead to the only reading
+pub record Held (gr : Grammar) (pattern : Items) (argument : Forest) (p : P) (ws : List t.Waits) : Type 0 where
+  pub same : outcome_at gr (r.room pattern) ws ≡ r.the_reading gr pattern argument
+  pub here : AllFrom gr pattern p ws
+
+same-heads : (p : P) (ws : List d.Waiting) → flat_map heads (t.waits p ws) ≡ flat_map t.takings_of ws
+same-heads p [] = refl
+same-heads p (Ended ms ∷ ws) = same-heads p ws
+same-heads p (Pending h k ∷ ws) = ap (λ x. t.is_trees (Some k) ∷ x) (same-heads p ws)
+
+no-prefix : (ws : List t.Waits) → map (prefixed []) ws ≡ ws
+no-prefix [] = refl
+no-prefix (ended ms ∷ ws) = ap (λ x. ended ms ∷ x) (no-prefix ws)
+no-prefix (pending ms b s ∷ ws) = ap (λ x. pending ms b s ∷ x) (no-prefix ws)
+
+at-place : (s : u.Place) (h : _) (p : P) → r.place_of (t.state_of h s) ≡ p → t.state_of h s ≡ t.state_of h p
+at-place s h p e = ap (t.state_of h) e
+
+same-waits : (gr : Grammar) → (pattern : Items) (b : ℕ) (p s : P) (ws : List d.Waiting) → AllTo gr pattern b s (t.waits p ws) → t.waits p ws ≡ t.waits_at s ws
+same-waits gr pattern b p s [] a = refl
+same-waits gr pattern b p s (Ended ms ∷ ws) a = ap (λ x. ended (t.moves_of ms) ∷ x) (same-waits gr pattern b p s ws a.1)
+same-waits gr pattern b p s (Pending h k ∷ ws) a =
+    let e = at-place (q.place_after p (Some k)) h s a.0.2 in
+    let i = same-waits gr pattern b p s ws a.1 in
+    let f = ap (λ x. pending (t.moves_of h.moves) (t.is_trees (Some k)) x) e in cc
+
+head-place : (gr : Grammar) → (pattern : Items) (b : ℕ) (p s : P) (ws : List d.Waiting) (k : Consumed) → AllTo gr pattern b s (t.waits p ws) → t.head_taken ws ≡ Some k →
+    (q.place_after p (Some k) ≡ s) × (u.left s < b)
+head-place gr pattern b p s [] k a e = absurd (cc e)
+head-place gr pattern b p s (Ended ms ∷ ws) k a e = head-place gr pattern b p s ws k a.1 e
+head-place gr pattern b p s (Pending h j ∷ ws) k a e =
+    let i : j ≡ k = cc in
+    (ap (λ x. q.place_after p (Some x)) (sym i) ∙ a.0.2, subst (λ x. u.left x < b) a.0.2 a.0.1)
+
+good-waits : (gr : Grammar) → (pattern : Items) (b : ℕ) (s : P) (us : List t.Waits) → AllTo gr pattern b s us → Each (IsSoundAt pattern) us
+good-waits gr pattern b s [] a = tt
+good-waits gr pattern b s (ended ms ∷ us) a = (tt, good-waits gr pattern b s us a.1)
+good-waits gr pattern b s (pending ms m x ∷ us) a = (a.0.0, good-waits gr pattern b s us a.1)
+
+pub start-held : (gr : Grammar) → (pattern : Items) (argument : Forest) (p : P) → has_empty_round pattern ≡ false → p ≡ u.place argument [] →
+    (ws : List t.Waits) → ws ≡ map (prefixed []) (settled_at gr (r.at pattern [] p)) → Held gr pattern argument p ws
+start-held gr pattern argument p e i ws h =
+    let k = h ∙ no-prefix (settled_at gr (r.at pattern [] p)) ∙ ap (λ x. settled_at gr (r.at pattern [] x)) i in
+    record {
+      same = ap (outcome_at gr (r.room pattern)) k ∙ sym (begun-at gr pattern argument e);
+      here = rw (k, i) (from-settled-at gr pattern (r.start pattern argument) (sound-start gr pattern argument e));
+    }
+
+-- what a turn gr without a clash does
+pub record Turn (gr : Grammar) (pattern : Items) (argument : Forest) (p s : P) (ws : List d.Waiting) : Type 0 where
+  pub good : Each (IsSoundAt pattern) (t.waits_at s ws)
+  pub lower : u.left s < u.left p
+  pub held : (us : List t.Waits) → us ≡ flat_map (advanced_by (settled_at gr)) (t.waits_at s ws) → Held gr pattern argument s us
+
+pub turn : (gr : Grammar) → (pattern : Items) (argument : Forest) (p : P) (ws : List d.Waiting) (k : Consumed) →
+    Held gr pattern argument p (t.waits p ws) → false ≡ clash (flat_map t.takings_of ws) → Some k ≡ t.head_taken ws →
+    (s : P) → s ≡ q.place_after p (Some k) → Turn gr pattern argument p s ws
+turn gr pattern argument p ws k h c e s i =
+    let N = r.room pattern in
+    let n : clash (flat_map heads (t.waits p ws)) ≡ false = ap clash (same-heads p ws) ∙ sym c in
+    let o = one_place-at gr pattern p (t.waits p ws) h.here n in
+    let f = head-place gr pattern (u.left p) p o.0 ws k o.1 (sym e) in
+    let g : o.0 ≡ s = sym f.0 ∙ sym i in
+    let a : AllTo gr pattern (u.left p) s (t.waits p ws) = subst (λ x. AllTo gr pattern (u.left p) x (t.waits p ws)) g o.1 in
+    let w = same-waits gr pattern (u.left p) p s ws a in
+    record {
+      good = subst (Each (IsSoundAt pattern)) w (good-waits gr pattern (u.left p) s (t.waits p ws) a);
+      lower = subst (λ x. u.left x < u.left p) g f.1;
+      held = λ us eq. record {
+        same = ap (outcome_at gr N) (eq ∙ ap (flat_map (advanced_by (settled_at gr))) (sym w))
+            ∙ sym (advance-at gr pattern (u.left p) s (t.waits p ws) a n) ∙ h.same;
+        here = subst (AllFrom gr pattern s) (ap (flat_map (advanced_by (settled_at gr))) w ∙ sym eq)
+            (from-advanced-at gr pattern (u.left p) s (t.waits p ws) a);
+      };
+    }
+
+pub clash-none : (gr : Grammar) → (pattern : Items) (argument : Forest) (p : P) (ws : List d.Waiting) →
+    Held gr pattern argument p (t.waits p ws) → true ≡ clash (flat_map t.takings_of ws) → None ≡ r.the_reading gr pattern argument
+clash-none gr pattern argument p ws h c =
+    go (clash (flat_map heads (t.waits p ws))) (c ∙ ap clash (sym (same-heads p ws))) ∙ h.same
+  where
+    go : (b : Bool) → true ≡ b → None ≡ unless b (outcome_later gr (r.room pattern) (t.waits p ws))
+    go true e = refl
+    go false e = absurd (cc e)
+
+none-waits : (p : P) (ws : List d.Waiting) → t.head_taken ws ≡ None → is_nil (flat_map heads (t.waits p ws)) ≡ true
+none-waits p [] e = refl
+none-waits p (Ended ms ∷ ws) e = none-waits p ws e
+none-waits p (Pending h k ∷ ws) e = absurd (cc e)
+
+pub ended-only : (gr : Grammar) → (pattern : Items) (argument : Forest) (p : P) (ws : List d.Waiting) →
+    Held gr pattern argument p (t.waits p ws) → t.head_taken ws ≡ None →
+    only (flat_map finished (t.waits p ws)) ≡ r.the_reading gr pattern argument
+ended-only gr pattern argument p ws h e =
+    sym (over-at gr pattern (t.waits p ws) (none-waits p ws e)) ∙ h.same
+
+pub not-one : (p : P) (ws : List d.Waiting) → t.head_taken ws ≡ None → (length ws ≡ 1 → ⊥) → None ≡ only (flat_map finished (t.waits p ws))
+not-one p [] e n = refl
+not-one p (Ended a ∷ []) e n = absurd (n refl)
+not-one p (Ended a ∷ Ended b ∷ ws) e n = refl
+not-one p (Ended a ∷ Pending h k ∷ ws) e n = absurd (cc e)
+not-one p (Pending h k ∷ ws) e n = absurd (cc e)
+
+pub just-one : (p : P) (ws : List d.Waiting) (w : d.Waiting) (ms : _) → length ws ≡ 1 → w ≡ get_or ws 0 w → w ≡ Ended ms →
+    Some (t.moves_of ms) ≡ only (flat_map finished (t.waits p ws))
+just-one p [] w ms e f h = absurd (omega (arith, e))
+just-one p (x ∷ y ∷ ws) w ms e f h = absurd (omega (arith, e))
+just-one p (x ∷ []) w ms e f h = ap (λ v. only (flat_map finished (t.waits p (v ∷ [])))) (sym h ∙ f)
+
+pub not-pending : (ws : List d.Waiting) (w : d.Waiting) (h : _) (k : Consumed) → length ws ≡ 1 → w ≡ get_or ws 0 w → w ≡ Pending h k →
+    t.head_taken ws ≡ None → ⊥
+not-pending [] w h k e f i n = absurd (omega (arith, e))
+not-pending (x ∷ ws) w h k e f i n = let j : t.head_taken (Pending h k ∷ ws) ≡ None = subst (λ v. t.head_taken (v ∷ ws) ≡ None) (sym f ∙ i) n in cc
+
+-- the threads that settling finds lead to what all lead to
+pub leads-held : (gr : Grammar) → (pattern : Items) (argument : Forest) (p : P) (all : List t.Waits) (ws : List d.Waiting) (seen : List Seen) →
+    Leads gr pattern p all ws seen [] → Held gr pattern argument p all → Held gr pattern argument p (t.waits p ws)
+leads-held gr pattern argument p all ws seen (found, kept, covered, due) h =
+    let k = subst (λ x. IsKept [] x (t.waits p ws)) due kept in
+    record {
+      same = sym (kept-at gr pattern all (t.waits p ws) k) ∙ h.same;
+      here = kept-each (IsFrom (Sound gr pattern) (λ s. u.left (r.place_of s)) r.place_of u.left u.after_unit p) [] all (t.waits p ws) k h.here;
+    }
+
+-- the first thread is settled
+pub first-held : (gr : Grammar) → (pattern : Items) (argument : Forest) (p : P) (h : Thread) → has_empty_round pattern ≡ false → p ≡ u.place argument [] →
+    t.state_of h p ≡ r.at pattern [] p → t.moves_of h.moves ≡ [] → (ws us : List d.Waiting) (seen xs : List Seen) → us ≡ [] → xs ≡ [] →
+    ((all : List t.Waits) → Leads gr pattern p all us xs (GoOn (as_choice h) ∷ []) → Leads gr pattern p all ws seen []) →
+    Held gr pattern argument p (t.waits p ws)
+first-held gr pattern argument p h e i s m ws us seen xs a b f =
+    let all = [] ++ map (prefixed (t.moves_of h.moves)) (settled_at gr (t.state_of h p)) in
+    let sound : IsSound pattern (t.state_of h p) =
+    subst (IsSound pattern) (sym s) (subst (λ x. IsSound pattern (r.at pattern [] x)) (sym i) (sound-start gr pattern argument e)) in
+    let l = more-due gr pattern p [] [] [] h sound (none-yet gr pattern p) in
+    leads-held gr pattern argument p all ws seen
+    (f all (subst (λ x. Leads gr pattern p all us x (GoOn (as_choice h) ∷ [])) (sym b) (subst (λ x. Leads gr pattern p all x [] (GoOn (as_choice h) ∷ [])) (sym a) l)))
+    (start-held gr pattern argument p e i all (ap (λ x. map (prefixed x) (settled_at gr (t.state_of h p))) m ∙ ap (λ x. map (prefixed []) (settled_at gr x)) s))
+
+one-takes : (b : Bool) → false ≡ clash (b ∷ [])
+one-takes true = refl
+one-takes false = refl
+
+-- so does what waits where again and again one path alone waits after another
+pub follows-held : (gr : Grammar) → (pattern : Items) (argument : Forest) (p : P) (ws : List t.Waits) (s : P) (us : List t.Waits) → Follows gr p ws s us →
+    Held gr pattern argument p ws → Held gr pattern argument s us × (u.left s ≤ u.left p)
+follows-held gr pattern argument p ws _ _ stays h = (h, omega arith)
+follows-held gr pattern argument p ws _ _ (goes_on {q = o} {ms} {s = x} {w} f alone) h =
+    let N = r.room pattern in
+    let one : List t.Waits = pending ms true x ∷ [] in
+    let (i, le) = follows-held gr pattern argument p ws o one f h in
+    let at = one_place-at gr pattern o one i.here refl in
+    let s = r.place_of x in
+    let here : s ≡ at.0 = at.1.0.2 in
+    let a : AllTo gr pattern (u.left o) s one = subst (λ y. AllTo gr pattern (u.left o) y one) (sym here) at.1 in
+    let all : w ∷ [] ≡ flat_map (advanced_by (settled_at gr)) one = sym (alone N a.0.0.0) ∙ sym (append-nil (map (prefixed ms) (settled_at gr x))) in (
+      record {
+        same = ap (outcome_at gr N) all ∙ sym (advance-at gr pattern (u.left o) s one a refl) ∙ i.same;
+        here = subst (AllFrom gr pattern s) (sym all) (from-advanced-at gr pattern (u.left o) s one a);
+      },
+      (let lower = a.0.1 in omega (arith, lower, le)),
+    )
+
+-- a turn, and the rounds after it
+pub turned : (gr : Grammar) → (pattern : Items) (argument : Forest) (p s o : P) (ws vs us : List d.Waiting) (seen : List Seen) (k : Consumed) →
+    Held gr pattern argument p (t.waits p ws) → false ≡ clash (flat_map t.takings_of ws) → Some k ≡ t.head_taken ws → s ≡ q.place_after p (Some k) →
+    (Each (IsSoundAt pattern) (t.waits_at s ws) → Leads gr pattern s (flat_map (advanced_by (settled_at gr)) (t.waits_at s ws)) vs seen []) →
+    Follows gr s (t.waits s vs) o (t.waits o us) → Held gr pattern argument o (t.waits o us) × (u.left o < u.left p)
+turned gr pattern argument p s o ws vs us seen k h c e i leads f =
+    let n = turn gr pattern argument p ws k h c e s i in
+    let all = flat_map (advanced_by (settled_at gr)) (t.waits_at s ws) in
+    let (held, le) = follows-held gr pattern argument s (t.waits s vs) o (t.waits o us) f (leads-held gr pattern argument s all vs seen (leads n.good) (n.held all refl)) in
+    (held, (let lower = n.lower in omega (arith, lower, le)))

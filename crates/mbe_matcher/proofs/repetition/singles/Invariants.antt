@@ -1,0 +1,12 @@
+-- All trees so far are single ones.
+use Rattle.tt_data.specs.Forest.{Forest}
+use Rattle.mbe_matcher.specs.Rounds.{AreSingle}
+use Rattle.mbe_matcher.specs.Units as u
+use Rattle.std.proofs.Common.{[]}
+use Rattle.mbe_matcher.proofs.repetition.singles.Given as goal
+
+abbrev pub invariant-loop-last : goal.invariant-loop-last
+invariant-loop-last g l = (ts : Forest) × AreSingle (g.G.FragmentGrammar.answer l.grammar) l.kind l.trees ts l.last l.rest
+
+abbrev pub decreases-loop-last : goal.decreases-loop-last
+decreases-loop-last g l = u.left (u.place l.rest [])

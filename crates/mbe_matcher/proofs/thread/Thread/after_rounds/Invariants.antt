@@ -1,0 +1,16 @@
+-- The thread has come by rounds of the variable, and can go on with one.
+use Rattle.std.proofs.Common.{[], ◌∷◌, ◌+◌, if◌then◌else◌}
+use Rattle.mbe_matcher.specs.Going.{Goes, left_in}
+use Rattle.mbe_matcher.specs.Places.{place_of}
+use Rattle.mbe_matcher.specs.Threads.{waits}
+use Rattle.mbe_matcher.specs.declared.matcher.Waiting.TheVariants.{Pending}
+use Rattle.mbe_matcher.specs.declared.position.Consumed.TheVariants.{Fragment}
+use Rattle.mbe_matcher.proofs.thread.Thread.after_rounds.Given as goal
+
+abbrev pub invariant-loop-more : goal.invariant-loop-more
+invariant-loop-more g l =
+    Goes (g.G.FragmentGrammar.answer l.grammar) l.name l.kind (place_of l.initial.place)
+    (waits (place_of l.initial.place) (Pending l.initial.self (Fragment l.initial.count) ∷ [])) l.now l.place
+
+abbrev pub decreases-loop-more : goal.decreases-loop-more
+decreases-loop-more g l = left_in l.now + (if l.more then 1 else 0)

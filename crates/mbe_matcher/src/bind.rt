@@ -1,0 +1,401 @@
+//! The bindings that the moves of a reading make.
+ghost use Rattle.std.specs.Prelude.{◌≡◌, [], ◌∷◌, OnOk, IfOk, reverse};
+ghost use Rattle.std.specs.List.{flat_map};
+ghost use Rattle.tt.specs.Views.{forest};
+ghost use Rattle.mbe_rules.specs.Items.{done, variables};
+ghost use Rattle.mbe_rules.specs.Ops.{items_of, put_op};
+ghost use Rattle.mbe_matcher.specs.Bindings.{bind_skipped, bindings};
+ghost use Rattle.mbe_matcher.specs.Bound.{map_of};
+ghost use Rattle.mbe_matcher.specs.Threads.{move_of, moves_of, rounds_of, steps_of};
+
+use crate::bindings::{Binding, Bindings, Bound, put_value};
+use crate::position::{again, parted};
+use crate::thread::{Entry, IterationStart, Move};
+use mbe_rules::{MetaVarKind, Op};
+use std::alloc::{AllocError, Global};
+use std::mem;
+use symbols::Symbol;
+use tt::{TokenTreesView, TtIter};
+
+// Each variable of an item stands for nothing.
+#[cycle(skipping)]
+fn skip_op<'a>(here: &mut Bindings<'a>, op: &'a Op) -> Result<(), AllocError>
+    ensures { OnOk result (map_of here.new ≡ bind_skipped (variables (put_op op.now done)) (map_of here.old)) }
+{
+    match op {
+        Op::Var { name, .. } => here.bind(name, Binding::Skipped),
+        Op::Repeat { tokens, .. } => skip(here, tokens),
+        Op::Subtree { tokens, .. } => skip(here, tokens),
+        _ => Ok(()),
+    }
+}
+
+// Each variable of these items stands for nothing.
+#[cycle(skipping)]
+fn skip<'a>(here: &mut Bindings<'a>, ops: &'a [Op]) -> Result<(), AllocError>
+    ensures { OnOk result (map_of here.new ≡ bind_skipped (variables (items_of ops.now)) (map_of here.old)) }
+{
+    for op in ops {
+        skip_op(here, op)?;
+    }
+    Ok(())
+}
+
+// An open repetition: what is bound around it and in its finished rounds, and how many these are.
+#[derive(Drop)]
+struct Open<'a> {
+    around: Bindings<'a>,
+    rounds: usize,
+}
+
+// What is bound in the present round, and the repetitions that are open, the innermost last.
+#[derive(Drop)]
+struct Collected<'a> {
+    here: Bindings<'a>,
+    opens: Vec<Open<'a>>,
+}
+
+impl<'a> Open<'a> {
+    ghost use Rattle.std.specs.Prelude.{suc};
+    ghost use Rattle.mbe_matcher.specs.Bindings.{bind_round};
+    ghost use Rattle.mbe_matcher.specs.Bound.{entry_of};
+    ghost use Rattle.std.specs.Prelude.{List, ℕ, Some};
+    ghost use Rattle.mbe_matcher.specs.Bindings as spec;
+    ghost use Rattle.mbe_matcher.specs.Collecting.{open_of, after_all};
+
+    // One round more has ended.
+    #[inline(always)]
+    fn end_round(&mut self, round: &mut Bindings<'a>) -> Result<(), AllocError>
+        ensures bound { OnOk result (open_of self.new ≡ (bind_round self.old.rounds (map_of round.old) (map_of self.old.around), suc self.old.rounds)) }
+        ensures left { OnOk result (map_of round.new ≡ []) }
+    {
+        self.around.bind_round(self.rounds, round)?;
+        let Some(rounds) = self.rounds.checked_add(1) else {
+            return Err(AllocError);
+        };
+        self.rounds = rounds;
+        Ok(())
+    }
+
+    // An iteration ends, and this is bound first in the next one.
+    #[inline(always)]
+    fn begin_round(&mut self, round: &mut Bindings<'a>, first: Bound<'a>) -> Result<(), AllocError>
+        ensures bound { OnOk result (open_of self.new ≡ (bind_round self.old.rounds (map_of round.old) (map_of self.old.around), suc self.old.rounds)) }
+        ensures first { OnOk result (map_of round.new ≡ entry_of first.entry ∷ []) }
+    {
+        self.around.bind_round_before(self.rounds, round, first)?;
+        let Some(rounds) = self.rounds.checked_add(1) else {
+            return Err(AllocError);
+        };
+        self.rounds = rounds;
+        Ok(())
+    }
+
+    // A round ends for each of these trees, and the tree is the fragment of the next.
+    fn begin_each(
+        &mut self,
+        round: &mut Bindings<'a>,
+        name: &'a Symbol,
+        kind: MetaVarKind,
+        trees: &TtIter<'a>,
+    ) -> Result<(), AllocError>
+        ensures { (os : List (spec.Map × ℕ)) → OnOk result ((map_of round.new, open_of self.new ∷ os)
+            ≡ after_all (rounds_of name.now kind trees.now) (map_of round.old, open_of self.old ∷ os)) }
+    {
+        let mut rest = again(trees);
+        while !rest.is_empty() {
+            let (tree, behind) = parted(&rest, 1);
+            let binding = Binding::Fragment { kind, trees: tree };
+            self.begin_round(round, Bound { name, binding })?;
+            rest = behind;
+        }
+        Ok(())
+    }
+
+    // An iteration ends for each of these trees, where it binds this name alone, which has values around it.
+    fn begin_more(
+        &mut self,
+        round: &mut Bindings<'a>,
+        name: &'a Symbol,
+        kind: MetaVarKind,
+        trees: &TtIter<'a>,
+    ) -> Result<(), AllocError>
+        requires alone { (b : spec.Binding) × (map_of round.old ≡ (name.now, b) ∷ []) }
+        requires values { (vs : spec.Values) × (spec.binding_of name.now (map_of self.old.around) ≡ Some (spec.rounds vs)) }
+        ensures { (os : List (spec.Map × ℕ)) → OnOk result ((map_of round.new, open_of self.new ∷ os)
+            ≡ after_all (rounds_of name.now kind trees.now) (map_of round.old, open_of self.old ∷ os)) }
+    {
+        let mut run = Run {
+            values: self.around.take_values(name),
+            last: round.replace_alone(Binding::Skipped),
+            number: self.rounds,
+        };
+        run.pass(kind, trees)?;
+        let Run {
+            values,
+            last,
+            number,
+        } = run;
+        let _ = round.replace_alone(last);
+        self.around.bind(name, Binding::Rounds(values))?;
+        self.rounds = number;
+        Ok(())
+    }
+
+    // An iteration ends for each of these trees: at once where it binds one name that has values around it.
+    fn begin_rounds(
+        &mut self,
+        round: &mut Bindings<'a>,
+        name: &'a Symbol,
+        kind: MetaVarKind,
+        trees: &TtIter<'a>,
+    ) -> Result<(), AllocError>
+        ensures { (os : List (spec.Map × ℕ)) → OnOk result ((map_of round.new, open_of self.new ∷ os)
+            ≡ after_all (rounds_of name.now kind trees.now) (map_of round.old, open_of self.old ∷ os)) }
+    {
+        if round.is_alone(name) && self.around.has_values(name) {
+            return self.begin_more(round, name, kind, trees);
+        }
+        self.begin_each(round, name, kind, trees)
+    }
+}
+
+// Values of rounds, and that of the round that goes on, with its number.
+#[derive(Drop)]
+struct Run<'a> {
+    values: Vec<Binding<'a>>,
+    last: Binding<'a>,
+    number: usize,
+}
+
+impl<'a> Run<'a> {
+    ghost use Rattle.mbe_matcher.specs.Collecting.{run_of, run_through};
+
+    // For each of these trees the round ends, and the tree is the value of the next.
+    fn pass(&mut self, kind: MetaVarKind, trees: &TtIter<'a>) -> Result<(), AllocError>
+        ensures { OnOk result (run_of self.new ≡ run_through kind trees.now (run_of self.old)) }
+    {
+        self.values.reserve(trees.remaining().len())?;
+        let mut rest = again(trees);
+        while !rest.is_empty() {
+            let (tree, behind) = parted(&rest, 1);
+            let next = Binding::Fragment { kind, trees: tree };
+            let ended = mem::replace(&mut self.last, next);
+            put_value(&mut self.values, self.number, ended)?;
+            let Some(number) = self.number.checked_add(1) else {
+                return Err(AllocError);
+            };
+            self.number = number;
+            rest = behind;
+        }
+        Ok(())
+    }
+}
+
+impl<'a> Collected<'a> {
+    ghost use Rattle.mbe_matcher.specs.Collecting.{collected_of, after, after_all};
+    ghost use Rattle.mbe_matcher.specs.Readings as r;
+
+    // Before any move.
+    fn new(alloc: Global) -> Collected<'a>
+        ensures { collected_of result ≡ ([], []) }
+    {
+        Collected {
+            here: Bindings::new(alloc),
+            opens: Vec::new(alloc),
+        }
+    }
+
+    // A repetition begins.
+    fn enter(&mut self, alloc: Global) -> Result<(), AllocError>
+        ensures { OnOk result (collected_of self.new ≡ after r.enter (collected_of self.old)) }
+    {
+        let around = mem::replace(&mut self.here, Bindings::new(alloc));
+        self.opens.push(Open { around, rounds: 0 })?;
+        Ok(())
+    }
+
+    // A round ends, and another begins.
+    #[inline]
+    fn end_round(&mut self) -> Result<(), AllocError>
+        ensures { OnOk result (collected_of self.new ≡ after r.next_round (collected_of self.old)) }
+    {
+        match self.opens.last_mut() {
+            Some(open) => {
+                open.end_round(&mut self.here)?;
+                Ok(())
+            }
+            None => Ok(()),
+        }
+    }
+
+    // An iteration ends, and a fragment comes first in the next one.
+    #[inline(always)]
+    fn begin_round(
+        &mut self,
+        name: &'a Symbol,
+        kind: MetaVarKind,
+        trees: TokenTreesView<'a>,
+    ) -> Result<(), AllocError>
+        ensures { OnOk result (collected_of self.new ≡ after (r.fragment_move name.now kind (forest trees.entry)) (after r.next_round (collected_of self.old))) }
+    {
+        let binding = Binding::Fragment { kind, trees };
+        match self.opens.last_mut() {
+            Some(open) => {
+                open.begin_round(&mut self.here, Bound { name, binding })?;
+                Ok(())
+            }
+            None => self.here.bind(name, binding),
+        }
+    }
+
+    // A repetition ends.
+    fn leave(&mut self) -> Result<(), AllocError>
+        ensures { OnOk result (collected_of self.new ≡ after r.leave (collected_of self.old)) }
+    {
+        let Some(open) = self.opens.pop() else {
+            return Ok(());
+        };
+        let Open { mut around, rounds } = open;
+        around.bind_round(rounds, &mut self.here)?;
+        self.here = around;
+        Ok(())
+    }
+
+    // One more move is made.
+    #[inline]
+    fn add(&mut self, alloc: Global, made: Move<'a>) -> Result<(), AllocError>
+        ensures { OnOk result (collected_of self.new ≡ after (move_of made.entry) (collected_of self.old)) }
+    {
+        match made {
+            Move::Fragment { name, kind, trees } => {
+                self.here.bind(name, Binding::Fragment { kind, trees })
+            }
+            Move::Nothing { name } => {
+                let trees = TokenTreesView::empty();
+                let kind = MetaVarKind::Vis;
+                self.here.bind(name, Binding::Fragment { kind, trees })
+            }
+            Move::Skip { body } => skip(&mut self.here, body),
+            Move::Enter => self.enter(alloc),
+            Move::Leave => self.leave(),
+            Move::NextRound => self.end_round(),
+            Move::Unit | Move::Separator => Ok(()),
+        }
+    }
+
+    // A round ends for each of these trees, and the tree is the fragment of the next.
+    fn begin_each(
+        &mut self,
+        name: &'a Symbol,
+        kind: MetaVarKind,
+        trees: &TtIter<'a>,
+    ) -> Result<(), AllocError>
+        ensures { OnOk result (collected_of self.new ≡ after_all (rounds_of name.now kind trees.now) (collected_of self.old)) }
+    {
+        let mut rest = again(trees);
+        while !rest.is_empty() {
+            let (tree, behind) = parted(&rest, 1);
+            self.begin_round(name, kind, tree)?;
+            rest = behind;
+        }
+        Ok(())
+    }
+
+    // An iteration ends for each of these trees, by the innermost repetition, where one is open.
+    fn begin_rounds(
+        &mut self,
+        name: &'a Symbol,
+        kind: MetaVarKind,
+        trees: &TtIter<'a>,
+    ) -> Result<(), AllocError>
+        ensures { OnOk result (collected_of self.new ≡ after_all (rounds_of name.now kind trees.now) (collected_of self.old)) }
+    {
+        match self.opens.last_mut() {
+            Some(open) => {
+                open.begin_rounds(&mut self.here, name, kind, trees)?;
+                Ok(())
+            }
+            None => self.begin_each(name, kind, trees),
+        }
+    }
+
+    // A round begins for each of these trees: the first may be the first that gives the name a value.
+    fn begin_all(
+        &mut self,
+        name: &'a Symbol,
+        kind: MetaVarKind,
+        trees: TokenTreesView<'a>,
+    ) -> Result<(), AllocError>
+        ensures { OnOk result (collected_of self.new ≡ after_all (rounds_of name.now kind (forest trees.entry)) (collected_of self.old)) }
+    {
+        let (first, rest) = parted(&trees.iter(), 1);
+        self.begin_each(name, kind, &first.iter())?;
+        self.begin_rounds(name, kind, &rest)
+    }
+
+    // A round ends, and this move is made in the next.
+    fn begin(&mut self, alloc: Global, made: Move<'a>) -> Result<(), AllocError>
+        ensures { OnOk result (collected_of self.new ≡ after (move_of made.entry) (after r.next_round (collected_of self.old))) }
+    {
+        match made {
+            Move::Fragment { name, kind, trees } => self.begin_round(name, kind, trees),
+            made => {
+                self.end_round()?;
+                self.add(alloc, made)?;
+                Ok(())
+            }
+        }
+    }
+
+    // The moves of one more entry are made.
+    #[inline(always)]
+    fn add_entry(&mut self, alloc: Global, entry: &'a Entry<'a>) -> Result<(), AllocError>
+        ensures { OnOk result (collected_of self.new ≡ after_all (steps_of entry.entry) (collected_of self.old)) }
+    {
+        match (entry.begun, entry.made) {
+            (IterationStart::Nothing, made) => self.add(alloc, made),
+            (IterationStart::RoundForEach, Move::Fragment { name, kind, trees }) => {
+                self.begin_all(name, kind, trees)
+            }
+            (_, made) => self.begin(alloc, made),
+        }
+    }
+}
+
+// For how many entries of a log there is room at first.
+const USUAL_ENTRIES: usize = 16;
+
+// The entries of the log up to one, the last first.
+fn entries_back<'a>(
+    alloc: Global,
+    last: Option<&'a Entry<'a>>,
+) -> Result<Vec<&'a Entry<'a>>, AllocError>
+    ensures { IfOk result (λ v. flat_map steps_of (reverse v.items) ≡ moves_of last.entry) }
+{
+    let mut entries = Vec::with_capacity(alloc, USUAL_ENTRIES)?;
+    let mut next = last;
+    while let Some(entry) = next {
+        entries.push(entry)?;
+        next = entry.before;
+    }
+    Ok(entries)
+}
+
+/// What the variables of a pattern stand for after the moves up to an entry of the log.
+///
+/// The trees of fragments are not copied. Its one error is want of memory.
+pub fn bindings_of<'a>(
+    alloc: Global,
+    last: Option<&'a Entry<'a>>,
+) -> Result<Bindings<'a>, AllocError>
+    ensures { IfOk result (λ b. map_of b ≡ bindings (moves_of last.entry)) }
+{
+    let mut entries = entries_back(alloc, last)?;
+    let mut collected = Collected::new(alloc);
+    while let Some(entry) = entries.pop() {
+        collected.add_entry(alloc, entry)?;
+    }
+    let Collected { here, opens: _ } = collected;
+    Ok(here)
+}

@@ -1,0 +1,273 @@
+//! Bindings: what each variable of a pattern is bound to.
+ghost use Rattle.std.specs.Prelude.{◌≡◌, ◌≤◌, length, None, Some, OnOk, IfOk};
+ghost use Rattle.mbe_matcher.specs.Bindings as spec;
+ghost use Rattle.mbe_matcher.specs.Bindings.{value_put, with_round};
+ghost use Rattle.mbe_matcher.specs.Bound.{standing_for, values_of};
+
+use crate::same::is_same;
+use mbe_rules::MetaVarKind;
+use std::alloc::{AllocError, Global};
+use std::mem;
+use symbols::Symbol;
+use tt::TokenTreesView;
+
+/// What a name stands for.
+#[derive(Drop)]
+pub enum Binding<'a> {
+    /// The trees of a fragment.
+    Fragment {
+        kind: MetaVarKind,
+        trees: TokenTreesView<'a>,
+    },
+    /// A value for each round of a repetition.
+    Rounds(Vec<Binding<'a>>),
+    /// Nothing, where a repetition was skipped.
+    Skipped,
+}
+
+/// A name with what it stands for.
+#[derive(Drop)]
+pub struct Bound<'a> {
+    pub name: &'a Symbol,
+    pub binding: Binding<'a>,
+}
+
+/// What each name stands for.
+#[derive(Drop)]
+pub struct Bindings<'a> {
+    pub(crate) bound: Vec<Bound<'a>>,
+}
+
+// Puts empty lists at the end, for the rounds before this one that have no value.
+#[inline(always)]
+fn fill_up<'a>(values: &mut Vec<Binding<'a>>, round: usize) -> Result<(), AllocError>
+    ensures filled { OnOk result (round ≤ length values.new.items) }
+    ensures same { OnOk result ((b : spec.Binding) → value_put round b (values_of values.new.items) ≡ value_put round b (values_of values.old.items)) }
+{
+    while values.len() < round {
+        let none = Vec::new(*values.allocator());
+        values.push(Binding::Rounds(none))?;
+    }
+    Ok(())
+}
+
+// Puts the value of a round at the end, after empty lists for the rounds before it that have none.
+#[inline(always)]
+pub(crate) fn put_value<'a>(
+    values: &mut Vec<Binding<'a>>,
+    round: usize,
+    value: Binding<'a>,
+) -> Result<(), AllocError>
+    ensures { OnOk result (values_of values.new.items ≡ value_put round (standing_for value.entry) (values_of values.old.items)) }
+{
+    fill_up(values, round)?;
+    values.push(value)?;
+    Ok(())
+}
+
+// What a name stands for after a round: one that holds no list keeps what it has.
+#[inline(always)]
+fn with_round<'a>(
+    binding: Binding<'a>,
+    round: usize,
+    value: Binding<'a>,
+) -> Result<Binding<'a>, AllocError>
+    ensures { IfOk result (λ b. standing_for b ≡ with_round round (standing_for value.entry) (Some (standing_for binding.entry))) }
+{
+    match binding {
+        Binding::Rounds(mut values) => {
+            put_value(&mut values, round, value)?;
+            Ok(Binding::Rounds(values))
+        }
+        kept => Ok(kept),
+    }
+}
+
+// What a name stands for after a round, if it stood for nothing before.
+fn first_of<'a>(alloc: Global, round: usize, value: Binding<'a>) -> Result<Binding<'a>, AllocError>
+    ensures { IfOk result (λ b. standing_for b ≡ with_round round (standing_for value.entry) None) }
+{
+    let binding = with_round(Binding::Rounds(Vec::new(alloc)), round, value)?;
+    Ok(binding)
+}
+
+impl<'a> Bound<'a> {
+    // The name has its value of a round.
+    #[inline(always)]
+    fn add_round(&mut self, round: usize, value: Binding<'a>) -> Result<(), AllocError>
+        ensures name { OnOk result (self.new.name.now ≡ self.old.name.now) }
+        ensures binding { OnOk result (standing_for self.new.binding ≡ with_round round (standing_for value.entry) (Some (standing_for self.old.binding))) }
+    {
+        let before = mem::replace(&mut self.binding, Binding::Skipped);
+        self.binding = with_round(before, round, value)?;
+        Ok(())
+    }
+}
+
+impl<'a> Bindings<'a> {
+    ghost use Rattle.std.specs.Prelude.{List, ℕ, [], ◌∷◌, option_map, true};
+    ghost use Rattle.mbe_matcher.specs.Bindings.{bind, binding_of, bind_round};
+    ghost use Rattle.mbe_matcher.specs.Bound.{entries_of, entry_of, map_of, place_among};
+
+    /// No name stands for anything.
+    pub(crate) fn new(alloc: Global) -> Bindings<'a>
+        ensures { map_of result ≡ [] }
+    {
+        Bindings {
+            bound: Vec::new(alloc),
+        }
+    }
+
+    /// Where the memory for what is bound comes from.
+    pub fn allocator(&self) -> Global {
+        *self.bound.allocator()
+    }
+
+    /// All that is bound, in the order in which the names came.
+    pub fn entries(&self) -> &[Bound<'a>]
+        ensures { entries_of result.now ≡ map_of self.now }
+    {
+        &self.bound
+    }
+
+    // Where a name stands.
+    fn position(&self, name: &Symbol) -> Option<usize>
+        ensures { result ≡ place_among name.now self.now.bound.items }
+    {
+        for (i, bound) in self.bound.iter().enumerate() {
+            if is_same(name, bound.name) {
+                return Some(i);
+            }
+        }
+        None
+    }
+
+    /// What the name stands for: none where it is not bound.
+    pub fn get(&self, name: &Symbol) -> Option<&Binding<'a>>
+        ensures { option_map (λ b. standing_for b.now) result ≡ binding_of name.now (map_of self.now) }
+    {
+        match self.position(name) {
+            Some(i) => Some(&self.bound[i].binding),
+            None => None,
+        }
+    }
+
+    /// Whether only this name stands for something.
+    #[inline(always)]
+    pub(crate) fn is_alone(&self, name: &Symbol) -> bool
+        ensures { result ≡ true → (b : spec.Binding) × (map_of self.now ≡ (name.now, b) ∷ []) }
+    {
+        self.bound.len() == 1 && is_same(name, self.bound[0].name)
+    }
+
+    /// What the one name that stands for something stood for, which this takes the place of.
+    pub(crate) fn replace_alone(&mut self, binding: Binding<'a>) -> Binding<'a>
+        requires { (n : List ℕ) × (b : spec.Binding) × (map_of self.old ≡ (n, b) ∷ []) }
+        ensures new { (n : List ℕ) (b : spec.Binding) → map_of self.old ≡ (n, b) ∷ [] → map_of self.new ≡ (n, standing_for binding.entry) ∷ [] }
+        ensures old { (n : List ℕ) (b : spec.Binding) → map_of self.old ≡ (n, b) ∷ [] → standing_for result ≡ b }
+    {
+        mem::replace(&mut self.bound[0].binding, binding)
+    }
+
+    /// Whether the name has values of rounds.
+    pub(crate) fn has_values(&self, name: &Symbol) -> bool
+        ensures { result ≡ true → (vs : spec.Values) × (binding_of name.now (map_of self.now) ≡ Some (spec.rounds vs)) }
+    {
+        matches!(self.get(name), Some(Binding::Rounds(_)))
+    }
+
+    /// The values that the name has of rounds, which are taken out.
+    pub(crate) fn take_values(&mut self, name: &Symbol) -> Vec<Binding<'a>>
+        requires { (vs : spec.Values) × (binding_of name.now (map_of self.old) ≡ Some (spec.rounds vs)) }
+        ensures values { binding_of name.now (map_of self.old) ≡ Some (spec.rounds (values_of result.items)) }
+        ensures others { (b : spec.Binding) → bind name.now b (map_of self.new) ≡ bind name.now b (map_of self.old) }
+    {
+        let Some(i) = self.position(name) else {
+            unreachable!()
+        };
+        match mem::replace(&mut self.bound[i].binding, Binding::Skipped) {
+            Binding::Rounds(values) => values,
+            Binding::Fragment { .. } => unreachable!(),
+            Binding::Skipped => unreachable!(),
+        }
+    }
+
+    /// The name stands for this, in place of what it stood for.
+    #[inline]
+    pub fn bind(&mut self, name: &'a Symbol, binding: Binding<'a>) -> Result<(), AllocError>
+        ensures { OnOk result (map_of self.new ≡ bind name.now (standing_for binding.entry) (map_of self.old)) }
+    {
+        let bound = Bound { name, binding };
+        match self.position(name) {
+            Some(i) => {
+                self.bound[i] = bound;
+                Ok(())
+            }
+            None => {
+                self.bound.push(bound)?;
+                Ok(())
+            }
+        }
+    }
+
+    // The name has this value in a round; one that holds no list keeps what it has.
+    #[inline(always)]
+    fn bind_in_round(
+        &mut self,
+        round: usize,
+        name: &'a Symbol,
+        value: Binding<'a>,
+    ) -> Result<(), AllocError>
+        ensures { OnOk result (map_of self.new
+            ≡ bind name.now (with_round round (standing_for value.entry) (binding_of name.now (map_of self.old))) (map_of self.old)) }
+    {
+        match self.position(name) {
+            Some(i) => {
+                self.bound[i].add_round(round, value)?;
+                Ok(())
+            }
+            None => {
+                let binding = first_of(*self.bound.allocator(), round, value)?;
+                self.bound.push(Bound { name, binding })?;
+                Ok(())
+            }
+        }
+    }
+
+    /// The names that are bound in a round have their values of it, and the round holds none any more.
+    #[inline]
+    pub(crate) fn bind_round(
+        &mut self,
+        number: usize,
+        round: &mut Bindings<'a>,
+    ) -> Result<(), AllocError>
+        ensures bound { OnOk result (map_of self.new ≡ bind_round number (map_of round.old) (map_of self.old)) }
+        ensures left { OnOk result (map_of round.new ≡ []) }
+    {
+        round.bound.reverse();
+        while let Some(bound) = round.bound.pop() {
+            self.bind_in_round(number, bound.name, bound.binding)?;
+        }
+        Ok(())
+    }
+
+    /// The names that are bound in a round have their values of it, and the round holds only this one.
+    #[inline(always)]
+    pub(crate) fn bind_round_before(
+        &mut self,
+        number: usize,
+        round: &mut Bindings<'a>,
+        next: Bound<'a>,
+    ) -> Result<(), AllocError>
+        ensures bound { OnOk result (map_of self.new ≡ bind_round number (map_of round.old) (map_of self.old)) }
+        ensures left { OnOk result (map_of round.new ≡ entry_of next.entry ∷ []) }
+    {
+        if round.bound.len() == 1 {
+            let ended = mem::replace(&mut round.bound[0], next);
+            return self.bind_in_round(number, ended.name, ended.binding);
+        }
+        self.bind_round(number, round)?;
+        round.bound.push(next)?;
+        Ok(())
+    }
+}

@@ -1,0 +1,218 @@
+//! What each fragment specifier accepts: how many trees a variable takes at the head of a list.
+ghost use Rattle.std.specs.Prelude.{◌≡◌, Some, ◌-◌, ◌+◌};
+ghost use Rattle.mbe_matcher.specs.Fragments.{taken, ident_trees, lifetime_trees, unsigned_trees, literal_trees, tree_trees, is_refused, is_refused_2021};
+ghost use Rattle.mbe_matcher.specs.Grammar.{asked, reach};
+ghost use Rattle.mbe_matcher.specs.Places.{left_after};
+
+use crate::position::{again, quoted};
+use fragment_grammar::{FragmentGrammar, PrefixEntryPoint, steps};
+use mbe_rules::MetaVarKind;
+use tt::{Leaf, Literal, Punct, TtElement, TtIter};
+
+#[tactic(auto, using(crate::proofs::LentLemmas::an_ident, crate::proofs::LentLemmas::no_ident))]
+fn ident_trees(trees: &TtIter<'_>) -> Option<usize>
+    ensures { result ≡ ident_trees trees.now }
+{
+    match trees.lent_ident() {
+        Some((name, _behind)) => {
+            if name.sym.as_str() == "_" {
+                return None;
+            }
+            Some(1)
+        }
+        None => None,
+    }
+}
+
+fn lifetime_trees(trees: &TtIter<'_>) -> Option<usize>
+    ensures { result ≡ lifetime_trees trees.now }
+{
+    match quoted(trees) {
+        Some(_name) => Some(2),
+        None => None,
+    }
+}
+
+#[tactic(auto, using(crate::proofs::LentLemmas::a_leaf, crate::proofs::LentLemmas::no_unsigned))]
+fn unsigned_trees(trees: &TtIter<'_>) -> Option<usize>
+    ensures { result ≡ unsigned_trees trees.now }
+{
+    let Some((leaf, _behind)) = trees.lent_leaf() else {
+        return None;
+    };
+    match leaf {
+        Leaf::Literal(_) => Some(1),
+        Leaf::Ident(name) => {
+            let name = name.sym.as_str();
+            if name == "true" || name == "false" {
+                return Some(1);
+            }
+            None
+        }
+        Leaf::Punct(_) => None,
+    }
+}
+
+#[tactic(auto, using(crate::proofs::LentLemmas::a_punct_leaf, crate::proofs::LentLemmas::no_minus))]
+fn literal_trees(trees: &TtIter<'_>) -> Option<usize>
+    ensures { result ≡ literal_trees trees.now }
+{
+    let Some((minus, rest)) = trees.first_punct() else {
+        return unsigned_trees(trees);
+    };
+    if minus.char != '-' {
+        return None;
+    }
+    match unsigned_trees(&rest) {
+        Some(_) => Some(2),
+        None => None,
+    }
+}
+
+#[inline]
+#[tactic(auto, using(crate::proofs::LentLemmas::a_punct_leaf, crate::proofs::LentLemmas::tree_else))]
+fn tree_trees(trees: &TtIter<'_>) -> Option<usize>
+    ensures { result ≡ tree_trees trees.now }
+{
+    if let Some((punct, _behind)) = trees.first_punct() {
+        if punct.char == '\'' {
+            return lifetime_trees(trees);
+        }
+        return Some(trees.glued_count());
+    }
+    if trees.is_empty() {
+        return None;
+    }
+    Some(1)
+}
+
+/// Whether an `expr` may not begin at the head of a list: with `let`.
+#[tactic(auto, using(crate::proofs::LentLemmas::an_ident, crate::proofs::LentLemmas::nothing_refused))]
+pub fn is_refused(trees: &TtIter<'_>) -> bool
+    ensures { result ≡ is_refused trees.now }
+{
+    match trees.lent_ident() {
+        Some((name, _behind)) => name.sym.as_str() == "let",
+        None => false,
+    }
+}
+
+/// Whether an `expr_2021` may not begin at the head of a list: with `let`, `_` or `const`.
+pub fn is_refused_2021(trees: &TtIter<'_>) -> bool
+    ensures { result ≡ is_refused_2021 trees.now }
+{
+    match trees.peek() {
+        Some(TtElement::Leaf(Leaf::Ident(name))) => {
+            let word = name.sym.as_str();
+            if word == "let" {
+                return true;
+            }
+            if name.is_raw.yes() {
+                return false;
+            }
+            word == "_" || word == "const"
+        }
+        _ => false,
+    }
+}
+
+// What is left of a number after the steps of a tree: none where it is less.
+fn without_tree(tree: &TtElement<'_>, number: usize) -> Option<usize>
+    ensures { result ≡ left_after tree.now number }
+{
+    match tree {
+        TtElement::Leaf(_) => {
+            if number == 0 {
+                return None;
+            }
+            Some(number - 1)
+        }
+        TtElement::Subtree(_, inner) => {
+            let inside = steps(inner.remaining());
+            if number < 2 {
+                return None;
+            }
+            if number - 2 < inside {
+                return None;
+            }
+            Some(number - 2 - inside)
+        }
+    }
+}
+
+// How many trees the first steps of a list reach, and whether these stop inside the last of them.
+pub(crate) fn reached(trees: &TtIter<'_>, number: usize) -> (usize, bool)
+    ensures { result ≡ reach trees.now number }
+{
+    let mut rest = again(trees);
+    let mut left = number;
+    let mut count = 0;
+    while left > 0 {
+        let Some(tree) = rest.next() else {
+            return (count, true);
+        };
+        let Some(after) = without_tree(&tree, left) else {
+            return (count + 1, true);
+        };
+        left = after;
+        count += 1;
+    }
+    (count, false)
+}
+
+// How many trees the grammar takes at the head of a list, if any.
+fn asked<G: FragmentGrammar>(
+    grammar: &G,
+    entry: PrefixEntryPoint,
+    trees: &TtIter<'_>,
+) -> Option<usize>
+    ensures { result ≡ asked (G.answer grammar.now) entry trees.now }
+{
+    let prefix = grammar.prefix(entry, trees.remaining());
+    if prefix.fault {
+        return None;
+    }
+    let (count, is_inside) = reached(trees, prefix.tokens);
+    if is_inside {
+        return None;
+    }
+    Some(count)
+}
+
+/// How many trees a variable of a kind takes at the head of a list, if any.
+#[inline]
+pub(crate) fn fragment_trees<G: FragmentGrammar>(
+    grammar: &G,
+    kind: MetaVarKind,
+    trees: &TtIter<'_>,
+) -> Option<usize>
+    ensures { result ≡ taken (G.answer grammar.now) kind trees.now }
+{
+    match kind {
+        MetaVarKind::Ident => ident_trees(trees),
+        MetaVarKind::Tt => tree_trees(trees),
+        MetaVarKind::Lifetime => lifetime_trees(trees),
+        MetaVarKind::Literal => literal_trees(trees),
+        MetaVarKind::Expr => {
+            if is_refused(trees) {
+                return None;
+            }
+            asked(grammar, PrefixEntryPoint::Expr, trees)
+        }
+        MetaVarKind::Expr2021 => {
+            if is_refused_2021(trees) {
+                return None;
+            }
+            asked(grammar, PrefixEntryPoint::Expr, trees)
+        }
+        MetaVarKind::Path => asked(grammar, PrefixEntryPoint::Path, trees),
+        MetaVarKind::Ty => asked(grammar, PrefixEntryPoint::Ty, trees),
+        MetaVarKind::Pat => asked(grammar, PrefixEntryPoint::PatTop, trees),
+        MetaVarKind::PatParam => asked(grammar, PrefixEntryPoint::Pat, trees),
+        MetaVarKind::Stmt => asked(grammar, PrefixEntryPoint::Stmt, trees),
+        MetaVarKind::Block => asked(grammar, PrefixEntryPoint::Block, trees),
+        MetaVarKind::Meta => asked(grammar, PrefixEntryPoint::MetaItem, trees),
+        MetaVarKind::Item => asked(grammar, PrefixEntryPoint::Item, trees),
+        MetaVarKind::Vis => asked(grammar, PrefixEntryPoint::Vis, trees),
+    }
+}

@@ -1,0 +1,25 @@
+//! Matching a pattern of macros by example against an argument, and what its variables are bound to.
+#![tactic(auto)]
+
+mod bind;
+mod bindings;
+mod fragment;
+mod fragments;
+mod lookahead;
+mod matcher;
+mod position;
+mod repetition;
+mod same;
+mod step;
+mod thread;
+
+pub use bind::bindings_of;
+pub use bindings::{Binding, Bindings, Bound};
+pub use fragment::{PassedFragment, expect_fragment, pass_fragment};
+pub use fragment_grammar::{FragmentGrammar, Prefix, PrefixEntryPoint};
+pub use fragments::{is_refused, is_refused_2021};
+pub use lookahead::is_blocked;
+pub use matcher::{Seen, is_same_state, match_pattern, was_settled, was_settled_twice};
+pub use position::{Consumed, Place};
+pub use step::{Choice, Choices};
+pub use thread::{Entry, Move, Thread};

@@ -1,0 +1,63 @@
+//! Threads and patterns whose next token cannot match: they are left out before a move is made.
+ghost use Rattle.std.specs.Prelude.{◌≡◌, []};
+ghost use Rattle.mbe_rules.specs.Items.{Items};
+ghost use Rattle.mbe_rules.specs.Ops.{items_of, put_op};
+ghost use Rattle.mbe_matcher.specs.Blocked.{is_blocked, is_stuck};
+ghost use Rattle.mbe_matcher.specs.Places.{place_of};
+ghost use Rattle.mbe_matcher.specs.Threads.{state_of};
+ghost use Rattle.mbe_matcher.specs.Units as u;
+ghost use Rattle.tt.specs.Views.{forest};
+
+use crate::position::Place;
+use crate::thread::{Frame, Thread};
+use mbe_rules::Op;
+use std::alloc::Global;
+use tt::TokenTreesView;
+
+// Whether an item needs a unit that is not here.
+#[inline]
+fn is_elsewhere(op: &Op, place: &Place<'_>) -> bool
+    ensures { (rest : Items) → result ≡ is_blocked (put_op op.now rest) (place_of place.now) }
+{
+    match op {
+        Op::Literal(literal) => !place.is_literal(literal),
+        Op::Ident(ident) => !place.is_name(&ident.sym),
+        Op::Punct(puncts) => !place.is_puncts(puncts),
+        Op::Lifetime(_, ident) => !place.is_lifetime(&ident.sym),
+        Op::Subtree { delimiter, .. } => !place.is_opening(delimiter.kind),
+        _ => false,
+    }
+}
+
+// Whether a thread needs a unit, a closing or the end here, and it is not here.
+#[tactic(auto, using(crate::proofs::BlockedLemmas::stuck_put))]
+pub(crate) fn is_stuck(thread: &Thread<'_>, place: &Place<'_>) -> bool
+    ensures { result ≡ is_stuck (state_of thread.now (place_of place.now)) }
+{
+    if let Some((op, _rest)) = thread.items.split_first() {
+        return is_elsewhere(op, place);
+    }
+    let Some(rung) = thread.frames else {
+        return !place.is_end();
+    };
+    match rung.frame {
+        Frame::InGroup { .. } => !place.is_closing(),
+        _ => false,
+    }
+}
+
+/// Whether the first item of a pattern needs a unit that the argument does not begin with, or the pattern is
+/// empty and the argument is not. It asks for no memory.
+#[inline]
+pub fn is_blocked(alloc: Global, pattern: &[Op], argument: TokenTreesView<'_>) -> bool
+    ensures { result ≡ is_blocked (items_of pattern.now) (u.place (forest argument.entry) []) }
+{
+    let place = Place {
+        rest: argument.iter(),
+        outer: Vec::new(alloc),
+    };
+    match pattern.split_first() {
+        Some((op, _rest)) => is_elsewhere(op, &place),
+        None => !place.is_end(),
+    }
+}

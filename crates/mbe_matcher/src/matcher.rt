@@ -1,0 +1,559 @@
+//! The loop of the matcher: all threads that read a pattern against an argument, together, token by token.
+ghost use Rattle.std.specs.Prelude.{◌≡◌, ◌<◌, ◌≤◌, ◌+◌, ◌&&◌, List, [], ◌∷◌, ◌++◌, option_map, IfOk, OnOk, Some, None, true, false};
+ghost use Rattle.std.specs.List.{flat_map, list_any};
+ghost use Rattle.tt.specs.Views.{forest};
+ghost use Rattle.mbe_rules.specs.Items.{Items, has_empty_round};
+ghost use Rattle.mbe_rules.specs.Ops.{items_of};
+ghost use Rattle.mbe_matcher.specs.Grammar.{Grammar};
+ghost use Rattle.mbe_matcher.specs.Paths.{clash, only};
+ghost use Rattle.mbe_matcher.specs.Places.{place_of};
+ghost use Rattle.mbe_matcher.specs.Readings as r;
+ghost use Rattle.mbe_matcher.specs.Rounds.{Follows};
+ghost use Rattle.mbe_matcher.specs.Settled.{Leads, HasEnd, IsGood, IsSoundAt, most_tasks, planned, tasks_of, tasks_of_all};
+ghost use Rattle.mbe_matcher.specs.Units as u;
+ghost use Rattle.mbe_matcher.specs.Waiting.{settled_at, advanced_by, empties_at, finished, Each};
+ghost use Rattle.mbe_matcher.specs.Threads.{Waits, frames_in, moves_of, state_of, waits, waits_at, waiting_at, takings_of, head_taken, is_trees, same_mark, same_marks, same_state};
+ghost use Rattle.mbe_matcher.specs.declared.matcher.SettleTask.TheVariants.{GoOn};
+
+use crate::lookahead::is_stuck;
+use crate::position::{Consumed, Place};
+use crate::step::Choice;
+use crate::thread::{Entry, Frame, Rung, Thread};
+use bumpalo::Bump;
+use fragment_grammar::FragmentGrammar;
+use mbe_rules::Op;
+use std::alloc::{AllocError, Global};
+use std::mem;
+use tt::TokenTreesView;
+
+// A thread that waits for the others: at the end, or after a move that takes something.
+#[derive(Clone, Copy, Drop)]
+pub(crate) enum Waiting<'a> {
+    Ended(Option<&'a Entry<'a>>),
+    Pending { thread: Thread<'a>, taken: Consumed },
+}
+
+/// A thread in whose state one was settled at this place, and whether a second one was.
+#[derive(Clone, Copy, Drop)]
+pub struct Seen<'a> {
+    pub thread: Thread<'a>,
+    pub twice: bool,
+}
+
+// What is left to do at a place.
+#[derive(Clone, Copy, Drop)]
+pub(crate) enum SettleTask<'a> {
+    // To go on with a thread, if it has taken nothing.
+    GoOn(Choice<'a>),
+    // All that comes of a thread waits.
+    Note(Seen<'a>),
+}
+
+// The threads that wait at a place, the states that were settled there, and what is left to do, the next last.
+#[derive(Drop)]
+pub(crate) struct Settled<'a> {
+    pub(crate) waiting: Vec<Waiting<'a>>,
+    pub(crate) seen: Vec<Seen<'a>>,
+    pub(crate) tasks: Vec<SettleTask<'a>>,
+}
+
+impl Consumed {
+    fn is_fragment(&self) -> bool
+        ensures { result ≡ is_trees (Some self.now) }
+    {
+        match self {
+            Consumed::Unit => false,
+            Consumed::Fragment(_) => true,
+        }
+    }
+}
+
+// Whether two frames are of one sort, with as many items after them.
+fn is_same_mark(first: Frame<'_>, second: Frame<'_>) -> bool
+    ensures { result ≡ same_mark first.entry second.entry }
+{
+    match (first, second) {
+        (Frame::InGroup { after: a }, Frame::InGroup { after: b }) => a.len() == b.len(),
+        (Frame::InRound(a), Frame::InRound(b)) => a.after.len() == b.after.len(),
+        (Frame::Parted(a), Frame::Parted(b)) => a.after.len() == b.after.len(),
+        _ => false,
+    }
+}
+
+// Whether two threads are in the same groups and rounds.
+fn are_same_marks<'a>(first: Option<&'a Rung<'a>>, second: Option<&'a Rung<'a>>) -> bool
+    ensures { result ≡ same_marks (frames_in first.entry) (frames_in second.entry) }
+{
+    let mut one = first;
+    let mut other = second;
+    while let Some(a) = one {
+        let Some(b) = other else {
+            return false;
+        };
+        if !is_same_mark(a.frame, b.frame) {
+            return false;
+        }
+        one = a.around;
+        other = b.around;
+    }
+    match other {
+        Some(_) => false,
+        None => true,
+    }
+}
+
+/// Whether two threads are in one state.
+pub fn is_same_state(first: &Thread<'_>, second: &Thread<'_>) -> bool
+    ensures { result ≡ same_state first.now second.now }
+{
+    first.items.len() == second.items.len() && are_same_marks(first.frames, second.frames)
+}
+
+/// Whether a thread was settled in the state of this one.
+pub fn was_settled(seen: &[Seen<'_>], thread: &Thread<'_>) -> bool
+    ensures { result ≡ list_any (λ x. same_state x.thread thread.now) seen.now }
+{
+    for one in seen {
+        if is_same_state(&one.thread, thread) {
+            return true;
+        }
+    }
+    false
+}
+
+/// Whether two threads were settled in the state of this one.
+pub fn was_settled_twice(seen: &[Seen<'_>], thread: &Thread<'_>) -> bool
+    ensures { result ≡ list_any (λ x. x.twice && same_state x.thread thread.now) seen.now }
+{
+    for one in seen {
+        if one.twice && is_same_state(&one.thread, thread) {
+            return true;
+        }
+    }
+    false
+}
+
+impl<'a> Settled<'a> {
+    // Nothing waits, and nothing is left to do.
+    fn new(alloc: Global) -> Settled<'a>
+        ensures waiting { result.waiting.items ≡ [] }
+        ensures seen { result.seen.items ≡ [] }
+        ensures tasks { result.tasks.items ≡ [] }
+    {
+        Settled {
+            waiting: Vec::new(alloc),
+            seen: Vec::new(alloc),
+            tasks: Vec::new(alloc),
+        }
+    }
+
+    // A choice, where there is one, is the next thing to do.
+    #[inline]
+    fn plan(&mut self, choice: Option<Choice<'a>>) -> Result<(), AllocError>
+        ensures waiting { OnOk result (self.new.waiting.items ≡ self.old.waiting.items) }
+        ensures seen { OnOk result (self.new.seen.items ≡ self.old.seen.items) }
+        ensures tasks { OnOk result (self.new.tasks.items ≡ self.old.tasks.items ++ planned choice.entry) }
+    {
+        match choice {
+            None => Ok(()),
+            Some(choice) => {
+                self.tasks.push(SettleTask::GoOn(choice))?;
+                Ok(())
+            }
+        }
+    }
+
+    // A choice that takes something waits; another is the next thing to do.
+    #[inline(always)]
+    fn take_one(&mut self, choice: Choice<'a>) -> Result<(), AllocError>
+        ensures all { (gr : Grammar) (pattern : Items) (p : u.Place) (all : List Waits) →
+            Leads gr pattern p all self.old.waiting.items self.old.seen.items (self.old.tasks.items ++ (GoOn choice.entry ∷ [])) →
+            OnOk result (Leads gr pattern p all self.new.waiting.items self.new.seen.items self.new.tasks.items) }
+        ensures tasks { (p : u.Place) → Each (HasEnd p) (self.old.tasks.items ++ (GoOn choice.entry ∷ [])) → OnOk result (Each (HasEnd p) self.new.tasks.items) }
+        ensures fewer { (p : u.Place) → OnOk result (tasks_of_all p self.new.tasks.items ≤ tasks_of_all p (self.old.tasks.items ++ (GoOn choice.entry ∷ []))) }
+    {
+        match choice.taken {
+            Some(taken) => {
+                let thread = choice.thread;
+                self.waiting.push(Waiting::Pending { thread, taken })?;
+                Ok(())
+            }
+            None => {
+                self.tasks.push(SettleTask::GoOn(choice))?;
+                Ok(())
+            }
+        }
+    }
+
+    // Takes a choice, where there is one.
+    #[inline(always)]
+    fn take(&mut self, choice: Option<Choice<'a>>) -> Result<(), AllocError>
+        ensures all { (gr : Grammar) (pattern : Items) (p : u.Place) (all : List Waits) →
+            Leads gr pattern p all self.old.waiting.items self.old.seen.items (self.old.tasks.items ++ planned choice.entry) →
+            OnOk result (Leads gr pattern p all self.new.waiting.items self.new.seen.items self.new.tasks.items) }
+        ensures tasks { (p : u.Place) → Each (HasEnd p) (self.old.tasks.items ++ planned choice.entry) → OnOk result (Each (HasEnd p) self.new.tasks.items) }
+        ensures fewer { (p : u.Place) → OnOk result (tasks_of_all p self.new.tasks.items ≤ tasks_of_all p (self.old.tasks.items ++ planned choice.entry)) }
+    {
+        match choice {
+            None => Ok(()),
+            Some(next) => {
+                self.take_one(next)?;
+                Ok(())
+            }
+        }
+    }
+
+    // Goes on with a thread that has taken nothing here.
+    fn go_on<G: FragmentGrammar>(
+        &mut self,
+        arena: &'a Bump,
+        grammar: &G,
+        thread: Thread<'a>,
+        place: &Place<'a>,
+    ) -> Result<(), AllocError>
+        requires good { IsGood (state_of thread (place_of place.now)) }
+        requires tasks { Each (HasEnd (place_of place.now)) self.now.tasks.items }
+        ensures all { let p = place_of place.now in let gr = G.answer grammar.now in (pattern : Items) (all : List Waits) →
+            Leads gr pattern p all self.old.waiting.items self.old.seen.items (self.old.tasks.items ++ (GoOn (record { thread = thread.entry; taken = None }) ∷ [])) →
+            OnOk result (Leads gr pattern p all self.new.waiting.items self.new.seen.items self.new.tasks.items) }
+        ensures tasks { OnOk result (Each (HasEnd (place_of place.now)) self.new.tasks.items) }
+        ensures fewer { let p = place_of place.now in
+            OnOk result (tasks_of_all p self.new.tasks.items + 2 ≤ tasks_of_all p self.old.tasks.items + most_tasks (empties_at (state_of thread.entry p))) }
+    {
+        if thread.has_ended(place) {
+            self.waiting.push(Waiting::Ended(thread.moves))?;
+            return Ok(());
+        }
+        let (first, second) = thread.choices(arena, grammar, place)?;
+        self.plan(second)?;
+        self.take(first)?;
+        Ok(())
+    }
+
+    // Goes on with a thread and notes it, unless two threads were settled in its state: these tell that no
+    // reading that goes through it is the only one.
+    fn go_on_noted<G: FragmentGrammar>(
+        &mut self,
+        arena: &'a Bump,
+        grammar: &G,
+        thread: Thread<'a>,
+        place: &Place<'a>,
+    ) -> Result<(), AllocError>
+        requires good { IsGood (state_of thread (place_of place.now)) }
+        requires tasks { Each (HasEnd (place_of place.now)) self.now.tasks.items }
+        ensures all { let p = place_of place.now in let gr = G.answer grammar.now in (pattern : Items) (all : List Waits) →
+            Leads gr pattern p all self.old.waiting.items self.old.seen.items (self.old.tasks.items ++ (GoOn (record { thread = thread.entry; taken = None }) ∷ [])) →
+            OnOk result (Leads gr pattern p all self.new.waiting.items self.new.seen.items self.new.tasks.items) }
+        ensures tasks { OnOk result (Each (HasEnd (place_of place.now)) self.new.tasks.items) }
+        ensures fewer { let p = place_of place.now in
+            OnOk result (tasks_of_all p self.new.tasks.items < tasks_of_all p self.old.tasks.items + most_tasks (empties_at (state_of thread.entry p))) }
+    {
+        let twice = was_settled(&self.seen, &thread);
+        if twice && was_settled_twice(&self.seen, &thread) {
+            return Ok(());
+        }
+        self.tasks.push(SettleTask::Note(Seen { thread, twice }))?;
+        self.go_on(arena, grammar, thread, place)?;
+        Ok(())
+    }
+
+    // Goes on with a thread and notes it, but one that no move leads from is left out or, at the end of the
+    // pattern, not noted.
+    fn go_on_twice<G: FragmentGrammar>(
+        &mut self,
+        arena: &'a Bump,
+        grammar: &G,
+        thread: Thread<'a>,
+        place: &Place<'a>,
+    ) -> Result<(), AllocError>
+        requires good { IsGood (state_of thread (place_of place.now)) }
+        requires tasks { Each (HasEnd (place_of place.now)) self.now.tasks.items }
+        ensures all { let p = place_of place.now in let gr = G.answer grammar.now in (pattern : Items) (all : List Waits) →
+            Leads gr pattern p all self.old.waiting.items self.old.seen.items (self.old.tasks.items ++ (GoOn (record { thread = thread.entry; taken = None }) ∷ [])) →
+            OnOk result (Leads gr pattern p all self.new.waiting.items self.new.seen.items self.new.tasks.items) }
+        ensures tasks { OnOk result (Each (HasEnd (place_of place.now)) self.new.tasks.items) }
+        ensures fewer { let p = place_of place.now in
+            OnOk result (tasks_of_all p self.new.tasks.items < tasks_of_all p self.old.tasks.items + most_tasks (empties_at (state_of thread.entry p))) }
+    {
+        if is_stuck(&thread, place) {
+            return Ok(());
+        }
+        if !thread.items.is_empty() || thread.frames.is_some() {
+            return self.go_on_noted(arena, grammar, thread, place);
+        }
+        self.go_on(arena, grammar, thread, place)?;
+        Ok(())
+    }
+
+    // Does a task.
+    fn step<G: FragmentGrammar>(
+        &mut self,
+        arena: &'a Bump,
+        grammar: &G,
+        task: SettleTask<'a>,
+        place: &Place<'a>,
+    ) -> Result<(), AllocError>
+        requires task { HasEnd (place_of place.now) task }
+        requires tasks { Each (HasEnd (place_of place.now)) self.now.tasks.items }
+        ensures all { let p = place_of place.now in let gr = G.answer grammar.now in (pattern : Items) (all : List Waits) →
+            Leads gr pattern p all self.old.waiting.items self.old.seen.items (self.old.tasks.items ++ (task.entry ∷ [])) →
+            OnOk result (Leads gr pattern p all self.new.waiting.items self.new.seen.items self.new.tasks.items) }
+        ensures tasks { OnOk result (Each (HasEnd (place_of place.now)) self.new.tasks.items) }
+        ensures fewer { let p = place_of place.now in
+            OnOk result (tasks_of_all p self.new.tasks.items < tasks_of_all p self.old.tasks.items + tasks_of p task.entry) }
+    {
+        match task {
+            SettleTask::Note(seen) => {
+                self.seen.push(seen)?;
+                Ok(())
+            }
+            SettleTask::GoOn(choice) => match choice.taken {
+                Some(taken) => {
+                    let thread = choice.thread;
+                    self.waiting.push(Waiting::Pending { thread, taken })?;
+                    Ok(())
+                }
+                None => {
+                    self.go_on_twice(arena, grammar, choice.thread, place)?;
+                    Ok(())
+                }
+            },
+        }
+    }
+
+    // Makes the moves of a thread that take nothing, and appends the threads that wait then.
+    fn settle<G: FragmentGrammar>(
+        &mut self,
+        arena: &'a Bump,
+        grammar: &G,
+        thread: Thread<'a>,
+        place: &Place<'a>,
+    ) -> Result<(), AllocError>
+        requires tasks { self.now.tasks.items ≡ [] }
+        requires good { IsGood (state_of thread (place_of place.now)) }
+        ensures done { OnOk result (self.new.tasks.items ≡ []) }
+        ensures all { let p = place_of place.now in let gr = G.answer grammar.now in (pattern : Items) (all : List Waits) →
+            Leads gr pattern p all self.old.waiting.items self.old.seen.items (GoOn (record { thread = thread.entry; taken = None }) ∷ []) →
+            OnOk result (Leads gr pattern p all self.new.waiting.items self.new.seen.items self.new.tasks.items) }
+    {
+        self.go_on(arena, grammar, thread, place)?;
+        while let Some(task) = self.tasks.pop() {
+            self.step(arena, grammar, task, place)?;
+        }
+        Ok(())
+    }
+
+    // Settles a thread; one that is seen to lead to one other alone makes no tasks.
+    #[inline(always)]
+    fn settle_next<G: FragmentGrammar>(
+        &mut self,
+        arena: &'a Bump,
+        grammar: &G,
+        thread: Thread<'a>,
+        place: &Place<'a>,
+    ) -> Result<(), AllocError>
+        requires tasks { self.now.tasks.items ≡ [] }
+        requires good { IsGood (state_of thread (place_of place.now)) }
+        ensures done { OnOk result (self.new.tasks.items ≡ []) }
+        ensures all { let p = place_of place.now in let gr = G.answer grammar.now in (pattern : Items) (all : List Waits) →
+            Leads gr pattern p all self.old.waiting.items self.old.seen.items (GoOn (record { thread = thread.entry; taken = None }) ∷ []) →
+            OnOk result (Leads gr pattern p all self.new.waiting.items self.new.seen.items self.new.tasks.items) }
+    {
+        let next = thread.alone(arena, grammar, place)?;
+        match next {
+            Some(w) => {
+                self.waiting.push(w)?;
+                Ok(())
+            }
+            None => {
+                self.settle(arena, grammar, thread, place)?;
+                Ok(())
+            }
+        }
+    }
+
+    // Appends the threads that wait after one that waited at the place before.
+    #[inline(always)]
+    fn advance<G: FragmentGrammar>(
+        &mut self,
+        arena: &'a Bump,
+        grammar: &G,
+        w: &Waiting<'a>,
+        place: &Place<'a>,
+    ) -> Result<(), AllocError>
+        requires tasks { self.now.tasks.items ≡ [] }
+        requires sound { (pattern : Items) × IsSoundAt pattern (waiting_at (place_of place.now) w.now) }
+        ensures done { OnOk result (self.new.tasks.items ≡ []) }
+        ensures all { let p = place_of place.now in let gr = G.answer grammar.now in (pattern : Items) (all : List Waits) → IsSoundAt pattern (waiting_at p w.now) →
+            Leads gr pattern p all self.old.waiting.items self.old.seen.items [] →
+            OnOk result (Leads gr pattern p (all ++ advanced_by (settled_at gr) (waiting_at p w.now)) self.new.waiting.items self.new.seen.items []) }
+    {
+        match w {
+            Waiting::Ended(moves) => {
+                self.waiting.push(Waiting::Ended(*moves))?;
+                Ok(())
+            }
+            Waiting::Pending { thread, .. } => {
+                self.settle_next(arena, grammar, *thread, place)?;
+                Ok(())
+            }
+        }
+    }
+
+    // The threads that wait after these, which waited at the place before.
+    fn advance_all<G: FragmentGrammar>(
+        &mut self,
+        arena: &'a Bump,
+        grammar: &G,
+        waiting: &[Waiting<'a>],
+        place: &Place<'a>,
+    ) -> Result<(), AllocError>
+        requires waiting { self.now.waiting.items ≡ [] }
+        requires seen { self.now.seen.items ≡ [] }
+        requires tasks { self.now.tasks.items ≡ [] }
+        requires sound { (pattern : Items) × Each (IsSoundAt pattern) (waits_at (place_of place.now) waiting.now) }
+        ensures done { OnOk result (self.new.tasks.items ≡ []) }
+        ensures all { let p = place_of place.now in let gr = G.answer grammar.now in (pattern : Items) → Each (IsSoundAt pattern) (waits_at p waiting.now) →
+            OnOk result (Leads gr pattern p (flat_map (advanced_by (settled_at gr)) (waits_at p waiting.now)) self.new.waiting.items self.new.seen.items []) }
+    {
+        for w in waiting {
+            self.advance(arena, grammar, w, place)?;
+        }
+        Ok(())
+    }
+
+    // Goes on with a thread that waits alone, round after round of one variable, as long as another is seen to
+    // be the only way on.
+    fn go_round<G: FragmentGrammar>(
+        &mut self,
+        arena: &'a Bump,
+        grammar: &G,
+        place: &mut Place<'a>,
+    ) -> Result<(), AllocError>
+        ensures tasks { OnOk result (self.new.tasks.items ≡ self.old.tasks.items) }
+        ensures rounds { OnOk result (Follows (G.answer grammar.now) (place_of place.old) (waits (place_of place.old) self.old.waiting.items)
+            (place_of place.new) (waits (place_of place.new) self.new.waiting.items)) }
+    {
+        if self.waiting.len() != 1 {
+            return Ok(());
+        }
+        let Waiting::Pending {
+            thread,
+            taken: Consumed::Fragment(count),
+        } = self.waiting[0]
+        else {
+            return Ok(());
+        };
+        let (thread, count) = thread.after_rounds(arena, grammar, count, place)?;
+        let taken = Consumed::Fragment(count);
+        self.waiting[0] = Waiting::Pending { thread, taken };
+        Ok(())
+    }
+
+    // Hands the threads that wait over, and holds none.
+    #[inline(always)]
+    fn hand_over(&mut self, waiting: &mut Vec<Waiting<'a>>)
+        ensures handed { waiting.new.items ≡ self.old.waiting.items }
+        ensures waiting { self.new.waiting.items ≡ [] }
+        ensures seen { self.new.seen.items ≡ [] }
+        ensures tasks { self.new.tasks.items ≡ self.old.tasks.items }
+    {
+        mem::swap(waiting, &mut self.waiting);
+        self.waiting.clear();
+        self.seen.clear();
+    }
+}
+
+// Whether a thread takes a fragment while another takes something too.
+#[inline]
+fn has_clash(waiting: &[Waiting<'_>]) -> bool
+    ensures { result ≡ clash (flat_map takings_of waiting.now) }
+{
+    let mut any = false;
+    let mut fragment = false;
+    for w in waiting {
+        if let Waiting::Pending { taken, .. } = w {
+            let is_fragment = taken.is_fragment();
+            if any && (is_fragment || fragment) {
+                return true;
+            }
+            any = true;
+            fragment = fragment || is_fragment;
+        }
+    }
+    false
+}
+
+// What the first waiting thread takes.
+#[inline]
+fn first_taken(waiting: &[Waiting<'_>]) -> Option<Consumed>
+    ensures { result ≡ head_taken waiting.now }
+{
+    for w in waiting {
+        if let Waiting::Pending { taken, .. } = w {
+            return Some(*taken);
+        }
+    }
+    None
+}
+
+// The only list of moves, where none waits.
+fn only_ended<'a>(waiting: &[Waiting<'a>]) -> Option<Option<&'a Entry<'a>>>
+    requires { head_taken waiting.now ≡ None }
+    ensures { (p : u.Place) → option_map moves_of result ≡ only (flat_map finished (waits p waiting.now)) }
+{
+    if waiting.len() != 1 {
+        return None;
+    }
+    match &waiting[0] {
+        Waiting::Ended(moves) => Some(*moves),
+        Waiting::Pending { .. } => None,
+    }
+}
+
+/// The moves of the one way in which a pattern uses up an argument: the last entry of the log, none in it
+/// where there are no moves. There is no such way where no list of moves uses up the argument, where more
+/// than one does, or where at some place a fragment is taken on one way and something else on another.
+/// (The Rust Reference, "Macros By Example": metavariables, forwarding a fragment.)
+///
+/// At each place at most two threads of one state go on, however many lists of moves lead to it.
+///
+/// # Errors
+///
+/// `AllocError` if memory is refused.
+pub fn match_pattern<'a, G: FragmentGrammar>(
+    alloc: Global,
+    arena: &'a Bump,
+    grammar: &G,
+    pattern: &'a [Op],
+    argument: TokenTreesView<'a>,
+) -> Result<Option<Option<&'a Entry<'a>>>, AllocError>
+    requires { has_empty_round (items_of pattern.now) ≡ false }
+    ensures { IfOk result (λ o. option_map moves_of o
+        ≡ r.the_reading (G.answer grammar.now) (items_of pattern.now) (forest argument.entry)) }
+{
+    let thread = Thread {
+        items: pattern,
+        frames: None,
+        moves: None,
+    };
+    let mut place = Place {
+        rest: argument.iter(),
+        outer: Vec::new(alloc),
+    };
+    let mut found = Settled::new(alloc);
+    let mut waiting = Vec::new(alloc);
+    found.settle(arena, grammar, thread, &place)?;
+    loop {
+        if has_clash(&found.waiting) {
+            return Ok(None);
+        }
+        let Some(taken) = first_taken(&found.waiting) else {
+            return Ok(only_ended(&found.waiting));
+        };
+        place = place.after(taken)?;
+        found.hand_over(&mut waiting);
+        found.advance_all(arena, grammar, &waiting, &place)?;
+        found.go_round(arena, grammar, &mut place)?;
+    }
+}

@@ -1,0 +1,248 @@
+//! Threads: partial readings of a pattern, with the log of their moves.
+ghost use Rattle.std.specs.Prelude.{◌≡◌, [], ◌∷◌, ◌++◌, IfOk, option_map, true};
+ghost use Rattle.std.specs.List.{slice_get};
+ghost use Rattle.tt.specs.Views.{forest};
+ghost use Rattle.mbe_rules.specs.Ops.{items_of};
+ghost use Rattle.mbe_matcher.specs.Places.{place_of};
+ghost use Rattle.mbe_matcher.specs.Readings as r;
+ghost use Rattle.mbe_matcher.specs.Threads.{state_of, frames_in, moves_of, move_of, rounds_of, steps};
+ghost use Rattle.mbe_matcher.specs.Units as u;
+
+use crate::position::Place;
+use bumpalo::Bump;
+use mbe_rules::{MetaVarKind, Op, RepeatKind, Separator};
+use std::alloc::AllocError;
+use symbols::Symbol;
+use tt::TokenTreesView;
+
+// A repetition that a thread is in, and what comes after it.
+#[derive(Clone, Copy)]
+pub(crate) struct Round<'a> {
+    pub(crate) body: &'a [Op],
+    pub(crate) separator: Option<&'a Separator>,
+    pub(crate) kind: RepeatKind,
+    pub(crate) after: &'a [Op],
+}
+
+// What goes on after the present list of items.
+#[derive(Clone, Copy)]
+pub(crate) enum Frame<'a> {
+    // After a group's closing.
+    InGroup { after: &'a [Op] },
+    // After a round.
+    InRound(Round<'a>),
+    // After a separator, behind which only another round may come.
+    Parted(Round<'a>),
+}
+
+/// A move of a reading.
+#[derive(Clone, Copy, Drop)]
+pub enum Move<'a> {
+    /// Over a word, a glued punct, a lifetime or a bracket.
+    Unit,
+    /// Over the trees that a variable takes.
+    Fragment {
+        name: &'a Symbol,
+        kind: MetaVarKind,
+        trees: TokenTreesView<'a>,
+    },
+    /// A `vis` that takes nothing.
+    Nothing {
+        name: &'a Symbol,
+    },
+    /// Into the first round of a repetition.
+    Enter,
+    /// Past a repetition, whose body this is.
+    Skip {
+        body: &'a [Op],
+    },
+    /// Out of a repetition, after a round.
+    Leave,
+    /// Over a separator.
+    Separator,
+    /// Into another round.
+    NextRound,
+}
+
+// The rounds that begin with an entry of the log: the moves into them have no entries of their own.
+#[derive(Clone, Copy, Drop)]
+pub(crate) enum IterationStart {
+    Nothing,
+    Round,
+    // One for each tree of the fragment that was taken, which is all that the round takes.
+    RoundForEach,
+}
+
+/// A move of the log, and the entry of the move before it; or rounds that are one variable, of one tree each, as
+/// many as follow each other. Entries are shared by the threads that came by them.
+#[derive(Clone, Copy, Drop)]
+pub struct Entry<'a> {
+    pub(crate) begun: IterationStart,
+    pub(crate) made: Move<'a>,
+    pub(crate) before: Option<&'a Entry<'a>>,
+}
+
+// The log with one more entry.
+#[inline(always)]
+fn with_entry<'a>(
+    arena: &'a Bump,
+    before: Option<&'a Entry<'a>>,
+    begun: IterationStart,
+    made: Move<'a>,
+) -> Result<Option<&'a Entry<'a>>, AllocError>
+    ensures { IfOk result (λ e. moves_of e ≡ moves_of before.entry ++ steps begun made.entry) }
+{
+    let Ok(entry) = arena.try_alloc(Entry {
+        begun,
+        made,
+        before,
+    }) else {
+        return Err(AllocError);
+    };
+    Ok(Some(entry))
+}
+
+// The log with one more move.
+#[inline(always)]
+pub(crate) fn extended<'a>(
+    arena: &'a Bump,
+    before: Option<&'a Entry<'a>>,
+    made: Move<'a>,
+) -> Result<Option<&'a Entry<'a>>, AllocError>
+    ensures { IfOk result (λ e. moves_of e ≡ moves_of before.entry ++ (move_of made.entry ∷ [])) }
+{
+    with_entry(arena, before, IterationStart::Nothing, made)
+}
+
+// The log with a move into another round, and one more.
+#[inline(always)]
+pub(crate) fn extended_by_round<'a>(
+    arena: &'a Bump,
+    before: Option<&'a Entry<'a>>,
+    made: Move<'a>,
+) -> Result<Option<&'a Entry<'a>>, AllocError>
+    ensures { IfOk result (λ e. moves_of e ≡ moves_of before.entry ++ (r.next_round ∷ move_of made.entry ∷ [])) }
+{
+    with_entry(arena, before, IterationStart::Round, made)
+}
+
+// The log with a round for each of these trees, which takes it for the variable.
+#[inline(always)]
+pub(crate) fn extended_by_rounds<'a>(
+    arena: &'a Bump,
+    before: Option<&'a Entry<'a>>,
+    name: &'a Symbol,
+    kind: MetaVarKind,
+    trees: TokenTreesView<'a>,
+) -> Result<Option<&'a Entry<'a>>, AllocError>
+    ensures { IfOk result (λ e. moves_of e ≡ moves_of before.entry ++ rounds_of name.now kind (forest trees.entry)) }
+{
+    let made = Move::Fragment { name, kind, trees };
+    with_entry(arena, before, IterationStart::RoundForEach, made)
+}
+
+// A group or round that a thread is in, and the one around it. Those around are shared by all threads in it.
+#[derive(Clone, Copy, Drop)]
+pub(crate) struct Rung<'a> {
+    pub(crate) frame: Frame<'a>,
+    pub(crate) around: Option<&'a Rung<'a>>,
+}
+
+// The groups and rounds with one more inside.
+#[inline(always)]
+pub(crate) fn inside<'a>(
+    arena: &'a Bump,
+    around: Option<&'a Rung<'a>>,
+    frame: Frame<'a>,
+) -> Result<Option<&'a Rung<'a>>, AllocError>
+    ensures { IfOk result (λ f. frames_in f ≡ frame.entry ∷ frames_in around.entry) }
+{
+    let Ok(rung) = arena.try_alloc(Rung { frame, around }) else {
+        return Err(AllocError);
+    };
+    Ok(Some(rung))
+}
+
+/// A partial reading: the items that it goes on with, the groups and rounds that it is in, and its moves.
+#[derive(Clone, Copy, Drop)]
+pub struct Thread<'a> {
+    pub(crate) items: &'a [Op],
+    pub(crate) frames: Option<&'a Rung<'a>>,
+    pub(crate) moves: Option<&'a Entry<'a>>,
+}
+
+impl<'a> Thread<'a> {
+    /// The thread that begins to read a pattern.
+    pub fn start(pattern: &'a [Op]) -> Thread<'a>
+        ensures state { (p : u.Place) → state_of result p ≡ r.at (items_of pattern.now) [] p }
+        ensures moves { moves_of result.moves ≡ [] }
+    {
+        Thread {
+            items: pattern,
+            frames: None,
+            moves: None,
+        }
+    }
+
+    /// Whether all items are passed, and no group or round is open.
+    pub fn is_past_pattern(&self) -> bool
+        ensures { (p : u.Place) → u.is_end p ≡ true → result ≡ r.has_used_up (state_of self.now p) }
+    {
+        match self.items.first() {
+            Some(_) => false,
+            None => match self.frames {
+                Some(_) => false,
+                None => true,
+            },
+        }
+    }
+
+    /// The item that is read next, where one is left in the innermost group or round.
+    pub fn next_item(&self) -> Option<&'a Op>
+        ensures { option_map (λ op. op.now) result ≡ slice_get self.now.items.now 0 }
+    {
+        self.items.first()
+    }
+
+    /// The moves so far.
+    pub fn moves(&self) -> Option<&'a Entry<'a>>
+        ensures { moves_of result ≡ moves_of self.now.moves }
+    {
+        self.moves
+    }
+
+    // The thread after a move, in these groups and rounds.
+    #[inline(always)]
+    pub(crate) fn moved(
+        &self,
+        arena: &'a Bump,
+        items: &'a [Op],
+        frames: Option<&'a Rung<'a>>,
+        made: Move<'a>,
+    ) -> Result<Thread<'a>, AllocError>
+        ensures items { IfOk result (λ t. t.items.now ≡ items.now) }
+        ensures frames { IfOk result (λ t. frames_in t.frames ≡ frames_in frames.entry) }
+        ensures moves { IfOk result (λ t. moves_of t.moves ≡ moves_of self.now.moves ++ (move_of made.entry ∷ [])) }
+    {
+        let moves = extended(arena, self.moves, made)?;
+        Ok(Thread {
+            items,
+            frames,
+            moves,
+        })
+    }
+
+    // Whether the pattern is read to its end.
+    #[inline(always)]
+    pub(crate) fn has_ended(&self, place: &Place<'a>) -> bool
+        ensures { result ≡ r.has_used_up (state_of self.now (place_of place.now)) }
+    {
+        match self.items.first() {
+            Some(_) => false,
+            None => match self.frames {
+                Some(_) => false,
+                None => place.is_end(),
+            },
+        }
+    }
+}

@@ -1,0 +1,11 @@
+pub mod FragmentLemmas
+pub mod FillingLemmas
+pub mod PuttingLemmas
+pub mod UsesLemmas
+pub mod CountLemmas
+pub mod LeafLemmas
+pub mod FillLemmas
+pub mod FillTaskLemmas
+pub mod LoneLemmas
+pub mod WalkLemmas
+pub mod TextLemmas

@@ -1,0 +1,12 @@
+-- what a template gives, and how many tokens it puts out
+pub mod Filling
+pub mod Limits
+pub mod Markers
+pub mod Output
+-- what the functions inside the crate promise each other, and the crate above
+pub mod Room
+pub mod Putting
+pub mod Uses
+pub mod Given
+pub mod Tasks
+pub mod Walks

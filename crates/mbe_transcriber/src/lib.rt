@@ -1,0 +1,16 @@
+//! Transcribing the template of a rule with what the variables of its pattern are bound to.
+#![tactic(auto)]
+
+mod fragment;
+mod items;
+mod leaf;
+mod metavar_expr;
+mod repetition;
+mod repetition_vars;
+mod single_var;
+mod transcriber;
+
+pub use fragment::put_in;
+pub use items::PlainItems;
+pub use metavar_expr::rawness_of;
+pub use transcriber::fill;

@@ -1,0 +1,72 @@
+//! Repetitions of a template that are a single variable. This decides speed alone.
+ghost use Rattle.std.specs.Prelude.{◌≡◌, List, ℕ, IfErr, IfSome};
+ghost use Rattle.tt_data.specs.declared.span.Span.{Span};
+ghost use Rattle.mbe_rules.specs.Ops.{items_of};
+ghost use Rattle.mbe_matcher.specs.Bindings.{Map};
+ghost use Rattle.mbe_matcher.specs.Bound.{map_of, values_of};
+ghost use Rattle.mbe_transcriber.specs.Given.{HasValues};
+ghost use Rattle.mbe_transcriber.specs.Room.{IsWantOfRoom};
+ghost use Rattle.mbe_transcriber.specs.Tasks.{IsBurstIn, Steps, outcome, rounds_and};
+ghost use Rattle.mbe_transcriber.specs.declared.transcriber.TranscribeTask.{TranscribeTask};
+
+use crate::leaf::put_separator;
+use crate::metavar_expr::put_value;
+use crate::repetition::{Iterations, MOST_ROUNDS};
+use crate::repetition_vars::{member, value_here};
+use mbe_matcher::{Binding, Bindings};
+use mbe_rules::Op;
+use tt::{Span, TopSubtreeBuilder, TtFault};
+
+/// The values of the rounds of a repetition, one for each, and the place of the `$` that puts them in, where
+/// its items are one variable.
+pub(crate) fn lone_values<'b, 'a>(
+    body: &[Op],
+    bindings: &'b Bindings<'a>,
+    rounds: &[usize],
+) -> Option<(Span, &'b [Binding<'a>])>
+    ensures { IfSome result (λ v. (mark : Span → Span) → HasValues mark (map_of bindings.now) rounds.now (items_of body.now) (mark v.0) (values_of v.1.now)) }
+{
+    let Some((op, rest)) = body.split_first() else {
+        return None;
+    };
+    if !rest.is_empty() {
+        return None;
+    }
+    let Op::Var { name, id, .. } = op else {
+        return None;
+    };
+    let Some(binding) = value_here(name, bindings, rounds) else {
+        return None;
+    };
+    match binding {
+        Binding::Rounds(values) => Some((*id, values)),
+        _ => None,
+    }
+}
+
+/// Puts in what these rounds and those after them give, each a value: false where it is a fault.
+pub(crate) fn put_later(
+    out: &mut TopSubtreeBuilder,
+    left: Iterations<'_>,
+    values: &[Binding<'_>],
+    place: Span,
+) -> Result<bool, TtFault>
+    ensures faults { IfErr result IsWantOfRoom }
+    ensures left { (mark : Span → Span) (bound : Map) (ns : List ℕ) (ts : List TranscribeTask) → HasValues mark bound ns (items_of left.entry.body.now) place (values_of values.now) →
+        Steps result (rounds_and mark bound ns left.entry out.old.tree (outcome mark bound ts ns)) (outcome mark bound ts ns out.new.tree) }
+    ensures tokens { (mark : Span → Span) (bound : Map) (ns : List ℕ) (ts : List TranscribeTask) → HasValues mark bound ns (items_of left.entry.body.now) place (values_of values.now) →
+        IsBurstIn result (rounds_and mark bound ns left.entry out.old.tree (outcome mark bound ts ns)) }
+{
+    let mut number = left.number;
+    while let Some(value) = member(values, number) {
+        if number >= MOST_ROUNDS {
+            return Ok(false);
+        }
+        put_separator(out, left.separator)?;
+        if !put_value(out, Some(value), place)? {
+            return Ok(false);
+        }
+        number += 1;
+    }
+    Ok(true)
+}

@@ -1,0 +1,333 @@
+//! Transcribing a template with bindings. What is left to do stands in a list of tasks, so that a template may be
+//! nested as deep as memory goes.
+ghost use Rattle.std.specs.Prelude.{◌≡◌, ◌<◌, ◌≤◌, ◌+◌, ◌*◌, ◌∷◌, ◌++◌, [], suc, reverse, option_map, if◌then◌else◌, Err, IfErr, IfOk, OnOk};
+ghost use Rattle.tt_data.specs.declared.span.Span.{Span};
+ghost use Rattle.tt_data.specs.fault.TtFault.TheVariants.{Memory, Tokens};
+ghost use Rattle.mbe_rules.specs.Items.{done, may_skip};
+ghost use Rattle.mbe_rules.specs.Ops.{items_of, put_op, separator_of};
+ghost use Rattle.mbe_matcher.specs.Bindings.{Map};
+ghost use Rattle.mbe_matcher.specs.Bound.{map_of};
+ghost use Rattle.mbe_transcriber.specs.Filling.{filled};
+ghost use Rattle.mbe_transcriber.specs.Limits.{most_rounds};
+ghost use Rattle.mbe_transcriber.specs.Given.{Fills, IsBurstBy, is_single, first_gives, first_puts_out, group_gives, gives, puts_out, repetition_gives, repetition_puts_out};
+ghost use Rattle.mbe_transcriber.specs.Markers.{IsMarkedBy, is_name};
+ghost use Rattle.mbe_transcriber.specs.Output.{output};
+ghost use Rattle.mbe_transcriber.specs.Room.{IsWantOfRoom};
+ghost use Rattle.mbe_transcriber.specs.Tasks.{IsBurstIn, Steps, around, outcome, put_and, tasks_of, tasks_of_all, work_of};
+ghost use Rattle.mbe_transcriber.specs.declared.transcriber.TranscribeTask.TheVariants.{Items, Leave, Later};
+
+use crate::leaf::{marked, put_plain, put_separator};
+use crate::repetition::{Iterations, MOST_ROUNDS};
+use crate::repetition_vars::round_stands;
+use crate::single_var::{lone_values, put_later};
+use mbe_matcher::Bindings;
+use mbe_rules::{Op, RepeatKind};
+use std::alloc::{AllocError, Global};
+use tt::{Delimiter, Span, TopSubtreeBuilder, TtFault};
+
+// For how many tasks there is room at first.
+const USUAL_TASKS: usize = 8;
+
+// Whether a repetition may have no round.
+fn may_be_empty(kind: RepeatKind) -> bool
+    ensures { result ≡ may_skip kind }
+{
+    kind != RepeatKind::OneOrMore
+}
+
+// Whether a repetition has one round at most.
+fn is_single(kind: RepeatKind) -> bool
+    ensures { result ≡ is_single kind }
+{
+    kind == RepeatKind::ZeroOrOne
+}
+
+// What is left to do.
+#[derive(Clone, Copy, Drop)]
+pub(crate) enum TranscribeTask<'t> {
+    // To put in what these items give.
+    Items(&'t [Op]),
+    // To close a group whose closing bracket has this place in the template.
+    Close(Span),
+    // To leave the only round of a repetition.
+    Leave,
+    // To leave a round, and to put in what those after it give.
+    Later(Iterations<'t>),
+}
+
+// What comes after the first round of a repetition, where these are those after it.
+fn after_first<'t>(kind: RepeatKind, later: Iterations<'t>) -> TranscribeTask<'t>
+    ensures { result ≡ (if is_single kind then Leave else Later later.entry) }
+{
+    if is_single(kind) {
+        return TranscribeTask::Leave;
+    }
+    TranscribeTask::Later(later)
+}
+
+// The tasks that are left, the next one last, and the numbers of the open rounds, the innermost last.
+#[derive(Drop)]
+pub(crate) struct Transcription<'t> {
+    pub(crate) tasks: Vec<TranscribeTask<'t>>,
+    pub(crate) rounds: Vec<usize>,
+}
+
+impl<'t> Transcription<'t> {
+    // No task is left, and no round is open.
+    fn new(alloc: Global) -> Result<Transcription<'t>, AllocError>
+        ensures tasks { IfOk result (λ left. left.tasks.items ≡ []) }
+        ensures rounds { IfOk result (λ left. left.rounds.items ≡ []) }
+    {
+        let tasks = Vec::with_capacity(alloc, USUAL_TASKS)?;
+        let rounds = Vec::new(alloc);
+        Ok(Transcription { tasks, rounds })
+    }
+
+    // One task more, which is the next.
+    fn plan(&mut self, task: TranscribeTask<'t>) -> Result<(), TtFault>
+        ensures faults { IfErr result (λ e. e ≡ Memory) }
+        ensures tasks { OnOk result (self.new.tasks.items ≡ self.old.tasks.items ++ (task.entry ∷ [])) }
+        ensures rounds { OnOk result (self.new.rounds.items ≡ self.old.rounds.items) }
+    {
+        let Ok(()) = self.tasks.push(task) else {
+            return Err(TtFault::Memory);
+        };
+        Ok(())
+    }
+
+    // Opens a round.
+    fn begin_round(&mut self, body: &'t [Op], number: usize) -> Result<(), TtFault>
+        ensures faults { IfErr result (λ e. e ≡ Memory) }
+        ensures tasks { OnOk result (self.new.tasks.items ≡ self.old.tasks.items ++ (Items body.entry ∷ [])) }
+        ensures rounds { OnOk result (self.new.rounds.items ≡ self.old.rounds.items ++ (number ∷ [])) }
+    {
+        let Ok(()) = self.rounds.push(number) else {
+            return Err(TtFault::Memory);
+        };
+        self.plan(TranscribeTask::Items(body))
+    }
+
+    // Leaves the innermost round.
+    fn leave(&mut self)
+        ensures tasks { self.new.tasks.items ≡ self.old.tasks.items }
+        ensures rounds { self.new.rounds.items ≡ around self.old.rounds.items }
+    {
+        let _ = self.rounds.pop();
+    }
+
+    // Begins a group of the template.
+    fn enter_group<M: Fn(Span) -> Span>(
+        &mut self,
+        out: &mut TopSubtreeBuilder,
+        delimiter: Delimiter,
+        inner: &'t [Op],
+        marker: &M,
+    ) -> Result<bool, TtFault>
+        requires { M.IsAlwaysCallable marker.now }
+        ensures faults { IfErr result IsWantOfRoom }
+        ensures left { (mark : Span → Span) (bound : Map) → IsMarkedBy (M.post marker.now) mark → Steps result
+            (put_and (group_gives mark bound delimiter (gives mark bound self.old.rounds.items (items_of inner.now)))
+            (suc (puts_out mark bound self.old.rounds.items (items_of inner.now))) out.old.tree (outcome mark bound (reverse self.old.tasks.items) self.old.rounds.items))
+            (outcome mark bound (reverse self.new.tasks.items) self.new.rounds.items out.new.tree) }
+        ensures tokens { (mark : Span → Span) (bound : Map) → IsBurstIn result
+            (put_and (group_gives mark bound delimiter (gives mark bound self.old.rounds.items (items_of inner.now)))
+            (suc (puts_out mark bound self.old.rounds.items (items_of inner.now))) out.old.tree (outcome mark bound (reverse self.old.tasks.items) self.old.rounds.items)) }
+        ensures fewer { OnOk result (tasks_of_all self.new.tasks.items < tasks_of_all self.old.tasks.items + (3 + work_of (items_of inner.now))) }
+    {
+        out.open(delimiter.kind, marked(marker, delimiter.open_span))?;
+        self.plan(TranscribeTask::Close(delimiter.close_span))?;
+        self.plan(TranscribeTask::Items(inner))?;
+        Ok(true)
+    }
+
+    // Begins a repetition of the template.
+    fn enter_rounds(
+        &mut self,
+        out: &TopSubtreeBuilder,
+        later: Iterations<'t>,
+        kind: RepeatKind,
+        bindings: &Bindings<'_>,
+    ) -> Result<bool, TtFault>
+        requires { later.number ≡ 1 }
+        ensures faults { IfErr result (λ e. e ≡ Memory) }
+        ensures left { (mark : Span → Span) → Steps result
+            (put_and (repetition_gives mark (map_of bindings.now) self.old.rounds.items (items_of later.entry.body.now) (option_map (λ s. separator_of s.now) later.entry.separator) kind)
+            (repetition_puts_out mark (map_of bindings.now) self.old.rounds.items (items_of later.entry.body.now) (option_map (λ s. separator_of s.now) later.entry.separator) kind)
+            out.now.tree (outcome mark (map_of bindings.now) (reverse self.old.tasks.items) self.old.rounds.items))
+            (outcome mark (map_of bindings.now) (reverse self.new.tasks.items) self.new.rounds.items out.now.tree) }
+        ensures fewer { OnOk result (tasks_of_all self.new.tasks.items < tasks_of_all self.old.tasks.items + 65536 * (work_of (items_of later.entry.body.now) + 3)) }
+    {
+        if !round_stands(later.body, bindings, &mut self.rounds, 0)? {
+            return Ok(may_be_empty(kind));
+        }
+        self.plan(after_first(kind, later))?;
+        self.begin_round(later.body, 0)?;
+        Ok(true)
+    }
+
+    // Begins an item of the template.
+    fn enter<M: Fn(Span) -> Span>(
+        &mut self,
+        out: &mut TopSubtreeBuilder,
+        op: &'t Op,
+        bindings: &Bindings<'_>,
+        marker: &M,
+    ) -> Result<bool, TtFault>
+        requires { M.IsAlwaysCallable marker.now }
+        ensures faults { IfErr result IsWantOfRoom }
+        ensures left { (mark : Span → Span) → IsMarkedBy (M.post marker.now) mark → Steps result
+            (put_and (first_gives mark (map_of bindings.now) self.old.rounds.items (put_op op.now done))
+            (first_puts_out mark (map_of bindings.now) self.old.rounds.items (put_op op.now done)) out.old.tree
+            (outcome mark (map_of bindings.now) (reverse self.old.tasks.items) self.old.rounds.items))
+            (outcome mark (map_of bindings.now) (reverse self.new.tasks.items) self.new.rounds.items out.new.tree) }
+        ensures tokens { (mark : Span → Span) → IsMarkedBy (M.post marker.now) mark → IsBurstIn result
+            (put_and (first_gives mark (map_of bindings.now) self.old.rounds.items (put_op op.now done))
+            (first_puts_out mark (map_of bindings.now) self.old.rounds.items (put_op op.now done)) out.old.tree
+            (outcome mark (map_of bindings.now) (reverse self.old.tasks.items) self.old.rounds.items)) }
+        ensures fewer { OnOk result (tasks_of_all self.new.tasks.items < tasks_of_all self.old.tasks.items + work_of (put_op op.now done)) }
+    {
+        match op {
+            Op::Subtree { tokens, delimiter } => self.enter_group(out, *delimiter, tokens, marker),
+            Op::Repeat {
+                tokens,
+                separator,
+                kind,
+            } => {
+                let later = Iterations {
+                    body: tokens,
+                    separator: separator.as_ref(),
+                    number: 1,
+                };
+                self.enter_rounds(out, later, *kind, bindings)
+            }
+            _ => put_plain(out, op, bindings, marker, &self.rounds),
+        }
+    }
+
+    // Puts in what the first of some items gives, or begins it.
+    fn put_items<M: Fn(Span) -> Span>(
+        &mut self,
+        out: &mut TopSubtreeBuilder,
+        ops: &'t [Op],
+        bindings: &Bindings<'_>,
+        marker: &M,
+    ) -> Result<bool, TtFault>
+        requires { M.IsAlwaysCallable marker.now }
+        ensures faults { IfErr result IsWantOfRoom }
+        ensures left { (mark : Span → Span) → IsMarkedBy (M.post marker.now) mark → Steps result
+            (outcome mark (map_of bindings.now) (Items ops.entry ∷ reverse self.old.tasks.items) self.old.rounds.items out.old.tree)
+            (outcome mark (map_of bindings.now) (reverse self.new.tasks.items) self.new.rounds.items out.new.tree) }
+        ensures tokens { (mark : Span → Span) → IsMarkedBy (M.post marker.now) mark → IsBurstIn result
+            (outcome mark (map_of bindings.now) (Items ops.entry ∷ reverse self.old.tasks.items) self.old.rounds.items out.old.tree) }
+        ensures fewer { OnOk result (tasks_of_all self.new.tasks.items ≤ tasks_of_all self.old.tasks.items + work_of (items_of ops.now)) }
+    {
+        let Some((first, rest)) = ops.split_first() else {
+            return Ok(true);
+        };
+        self.plan(TranscribeTask::Items(rest))?;
+        self.enter(out, first, bindings, marker)
+    }
+
+    // Leaves a round, and begins the next one, if it stands.
+    fn next_round<M: Fn(Span) -> Span>(
+        &mut self,
+        out: &mut TopSubtreeBuilder,
+        left: Iterations<'t>,
+        bindings: &Bindings<'_>,
+        marker: &M,
+    ) -> Result<bool, TtFault>
+        requires { M.IsAlwaysCallable marker.now }
+        ensures faults { IfErr result IsWantOfRoom }
+        ensures left { (mark : Span → Span) → IsMarkedBy (M.post marker.now) mark → Steps result
+            (outcome mark (map_of bindings.now) (Later left.entry ∷ reverse self.old.tasks.items) self.old.rounds.items out.old.tree)
+            (outcome mark (map_of bindings.now) (reverse self.new.tasks.items) self.new.rounds.items out.new.tree) }
+        ensures tokens { (mark : Span → Span) → IsMarkedBy (M.post marker.now) mark → IsBurstIn result
+            (outcome mark (map_of bindings.now) (Later left.entry ∷ reverse self.old.tasks.items) self.old.rounds.items out.old.tree) }
+        ensures fewer { OnOk result (tasks_of_all self.new.tasks.items < tasks_of_all self.old.tasks.items + tasks_of (Later left.entry)) }
+    {
+        self.leave();
+        if let Some((place, values)) = lone_values(left.body, bindings, &self.rounds) {
+            return put_later(out, left, values, marked(marker, place));
+        }
+        let Iterations {
+            body,
+            separator,
+            number,
+        } = left;
+        if !round_stands(body, bindings, &mut self.rounds, number)? {
+            return Ok(true);
+        }
+        if number >= MOST_ROUNDS {
+            return Ok(false);
+        }
+        put_separator(out, separator)?;
+        self.plan(TranscribeTask::Later(Iterations {
+            body,
+            separator,
+            number: number + 1,
+        }))?;
+        self.begin_round(body, number)?;
+        Ok(true)
+    }
+
+    // Does a task: false where it is a fault.
+    fn step<M: Fn(Span) -> Span>(
+        &mut self,
+        out: &mut TopSubtreeBuilder,
+        task: TranscribeTask<'t>,
+        bindings: &Bindings<'_>,
+        marker: &M,
+    ) -> Result<bool, TtFault>
+        requires { M.IsAlwaysCallable marker.now }
+        ensures faults { IfErr result IsWantOfRoom }
+        ensures left { (mark : Span → Span) → IsMarkedBy (M.post marker.now) mark → Steps result
+            (outcome mark (map_of bindings.now) (task.entry ∷ reverse self.old.tasks.items) self.old.rounds.items out.old.tree)
+            (outcome mark (map_of bindings.now) (reverse self.new.tasks.items) self.new.rounds.items out.new.tree) }
+        ensures tokens { (mark : Span → Span) → IsMarkedBy (M.post marker.now) mark → IsBurstIn result
+            (outcome mark (map_of bindings.now) (task.entry ∷ reverse self.old.tasks.items) self.old.rounds.items out.old.tree) }
+        ensures fewer { OnOk result (tasks_of_all self.new.tasks.items < tasks_of_all self.old.tasks.items + tasks_of task.entry) }
+    {
+        match task {
+            TranscribeTask::Items(ops) => self.put_items(out, ops, bindings, marker),
+            TranscribeTask::Close(span) => {
+                let closed = out.close(marked(marker, span));
+                Ok(closed.is_ok())
+            }
+            TranscribeTask::Leave => {
+                self.leave();
+                Ok(true)
+            }
+            TranscribeTask::Later(left) => self.next_round(out, left, bindings, marker),
+        }
+    }
+}
+
+/// Puts in what a template gives with these bindings: false where it is a fault, and what was put in
+/// before the fault stays.
+///
+/// # Errors
+///
+/// `Memory`, or `Tokens` where the tree would have more tokens than it may: what the template puts out
+/// up to its first fault counts, where it has one.
+pub fn fill<M: Fn(Span) -> Span>(
+    out: &mut TopSubtreeBuilder,
+    template: &[Op],
+    bindings: &Bindings<'_>,
+    marker: &M,
+) -> Result<bool, TtFault>
+    requires { M.IsAlwaysCallable marker.now }
+    ensures faults { IfErr result IsWantOfRoom }
+    ensures filled { (mark : Span → Span) → IsMarkedBy (M.post marker.now) mark →
+        Fills result out.old.tree out.new.tree (filled is_name most_rounds mark (map_of bindings.now) (items_of template.now)) }
+    ensures tokens { (mark : Span → Span) → IsMarkedBy (M.post marker.now) mark →
+        IsBurstBy result out.old.tree (output is_name most_rounds mark (map_of bindings.now) (items_of template.now)) }
+{
+    let mut left = Transcription::new(bindings.allocator())?;
+    left.plan(TranscribeTask::Items(template))?;
+    while let Some(task) = left.tasks.pop() {
+        if !left.step(out, task, bindings, marker)? {
+            return Ok(false);
+        }
+    }
+    Ok(true)
+}

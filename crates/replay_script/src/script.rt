@@ -1,0 +1,80 @@
+// A script, and what is told of it.
+ghost use Rattle.std.specs.Prelude.{◌≡◌, IfOk, string_bytes};
+ghost use Rattle.replay_script.specs.Replays.{AreTold, HasCommands, HasHead, IsReplayed, bad_line};
+
+use crate::line::{behind, command_of, cut_at};
+use crate::tell::push_answers;
+use expander::{Command, Edition, SmallGrammar, replay};
+use std::alloc::{AllocError, Global};
+
+/// What is told of a script, and the number, from 1, of its first bad line, or none.
+#[derive(Drop)]
+pub struct Replayed {
+    pub told: String,
+    pub bad: Option<usize>,
+}
+
+// The commands that lines say, up to the first bad one, and whether there was none.
+fn commands_in(alloc: Global, text: &str) -> Result<(Vec<Command>, bool), AllocError>
+    ensures { IfOk result (λ r. HasCommands text.now r.0.items r.1) }
+{
+    let mut commands = Vec::new(alloc);
+    let mut rest = text;
+    while let Some((line, more)) = cut_at(rest, '\n') {
+        match command_of(alloc, line)? {
+            Some(command) => commands.push(command)?,
+            None => return Ok((commands, false)),
+        }
+        rest = more;
+    }
+    Ok((commands, rest.is_empty()))
+}
+
+// Whether a script asks for origins, and the lines behind that.
+fn head_of(text: &str) -> (bool, &str)
+    ensures { HasHead text.now result.0 result.1.now }
+{
+    match behind(text, "origins\n") {
+        Some(rest) => (true, rest),
+        None => (false, text),
+    }
+}
+
+// The number of the first bad line, where not all is read, behind so many commands.
+fn bad_line(is_whole: bool, origins: bool, commands: &[Command]) -> Option<usize>
+    ensures { result ≡ bad_line is_whole origins commands.now }
+{
+    if is_whole {
+        return None;
+    }
+    let first = if origins { 2 } else { 1 };
+    Some(commands.len() + first)
+}
+
+// What is told of the answers to commands.
+fn told_of(
+    alloc: Global,
+    commands: &[Command],
+    depth: u8,
+    origins: bool,
+) -> Result<String, AllocError>
+    ensures { IfOk result (λ told. AreTold commands.now depth origins (string_bytes told)) }
+{
+    let edition = Edition::Edition2024;
+    let answers = replay(alloc, "", SmallGrammar, edition, depth, commands)?;
+    let mut told = String::new(alloc);
+    push_answers(&mut told, answers.as_slice(), origins)?;
+    Ok(told)
+}
+
+/// Answers the commands of a script, up to its first bad line, with so many levels of calls, by the small grammar and in
+/// edition 2024. Refused where there is no memory for it.
+pub fn answer_script(alloc: Global, text: &str, depth: u8) -> Result<Replayed, AllocError>
+    ensures { IfOk result (λ r. IsReplayed text.now depth (string_bytes r.told) r.bad) }
+{
+    let (origins, lines) = head_of(text);
+    let (commands, is_whole) = commands_in(alloc, lines)?;
+    let told = told_of(alloc, commands.as_slice(), depth, origins)?;
+    let bad = bad_line(is_whole, origins, commands.as_slice());
+    Ok(Replayed { told, bad })
+}

@@ -1,5 +1,0 @@
-use Rattle.std.proofs.Common.{rules}
-use Rattle.rustc_lexer.proofs.lexed.LexedText.is_boundary.Goals as goal
-
-pub returns : goal.returns
-returns c = search rules

@@ -1,0 +1,162 @@
+//! The first token of a text: its kind, and the text after its lexeme.
+ghost use Rattle.std.specs.Prelude.{◌≡◌, ◌<◌, ◌^◌, length, chars, IsUtf8};
+ghost use Rattle.rustc_lexer.specs.Character.{char_at};
+ghost use Rattle.rustc_lexer.specs.Lexeme.{lexeme, string, one_char_kind, begins_guarded, numeral, white_space};
+ghost use Rattle.rustc_lexer.specs.Scanned.{IsRead};
+ghost use Rattle.rustc_lexer.specs.FirstCharacter.{sign, uncommented};
+ghost use Rattle.rustc_lexer.specs.declared.token.LiteralKind.TheVariants.{Str};
+
+use crate::character::{is_id_start, is_whitespace};
+use crate::comment::{block_comment, line_comment};
+use crate::ident::word;
+use crate::literal::{literal, string_body, with_suffix};
+use crate::number::number;
+use crate::quote::quote;
+use crate::scan::{
+    White, begins, behind, first, first_byte, is_digit, second, skip_while, start_of,
+};
+use crate::token::{LiteralKind, TokenKind};
+
+// The kind of the first lexeme of the text, and what follows the lexeme.
+pub fn first_lexeme(text: &str) -> (TokenKind, &str)
+    requires { length text.now < 2 ^ 32 }
+    ensures utf8 { IsUtf8 text.now }
+    ensures read { IsRead (lexeme (chars text.now)) text.now result.0 result.1.now }
+{
+    let b = first_byte(text);
+    match start_of(b) {
+        b'.' => (one_char_kind(b as char), behind(text)),
+        b'a' => word(text),
+        b' ' => (TokenKind::Whitespace, skip_while::<White>(text)),
+        _ => {
+            // taken apart, so that the usual answers stay in registers
+            let (kind, rest) = other_lexeme(text);
+            (kind, rest)
+        }
+    }
+}
+
+// The first lexeme, where the first byte does not tell its kind.
+#[inline(never)]
+fn other_lexeme(text: &str) -> (TokenKind, &str)
+    requires { length text.now < 2 ^ 32 }
+    ensures { IsRead (lexeme (chars text.now)) text.now result.0 result.1.now }
+{
+    let c = first(text);
+    if c == '/' {
+        slash(text)
+    } else {
+        begun_by(c, text)
+    }
+}
+
+// What begins with `/`: a comment, or the character alone.
+fn slash(text: &str) -> (TokenKind, &str)
+    requires { char_at (chars text.now) 0 ≡ 47 }
+    ensures { IsRead (lexeme (chars text.now)) text.now result.0 result.1.now }
+{
+    let next = second(text);
+    if next == '/' {
+        line_comment(text)
+    } else if next == '*' {
+        block_comment(text)
+    } else {
+        (TokenKind::Slash, behind(text))
+    }
+}
+
+// What begins no comment, by its first character.
+#[inline(always)]
+fn begun_by(c: char, text: &str) -> (TokenKind, &str)
+    requires small { length text.now < 2 ^ 32 }
+    requires first { char_at (chars text.now) 0 ≡ c }
+    ensures { IsRead (uncommented (chars text.now)) text.now result.0 result.1.now }
+{
+    if is_whitespace(c) {
+        (TokenKind::Whitespace, skip_while::<White>(text))
+    } else if is_id_start(c) {
+        word(text)
+    } else if is_digit(c) {
+        numeral(text)
+    } else {
+        sign(text)
+    }
+}
+
+// What begins with neither white space, nor a letter, nor a digit, and is no comment.
+#[inline(always)]
+fn sign(text: &str) -> (TokenKind, &str)
+    requires { length text.now < 2 ^ 32 }
+    ensures { IsRead (sign (chars text.now)) text.now result.0 result.1.now }
+{
+    if begins_guarded(text) {
+        return (TokenKind::GuardedStrPrefix, behind(behind(text)));
+    }
+    match first(text) {
+        '\'' => quote(text),
+        '"' => string(text),
+        c => (one_char_kind(c), behind(text)),
+    }
+}
+
+// Whether a guarded string begins with these two characters.
+#[inline]
+fn begins_guarded(text: &str) -> bool
+    ensures { result ≡ begins_guarded (chars text.now) }
+{
+    begins(text, '#', '"') || begins(text, '#', '#')
+}
+
+// A number and its suffix.
+fn numeral(text: &str) -> (TokenKind, &str)
+    requires { length text.now < 2 ^ 32 }
+    ensures { IsRead (numeral (chars text.now)) text.now result.0 result.1.now }
+{
+    let (kind, rest) = number(text);
+    with_suffix(kind, text, rest)
+}
+
+// `"a"`
+fn string(text: &str) -> (TokenKind, &str)
+    requires { length text.now < 2 ^ 32 }
+    ensures { IsRead (string Str 1 (chars text.now)) text.now result.0 result.1.now }
+{
+    let (terminated, rest) = string_body(behind(text));
+    literal(terminated, LiteralKind::Str { terminated }, text, rest)
+}
+
+// The kind of a character that is a token by itself, and `Unknown` of any other.
+fn one_char_kind(c: char) -> TokenKind
+    ensures { result ≡ one_char_kind c }
+{
+    match c {
+        ';' => TokenKind::Semi,
+        ',' => TokenKind::Comma,
+        '.' => TokenKind::Dot,
+        '(' => TokenKind::OpenParen,
+        ')' => TokenKind::CloseParen,
+        '{' => TokenKind::OpenBrace,
+        '}' => TokenKind::CloseBrace,
+        '[' => TokenKind::OpenBracket,
+        ']' => TokenKind::CloseBracket,
+        '@' => TokenKind::At,
+        '#' => TokenKind::Pound,
+        '~' => TokenKind::Tilde,
+        '?' => TokenKind::Question,
+        ':' => TokenKind::Colon,
+        '$' => TokenKind::Dollar,
+        '=' => TokenKind::Eq,
+        '!' => TokenKind::Bang,
+        '<' => TokenKind::Lt,
+        '>' => TokenKind::Gt,
+        '-' => TokenKind::Minus,
+        '&' => TokenKind::And,
+        '|' => TokenKind::Or,
+        '+' => TokenKind::Plus,
+        '*' => TokenKind::Star,
+        '/' => TokenKind::Slash,
+        '^' => TokenKind::Caret,
+        '%' => TokenKind::Percent,
+        _ => TokenKind::Unknown,
+    }
+}

@@ -1,0 +1,20 @@
+//! The lexer of a whole text.
+ghost use Rattle.std.specs.Prelude.{◌≡◌, ◌<◌, ◌^◌, length, chars};
+ghost use Rattle.rustc_lexer.specs.Lexing.{tokens_of};
+ghost use Rattle.rustc_lexer.specs.Remaining.{tokens_left};
+
+use crate::token::FrontmatterAllowed;
+use crate::tokens::Tokens;
+
+/// The tokens of the text, in order. The text has at most `u32::MAX` bytes.
+///
+/// Each length is in bytes and at least 1, and falls on a character's boundary; the lengths sum to
+/// that of the text ([`crate::laws`] states it). `Eof` never comes.
+pub fn tokenize(input: &str, frontmatter_allowed: FrontmatterAllowed) -> Tokens<'_>
+    requires { length input.now < 2 ^ 32 }
+    ensures { tokens_left result ≡ tokens_of (chars input.now) }
+{
+    match frontmatter_allowed {
+        FrontmatterAllowed::No => Tokens { rest: input },
+    }
+}

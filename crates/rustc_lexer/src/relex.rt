@@ -1,0 +1,136 @@
+//! Incremental lexing: a text that keeps its tokens while it is edited.
+//!
+//! An edit keeps the tokens that end two characters or more before it, lexes on behind them, and stops at the first new boundary
+//! that is an old one too.
+ghost use Rattle.std.specs.Prelude.{◌≡◌, ◌+◌, ◌-◌, ◌<◌, ◌≤◌, ◌^◌, ◌↔◌, IsTrue, IfOk, OnOk, OnErr, length, chars, string_bytes, IsCharBoundary};
+ghost use Rattle.rustc_lexer.specs.Edit.{edited, kept};
+ghost use Rattle.rustc_lexer.specs.Lexing.{tokens_of};
+
+mod checkpoints;
+mod gap_buffer;
+mod lookahead;
+mod splice;
+
+use crate::lex::tokenize;
+use crate::relex::checkpoints::{Checkpoint, move_checkpoints, refine};
+use crate::relex::gap_buffer::GapBuffer;
+use crate::relex::splice::edit_and_relex;
+use crate::token::{FrontmatterAllowed, Token};
+use std::alloc::{AllocError, Global};
+use std::marker::Model;
+
+/// What an edit has kept of the tokens, and how many were lexed again between.
+#[derive(Clone, Copy, PartialEq, Eq, Debug)]
+pub struct Kept {
+    /// The tokens before the edit that were kept.
+    pub front: usize,
+    /// The tokens that were lexed again.
+    pub lexed: usize,
+    /// The tokens behind the edit that were kept.
+    pub back: usize,
+}
+
+/// A text and its tokens. A clause sees the text, as the list of its bytes.
+#[derive(Drop)]
+pub struct LexedText {
+    text: String,
+    tokens: GapBuffer,
+    checkpoints: Vec<Checkpoint>,
+}
+
+impl Model for LexedText {
+    ghost use Rattle.std.specs.Prelude.{List, ℕ, ◌≡◌, ◌<◌, ◌^◌, length, chars, string_bytes};
+    ghost use Rattle.std.specs.List.{All};
+    ghost use Rattle.rustc_lexer.specs.Lexing.{tokens_of};
+    ghost use Rattle.rustc_lexer.specs.Relexing.{IsCheckpoint};
+
+    ghost Value = { List ℕ };
+
+    ghost view = { λ t. string_bytes t.text };
+
+    ghost invariant = { λ t. (length (string_bytes t.text) < 2 ^ 32) × (t.tokens ≡ tokens_of (chars (string_bytes t.text)))
+        × All (IsCheckpoint t.tokens) t.checkpoints.items };
+}
+
+impl LexedText {
+    /// A copy of the text, of at most `u32::MAX` bytes, and its tokens. Refused where there is no memory for them.
+    pub fn new(alloc: Global, text: &str) -> Result<LexedText, AllocError>
+        requires { length text.now < 2 ^ 32 }
+        ensures { IfOk result (λ t. t ≡ text.now) }
+    {
+        let tokens = tokenize(text, FrontmatterAllowed::No).collect(alloc)?;
+        let tokens = GapBuffer::new(tokens);
+        let text = String::from_str(alloc, text)?;
+        let checkpoints = Vec::new(alloc);
+        Ok(LexedText {
+            text,
+            tokens,
+            checkpoints,
+        })
+    }
+
+    /// The text.
+    pub fn text(&self) -> &str
+        ensures { result.now ≡ self.now }
+    {
+        self.text.as_str()
+    }
+
+    /// The text's tokens, those that [`crate::tokenize`] gives.
+    pub fn tokens(&self) -> &[Token]
+        ensures { result.now ≡ tokens_of (chars self.now) }
+    {
+        self.tokens.as_slice()
+    }
+
+    /// Whether the byte `at` is at most the text's length, and begins a character or ends the text.
+    pub fn is_boundary(&self, at: usize) -> bool
+        ensures { IsTrue result ↔ IsCharBoundary self.now at }
+    {
+        self.text().is_char_boundary(at)
+    }
+
+    /// Whether the bytes from `start` to `end` are in the text, and it has at most `u32::MAX` bytes once `replacement_len`
+    /// bytes stand in their place.
+    pub fn fits(&self, start: usize, end: usize, replacement_len: usize) -> bool
+        ensures { IsTrue result ↔ ((start ≤ end) × (end ≤ length self.now)
+            × (length self.now - (end - start) + replacement_len < 2 ^ 32)) }
+    {
+        let len = self.text.len();
+        start <= end && end <= len && replacement_len <= 0xffff_ffff - (len - (end - start))
+    }
+
+    /// Puts the replacement in place of the bytes from `start` to `end`, which are boundaries of the text and fit, and relexes
+    /// the tokens: those that end at least two characters before `start` are kept, lexing goes on behind them up to the
+    /// first old boundary at or past `end` that it meets at this boundary's new place, and the tokens behind are kept.
+    /// Refused where there is no memory for them, and then text and tokens stay.
+    pub fn edit(&mut self, start: usize, end: usize, replacement: &str) -> Result<Kept, AllocError>
+        requires start { IsCharBoundary self.old start }
+        requires stop { IsCharBoundary self.old «end» }
+        requires order { start ≤ «end» }
+        requires fits { length self.old - («end» - start) + length replacement.now < 2 ^ 32 }
+        ensures text { OnOk result (self.new ≡ edited self.old start «end» replacement.now) }
+        ensures kept { IfOk result (λ k. k ≡ kept self.old start «end» replacement.now) }
+        ensures err { OnErr result (self.new ≡ self.old) }
+    {
+        let alloc = *self.text.allocator();
+        let tokens = &self.tokens;
+        let old_count = tokens.as_slice().len();
+        let near = refine(&self.text, &mut self.checkpoints, tokens.as_slice(), start)?;
+        let relexed = edit_and_relex(
+            alloc,
+            &mut self.text,
+            &mut self.tokens,
+            near,
+            start,
+            end,
+            replacement,
+        )?;
+        move_checkpoints(&mut self.checkpoints, &relexed);
+        Ok(Kept {
+            front: relexed.front.tokens,
+            lexed: relexed.new.tokens - relexed.front.tokens,
+            back: old_count - relexed.old.tokens,
+        })
+    }
+}

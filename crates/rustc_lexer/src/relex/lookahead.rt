@@ -1,0 +1,33 @@
+//! How far the lexer looks ahead: the tokens before an offset that is clear of an edit do not depend on what is edited.
+ghost use Rattle.std.specs.Prelude.{◌≡◌, nat_le, length, chars, IsCharBoundary};
+ghost use Rattle.rustc_lexer.specs.Edit.{is_clear_of};
+
+use crate::scan::split_first;
+
+// The text has two characters.
+#[inline]
+fn has_two_chars(text: &str) -> bool
+    ensures { result ≡ nat_le 2 (length (chars text.now)) }
+{
+    match split_first(text) {
+        Some((_, rest)) => split_first(rest).is_some(),
+        None => false,
+    }
+}
+
+/// At least two characters stand from the place `at` to `start`. As a character has at most four bytes, few places are near
+/// enough to be looked at.
+#[inline]
+pub fn is_clear(text: &str, at: usize, start: usize) -> bool
+    requires at { IsCharBoundary text.now at }
+    requires start { IsCharBoundary text.now start }
+    ensures { result ≡ is_clear_of text.now start at }
+{
+    if start < at {
+        return false;
+    }
+    if 8 <= start - at {
+        return true;
+    }
+    has_two_chars(&text[at..start])
+}

@@ -1,0 +1,75 @@
+//! Peeking: the first tree of a list, where it is of the sort that is asked for, and the trees after it.
+//!
+//! Nothing is passed, and nothing is copied where another sort of tree comes first.
+ghost use Rattle.std.specs.Prelude.{◌≡◌, option_map};
+ghost use Rattle.tt.specs.FirstTrees.{first_ident, first_leaf, first_literal, first_punct, first_group, first_subtree};
+
+use crate::iter::TtIter;
+use tt_data::{Delimiter, Ident, Leaf, LitKind, Punct, Subtree};
+
+impl<'a> TtIter<'a> {
+    /// The punct that comes next.
+    pub fn first_punct(&self) -> Option<(Punct, TtIter<'a>)>
+        ensures { result ≡ first_punct self.now }
+    {
+        let (punct, more) = self.tokens.split_punct()?;
+        Some((punct, TtIter { tokens: more }))
+    }
+
+    /// The identifier that comes next.
+    pub fn first_ident(&self) -> Option<(Ident, TtIter<'a>)>
+        ensures { result ≡ first_ident self.now }
+    {
+        let (ident, more) = self.tokens.split_ident()?;
+        Some((ident, TtIter { tokens: more }))
+    }
+
+    /// The identifier that comes next, borrowed: its text gets no other owner.
+    pub fn lent_ident(&self) -> Option<(&'a Ident, TtIter<'a>)>
+        ensures { option_map (λ p. (p.0.now, p.1)) result ≡ first_ident self.now }
+    {
+        let (ident, more) = self.tokens.lent_ident()?;
+        Some((ident, TtIter { tokens: more }))
+    }
+
+    /// The leaf that comes next, borrowed: its text gets no other owner.
+    pub fn lent_leaf(&self) -> Option<(&'a Leaf, TtIter<'a>)>
+        ensures { option_map (λ p. (p.0.now, p.1)) result ≡ first_leaf self.now }
+    {
+        let (leaf, more) = self.tokens.lent_leaf()?;
+        Some((leaf, TtIter { tokens: more }))
+    }
+
+    /// The kind of the literal that comes next.
+    pub fn first_literal(&self) -> Option<(LitKind, TtIter<'a>)>
+        ensures { result ≡ first_literal self.now }
+    {
+        let (kind, more) = self.tokens.split_literal()?;
+        Some((kind, TtIter { tokens: more }))
+    }
+
+    // The leaf that comes next.
+    pub(crate) fn first_leaf(&self) -> Option<(Leaf, TtIter<'a>)>
+        ensures { result ≡ first_leaf self.now }
+    {
+        let (leaf, more) = self.tokens.split_leaf()?;
+        Some((leaf, TtIter { tokens: more }))
+    }
+
+    // The head of the group that comes next, and a walk over the trees inside.
+    pub(crate) fn first_subtree(&self) -> Option<(Subtree, TtIter<'a>, TtIter<'a>)>
+        ensures { result ≡ first_subtree self.now }
+    {
+        let (head, more) = self.tokens.split_head()?;
+        let (inner, rest) = more.split_at(head.len as usize);
+        Some((head, TtIter { tokens: inner }, TtIter { tokens: rest }))
+    }
+
+    /// The brackets of the group that comes next, and a walk over the trees inside.
+    pub fn first_group(&self) -> Option<(Delimiter, TtIter<'a>, TtIter<'a>)>
+        ensures { result ≡ first_group self.now }
+    {
+        let (head, inner, rest) = self.first_subtree()?;
+        Some((head.delimiter, inner, rest))
+    }
+}

@@ -1,0 +1,358 @@
+//! Flat lists of tokens, as they are stored.
+//!
+//! Only this module depends on how a token is stored: what borrows tokens reads them by value through `Tokens`,
+//! and what owns them puts them in and takes them out through `TokenBuffer`.
+ghost use Rattle.std.specs.Prelude.{◌≡◌, ◌↔◌, ◌<◌, ◌≤◌, ◌^◌, ◌+◌, ◌-◌, ◌∷◌, ◌++◌, [], IsTrue, MatchOption, OnErr, OnOk, length, take, drop, option_map, set, slice_get, slice_index_or};
+ghost use Rattle.tt.specs.Records.{items, alone_token};
+ghost use Rattle.tt.specs.Tops.{has_leaf_at};
+ghost use Rattle.tt_data.specs.declared.tree.TokenTree.{TokenTree};
+ghost use Rattle.tt_data.specs.Spans.{first_span_of};
+
+pub(crate) mod renaming;
+
+use crate::storage::renaming::Renaming;
+use std::alloc::{AllocError, Global};
+use std::hash::{Hash, Hasher};
+use std::marker::Model;
+use tt_data::{Ident, Leaf, LitKind, Punct, Spacing, Span, Subtree, TokenTree};
+
+/// A run of tokens that is borrowed.
+#[derive(Clone, Copy, Debug)]
+pub(crate) struct Tokens<'a> {
+    records: &'a [TokenTree],
+}
+
+#[tactic(auto, unfolding(crate::specs::Records::items))]
+impl<'a> Tokens<'a> {
+    ghost use Rattle.tt.specs.Records.{head_at, head_in, leaf_in, punct_in, ident_in, literal_in};
+
+    /// No tokens.
+    pub(crate) fn empty() -> Tokens<'a>
+        ensures { items result ≡ [] }
+    {
+        Tokens { records: &[] }
+    }
+
+    /// The tokens of a slice.
+    pub(crate) fn from_slice(tts: &'a [TokenTree]) -> Tokens<'a>
+        ensures { items result ≡ tts.now }
+    {
+        Tokens { records: tts }
+    }
+
+    /// How many they are: less than half of the numbers that fit.
+    pub(crate) fn len(self) -> usize
+        ensures len { result ≡ length (items self.entry) }
+        ensures fits { result < 2 ^ 63 }
+    {
+        self.records.len()
+    }
+
+    /// Whether there are none.
+    pub(crate) fn is_empty(self) -> bool
+        ensures { IsTrue result ↔ (items self.entry ≡ []) }
+    {
+        self.records.is_empty()
+    }
+
+    /// The first token, and those after it.
+    pub(crate) fn split_first(self) -> Option<(TokenTree, Tokens<'a>)>
+        ensures { MatchOption result (items self.entry ≡ []) (λ p. items self.entry ≡ p.0 ∷ items p.1) }
+    {
+        let (first, more) = self.records.split_first()?;
+        Some((same_token(first), Tokens { records: more }))
+    }
+
+    /// The first tokens, as many as are asked for, and those after them.
+    pub(crate) fn split_at(self, count: usize) -> (Tokens<'a>, Tokens<'a>)
+        requires { count ≤ length (items self) }
+        ensures front { items result.0 ≡ take count (items self.entry) }
+        ensures back { items result.1 ≡ drop count (items self.entry) }
+    {
+        let (front, back) = self.records.split_at(count);
+        (Tokens { records: front }, Tokens { records: back })
+    }
+
+    /// The head of the group that begins at a place, where one does.
+    pub(crate) fn head_at(self, at: usize) -> Option<Subtree>
+        ensures { result ≡ head_at (items self.entry) at }
+    {
+        match self.records.get(at)? {
+            TokenTree::Subtree(head) => Some(*head),
+            TokenTree::Leaf(_) => None,
+        }
+    }
+
+    /// Whether a leaf is at a place.
+    pub(crate) fn is_leaf_at(self, at: usize) -> bool
+        ensures leaf { result ≡ has_leaf_at at (items self.entry) }
+        ensures within { IsTrue result → at < length (items self.entry) }
+    {
+        matches!(self.records.get(at), Some(TokenTree::Leaf(_)))
+    }
+
+    /// The first token.
+    pub(crate) fn first(self) -> Option<TokenTree>
+        ensures { result ≡ slice_get (items self.entry) 0 }
+    {
+        Some(same_token(self.records.first()?))
+    }
+
+    /// The last token.
+    pub(crate) fn last(self) -> Option<TokenTree>
+        ensures { result ≡ slice_get (items self.entry) (length (items self.entry) - 1) }
+    {
+        Some(same_token(self.records.last()?))
+    }
+
+    /// The span of the first token: of a head that of its opening bracket.
+    pub(crate) fn first_span(self) -> Option<Span>
+        ensures { result ≡ option_map first_span_of (slice_get (items self.entry) 0) }
+    {
+        Some(self.records.first()?.first_span())
+    }
+
+    /// The first token, where it is the head of a group, and those after it.
+    pub(crate) fn split_head(self) -> Option<(Subtree, Tokens<'a>)>
+        ensures { option_map (λ p. (p.0, items p.1)) result ≡ head_in (items self.entry) }
+    {
+        match self.records.split_first()? {
+            (TokenTree::Subtree(head), more) => Some((*head, Tokens { records: more })),
+            _ => None,
+        }
+    }
+
+    /// The first token, where it is a leaf, and those after it.
+    pub(crate) fn split_leaf(self) -> Option<(Leaf, Tokens<'a>)>
+        ensures { option_map (λ p. (p.0, items p.1)) result ≡ leaf_in (items self.entry) }
+    {
+        match self.records.split_first()? {
+            (TokenTree::Leaf(leaf), more) => Some((same_leaf(leaf), Tokens { records: more })),
+            _ => None,
+        }
+    }
+
+    /// The first token, where it is a leaf, borrowed, and those after it.
+    pub(crate) fn lent_leaf(self) -> Option<(&'a Leaf, Tokens<'a>)>
+        ensures { option_map (λ p. (p.0.now, items p.1)) result ≡ leaf_in (items self.entry) }
+    {
+        match self.records.split_first()? {
+            (TokenTree::Leaf(leaf), more) => Some((leaf, Tokens { records: more })),
+            _ => None,
+        }
+    }
+
+    /// The first token, where it is an identifier, borrowed, and those after it.
+    pub(crate) fn lent_ident(self) -> Option<(&'a Ident, Tokens<'a>)>
+        ensures { option_map (λ p. (p.0.now, items p.1)) result ≡ ident_in (items self.entry) }
+    {
+        match self.records.split_first()? {
+            (TokenTree::Leaf(Leaf::Ident(ident)), more) => Some((ident, Tokens { records: more })),
+            _ => None,
+        }
+    }
+
+    /// The first token, where it is a punct, and those after it.
+    pub(crate) fn split_punct(self) -> Option<(Punct, Tokens<'a>)>
+        ensures { option_map (λ p. (p.0, items p.1)) result ≡ punct_in (items self.entry) }
+    {
+        match self.records.split_first()? {
+            (TokenTree::Leaf(Leaf::Punct(punct)), more) => {
+                Some((*punct, Tokens { records: more }))
+            }
+            _ => None,
+        }
+    }
+
+    /// The first token, where it is an identifier, and those after it.
+    pub(crate) fn split_ident(self) -> Option<(Ident, Tokens<'a>)>
+        ensures { option_map (λ p. (p.0, items p.1)) result ≡ ident_in (items self.entry) }
+    {
+        match self.records.split_first()? {
+            (TokenTree::Leaf(Leaf::Ident(ident)), more) => {
+                let Ok(ident) = ident.clone() else {
+                    unreachable!()
+                };
+                Some((ident, Tokens { records: more }))
+            }
+            _ => None,
+        }
+    }
+
+    /// The kind of the first token, where it is a literal, and those after it.
+    pub(crate) fn split_literal(self) -> Option<(LitKind, Tokens<'a>)>
+        ensures { option_map (λ p. (p.0, items p.1)) result ≡ literal_in (items self.entry) }
+    {
+        match self.records.split_first()? {
+            (TokenTree::Leaf(Leaf::Literal(literal)), more) => {
+                Some((literal.kind(), Tokens { records: more }))
+            }
+            _ => None,
+        }
+    }
+}
+
+// A clone of a token. Its text gets one more owner, so memory is never refused.
+#[inline]
+fn same_token(token: &TokenTree) -> TokenTree
+    ensures { result ≡ token.now }
+{
+    let Ok(token) = token.clone() else {
+        unreachable!()
+    };
+    token
+}
+
+// A clone of a leaf. Its text gets one more owner, so memory is never refused.
+#[inline]
+pub(crate) fn same_leaf(leaf: &Leaf) -> Leaf
+    ensures { result ≡ leaf.now }
+{
+    let Ok(leaf) = leaf.clone() else {
+        unreachable!()
+    };
+    leaf
+}
+
+/// A run of tokens that is owned.
+#[derive(Debug, Drop)]
+pub(crate) struct TokenBuffer {
+    records: Vec<TokenTree>,
+}
+
+impl Model for TokenBuffer {
+    ghost use Rattle.std.specs.Prelude.{List};
+    ghost use Rattle.tt_data.specs.declared.tree.TokenTree.{TokenTree};
+
+    ghost Value = { List TokenTree };
+
+    ghost view = { λ b. b.records.items };
+}
+
+impl TokenBuffer {
+    ghost use Rattle.std.specs.Prelude.{fold};
+    ghost use Rattle.std.specs.Hash as fed;
+    ghost use Rattle.std.specs.Cmp.Lexicographic.{pointwise};
+    ghost use Rattle.std.specs.Prelude.{map};
+    ghost use Rattle.tt.specs.Anchors.{IsAtHand, answer_of};
+    ghost use Rattle.tt.specs.Relabelling.{anchor_with};
+    ghost use Rattle.tt_data.specs.Spans.{token_with};
+
+    /// No tokens.
+    pub(crate) fn new(alloc: Global) -> TokenBuffer
+        ensures { result ≡ [] }
+    {
+        TokenBuffer {
+            records: Vec::new(alloc),
+        }
+    }
+
+    /// The tokens of a vector.
+    pub(crate) fn from_vec(tts: Vec<TokenTree>) -> TokenBuffer
+        ensures { result ≡ tts.items }
+    {
+        TokenBuffer { records: tts }
+    }
+
+    /// How many they are.
+    pub(crate) fn len(&self) -> usize
+        ensures { result ≡ length self.now }
+    {
+        self.records.len()
+    }
+
+    /// The tokens, to be read.
+    #[tactic(auto, unfolding(crate::specs::Records::items))]
+    pub(crate) fn tokens(&self) -> Tokens<'_>
+        ensures { items result ≡ self.now }
+    {
+        Tokens {
+            records: self.records.as_slice(),
+        }
+    }
+
+    /// Puts a token after the others.
+    #[inline(always)]
+    pub(crate) fn push(&mut self, token: TokenTree) -> Result<(), AllocError>
+        ensures ok { OnOk result (self.new ≡ self.old ++ token ∷ []) }
+        ensures err { OnErr result (self.new ≡ self.old) }
+    {
+        self.records.push(token)?;
+        Ok(())
+    }
+
+    /// Puts copies of these tokens after the others.
+    #[tactic(auto, unfolding(crate::specs::Records::items))]
+    pub(crate) fn extend(&mut self, tokens: Tokens<'_>) -> Result<(), AllocError>
+        ensures ok { OnOk result (self.new ≡ self.old ++ items tokens.entry) }
+        ensures err { OnErr result (self.new ≡ self.old) }
+    {
+        self.records.extend_with_clones(tokens.records)
+    }
+
+    /// Puts a token in place of another.
+    pub(crate) fn set(&mut self, at: usize, token: TokenTree)
+        requires { at < length self.old }
+        ensures { self.new ≡ set self.old at token }
+    {
+        self.records[at] = token;
+    }
+
+    /// The token there, where it is a punct, is no longer joined to what follows.
+    pub(crate) fn set_alone(&mut self, at: usize)
+        requires { at < length self.old }
+        ensures { (t : TokenTree) × (t ≡ slice_index_or self.old at t) × (self.new ≡ set self.old at (alone_token t)) }
+    {
+        set_alone(&mut self.records[at]);
+    }
+
+    /// Changes the anchors of each token.
+    pub(crate) fn relabel(&mut self, renaming: &Renaming)
+        requires { IsAtHand renaming.now }
+        ensures { self.new ≡ map (token_with (anchor_with (answer_of renaming.now))) self.old }
+    {
+        for token in self.records.iter_mut() {
+            renaming.relabel(token);
+        }
+    }
+
+    /// Takes out a token.
+    pub(crate) fn remove(&mut self, at: usize)
+        requires { at < length self.old }
+        ensures { self.new ≡ take at self.old ++ drop (at + 1) self.old }
+    {
+        let _ = self.records.remove(at);
+    }
+
+    /// Whether each token is equal to the one at its place in the other run, and there are no more.
+    pub(crate) fn is_equal(&self, other: &TokenBuffer) -> bool
+        ensures { result ≡ pointwise ⟦<TokenTree as PartialEq>⟧.eq self.now other.now }
+    {
+        self.records == other.records
+    }
+
+    /// Feeds the tokens to a hasher.
+    pub(crate) fn feed<H: Hasher>(&self, state: &mut H)
+        ensures { state.new ≡ fold H.write state.old (fed.slice ⟦<TokenTree as Hash>⟧.hash_input self.now) }
+    {
+        self.records.hash(state);
+    }
+
+    /// Takes away all tokens but the first ones, as many as are asked for.
+    pub(crate) fn truncate(&mut self, count: usize)
+        ensures { self.new ≡ take count self.old }
+    {
+        self.records.truncate(count);
+    }
+}
+
+// A punct is no longer joined to what follows.
+fn set_alone(token: &mut TokenTree)
+    ensures { token.new ≡ alone_token token.old }
+{
+    if let TokenTree::Leaf(leaf) = token {
+        if let Leaf::Punct(punct) = leaf {
+            punct.spacing = Spacing::Alone;
+        }
+    }
+}

@@ -1,0 +1,539 @@
+//! Trees under construction.
+ghost use Rattle.std.specs.Prelude.{◌≡◌, ◌≢◌, ◌↔◌, ◌⊎◌, ◌+◌, ◌<◌, ◌^◌, ◌≤◌, ◌++◌, ◌∷◌, [], reverse, length, take, List, Err, Some, None, option_map, map, IfOk, IfErr, IsOk, IsOkUnless, IsSome, IsTrue, OnOk, OnErr};
+ghost use Rattle.tt_data.specs.Forest.{size, front};
+ghost use Rattle.tt.specs.BuilderTokens.{start_of, begins_invisible, moved_back};
+ghost use Rattle.tt_data.specs.fault.TtFault.TheVariants as fault;
+ghost use Rattle.tt_data.specs.declared.leaf.Leaf.{Leaf};
+ghost use Rattle.tt_data.specs.declared.tree.TokenTree.{TokenTree};
+ghost use Rattle.tt_data.specs.declared.tree.TokenTree.TheVariants as token;
+ghost use Rattle.tt.specs.Records.{as_head};
+ghost use Rattle.std.specs.Iterator.{Drains, Yields, IsFinite};
+
+use crate::flatten::is_later_end;
+use crate::iter::TtIter;
+use crate::storage::TokenBuffer;
+use crate::top_subtree::TopSubtree;
+use crate::view::TokenTreesView;
+use std::alloc::Global;
+use std::marker::Model;
+use tt_data::{Delimiter, DelimiterKind, Leaf, Span, Subtree, TokenTree, TtFault};
+
+// The most tokens that a tree has below its top.
+const MOST_TOKENS: usize = u32::MAX as usize;
+
+/// A point of a builder's past: how many tokens it had below the top, and how many groups were open.
+#[derive(Clone, Copy)]
+pub struct SubtreeBuilderRestorePoint {
+    tokens: u32,
+    depth: usize,
+}
+
+impl Model for SubtreeBuilderRestorePoint {
+    ghost use Rattle.tt.specs.Building.{Point, point_code};
+
+    ghost Value = { Point };
+
+    ghost coded = { point_code };
+
+    ghost view = { λ p. record { tokens = p.tokens; depth = p.depth } };
+
+    ghost inverse = { λ p. record { tokens = p.tokens; depth = p.depth } };
+}
+
+// A group that is open, and where its token is.
+#[derive(Clone, Copy)]
+struct Opening {
+    at: usize,
+    kind: DelimiterKind,
+    open_span: Span,
+}
+
+impl Opening {
+    // The opening once the token at a place is taken out.
+    fn moved_back(self, at: usize) -> Opening
+        ensures { result ≡ moved_back at self }
+    {
+        let moved = if at < self.at { self.at - 1 } else { self.at };
+        Opening { at: moved, ..self }
+    }
+}
+
+/// The sorts of a builder's open groups, the innermost first.
+#[derive(Drop)]
+pub struct ExpectedDelimiters<'a> {
+    // The innermost last.
+    openings: &'a [Opening],
+}
+
+impl<'a> Model for ExpectedDelimiters<'a> {
+    ghost use Rattle.std.specs.Prelude.{List, map, reverse};
+    ghost use Rattle.std.specs.Coded.{coded_list};
+    ghost use Rattle.tt_data.specs.contracts.delimiter.DelimiterKind as kind_row;
+    ghost use Rattle.tt_data.specs.declared.delimiter.DelimiterKind.{DelimiterKind};
+
+    ghost Value = { List DelimiterKind };
+
+    ghost coded = { coded_list kind_row.the_row.coded };
+
+    ghost view = { λ it. map (λ o. o.kind) (reverse it.openings.now) };
+}
+
+impl<'a> Iterator for ExpectedDelimiters<'a> {
+    ghost use Rattle.std.specs.Iterator.{YieldsFirst, item_count};
+
+    type Item = DelimiterKind;
+
+    ghost next_gives = { YieldsFirst (λ it. it) };
+
+    ghost remaining = { item_count (λ it. it) };
+
+    /// The next sort, further out: none where no groups are left.
+    fn next(&mut self) -> Option<DelimiterKind> {
+        let (innermost, outer) = self.openings.split_last()?;
+        self.openings = outer;
+        Some(innermost.kind)
+    }
+}
+
+/// A tree under construction: some of its groups are open, one inside the other, and what comes
+/// next goes into the innermost one, or into the top where none is open.
+///
+/// A call that is refused changes nothing.
+#[derive(Drop)]
+pub struct TopSubtreeBuilder {
+    top: Delimiter,
+    // The top's token, and those below it. The top and an open group count nothing yet.
+    tokens: TokenBuffer,
+    // The open groups, the innermost last.
+    openings: Vec<Opening>,
+    // Where the token of the group closed last is.
+    last_closed: Option<usize>,
+    // A place that no closed group lies across: that of the last point restored, or of the group
+    // around it that was closed since. Restores at growing places walk over each tree once.
+    settled: usize,
+}
+
+impl Model for TopSubtreeBuilder {
+    ghost use Rattle.std.specs.Prelude.{reverse, length, ◌≤◌, ◌^◌, IfSome};
+    ghost use Rattle.tt.specs.Building.{Builder, builder_code};
+    ghost use Rattle.tt.specs.BuilderTokens.{here_of, groups_of, IsHeld, IsTreeAt, IsSettled};
+
+    ghost Value = { Builder };
+
+    ghost coded = { builder_code };
+
+    ghost view = { λ b. record {
+      tree = record {
+        top = b.top;
+        groups = groups_of b.tokens (reverse b.openings.items);
+        here = here_of b.tokens (reverse b.openings.items);
+      };
+      last_closed = b.last_closed;
+    } };
+
+    ghost invariant = { λ b. IsHeld b.tokens (reverse b.openings.items) × (length b.tokens ≤ 2 ^ 32)
+        × IsTreeAt b.last_closed b.tokens (reverse b.openings.items)
+        × IsSettled b.settled (groups_of b.tokens (reverse b.openings.items)) (here_of b.tokens (reverse b.openings.items))
+        × IfSome b.last_closed (λ at. b.settled ≤ at) };
+}
+
+impl TopSubtreeBuilder {
+    ghost use Rattle.tt_data.specs.Forest.{empty};
+    ghost use Rattle.tt.specs.Views.{forest};
+    ghost use Rattle.tt.specs.Building.{leaves as leaves_of};
+    ghost use Rattle.tt.specs.Tops.{only_group};
+    ghost use Rattle.tt.specs.Building.{pushed, extended, last_alone, opened, closed, count_of, count_in, most_tokens, innermost_group, point_of, list_in, cut_back, unwrapped_at};
+
+    /// A builder of a tree with the brackets `top`, so far with nothing inside.
+    ///
+    /// `Memory` is its only error.
+    pub fn new(alloc: Global, top: Delimiter) -> Result<TopSubtreeBuilder, TtFault>
+        ensures ok { IfOk result (λ b. b ≡ record { tree = record { top = top; groups = []; here = empty }; last_closed = None }) }
+        ensures memory { IsOkUnless result fault.Memory }
+    {
+        let mut tokens = TokenBuffer::new(alloc);
+        let first = TokenTree::Subtree(Subtree {
+            delimiter: top,
+            len: 0,
+        });
+        tokens.push(first)?;
+        Ok(TopSubtreeBuilder {
+            top,
+            tokens,
+            openings: Vec::new(alloc),
+            last_closed: None,
+            settled: 1,
+        })
+    }
+
+    /// Puts a leaf after the last tree of the innermost open group.
+    ///
+    /// It answers `Tokens` where there are `u32::MAX` tokens below the top already, and only there;
+    /// its one other error is `Memory`.
+    #[inline]
+    pub fn push(&mut self, leaf: Leaf) -> Result<(), TtFault>
+        ensures ok { OnOk result (self.new.tree ≡ pushed self.old.tree leaf) }
+        ensures last { self.new.last_closed ≡ self.old.last_closed }
+        ensures err { OnErr result (self.new ≡ self.old) }
+        ensures tokens { (result ≡ Err fault.Tokens) ↔ (count_of self.old.tree ≡ most_tokens) }
+        ensures faults { IfErr result (λ e. (e ≡ fault.Memory) ⊎ (e ≡ fault.Tokens)) }
+    {
+        put_leaf(&mut self.tokens, leaf)?;
+        Ok(())
+    }
+
+    /// Puts these trees after the last tree of the innermost open group.
+    ///
+    /// It answers `Tokens` where there would be more than `u32::MAX` tokens below the top, and only
+    /// there; its one other error is `Memory`.
+    pub fn extend_with_tt(&mut self, tt: TokenTreesView<'_>) -> Result<(), TtFault>
+        ensures ok { OnOk result (self.new.tree ≡ extended self.old.tree (forest tt.entry)) }
+        ensures last { self.new.last_closed ≡ self.old.last_closed }
+        ensures err { OnErr result (self.new ≡ self.old) }
+        ensures tokens { (result ≡ Err fault.Tokens) ↔ (most_tokens < count_of self.old.tree + size (forest tt.entry)) }
+        ensures faults { IfErr result (λ e. (e ≡ fault.Memory) ⊎ (e ≡ fault.Tokens)) }
+    {
+        let room = MOST_TOKENS + 1 - self.tokens.len();
+        if room < tt.len() {
+            return Err(TtFault::Tokens);
+        }
+        self.tokens.extend(tt.tokens)?;
+        Ok(())
+    }
+
+    /// Puts these leaves after the last tree of the innermost open group.
+    ///
+    /// It answers `Tokens` only where the leaves that it asked for would be more than fit below the
+    /// top; its one other error is `Memory`.
+    pub fn extend<I: IntoIterator<Item = Leaf>>(&mut self, leaves: I) -> Result<(), TtFault>
+        requires { (all : I.IntoIter) → I.into_iter_gives leaves all → I.IntoIter.can_next all × IsFinite (I.IntoIter.remaining all) }
+        ensures ok { OnOk result ((all : I.IntoIter) × (ls : List Leaf) × I.into_iter_gives leaves all × Drains I.IntoIter.next_gives all ls × (self.new.tree ≡ extended self.old.tree (leaves_of ls))) }
+        ensures last { self.new.last_closed ≡ self.old.last_closed }
+        ensures err { OnErr result (self.new ≡ self.old) }
+        ensures tokens { result ≡ Err fault.Tokens → (all : I.IntoIter) × (ls : List Leaf) × (rest : I.IntoIter) × I.into_iter_gives leaves all × Yields I.IntoIter.next_gives all ls rest × (most_tokens < count_of self.old.tree + length ls) }
+        ensures faults { IfErr result (λ e. (e ≡ fault.Memory) ⊎ (e ≡ fault.Tokens)) }
+    {
+        let count = self.tokens.len();
+        match put_leaves(&mut self.tokens, leaves) {
+            Ok(()) => Ok(()),
+            Err(fault) => {
+                self.tokens.truncate(count);
+                Err(fault)
+            }
+        }
+    }
+
+    /// Puts these trees there, with the very last token, be it inside a last group, `Alone` where it
+    /// is a punct.
+    ///
+    /// It answers `Tokens` where there would be more than `u32::MAX` tokens below the top, and only
+    /// there; its one other error is `Memory`.
+    pub fn extend_with_tt_alone(&mut self, tt: TokenTreesView<'_>) -> Result<(), TtFault>
+        ensures ok { OnOk result (self.new.tree ≡ extended self.old.tree (last_alone (forest tt.entry))) }
+        ensures last { self.new.last_closed ≡ self.old.last_closed }
+        ensures err { OnErr result (self.new ≡ self.old) }
+        ensures tokens { (result ≡ Err fault.Tokens) ↔ (most_tokens < count_of self.old.tree + size (forest tt.entry)) }
+        ensures faults { IfErr result (λ e. (e ≡ fault.Memory) ⊎ (e ≡ fault.Tokens)) }
+    {
+        self.extend_with_tt(tt)?;
+        if !tt.is_empty() {
+            self.set_last_alone();
+        }
+        Ok(())
+    }
+
+    // The last token is no longer joined to what follows.
+    fn set_last_alone(&mut self)
+        requires { self.old.tree.here ≢ empty }
+        ensures { self.new ≡ record self.old { tree = record self.old.tree { here = last_alone self.old.tree.here } } }
+    {
+        let last = self.tokens.len() - 1;
+        self.tokens.set_alone(last);
+    }
+
+    /// Opens a group after the last tree of the innermost open group. It is the innermost one now,
+    /// with nothing inside.
+    ///
+    /// It answers `Tokens` where there are `u32::MAX` tokens below the top already, and only there;
+    /// its one other error is `Memory`.
+    pub fn open(&mut self, delimiter_kind: DelimiterKind, open_span: Span) -> Result<(), TtFault>
+        ensures ok { OnOk result (self.new.tree ≡ opened self.old.tree delimiter_kind open_span) }
+        ensures last { self.new.last_closed ≡ self.old.last_closed }
+        ensures err { OnErr result (self.new ≡ self.old) }
+        ensures tokens { (result ≡ Err fault.Tokens) ↔ (count_of self.old.tree ≡ most_tokens) }
+        ensures faults { IfErr result (λ e. (e ≡ fault.Memory) ⊎ (e ≡ fault.Tokens)) }
+    {
+        if self.tokens.len() > MOST_TOKENS {
+            return Err(TtFault::Tokens);
+        }
+        let opening = Opening {
+            at: self.tokens.len(),
+            kind: delimiter_kind,
+            open_span,
+        };
+        let Ok(()) = self.openings.push(opening) else {
+            return Err(TtFault::Memory);
+        };
+        let delimiter = Delimiter {
+            open_span,
+            close_span: open_span,
+            kind: delimiter_kind,
+        };
+        match self
+            .tokens
+            .push(TokenTree::Subtree(Subtree { delimiter, len: 0 }))
+        {
+            Ok(()) => Ok(()),
+            Err(_) => {
+                let _ = self.openings.pop();
+                Err(TtFault::Memory)
+            }
+        }
+    }
+
+    /// The innermost open group's kind, and the span of its opening bracket: none where no group is open.
+    pub fn innermost(&self) -> Option<(DelimiterKind, Span)>
+        ensures { result ≡ innermost_group self.now.tree.groups }
+    {
+        let opening = self.openings.last()?;
+        Some((opening.kind, opening.open_span))
+    }
+
+    /// The sorts of the open groups, the innermost first: what closing brackets are to come.
+    pub fn expected_delimiters(&self) -> ExpectedDelimiters<'_>
+        ensures { result ≡ map (λ o. o.kind) self.now.tree.groups }
+    {
+        ExpectedDelimiters {
+            openings: self.openings.as_slice(),
+        }
+    }
+
+    /// Closes the innermost open group, which then is one tree where it was opened.
+    ///
+    /// It answers `Place` where no group is open, and only there. It takes no memory.
+    pub fn close(&mut self, close_span: Span) -> Result<(), TtFault>
+        ensures ok { OnOk result (self.new.tree ≡ closed self.old.tree close_span) }
+        ensures last { OnOk result (self.new.last_closed ≡ Some (count_in self.old.tree.groups)) }
+        ensures place { IsOkUnless result TtFault.Place }
+        ensures err { OnErr result (self.new ≡ self.old) }
+        ensures none_open { IsOk result ↔ (self.old.tree.groups ≢ []) }
+    {
+        let Some(opening) = self.openings.pop() else {
+            return Err(TtFault::Place);
+        };
+        let delimiter = Delimiter {
+            open_span: opening.open_span,
+            close_span,
+            kind: opening.kind,
+        };
+        let len = (self.tokens.len() - opening.at - 1) as u32;
+        let head = Subtree { delimiter, len };
+        self.tokens.set(opening.at, TokenTree::Subtree(head));
+        self.last_closed = Some(opening.at);
+        self.settled = self.settled.min(opening.at);
+        Ok(())
+    }
+
+    /// Where the group closed last is invisible, its contents take its place. No group counts as
+    /// the one closed last then, until the next is closed. It takes no memory.
+    pub fn remove_last_subtree_if_invisible(&mut self)
+        ensures tree { self.new.tree ≡ unwrapped_at self.old.last_closed self.old.tree }
+        ensures last { self.new.last_closed ≡ None }
+    {
+        let Some(at) = self.last_closed.take() else {
+            return;
+        };
+        if is_invisible_head(self.tokens.tokens().head_at(at)) {
+            self.tokens.remove(at);
+            move_back(&mut self.openings, at);
+        }
+    }
+
+    /// The point that the builder is at, for `restore`.
+    pub fn restore_point(&self) -> SubtreeBuilderRestorePoint
+        ensures { result ≡ point_of self.now.tree }
+    {
+        SubtreeBuilderRestorePoint {
+            tokens: (self.tokens.len() - 1) as u32,
+            depth: self.openings.len(),
+        }
+    }
+
+    /// Takes back all that came after a point. No group counts as the one closed last then.
+    ///
+    /// It answers `Stale` where the point isn't valid, and only there. A point is valid where the
+    /// builder has as many tokens, just as many open groups begin among them, and no closed group
+    /// begins among them and ends past them. It takes no memory.
+    pub fn restore(&mut self, restore_point: SubtreeBuilderRestorePoint) -> Result<(), TtFault>
+        ensures ok { OnOk result (cut_back restore_point self.old.tree ≡ Some self.new.tree) }
+        ensures last { OnOk result (self.new.last_closed ≡ None) }
+        ensures stands { IsOk result ↔ IsSome (cut_back restore_point self.old.tree) }
+        ensures stale { IsOkUnless result fault.Stale }
+        ensures err { OnErr result (self.new ≡ self.old) }
+    {
+        if !self.stands(restore_point) {
+            return Err(TtFault::Stale);
+        }
+        self.tokens.truncate(restore_point.tokens as usize + 1);
+        self.openings.truncate(restore_point.depth);
+        self.last_closed = None;
+        self.settled = self.tokens.len();
+        Ok(())
+    }
+
+    // How many tokens come before the list in which just so many groups are open, the top's among
+    // them, and a walk over that list.
+    fn list_at(&self, depth: usize) -> Option<(usize, TtIter<'_>)>
+        ensures { result ≡ option_map (λ l. (1 + count_in l.0, l.1)) (list_in depth self.now.tree.groups self.now.tree.here) }
+    {
+        let mut tokens = self.tokens.tokens();
+        let mut openings = self.openings.as_slice();
+        while openings.len() > depth {
+            let last = openings.len() - 1;
+            tokens = tokens.split_at(openings[last].at).0;
+            openings = &openings[..last];
+        }
+        if openings.len() < depth {
+            return None;
+        }
+        let start = list_start(openings);
+        let (_, inside) = tokens.split_at(start);
+        Some((start, TtIter { tokens: inside }))
+    }
+
+    // Whether a point is valid.
+    fn stands(&self, point: SubtreeBuilderRestorePoint) -> bool
+        ensures { IsTrue result ↔ IsSome (cut_back point self.now.tree) }
+    {
+        let at = point.tokens as usize + 1;
+        match self.list_at(point.depth) {
+            Some((start, trees)) => {
+                start <= at && is_later_end(trees, self.settled.saturating_sub(start), at - start)
+            }
+            None => false,
+        }
+    }
+
+    /// The tree, with all that is inside the top so far.
+    ///
+    /// Where a group is open, and only there, the builder comes back as it was, with `Place`. It
+    /// takes no memory.
+    pub fn build(self) -> Result<TopSubtree, (TopSubtreeBuilder, TtFault)>
+        ensures ok { IfOk result (λ t. t ≡ record { delimiter = self.tree.top; inner = self.tree.here }) }
+        ensures err { IfErr result (λ e. (e.0 ≡ self) × (e.1 ≡ TtFault.Place)) }
+        ensures built { IsOk result ↔ (self.tree.groups ≡ []) }
+    {
+        if !self.openings.is_empty() {
+            return Err((self, TtFault::Place));
+        }
+        let TopSubtreeBuilder {
+            top,
+            mut tokens,
+            openings: _,
+            last_closed: _,
+            settled: _,
+        } = self;
+        let len = (tokens.len() - 1) as u32;
+        let head = Subtree {
+            delimiter: top,
+            len,
+        };
+        tokens.set(0, TokenTree::Subtree(head));
+        Ok(TopSubtree { tokens })
+    }
+
+    /// The tree whose group is the only one inside the top. The top's own brackets are dropped.
+    ///
+    /// Where a group is open, and only there, the builder comes back as it was, with `Place`; and with
+    /// `Malformed` where else the trees inside the top are not exactly one group. It takes no memory.
+    pub fn build_skip_top_subtree(self) -> Result<TopSubtree, (TopSubtreeBuilder, TtFault)>
+        ensures ok { IfOk result (λ t. only_group self.tree.here ≡ Some t) }
+        ensures err { IfErr result (λ e. e.0 ≡ self) }
+        ensures place { IfErr result (λ e. (self.tree.groups ≢ []) → e.1 ≡ fault.Place) }
+        ensures malformed { IfErr result (λ e. self.tree.groups ≡ [] → e.1 ≡ fault.Malformed) }
+        ensures built { IsOk result ↔ ((self.tree.groups ≡ []) × IsSome (only_group self.tree.here)) }
+    {
+        let open_groups = self.openings.len();
+        if open_groups > 0 {
+            return Err((self, TtFault::Place));
+        }
+        let (_, tokens) = self.tokens.tokens().split_at(1);
+        let inside = TokenTreesView { tokens };
+        if !inside.is_one_group() {
+            return Err((self, TtFault::Malformed));
+        }
+        let TopSubtreeBuilder {
+            top: _,
+            mut tokens,
+            openings: _,
+            last_closed: _,
+            settled: _,
+        } = self;
+        tokens.remove(0);
+        Ok(TopSubtree { tokens })
+    }
+}
+
+// Puts a leaf after the other tokens, where there is room below the top.
+#[inline(always)]
+fn put_leaf(tokens: &mut TokenBuffer, leaf: Leaf) -> Result<(), TtFault>
+    ensures ok { OnOk result (tokens.new ≡ tokens.old ++ token.Leaf leaf ∷ []) }
+    ensures err { OnErr result (tokens.new ≡ tokens.old) }
+    ensures tokens { (result ≡ Err fault.Tokens) ↔ (2 ^ 32 ≤ length tokens.old) }
+    ensures room { OnOk result (length tokens.old < 2 ^ 32) }
+    ensures faults { IfErr result (λ e. (e ≡ fault.Memory) ⊎ (e ≡ fault.Tokens)) }
+{
+    if tokens.len() > MOST_TOKENS {
+        return Err(TtFault::Tokens);
+    }
+    tokens.push(TokenTree::Leaf(leaf))?;
+    Ok(())
+}
+
+// Puts leaves after the other tokens. Where it is refused, some of them may have been put.
+fn put_leaves<I: IntoIterator<Item = Leaf>>(
+    tokens: &mut TokenBuffer,
+    leaves: I,
+) -> Result<(), TtFault>
+    requires finite { (all : I.IntoIter) → I.into_iter_gives leaves all → I.IntoIter.can_next all × IsFinite (I.IntoIter.remaining all) }
+    requires room { length tokens.old ≤ 2 ^ 32 }
+    ensures ok { OnOk result ((all : I.IntoIter) × (ls : List Leaf) × I.into_iter_gives leaves all × Drains I.IntoIter.next_gives all ls × (tokens.new ≡ tokens.old ++ map token.Leaf ls) × (length tokens.new ≤ 2 ^ 32)) }
+    ensures err { OnErr result (take (length tokens.old) tokens.new ≡ tokens.old) }
+    ensures tokens { result ≡ Err fault.Tokens → (all : I.IntoIter) × (ls : List Leaf) × (rest : I.IntoIter) × I.into_iter_gives leaves all × Yields I.IntoIter.next_gives all ls rest × (2 ^ 32 < length tokens.old + length ls) }
+    ensures faults { IfErr result (λ e. (e ≡ fault.Memory) ⊎ (e ≡ fault.Tokens)) }
+{
+    for leaf in leaves {
+        put_leaf(tokens, leaf)?;
+    }
+    Ok(())
+}
+
+// Whether the token whose head this is, if it has one, begins an invisible group.
+fn is_invisible_head(head: Option<Subtree>) -> bool
+    ensures { (t : TokenTree) → as_head t ≡ head → result ≡ begins_invisible t }
+{
+    match head {
+        Some(head) => head.delimiter.kind == DelimiterKind::Invisible,
+        None => false,
+    }
+}
+
+// The openings after the token at a place move one token back.
+fn move_back(openings: &mut Vec<Opening>, at: usize)
+    ensures { openings.new.items ≡ map (moved_back at) openings.old.items }
+{
+    for opening in openings.iter_mut() {
+        *opening = opening.moved_back(at);
+    }
+}
+
+// How many tokens come before the trees of the innermost list.
+fn list_start(openings: &[Opening]) -> usize
+    requires { start_of (reverse openings.now) < 2 ^ 64 }
+    ensures { result ≡ start_of (reverse openings.now) }
+{
+    match openings.last() {
+        Some(opening) => opening.at + 1,
+        None => 1,
+    }
+}

@@ -1,0 +1,254 @@
+//! Trees that are rewritten token by token.
+ghost use Rattle.std.specs.Prelude.{◌≡◌, ◌<◌, ◌⊎◌, List, [], length, true, false, Err, Some, None, is_none, IfOk, IfErr, OnOk, OnErr};
+ghost use Rattle.std.specs.List.{FoldsTo};
+ghost use Rattle.tt_data.specs.Forest.{Forest, empty, size};
+ghost use Rattle.tt_data.specs.fault.TtFault.TheVariants as fault;
+ghost use Rattle.tt_data.specs.declared.tree.TokenTree.TheVariants as token;
+ghost use Rattle.tt.specs.Building.{count_of, most_tokens};
+ghost use Rattle.tt.specs.Rewriting.{Call, IsAnswered, IsRewritten, IsStarted, LeavesOneGroup, replacement, with_answer};
+ghost use Rattle.tt.specs.Tops.{Top, forest_of_top, only_group};
+ghost use Rattle.tt.specs.Walking.{LeavesGroup, entered, gone_inside, standing};
+
+use crate::iter::{TtElement, TtIter};
+use crate::top_subtree::TopSubtree;
+use crate::top_subtree::builder::TopSubtreeBuilder;
+use crate::view::TokenTreesView;
+use std::alloc::{AllocError, Global};
+use std::mem::replace;
+use tt_data::{Delimiter, Leaf, Span, Subtree, TokenTree, TtFault};
+
+/// What becomes of a token that a walk has come to.
+#[derive(Clone, Copy)]
+pub enum TransformTtAction<'a> {
+    /// It stays. In a group the walk goes on.
+    Keep,
+    /// These trees come in its place, for a group in place of all that it has inside too. They are
+    /// not walked.
+    ReplaceWith(TokenTreesView<'a>),
+}
+
+impl<'a> TransformTtAction<'a> {
+    /// The token goes, and nothing comes in its place.
+    pub fn remove() -> TransformTtAction<'a>
+        ensures { replacement result ≡ Some empty }
+    {
+        TransformTtAction::ReplaceWith(TokenTreesView::empty())
+    }
+}
+
+/// Asks `callback` about each token, the top's own head first and a group's head before what it has
+/// inside, and puts in a token's place what it answers. What is put there is not walked.
+///
+/// It answers `Malformed` where the top gave way to anything but one group, and only there; `Tokens`
+/// only where the tree would have more than `u32::MAX` tokens below its top, whatever the callback
+/// were to say of the tokens left; and else only `Memory`. The tree is then as it was.
+pub fn transform_tt<'b, F: FnMut(&TokenTree) -> TransformTtAction<'b>>(
+    alloc: Global,
+    tt: &mut TopSubtree,
+    callback: F,
+) -> Result<(), TtFault>
+    requires { F.IsAlwaysCallable callback }
+    ensures ok { OnOk result ((calls : List Call) × (last : F) × FoldsTo (IsAnswered F.FnMut) callback calls last
+        × IsRewritten (forest_of_top tt.old) calls (forest_of_top tt.new)) }
+    ensures err { OnErr result (tt.new ≡ tt.old) }
+    ensures malformed { result ≡ Err fault.Malformed → (calls : List Call) × (last : F) × (g : Forest)
+        × FoldsTo (IsAnswered F.FnMut) callback calls last × IsRewritten (forest_of_top tt.old) calls g × (only_group g ≡ None) }
+    ensures tokens { result ≡ Err fault.Tokens → (calls : List Call) × (last : F) × (t : Top)
+        × FoldsTo (IsAnswered F.FnMut) callback calls last × IsStarted (forest_of_top tt.old) calls (forest_of_top t) × (most_tokens < size t.inner) }
+    ensures one_group { IfErr result (λ e. (e ≡ fault.Memory) ⊎ (e ≡ fault.Tokens) → (c : Call) × (next : F)
+        × IsAnswered F.FnMut callback c next × LeavesOneGroup tt.old c) }
+    ensures faults { IfErr result (λ e. (e ≡ fault.Memory) ⊎ (e ≡ fault.Tokens) ⊎ (e ≡ fault.Malformed)) }
+{
+    *tt = transformed(alloc, tt, callback)?;
+    Ok(())
+}
+
+// The tree that the callback makes of this one.
+fn transformed<'b, F: FnMut(&TokenTree) -> TransformTtAction<'b>>(
+    alloc: Global,
+    tt: &TopSubtree,
+    mut callback: F,
+) -> Result<TopSubtree, TtFault>
+    requires { F.IsAlwaysCallable callback }
+    ensures ok { IfOk result (λ t. (calls : List Call) × (last : F) × FoldsTo (IsAnswered F.FnMut) callback calls last
+        × IsRewritten (forest_of_top tt.now) calls (forest_of_top t)) }
+    ensures malformed { result ≡ Err fault.Malformed → (calls : List Call) × (last : F) × (g : Forest)
+        × FoldsTo (IsAnswered F.FnMut) callback calls last × IsRewritten (forest_of_top tt.now) calls g × (only_group g ≡ None) }
+    ensures tokens { result ≡ Err fault.Tokens → (calls : List Call) × (last : F) × (t : Top)
+        × FoldsTo (IsAnswered F.FnMut) callback calls last × IsStarted (forest_of_top tt.now) calls (forest_of_top t) × (most_tokens < size t.inner) }
+    ensures one_group { IfErr result (λ e. (e ≡ fault.Memory) ⊎ (e ≡ fault.Tokens) → (c : Call) × (next : F)
+        × IsAnswered F.FnMut callback c next × LeavesOneGroup tt.now c) }
+    ensures faults { IfErr result (λ e. (e ≡ fault.Memory) ⊎ (e ≡ fault.Tokens) ⊎ (e ≡ fault.Malformed)) }
+{
+    let head = tt.top_subtree();
+    match callback(&TokenTree::Subtree(head)) {
+        TransformTtAction::Keep => rewritten(alloc, head.delimiter, tt.iter(), callback),
+        TransformTtAction::ReplaceWith(trees) => match trees.try_into_subtree() {
+            Some(group) => TopSubtree::from_subtree(alloc, group),
+            None => Err(TtFault::Malformed),
+        },
+    }
+}
+
+// A group that stays: where it closes, and a walk over the trees after it.
+#[derive(Drop)]
+struct Around<'a> {
+    close_span: Span,
+    rest: TtIter<'a>,
+}
+
+// Asks about a leaf, and puts it into the tree, or what comes in its place.
+fn put_leaf<'b, F: FnMut(&TokenTree) -> TransformTtAction<'b>>(
+    tree: &mut TopSubtreeBuilder,
+    leaf: Leaf,
+    callback: &mut F,
+) -> Result<(), TtFault>
+    requires { F.IsAlwaysCallable callback.old }
+    ensures callable { F.IsAlwaysCallable callback.new }
+    ensures ok { OnOk result ((c : Call) × (c.token ≡ token.Leaf leaf) × IsAnswered F.FnMut callback.old c callback.new
+        × (tree.new.tree ≡ with_answer c tree.old.tree)) }
+    ensures tokens { result ≡ Err fault.Tokens → (c : Call) × (c.token ≡ token.Leaf leaf) × IsAnswered F.FnMut callback.old c callback.new
+        × (most_tokens < count_of (with_answer c tree.old.tree)) }
+    ensures faults { IfErr result (λ e. (e ≡ fault.Memory) ⊎ (e ≡ fault.Tokens)) }
+{
+    let token = TokenTree::Leaf(leaf);
+    match callback(&token) {
+        TransformTtAction::Keep => {
+            let TokenTree::Leaf(leaf) = token else {
+                unreachable!()
+            };
+            tree.push(leaf)
+        }
+        TransformTtAction::ReplaceWith(trees) => tree.extend_with_tt(trees),
+    }
+}
+
+// Asks about a group, and opens it in the tree, or puts there what comes in its place: whether it is
+// opened, for the walk to go into it.
+fn put_head<'b, F: FnMut(&TokenTree) -> TransformTtAction<'b>>(
+    tree: &mut TopSubtreeBuilder,
+    head: Subtree,
+    callback: &mut F,
+) -> Result<bool, TtFault>
+    requires { F.IsAlwaysCallable callback.old }
+    ensures callable { F.IsAlwaysCallable callback.new }
+    ensures ok { IfOk result (λ opened. (c : Call) × (c.token ≡ token.Subtree head) × (opened ≡ is_none c.put)
+        × IsAnswered F.FnMut callback.old c callback.new × (tree.new.tree ≡ with_answer c tree.old.tree)) }
+    ensures tokens { result ≡ Err fault.Tokens → (c : Call) × (c.token ≡ token.Subtree head) × IsAnswered F.FnMut callback.old c callback.new
+        × (most_tokens < count_of (with_answer c tree.old.tree)) }
+    ensures faults { IfErr result (λ e. (e ≡ fault.Memory) ⊎ (e ≡ fault.Tokens)) }
+{
+    match callback(&TokenTree::Subtree(head)) {
+        TransformTtAction::Keep => {
+            tree.open(head.delimiter.kind, head.delimiter.open_span)?;
+            Ok(true)
+        }
+        TransformTtAction::ReplaceWith(trees) => {
+            tree.extend_with_tt(trees)?;
+            Ok(false)
+        }
+    }
+}
+
+// A walk that rewrites trees.
+#[derive(Drop)]
+struct Walk<'a> {
+    tree: TopSubtreeBuilder,
+    // The trees left in the innermost group that stays.
+    left: TtIter<'a>,
+    // The groups around that one, the innermost last.
+    outer: Vec<Around<'a>>,
+}
+
+// The walk goes on over the trees inside a group that was passed, and then over those after it.
+fn go_inside<'a>(
+    walk: &mut Walk<'a>,
+    close_span: Span,
+    inside: TtIter<'a>,
+) -> Result<(), AllocError>
+    ensures { OnOk result (standing walk.new ≡ gone_inside close_span inside.entry (standing walk.old)) }
+{
+    let around = Around {
+        close_span,
+        rest: replace(&mut walk.left, inside),
+    };
+    let Ok(()) = walk.outer.push(around) else {
+        return Err(AllocError);
+    };
+    Ok(())
+}
+
+// Asks about a group that was passed. Where it stays, the walk goes on inside it.
+fn enter<'a, 'b, F: FnMut(&TokenTree) -> TransformTtAction<'b>>(
+    walk: &mut Walk<'a>,
+    head: Subtree,
+    inside: TtIter<'a>,
+    callback: &mut F,
+) -> Result<(), TtFault>
+    requires { F.IsAlwaysCallable callback.old }
+    ensures callable { F.IsAlwaysCallable callback.new }
+    ensures ok { OnOk result ((c : Call) × (c.token ≡ token.Subtree head) × IsAnswered F.FnMut callback.old c callback.new
+        × (standing walk.new ≡ entered c head inside.entry (standing walk.old))) }
+    ensures tokens { result ≡ Err fault.Tokens → (c : Call) × (c.token ≡ token.Subtree head) × IsAnswered F.FnMut callback.old c callback.new
+        × (most_tokens < count_of (with_answer c walk.old.tree.tree)) }
+    ensures faults { IfErr result (λ e. (e ≡ fault.Memory) ⊎ (e ≡ fault.Tokens)) }
+{
+    if put_head(&mut walk.tree, head, callback)? {
+        go_inside(walk, head.delimiter.close_span, inside)?;
+    }
+    Ok(())
+}
+
+// Closes the innermost group, after whose trees the walk is: whether there is one.
+fn leave(walk: &mut Walk<'_>) -> bool
+    requires { length walk.old.outer.items ≡ length walk.old.tree.tree.groups }
+    ensures left { result ≡ true → LeavesGroup (standing walk.old) (standing walk.new) }
+    ensures over { result ≡ false → (walk.old.outer.items ≡ []) × (walk.new.tree ≡ walk.old.tree) }
+{
+    let Some(around) = walk.outer.pop() else {
+        return false;
+    };
+    let Ok(()) = walk.tree.close(around.close_span) else {
+        unreachable!()
+    };
+    walk.left = around.rest;
+    true
+}
+
+// The tree with these brackets and what the callback makes of these trees inside.
+fn rewritten<'b, F: FnMut(&TokenTree) -> TransformTtAction<'b>>(
+    alloc: Global,
+    top: Delimiter,
+    trees: TtIter<'_>,
+    mut callback: F,
+) -> Result<TopSubtree, TtFault>
+    requires { F.IsAlwaysCallable callback }
+    ensures ok { IfOk result (λ t. (calls : List Call) × (last : F) × FoldsTo (IsAnswered F.FnMut) callback calls last
+        × IsRewritten trees.entry calls t.inner × (t.delimiter ≡ top)) }
+    ensures tokens { result ≡ Err fault.Tokens → (calls : List Call) × (last : F) × (g : Forest)
+        × FoldsTo (IsAnswered F.FnMut) callback calls last × IsStarted trees.entry calls g × (most_tokens < size g) }
+    ensures faults { IfErr result (λ e. (e ≡ fault.Memory) ⊎ (e ≡ fault.Tokens)) }
+{
+    let mut walk = Walk {
+        tree: TopSubtreeBuilder::new(alloc, top)?,
+        left: trees,
+        outer: Vec::new(alloc),
+    };
+    'turns: loop {
+        match walk.left.next() {
+            Some(TtElement::Leaf(leaf)) => put_leaf(&mut walk.tree, leaf, &mut callback)?,
+            Some(TtElement::Subtree(head, inside)) => {
+                enter(&mut walk, head, inside, &mut callback)?;
+            }
+            None => {
+                if !leave(&mut walk) {
+                    break;
+                }
+            }
+        }
+    }
+    let Ok(tree) = walk.tree.build() else {
+        unreachable!()
+    };
+    Ok(tree)
+}
