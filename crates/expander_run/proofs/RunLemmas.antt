@@ -7,8 +7,8 @@ use Rattle.expander_run.specs.Lines.{stop_line}
 use Rattle.expander_run.specs.Runs.{LeavesAt, Runs, Tells, is_of_writer, status}
 use Rattle.expander_run.specs.Watch.{Watch}
 use Rattle.expander_run.specs.Steps.{Puts, PutsReply, Replied, StopsEarly}
-use Rattle.expander_run.specs.declared.program.Stop.{Stop}
-use Rattle.expander_run.specs.declared.program.Stop.TheVariants.{NotUtf8, TooLong, ReadFailed, WriteFailed, Refused}
+use Rattle.expander_run.specs.declared.stop.Stop.{Stop}
+use Rattle.expander_run.specs.declared.stop.Stop.TheVariants.{NotUtf8, TooLong, ReadFailed, WriteFailed, Refused}
 use Rattle.expander_session.specs.declared.session.Reply.{Reply}
 
 -- a stop that is not the writer's leaves nothing

@@ -8,8 +8,8 @@ use Rattle.expander_run.specs.Watch.{Watch, is_bad_write}
 use Rattle.expander_run.specs.Lines.{column_at, fault_words, line, line_at}
 use Rattle.expander_run.specs.Runs.{Refuses, Runs, status, status_by}
 use Rattle.expander_run.specs.declared.program.Status.{Status}
-use Rattle.expander_run.specs.declared.program.Stop.{Stop}
-use Rattle.expander_run.specs.declared.program.Stop.TheVariants.{ReadFailed}
+use Rattle.expander_run.specs.declared.stop.Stop.{Stop}
+use Rattle.expander_run.specs.declared.stop.Stop.TheVariants.{ReadFailed}
 use Rattle.expander_model.specs.Calls.{Path, bare, from_crate, other, Marked, none, token, inside, call, marked}
 use Rattle.expander_model.specs.Definitions.{Definition, definition_of, nearest}
 use Rattle.expander_model.specs.Expansion.{World, Outcome, CallSite, unbroken, looked_up, at_call, search_calls}

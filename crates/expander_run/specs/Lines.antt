@@ -6,8 +6,8 @@ use Rattle.bridge.specs.declared.reading.outcome.ReadFaultKind.TheVariants.{BadT
 use Rattle.expander_model.specs.declared.fault.Fault.{Fault}
 use Rattle.expander_model.specs.declared.fault.FaultKind.{FaultKind}
 use Rattle.expander_model.specs.declared.fault.FaultKind.TheVariants.{CannotExpand, BrokenDefinition, RecursionLimit, NestedDefinition, Unspellable}
-use Rattle.expander_run.specs.declared.program.Stop.{Stop}
-use Rattle.expander_run.specs.declared.program.Stop.TheVariants.{NotUtf8, TooLong, ReadFailed, WriteFailed, Refused}
+use Rattle.expander_run.specs.declared.stop.Stop.{Stop}
+use Rattle.expander_run.specs.declared.stop.Stop.TheVariants.{NotUtf8, TooLong, ReadFailed, WriteFailed, Refused}
 use Rattle.expander_scope.specs.declared.refusal.Refusal.{Refusal}
 use Rattle.expander_scope.specs.declared.refusal.Refusal.TheVariants.{Memory, Tokens, Numbers}
 use Rattle.expander_session.specs.declared.session.Reply.{Reply}

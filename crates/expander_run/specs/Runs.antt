@@ -14,8 +14,8 @@ use Rattle.expander_scope.specs.declared.refusal.Refusal.TheVariants.{Memory, To
 use Rattle.expander_session.specs.declared.session.Reply.{Reply}
 use Rattle.expander_session.specs.declared.session.Reply.TheVariants.{Read, Unread}
 use Rattle.expander_run.specs.declared.program.Status.{Status}
-use Rattle.expander_run.specs.declared.program.Stop.{Stop}
-use Rattle.expander_run.specs.declared.program.Stop.TheVariants.{NotUtf8, TooLong, ReadFailed, WriteFailed, Refused}
+use Rattle.expander_run.specs.declared.stop.Stop.{Stop}
+use Rattle.expander_run.specs.declared.stop.Stop.TheVariants.{NotUtf8, TooLong, ReadFailed, WriteFailed, Refused}
 
 -- all that a reader had left, where it tells its bytes
 abbrev pub IsAllOf : Option (List ℕ) → List ℕ → Type 0

@@ -9,8 +9,8 @@ use Rattle.expander_scope.specs.declared.refusal.Refusal.TheVariants.{Memory}
 use Rattle.expander_session.specs.Expanded.{Expanded}
 use Rattle.expander_session.specs.declared.session.Reply.{Reply}
 use Rattle.expander_session.specs.declared.session.Reply.TheVariants.{Read}
-use Rattle.expander_run.specs.declared.program.Stop.{Stop}
-use Rattle.expander_run.specs.declared.program.Stop.TheVariants.{TooLong, ReadFailed, Refused}
+use Rattle.expander_run.specs.declared.stop.Stop.{Stop}
+use Rattle.expander_run.specs.declared.stop.Stop.TheVariants.{TooLong, ReadFailed, Refused}
 
 -- why reading ends without all bytes, and whether the reader failed
 abbrev pub StopsReading : Stop → Option (List ℕ) → Bool → Type 0

@@ -3,4 +3,5 @@
 
 mod lines;
 pub mod program;
+mod stop;
 pub mod watched;

@@ -3,7 +3,7 @@ ghost use Rattle.std.specs.Prelude.{◌≡◌, ◌++◌, ℕ, ◌≤◌, ◌<◌
 ghost use Rattle.expander_run.specs.Lines.{column_at, fault_lines, fault_words, line, line_at, line_of, read_fault_words, report, stop_line, stop_words};
 ghost use Rattle.expander_run.specs.Spots.{IsSpot, next_spot};
 
-use crate::program::Stop;
+use crate::stop::Stop;
 use bridge::ReadFaultKind;
 use expander_model::fault::{Fault, FaultKind};
 use expander_scope::refusal::Refusal;

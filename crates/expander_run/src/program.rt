@@ -9,6 +9,7 @@ ghost use Rattle.expander_session.specs.TooMany.{NeedsTooMany};
 ghost use Rattle.expander_run.specs.Steps.{Puts, PutsReply, Replied, StopsEarly, StopsReading};
 
 use crate::lines::{report, stop_line};
+use crate::stop::Stop;
 use crate::watched::Watched;
 use expander_scope::refusal::Refusal;
 use expander_session::commands::{Answer, Command, replay};
@@ -22,21 +23,6 @@ use tt_data::Edition;
 /// The status that a program ends with.
 #[derive(Clone, Copy, Debug, PartialEq, Eq)]
 pub struct Status(pub u8);
-
-/// Why a run stops without an answer.
-#[derive(Clone, Copy)]
-pub(crate) enum Stop {
-    /// The input is no UTF-8.
-    NotUtf8,
-    /// The input has more than `u32::MAX` bytes.
-    TooLong,
-    /// The reader failed.
-    ReadFailed,
-    /// The writer failed.
-    WriteFailed,
-    /// There was no memory left, or there are too many tokens.
-    Refused(Refusal),
-}
 
 /// Reads a text to its end, expands it with `depth` levels by the small grammar, its words of edition 2024, writes and flushes what that prints, and tells its faults.
 ///

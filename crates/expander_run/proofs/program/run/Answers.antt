@@ -1,6 +1,6 @@
 use Rattle.std.proofs.Common.{Some}
 use Rattle.expander_run.proofs.RunLemmas.{runs_broken_off, runs_stopped}
-use Rattle.expander_run.specs.declared.program.Stop.TheVariants.{WriteFailed}
+use Rattle.expander_run.specs.declared.stop.Stop.TheVariants.{WriteFailed}
 use Rattle.expander_run.proofs.program.run.Goals as goal
 
 pub returns-in-Ok-clause-runs : goal.returns-in-Ok-clause-runs
