@@ -115,16 +115,16 @@ impl Cache {
         }
     }
 
-    /// Looks at what is cached of some pieces ahead, so that the processor waits for all of it together: whether to go on
-    /// with it. This decides nothing but speed.
-    pub(crate) fn look_ahead(&self, own: &Piece, goes_on: bool) -> bool
+    /// Looks at the memos that may be met next, where this piece is the first of a run of them, so that the processor
+    /// waits once for all that they have, and not at each. It tells whether there is a number of how much that is.
+    pub(crate) fn look_ahead(&self, own: &Piece) -> bool
         requires { AreSegments self.now.sources }
     {
         let Some(at) = own.met else {
-            return goes_on;
+            return true;
         };
-        if !goes_on || at % RUN != 0 {
-            return goes_on;
+        if at % RUN != 0 {
+            return true;
         }
         let end = at.saturating_add(RUN).min(self.links.len());
         let mut sum: usize = 0;

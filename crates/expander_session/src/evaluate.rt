@@ -517,6 +517,9 @@ fn evaluate_piece<G: FragmentGrammar>(
     ensures cause { (trees : List Forest) → HasNumbered memory.now.given memory.now.by_tree (trees_of memory.now) trees now.old.taken.numbers →
         result ≡ Err Refusal.Numbers → 2 ^ 32 ≤ memory.now.given + needed (trees_of memory.now) (trees ++ definition_trees (piece_at own.now ∷ [])) }
 {
+    if !memory.look_ahead(own) {
+        return Err(Refusal::Memory);
+    }
     let tree = own.tree.get();
     if memory.is_definition(own) {
         let held = memory.definition_at(own);
@@ -558,9 +561,7 @@ pub(crate) fn evaluate_pieces<G: FragmentGrammar>(
         bytes,
     };
     let mut now = nothing_yet(alloc, edition, memory, room)?;
-    let mut looks_ahead = true;
     for own in pieces {
-        looks_ahead = memory.look_ahead(own, looks_ahead);
         evaluate_piece(alloc, grammar, depth, memory, &mut now, own)?;
     }
     let Evaluation { taken, .. } = now;
