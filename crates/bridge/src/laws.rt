@@ -84,7 +84,7 @@ pub fn tokens_are_written()
 
 /// A spelling hangs on no place. That of a quote hangs on the next visible token, and no other on
 /// any token but its own. Visible brackets always have one.
-pub fn spelling_hangs_on_shapes()
+pub fn spelling_depends_on_shapes_alone()
     ensures places { (h : Span → Span) (s : Step) (more : List Step) → spelling (step_with h s) (map (step_with h) more) ≡ spelling s more }
     ensures next { (s t : Step) (more : List Step) → spelling s (t ∷ more) ≡ spelling s (t ∷ []) }
     ensures other { (s : Step) (more : List Step) → is_quote s ≡ false → spelling s more ≡ spelling s [] }
@@ -148,13 +148,13 @@ pub fn printed_text_reads_back()
 }
 
 /// What is printed does not hang on places.
-pub fn places_do_not_print()
+pub fn spans_do_not_print()
     ensures text { (h : Span → Span) (f : Forest) → (print_of (walk (map_spans h f))).text ≡ (print_of (walk f)).text }
     ensures left_out { (h : Span → Span) (f : Forest) → (print_of (walk (map_spans h f))).left_out ≡ (print_of (walk f)).left_out }
 {}
 
 /// A part has the places of all visible steps, in order: none of them is left out.
-pub fn parts_are_printed_whole()
+pub fn chunks_are_printed_whole()
     ensures { (part : ChunkState) (steps : List Step) → IsChunkOf part steps → part.tokens ≡ map step_span (visible steps) }
 {}
 

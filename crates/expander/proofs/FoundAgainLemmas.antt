@@ -15,7 +15,8 @@ use Rattle.expander_session.specs.Count.{Looked, expanded_count, found_piece, is
 use Rattle.expander_model.specs.Definitions.{Definition, definition_of, nearest}
 use Rattle.expander_session.specs.Expanded.{Expanded}
 use Rattle.expander_model.specs.Expansion.{World, Outcome, expansion}
-use Rattle.expander_model.specs.Held.{HasNumber, IsNumbered, Known, Met, Numbered, StandFromFirst, Tells, definition_trees, kept_after, kept_of, met_of, moved_on, nearest_met, numbered_scope, numbered_world, present_definition, resolve, resolve_definition, with_met}
+use Rattle.expander_model.specs.Held.{HasNumber, IsNumbered, Known, Met, Numbered, StandFromFirst, Tells, kept_after, kept_of, met_of, moved_on, nearest_met, numbered_scope, numbered_world, present_definition, resolve, resolve_definition, with_met}
+use Rattle.expander_model.specs.DefinitionTrees.{definition_trees}
 use Rattle.expander_session.specs.Laws.{FindsAsBefore, IsFoundAgain, definitions_after}
 use Rattle.expander_session.specs.Layered.{layers}
 use Rattle.expander_model.specs.Meaning.{Layers, meaning_from, member, members, members_after, with_definition}

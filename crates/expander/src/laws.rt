@@ -12,11 +12,13 @@ ghost use Rattle.expander_model.specs.Expansion.{World, expansion, followed_by, 
 ghost use Rattle.expander_session.specs.Expanded.{Expanded};
 ghost use Rattle.expander_model.specs.Faults.{comes_before, in_order};
 ghost use Rattle.expander.specs.FixedPoint.{IsFixedPoint, RepliesWith};
-ghost use Rattle.expander_model.specs.Held.{IsMet, Known, Met, TellsApart, definition_trees, kept_after, numbered_scope, numbered_world, present, trees_in};
+ghost use Rattle.expander_model.specs.Held.{IsMet, Known, Met, TellsApart, kept_after, numbered_scope, numbered_world, present};
+ghost use Rattle.expander_model.specs.DefinitionTrees.{definition_trees, trees_in};
 ghost use Rattle.expander_session.specs.Laws.{AreAllPlain, ExpandsNothing, Fails, FindsAsBefore, HasNoWord, IsEnded, IsParted, definitions_after, why_failed};
 ghost use Rattle.expander_session.specs.Layered.{layers};
 ghost use Rattle.expander_model.specs.Meaning.{Layers, ReadMeaning, faults_of, meaning, member_faults, members, members_after, output, output_of};
-ghost use Rattle.expander_scope.specs.Numbers.{AreEntries, Numbering, needed, number_in, number_of, tree_of, with_trees};
+ghost use Rattle.expander_scope.specs.Numbers.{AreEntries, Numbering, number_in, number_of, tree_of, with_trees};
+ghost use Rattle.expander_scope.specs.NewNumbers.{needed};
 ghost use Rattle.expander_model.specs.OtherPlaces.{CommutesWithMarker, definition_with};
 ghost use Rattle.expander.specs.PieceTokens.{AreWords, placed_tokens, written_in};
 ghost use Rattle.expander_model.specs.Pieces.{cut, pieces, put_together, relative, separated};
@@ -64,7 +66,7 @@ pub fn marks_taken_off()
 
 /// A list's marks begin with a call just where the list begins with one as it is met from the left: a name, `!` and a
 /// visible group, with its `$crate ::` where that stands before them.
-pub fn calls_are_met_from_the_left()
+pub fn calls_are_found_from_the_left()
     ensures { (f : Forest) → call_at f ≡ first_call (marked f) }
 {}
 
@@ -136,7 +138,7 @@ pub fn without_definitions_nothing_changes()
 {}
 
 /// Where no word of a text begins a definition, no piece of it is one.
-pub fn definitions_begin_with_their_words()
+pub fn definitions_begin_with_their_keywords()
     ensures { (f : Forest) → HasNoWord f → AreAllPlain (pieces f) }
 {}
 
@@ -149,7 +151,7 @@ pub fn quiet_texts_have_no_fault()
 /// A text of fewer than 2^31 bytes that was read has no fault where none of its names begins a definition: each of its
 /// tokens has a spelling: `short`. (In a longer one the escapes of a doc comment could make a literal that is too long for a
 /// text.) So it is of a text of fewer than 2^32 bytes once each `"` and `\` of it is escaped: `escaped_text`.
-pub fn no_fault_without_definition_words()
+pub fn no_fault_without_definition_keywords()
     ensures short { (grammar : Grammar) (edition : Edition) (depth : ℕ) (text : List ℕ) (f : Forest) (m : ReadMeaning) →
         IsUtf8 text → length text < 2 ^ 31 → text_reading text ≡ Ok f → HasNoWord f → meaning (layers grammar edition) depth text ≡ Ok m → m.faults ≡ [] }
     ensures escaped_text { (grammar : Grammar) (edition : Edition) (depth : ℕ) (text : List ℕ) (f : Forest) (m : ReadMeaning) →
@@ -161,7 +163,7 @@ pub fn no_fault_without_definition_words()
 
 /// What is printed of a text that has no fault prints itself: it can be read, none of its pieces is a definition, and with
 /// every grammar, edition and number of levels it means just the same bytes, without a fault.
-pub fn output_without_faults_prints_itself()
+pub fn faultless_output_is_a_fixed_point()
     ensures { (grammar : Grammar) (edition : Edition) (depth : ℕ) (text : List ℕ) (m : ReadMeaning) →
         meaning (layers grammar edition) depth text ≡ Ok m → m.faults ≡ [] → IsFixedPoint m.text }
 {
@@ -171,18 +173,18 @@ pub fn output_without_faults_prints_itself()
 
 /// What a reply without faults prints, as the text of another session with any grammar, edition and number of levels, has
 /// a reply that prints the same bytes, without a fault, whatever the two sessions held.
-pub fn replies_without_faults_print_themselves()
+pub fn faultless_replies_are_fixed_points()
     ensures { (grammar : Grammar) (edition : Edition) (depth : ℕ) (text : List ℕ) (earlier : Option (List Looked)) (e : Expanded) →
         IsReplyTo (layers grammar edition) depth text earlier (Read e) → e.faults ≡ [] →
         (others : Grammar) (later : Edition) (levels : ℕ) (held : Option (List Looked)) (reply : Reply) →
         IsReplyTo (layers others later) levels e.printed held reply → RepliesWith e.printed reply }
 {
-    output_without_faults_prints_itself();
+    faultless_output_is_a_fixed_point();
 }
 
 /// An expansion hangs on what its names find, and on nothing else of a scope: steps, faults and finds are the same under
 /// another scope that finds the same. Its finds are what its scope finds, so it is the same under the scope made of them.
-pub fn an_expansion_hangs_on_its_finds()
+pub fn expansions_depend_on_lookups_alone()
     ensures agreed { (world : World Definition) (scope others : List ℕ → Option Definition) (depth : ℕ) (outer : Option Span) (f : Forest) →
         FoundIn others (expansion world scope depth outer f).finds → expansion world others depth outer f ≡ expansion world scope depth outer f }
     ensures found { (world : World Definition) (scope : List ℕ → Option Definition) (depth : ℕ) (outer : Option Span) (f : Forest) →
@@ -193,7 +195,7 @@ pub fn an_expansion_hangs_on_its_finds()
 
 /// Where the places of a text change by a function that commutes with the marker of templates, a definition stays one, and
 /// an expansion gives the same steps, faults and finds at the changed places, and makes too many tokens where it did.
-pub fn expansions_at_other_places()
+pub fn expansions_at_other_spans()
     ensures definitions { (f : Span → Span) (piece : Forest) → definition_of (map_spans f piece) ≡ option_map (definition_with f) (definition_of piece) }
     ensures expansions { (grammar : Grammar) (edition : Edition) (f : Span → Span) → CommutesWithMarker f →
         (scope : List ℕ → Option Definition) (depth : ℕ) (outer : Option Span) (g : Forest) →
@@ -207,7 +209,7 @@ pub fn expansions_at_other_places()
 
 /// The members of a text that was read are its pieces in places of their own, each expanded there under numbered
 /// definitions, and then taken to the text: equal definitions have one number, and different ones different numbers.
-pub fn pieces_in_places_of_their_own()
+fn pieces_at_relative_spans()
     ensures { (grammar : Grammar) (edition : Edition) (depth : ℕ) (text : List ℕ) (f : Forest) (number_of : Forest → ℕ) →
         IsUtf8 text → text_reading text ≡ Ok f → TellsApart number_of (definition_trees (pieces f)) →
         members (layers grammar edition) depth f ≡ map present (kept_after (world grammar edition) depth number_of [] (pieces f)) }
@@ -222,7 +224,7 @@ pub fn pieces_in_places_of_their_own()
 
 /// A held piece with an equal tree, whose names find definitions of the numbers that they found, has the outcome that a new
 /// expansion has; and just then the count sees an equal piece. What is new may be held.
-pub fn held_pieces_are_what_is_new()
+fn valid_memos_are_new_expansions()
     ensures outcome { (world : World Definition) (depth : ℕ) (number_of : Forest → ℕ) (trees : List Forest) (before : List Met) (tree : Forest) (q : HeldPiece) →
         TellsApart number_of trees → All (IsMet (Known number_of trees)) before → IsHeld world depth (Known number_of trees) q →
         matches (numbered_scope before) tree q ≡ true → q.outcome ≡ expansion (numbered_world world) (numbered_scope before) depth None tree }
@@ -239,7 +241,7 @@ pub fn held_pieces_are_what_is_new()
 /// Over whatever is held rightly a text gives its members, with outcomes taken from held pieces that match: `taken`. As many
 /// pieces count as expanded as nothing held matches: `counted`. What is held afterwards is held rightly, and is what the
 /// count sees of the text: `held`, `looked`.
-pub fn a_text_over_what_is_held()
+fn a_text_over_its_cache()
     ensures taken { (grammar : Grammar) (edition : Edition) (depth : ℕ) (text : List ℕ) (f : Forest) (number_of : Forest → ℕ) (trees : List Forest) (held : List HeldPiece) →
         IsTurn (world grammar edition) depth text f number_of trees held →
         members (layers grammar edition) depth f ≡ map present (taken_after (world grammar edition) depth number_of held [] (pieces f)) }
@@ -282,7 +284,7 @@ pub fn a_second_reply_expands_nothing<G: FragmentGrammar>()
 
 /// A piece does not count as expanded where an earlier one has the same tree, and each name that is looked up in one of
 /// them is looked up in the other too and finds an equal definition there, or none in both.
-pub fn a_piece_that_finds_the_same_does_not_count()
+pub fn equal_lookups_are_cache_hits()
     ensures { (held ps : List Looked) (p q : Looked) → Contains held q → p.tree ≡ q.tree →
         finds_within p.finds q.finds ≡ true → finds_within q.finds p.finds ≡ true →
         expanded_count (Some held) (p ∷ ps) ≡ expanded_count (Some held) ps }
@@ -293,7 +295,7 @@ pub fn a_piece_that_finds_the_same_does_not_count()
 /// A piece does not count where its tree is that of a piece of an earlier text, and each name that was looked up in that one
 /// finds, among the definitions that now stand before it, an equal definition, or none as it did: `piece`. So those count
 /// that stand before it and behind it: `others`, and `replied` of a session that last read the earlier text.
-pub fn a_piece_that_finds_as_before_does_not_count()
+pub fn unchanged_lookups_are_cache_hits()
     ensures piece { (grammar : Grammar) (edition : Edition) (depth : ℕ) (text other : List ℕ) (f g p q : Forest) (ones twos more_ones more_twos : List Forest) →
         IsUtf8 text → IsUtf8 other → text_reading text ≡ Ok f → text_reading other ≡ Ok g →
         pieces f ≡ ones ++ p ∷ more_ones → pieces g ≡ twos ++ q ∷ more_twos → relative p ≡ relative q →
@@ -328,7 +330,7 @@ pub fn a_piece_that_finds_as_before_does_not_count()
 
 /// Where two texts begin with the same pieces in places of their own, as before a definition that is added, changed or
 /// removed, those of the one do not count against those of the other: `front`. All that counts is behind them: `behind`.
-pub fn pieces_before_a_change_do_not_count()
+pub fn pieces_before_a_change_are_cache_hits()
     ensures front { (grammar : Grammar) (edition : Edition) (depth : ℕ) (text other : List ℕ) (f g : Forest) (ones twos more_ones more_twos : List Forest) →
         IsUtf8 text → IsUtf8 other → text_reading text ≡ Ok f → text_reading other ≡ Ok g →
         pieces f ≡ ones ++ more_ones → pieces g ≡ twos ++ more_twos → map relative ones ≡ map relative twos →
@@ -351,7 +353,7 @@ pub fn pieces_before_a_change_do_not_count()
 
 /// Two texts with the same pieces in places of their own, which may differ in white space and comments between them: no
 /// piece of the one counts against those of the other, and a session that last read the one expands none for the other.
-pub fn the_same_pieces_are_not_expanded_again()
+pub fn equal_pieces_are_cache_hits()
     ensures counted { (grammar : Grammar) (edition : Edition) (depth : ℕ) (text other : List ℕ) (f g : Forest) →
         IsUtf8 text → IsUtf8 other → text_reading text ≡ Ok f → text_reading other ≡ Ok g → map relative (pieces f) ≡ map relative (pieces g) →
         expanded_count (Some (looked_of (members (layers grammar edition) depth f))) (looked_of (members (layers grammar edition) depth g)) ≡ 0 }
@@ -371,7 +373,7 @@ pub fn the_same_pieces_are_not_expanded_again()
 /// Each piece of a text, in places of its own, is what its tokens are read as by themselves, from its first to its last:
 /// `read`. So where the pieces of two texts are written in the same tokens, in order, the pieces are the same: `same`. Then
 /// no piece of the one counts against those of the other, and a session that last read the one expands none for the other.
-pub fn pieces_hang_on_their_tokens()
+pub fn pieces_depend_on_tokens_alone()
     ensures read { (text : List ℕ) (f : Forest) → IsUtf8 text → text_reading text ≡ Ok f →
         All (λ p. (k : Forest) × (reading (steps_of (written_in text p)) ≡ Ok k) × (relative p ≡ separated k)) (pieces f) }
     ensures same { (text other : List ℕ) (f g : Forest) →
@@ -388,7 +390,7 @@ pub fn pieces_hang_on_their_tokens()
 {
     bridge::laws::reading_is_a_relation();
     rustc_lexer::laws::token_lengths();
-    the_same_pieces_are_not_expanded_again();
+    equal_pieces_are_cache_hits();
 }
 
 /// White space and plain comments may change before, between and behind pieces. The tokens of a text that was read are those
@@ -396,7 +398,7 @@ pub fn pieces_hang_on_their_tokens()
 /// comments that are no doc comments: `own`. Any other text whose tokens are so of the same pieces is read too, and has the
 /// same pieces in places of their own: `read`. None of its pieces counts against those of the first text, and a session that
 /// last read the first expands none for it: `counted`, `replied`.
-pub fn blanks_between_pieces_count_nothing()
+pub fn trivia_between_pieces_is_free()
     ensures own { (text : List ℕ) (f : Forest) → IsUtf8 text → text_reading text ≡ Ok f → AreWords (map (written_in text) (pieces f)) (placed_tokens text) }
     ensures read { (text other : List ℕ) (f : Forest) → IsUtf8 text → text_reading text ≡ Ok f → AreWords (map (written_in text) (pieces f)) (placed_tokens other) →
         (g : Forest) × (text_reading other ≡ Ok g) × (map relative (pieces f) ≡ map relative (pieces g)) }
@@ -411,12 +413,12 @@ pub fn blanks_between_pieces_count_nothing()
     bridge::laws::parts_of_a_text();
     bridge::laws::parts_at_other_places();
     rustc_lexer::laws::token_lengths();
-    the_same_pieces_are_not_expanded_again();
+    equal_pieces_are_cache_hits();
 }
 
 /// A reply to a text of fewer than 2^31 bytes tells no fault where none of the text's names begins a definition: `short`.
 /// So it is of a text of fewer than 2^32 bytes once each `"` and `\` of it is escaped: `escaped_text`.
-pub fn replies_without_definition_words_tell_no_fault()
+pub fn replies_without_definition_keywords_have_no_fault()
     ensures short { (grammar : Grammar) (edition : Edition) (depth : ℕ) (text : List ℕ) (f : Forest) (earlier : Option (List Looked)) (e : Expanded) →
         IsUtf8 text → length text < 2 ^ 31 → text_reading text ≡ Ok f → HasNoWord f →
         IsReplyTo (layers grammar edition) depth text earlier (Read e) → e.faults ≡ [] }
@@ -424,7 +426,7 @@ pub fn replies_without_definition_words_tell_no_fault()
         IsUtf8 text → length (escaped text) < 2 ^ 32 → text_reading text ≡ Ok f → HasNoWord f →
         IsReplyTo (layers grammar edition) depth text earlier (Read e) → e.faults ≡ [] }
 {
-    no_fault_without_definition_words();
+    no_fault_without_definition_keywords();
 }
 
 /// The definitions of a text's members, in places of their own, are those of its pieces.
@@ -434,7 +436,7 @@ pub fn definitions_are_pieces()
 
 /// Numbers that are given in turn tell trees apart: each entry has its own number. Trees that get numbers are among the
 /// entries, those that had numbers keep them, and as many new ones are given as are needed.
-pub fn numbers_tell_trees_apart()
+fn ids_tell_trees_apart()
     ensures apart { (n : Numbering) → AreEntries n.given n.entries → TellsApart (number_of n.entries) (map tree_of n.entries) }
     ensures entries { (n : Numbering) (trees : List Forest) → AreEntries n.given n.entries → AreEntries (with_trees n trees).given (with_trees n trees).entries }
     ensures known { (n : Numbering) (trees : List Forest) → All (Contains (map tree_of (with_trees n trees).entries)) trees }
@@ -445,7 +447,7 @@ pub fn numbers_tell_trees_apart()
 }
 
 /// A session that has numbered no definition yet, as a new one, over a text of fewer than 2^32 bytes, never answers `Numbers`.
-pub fn a_first_answer_lacks_no_numbers<G: FragmentGrammar>()
+pub fn a_first_reply_lacks_no_ids<G: FragmentGrammar>()
     ensures { (s : State G) → IsUtf8 s.text → length s.text < 2 ^ 32 → s.given ≡ 0 → s.trees ≡ [] →
         HasCause (layers_of G.answer s) s Numbers → ⊥ }
 {
@@ -454,7 +456,7 @@ pub fn a_first_answer_lacks_no_numbers<G: FragmentGrammar>()
 
 /// From one text that was read to the next: where what is held is right by the numbers given so far, the next text stands
 /// over it rightly by its own numbers, of which those of its definitions are kept; by these what is held afterwards is right.
-pub fn what_is_held_stays_right()
+fn caches_stay_valid()
     ensures turn { (grammar : Grammar) (edition : Edition) (depth : ℕ) (n : Numbering) (held : List HeldPiece) (text : List ℕ) (f : Forest) →
         IsNext (world grammar edition) depth n held text f →
         IsTurn (world grammar edition) depth text f (number_of (numbering_of n f).entries) (map tree_of (numbering_of n f).entries) held }
@@ -482,7 +484,7 @@ pub fn faults_are_put_in_order()
 
 /// The present text decides. Where two lists of commands lead to one text, whatever came before, and both sessions then
 /// expand it and reply, the replies show the same: printed text, faults and origins, or the same fault of reading.
-pub fn the_text_decides()
+pub fn the_text_alone_decides()
     ensures { (layers : Layers) (depth : ℕ) (one two : List ℕ) (ones twos : List Command) (first second : List Answer) (reply other : Reply) →
         AreAnswers layers depth one [] (ones ++ Expand ∷ []) (first ++ Replied reply ∷ []) →
         AreAnswers layers depth two [] (twos ++ Expand ∷ []) (second ++ Replied other ∷ []) →

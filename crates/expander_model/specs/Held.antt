@@ -1,5 +1,5 @@
 -- A text's pieces in places of their own, and how these are places of the text.
-use Rattle.std.specs.Prelude.{◌≡◌, ℕ, ◌+◌, ◌≤◌, zero, suc, All, Contains, List, [], ◌∷◌, Option, Some, None, option_map, filter_map, find, if◌then◌else◌, nat_eq, is_some}
+use Rattle.std.specs.Prelude.{◌≡◌, ℕ, ◌+◌, ◌≤◌, zero, suc, All, Contains, List, [], ◌∷◌, Option, Some, None, option_map, find, if◌then◌else◌, nat_eq}
 use Rattle.tt_data.specs.Forest.{Forest, leaf, group, empty, map_spans}
 use Rattle.tt_data.specs.Spans.{span_of}
 use Rattle.tt_data.specs.declared.span.Span.{Span}
@@ -146,20 +146,6 @@ IsMet table m = IsNumbered table m.numbered
 -- the tree of a definition has its number
 abbrev pub HasNumber : (Forest → ℕ → Type 0) → (Forest → ℕ) → Forest → Type 0
 HasNumber table number_of p = (d : Definition) → definition_of (relative p) ≡ Some d → table (relative p) (number_of (relative p))
-
--- the trees of those pieces that are definitions, in places of their own
-abbrev pub definition_trees : List Forest → List Forest
-definition_trees [] = []
-definition_trees (p ∷ ps) = if is_some (definition_of (relative p)) then relative p ∷ definition_trees ps else definition_trees ps
-
--- the tree of a definition of a text, places counted from its first token
-abbrev pub defining_tree : Member → Option Forest
-defining_tree (plain piece outcome) = None
-defining_tree (defining d) = Some (relative d.piece)
-
--- those of all definitions of a text
-abbrev pub trees_in : List Member → List Forest
-trees_in ms = filter_map defining_tree ms
 
 -- numbers of trees, from 1 on: no two different trees have one number
 pub record TellsApart (number_of : Forest → ℕ) (trees : List Forest) : Type 0 where

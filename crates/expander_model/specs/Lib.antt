@@ -13,8 +13,9 @@ pub mod EqualTrees
 pub mod CallSteps
 pub mod Changes
 pub mod OtherPlaces
-pub mod Held
+pub mod DefinitionTrees
 -- what the functions inside the crate promise each other
+pub mod Held
 pub mod HashedTrees
 pub mod Splitting
 pub mod WalkSteps

@@ -15,7 +15,7 @@ ghost use Rattle.expander_reparse.specs.declared.parse.Parsed.TheVariants.{Piece
 use crate::piece::{Piece, PieceTree};
 use crate::resync::{Resync, seek_cached};
 use crate::segment::{CachedPiece, Lookahead, Segments, TokenRun, ahead_at};
-use crate::segment_builder::{Reparse, behind, take_segment};
+use crate::segment_builder::{ReadingContext, Reparse, behind, take_segment};
 use crate::shared_bytes::{ByteStore, SharedBytes};
 use bridge::{NameCache, Read, begins_with_mark, read_part};
 use expander_model::boundary::piece_end;
@@ -127,16 +127,15 @@ fn source_of(
 
 // The first piece of these tokens, read by itself.
 fn read_source(
-    alloc: Global,
+    context: &ReadingContext<'_>,
     names: &mut NameCache,
-    words: &ByteStore,
     text: &str,
     at: u32,
     tokens: &[Token],
 ) -> Result<Option<Rc<CachedPiece>>, TtFault>
     requires small { length text.now < 2 ^ 32 }
     requires tokens { AreTokensFrom text.now at tokens.now }
-    requires words { HoldsText words.now text.now }
+    requires words { HoldsText context.now.words text.now }
     ensures found { IfOk result (λ found. IfSome found (λ q. IsCachedHere (drop at text.now) tokens.now (rc_value q))) }
     ensures memory { IsOkUnless result fault.Memory }
 {
@@ -144,6 +143,7 @@ fn read_source(
     bridge::laws::parts_at_other_places();
     bridge::laws::equal_parts();
     laws::first_tokens();
+    let alloc = context.alloc;
     let Some(count) = piece_end(tokens) else {
         return Ok(None);
     };
@@ -161,7 +161,7 @@ fn read_source(
     let Some((Shape::Whole, tree)) = read_piece(alloc, names, text, at, tokens, count)? else {
         return Ok(None);
     };
-    let bytes = words.word(alloc, at as usize, word)?;
+    let bytes = context.words.word(alloc, at as usize, word)?;
     let source = source_of(alloc, bytes, ahead, count, after, tree)?;
     Ok(Some(source))
 }
@@ -217,10 +217,8 @@ fn words_of(alloc: Global, text: &str, held: &Segments) -> Result<ByteStore, All
 
 // The piece that stands first, held or read, and its number where it is held.
 fn next_source(
-    alloc: Global,
+    context: &ReadingContext<'_>,
     names: &mut NameCache,
-    words: &ByteStore,
-    held: &Segments,
     seeker: &mut Resync,
     text: &str,
     at: u32,
@@ -228,17 +226,19 @@ fn next_source(
 ) -> Result<Option<(Rc<CachedPiece>, Option<usize>)>, TtFault>
     requires small { length text.now < 2 ^ 32 }
     requires tokens { AreTokensFrom text.now at tokens.now }
-    requires words { HoldsText words.now text.now }
-    requires right { AreSegments held.now }
-    ensures found { IfOk result (λ found. IfSome found (λ p. IsCachedHere (drop at text.now) tokens.now (rc_value p.0))) }
-    ensures met { IfOk result (λ found. IfSome found (λ p. IsMet held.now p.1 (rc_value (rc_value p.0).tree))) }
+    requires words { HoldsText context.now.words text.now }
+    requires right { AreSegments context.now.held.now }
+    ensures found { IfOk result (λ found. IfSome found
+        (λ p. IsCachedHere (drop at text.now) tokens.now (rc_value p.0))) }
+    ensures met { IfOk result (λ found. IfSome found
+        (λ p. IsMet context.now.held.now p.1 (rc_value (rc_value p.0).tree))) }
     ensures memory { IsOkUnless result fault.Memory }
 {
     let rest = &text[at as usize..];
-    if let Some((i, source)) = seek_cached(held, seeker, rest, tokens)? {
+    if let Some((i, source)) = seek_cached(context.held, seeker, rest, tokens)? {
         return Ok(Some((source, Some(i))));
     }
-    match read_source(alloc, names, words, text, at, tokens)? {
+    match read_source(context, names, text, at, tokens)? {
         Some(source) => Ok(Some((source, None))),
         None => Ok(None),
     }
@@ -246,22 +246,21 @@ fn next_source(
 
 // The next token or piece is passed: how many bytes and tokens it has.
 fn pass_one(
-    alloc: Global,
+    context: &ReadingContext<'_>,
     names: &mut NameCache,
-    words: &ByteStore,
-    held: &Segments,
     now: &mut Reparse,
     text: &str,
     at: u32,
     left: &[Token],
 ) -> Result<Option<(usize, usize)>, TtFault>
     requires small { length text.now < 2 ^ 32 }
-    requires words { HoldsText words.now text.now }
-    requires right { AreSegments held.now }
-    requires passing { IsReparse held.now text.now at left.now now.old }
-    ensures passing { IfOk result (λ size. IfSome size (λ n. IsReparse held.now text.now (at + n.0) (drop n.1 left.now) now.new)) }
+    requires words { HoldsText context.now.words text.now }
+    requires right { AreSegments context.now.held.now }
+    requires passing { IsReparse context.now.held.now text.now at left.now now.old }
+    ensures passing { IfOk result (λ size. IfSome size
+        (λ n. IsReparse context.now.held.now text.now (at + n.0) (drop n.1 left.now) now.new)) }
     ensures shorter { IfOk result (λ size. IfSome size (λ n. length (drop n.1 left.now) < length left.now)) }
-    ensures none { IfOk result (λ size. size ≡ None → IsReparse held.now text.now at left.now now.new) }
+    ensures none { IfOk result (λ size. size ≡ None → IsReparse context.now.held.now text.now at left.now now.new) }
     ensures memory { IsOkUnless result fault.Memory }
 {
     bridge::laws::reading_behind();
@@ -273,7 +272,7 @@ fn pass_one(
         return Ok(Some((token.len as usize, 1)));
     }
     let seeker = &mut now.seeker;
-    let Some((source, met)) = next_source(alloc, names, words, held, seeker, text, at, left)? else {
+    let Some((source, met)) = next_source(context, names, seeker, text, at, left)? else {
         return Ok(None);
     };
     let bytes = source.as_ref().cutout.bytes.len();
@@ -284,43 +283,41 @@ fn pass_one(
 
 // The next segment, piece or token is passed: how many bytes and tokens it has.
 fn pass_next(
-    alloc: Global,
+    context: &ReadingContext<'_>,
     names: &mut NameCache,
-    words: &ByteStore,
-    held: &Segments,
     now: &mut Reparse,
     text: &str,
     at: u32,
     left: &[Token],
 ) -> Result<Option<(usize, usize)>, TtFault>
     requires small { length text.now < 2 ^ 32 }
-    requires words { HoldsText words.now text.now }
-    requires right { AreSegments held.now }
-    requires passing { IsReparse held.now text.now at left.now now.old }
-    ensures passing { IfOk result (λ size. IfSome size (λ n. IsReparse held.now text.now (at + n.0) (drop n.1 left.now) now.new)) }
+    requires words { HoldsText context.now.words text.now }
+    requires right { AreSegments context.now.held.now }
+    requires passing { IsReparse context.now.held.now text.now at left.now now.old }
+    ensures passing { IfOk result (λ size. IfSome size
+        (λ n. IsReparse context.now.held.now text.now (at + n.0) (drop n.1 left.now) now.new)) }
     ensures shorter { IfOk result (λ size. IfSome size (λ n. length (drop n.1 left.now) < length left.now)) }
-    ensures none { IfOk result (λ size. size ≡ None → IsReparse held.now text.now at left.now now.new) }
+    ensures none { IfOk result (λ size. size ≡ None → IsReparse context.now.held.now text.now at left.now now.new) }
     ensures memory { IsOkUnless result fault.Memory }
 {
-    if let Some(size) = take_segment(alloc, words, held, now, text, at, left)? {
+    if let Some(size) = take_segment(context, now, text, at, left)? {
         return Ok(Some(size));
     }
-    now.end_long(alloc, words, text, at, left)?;
-    pass_one(alloc, names, words, held, now, text, at, left)
+    now.end_long(context.alloc, &context.words, text, at, left)?;
+    pass_one(context, names, now, text, at, left)
 }
 
 // The pieces of a text whose last one, which nothing ends, is left, and what is held of them: the last one is not.
 fn with_last(
-    alloc: Global,
+    context: &ReadingContext<'_>,
     names: &mut NameCache,
-    words: &ByteStore,
     mut now: Reparse,
     text: &str,
     at: u32,
     left: &[Token],
 ) -> Result<Option<(Vec<Piece>, Segments)>, TtFault>
     requires small { length text.now < 2 ^ 32 }
-    requires words { HoldsText words.now text.now }
+    requires words { HoldsText context.now.words text.now }
     requires passing { (held : Segments) × IsReparse held text.now at left.now now }
     ensures read { IfOk result (λ read. IfSome read (λ p. IsReadInPieces text.now (Pieces p.0 p.1))) }
     ensures theirs { IfOk result (λ read. IfSome read (λ p. AreTheirs p.1 p.0.items)) }
@@ -330,10 +327,11 @@ fn with_last(
     bridge::laws::parts_of_a_text();
     bridge::laws::parts_at_other_places();
     bridge::laws::reading_is_a_relation();
+    let alloc = context.alloc;
     let Some(last) = read_last(alloc, names, text, at, left)? else {
         return Ok(None);
     };
-    now.end(alloc, words, text, at, left)?;
+    now.end(alloc, &context.words, text, at, left)?;
     let Reparse { mut own, list, .. } = now;
     if let Err(e) = own.push(last) {
         return Err(AllocError::from(e).into());
@@ -359,15 +357,13 @@ pub(crate) fn read_by_pieces(
     laws::tokens_begin();
     let mut names = NameCache::new(alloc);
     let words = words_of(alloc, text, held)?;
+    let context = ReadingContext { alloc, held, words };
     let mut now = Reparse::new(alloc, held, tokens)?;
     let mut at: u32 = 0;
     let mut left = tokens;
     while !left.is_empty() {
-        let Some((len, count)) = pass_next(
-            alloc, &mut names, &words, held, &mut now, text, at, left,
-        )?
-        else {
-            return with_last(alloc, &mut names, &words, now, text, at, left);
+        let Some((len, count)) = pass_next(&context, &mut names, &mut now, text, at, left)? else {
+            return with_last(&context, &mut names, now, text, at, left);
         };
         let Some((end, after)) = behind(left, at, len, count) else {
             return Ok(None);
@@ -375,7 +371,7 @@ pub(crate) fn read_by_pieces(
         at = end;
         left = after;
     }
-    now.end(alloc, &words, text, at, left)?;
+    now.end(alloc, &context.words, text, at, left)?;
     let Reparse { own, list, .. } = now;
     Ok(Some((own, Segments { list })))
 }

@@ -22,6 +22,14 @@ use std::rc::Rc;
 // How many pieces are held as one segment, if they were read one by one.
 const MOST: usize = 64;
 
+/// What a text is read by: what is cached of the last one, and where the bytes of its pieces are kept.
+#[derive(Drop)]
+pub(crate) struct ReadingContext<'a> {
+    pub alloc: Global,
+    pub held: &'a Segments,
+    pub words: ByteStore,
+}
+
 /// A segment that is begun.
 #[derive(Drop)]
 pub(crate) struct OpenSegment {
@@ -255,25 +263,25 @@ impl Reparse {
 
 /// The held segment that may be next is passed, where it stands at this place: how many bytes and tokens it has.
 pub(crate) fn take_segment(
-    alloc: Global,
-    words: &ByteStore,
-    held: &Segments,
+    context: &ReadingContext<'_>,
     now: &mut Reparse,
     text: &str,
     at: u32,
     left: &[Token],
 ) -> Result<Option<(usize, usize)>, AllocError>
     requires small { length text.now < 2 ^ 32 }
-    requires words { HoldsText words.now text.now }
-    requires right { AreSegments held.now }
-    requires passing { IsReparse held.now text.now at left.now now.old }
-    ensures passing { IfOk result (λ size. IfSome size (λ n. IsReparse held.now text.now (at + n.0) (drop n.1 left.now) now.new)) }
+    requires words { HoldsText context.now.words text.now }
+    requires right { AreSegments context.now.held.now }
+    requires passing { IsReparse context.now.held.now text.now at left.now now.old }
+    ensures passing { IfOk result (λ size. IfSome size
+        (λ n. IsReparse context.now.held.now text.now (at + n.0) (drop n.1 left.now) now.new)) }
     ensures shorter { IfOk result (λ size. IfSome size (λ n. length (drop n.1 left.now) < length left.now)) }
-    ensures none { IfOk result (λ size. size ≡ None → IsReparse held.now text.now at left.now now.new) }
+    ensures none { IfOk result (λ size. size ≡ None → IsReparse context.now.held.now text.now at left.now now.new) }
 {
     laws::next_token();
     bridge::laws::reading_behind();
-    let Some(next) = held.begins(now.seeker.next) else {
+    let (alloc, words) = (context.alloc, &context.words);
+    let Some(next) = context.held.begins(now.seeker.next) else {
         return Ok(None);
     };
     let cutout = &next.segment.as_ref().cutout;

@@ -4,7 +4,7 @@ use Rattle.std.specs.List.{list_any}
 use Rattle.tt_data.specs.Forest.{Forest}
 use Rattle.expander_model.specs.EqualTrees.{same_forest}
 use Rattle.expander_model.specs.Definitions.{or_else}
-use Rattle.expander_scope.specs.Numbers.{needed}
+use Rattle.expander_scope.specs.NewNumbers.{needed}
 
 -- numbers of trees: they are from 1 to those given, and no two trees have one
 pub record AreNumbers (given : ℕ) (numbers : Forest → Option ℕ) : Type 0 where

@@ -8,7 +8,11 @@ use Rattle.expander_model.specs.declared.fault.FaultKind.{FaultKind}
 use Rattle.expander_model.specs.declared.fault.FaultKind.TheVariants.{CannotExpand, BrokenDefinition, RecursionLimit}
 use Rattle.expander_model.specs.Calls.{marked}
 use Rattle.expander_model.specs.Expansion.{World, Outcome, Deeper, followed_by, search_calls, expansion}
-use Rattle.expander_model.specs.Held.{Numbered}
+use Rattle.expander_model.specs.Held.{Numbered, numbered_world}
+use Rattle.expander_model.specs.World.{world}
+use Rattle.mbe.specs.Grammar.{Grammar}
+use Rattle.expander_scope.specs.ScopeTable.{scope_in}
+use Rattle.expander_scope.specs.declared.scope.Scope as table
 use Rattle.expander_scope.specs.Outcomes.{find_of, placed_of}
 
 -- what a definition that isn't broken says to a call, by what it gives for the argument
@@ -35,6 +39,10 @@ module _ (world : World Numbered) where
   abbrev pub makes_too_many : Numbered → ℕ → Forest → Bool
   makes_too_many d zero argument = false
   makes_too_many d (suc n) argument = not (world.broken d) && world.bursts d argument
+
+-- the expansion of what is left of a list by this grammar, under the definitions in the table
+abbrev pub searched_under : Grammar → table.Scope → ℕ → Option Span → Forest → Outcome Numbered
+searched_under grammar s depth outer f = searched (numbered_world (world grammar s.edition)) (scope_in s) depth outer f
 
 -- the trees of a result
 abbrev pub trees_of : Result Top FaultKind → Result Forest FaultKind

@@ -1,13 +1,7 @@
 -- Numbers of definitions: equal trees have one number, which is kept from one text that was read to the next.
 use Rattle.std.specs.Prelude.{◌≢◌, ℕ, ◌+◌, ◌≤◌, All, List, [], ◌∷◌, Option, Some, None, if◌then◌else◌, unwrap_or}
-use Rattle.std.specs.List.{list_any}
 use Rattle.tt_data.specs.Forest.{Forest}
 use Rattle.expander_model.specs.EqualTrees.{same_forest}
-
--- how many of the trees need a new number where these have one: equal ones share it
-abbrev pub needed : List Forest → List Forest → ℕ
-needed known [] = 0
-needed known (t ∷ more) = if list_any (same_forest t) known then needed known more else (1 + needed (t ∷ known) more)
 
 -- a tree and its number
 pub record Entry : Type 0 where

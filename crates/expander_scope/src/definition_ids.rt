@@ -8,7 +8,7 @@ ghost use Rattle.expander_scope.specs.Editions.{IsRead};
 ghost use Rattle.expander_scope.specs.Interning.{definition_tops};
 ghost use Rattle.expander_scope.specs.DefinitionTexts.{HasNumbered};
 ghost use Rattle.expander_scope.specs.DefinitionIds.{HaveNumbers};
-ghost use Rattle.expander_scope.specs.Numbers.{needed};
+ghost use Rattle.expander_scope.specs.NewNumbers.{needed};
 
 use crate::interner::Interner;
 use crate::macro_def::MacroDef;

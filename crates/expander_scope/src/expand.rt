@@ -1,5 +1,5 @@
 //! Expands a tree with piece-relative spans: finds its calls from left to right, and searches what each gives.
-ghost use Rattle.std.specs.Prelude.{◌≡◌, ◌<◌, ℕ, ◌++◌, ◌∷◌, [], List, map, true, IfOk, OnOk, Option, None, Err, option_map};
+ghost use Rattle.std.specs.Prelude.{◌≡◌, ◌-◌, ◌<◌, ℕ, ◌++◌, ◌∷◌, [], List, map, true, IfOk, OnOk, Option, None, Err, option_map};
 ghost use Rattle.mbe.specs.Bursts as made_by;
 ghost use Rattle.mbe.specs.Macros.{rules_of};
 ghost use Rattle.mbe.specs.Markers.{is_name};
@@ -10,11 +10,11 @@ ghost use Rattle.expander_model.specs.CallSteps.{call_at};
 ghost use Rattle.expander_model.specs.Expansion.{World, just, placed};
 ghost use Rattle.expander_scope.specs.Editions.{IsRead};
 ghost use Rattle.expander_model.specs.Held.{Numbered, numbered_world};
-ghost use Rattle.expander_scope.specs.ScopeTable.{AreRead, expanded_under, scope_in};
+ghost use Rattle.expander_scope.specs.ScopeTable.{AreRead, expanded_under};
 ghost use Rattle.tt_data.specs.declared.edition.Edition.{Edition};
 ghost use Rattle.tt_data.specs.declared.span.Span.{Span};
 ghost use Rattle.expander_scope.specs.Outcomes.{find_of, numbered_of_known, parts_for, parts_of};
-ghost use Rattle.expander_scope.specs.Expanding.{Adds, Turn, answer, makes_too_many, searched, trees_of};
+ghost use Rattle.expander_scope.specs.Expanding.{Adds, Turn, answer, makes_too_many, searched, searched_under, trees_of};
 ghost use Rattle.expander_model.specs.World.{fit_of, made, world};
 
 use crate::macro_def::MacroDef;
@@ -28,6 +28,31 @@ use std::alloc::{AllocError, Global};
 use std::rc::Rc;
 use tt::{TopSubtree, TtIter};
 use tt_data::{Delimiter, Span, Symbol, SyntaxContext, TtFault};
+
+/// What a tree is expanded under: what its fragments are, what its names stand for, and how many levels of calls are
+/// expanded.
+#[derive(Drop)]
+pub struct Environment<'a, G> {
+    pub alloc: Global,
+    pub grammar: &'a G,
+    pub scope: &'a Scope,
+    pub depth: u8,
+}
+
+impl<'a, G> Environment<'a, G> {
+    // The same with a level less.
+    fn deeper(&self) -> Environment<'a, G>
+        requires { 0 < self.now.depth }
+        ensures { result ≡ record self.now { depth = self.now.depth - 1 } }
+    {
+        Environment {
+            alloc: self.alloc,
+            grammar: self.grammar,
+            scope: self.scope,
+            depth: self.depth - 1,
+        }
+    }
+}
 
 /// What a search has given so far.
 #[derive(Drop)]
@@ -118,26 +143,26 @@ fn fit<G: FragmentGrammar>(
 
 // What comes in the place of a call of the definition, or the fault for which the call stays.
 fn answer<G: FragmentGrammar>(
-    alloc: Global,
-    grammar: &G,
+    env: &Environment<'_, G>,
     known: &MacroDef,
-    depth: u8,
     argument: &TtIter<'_>,
     place: Span,
 ) -> Result<Result<TopSubtree, FaultKind>, TtFault>
     ensures given { (edition : Edition) → IsRead edition known.now → IfOk result (λ given. trees_of given
-        ≡ answer (numbered_world (world (G.answer grammar.now) edition)) (numbered_of_known known.now) depth argument.now) }
-    ensures deep { IfOk result (λ given. OnOk given (0 < depth)) }
+        ≡ answer (numbered_world (world (G.answer env.now.grammar.now) edition))
+        (numbered_of_known known.now) env.now.depth argument.now) }
+    ensures deep { IfOk result (λ given. OnOk given (0 < env.now.depth)) }
     ensures tokens { (edition : Edition) → IsRead edition known.now → result ≡ Err TtFault.Tokens →
-        makes_too_many (numbered_world (world (G.answer grammar.now) edition)) (numbered_of_known known.now) depth argument.now ≡ true }
+        makes_too_many (numbered_world (world (G.answer env.now.grammar.now) edition))
+        (numbered_of_known known.now) env.now.depth argument.now ≡ true }
 {
     if known.rules.err().is_some() {
         return Ok(Err(FaultKind::BrokenDefinition));
     }
-    if depth == 0 {
+    if env.depth == 0 {
         return Ok(Err(FaultKind::RecursionLimit));
     }
-    let result = fit(alloc, grammar, &known.rules, argument, place)?;
+    let result = fit(env.alloc, env.grammar, &known.rules, argument, place)?;
     Ok(result.ok_or(FaultKind::CannotExpand))
 }
 
@@ -146,37 +171,35 @@ fn answer<G: FragmentGrammar>(
 // the group, so that the search goes on inside.
 #[cycle(searching)]
 fn expand_call<'a, G: FragmentGrammar>(
-    alloc: Global,
-    grammar: &G,
-    scope: &Scope,
-    depth: u8,
+    env: &Environment<'_, G>,
     outer: Option<Span>,
     out: &mut Expanding,
     trees: &mut TtIter<'a>,
     call: Call<'a>,
 ) -> Result<(), TtFault>
     requires call { call_at trees.old ≡ Some call }
-    requires read { AreRead scope.now }
-    ensures turn { OnOk result (Turn (searched (numbered_world (world (G.answer grammar.now) scope.now.edition)) (scope_in scope.now) depth outer) out.old out.new trees.old trees.new) }
+    requires read { AreRead env.now.scope.now }
+    ensures turn { OnOk result (Turn (searched_under (G.answer env.now.grammar.now) env.now.scope.now env.now.depth outer)
+        out.old out.new trees.old trees.new) }
     ensures tokens { result ≡ Err TtFault.Tokens →
-        (searched (numbered_world (world (G.answer grammar.now) scope.now.edition)) (scope_in scope.now) depth outer trees.old).bursts ≡ true }
+        (searched_under (G.answer env.now.grammar.now) env.now.scope.now env.now.depth outer trees.old).bursts ≡ true }
 {
-    let Some(known) = scope.find(&call.name.sym) else {
+    let Some(known) = env.scope.find(&call.name.sym) else {
         push_find(&mut out.finds, &call.name.sym, None)?;
-        keep(alloc, outer, out, trees, call.from_group)?;
+        keep(env.alloc, outer, out, trees, call.from_group)?;
         return Ok(());
     };
     push_find(&mut out.finds, &call.name.sym, Some(known))?;
     let at = outer.unwrap_or(call.name.span);
-    match answer(alloc, grammar, known.as_ref(), depth, &call.argument, at)? {
+    match answer(env, known.as_ref(), &call.argument, at)? {
         Ok(result) => {
             *trees = call.rest;
             let inside = result.token_trees().iter();
-            search(alloc, grammar, scope, depth - 1, Some(at), out, &inside)
+            search(&env.deeper(), Some(at), out, &inside)
         }
         Err(kind) => {
             push_told(&mut out.faults, kind, at)?;
-            keep(alloc, outer, out, trees, call.rest)?;
+            keep(env.alloc, outer, out, trees, call.rest)?;
             Ok(())
         }
     }
@@ -186,34 +209,23 @@ fn expand_call<'a, G: FragmentGrammar>(
 // the name of the call around, or at none.
 #[cycle(searching)]
 fn search<G: FragmentGrammar>(
-    alloc: Global,
-    grammar: &G,
-    scope: &Scope,
-    depth: u8,
+    env: &Environment<'_, G>,
     outer: Option<Span>,
     out: &mut Expanding,
     trees: &TtIter<'_>,
 ) -> Result<(), TtFault>
-    requires { AreRead scope.now }
-    ensures adds { OnOk result (Adds out.old out.new (searched (numbered_world (world (G.answer grammar.now) scope.now.edition)) (scope_in scope.now) depth outer trees.now)) }
+    requires { AreRead env.now.scope.now }
+    ensures adds { OnOk result (Adds out.old out.new
+        (searched_under (G.answer env.now.grammar.now) env.now.scope.now env.now.depth outer trees.now)) }
     ensures tokens { result ≡ Err TtFault.Tokens →
-        (searched (numbered_world (world (G.answer grammar.now) scope.now.edition)) (scope_in scope.now) depth outer trees.now).bursts ≡ true }
+        (searched_under (G.answer env.now.grammar.now) env.now.scope.now env.now.depth outer trees.now).bursts ≡ true }
 {
-    let mut walk = TreeWalk::new(alloc, trees);
+    let mut walk = TreeWalk::new(env.alloc, trees);
     'turns: loop {
         if let Some(call) = call_at(&walk.here) {
-            expand_call(
-                alloc,
-                grammar,
-                scope,
-                depth,
-                outer,
-                out,
-                &mut walk.here,
-                call,
-            )?;
+            expand_call(env, outer, out, &mut walk.here, call)?;
         } else if let Some(call) = call_behind_colons(&walk.here) {
-            keep(alloc, outer, out, &mut walk.here, call.from_group)?;
+            keep(env.alloc, outer, out, &mut walk.here, call.from_group)?;
         } else if let Some(step) = walk.next()? {
             push_own_step(&mut out.steps, &step, outer)?;
         } else {
@@ -252,20 +264,18 @@ fn unchanged(alloc: Global) -> Outcome
     }
 }
 
-/// Expands a tree under the definitions of a scope, with so many levels of calls.
+/// Expands a tree under an environment.
 pub fn expand_piece<G: FragmentGrammar>(
-    alloc: Global,
-    grammar: &G,
-    scope: &Scope,
-    depth: u8,
+    env: &Environment<'_, G>,
     tree: &TopSubtree,
 ) -> Result<Outcome, TtFault>
-    requires { AreRead scope.now }
-    ensures outcome { IfOk result (λ o. parts_for tree.now.inner o
-        ≡ parts_of (expanded_under (G.answer grammar.now) scope.now depth tree.now.inner)) }
+    requires { AreRead env.now.scope.now }
+    ensures outcome { IfOk result (λ o. parts_for tree.now.inner o ≡ parts_of
+        (expanded_under (G.answer env.now.grammar.now) env.now.scope.now env.now.depth tree.now.inner)) }
     ensures tokens { result ≡ Err TtFault.Tokens →
-        (expanded_under (G.answer grammar.now) scope.now depth tree.now.inner).bursts ≡ true }
+        (expanded_under (G.answer env.now.grammar.now) env.now.scope.now env.now.depth tree.now.inner).bursts ≡ true }
 {
+    let alloc = env.alloc;
     let quiet = is_quiet(alloc, &tree.iter())?;
     if quiet {
         return Ok(unchanged(alloc));
@@ -277,7 +287,7 @@ pub fn expand_piece<G: FragmentGrammar>(
         faults: Vec::new(alloc),
         finds: Vec::new(alloc),
     };
-    search(alloc, grammar, scope, depth, None, &mut out, &tree.iter())?;
+    search(env, None, &mut out, &tree.iter())?;
     let Expanding {
         steps,
         faults,

@@ -77,11 +77,8 @@ impl MacroDef {
         })
     }
 
-    /// How long the name is, and the number.
+    /// How many bytes its name has.
     pub fn size(&self) -> usize {
-        self.name
-            .as_str()
-            .len()
-            .saturating_add(self.number as usize)
+        self.name.as_str().len()
     }
 }

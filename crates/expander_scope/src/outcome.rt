@@ -37,11 +37,11 @@ pub struct NameLookup {
 }
 
 impl NameLookup {
-    /// How long the name is, and the number of what it finds.
+    /// How many bytes the name has, and that of what it finds.
     pub fn size(&self) -> usize {
         let name = self.name.as_str().len();
         match &self.known {
-            Some(known) => name.saturating_add(known.as_ref().number as usize),
+            Some(known) => name.saturating_add(known.as_ref().size()),
             None => name,
         }
     }

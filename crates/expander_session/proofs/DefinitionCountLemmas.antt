@@ -22,10 +22,10 @@ use Rattle.tt_data.specs.declared.leaf.LitKind.{LitKind}
 use Rattle.expander_model.specs.EqualTrees.{same_forest}
 use Rattle.expander_model.specs.Definitions.{Definition, definition_of}
 use Rattle.expander_model.specs.Faults.{is_definition_word}
-use Rattle.expander_model.specs.Held.{trees_in}
+use Rattle.expander_model.specs.DefinitionTrees.{trees_in}
 use Rattle.expander_session.specs.Layered.{layers}
 use Rattle.expander_model.specs.Meaning.{Layers, meaning, meaning_from, member, members, members_after, with_definition}
-use Rattle.expander_scope.specs.Numbers.{needed}
+use Rattle.expander_scope.specs.NewNumbers.{needed}
 use Rattle.expander_model.specs.Pieces.{pieces, put_together, separated}
 use Rattle.expander_session.specs.Replies.{HasCause, NeedsNumbers, definitions_in}
 use Rattle.expander_session.specs.State.{State, layers_of}

@@ -10,7 +10,8 @@ use Rattle.tt_data.specs.declared.edition.Edition.{Edition}
 use Rattle.expander_session.specs.Count.{expanded_count, looked_of}
 use Rattle.expander_model.specs.EqualTrees.{same_forest}
 use Rattle.expander_model.specs.Definitions.{Definition, definition_of, or_else}
-use Rattle.expander_model.specs.Held.{HasNumber, IsMet, Kept, StandFromFirst, Tells, definition_trees, kept_after, present}
+use Rattle.expander_model.specs.Held.{HasNumber, IsMet, Kept, StandFromFirst, Tells, kept_after, present}
+use Rattle.expander_model.specs.DefinitionTrees.{definition_trees}
 use Rattle.expander_session.specs.Layered.{layers}
 use Rattle.expander_model.specs.Meaning.{Member, members}
 use Rattle.expander_scope.specs.DefinitionIds.{AreNumbered, AreNumbers, HaveNumbers, by_either, number_by, numbered_by}

@@ -7,7 +7,8 @@ use Rattle.mbe.specs.Grammar.{Grammar}
 use Rattle.tt_data.specs.Forest.{Forest}
 use Rattle.tt_data.specs.declared.edition.Edition.{Edition}
 use Rattle.expander_model.specs.Definitions.{definition_of}
-use Rattle.expander_model.specs.Held.{HasNumber, IsMet, Known, Tells, TellsApart, definition_trees, kept_after, present}
+use Rattle.expander_model.specs.Held.{HasNumber, IsMet, Known, Tells, TellsApart, kept_after, present}
+use Rattle.expander_model.specs.DefinitionTrees.{definition_trees}
 use Rattle.expander_session.specs.Layered.{layers}
 use Rattle.expander_model.specs.Meaning.{members}
 use Rattle.expander_model.specs.Pieces.{pieces, relative}

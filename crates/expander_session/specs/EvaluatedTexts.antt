@@ -6,7 +6,8 @@ use Rattle.tt_data.specs.Forest.{Forest}
 use Rattle.tt_data.specs.declared.edition.Edition.{Edition}
 use Rattle.expander_scope.specs.Interning.{numbers_in}
 use Rattle.expander_session.specs.Expanded.{Expanded}
-use Rattle.expander_model.specs.Held.{Kept, definition_trees, kept_after, present}
+use Rattle.expander_model.specs.Held.{Kept, kept_after, present}
+use Rattle.expander_model.specs.DefinitionTrees.{definition_trees}
 use Rattle.expander_session.specs.Layered.{layers}
 use Rattle.expander_model.specs.Meaning.{meaning_of}
 use Rattle.expander_session.specs.Caches.{IsCache, piece_of, trees_of}

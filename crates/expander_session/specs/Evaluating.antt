@@ -8,7 +8,8 @@ use Rattle.tt_data.specs.declared.edition.Edition.{Edition}
 use Rattle.expander_scope.specs.Interning.{AllRead, IsTable, definition_tops, numbers_in}
 use Rattle.expander_model.specs.Definitions.{Definition, definition_of}
 use Rattle.expander_model.specs.Expansion.{World, expansion}
-use Rattle.expander_model.specs.Held.{IsMet, Kept, Met, definition_trees, kept_of, numbered_world, present, with_met}
+use Rattle.expander_model.specs.Held.{IsMet, Kept, Met, kept_of, numbered_world, present, with_met}
+use Rattle.expander_model.specs.DefinitionTrees.{definition_trees}
 use Rattle.expander_session.specs.Layered.{layers}
 use Rattle.expander_session.specs.MemoRefs.{LeadTo, plain_tops}
 use Rattle.expander_model.specs.Meaning.{Layers, member_faults, output_of}
@@ -16,7 +17,7 @@ use Rattle.expander_session.specs.Caches.{IsRight, piece_of, trees_of}
 use Rattle.expander_scope.specs.ScopeTable.{AreRead, HasMet, scope_in}
 use Rattle.expander_scope.specs.DefinitionTexts.{HasNumbered}
 use Rattle.expander_scope.specs.DefinitionIds.{number_by, numbered_by}
-use Rattle.expander_scope.specs.Numbers.{needed}
+use Rattle.expander_scope.specs.NewNumbers.{needed}
 use Rattle.expander_session.specs.Emitting.{HasOutput}
 use Rattle.expander_model.specs.Pieces.{relative}
 use Rattle.expander_session.specs.Memos.{AreHashes}

@@ -10,9 +10,9 @@ pub mod Replies
 pub mod Answers
 pub mod Laws
 pub mod Agreement
+-- what the functions inside the crate promise each other
 pub mod Reuse
 pub mod TextTurn
--- what the functions inside the crate promise each other
 pub mod TreeIndexes
 pub mod AbsoluteSpans
 pub mod Memos

@@ -8,9 +8,9 @@ use Rattle.expander_session.specs.declared.session.Reply.{Reply}
 use Rattle.expander_session.specs.declared.session.Reply.TheVariants.{Read, Unread}
 use Rattle.expander_session.specs.Count.{Looked, expanded_count, looked_of}
 use Rattle.expander_session.specs.Expanded.{Expanded, origin_of}
-use Rattle.expander_model.specs.Held.{trees_in}
+use Rattle.expander_model.specs.DefinitionTrees.{trees_in}
 use Rattle.expander_model.specs.Meaning.{Layers, ReadMeaning, meaning}
-use Rattle.expander_scope.specs.Numbers.{needed}
+use Rattle.expander_scope.specs.NewNumbers.{needed}
 use Rattle.expander_session.specs.State.{State}
 use Rattle.expander_session.specs.TooMany.{NeedsTooMany}
 

@@ -5,7 +5,8 @@ use Rattle.bridge.specs.TokenSteps.{text_reading}
 use Rattle.tt_data.specs.Forest.{Forest}
 use Rattle.expander_model.specs.Definitions.{Definition, definition_of}
 use Rattle.expander_model.specs.Expansion.{Outcome, World, expansion}
-use Rattle.expander_model.specs.Held.{IsMet, Kept, Known, Met, Numbered, StandFromFirst, TellsApart, definition_trees, kept, met, met_of, numbered_scope, numbered_world, with_met}
+use Rattle.expander_model.specs.Held.{IsMet, Kept, Known, Met, Numbered, StandFromFirst, TellsApart, kept, met, met_of, numbered_scope, numbered_world, with_met}
+use Rattle.expander_model.specs.DefinitionTrees.{definition_trees}
 use Rattle.expander_model.specs.EqualTrees.{same_forest}
 use Rattle.expander_scope.specs.Numbers.{AreEntries, Entry, Numbering, number_of, tree_of, with_trees}
 use Rattle.expander_model.specs.Pieces.{first_start, pieces, relative}

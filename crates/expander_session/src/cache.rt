@@ -115,26 +115,24 @@ impl Cache {
         }
     }
 
-    /// Looks at the memos that may be met next, where this piece is the first of a run of them, so that the processor
-    /// waits once for all that they have, and not at each. It tells whether there is a number of how much that is.
-    pub(crate) fn look_ahead(&self, own: &Piece) -> bool
+    /// About how much the memos print that may be met next, where this piece is the first of a run of them, and else 0.
+    /// They are looked at together, so that the processor waits once for all that they have, and not at each: it decides
+    /// speed, and nothing else.
+    pub(crate) fn look_ahead(&self, own: &Piece) -> usize
         requires { AreSegments self.now.sources }
     {
         let Some(at) = own.met else {
-            return true;
+            return 0;
         };
         if at % RUN != 0 {
-            return true;
+            return 0;
         }
         let end = at.saturating_add(RUN).min(self.links.len());
         let mut sum: usize = 0;
         for i in at..end {
-            let Some(more) = sum.checked_add(self.size_at(i)) else {
-                return false;
-            };
-            sum = more;
+            sum = sum.saturating_add(self.size_at(i));
         }
-        true
+        sum
     }
 
     // How much there is of the held piece of this number.

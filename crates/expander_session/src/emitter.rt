@@ -48,6 +48,13 @@ pub(crate) fn no_steps(alloc: Global, bytes: usize, parts: usize) -> Result<Emit
     })
 }
 
+/// Makes room for so many bytes more of text.
+pub(crate) fn reserve(steps: &mut Emitter, bytes: usize) -> Result<(), AllocError>
+    ensures { steps.new ≡ steps.old }
+{
+    steps.printer.reserve(bytes)
+}
+
 /// Adds one step.
 pub(crate) fn push_step(
     steps: &mut Emitter,
@@ -128,8 +135,8 @@ pub(crate) fn emit_chunk(
 ) -> Result<bool, AllocError>
     ensures { IfOk result (PutsChunk steps.old steps.new part.now spans.now words.now) }
 {
-    laws::parts_are_printed_whole();
-    laws::spelling_hangs_on_shapes();
+    laws::chunks_are_printed_whole();
+    laws::spelling_depends_on_shapes_alone();
     let Some(count) = steps.count.checked_add(part.spans().len()) else {
         return Err(AllocError);
     };
@@ -154,8 +161,8 @@ pub(crate) fn emit_chunk_at(
 ) -> Result<bool, AllocError>
     ensures { IfOk result (PutsChunk steps.old steps.new part.now (map (shifted shift) part.now.tokens) words.now) }
 {
-    laws::parts_are_printed_whole();
-    laws::spelling_hangs_on_shapes();
+    laws::chunks_are_printed_whole();
+    laws::spelling_depends_on_shapes_alone();
     let Some(count) = steps.count.checked_add(part.spans().len()) else {
         return Err(AllocError);
     };

@@ -12,7 +12,8 @@ ghost use Rattle.tt_data.specs.fault.TtFault.TheVariants as as_fault;
 ghost use Rattle.expander_scope.specs.Interning.{known_in, numbers_in};
 ghost use Rattle.expander_model.specs.HashedTrees.{own_top, tree_hash};
 ghost use Rattle.expander_model.specs.Definitions.{definition_of};
-ghost use Rattle.expander_model.specs.Held.{IsMet, Met, definition_trees, kept_after, numbered_scope};
+ghost use Rattle.expander_model.specs.Held.{IsMet, Met, kept_after, numbered_scope};
+ghost use Rattle.expander_model.specs.DefinitionTrees.{definition_trees};
 ghost use Rattle.expander_session.specs.CachedOutputs.{Holds};
 ghost use Rattle.expander_session.specs.Layered.{layers};
 ghost use Rattle.expander_session.specs.MemoRefs.{plain_tops};
@@ -21,7 +22,7 @@ ghost use Rattle.expander_session.specs.Caches.{IsCache, piece_of, trees_of};
 ghost use Rattle.expander_scope.specs.ScopeTable.{AreRead, HasMet, expanded_under, scope_in};
 ghost use Rattle.expander_scope.specs.DefinitionTexts.{HasNumbered};
 ghost use Rattle.expander_scope.specs.DefinitionIds.{AreNumbers, HaveNumbers, number_by, numbered_by};
-ghost use Rattle.expander_scope.specs.Numbers.{needed};
+ghost use Rattle.expander_scope.specs.NewNumbers.{needed};
 ghost use Rattle.expander_model.specs.OtherPlaces.{LooksAtNoPlace};
 ghost use Rattle.expander_scope.specs.Outcomes.{parts_of};
 ghost use Rattle.expander_session.specs.Emitting.{PutsOut};
@@ -40,7 +41,7 @@ ghost use Rattle.expander_model.specs.World.{world};
 use crate::absolute_spans::{emit_cached, emit_events, put_faults, tell_if_broken};
 use crate::cache::Cache;
 use crate::cached_output::{CachedOutput, output_to_cache};
-use crate::emitter::{Emitter, no_steps, takes_chunks};
+use crate::emitter::{Emitter, no_steps, reserve, takes_chunks};
 use crate::memo::{Memo, MemoIndex, find_valid};
 use crate::memo_ref::MemoRef;
 use expander_model::fault::Fault;
@@ -48,7 +49,7 @@ use expander_model::hashed_tree::HashedTree;
 use expander_model::laws;
 use expander_reparse::piece::Piece;
 use expander_scope::definition_ids::{DefinitionIds, number};
-use expander_scope::expand::expand_piece;
+use expander_scope::expand::{Environment, expand_piece};
 use expander_scope::interner::Interner;
 use expander_scope::macro_def::MacroDef;
 use expander_scope::outcome::Outcome;
@@ -70,27 +71,35 @@ fn shared(alloc: Global, plain: Memo) -> Result<Rc<Memo>, TtFault>
     }
 }
 
+/// What the pieces of a text are evaluated by: a grammar, how many levels of calls are expanded, and what is cached of the
+/// last text that was read.
+#[derive(Drop)]
+pub(crate) struct EvaluationContext<'a, G> {
+    pub alloc: Global,
+    pub grammar: &'a G,
+    pub depth: u8,
+    pub memory: &'a Cache,
+}
+
 // A tree, expanded, and what it prints held as a part where that is wanted.
 fn expanded<G: FragmentGrammar>(
-    alloc: Global,
-    grammar: &G,
-    scope: &Scope,
-    depth: u8,
+    env: &Environment<'_, G>,
     tree: Rc<HashedTree>,
     as_part: bool,
 ) -> Result<Rc<Memo>, TtFault>
-    requires { AreRead scope.now }
+    requires { AreRead env.now.scope.now }
     ensures tree { IfOk result (λ q. tree_of q.value ≡ tree.value) }
-    ensures holds { IfOk result (λ q. Holds q.value
-        (parts_of (expanded_under (G.answer grammar.now) scope.now depth tree.value.inner))) }
+    ensures holds { IfOk result (λ q. Holds q.value (parts_of
+        (expanded_under (G.answer env.now.grammar.now) env.now.scope.now env.now.depth tree.value.inner))) }
     ensures tokens { result ≡ Err TtFault.Tokens →
-        (expanded_under (G.answer grammar.now) scope.now depth tree.value.inner).bursts ≡ true }
+        (expanded_under (G.answer env.now.grammar.now) env.now.scope.now env.now.depth tree.value.inner).bursts ≡ true }
 {
+    let alloc = env.alloc;
     let Outcome {
         steps,
         faults,
         finds,
-    } = expand_piece(alloc, grammar, scope, depth, tree.as_ref().tree())?;
+    } = expand_piece(env, tree.as_ref().tree())?;
     let output = output_to_cache(alloc, tree.as_ref().tree(), steps, as_part)?;
     let plain = Memo {
         tree,
@@ -104,46 +113,46 @@ fn expanded<G: FragmentGrammar>(
 /// A tree with its outcome: a held piece that matches, with its place, or else the tree is expanded, and what it prints
 /// held as a part where that is wanted. The tree's hash comes with either.
 pub(crate) fn evaluate_tree<G: FragmentGrammar>(
-    alloc: Global,
-    grammar: &G,
-    scope: &Scope,
-    depth: u8,
+    env: &Environment<'_, G>,
     memory: &Cache,
     lookup: &mut MemoIndex,
     link: Option<usize>,
     tree: &Rc<HashedTree>,
     as_part: bool,
 ) -> Result<(Rc<Memo>, Option<usize>, u64), TtFault>
-    requires read { AreRead scope.now }
+    requires read { AreRead env.now.scope.now }
     requires lookup { Finds lookup.old memory.now.plains.items }
     requires link { IfSome link (λ i. slice_get (plain_tops memory.now.plains.items) i ≡ Some tree.now.value) }
     requires top { tree.now.value.delimiter ≡ text_top }
-    requires right { IsCache (world (G.answer grammar.now) scope.now.edition) depth scope.now.edition memory.now }
+    requires right { IsCache (world (G.answer env.now.grammar.now) env.now.scope.now.edition)
+        env.now.depth env.now.scope.now.edition memory.now }
     ensures lookup { OnOk result (Finds lookup.new memory.now.plains.items) }
     ensures tree { IfOk result (λ r. tree_of r.0.value ≡ tree.now.value) }
     ensures hash { IfOk result (λ r. r.2 ≡ tree_hash tree.now.value) }
     ensures holds { (given : ℕ) (numbers : Forest → Option ℕ) (before : List Met) → AreNumbers given numbers →
         ((t : Forest) (n : ℕ) → numbers_in memory.now.by_tree t ≡ Some n → numbers t ≡ Some n) →
-        scope_in scope.now ≡ numbered_scope before → All (IsMet (numbered_by numbers)) before →
-        IfOk result (λ r. Holds r.0.value
-        (parts_of (expanded_under (G.answer grammar.now) scope.now depth tree.now.value.inner))) }
-    ensures counted { IfOk result (λ r. is_some r.1 ≡ list_any (matches (scope_in scope.now) tree.now.value.inner)
-        (map (λ q. piece_of (world (G.answer grammar.now) scope.now.edition) depth (rc_value q)) memory.now.plains.items)) }
+        scope_in env.now.scope.now ≡ numbered_scope before → All (IsMet (numbered_by numbers)) before →
+        IfOk result (λ r. Holds r.0.value (parts_of
+        (expanded_under (G.answer env.now.grammar.now) env.now.scope.now env.now.depth tree.now.value.inner))) }
+    ensures counted { IfOk result (λ r. is_some r.1
+        ≡ list_any (matches (scope_in env.now.scope.now) tree.now.value.inner) (map
+        (λ q. piece_of (world (G.answer env.now.grammar.now) env.now.scope.now.edition) env.now.depth (rc_value q))
+        memory.now.plains.items)) }
     ensures tokens { result ≡ Err TtFault.Tokens →
-        (expanded_under (G.answer grammar.now) scope.now depth tree.now.value.inner).bursts ≡ true }
+        (expanded_under (G.answer env.now.grammar.now) env.now.scope.now env.now.depth tree.now.value.inner).bursts ≡ true }
 {
     laws::equal_pieces();
     tt::laws::equal_trees();
     let held = memory.plains.as_slice();
     let hashes = memory.hashes.as_slice();
-    let found = find_valid(alloc, scope, held, hashes, lookup, link, tree)?;
+    let found = find_valid(env.scope, held, hashes, lookup, link, tree)?;
     match found {
         Some(i) => {
             let plain = held[i].clone()?;
             Ok((plain, Some(i), hashes[i]))
         }
         None => {
-            let plain = expanded(alloc, grammar, scope, depth, tree.clone()?, as_part)?;
+            let plain = expanded(env, tree.clone()?, as_part)?;
             Ok((plain, None, tree.as_ref().kept_hash()))
         }
     }
@@ -243,7 +252,7 @@ fn nothing_yet(
     Ok(Evaluation {
         scope,
         taken,
-        lookup: MemoIndex::new(),
+        lookup: MemoIndex::new(alloc),
     })
 }
 
@@ -298,26 +307,24 @@ fn evaluate_definition(
 
 // A tree is expanded once more, since its steps are not kept. These are put out, and held.
 fn emit_anew<G: FragmentGrammar>(
-    alloc: Global,
-    grammar: &G,
-    scope: &Scope,
-    depth: u8,
+    env: &Environment<'_, G>,
     steps: &mut Emitter,
     start: u32,
     tree: Rc<HashedTree>,
 ) -> Result<Rc<Memo>, TtFault>
-    requires { AreRead scope.now }
-    ensures steps { OnOk result (PutsOut steps.old steps.new (resolved_steps start scope.now.starts
-        (expanded_under (G.answer grammar.now) scope.now depth tree.value.inner).steps)) }
+    requires { AreRead env.now.scope.now }
+    ensures steps { OnOk result (PutsOut steps.old steps.new (resolved_steps start env.now.scope.now.starts
+        (expanded_under (G.answer env.now.grammar.now) env.now.scope.now env.now.depth tree.value.inner).steps)) }
     ensures tree { IfOk result (λ q. tree_of q.value ≡ tree.value) }
-    ensures holds { IfOk result (λ q. Holds q.value
-        (parts_of (expanded_under (G.answer grammar.now) scope.now depth tree.value.inner))) }
+    ensures holds { IfOk result (λ q. Holds q.value (parts_of
+        (expanded_under (G.answer env.now.grammar.now) env.now.scope.now env.now.depth tree.value.inner))) }
     ensures tokens { result ≡ Err TtFault.Tokens →
-        (expanded_under (G.answer grammar.now) scope.now depth tree.value.inner).bursts ≡ true }
+        (expanded_under (G.answer env.now.grammar.now) env.now.scope.now env.now.depth tree.value.inner).bursts ≡ true }
 {
+    let alloc = env.alloc;
     let own = tree.as_ref().tree();
-    let outcome = expand_piece(alloc, grammar, scope, depth, own)?;
-    emit_events(alloc, steps, start, &scope.starts, own, &outcome.steps)?;
+    let outcome = expand_piece(env, own)?;
+    emit_events(alloc, steps, start, &env.scope.starts, own, &outcome.steps)?;
     let plain = Memo {
         tree,
         output: CachedOutput::Steps(outcome.steps),
@@ -331,41 +338,34 @@ fn emit_anew<G: FragmentGrammar>(
 // What a piece prints is put out, and what is to be held of it answered: the same, or the same with its steps, where what it
 // prints by itself can't be put here at once.
 fn emit_output<G: FragmentGrammar>(
-    alloc: Global,
-    grammar: &G,
-    scope: &Scope,
-    depth: u8,
+    env: &Environment<'_, G>,
     steps: &mut Emitter,
     start: u32,
     plain: Rc<Memo>,
 ) -> Result<Rc<Memo>, TtFault>
-    requires { AreRead scope.now }
-    ensures steps { Holds plain.value (parts_of (expanded_under (G.answer grammar.now) scope.now depth (tree_of plain.value).inner)) →
-        OnOk result (PutsOut steps.old steps.new (resolved_steps start scope.now.starts
-        (expanded_under (G.answer grammar.now) scope.now depth (tree_of plain.value).inner).steps)) }
+    requires { AreRead env.now.scope.now }
+    ensures steps { let given = expanded_under (G.answer env.now.grammar.now) env.now.scope.now env.now.depth
+        (tree_of plain.value).inner in Holds plain.value (parts_of given) →
+        OnOk result (PutsOut steps.old steps.new (resolved_steps start env.now.scope.now.starts given.steps)) }
     ensures tree { IfOk result (λ q. tree_of q.value ≡ tree_of plain.value) }
-    ensures holds { Holds plain.value (parts_of (expanded_under (G.answer grammar.now) scope.now depth (tree_of plain.value).inner)) →
-        IfOk result (λ q. Holds q.value (parts_of (expanded_under (G.answer grammar.now) scope.now depth (tree_of plain.value).inner))) }
-    ensures tokens { result ≡ Err TtFault.Tokens →
-        (expanded_under (G.answer grammar.now) scope.now depth (tree_of plain.value).inner).bursts ≡ true }
+    ensures holds { let given = expanded_under (G.answer env.now.grammar.now) env.now.scope.now env.now.depth
+        (tree_of plain.value).inner in Holds plain.value (parts_of given) →
+        IfOk result (λ q. Holds q.value (parts_of given)) }
+    ensures tokens { result ≡ Err TtFault.Tokens → (expanded_under (G.answer env.now.grammar.now) env.now.scope.now
+        env.now.depth (tree_of plain.value).inner).bursts ≡ true }
 {
+    let (alloc, starts) = (env.alloc, &env.scope.starts);
     let Memo { tree, output, .. } = plain.as_ref();
     match output {
         CachedOutput::Part(part) => {
-            if emit_cached(alloc, steps, start, &scope.starts, part)? {
+            if emit_cached(alloc, steps, start, starts, part)? {
                 return Ok(plain);
             }
-            emit_anew(alloc, grammar, scope, depth, steps, start, tree.clone()?)
+            emit_anew(env, steps, start, tree.clone()?)
         }
         CachedOutput::Steps(own) => {
-            emit_events(
-                alloc,
-                steps,
-                start,
-                &scope.starts,
-                tree.as_ref().tree(),
-                own,
-            )?;
+            let tree = tree.as_ref().tree();
+            emit_events(alloc, steps, start, starts, tree, own)?;
             Ok(plain)
         }
     }
@@ -373,33 +373,28 @@ fn emit_output<G: FragmentGrammar>(
 
 // A piece with what its expansion gives is put out, and what is to be held of it is answered.
 fn emit_plain<G: FragmentGrammar>(
-    alloc: Global,
-    grammar: &G,
-    scope: &Scope,
-    depth: u8,
+    env: &Environment<'_, G>,
     steps: &mut Emitter,
     faults: &mut Vec<Fault>,
     start: u32,
     plain: Rc<Memo>,
 ) -> Result<Rc<Memo>, TtFault>
-    requires { AreRead scope.now }
-    ensures steps { Holds plain.value (parts_of (expanded_under (G.answer grammar.now) scope.now depth (tree_of plain.value).inner)) →
-        OnOk result (PutsOut steps.old steps.new (resolved_steps start scope.now.starts
-        (expanded_under (G.answer grammar.now) scope.now depth (tree_of plain.value).inner).steps)) }
-    ensures faults { IfOk result (λ q. faults.new.items ≡ faults.old.items ++ resolved_faults start scope.now.starts q.value.faults.items) }
+    requires { AreRead env.now.scope.now }
+    ensures steps { let given = expanded_under (G.answer env.now.grammar.now) env.now.scope.now env.now.depth
+        (tree_of plain.value).inner in Holds plain.value (parts_of given) →
+        OnOk result (PutsOut steps.old steps.new (resolved_steps start env.now.scope.now.starts given.steps)) }
+    ensures faults { IfOk result (λ q. faults.new.items
+        ≡ faults.old.items ++ resolved_faults start env.now.scope.now.starts q.value.faults.items) }
     ensures tree { IfOk result (λ q. tree_of q.value ≡ tree_of plain.value) }
-    ensures holds { Holds plain.value (parts_of (expanded_under (G.answer grammar.now) scope.now depth (tree_of plain.value).inner)) →
-        IfOk result (λ q. Holds q.value (parts_of (expanded_under (G.answer grammar.now) scope.now depth (tree_of plain.value).inner))) }
-    ensures tokens { result ≡ Err TtFault.Tokens →
-        (expanded_under (G.answer grammar.now) scope.now depth (tree_of plain.value).inner).bursts ≡ true }
+    ensures holds { let given = expanded_under (G.answer env.now.grammar.now) env.now.scope.now env.now.depth
+        (tree_of plain.value).inner in Holds plain.value (parts_of given) →
+        IfOk result (λ q. Holds q.value (parts_of given)) }
+    ensures tokens { result ≡ Err TtFault.Tokens → (expanded_under (G.answer env.now.grammar.now) env.now.scope.now
+        env.now.depth (tree_of plain.value).inner).bursts ≡ true }
 {
-    let plain = emit_output(alloc, grammar, scope, depth, steps, start, plain)?;
-    put_faults(
-        faults,
-        start,
-        &scope.starts,
-        plain.as_ref().faults.as_slice(),
-    )?;
+    let plain = emit_output(env, steps, start, plain)?;
+    let told = plain.as_ref().faults.as_slice();
+    put_faults(faults, start, &env.scope.starts, told)?;
     Ok(plain)
 }
 
@@ -436,10 +431,7 @@ fn count(now: &mut Evaluation, at: Option<usize>)
 
 // A plain piece is expanded where no held one matches, put out, and held.
 fn evaluate_plain<G: FragmentGrammar>(
-    alloc: Global,
-    grammar: &G,
-    depth: u8,
-    memory: &Cache,
+    context: &EvaluationContext<'_, G>,
     now: &mut Evaluation,
     start: u32,
     tree: &Rc<HashedTree>,
@@ -448,38 +440,35 @@ fn evaluate_plain<G: FragmentGrammar>(
     requires plain { is_some (definition_of tree.now.value.inner) ≡ false }
     requires top { tree.now.value.delimiter ≡ text_top }
     requires read { AreRead now.old.scope }
-    requires lookup { Finds now.old.lookup memory.now.plains.items }
-    requires link { IfSome link (λ i. slice_get (plain_tops memory.now.plains.items) i ≡ Some tree.now.value) }
-    requires right { IsCache (world (G.answer grammar.now) now.old.scope.edition) depth now.old.scope.edition memory.now }
+    requires lookup { Finds now.old.lookup context.now.memory.now.plains.items }
+    requires link { IfSome link (λ i. slice_get (plain_tops context.now.memory.now.plains.items) i ≡ Some tree.now.value) }
+    requires right { IsCache (world (G.answer context.now.grammar.now) now.old.scope.edition)
+        context.now.depth now.old.scope.edition context.now.memory.now }
     requires room { now.old.taken.expanded + 1 < 2 ^ 64 }
     ensures taken { (piece : Forest) → start ≡ first_start piece → tree.now.value ≡ own_top (relative piece) →
-        OnOk result (Evaluates (G.answer grammar.now) now.old.scope.edition depth memory.now piece now.old now.new) }
-    ensures links { (trees : List Top) → AreLinks now.old.taken trees → OnOk result (AreLinks now.new.taken (trees ++ tree.now.value ∷ [])) }
+        OnOk result (Evaluates (G.answer context.now.grammar.now) now.old.scope.edition
+        context.now.depth context.now.memory.now piece now.old now.new) }
+    ensures links { (trees : List Top) → AreLinks now.old.taken trees →
+        OnOk result (AreLinks now.new.taken (trees ++ tree.now.value ∷ [])) }
     ensures numbers { OnOk result (now.new.taken.numbers ≡ now.old.taken.numbers) }
     ensures edition { OnOk result (now.new.scope.edition ≡ now.old.scope.edition) }
-    ensures lookup { OnOk result (Finds now.new.lookup memory.now.plains.items) }
+    ensures lookup { OnOk result (Finds now.new.lookup context.now.memory.now.plains.items) }
     ensures expanded { OnOk result (now.new.taken.expanded ≤ now.old.taken.expanded + 1) }
-    ensures tokens { result ≡ Err TtFault.Tokens →
-        (expanded_under (G.answer grammar.now) now.old.scope depth tree.now.value.inner).bursts ≡ true }
+    ensures tokens { result ≡ Err TtFault.Tokens → (expanded_under (G.answer context.now.grammar.now) now.old.scope
+        context.now.depth tree.now.value.inner).bursts ≡ true }
 {
     laws::equal_pieces();
-    let scope = &now.scope;
-    let lookup = &mut now.lookup;
-    let as_part = takes_chunks(&now.taken.steps);
-    let (found, at, hash) = evaluate_tree(
-        alloc, grammar, scope, depth, memory, lookup, link, tree, as_part,
-    )?;
+    let env = Environment {
+        alloc: context.alloc,
+        grammar: context.grammar,
+        scope: &now.scope,
+        depth: context.depth,
+    };
     let taken = &mut now.taken;
-    let plain = emit_plain(
-        alloc,
-        grammar,
-        scope,
-        depth,
-        &mut taken.steps,
-        &mut taken.faults,
-        start,
-        found,
-    )?;
+    let as_part = takes_chunks(&taken.steps);
+    let lookup = &mut now.lookup;
+    let (found, at, hash) = evaluate_tree(&env, context.memory, lookup, link, tree, as_part)?;
+    let plain = emit_plain(&env, &mut taken.steps, &mut taken.faults, start, found)?;
     hold(
         &mut taken.plains,
         &mut taken.hashes,
@@ -493,62 +482,64 @@ fn evaluate_plain<G: FragmentGrammar>(
 
 // The next piece is taken: a definition is met, a plain one is put out and held.
 fn evaluate_piece<G: FragmentGrammar>(
-    alloc: Global,
-    grammar: &G,
-    depth: u8,
-    memory: &Cache,
+    context: &EvaluationContext<'_, G>,
     now: &mut Evaluation,
     own: &Piece,
 ) -> Result<(), Refusal>
-    requires right { IsCache (world (G.answer grammar.now) now.old.scope.edition) depth now.old.scope.edition memory.now }
-    requires can { CanDefine memory.now now.old }
-    requires places { LooksAtNoPlace (world (G.answer grammar.now) now.old.scope.edition) }
+    requires right { IsCache (world (G.answer context.now.grammar.now) now.old.scope.edition)
+        context.now.depth now.old.scope.edition context.now.memory.now }
+    requires can { CanDefine context.now.memory.now now.old }
+    requires places { LooksAtNoPlace (world (G.answer context.now.grammar.now) now.old.scope.edition) }
     requires room { now.old.taken.expanded + 1 < 2 ^ 64 }
-    requires lookup { Finds now.old.lookup memory.now.plains.items }
+    requires lookup { Finds now.old.lookup context.now.memory.now.plains.items }
     requires own { IsOwn (piece_at own.now) own.now }
-    requires met { IsMetIn memory.now.sources own.now.met (tree_at own.now) }
-    ensures taken { OnOk result (Evaluates (G.answer grammar.now) now.old.scope.edition depth memory.now (piece_at own.now) now.old now.new) }
-    ensures links { (trees : List Top) → AreLinks now.old.taken trees → OnOk result (AreLinks now.new.taken (trees ++ tree_at own.now ∷ [])) }
+    requires met { IsMetIn context.now.memory.now.sources own.now.met (tree_at own.now) }
+    ensures taken { OnOk result (Evaluates (G.answer context.now.grammar.now) now.old.scope.edition
+        context.now.depth context.now.memory.now (piece_at own.now) now.old now.new) }
+    ensures links { (trees : List Top) → AreLinks now.old.taken trees →
+        OnOk result (AreLinks now.new.taken (trees ++ tree_at own.now ∷ [])) }
     ensures grows { OnOk result (Grows now.old.taken now.new.taken) }
     ensures edition { OnOk result (now.new.scope.edition ≡ now.old.scope.edition) }
-    ensures lookup { OnOk result (Finds now.new.lookup memory.now.plains.items) }
+    ensures lookup { OnOk result (Finds now.new.lookup context.now.memory.now.plains.items) }
     ensures expanded { OnOk result (now.new.taken.expanded ≤ now.old.taken.expanded + 1) }
-    ensures tokens { result ≡ Err Refusal.Tokens → MakesTooMany (G.answer grammar.now) now.old.scope.edition depth (piece_at own.now) now.old }
-    ensures cause { (trees : List Forest) → HasNumbered memory.now.given memory.now.by_tree (trees_of memory.now) trees now.old.taken.numbers →
-        result ≡ Err Refusal.Numbers → 2 ^ 32 ≤ memory.now.given + needed (trees_of memory.now) (trees ++ definition_trees (piece_at own.now ∷ [])) }
+    ensures tokens { result ≡ Err Refusal.Tokens →
+        MakesTooMany (G.answer context.now.grammar.now) now.old.scope.edition context.now.depth (piece_at own.now) now.old }
+    ensures cause { let memory = context.now.memory.now in (trees : List Forest) →
+        HasNumbered memory.given memory.by_tree (trees_of memory) trees now.old.taken.numbers → result ≡ Err Refusal.Numbers →
+        2 ^ 32 ≤ memory.given + needed (trees_of memory) (trees ++ definition_trees (piece_at own.now ∷ [])) }
 {
-    if !memory.look_ahead(own) {
-        return Err(Refusal::Memory);
-    }
+    let EvaluationContext { alloc, memory, .. } = *context;
+    reserve(&mut now.taken.steps, memory.look_ahead(own))?;
     let tree = own.tree.get();
     if memory.is_definition(own) {
         let held = memory.definition_at(own);
         return evaluate_definition(alloc, memory, now, own.start, tree.clone()?, held);
     }
     let link = memory.plain_at(own);
-    evaluate_plain(alloc, grammar, depth, memory, now, own.start, tree, link)?;
+    evaluate_plain(context, now, own.start, tree, link)?;
     Ok(())
 }
 
 /// The pieces of a text of so many bytes, one after another, each under the definitions before it: a plain one is expanded,
 /// where no held one matches.
 pub(crate) fn evaluate_pieces<G: FragmentGrammar>(
-    alloc: Global,
-    grammar: &G,
+    context: &EvaluationContext<'_, G>,
     edition: Edition,
-    depth: u8,
-    memory: &Cache,
     pieces: &[Piece],
     bytes: usize,
 ) -> Result<Evaluated, Refusal>
-    requires right { IsCache (world (G.answer grammar.now) edition) depth edition memory.now }
+    requires right { IsCache (world (G.answer context.now.grammar.now) edition)
+        context.now.depth edition context.now.memory.now }
     requires own { All IsOwnPiece pieces.now }
-    requires met { AreMet memory.now.sources pieces.now }
-    ensures taken { IfOk result (λ now. IsEvaluated (world (G.answer grammar.now) edition) edition depth memory.now (layers (G.answer grammar.now) edition)
-        (definition_trees (map piece_at pieces.now)) (kept_after (world (G.answer grammar.now) edition) depth (number_by (numbers_in now.numbers.by_tree)) [] (map piece_at pieces.now)) now) }
+    requires met { AreMet context.now.memory.now.sources pieces.now }
+    ensures taken { let w = world (G.answer context.now.grammar.now) edition in let trees = map piece_at pieces.now in
+        IfOk result (λ now. IsEvaluated w edition context.now.depth context.now.memory.now
+        (layers (G.answer context.now.grammar.now) edition) (definition_trees trees)
+        (kept_after w context.now.depth (number_by (numbers_in now.numbers.by_tree)) [] trees) now) }
     ensures links { IfOk result (λ now. AreLinks now (map tree_at pieces.now)) }
-    ensures tokens { result ≡ Err Refusal.Tokens → list_any bursts (members_after (layers (G.answer grammar.now) edition) depth [] (map piece_at pieces.now)) ≡ true }
-    ensures numbers { result ≡ Err Refusal.Numbers → NeedsMore memory.now (map piece_at pieces.now) }
+    ensures tokens { result ≡ Err Refusal.Tokens → list_any bursts (members_after
+        (layers (G.answer context.now.grammar.now) edition) context.now.depth [] (map piece_at pieces.now)) ≡ true }
+    ensures numbers { result ≡ Err Refusal.Numbers → NeedsMore context.now.memory.now (map piece_at pieces.now) }
 {
     mbe_rules::laws::rules_at_other_places();
     mbe::laws::fit_at_other_places();
@@ -556,13 +547,13 @@ pub(crate) fn evaluate_pieces<G: FragmentGrammar>(
     laws::equal_pieces();
     let most = pieces.len();
     let room = Room {
-        definitions: memory.definitions.len().saturating_add(1),
+        definitions: context.memory.definitions.len().saturating_add(1),
         pieces: most,
         bytes,
     };
-    let mut now = nothing_yet(alloc, edition, memory, room)?;
+    let mut now = nothing_yet(context.alloc, edition, context.memory, room)?;
     for own in pieces {
-        evaluate_piece(alloc, grammar, depth, memory, &mut now, own)?;
+        evaluate_piece(context, &mut now, own)?;
     }
     let Evaluation { taken, .. } = now;
     Ok(taken)

@@ -34,7 +34,7 @@ pub(crate) struct Memo {
 }
 
 impl Memo {
-    /// How much there is of the first name that it looked up, and how many tokens it prints by itself.
+    /// How many tokens it prints by itself, and bytes of the first name that it looked up.
     pub(crate) fn size(&self) -> usize {
         let name = match self.finds.first() {
             Some(find) => find.size(),
@@ -167,6 +167,7 @@ fn tree_index_of(alloc: Global, held: &[Rc<Memo>]) -> Result<TreeIndex, AllocErr
 /// How held pieces are looked for by their trees: one after another the first times, and then in a table.
 #[derive(Drop)]
 pub(crate) struct MemoIndex {
+    alloc: Global,
     /// The place behind the held piece that matched last.
     pub next: usize,
     times: usize,
@@ -178,10 +179,11 @@ const TIMES: usize = 4;
 
 impl MemoIndex {
     /// Nothing was looked for.
-    pub fn new() -> Self
+    pub fn new(alloc: Global) -> Self
         ensures { (held : List (Rc Memo GhostGlobal)) → Finds result held }
     {
         MemoIndex {
+            alloc,
             next: 0,
             times: 0,
             chains: None,
@@ -191,7 +193,6 @@ impl MemoIndex {
     // The place of a held piece that may stand for a tree, by the table, which is made at first.
     fn find_in_table(
         &mut self,
-        alloc: Global,
         scope: &Scope,
         held: &[Rc<Memo>],
         tree: &Rc<HashedTree>,
@@ -206,7 +207,7 @@ impl MemoIndex {
         if let Some(chains) = &self.chains {
             return Ok(last_match(scope, held, chains, tree));
         }
-        let chains = tree_index_of(alloc, held)?;
+        let chains = tree_index_of(self.alloc, held)?;
         let found = last_match(scope, held, &chains, tree);
         self.chains = Some(chains);
         Ok(found)
@@ -215,7 +216,6 @@ impl MemoIndex {
     // The place of a held piece that may stand for a tree.
     fn find(
         &mut self,
-        alloc: Global,
         scope: &Scope,
         held: &[Rc<Memo>],
         hashes: &[u64],
@@ -233,14 +233,13 @@ impl MemoIndex {
             self.times += 1;
             return Ok(first_match(scope, held, hashes, tree));
         }
-        self.find_in_table(alloc, scope, held, tree)
+        self.find_in_table(scope, held, tree)
     }
 }
 
 /// The place of a held piece that may stand for a tree: the one that is known to have it is tried first, and then the one
 /// that is behind the last that was found.
 pub(crate) fn find_valid(
-    alloc: Global,
     scope: &Scope,
     held: &[Rc<Memo>],
     hashes: &[u64],
@@ -264,5 +263,5 @@ pub(crate) fn find_valid(
     if at < held.len() && is_match(scope, tree, held[at].as_ref()) {
         return Ok(Some(at));
     }
-    lookup.find(alloc, scope, held, hashes, tree)
+    lookup.find(scope, held, hashes, tree)
 }

@@ -20,7 +20,7 @@ ghost use Rattle.expander_model.specs.World.{world};
 
 use crate::cache::Cache;
 use crate::emitter::{Emitter, finish};
-use crate::evaluate::{Evaluated, evaluate_pieces};
+use crate::evaluate::{Evaluated, EvaluationContext, evaluate_pieces};
 use bridge::{LazyPrinted, ReadFault, SpanList};
 use expander_model::fault::{Fault, sort_faults};
 use expander_model::laws;
@@ -242,16 +242,14 @@ impl<G: FragmentGrammar + Drop> Session<G> {
             Parsed::Fault(fault) => return Ok(Reply::Unread(fault)),
             Parsed::Pieces(pieces, sources) => (pieces, sources),
         };
-        let (expansion, memory) = expand_pieces(
+        let context = EvaluationContext {
             alloc,
-            &self.grammar,
-            self.edition,
-            self.depth,
-            &self.memory,
-            pieces.as_slice(),
-            sources,
-            text.len(),
-        )?;
+            grammar: &self.grammar,
+            depth: self.depth,
+            memory: &self.memory,
+        };
+        let (pieces, bytes) = (pieces.as_slice(), text.len());
+        let (expansion, memory) = expand_pieces(&context, self.edition, pieces, sources, bytes)?;
         self.memory = memory;
         Ok(Reply::Read(expansion))
     }
@@ -260,23 +258,23 @@ impl<G: FragmentGrammar + Drop> Session<G> {
 // The expansion of the pieces of a text of so many bytes over what is held, and what is held afterwards, with how they were
 // read.
 fn expand_pieces<G: FragmentGrammar>(
-    alloc: Global,
-    grammar: &G,
+    context: &EvaluationContext<'_, G>,
     edition: Edition,
-    depth: u8,
-    memory: &Cache,
     pieces: &[Piece],
     sources: Segments,
     bytes: usize,
 ) -> Result<(Expansion, Cache), Refusal>
-    requires right { IsCache (world (G.answer grammar.now) edition) depth edition memory.now }
+    requires right { IsCache (world (G.answer context.now.grammar.now) edition)
+        context.now.depth edition context.now.memory.now }
     requires own { All IsOwnPiece pieces.now }
     requires sources { AreSegments sources }
     requires theirs { AreTheirs sources pieces.now }
-    requires met { AreMet memory.now.sources pieces.now }
-    ensures taken { IfOk result (λ r. EvaluatesText (G.answer grammar.now) edition depth memory.now (map piece_at pieces.now) r.0 r.1) }
-    ensures tokens { result ≡ Err Refusal.Tokens → list_any bursts (members_after (layers (G.answer grammar.now) edition) depth [] (map piece_at pieces.now)) ≡ true }
-    ensures numbers { result ≡ Err Refusal.Numbers → NeedsMore memory.now (map piece_at pieces.now) }
+    requires met { AreMet context.now.memory.now.sources pieces.now }
+    ensures taken { IfOk result (λ r. EvaluatesText (G.answer context.now.grammar.now) edition
+        context.now.depth context.now.memory.now (map piece_at pieces.now) r.0 r.1) }
+    ensures tokens { result ≡ Err Refusal.Tokens → list_any bursts (members_after
+        (layers (G.answer context.now.grammar.now) edition) context.now.depth [] (map piece_at pieces.now)) ≡ true }
+    ensures numbers { result ≡ Err Refusal.Numbers → NeedsMore context.now.memory.now (map piece_at pieces.now) }
 {
     laws::equal_pieces();
     let Evaluated {
@@ -287,7 +285,7 @@ fn expand_pieces<G: FragmentGrammar>(
         faults,
         expanded,
         links,
-    } = evaluate_pieces(alloc, grammar, edition, depth, memory, pieces, bytes)?;
+    } = evaluate_pieces(context, edition, pieces, bytes)?;
     let expansion = expansion_of(steps, faults, expanded)?;
     let memory = Cache {
         was_read: true,

@@ -97,6 +97,13 @@ impl Printer {
         Ok(Printer { out })
     }
 
+    /// Makes room for so many bytes more of text. It changes nothing that is printed.
+    pub fn reserve(&mut self, bytes: usize) -> Result<(), AllocError>
+        ensures { self.new ≡ self.old }
+    {
+        self.out.text.reserve(bytes)
+    }
+
     /// Prints these trees behind what was put before. A quote that is last waits for the next call.
     pub fn put(&mut self, view: TokenTreesView<'_>) -> Result<(), TtFault>
         ensures ok { OnOk result ((steps : List Step) → HasPut self.old steps → HasPut self.new (steps ++ walk (forest view.entry))) }

@@ -27,11 +27,11 @@ is_definition-requires-clause-linked g c = c.requires.right.linked
 
 pub is_definition-requires-clause-plain : goal.is_definition-requires-clause-plain
 is_definition-requires-clause-plain g c =
-    all_plain (world (g.G.FragmentGrammar.answer c.args.grammar.now) c.args.now.now.scope.edition) c.args.depth (numbers_in c.args.memory.now.by_tree) c.args.memory.now.plains.items c.requires.right.right
+    all_plain (world (g.G.FragmentGrammar.answer c.args.context.now.grammar.now) c.args.now.now.scope.edition) c.args.context.now.depth (numbers_in c.args.context.now.memory.now.by_tree) c.args.context.now.memory.now.plains.items c.requires.right.right
 
 pub evaluate_plain-requires-clause-link : goal.evaluate_plain-requires-clause-link
 evaluate_plain-requires-clause-link g c =
-    subst (λ (t : Top). IfSome c.plain_at-link.result (λ i. slice_get (plain_tops c.args.memory.now.plains.items) i ≡ Some t)) (sym c.get-tree.ensures) c.plain_at-link.ensures
+    subst (λ (t : Top). IfSome c.plain_at-link.result (λ i. slice_get (plain_tops c.args.context.now.memory.now.plains.items) i ≡ Some t)) (sym c.get-tree.ensures) c.plain_at-link.ensures
 
 no_definition : (o : Option Definition) → is_some o ≡ false → o ≡ None
 no_definition None e = refl
