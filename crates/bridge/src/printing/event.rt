@@ -12,7 +12,8 @@ use std::mem::replace;
 use tt::{TokenTreesView, TtIter};
 use tt_data::{Delimiter, DelimiterKind, Leaf, Span, TtFault};
 
-/// A step of a traversal: a leaf, which is lent, or a bracket of a group that may be invisible.
+/// A step of a walk: a leaf, which is borrowed, or an opening or closing of a group that may be
+/// invisible.
 #[derive(Drop)]
 pub enum TokenEvent<'a> {
     Leaf(&'a Leaf),
