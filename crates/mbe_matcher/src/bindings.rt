@@ -234,7 +234,8 @@ impl<'a> Bindings<'a> {
         }
     }
 
-    /// The names that are bound in a round have their values of it, and the round holds none any more.
+    /// The names that are bound in an iteration get their values of it, and the iteration keeps
+    /// none.
     #[inline]
     pub(crate) fn bind_round(
         &mut self,
@@ -251,7 +252,8 @@ impl<'a> Bindings<'a> {
         Ok(())
     }
 
-    /// The names that are bound in a round have their values of it, and the round holds only this one.
+    /// The names that are bound in an iteration get their values of it, and the iteration keeps
+    /// only this one.
     #[inline(always)]
     pub(crate) fn bind_round_before(
         &mut self,

@@ -94,7 +94,8 @@ pub(crate) fn append_at(
     Ok(())
 }
 
-/// Appends a chunk, with its tokens at their own spans, shifted: `false`, and nothing is done, where they do not fit.
+/// Appends a chunk, with its tokens at their own spans, shifted. `false`, with nothing changed, if
+/// they would be no spans of a text.
 pub(crate) fn append_shifted(
     out: &mut PrintState,
     chunk: &PrintedChunk,

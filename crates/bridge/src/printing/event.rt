@@ -29,7 +29,8 @@ pub(crate) struct OpenGroup<'a> {
     rest: TtIter<'a>,
 }
 
-/// The events that remain: the trees that are left of the innermost list, and the open groups, the innermost last.
+/// The events that are left: the trees left in the innermost list, and the open groups, innermost
+/// last.
 #[derive(Drop)]
 pub(crate) struct Events<'a> {
     here: TtIter<'a>,

@@ -129,8 +129,9 @@ impl Printer {
         }
     }
 
-    /// Whether a chunk can be appended here: no group is open, no quote is pending, and the gap after the last token does
-    /// not depend on the next token, as it does after a punct that isn't `Alone` and ends no line.
+    /// Whether a chunk can be appended here: no group is open, no quote waits, and the gap after
+    /// the last token does not depend on the next one. It does after a punct that isn't `Alone`
+    /// and ends no line.
     pub fn takes_chunks(&self) -> bool
         ensures { result ≡ takes_chunks self.now }
     {
