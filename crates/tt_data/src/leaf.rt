@@ -119,6 +119,7 @@ pub enum LitKind {
     ByteStrRaw(u8),
     CStr,
     CStrRaw(u8),
+    /// What is no whole literal. No text is read so.
     Err(()),
 }
 

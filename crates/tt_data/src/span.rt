@@ -13,6 +13,7 @@ pub struct TextRange {
 /// Whether a token was written in a text, or synthesized: put out by a template.
 #[derive(Clone, Copy, Default, PartialEq, Eq, Hash, Debug)]
 pub enum SyntaxContext {
+    /// In a text.
     #[default]
     Written,
     /// By a template of a macro.
