@@ -154,10 +154,11 @@ fn whole(alloc: Global, tokens: Vec<TokenTree>) -> Result<TopSubtree, TtFault>
     }
 }
 
-/// These trees as a tree of their own, in no brackets: their places count from where the first token
-/// starts, with anchors and contexts as they are, and a punct that is the last tree is `Alone`.
+/// These trees as a piece: a tree with invisible delimiters, whose ranges count from the start of
+/// the first token. Anchors and contexts stay; a punct that is the last tree is made `Alone`. No
+/// range starts or ends before that start.
 ///
-/// It answers `Tokens` where the trees have more than `u32::MAX` tokens, and only there; its one other
+/// It refuses `Tokens` exactly where the trees have more than `u32::MAX` tokens; its one other
 /// error is `Memory`.
 pub fn piece(alloc: Global, view: TokenTreesView<'_>) -> Result<TopSubtree, TtFault>
     requires { StandsBehindFirst (forest view) }

@@ -235,11 +235,11 @@ fn read_first(
     Ok(whole(builder))
 }
 
-/// What the first `count` of these tokens, which stand in the text from the byte `start` on, are read
-/// as by themselves, in places counted from there.
+/// What the first `count` of these tokens, which are in the text from the offset `start` on, are
+/// read as by themselves. Spans count from `start`.
 ///
-/// A punct that ends them is joined to the token behind it, as it is in the text. The errors are those
-/// of [`read`].
+/// A punct that is last is glued to the token after it, as in the text. `names` shares the text of
+/// repeated names and does not change the answer. The errors are those of [`read`].
 pub fn read_part(
     names: &mut NameCache,
     text: &str,
@@ -256,10 +256,11 @@ pub fn read_part(
     read_first(names, &text[start as usize..], tokens, count)
 }
 
-/// What the text with these tokens is read as.
+/// Reads a text of at most `u32::MAX` bytes, with its tokens, as trees, or answers its first
+/// reading fault. (The Rust Reference, "Tokens", "Comments", and token trees in "Macros".)
 ///
-/// It answers `Tokens` only where the tree read so far would have more than `u32::MAX` tokens, which
-/// doc comments alone can bring about; its one other error is `Memory`.
+/// It refuses `Tokens` only where the tree read so far would have more than `u32::MAX` tokens,
+/// which doc comments alone can bring about; its one other error is `Memory`.
 pub fn read(alloc: Global, text: &str, tokens: &[Token]) -> Result<Read, TtFault>
     requires small { length text.now < 2 ^ 32 }
     requires tokens { tokens.now ≡ tokens_of (chars text.now) }

@@ -100,7 +100,8 @@ fn with_inner(begun: Begun, kind: TokenKind) -> Option<Begun> {
     }
 }
 
-/// How many of the tokens the first piece seems to have: none is told where nothing seems to end it.
+/// A guess of how many of the tokens the first piece has, by their kinds alone. `None` if nothing
+/// seems to end it.
 pub fn piece_end(tokens: &[Token]) -> Option<usize>
     ensures { IfSome result (λ n. n ≤ length tokens.now) }
 {

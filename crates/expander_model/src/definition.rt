@@ -7,14 +7,14 @@ use std::marker::Model;
 use tt::TtIter;
 use tt_data::{Delimiter, DelimiterKind, Ident, IdentIsRaw};
 
-/// A definition of a macro, its trees borrowed from the text.
+/// A definition of a macro. Its trees are borrowed from the text.
 #[derive(Drop)]
 pub struct Definition<'a> {
     pub name: Ident,
-    /// The group before the body, of a `macro` with a single rule.
+    /// The group before the body, for a `macro` with a single rule.
     pub arguments: Option<TtIter<'a>>,
     pub body: TtIter<'a>,
-    /// Read by the rules of `macro`, not by those of `macro_rules`.
+    /// Whether it is a `macro`; else it is a `macro_rules`.
     pub is_macro: bool,
     /// The whole piece.
     pub piece: TtIter<'a>,
@@ -190,7 +190,8 @@ fn macro_of<'a>(piece: &TtIter<'a>, trees: &TtIter<'a>) -> Option<Definition<'a>
     })
 }
 
-/// The definition that a piece is, or `None` where it is plain.
+/// The definition that a piece is, or `None` for a plain piece. (The Rust Reference, "Macros By
+/// Example"; Rust's unstable book, `decl_macro`.)
 pub fn definition_of<'a>(piece: &TtIter<'a>) -> Option<Definition<'a>>
     ensures { result ≡ definition_of piece.now }
 {

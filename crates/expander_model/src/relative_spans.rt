@@ -59,7 +59,7 @@ fn token_from(from: u32, token: TokenTree) -> TokenTree
     }
 }
 
-/// Where the first token of a piece starts.
+/// The offset at which the first token of a piece starts.
 pub fn start_of(piece: &TtIter<'_>) -> u32
     ensures { result ≡ first_start piece.now }
 {
@@ -99,8 +99,8 @@ fn tokens_from(
     Ok(tokens)
 }
 
-/// A piece as a tree of its own, its places counted from its first token. It is some of a tree, so that its tokens are not
-/// too many.
+/// A piece as a tree with piece-relative spans. It is a part of a tree, so it has no more tokens
+/// than a tree may have.
 pub fn own_tree(alloc: Global, piece: &TtIter<'_>) -> Result<TopSubtree, TtFault>
     ensures tree { IfOk result (λ t. t ≡ record { delimiter = text_top; inner = relative piece.now }) }
     ensures memory { IsOkUnless result fault.Memory }

@@ -93,7 +93,7 @@ fn ends_alone(alloc: Global, tree: &TopSubtree) -> Result<Vec<Put>, AllocError>
     Ok(puts)
 }
 
-/// Makes each `;` of the tree's own list stand alone, where it is: nothing is joined to what ends a piece.
+/// Makes each `;` of the tree's top list `Alone`, in place: nothing is glued to what ends a piece.
 pub fn set_apart(alloc: Global, tree: &mut TopSubtree) -> Result<(), TtFault>
     ensures apart { OnOk result (tree.new.inner ≡ separated tree.old.inner) }
     ensures top { OnOk result (tree.new.delimiter ≡ tree.old.delimiter) }
@@ -120,7 +120,7 @@ fn pass_tree<'a>(rest: &mut TtIter<'a>, begun: &TtIter<'_>) -> Option<bool>
     Some(ends_piece(begun, brackets))
 }
 
-/// The next piece, or `None` where nothing is left. The iterator goes on to what follows the piece.
+/// The next piece, or `None` at the end. The iterator goes on after the piece.
 pub fn next_piece<'a>(rest: &mut TtIter<'a>) -> Option<TtIter<'a>>
     ensures { CutsOff rest.old rest.new result }
 {
@@ -141,9 +141,9 @@ pub fn next_piece<'a>(rest: &mut TtIter<'a>) -> Option<TtIter<'a>>
 /// What trees side by side are.
 #[derive(Drop)]
 pub enum Shape {
-    /// One whole piece, wherever they stand and whatever follows.
+    /// One whole piece, wherever they are and whatever follows.
     Whole,
-    /// One piece that nothing ends, wherever they stand: the last of a text.
+    /// One piece that nothing ends: the last of a text.
     Open,
     /// No piece, or more than one.
     Other,

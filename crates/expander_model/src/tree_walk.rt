@@ -16,17 +16,17 @@ pub(crate) struct Around<'a> {
     behind: TtIter<'a>,
 }
 
-/// A walk through trees. It takes memory for each group that it is in, and no stack.
+/// A pre-order walk through trees. It takes memory for each group that it is in, and no stack.
 #[derive(Drop)]
 pub struct TreeWalk<'a> {
-    /// The trees that are left of the innermost group.
+    /// The trees left in the innermost group.
     pub here: TtIter<'a>,
     // The groups that it is in, the innermost last.
     around: Vec<Around<'a>>,
 }
 
 impl<'a> TreeWalk<'a> {
-    /// Before the first of the trees.
+    /// A walk at the beginning of the trees.
     pub fn new(alloc: Global, trees: &TtIter<'a>) -> Self
         ensures here { result.here ≡ trees.now }
         ensures groups { groups_of result ≡ [] }
@@ -37,7 +37,7 @@ impl<'a> TreeWalk<'a> {
         }
     }
 
-    /// The next step, which is made, a leaf lent: none at the end.
+    /// The next event, a leaf borrowed. `None` at the end.
     #[inline(always)]
     pub fn next(&mut self) -> Result<Option<TokenEvent<'a>>, AllocError>
         ensures { IfOk result (λ step. GoesOn self.old step self.new) }

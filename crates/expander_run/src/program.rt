@@ -20,17 +20,22 @@ use std::alloc::Global;
 use std::io::{Read, Write};
 use tt_data::Edition;
 
-/// The status that a program ends with.
+/// The exit status of a program: 0 for success.
 #[derive(Clone, Copy, Debug, PartialEq, Eq)]
 pub struct Status(pub u8);
 
-/// Reads a text to its end, expands it with `depth` levels by the small grammar, its words of edition 2024, writes and flushes what that prints, and tells its faults.
+/// Reads a text to its end, expands it with `depth` levels by the small grammar in edition 2024,
+/// writes and flushes what it prints, and reports its faults.
 ///
-/// The status is 0 where nothing was refused and the text has no fault, else 1. Nothing is written where
-/// the text is not read or the run is refused, but by a write that fails, which leaves a front of the
-/// printed text. Then `faults` gets a line for each fault, as `line 2, byte column 1: recursion limit reached`
-/// (both numbers from 1), or one line for why the run stops, as `read failed`, and is flushed. An error of any
-/// kind of a reader or a writer is the last that is asked of it: nothing is tried again.
+/// The status is 0 if the text was read and has no fault, else 1. If the run stops or the text has
+/// a reading fault, nothing is written, except that a failed write leaves the first bytes of the
+/// printed text.
+///
+/// `faults` gets a line for each fault, as `line 2, byte column 1: recursion limit reached` (both
+/// numbers from 1), or one line for why the run stops, as `read failed`, and is flushed. After the
+/// first error of a stream, of any kind, nothing more is asked of it.
+///
+/// None of the three streams has failed before.
 pub fn run<R: Read, W: Write, E: Write>(
     alloc: Global,
     reader: &mut Watched<R>,

@@ -34,7 +34,7 @@ use std::alloc::{AllocError, Global};
 use std::marker::Model;
 use tt_data::{Edition, TextRange, TtFault};
 
-/// The expansion of a text: what is printed, where it comes from, and the faults.
+/// The expansion of a text: the printed text, the origins of its tokens, and the faults.
 #[derive(Drop)]
 pub struct Expansion {
     printed: String,
@@ -67,25 +67,27 @@ impl Expansion {
         self.faults.as_slice()
     }
 
-    /// How many pieces were expanded: all that are no definitions, but for those that the last text that was read had as
-    /// well, with the same definitions for their names.
+    /// The number of cache misses: plain pieces that the last text that was read did not have with
+    /// equal look-ups. Before the first text that was read, every plain piece counts.
     pub fn expanded(&self) -> usize
         ensures { result ≡ self.now.expanded }
     {
         self.expanded
     }
 
-    /// How many tokens are printed.
+    /// The number of printed tokens.
     pub fn tokens(&self) -> usize
         ensures { result ≡ length self.now.origins }
     {
         self.origins.len()
     }
 
-    /// Where in the text the printed token of this number, from 0, comes from. A token that was written in the text, in a
-    /// call's argument too, comes from there, through however many calls it was carried. A token that a template gives
-    /// comes from the template, and what a `$` puts in of itself from this `$`. A doc comment's tokens come from the
-    /// comment.
+    /// The origin of the printed token of this index, from 0 and below `tokens()`: the bytes of
+    /// the present text that its span names.
+    ///
+    /// A token that was written in the text, in a call's argument too, comes from there, through
+    /// however many calls it was carried. A token of a template comes from the template, and what
+    /// a `$` gives by itself from this `$`. A doc comment's tokens come from the comment.
     pub fn origin(&self, i: usize) -> Option<TextRange>
         requires { i < length self.now.origins }
         ensures { result ≡ slice_get self.now.origins i }
@@ -96,7 +98,7 @@ impl Expansion {
         }
     }
 
-    /// An equal expansion. Refused where there is no memory for it.
+    /// An equal expansion. Refused if there is no memory for it.
     pub fn try_clone(&self, alloc: Global) -> Result<Expansion, AllocError>
         ensures { IfOk result (λ e. e ≡ self.now) }
     {
@@ -112,17 +114,18 @@ impl Expansion {
     }
 }
 
-/// What a text gives.
+/// What a text gives: its expansion, or its reading fault.
 #[derive(Drop)]
 pub enum Reply {
-    /// The text was read as trees and expanded.
+    /// The text was read and expanded.
     Read(Expansion),
     /// The text cannot be read as trees.
     Unread(ReadFault),
 }
 
-/// A text that may be edited, and what its calls are expanded by: a grammar, an edition, and how many levels of calls
-/// are expanded.
+/// A text that may be edited and expanded, with a grammar of fragments, an edition, and a number
+/// of levels. It caches what the last text that was read gave, so an expansion does again only
+/// what an edit can affect.
 #[derive(Drop)]
 pub struct Session<G: FragmentGrammar> {
     alloc: Global,
@@ -150,9 +153,10 @@ impl<G: FragmentGrammar> Model for Session<G> {
 }
 
 impl<G: FragmentGrammar + Drop> Session<G> {
-    /// A session over a text of at most `u32::MAX` bytes, whose words are of this edition. The grammar says what fragments
-    /// are, and `depth` how many levels of calls are expanded. Nothing is expanded yet. Refused where there is no memory
-    /// for a copy of the text and its tokens.
+    /// A session over a text of at most `u32::MAX` bytes, all of whose tokens are of this edition.
+    /// The grammar decides what fragments are, and `depth` how many levels of calls are expanded.
+    /// Nothing is expanded yet. Refused if there is no memory for a copy of the text and its
+    /// tokens.
     pub fn new(
         alloc: Global,
         text: &str,
@@ -189,15 +193,15 @@ impl<G: FragmentGrammar + Drop> Session<G> {
         self.text.text()
     }
 
-    /// Whether the byte `at` is at most the text's length, and begins a character or ends the text.
+    /// Whether the offset `at`, in bytes, is a character boundary of the text, its end included.
     pub fn is_boundary(&self, at: usize) -> bool
         ensures { IsTrue result ↔ IsCharBoundary self.now.text at }
     {
         self.text.is_boundary(at)
     }
 
-    /// Whether the bytes from `start` to `end` are in the text, and it has at most `u32::MAX` bytes once `replacement_len`
-    /// bytes stand in their place.
+    /// Whether the bytes from `start` to `end` are in the text, and it has at most `u32::MAX`
+    /// bytes after `replacement_len` bytes replace them.
     pub fn fits(&self, start: usize, end: usize, replacement_len: usize) -> bool
         ensures { IsTrue result ↔ ((start ≤ «end») × («end» ≤ length self.now.text)
             × (length self.now.text - («end» - start) + replacement_len < 2 ^ 32)) }
@@ -205,8 +209,9 @@ impl<G: FragmentGrammar + Drop> Session<G> {
         self.text.fits(start, end, replacement_len)
     }
 
-    /// Puts the replacement in place of the bytes from `start` to `end`, which are boundaries of the text and fit. Refused
-    /// where there is no memory for the text or its tokens, and then nothing changes.
+    /// Replaces the bytes from `start` to `end`. Both offsets are character boundaries, in order,
+    /// and the edit fits. Refused if there is no memory for the text or its tokens; then nothing
+    /// changes.
     pub fn edit(&mut self, start: usize, end: usize, replacement: &str) -> Result<(), AllocError>
         requires start { IsCharBoundary self.old.text start }
         requires stop { IsCharBoundary self.old.text «end» }
@@ -219,11 +224,17 @@ impl<G: FragmentGrammar + Drop> Session<G> {
         Ok(())
     }
 
-    /// The expansion of the text, or its reading fault. Refused where there is no memory left, where what is read of the
-    /// text has more than `u32::MAX` tokens, which doc comments alone can bring about, or where a call's result would
-    /// have so many, which is never where no level of calls is left; and where so many definitions would have been
-    /// numbered. Pieces that the last text that was read had as well are not expanded again. No more than `u32::MAX`
-    /// definitions are numbered in all, so a text for which that would be more has no `Read`: `numbers`.
+    /// The expansion of the present text, or its reading fault. The answer is that of a new
+    /// session over the same text, but for the count of cache misses. A refusal changes nothing.
+    ///
+    /// # Errors
+    ///
+    /// `Memory`. `Tokens`, only if what is read of the text has more than `u32::MAX` tokens, which
+    /// doc comments alone can bring about, or if a rule that is tried for a call puts out so many.
+    /// `Numbers`, only if more than `u32::MAX` definitions would have got an id.
+    ///
+    /// At most `u32::MAX` definitions get an id in all, so a text for which they would be more has
+    /// no `Read`: `numbers`.
     pub fn expansion(&mut self) -> Result<Reply, Refusal>
         ensures reply { IfOk result (λ reply. Replies (layers_of G.answer self.old) self.old self.new reply) }
         ensures same { OnErr result (self.new ≡ self.old) }

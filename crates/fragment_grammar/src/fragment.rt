@@ -9,10 +9,11 @@ ghost use Rattle.fragment_grammar.specs.declared.fragment.PrefixEntryPoint.TheVa
 
 use tt::TokenTreesView;
 
-/// What is looked for at the beginning of a list of trees.
+/// What is looked for at the beginning of a list of trees. (The Rust Reference, "Macros By
+/// Example": metavariables.)
 #[derive(Clone, Copy, PartialEq, Eq, Debug)]
 pub enum PrefixEntryPoint {
-    /// A visibility. Nothing is one too.
+    /// A visibility. No tokens are one too.
     Vis,
     /// A block.
     Block,
@@ -26,33 +27,33 @@ pub enum PrefixEntryPoint {
     Ty,
     /// An expression.
     Expr,
-    /// A path of a type.
+    /// A path, as in a type.
     Path,
     /// An item.
     Item,
-    /// What an attribute holds.
+    /// The content of an attribute.
     MetaItem,
 }
 
-/// A grammar's answer.
+/// A grammar's answer: how far a fragment reaches, or that none is there.
 #[derive(Clone, Copy, PartialEq, Eq, Debug)]
 pub struct Prefix {
     /// How many steps the fragment takes: each leaf, each opening and each closing is one.
     pub tokens: usize,
-    /// Whether nothing of the kind begins the list.
+    /// Whether no fragment of the kind begins the list.
     pub fault: bool,
 }
 
-/// Tells how far a fragment of a kind reaches.
+/// A grammar of fragments: it says how far a fragment of a kind reaches.
 ///
-/// The answer depends on kinds, texts, rawness and spacing of the trees, never on their places.
-/// It takes no more steps than there are, and without a fault at least one, except for a visibility.
-/// It takes no memory.
+/// The answer depends on kinds, texts, rawness and spacing of the trees, never on their spans. It
+/// takes no more steps than there are, and without a fault at least one, except for a visibility.
+/// It takes no memory. Whoever implements the trait proves these laws.
 pub trait FragmentGrammar {
     // the answer to an entry point at trees without their places
     ghost answer: { Self → PrefixEntryPoint → Forest → Prefix };
 
-    /// How many steps at the beginning of the list a fragment takes, or that none begins it.
+    /// How many steps a fragment takes at the beginning of the list, or that none begins it.
     fn prefix(&self, entry: PrefixEntryPoint, input: TokenTreesView<'_>) -> Prefix
         ensures { result ≡ answer self.now entry (shape (forest input.entry)) };
 

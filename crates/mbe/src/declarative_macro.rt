@@ -14,7 +14,8 @@ pub(crate) enum Definition {
     Broken(ParseError),
 }
 
-/// A macro by example. (The Rust Reference, "Macros By Example".)
+/// A macro by example: its rules, or the fault that makes it invalid. (The Rust Reference, "Macros
+/// By Example".)
 #[derive(Debug, Drop)]
 pub struct DeclarativeMacro {
     pub(crate) kept: Definition,

@@ -382,9 +382,9 @@ fn entries_back<'a>(
     Ok(entries)
 }
 
-/// What the variables of a pattern stand for after the moves up to an entry of the log.
+/// What the metavariables of a pattern are bound to by the moves up to an entry of the log.
 ///
-/// The trees of fragments are not copied. Its one error is want of memory.
+/// The trees of fragments are not copied. Its one error is out of memory.
 pub fn bindings_of<'a>(
     alloc: Global,
     last: Option<&'a Entry<'a>>,

@@ -11,7 +11,7 @@ use std::mem;
 use symbols::Symbol;
 use tt::TokenTreesView;
 
-/// What a name stands for.
+/// What a metavariable is bound to.
 #[derive(Drop)]
 pub enum Binding<'a> {
     /// The trees of a fragment.
@@ -19,20 +19,20 @@ pub enum Binding<'a> {
         kind: MetaVarKind,
         trees: TokenTreesView<'a>,
     },
-    /// A value for each round of a repetition.
+    /// A value for each iteration of a repetition.
     Rounds(Vec<Binding<'a>>),
-    /// Nothing, where a repetition was skipped.
+    /// Nothing: the repetition was skipped.
     Skipped,
 }
 
-/// A name with what it stands for.
+/// A metavariable with its binding.
 #[derive(Drop)]
 pub struct Bound<'a> {
     pub name: &'a Symbol,
     pub binding: Binding<'a>,
 }
 
-/// What each name stands for.
+/// The bindings of a pattern's metavariables.
 #[derive(Drop)]
 pub struct Bindings<'a> {
     pub(crate) bound: Vec<Bound<'a>>,
@@ -118,12 +118,12 @@ impl<'a> Bindings<'a> {
         }
     }
 
-    /// Where the memory for what is bound comes from.
+    /// The allocator that bindings take memory from.
     pub fn allocator(&self) -> Global {
         *self.bound.allocator()
     }
 
-    /// All that is bound, in the order in which the names came.
+    /// All bindings, in the order in which their names were bound.
     pub fn entries(&self) -> &[Bound<'a>]
         ensures { entries_of result.now ≡ map_of self.now }
     {
@@ -142,7 +142,7 @@ impl<'a> Bindings<'a> {
         None
     }
 
-    /// What the name stands for: none where it is not bound.
+    /// The binding of a name, if it has one.
     pub fn get(&self, name: &Symbol) -> Option<&Binding<'a>>
         ensures { option_map (λ b. standing_for b.now) result ≡ binding_of name.now (map_of self.now) }
     {
@@ -192,7 +192,7 @@ impl<'a> Bindings<'a> {
         }
     }
 
-    /// The name stands for this, in place of what it stood for.
+    /// Binds the name, in place of what it was bound to.
     #[inline]
     pub fn bind(&mut self, name: &'a Symbol, binding: Binding<'a>) -> Result<(), AllocError>
         ensures { OnOk result (map_of self.new ≡ bind name.now (standing_for binding.entry) (map_of self.old)) }
@@ -234,7 +234,8 @@ impl<'a> Bindings<'a> {
         }
     }
 
-    /// The names that are bound in a round have their values of it, and the round holds none any more.
+    /// The names that are bound in an iteration get their values of it, and the iteration keeps
+    /// none.
     #[inline]
     pub(crate) fn bind_round(
         &mut self,
@@ -251,7 +252,8 @@ impl<'a> Bindings<'a> {
         Ok(())
     }
 
-    /// The names that are bound in a round have their values of it, and the round holds only this one.
+    /// The names that are bound in an iteration get their values of it, and the iteration keeps
+    /// only this one.
     #[inline(always)]
     pub(crate) fn bind_round_before(
         &mut self,

@@ -86,7 +86,7 @@ fn tree_trees(trees: &TtIter<'_>) -> Option<usize>
     Some(1)
 }
 
-/// Whether an `expr` may not begin at the head of a list: with `let`.
+/// Whether no `expr` may begin here: with `let`.
 #[tactic(auto, using(crate::proofs::LentLemmas::an_ident, crate::proofs::LentLemmas::nothing_refused))]
 pub fn is_refused(trees: &TtIter<'_>) -> bool
     ensures { result ≡ is_refused trees.now }
@@ -97,7 +97,7 @@ pub fn is_refused(trees: &TtIter<'_>) -> bool
     }
 }
 
-/// Whether an `expr_2021` may not begin at the head of a list: with `let`, `_` or `const`.
+/// Whether no `expr_2021` may begin here: with `let`, `_` or `const`.
 pub fn is_refused_2021(trees: &TtIter<'_>) -> bool
     ensures { result ≡ is_refused_2021 trees.now }
 {

@@ -33,7 +33,7 @@ pub(crate) enum Waiting<'a> {
     Pending { thread: Thread<'a>, taken: Consumed },
 }
 
-/// A thread in whose state one was settled at this place, and whether a second one was.
+/// A thread whose state was entered at this position, and whether a second one was in it.
 #[derive(Clone, Copy, Drop)]
 pub struct Seen<'a> {
     pub thread: Thread<'a>,
@@ -109,7 +109,7 @@ pub fn is_same_state(first: &Thread<'_>, second: &Thread<'_>) -> bool
     first.items.len() == second.items.len() && are_same_marks(first.frames, second.frames)
 }
 
-/// Whether a thread was settled in the state of this one.
+/// Whether a thread was in the state of this one.
 pub fn was_settled(seen: &[Seen<'_>], thread: &Thread<'_>) -> bool
     ensures { result ≡ list_any (λ x. same_state x.thread thread.now) seen.now }
 {
@@ -121,7 +121,7 @@ pub fn was_settled(seen: &[Seen<'_>], thread: &Thread<'_>) -> bool
     false
 }
 
-/// Whether two threads were settled in the state of this one.
+/// Whether two threads were in the state of this one.
 pub fn was_settled_twice(seen: &[Seen<'_>], thread: &Thread<'_>) -> bool
     ensures { result ≡ list_any (λ x. x.twice && same_state x.thread thread.now) seen.now }
 {
@@ -511,12 +511,15 @@ fn only_ended<'a>(waiting: &[Waiting<'a>]) -> Option<Option<&'a Entry<'a>>>
     }
 }
 
-/// The moves of the one way in which a pattern uses up an argument: the last entry of the log, none in it
-/// where there are no moves. There is no such way where no list of moves uses up the argument, where more
-/// than one does, or where at some place a fragment is taken on one way and something else on another.
-/// (The Rust Reference, "Macros By Example": metavariables, forwarding a fragment.)
+/// The moves of the only reading in which a pattern uses up an argument: the last entry of the
+/// log, or `None` in it if there are no moves. (The Rust Reference, "Macros By Example":
+/// metavariables, forwarding a fragment.)
 ///
-/// At each place at most two threads of one state go on, however many lists of moves lead to it.
+/// There is no such reading if no list of moves uses up the argument, if more than one does, or if
+/// at some position a fragment is taken on one way and something else on another. No repetition of
+/// the pattern may iterate without end.
+///
+/// At most two threads of one state go on, however many lists of moves lead to it.
 ///
 /// # Errors
 ///

@@ -15,17 +15,18 @@ use std::alloc::{AllocError, Global};
 use symbols::Symbol;
 use tt::{DelimiterKind, Leaf, Literal, Punct, TokenTreesView, TtElement, TtIter};
 
-/// A position in the argument: the trees left in the innermost open group, and those after each open group.
+/// A position in the argument: the trees left in the innermost open group, and those after each
+/// open group.
 #[derive(Drop)]
 pub struct Place<'a> {
     pub(crate) rest: TtIter<'a>,
     pub(crate) outer: Vec<TtIter<'a>>,
 }
 
-/// What a move takes.
+/// What a move consumes.
 #[derive(Clone, Copy, Drop)]
 pub enum Consumed {
-    /// One word, literal, glued punct, lifetime or bracket.
+    /// One unit: a leaf, a glued operator, a lifetime or a delimiter.
     Unit,
     /// A fragment of so many trees.
     Fragment(usize),
@@ -126,7 +127,7 @@ fn same_puncts(puncts: &[Punct], trees: &TtIter<'_>, count: usize) -> bool
 }
 
 impl<'a> Place<'a> {
-    /// The head of an argument.
+    /// The position at the beginning of an argument.
     pub fn start(alloc: Global, argument: TokenTreesView<'a>) -> Place<'a>
         ensures { place_of result ≡ u.place (forest argument.entry) [] }
     {
@@ -136,14 +137,14 @@ impl<'a> Place<'a> {
         }
     }
 
-    /// The trees that are left in the innermost open group.
+    /// The trees left in the innermost open group.
     pub fn rest(&self) -> &TtIter<'a>
         ensures { result.now ≡ r.trees_here (place_of self.now) }
     {
         &self.rest
     }
 
-    /// Whether all of the argument is read.
+    /// Whether the whole argument is consumed.
     #[inline(always)]
     pub fn is_end(&self) -> bool
         ensures { result ≡ u.is_end (place_of self.now) }
@@ -250,7 +251,7 @@ impl<'a> Place<'a> {
         }
     }
 
-    /// The place after a move.
+    /// The position after a move.
     #[inline]
     #[tactic(auto, using(crate::proofs::LentLemmas::past_unit, crate::proofs::LentLemmas::into_group))]
     pub fn after(self, taken: Consumed) -> Result<Place<'a>, AllocError>

@@ -18,7 +18,7 @@ use mbe_rules::{MetaVarKind, Op, RepeatKind, Separator};
 use std::alloc::AllocError;
 use symbols::Symbol;
 
-/// A thread after one more move, and what that move takes.
+/// A thread after one more move, and what that move consumes.
 #[derive(Clone, Copy, Drop)]
 pub struct Choice<'a> {
     pub thread: Thread<'a>,

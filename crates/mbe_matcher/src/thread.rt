@@ -38,9 +38,9 @@ pub(crate) enum Frame<'a> {
 /// A move of a reading.
 #[derive(Clone, Copy, Drop)]
 pub enum Move<'a> {
-    /// Over a word, a glued punct, a lifetime or a bracket.
+    /// Over a unit: a leaf, a glued operator, a lifetime or a delimiter.
     Unit,
-    /// Over the trees that a variable takes.
+    /// Over the trees of a fragment.
     Fragment {
         name: &'a Symbol,
         kind: MetaVarKind,
@@ -50,17 +50,17 @@ pub enum Move<'a> {
     Nothing {
         name: &'a Symbol,
     },
-    /// Into the first round of a repetition.
+    /// Into the first iteration of a repetition.
     Enter,
-    /// Past a repetition, whose body this is.
+    /// Past a repetition with this body, without an iteration.
     Skip {
         body: &'a [Op],
     },
-    /// Out of a repetition, after a round.
+    /// Out of a repetition, after an iteration.
     Leave,
     /// Over a separator.
     Separator,
-    /// Into another round.
+    /// Into another iteration.
     NextRound,
 }
 
@@ -73,8 +73,8 @@ pub(crate) enum IterationStart {
     RoundForEach,
 }
 
-/// A move of the log, and the entry of the move before it; or rounds that are one variable, of one tree each, as
-/// many as follow each other. Entries are shared by the threads that came by them.
+/// A move of the log, and the entry of the move before it; or several iterations of a single
+/// variable that take one tree each. Threads share entries.
 #[derive(Clone, Copy, Drop)]
 pub struct Entry<'a> {
     pub(crate) begun: IterationStart,
@@ -163,7 +163,7 @@ pub(crate) fn inside<'a>(
     Ok(Some(rung))
 }
 
-/// A partial reading: the items that it goes on with, the groups and rounds that it is in, and its moves.
+/// A partial reading: the ops that come next, the groups and repetitions it is in, and its moves.
 #[derive(Clone, Copy, Drop)]
 pub struct Thread<'a> {
     pub(crate) items: &'a [Op],
@@ -184,7 +184,7 @@ impl<'a> Thread<'a> {
         }
     }
 
-    /// Whether all items are passed, and no group or round is open.
+    /// Whether all ops are read, and no group or repetition is open.
     pub fn is_past_pattern(&self) -> bool
         ensures { (p : u.Place) → u.is_end p ≡ true → result ≡ r.has_used_up (state_of self.now p) }
     {
@@ -197,7 +197,7 @@ impl<'a> Thread<'a> {
         }
     }
 
-    /// The item that is read next, where one is left in the innermost group or round.
+    /// The op that is read next, if one is left in the innermost group or iteration.
     pub fn next_item(&self) -> Option<&'a Op>
         ensures { option_map (λ op. op.now) result ≡ slice_get self.now.items.now 0 }
     {

@@ -13,10 +13,10 @@ use std::rc::Rc;
 use symbols::TtFault;
 use tt_data::Span;
 
-/// Why a call cannot be expanded, and the place where this shows. Its clones share one block of memory.
+/// Why a call cannot be expanded, and at which span. Clones share one block of memory.
 #[derive(Debug, Drop)]
 pub struct ExpandError {
-    /// The place and the kind.
+    /// The span and the kind.
     pub inner: Rc<(Span, ExpandErrorKind)>,
 }
 
@@ -30,7 +30,7 @@ impl Model for ExpandError {
 }
 
 impl ExpandError {
-    /// The error of this kind at this place. It takes one block of memory.
+    /// The error of this kind at this span. It takes one block of memory.
     ///
     /// # Errors
     ///
@@ -45,7 +45,7 @@ impl ExpandError {
         }
     }
 
-    /// The place where the error shows.
+    /// The span at which the error shows.
     pub fn span(&self) -> Span
         ensures { result ≡ self.now.0 }
     {
@@ -79,7 +79,7 @@ impl PartialEq for ExpandError {
 
     ghost laws = { partial_equiv_from_equiv same_error_equiv };
 
-    /// Whether the places and the kinds are the same.
+    /// Whether spans and kinds are the same.
     fn eq(&self, other: &ExpandError) -> bool {
         self.inner == other.inner
     }
@@ -96,7 +96,7 @@ impl Hash for ExpandError {
 
     ghost respects_eq = { Prim.search (hashing, rules) };
 
-    /// Feeds the place and the kind.
+    /// Feeds the span and the kind.
     fn hash<H: Hasher>(&self, state: &mut H) {
         self.inner.hash(state);
     }

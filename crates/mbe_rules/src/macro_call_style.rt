@@ -16,7 +16,8 @@ pub enum MacroCallStyle {
     Derive,
 }
 
-/// A set of [`MacroCallStyle`]s. Clauses see it as the number of its bits: 1, 2 and 4 in the order of the styles.
+/// A set of [`MacroCallStyle`]s. Contracts see it as the number of its bits: 1, 2 and 4 in the
+/// order of the styles.
 #[derive(Clone, Copy, PartialEq, Eq, Hash, Debug)]
 pub struct MacroCallStyles(u8);
 

@@ -21,7 +21,7 @@ fn op_can_match_nothing(op: &Op) -> bool
     }
 }
 
-/// Whether a list of items can match nothing.
+/// Whether a list of ops can match no tokens.
 #[cycle(nothing)]
 pub fn can_match_nothing(ops: &[Op]) -> bool
     ensures { result ≡ can_match_nothing (items_of ops.now) }
@@ -80,7 +80,8 @@ fn rounds(ops: &[Op]) -> Option<bool>
     Some(nothing)
 }
 
-/// Whether a repetition without separator, anywhere in a list of items, can match nothing in an iteration.
+/// Whether a repetition without a separator, anywhere in a list of ops, has an iteration that can
+/// match no tokens. It could then iterate without end.
 pub fn has_empty_round(ops: &[Op]) -> bool
     ensures { result ≡ has_empty_round (items_of ops.now) }
 {

@@ -175,7 +175,7 @@ fn lone_leaf<'a>(trees: TokenTreesView<'a>) -> Option<&'a Leaf>
     }
 }
 
-/// Puts in the trees of a fragment for a variable, of whose `$` this is the place.
+/// Transcribes the trees of a fragment for a metavariable; `span` is that of its `$`.
 pub fn put_in(
     out: &mut TopSubtreeBuilder,
     kind: MetaVarKind,

@@ -301,7 +301,7 @@ fn is_one_of(words: &[&str], text: &str) -> bool
     false
 }
 
-/// Whether a name that was made is raw: where it is a reserved word.
+/// Whether a synthesized name is raw: if it is a reserved word.
 pub fn rawness_of(text: &str) -> IdentIsRaw
     ensures { result ≡ rawness_of text.now }
 {

@@ -302,13 +302,15 @@ impl<'t> Transcription<'t> {
     }
 }
 
-/// Puts in what a template gives with these bindings: false where it is a fault, and what was put in
-/// before the fault stays.
+/// Transcribes a template with bindings: appends what it gives to `out`. `false` means a fault;
+/// what was appended before it stays. (The Rust Reference, "Macros By Example": transcribing.)
+///
+/// Template tokens get the span that `marker` answers for theirs, those of a fragment keep theirs.
 ///
 /// # Errors
 ///
-/// `Memory`, or `Tokens` where the tree would have more tokens than it may: what the template puts out
-/// up to its first fault counts, where it has one.
+/// `Memory`, or `Tokens` if the tree would have more than `u32::MAX` tokens. What the template
+/// puts out up to its first fault counts.
 pub fn fill<M: Fn(Span) -> Span>(
     out: &mut TopSubtreeBuilder,
     template: &[Op],

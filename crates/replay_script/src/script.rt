@@ -7,7 +7,8 @@ use crate::tell::push_answers;
 use expander::{Command, Edition, SmallGrammar, replay};
 use std::alloc::{AllocError, Global};
 
-/// What is told of a script, and the number, from 1, of its first bad line, or none.
+/// The answers to a script as text, and the number, from 1, of its first bad line, if there is
+/// one.
 #[derive(Drop)]
 pub struct Replayed {
     pub told: String,
@@ -67,8 +68,9 @@ fn told_of(
     Ok(told)
 }
 
-/// Answers the commands of a script, up to its first bad line, with so many levels of calls, by the small grammar and in
-/// edition 2024. Refused where there is no memory for it.
+/// Answers the commands of a script, up to its first bad line, with `depth` levels of calls, by
+/// the small grammar and in edition 2024. The forms of lines and answers are at the head of this
+/// crate. Its only error is out of memory.
 pub fn answer_script(alloc: Global, text: &str, depth: u8) -> Result<Replayed, AllocError>
     ensures { IfOk result (λ r. IsReplayed text.now depth (string_bytes r.told) r.bad) }
 {

@@ -14,8 +14,8 @@ use crate::scan::{
 };
 use crate::token::{LiteralKind, TokenKind};
 
-/// Whether the text is an identifier: one character that may begin it, and others that may go on.
-/// Keywords and `_` are.
+/// Whether the text is one identifier: a character that may begin one, and others that may
+/// continue it. Keywords and `_` are identifiers here. (The Rust Reference, "Identifiers".)
 pub fn is_ident(string: &str) -> bool
     ensures { result ≡ is_ident (chars string.now) }
 {

@@ -36,8 +36,8 @@ pub fn tokens_begin()
     ensures { (text : List ℕ) → IsUtf8 text → AreTokensFrom text 0 (tokens_of (chars text)) }
 {}
 
-/// Where a first token is left, it stands where the tokens that are left begin, and the others begin
-/// behind it.
+/// If tokens remain, the first one is at the offset where they begin, and the others begin right
+/// after it.
 pub fn next_token()
     ensures here { (text : List ℕ) (at : ℕ) (left : List Token) (t : Token) (ts : List Token) →
         IsUtf8 text → AreTokensFrom text at left → left ≡ t ∷ ts → IsTokenAt text at t }
@@ -45,14 +45,14 @@ pub fn next_token()
         IsUtf8 text → AreTokensFrom text at left → left ≡ t ∷ ts → AreTokensFrom text (at + t.len) ts }
 {}
 
-/// Where no token is left, the text ends.
+/// If no token remains, the offset is the end of the text.
 pub fn tokens_end()
     ensures { (text : List ℕ) (at : ℕ) (left : List Token) →
         IsUtf8 text → AreTokensFrom text at left → left ≡ [] → at ≡ length text }
 {}
 
-/// Each length is at least 1. The first lengths sum to the place where the other tokens begin, a
-/// character's boundary, and all of them to the length of the text.
+/// Each length is at least 1. The first k lengths sum to the offset of the next token, a character
+/// boundary; all of them sum to the length of the text.
 pub fn token_lengths()
     ensures positive { (text : List ℕ) → IsUtf8 text → All (λ t. 1 ≤ t.len) (tokens_of (chars text)) }
     ensures boundaries { (text : List ℕ) (k : ℕ) →
@@ -67,8 +67,8 @@ pub fn no_token_is_eof()
     ensures { (text : List ℕ) → IsUtf8 text → All (λ t. ¬ (t.kind ≡ Eof)) (tokens_of (chars text)) }
 {}
 
-/// The first k lexemes of a text take `place k` characters: what follows these has the other tokens,
-/// and the lengths of the first k tokens sum to the bytes of these characters.
+/// The first k lexemes of a text take `place k` characters. The text after these has the other
+/// tokens, and the lengths of the first k tokens sum to the bytes of these characters.
 pub fn rest_of_tokens()
     ensures rest { (k : ℕ) (cs : List ℕ) → tokens_of (drop (place k cs) cs) ≡ drop k (tokens_of cs) }
     ensures bytes { (k : ℕ) (cs : List ℕ) → sum_by (λ t. t.len) (take k (tokens_of cs)) ≡ utf8_len (take (place k cs) cs) }
@@ -81,10 +81,10 @@ pub fn first_of_tokens()
         ≡ token_of (lexeme (c ∷ cs)) (c ∷ cs) ∷ tokens_of (drop (lexeme (c ∷ cs)).size (c ∷ cs)) }
 {}
 
-/// The first k tokens hang on the characters that `reach` counts, and on no others: a text with the
-/// same characters up to there, or that ends where the first one does, has the same first k tokens
-/// at the same places. In bytes: a text that begins with the same bytes of these tokens, behind which
-/// stand the same two characters, or as many of them, has the same first k tokens.
+/// The first k tokens depend on the characters that `reach` counts, and on no others. A text with
+/// the same characters up to there, or that ends where the first one does, has the same first k
+/// tokens at the same offsets. In bytes: so it is for a text that begins with the same bytes of
+/// these tokens, followed by the same two characters, or as many of them.
 pub fn first_tokens()
     ensures tokens { (k : ℕ) (cs ds : List ℕ) →
         take (reach k cs) cs ≡ take (reach k cs) ds → take k (tokens_of ds) ≡ take k (tokens_of cs) }
@@ -96,20 +96,21 @@ pub fn first_tokens()
         take k (tokens_of (chars other)) ≡ take k (tokens_of (chars text)) }
 {}
 
-/// The suffix of a literal begins inside its token or right behind it, between two characters.
+/// The suffix of a literal begins inside its token or right after it, at a character boundary.
 pub fn suffix_starts()
     ensures within { (text : List ℕ) (at : ℕ) (t : Token) → IsTokenAt text at t → suffix_of t.kind ≤ t.len }
     ensures boundary { (text : List ℕ) (at : ℕ) (t : Token) → IsUtf8 text → IsTokenAt text at t →
         IsCharBoundary text (at + suffix_of t.kind) }
 {}
 
-/// A text that is one whole token is that token too where a space, a line feed or nothing follows.
+/// A text that is one whole token is still that token before a space, a line feed or the end.
 pub fn whole_token()
     ensures { (cs ds : List ℕ) (t : Token) → tokens_of cs ≡ t ∷ [] → is_whole t.kind ≡ true → ends_here ds ≡ true →
         tokens_of (cs ++ ds) ≡ t ∷ tokens_of ds }
 {}
 
-/// The characters of a token that stands alone are that token by themselves, whatever follows them in the text.
+/// The characters of a token that stands alone are that token by themselves, whatever follows them
+/// in the text: all whole tokens but raw lifetimes and unknown prefixes.
 pub fn token_alone()
     ensures chars { (cs : List ℕ) (t : Token) (ts : List Token) → tokens_of cs ≡ t ∷ ts → stands_alone t.kind ≡ true →
         tokens_of (take (lexeme cs).size cs) ≡ t ∷ [] }
@@ -141,7 +142,7 @@ pub fn quoted_name()
         tokens_of (39 ∷ cs) ≡ record { kind = Lifetime false; len = t.len + 1 } ∷ [] }
 {}
 
-/// Behind the quote of a lifetime stands an identifier.
+/// The quote of a lifetime is followed by an identifier.
 pub fn name_of_a_lifetime()
     ensures { (text : List ℕ) (at : ℕ) (t : Token) → IsTokenAt text at t → t.kind ≡ Lifetime false →
         is_ident (drop 1 (chars (slice_range text at (at + t.len)))) ≡ true }
@@ -171,8 +172,8 @@ pub fn one_escaped_string()
         ≡ record { kind = Literal (Str true) (utf8_len (34 ∷ with_escapes cs ++ 34 ∷ [])); len = utf8_len (34 ∷ with_escapes cs ++ 34 ∷ []) } ∷ [] }
 {}
 
-/// A token that is terminated begins and ends as its kind does, and the suffix of a literal follows
-/// its ending: `suffix_start` counts what stands before it.
+/// A terminated token begins and ends as its kind does. The suffix of a literal follows its
+/// ending; `suffix_start` is the length of all before it.
 pub fn token_shapes()
     ensures chars { (text : List ℕ) (at : ℕ) (t : Token) → IsTokenAt text at t → is_ended t.kind ≡ true →
         HasShape t.kind (chars (slice_range text at (at + t.len))) }

@@ -6,11 +6,12 @@ ghost use Rattle.rustc_lexer.specs.Shebang.{is_blank, is_open_bracket, begins_wi
 use crate::lex::tokenize;
 use crate::token::{FrontmatterAllowed, TokenKind};
 
-/// The length in bytes of the `#!` at the front of a script and the rest of that line, without the
-/// line's end (`\n` or `\r\n`).
+/// The length in bytes of a script's first line, from its `#!` up to but not including the line
+/// end (`\n` or `\r\n`). The text has at most `u32::MAX` bytes. (The Rust Reference, "Input
+/// format".)
 ///
-/// None where the text does not begin with `#!`, or where an inner attribute does, as `#![a]`: there
-/// `[` is the first token behind `#!` but for white space and comments that document nothing.
+/// `None` if the text does not begin with `#!`, or begins with an inner attribute, as `#![a]`:
+/// there `[` is the first token after `#!` that is neither white space nor a plain comment.
 pub fn strip_shebang(input: &str) -> Option<usize>
     requires { length input.now < 2 ^ 32 }
     ensures { result ≡ shebang input.now }

@@ -15,9 +15,10 @@ use fragment_grammar::{FragmentGrammar, Prefix, PrefixEntryPoint, steps};
 use tt::{TokenTreesView, TtIter};
 use tt_data::DelimiterKind;
 
-/// A small grammar of Rust: visibilities, expressions, types, paths, patterns, attributes and blocks.
+/// A small grammar of Rust: visibilities, expressions, types, paths, patterns, attributes and
+/// blocks. `specs/SmallGrammar.antt` is its table of rules.
 ///
-/// It takes no memory. What is in groups it doesn't look at, but for that of a visibility.
+/// It takes no memory. It passes groups without looking inside, except for a visibility's.
 #[derive(Clone, Copy, Drop, Debug)]
 pub struct SmallGrammar;
 

@@ -18,10 +18,10 @@ use std::fmt;
 use std::hash::{Hash, Hasher};
 use std::marker::Model;
 
-/// Text that any number of owners share.
+/// Shared text.
 ///
-/// A clone takes no memory and is never refused, and the text is freed with the last of them.
-/// A text that comes to have 2^64 - 1 owners at once is kept for good.
+/// A clone takes no memory and is never refused. The last owner frees the text; a text that once
+/// has 2^64 - 1 owners is never freed.
 pub struct Symbol {
     owner: Shared<String>,
     alloc: Global,
@@ -34,7 +34,8 @@ impl Model for Symbol {
 }
 
 impl Symbol {
-    /// A symbol with this text, which is copied. It takes two blocks of memory: the copy, and the count of its owners.
+    /// A symbol with a copy of this text. It takes two blocks of memory: the copy, and the count
+    /// of its owners.
     ///
     /// # Errors
     ///
@@ -75,7 +76,7 @@ impl Clone for Symbol {
 }
 
 impl Drop for Symbol {
-    /// One owner less. The last one frees the text.
+    /// One owner fewer. The last one frees the text.
     fn drop(self) {
         let Symbol { owner, alloc } = self;
         if let Some(block) = owner.release() {

@@ -16,11 +16,11 @@ use std::alloc::AllocError;
 use std::marker::Model;
 use tt_data::{Leaf, Subtree, TokenTree};
 
-/// A place in a list of trees: between two trees of the list, or of a group in it.
+/// A position in a list of trees: between two trees of the list, or of a group in it.
 ///
-/// Its walk goes over leaves, openings and closings. It takes no memory. A step looks at the innermost
-/// group's head and at most two tokens. Of the lists around its own it knows the sixteen that it came
-/// through last; leaving a group for one that is further out looks back over that list's tokens.
+/// It walks over leaves, openings and closings, and takes no memory. A step looks at the innermost
+/// group's head and at most two tokens. It remembers the nearest sixteen lists around its own;
+/// leaving a group for one further out looks back over that list's tokens.
 #[derive(Debug, Drop)]
 pub struct Cursor<'a> {
     tokens: Tokens<'a>,
@@ -53,7 +53,7 @@ impl<'a> Clone for Cursor<'a> {
 
     ghost is_infallible = { λ _. ⊤ };
 
-    /// A cursor of its own at the same place. It is never refused.
+    /// A second cursor at the same position. It is never refused.
     fn clone(&self) -> Result<Cursor<'a>, AllocError> {
         Ok(Cursor {
             tokens: self.tokens,
@@ -143,7 +143,7 @@ impl<'a> Cursor<'a> {
     ghost use Rattle.tt_data.specs.Forest.{empty};
     ghost use Rattle.tt.specs.Places.{beginning, IsEnd, first_token, bumped, ended, moved, innermost_head};
 
-    /// Before the first tree of the list.
+    /// A cursor before the first tree of the list.
     pub fn new(origin: TokenTreesView<'a>) -> Cursor<'a>
         ensures { result ≡ beginning (forest origin.entry) }
     {
@@ -174,7 +174,7 @@ impl<'a> Cursor<'a> {
         self.tokens.head_at(self.start.checked_sub(1)?)
     }
 
-    /// Whether it is after the last tree, in no group.
+    /// Whether it is in no group, after the last tree.
     pub fn eof(&self) -> bool
         ensures { IsTrue result ↔ IsEnd self.now }
     {
@@ -188,7 +188,7 @@ impl<'a> Cursor<'a> {
         self.start == 0
     }
 
-    /// The token at the place: a leaf, or the head of a group, and none at the end of a list.
+    /// The token at the position: a leaf, or the head of a group. `None` at the end of a list.
     pub fn token_tree(&self) -> Option<TokenTree>
         ensures token { result ≡ first_token self.now.after }
         ensures at_end { IsNone result ↔ (self.now.after ≡ empty) }
@@ -196,7 +196,7 @@ impl<'a> Cursor<'a> {
         self.after().tokens.first()
     }
 
-    /// Leaves the innermost group, at whose end it is, and answers the head of that group.
+    /// Leaves the innermost group, at whose end the cursor is, and answers that group's head.
     pub fn end(&mut self) -> Subtree
         requires inside { self.old.around ≢ [] }
         requires at_end { self.old.after ≡ empty }
@@ -210,7 +210,7 @@ impl<'a> Cursor<'a> {
         group
     }
 
-    /// Goes past the leaf that comes next, or into the group.
+    /// Goes past the leaf that comes next, or into the group that comes next. A tree comes next.
     pub fn bump(&mut self)
         requires { self.old.after ≢ empty }
         ensures { self.new ≡ bumped self.old }
@@ -225,8 +225,8 @@ impl<'a> Cursor<'a> {
         }
     }
 
-    /// Goes past the leaf that comes next, or into the group, or at the end of a list out of the
-    /// innermost group.
+    /// Goes past the leaf that comes next, or into the group; at the end of a list, out of the
+    /// innermost group. It is not at `eof`.
     pub fn bump_or_end(&mut self)
         requires { IsEnd self.old → ⊥ }
         ensures { self.new ≡ moved self.old }
@@ -238,14 +238,14 @@ impl<'a> Cursor<'a> {
         }
     }
 
-    /// The two leaves that come next in the list: none where one of them is a group or missing.
+    /// The next two trees of the list, if both are leaves.
     pub fn peek_two_leaves(&self) -> Option<[Leaf; 2]>
         ensures { result ≡ two_leaves self.now.after }
     {
         leaf_pair(self.after())
     }
 
-    /// The trees before the place, which is in no group.
+    /// The trees before the position. It is in no group.
     pub fn crossed(&self) -> TokenTreesView<'a>
         requires { self.now.around ≡ [] }
         ensures { forest result ≡ self.now.before }
@@ -258,7 +258,7 @@ impl<'a> Cursor<'a> {
 impl<'a> TokenTreesView<'a> {
     ghost use Rattle.tt.specs.Places.{beginning};
 
-    /// A place in the list, before the first tree.
+    /// A cursor before the first tree of the list.
     pub fn cursor(&self) -> Cursor<'a>
         ensures { result ≡ beginning (forest self.now) }
     {

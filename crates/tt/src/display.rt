@@ -73,7 +73,7 @@ impl fmt::Display for Prettily<'_> {
 }
 
 /// The text of these trees: their tokens with a space between two of them, but none right inside
-/// brackets and none after a `Joint` punct. Invisible brackets are no tokens.
+/// delimiters and none after a `Joint` punct. Invisible delimiters are no tokens.
 ///
 /// `Memory` is its only error.
 pub fn pretty(alloc: Global, tkns: TokenTreesView<'_>) -> Result<String, TtFault>

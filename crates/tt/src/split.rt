@@ -6,7 +6,7 @@ ghost use Rattle.tt.specs.Splitting.{Cuts, split_steps, pieces_left};
 use crate::iter::{TtElement, TtIter};
 use crate::view::TokenTreesView;
 
-/// The pieces of a list of trees, between the trees for which a test is true.
+/// The parts of a list of trees, between the trees for which a test is true.
 #[derive(Drop)]
 pub struct Split<'a, F> {
     // What is left to be cut: none once the last piece is out.
@@ -15,8 +15,8 @@ pub struct Split<'a, F> {
 }
 
 impl<'a> TokenTreesView<'a> {
-    /// The pieces of the list, between the trees for which `test` is true: one more than there are
-    /// such trees, and so one for a list without trees. Each tree is tested once.
+    /// The parts of the list, between the trees for which `test` is true: one more than there are
+    /// such trees, and so one for a list without trees. Each tree is tested once, in order.
     pub fn split<F: FnMut(TtElement<'a>) -> bool>(self, test: F) -> Split<'a, F>
         ensures rest { result.rest ≡ Some (forest self.entry) }
         ensures test { result.test ≡ test }
@@ -61,7 +61,7 @@ impl<'a, F: FnMut(TtElement<'a>) -> bool> Iterator for Split<'a, F> {
 
     ghost remaining = { pieces_left };
 
-    /// The next piece: none where the last is out.
+    /// The next part. `None` after the last.
     fn next(&mut self) -> Option<TokenTreesView<'a>> {
         let trees = self.rest.take()?;
         let (piece, rest) = cut(trees, &mut self.test);

@@ -12,7 +12,8 @@ use std::mem::replace;
 use tt::{TokenTreesView, TtIter};
 use tt_data::{Delimiter, DelimiterKind, Leaf, Span, TtFault};
 
-/// A step of a traversal: a leaf, which is lent, or a bracket of a group that may be invisible.
+/// A step of a walk: a leaf, which is borrowed, or an opening or closing of a group that may be
+/// invisible.
 #[derive(Drop)]
 pub enum TokenEvent<'a> {
     Leaf(&'a Leaf),
@@ -28,7 +29,8 @@ pub(crate) struct OpenGroup<'a> {
     rest: TtIter<'a>,
 }
 
-/// The events that remain: the trees that are left of the innermost list, and the open groups, the innermost last.
+/// The events that are left: the trees left in the innermost list, and the open groups, innermost
+/// last.
 #[derive(Drop)]
 pub(crate) struct Events<'a> {
     here: TtIter<'a>,

@@ -6,7 +6,8 @@ ghost use Rattle.bridge.specs.RelativeSpans.{is_anchored, is_in_text, is_within,
 use std::marker::Model;
 use tt_data::{Span, TextRange};
 
-/// The offsets to which the ranges of an item are relative: of its own tokens, and of those with another anchor than 0.
+/// The offsets by which the ranges of a piece are shifted: those of its own tokens, and those with
+/// another anchor than 0.
 #[derive(Clone, Copy)]
 pub struct Shift {
     pub start: u32,
@@ -20,7 +21,7 @@ struct Bounds {
     anchor: u32,
 }
 
-/// Spans of an item, in order.
+/// Piece-relative spans, in order.
 #[derive(Drop)]
 pub struct RelativeSpans {
     spans: Vec<Span>,
@@ -57,7 +58,7 @@ impl RelativeSpans {
         self.spans.as_slice()
     }
 
-    /// The only anchor besides 0, or any one where there is none; `None` where there are more.
+    /// The only anchor besides 0, or any number if there is none; `None` if there are more.
     pub fn anchor(&self) -> Option<u32>
         ensures { IfSome result (λ a. list_all (is_anchored a) self.now ≡ true) }
     {
@@ -67,7 +68,8 @@ impl RelativeSpans {
         }
     }
 
-    /// Whether all of them are spans of a text when they are shifted; `false` where there are two anchors besides 0.
+    /// Whether all of them are spans of a text when they are shifted; `false` if there are two
+    /// anchors besides 0.
     pub fn fits(&self, shift: Shift) -> bool
         ensures { result ≡ true → list_all (is_in_text shift) self.now ≡ true }
     {

@@ -34,7 +34,8 @@ struct SpanRuns {
     own: Vec<Span>,
 }
 
-/// Spans in order.
+/// A list of spans, some of them shared with a chunk and computed when asked for. A refused call
+/// changes nothing.
 #[derive(Drop)]
 pub struct SpanList {
     inner: SpanRuns,
@@ -53,7 +54,7 @@ impl Model for SpanList {
 }
 
 impl SpanList {
-    /// No span.
+    /// An empty list.
     pub fn new(alloc: Global) -> SpanList
         ensures { result ≡ [] }
     {
@@ -66,7 +67,7 @@ impl SpanList {
         }
     }
 
-    /// No span, with room for so many runs of shared ones, and for so many others.
+    /// An empty list with room for so many runs of shared spans, and for so many others.
     pub fn with_room(alloc: Global, runs: usize, own: usize) -> Result<SpanList, AllocError>
         ensures { IfOk result (λ places. places ≡ []) }
     {
@@ -81,21 +82,21 @@ impl SpanList {
         })
     }
 
-    /// How many there are.
+    /// The number of spans.
     pub fn len(&self) -> usize
         ensures { result ≡ length self.now }
     {
         self.inner.shared + self.inner.own.len()
     }
 
-    /// The span of this number, from 0.
+    /// The span of this index, from 0, if there is one.
     pub fn get(&self, i: usize) -> Option<Span>
         ensures { result ≡ slice_get self.now i }
     {
         place_at(&self.inner, i)
     }
 
-    /// Adds a span.
+    /// Appends a span.
     pub fn push(&mut self, span: Span) -> Result<(), AllocError>
         ensures ok { OnOk result (self.new ≡ self.old ++ span ∷ []) }
         ensures err { OnErr result (self.new ≡ self.old) }
@@ -106,7 +107,7 @@ impl SpanList {
         }
     }
 
-    /// Adds these spans.
+    /// Appends these spans.
     pub fn extend_from_slice(&mut self, spans: &[Span]) -> Result<(), AllocError>
         ensures ok { OnOk result (self.new ≡ self.old ++ spans.now) }
         ensures err { OnErr result (self.new ≡ self.old) }
@@ -114,7 +115,8 @@ impl SpanList {
         self.inner.own.extend_from_slice(spans)
     }
 
-    /// Adds shared spans, shifted, which are not copied; `false`, and nothing is done, where they do not fit.
+    /// Appends shared spans, shifted, without copying them. `false`, with nothing changed, if they
+    /// would be no spans of a text.
     pub fn push_shared(
         &mut self,
         shared: &Rc<RelativeSpans>,
@@ -126,14 +128,14 @@ impl SpanList {
         push_shifted(&mut self.inner, shared, shift)
     }
 
-    /// Keeps the first spans alone, so many of them.
+    /// Keeps the first `count` spans.
     pub fn truncate(&mut self, count: usize)
         ensures { self.new ≡ take count self.old }
     {
         cut(&mut self.inner, count)
     }
 
-    /// The spans in one vector. Refused where there is no memory for it, and then nothing changes.
+    /// The spans in one vector. Refused if there is no memory for it.
     pub fn take_spans(&mut self) -> Result<Vec<Span>, AllocError>
         ensures ok { IfOk result (λ spans. spans.items ≡ self.old) }
         ensures err { OnErr result (self.new ≡ self.old) }
@@ -141,7 +143,7 @@ impl SpanList {
         all_spans(&mut self.inner)
     }
 
-    /// Equal spans. Refused where there is no memory for it.
+    /// Equal spans. Refused if there is no memory for them.
     pub fn try_clone(&self, alloc: Global) -> Result<SpanList, AllocError>
         ensures { IfOk result (λ p. p ≡ self.now) }
     {

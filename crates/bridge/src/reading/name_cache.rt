@@ -8,7 +8,7 @@ use tt_data::{Symbol, TtFault};
 // How many names are known at most: a power of two.
 const MOST_NAMES: usize = 512;
 
-/// Names that were read lately. One that is read again takes no memory.
+/// A cache of names that were read. A name that is read again shares its text and takes no memory.
 #[derive(Drop)]
 pub struct NameCache {
     pub(crate) alloc: Global,
@@ -26,7 +26,7 @@ fn slot_of(name: &str) -> usize {
 }
 
 impl NameCache {
-    /// No names so far.
+    /// An empty cache.
     pub fn new(alloc: Global) -> NameCache {
         NameCache {
             alloc,

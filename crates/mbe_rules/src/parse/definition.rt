@@ -195,13 +195,15 @@ fn ending(rules: Rules) -> Rules
     rules
 }
 
-/// Reads the rules of `macro_rules! name { .. }`, whose braces are those of `tt`: they are separated by
-/// `;`, which may also come after the last. A rule that has a fault ends the reading: the rules
-/// before it stay, and `err` is that fault. Where one of the patterns can repeat without end, `err` is
-/// `RepetitionEmptyTokenTree`, whatever else was wrong. (The Rust Reference, "Macros By Example".)
+/// Parses the rules of `macro_rules! name { .. }`, whose delimiters are those of `tt`. They are
+/// separated by `;`, which may also follow the last. (The Rust Reference, "Macros By Example".)
 ///
-/// `ctx_edition` answers the edition of the tokens of each of the two contexts; it is asked once about
-/// each. `Err` is `Memory` alone.
+/// A rule with a fault ends the parse: the rules before it stay, and `err` is that fault. If one
+/// of the patterns can iterate without end, `err` is `RepetitionEmptyTokenTree`, whatever else is
+/// wrong.
+///
+/// `ctx_edition` answers the edition of the tokens of each of the two contexts, and is asked once
+/// about each. `Memory` is the only error.
 pub fn parse_macro_rules<F: Fn(SyntaxContext) -> Edition>(
     alloc: Global,
     tt: &TopSubtree,
@@ -217,9 +219,10 @@ pub fn parse_macro_rules<F: Fn(SyntaxContext) -> Edition>(
     Ok(ending(rules))
 }
 
-/// Reads the rules of `macro name { .. }`, whose braces are those of `body`, as `parse_macro_rules`
-/// does; they are separated by `;` or `,`. With `args` it reads `macro name(..) { .. }`: one rule, whose
-/// pattern is in `args` and whose template in `body`. (Rust's unstable book, `decl_macro`.)
+/// Parses the rules of `macro name { .. }`, whose delimiters are those of `body`, as
+/// `parse_macro_rules` does; they are separated by `;` or `,`. With `args` it parses `macro
+/// name(..) { .. }`: one rule, with its pattern in `args` and its template in `body`. (Rust's
+/// unstable book, `decl_macro`.)
 pub fn parse_macro2<F: Fn(SyntaxContext) -> Edition>(
     alloc: Global,
     args: Option<&TopSubtree>,

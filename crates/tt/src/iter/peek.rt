@@ -8,7 +8,7 @@ use crate::iter::TtIter;
 use tt_data::{Delimiter, Ident, Leaf, LitKind, Punct, Subtree};
 
 impl<'a> TtIter<'a> {
-    /// The punct that comes next.
+    /// The punct that comes next, if one does, and the trees after it.
     pub fn first_punct(&self) -> Option<(Punct, TtIter<'a>)>
         ensures { result ≡ first_punct self.now }
     {
@@ -16,7 +16,7 @@ impl<'a> TtIter<'a> {
         Some((punct, TtIter { tokens: more }))
     }
 
-    /// The identifier that comes next.
+    /// The identifier that comes next, if one does, and the trees after it.
     pub fn first_ident(&self) -> Option<(Ident, TtIter<'a>)>
         ensures { result ≡ first_ident self.now }
     {
@@ -24,7 +24,8 @@ impl<'a> TtIter<'a> {
         Some((ident, TtIter { tokens: more }))
     }
 
-    /// The identifier that comes next, borrowed: its text gets no other owner.
+    /// The identifier that comes next, borrowed, and the trees after it. Its text gets no other
+    /// owner.
     pub fn lent_ident(&self) -> Option<(&'a Ident, TtIter<'a>)>
         ensures { option_map (λ p. (p.0.now, p.1)) result ≡ first_ident self.now }
     {
@@ -32,7 +33,7 @@ impl<'a> TtIter<'a> {
         Some((ident, TtIter { tokens: more }))
     }
 
-    /// The leaf that comes next, borrowed: its text gets no other owner.
+    /// The leaf that comes next, borrowed, and the trees after it. Its text gets no other owner.
     pub fn lent_leaf(&self) -> Option<(&'a Leaf, TtIter<'a>)>
         ensures { option_map (λ p. (p.0.now, p.1)) result ≡ first_leaf self.now }
     {
@@ -40,7 +41,7 @@ impl<'a> TtIter<'a> {
         Some((leaf, TtIter { tokens: more }))
     }
 
-    /// The kind of the literal that comes next.
+    /// The form of the literal that comes next, if one does, and the trees after it.
     pub fn first_literal(&self) -> Option<(LitKind, TtIter<'a>)>
         ensures { result ≡ first_literal self.now }
     {
@@ -65,7 +66,8 @@ impl<'a> TtIter<'a> {
         Some((head, TtIter { tokens: inner }, TtIter { tokens: rest }))
     }
 
-    /// The brackets of the group that comes next, and a walk over the trees inside.
+    /// The delimiters of the group that comes next, if one does, a walk over the trees inside, and
+    /// one over the trees after it.
     pub fn first_group(&self) -> Option<(Delimiter, TtIter<'a>, TtIter<'a>)>
         ensures { result ≡ first_group self.now }
     {

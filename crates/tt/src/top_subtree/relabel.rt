@@ -14,13 +14,11 @@ use std::collections::HashMap;
 use tt_data::{Delimiter, TtFault};
 
 impl TopSubtree {
-    /// Puts other anchors in place of those of the tree: what `f` answers for each. It is asked about
-    /// each anchor once, in the order in which the tokens inside the group have them for the first
-    /// time, an opening bracket before its closing one and both before what they have inside, and then
-    /// about those that the group's own brackets alone have.
+    /// Replaces every anchor of the tree by what `f` answers for it. `f` is asked about each
+    /// anchor once, in the order of first use below the top, a group's delimiters before its
+    /// contents. Anchors that the top's own delimiters alone have come last.
     ///
-    /// The memory for this is taken before `f` is asked. `Memory` is the only error: then `f` was not
-    /// asked, and the tree is as it was.
+    /// `Memory` is the only error: then `f` was not asked, and the tree is as it was.
     pub fn change_every_ast_id<F: FnMut(u32) -> u32>(
         &mut self,
         alloc: Global,

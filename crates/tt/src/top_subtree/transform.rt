@@ -17,18 +17,17 @@ use std::alloc::{AllocError, Global};
 use std::mem::replace;
 use tt_data::{Delimiter, Leaf, Span, Subtree, TokenTree, TtFault};
 
-/// What becomes of a token that a walk has come to.
+/// What becomes of a token that a walk has reached.
 #[derive(Clone, Copy)]
 pub enum TransformTtAction<'a> {
-    /// It stays. In a group the walk goes on.
+    /// It stays. If it is a group, the walk goes on inside.
     Keep,
-    /// These trees come in its place, for a group in place of all that it has inside too. They are
-    /// not walked.
+    /// These trees replace it, a group with all inside it. They are not walked.
     ReplaceWith(TokenTreesView<'a>),
 }
 
 impl<'a> TransformTtAction<'a> {
-    /// The token goes, and nothing comes in its place.
+    /// The token goes, a group with all inside it.
     pub fn remove() -> TransformTtAction<'a>
         ensures { replacement result ≡ Some empty }
     {
@@ -36,12 +35,13 @@ impl<'a> TransformTtAction<'a> {
     }
 }
 
-/// Asks `callback` about each token, the top's own head first and a group's head before what it has
-/// inside, and puts in a token's place what it answers. What is put there is not walked.
+/// Asks `callback` about each token, the top's own head first and a group's head before its
+/// contents, and does what it answers. Replacements are not walked.
 ///
-/// It answers `Malformed` where the top gave way to anything but one group, and only there; `Tokens`
-/// only where the tree would have more than `u32::MAX` tokens below its top, whatever the callback
-/// were to say of the tokens left; and else only `Memory`. The tree is then as it was.
+/// It refuses `Malformed` exactly where the top gives way to anything but one group. It refuses
+/// `Tokens` only where the tree would have more than `u32::MAX` tokens below its top, whatever the
+/// callback answered for the tokens left. Its one other error is `Memory`. A refused call leaves
+/// the tree as it was.
 pub fn transform_tt<'b, F: FnMut(&TokenTree) -> TransformTtAction<'b>>(
     alloc: Global,
     tt: &mut TopSubtree,
