@@ -79,7 +79,7 @@ impl<'a> Thread<'a> {
     ) -> Result<Choices<'a>, AllocError>
         ensures { let p = place_of place.now in
             IfOk result (λ cs. given p cs.0 ++ given p cs.1
-            ≡ map (extended (moves_of self.now.moves)) (r.fragment_moves variable.name.now variable.kind count
+            ≡ map (extended (moves_of self.now.moves)) (r.fragment_moves variable.entry.name.now variable.entry.kind count
             (items_of items.now) (frames_of self.now.frames) p)) }
     {
         let Variable { name, kind } = variable;
