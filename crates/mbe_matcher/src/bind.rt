@@ -9,7 +9,7 @@ ghost use Rattle.mbe_matcher.specs.Bound.{map_of};
 ghost use Rattle.mbe_matcher.specs.Threads.{move_of, moves_of, rounds_of, steps_of};
 
 use crate::bindings::{Binding, Bindings, Bound, put_value};
-use crate::position::{again, parted};
+use crate::position::parted;
 use crate::thread::{Entry, IterationStart, Move};
 use mbe_rules::{MetaVarKind, Op};
 use std::alloc::{AllocError, Global};
@@ -102,7 +102,7 @@ impl<'a> Open<'a> {
         ensures { (os : List (spec.Map × ℕ)) → OnOk result ((map_of round.new, open_of self.new ∷ os)
             ≡ after_all (rounds_of name.now kind trees.now) (map_of round.old, open_of self.old ∷ os)) }
     {
-        let mut rest = again(trees);
+        let mut rest = trees.copied();
         while !rest.is_empty() {
             let (tree, behind) = parted(&rest, 1);
             let binding = Binding::Fragment { kind, trees: tree };
@@ -176,7 +176,7 @@ impl<'a> Run<'a> {
         ensures { OnOk result (run_of self.new ≡ run_through kind trees.now (run_of self.old)) }
     {
         self.values.reserve(trees.remaining().len())?;
-        let mut rest = again(trees);
+        let mut rest = trees.copied();
         while !rest.is_empty() {
             let (tree, behind) = parted(&rest, 1);
             let next = Binding::Fragment { kind, trees: tree };
@@ -293,7 +293,7 @@ impl<'a> Collected<'a> {
     ) -> Result<(), AllocError>
         ensures { OnOk result (collected_of self.new ≡ after_all (rounds_of name.now kind trees.now) (collected_of self.old)) }
     {
-        let mut rest = again(trees);
+        let mut rest = trees.copied();
         while !rest.is_empty() {
             let (tree, behind) = parted(&rest, 1);
             self.begin_round(name, kind, tree)?;

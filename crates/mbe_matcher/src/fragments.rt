@@ -4,7 +4,7 @@ ghost use Rattle.mbe_matcher.specs.Fragments.{taken, ident_trees, lifetime_trees
 ghost use Rattle.mbe_matcher.specs.Grammar.{asked, reach};
 ghost use Rattle.mbe_matcher.specs.Places.{left_after};
 
-use crate::position::{again, quoted};
+use crate::position::quoted;
 use fragment_grammar::{FragmentGrammar, PrefixEntryPoint, steps};
 use mbe_rules::MetaVarKind;
 use tt::{Leaf, Literal, Punct, TtElement, TtIter};
@@ -144,7 +144,7 @@ fn without_tree(tree: &TtElement<'_>, number: usize) -> Option<usize>
 pub(crate) fn reached(trees: &TtIter<'_>, number: usize) -> (usize, bool)
     ensures { result ≡ reach trees.now number }
 {
-    let mut rest = again(trees);
+    let mut rest = trees.copied();
     let mut left = number;
     let mut count = 0;
     while left > 0 {

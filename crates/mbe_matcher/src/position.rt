@@ -32,14 +32,6 @@ pub enum Consumed {
     Fragment(usize),
 }
 
-// The list once more.
-#[inline(always)]
-pub(crate) fn again<'a>(trees: &TtIter<'a>) -> TtIter<'a>
-    ensures { result ≡ trees.now }
-{
-    trees.remaining().iter()
-}
-
 // The trees after the first one.
 #[inline]
 #[tactic(auto, using(crate::proofs::PlaceLemmas::after_leaf, crate::proofs::PlaceLemmas::after_group, crate::proofs::PlaceLemmas::after_nothing))]
@@ -51,7 +43,7 @@ pub(crate) fn after_first<'a>(trees: &TtIter<'a>) -> TtIter<'a>
     }
     match trees.first_group() {
         Some((_brackets, _inner, rest)) => rest,
-        None => again(trees),
+        None => trees.copied(),
     }
 }
 
@@ -60,7 +52,7 @@ pub(crate) fn after_first<'a>(trees: &TtIter<'a>) -> TtIter<'a>
 pub(crate) fn past<'a>(trees: &TtIter<'a>, count: usize) -> TtIter<'a>
     ensures { result ≡ past count trees.now }
 {
-    let mut rest = again(trees);
+    let mut rest = trees.copied();
     let mut left = count;
     while left > 0 {
         rest = after_first(&rest);

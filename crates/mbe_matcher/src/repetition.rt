@@ -15,7 +15,7 @@ ghost use Rattle.mbe_matcher.specs.declared.position.Consumed.TheVariants.{Fragm
 
 use crate::fragments::fragment_trees;
 use crate::matcher::Waiting;
-use crate::position::{Consumed, Place, after_first, again, before, parted, past};
+use crate::position::{Consumed, Place, after_first, before, parted, past};
 use crate::thread::{Frame, Move, Round, Rung, Thread, extended_by_round, extended_by_rounds};
 use bumpalo::Bump;
 use fragment_grammar::FragmentGrammar;
@@ -116,7 +116,7 @@ fn singles<'a, G: FragmentGrammar>(
     if !is_single(grammar, kind, trees) {
         return None;
     }
-    let mut last = again(trees);
+    let mut last = trees.copied();
     let mut rest = after_first(trees);
     while is_single(grammar, kind, &rest) {
         let behind = after_first(&rest);

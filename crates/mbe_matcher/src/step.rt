@@ -28,6 +28,13 @@ pub struct Choice<'a> {
 /// The next moves of a thread: at most two.
 pub type Choices<'a> = (Option<Choice<'a>>, Option<Choice<'a>>);
 
+// A variable of a pattern, and its fragment specifier.
+#[derive(Clone, Copy)]
+struct Variable<'a> {
+    name: &'a Symbol,
+    kind: MetaVarKind,
+}
+
 fn borrowed<'a>(separator: &'a Option<Separator>) -> Option<&'a Separator>
     ensures { between_of result ≡ option_map separator_of separator.now }
 {
@@ -65,16 +72,17 @@ impl<'a> Thread<'a> {
     fn fragments(
         &self,
         arena: &'a Bump,
-        name: &'a Symbol,
-        kind: MetaVarKind,
+        variable: Variable<'a>,
         count: Option<usize>,
         items: &'a [Op],
         place: &Place<'a>,
     ) -> Result<Choices<'a>, AllocError>
         ensures { let p = place_of place.now in
             IfOk result (λ cs. given p cs.0 ++ given p cs.1
-            ≡ map (extended (moves_of self.now.moves)) (r.fragment_moves name.now kind count (items_of items.now) (frames_of self.now.frames) p)) }
+            ≡ map (extended (moves_of self.now.moves)) (r.fragment_moves variable.entry.name.now variable.entry.kind count
+            (items_of items.now) (frames_of self.now.frames) p)) }
     {
+        let Variable { name, kind } = variable;
         match count {
             None => Ok((None, None)),
             Some(0) => {
@@ -216,8 +224,9 @@ impl<'a> Thread<'a> {
                 kind: Some(kind),
                 ..
             } => {
+                let variable = Variable { name, kind: *kind };
                 let count = fragment_trees(grammar, *kind, &place.rest);
-                let choices = self.fragments(arena, name, *kind, count, rest, place)?;
+                let choices = self.fragments(arena, variable, count, rest, place)?;
                 Ok(choices)
             }
             Op::Repeat {

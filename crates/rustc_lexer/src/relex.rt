@@ -118,12 +118,10 @@ impl LexedText {
         ensures kept { IfOk result (λ k. k ≡ kept self.old start «end» replacement.now) }
         ensures err { OnErr result (self.new ≡ self.old) }
     {
-        let alloc = *self.text.allocator();
         let tokens = &self.tokens;
         let old_count = tokens.as_slice().len();
         let near = refine(&self.text, &mut self.checkpoints, tokens.as_slice(), start)?;
         let relexed = edit_and_relex(
-            alloc,
             &mut self.text,
             &mut self.tokens,
             near,

@@ -249,7 +249,6 @@ fn relex_tokens(
 /// Puts the replacement in place of the text's bytes from `start` to `stop`, and relexes the text from the
 /// checkpoint on, which is a boundary of its tokens. Where there is no memory, the text and the tokens stay.
 pub fn edit_and_relex(
-    alloc: Global,
     text: &mut String,
     tokens: &mut GapBuffer,
     near: Checkpoint,
@@ -273,6 +272,7 @@ pub fn edit_and_relex(
     ensures err { OnErr result (string_bytes text.new ≡ string_bytes text.old) }
     ensures err_tokens { OnErr result (tokens.new ≡ tokens.old) }
 {
+    let alloc = *text.allocator();
     let found = find_start(text, tokens.as_slice(), near, start, stop);
     let gone = replace(alloc, text, start, stop, replacement)?;
     let end = start + replacement.len();
