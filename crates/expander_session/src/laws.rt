@@ -1,4 +1,5 @@
-//! Laws of how many definitions a text has. A call does nothing: it only states.
+//! Laws on how many definitions a text has. Calling a law does nothing: its contract is the
+//! statement.
 ghost use Rattle.std.specs.Prelude.{ℕ, ◌≤◌, ◌<◌, ◌^◌, List, [], length, IsUtf8};
 ghost use Rattle.expander_session.specs.Layered.{layers};
 ghost use Rattle.expander_model.specs.Meaning.{meaning};
