@@ -1,4 +1,4 @@
-//! What a call of a macro gives.
+//! Expands a call of a macro.
 ghost use Rattle.std.specs.Prelude.{◌≡◌, None, Some, Err, true, IfErr, IfOk, IfSome, IsOkUnless, MatchOption, option_map};
 ghost use Rattle.tt.specs.Views.{forest};
 ghost use Rattle.mbe.specs.Answers.{within, no_brackets};

@@ -1,4 +1,5 @@
-//! Laws of the definitions, for proofs above this crate. A call does nothing: it only states.
+//! Laws for the proofs of crates above. Calling a law does nothing: its contract is the
+//! statement.
 ghost use Rattle.std.specs.Prelude.{◌≡◌, ℕ, Bool, true, false, List, Option, Some, option_map, map};
 ghost use Rattle.tt_data.specs.Forest.{Forest, map_spans};
 ghost use Rattle.tt_data.specs.declared.edition.Edition.{Edition};
