@@ -34,7 +34,7 @@ trees_between an_ident = 1
 trees_between a_lifetime = 2
 trees_between (some_puncts n) = n
 
--- after a separator of this form an operator has to come
+-- after a separator of this form an operator must come
 abbrev pub then_operator : Between → List Sign → Option (Between × RepeatKind)
 then_operator between (punct c ∷ more) = option_map (λ op. (between, op)) (operator_of c)
 then_operator between _ = None
@@ -63,7 +63,7 @@ between_and_operator (punct c ∷ more) =
     elim (operator_of c) [ Some op ↦ Some (nothing, op) | None ↦ after_one c more ]
 between_and_operator _ = None
 
--- the same of the trees after a repetition's parenthesis, or the fault
+-- the separator and the operator in the trees after a repetition's parentheses, or the fault
 abbrev pub repeated : Forest → Parsed (Between × RepeatKind)
 repeated rest = or_fault (between_and_operator (signs rest)) (Err InvalidRepeat)
 

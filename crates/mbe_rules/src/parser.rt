@@ -1,4 +1,4 @@
-//! Patterns and templates, as they are kept.
+//! Matchers and transcribers as data: lists of ops.
 ghost use Rattle.std.specs.Prelude.{◌≡◌};
 ghost use Rattle.std.specs.Str.{bytes_eq};
 ghost use Rattle.std.proofs.Common.{rules};
@@ -67,7 +67,7 @@ pub enum Separator {
     Puncts(Vec<Punct>),
 }
 
-// Whether two runs of puncts have the same characters.
+// Whether two lists of puncts have the same characters.
 fn same_characters(first: &[Punct], second: &[Punct]) -> bool
     ensures { result ≡ bytes_eq (characters first.now) (characters second.now) }
 {
