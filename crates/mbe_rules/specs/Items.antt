@@ -1,4 +1,4 @@
--- The rules of a definition: styles, matchers, transcribers. (The Rust Reference, "Macros By Example".)
+-- The rules of a definition. (The Rust Reference, "Macros By Example".)
 use Rattle.std.specs.Prelude.{ℕ, Bool, true, false, ◌&&◌, ◌||◌, List, [], ◌∷◌, ◌++◌, Option, Some, None}
 use Rattle.tt_data.specs.declared.delimiter.Delimiter.{Delimiter}
 use Rattle.tt_data.specs.declared.leaf.Ident.{Ident}
