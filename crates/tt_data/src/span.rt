@@ -1,4 +1,4 @@
-//! Where a token stands in a text, and how it came there.
+//! Spans: where a token is in a text, and whether it was written or synthesized.
 
 /// An offset or a length in a text, in bytes.
 pub type TextSize = u32;
