@@ -10,7 +10,7 @@ abbrev pub whole_in : List Around → Forest → Forest
 whole_in [] f = f
 whole_in (a ∷ outer) f = whole_in outer (joined a.before (group a.delimiter f a.after))
 
--- how many tokens come before the innermost list: around it, the trees before each group, and its head
+-- how many tokens come before the innermost list: before each group around it, and its head
 abbrev pub start_in : List Around → ℕ
 start_in [] = 0
 start_in (a ∷ outer) = start_in outer + size a.before + 1

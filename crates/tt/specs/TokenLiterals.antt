@@ -1,4 +1,4 @@
--- The literal that a whole token is: the text inside its letters, hashes and quotes, and the suffix.
+-- The literal that a whole token is: the text inside letters, hashes and quotes, and the suffix.
 use Rattle.std.specs.Prelude.{◌≡◌, ℕ, ◌-◌, List, ◌++◌, length, take, drop}
 use Rattle.tt_data.specs.Displayed.{form_letters, form_hashes, form_quote}
 use Rattle.tt_data.specs.Literals.{literal_of}

@@ -1,8 +1,8 @@
-//! Checkpoints: token boundaries with known offsets, so that an offset in a long text is found without a walk over all tokens
-//! before it.
+//! Checkpoints: token boundaries with known offsets. With them an offset in a long text is found
+//! without a walk over all tokens before it.
 //!
-//! Which checkpoints there are decides speed only. A long walk leaves a checkpoint half-way, and an edit moves the checkpoints
-//! after it.
+//! Which checkpoints there are decides speed alone. A long walk leaves a checkpoint half-way, and
+//! an edit moves the checkpoints after it.
 ghost use Rattle.std.specs.Prelude.{◌≡◌, ◌+◌, ◌<◌, ◌≤◌, ◌^◌, ℕ, true, length, map, take, drop, chars, IfOk, IsCharBoundary};
 ghost use Rattle.std.specs.List.{All, list_any};
 ghost use Rattle.rustc_lexer.specs.Edit.{boundaries_from, is_clear_of, moves_to};
@@ -22,9 +22,9 @@ const FEW: usize = 32;
 /// A boundary of a text's tokens.
 #[derive(Clone, Copy)]
 pub struct Checkpoint {
-    /// The tokens in front of it.
+    /// The number of tokens before it.
     pub tokens: usize,
-    /// The bytes in front of it.
+    /// The number of bytes before it.
     pub place: usize,
 }
 
@@ -79,7 +79,8 @@ pub fn first_from(tokens: &[Token], at: usize, stop: usize) -> (usize, usize)
     (tokens.len(), place)
 }
 
-// Gives all checkpoints up where they are too many for the tokens, as they may be when much was taken out of the text.
+// Drops all checkpoints if they are too many for the tokens, as they may be after a large
+// deletion.
 fn thin_out(checkpoints: &mut Vec<Checkpoint>, tokens: &[Token])
     requires { All (IsCheckpoint tokens.now) checkpoints.old.items }
     ensures { All (IsCheckpoint tokens.now) checkpoints.new.items }
@@ -121,7 +122,8 @@ pub fn refine(
     Ok(checkpoint)
 }
 
-// The checkpoint's boundary in the edited text, or the boundary where lexing began, if it is lost.
+// The checkpoint's boundary in the edited text. If that boundary is gone, the one where lexing
+// began.
 fn moved(checkpoint: Checkpoint, relexed: &Relexed) -> Checkpoint
     requires checkpoint { IsInRange checkpoint }
     requires to { IsInRange relexed.now.new }

@@ -1,10 +1,11 @@
-//! How far the lexer looks ahead: the tokens before an offset that is clear of an edit do not depend on what is edited.
+//! How far the lexer looks ahead: tokens that end at least two characters before an edit do not
+//! depend on it.
 ghost use Rattle.std.specs.Prelude.{◌≡◌, nat_le, length, chars, IsCharBoundary};
 ghost use Rattle.rustc_lexer.specs.Edit.{is_clear_of};
 
 use crate::scan::split_first;
 
-// The text has two characters.
+// Whether the text has at least two characters.
 #[inline]
 fn has_two_chars(text: &str) -> bool
     ensures { result ≡ nat_le 2 (length (chars text.now)) }
