@@ -1,4 +1,4 @@
--- The calls of a list of trees: a name, `!` and a visible group, side by side. (The Rust Reference, "Macro invocation".)
+-- The calls of a list of trees: a name, `!` and a visible group. (The Rust Reference, "Macros".)
 use Rattle.std.specs.Prelude.{Bool, ◌&&◌, not, codes, if◌then◌else◌}
 use Rattle.tt_data.specs.Forest.{Forest, empty, leaf, group}
 use Rattle.tt_data.specs.declared.delimiter.Delimiter.{Delimiter}

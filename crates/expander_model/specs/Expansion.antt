@@ -1,4 +1,4 @@
--- The expansion of a forest: from the left, the outermost call first. (The Rust Reference, "Macros".)
+-- The expansion of a forest, left to right, outermost calls first. (The Rust Reference, "Macros".)
 use Rattle.std.specs.Prelude.{ℕ, zero, suc, Bool, true, false, ◌||◌, List, [], ◌∷◌, ◌++◌, map, Option, Some, None, unwrap_or}
 use Rattle.tt_data.specs.Forest.{Forest, empty, leaf, group}
 use Rattle.tt_data.specs.Walk.{Step, at_leaf, opens, closes, walk}

@@ -1,4 +1,4 @@
--- The meaning of a text: its reading fault, or the printed text and the faults of its expansion. (Of this project.)
+-- The meaning of a text: its reading fault, or its printed text and faults. (Of this project.)
 use Rattle.std.specs.Prelude.{ℕ, List, [], ◌∷◌, ◌++◌, Option, Some, None, Result, Ok, Err, map, flat_map, if◌then◌else◌}
 use Rattle.tt_data.specs.Forest.{Forest}
 use Rattle.tt_data.specs.Walk.{Step}

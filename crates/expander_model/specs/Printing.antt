@@ -24,7 +24,7 @@ bare t = record { step = t.token.step; text = t.text }
 abbrev pub text_of : List PrintedToken → List ℕ
 text_of tokens = printing.text_of (map bare tokens)
 
--- `spelling` gives a visible token's text, before those that follow, or none where it has no spelling
+-- `spelling` gives the text of a visible token before those that follow, or none if it has none
 module _ (spelling : Step → List PlacedStep → Option (List ℕ)) where
   abbrev pub spelled : PlacedStep → Option (List ℕ) → List PrintedToken
   spelled s None = []

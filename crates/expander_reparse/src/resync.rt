@@ -1,4 +1,5 @@
-//! Chooses which cached pieces are tried after an edit. It decides how fast a text is read, and nothing of what is read.
+//! Chooses which cached pieces are tried after an edit. It decides speed alone, and nothing of
+//! what is read.
 ghost use Rattle.std.specs.Prelude.{◌≡◌, IfOk, IfSome, IsOkUnless};
 ghost use Rattle.std.specs.Rc.{rc_value};
 ghost use Rattle.tt_data.specs.fault.TtFault.TheVariants as fault;

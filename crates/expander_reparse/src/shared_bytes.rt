@@ -55,7 +55,7 @@ fn copied(alloc: Global, bytes: &[u8]) -> Result<Rc<Vec<u8>>, AllocError>
     }
 }
 
-/// How the bytes of a text's pieces are stored: all in one copy of the text, or each by itself.
+/// How the bytes of a text are stored: all in one copy of the text, or each run by itself.
 #[derive(Drop)]
 pub(crate) struct ByteStore {
     all: Option<Rc<Vec<u8>>>,
@@ -70,7 +70,7 @@ impl ByteStore {
         Ok(ByteStore { all: Some(all) })
     }
 
-    /// A copy for each piece.
+    /// A copy for each run of bytes.
     pub(crate) fn apart() -> Self
         ensures { (text : List ℕ) → HoldsText result text }
     {

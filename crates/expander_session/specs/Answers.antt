@@ -49,7 +49,7 @@ ShowTheSame (Unread fault) (Unread other) = fault ≡ other
 ShowTheSame _ _ = ⊥
 
 module _ (layers : Layers) (depth : ℕ) where
-  -- the plain pieces of the last of these texts that were read, which are given newest first: none before the first
+  -- the plain pieces of the last text that was read, given newest first: none before the first
   abbrev pub last_looked : List (List ℕ) → Option (List Looked)
   last_looked [] = None
   last_looked (text ∷ before) = Some (looked_in (meaning layers depth text))

@@ -42,6 +42,6 @@ abbrev pub earlier_pieces : Option (List Looked) → List Looked
 earlier_pieces None = []
 earlier_pieces (Some ps) = ps
 
--- the plain pieces that have no match among the earlier ones: all of them where there is no earlier text
+-- the plain pieces that have no match among the earlier ones: all if there is no earlier text
 abbrev pub expanded_count : Option (List Looked) → List Looked → ℕ
 expanded_count earlier now = length (filter (λ p. not (list_any (is_same p) (earlier_pieces earlier))) now)

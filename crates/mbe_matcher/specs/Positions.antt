@@ -32,7 +32,7 @@ IsWithin pattern list (parted body sep op after ∷ fs) =
 abbrev pub IsIn : Items → State → Type 0
 IsIn pattern (at items fs p) = (list : Items) × IsEndOf items list × IsWithin pattern list fs
 
--- the number that identifies a frame, and its sort
+-- a frame's sort, and the number that identifies it
 abbrev pub mark_of : Frame → ℕ × ℕ
 mark_of (in_group after) = (0, count after)
 mark_of (in_round body sep op after) = (1, count after)

@@ -32,7 +32,7 @@ pub struct Bound<'a> {
     pub binding: Binding<'a>,
 }
 
-/// The bindings of a pattern's metavariables.
+/// The bindings of a matcher's metavariables.
 #[derive(Drop)]
 pub struct Bindings<'a> {
     pub(crate) bound: Vec<Bound<'a>>,

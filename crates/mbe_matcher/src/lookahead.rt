@@ -47,8 +47,8 @@ pub(crate) fn is_stuck(thread: &Thread<'_>, place: &Place<'_>) -> bool
     }
 }
 
-/// Whether the first op of a pattern needs another unit than the argument begins with, or the
-/// pattern is empty and the argument is not. It takes no memory.
+/// Whether the first op of a matcher needs another unit than the argument begins with, or the
+/// matcher is empty and the argument is not. It takes no memory.
 #[inline]
 pub fn is_blocked(alloc: Global, pattern: &[Op], argument: TokenTreesView<'_>) -> bool
     ensures { result ≡ is_blocked (items_of pattern.now) (u.place (forest argument.entry) []) }

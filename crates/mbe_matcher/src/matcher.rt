@@ -513,13 +513,13 @@ fn only_ended<'a>(waiting: &[Waiting<'a>]) -> Option<Option<&'a Entry<'a>>>
     }
 }
 
-/// The moves of the only reading in which a pattern uses up an argument: the last entry of the
+/// The moves of the only reading in which a matcher uses up an argument: the last entry of the
 /// log, or `None` in it if there are no moves. (The Rust Reference, "Macros By Example":
 /// metavariables, forwarding a fragment.)
 ///
-/// There is no such reading if no list of moves uses up the argument, if more than one does, or if
-/// at some position a fragment is taken on one way and something else on another. No repetition of
-/// the pattern may iterate without end.
+/// There is no such reading if no list of moves uses up the argument, if more than one does, or
+/// if at some position a fragment is consumed on one way and something else on another. No
+/// repetition of the matcher may iterate without end.
 ///
 /// At most two threads of one state go on, however many lists of moves lead to it.
 ///

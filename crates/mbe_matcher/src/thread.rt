@@ -75,7 +75,7 @@ pub(crate) enum IterationStart {
 }
 
 /// A move of the log, and the entry of the move before it; or several iterations of a single
-/// variable that take one tree each. Threads share entries.
+/// metavariable that consume one tree each. Threads share entries.
 #[derive(Clone, Copy, Drop)]
 pub struct Entry<'a> {
     pub(crate) begun: IterationStart,
@@ -173,7 +173,7 @@ pub struct Thread<'a> {
 }
 
 impl<'a> Thread<'a> {
-    /// The thread that begins to read a pattern.
+    /// The thread that begins to read by a matcher.
     pub fn start(pattern: &'a [Op]) -> Thread<'a>
         ensures state { (p : u.Place) → state_of result p ≡ r.at (items_of pattern.now) [] p }
         ensures moves { moves_of result.moves ≡ [] }

@@ -48,7 +48,7 @@ ignore_in ss = option_and_then (λ (v : List ℕ × List Sign). if is_nil v.1 th
 abbrev pub with_part : Part → Option (List Part) → Option (List Part)
 with_part p ps = option_map (λ qs. p ∷ qs) ps
 
--- parts with commas between them, and perhaps one after the last: a literal, a name or `_`, or `$` and such a name
+-- parts with commas between them, perhaps with one after the last: a literal, a name, or `$name`
 abbrev mutual
   pub parts_in : List Sign → Option (List Part)
   parts_in [] = Some []

@@ -45,7 +45,7 @@ after_two (punct c ∷ more) =
     elim (operator_of c) [ Some op ↦ Some (some_puncts 2, op) | None ↦ then_operator (some_puncts 3) more ]
 after_two _ = None
 
--- after one punct: the operator, or a second, or after a quote its name; a quote alone separates nothing
+-- after one punct: the operator, a second punct, or a quote's name; a lone quote is no separator
 abbrev pub after_one : ℕ → List Sign → Option (Between × RepeatKind)
 after_one first (name n ∷ more) = if is_character "'" first then then_operator a_lifetime more else None
 after_one first (punct c ∷ more) =
@@ -55,7 +55,7 @@ after_one first (punct c ∷ more) =
     ]
 after_one first _ = None
 
--- a separator's form and the operator: the first of the characters `*`, `+`, `?` is no part of a separator
+-- a separator's form and the operator: the first of `*`, `+`, `?` is no part of a separator
 abbrev pub between_and_operator : List Sign → Option (Between × RepeatKind)
 between_and_operator (literal t s ∷ more) = then_operator a_literal more
 between_and_operator (name n ∷ more) = then_operator an_ident more

@@ -215,7 +215,7 @@ separator_leaves (Some (ident_between i)) = leaf (as_leaf.Ident i) empty
 separator_leaves (Some (lifetime_between p i)) = leaf (as_leaf.Punct p) (leaf (as_leaf.Ident i) empty)
 separator_leaves (Some (puncts_between ps)) = punct_leaves ps
 
--- iterations r, r + 1, .. while they take place, each after the separator; at most `most`
+-- iterations from r on while they take place, after the separator each; beyond `most` a fault
 abbrev pub rounds_from : (ℕ → Bool) → (ℕ → Option Forest) → Forest → (most r : ℕ) → Option Forest
 rounds_from stands_at round_at sep zero r = elim (stands_at r) [ true ↦ None | false ↦ Some empty ]
 rounds_from stands_at round_at sep (suc most) r =

@@ -10,7 +10,7 @@ ghost use Rattle.mbe_transcriber.specs.Walks.{names_around, names_first, names_l
 use mbe_rules::Op;
 use std::alloc::{AllocError, Global};
 
-/// The ops of a template that hold no others, in order, those inside groups and repetitions too.
+/// The ops of a transcriber without ops inside, in order, those in groups and repetitions too.
 #[derive(Drop)]
 pub struct PlainItems<'t> {
     pub(crate) ops: &'t [Op],
@@ -49,7 +49,7 @@ impl<'t> PlainItems<'t> {
         self.ops = rest;
     }
 
-    /// The next op that holds no others. `None` at the end.
+    /// The next op without ops inside. `None` at the end.
     pub fn next(&mut self) -> Result<Option<&'t Op>, AllocError>
         ensures names { IfOk result (λ o. names_left self.old ≡ names_first o ++ names_left self.new) }
         ensures plain { IfOk result (λ o. IfSome o (λ op. is_plain (put_op op.now done) ≡ true)) }

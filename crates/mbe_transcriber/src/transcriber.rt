@@ -303,14 +303,15 @@ impl<'t> Transcription<'t> {
     }
 }
 
-/// Transcribes a template with bindings: appends what it gives to `out`. `false` means a fault;
+/// Transcribes `template` with bindings: appends what it gives to `out`. `false` means a fault;
 /// what was appended before it stays. (The Rust Reference, "Macros By Example": transcribing.)
 ///
-/// Template tokens get the span that `marker` answers for theirs, those of a fragment keep theirs.
+/// Tokens of the transcriber get the span that `marker` answers for theirs, those of a fragment
+/// keep theirs.
 ///
 /// # Errors
 ///
-/// `Memory`, or `Tokens` if the tree would have more than `u32::MAX` tokens. What the template
+/// `Memory`, or `Tokens` if the tree would have more than `u32::MAX` tokens. What the transcriber
 /// puts out up to its first fault counts.
 pub fn fill<M: Fn(Span) -> Span>(
     out: &mut TopSubtreeBuilder,

@@ -1,4 +1,4 @@
--- The first lexeme of a text, after the Rust Reference's part "Lexical structure". Texts are lists of characters.
+-- A text's first lexeme, after the Reference's "Lexical structure". Texts are lists of characters.
 use Rattle.std.specs.Prelude.{ℕ, ◌+◌, Bool, true, not, ◌||◌, ◌&&◌, List, drop, Option, if◌then◌else◌}
 use Rattle.std.specs.List.{prefix_len}
 use Rattle.std.specs.Option.{is_some}

@@ -1,4 +1,4 @@
--- The bodies and suffixes of literals, after the Rust Reference's chapter "Tokens". Texts are lists of characters.
+-- Bodies and suffixes of literals, after the Reference's "Tokens". Texts are lists of characters.
 use Rattle.std.specs.Prelude.{ℕ, ◌+◌, Bool, true, false, not, ◌||◌, ◌&&◌, ◌==◌, nat_le, List, [], ◌∷◌, length, take, drop, min, Option, Some, None, if◌then◌else◌}
 use Rattle.std.specs.List.{prefix_len}
 use Rattle.rustc_lexer.specs.Character.{char_at, begins, is, utf8_len, identifier_len}

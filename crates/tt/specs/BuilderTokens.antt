@@ -37,7 +37,7 @@ abbrev pub IsTreeAt : Option ℕ → List TokenTree → List Opening → Type 0
 IsTreeAt None tokens openings = Unit {0}
 IsTreeAt (Some at) tokens openings = (at < length tokens) × IsCut at tokens openings
 
--- whole trees end right before this index in its list, which for an open group's token is outside
+-- whole trees end right before this index in its list; an open group's token is in the list around
 abbrev pub IsSettled : ℕ → List Opened → Forest → Type 0
 IsSettled at [] here = (0 < at) × (size (front (at - 1) here) ≡ at - 1)
 IsSettled at (o ∷ outer) here =

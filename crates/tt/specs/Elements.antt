@@ -8,7 +8,7 @@ use Rattle.tt_data.specs.Spans.{span_of}
 use Rattle.tt.specs.declared.iter.TtElement.{TtElement}
 use Rattle.tt.specs.declared.iter.TtElement.TheVariants as element
 
--- the trees of a forest, one by one: a group comes with its delimiter, its number of tokens and the forest inside
+-- the trees of a forest, one by one: a group has its delimiter, token count and forest inside
 abbrev pub elements : Forest → List TtElement
 elements empty = []
 elements (leaf l rest) = element.Leaf l ∷ elements rest

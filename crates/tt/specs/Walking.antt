@@ -8,7 +8,7 @@ use Rattle.tt.specs.declared.top_subtree.transform.Walk.{Walk}
 use Rattle.tt.specs.Building.{Building, closed}
 use Rattle.tt.specs.Rewriting.{Call, with_answer}
 
--- the tree so far, the trees left in the innermost group, and the groups around it, the innermost first
+-- the tree so far, the trees left in the innermost group, and those around it, innermost first
 pub record Standing : Type 0 where
   pub tree : Building
   pub left : Forest

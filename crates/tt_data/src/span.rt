@@ -10,13 +10,13 @@ pub struct TextRange {
     pub end: TextSize,
 }
 
-/// Whether a token was written in a text, or synthesized: put out by a template.
+/// Whether a token was written in a text, or synthesized: put out by a transcriber.
 #[derive(Clone, Copy, Default, PartialEq, Eq, Hash, Debug)]
 pub enum SyntaxContext {
     /// In a text.
     #[default]
     Written,
-    /// By a template of a macro.
+    /// By the transcriber of a macro.
     Made,
 }
 

@@ -199,7 +199,7 @@ fn ending(rules: Rules) -> Rules
 /// separated by `;`, which may also follow the last. (The Rust Reference, "Macros By Example".)
 ///
 /// A rule with a fault ends the parse: the rules before it stay, and `err` is that fault. If one
-/// of the patterns can iterate without end, `err` is `RepetitionEmptyTokenTree`, whatever else is
+/// of the matchers can iterate without end, `err` is `RepetitionEmptyTokenTree`, whatever else is
 /// wrong.
 ///
 /// `ctx_edition` answers the edition of the tokens of each of the two contexts, and is asked once
@@ -221,7 +221,7 @@ pub fn parse_macro_rules<F: Fn(SyntaxContext) -> Edition>(
 
 /// Parses the rules of `macro name { .. }`, whose delimiters are those of `body`, as
 /// `parse_macro_rules` does; they are separated by `;` or `,`. With `args` it parses `macro
-/// name(..) { .. }`: one rule, with its pattern in `args` and its template in `body`. (Rust's
+/// name(..) { .. }`: one rule, with its matcher in `args` and its transcriber in `body`. (Rust's
 /// unstable book, `decl_macro`.)
 pub fn parse_macro2<F: Fn(SyntaxContext) -> Edition>(
     alloc: Global,

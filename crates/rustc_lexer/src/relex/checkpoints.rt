@@ -28,8 +28,8 @@ pub struct Checkpoint {
     pub place: usize,
 }
 
-/// Where the tokens of a text and of an edited one agree: up to `front` in both, and from `old` on in the one as from `new` on
-/// in the other.
+/// Where the tokens of a text and of an edited one agree: before `front` in both, and from `old`
+/// on in the one as from `new` on in the other.
 #[derive(Drop)]
 pub struct Relexed {
     pub front: Checkpoint,
@@ -37,7 +37,8 @@ pub struct Relexed {
     pub new: Checkpoint,
 }
 
-/// How many checkpoints are clear of `start`, and the last of them: the text's begin, if there is none.
+/// How many checkpoints are clear of `start`, and the last of them, or the start of the text if
+/// there is none.
 pub fn nearest(text: &str, checkpoints: &[Checkpoint], start: usize) -> (usize, Checkpoint)
     requires checkpoints { All (IsCheckpoint (tokens_of (chars text.now))) checkpoints.now }
     requires start { IsCharBoundary text.now start }
@@ -58,8 +59,8 @@ pub fn nearest(text: &str, checkpoints: &[Checkpoint], start: usize) -> (usize, 
     (checkpoints.len(), near)
 }
 
-/// How many of the tokens, of which the first begins at `at`, lie in front of the first boundary at `stop` or behind it, and
-/// this boundary.
+/// How many of the tokens, the first of which begins at `at`, come before the first boundary that
+/// is at `stop` or after it, and that boundary.
 pub fn first_from(tokens: &[Token], at: usize, stop: usize) -> (usize, usize)
     requires fits { at + total tokens.now < 2 ^ 32 }
     requires reaches { stop ≤ at + total tokens.now }
@@ -90,8 +91,8 @@ fn thin_out(checkpoints: &mut Vec<Checkpoint>, tokens: &[Token])
     }
 }
 
-/// The last checkpoint that is clear of `start`, or the text's begin. Where it is far from there a checkpoint is left half-way first,
-/// unless a single token reaches from there to `start`.
+/// The last checkpoint that is clear of `start`, or the start of the text. If `start` is far from
+/// it, a checkpoint is left half-way first, unless a single token extends from there to `start`.
 pub fn refine(
     text: &str,
     checkpoints: &mut Vec<Checkpoint>,

@@ -56,7 +56,7 @@ impl GapBuffer {
         &self.items[self.room..]
     }
 
-    /// Puts the tokens in the place of those from `start` to `stop`. Refused where there is no memory for them, and then nothing
+    /// Replaces the tokens from `start` to `stop`. Refused if memory runs out; then nothing
     /// changes.
     pub fn replace(
         &mut self,

@@ -16,8 +16,8 @@ fn has_two_chars(text: &str) -> bool
     }
 }
 
-/// At least two characters stand from the place `at` to `start`. As a character has at most four bytes, few places are near
-/// enough to be looked at.
+/// Whether the text has at least two characters from offset `at` to `start`. A character has at
+/// most four bytes, so the text is looked at only if the two are less than eight bytes apart.
 #[inline]
 pub fn is_clear(text: &str, at: usize, start: usize) -> bool
     requires at { IsCharBoundary text.now at }
