@@ -1,4 +1,4 @@
-//! Laws of reading and printing, for proofs. A call does nothing: it only states.
+//! Laws of reading and printing. Calling a law does nothing: its contract is the statement.
 ghost use Rattle.std.specs.Prelude.{◌≡◌, ◌↔◌, ◌<◌, ◌^◌, ◌+◌, ◌++◌, take, drop, length, sum_by, ℕ, IsUtf8, List, [], ◌∷◌, map, true, false, IsSome, Ok, Err};
 ghost use Rattle.bridge.specs.Order.{AreWritten, FollowOneAnother};
 ghost use Rattle.bridge.specs.Parts.{begins_with_mark, part_steps, placed_on, starts_with_mark, steps_before};
@@ -159,7 +159,7 @@ pub fn chunks_are_printed_whole()
     ensures { (part : ChunkState) (steps : List Step) → IsChunkOf part steps → part.tokens ≡ map step_span (visible steps) }
 {}
 
-/// Two faults are equal by `==` exactly where they are the same, ranges included.
+/// Two faults are equal by `==` exactly if they are the same, ranges included.
 pub fn equal_faults()
     ensures kinds { (a b : ReadFaultKind) → (⟦<ReadFaultKind as PartialEq>⟧.eq a b ≡ true) ↔ (a ≡ b) }
     ensures faults { (a b : ReadFault) → (⟦<ReadFault as PartialEq>⟧.eq a b ≡ true) ↔ (a ≡ b) }

@@ -6,7 +6,7 @@ pub mod Expansion
 pub mod Printing
 pub mod Faults
 pub mod Meaning
--- what the meaning of a text stands on
+-- what the meaning of a text is built on
 pub mod World
 -- what the count of pieces and the laws rest on
 pub mod EqualTrees

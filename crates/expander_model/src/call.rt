@@ -10,7 +10,7 @@ use tt_data::{DelimiterKind, Ident, Punct, Spacing};
 #[derive(Drop)]
 pub struct Call<'a> {
     pub name: Ident,
-    /// Its group, and the trees after it.
+    /// The trees from its group on.
     pub from_group: TtIter<'a>,
     pub argument: TtIter<'a>,
     /// The trees after it.
@@ -63,7 +63,7 @@ pub fn call_behind_colons<'a>(trees: &TtIter<'a>) -> Option<Call<'a>>
     }
 }
 
-// A call with its `$crate ::`.
+// A call after its `$crate ::`.
 fn crate_call<'a>(trees: &TtIter<'a>) -> Option<Call<'a>>
     ensures { result ≡ crate_call trees.now }
 {

@@ -105,7 +105,7 @@ impl HashedTree {
     }
 }
 
-// Two are equal where their trees are, and then their hashes are, which are looked at first.
+// Two are equal if their trees are. Equal trees have equal hashes, so these are compared first.
 impl PartialEq for HashedTree {
     ghost use Rattle.tt.specs.contracts.top_subtree.TopSubtreePartialEq.TheImpl.Laws as tree_laws;
 
@@ -134,7 +134,7 @@ impl Hash for HashedTree {
 
     ghost respects_eq = { λ a b e. ap (λ writes. fed.u64 (hash_of writes)) (tree_laws.respects_eq-law a b e) };
 
-    /// Feeds the hash that was computed.
+    /// Feeds the hash that was computed once.
     fn hash<H: Hasher>(&self, state: &mut H) {
         state.write_u64(self.hash);
     }

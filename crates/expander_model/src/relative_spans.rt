@@ -16,7 +16,7 @@ use tt_data::{
     laws,
 };
 
-/// The leaf at another place.
+/// The leaf with this span.
 pub(crate) fn leaf_at(leaf: Leaf, span: Span) -> Leaf
     ensures { (f : Span → Span) → span ≡ f (span_of leaf) → result ≡ leaf_with f leaf }
 {
@@ -27,7 +27,7 @@ pub(crate) fn leaf_at(leaf: Leaf, span: Span) -> Leaf
     }
 }
 
-// The place counted from another.
+// The span counted from offset `from`.
 fn moved_back(from: u32, span: Span) -> Span
     ensures { result ≡ moved_back from span }
 {
@@ -39,7 +39,7 @@ fn moved_back(from: u32, span: Span) -> Span
     }
 }
 
-// The token with its places counted from another.
+// The token with its spans counted from offset `from`.
 fn token_from(from: u32, token: TokenTree) -> TokenTree
     ensures { result ≡ token_with (moved_back from) token }
 {
@@ -69,7 +69,7 @@ pub fn start_of(piece: &TtIter<'_>) -> u32
     }
 }
 
-// No brackets, at the start of a text.
+// The top of a tree: no brackets, at the start of a text.
 fn text_top() -> Delimiter
     ensures { result ≡ text_top }
 {
@@ -80,7 +80,7 @@ fn text_top() -> Delimiter
     })
 }
 
-// The tokens of a tree of these trees, with their places counted from another.
+// The tokens of a tree of these trees, with their spans counted from offset `from`.
 fn tokens_from(
     alloc: Global,
     from: u32,

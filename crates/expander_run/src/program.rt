@@ -1,4 +1,5 @@
-//! The run of a program: it reads a text, expands it, writes what that prints and tells its faults.
+//! A run of the program: it reads a text, expands it, writes the printed text and reports the
+//! faults.
 ghost use Rattle.std.specs.Prelude.{◌≡◌, ℕ, Err, [], ◌^◌, ◌<◌, false, List, length, take, Option, None, IfOk, IfErr, string_bytes};
 ghost use Rattle.std.specs.Io.KnownBytes.{Appends};
 ghost use Rattle.expander_model.specs.Meaning.{meaning};
@@ -68,7 +69,7 @@ pub fn run<R: Read, W: Write, E: Write>(
     }
 }
 
-// The session's reply to the whole input, and what is told of it.
+// The session's reply to the whole input, and its report.
 fn answer_input<R: Read>(
     alloc: Global,
     reader: &mut Watched<R>,
@@ -84,7 +85,7 @@ fn answer_input<R: Read>(
     answer(alloc, text, depth).map_err(Stop::Refused)
 }
 
-// The reply of a session over this text, which has one command: to expand it.
+// The reply of a new session over this text to its one command: to expand it.
 fn expanded(alloc: Global, text: &str, depth: u8) -> Result<Reply, Refusal>
     requires { length text.now < 2 ^ 32 }
     ensures reply { IfOk result (IsReplyTo run_layers depth text.now None) }
@@ -101,8 +102,8 @@ fn expanded(alloc: Global, text: &str, depth: u8) -> Result<Reply, Refusal>
     }
 }
 
-// The reply of a session over this text, and what is told of it. The lines are made before anything is
-// written, so that want of memory is told alone.
+// The reply of a session over this text, and its report. The report is made before anything is
+// written, so that nothing is written when memory runs out.
 fn answer(alloc: Global, text: &str, depth: u8) -> Result<(Reply, String), Refusal>
     requires { length text.now < 2 ^ 32 }
     ensures reply { IfOk result (λ answer. IsReplyTo run_layers depth text.now None answer.0) }
@@ -116,7 +117,7 @@ fn answer(alloc: Global, text: &str, depth: u8) -> Result<(Reply, String), Refus
     Ok((reply, told))
 }
 
-// All bytes to the end, or why not.
+// All bytes up to the end, or why they could not be read.
 fn read_all<R: Read>(alloc: Global, reader: &mut Watched<R>) -> Result<Vec<u8>, Stop>
     requires { reader.old.failed ≡ false }
     ensures whole { IfOk result (λ bytes. IsAllOf (R.remaining reader.old.inner) bytes.items) }
@@ -167,7 +168,7 @@ fn put_reply<W: Write>(writer: &mut Watched<W>, reply: &Reply) -> bool
     }
 }
 
-// Tells this, if it is something.
+// Writes these lines, if there are any.
 fn tell<E: Write>(faults: &mut Watched<E>, told: &str)
     requires { faults.old.failed ≡ false }
     ensures told { Tells told.now (Appends (E.contents faults.old.inner) (E.contents faults.new.inner)) faults.new }
@@ -178,7 +179,7 @@ fn tell<E: Write>(faults: &mut Watched<E>, told: &str)
     }
 }
 
-// 0 where the text is read and has no fault.
+// 0 if the text was read and has no fault, else 1.
 fn status_of(reply: &Reply) -> Status
     ensures { result ≡ status_of reply.now }
 {

@@ -15,7 +15,7 @@ use std::marker::Model;
 pub struct Watched<T> {
     inner: T,
     failed: bool,
-    // Whether the last call was a flush that went through.
+    // Whether the last call was a flush that succeeded.
     flushed: bool,
 }
 

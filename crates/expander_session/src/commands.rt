@@ -1,4 +1,4 @@
-//! Lists of commands, each of which a session answers.
+//! Lists of commands, and the session that answers them in order.
 ghost use Rattle.std.specs.Prelude.{◌<◌, ◌^◌, [], length, IfOk};
 ghost use Rattle.expander_session.specs.Answers.{AreAnswers, given, last_reads};
 ghost use Rattle.expander_session.specs.CommandTurns.{Edits, Turn};
@@ -82,7 +82,7 @@ fn answer_to<G: FragmentGrammar + Drop>(session: &mut Session<G>, command: &Comm
     }
 }
 
-// Changes the text where the edit is one.
+// Edits the text if the offsets are boundaries, in order, and the edit fits.
 fn edit_answer<G: FragmentGrammar + Drop>(
     session: &mut Session<G>,
     start: usize,

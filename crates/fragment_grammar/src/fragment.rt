@@ -1,4 +1,4 @@
-// Kinds of fragments, and how far one reaches.
+//! Kinds of fragments, and the trait of grammars, which say how far a fragment extends.
 ghost use Rattle.std.specs.Prelude.{◌≡◌, ◌≢◌, ◌≤◌, false};
 ghost use Rattle.tt.specs.Views.{forest};
 ghost use Rattle.tt_data.specs.Forest.{Forest, shape};
@@ -50,17 +50,17 @@ pub struct Prefix {
 /// takes no more steps than there are, and without a fault at least one, except for a visibility.
 /// It takes no memory. Whoever implements the trait proves these laws.
 pub trait FragmentGrammar {
-    // the answer to an entry point at trees without their places
+    // The answer for an entry point, at trees without their spans.
     ghost answer: { Self → PrefixEntryPoint → Forest → Prefix };
 
     /// How many steps a fragment takes at the beginning of the list, or that none begins it.
     fn prefix(&self, entry: PrefixEntryPoint, input: TokenTreesView<'_>) -> Prefix
         ensures { result ≡ answer self.now entry (shape (forest input.entry)) };
 
-    // never more steps than there are
+    // The answer never has more steps than there are.
     ghost within: { (g : Self) (entry : PrefixEntryPoint) (f : Forest) → (answer g entry (shape f)).tokens ≤ steps f };
 
-    // without a fault at least one step, except for a visibility
+    // Without a fault the answer has at least one step, except for a visibility.
     ghost takes: { (g : Self) (entry : PrefixEntryPoint) (f : Forest) → entry ≢ Vis → (answer g entry (shape f)).fault ≡ false →
         1 ≤ (answer g entry (shape f)).tokens };
 }

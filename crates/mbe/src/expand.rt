@@ -1,4 +1,4 @@
-//! What a call of a macro gives.
+//! Expands a call of a macro.
 ghost use Rattle.std.specs.Prelude.{◌≡◌, None, Some, Err, true, IfErr, IfOk, IfSome, IsOkUnless, MatchOption, option_map};
 ghost use Rattle.tt.specs.Views.{forest};
 ghost use Rattle.mbe.specs.Answers.{within, no_brackets};
@@ -24,8 +24,8 @@ impl DeclarativeMacro {
     /// it gives inside the delimiters `top`. `None` if no rule fits. Of the argument only what the
     /// rule transcribes is copied. (The Rust Reference, "Macros By Example".)
     ///
-    /// The macro has no fault: `err()` is `None`. `marker` gives the span of a template token in
-    /// the result, and may be called on every span.
+    /// The macro has no fault: `err()` is `None`. `marker` gives the span of a transcriber's
+    /// token in the result, and may be called on every span.
     ///
     /// # Errors
     ///
@@ -72,8 +72,8 @@ impl DeclarativeMacro {
     /// delimiters. If no rule has the style, there is no index, the tree is empty, and the error
     /// is `NoMatchingRule` at `call_site`.
     ///
-    /// The macro has no fault: `err()` is `None`. `marker` gives the span of a template token in
-    /// the result, and may be called on every span.
+    /// The macro has no fault: `err()` is `None`. `marker` gives the span of a transcriber's
+    /// token in the result, and may be called on every span.
     ///
     /// # Errors
     ///

@@ -1,4 +1,5 @@
-//! Laws of the definitions, for proofs above this crate. A call does nothing: it only states.
+//! Laws for the proofs of crates above. Calling a law does nothing: its contract is the
+//! statement.
 ghost use Rattle.std.specs.Prelude.{◌≡◌, ℕ, Bool, true, false, List, Option, Some, option_map, map};
 ghost use Rattle.tt_data.specs.Forest.{Forest, map_spans};
 ghost use Rattle.tt_data.specs.declared.edition.Edition.{Edition};
@@ -55,9 +56,9 @@ pub fn bursts_at_other_places()
         ≡ bursts is_identifier grammar mark (macro_of edition arguments body).list style argument }
 {}
 
-/// The reading of a pattern is a list of valid moves that uses up the argument, and no other list
-/// of moves does. Nowhere on the ways that begin so is a fragment taken on one and something else
-/// on another.
+/// The reading by a matcher is a list of valid moves that uses up the argument, and no other list
+/// of moves does. Nowhere on the ways that begin so is a fragment consumed on one and something
+/// else on another.
 pub fn only_reading()
     ensures { (grammar : Grammar) (pattern : Items) (argument : Forest) (moves : List Move) →
         has_empty_round pattern ≡ false → the_reading grammar pattern argument ≡ Some moves →

@@ -1,4 +1,4 @@
-//! Reading a definition, its rules and faults, copies and equality.
+//! Parses a definition, and gives its rules, its fault, copies and equality.
 ghost use Rattle.std.specs.Prelude.{◌≡◌, ◌<◌, ◌^◌, IfOk, IsOkUnless, None, Some, length, map, option_map};
 ghost use Rattle.tt_data.specs.declared.edition.Edition.{Edition};
 ghost use Rattle.tt_data.specs.declared.span.SyntaxContext.{SyntaxContext};
@@ -139,7 +139,7 @@ impl DeclarativeMacro {
         }
     }
 
-    // The numbers of the names that the rules' patterns begin with.
+    // The keys of the identifiers that the rules' matchers begin with.
     pub(crate) fn keys(&self) -> &[Option<u32>]
         ensures { result.now ≡ keys_of (rules_of self.now).list }
     {

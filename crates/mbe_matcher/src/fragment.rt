@@ -1,4 +1,5 @@
-//! Fragments for callers: what a grammar takes at the head of a list, and the error where it is missing.
+//! Fragments for callers: what a grammar consumes at the front of a list, and the error if no
+//! fragment is there.
 ghost use Rattle.std.specs.Prelude.{◌≡◌, IfOk, IsOkUnless, OnErr, OnOk};
 ghost use Rattle.symbols.specs.declared.fault.TtFault.TheVariants as fault;
 ghost use Rattle.tt.specs.Views.{forest};
@@ -47,7 +48,7 @@ pub fn pass_fragment<'a, G: FragmentGrammar>(
     }
 }
 
-// What is told where a fragment of this kind is missing.
+// The text of the error where a fragment of this kind is missing.
 fn missing_text(entry: PrefixEntryPoint) -> &'static str
     ensures { result.now ≡ missing_text entry }
 {
@@ -65,7 +66,8 @@ fn missing_text(entry: PrefixEntryPoint) -> &'static str
     }
 }
 
-// That a fragment of this kind is missing at the head of a list with this end.
+// The error that a fragment of this kind is missing at the front of a list. `end` is the list's
+// end.
 fn missing(
     alloc: Global,
     trees: &TtIter<'_>,

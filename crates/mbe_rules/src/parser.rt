@@ -1,4 +1,4 @@
-//! Patterns and templates, as they are kept.
+//! Matchers and transcribers as data: lists of ops.
 ghost use Rattle.std.specs.Prelude.{◌≡◌};
 ghost use Rattle.std.specs.Str.{bytes_eq};
 ghost use Rattle.std.proofs.Common.{rules};
@@ -67,7 +67,7 @@ pub enum Separator {
     Puncts(Vec<Punct>),
 }
 
-// Whether two runs of puncts have the same characters.
+// Whether two lists of puncts have the same characters.
 fn same_characters(first: &[Punct], second: &[Punct]) -> bool
     ensures { result ≡ bytes_eq (characters first.now) (characters second.now) }
 {
@@ -124,13 +124,12 @@ pub enum ConcatElement {
     Var(Symbol),
 }
 
-/// An op: one item of a pattern (a matcher) or of a template (a transcriber). `id` is the span of
-/// the `$` that begins it. A depth counts levels of repetitions. (The Rust Reference, "Macros By
-/// Example".)
+/// An op of a matcher or of a transcriber. `id` is the span of the `$` that begins it. A depth
+/// counts levels of repetitions. (The Rust Reference, "Macros By Example".)
 #[derive(PartialEq, Eq, Debug, Drop)]
 pub enum Op {
-    /// `$name:kind` in a pattern, where `kind` is `None` if no specifier is written; `$name` in a
-    /// template.
+    /// `$name:kind` in a matcher, where `kind` is `None` if no specifier is written; `$name` in a
+    /// transcriber.
     Var {
         name: Symbol,
         kind: Option<MetaVarKind>,
@@ -179,6 +178,6 @@ pub enum Op {
     Ident(Ident),
     /// One to three puncts that are glued to one operator.
     Punct(Vec<Punct>),
-    /// In a pattern, a quote and its name.
+    /// In a matcher, a quote and its name.
     Lifetime(Punct, Ident),
 }

@@ -1,4 +1,4 @@
-//! The rules of a definition, as they are kept.
+//! The rules of a definition, as they are stored.
 use crate::errors::ParseError;
 use crate::macro_call_style::MacroCallStyle;
 use crate::parser::Op;

@@ -1,4 +1,4 @@
-//! A value with an error beside it.
+//! A value that may have an error beside it.
 ghost use Rattle.std.specs.Prelude.{◌≡◌, None, Some, Ok, Err, IfOk, IsOk, IsOkUnless, IsSomeAnd, MatchOption, MatchResult};
 ghost use Rattle.std.specs.Option.{ForSome};
 ghost use Rattle.mbe_rules.specs.Clones.{ClonesAlike};

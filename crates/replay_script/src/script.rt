@@ -1,4 +1,4 @@
-// A script, and what is told of it.
+//! Answers a script: its commands, up to the first bad line.
 ghost use Rattle.std.specs.Prelude.{◌≡◌, IfOk, string_bytes};
 ghost use Rattle.replay_script.specs.Replays.{AreTold, HasCommands, HasHead, IsReplayed, bad_line};
 
@@ -15,7 +15,7 @@ pub struct Replayed {
     pub bad: Option<usize>,
 }
 
-// The commands that lines say, up to the first bad one, and whether there was none.
+// The commands of lines up to the first bad one, and whether there was no bad one.
 fn commands_in(alloc: Global, text: &str) -> Result<(Vec<Command>, bool), AllocError>
     ensures { IfOk result (λ r. HasCommands text.now r.0.items r.1) }
 {
@@ -31,7 +31,7 @@ fn commands_in(alloc: Global, text: &str) -> Result<(Vec<Command>, bool), AllocE
     Ok((commands, rest.is_empty()))
 }
 
-// Whether a script asks for origins, and the lines behind that.
+// Whether a script asks for origins, and the lines after that.
 fn head_of(text: &str) -> (bool, &str)
     ensures { HasHead text.now result.0 result.1.now }
 {
@@ -41,7 +41,7 @@ fn head_of(text: &str) -> (bool, &str)
     }
 }
 
-// The number of the first bad line, where not all is read, behind so many commands.
+// The number of the first bad line, which comes after these commands. `None` if there is none.
 fn bad_line(is_whole: bool, origins: bool, commands: &[Command]) -> Option<usize>
     ensures { result ≡ bad_line is_whole origins commands.now }
 {
@@ -52,7 +52,7 @@ fn bad_line(is_whole: bool, origins: bool, commands: &[Command]) -> Option<usize
     Some(commands.len() + first)
 }
 
-// What is told of the answers to commands.
+// The answers to these commands, as text.
 fn told_of(
     alloc: Global,
     commands: &[Command],

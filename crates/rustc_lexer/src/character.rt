@@ -1,4 +1,4 @@
-//! The classes of characters that the grammar of Rust knows.
+//! The classes of characters in Rust's grammar.
 ghost use Rattle.std.specs.Prelude.{◌≡◌};
 ghost use Rattle.rustc_lexer.specs.Character.{is_whitespace, is_horizontal_whitespace, is_id_start, is_id_continue};
 

@@ -1,4 +1,4 @@
-//! A cursor over the lexemes of a text.
+//! A cursor over the tokens of a text, which consumes them one by one.
 ghost use Rattle.std.specs.Prelude.{◌≡◌, ◌<◌, ◌+◌, ◌^◌, length, chars};
 ghost use Rattle.rustc_lexer.specs.Character.{char_at};
 ghost use Rattle.rustc_lexer.specs.Cursors.{Unread, next_token, past_token, next_guarded, past_guarded, later_suffix, suffix_of};
@@ -16,7 +16,7 @@ use std::marker::Model;
 #[derive(Drop)]
 pub struct Cursor<'a> {
     rest: &'a str,
-    // How many bytes were taken that the next token counts.
+    // How many bytes were consumed that count in the next token.
     pending: u32,
     ghost small: { length rest.now + pending < 2 ^ 32 },
 }
@@ -116,7 +116,8 @@ impl<'a> Cursor<'a> {
     }
 }
 
-// A token's kind, where so many bytes before its lexeme count in it.
+// The kind of a token that begins `pending` bytes before its lexeme: the suffix of a literal
+// starts that much later.
 fn later_suffix(pending: u32, kind: TokenKind) -> TokenKind
     requires { pending + suffix_of kind < 2 ^ 32 }
     ensures { result ≡ later_suffix pending kind }

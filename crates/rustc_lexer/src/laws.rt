@@ -1,14 +1,16 @@
-//! Laws of the tokens, for proofs about loops over them. A call costs nothing: it only states.
+//! Laws of the tokens, for proofs about loops over them. Calling a law does nothing: its contract
+//! is the statement.
 //!
-//! A loop `for token in tokenize(text, ..)` that keeps in `at` the place where the next token begins
-//! has the invariant `AreTokensFrom text at left`, where `left` are the tokens that the iterator has
-//! left: [`tokens_begin`] gives it at 0, [`next_token`] keeps it over `at += token.len` and says that
-//! the token's text may be cut out, and [`tokens_end`] says that `at` ends as the text's length. For
-//! a loop that enters a list of tokens at some index, [`token_lengths`] gives it there.
+//! A loop `for token in tokenize(text, ..)` that keeps in `at` the offset where the next token
+//! begins has the invariant `AreTokensFrom text at left`, where `left` are the tokens that the
+//! iterator has left: [`tokens_begin`] gives it at 0, [`next_token`] keeps it over `at +=
+//! token.len` and says that the token's text may be cut out, and [`tokens_end`] says that `at`
+//! ends as the text's length. For a loop that enters a list of tokens at some index,
+//! [`token_lengths`] gives it there.
 //!
-//! A text that is put together of whole tokens, spaces and line feeds between them has these tokens:
-//! [`whole_token`], [`blank_token`], [`one_character`] and [`quoted_name`] give them one by one, and
-//! [`token_shapes`] what each begins and ends with.
+//! A text that consists of whole tokens with spaces and line feeds between them has exactly these
+//! tokens: [`whole_token`], [`blank_token`], [`one_character`] and [`quoted_name`] give them one
+//! by one, and [`token_shapes`] says what each begins and ends with.
 ghost use Rattle.std.specs.Prelude.{◌≡◌, ◌≤◌, ◌+◌, ◌++◌, ◌↔◌, ℕ, List, [], ◌∷◌, true, false, length, chars, IsUtf8, All, sum_by, take, drop, IsCharBoundary};
 ghost use Rattle.std.specs.List.{list_all, slice_range};
 ghost use Rattle.rustc_lexer.specs.Character.{is_digit, is_ident, utf8_len};

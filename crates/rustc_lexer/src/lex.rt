@@ -1,4 +1,4 @@
-//! The lexer of a whole text.
+//! Lexes a whole text as an iterator of tokens.
 ghost use Rattle.std.specs.Prelude.{◌≡◌, ◌<◌, ◌^◌, length, chars};
 ghost use Rattle.rustc_lexer.specs.Lexing.{tokens_of};
 ghost use Rattle.rustc_lexer.specs.Remaining.{tokens_left};

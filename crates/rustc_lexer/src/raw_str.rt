@@ -1,4 +1,4 @@
-//! Validation of raw strings.
+//! Validates raw strings.
 ghost use Rattle.std.specs.Prelude.{◌≡◌, ◌<◌, ◌≤◌, ◌+◌, ◌-◌, ◌^◌, true, drop, length, chars};
 ghost use Rattle.rustc_lexer.specs.Character.{char_at, is};
 ghost use Rattle.rustc_lexer.specs.Literals.{hashes};
@@ -63,7 +63,7 @@ fn skip_chars(text: &str, n: u32) -> &str
     rest
 }
 
-// The hashes at the front: how many, and what follows them.
+// The number of hashes at the front, and what follows them.
 fn read_hashes(text: &str) -> (u32, &str)
     requires { length text.now < 2 ^ 32 }
     ensures { IsRead (hashes (chars text.now)) text.now result.0 result.1.now }
@@ -72,7 +72,7 @@ fn read_hashes(text: &str) -> (u32, &str)
     (n as u32, rest)
 }
 
-// Whether a body, before which `start` bytes stand, has a `"` that n hashes follow.
+// Whether a body that comes after `start` bytes has a `"` with n hashes after it.
 fn check_body(body: &str, n: u32, start: u32) -> Result<(), RawStrError>
     requires { start + length body.now < 2 ^ 32 }
     ensures { result ≡ body_validity start n (chars body.now) }

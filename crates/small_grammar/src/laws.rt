@@ -1,6 +1,7 @@
-//! Laws of the small grammar, for proofs above this crate.
+//! Laws of the small grammar, for the proofs of crates above.
 //!
-//! A call does nothing: it only states. The function that calls it has the clauses of the law in its own proof.
+//! Calling a law does nothing: its contract is the statement, which the caller then has in its
+//! own proof.
 ghost use Rattle.std.specs.Prelude.{◌≡◌, ◌≢◌, ◌≤◌, false, Option};
 ghost use Rattle.tt_data.specs.Forest.{Forest, map_spans};
 ghost use Rattle.tt_data.specs.declared.span.Span.{Span};

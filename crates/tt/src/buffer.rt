@@ -1,7 +1,8 @@
-//! A place in a list of trees that walks through it, leaf by leaf and bracket by bracket.
+//! Cursors: positions in a list of trees that go through it leaf by leaf and bracket by bracket.
 //!
-//! A `Cursor` goes into groups and out of them again, where a `TtIter` passes a group as one tree. Its contracts
-//! see it as a place among trees: those before it, those after it, and the groups around it.
+//! A `Cursor` enters groups and leaves them again, where a `TtIter` passes a group as one tree.
+//! Its contracts see it as a position among trees: those before it, those after it, and the
+//! groups around it.
 ghost use Rattle.tt.specs.CursorTokens.{BeginsListOf, IsNextOut, Reaches};
 ghost use Rattle.tt.specs.Places.{two_leaves};
 ghost use Rattle.tt.specs.Records.{items, as_head};
@@ -24,14 +25,15 @@ use tt_data::{Leaf, Subtree, TokenTree};
 #[derive(Debug, Drop)]
 pub struct Cursor<'a> {
     tokens: Tokens<'a>,
-    // Where the innermost list begins: 0 in no group, else just after the group's head.
+    // The index at which the innermost list begins: 0 in no group, else just after the group's
+    // head.
     start: usize,
     at: usize,
-    // Where the nearest of the lists around that one begin, the nearest last.
+    // The indices at which the nearest of the lists around that one begin, the nearest last.
     nearest: ArrayVec<usize, NEAREST>,
 }
 
-// Of how many lists around its own a cursor knows at most where they begin.
+// Of how many lists around its own a cursor knows at most the beginnings.
 const NEAREST: usize = 16;
 
 impl<'a> Model for Cursor<'a> {
@@ -64,7 +66,7 @@ impl<'a> Clone for Cursor<'a> {
     }
 }
 
-// A clone of the nearest places.
+// A clone of the nearest beginnings.
 fn copied(nearest: &ArrayVec<usize, NEAREST>) -> ArrayVec<usize, NEAREST>
     ensures { result ≡ nearest.now }
 {
@@ -74,7 +76,7 @@ fn copied(nearest: &ArrayVec<usize, NEAREST>) -> ArrayVec<usize, NEAREST>
     copy
 }
 
-// Puts a place last, in place of the first where there is no more room.
+// Appends a beginning, in place of the first one if there is no more room.
 fn push_nearest(nearest: &mut ArrayVec<usize, NEAREST>, start: usize)
     ensures { (gone : List ℕ) × (gone ++ nearest.new.items ≡ nearest.old.items ++ start ∷ []) }
 {
@@ -92,8 +94,7 @@ fn reaches(group: Subtree, start: usize, head: usize) -> bool
     head - start < group.usize_len()
 }
 
-// Whether the token just before `start` is the head of a group, this one, that has the token at `head`
-// inside.
+// Whether `group`, the head just before `start` if there is one, has the token at `head` inside.
 fn has_inside(group: Option<Subtree>, start: usize, head: usize) -> bool
     requires { start ≤ head }
     ensures { (t : TokenTree) → as_head t ≡ group → (IsTrue result ↔ Reaches t start head) }
@@ -104,7 +105,7 @@ fn has_inside(group: Option<Subtree>, start: usize, head: usize) -> bool
     }
 }
 
-// Where the list begins that the group with its head at `head` is a tree of.
+// The index at which the list begins that has the group with its head at `head`.
 fn list_around(tokens: Tokens<'_>, head: usize) -> usize
     requires { head ≤ length (items tokens) }
     ensures { BeginsListOf (items tokens.entry) head result }
@@ -119,7 +120,8 @@ fn list_around(tokens: Tokens<'_>, head: usize) -> usize
     0
 }
 
-// `list_around`, from the last of the nearest places, which is taken out, where there are any.
+// The answer of `list_around`: the last of the nearest beginnings, which is removed, or else
+// found anew.
 fn next_out(nearest: &mut ArrayVec<usize, NEAREST>, tokens: Tokens<'_>, head: usize) -> usize
     requires { head ≤ length (items tokens) }
     ensures { IsNextOut (items tokens.entry) head nearest.old.items nearest.new.items result }
@@ -130,7 +132,7 @@ fn next_out(nearest: &mut ArrayVec<usize, NEAREST>, tokens: Tokens<'_>, head: us
     }
 }
 
-// The first two trees, where both are leaves.
+// The first two trees, if both are leaves.
 fn leaf_pair(trees: TokenTreesView<'_>) -> Option<[Leaf; 2]>
     ensures { result ≡ two_leaves (forest trees.entry) }
 {
@@ -155,7 +157,7 @@ impl<'a> Cursor<'a> {
         }
     }
 
-    // The trees after the place in the innermost list.
+    // The trees after the position in the innermost list.
     pub(crate) fn after(&self) -> TokenTreesView<'a>
         ensures { forest result ≡ self.now.after }
     {

@@ -1,8 +1,8 @@
-//! Walks over a list of trees, tree by tree.
+//! Iterators over a list of trees, tree by tree.
 //!
-//! A `TtIter` is before the trees that are left, and its contracts see it as the list of those. It gives each
-//! tree as a `TtElement`, and takes no memory. What a walk can be asked besides is in the modules below this one:
-//! the first tree where it is of a sort, what is expected next, and points of a walk.
+//! A `TtIter` is before the trees that are left, and its contracts see it as the list of those.
+//! It gives each tree as a `TtElement`, and takes no memory. The modules below add what else it
+//! can be asked: the first tree of a kind, what is expected next, and savepoints.
 ghost use Rattle.std.specs.Prelude.{◌≡◌, ⊤, IsTrue, ◌↔◌};
 
 pub(crate) mod expect;

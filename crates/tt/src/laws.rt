@@ -1,6 +1,7 @@
-//! Laws of places and of trees under construction, for proofs above this crate.
+//! Laws of positions and of trees under construction, for the proofs of crates above.
 //!
-//! A call does nothing: it only states. The function that calls it has the clauses of the law in its own proof.
+//! Calling a law does nothing: its contract is the statement, which the caller then has in its
+//! own proof.
 ghost use Rattle.std.specs.Prelude.{◌≡◌, ◌↔◌, ℕ, Bool, true, List, [], ◌∷◌, ◌+◌, length, map, nat_eq, Some, option_map};
 ghost use Rattle.std.specs.List.{IsDistinct, count_by, list_any};
 ghost use Rattle.std.specs.Option.{unwrap_or};

@@ -1,4 +1,4 @@
-//! Literals of whole tokens.
+//! Literals of whole tokens: the text inside, and the suffix.
 ghost use Rattle.std.specs.Prelude.{◌≡◌, ◌<◌, ◌≤◌, ◌^◌, length, drop, IfOk, IsOkUnless};
 ghost use Rattle.std.specs.Str.{IsCharBoundary};
 ghost use Rattle.tt.specs.TokenLiterals.{IsLiteralToken, form_begin, form_end, inside_of, literal_in};

@@ -1,4 +1,4 @@
-//! Cutting a list of trees at some of them.
+//! Splits a list of trees at those for which a test is true.
 ghost use Rattle.std.specs.Prelude.{◌≡◌, Some};
 ghost use Rattle.tt.specs.Views.{forest};
 ghost use Rattle.tt.specs.Splitting.{Cuts, split_steps, pieces_left};
@@ -9,7 +9,7 @@ use crate::view::TokenTreesView;
 /// The parts of a list of trees, between the trees for which a test is true.
 #[derive(Drop)]
 pub struct Split<'a, F> {
-    // What is left to be cut: none once the last piece is out.
+    // The trees that are left. `None` once the last part was given.
     pub(crate) rest: Option<TtIter<'a>>,
     pub(crate) test: F,
 }
@@ -28,7 +28,8 @@ impl<'a> TokenTreesView<'a> {
     }
 }
 
-// The trees before the first for which the test is true, and what is after it: none where there is no such tree.
+// The trees before the first for which the test is true, and those after it. `None` for the
+// latter if there is no such tree.
 fn cut<'a, F: FnMut(TtElement<'a>) -> bool>(
     trees: TtIter<'a>,
     test: &mut F,

@@ -1,4 +1,4 @@
-//! Whole trees.
+//! Whole trees: one group with all inside it.
 ghost use Rattle.std.specs.Prelude.{◌≡◌, ◌↔◌, ◌⊎◌, ◌<◌, Err, IfOk, IfErr, IsOkUnless, OnOk, OnErr, false};
 ghost use Rattle.tt_data.specs.fault.TtFault.TheVariants as fault;
 
@@ -231,7 +231,7 @@ impl TopSubtree {
     }
 }
 
-// Two trees are equal where their tokens are, spans included.
+// Two trees are equal if their tokens are, spans included.
 impl PartialEq for TopSubtree {
     ghost use Rattle.std.specs.Cmp.{on_per};
     ghost use Rattle.tt_data.specs.contracts.tree.TokenTreePartialEq.TheImpl.Laws as token_laws;

@@ -1,4 +1,4 @@
-//! Lists of trees that are borrowed.
+//! Borrowed lists of trees.
 ghost use Rattle.std.specs.Prelude.{◌≡◌, IsSome, IsTrue, ◌↔◌, true, ◌<◌, ◌^◌};
 ghost use Rattle.tt_data.specs.Forest.{IsPreorder, forest_of};
 ghost use Rattle.tt.specs.Records.{items};
@@ -39,7 +39,7 @@ impl<'a> TokenTreesView<'a> {
         ensures { result ≡ preorder (forest self.now) }
     {
         let flat = self.tokens;
-        // that they can be counted is what the walk promises of itself
+        // The proof that the iterator's tokens can be counted needs this.
         let _count = flat.len();
         FlatTokens { tokens: flat }
     }

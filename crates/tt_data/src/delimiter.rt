@@ -1,4 +1,4 @@
-//! The brackets round a group.
+//! The delimiters of groups.
 ghost use Rattle.std.specs.Prelude.{◌≡◌};
 ghost use Rattle.tt_data.specs.declared.delimiter.DelimiterKind.TheVariants.{Invisible};
 

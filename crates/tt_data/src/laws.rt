@@ -1,4 +1,5 @@
-//! Laws of forests, for proofs above this crate. A call does nothing: it only states.
+//! Laws of forests, for the proofs of crates above. Calling a law does nothing: its contract is
+//! the statement.
 ghost use Rattle.std.specs.Prelude.{◌≡◌, ◌↔◌, true, ℕ, ◌+◌, List, ◌∷◌, ◌++◌, length, map};
 ghost use Rattle.tt_data.specs.Flat.{Parts};
 ghost use Rattle.tt_data.specs.Forest.{Forest, empty, group, joined, size, preorder, front, back, forest_of, head_of, IsPreorder, map_spans, shape};

@@ -1,4 +1,4 @@
-//! The tokens that hold no other tokens: literals, puncts and identifiers.
+//! The leaves of token trees: literals, puncts and identifiers.
 ghost use Rattle.std.specs.Prelude.{◌≡◌, ◌^◌, ◌<◌, ◌++◌, ◌↔◌, ⊤, [], length, IfOk, IsOkUnless, IsTrue};
 ghost use Rattle.tt_data.specs.Names.{prefix_of, rawness, bare_name, ident_of};
 ghost use Rattle.tt_data.specs.Spans.{span_of};

@@ -1,4 +1,4 @@
-//! Where a token stands in a text, and how it came there.
+//! Spans: where a token is in a text, and whether it was written or synthesized.
 
 /// An offset or a length in a text, in bytes.
 pub type TextSize = u32;
@@ -10,13 +10,13 @@ pub struct TextRange {
     pub end: TextSize,
 }
 
-/// Whether a token was written in a text, or synthesized: put out by a template.
+/// Whether a token was written in a text, or synthesized: put out by a transcriber.
 #[derive(Clone, Copy, Default, PartialEq, Eq, Hash, Debug)]
 pub enum SyntaxContext {
     /// In a text.
     #[default]
     Written,
-    /// By a template of a macro.
+    /// By the transcriber of a macro.
     Made,
 }
 

@@ -1,4 +1,4 @@
-//! The records of a flat list of tokens.
+//! The tokens of a flat list: leaves, and heads of groups.
 ghost use Rattle.std.specs.Prelude.{◌≡◌};
 ghost use Rattle.tt_data.specs.Spans.{first_span_of};
 ghost use Rattle.tt_data.specs.declared.tree.TokenTree.TheVariants as token;

@@ -116,7 +116,8 @@ pub(crate) fn append_shifted(
     }
 }
 
-/// What was put, as a chunk, where it is one. Unused room of its text and its spans is given back.
+/// What was printed, as a chunk. `None` if it is no chunk. Unused room of its text and its spans
+/// is given back.
 pub(crate) fn as_chunk(out: PrintState) -> Result<Option<PrintedChunk>, TtFault>
     ensures chunk { IfOk result (λ o. IfSome o (λ chunk. state_of out ≡ just_chunk chunk)) }
     ensures told { IfOk result (λ o. is_some o ≡ is_chunk (state_of out)) }

@@ -1,4 +1,4 @@
-//! Item-relative spans: kept once, and shifted to wherever their item is.
+//! Piece-relative spans: stored once, and shifted to wherever their piece is.
 ghost use Rattle.std.specs.Prelude.{◌≡◌, ◌+◌, ◌<◌, ◌^◌, IfSome, true};
 ghost use Rattle.std.specs.List.{list_all};
 ghost use Rattle.bridge.specs.RelativeSpans.{is_anchored, is_in_text, is_within, shifted};
@@ -14,7 +14,7 @@ pub struct Shift {
     pub base: u32,
 }
 
-// No range goes past `reach`, and each anchor is 0 or this one.
+// A bound on all ranges, and the only anchor besides 0.
 #[derive(Clone, Copy)]
 struct Bounds {
     reach: u32,
@@ -25,7 +25,7 @@ struct Bounds {
 #[derive(Drop)]
 pub struct RelativeSpans {
     spans: Vec<Span>,
-    // None where there are two anchors besides 0.
+    // `None` if there are two anchors besides 0.
     bounds: Option<Bounds>,
 }
 
@@ -80,7 +80,7 @@ impl RelativeSpans {
     }
 }
 
-// Whether ranges that go no further can be counted from there.
+// Whether ranges that end at `reach` or before still fit when they are shifted.
 fn has_room(shift: Shift, reach: u32) -> bool
     ensures { result ≡ true → (shift.start + reach < 2 ^ 32) × (shift.base + reach < 2 ^ 32) }
 {
@@ -106,7 +106,7 @@ fn are_within(bounds: Bounds, spans: &[Span]) -> bool
     true
 }
 
-// The furthest end, and the last anchor that isn't 0.
+// The greatest end, and the last anchor that isn't 0.
 fn widest(spans: &[Span]) -> Bounds {
     let mut bounds = Bounds {
         reach: 0,
@@ -132,7 +132,7 @@ fn bounds_of(spans: &[Span]) -> Option<Bounds>
     }
 }
 
-/// A span that is shifted.
+/// The span, shifted.
 pub(crate) fn shifted(shift: Shift, span: Span) -> Span
     requires { is_in_text shift span ≡ true }
     ensures { result ≡ shifted shift span }

@@ -1,4 +1,4 @@
-//! Lists of spans, of which some are shared with a chunk, and are computed when they are asked for.
+//! Lists of spans. Some spans are shared with a chunk, and computed when they are asked for.
 ghost use Rattle.std.specs.Prelude.{◌≡◌, ℕ, ◌+◌, ◌≤◌, ◌<◌, ◌^◌, ◌-◌, ◌∷◌, ◌++◌, [], IfOk, IfSome, OnErr, OnOk, leb, length, map, slice_get, take, true};
 ghost use Rattle.std.specs.List.{AllWithin, list_all};
 ghost use Rattle.std.specs.Rc.{rc_value};
@@ -13,10 +13,10 @@ use std::mem::replace;
 use std::rc::Rc;
 use tt_data::Span;
 
-// The most spans that stand in runs.
+// The most spans that may be in runs.
 const MOST: usize = 1 << 62;
 
-// Shared spans that stand in a list, shifted or as they are: as many as the list has from `begin` on and before `end`.
+// Shared spans, shifted or as they are: those of the list from index `begin` to before `end`.
 #[derive(Drop)]
 struct SpanRun {
     begin: usize,
@@ -28,9 +28,9 @@ struct SpanRun {
 #[derive(Drop)]
 struct SpanRuns {
     runs: Vec<SpanRun>,
-    // How many spans stand in runs.
+    // How many spans are in runs.
     shared: usize,
-    // The spans behind them.
+    // The spans after the runs.
     own: Vec<Span>,
 }
 
@@ -159,7 +159,7 @@ impl SpanList {
     }
 }
 
-// The end of so many spans behind others.
+// The index after `count` spans that follow `shared` others. `None` if it is too large.
 fn end_behind(shared: usize, count: usize) -> Option<usize>
     ensures { IfSome result (λ end_at. (end_at ≡ shared + count) × (end_at ≤ 2 ^ 62)) }
 {
@@ -181,7 +181,7 @@ fn runs_before(runs: &[SpanRun], i: usize) -> usize
     )
 }
 
-// The span of this number, which is one of the run's.
+// The span at index `i` of the list, which is in this run.
 fn place_in(run: &SpanRun, i: usize) -> Option<Span>
     requires right { IsRun run.now.begin run.now }
     requires begin { run.now.begin ≤ i }
@@ -229,7 +229,7 @@ fn run_of(alloc: Global, begin: usize, end: usize, spans: &[Span]) -> Result<Spa
     }
 }
 
-// Held spans, shifted, as a run.
+// Shared spans, shifted, as a run.
 fn shifted_run(
     begin: usize,
     end: usize,
@@ -249,7 +249,8 @@ fn shifted_run(
     })
 }
 
-// Makes the spans behind the runs a run: `false`, and nothing is done, where there would be too many.
+// Turns the spans after the runs into a run. `false`, with nothing changed, if there would be too
+// many.
 fn settle(inner: &mut SpanRuns) -> Result<bool, AllocError>
     requires { AreSpanRuns inner.old }
     ensures right { AreSpanRuns inner.new }
@@ -312,7 +313,7 @@ fn cut(inner: &mut SpanRuns, count: usize)
     inner.own.clear();
 }
 
-// Copies of all spans.
+// All spans, copied.
 fn copied(alloc: Global, inner: &SpanRuns) -> Result<Vec<Span>, AllocError>
     requires { AreSpanRuns inner.now }
     ensures { IfOk result (λ spans. spans.items ≡ spans_in inner.now) }

@@ -1,7 +1,7 @@
-//! Taking the first tree of a list, where it is what is expected.
+//! Consumes the first tree of a list if it is what is expected.
 //!
-//! Each call answers what it took and leaves the walk after that. Where something else comes first, or
-//! nothing, it answers `Err(())`, and the walk stays where it was.
+//! Each call answers what it consumed, and leaves the iterator after that. If something else
+//! comes first, or nothing, it answers `Err(())`, and the iterator stays where it was.
 ghost use Rattle.std.specs.Prelude.{◌≡◌, nat_eq, Some, None, IfOk, OnOk, OnErr};
 ghost use Rattle.tt.specs.FirstTrees.{behind_punct, first_ident, first_leaf, first_literal_leaf, first_name, first_punct, first_subtree, is_among, is_literal};
 ghost use Rattle.tt.specs.Glued.{first_glued, glued_at, glued_count, is_pair, is_three, is_triple, is_two};
@@ -46,7 +46,7 @@ fn is_pair(first: Punct, second: Punct) -> bool
     first.spacing != Spacing::Alone && is_two(first.char, second.char)
 }
 
-// Whether three are.
+// Whether three puncts side by side are glued to one operator.
 fn is_triple(first: Punct, second: Punct, third: Punct) -> bool
     ensures { result ≡ is_triple first second third }
 {

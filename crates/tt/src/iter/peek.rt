@@ -1,6 +1,7 @@
-//! Peeking: the first tree of a list, where it is of the sort that is asked for, and the trees after it.
+//! Peeks at the first tree of a list, if it is of the kind that is asked for, and gives the trees
+//! after it.
 //!
-//! Nothing is passed, and nothing is copied where another sort of tree comes first.
+//! Nothing is consumed, and nothing is copied if a tree of another kind comes first.
 ghost use Rattle.std.specs.Prelude.{◌≡◌, option_map};
 ghost use Rattle.tt.specs.FirstTrees.{first_ident, first_leaf, first_literal, first_punct, first_group, first_subtree};
 
@@ -57,7 +58,8 @@ impl<'a> TtIter<'a> {
         Some((leaf, TtIter { tokens: more }))
     }
 
-    // The head of the group that comes next, and a walk over the trees inside.
+    // The head of the group that comes next, an iterator over the trees inside, and one over
+    // those after it.
     pub(crate) fn first_subtree(&self) -> Option<(Subtree, TtIter<'a>, TtIter<'a>)>
         ensures { result ≡ first_subtree self.now }
     {

@@ -1,4 +1,4 @@
-//! Points of a walk, and what was passed since.
+//! Savepoints of an iterator, and the trees that it passed since.
 ghost use Rattle.std.specs.Prelude.{◌≡◌, []};
 ghost use Rattle.tt_data.specs.Forest.{Forest, joined};
 ghost use Rattle.tt.specs.Views.{forest};

@@ -1,4 +1,4 @@
-//! Trees under construction.
+//! Builders of trees.
 ghost use Rattle.std.specs.Prelude.{◌≡◌, ◌≢◌, ◌↔◌, ◌⊎◌, ◌+◌, ◌<◌, ◌^◌, ◌≤◌, ◌++◌, ◌∷◌, [], reverse, length, take, List, Err, Some, None, option_map, map, IfOk, IfErr, IsOk, IsOkUnless, IsSome, IsTrue, OnOk, OnErr};
 ghost use Rattle.tt_data.specs.Forest.{size, front};
 ghost use Rattle.tt.specs.BuilderTokens.{start_of, begins_invisible, moved_back};
@@ -18,7 +18,7 @@ use std::alloc::Global;
 use std::marker::Model;
 use tt_data::{Delimiter, DelimiterKind, Leaf, Span, Subtree, TokenTree, TtFault};
 
-// The most tokens that a tree has below its top.
+// The most tokens that a tree may have below its top.
 const MOST_TOKENS: usize = u32::MAX as usize;
 
 /// A restore point of a builder: how many tokens it had below the top, and how many groups were
@@ -41,7 +41,7 @@ impl Model for SubtreeBuilderRestorePoint {
     ghost inverse = { λ p. record { tokens = p.tokens; depth = p.depth } };
 }
 
-// A group that is open, and where its token is.
+// A group that is open, and the index of its token.
 #[derive(Clone, Copy)]
 struct Opening {
     at: usize,
@@ -50,7 +50,7 @@ struct Opening {
 }
 
 impl Opening {
-    // The opening once the token at a place is taken out.
+    // The opening once the token at index `at` is removed.
     fn moved_back(self, at: usize) -> Opening
         ensures { result ≡ moved_back at self }
     {
@@ -103,14 +103,14 @@ impl<'a> Iterator for ExpectedDelimiters<'a> {
 #[derive(Drop)]
 pub struct TopSubtreeBuilder {
     top: Delimiter,
-    // The top's token, and those below it. The top and an open group count nothing yet.
+    // The top's token, and those below it. The top and the open groups have no count yet.
     tokens: TokenBuffer,
     // The open groups, the innermost last.
     openings: Vec<Opening>,
-    // Where the token of the group closed last is.
+    // The index of the token of the group that was closed last.
     last_closed: Option<usize>,
-    // A place that no closed group lies across: that of the last point restored, or of the group
-    // around it that was closed since. Restores at growing places walk over each tree once.
+    // An index that no closed group lies across: that of the last point restored, or of the group
+    // around it that was closed since. So restoring at growing indices visits each tree once.
     settled: usize,
 }
 
@@ -243,7 +243,7 @@ impl TopSubtreeBuilder {
         Ok(())
     }
 
-    // The last token is no longer joined to what follows.
+    // Makes the last token `Alone`.
     fn set_last_alone(&mut self)
         requires { self.old.tree.here ≢ empty }
         ensures { self.new ≡ record self.old { tree = record self.old.tree { here = last_alone self.old.tree.here } } }
@@ -383,8 +383,9 @@ impl TopSubtreeBuilder {
         Ok(())
     }
 
-    // How many tokens come before the list in which just so many groups are open, the top's among
-    // them, and a walk over that list.
+    // How many tokens come before the list in which exactly `depth` groups are open, and an
+    // iterator over that list. The top's token counts among them. `None` if fewer groups are
+    // open.
     fn list_at(&self, depth: usize) -> Option<(usize, TtIter<'_>)>
         ensures { result ≡ option_map (λ l. (1 + count_in l.0, l.1)) (list_in depth self.now.tree.groups self.now.tree.here) }
     {
@@ -403,7 +404,7 @@ impl TopSubtreeBuilder {
         Some((start, TtIter { tokens: inside }))
     }
 
-    // Whether a point is valid.
+    // Whether a restore point is valid.
     fn stands(&self, point: SubtreeBuilderRestorePoint) -> bool
         ensures { IsTrue result ↔ IsSome (cut_back point self.now.tree) }
     {
@@ -476,7 +477,7 @@ impl TopSubtreeBuilder {
     }
 }
 
-// Puts a leaf after the other tokens, where there is room below the top.
+// Appends a leaf, if there is room below the top.
 #[inline(always)]
 fn put_leaf(tokens: &mut TokenBuffer, leaf: Leaf) -> Result<(), TtFault>
     ensures ok { OnOk result (tokens.new ≡ tokens.old ++ token.Leaf leaf ∷ []) }
@@ -492,7 +493,7 @@ fn put_leaf(tokens: &mut TokenBuffer, leaf: Leaf) -> Result<(), TtFault>
     Ok(())
 }
 
-// Puts leaves after the other tokens. Where it is refused, some of them may have been put.
+// Appends leaves. If it is refused, some of them may have been appended.
 fn put_leaves<I: IntoIterator<Item = Leaf>>(
     tokens: &mut TokenBuffer,
     leaves: I,
@@ -510,7 +511,7 @@ fn put_leaves<I: IntoIterator<Item = Leaf>>(
     Ok(())
 }
 
-// Whether the token whose head this is, if it has one, begins an invisible group.
+// Whether a token begins an invisible group. `head` is its head, if it has one.
 fn is_invisible_head(head: Option<Subtree>) -> bool
     ensures { (t : TokenTree) → as_head t ≡ head → result ≡ begins_invisible t }
 {
@@ -520,7 +521,7 @@ fn is_invisible_head(head: Option<Subtree>) -> bool
     }
 }
 
-// The openings after the token at a place move one token back.
+// Moves the openings after index `at` one token back.
 fn move_back(openings: &mut Vec<Opening>, at: usize)
     ensures { openings.new.items ≡ map (moved_back at) openings.old.items }
 {
