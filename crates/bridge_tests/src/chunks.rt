@@ -1,5 +1,6 @@
 //! Chunks of printed text, appended to one another.
-use bridge::{LazyPrinted, PrintedChunk, Printer, Read, Shift, TokenEvent, read};
+use bridge::parts::{LazyPrinted, PrintedChunk, Shift, TokenEvent};
+use bridge::{Printer, Read, read};
 use rustc_lexer::LexedText;
 use std::test::Fail;
 use tt_data::{Leaf, Punct, Spacing, Span, TtFault};

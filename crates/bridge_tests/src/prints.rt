@@ -1,6 +1,7 @@
 //! Trees and the texts that are printed of them.
 use crate::rows::text_of;
-use bridge::{Printed, Printer, Read, TokenEvent, print, read};
+use bridge::parts::TokenEvent;
+use bridge::{Printed, Printer, Read, print, read};
 use rustc_lexer::LexedText;
 use std::alloc::Global;
 use std::fmt::Write;

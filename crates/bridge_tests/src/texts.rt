@@ -4,7 +4,8 @@ ghost use Rattle.rustc_lexer.specs.TokensAt.{AreTokensFrom};
 ghost use Rattle.std.specs.Prelude.{◌≡◌, ◌<◌, ◌^◌, IfSome, chars, length};
 
 use crate::rows::text_of;
-use bridge::{NameCache, Read, begins_with_mark, read, read_part};
+use bridge::parts::{NameCache, begins_with_mark, read_part};
+use bridge::{Read, read};
 use rustc_lexer::{LexedText, Token, laws};
 use std::fmt::Write;
 use std::test::Fail;

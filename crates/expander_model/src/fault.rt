@@ -4,7 +4,7 @@ ghost use Rattle.bridge.specs.TokenEvents.{step_of};
 ghost use Rattle.expander_model.specs.Faults.{place, is_definition_word, in_order};
 
 use crate::definition::is_word;
-use bridge::TokenEvent;
+use bridge::parts::TokenEvent;
 use std::alloc::AllocError;
 use tt_data::{Leaf, Span, TextRange};
 

@@ -2,7 +2,7 @@
 ghost use Rattle.std.specs.Prelude.{◌≡◌, [], ◌∷◌, IfOk, OnOk};
 ghost use Rattle.expander_model.specs.WalkSteps.{GoesOn, GoesOut, groups_of};
 
-use bridge::TokenEvent;
+use bridge::parts::TokenEvent;
 use std::alloc::{AllocError, Global};
 use std::mem::replace;
 use tt::TtIter;

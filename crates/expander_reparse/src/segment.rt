@@ -8,7 +8,7 @@ ghost use Rattle.expander_reparse.specs.Reparsing.{IsCachedHere};
 ghost use Rattle.expander_reparse.specs.Segments.{AreSegments, IsHeldAt, IsCachedSegment, IsCachedPiece, OccursFirst, all_in, chars_ahead};
 
 use crate::shared_bytes::SharedBytes;
-use bridge::begins_with_mark;
+use bridge::parts::begins_with_mark;
 use expander_model::hashed_tree::HashedTree;
 use rustc_lexer::Token;
 use std::alloc::Global;

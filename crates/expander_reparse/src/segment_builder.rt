@@ -14,7 +14,7 @@ use crate::segment::{
 };
 use crate::segment_piece::SegmentPiece;
 use crate::shared_bytes::ByteStore;
-use bridge::begins_with_mark;
+use bridge::parts::begins_with_mark;
 use rustc_lexer::{Token, laws};
 use std::alloc::{AllocError, Global};
 use std::rc::Rc;

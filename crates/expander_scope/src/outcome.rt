@@ -6,7 +6,7 @@ ghost use Rattle.expander_model.specs.Expansion.{placed};
 ghost use Rattle.expander_scope.specs.Outcomes.{kind_of, placed_of};
 
 use crate::macro_def::MacroDef;
-use bridge::TokenEvent;
+use bridge::parts::TokenEvent;
 use expander_model::fault::FaultKind;
 use expander_model::tree_walk::TreeWalk;
 use std::alloc::{AllocError, Global};

@@ -16,7 +16,7 @@ ghost use Rattle.expander_session.specs.AbsoluteSpans.{base_at, range_from, reso
 
 use crate::cached_output::CachedText;
 use crate::emitter::{Emitter, emit_chunk, emit_chunk_at, push_step};
-use bridge::{Shift, TokenEvent};
+use bridge::parts::{Shift, TokenEvent};
 use expander_model::fault::{Fault, FaultKind};
 use expander_model::tree_walk::TreeWalk;
 use expander_scope::macro_def::MacroDef;

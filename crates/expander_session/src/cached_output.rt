@@ -7,7 +7,8 @@ ghost use Rattle.expander_session.specs.CachedOutputs.{HasPrinted, IsCachedText,
 ghost use Rattle.expander_session.specs.Emitting.{word_places};
 ghost use Rattle.expander_scope.specs.Outcomes.{placed_of, steps_for};
 
-use bridge::{PrintedChunk, Printer, TokenEvent};
+use bridge::Printer;
+use bridge::parts::{PrintedChunk, TokenEvent};
 use expander_model::fault::{is_definition_word, place};
 use expander_model::tree_walk::TreeWalk;
 use expander_scope::outcome::{Event, lent};

@@ -11,7 +11,8 @@ ghost use Rattle.expander_session.specs.Emitting.{HasOutput, PutsOut, faults_at,
 ghost use Rattle.expander_model.specs.Printing.{steps_of};
 ghost use Rattle.expander_model.specs.declared.fault.FaultKind.TheVariants as as_kind;
 
-use bridge::{LazyPrinted, PrintedChunk, Printer, Shift, TokenEvent, laws};
+use bridge::parts::{LazyPrinted, PrintedChunk, Shift, TokenEvent};
+use bridge::{Printer, laws};
 use expander_model::fault::{Fault, FaultKind, is_definition_word, place};
 use std::alloc::{AllocError, Global};
 use tt_data::{DelimiterKind, Span, TextRange};
