@@ -1,4 +1,4 @@
--- A text's pieces with piece-relative spans, and how these become spans of the text.
+-- A text's pieces in places of their own, and how these are places of the text.
 use Rattle.std.specs.Prelude.{◌≡◌, ℕ, ◌+◌, ◌≤◌, zero, suc, All, Contains, List, [], ◌∷◌, Option, Some, None, option_map, filter_map, find, if◌then◌else◌, nat_eq, is_some}
 use Rattle.tt_data.specs.Forest.{Forest, leaf, group, empty, map_spans}
 use Rattle.tt_data.specs.Spans.{span_of}
@@ -147,21 +147,21 @@ IsMet table m = IsNumbered table m.numbered
 abbrev pub HasNumber : (Forest → ℕ → Type 0) → (Forest → ℕ) → Forest → Type 0
 HasNumber table number_of p = (d : Definition) → definition_of (relative p) ≡ Some d → table (relative p) (number_of (relative p))
 
--- the trees of those pieces that are definitions, with piece-relative spans
+-- the trees of those pieces that are definitions, in places of their own
 abbrev pub definition_trees : List Forest → List Forest
 definition_trees [] = []
 definition_trees (p ∷ ps) = if is_some (definition_of (relative p)) then relative p ∷ definition_trees ps else definition_trees ps
 
--- the tree of a definition of a text, with piece-relative spans
+-- the tree of a definition of a text, places counted from its first token
 abbrev pub defining_tree : Member → Option Forest
 defining_tree (plain piece outcome) = None
 defining_tree (defining d) = Some (relative d.piece)
 
--- the trees of all definitions of a text
+-- those of all definitions of a text
 abbrev pub trees_in : List Member → List Forest
 trees_in ms = filter_map defining_tree ms
 
--- ids of trees, from 1 on: no two different trees have one id
+-- numbers of trees, from 1 on: no two different trees have one number
 pub record TellsApart (number_of : Forest → ℕ) (trees : List Forest) : Type 0 where
   pub positive : All (λ t. 1 ≤ number_of t) trees
   pub apart : All (λ t. All (λ u. number_of t ≡ number_of u → t ≡ u) trees) trees
