@@ -8,7 +8,7 @@ use Rattle.mbe_rules.specs.declared.parser.RepeatKind.TheVariants.{ZeroOrOne}
 use Rattle.mbe_matcher.specs.Bindings.{Map}
 use Rattle.mbe_transcriber.specs.Filling.{item_in, round_stands, filled_in, rounds_of, separator_leaves}
 
--- what puts out so many tokens and then others, or so many and then has a fault
+-- so many tokens of a first part and then others: only those of the part if it is a fault
 abbrev pub and_then : Option Forest → (first others : ℕ) → ℕ
 and_then None first others = first
 and_then (Some f) first others = first + others

@@ -13,8 +13,7 @@ use tt::{TokenTreesView, TtIter};
 use tt_data::{Delimiter, DelimiterKind, Leaf, Span, TtFault};
 
 /// An event of a traversal: a leaf, which is borrowed, or the opening or closing of a group that
-/// may be
-/// invisible.
+/// may be invisible.
 #[derive(Drop)]
 pub enum TokenEvent<'a> {
     Leaf(&'a Leaf),

@@ -70,8 +70,8 @@ fn expected_fragment(
     }
 }
 
-// The error where a thread cannot go on at this op. `None` for groups and for metavariables
-// without a fragment specifier.
+// The error where a thread cannot go on at this op. `None` for other ops, as groups and
+// metavariables without a fragment specifier.
 pub(crate) fn fault_at(
     alloc: Global,
     op: &Op,
@@ -101,7 +101,7 @@ pub(crate) fn fault_at(
 }
 
 // The metavariable whose fragment is wrong, and the trees that the grammar passes for it. `None`
-// if the op is no metavariable.
+// if the op is no metavariable with a fragment specifier.
 pub(crate) fn partial_at<'a, G: FragmentGrammar>(
     grammar: &G,
     op: &'a Op,

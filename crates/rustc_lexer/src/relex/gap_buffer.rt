@@ -111,7 +111,8 @@ fn fits_in_front(items: &[Token], room: usize, gone: usize, added: usize) -> boo
 
 // The width of the gap with which `added` tokens can replace those from `start` to `stop`, and
 // whether the tokens before `start` are to be moved. They are if they are fewer than those after
-// `stop`, for which the gap is widened, or if as many tokens come as go.
+// `stop`, for which the gap is widened, or if as many tokens come as go; but not if the gap would
+// then be too wide.
 fn found_room(
     items: &mut Vec<Token>,
     room: usize,
