@@ -1,0 +1,4 @@
+-- what the grammar answers
+pub mod Items
+-- that the answer keeps the laws of a grammar
+pub mod ItemLaws
