@@ -35,8 +35,8 @@ pub(crate) struct Memo {
 }
 
 impl Memo {
-    /// How many tokens its cached text has, and how many bytes the names of its first look-up. To
-    /// ask brings it into the processor's cache.
+    /// How many tokens its cached text has, and how many bytes the names of its first look-up.
+    /// Asking brings it into the processor's cache.
     pub(crate) fn size(&self) -> usize {
         let name = match self.finds.first() {
             Some(find) => find.size(),
