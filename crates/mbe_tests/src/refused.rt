@@ -7,8 +7,8 @@ use std::alloc::Global;
 use std::test::Fail;
 use tt::TtFault;
 
-// What a call prints, as long as no request is refused: none where a text is not read, or the
-// definition is broken.
+// What a call prints, if no request for memory is refused. `None` if a text has a reading fault,
+// or the definition is invalid.
 fn printed(alloc: Global, rules: &str, argument: &str) -> Result<Option<String>, TtFault> {
     let Some(body) = trees_of(alloc, rules)? else {
         return Ok(None);
