@@ -1,4 +1,4 @@
--- A piece whose earlier look-ups find the same now is not expanded again.
+-- A piece whose earlier look-ups find equal definitions, or still none, is not expanded again.
 use Rattle.std.proofs.Common.{◌≡◌, ℕ, ◌+◌, Bool, true, false, List, [], ◌∷◌, ◌++◌, map, Option, Some, None, refl, ap, sym, subst, ◌∙◌, option_map, arith, append_assoc, length, length-append}
 use Rattle.std.specs.Prelude.{All, IsUtf8, Ok, Result, filter, filter_map, not, ◌||◌}
 use Rattle.std.specs.List.{list_any}

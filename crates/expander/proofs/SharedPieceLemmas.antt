@@ -1,4 +1,4 @@
--- What the count sees of texts that share pieces in places of their own.
+-- How cache misses are counted for texts that share pieces with equal piece-relative spans.
 use Rattle.std.proofs.Common.{◌≡◌, ℕ, Bool, true, false, cond, List, [], ◌∷◌, ◌++◌, map, Option, Some, None, refl, ap, sym, subst, ◌∙◌, option_map}
 use Rattle.std.specs.Prelude.{All, Contains, IsUtf8, Ok, Result, filter_map, find, is_some, ◌||◌}
 use Rattle.std.specs.List.{cons_option, list_any}

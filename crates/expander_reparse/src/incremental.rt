@@ -1,4 +1,5 @@
-//! Reads a text piece by piece: a cached piece or segment where its bytes are here again, else the next piece by itself.
+//! Reads a text piece by piece. A cached piece or segment is reused where its bytes occur again,
+//! else the next piece is read by itself.
 ghost use Rattle.std.specs.Prelude.{◌≡◌, ◌+◌, ◌<◌, ◌≤◌, ◌^◌, ◌++◌, ◌∷◌, [], IfOk, IfSome, IsOkUnless, List, None, Ok, OnOk, chars, drop, length, take, true, ℕ};
 ghost use Rattle.std.specs.Rc.{rc_value};
 ghost use Rattle.rustc_lexer.specs.Lexing.{tokens_of};
@@ -29,7 +30,8 @@ use std::rc::Rc;
 use tt::TopSubtree;
 use tt_data::TtFault;
 
-// Whether a token of this kind is read as nothing.
+// Whether a token of this kind is trivia. A block comment without an end is none: it has a reading
+// fault.
 fn is_blank(kind: TokenKind) -> bool
     ensures { result ≡ true → IsBlank kind }
 {
@@ -44,7 +46,7 @@ fn is_blank(kind: TokenKind) -> bool
     }
 }
 
-// How many bytes tokens have, where that is a number.
+// How many bytes the tokens have together. `None` if the number is too large.
 fn bytes_in(tokens: &[Token]) -> Option<usize>
     ensures { IfSome result (λ n. n ≡ bytes_of tokens.now) }
 {
@@ -55,7 +57,8 @@ fn bytes_in(tokens: &[Token]) -> Option<usize>
     Some(sum)
 }
 
-// The first bytes of a text, and the characters behind them.
+// The first `len` bytes of a text, and the two characters after them. `None` if `len` is no
+// character boundary of the text.
 fn word_of(text: &str, len: usize) -> Option<(&[u8], Lookahead)>
     ensures word { IfSome result (λ r. (r.0.now ≡ take len text.now) × (len ≤ length text.now)) }
     ensures ahead { IfSome result (λ r. chars_ahead r.1 ≡ take 2 (chars (drop len text.now))) }
@@ -65,7 +68,9 @@ fn word_of(text: &str, len: usize) -> Option<(&[u8], Lookahead)>
     Some((word, ahead))
 }
 
-// The tree of the first tokens and what it is, where it starts at its first place.
+// Reads the first `count` tokens, from offset `at` of the text on, as a tree with spans that count
+// from `at`, and tells whether it is one piece. `None` if the tokens are no trees, or the first
+// tree does not start at `at`. Out of memory is its only error.
 fn read_piece(
     alloc: Global,
     names: &mut NameCache,
@@ -97,7 +102,7 @@ fn read_piece(
     Ok(Some((shape, tree)))
 }
 
-// A piece with what it was read from, and what it was read as.
+// A piece to be cached: its bytes and number of tokens, what follows them, and its tree.
 fn source_of(
     alloc: Global,
     bytes: SharedBytes,
@@ -126,7 +131,8 @@ fn source_of(
     }
 }
 
-// The first piece of these tokens, read by itself.
+// Reads the first piece of these tokens by itself. `None` if nothing ends it, or the tokens up to
+// its end cannot be read as one whole piece.
 fn read_source(
     context: &ReadingContext<'_>,
     names: &mut NameCache,
@@ -167,7 +173,7 @@ fn read_source(
     Ok(Some(source))
 }
 
-// A piece at this place that is none of the held ones.
+// A piece that starts at `at` and is not from the cache.
 fn new_piece(alloc: Global, at: u32, tree: TopSubtree) -> Result<Piece, AllocError>
     ensures { IfOk result (λ o. (o.start ≡ at) × (tree_at o ≡ tree) × (o.met ≡ None)) }
 {
@@ -181,7 +187,7 @@ fn new_piece(alloc: Global, at: u32, tree: TopSubtree) -> Result<Piece, AllocErr
     }
 }
 
-// All that these tokens are read as, where it is one piece that nothing ends.
+// Reads all of these tokens as one piece that nothing ends. `None` if they are no such piece.
 fn read_last(
     alloc: Global,
     names: &mut NameCache,
@@ -205,7 +211,8 @@ fn read_last(
     Ok(Some(last))
 }
 
-// The words of a text of which nothing is held are held together.
+// How the bytes of the pieces are stored: in one copy of the text if nothing is cached, else each
+// run by itself.
 fn words_of(alloc: Global, text: &str, held: &Segments) -> Result<ByteStore, AllocError>
     ensures { IfOk result (λ words. HoldsText words text.now) }
 {
@@ -216,7 +223,8 @@ fn words_of(alloc: Global, text: &str, held: &Segments) -> Result<ByteStore, All
     }
 }
 
-// The piece that stands first, held or read, and its number where it is held.
+// The piece that comes first, from the cache with its index there, or read by itself. `None` if it
+// can be neither.
 fn next_source(
     context: &ReadingContext<'_>,
     names: &mut NameCache,
@@ -245,7 +253,8 @@ fn next_source(
     }
 }
 
-// The next token or piece is passed: how many bytes and tokens it has.
+// Passes one token of trivia, or one piece. Answers how many bytes and tokens it has, or `None` if
+// no piece can be read here.
 fn pass_one(
     context: &ReadingContext<'_>,
     names: &mut NameCache,
@@ -282,7 +291,8 @@ fn pass_one(
     Ok(Some((bytes, count)))
 }
 
-// The next segment, piece or token is passed: how many bytes and tokens it has.
+// Passes a cached segment, or one piece, or one token of trivia. Answers how many bytes and tokens
+// it has, or `None` if no piece can be read here.
 fn pass_next(
     context: &ReadingContext<'_>,
     names: &mut NameCache,
@@ -308,7 +318,8 @@ fn pass_next(
     pass_one(context, names, now, text, at, left)
 }
 
-// The pieces of a text whose last one, which nothing ends, is left, and what is held of them: the last one is not.
+// The pieces of a text, of which the last one remains and nothing ends it, and what to cache: all
+// but that last piece. `None` if the remaining tokens are no such piece.
 fn with_last(
     context: &ReadingContext<'_>,
     names: &mut NameCache,
@@ -340,7 +351,11 @@ fn with_last(
     Ok(Some((own, Segments { list })))
 }
 
-/// The pieces of a text, and what is held of them: none where one of them cannot be read by itself.
+/// The pieces of a text, and what to cache of them. `held` is what is cached of the last text that
+/// was read.
+///
+/// `None` if some piece cannot be read by itself, as in a text with a reading fault. Out of memory
+/// is the only error.
 pub(crate) fn read_by_pieces(
     alloc: Global,
     text: &str,

@@ -1,4 +1,5 @@
-//! Expands a tree with piece-relative spans: finds its calls from left to right, and searches what each gives.
+//! Expands a tree with piece-relative spans: expands its calls from left to right, and searches
+//! each result for further calls.
 ghost use Rattle.std.specs.Prelude.{◌≡◌, ◌-◌, ◌<◌, ℕ, ◌++◌, ◌∷◌, [], List, map, true, IfOk, OnOk, Option, None, Err, option_map};
 ghost use Rattle.mbe.specs.Bursts as made_by;
 ghost use Rattle.mbe.specs.Macros.{rules_of};
@@ -29,18 +30,24 @@ use std::rc::Rc;
 use tt::{TopSubtree, TtIter};
 use tt_data::{Delimiter, Span, Symbol, SyntaxContext, TtFault};
 
-/// What a tree is expanded under: what its fragments are, what its names stand for, and how many levels of calls are
-/// expanded.
+/// What a tree is expanded in: the grammar, the definitions before it, and how many levels of
+/// calls may be expanded.
+///
+/// The caller of `expand_piece` makes one for each piece. The search makes another for each
+/// result, with a level less.
 #[derive(Drop)]
 pub struct Environment<'a, G> {
     pub alloc: Global,
+    /// Decides what fragments are.
     pub grammar: &'a G,
+    /// Resolves names.
     pub scope: &'a Scope,
+    /// How many levels of calls may still be expanded.
     pub depth: u8,
 }
 
 impl<'a, G> Environment<'a, G> {
-    // The same with a level less.
+    // The environment of a result: one level less is left.
     fn deeper(&self) -> Environment<'a, G>
         requires { 0 < self.now.depth }
         ensures { result ≡ record self.now { depth = self.now.depth - 1 } }
@@ -54,7 +61,7 @@ impl<'a, G> Environment<'a, G> {
     }
 }
 
-/// What a search has given so far.
+/// The expansion so far: events, faults and look-ups, each in order.
 #[derive(Drop)]
 pub(crate) struct Expanding {
     pub steps: Vec<Event>,
@@ -62,7 +69,7 @@ pub(crate) struct Expanding {
     pub finds: Vec<NameLookup>,
 }
 
-// Adds a name that was looked up, with what it found.
+// Adds a look-up: a name, and the definition that it resolves to, if any.
 fn push_find(
     finds: &mut Vec<NameLookup>,
     name: &Symbol,
@@ -82,7 +89,7 @@ fn push_find(
     Ok(())
 }
 
-// Adds a fault at the span.
+// Adds a fault at a span.
 fn push_told(
     faults: &mut Vec<(FaultKind, Span)>,
     kind: FaultKind,
@@ -94,7 +101,7 @@ fn push_told(
     Ok(())
 }
 
-// Adds the walk of the trees up to those behind, which are left then.
+// Emits the trees before `behind` as they are, and goes on with `behind`.
 fn keep<'a>(
     alloc: Global,
     outer: Option<Span>,
@@ -112,7 +119,9 @@ fn keep<'a>(
     Ok(())
 }
 
-// What the first of the rules that fits the argument gives, its tokens marked as made, in no brackets at a place.
+// Transcribes the first rule that fits the argument, in invisible delimiters with the span
+// `place`. The tokens that the transcriber wrote are marked as synthesized. `None` if no rule
+// fits.
 fn fit<G: FragmentGrammar>(
     alloc: Global,
     grammar: &G,
@@ -141,7 +150,8 @@ fn fit<G: FragmentGrammar>(
     }
 }
 
-// What comes in the place of a call of the definition, or the fault for which the call stays.
+// The result of a call of this definition. Or the fault for which the call stays: the definition
+// is invalid, no level is left, or no rule fits.
 fn answer<G: FragmentGrammar>(
     env: &Environment<'_, G>,
     known: &MacroDef,
@@ -166,9 +176,11 @@ fn answer<G: FragmentGrammar>(
     Ok(result.ok_or(FaultKind::CannotExpand))
 }
 
-// Expands the call with which the trees begin, and passes over it: what comes in its place is searched by itself, with a
-// level less. A call that stays for a fault is passed as it is. Where the name finds nothing, what is passed ends before
-// the group, so that the search goes on inside.
+// Expands the call at the head of the trees, and passes it. Its result is searched with one level
+// less.
+//
+// A call with a fault is emitted as it is. If the name resolves to nothing, only the tokens before
+// the group are passed, so the search goes on inside the group.
 #[cycle(searching)]
 fn expand_call<'a, G: FragmentGrammar>(
     env: &Environment<'_, G>,
@@ -205,8 +217,8 @@ fn expand_call<'a, G: FragmentGrammar>(
     }
 }
 
-// Searches trees for calls, those in groups too, and expands them with so many levels left. What comes out is placed at
-// the name of the call around, or at none.
+// Searches trees for calls, those in groups included, and expands them. Each event gets `outer`,
+// the span of the name of the outermost call that it comes from, if any.
 #[cycle(searching)]
 fn search<G: FragmentGrammar>(
     env: &Environment<'_, G>,
@@ -234,7 +246,8 @@ fn search<G: FragmentGrammar>(
     }
 }
 
-// Whether no call is in the trees, nor what would be one but for the `::` before it.
+// Whether the trees have no call, and nothing that would be one but for the `::` before it. Such
+// trees stay as they are.
 fn is_quiet(alloc: Global, trees: &TtIter<'_>) -> Result<bool, AllocError>
     ensures { IfOk result (λ quiet. quiet ≡ true → (world : World Numbered) (scope : List ℕ → Option Numbered) (depth : ℕ) (outer : Option Span) →
         searched world scope depth outer trees.now ≡ just outer (walk trees.now)) }
@@ -253,7 +266,7 @@ fn is_quiet(alloc: Global, trees: &TtIter<'_>) -> Result<bool, AllocError>
     }
 }
 
-// What a tree without calls gives: it stays as it is.
+// The result of a tree without calls: the tree itself.
 fn unchanged(alloc: Global) -> Outcome
     ensures { (tree : Forest) → parts_for tree result ≡ record { steps = placed None (walk tree); faults = []; finds = [] } }
 {
@@ -264,7 +277,12 @@ fn unchanged(alloc: Global) -> Outcome
     }
 }
 
-/// Expands a tree under an environment.
+/// Expands a tree in an environment. A call that fails stays, and its fault is in the result.
+///
+/// # Errors
+///
+/// `Memory`. `Tokens`, only if a rule that is tried for a call puts out more than `u32::MAX`
+/// tokens.
 pub fn expand_piece<G: FragmentGrammar>(
     env: &Environment<'_, G>,
     tree: &TopSubtree,

@@ -1,4 +1,4 @@
-//! Why a session gives no reply.
+//! Why a session gives no reply, and the refusals of the layers below as such reasons.
 ghost use Rattle.std.specs.Prelude.{◌≡◌};
 ghost use Rattle.expander_scope.specs.Refusals.{refusal_of};
 ghost use Rattle.expander_scope.specs.declared.refusal.Refusal.TheVariants.{Memory};

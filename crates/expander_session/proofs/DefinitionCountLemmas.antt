@@ -1,4 +1,5 @@
--- A text has at most as many definitions as bytes: a word begins each of them, and no token is read as two such words.
+-- A text has at most as many definitions as bytes: each begins with a definition keyword, and no
+-- token is read as two.
 use Rattle.std.proofs.Common.{◌≡◌, ℕ, zero, suc, ◌+◌, ◌≤◌, ◌<◌, ◌^◌, List, [], ◌∷◌, ◌++◌, length, drop, take, map, refl, ap, subst, ◌∙◌, arith, Bool, true, false, if◌then◌else◌, sum_by, IsUtf8}
 use Rattle.std.specs.Prelude.{All, Option, Some, None, Result, Ok, Err, ◌&&◌, chars, is_none, not}
 use Rattle.std.specs.List.{list_all, list_any}

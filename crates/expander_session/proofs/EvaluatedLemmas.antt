@@ -1,4 +1,4 @@
--- A text over what is held, by numbers that are given one after another.
+-- A text, evaluated over a cache, with definition ids that are given one after another.
 use Rattle.std.proofs.Common.{◌≡◌, ◌↔◌, ℕ, Bool, true, cond, zero, suc, false, List, [], ◌∷◌, map, Option, Some, None, refl, ap, sym, ◌∙◌, arith, length}
 use Rattle.std.specs.Prelude.{All, IsUtf8, Ok, filter, filter_map, is_some, unwrap_or, ◌≤◌, ◌||◌}
 use Rattle.std.specs.List.{list_any}

@@ -1,4 +1,4 @@
--- What a session replies that took a text over what it held.
+-- The reply to a text that was evaluated over a cache.
 use Rattle.std.proofs.Common.{◌≡◌, ◌↔◌, ℕ, ◌+◌, ◌≤◌, ◌^◌, true, List, [], ◌++◌, map, Option, Some, None, refl, ap, sym, subst, ◌∙◌, arith, length, option_map}
 use Rattle.std.specs.Prelude.{All, IsUtf8, Ok, Result, filter, filter_map, unwrap_or}
 use Rattle.bridge.specs.TokenSteps.{text_reading}

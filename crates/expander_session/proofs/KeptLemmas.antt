@@ -1,4 +1,4 @@
--- What is held stays right from one text to the next.
+-- The cache stays right from one text to the next.
 use Rattle.std.proofs.Common.{◌≡◌, ◌≢◌, ◌↔◌, ℕ, Bool, true, false, cond, List, [], ◌∷◌, map, Option, Some, None, refl, ap, sym, subst, ◌∙◌}
 use Rattle.std.specs.Prelude.{All, ◌||◌, filter, filter_map, is_some, unwrap_or}
 use Rattle.std.specs.List.{list_any}

@@ -1,4 +1,4 @@
--- Numbers tell trees apart.
+-- Different trees have different ids.
 use Rattle.std.proofs.Common.{◌≡◌, ◌≢◌, ◌↔◌, ℕ, ◌+◌, ◌≤◌, Bool, true, false, cond, List, [], ◌∷◌, map, Option, Some, None, refl, ap, sym, subst, ◌∙◌, arith}
 use Rattle.std.specs.Prelude.{All, Contains, ◌||◌, unwrap_or}
 use Rattle.std.specs.List.{list_any}

@@ -1,4 +1,4 @@
--- One more piece of a text, taken over what is held.
+-- One more piece of a text, evaluated over a cache.
 use Rattle.std.proofs.Common.{◌≡◌, ◌↔◌, ℕ, ◌+◌, ◌≤◌, Global, Bool, true, false, cond, List, [], ◌∷◌, ◌++◌, append_assoc, append-nil, map, length, Option, Some, None, refl, ap, sym, subst, ◌∙◌, arith}
 use Rattle.std.specs.Prelude.{All, filter, filter_map, flat_map, is_some, not, option_map, unwrap_or}
 use Rattle.std.specs.List.{cons_option, list_any}

@@ -1,4 +1,4 @@
--- The pieces of a text, taken one after another.
+-- The pieces of a text, evaluated one after another.
 use Rattle.std.proofs.Common.{◌≡◌, ◌↔◌, ℕ, ◌+◌, ◌≤◌, ◌^◌, Bool, true, false, cond, List, [], ◌∷◌, ◌++◌, append_assoc, append-nil, map, Option, Some, None, option_map, refl, ap, sym, subst, ◌∙◌}
 use Rattle.std.specs.Prelude.{◌||◌, All, is_some, unwrap_or}
 use Rattle.std.specs.List.{list_any}

@@ -1,4 +1,4 @@
--- A session's reply to a text that was read, and what it holds afterwards.
+-- A session's reply to a text that was read, and its cache afterwards.
 use Rattle.std.proofs.Common.{◌≡◌, ◌↔◌, ℕ, ◌+◌, ◌≤◌, ◌^◌, Bool, true, false, if◌then◌else◌, List, [], ◌++◌, map, Option, Some, None, refl, ap, sym, subst, ◌∙◌, length, inr, Global}
 use Rattle.std.specs.Prelude.{All, IsUtf8, Ok, filter, flat_map, unwrap_or}
 use Rattle.std.specs.List.{list_any}

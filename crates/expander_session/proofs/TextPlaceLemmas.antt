@@ -1,4 +1,4 @@
--- The members of a text are its pieces in places of their own, taken to the text.
+-- The members of a text are its pieces with piece-relative spans, taken back to the text.
 use Rattle.std.proofs.Common.{◌≡◌, ℕ, ◌-◌, ◌≤◌, Bool, true, false, List, [], ◌∷◌, map, refl, ap, sym, ◌∙◌, arith, if◌then◌else◌}
 use Rattle.std.specs.Prelude.{All, Contains, IsUtf8, Ok, is_some}
 use Rattle.std.proofs.lemmas.List.Elements.{All-cons, All-contains, All-contains_itself, All-head, All-nil, All-tail}

@@ -1,5 +1,5 @@
-//! Goes over the pieces of a text: resolves definitions, takes plain pieces from the cache or expands them, and emits
-//! what they give.
+//! Evaluates the pieces of a text in order: adds definitions to the scope, takes the memos of
+//! plain pieces from the cache or expands the pieces, and emits the output.
 ghost use Rattle.std.specs.Prelude.{◌≡◌, ◌≢◌, ℕ, ◌+◌, ◌<◌, ◌≤◌, ◌^◌, [], ◌∷◌, ◌++◌, All, List, IfOk, IfSome, IsOkUnless, OnOk, None, Err, Option, Some, false, if◌then◌else◌, is_some, length, map, slice_get, true};
 ghost use Rattle.std.specs.Global.{Global as GhostGlobal};
 ghost use Rattle.std.specs.List.{list_any};
@@ -60,7 +60,7 @@ use std::alloc::{AllocError, Global};
 use std::rc::Rc;
 use tt_data::{Edition, TtFault};
 
-// A plain piece that is shared.
+// A memo with a reference count, so that texts can share it. Out of memory is its only error.
 fn shared(alloc: Global, plain: Memo) -> Result<Rc<Memo>, TtFault>
     ensures same { IfOk result (λ q. q.value ≡ plain) }
     ensures memory { IsOkUnless result as_fault.Memory }
@@ -71,17 +71,23 @@ fn shared(alloc: Global, plain: Memo) -> Result<Rc<Memo>, TtFault>
     }
 }
 
-/// What the pieces of a text are evaluated by: a grammar, how many levels of calls are expanded, and what is cached of the
-/// last text that was read.
+/// What the pieces of a text are evaluated by: the grammar, how many levels of calls may be
+/// expanded, and the cache of the last text that was read.
+///
+/// `Session::expansion` makes one for each text. It is the same for all pieces.
 #[derive(Drop)]
 pub(crate) struct EvaluationContext<'a, G> {
     pub alloc: Global,
+    /// Decides what fragments are.
     pub grammar: &'a G,
+    /// How many levels of calls may be expanded.
     pub depth: u8,
+    /// What is cached of the last text. The new text changes none of it.
     pub memory: &'a Cache,
 }
 
-// A tree, expanded, and what it prints held as a part where that is wanted.
+// Expands a tree into a memo. If `as_part` asks for it and the events print as a chunk, their text
+// is cached, else the events.
 fn expanded<G: FragmentGrammar>(
     env: &Environment<'_, G>,
     tree: Rc<HashedTree>,
@@ -110,8 +116,11 @@ fn expanded<G: FragmentGrammar>(
     shared(alloc, plain)
 }
 
-/// A tree with its outcome: a held piece that matches, with its place, or else the tree is expanded, and what it prints
-/// held as a part where that is wanted. The tree's hash comes with either.
+/// The memo of a tree: a valid one from the cache, with its index there, or else a new one, with
+/// `None`. The third value is the hash of the tree.
+///
+/// `link` is the index of a memo that is known to have this tree. `as_part` asks for a new memo to
+/// cache text rather than events.
 pub(crate) fn evaluate_tree<G: FragmentGrammar>(
     env: &Environment<'_, G>,
     memory: &Cache,
@@ -158,43 +167,44 @@ pub(crate) fn evaluate_tree<G: FragmentGrammar>(
     }
 }
 
-/// What the pieces of a text so far give.
+/// What the pieces of a text so far have given.
 #[derive(Drop)]
 pub(crate) struct Evaluated {
-    /// Their definitions.
+    /// Their definitions, with the ids.
     pub numbers: DefinitionIds,
-    /// The plain ones, in order.
+    /// The memos of the plain pieces, in order.
     pub plains: Vec<Rc<Memo>>,
-    /// The hashes of their trees.
+    /// The hashes of the memos' trees.
     pub hashes: Vec<u64>,
+    /// The output so far.
     pub steps: Emitter,
-    /// Without those of the steps.
+    /// The faults so far, but for those of printed tokens, which the emitter keeps.
     pub faults: Vec<Fault>,
-    /// How many were expanded.
+    /// The number of cache misses.
     pub expanded: usize,
-    /// What each piece is.
+    /// Which memo or definition each piece has.
     pub links: Vec<MemoRef>,
 }
 
-// What the pieces of a text so far give, and what those that follow depend on.
+// The state between two pieces: what those so far have given, and what the next one depends on.
 #[derive(Drop)]
 struct Evaluation {
     scope: Scope,
     taken: Evaluated,
-    // How held pieces are looked for.
+    // The search for valid memos in the cache.
     lookup: MemoIndex,
 }
 
-// For how much room is made at first: how fast a text is answered hangs on it, and nothing else.
+// How much room is made at first. It decides speed alone.
 #[derive(Clone, Copy)]
 struct Room {
     definitions: usize,
     pieces: usize,
-    // Of the text that is printed.
+    // Bytes of the printed text.
     bytes: usize,
 }
 
-// No definition so far. There is room for so many.
+// No definitions so far, with room for `count`. `given` ids were given for earlier texts.
 fn nothing_numbered(alloc: Global, given: u32, count: usize) -> Result<DefinitionIds, AllocError>
     ensures given { IfOk result (λ n. n.given ≡ given) }
     ensures definitions { IfOk result (λ n. n.definitions.items ≡ []) }
@@ -209,8 +219,8 @@ fn nothing_numbered(alloc: Global, given: u32, count: usize) -> Result<Definitio
     })
 }
 
-// No piece so far. What is held longest is asked for last, so that what is freed before it leaves room below it for the next
-// text, and is not given back to the system each time.
+// Before the first piece. What is kept longest is allocated last: memory that is freed before it
+// then stays below it for the next text, and is not given back to the system each time.
 fn nothing_evaluated(alloc: Global, memory: &Cache, room: Room) -> Result<Evaluated, AllocError>
     ensures links { IfOk result (λ taken. AreLinks taken []) }
     ensures taken { IfOk result (λ taken. (grammar : Grammar) (edition : Edition) (depth : ℕ) → IsCache (world grammar edition) depth edition memory.now →
@@ -232,7 +242,7 @@ fn nothing_evaluated(alloc: Global, memory: &Cache, room: Room) -> Result<Evalua
     })
 }
 
-// Before the first piece.
+// The state before the first piece.
 fn nothing_yet(
     alloc: Global,
     edition: Edition,
@@ -256,7 +266,7 @@ fn nothing_yet(
     })
 }
 
-// A piece is linked.
+// Adds the reference of one more piece.
 fn add_link(links: &mut Vec<MemoRef>, link: MemoRef) -> Result<(), AllocError>
     ensures { OnOk result (links.new.items ≡ links.old.items ++ link ∷ []) }
 {
@@ -264,7 +274,8 @@ fn add_link(links: &mut Vec<MemoRef>, link: MemoRef) -> Result<(), AllocError>
     Ok(())
 }
 
-// A definition, which may be held, is numbered, told where it is broken, and met.
+// Evaluates a definition that starts at `start`: gives it an id, adds its fault if it is invalid,
+// and adds it to the scope. `held` is the equal definition of the last text, if it is known.
 fn evaluate_definition(
     alloc: Global,
     memory: &Cache,
@@ -305,7 +316,8 @@ fn evaluate_definition(
     Ok(())
 }
 
-// A tree is expanded once more, since its steps are not kept. These are put out, and held.
+// Expands a tree once more, because its cached text cannot be appended here and its events are not
+// cached. Emits the events, and answers a memo with them. This is no cache miss.
 fn emit_anew<G: FragmentGrammar>(
     env: &Environment<'_, G>,
     steps: &mut Emitter,
@@ -335,8 +347,8 @@ fn emit_anew<G: FragmentGrammar>(
     Ok(plain)
 }
 
-// What a piece prints is put out, and what is to be held of it answered: the same, or the same with its steps, where what it
-// prints by itself can't be put here at once.
+// Emits the output of a memo. Answers the memo to cache: the same one, or one with events if its
+// text cannot be appended here.
 fn emit_output<G: FragmentGrammar>(
     env: &Environment<'_, G>,
     steps: &mut Emitter,
@@ -371,7 +383,7 @@ fn emit_output<G: FragmentGrammar>(
     }
 }
 
-// A piece with what its expansion gives is put out, and what is to be held of it is answered.
+// Emits the output of a memo and adds its faults. Answers the memo to cache.
 fn emit_plain<G: FragmentGrammar>(
     env: &Environment<'_, G>,
     steps: &mut Emitter,
@@ -398,7 +410,7 @@ fn emit_plain<G: FragmentGrammar>(
     Ok(plain)
 }
 
-// A piece is held, with the hash of its tree, and linked.
+// Adds a memo and the hash of its tree to those to cache, and the reference of its piece.
 fn hold(
     plains: &mut Vec<Rc<Memo>>,
     hashes: &mut Vec<u64>,
@@ -416,7 +428,7 @@ fn hold(
     Ok(())
 }
 
-// A piece is counted where no held one matches.
+// Counts a cache miss if no memo was valid. Otherwise the next search begins after index `at`.
 fn count(now: &mut Evaluation, at: Option<usize>)
     requires { now.old.taken.expanded + 1 < 2 ^ 64 }
     ensures scope { now.new.scope ≡ now.old.scope }
@@ -429,7 +441,8 @@ fn count(now: &mut Evaluation, at: Option<usize>)
     }
 }
 
-// A plain piece is expanded where no held one matches, put out, and held.
+// Evaluates a plain piece: finds a valid memo or expands the tree, emits the output, and adds the
+// memo to those to cache.
 fn evaluate_plain<G: FragmentGrammar>(
     context: &EvaluationContext<'_, G>,
     now: &mut Evaluation,
@@ -480,7 +493,7 @@ fn evaluate_plain<G: FragmentGrammar>(
     Ok(())
 }
 
-// The next piece is taken: a definition is met, a plain one is put out and held.
+// Evaluates one more piece: a definition enters the scope, and a plain piece is emitted.
 fn evaluate_piece<G: FragmentGrammar>(
     context: &EvaluationContext<'_, G>,
     now: &mut Evaluation,
@@ -520,8 +533,13 @@ fn evaluate_piece<G: FragmentGrammar>(
     Ok(())
 }
 
-/// The pieces of a text of so many bytes, one after another, each under the definitions before it: a plain one is expanded,
-/// where no held one matches.
+/// Evaluates the pieces of a text of `bytes` bytes in order, each in the scope of the definitions
+/// before it. A plain piece is expanded only if the cache has no valid memo for it.
+///
+/// # Errors
+///
+/// `Memory`. `Tokens`, only if a rule that is tried for a call puts out more than `u32::MAX`
+/// tokens. `Numbers`, only if more than `u32::MAX` definitions would need an id.
 pub(crate) fn evaluate_pieces<G: FragmentGrammar>(
     context: &EvaluationContext<'_, G>,
     edition: Edition,

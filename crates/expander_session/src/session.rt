@@ -1,4 +1,4 @@
-//! A session over a text.
+//! A session: a text that is edited and expanded, with a cache of the last text that was read.
 ghost use Rattle.std.specs.Prelude.{◌≡◌, ◌+◌, ◌-◌, ◌<◌, ◌≤◌, ◌^◌, ◌↔◌, All, Err, List, [], length, IfOk, IfErr, OnOk, OnErr, IsTrue, IsCharBoundary, None, map, slice_get, true};
 ghost use Rattle.std.specs.List.{list_any};
 ghost use Rattle.rustc_lexer.specs.Edit.{edited};
@@ -134,7 +134,7 @@ pub struct Session<G: FragmentGrammar> {
     grammar: G,
     edition: Edition,
     depth: u8,
-    // What is held of the last text that was read.
+    // What is cached of the last text that was read.
     memory: Cache,
 }
 
@@ -267,8 +267,8 @@ impl<G: FragmentGrammar + Drop> Session<G> {
     }
 }
 
-// The expansion of the pieces of a text of so many bytes over what is held, and what is held afterwards, with how they were
-// read.
+// The expansion of a text of `bytes` bytes with these pieces, by the cache of the last text, and
+// the new cache. `sources` is what the pieces were read from.
 fn expand_pieces<G: FragmentGrammar>(
     context: &EvaluationContext<'_, G>,
     edition: Edition,
@@ -312,7 +312,8 @@ fn expand_pieces<G: FragmentGrammar>(
     Ok((expansion, memory))
 }
 
-// What these steps print, the places of its tokens, and all faults in order.
+// The expansion that this output makes: its text, the origins of its tokens, and all faults in
+// order.
 fn expansion_of(
     steps: Emitter,
     mut faults: Vec<Fault>,

@@ -28,13 +28,14 @@ pub struct Choice<'a> {
 /// The next moves of a thread: at most two.
 pub type Choices<'a> = (Option<Choice<'a>>, Option<Choice<'a>>);
 
-// A variable of a pattern, and its fragment specifier.
+// A metavariable of a matcher, and its fragment specifier.
 #[derive(Clone, Copy)]
 struct Variable<'a> {
     name: &'a Symbol,
     kind: MetaVarKind,
 }
 
+// The separator, borrowed.
 fn borrowed<'a>(separator: &'a Option<Separator>) -> Option<&'a Separator>
     ensures { between_of result ≡ option_map separator_of separator.now }
 {
@@ -45,7 +46,7 @@ fn borrowed<'a>(separator: &'a Option<Separator>) -> Option<&'a Separator>
 }
 
 impl<'a> Thread<'a> {
-    // The thread after a unit of the pattern, where that is here.
+    // The thread after a unit of the matcher, if it is here. `items` are the ops after it.
     fn units(
         &self,
         arena: &'a Bump,
@@ -68,7 +69,8 @@ impl<'a> Thread<'a> {
         ))
     }
 
-    // The thread after a fragment, where one is here.
+    // The thread after a fragment of `count` trees, if there is one here. Only a `vis` may take
+    // none. `items` are the ops after it.
     fn fragments(
         &self,
         arena: &'a Bump,
@@ -113,7 +115,8 @@ impl<'a> Thread<'a> {
         }
     }
 
-    // The threads after entering a repetition and after skipping it.
+    // The thread in the first iteration of a repetition, and unless the operator is `+` the one
+    // after skipping it.
     fn repetitions(&self, arena: &'a Bump, round: Round<'a>) -> Result<Choices<'a>, AllocError>
         ensures { (g : Grammar) (p : u.Place) → IfOk result (λ cs. given p cs.0 ++ given p cs.1
             ≡ map (extended (moves_of self.now.moves))
@@ -137,7 +140,8 @@ impl<'a> Thread<'a> {
         Ok((first, second))
     }
 
-    // The thread after a group's opening, where that is here.
+    // The thread after the opening of a group, if it is here. `inner` are the ops of the group,
+    // and `after` those after it.
     fn openings(
         &self,
         arena: &'a Bump,
@@ -185,6 +189,7 @@ impl<'a> Thread<'a> {
         }
     }
 
+    // The next moves at this op, which is the first one left. `rest` are the ops after it.
     fn choices_at<G: FragmentGrammar>(
         &self,
         arena: &'a Bump,
@@ -247,6 +252,7 @@ impl<'a> Thread<'a> {
         }
     }
 
+    // The next moves at the end of the ops of this frame. `around` are the frames around it.
     fn choices_after(
         &self,
         arena: &'a Bump,
@@ -276,7 +282,7 @@ impl<'a> Thread<'a> {
         }
     }
 
-    // The thread after a group's closing, where that is here.
+    // The thread after the closing of a group, if it is here.
     fn after_group(
         &self,
         arena: &'a Bump,
@@ -301,7 +307,7 @@ impl<'a> Thread<'a> {
         Ok((Some(choice), None))
     }
 
-    // The thread in the next round, where there may be one.
+    // The thread in the next iteration, after a separator. There is none for the operator `?`.
     fn after_separator(
         &self,
         arena: &'a Bump,
@@ -327,7 +333,8 @@ impl<'a> Thread<'a> {
         Ok((Some(choice), None))
     }
 
-    // The threads after the separator or in the next round, and after the repetition.
+    // The thread after the separator, or in the next iteration if there is no separator; and the
+    // one after the repetition.
     fn after_round(
         &self,
         arena: &'a Bump,
@@ -363,7 +370,7 @@ impl<'a> Thread<'a> {
                 if round.kind == RepeatKind::ZeroOrOne {
                     return Ok((None, last));
                 }
-                // the round stays open
+                // The frame stays: it is the same repetition.
                 let thread = self.moved(arena, round.body, self.frames, Move::NextRound)?;
                 let first = Choice {
                     thread,

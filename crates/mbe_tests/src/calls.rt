@@ -1,6 +1,7 @@
-//! Rules, calls, and what they give: a line for each call, with rules, argument and answer. An answer is the number of the
-//! rule and the printed text, in which `⏎` stands for the end of a line; or, of a call that no rule fits, the error, where
-//! it is told, the number of the nearest rule if there is one, and its tree as it is displayed.
+//! Rules, calls, and their results: a line for each call, with rules, argument and result. A
+//! result is the index of the rule and the printed text, in which `⏎` is the end of a line. If no
+//! rule fits, it is the error, its range, the index of the nearest rule if there is one, and its
+//! tree as it is displayed.
 use crate::texts::answered;
 use mbe::FragmentGrammar;
 use small_grammar::SmallGrammar;
@@ -166,7 +167,7 @@ const WITH_FAULTS: &str = r#"
 ($a:block) => { ${concat(a, $a)} } ¦ 1 ¦ none: expected Block (0..1, 0) a
 "#;
 
-// Fails with the lines of which something else is answered.
+// Fails with the lines that have another result.
 fn run<G: FragmentGrammar>(
     alloc: Global,
     grammar: &G,
@@ -190,7 +191,7 @@ fn run<G: FragmentGrammar>(
     Err(Fail::new(wrong.as_str()))
 }
 
-// Whether an answer is what was wanted: of one that is `none`, that no rule fits.
+// Whether a result is the expected one. `none` expects any result of a call that no rule fits.
 fn is_wanted(got: &str, want: &str) -> bool {
     got == want || (want == "none" && got.starts_with("none:"))
 }

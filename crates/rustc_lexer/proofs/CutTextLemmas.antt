@@ -1,4 +1,4 @@
--- A text that is cut off behind its first lexeme: what is read of the longer text is read of it too.
+-- A text that is cut off after its first lexeme is read as the longer text is.
 --     at_cut, begins_cut       a test that fails in the longer text fails in the shorter one
 --     prefix_cut, body_cut     runs and bodies that end before the cut
 --     number_cut               numbers, where no point stands before the cut

@@ -1,7 +1,7 @@
 //! Incremental lexing: a text that keeps its tokens while it is edited.
 //!
-//! An edit keeps the tokens that end two characters or more before it, lexes on behind them, and stops at the first new boundary
-//! that is an old one too.
+//! An edit keeps the tokens that end at least two characters before it. Lexing starts after them,
+//! and stops at the first new token boundary that is an old one too.
 ghost use Rattle.std.specs.Prelude.{◌≡◌, ◌+◌, ◌-◌, ◌<◌, ◌≤◌, ◌^◌, ◌↔◌, IsTrue, IfOk, OnOk, OnErr, length, chars, string_bytes, IsCharBoundary};
 ghost use Rattle.rustc_lexer.specs.Edit.{edited, kept};
 ghost use Rattle.rustc_lexer.specs.Lexing.{tokens_of};

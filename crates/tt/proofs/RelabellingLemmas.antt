@@ -1,4 +1,4 @@
--- Anchors that are met, asked about and replaced, one after the other.
+-- Anchors that are found, asked about and replaced, one after another.
 --     changed_up_to      a list of which so many elements are changed
 --     among_, fresh      which anchors are in a list
 --     Tells              what a table has once an anchor is met, or an answer is put there

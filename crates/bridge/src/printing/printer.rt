@@ -19,10 +19,10 @@ use std::marker::Model;
 use tt::TokenTreesView;
 use tt_data::{Span, TtFault};
 
-/// What is printed of trees.
+/// The printed text of trees, with the spans of its tokens.
 #[derive(Drop)]
 pub struct Printed {
-    /// The text, which is read as just the printed tokens.
+    /// The text. It reads back as exactly the printed tokens.
     pub text: String,
     /// The spans of the printed tokens, in order.
     pub tokens: Vec<Span>,
@@ -31,10 +31,10 @@ pub struct Printed {
     pub left_out: Vec<usize>,
 }
 
-/// What is printed of trees, with spans that are computed when asked for.
+/// The printed text of trees, with spans that are computed when asked for.
 #[derive(Drop)]
 pub struct LazyPrinted {
-    /// The text, which is read as just the printed tokens.
+    /// The text. It reads back as exactly the printed tokens.
     pub text: String,
     /// The spans of the printed tokens, in order.
     pub tokens: SpanList,
@@ -88,8 +88,8 @@ impl Printer {
         Ok(Printer { out })
     }
 
-    /// An empty printer with room for a text of so many bytes, and for so many tokens appended one
-    /// by one.
+    /// An empty printer with room for a text of `bytes` bytes, and for `tokens` tokens appended
+    /// one by one.
     pub fn with_token_room(
         alloc: Global,
         bytes: usize,
@@ -101,7 +101,7 @@ impl Printer {
         Ok(Printer { out })
     }
 
-    /// Makes room for so many bytes more of text. It changes nothing that is printed.
+    /// Makes room for `bytes` more bytes of text. What is printed does not depend on it.
     pub fn reserve(&mut self, bytes: usize) -> Result<(), AllocError>
         ensures { self.new ≡ self.old }
     {
@@ -234,7 +234,7 @@ impl Printer {
     }
 }
 
-// Puts all events of these trees.
+// Appends all events of these trees.
 fn put_trees(alloc: Global, out: &mut PrintState, view: TokenTreesView<'_>) -> Result<(), TtFault>
     requires fits { Fits (state_of out.old) }
     ensures fits { OnOk result (Fits (state_of out.new)) }
