@@ -185,6 +185,7 @@ run_unproved() {
     need_rt
     room=$(mktemp -d) || exit 2
     trap 'rm -rf "$room"' EXIT
+    trap 'exit 130' INT TERM HUP
     echo "$program: unproved run, about a minute; bin/$program without --quick proves the program first" >&2
     head -c $((limit + 1)) >"$room/in"
     [ "$(wc -c <"$room/in")" -le "$limit" ] || fail "the input has more than 1 MiB: leave --quick out"
