@@ -40,7 +40,7 @@ fn first_start(view: TokenTreesView<'_>) -> u32
 }
 
 // Whether no place starts or ends before the first token starts.
-fn stands_behind_first(view: TokenTreesView<'_>) -> bool
+pub(crate) fn stands_behind_first(view: TokenTreesView<'_>) -> bool
     ensures { IsTrue result → StandsBehindFirst (forest view.entry) }
 {
     let start = first_start(view);

@@ -2,7 +2,7 @@
 use bridge::{Read, read};
 use mbe_rules::{MetaVarKind, Op, ParseError, Rules, parse_macro_rules, parse_macro2};
 use rustc_lexer::LexedText;
-use std::alloc::Global;
+use std::alloc::{AllocError, Global};
 use std::test::Fail;
 use tt::{Edition, SyntaxContext, TopSubtree};
 
@@ -26,12 +26,12 @@ fn at_2021(_context: SyntaxContext) -> Edition {
     Edition::Edition2021
 }
 
-fn at_2024(_context: SyntaxContext) -> Edition {
+pub(crate) fn at_2024(_context: SyntaxContext) -> Edition {
     Edition::Edition2024
 }
 
 // How many rules were read, and the fault.
-fn told(alloc: Global, rules: &Rules) -> Result<String, Fail> {
+pub(crate) fn told(alloc: Global, rules: &Rules) -> Result<String, AllocError> {
     let fault = match &rules.err {
         None => "",
         Some(ParseError::UnexpectedToken(text)) => text.as_str(),
