@@ -160,17 +160,61 @@ fn deep_groups(rt: HostRuntime) -> Result<(), Fail> {
     Ok(())
 }
 
-// For runs of the tests in which a request for memory is refused; the writer's own may be the one.
+// Two lines, which print one.
+const TWICE: &str = "macro_rules! twice { ($x:expr) => { $x + $x } }⏎let y = twice!(3);⏎";
+
+const PRINTED: &str = "let y = 3 + 3 ;";
+
+// A reader that fails at any byte, and a writer that fails or takes nothing behind any.
 #[test]
-fn a_refused_run_writes_all_or_nothing(rt: HostRuntime) {
-    let mut reader = Watched::new(whole(b"let x = y ;\n"));
-    let mut writer = Watched::new(wide(rt.alloc()));
-    let mut faults = Watched::new(wide(rt.alloc()));
-    let status = run(rt.alloc(), &mut reader, &mut writer, &mut faults, 128);
-    let failed = writer.failed();
-    let writer = writer.into_inner();
-    let got = writer.got.as_slice();
-    let answered = status == Status(0) && got == b"let x = y ;\n".as_slice();
-    let refused = status == Status(1) && (got.is_empty() || failed);
-    assert!(rt; !reader.failed() && (answered || refused));
+fn every_end(rt: HostRuntime) -> Result<(), Fail> {
+    let alloc = rt.alloc();
+    let text = text_of(alloc, TWICE)?;
+    for at in 0..=text.len() {
+        let fails = format!(in alloc; "reader {at} Other")?;
+        let got = shown(alloc, fails.as_str(), text.as_bytes(), 5)?;
+        assert!(rt;
+            got.as_str() == "1 reader 0 1 ¦  ¦ read failed⏎",
+            "{fails}: {got}"
+        );
+    }
+    for at in 0..=PRINTED.len() {
+        let (front, _rest) = PRINTED.split_at_checked(at).unwrap_or(("", ""));
+        let want = format!(in alloc; "1 writer 0 1 ¦ {front} ¦ write failed⏎")?;
+        for how in ["Other", "nothing"] {
+            let fails = format!(in alloc; "writer {at} {how}")?;
+            let got = shown(alloc, fails.as_str(), text.as_bytes(), 4096)?;
+            assert!(rt; got.as_str() == want.as_str(), "{fails}: {got}");
+        }
+    }
+    Ok(())
+}
+
+// Texts of which each front is run.
+const FRONTS: &str = r#"
+macro_rules! p { ($a:ident $b:tt) => { $b $a } }⏎p!{ x y }⏎
+x+/*c*/=y
+fn f<'a>(x: &'a T) {}
+/// a "b"⏎struct S;⏎
+macro_rules! e { () => { } }⏎e!{}⏎
+#![a]⏎macro_rules! e { () => { 1 } }⏎e!{}⏎
+macro_rules! e { ($($e:expr),* $(,)?) => { $($e);* ; } }⏎e!{ _, const { 1 }, }⏎
+é
+"#;
+
+#[test]
+fn every_front(rt: HostRuntime) -> Result<(), Fail> {
+    let alloc = rt.alloc();
+    for row in FRONTS.lines() {
+        let text = text_of(alloc, row)?;
+        for len in 0..=text.len() {
+            let (front, _rest) = text.as_bytes().split_at(len);
+            let got = shown(alloc, "- 0 -", front, 4096)?;
+            let is_ended = got.as_str().starts_with("0 - ") || got.as_str().starts_with("1 - ");
+            assert!(rt; is_ended, "{row} cut at {len}: {got}");
+        }
+    }
+    let got = shown(alloc, "- 0 -", b"\xc3", 4096)?;
+    assert!(rt; got.as_str() == "1 - 0 1 ¦  ¦ input is not UTF-8⏎", "{got}");
+    Ok(())
 }
