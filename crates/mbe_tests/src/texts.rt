@@ -6,7 +6,7 @@ use mbe::{
 use rustc_lexer::LexedText;
 use std::alloc::Global;
 use std::test::Fail;
-use tt::{Edition, Span, SyntaxContext, TextRange, TopSubtree, TtFault};
+use tt::{DelimSpan, Edition, Span, SyntaxContext, TextRange, TopSubtree, TtFault};
 
 /// The trees of a text: none where it is long, or is not read.
 pub(crate) fn trees_of(alloc: Global, text: &str) -> Result<Option<TopSubtree>, TtFault> {
@@ -55,6 +55,18 @@ pub(crate) fn call_site() -> Span {
     }
 }
 
+/// A byte of no text, at which an argument's brackets stand.
+pub(crate) fn bracket(start: u32) -> Span {
+    Span {
+        range: TextRange {
+            start,
+            end: start.saturating_add(1),
+        },
+        anchor: 3,
+        ctx: SyntaxContext::Written,
+    }
+}
+
 // What is answered of a call, in one line.
 fn shown(
     alloc: Global,
@@ -80,7 +92,7 @@ fn shown(
     Ok(format!(in alloc; "none: {err} ({from}..{to}, {number}) {tree}")?)
 }
 
-/// What a call of rules gives, in one line.
+/// What a call of rules gives, in one line. The argument opens at 90..91 and closes at 92..93.
 pub(crate) fn answered<G: FragmentGrammar>(
     alloc: Global,
     grammar: &G,
@@ -97,7 +109,8 @@ pub(crate) fn answered<G: FragmentGrammar>(
     if definition.err().is_some() {
         return Err(Fail::new("a definition is broken"));
     }
-    let argument = trees(alloc, argument)?;
+    let mut argument = trees(alloc, argument)?;
+    argument.set_top_subtree_delimiter_span(DelimSpan::from_pair(bracket(90), bracket(92)));
     let answer = definition.expand(
         alloc,
         grammar,
