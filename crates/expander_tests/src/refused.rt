@@ -8,19 +8,42 @@ use expander::{
 use std::alloc::{AllocError, Global};
 use std::test::Fail;
 
-const TEXT: &str = "macro_rules! m { () => { 1 } }\nm!{}\nfn f() { m!{} }\n";
+// A text, the pieces that it has, those that an edit changes, what is printed, its tokens, and what it prints with `2` in the place of its first `1`.
+struct Row {
+    text: &'static str,
+    pieces: usize,
+    changed: usize,
+    old: &'static str,
+    tokens: usize,
+    new: &'static str,
+}
 
-const OLD: &str = "1 fn f ( ) { 1 }\n";
-
-const NEW: &str = "2 fn f ( ) { 2 }\n";
+const ROWS: [Row; 2] = [
+    Row {
+        text: "macro_rules! m { () => { 1 } }\nm!{}\nfn f() { m!{} }\n",
+        pieces: 2,
+        changed: 2,
+        old: "1 fn f ( ) { 1 }\n",
+        tokens: 8,
+        new: "2 fn f ( ) { 2 }\n",
+    },
+    Row {
+        text: "macro_rules! m { () => { 1 } }\nm!();a;b;c;d;e;f;g;h;i;j;k;l;m;n;o;p;q;r;s;t;u;v;w;x;y;z",
+        pieces: 27,
+        changed: 1,
+        old: "1 ;\na ;\nb ;\nc ;\nd ;\ne ;\nf ;\ng ;\nh ;\ni ;\nj ;\nk ;\nl ;\nm ;\nn ;\no ;\np ;\nq ;\nr ;\ns ;\nt ;\nu ;\nv ;\nw ;\nx ;\ny ;\nz\n",
+        tokens: 53,
+        new: "2 ;\na ;\nb ;\nc ;\nd ;\ne ;\nf ;\ng ;\nh ;\ni ;\nj ;\nk ;\nl ;\nm ;\nn ;\no ;\np ;\nq ;\nr ;\ns ;\nt ;\nu ;\nv ;\nw ;\nx ;\ny ;\nz\n",
+    },
+];
 
 // Whether this is printed, of so many pieces that were expanded, and its first token is the definition's.
-fn prints(found: &Expansion, printed: &str, expanded: usize) -> bool {
+fn prints(row: &Row, found: &Expansion, printed: &str, expanded: usize) -> bool {
     let first = Some(TextRange { start: 25, end: 26 });
     found.printed() == printed
         && found.expanded() == expanded
         && found.faults().is_empty()
-        && found.tokens() == 8
+        && found.tokens() == row.tokens
         && found.origin(0) == first
 }
 
@@ -36,10 +59,10 @@ fn found(session: &mut Session<SmallGrammar>) -> Result<Expansion, Fail> {
     }
 }
 
-// Puts `2` in the place of `1`, once more where that was refused, if the text is as before then.
-fn edit(session: &mut Session<SmallGrammar>) -> Result<(), Fail> {
+// Makes the edit, once more where that was refused, if the text is as before then.
+fn edit(row: &Row, session: &mut Session<SmallGrammar>) -> Result<(), Fail> {
     for _ in 0..2 {
-        let is_text = session.text() == TEXT && session.fits(25, 26, 1);
+        let is_text = session.text() == row.text && session.fits(25, 26, 1);
         let is_edit = is_text && session.is_boundary(25) && session.is_boundary(26);
         if is_edit && session.edit(25, 26, "2").is_ok() {
             return Ok(());
@@ -48,26 +71,40 @@ fn edit(session: &mut Session<SmallGrammar>) -> Result<(), Fail> {
     Err(Fail::new("no edit"))
 }
 
+// Whether a session gives what the row has, before the edit, behind it and once more.
+fn is_answered(alloc: Global, row: &Row) -> Result<bool, Fail> {
+    if row.text.len() >= 1000 {
+        return Err(Fail::new("a text is long"));
+    }
+    let edition = Edition::Edition2024;
+    let mut session = match Session::new(alloc, row.text, SmallGrammar, edition, 128) {
+        Ok(session) => session,
+        Err(_) => Session::new(alloc, row.text, SmallGrammar, edition, 128)?,
+    };
+    let first = found(&mut session)?;
+    edit(row, &mut session)?;
+    let second = found(&mut session)?;
+    let copy = match second.try_clone(alloc) {
+        Ok(copy) => copy,
+        Err(_) => second.try_clone(alloc)?,
+    };
+    Ok(
+        prints(row, &first, row.old, row.pieces)
+            && prints(row, &second, row.new, row.changed)
+            && prints(row, &copy, row.new, row.changed)
+            && prints(row, &found(&mut session)?, row.new, 0),
+    )
+}
+
 #[test]
 fn refused_sessions(rt: HostRuntime) -> Result<(), Fail> {
-    let edition = Edition::Edition2024;
-    let mut session = match Session::new(rt.alloc(), TEXT, SmallGrammar, edition, 128) {
-        Ok(session) => session,
-        Err(_) => Session::new(rt.alloc(), TEXT, SmallGrammar, edition, 128)?,
-    };
-    assert!(rt; prints(&found(&mut session)?, OLD, 2));
-    edit(&mut session)?;
-    let found_anew = found(&mut session)?;
-    let copy = match found_anew.try_clone(rt.alloc()) {
-        Ok(copy) => copy,
-        Err(_) => found_anew.try_clone(rt.alloc())?,
-    };
-    assert!(rt; prints(&found_anew, NEW, 2) && prints(&copy, NEW, 2));
-    assert!(rt; prints(&found(&mut session)?, NEW, 0));
+    for row in &ROWS {
+        assert!(rt; is_answered(rt.alloc(), row)?, "{}", row.text);
+    }
     Ok(())
 }
 
-// An expansion, the same edit, and an expansion.
+// An expansion, the edit, and an expansion.
 fn commands(alloc: Global) -> Result<Vec<Command>, AllocError> {
     let edit = Command::Edit {
         start: 25,
@@ -77,20 +114,21 @@ fn commands(alloc: Global) -> Result<Vec<Command>, AllocError> {
     Ok(vec![in alloc; Command::Expand, edit, Command::Expand]?)
 }
 
-fn answered(alloc: Global, commands: &[Command]) -> Result<Vec<Answer>, AllocError> {
-    replay(
-        alloc,
-        TEXT,
-        SmallGrammar,
-        Edition::Edition2024,
-        128,
-        commands,
-    )
+// The answers, asked for once more where all were refused.
+fn answered(alloc: Global, row: &Row, commands: &[Command]) -> Result<Vec<Answer>, Fail> {
+    if row.text.len() >= 1000 {
+        return Err(Fail::new("a text is long"));
+    }
+    let edition = Edition::Edition2024;
+    match replay(alloc, row.text, SmallGrammar, edition, 128, commands) {
+        Ok(answers) => Ok(answers),
+        Err(_) => Ok(replay(alloc, row.text, SmallGrammar, edition, 128, commands)?),
+    }
 }
 
-fn gives(answer: &Answer, printed: &str, expanded: usize) -> bool {
+fn gives(row: &Row, answer: &Answer, printed: &str, expanded: usize) -> bool {
     match answer {
-        Answer::Reply(Reply::Read(found)) => prints(found, printed, expanded),
+        Answer::Reply(Reply::Read(found)) => prints(row, found, printed, expanded),
         _ => false,
     }
 }
@@ -103,18 +141,20 @@ fn is_refused(answer: &Answer) -> bool {
 }
 
 // How many of the three answers are refusals, if one at most is, and the others are those of the commands without that one.
-fn refusals(answers: &[Answer]) -> Option<u8> {
+fn refusals(row: &Row, answers: &[Answer]) -> Option<u8> {
     let (first, rest) = answers.split_first()?;
     let (edit, rest) = rest.split_first()?;
     let last = rest.first()?;
-    let (is_old, is_new) = (gives(first, OLD, 2), gives(last, NEW, 2));
-    let fits_none = is_old && is_new && matches!(edit, Answer::Edited);
-    let fits_first = is_refused(first) && is_new && matches!(edit, Answer::Edited);
-    let fits_edit = is_old && is_refused(edit) && gives(last, OLD, 0);
-    let fits_last = is_old && is_refused(last) && matches!(edit, Answer::Edited);
-    if fits_none {
+    let is_old = gives(row, first, row.old, row.pieces);
+    let is_edited = matches!(edit, Answer::Edited);
+    let is_new = gives(row, last, row.new, row.changed);
+    let is_first_new = gives(row, last, row.new, row.pieces);
+    if is_old && is_edited && is_new {
         Some(0)
-    } else if fits_first || fits_edit || fits_last {
+    } else if (is_refused(first) && is_edited && is_first_new)
+        || (is_old && is_refused(edit) && gives(row, last, row.old, 0))
+        || (is_old && is_edited && is_refused(last))
+    {
         Some(1)
     } else {
         None
@@ -124,19 +164,19 @@ fn refusals(answers: &[Answer]) -> Option<u8> {
 // A list goes on behind a command that is refused, and is answered whole when it is answered again.
 #[test]
 fn refused_commands(rt: HostRuntime) -> Result<(), Fail> {
-    let commands = match commands(rt.alloc()) {
+    let alloc = rt.alloc();
+    let commands = match commands(alloc) {
         Ok(commands) => commands,
-        Err(_) => commands(rt.alloc())?,
+        Err(_) => commands(alloc)?,
     };
-    let answers = match answered(rt.alloc(), commands.as_slice()) {
-        Ok(answers) => answers,
-        Err(_) => answered(rt.alloc(), commands.as_slice())?,
-    };
-    let refused = refusals(answers.as_slice());
-    assert!(rt; refused.is_some());
-    if refused != Some(0) {
-        let again = answered(rt.alloc(), commands.as_slice())?;
-        assert!(rt; refusals(again.as_slice()) == Some(0));
+    for row in &ROWS {
+        let answers = answered(alloc, row, commands.as_slice())?;
+        let refused = refusals(row, answers.as_slice());
+        assert!(rt; refused.is_some(), "{}", row.text);
+        if refused != Some(0) {
+            let again = answered(alloc, row, commands.as_slice())?;
+            assert!(rt; refusals(row, again.as_slice()) == Some(0), "{}", row.text);
+        }
     }
     Ok(())
 }

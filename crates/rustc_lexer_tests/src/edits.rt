@@ -1,5 +1,6 @@
 //! Edits of a text that keeps its tokens.
 use rustc_lexer::{Kept, LexedText, Token, TokenKind};
+use std::alloc::{AllocError, Global};
 use std::test::Fail;
 
 // The text's tokens, lexed from nothing. Refused where the text is long.
@@ -120,8 +121,8 @@ fn refused_edits_change_nothing(rt: HostRuntime) -> Result<(), Fail> {
 }
 
 // A text that is long enough for marks.
-fn long_text(rt: &HostRuntime) -> Result<String, Fail> {
-    let mut text = String::new(rt.alloc());
+fn long_text(alloc: Global) -> Result<String, AllocError> {
+    let mut text = String::new(alloc);
     for _ in 0..700 {
         text.push_str("fn f(x: &str) { g!(x + 1) } // é\n")?;
     }
@@ -130,7 +131,7 @@ fn long_text(rt: &HostRuntime) -> Result<String, Fail> {
 
 #[test]
 fn edits_all_over_a_long_text(rt: HostRuntime) -> Result<(), Fail> {
-    let mut held = lexed(&rt, &long_text(&rt)?)?;
+    let mut held = lexed(&rt, &long_text(rt.alloc())?)?;
     let words = ["", " ", "x", "/*", "*/", "a b c"];
     let mut seed = 1u32;
     for k in 0..30u32 {
@@ -146,5 +147,38 @@ fn edits_all_over_a_long_text(rt: HostRuntime) -> Result<(), Fail> {
     assert!(rt;
         len >= 9_000 && all == kept(0, 1, 0) && one == kept(0, 2, 0) && held.text() == ";a"
     );
+    Ok(())
+}
+
+// The tokens of a text, lexed once more where that was refused.
+fn lexed_again(alloc: Global, text: &str) -> Result<LexedText, Fail> {
+    if text.len() >= 200_000 {
+        return Err(Fail::new("a text is long"));
+    }
+    match LexedText::new(alloc, text) {
+        Ok(held) => Ok(held),
+        Err(_) => Ok(LexedText::new(alloc, text)?),
+    }
+}
+
+#[test]
+fn refused_edits_of_a_long_text(rt: HostRuntime) -> Result<(), Fail> {
+    let alloc = rt.alloc();
+    let text = match long_text(alloc) {
+        Ok(text) => text,
+        Err(_) => long_text(alloc)?,
+    };
+    let mut held = lexed_again(alloc, text.as_str())?;
+    let at = (text.len() / 2).saturating_sub(5);
+    assert!(rt; held.is_boundary(at) && held.fits(at, at, 2));
+    let kept = match held.edit(at, at, "/*") {
+        Ok(kept) => kept,
+        Err(_) => {
+            assert!(rt; held.text() == text.as_str());
+            held.edit(at, at, "/*")?
+        }
+    };
+    let fresh = lexed_again(alloc, held.text())?;
+    assert!(rt; held.tokens() == fresh.tokens() && kept.front >= 1000 && kept.lexed <= 20);
     Ok(())
 }
