@@ -46,13 +46,12 @@ fn levels_and_origins(rt: HostRuntime) -> Result<(), Fail> {
     Ok(())
 }
 
-const DOUBLES: &str = "macro_rules! w { ($($x:tt)*) => { w!{ $($x)* $($x)* } } }\nw!{a}\n";
-
 // With ten levels the last call has 1,024 names, and stays.
 #[test]
 fn doubled(rt: HostRuntime) -> Result<(), Fail> {
+    let text = "macro_rules! w { ($($x:tt)*) => { w!{ $($x)* $($x)* } } }\nw!{a}\n";
     let edition = Edition::Edition2024;
-    let mut session = Session::new(rt.alloc(), DOUBLES, SmallGrammar, edition, 10)?;
+    let mut session = Session::new(rt.alloc(), text, SmallGrammar, edition, 10)?;
     let Reply::Read(found) = session.expansion()? else {
         return Err(Fail::new("the text is not read"));
     };

@@ -208,7 +208,7 @@ fn every_front(rt: HostRuntime) -> Result<(), Fail> {
     for row in FRONTS.lines() {
         let text = text_of(alloc, row)?;
         for len in 0..=text.len() {
-            let (front, _rest) = text.as_bytes().split_at(len);
+            let (front, _rest) = text.as_bytes().split_at_checked(len).unwrap_or((b"", b""));
             let got = shown(alloc, "- 0 -", front, 4096)?;
             let is_ended = got.as_str().starts_with("0 - ") || got.as_str().starts_with("1 - ");
             assert!(rt; is_ended, "{row} cut at {len}: {got}");
