@@ -1,4 +1,5 @@
-//! A text that is read, and the piece that its trees are: for runs in which one request for memory is refused.
+//! A text that is read, and the piece that its trees are: for runs in which one request for
+//! memory is refused.
 use crate::pieces::stands_behind_first;
 use bridge::{Read, piece, read};
 use rustc_lexer::LexedText;

@@ -1,4 +1,5 @@
-//! What texts without faults print, which prints itself: with a grammar that is none of Rust, and no level of calls.
+//! What texts without faults print, which prints itself: with a grammar that is none of Rust, and
+//! no level of calls.
 use crate::rows::text_of;
 use expander::{Edition, Reply, Session};
 use std::alloc::Global;

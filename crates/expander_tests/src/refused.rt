@@ -1,5 +1,6 @@
-//! Sessions, lists of commands and runs, for runs of the tests in which one request for memory is refused: a refused call
-//! leaves what it was called on as it was, and gives the same when it is made again.
+//! Sessions, lists of commands and runs, for runs of the tests in which one request for memory is
+//! refused. A refused call leaves what it was called on as it was, and gives the same when it is
+//! made again.
 use crate::fakes::{whole, wide};
 use expander::{
     Answer, Command, Edition, Expansion, Refusal, Reply, Session, SmallGrammar, Status, TextRange,
@@ -8,7 +9,8 @@ use expander::{
 use std::alloc::{AllocError, Global};
 use std::test::Fail;
 
-// A text, the pieces that it has, those that an edit changes, what is printed, its tokens, and what it prints with `2` in the place of its first `1`.
+// A text, its pieces, those that an edit changes, what is printed, the tokens of that, and what is
+// printed with `2` in the place of the first `1`, which is the edit.
 struct Row {
     text: &'static str,
     pieces: usize,
@@ -37,7 +39,7 @@ const ROWS: [Row; 2] = [
     },
 ];
 
-// Whether this is printed, of so many pieces that were expanded, and its first token is the definition's.
+// Whether this is printed, so many pieces were expanded, and the first token is the definition's.
 fn prints(row: &Row, found: &Expansion, printed: &str, expanded: usize) -> bool {
     let first = Some(TextRange { start: 25, end: 26 });
     found.printed() == printed
@@ -140,7 +142,8 @@ fn is_refused(answer: &Answer) -> bool {
     }
 }
 
-// How many of the three answers are refusals, if one at most is, and the others are those of the commands without that one.
+// How many of the three answers are refusals: none or one. The others are those of the commands
+// without that one.
 fn refusals(row: &Row, answers: &[Answer]) -> Option<u8> {
     let (first, rest) = answers.split_first()?;
     let (edit, rest) = rest.split_first()?;
@@ -181,7 +184,8 @@ fn refused_commands(rt: HostRuntime) -> Result<(), Fail> {
     Ok(())
 }
 
-// Whether a run writes all, or where it was refused nothing but why; the writer's own memory may be what is refused.
+// Whether a run writes all, or where it was refused nothing but why. It may be the writer's own
+// memory that is refused.
 fn is_run(alloc: Global) -> Option<bool> {
     let mut reader = Watched::new(whole(b"let x = y ;\n"));
     let mut writer = Watched::new(wide(alloc));

@@ -1,4 +1,5 @@
-//! Definitions that are read and copied, and errors: for runs in which one request for memory is refused.
+//! Definitions that are read and copied, and errors: for runs in which one request for memory is
+//! refused.
 use crate::parsing::{at_2024, told};
 use bridge::{Read, read};
 use mbe_rules::{
