@@ -6,7 +6,7 @@ use mbe_rules::{
     ExpandError, ExpandErrorKind, Rules, ValueResult, parse_macro_rules, parse_macro2,
 };
 use rustc_lexer::LexedText;
-use std::alloc::Global;
+use std::alloc::{AllocError, Global};
 use std::test::Fail;
 use symbols::{Symbol, TtFault};
 use tt::TopSubtree;
@@ -52,13 +52,27 @@ fn parsed(alloc: Global, is_word: bool, body: &TopSubtree) -> Result<Rules, TtFa
     }
 }
 
+// Whether copies of the rules are the same; each once more where it was refused.
+fn have_copies(alloc: Global, rules: &Rules) -> Result<bool, AllocError> {
+    for rule in &rules.list {
+        let copy = match rule.try_clone(alloc) {
+            Ok(copy) => copy,
+            Err(_) => rule.try_clone(alloc)?,
+        };
+        if copy != *rule {
+            return Ok(false);
+        }
+    }
+    Ok(true)
+}
+
 // Whether a copy is the same, and what is told of it; each once more where it was refused.
 fn copied(alloc: Global, rules: &Rules) -> Result<String, Fail> {
     let copy = match rules.try_clone(alloc) {
         Ok(copy) => copy,
         Err(_) => rules.try_clone(alloc)?,
     };
-    if copy != *rules {
+    if copy != *rules || !have_copies(alloc, rules)? {
         return Err(Fail::new("a copy differs"));
     }
     match told(alloc, &copy) {
