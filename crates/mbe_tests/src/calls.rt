@@ -64,8 +64,9 @@ const WITH_THE_SMALL_GRAMMAR: &str = r#"
 (-1) => {-1}; (- 2) => {- 2}; (- 3.0) => {- 3.0}; (@$lit:literal) => {$lit} ¦ @-1 ¦ 3 - 1⏎
 "#;
 
-// A call that no rule fits. Two faults of a name are never told: where a list or a skip has no value for a round of a
-// repetition around the name, that round is dropped with its faults, since each name in it is looked up before it is filled.
+// A call that no rule fits. Two faults of a name are never told: where a list or a skip has no value
+// for a round of a repetition around the name, that round is dropped with its faults, since each
+// name in it is looked up before it is filled.
 const UNFIT: &str = r#"
 (-1) => {-1}; (- 2) => {- 2}; (- 3.0) => {- 3.0}; (@$lit:literal) => {$lit} ¦ @--1.0 ¦ none: expected literal (1..2, 3) missing
 ($($e:expr),* $(,)?) => { $($e);* ; } ¦ _, ¦ none: no rule matches input tokens (0..1, 0) ;
@@ -136,6 +137,8 @@ attr(a) (b) => {c}; (b) => {d} ¦ e ¦ none: unexpected token in input (0..1, 1)
 (a 'b) => {x} ¦ a ¦ none: unexpected token in input (92..93, 0) x
 (a ==) => {x} ¦ a () ¦ none: unexpected token in input (2..3, 0) x
 (a ==) => {x} ¦ a 1 ¦ none: unexpected token in input (2..3, 0) x
+(a (b c)) => {x} ¦ a (b) ¦ none: expected ident: `c` (92..93, 0) x
+(a (b $c:ty)) => {$c} ¦ a (b) d ¦ none: expected Ty (92..93, 0) missing
 (a $b:lifetime) => {$b} ¦ a ¦ none: expected lifetime (92..93, 0) 'missing
 (a $b:literal) => {$b} ¦ a ¦ none: expected literal (92..93, 0) missing
 (a $b:ty) => {$b} ¦ a ¦ none: expected Ty (92..93, 0) missing

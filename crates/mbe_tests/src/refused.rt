@@ -1,4 +1,5 @@
-//! Definitions, what their calls give, and fragments: for runs in which one request for memory is refused.
+//! Definitions, what their calls give, and fragments: for runs in which one request for memory is
+//! refused.
 use crate::texts::{at_2024, call_site, made, trees, trees_of};
 use mbe::{
     DeclarativeMacro, ExpandResult, MacroCallStyle, MatchedArmIndex, PrefixEntryPoint,
@@ -10,7 +11,8 @@ use std::test::Fail;
 use test_grammars::OneStep;
 use tt::{DelimSpan, TopSubtree, TtFault};
 
-// Rules, an argument, and what is answered: the number of the rule, the error with its place, and the tree.
+// Rules, an argument, and what is answered: the number of the rule, the error with its place, and
+// the tree.
 const ROWS: &str = "
 (no) => {}; ($($x:ident = $v:expr),*) => { $($x = $v; ${concat($x, 1)} ${index()})* ${count($x)} } ¦ a = 1 + 2, b = 3 ¦ Some(1)  a = (1 + 2) ; a1 0 b = 3 ; b1 1 2
 (a $x:ty) => {x $x}; (b) => {y} ¦ a ; ¦ Some(0) expected Ty 2..3 x missing
@@ -26,7 +28,8 @@ fn tree(alloc: Global, text: &str) -> Result<TopSubtree, Fail> {
     }
 }
 
-// The macro of a body by `macro_rules!`, and by `macro` with an argument; each once more where it was refused.
+// The macro of a body by `macro_rules!`, and by `macro` with an argument; each once more where it
+// was refused.
 fn parsed(
     alloc: Global,
     argument: Option<&TopSubtree>,
