@@ -1,51 +1,224 @@
-# For the commands beside it, which read it with a program's name in `program`: runs that program, and ends with its
-# status. The first use, and the first after a source is changed, proves and builds the program before it is run.
+# shellcheck shell=bash
+# For the commands beside it: `run_program` runs a program and ends with its status. The first run, and the first after
+# a source changed, proves and builds the program before.
+version=0.1.0
+# Bytes that the input and the output of a run before the proof may have.
+limit=1048576
 top=$(cd "$(dirname "$(readlink -f "${BASH_SOURCE[0]}")")/.." && pwd) || exit 2
-crate=$top/crates/$program
-binary=$crate/out/$program
-# As old as the sources of which the program was built.
-built=$crate/out/built
-# All that the toolchain says while it proves and builds.
-log=$crate/out/log
 
-is_built() {
-    [ -x "$binary" ] && [ -e "$built" ] &&
-        [ -z "$(find "$top/crates.txt" "$top"/crates/*/{src,specs,proofs} -newer "$built" -print -quit 2>/dev/null)" ]
+usage() {
+    echo "usage: bin/$program [--quick] [--] [FILE]"
 }
 
-# Of what the toolchain says, how far its checks have come: on a terminal one line that is written
-# over, elsewhere a line for each crate.
+help() {
+    usage
+    cat <<END
+
+$about
+
+  --quick      run the program now, before any proof, if it is not built yet. This takes about
+               a minute each time. The input and the output may have 1 MiB each
+  --help, -h   print this
+  --version    print the version
+
+The first run without --quick proves and builds the program: about 40 minutes on 4 cores. It
+shows how far it is. After an interruption the next run goes on from there. Later runs start
+at once.
+
+Status: $statuses
+END
+}
+
+fail() {
+    echo "$program: $*" >&2
+    exit 2
+}
+
+misused() {
+    echo "$program: $*" >&2
+    usage >&2
+    exit 2
+}
+
+# Reads the arguments: sets `quick`, and opens the file as standard input.
+read_arguments() {
+    local file=- files=0
+    quick=
+    while [ $# != 0 ]; do
+        case $1 in
+            --quick) quick=yes ;;
+            -h | --help) help && exit 0 ;;
+            --version) echo "$program (Filgordd) $version" && exit 0 ;;
+            --) shift && break ;;
+            -?*) misused "there is no option $1" ;;
+            *) file=$1 files=$((files + 1)) ;;
+        esac
+        shift
+    done
+    [ $# = 0 ] || file=$1
+    [ $((files + $#)) -le 1 ] || misused 'more than one file'
+    [ "$file" = - ] || open_file "$file"
+}
+
+open_file() {
+    [ -e "$1" ] || fail "there is no file $1"
+    [ ! -d "$1" ] || fail "$1 is a folder"
+    [ -r "$1" ] || fail "$1 cannot be read"
+    exec <"$1" || exit 2
+}
+
+# Sets `crates`: those that the program needs, itself last, in the order in which the toolchain proves them.
+list_crates() {
+    local -A below=() listed=()
+    local name needs
+    while IFS=: read -r name needs; do
+        case $name in '' | '#'*) ;; *) below[${name%% *}]=$needs ;; esac
+    done <"$top/crates.txt"
+    crates=()
+    list_crate "$program"
+}
+
+# Puts a crate into that list, behind those that it needs. Crates of the toolchain have no line.
+list_crate() {
+    local name
+    [ -n "${below[$1]+line}" ] || return 0
+    [ -z "${listed[$1]-}" ] || return 0
+    listed[$1]=yes
+    for name in ${below[$1]}; do
+        list_crate "$name"
+    done
+    crates+=("$1")
+}
+
+# Which of the program's crates this is, from 1.
+number_of() {
+    local i
+    for i in "${!crates[@]}"; do
+        [ "${crates[i]}" = "$1" ] && break
+    done
+    echo $((i + 1))
+}
+
+is_built() {
+    local name sources=("$top/crates.txt")
+    [ -x "$binary" ] && [ -e "$built" ] || return 1
+    for name in "${crates[@]}"; do
+        sources+=("$top/crates/$name"/{src,specs,proofs})
+    done
+    [ -z "$(find "${sources[@]}" -newer "$built" -print -quit 2>/dev/null)" ]
+}
+
+need_rt() {
+    command -v rt >/dev/null || fail 'there is no rt on PATH: put the bin folder of the Rattle kit there'
+}
+
+# On a terminal, how many of the crates are proved, over the line that was there.
+draw() {
+    local width=24 full empty
+    printf -v full '%*s' $((width * (at > 0 ? at - 1 : 0) / ${#crates[@]})) ''
+    printf -v empty '%*s' $((width - ${#full})) ''
+    printf '\r\033[K%.79s' "$program: [${full// /#}${empty// /.}] $1" >&2
+}
+
+clear_bar() {
+    [ ! -t 2 ] || printf '\r\033[K' >&2
+}
+
+# Copies what the toolchain says to the log, and shows how far it is: on a terminal a bar, elsewhere a line a crate.
 show() {
     local line name=
+    [ ! -t 2 ] || draw "reading the sources of ${#crates[@]} crates"
     while IFS= read -r line; do
+        printf '%s\n' "$line" >>"$log"
         case $line in
             'rt: chose '*' for '*)
                 name=${line##* }
-                [ -t 2 ] || echo "$program: proving $name" >&2
+                at=$(number_of "$name")
+                if [ -t 2 ]; then
+                    draw "crate $at of ${#crates[@]}: $name"
+                else
+                    echo "$program: proving crate $at of ${#crates[@]}: $name" >&2
+                fi
                 ;;
             'so far: '*' of '* | 'checked '*', '*' of '*)
-                [ -t 2 ] && printf '\r\033[K%s: proving %s: %.60s' "$program" "$name" "$line" >&2
+                [[ $line =~ [0-9]+\ of\ [0-9]+ ]]
+                [ ! -t 2 ] || draw "crate $at of ${#crates[@]}: $name, ${BASH_REMATCH[0]-} functions"
                 ;;
         esac
     done
-    [ -t 2 ] && printf '\r\033[K' >&2
+    clear_bar
+}
+
+# Ends the proof where the run is interrupted.
+interrupted() {
+    trap '' INT TERM HUP
+    kill "$prover" 2>/dev/null
+    clear_bar
+    echo "$program: stopped at crate $at of ${#crates[@]}: what is proved is kept, and the next run goes on" >&2
+    exit 130
 }
 
 build() {
-    if ! command -v rt >/dev/null; then
-        echo "$program: there is no rt on PATH, which proves and builds the program" >&2
-        exit 127
-    fi
-    echo "$program: proving and building the program, which takes some minutes" >&2
-    mkdir -p "$crate/out" && touch "$built.next" || exit 2
+    local status
+    need_rt
+    echo "$program: proving and building the program, about 40 minutes on 4 cores from nothing" >&2
+    mkdir -p "$crate/out" && touch "$built.next" && : >"$log" || exit 2
+    at=0
     # It is run once, on an empty text, whose status is 0.
-    (cd "$crate" && rt run </dev/null 2>&1) | tee "$log" | show
-    if [ "${PIPESTATUS[0]}" != 0 ] || [ ! -x "$binary" ]; then
-        echo "$program: the program was not built: $log says why" >&2
-        exit 2
+    exec 3< <(cd "$crate" && exec rt run </dev/null 2>&1)
+    prover=$!
+    trap interrupted INT TERM HUP
+    show <&3
+    wait "$prover"
+    status=$?
+    trap - INT TERM HUP
+    exec 3<&-
+    if [ "$status" != 0 ] || [ ! -x "$binary" ]; then
+        fail "the program was not built: $log says why"
     fi
     mv "$built.next" "$built"
 }
 
-is_built || build
-exec "$binary"
+# Runs the program without a proof, and ends with its status.
+run_unproved() {
+    local last status
+    need_rt
+    room=$(mktemp -d) || exit 2
+    trap 'rm -rf "$room"' EXIT
+    trap 'exit 130' INT TERM HUP
+    echo "$program: unproved run, about a minute; bin/$program without --quick proves the program first" >&2
+    head -c $((limit + 1)) >"$room/in"
+    [ "$(wc -c <"$room/in")" -le "$limit" ] || fail "the input has more than 1 MiB: leave --quick out"
+    (cd "$crate" && exec rt try <"$room/in" >"$room/out" 2>"$room/told")
+    last=$(tail -n 1 "$room/told")
+    case $last in
+        'run=ended status='*) ;;
+        run=no-answer*) fail 'no answer within 60 seconds and 1 MiB of output: leave --quick out' ;;
+        *) cat "$room/told" >&2 && fail 'the program was not run, as the toolchain says above' ;;
+    esac
+    status=${last#run=ended status=}
+    cat "$room/out"
+    # What the toolchain says of the run comes behind what the program says.
+    sed '/^interpreter: /,$d' "$room/told" >&2
+    exit "${status%% *}"
+}
+
+# Runs a program by name, with what its help says of it and of its status, and the arguments of the command.
+run_program() {
+    program=$1 about=$2 statuses=$3
+    crate=$top/crates/$program
+    binary=$crate/out/$program
+    # As old as the sources of which the program was built.
+    built=$crate/out/built
+    # All that the toolchain says while it proves and builds.
+    log=$crate/out/log
+    shift 3
+    read_arguments "$@"
+    list_crates
+    ulimit -s hard 2>/dev/null
+    if ! is_built; then
+        [ -z "$quick" ] || run_unproved
+        build
+    fi
+    exec "$binary"
+}

@@ -11,6 +11,8 @@ mod pieces;
 #[cfg(test)]
 mod prints;
 #[cfg(test)]
+mod refused;
+#[cfg(test)]
 mod rows;
 #[cfg(test)]
 mod texts;

@@ -1,5 +1,6 @@
 //! Other numbers of levels than the program `replay` has, and the origins of printed tokens.
 use crate::rows::row_of;
+use expander::{Edition, FaultKind, Reply, Session, SmallGrammar};
 use replay_script::answer_script;
 use std::alloc::Global;
 use std::test::Fail;
@@ -41,6 +42,29 @@ fn levels_and_origins(rt: HostRuntime) -> Result<(), Fail> {
                 assert!(rt; got.as_str() == want, "{row}: {got}");
             }
         }
+    }
+    Ok(())
+}
+
+// With ten levels the last call has 1,024 names, and stays.
+#[test]
+fn doubled(rt: HostRuntime) -> Result<(), Fail> {
+    let text = "macro_rules! w { ($($x:tt)*) => { w!{ $($x)* $($x)* } } }\nw!{a}\n";
+    let edition = Edition::Edition2024;
+    let mut session = Session::new(rt.alloc(), text, SmallGrammar, edition, 10)?;
+    let Reply::Read(found) = session.expansion()? else {
+        return Err(Fail::new("the text is not read"));
+    };
+    let names = " a".repeat(rt.alloc(), 1024)?;
+    let want = format!(in rt.alloc(); "w ! {{{names} }}\n")?;
+    assert!(rt; found.printed() == want.as_str() && found.tokens() == 1028);
+    let faults = format!(in rt.alloc(); "{:?}", found.faults())?;
+    assert!(rt; found.faults().len() == 1, "{faults}");
+    for fault in found.faults() {
+        assert!(rt;
+            fault.kind == FaultKind::RecursionLimit && fault.range.start == 58,
+            "{faults}"
+        );
     }
     Ok(())
 }

@@ -12,6 +12,10 @@ mod fakes;
 #[cfg(test)]
 mod levels;
 #[cfg(test)]
+mod printed_again;
+#[cfg(test)]
+mod refused;
+#[cfg(test)]
 mod rows;
 #[cfg(test)]
 mod runs;

@@ -9,6 +9,8 @@ mod errors;
 #[cfg(test)]
 mod parsing;
 #[cfg(test)]
+mod refused;
+#[cfg(test)]
 mod styles;
 #[cfg(test)]
 mod value_results;

@@ -1,5 +1,5 @@
 //! What a grammar takes at the head of a list.
-use crate::texts::{call_site, trees};
+use crate::texts::{bracket, call_site, trees};
 use mbe::{FragmentGrammar, PrefixEntryPoint, expect_fragment};
 use std::alloc::Global;
 use std::fmt::Write;
@@ -27,7 +27,7 @@ fn passed<G: FragmentGrammar>(
 ) -> Result<String, Fail> {
     let tree = trees(alloc, text)?;
     let mut rest = tree.iter();
-    let end = DelimSpan::from_single(call_site());
+    let end = DelimSpan::from_pair(bracket(90), call_site());
     let found = expect_fragment(alloc, grammar, &mut rest, entry, end)?;
     let mut shown = String::new(alloc);
     write!(shown, "{} | {} |", found.value, rest.remaining())?;

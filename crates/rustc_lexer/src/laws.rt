@@ -11,17 +11,22 @@
 //! A text that consists of whole tokens with spaces and line feeds between them has exactly these
 //! tokens: [`whole_token`], [`blank_token`], [`one_character`] and [`quoted_name`] give them one
 //! by one, and [`token_shapes`] says what each begins and ends with.
-ghost use Rattle.std.specs.Prelude.{◌≡◌, ◌≤◌, ◌+◌, ◌++◌, ◌↔◌, ℕ, List, [], ◌∷◌, true, false, length, chars, IsUtf8, All, sum_by, take, drop, IsCharBoundary};
+ghost use Rattle.std.specs.Prelude.{◌≡◌, ◌≤◌, ◌+◌, ◌++◌, ◌↔◌, ℕ, List, [], ◌∷◌, Some, true, false, length, chars, IsUtf8, All, sum_by, take, drop, IsCharBoundary};
 ghost use Rattle.std.specs.List.{list_all, slice_range};
+ghost use Rattle.std.specs.Ordering.{nat_cmp};
 ghost use Rattle.rustc_lexer.specs.Character.{is_digit, is_ident, utf8_len};
 ghost use Rattle.rustc_lexer.specs.Cursors.{suffix_of};
 ghost use Rattle.rustc_lexer.specs.Lexeme.{lexeme, one_char_kind};
 ghost use Rattle.rustc_lexer.specs.Lexing.{place, reach, token_of, tokens_of};
 ghost use Rattle.rustc_lexer.specs.Literals.{stands_for_itself, with_escapes};
+ghost use Rattle.rustc_lexer.specs.Orders.{base_number, error_ranks, guarded_ranks, in_order, kind_ranks};
 ghost use Rattle.rustc_lexer.specs.Seams.{begins_longer, begins_white, ends_here, is_blank, is_sign, is_whole, stands_alone};
 ghost use Rattle.rustc_lexer.specs.Shapes.{HasByteShape, HasShape, is_ended};
 ghost use Rattle.rustc_lexer.specs.TokensAt.{AreTokensFrom, IsTokenAt};
+ghost use Rattle.rustc_lexer.specs.declared.character.TheConstants.{UNICODE_VERSION};
+ghost use Rattle.rustc_lexer.specs.declared.raw_str.RawStrError.{RawStrError};
 ghost use Rattle.rustc_lexer.specs.declared.relex.Kept.{Kept};
+ghost use Rattle.rustc_lexer.specs.declared.token.Base.{Base};
 ghost use Rattle.rustc_lexer.specs.declared.token.Base.TheVariants.{Decimal};
 ghost use Rattle.rustc_lexer.specs.declared.token.GuardedStr.{GuardedStr};
 ghost use Rattle.rustc_lexer.specs.declared.token.LiteralKind.{LiteralKind};
@@ -29,9 +34,11 @@ ghost use Rattle.rustc_lexer.specs.declared.token.LiteralKind.TheVariants.{Int, 
 ghost use Rattle.rustc_lexer.specs.declared.token.Token.{Token};
 ghost use Rattle.rustc_lexer.specs.declared.token.TokenKind.{TokenKind};
 ghost use Rattle.rustc_lexer.specs.declared.token.TokenKind.TheVariants.{Eof, Ident, Lifetime, Literal, Whitespace};
+ghost use Rattle.ucd_table.specs.declared.version.TheConstants.{UNICODE_VERSION as tables_version};
 
+use crate::raw_str::RawStrError;
 use crate::relex::Kept;
-use crate::token::{GuardedStr, LiteralKind, Token, TokenKind};
+use crate::token::{Base, GuardedStr, LiteralKind, Token, TokenKind};
 
 /// The tokens of a text begin at its first byte.
 pub fn tokens_begin()
@@ -190,6 +197,36 @@ pub fn equal_tokens()
     ensures tokens { (a b : Token) → (⟦<Token as PartialEq>⟧.eq a b ≡ true) ↔ (a ≡ b) }
     ensures guarded { (a b : GuardedStr) → (⟦<GuardedStr as PartialEq>⟧.eq a b ≡ true) ↔ (a ≡ b) }
     ensures kept { (a b : Kept) → (⟦<Kept as PartialEq>⟧.eq a b ≡ true) ↔ (a ≡ b) }
+{}
+
+/// Bases are in the order of their numbers. Kinds of literals, strings between hashes and errors of
+/// raw strings are in the order of their variants, and then of their fields, as they are declared.
+pub fn orders()
+    ensures bases { (a b : Base) → ⟦<Base as Ord>⟧.cmp a b ≡ nat_cmp (base_number a) (base_number b) }
+    ensures literals { (a b : LiteralKind) → ⟦<LiteralKind as Ord>⟧.cmp a b ≡ in_order (kind_ranks a) (kind_ranks b) }
+    ensures guarded { (a b : GuardedStr) → ⟦<GuardedStr as Ord>⟧.cmp a b ≡ in_order (guarded_ranks a) (guarded_ranks b) }
+    ensures errors { (a b : RawStrError) → ⟦<RawStrError as Ord>⟧.cmp a b ≡ in_order (error_ranks a) (error_ranks b) }
+    ensures partial_bases { (a b : Base) →
+        ⟦<Base as PartialOrd>⟧.partial_cmp a b ≡ Some (nat_cmp (base_number a) (base_number b)) }
+    ensures partial_literals { (a b : LiteralKind) →
+        ⟦<LiteralKind as PartialOrd>⟧.partial_cmp a b ≡ Some (in_order (kind_ranks a) (kind_ranks b)) }
+    ensures partial_guarded { (a b : GuardedStr) →
+        ⟦<GuardedStr as PartialOrd>⟧.partial_cmp a b ≡ Some (in_order (guarded_ranks a) (guarded_ranks b)) }
+    ensures partial_errors { (a b : RawStrError) →
+        ⟦<RawStrError as PartialOrd>⟧.partial_cmp a b ≡ Some (in_order (error_ranks a) (error_ranks b)) }
+{}
+
+/// The number of a base, which is `base as u32`: 2, 8, 10 or 16.
+pub fn base_number(base: Base) -> u32
+    ensures { result ≡ base_number base }
+{
+    base as u32
+}
+
+/// The version of Unicode is 18.0.0, that of the tables of letters.
+pub fn unicode_version()
+    ensures number { UNICODE_VERSION ≡ (18, 0, 0) }
+    ensures tables { UNICODE_VERSION ≡ tables_version }
 {}
 
 /// A clone is the same value.

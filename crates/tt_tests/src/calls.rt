@@ -102,7 +102,7 @@ fn only_group(alloc: Global) -> Result<bool, TtFault> {
     }
 }
 
-fn hash_of(tree: &TopSubtree) -> u64 {
+pub(crate) fn hash_of(tree: &TopSubtree) -> u64 {
     let mut state = DefaultHasher::new();
     tree.hash(&mut state);
     state.finish()

@@ -14,7 +14,14 @@ use Rattle.expander_session.proofs.evaluate.evaluate_piece.Goals as goal
 pub returns-clause-taken : goal.returns-clause-taken
 returns-clause-taken g c =
     let tree_is : c.get-tree.result.now.value ≡ own_top (relative (piece_at c.args.own.now)) = c.get-tree.ensures ∙ c.requires.own.tree in
-    c.in_ok-evaluate_plain.ensures.taken (piece_at c.args.own.now) c.requires.own.start tree_is
+    rw c.reserve.ensures at (c.in_ok-evaluate_plain.ensures.taken (piece_at c.args.own.now) c.requires.own.start tree_is)
+
+pub returns-then-is_definition-clause-taken : goal.returns-then-is_definition-clause-taken
+returns-then-is_definition-clause-taken g c =
+    let A = g.G.FragmentGrammar.answer c.args.context.now.grammar.now in
+    let tree_is : c.in_ok-clone.field-0.value ≡ own_top (relative (piece_at c.args.own.now)) = search rules in
+    rw c.reserve.ensures at
+    (c.evaluate_definition.ensures.taken A c.args.context.now.depth (piece_at c.args.own.now) c.requires.places c.requires.right.have c.requires.own.start tree_is)
 
 pub plain_at-link-requires-clause-linked : goal.plain_at-link-requires-clause-linked
 plain_at-link-requires-clause-linked g c = c.requires.right.linked
