@@ -1,5 +1,4 @@
-//! A text that is read, and the piece that its trees are: for runs in which one request for
-//! memory is refused.
+//! A text that is read, and its piece: for runs in which one request for memory is refused.
 use crate::pieces::stands_behind_first;
 use bridge::{Read, piece, read};
 use rustc_lexer::LexedText;
@@ -7,7 +6,7 @@ use std::alloc::Global;
 use std::test::Fail;
 use tt::{TokenTreesView, TopSubtree, TtFault};
 
-// What the text is read as; each call is made once more where it was refused.
+// The trees of a text, or its reading fault. Each refused call is made once more.
 fn read_once_more(alloc: Global, text: &str) -> Result<TopSubtree, Fail> {
     if text.len() >= 1000 {
         return Err(Fail::new("a text is long"));
@@ -26,7 +25,7 @@ fn read_once_more(alloc: Global, text: &str) -> Result<TopSubtree, Fail> {
     }
 }
 
-// The piece that trees are, made once more where that was refused.
+// The piece of trees. A refused call is made once more.
 fn piece_once_more(alloc: Global, view: TokenTreesView<'_>) -> Result<TopSubtree, Fail> {
     if !stands_behind_first(view) {
         return Err(Fail::new("a token stands before the first"));
@@ -37,7 +36,7 @@ fn piece_once_more(alloc: Global, view: TokenTreesView<'_>) -> Result<TopSubtree
     }
 }
 
-// Where the first of them begins.
+// The offset at which the first of them begins.
 fn first_byte(tree: &TopSubtree) -> Option<u32> {
     Some(tree.token_trees().first_span()?.range.start)
 }

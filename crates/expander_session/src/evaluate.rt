@@ -428,7 +428,8 @@ fn hold(
     Ok(())
 }
 
-// Counts a cache miss if no memo was valid. Otherwise the next search begins after index `at`.
+// Counts a cache miss if no memo was valid. Otherwise notes the index after the memo, where the
+// next one is looked for early.
 fn count(now: &mut Evaluation, at: Option<usize>)
     requires { now.old.taken.expanded + 1 < 2 ^ 64 }
     ensures scope { now.new.scope ≡ now.old.scope }

@@ -87,8 +87,8 @@ impl Expansion {
     /// the present text that its span names.
     ///
     /// A token that was written in the text, in a call's argument too, comes from there, through
-    /// however many calls it was carried. A token of a template comes from the template, and what
-    /// a `$` gives by itself from this `$`. A doc comment's tokens come from the comment.
+    /// however many calls it was carried. A token of a transcriber comes from the transcriber, and
+    /// what a `$` gives by itself from this `$`. A doc comment's tokens come from the comment.
     pub fn origin(&self, i: usize) -> Option<TextRange>
         requires { i < length self.now.origins }
         ensures { result ≡ slice_get self.now.origins i }
@@ -231,7 +231,7 @@ impl<G: FragmentGrammar + Drop> Session<G> {
     /// # Errors
     ///
     /// `Memory`. `Tokens`, only if what is read of the text has more than `u32::MAX` tokens, which
-    /// doc comments alone can bring about, or if a rule that is tried for a call puts out so many.
+    /// doc comments alone can bring about, or if a rule that is tried for a call puts out more.
     /// `Numbers`, only if more than `u32::MAX` definitions would have got an id.
     ///
     /// At most `u32::MAX` definitions get an id in all, so a text for which they would be more has

@@ -1,5 +1,5 @@
-//! What texts without faults print, which prints itself: with a grammar that is none of Rust, and
-//! no level of calls.
+//! The output of texts without faults is a fixed point: here with a grammar that is not Rust's,
+//! and without any level of calls.
 use crate::rows::text_of;
 use expander::{Edition, Reply, Session};
 use std::alloc::Global;

@@ -1,6 +1,5 @@
 //! Sessions, lists of commands and runs, for runs of the tests in which one request for memory is
-//! refused. A refused call leaves what it was called on as it was, and gives the same when it is
-//! made again.
+//! refused. A refused call changes nothing, and gives the same when it is made again.
 use crate::fakes::{whole, wide};
 use expander::{
     Answer, Command, Edition, Expansion, Refusal, Reply, Session, SmallGrammar, Status, TextRange,
@@ -9,8 +8,8 @@ use expander::{
 use std::alloc::{AllocError, Global};
 use std::test::Fail;
 
-// A text, its pieces, those that an edit changes, what is printed, the tokens of that, and what is
-// printed with `2` in the place of the first `1`, which is the edit.
+// A text, how many plain pieces it has and how many of them an edit changes, the printed text, its
+// number of tokens, and the text printed after the edit, which replaces the first `1` by `2`.
 struct Row {
     text: &'static str,
     pieces: usize,
@@ -39,7 +38,8 @@ const ROWS: [Row; 2] = [
     },
 ];
 
-// Whether this is printed, so many pieces were expanded, and the first token is the definition's.
+// Whether this text is printed, with this number of cache misses, and the origin of the first
+// token is in the definition.
 fn prints(row: &Row, found: &Expansion, printed: &str, expanded: usize) -> bool {
     let first = Some(TextRange { start: 25, end: 26 });
     found.printed() == printed
@@ -49,7 +49,7 @@ fn prints(row: &Row, found: &Expansion, printed: &str, expanded: usize) -> bool 
         && found.origin(0) == first
 }
 
-// What the session's text gives, asked for once more where that was refused.
+// The expansion of the session's text. A refused call is made once more.
 fn found(session: &mut Session<SmallGrammar>) -> Result<Expansion, Fail> {
     let reply = match session.expansion() {
         Ok(reply) => reply,
@@ -61,7 +61,7 @@ fn found(session: &mut Session<SmallGrammar>) -> Result<Expansion, Fail> {
     }
 }
 
-// Makes the edit, once more where that was refused, if the text is as before then.
+// Makes the edit. If it is refused, it is made once more, if the text is as before.
 fn edit(row: &Row, session: &mut Session<SmallGrammar>) -> Result<(), Fail> {
     for _ in 0..2 {
         let is_text = session.text() == row.text && session.fits(25, 26, 1);
@@ -73,7 +73,7 @@ fn edit(row: &Row, session: &mut Session<SmallGrammar>) -> Result<(), Fail> {
     Err(Fail::new("no edit"))
 }
 
-// Whether a session gives what the row has, before the edit, behind it and once more.
+// Whether a session gives what the example says, before the edit, after it and once more.
 fn is_answered(alloc: Global, row: &Row) -> Result<bool, Fail> {
     if row.text.len() >= 1000 {
         return Err(Fail::new("a text is long"));
@@ -116,7 +116,7 @@ fn commands(alloc: Global) -> Result<Vec<Command>, AllocError> {
     Ok(vec![in alloc; Command::Expand, edit, Command::Expand]?)
 }
 
-// The answers, asked for once more where all were refused.
+// The answers. If all were refused, they are asked for once more.
 fn answered(alloc: Global, row: &Row, commands: &[Command]) -> Result<Vec<Answer>, Fail> {
     if row.text.len() >= 1000 {
         return Err(Fail::new("a text is long"));
@@ -164,7 +164,7 @@ fn refusals(row: &Row, answers: &[Answer]) -> Option<u8> {
     }
 }
 
-// A list goes on behind a command that is refused, and is answered whole when it is answered again.
+// A list goes on after a command that is refused. It has all answers when it is run again.
 #[test]
 fn refused_commands(rt: HostRuntime) -> Result<(), Fail> {
     let alloc = rt.alloc();
@@ -184,8 +184,8 @@ fn refused_commands(rt: HostRuntime) -> Result<(), Fail> {
     Ok(())
 }
 
-// Whether a run writes all, or where it was refused nothing but why. It may be the writer's own
-// memory that is refused.
+// Whether a run writes all, or if it was refused only why. It may be the writer's own memory that
+// is refused.
 fn is_run(alloc: Global) -> Option<bool> {
     let mut reader = Watched::new(whole(b"let x = y ;\n"));
     let mut writer = Watched::new(wide(alloc));

@@ -103,8 +103,8 @@ fn is_single<G: FragmentGrammar>(grammar: &G, kind: MetaVarKind, trees: &TtIter<
     }
 }
 
-// The trees at the head of a list that an iteration each takes by itself, the list from the last
-// of them on, and the list after it.
+// The trees at the head of a list that are an iteration each, the list from the last of them on,
+// and the list after it.
 #[inline(always)]
 fn singles<'a, G: FragmentGrammar>(
     grammar: &G,

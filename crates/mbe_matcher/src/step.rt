@@ -333,8 +333,8 @@ impl<'a> Thread<'a> {
         Ok((Some(choice), None))
     }
 
-    // The thread after the separator, or in the next iteration if there is no separator; and the
-    // one after the repetition.
+    // The thread after the separator, if that is here. Without a separator it is the thread in the
+    // next iteration, unless the operator is `?`. And the thread after the repetition.
     fn after_round(
         &self,
         arena: &'a Bump,

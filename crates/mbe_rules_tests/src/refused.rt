@@ -1,4 +1,4 @@
-//! Definitions that are read and copied, and errors: for runs in which one request for memory is
+//! Definitions that are parsed and copied, and errors: for runs in which one request for memory is
 //! refused.
 use crate::parsing::{at_2024, told};
 use bridge::{Read, read};
@@ -12,14 +12,14 @@ use symbols::{Symbol, TtFault};
 use tt::TopSubtree;
 use tt_data::Span;
 
-// A definition, how many rules are read of it, and the fault.
+// A definition, how many rules it has, and the fault.
 const ROWS: &str = "
 unsafe attr(a r#b) ({$x:expr} 'q 1.5 += $($y:ident $z:vis),* $(a)+) => { $x ${count($y)} $( ${concat(a, $y)} ${index()} ${ignore($z)} $y )* 'q $$ ${len()} }; ¦ 1
 (a) => {b} (c) => {d} ¦ 1 expected `;`
 ($($($v:vis),+)*) => {} ¦ 1 empty round
 ";
 
-// The trees of a text: it is lexed and read once more where that was refused.
+// The trees of a text. Each refused call is made once more.
 fn tree(alloc: Global, text: &str) -> Result<TopSubtree, Fail> {
     if text.len() >= 1000 {
         return Err(Fail::new("a text is long"));
@@ -38,7 +38,7 @@ fn tree(alloc: Global, text: &str) -> Result<TopSubtree, Fail> {
     }
 }
 
-// The rules of a body, by `macro_rules!` or by `macro`, read once more where that was refused.
+// The rules of a body, by `macro_rules!` or by `macro`. A refused call is made once more.
 fn parsed(alloc: Global, is_word: bool, body: &TopSubtree) -> Result<Rules, TtFault> {
     if is_word {
         return match parse_macro2(alloc, None, body, at_2024) {
@@ -52,7 +52,7 @@ fn parsed(alloc: Global, is_word: bool, body: &TopSubtree) -> Result<Rules, TtFa
     }
 }
 
-// Whether copies of the rules are the same; each once more where it was refused.
+// Whether copies of the rules are equal to them. Each refused call is made once more.
 fn have_copies(alloc: Global, rules: &Rules) -> Result<bool, AllocError> {
     for rule in &rules.list {
         let copy = match rule.try_clone(alloc) {
@@ -66,7 +66,7 @@ fn have_copies(alloc: Global, rules: &Rules) -> Result<bool, AllocError> {
     Ok(true)
 }
 
-// Whether a copy is the same, and what is told of it; each once more where it was refused.
+// The number of rules of an equal copy, and its fault. Each refused call is made once more.
 fn copied(alloc: Global, rules: &Rules) -> Result<String, Fail> {
     let copy = match rules.try_clone(alloc) {
         Ok(copy) => copy,
@@ -97,7 +97,7 @@ fn refused_rules(rt: HostRuntime) -> Result<(), Fail> {
     Ok(())
 }
 
-// An error with a text, made once more where that was refused.
+// An error with a text. A refused call is made once more.
 fn error(alloc: Global) -> Result<ExpandError, TtFault> {
     let text = match Symbol::new(alloc, "x") {
         Err(TtFault::Memory) => Symbol::new(alloc, "x")?,
@@ -112,7 +112,7 @@ fn error(alloc: Global) -> Result<ExpandError, TtFault> {
     }
 }
 
-// Whether a result's reference and its copy are as it is; each once more where it was refused.
+// Whether a result's reference and its copy are equal to it. Each refused call is made once more.
 fn seen(held: &ValueResult<u8, ExpandError>) -> Result<bool, TtFault> {
     let copy = match held.clone() {
         Err(TtFault::Memory) => held.clone()?,

@@ -65,9 +65,9 @@ const WITH_THE_SMALL_GRAMMAR: &str = r#"
 (-1) => {-1}; (- 2) => {- 2}; (- 3.0) => {- 3.0}; (@$lit:literal) => {$lit} ¦ @-1 ¦ 3 - 1⏎
 "#;
 
-// A call that no rule fits. Two faults of a name are never told: where a list or a skip has no value
-// for a round of a repetition around the name, that round is dropped with its faults, since each
-// name in it is looked up before it is filled.
+// Calls that no rule fits. Two faults of a name are never reported. Where a list or a skipped
+// metavariable has no value for an iteration around the name, that iteration is dropped with its
+// faults, since each name in it is looked up before it is transcribed.
 const UNFIT: &str = r#"
 (-1) => {-1}; (- 2) => {- 2}; (- 3.0) => {- 3.0}; (@$lit:literal) => {$lit} ¦ @--1.0 ¦ none: expected literal (1..2, 3) missing
 ($($e:expr),* $(,)?) => { $($e);* ; } ¦ _, ¦ none: no rule matches input tokens (0..1, 0) ;

@@ -1,5 +1,5 @@
-//! Definitions, what their calls give, and fragments: for runs in which one request for memory is
-//! refused.
+//! Definitions, the results of their calls, and fragments: for runs in which one request for
+//! memory is refused.
 use crate::texts::{at_2024, call_site, made, trees, trees_of};
 use mbe::{
     DeclarativeMacro, ExpandResult, MacroCallStyle, MatchedArmIndex, PrefixEntryPoint,
@@ -11,14 +11,14 @@ use std::test::Fail;
 use test_grammars::OneStep;
 use tt::{DelimSpan, TopSubtree, TtFault};
 
-// Rules, an argument, and what is answered: the number of the rule, the error with its place, and
-// the tree.
+// Rules, an argument, and the result: the index of the rule, the error with its range, and the
+// tree.
 const ROWS: &str = "
 (no) => {}; ($($x:ident = $v:expr),*) => { $($x = $v; ${concat($x, 1)} ${index()})* ${count($x)} } ¦ a = 1 + 2, b = 3 ¦ Some(1)  a = (1 + 2) ; a1 0 b = 3 ; b1 1 2
 (a $x:ty) => {x $x}; (b) => {y} ¦ a ; ¦ Some(0) expected Ty 2..3 x missing
 ";
 
-// The trees of a text, made once more where that was refused.
+// The trees of a text. A refused call is made once more.
 fn tree(alloc: Global, text: &str) -> Result<TopSubtree, Fail> {
     match trees_of(alloc, text) {
         Err(TtFault::Memory) => trees(alloc, text),
@@ -28,8 +28,8 @@ fn tree(alloc: Global, text: &str) -> Result<TopSubtree, Fail> {
     }
 }
 
-// The macro of a body by `macro_rules!`, and by `macro` with an argument; each once more where it
-// was refused.
+// The macro of a body by `macro_rules!`, and by `macro` with an argument. Each refused call is
+// made once more.
 fn parsed(
     alloc: Global,
     argument: Option<&TopSubtree>,
@@ -47,7 +47,7 @@ fn parsed(
     }
 }
 
-// A macro's copy, made once more where that was refused.
+// A copy of a macro. A refused call is made once more.
 fn copied(alloc: Global, found: &DeclarativeMacro) -> Result<DeclarativeMacro, Fail> {
     let copy = match found.try_clone(alloc) {
         Err(TtFault::Memory) => found.try_clone(alloc)?,
@@ -59,7 +59,7 @@ fn copied(alloc: Global, found: &DeclarativeMacro) -> Result<DeclarativeMacro, F
     Ok(copy)
 }
 
-// What a call gives, made once more where that was refused.
+// The result of a call. A refused call is made once more.
 fn given(
     alloc: Global,
     found: &DeclarativeMacro,
@@ -77,7 +77,7 @@ fn given(
     }
 }
 
-// An answer as a row has it.
+// A result, written as an example.
 fn shown(
     alloc: Global,
     answer: &ExpandResult<(TopSubtree, MatchedArmIndex)>,
@@ -113,7 +113,8 @@ fn refused_calls(rt: HostRuntime) -> Result<(), Fail> {
     Ok(())
 }
 
-// A group of which one step is taken is passed whole, with an error. A refused call passes nothing.
+// A group of which one step is taken is passed as a whole, with an error. A refused call passes
+// nothing.
 #[test]
 fn refused_fragments(rt: HostRuntime) -> Result<(), Fail> {
     let alloc = rt.alloc();

@@ -1,9 +1,9 @@
-//! Edits of a text that keeps its tokens.
+//! Edits of a text that keeps its tokens, against lexing from scratch.
 use rustc_lexer::{Kept, LexedText, Token, TokenKind};
 use std::alloc::{AllocError, Global};
 use std::test::Fail;
 
-// The text's tokens, lexed from nothing. Refused where the text is long.
+// A text with its tokens, lexed from scratch. Refused if the text is long.
 fn lexed(rt: &HostRuntime, text: &str) -> Result<LexedText, Fail> {
     if text.len() >= 200_000 {
         return Err(Fail::new("a text is long"));
@@ -11,7 +11,8 @@ fn lexed(rt: &HostRuntime, text: &str) -> Result<LexedText, Fail> {
     Ok(LexedText::new(rt.alloc(), text)?)
 }
 
-// What an edit keeps, or None where it does not fit. Refused where the tokens then are not those of the text then.
+// What an edit keeps, or `None` if it does not fit. Refused if the tokens afterwards are not those
+// of the text.
 fn edited(
     rt: &HostRuntime,
     held: &mut LexedText,
@@ -36,8 +37,8 @@ fn kept(front: usize, lexed: usize, back: usize) -> Option<Kept> {
 
 #[test]
 fn edits_keep_tokens(rt: HostRuntime) -> Result<(), Fail> {
-    // The text, the edited range, the replacement, the text then, and the tokens that are kept in front, lexed again, and
-    // kept behind.
+    // The text, the edited range, the replacement, the edited text, and the tokens that are kept
+    // before, lexed again, and kept after.
     let cases = [
         ("r ;", 1, 1, "\"a\"", "r\"a\" ;", kept(0, 1, 2)),
         ("a; b", 4, 4, " c", "a; b c", kept(2, 4, 0)),
@@ -93,8 +94,8 @@ const SEMI: Token = Token {
     len: 1,
 };
 
-// A call that is refused leaves the text and its tokens as they were, and the same call succeeds then: for runs in which one
-// allocation fails.
+// A refused call leaves the text and its tokens as they were, and then the same call succeeds. For
+// runs in which one allocation fails.
 #[test]
 fn refused_edits_change_nothing(rt: HostRuntime) -> Result<(), Fail> {
     let mut held = match LexedText::new(rt.alloc(), "a; b c") {
@@ -120,7 +121,7 @@ fn refused_edits_change_nothing(rt: HostRuntime) -> Result<(), Fail> {
     Ok(())
 }
 
-// A text that is long enough for marks.
+// A text that is long enough for checkpoints.
 fn long_text(alloc: Global) -> Result<String, AllocError> {
     let mut text = String::new(alloc);
     for _ in 0..700 {
@@ -140,7 +141,7 @@ fn edits_all_over_a_long_text(rt: HostRuntime) -> Result<(), Fail> {
         let end = start.saturating_add(k as usize % 3);
         edited(&rt, &mut held, start, end, words[k as usize % 6])?;
     }
-    // Without most of its text, a text gives its marks up.
+    // Without most of its text, it drops its checkpoints.
     let len = held.text().len();
     let all = edited(&rt, &mut held, 0, len, ";")?;
     let one = edited(&rt, &mut held, 1, 1, "a")?;
@@ -150,7 +151,7 @@ fn edits_all_over_a_long_text(rt: HostRuntime) -> Result<(), Fail> {
     Ok(())
 }
 
-// The tokens of a text, lexed once more where that was refused.
+// The tokens of a text. A refused call is made once more.
 fn lexed_again(alloc: Global, text: &str) -> Result<LexedText, Fail> {
     if text.len() >= 200_000 {
         return Err(Fail::new("a text is long"));

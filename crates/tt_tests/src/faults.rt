@@ -1,4 +1,4 @@
-//! Calls that do not fit what they are called on.
+//! Calls whose arguments do not fit the tree or builder that they are called on.
 use crate::calls::hash_of;
 use crate::samples::{begun, built, byte_at, punct, shows, tree};
 use std::alloc::Global;
@@ -6,7 +6,7 @@ use std::test::*;
 use tt::{TopSubtree, TopSubtreeBuilder, TransformTtAction, pretty, transform_tt};
 use tt_data::{Delimiter, Ident, Leaf, Punct, Spacing, Subtree, TokenTree, TtFault};
 
-// What a list of one token is refused with.
+// The error with which a list of one token is refused.
 fn one_token(alloc: Global, token: TokenTree) -> Result<Option<TtFault>, TtFault> {
     let mut tokens = Vec::new(alloc);
     let Ok(()) = tokens.push(token) else {
@@ -18,7 +18,7 @@ fn one_token(alloc: Global, token: TokenTree) -> Result<Option<TtFault>, TtFault
     }
 }
 
-// A group that says that it has so many tokens.
+// The head of a group of this many tokens.
 fn group(len: u32) -> TokenTree {
     TokenTree::Subtree(Subtree {
         delimiter: Delimiter::invisible_spanned(byte_at(0)),
@@ -35,7 +35,7 @@ fn lists(alloc: Global) -> Result<bool, TtFault> {
     )
 }
 
-// A point whose open group was closed.
+// A restore point whose open group was closed.
 fn is_stale(alloc: Global) -> Result<bool, TtFault> {
     let mut builder = begun(alloc, "+{-")?;
     let point = builder.restore_point();
@@ -44,7 +44,7 @@ fn is_stale(alloc: Global) -> Result<bool, TtFault> {
     Ok(answer == Err(TtFault::Stale) && shows(alloc, &built(builder)?, "+ {-}")?)
 }
 
-// Calls at a builder that has come to `{`, and at the same when it has not.
+// Calls on a builder to which `{` was appended, and the same on an empty one.
 fn places(alloc: Global) -> Result<bool, TtFault> {
     let Err((builder, fault)) = begun(alloc, "{")?.build() else {
         return Ok(false);
@@ -65,7 +65,7 @@ fn places(alloc: Global) -> Result<bool, TtFault> {
     )
 }
 
-// A tree whose top is taken away stays as it is, and is equal to its copy.
+// A tree whose top is removed stays as it is, and is equal to its copy.
 fn keeps_its_top(alloc: Global) -> Result<bool, TtFault> {
     let mut tree = tree(alloc, "+{-}")?;
     let copy = tree.try_clone(alloc)?;
@@ -78,7 +78,7 @@ fn keeps_its_top(alloc: Global) -> Result<bool, TtFault> {
     )
 }
 
-// `a`, a punct that is joined to what is hidden, and `b`.
+// `a`, a punct that is `JointHidden`, and `b`.
 fn hidden(alloc: Global) -> Result<TopSubtree, TtFault> {
     let mut builder = TopSubtreeBuilder::new(alloc, Delimiter::invisible_spanned(byte_at(0)))?;
     builder.push(Leaf::from(Ident::new(alloc, "a", byte_at(0))?))?;

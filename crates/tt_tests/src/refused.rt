@@ -1,5 +1,5 @@
-//! Each call that takes memory, and once more where it was refused: for runs in which one allocation
-//! fails. A refused call leaves what it was called on as it was, so the tree is the one that is due.
+//! Each call that takes memory, made once more if it was refused: for runs in which one allocation
+//! fails. A refused call changes nothing, so the tree is the expected one.
 use crate::samples::{begun, built, byte_at, punct, shows, tells, tree};
 use crate::states::{number_anchors, rewrite};
 use std::alloc::Global;
@@ -7,7 +7,7 @@ use std::test::*;
 use tt::{TokenTreesView, TopSubtree, TopSubtreeBuilder, pretty, token_to_literal};
 use tt_data::{DelimSpan, Ident, Leaf, LitKind, Literal, Symbol, TtFault};
 
-// Puts trees or leaves into a builder by one of three calls.
+// Appends trees or leaves to a builder by one of three calls.
 fn extend(
     builder: &mut TopSubtreeBuilder,
     call: u8,
@@ -51,7 +51,7 @@ fn builders(rt: HostRuntime) -> Result<(), Fail> {
     Ok(())
 }
 
-// The tree that the tokens of a tree are. A refused call hands them back.
+// The tree made from the tokens of a tree. A refused call hands them back.
 fn read_again(alloc: Global, tree: &TopSubtree) -> Result<TopSubtree, TtFault> {
     let mut tokens = Vec::new(alloc);
     for token in tree.as_token_trees().iter_flat_tokens() {
@@ -124,7 +124,8 @@ fn makers(rt: HostRuntime) -> Result<(), Fail> {
     Ok(())
 }
 
-// Rewrites the tree, and sets a token of it; once more where memory ran out, if the tree is as before.
+// Rewrites the tree, and sets a token of it. Out of memory, it does so once more, if the tree is
+// as before.
 fn changed(alloc: Global, tree: &mut TopSubtree, before: &TopSubtree) -> Result<(), TtFault> {
     match rewrite(alloc, tree, before.token_trees()) {
         Err(TtFault::Memory) if *tree == *before => rewrite(alloc, tree, before.token_trees())?,
@@ -136,7 +137,8 @@ fn changed(alloc: Global, tree: &mut TopSubtree, before: &TopSubtree) -> Result<
     }
 }
 
-// Numbers the anchors of the tree; once more where memory ran out, if none was asked about and the tree is as before.
+// Numbers the anchors of the tree. Out of memory, it does so once more, if none was asked about
+// and the tree is as before.
 fn numbered(alloc: Global, tree: &mut TopSubtree, before: &TopSubtree) -> Result<(), TtFault> {
     match number_anchors(alloc, tree) {
         (0, Err(TtFault::Memory)) if *tree == *before => number_anchors(alloc, tree).1,

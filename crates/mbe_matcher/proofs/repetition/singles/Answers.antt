@@ -1,4 +1,4 @@
--- Tree after tree is a single one.
+-- Tree after tree is an iteration by itself.
 use Rattle.std.proofs.Common.{refl, sym, subst, ◌∙◌}
 use Rattle.tt.specs.Views.{forest}
 use Rattle.tt.proofs.Steps.{joined-left}
