@@ -1,4 +1,4 @@
--- Trees put in one after another, and what it means that the last ones were refused.
+-- Trees appended one after another, and the state after a refused call.
 use Rattle.std.proofs.Common.{◌≡◌, ℕ, List, ◌+◌, ◌≤◌, inl, inr, ap, ◌∙◌, arith}
 use Rattle.std.specs.Prelude.{Result, Ok, Err, OnOk, IfOk, IfErr}
 use Rattle.std.specs.Result.{IsErrAnd}

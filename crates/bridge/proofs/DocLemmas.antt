@@ -1,4 +1,4 @@
--- The literal that a doc comment is read as: its text, escaped, in quotes.
+-- The literal of a doc comment: its text, escaped, in quotes.
 use Rattle.std.proofs.Common.{◌≡◌, ℕ, ◌+◌, ◌-◌, ◌<◌, ◌≤◌, ◌^◌, List, [], ◌∷◌, ◌++◌, Bool, true, false, length, take, drop, get_or, refl, sym, ap, ◌∙◌, subst, arith, sum_by, is_some, if◌then◌else◌}
 use Rattle.std.specs.Prelude.{IsSome, Some, None, nat_eq}
 use Rattle.std.specs.Str.{IsAscii, IsCharBoundary, IsUtf8, chars}

@@ -1,4 +1,4 @@
--- What stands between two spelled tokens hangs on what they are to their neighbours, and on nothing else.
+-- The gap between two spelled tokens depends only on what they are to their neighbours.
 use Rattle.std.proofs.Common.{◌≡◌, ℕ, Bool, true, false, not, ◌&&◌, ◌||◌, List, [], ◌++◌, refl, sym, ap, ◌∙◌, arith, nat_eq, if◌then◌else◌}
 use Rattle.std.specs.Char.{encode_utf8}
 use Rattle.std.specs.Prelude.{codes, Some, None}

@@ -1,4 +1,4 @@
--- Texts of doc comments: a last carriage return, and what is escaped.
+-- Texts of doc comments: the last carriage return, and which characters are escaped.
 use Rattle.std.proofs.Common.{◌≡◌, ℕ, zero, suc, ◌+◌, ◌-◌, ◌<◌, List, [], ◌∷◌, ◌++◌, Bool, true, false, length, take, drop, get_or, refl, sym, ap, ◌∙◌, append_assoc, arith}
 use Rattle.std.specs.Prelude.{nat_eq, Some, None}
 use Rattle.std.proofs.lemmas.Bool.Decides.{nat_tests}

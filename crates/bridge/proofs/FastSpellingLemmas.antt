@@ -1,4 +1,5 @@
--- Leaves whose kind and text show how they are spelled: the text is one token, which is read as the leaf.
+-- Leaves whose kind and text show their spelling: the text is one token, which is read as the
+-- leaf.
 use Rattle.std.proofs.Common.{◌≡◌, ◌≢◌, ℕ, ◌<◌, ◌^◌, Bool, true, false, ◌&&◌, List, [], ◌∷◌, ◌++◌, length, take, drop, ◌-◌, ◌+◌, subst, refl, sym, ap, ◌∙◌, arith, IsUtf8, if◌then◌else◌, sum_by}
 use Rattle.std.specs.List.{list_all}
 use Rattle.std.specs.Prelude.{codes, Option, Some, None, nat_lt, IfSome}

@@ -1,4 +1,4 @@
--- What stands behind whole trees is read as if it stood alone.
+-- What comes after whole trees is read as if it were alone.
 use Rattle.std.proofs.Common.{◌≡◌, Bool, true, false, cond, List, [], ◌∷◌, ◌++◌, map, refl, ap, sym, ◌∙◌}
 use Rattle.std.specs.Prelude.{Err}
 use Rattle.tt.specs.Building.{Opened}

@@ -1,4 +1,4 @@
--- Parts of a text: side by side, at other places, and in other texts.
+-- Parts of a text: side by side, at other offsets, and in other texts.
 use Rattle.std.proofs.Common.{◌≡◌, ℕ, zero, suc, ◌+◌, ◌-◌, ◌<◌, ◌≤◌, List, [], ◌∷◌, ◌++◌, length, map, take, drop, sum_by, refl, sym, ap, ◌∙◌, append_assoc, arith, chars}
 use Rattle.std.proofs.lemmas.List.{append-nil, drop-append-le, drop-drop, drop_all, length-drop, map-append, take-append-drop, take-append-le, take-map, take_all}
 use Rattle.std.proofs.lemmas.List.Sums.{sum_by-cons}

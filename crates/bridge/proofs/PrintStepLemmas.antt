@@ -1,4 +1,4 @@
--- One visible token more is printed or left out.
+-- One more visible token is printed, or omitted.
 use Rattle.std.proofs.Common.{◌≡◌, ℕ, ◌+◌, true, false, ◌&&◌, List, [], ◌∷◌, ◌++◌, length, refl, sym, ap, ◌∙◌, subst, arith, append_assoc, if◌then◌else◌, IsUtf8, take}
 use Rattle.std.specs.Prelude.{Option, Some, None, Result, Ok, Err, OnOk, codes}
 use Rattle.std.specs.Str.{IsCharBoundary}

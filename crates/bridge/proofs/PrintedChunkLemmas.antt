@@ -1,4 +1,5 @@
--- A chunk put behind what was printed: its steps at other places print the same text, and nothing of them is left out.
+-- A chunk appended to printed text: its events print the same text whatever their spans, and none
+-- is omitted.
 use Rattle.std.proofs.Common.{◌≡◌, ℕ, ◌+◌, ◌≤◌, Bool, true, false, not, ◌&&◌, List, [], ◌∷◌, ◌++◌, length, map, refl, sym, ap, ◌∙◌, subst, arith, append_assoc, nat_eq, ◌||◌, if◌then◌else◌}
 use Rattle.std.specs.Prelude.{Option, Some, None, codes, is_some}
 use Rattle.std.proofs.lemmas.Bool.Decides.{nat_tests}

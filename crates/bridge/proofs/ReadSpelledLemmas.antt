@@ -1,4 +1,4 @@
--- What is read of a text has spellings, token by token.
+-- What is read from a text has spellings, token by token.
 use Rattle.std.proofs.Common.{◌≡◌, ℕ, ◌+◌, ◌-◌, ◌<◌, ◌≤◌, ◌^◌, Bool, true, false, ◌&&◌, List, [], ◌∷◌, ◌++◌, length, take, drop, map, subst, refl, sym, ap, ◌∙◌, arith, IsUtf8, sum_by, is_some, if◌then◌else◌}
 use Rattle.std.specs.List.{slice_range}
 use Rattle.std.specs.Prelude.{codes, nat_eq, not, Option, Some, None, IsSome}

@@ -1,4 +1,4 @@
--- The text read token by token: what was read, and what is left.
+-- A text read token by token: what was read, and what remains.
 use Rattle.std.proofs.Common.{◌≡◌, ℕ, ◌+◌, ◌-◌, ◌<◌, ◌≤◌, List, [], ◌∷◌, ◌++◌, length, take, drop, refl, sym, ap, ◌∙◌, append_assoc, arith, inl, inr, subst}
 use Rattle.std.proofs.lemmas.List.{append-nil, drop-drop, length-drop, length-take-le}
 use Rattle.std.specs.List.{slice_range}

@@ -1,4 +1,4 @@
--- The reading that is computed is the one that is defined: a forest's walk, or the first fault.
+-- The computed reading is the defined one: a forest's walk, or the first reading fault.
 use Rattle.std.proofs.Common.{◌≡◌, List, [], ◌∷◌, ◌++◌, Bool, true, false, refl, sym, ap, ◌∙◌, append_assoc, map}
 use Rattle.std.proofs.lemmas.List.{append-nil, map-append}
 use Rattle.std.specs.Prelude.{Result, Ok, Err, if◌then◌else◌}

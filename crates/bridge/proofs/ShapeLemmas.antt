@@ -1,4 +1,5 @@
--- A spelling hangs on shapes: a token's own, and for a quote that of the next visible token.
+-- A spelling depends only on span-erased tokens: the token itself, and for a quote the next
+-- visible one.
 use Rattle.std.proofs.Common.{◌≡◌, true, false, ◌&&◌, List, [], ◌∷◌, refl, ap, if◌then◌else◌}
 use Rattle.std.specs.Prelude.{IsSome}
 use Rattle.tt_data.specs.Walk.{Step, at_leaf, opens, closes}

@@ -1,4 +1,5 @@
--- Lists of places in runs: which run has a place, and what one more run or fewer give.
+-- Lists of spans in runs: which run has a given span, and the list after a run is added or
+-- removed.
 use Rattle.std.proofs.Common.{◌≡◌, ℕ, suc, ◌+◌, ◌-◌, ◌^◌, ◌<◌, ◌≤◌, Bool, true, false, ◌&&◌, if◌then◌else◌, nat_eq, List, [], ◌∷◌, ◌++◌, length, take, get_or, set, map, add-one, zero, refl, sym, ap, ◌∙◌, subst, arith, append_assoc}
 use Rattle.std.specs.Prelude.{Option, Some, None, leb, ltb, slice_get}
 use Rattle.std.proofs.lemmas.Option.{slice_get_read}

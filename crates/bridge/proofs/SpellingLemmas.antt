@@ -1,4 +1,4 @@
--- A text that is one token: where it may be cut, and whether a leaf is what it is read as.
+-- A text that is one token: where it may be cut, and whether it is read as a given leaf.
 use Rattle.std.proofs.Common.{◌≡◌, ℕ, ◌+◌, ◌-◌, ◌<◌, ◌^◌, Bool, true, ◌&&◌, List, [], ◌∷◌, length, take, refl, sym, ap, ◌∙◌, subst, arith, IsUtf8, sum_by}
 use Rattle.std.specs.List.{slice_range}
 use Rattle.std.specs.Prelude.{nat_lt}

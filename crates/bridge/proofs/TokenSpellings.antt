@@ -1,4 +1,4 @@
--- A token of a text that is read as one leaf: its text, taken alone, is how the leaf is spelled.
+-- A token of a text that is read as one leaf: its text, taken alone, spells the leaf.
 use Rattle.std.proofs.Common.{◌≡◌, ℕ, ◌+◌, ◌-◌, ◌<◌, ◌≤◌, ◌^◌, Bool, true, false, ◌&&◌, List, [], ◌∷◌, ◌++◌, length, take, drop, subst, refl, sym, ap, ◌∙◌, arith, append_assoc, IsUtf8, sum_by, is_some}
 use Rattle.std.specs.List.{slice_range}
 use Rattle.std.specs.Prelude.{codes, nat_eq, Some, None, IsSome}

@@ -1,4 +1,4 @@
--- What is read of a text stands in the text itself.
+-- The spans of what is read from a text are in the text.
 use Rattle.std.proofs.Common.{ℕ, List, [], ◌∷◌, ◌++◌, map, refl, subst}
 use Rattle.std.specs.Prelude.{chars}
 use Rattle.rustc_lexer.specs.Lexing.{tokens_of}

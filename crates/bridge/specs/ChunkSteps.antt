@@ -6,20 +6,20 @@ use Rattle.bridge.specs.Edges.{gap_outside}
 use Rattle.bridge.specs.PrintedChunks.{ChunkState}
 use Rattle.bridge.specs.Printers.{PrinterState}
 
--- what stands behind the token printed last, if there is one, whatever follows
+-- the gap after the token printed last, if there is one, whatever follows
 abbrev pub one_gap : Option Edge → List ℕ
 one_gap None = []
 one_gap (Some last) = gap_outside last
 
--- a chunk behind what was printed, with its tokens at these spans
+-- a chunk after what was printed, with its tokens at these spans
 abbrev pub chunk_behind : PrinterState → ChunkState → List Span → PrinterState
 chunk_behind s chunk spans = record s { text = (s.text ++ one_gap s.last) ++ chunk.text; tokens = s.tokens ++ spans; last = Some chunk.last }
 
--- the chunk was put so; or nothing was done
+-- the chunk was appended so; or nothing was changed
 abbrev pub AppendsChunk : PrinterState → PrinterState → ChunkState → List Span → Bool → Type 0
 AppendsChunk old new chunk spans true = new ≡ chunk_behind old chunk spans
 AppendsChunk old new chunk spans false = new ≡ old
 
--- the chunk's text alone behind what was printed
+-- only the chunk's text after what was printed
 abbrev pub text_behind : PrinterState → ChunkState → PrinterState
 text_behind s chunk = record s { text = (s.text ++ one_gap s.last) ++ chunk.text; last = Some chunk.last }

@@ -1,4 +1,4 @@
--- What a printed token is to its neighbours: all that the text between two of them hangs on.
+-- What a printed token is to its neighbours: all that the gap between two of them depends on.
 use Rattle.std.specs.Prelude.{ℕ, List, [], Bool, true, false, codes, nat_eq, if◌then◌else◌, ◌||◌, ◌&&◌, not}
 use Rattle.tt_data.specs.Walk.{Step, at_leaf, opens, closes}
 use Rattle.tt_data.specs.declared.delimiter.DelimiterKind.{DelimiterKind}
@@ -25,13 +25,13 @@ edge_of (at_leaf l) = leaf_edge l
 edge_of (opens kind span) = Other
 edge_of (closes kind span) = closing_edge kind
 
--- a line ends behind it, outside all groups
+-- a line ends after it, outside all groups
 abbrev pub ends_line : Edge → Bool
 ends_line (Mark c joined) = nat_eq c (char ";")
 ends_line ClosingBrace = true
 ends_line Other = false
 
--- the same stands behind it whatever follows, outside all groups: the end of a line, or a space
+-- the gap after it is the same whatever follows, outside all groups
 abbrev pub has_one_gap : Edge → Bool
 has_one_gap (Mark c joined) = nat_eq c (char ";") || (not (nat_eq c (char "'")) && not joined)
 has_one_gap ClosingBrace = true
@@ -42,26 +42,26 @@ abbrev pub is_comment_or_guard : ℕ → ℕ → Bool
 is_comment_or_guard c d =
     (nat_eq c (char "/") && nat_eq d (char "/")) || (nat_eq c (char "/") && nat_eq d (char "*")) || (nat_eq c (char "#") && nat_eq d (char "#"))
 
--- nothing stands between two tokens on one line
+-- nothing is between two tokens on one line
 abbrev pub are_joined : Edge → Edge → Bool
 are_joined (Mark c joined) (Mark d other) =
     nat_eq c (char "'") || (joined && (not (nat_eq d (char "'")) && not (is_comment_or_guard c d)))
 are_joined (Mark c joined) next = nat_eq c (char "'")
 are_joined last next = false
 
--- the text of what stands between two tokens
+-- the text of a gap
 abbrev pub gap_text : Gap → List ℕ
 gap_text Nothing = []
 gap_text Space = codes " "
 gap_text Line = codes "\n"
 
--- what stands between two tokens, behind the first of which so many visible groups are open
+-- the gap between two tokens, where so many visible groups are open after the first
 abbrev pub gap_between : ℕ → Edge → Edge → List ℕ
 gap_between depth last next =
     if nat_eq depth 0 && ends_line last then codes "\n"
     else if are_joined last next then []
     else codes " "
 
--- what stands behind a token that has one gap, outside all groups
+-- the gap after a token that has one gap, outside all groups
 abbrev pub gap_outside : Edge → List ℕ
 gap_outside last = if ends_line last then codes "\n" else codes " "

@@ -21,29 +21,29 @@ state_of o = record {
   waiting = o.waiting;
 }
 
--- there are as many printed tokens as open groups at least
+-- there are at least as many printed tokens as open groups
 abbrev pub Fits : PrinterState → Type 0
 Fits s = s.depth ≤ length s.tokens
 
--- something was put behind the list, or nothing
+-- the list is the same or has more at its end
 abbrev pub IsLonger : {A : Type 0} → List A → List A → Type 0
 IsLonger {A} old new = (more : List A) × (new ≡ old ++ more)
 
--- what was printed or left out before still is
+-- what was printed or omitted before still is
 pub record Grows (old new : PrinterState) : Type 0 where
   pub text : IsLonger old.text new.text
   pub tokens : IsLonger old.tokens new.tokens
   pub left_out : IsLonger old.left_out new.left_out
 
--- the visible step was put
+-- the visible event was added
 abbrev pub Puts : PrinterState → PrinterState → Step → Type 0
 Puts old new step = (more : List Step) (all : Print) → Continues old (step ∷ more) all → Continues new more all
 
--- the step was put, which may be invisible
+-- the event was added, which may be invisible
 abbrev pub PutsAny : PrinterState → PrinterState → List Step → Type 0
 PutsAny old new steps = (more : List Step) (all : Print) → Continues old (visible (steps ++ more)) all → Continues new (visible more) all
 
--- what stands before a token that is printed next
+-- the gap before the token that is printed next
 abbrev pub gap_behind : ℕ → Option Edge → Edge → List ℕ
 gap_behind depth None next = []
 gap_behind depth (Some last) next = gap_between depth last next
@@ -52,11 +52,11 @@ gap_behind depth (Some last) next = gap_between depth last next
 abbrev pub printed_so_far : PrinterState → Print
 printed_so_far s = record { text = s.text; tokens = s.tokens; left_out = s.left_out }
 
--- what is printed, with the places in one vector
+-- what is printed, with the spans in one vector
 abbrev pub print_with : PrintState → Vec Span Global → Print
 print_with o spans = record { text = string_bytes o.text; tokens = spans.items; left_out = o.left_out.items }
 
--- how much is printed, and what the next visible token hangs on
+-- how much is printed, and what the next visible token depends on
 abbrev pub saved_of : PrinterState → SavedState
 saved_of s = record {
   text = length s.text;

@@ -1,4 +1,4 @@
--- What a printer answers, as the definition of printed text has it.
+-- The answer of a printer, in the form of the definition of printed text.
 use Rattle.std.specs.Prelude.{string_bytes}
 use Rattle.bridge.specs.Printing.{Print}
 use Rattle.bridge.specs.declared.printing.printer.LazyPrinted.{LazyPrinted}

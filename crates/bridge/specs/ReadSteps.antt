@@ -1,4 +1,4 @@
--- How the code reads: the steps that a tree under construction has so far, and what one token adds to them.
+-- How the code reads: the events of a tree under construction, and what one token adds to them.
 use Rattle.std.specs.Prelude.{◌≡◌, ◌⊎◌, ℕ, ◌+◌, ◌-◌, ◌<◌, ◌≤◌, List, [], ◌∷◌, ◌++◌, Bool, true, false, codes, length, map, Option, Some, None, take, drop, if◌then◌else◌}
 use Rattle.std.specs.Str.{IsCharBoundary}
 use Rattle.rustc_lexer.specs.declared.token.DocStyle.{DocStyle}
@@ -27,7 +27,7 @@ use Rattle.bridge.specs.Reading.{IsFault, PlacedToken, TextStep, placed_from, st
 use Rattle.bridge.specs.Text.{char}
 use Rattle.bridge.specs.TokenSteps.{doc_text, escaped, is_mark, mark_leaf, name_in, name_leaf, class_of, steps_of_class}
 
--- ---- the trees that are put in for one token
+-- ---- the trees that are added for one token
 
 -- a lifetime: the quote at the first byte, and the name
 abbrev pub quoted_name : List ℕ → TextRange → Forest
@@ -40,7 +40,7 @@ abbrev pub doc_puncts : DocStyle → Span → Forest
 doc_puncts Outer span = leaf (mark_leaf (char "#") Alone span) empty
 doc_puncts Inner span = leaf (mark_leaf (char "#") Alone span) (leaf (mark_leaf (char "!") Alone span) empty)
 
--- what stands in the brackets
+-- the tokens inside the brackets
 abbrev pub doc_inside : List ℕ → Span → Forest
 doc_inside text span =
     leaf (name_leaf (codes "doc") is_raw.No span)
@@ -64,7 +64,7 @@ abbrev pub first_kind : List PlacedToken → Option TokenKind
 first_kind [] = None
 first_kind (t ∷ more) = Some t.kind
 
--- what a token is read as that is no bracket, before a token of the next kind
+-- what a token is read as, before a token of the next kind: nothing for a bracket
 abbrev pub trees_of : TokenClass → List ℕ → TextRange → Option TokenKind → Forest
 trees_of (Name raw) text range next = leaf (name_leaf (name_in raw text) raw (written_at range)) empty
 trees_of (Mark c) text range next = leaf (mark_leaf c (spacing_at next) (written_at range)) empty
@@ -80,7 +80,7 @@ abbrev pub EndsBlock : Bool → List ℕ → Type 0
 EndsBlock false text = Unit {0}
 EndsBlock true text = (5 ≤ length text) × IsCharBoundary text (length text - 2)
 
--- a token can be cut as one of its class is
+-- the text of a token of this class can be cut as the class needs
 abbrev pub MayCut : TokenClass → List ℕ → Type 0
 MayCut (Name is_raw.Yes) text = IsCharBoundary text 2
 MayCut QuotedName text = IsCharBoundary text 1
@@ -90,40 +90,40 @@ MayCut _ text = Unit {0}
 
 -- ---- what one token of a text is read as
 
--- a token as it stands in the text
+-- a token at its offset in the text
 abbrev pub token_at : List ℕ → ℕ → Token → PlacedToken
 token_at text start t = record { kind = t.kind; start = start; text = take t.len (drop start text) }
 
--- what it is read as, before the others
+-- what the token is read as, before the others
 abbrev pub steps_at : List ℕ → ℕ → Token → List Token → List TextStep
 steps_at text start t more =
     steps_of_class (class_of t.kind) (token_at text start t) (placed_from (start + t.len) (drop t.len (drop start text)) more)
 
--- ---- what becomes of a tree under construction
+-- ---- how a tree under construction changes
 
--- the steps that it has so far
+-- the events that it has so far
 abbrev pub steps_in : Building → List TextStep
 steps_in b = map step (walk_open b.groups b.here)
 
--- the steps are put in, or a fault is met among them
+-- the events are added, or there is a fault among them
 abbrev pub Takes : List TextStep → Building → Building → Option ReadFault → Type 0
 Takes steps old new None = (steps_in new ≡ steps_in old ++ steps) × (new.top ≡ old.top)
 Takes steps old new (Some fault) = (more : List TextStep) → IsFault (steps_in old ++ (steps ++ more)) fault
 
--- the innermost open group is of this kind, and a bracket at this place has closed it
+-- the innermost open group is of this kind, and a closing at this range has closed it
 abbrev pub IsClosed : DelimiterKind → TextRange → Building → Building → Type 0
 IsClosed kind range old new = (place : Span) × (innermost_group old.groups ≡ Some (kind, place)) × (new ≡ closed old (written_at range))
 
--- there is no memory, or no room for so many tokens
+-- memory ran out, or there is no room for so many tokens
 abbrev pub IsRefusal : ℕ → TtFault → Type 0
 IsRefusal tokens e = (e ≡ Memory) ⊎ ((e ≡ Tokens) × (most_tokens < tokens))
 
--- a tree with these steps more has more tokens than there is room for
+-- a tree with these events added has more tokens than there is room for
 pub record Overfills (steps : List TextStep) (old : Building) : Type 0 where
   pub full : Building
   pub adds : steps_in full ≡ steps_in old ++ steps
   pub many : most_tokens < count_of full
 
--- there is no memory, or no room for the tokens of these steps
+-- memory ran out, or there is no room for the tokens of these events
 abbrev pub IsStepRefusal : List TextStep → Building → TtFault → Type 0
 IsStepRefusal steps old e = (e ≡ Memory) ⊎ ((e ≡ Tokens) × Overfills steps old)

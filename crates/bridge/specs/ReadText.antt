@@ -10,7 +10,7 @@ use Rattle.bridge.specs.Reading.{IsFault, IsReading, TextStep, step, walk_open, 
 use Rattle.bridge.specs.declared.reading.outcome.Read.{Read}
 use Rattle.bridge.specs.declared.reading.outcome.Read.TheVariants.{Tree, Fault}
 
--- no brackets stand round a text; they are placed at its first byte
+-- the top of a text: no brackets, with spans at its first byte
 abbrev pub text_top : Delimiter
 text_top = record {
   open_span = written_at (record { start = 0; «end» = 0 });
@@ -18,12 +18,12 @@ text_top = record {
   kind = Invisible;
 }
 
--- the tree that is walked in just these steps, or their first fault
+-- the tree whose traversal is exactly these events, or their first fault
 abbrev pub IsRead : List TextStep → Read → Type 0
 IsRead steps (Tree t) = (t.delimiter ≡ text_top) × IsReading steps t.inner
 IsRead steps (Fault fault) = IsFault steps fault
 
--- the tree that is read of some of the first steps has more tokens than a tree has room for
+-- the tree read from some of the first events has more tokens than a tree has room for
 pub record HasTooMany (steps : List TextStep) : Type 0 where
   pub groups : List Opened
   pub here : Forest
@@ -31,6 +31,6 @@ pub record HasTooMany (steps : List TextStep) : Type 0 where
   pub read : steps ≡ map step (walk_open groups here) ++ more
   pub many : most_tokens < size here + count_in groups
 
--- why reading is refused: there is no memory, or there are too many tokens before any fault
+-- why reading is refused: memory ran out, or there are too many tokens before any fault
 abbrev pub IsReadRefusal : List TextStep → TtFault → Type 0
 IsReadRefusal steps e = (e ≡ Memory) ⊎ ((e ≡ Tokens) × HasTooMany steps)

@@ -1,4 +1,4 @@
--- Lists of spans, of which some stand in runs that are shared.
+-- Lists of spans, some of which are in shared runs.
 use Rattle.std.specs.Prelude.{◌≡◌, ℕ, ◌-◌, ◌≤◌, ◌^◌, Bool, true, false, IfSome, List, [], ◌∷◌, ◌++◌, Option, Some, None, length, map, take}
 use Rattle.std.specs.List.{flat_map, list_all}
 use Rattle.std.specs.Rc.{rc_value}
@@ -8,12 +8,12 @@ use Rattle.bridge.specs.declared.printing.relative_spans.Shift.{Shift}
 use Rattle.bridge.specs.declared.printing.span_list.SpanRuns.{SpanRuns}
 use Rattle.bridge.specs.declared.printing.span_list.SpanRun.{SpanRun}
 
--- spans where they are, or shifted
+-- spans as they are, or shifted
 abbrev pub shifted_all : Option Shift → List Span → List Span
 shifted_all None spans = spans
 shifted_all (Some shift) spans = map (shifted shift) spans
 
--- what a run holds
+-- the parts of a run
 pub record RunState : Type 0 where
   pub begin : ℕ
   pub «end» : ℕ
@@ -30,11 +30,11 @@ spans_of_run r = shifted_all r.shift (take (r.«end» - r.begin) r.spans)
 abbrev pub run_spans : SpanRun → List Span
 run_spans r = spans_of_run (of_run r)
 
--- all spans in order: those of the runs, and those behind
+-- all spans in order: those of the runs, and those after them
 abbrev pub spans_in : SpanRuns → List Span
 spans_in p = flat_map run_spans p.runs.items ++ p.own.items
 
--- a run that stands behind so many spans
+-- a run that comes after so many spans
 pub record StandsBehind (n : ℕ) (r : RunState) : Type 0 where
   pub begin : r.begin ≡ n
   pub order : n ≤ r.«end»
@@ -44,21 +44,21 @@ pub record StandsBehind (n : ℕ) (r : RunState) : Type 0 where
 abbrev pub IsRun : ℕ → SpanRun → Type 0
 IsRun n r = StandsBehind n (of_run r)
 
--- runs that hold the same, one by one
+-- runs with the same parts, one by one
 abbrev pub AreSameRuns : List SpanRun → List SpanRun → Type 0
 AreSameRuns xs ys = map of_run xs ≡ map of_run ys
 
--- runs one behind the other, the first behind n spans and the last before the given one
+-- runs one after the other, the first after n spans and the last ending at the given index
 abbrev pub AreRuns : ℕ → List SpanRun → ℕ → Type 0
 AreRuns n [] shared = n ≡ shared
 AreRuns n (r ∷ more) shared = IsRun n r × AreRuns r.«end» more shared
 
--- runs with the number of their spans, which is no more than an index can count to by far
+-- runs with the number of their spans, which is far less than an index can count to
 pub record AreSpanRuns (p : SpanRuns) : Type 0 where
   pub runs : AreRuns 0 p.runs.items p.shared
   pub few : p.shared ≤ 2 ^ 62
 
--- shared spans were put behind, shifted; or nothing was done
+-- shared spans were appended, shifted; or nothing was changed
 abbrev pub PutsShifted : List Span → List Span → List Span → Shift → Bool → Type 0
 PutsShifted old new shared shift true = new ≡ old ++ map (shifted shift) shared
 PutsShifted old new shared shift false = new ≡ old

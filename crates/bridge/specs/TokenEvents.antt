@@ -1,9 +1,9 @@
--- Token events: the steps of a walk, as the code has them.
+-- Token events, as the code has them.
 use Rattle.tt_data.specs.Walk.{Step, at_leaf, opens, closes}
 use Rattle.bridge.specs.declared.printing.event.TokenEvent.{TokenEvent}
 use Rattle.bridge.specs.declared.printing.event.TokenEvent.TheVariants as own
 
--- the step that the code holds
+-- the event that the code has
 abbrev pub step_of : TokenEvent → Step
 step_of (own.Leaf l) = at_leaf l.now
 step_of (own.Opens kind span) = opens kind span

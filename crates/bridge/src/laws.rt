@@ -1,4 +1,4 @@
-//! Laws of reading and printing, for proofs. A call does nothing: it only states.
+//! Laws of reading and printing. Calling a law does nothing: its contract is the statement.
 ghost use Rattle.std.specs.Prelude.{◌≡◌, ◌↔◌, ◌<◌, ◌^◌, ◌+◌, ◌++◌, take, drop, length, sum_by, ℕ, IsUtf8, List, [], ◌∷◌, map, true, false, IsSome, Ok, Err};
 ghost use Rattle.bridge.specs.Order.{AreWritten, FollowOneAnother};
 ghost use Rattle.bridge.specs.Parts.{begins_with_mark, part_steps, placed_on, starts_with_mark, steps_before};
@@ -25,8 +25,8 @@ ghost use Rattle.tt_data.specs.declared.span.Span.{Span};
 
 use crate::reading::outcome::{ReadFault, ReadFaultKind};
 
-/// The reading that is computed is the one that is defined: the forest whose walk the steps are, or
-/// the first fault. So no steps have two forests, two first faults, or one of each.
+/// The reading that is computed is the one that is defined: the forest whose walk the events are,
+/// or the first fault. So no events have two forests, two first faults, or one of each.
 pub fn reading_is_a_relation()
     ensures walk { (steps : List TextStep) (f : Forest) → reading steps ≡ Ok f → IsReading steps f }
     ensures read { (steps : List TextStep) (f : Forest) → IsReading steps f → reading steps ≡ Ok f }
@@ -34,12 +34,12 @@ pub fn reading_is_a_relation()
     ensures told { (steps : List TextStep) (fault : ReadFault) → IsFault steps fault → reading steps ≡ Err fault }
 {}
 
-/// What stands behind whole trees is read as if it stood alone, faults too.
+/// What follows whole trees is read as if it stood alone, faults included.
 pub fn reading_behind()
     ensures { (f : Forest) (more : List TextStep) → reading (map step (walk f) ++ more) ≡ with_front f (reading more) }
 {}
 
-/// What tokens are read as is what the first of them are read as, before the others, and what these are.
+/// Tokens are read as the first of them are read, before the others, and then as the others are.
 pub fn parts_of_a_text()
     ensures tokens { (a b : List PlacedToken) → steps_of (a ++ b) ≡ steps_before a b ++ steps_of b }
     ensures text { (at count : ℕ) (text : List ℕ) (tokens : List Token) →
@@ -48,8 +48,8 @@ pub fn parts_of_a_text()
         ++ steps_of (placed_from (at + sum_by (λ t. t.len) (take count tokens)) (drop (sum_by (λ t. t.len) (take count tokens)) text) (drop count tokens)) }
 {}
 
-/// A part that is read by itself, in places counted from its first byte, is read in the text as the same
-/// trees, at the places of the text. Counted from their first token the places are the same.
+/// A part that is read by itself, with spans counted from its first byte, is read in the text as
+/// the same trees with shifted spans. Counted from their first token the spans are the same.
 pub fn parts_at_other_places()
     ensures steps { (at count : ℕ) (text : List ℕ) (tokens : List Token) (f : Forest) →
         IsReading (part_steps 0 count text tokens) f → IsReading (part_steps at count text tokens) (map_spans (placed_on at) f) }
@@ -57,7 +57,7 @@ pub fn parts_at_other_places()
     ensures first { (f : Forest) → first_start f ≡ 0 → relative f ≡ f }
 {}
 
-/// What a part is read as hangs on its own bytes and tokens, and on whether a punct follows it.
+/// What a part is read as depends on its own bytes and tokens, and on whether a punct follows it.
 pub fn equal_parts()
     ensures steps { (at : ℕ) (text s rest : List ℕ) (tokens ts more : List Token) (after : List PlacedToken) →
         text ≡ s ++ rest → tokens ≡ ts ++ more → sum_by (λ t. t.len) ts ≡ length s → starts_with_mark after ≡ begins_with_mark more →
@@ -67,8 +67,8 @@ pub fn equal_parts()
         part_steps at (length ts) (s ++ rest) (ts ++ more) ≡ part_steps at (length ts) (s ++ other) (ts ++ others) }
 {}
 
-/// The tokens of a text follow one another: none starts or ends before one that was met. So do those
-/// of trees that stand side by side in a list of such trees, which may therefore be cut out as a piece.
+/// The tokens of a text follow one another: none starts or ends before an earlier one starts. So
+/// do those of any part of the trees, which may therefore be cut out as a piece.
 pub fn tokens_follow_one_another()
     ensures text { (text : List ℕ) (f : Forest) → IsUtf8 text → IsReading (text_steps text) f → FollowOneAnother (walk f) }
     ensures part { (before p after : Forest) → FollowOneAnother (walk (joined before (joined p after))) → FollowOneAnother (walk p) }
@@ -77,14 +77,14 @@ pub fn tokens_follow_one_another()
     rustc_lexer::laws::token_lengths();
 }
 
-/// What is read of a text stands at places of the text itself: it is anchored at 0, and written, not made.
+/// What is read of a text has spans of the text itself: anchor 0, and written, not synthesized.
 pub fn tokens_are_written()
     ensures { (text : List ℕ) (f : Forest) → IsReading (text_steps text) f → AreWritten (walk f) }
 {}
 
-/// A spelling hangs on no place. That of a quote hangs on the next visible token, and no other on
-/// any token but its own. Visible brackets always have one.
-pub fn spelling_hangs_on_shapes()
+/// A spelling depends on no span. That of a quote depends on the next visible token, and every
+/// other on its own token alone. Visible delimiters always have one.
+pub fn spelling_depends_on_shapes_alone()
     ensures places { (h : Span → Span) (s : Step) (more : List Step) → spelling (step_with h s) (map (step_with h) more) ≡ spelling s more }
     ensures next { (s t : Step) (more : List Step) → spelling s (t ∷ more) ≡ spelling s (t ∷ []) }
     ensures other { (s : Step) (more : List Step) → is_quote s ≡ false → spelling s more ≡ spelling s [] }
@@ -92,8 +92,8 @@ pub fn spelling_hangs_on_shapes()
     ensures closing { (kind : DelimiterKind) (span : Span) (more : List Step) → is_visible kind ≡ true → IsSome (spelling (closes kind span) more) }
 {}
 
-/// Where a text has fewer than 2^32 bytes, a token of it that is read as one leaf has a spelling, and so has the
-/// name behind the quote of a lifetime.
+/// In a text of fewer than 2^32 bytes, a token that is read as one leaf has a spelling, and so has
+/// the name after the quote of a lifetime.
 pub fn read_leaves_have_spellings()
     ensures leaves { (text : List ℕ) (at : ℕ) (t : Token) (more : List PlacedToken) (l : Leaf) →
         IsUtf8 text → length text < 2 ^ 32 → IsTokenAt text at t →
@@ -111,9 +111,10 @@ pub fn read_leaves_have_spellings()
     rustc_lexer::laws::suffix_starts();
 }
 
-/// Where a text has fewer than 2^31 bytes and is read, each of its tokens has a spelling: nothing is left out of what is
-/// printed of it, and nothing where each `;` of its top list stands alone. So it is where the text has fewer than 2^32 bytes
-/// once each `"` and `\` of it is escaped, as doc comments are: `escaped_text`, `escaped_pieces`.
+/// In a text of fewer than 2^31 bytes that is read, each token has a spelling: nothing is omitted
+/// from what is printed of it, nor if each `;` of its top list is made `Alone`. So it is in a text
+/// of fewer than 2^32 bytes once each `"` and `\` is escaped, as doc comments are: `escaped_text`,
+/// `escaped_pieces`.
 pub fn read_texts_are_printed_whole()
     ensures text { (text : List ℕ) (f : Forest) →
         IsUtf8 text → length text < 2 ^ 31 → IsReading (text_steps text) f → (print_of (walk f)).left_out ≡ [] }
@@ -133,8 +134,8 @@ pub fn read_texts_are_printed_whole()
     rustc_lexer::laws::tokens_begin();
 }
 
-/// The text that is printed of any trees has no reading fault, and is read as just the printed
-/// tokens, in order. The same text is printed of what is read, and nothing is left out.
+/// The printed text of any trees has no reading fault, and is read as just the printed tokens, in
+/// order. Printed again it is the same text, and nothing is omitted.
 pub fn printed_text_reads_back()
     ensures back { (f : Forest) → ReadsBack (visible (walk f)) }
     ensures again { (f : Forest) → PrintsAgain (visible (walk f)) }
@@ -147,18 +148,18 @@ pub fn printed_text_reads_back()
     rustc_lexer::laws::token_lengths();
 }
 
-/// What is printed does not hang on places.
-pub fn places_do_not_print()
+/// What is printed does not depend on spans.
+pub fn spans_do_not_print()
     ensures text { (h : Span → Span) (f : Forest) → (print_of (walk (map_spans h f))).text ≡ (print_of (walk f)).text }
     ensures left_out { (h : Span → Span) (f : Forest) → (print_of (walk (map_spans h f))).left_out ≡ (print_of (walk f)).left_out }
 {}
 
-/// A part has the places of all visible steps, in order: none of them is left out.
-pub fn parts_are_printed_whole()
+/// A chunk has the spans of all visible tokens of its events, in order: none is omitted.
+pub fn chunks_are_printed_whole()
     ensures { (part : ChunkState) (steps : List Step) → IsChunkOf part steps → part.tokens ≡ map step_span (visible steps) }
 {}
 
-/// Two faults are equal by `==` exactly where they are the same, places included.
+/// Two faults are equal by `==` exactly if they are the same, ranges included.
 pub fn equal_faults()
     ensures kinds { (a b : ReadFaultKind) → (⟦<ReadFaultKind as PartialEq>⟧.eq a b ≡ true) ↔ (a ≡ b) }
     ensures faults { (a b : ReadFault) → (⟦<ReadFault as PartialEq>⟧.eq a b ≡ true) ↔ (a ≡ b) }

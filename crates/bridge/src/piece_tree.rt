@@ -1,4 +1,4 @@
-//! Pieces: what is cut out of a text's trees, as trees of their own.
+//! Cuts a piece out of a text's trees, as a tree with piece-relative spans.
 ghost use Rattle.std.specs.Prelude.{◌≡◌, ◌≢◌, ◌↔◌, ◌⊎◌, ◌<◌, [], false, Err, IfOk, IfErr, IsOkUnless};
 ghost use Rattle.bridge.specs.PieceTokens.{alone_token, ends_in_leaf, last_token_alone};
 ghost use Rattle.bridge.specs.Pieces.{IsFrom, StandsBehindFirst, StandsFrom, first_start, moved_back, piece_of, relative};
@@ -17,7 +17,7 @@ use tt_data::{
     Delimiter, Ident, Leaf, Punct, Spacing, Span, Subtree, TextRange, TokenTree, TtFault, laws,
 };
 
-// Where the first token starts.
+// The offset at which the first token starts.
 fn first_start(view: TokenTreesView<'_>) -> u32
     ensures { result ≡ first_start (forest view.entry) }
 {
@@ -27,7 +27,7 @@ fn first_start(view: TokenTreesView<'_>) -> u32
     }
 }
 
-// The place counted from `start` on.
+// The span counted from offset `start`.
 fn moved_back(start: u32, span: Span) -> Span
     requires { IsFrom start span }
     ensures { result ≡ moved_back start span }
@@ -79,7 +79,7 @@ fn moved_token(start: u32, token: TokenTree) -> TokenTree
     }
 }
 
-// The head of a tree with so many tokens inside.
+// The head of a tree with `len` tokens inside.
 fn head(len: u32) -> TokenTree
     ensures { result ≡ head_of text_top len }
 {
@@ -88,7 +88,7 @@ fn head(len: u32) -> TokenTree
     TokenTree::Subtree(Subtree { delimiter, len })
 }
 
-// The tokens of the tree that has these trees inside, with their places counted from the first.
+// The tokens of the tree that has these trees inside, with spans counted from the first token.
 fn moved_tokens(alloc: Global, view: TokenTreesView<'_>) -> Result<Vec<TokenTree>, TtFault>
     requires { StandsBehindFirst (forest view) }
     ensures ok { IfOk result (λ tokens. tokens.items ≡ tokens_of (record { delimiter = text_top; inner = relative (forest view.entry) })) }
@@ -123,7 +123,7 @@ fn ends_in_leaf(view: TokenTreesView<'_>) -> bool
     is_leaf
 }
 
-// A punct is no longer joined to what follows.
+// Makes a punct `Alone`.
 fn set_alone(token: &mut TokenTree)
     ensures { token.new ≡ alone_token token.old }
 {
@@ -134,7 +134,7 @@ fn set_alone(token: &mut TokenTree)
     }
 }
 
-// The last token is no longer joined to what follows.
+// Makes the last token `Alone`, if it is a punct.
 fn set_last_alone(tokens: &mut Vec<TokenTree>)
     requires { tokens.old.items ≢ [] }
     ensures { tokens.new.items ≡ last_token_alone tokens.old.items }
@@ -154,10 +154,11 @@ fn whole(alloc: Global, tokens: Vec<TokenTree>) -> Result<TopSubtree, TtFault>
     }
 }
 
-/// These trees as a tree of their own, in no brackets: their places count from where the first token
-/// starts, with anchors and contexts as they are, and a punct that is the last tree is `Alone`.
+/// These trees as a piece: a tree with invisible delimiters, whose ranges count from the start of
+/// the first token. Anchors and contexts stay; a punct that is the last tree is made `Alone`. No
+/// range starts or ends before that start.
 ///
-/// It answers `Tokens` where the trees have more than `u32::MAX` tokens, and only there; its one other
+/// It refuses `Tokens` exactly where the trees have more than `u32::MAX` tokens; its one other
 /// error is `Memory`.
 pub fn piece(alloc: Global, view: TokenTreesView<'_>) -> Result<TopSubtree, TtFault>
     requires { StandsBehindFirst (forest view) }

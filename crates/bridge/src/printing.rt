@@ -1,8 +1,9 @@
-//! Printing: trees as text that reads back.
+//! Prints trees as text that reads back.
 //!
-//! `printer` is what callers use. It appends token events (`event`) to a state (`state`): each token's spelling (`spelling`, and
-//! `fast_spelling` for most tokens), and the gap before it (`spacing`). A chunk (`chunk`) is text printed once and appended as a
-//! whole, with spans that are shifted when they are asked for (`relative_spans`, `span_list`).
+//! `printer` is what callers use. It adds token events (`event`) to a state (`state`): each
+//! token's spelling (`spelling`, with `fast_spelling` for most tokens) and the gap before it
+//! (`spacing`). A chunk (`chunk`) is text printed once and appended as a whole, with spans that
+//! are shifted when they are asked for (`relative_spans`, `span_list`).
 pub(crate) mod chunk;
 pub(crate) mod event;
 mod fast_spelling;

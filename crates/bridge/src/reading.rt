@@ -1,5 +1,5 @@
-//! Reading: the tokens of a text as trees. Each token is classified, and added to the trees under construction as a leaf, a doc
-//! comment or a bracket.
+//! Reads the tokens of a text as trees. Each token is classified, and added to the trees under
+//! construction as a leaf, a doc comment or a bracket.
 ghost use Rattle.std.specs.Prelude.{◌≡◌, ◌≢◌, ◌+◌, ◌<◌, ◌≤◌, ◌^◌, ℕ, List, [], length, drop, chars, true, false, IfOk, IfErr, OnOk};
 ghost use Rattle.bridge.specs.Parts.{begins_with_mark, part_steps};
 ghost use Rattle.bridge.specs.ReadSteps.{IsClosed, IsRefusal, IsStepRefusal, MayCut, Takes, first_kind, spacing_at, steps_at, steps_in, trees_of};
@@ -37,7 +37,7 @@ fn is_mark(kind: TokenKind) -> bool
     matches!(class_of(kind), TokenClass::Mark(_))
 }
 
-// How a punct stands before the next token.
+// The spacing of a punct before a token of this kind.
 fn spacing_at(next: Option<TokenKind>) -> Spacing
     ensures { result ≡ spacing_at next }
 {
@@ -47,7 +47,7 @@ fn spacing_at(next: Option<TokenKind>) -> Spacing
     }
 }
 
-// Puts in what a token is read as that is no bracket.
+// Adds what a token is read as. The token is no bracket.
 fn add_trees(
     names: &mut NameCache,
     builder: &mut TopSubtreeBuilder,
@@ -77,7 +77,7 @@ fn add_trees(
     }
 }
 
-// Closes the innermost open group where a bracket of this kind fits it, and answers whether it does.
+// Closes the innermost open group if a closing of this kind fits it, and answers whether it does.
 fn close_innermost(builder: &mut TopSubtreeBuilder, kind: DelimiterKind, range: TextRange) -> bool
     ensures closed { result ≡ true → IsClosed kind range builder.old.tree builder.new.tree }
     ensures kept { result ≡ false → (builder.new.tree ≡ builder.old.tree) × DoesNotFit kind builder.old.tree.groups }
@@ -88,7 +88,8 @@ fn close_innermost(builder: &mut TopSubtreeBuilder, kind: DelimiterKind, range: 
     }
 }
 
-// Closes the innermost open group by a bracket of this kind, or answers the fault where it does not fit.
+// Closes the innermost open group by a closing of this kind, or answers the fault if it does not
+// fit.
 fn close(
     builder: &mut TopSubtreeBuilder,
     kind: DelimiterKind,
@@ -104,7 +105,7 @@ fn close(
     Some(ReadFault { kind, range })
 }
 
-// Puts in what a token is read as, before a token of the next kind, or answers the fault.
+// Adds what a token is read as, before a token of kind `next`, or answers the fault.
 fn add(
     names: &mut NameCache,
     builder: &mut TopSubtreeBuilder,
@@ -135,7 +136,7 @@ fn add(
     Ok(None)
 }
 
-// The fault of a text at whose end groups are open: the innermost of them, at its bracket.
+// The fault of a text that ends with open groups: at the opening of the innermost.
 fn left_open(builder: TopSubtreeBuilder) -> ReadFault
     requires { builder.tree.groups ≢ [] }
     ensures { IsFault (steps_in builder.tree) result }
@@ -149,7 +150,7 @@ fn left_open(builder: TopSubtreeBuilder) -> ReadFault
     }
 }
 
-// The trees of all tokens, or the fault where a group is left open.
+// The trees of all tokens, or the fault if a group is left open.
 fn whole(builder: TopSubtreeBuilder) -> Read
     requires { builder.tree.top ≡ text_top }
     ensures { IsRead (steps_in builder.tree) result }
@@ -160,7 +161,7 @@ fn whole(builder: TopSubtreeBuilder) -> Read
     }
 }
 
-// The kind of the first of the tokens, where there is one.
+// The kind of the first of the tokens, if there is one.
 fn first_kind(tokens: &[Token]) -> Option<TokenKind>
     ensures { (start : ℕ) (text : List ℕ) → first_kind (placed_from start text tokens.now) ≡ result }
 {
@@ -178,7 +179,7 @@ pub fn begins_with_mark(tokens: &[Token]) -> bool
     }
 }
 
-// Puts in what the token is read as that stands at the byte `start`, before the others, or answers the fault.
+// Adds what the token at offset `start` is read as, before the others, or answers the fault.
 fn add_token(
     names: &mut NameCache,
     builder: &mut TopSubtreeBuilder,
@@ -235,11 +236,11 @@ fn read_first(
     Ok(whole(builder))
 }
 
-/// What the first `count` of these tokens, which stand in the text from the byte `start` on, are read
-/// as by themselves, in places counted from there.
+/// What the first `count` of these tokens, which are in the text from the offset `start` on, are
+/// read as by themselves. Spans count from `start`.
 ///
-/// A punct that ends them is joined to the token behind it, as it is in the text. The errors are those
-/// of [`read`].
+/// A punct that is last is glued to the token after it, as in the text. `names` shares the text of
+/// repeated names and does not change the answer. The errors are those of [`read`].
 pub fn read_part(
     names: &mut NameCache,
     text: &str,
@@ -256,10 +257,11 @@ pub fn read_part(
     read_first(names, &text[start as usize..], tokens, count)
 }
 
-/// What the text with these tokens is read as.
+/// Reads a text of at most `u32::MAX` bytes, with its tokens, as trees, or answers its first
+/// reading fault. (The Rust Reference, "Tokens", "Comments", and token trees in "Macros".)
 ///
-/// It answers `Tokens` only where the tree read so far would have more than `u32::MAX` tokens, which
-/// doc comments alone can bring about; its one other error is `Memory`.
+/// It refuses `Tokens` only where the tree read so far would have more than `u32::MAX` tokens,
+/// which doc comments alone can bring about; its one other error is `Memory`.
 pub fn read(alloc: Global, text: &str, tokens: &[Token]) -> Result<Read, TtFault>
     requires small { length text.now < 2 ^ 32 }
     requires tokens { tokens.now ≡ tokens_of (chars text.now) }

@@ -1,10 +1,11 @@
 //! Chunks of printed text, appended to one another.
-use bridge::{LazyPrinted, PrintedChunk, Printer, Read, Shift, TokenEvent, read};
+use bridge::parts::{LazyPrinted, PrintedChunk, Shift, TokenEvent};
+use bridge::{Printer, Read, read};
 use rustc_lexer::LexedText;
 use std::test::Fail;
 use tt_data::{Leaf, Punct, Spacing, Span, TtFault};
 
-// A printer to which the trees of a text were put.
+// A printer with the trees of a text appended.
 fn printer_of(rt: &HostRuntime, text: &str) -> Result<Printer, Fail> {
     if text.len() >= 1000 {
         return Err(Fail::new("a text is long"));
@@ -18,7 +19,7 @@ fn printer_of(rt: &HostRuntime, text: &str) -> Result<Printer, Fail> {
     Ok(printer)
 }
 
-// The chunk that is printed of a text.
+// The chunk that the trees of a text print.
 fn chunk_of(rt: &HostRuntime, text: &str) -> Result<PrintedChunk, Fail> {
     match printer_of(rt, text)?.into_chunk()? {
         Some(chunk) => Ok(chunk),
@@ -26,7 +27,7 @@ fn chunk_of(rt: &HostRuntime, text: &str) -> Result<PrintedChunk, Fail> {
     }
 }
 
-// Puts a chunk at its own spans, once more where that was refused.
+// Appends a chunk at its own spans. A refused call is made once more.
 fn put(printer: &mut Printer, chunk: &PrintedChunk) -> Result<bool, TtFault> {
     match printer.put_chunk(chunk, chunk.spans()) {
         Err(TtFault::Memory) => printer.put_chunk(chunk, chunk.spans()),
@@ -34,7 +35,8 @@ fn put(printer: &mut Printer, chunk: &PrintedChunk) -> Result<bool, TtFault> {
     }
 }
 
-// Puts the part that is printed of a text: how many tokens it has, whether it was put, and whether a part can follow.
+// Appends the chunk of a text: how many tokens it has, whether it was appended, and whether
+// another can follow.
 fn put_text(
     rt: &HostRuntime,
     printer: &mut Printer,
@@ -45,7 +47,7 @@ fn put_text(
     Ok((part.spans().len(), is_put, printer.takes_chunks()))
 }
 
-// What is printed of parts, with the number of tokens.
+// What chunks print, with the number of tokens.
 fn printed_of(rt: &HostRuntime, texts: &str) -> Result<(String, usize), Fail> {
     let mut printer = Printer::with_token_room(rt.alloc(), 24, 8)?;
     for text in texts.split('|') {
@@ -62,7 +64,7 @@ fn printed_of(rt: &HostRuntime, texts: &str) -> Result<(String, usize), Fail> {
 
 #[test]
 fn puts_parts_behind_one_another(rt: HostRuntime) -> Result<(), Fail> {
-    // A space stands behind a name.
+    // A space comes after a name.
     let (text, tokens) = printed_of(&rt, "a;|f {b;}|c|a;")?;
     assert!(rt;
         text.as_str() == "a ;\nf { b ; }\nc a ;\n" && tokens == 10,
@@ -71,7 +73,7 @@ fn puts_parts_behind_one_another(rt: HostRuntime) -> Result<(), Fail> {
     Ok(())
 }
 
-// Puts a punct that is joined to what follows.
+// Appends a `Joint` punct.
 fn put_joined(printer: &mut Printer, char: char) -> Result<(), TtFault> {
     let spacing = Spacing::Joint;
     let span = Span::default();
@@ -93,7 +95,7 @@ fn no_chunk_is_appended_after_a_joined_punct(rt: HostRuntime) -> Result<(), Fail
     Ok(())
 }
 
-// Where a quote waits at the end, and where nothing is printed.
+// A quote that waits at the end, and nothing at all, are no chunks.
 #[test]
 fn a_quote_at_the_end_is_no_chunk(rt: HostRuntime) -> Result<(), Fail> {
     let mut printer = printer_of(&rt, "a;")?;
@@ -104,7 +106,7 @@ fn a_quote_at_the_end_is_no_chunk(rt: HostRuntime) -> Result<(), Fail> {
     Ok(())
 }
 
-// Puts a part twice at a place, and once where no text has a place.
+// Appends a chunk twice with a shift, and once with a shift past the end of any text.
 fn put_at(printer: &mut Printer, part: &PrintedChunk) -> Result<(bool, bool, bool), TtFault> {
     let shift = Shift {
         start: 10,
@@ -119,7 +121,7 @@ fn put_at(printer: &mut Printer, part: &PrintedChunk) -> Result<(bool, bool, boo
     Ok((first, second, printer.put_chunk_at(part, far)?))
 }
 
-// What is printed of two parts that stand elsewhere.
+// What two shifted chunks print.
 fn placed(rt: &HostRuntime) -> Result<LazyPrinted, Fail> {
     let part = chunk_of(rt, "a;")?;
     let mut printer = printer_of(rt, "b;")?;

@@ -1,7 +1,7 @@
 //! Tests of the bridge's public calls, in a crate of their own so that the bridge is proved once.
 //!
-//! Expected values were worked out by hand. What definitions alone decide stands as rows in the
-//! bridge's `proofs/`; here each call is run.
+//! Expected values were worked out by hand. What definitions alone decide are worked examples in
+//! the bridge's `proofs/`; here each call is run.
 #![tactic(auto)]
 
 #[cfg(test)]
@@ -10,6 +10,8 @@ mod chunks;
 mod pieces;
 #[cfg(test)]
 mod prints;
+#[cfg(test)]
+mod refused;
 #[cfg(test)]
 mod rows;
 #[cfg(test)]

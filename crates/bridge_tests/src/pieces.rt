@@ -1,4 +1,4 @@
-//! Pieces of texts that are read.
+//! Pieces of texts that are read, with piece-relative spans.
 ghost use Rattle.std.specs.Prelude.{◌≡◌, IsTrue};
 ghost use Rattle.bridge.specs.Pieces.{IsFrom, StandsBehindFirst, StandsFrom, first_start};
 ghost use Rattle.tt.specs.Views.{forest};
@@ -9,14 +9,14 @@ use std::fmt::Write;
 use std::test::Fail;
 use tt::{Leaf, Span, TokenTree, TokenTreesView};
 
-// Whether a place neither starts nor ends before `start`.
+// Whether a span neither starts nor ends before `start`.
 fn is_from(start: u32, span: Span) -> bool
     ensures { IsTrue result → IsFrom start span }
 {
     start <= span.range.start && start <= span.range.end
 }
 
-// Whether no place of a token starts or ends before `start`.
+// Whether no span of a token starts or ends before `start`.
 fn stands_from(start: u32, token: &TokenTree) -> bool
     ensures { IsTrue result → StandsFrom start token.now }
 {
@@ -39,8 +39,8 @@ fn first_start(view: TokenTreesView<'_>) -> u32
     }
 }
 
-// Whether no place starts or ends before the first token starts.
-fn stands_behind_first(view: TokenTreesView<'_>) -> bool
+// Whether no span starts or ends before the first token starts.
+pub(crate) fn stands_behind_first(view: TokenTreesView<'_>) -> bool
     ensures { IsTrue result → StandsBehindFirst (forest view.entry) }
 {
     let start = first_start(view);
@@ -52,7 +52,7 @@ fn stands_behind_first(view: TokenTreesView<'_>) -> bool
     true
 }
 
-// The piece that these trees are: how it is displayed, and where each token begins.
+// The piece of these trees: how it is displayed, and where each token begins.
 fn piece_shown(rt: &HostRuntime, view: TokenTreesView<'_>) -> Result<String, Fail> {
     if !stands_behind_first(view) {
         return Err(Fail::new("a token stands before the first"));
@@ -70,7 +70,7 @@ fn piece_shown(rt: &HostRuntime, view: TokenTreesView<'_>) -> Result<String, Fai
     Ok(got)
 }
 
-// The piece of the text's trees after so many: of the next tree alone, or of all.
+// The piece of a text's trees after the first `before`: of the next tree alone, or of all.
 fn shown(rt: &HostRuntime, text: &str, before: usize, is_one: bool) -> Result<String, Fail> {
     if text.len() >= 1000 {
         return Err(Fail::new("a text is long"));

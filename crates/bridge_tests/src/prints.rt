@@ -1,6 +1,7 @@
-//! Trees and the texts that are printed of them.
+//! Trees, and the texts that they print.
 use crate::rows::text_of;
-use bridge::{Printed, Printer, Read, TokenEvent, print, read};
+use bridge::parts::TokenEvent;
+use bridge::{Printed, Printer, Read, print, read};
 use rustc_lexer::LexedText;
 use std::alloc::Global;
 use std::fmt::Write;
@@ -11,14 +12,14 @@ use tt_data::{
     Symbol, TtFault,
 };
 
-// The text, the number of tokens, and the numbers of those that are left out.
+// The text, the number of tokens, and the numbers of the omitted ones.
 fn shown(rt: &HostRuntime, printed: &Printed) -> Result<String, Fail> {
     let mut got = String::from_str(rt.alloc(), printed.text.as_str())?;
     write!(got, "{} {:?}", printed.tokens.len(), printed.left_out)?;
     Ok(got)
 }
 
-// What is printed of the trees of a text.
+// The printed form of a text's trees.
 fn printed_of(rt: &HostRuntime, text: &str) -> Result<Printed, Fail> {
     if text.len() >= 1000 {
         return Err(Fail::new("a text is long"));
@@ -30,7 +31,7 @@ fn printed_of(rt: &HostRuntime, text: &str) -> Result<Printed, Fail> {
     Ok(print(rt.alloc(), tree.token_trees())?)
 }
 
-// A text, and what is printed of it.
+// A text, and what its trees print.
 const TEXTS: &str = r#"
  ¦ 
 x+/*c*/=y ¦ x + = y⏎
@@ -76,8 +77,8 @@ fn mark(char: char, spacing: Spacing) -> Leaf {
     })
 }
 
-// The leaf that a character stands for: `.` is a quote that is `Alone`, `r` is raw, `?` no name, and
-// a text with a quote in it stands for `"`; each other punct is `Joint`.
+// The leaf that a character stands for: `.` is a quote that is `Alone`, `r` is a raw name, `?` a
+// name that cannot be spelled, and `"` a string with a quote in it. Every other punct is `Joint`.
 fn leaf_for(alloc: Global, char: char) -> Result<Leaf, TtFault> {
     match char {
         '.' => Ok(mark('\'', Spacing::Alone)),
@@ -93,7 +94,7 @@ fn leaf_for(alloc: Global, char: char) -> Result<Leaf, TtFault> {
     }
 }
 
-// Puts what a character stands for, where `<` and `>` are the ends of an invisible group.
+// Appends what a character stands for, where `<` and `>` are the ends of an invisible group.
 fn add(alloc: Global, builder: &mut TopSubtreeBuilder, char: char) -> Result<(), TtFault> {
     let kind = match char {
         '(' => DelimiterKind::Parenthesis,
@@ -117,7 +118,7 @@ fn tree_of(alloc: Global, text: &str) -> Result<TopSubtree, TtFault> {
     }
 }
 
-// Puts the trees, once more where that was refused, which leaves the printer as it was.
+// Appends the trees. A refused call leaves the printer as it was, so it is made once more.
 fn put(printer: &mut Printer, trees: TokenTreesView<'_>) -> Result<(), TtFault> {
     match printer.put(trees) {
         Err(TtFault::Memory) => printer.put(trees),
@@ -125,7 +126,8 @@ fn put(printer: &mut Printer, trees: TokenTreesView<'_>) -> Result<(), TtFault> 
     }
 }
 
-// What is printed where each tree of the list is put by itself; a refused call is made once more.
+// What is printed if each tree of the list is appended by itself. A refused call is made once
+// more.
 fn one_by_one(alloc: Global, trees: TokenTreesView<'_>) -> Result<Printed, TtFault> {
     let mut printer = Printer::new(alloc);
     let mut rest = trees.iter();
@@ -145,7 +147,7 @@ fn one_by_one(alloc: Global, trees: TokenTreesView<'_>) -> Result<Printed, TtFau
     }
 }
 
-// The step that a character stands for, which is this leaf where it is no bracket.
+// The event that a character stands for: this leaf if it is no bracket.
 fn step_for(char: char, leaf: &Leaf) -> TokenEvent<'_> {
     let span = Span::default();
     match char {
@@ -157,7 +159,7 @@ fn step_for(char: char, leaf: &Leaf) -> TokenEvent<'_> {
     }
 }
 
-// What is printed where each step is put by itself; a refused call is made once more.
+// What is printed if each event is appended by itself. A refused call is made once more.
 fn step_by_step(alloc: Global, text: &str) -> Result<Printed, TtFault> {
     let mut printer = Printer::new(alloc);
     for char in text.chars() {
@@ -173,7 +175,8 @@ fn step_by_step(alloc: Global, text: &str) -> Result<Printed, TtFault> {
     }
 }
 
-// What characters stand for, and what is printed of it, with the number of tokens and the numbers of those left out.
+// Characters, and what the trees that they stand for print, with the number of tokens and the
+// numbers of the omitted ones.
 const TREES: &str = r#"
 'a ¦ 'a⏎2 []
 'r ¦ r#r⏎1 [0]
@@ -215,7 +218,7 @@ fn prints_trees(rt: HostRuntime) -> Result<(), Fail> {
     Ok(())
 }
 
-// The tree of what the characters stand for, made once more where that was refused.
+// The tree of what the characters stand for. A refused call is made once more.
 fn made(alloc: Global, text: &str) -> Result<TopSubtree, TtFault> {
     match tree_of(alloc, text) {
         Err(TtFault::Memory) => tree_of(alloc, text),
@@ -223,7 +226,7 @@ fn made(alloc: Global, text: &str) -> Result<TopSubtree, TtFault> {
     }
 }
 
-// What is printed of trees, once more where that was refused.
+// The printed form of trees. A refused call is made once more.
 fn printed_whole(alloc: Global, trees: TokenTreesView<'_>) -> Result<Printed, TtFault> {
     match print(alloc, trees) {
         Err(TtFault::Memory) => print(alloc, trees),
@@ -231,14 +234,14 @@ fn printed_whole(alloc: Global, trees: TokenTreesView<'_>) -> Result<Printed, Tt
     }
 }
 
-// Whether this is printed of trees, and seven tokens, where the tokens 3 and 8 are left out.
+// Whether this text and seven tokens are printed, with the tokens 3 and 8 omitted.
 fn is_printed(printed: &Printed, text: &str) -> bool {
     printed.text.as_str() == text
         && printed.tokens.len() == 7
         && printed.left_out.as_slice() == [3, 8].as_slice()
 }
 
-// For runs in which one request fails.
+// For runs in which one request for memory is refused.
 fn prints_in_both_ways(alloc: Global) -> Result<bool, TtFault> {
     let tree = made(alloc, "'<a>(?$)//'")?;
     let is_whole = is_printed(

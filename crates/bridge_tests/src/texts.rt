@@ -1,15 +1,16 @@
-//! Texts and what they are read as.
+//! Texts and the trees or reading faults that they give.
 ghost use Rattle.rustc_lexer.specs.Lexing.{tokens_of};
 ghost use Rattle.rustc_lexer.specs.TokensAt.{AreTokensFrom};
 ghost use Rattle.std.specs.Prelude.{◌≡◌, ◌<◌, ◌^◌, IfSome, chars, length};
 
 use crate::rows::text_of;
-use bridge::{NameCache, Read, begins_with_mark, read, read_part};
+use bridge::parts::{NameCache, begins_with_mark, read_part};
+use bridge::{Read, read};
 use rustc_lexer::{LexedText, Token, laws};
 use std::fmt::Write;
 use std::test::Fail;
 
-// Trees as they are displayed, or the fault.
+// The trees as they are displayed, or the reading fault.
 fn displayed(rt: &HostRuntime, answer: Read) -> Result<String, Fail> {
     let mut got = String::new(rt.alloc());
     match answer {
@@ -23,7 +24,7 @@ fn displayed(rt: &HostRuntime, answer: Read) -> Result<String, Fail> {
     Ok(got)
 }
 
-// What the text is read as.
+// The trees of a text, or its reading fault.
 fn shown(rt: &HostRuntime, text: &str) -> Result<String, Fail> {
     if text.len() >= 1000 {
         return Err(Fail::new("a text is long"));
@@ -33,7 +34,7 @@ fn shown(rt: &HostRuntime, text: &str) -> Result<String, Fail> {
     displayed(rt, answer)
 }
 
-// The tokens after the first ones, and where they start.
+// The tokens after the first ones, and the offset at which they start.
 fn after_first<'a>(text: &str, tokens: &'a [Token], before: usize) -> Option<(u32, &'a [Token])>
     requires small { length text.now < 2 ^ 32 }
     requires tokens { tokens.now ≡ tokens_of (chars text.now) }
@@ -55,7 +56,8 @@ fn after_first<'a>(text: &str, tokens: &'a [Token], before: usize) -> Option<(u3
     Some((start, rest))
 }
 
-// What so many tokens of the text are read as, after the first ones, and whether they begin with a punct.
+// The trees or fault of `count` tokens after the first `before`, and whether these begin with a
+// punct.
 fn part_shown(
     rt: &HostRuntime,
     text: &str,
@@ -77,7 +79,8 @@ fn part_shown(
     Ok((displayed(rt, answer)?, begins_with_mark(rest)))
 }
 
-// A text, how many tokens stand before a part and in it, the part's trees or fault, and whether it begins with a punct.
+// A text, how many tokens come before a part and how many it has, the part's trees or fault, and
+// whether it begins with a punct.
 const PARTS: &str = "
 a;b+=c ¦ 2 2 ¦ b + ¦ false
 a;b+=c ¦ 3 2 ¦ += ¦ true
@@ -103,7 +106,7 @@ fn reads_parts(rt: HostRuntime) -> Result<(), Fail> {
     Ok(())
 }
 
-// A text, and the trees or the fault that it is read as.
+// A text, and its trees or reading fault.
 const TEXTS: &str = r###"
  ¦ 
 x+/*c*/=y ¦ x + = y
@@ -144,7 +147,7 @@ fn reads_texts(rt: HostRuntime) -> Result<(), Fail> {
     Ok(())
 }
 
-// A raw string with nothing in it, between so many hashes.
+// An empty raw string, between this many hashes.
 fn raw_string(rt: &HostRuntime, hashes: usize) -> Result<String, Fail> {
     let mut text = String::from_str(rt.alloc(), "r")?;
     for _ in 0..hashes {

@@ -1,4 +1,4 @@
--- The call that a list begins with is the one that its marks begin with.
+-- A list begins with a call exactly if its marked form begins with that call.
 use Rattle.std.proofs.Common.{◌≡◌, refl, sym, ap, ◌∙◌, true, false}
 use Rattle.std.specs.Prelude.{Option, Some, None}
 use Rattle.tt_data.specs.Forest.{Forest, empty, leaf, group}

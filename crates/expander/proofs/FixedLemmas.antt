@@ -1,4 +1,4 @@
--- What is printed without a fault prints itself.
+-- Output without faults is a fixed point: expanding it again prints the same text.
 use Rattle.std.proofs.Common.{◌≡◌, ℕ, ◌+◌, List, [], ◌∷◌, ◌++◌, refl, ap, ◌∙◌, sym, subst, Bool, true, false, if◌then◌else◌}
 use Rattle.std.specs.Prelude.{Option, Some, None, Result, Ok, Err, not, ◌&&◌, codes, filter, flat_map, map}
 use Rattle.std.specs.List.{list_all}

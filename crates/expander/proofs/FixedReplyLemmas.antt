@@ -1,4 +1,4 @@
--- Replies to texts that print themselves.
+-- Replies to texts that expand to themselves.
 use Rattle.std.proofs.Common.{◌≡◌, ℕ, List, [], refl, subst, ◌∙◌, sym}
 use Rattle.std.specs.Prelude.{Option, Result, Ok, Err}
 use Rattle.bridge.specs.declared.reading.outcome.ReadFault.{ReadFault}

@@ -1,4 +1,4 @@
--- What is put out of a text is the walk of trees.
+-- The output of a text is the walk of a forest.
 use Rattle.std.proofs.Common.{◌≡◌, ℕ, zero, suc, List, [], ◌∷◌, ◌++◌, refl, ap, ◌∙◌, sym, Bool, true, false}
 use Rattle.std.specs.Prelude.{Option, Some, None, flat_map, unwrap_or}
 use Rattle.std.proofs.lemmas.List.{map-append}

@@ -1,4 +1,4 @@
--- A piece whose earlier look-ups find the same now is not expanded again.
+-- A piece whose earlier look-ups find equal definitions, or still none, is not expanded again.
 use Rattle.std.proofs.Common.{◌≡◌, ℕ, ◌+◌, Bool, true, false, List, [], ◌∷◌, ◌++◌, map, Option, Some, None, refl, ap, sym, subst, ◌∙◌, option_map, arith, append_assoc, length, length-append}
 use Rattle.std.specs.Prelude.{All, IsUtf8, Ok, Result, filter, filter_map, not, ◌||◌}
 use Rattle.std.specs.List.{list_any}
@@ -15,7 +15,8 @@ use Rattle.expander_session.specs.Count.{Looked, expanded_count, found_piece, is
 use Rattle.expander_model.specs.Definitions.{Definition, definition_of, nearest}
 use Rattle.expander_session.specs.Expanded.{Expanded}
 use Rattle.expander_model.specs.Expansion.{World, Outcome, expansion}
-use Rattle.expander_model.specs.Held.{HasNumber, IsNumbered, Known, Met, Numbered, StandFromFirst, Tells, definition_trees, kept_after, kept_of, met_of, moved_on, nearest_met, numbered_scope, numbered_world, present_definition, resolve, resolve_definition, with_met}
+use Rattle.expander_model.specs.Held.{HasNumber, IsNumbered, Known, Met, Numbered, StandFromFirst, Tells, kept_after, kept_of, met_of, moved_on, nearest_met, numbered_scope, numbered_world, present_definition, resolve, resolve_definition, with_met}
+use Rattle.expander_model.specs.DefinitionTrees.{definition_trees}
 use Rattle.expander_session.specs.Laws.{FindsAsBefore, IsFoundAgain, definitions_after}
 use Rattle.expander_session.specs.Layered.{layers}
 use Rattle.expander_model.specs.Meaning.{Layers, meaning_from, member, members, members_after, with_definition}

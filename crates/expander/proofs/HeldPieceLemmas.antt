@@ -1,4 +1,4 @@
--- Held pieces by the numbers of a text's definitions.
+-- Cached pieces, by the definition ids of a text.
 use Rattle.std.proofs.Common.{◌≡◌, ◌↔◌, ℕ, true, List, None}
 use Rattle.std.specs.Prelude.{All}
 use Rattle.tt_data.specs.Forest.{Forest}

@@ -1,4 +1,5 @@
--- Worked rows of macros, by computation: what texts of them mean, by the small grammar and in edition 2024.
+-- Worked examples of macros, by computation: the meaning of texts, by the small grammar and in
+-- edition 2024.
 use Rattle.std.proofs.Common.{◌≡◌, ℕ, List, [], ◌∷◌, refl}
 use Rattle.std.specs.Prelude.{codes}
 use Rattle.std.specs.Char.{encode_utf8}

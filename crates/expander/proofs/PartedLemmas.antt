@@ -1,4 +1,4 @@
--- The search of a list that is parted at no call.
+-- The search of two lists side by side, where no call crosses their border.
 use Rattle.std.proofs.Common.{◌≡◌, ℕ, zero, suc, ◌≤◌, ◌<◌, List, [], ◌∷◌, ◌++◌, refl, sym, ap, ◌∙◌, arith, Bool, true, false, inl, inr}
 use Rattle.std.specs.Prelude.{Option, Some, None, ◌⊎◌, unwrap_or}
 use Rattle.tt_data.specs.Forest.{Forest, empty, leaf, group, joined, size}

@@ -1,4 +1,4 @@
--- Where lists are parted at no call.
+-- Lists side by side, where no call crosses their border.
 use Rattle.std.proofs.Common.{◌≡◌, ◌≢◌, refl, sym, ap, ◌∙◌, Bool, true, false, inl, inr}
 use Rattle.std.specs.Prelude.{Option, Some, None, ◌⊎◌}
 use Rattle.tt_data.specs.Forest.{Forest, empty, leaf, group, joined}

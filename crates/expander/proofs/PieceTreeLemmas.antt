@@ -1,4 +1,4 @@
--- The trees of a piece: its first step and its last one, and its `;`.
+-- The trees of a piece: its first event, its last one, and its `;`.
 use Rattle.std.proofs.Common.{◌≡◌, ◌≢◌, Bool, true, false, List, [], ◌∷◌, ◌++◌, append_assoc, refl, sym, ap, ◌∙◌, if◌then◌else◌, inl, inr}
 use Rattle.std.specs.Prelude.{◌⊎◌}
 use Rattle.tt.specs.Building.{alone}

@@ -1,4 +1,4 @@
--- Texts of which no fault is told.
+-- Texts whose meaning has no fault.
 use Rattle.std.proofs.Common.{◌≡◌, ℕ, List, [], ◌∷◌, ◌++◌, refl, ap, ◌∙◌, Bool, true, false, if◌then◌else◌}
 use Rattle.std.specs.Prelude.{Option, Some, None, not, filter, map}
 use Rattle.std.specs.List.{list_all}

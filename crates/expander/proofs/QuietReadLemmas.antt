@@ -1,4 +1,4 @@
--- Texts that are read, of which no fault is told.
+-- Texts that can be read and whose meaning has no fault.
 use Rattle.std.proofs.Common.{◌≡◌, ℕ, List, [], ap, ◌∙◌, sym}
 use Rattle.std.specs.Prelude.{None, Result, Ok}
 use Rattle.bridge.specs.Pieces as bare_pieces

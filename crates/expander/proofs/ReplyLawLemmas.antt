@@ -1,4 +1,4 @@
--- What a session replies to texts that share pieces.
+-- The replies to texts that share pieces.
 use Rattle.std.proofs.Common.{◌≡◌, ◌↔◌, ℕ, Bool, true, false, cond, List, [], ◌∷◌, ◌++◌, Option, Some, refl, ap, sym, subst, ◌∙◌, length}
 use Rattle.std.specs.Prelude.{All, Contains, IsUtf8, Result, Ok, Err, filter, not, ◌&&◌, ◌||◌}
 use Rattle.std.specs.List.{list_any}

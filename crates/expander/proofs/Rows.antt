@@ -1,4 +1,4 @@
--- Worked rows of the definitions, by computation.
+-- Worked examples of the definitions, by computation.
 use Rattle.std.proofs.Common.{◌≡◌, ℕ, List, [], ◌∷◌, ◌++◌, refl}
 use Rattle.std.specs.Prelude.{codes, Result, Ok, Err}
 use Rattle.std.specs.Char.{encode_utf8}

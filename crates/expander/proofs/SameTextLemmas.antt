@@ -1,4 +1,4 @@
--- What is replied hangs on the present text.
+-- A reply depends only on the present text.
 use Rattle.std.proofs.Common.{◌≡◌, ℕ, List, [], ◌∷◌, ◌++◌, sym, ◌∙◌, subst}
 use Rattle.std.specs.Prelude.{Option, Result, Ok, Err}
 use Rattle.bridge.specs.declared.reading.outcome.ReadFault.{ReadFault}

@@ -1,4 +1,4 @@
--- What the search of calls leaves as it is.
+-- What the search for calls leaves unchanged.
 use Rattle.std.proofs.Common.{◌≡◌, ℕ, zero, suc, List, [], ◌∷◌, ◌++◌, refl, sym, ap, ◌∙◌, append_assoc, Bool, true, false, inl, inr}
 use Rattle.std.specs.Prelude.{Option, Some, None, is_none, ◌||◌, flat_map, map}
 use Rattle.std.proofs.lemmas.List.{map-append}

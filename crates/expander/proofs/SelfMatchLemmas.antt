@@ -1,4 +1,4 @@
--- A text has no new piece against itself.
+-- A text has no cache miss against itself.
 use Rattle.std.proofs.Common.{◌≡◌, ◌↔◌, Bool, true, false, List, [], ◌∷◌, Some, refl, ap, length, if◌then◌else◌}
 use Rattle.std.specs.Prelude.{All, filter, not, ◌||◌}
 use Rattle.std.specs.List.{list_any}

@@ -1,4 +1,4 @@
--- What the count sees of texts that share pieces in places of their own.
+-- How cache misses are counted for texts that share pieces with equal piece-relative spans.
 use Rattle.std.proofs.Common.{◌≡◌, ℕ, Bool, true, false, cond, List, [], ◌∷◌, ◌++◌, map, Option, Some, None, refl, ap, sym, subst, ◌∙◌, option_map}
 use Rattle.std.specs.Prelude.{All, Contains, IsUtf8, Ok, Result, filter_map, find, is_some, ◌||◌}
 use Rattle.std.specs.List.{cons_option, list_any}
@@ -11,7 +11,8 @@ use Rattle.tt_data.specs.declared.edition.Edition.{Edition}
 use Rattle.expander_session.specs.Count.{Looked, expanded_count, is_same, looked_of}
 use Rattle.expander_model.specs.Definitions.{Definition, definition_of}
 use Rattle.expander_model.specs.Expansion.{World, expansion}
-use Rattle.expander_model.specs.Held.{HasNumber, IsMet, Known, Met, Numbered, StandFromFirst, Tells, definition_trees, kept_after, kept_of, met_of, nearest_met, numbered_of, numbered_scope, numbered_world, with_met}
+use Rattle.expander_model.specs.Held.{HasNumber, IsMet, Known, Met, Numbered, StandFromFirst, Tells, kept_after, kept_of, met_of, nearest_met, numbered_of, numbered_scope, numbered_world, with_met}
+use Rattle.expander_model.specs.DefinitionTrees.{definition_trees}
 use Rattle.expander_session.specs.Laws.{ExpandsNothing, definitions_after}
 use Rattle.expander_session.specs.Layered.{layers}
 use Rattle.expander_model.specs.Meaning.{Layers, Member, member, members, members_after, meaning_from, with_definition}

@@ -1,4 +1,5 @@
--- Worked rows of texts, by computation: what each means, by the small grammar and in edition 2024.
+-- Worked examples of texts, by computation: what each means, by the small grammar and in edition
+-- 2024.
 use Rattle.std.proofs.Common.{◌≡◌, ℕ, List, [], ◌∷◌, ◌++◌, length, map, refl}
 use Rattle.std.specs.Prelude.{codes, Result, Ok, Err, Some}
 use Rattle.std.specs.Char.{encode_utf8}

@@ -12,20 +12,20 @@ use Rattle.mbe.specs.Grammar.{Grammar}
 use Rattle.tt_data.specs.Forest.{Forest}
 use Rattle.tt_data.specs.declared.edition.Edition.{Edition}
 
--- what a text means is this very text, without a fault
+-- the meaning of a text is this very text, without a fault
 abbrev pub PrintsItself : List ℕ → Result ReadMeaning ReadFault → Type 0
 PrintsItself text (Ok m) = (m.text ≡ text) × (m.faults ≡ [])
 PrintsItself text (Err fault) = ⊥
 
--- a text that can be read, has no definition, and prints itself without a fault, whatever the grammar, the edition and
--- the number of levels
+-- a text that can be read, has no definition, and prints itself without a fault, whatever the
+-- grammar, the edition and the number of levels
 pub record IsFixedPoint (text : List ℕ) : Type 0 where
   pub trees : Forest
   pub read : text_reading text ≡ Ok trees
   pub plain : AreAllPlain (pieces trees)
   pub again : (grammar : Grammar) (edition : Edition) (depth : ℕ) → PrintsItself text (meaning (layers grammar edition) depth text)
 
--- a reply prints this text and tells no fault
+-- a reply prints this text, without a fault
 abbrev pub RepliesWith : List ℕ → Reply → Type 0
 RepliesWith text (Read e) = (e.printed ≡ text) × (e.faults ≡ [])
 RepliesWith text (Unread fault) = ⊥

@@ -24,10 +24,8 @@ pub use Rattle.expander_session.specs.Laws
 pub use Rattle.expander_session.specs.Agreement
 pub use Rattle.expander_model.specs.Changes
 pub use Rattle.expander_model.specs.OtherPlaces
-pub use Rattle.expander_model.specs.Held
-pub use Rattle.expander_session.specs.Reuse
-pub use Rattle.expander_scope.specs.Numbers
-pub use Rattle.expander_session.specs.TextTurn
+pub use Rattle.expander_model.specs.DefinitionTrees
+pub use Rattle.expander_scope.specs.NewNumbers
 -- what laws alone rest on
 pub mod PieceTokens
 pub mod FixedPoint

@@ -12,11 +12,13 @@ ghost use Rattle.expander_model.specs.Expansion.{World, expansion, followed_by, 
 ghost use Rattle.expander_session.specs.Expanded.{Expanded};
 ghost use Rattle.expander_model.specs.Faults.{comes_before, in_order};
 ghost use Rattle.expander.specs.FixedPoint.{IsFixedPoint, RepliesWith};
-ghost use Rattle.expander_model.specs.Held.{IsMet, Known, Met, TellsApart, definition_trees, kept_after, numbered_scope, numbered_world, present, trees_in};
+ghost use Rattle.expander_model.specs.Held.{IsMet, Known, Met, TellsApart, kept_after, numbered_scope, numbered_world, present};
+ghost use Rattle.expander_model.specs.DefinitionTrees.{definition_trees, trees_in};
 ghost use Rattle.expander_session.specs.Laws.{AreAllPlain, ExpandsNothing, Fails, FindsAsBefore, HasNoWord, IsEnded, IsParted, definitions_after, why_failed};
 ghost use Rattle.expander_session.specs.Layered.{layers};
 ghost use Rattle.expander_model.specs.Meaning.{Layers, ReadMeaning, faults_of, meaning, member_faults, members, members_after, output, output_of};
-ghost use Rattle.expander_scope.specs.Numbers.{AreEntries, Numbering, needed, number_in, number_of, tree_of, with_trees};
+ghost use Rattle.expander_scope.specs.Numbers.{AreEntries, Numbering, number_in, number_of, tree_of, with_trees};
+ghost use Rattle.expander_scope.specs.NewNumbers.{needed};
 ghost use Rattle.expander_model.specs.OtherPlaces.{CommutesWithMarker, definition_with};
 ghost use Rattle.expander.specs.PieceTokens.{AreWords, placed_tokens, written_in};
 ghost use Rattle.expander_model.specs.Pieces.{cut, pieces, put_together, relative, separated};
@@ -57,21 +59,21 @@ use expander_scope::refusal::Refusal;
 pub use expander_session::laws::definitions_are_no_more_than_bytes;
 use fragment_grammar::FragmentGrammar;
 
-/// A forest's calls are marked and nothing else: the marks taken off give the forest back.
+/// Marking the calls of a forest changes nothing else: the marks taken off give the forest back.
 pub fn marks_taken_off()
     ensures { (f : Forest) → unmarked (marked f) ≡ f }
 {}
 
-/// A list's marks begin with a call just where the list begins with one as it is met from the left: a name, `!` and a
-/// visible group, with its `$crate ::` where that stands before them.
-pub fn calls_are_met_from_the_left()
+/// The marks of a list begin with a call exactly where the list, read from the left, begins with
+/// one: a name, `!` and a visible group, with `$crate ::` if that precedes them.
+pub fn calls_are_found_from_the_left()
     ensures { (f : Forest) → call_at f ≡ first_call (marked f) }
 {}
 
-/// The pieces of a list, one after another, are the list, and each of them is one piece: only its last tree may end it.
-/// That tree does end each piece that another follows, so a list is cut behind such trees alone: `ended`. Where trees that
-/// a piece begins with end with one, they are the whole piece: `within`. Pieces of which both is so, and of which none is
-/// empty, are those of the list that they make together: `only`.
+/// The pieces of a list, one after another, are the list: `whole`. Each is one piece by itself:
+/// `each`. A piece that another follows ends with one of the trees that end a piece: `ended`. If
+/// trees that a piece begins with end so, they are the whole piece: `within`. No other nonempty
+/// pieces of the list are such: `only`.
 pub fn pieces_are_the_list()
     ensures whole { (f : Forest) → put_together (cut f) ≡ f }
     ensures each { (f : Forest) → All (λ p. cut p ≡ p ∷ []) (cut f) }
@@ -82,22 +84,25 @@ pub fn pieces_are_the_list()
         All (λ p. (front behind : Forest) → p ≡ joined front behind → IsEnded front → behind ≡ empty) ps → cut (put_together ps) ≡ ps }
 {}
 
-/// A call that fails stays with the trees that it has, its argument unexpanded, before the expansion of those behind it.
+/// A call that fails keeps its tokens, its argument unexpanded, before the expansion of what
+/// follows.
 pub fn a_failed_call_stays()
     ensures { (world : World Definition) (scope : List ℕ → Option Definition) (depth : ℕ) (outer : Option Span) (f passed : Forest) (c : Call) (d : Definition) →
         call_at f ≡ Some c → scope c.name.sym ≡ Some d → Fails (world.broken d) depth (world.fit d c.argument) → f ≡ joined passed c.rest →
         (expansion world scope depth outer f).steps ≡ placed outer (walk passed) ++ (expansion world scope depth outer c.rest).steps }
 {}
 
-/// No call is parted behind a group, whatever follows: `groups`. Nor before a call, where no `::` stands there: `calls`.
+/// A list is parted at no call after a group, whatever follows: `groups`; and before a call, if no
+/// `::` is there: `calls`.
 pub fn where_lists_are_parted()
     ensures groups { (front : Forest) (d : Delimiter) (inner rest : Forest) → IsParted (joined front (group d inner empty)) rest }
     ensures calls { (front rest : Forest) (c : Call) → call_at rest ≡ Some c →
         ((f : Forest) (p q : Punct) → front ≡ joined f (leaf (as_leaf.Punct p) (leaf (as_leaf.Punct q) empty)) → is_colons p q ≡ false) → IsParted front rest }
 {}
 
-/// A list that is parted at no call is expanded part by part: steps, faults and finds of the front are followed by those
-/// of the rest: `lists`. A group at the beginning is expanded inside its brackets: `groups`.
+/// A list that is parted at no call is expanded part by part: events, faults and look-ups of the
+/// front are followed by those of the rest: `lists`. A group at the front is expanded inside its
+/// delimiters: `groups`.
 pub fn expansions_part_by_part()
     ensures lists { (world : World Definition) (scope : List ℕ → Option Definition) (depth : ℕ) (outer : Option Span) (front rest : Forest) →
         IsParted front rest →
@@ -107,9 +112,10 @@ pub fn expansions_part_by_part()
         ≡ followed_by (grouped outer d (expansion world scope depth outer inner)) (expansion world scope depth outer rest) }
 {}
 
-/// A call that fails stays with the trees that it has wherever it stands in a list, between the expansions of what is in
-/// front of it and behind it: `steps`. It has one fault, which says why it failed, at its name or at that of the outermost
-/// call that was expanded around it: `faults`. Of the names in it its own alone is looked up: `finds`.
+/// A call that fails keeps its tokens wherever it is in a list, between the expansions of what is
+/// before and after it: `steps`. It has one fault, which says why it failed, at its name or at
+/// that of the outermost call that was expanded around it: `faults`. Of the names in it only its
+/// own is looked up: `finds`.
 pub fn a_failed_call_stays_anywhere()
     ensures steps { (world : World Definition) (scope : List ℕ → Option Definition) (depth : ℕ) (outer : Option Span) (front passed : Forest) (c : Call) (d : Definition) →
         call_at (joined passed c.rest) ≡ Some c → scope c.name.sym ≡ Some d → Fails (world.broken d) depth (world.fit d c.argument) → IsParted front (joined passed c.rest) →
@@ -126,8 +132,8 @@ pub fn a_failed_call_stays_anywhere()
         ≡ (expansion world scope depth outer front).finds ++ (c.name.sym, Some d) ∷ (expansion world scope depth outer c.rest).finds }
 {}
 
-/// Where no piece is a definition, the output is the walk of the pieces, and no fault is told of a call, whatever the
-/// layers below.
+/// If no piece is a definition, the output is the walk of the pieces, and no fault comes of
+/// expansion, whatever the layers below answer.
 pub fn without_definitions_nothing_changes()
     ensures output { (layers : Layers) (depth : ℕ) (f : Forest) → AreAllPlain (cut f) →
         flat_map output_of (members_after layers depth [] (cut f)) ≡ placed None (walk f) }
@@ -135,21 +141,23 @@ pub fn without_definitions_nothing_changes()
         flat_map (member_faults layers) (members_after layers depth [] (cut f)) ≡ [] }
 {}
 
-/// Where no word of a text begins a definition, no piece of it is one.
-pub fn definitions_begin_with_their_words()
+/// Trees without a definition keyword have no definition.
+pub fn definitions_begin_with_their_keywords()
     ensures { (f : Forest) → HasNoWord f → AreAllPlain (pieces f) }
 {}
 
-/// A text that was read has no fault where none of its names begins a definition and each token has a spelling.
+/// A text that was read has no fault if it has no definition keyword and each of its tokens has a
+/// spelling.
 pub fn quiet_texts_have_no_fault()
     ensures { (layers : Layers) (depth : ℕ) (f : Forest) → HasNoWord f →
         left_out layers.spelling (output (members layers depth f)) ≡ [] → faults_of layers (members layers depth f) ≡ [] }
 {}
 
-/// A text of fewer than 2^31 bytes that was read has no fault where none of its names begins a definition: each of its
-/// tokens has a spelling: `short`. (In a longer one the escapes of a doc comment could make a literal that is too long for a
-/// text.) So it is of a text of fewer than 2^32 bytes once each `"` and `\` of it is escaped: `escaped_text`.
-pub fn no_fault_without_definition_words()
+/// A text of fewer than 2^31 bytes that was read has no fault if it has no definition keyword:
+/// each of its tokens has a spelling: `short`. So it is for a text of fewer than 2^32 bytes once
+/// each `"` and `\` of it is escaped: `escaped_text`. (In a longer one the escapes of a doc
+/// comment could make a literal that is too long for a text.)
+pub fn no_fault_without_definition_keywords()
     ensures short { (grammar : Grammar) (edition : Edition) (depth : ℕ) (text : List ℕ) (f : Forest) (m : ReadMeaning) →
         IsUtf8 text → length text < 2 ^ 31 → text_reading text ≡ Ok f → HasNoWord f → meaning (layers grammar edition) depth text ≡ Ok m → m.faults ≡ [] }
     ensures escaped_text { (grammar : Grammar) (edition : Edition) (depth : ℕ) (text : List ℕ) (f : Forest) (m : ReadMeaning) →
@@ -159,9 +167,10 @@ pub fn no_fault_without_definition_words()
     bridge::laws::read_texts_are_printed_whole();
 }
 
-/// What is printed of a text that has no fault prints itself: it can be read, none of its pieces is a definition, and with
-/// every grammar, edition and number of levels it means just the same bytes, without a fault.
-pub fn output_without_faults_prints_itself()
+/// Faultless output is a fixed point. If a text means an expansion without a fault, the printed
+/// text is read, has no definition, and means just the same bytes, without a fault, under every
+/// grammar, edition and number of levels.
+pub fn faultless_output_is_a_fixed_point()
     ensures { (grammar : Grammar) (edition : Edition) (depth : ℕ) (text : List ℕ) (m : ReadMeaning) →
         meaning (layers grammar edition) depth text ≡ Ok m → m.faults ≡ [] → IsFixedPoint m.text }
 {
@@ -169,20 +178,21 @@ pub fn output_without_faults_prints_itself()
     bridge::laws::printed_text_reads_back();
 }
 
-/// What a reply without faults prints, as the text of another session with any grammar, edition and number of levels, has
-/// a reply that prints the same bytes, without a fault, whatever the two sessions held.
-pub fn replies_without_faults_print_themselves()
+/// So it is for replies. Any reply to what a reply without faults printed, of a session with any
+/// grammar, edition, number of levels and cache, prints the same bytes without a fault.
+pub fn faultless_replies_are_fixed_points()
     ensures { (grammar : Grammar) (edition : Edition) (depth : ℕ) (text : List ℕ) (earlier : Option (List Looked)) (e : Expanded) →
         IsReplyTo (layers grammar edition) depth text earlier (Read e) → e.faults ≡ [] →
         (others : Grammar) (later : Edition) (levels : ℕ) (held : Option (List Looked)) (reply : Reply) →
         IsReplyTo (layers others later) levels e.printed held reply → RepliesWith e.printed reply }
 {
-    output_without_faults_prints_itself();
+    faultless_output_is_a_fixed_point();
 }
 
-/// An expansion hangs on what its names find, and on nothing else of a scope: steps, faults and finds are the same under
-/// another scope that finds the same. Its finds are what its scope finds, so it is the same under the scope made of them.
-pub fn an_expansion_hangs_on_its_finds()
+/// An expansion depends on its look-ups, and on nothing else of a scope: events, faults and
+/// look-ups are the same under another scope in which each finds the same. Look-ups are what the
+/// scope finds, so the result is the same under the scope made of them.
+pub fn expansions_depend_on_lookups_alone()
     ensures agreed { (world : World Definition) (scope others : List ℕ → Option Definition) (depth : ℕ) (outer : Option Span) (f : Forest) →
         FoundIn others (expansion world scope depth outer f).finds → expansion world others depth outer f ≡ expansion world scope depth outer f }
     ensures found { (world : World Definition) (scope : List ℕ → Option Definition) (depth : ℕ) (outer : Option Span) (f : Forest) →
@@ -191,9 +201,10 @@ pub fn an_expansion_hangs_on_its_finds()
         expansion world (scope_of (expansion world scope depth outer f).finds) depth outer f ≡ expansion world scope depth outer f }
 {}
 
-/// Where the places of a text change by a function that commutes with the marker of templates, a definition stays one, and
-/// an expansion gives the same steps, faults and finds at the changed places, and makes too many tokens where it did.
-pub fn expansions_at_other_places()
+/// Under a span map that commutes with the marker of templates, a definition stays one, and an
+/// expansion gives the same events, faults and look-ups with mapped spans, and too many tokens
+/// exactly where it did.
+pub fn expansions_at_other_spans()
     ensures definitions { (f : Span → Span) (piece : Forest) → definition_of (map_spans f piece) ≡ option_map (definition_with f) (definition_of piece) }
     ensures expansions { (grammar : Grammar) (edition : Edition) (f : Span → Span) → CommutesWithMarker f →
         (scope : List ℕ → Option Definition) (depth : ℕ) (outer : Option Span) (g : Forest) →
@@ -205,9 +216,10 @@ pub fn expansions_at_other_places()
     mbe::laws::bursts_at_other_places();
 }
 
-/// The members of a text that was read are its pieces in places of their own, each expanded there under numbered
-/// definitions, and then taken to the text: equal definitions have one number, and different ones different numbers.
-pub fn pieces_in_places_of_their_own()
+/// The pieces of a text that was read are those with piece-relative spans, each expanded so under
+/// definitions with ids, and then shifted to the text. Equal definitions have one id, and
+/// different ones different ids.
+fn pieces_at_relative_spans()
     ensures { (grammar : Grammar) (edition : Edition) (depth : ℕ) (text : List ℕ) (f : Forest) (number_of : Forest → ℕ) →
         IsUtf8 text → text_reading text ≡ Ok f → TellsApart number_of (definition_trees (pieces f)) →
         members (layers grammar edition) depth f ≡ map present (kept_after (world grammar edition) depth number_of [] (pieces f)) }
@@ -220,9 +232,9 @@ pub fn pieces_in_places_of_their_own()
     bridge::laws::tokens_are_written();
 }
 
-/// A held piece with an equal tree, whose names find definitions of the numbers that they found, has the outcome that a new
-/// expansion has; and just then the count sees an equal piece. What is new may be held.
-pub fn held_pieces_are_what_is_new()
+/// A valid memo has the result that a new expansion has: `outcome`. It is valid exactly where the
+/// count sees an equal piece: `counted`. A new expansion may be kept as a memo: `fresh`.
+fn valid_memos_are_new_expansions()
     ensures outcome { (world : World Definition) (depth : ℕ) (number_of : Forest → ℕ) (trees : List Forest) (before : List Met) (tree : Forest) (q : HeldPiece) →
         TellsApart number_of trees → All (IsMet (Known number_of trees)) before → IsHeld world depth (Known number_of trees) q →
         matches (numbered_scope before) tree q ≡ true → q.outcome ≡ expansion (numbered_world world) (numbered_scope before) depth None tree }
@@ -236,10 +248,10 @@ pub fn held_pieces_are_what_is_new()
     equal_pieces();
 }
 
-/// Over whatever is held rightly a text gives its members, with outcomes taken from held pieces that match: `taken`. As many
-/// pieces count as expanded as nothing held matches: `counted`. What is held afterwards is held rightly, and is what the
-/// count sees of the text: `held`, `looked`.
-pub fn a_text_over_what_is_held()
+/// Over a cache that is right, a text has its expansion, with results taken from valid memos:
+/// `taken`. The count is that of plain pieces without a valid memo: `counted`. The cache after it
+/// is right, and is what the next count sees: `held`, `looked`.
+fn a_text_over_its_cache()
     ensures taken { (grammar : Grammar) (edition : Edition) (depth : ℕ) (text : List ℕ) (f : Forest) (number_of : Forest → ℕ) (trees : List Forest) (held : List HeldPiece) →
         IsTurn (world grammar edition) depth text f number_of trees held →
         members (layers grammar edition) depth f ≡ map present (taken_after (world grammar edition) depth number_of held [] (pieces f)) }
@@ -264,14 +276,14 @@ pub fn a_text_over_what_is_held()
     equal_pieces();
 }
 
-/// Against the pieces of the same text no piece counts as expanded.
+/// Against its own pieces a text has no cache miss.
 pub fn a_text_matches_itself()
     ensures { (ps : List Looked) → expanded_count (Some ps) ps ≡ 0 }
 {
     equal_pieces();
 }
 
-/// A second reply with nothing changed before it shows the same as the first, and no piece is expanded for it.
+/// A second reply without an edit before it shows the same as the first, and its count is 0.
 pub fn a_second_reply_expands_nothing<G: FragmentGrammar>()
     ensures { (old new newer : State G) (e : Expanded) (reply : Reply) →
         Replies (layers_of G.answer old) old new (Read e) → Replies (layers_of G.answer new) new newer reply →
@@ -280,9 +292,10 @@ pub fn a_second_reply_expands_nothing<G: FragmentGrammar>()
     equal_pieces();
 }
 
-/// A piece does not count as expanded where an earlier one has the same tree, and each name that is looked up in one of
-/// them is looked up in the other too and finds an equal definition there, or none in both.
-pub fn a_piece_that_finds_the_same_does_not_count()
+/// A piece is no cache miss if an earlier one has the same tree and the same look-ups: each name
+/// that one of them looked up was looked up by the other, and found an equal definition, or none
+/// in both.
+pub fn equal_lookups_are_cache_hits()
     ensures { (held ps : List Looked) (p q : Looked) → Contains held q → p.tree ≡ q.tree →
         finds_within p.finds q.finds ≡ true → finds_within q.finds p.finds ≡ true →
         expanded_count (Some held) (p ∷ ps) ≡ expanded_count (Some held) ps }
@@ -290,10 +303,11 @@ pub fn a_piece_that_finds_the_same_does_not_count()
     equal_pieces();
 }
 
-/// A piece does not count where its tree is that of a piece of an earlier text, and each name that was looked up in that one
-/// finds, among the definitions that now stand before it, an equal definition, or none as it did: `piece`. So those count
-/// that stand before it and behind it: `others`, and `replied` of a session that last read the earlier text.
-pub fn a_piece_that_finds_as_before_does_not_count()
+/// A piece is no cache miss if its tree is that of a piece of the earlier text, and each look-up
+/// of that one finds an equal definition, or none as it did, among the definitions that now
+/// precede the piece: `piece`. So the cache misses are those before it and after it: `others`, and
+/// `replied` for a session that last read the earlier text.
+pub fn unchanged_lookups_are_cache_hits()
     ensures piece { (grammar : Grammar) (edition : Edition) (depth : ℕ) (text other : List ℕ) (f g p q : Forest) (ones twos more_ones more_twos : List Forest) →
         IsUtf8 text → IsUtf8 other → text_reading text ≡ Ok f → text_reading other ≡ Ok g →
         pieces f ≡ ones ++ p ∷ more_ones → pieces g ≡ twos ++ q ∷ more_twos → relative p ≡ relative q →
@@ -326,9 +340,10 @@ pub fn a_piece_that_finds_as_before_does_not_count()
     equal_pieces();
 }
 
-/// Where two texts begin with the same pieces in places of their own, as before a definition that is added, changed or
-/// removed, those of the one do not count against those of the other: `front`. All that counts is behind them: `behind`.
-pub fn pieces_before_a_change_do_not_count()
+/// If two texts begin with the same pieces, spans piece-relative, as before a definition that is
+/// added, changed or removed, these are no cache misses: `front`. All cache misses are after them:
+/// `behind`.
+pub fn pieces_before_a_change_are_cache_hits()
     ensures front { (grammar : Grammar) (edition : Edition) (depth : ℕ) (text other : List ℕ) (f g : Forest) (ones twos more_ones more_twos : List Forest) →
         IsUtf8 text → IsUtf8 other → text_reading text ≡ Ok f → text_reading other ≡ Ok g →
         pieces f ≡ ones ++ more_ones → pieces g ≡ twos ++ more_twos → map relative ones ≡ map relative twos →
@@ -349,9 +364,10 @@ pub fn pieces_before_a_change_do_not_count()
     equal_pieces();
 }
 
-/// Two texts with the same pieces in places of their own, which may differ in white space and comments between them: no
-/// piece of the one counts against those of the other, and a session that last read the one expands none for the other.
-pub fn the_same_pieces_are_not_expanded_again()
+/// If two texts have the same pieces, spans piece-relative, as when they differ in white space and
+/// comments between them, none is a cache miss: `counted`. A session that last read the one
+/// expands nothing for the other: `replied`.
+pub fn equal_pieces_are_cache_hits()
     ensures counted { (grammar : Grammar) (edition : Edition) (depth : ℕ) (text other : List ℕ) (f g : Forest) →
         IsUtf8 text → IsUtf8 other → text_reading text ≡ Ok f → text_reading other ≡ Ok g → map relative (pieces f) ≡ map relative (pieces g) →
         expanded_count (Some (looked_of (members (layers grammar edition) depth f))) (looked_of (members (layers grammar edition) depth g)) ≡ 0 }
@@ -368,10 +384,10 @@ pub fn the_same_pieces_are_not_expanded_again()
     equal_pieces();
 }
 
-/// Each piece of a text, in places of its own, is what its tokens are read as by themselves, from its first to its last:
-/// `read`. So where the pieces of two texts are written in the same tokens, in order, the pieces are the same: `same`. Then
-/// no piece of the one counts against those of the other, and a session that last read the one expands none for the other.
-pub fn pieces_hang_on_their_tokens()
+/// Each piece, spans piece-relative, is what its tokens are read as by themselves, from its first
+/// to its last: `read`. So if the pieces of two texts are written in the same tokens, in order,
+/// the pieces are the same: `same`. Then none is a cache miss: `counted`, `replied`.
+pub fn pieces_depend_on_tokens_alone()
     ensures read { (text : List ℕ) (f : Forest) → IsUtf8 text → text_reading text ≡ Ok f →
         All (λ p. (k : Forest) × (reading (steps_of (written_in text p)) ≡ Ok k) × (relative p ≡ separated k)) (pieces f) }
     ensures same { (text other : List ℕ) (f g : Forest) →
@@ -388,15 +404,14 @@ pub fn pieces_hang_on_their_tokens()
 {
     bridge::laws::reading_is_a_relation();
     rustc_lexer::laws::token_lengths();
-    the_same_pieces_are_not_expanded_again();
+    equal_pieces_are_cache_hits();
 }
 
-/// White space and plain comments may change before, between and behind pieces. The tokens of a text that was read are those
-/// of its pieces in order, each piece's from its first to its last, and before, between and behind them white space and
-/// comments that are no doc comments: `own`. Any other text whose tokens are so of the same pieces is read too, and has the
-/// same pieces in places of their own: `read`. None of its pieces counts against those of the first text, and a session that
-/// last read the first expands none for it: `counted`, `replied`.
-pub fn blanks_between_pieces_count_nothing()
+/// White space and plain comments may change before, between and after pieces. The tokens of a
+/// text that was read are those of its pieces in order, with only trivia around them: `own`. Any
+/// other text whose tokens spell the same pieces so is read too, and has the same pieces, spans
+/// piece-relative: `read`. None is a cache miss: `counted`, `replied`.
+pub fn trivia_between_pieces_is_free()
     ensures own { (text : List ℕ) (f : Forest) → IsUtf8 text → text_reading text ≡ Ok f → AreWords (map (written_in text) (pieces f)) (placed_tokens text) }
     ensures read { (text other : List ℕ) (f : Forest) → IsUtf8 text → text_reading text ≡ Ok f → AreWords (map (written_in text) (pieces f)) (placed_tokens other) →
         (g : Forest) × (text_reading other ≡ Ok g) × (map relative (pieces f) ≡ map relative (pieces g)) }
@@ -411,12 +426,13 @@ pub fn blanks_between_pieces_count_nothing()
     bridge::laws::parts_of_a_text();
     bridge::laws::parts_at_other_places();
     rustc_lexer::laws::token_lengths();
-    the_same_pieces_are_not_expanded_again();
+    equal_pieces_are_cache_hits();
 }
 
-/// A reply to a text of fewer than 2^31 bytes tells no fault where none of the text's names begins a definition: `short`.
-/// So it is of a text of fewer than 2^32 bytes once each `"` and `\` of it is escaped: `escaped_text`.
-pub fn replies_without_definition_words_tell_no_fault()
+/// A reply to a text of fewer than 2^31 bytes has no fault if the text has no definition keyword:
+/// `short`. So it is for a text of fewer than 2^32 bytes once each `"` and `\` of it is escaped:
+/// `escaped_text`.
+pub fn replies_without_definition_keywords_have_no_fault()
     ensures short { (grammar : Grammar) (edition : Edition) (depth : ℕ) (text : List ℕ) (f : Forest) (earlier : Option (List Looked)) (e : Expanded) →
         IsUtf8 text → length text < 2 ^ 31 → text_reading text ≡ Ok f → HasNoWord f →
         IsReplyTo (layers grammar edition) depth text earlier (Read e) → e.faults ≡ [] }
@@ -424,17 +440,18 @@ pub fn replies_without_definition_words_tell_no_fault()
         IsUtf8 text → length (escaped text) < 2 ^ 32 → text_reading text ≡ Ok f → HasNoWord f →
         IsReplyTo (layers grammar edition) depth text earlier (Read e) → e.faults ≡ [] }
 {
-    no_fault_without_definition_words();
+    no_fault_without_definition_keywords();
 }
 
-/// The definitions of a text's members, in places of their own, are those of its pieces.
+/// The definitions among a text's members, spans piece-relative, are those among its pieces.
 pub fn definitions_are_pieces()
     ensures { (layers : Layers) (depth : ℕ) (f : Forest) → trees_in (members layers depth f) ≡ definition_trees (pieces f) }
 {}
 
-/// Numbers that are given in turn tell trees apart: each entry has its own number. Trees that get numbers are among the
-/// entries, those that had numbers keep them, and as many new ones are given as are needed.
-pub fn numbers_tell_trees_apart()
+/// Ids that are given in turn tell trees apart: each entry has its own: `apart`, `entries`. Trees
+/// that get ids are among the entries, those that had one keep it, and as many new ones are given
+/// as are needed: `known`, `kept`, `given`.
+fn ids_tell_trees_apart()
     ensures apart { (n : Numbering) → AreEntries n.given n.entries → TellsApart (number_of n.entries) (map tree_of n.entries) }
     ensures entries { (n : Numbering) (trees : List Forest) → AreEntries n.given n.entries → AreEntries (with_trees n trees).given (with_trees n trees).entries }
     ensures known { (n : Numbering) (trees : List Forest) → All (Contains (map tree_of (with_trees n trees).entries)) trees }
@@ -444,17 +461,18 @@ pub fn numbers_tell_trees_apart()
     equal_pieces();
 }
 
-/// A session that has numbered no definition yet, as a new one, over a text of fewer than 2^32 bytes, never answers `Numbers`.
-pub fn a_first_answer_lacks_no_numbers<G: FragmentGrammar>()
+/// A session that has given no id yet, as a new one, over a text of fewer than 2^32 bytes, never
+/// refuses with `Numbers`.
+pub fn a_first_reply_lacks_no_ids<G: FragmentGrammar>()
     ensures { (s : State G) → IsUtf8 s.text → length s.text < 2 ^ 32 → s.given ≡ 0 → s.trees ≡ [] →
         HasCause (layers_of G.answer s) s Numbers → ⊥ }
 {
     definitions_are_no_more_than_bytes();
 }
 
-/// From one text that was read to the next: where what is held is right by the numbers given so far, the next text stands
-/// over it rightly by its own numbers, of which those of its definitions are kept; by these what is held afterwards is right.
-pub fn what_is_held_stays_right()
+/// The cache stays right from one text that was read to the next, with the ids of the present
+/// text's definitions: `turn`, `held`, `entries`.
+fn caches_stay_valid()
     ensures turn { (grammar : Grammar) (edition : Edition) (depth : ℕ) (n : Numbering) (held : List HeldPiece) (text : List ℕ) (f : Forest) →
         IsNext (world grammar edition) depth n held text f →
         IsTurn (world grammar edition) depth text f (number_of (numbering_of n f).entries) (map tree_of (numbering_of n f).entries) held }
@@ -474,22 +492,24 @@ pub fn what_is_held_stays_right()
     equal_pieces();
 }
 
-/// Faults put in order are the same faults, and none comes before the one that it follows.
+/// Sorted faults are the same faults, each as often, and none comes before the one that it
+/// follows.
 pub fn faults_are_put_in_order()
     ensures same { (faults : List Fault) → IsPermutation faults (in_order faults) }
     ensures sorted { (faults : List Fault) → IsSortedBy comes_before (in_order faults) }
 {}
 
-/// The present text decides. Where two lists of commands lead to one text, whatever came before, and both sessions then
-/// expand it and reply, the replies show the same: printed text, faults and origins, or the same fault of reading.
-pub fn the_text_decides()
+/// Only the present text decides. If two lists of commands lead to one text, whatever came before,
+/// and both sessions then expand it and reply, the replies show the same printed text, faults and
+/// origins, or the same reading fault.
+pub fn the_text_alone_decides()
     ensures { (layers : Layers) (depth : ℕ) (one two : List ℕ) (ones twos : List Command) (first second : List Answer) (reply other : Reply) →
         AreAnswers layers depth one [] (ones ++ Expand ∷ []) (first ++ Replied reply ∷ []) →
         AreAnswers layers depth two [] (twos ++ Expand ∷ []) (second ++ Replied other ∷ []) →
         last_text one ones first ≡ last_text two twos second → ShowTheSame reply other }
 {}
 
-/// Two answers are equal by `==` exactly where they are the same, places included.
+/// Two answers are equal by `==` exactly where they are the same, ranges included.
 pub fn equal_answers()
     ensures fault_kinds { (a b : FaultKind) → (⟦<FaultKind as PartialEq>⟧.eq a b ≡ true) ↔ (a ≡ b) }
     ensures faults { (a b : Fault) → (⟦<Fault as PartialEq>⟧.eq a b ≡ true) ↔ (a ≡ b) }

@@ -1,4 +1,4 @@
--- Each `;` of a tree's own list, put in its place as it stands alone.
+-- Each `;` of a tree's top list is made `Alone`.
 use Rattle.std.proofs.Common.{◌≡◌, ◌+◌, ◌≤◌, suc, List, [], ◌∷◌, ◌++◌, length, refl, sym, ap, ◌∙◌, append_assoc, arith, true, false, Bool}
 use Rattle.std.specs.Prelude.{set, if◌then◌else◌, Some, None}
 use Rattle.std.proofs.Math.Seq.{set-append_seam}

@@ -1,4 +1,4 @@
--- Passing the attributes before a definition, one by one.
+-- The attributes before a definition, passed one by one.
 use Rattle.std.proofs.Common.{◌≡◌, ◌<◌, refl, ap, arith, Bool, true, false, if◌then◌else◌}
 use Rattle.std.specs.Prelude.{Some, None, ◌&&◌}
 use Rattle.tt_data.specs.Forest.{Forest, empty, leaf, group, size}

@@ -1,4 +1,4 @@
--- Places that are changed and changed back.
+-- Spans that are mapped, and mapped back.
 use Rattle.std.proofs.Common.{◌≡◌, ℕ, ◌+◌, ◌-◌, List, refl, ap, sym, ◌∙◌, arith}
 use Rattle.tt_data.specs.Forest.{Forest, empty, leaf, group, map_spans}
 use Rattle.tt_data.specs.Spans.{span_of, leaf_with}

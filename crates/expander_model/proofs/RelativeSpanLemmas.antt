@@ -1,4 +1,4 @@
--- Trees of their own from flat lists of tokens.
+-- Trees with piece-relative spans, from flat lists of tokens.
 use Rattle.std.proofs.Common.{◌≡◌, ℕ, List, [], ◌∷◌, ◌++◌, map, refl, ap, sym, ◌∙◌, append_assoc}
 use Rattle.tt.specs.Tops.{Top, tokens_of}
 use Rattle.tt_data.specs.Forest.{Forest, forest_of, preorder, size}

@@ -1,4 +1,4 @@
--- Trees of pieces are the same where they are equal as trees.
+-- Trees of pieces are the same if they are equal by `==`.
 use Rattle.std.proofs.Common.{◌≡◌, ◌↔◌, true, ap}
 use Rattle.bridge.specs.ReadText.{text_top}
 use Rattle.tt.specs.Tops.{Top}

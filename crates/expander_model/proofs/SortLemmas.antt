@@ -1,4 +1,4 @@
--- Faults in order: a list in order that has the same faults is the one that `in_order` gives.
+-- The order of faults: an ordered list with the same faults is the one that `in_order` gives.
 use Rattle.std.proofs.Common.{◌≡◌, ℕ, zero, suc, ◌+◌, ◌<◌, List, [], ◌∷◌, length, get_or, refl, sym, ap, subst, ◌∙◌, arith, set, Bool, true, false, if◌then◌else◌, get_or-set_same, get_or-set_other, Bor}
 use Rattle.std.specs.Fn.{Called, ComputesKey, Mut}
 use Rattle.std.specs.List.{swap}

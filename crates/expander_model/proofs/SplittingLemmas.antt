@@ -1,4 +1,4 @@
--- Cutting a piece off, tree by tree.
+-- A piece is cut off, tree by tree.
 use Rattle.std.proofs.Common.{◌≡◌, ◌≢◌, ◌<◌, ◌≤◌, List, [], ◌∷◌, refl, sym, ap, ◌∙◌, arith, Bool, true, false, if◌then◌else◌}
 use Rattle.tt_data.specs.Forest.{Forest, empty, leaf, group, joined, size}
 use Rattle.tt_data.specs.Flat.{joined-empty}

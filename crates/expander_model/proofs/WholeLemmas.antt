@@ -1,4 +1,4 @@
--- One whole piece, wherever it stands and whatever follows.
+-- One whole piece, wherever it is and whatever follows.
 use Rattle.std.proofs.Common.{◌≡◌, ◌≢◌, [], ◌<◌, Bool, true, false, ◌∷◌, refl, ap, sym, subst, ◌∙◌, arith, if◌then◌else◌}
 use Rattle.std.specs.Prelude.{◌&&◌, ◌||◌, Some}
 use Rattle.tt.proofs.Steps.{joined-left}

@@ -1,4 +1,4 @@
--- A call as it is met from the left.
+-- A call, read from left to right.
 use Rattle.std.specs.Prelude.{Option, Some, None}
 use Rattle.tt_data.specs.Forest.{Forest, group}
 use Rattle.expander_model.specs.declared.call.Call.{Call}
@@ -37,7 +37,7 @@ crate_call f = do
 abbrev pub call_at : Forest → Option Call
 call_at f = or_else (crate_call f) (bare_call f)
 
--- the call that a list's marks begin with
+-- the call that a list begins with, by its marks
 abbrev pub first_call : Marked → Option Call
 first_call (call (other first second) name bang d a rest) = None
 first_call (call path name bang d a rest) =

@@ -1,4 +1,4 @@
--- The calls of a list of trees: a name, `!` and a visible group, side by side. (The Rust Reference, "Macro invocation".)
+-- The calls of a list of trees: a name, `!` and a visible group. (The Rust Reference, "Macros".)
 use Rattle.std.specs.Prelude.{Bool, ◌&&◌, not, codes, if◌then◌else◌}
 use Rattle.tt_data.specs.Forest.{Forest, empty, leaf, group}
 use Rattle.tt_data.specs.declared.delimiter.Delimiter.{Delimiter}
@@ -10,8 +10,8 @@ use Rattle.tt.specs.Glued.{is_alone}
 use Rattle.bridge.specs.Text.{is_visible, is_char}
 use Rattle.small_grammar.specs.Text.{same_text}
 
--- what stands before a name that `!` and a visible group follow: nothing that counts, `$crate ::`, which goes
--- with the call, or another `::`, after which there is no call
+-- what comes before a name that `!` and a visible group follow: nothing that counts; `$crate ::`,
+-- which belongs to the call; or another `::`, after which there is no call
 pub data Path : Type 0 where
   bare : Path
   from_crate : Ident → Punct → Punct → Path
@@ -34,7 +34,7 @@ is_dollar_crate name = same_text name.sym (codes "$crate")
 abbrev pub is_bang_group : Punct → Delimiter → Bool
 is_bang_group bang brackets = is_char "!" bang && is_visible brackets.kind
 
--- a leaf in front of a forest whose calls are marked
+-- a leaf before a forest whose calls are marked
 abbrev pub mark_leaf : Leaf → Marked → Marked
 mark_leaf (as_leaf.Ident name) (token (as_leaf.Punct bang) (inside brackets argument rest)) =
     if is_bang_group bang brackets then call bare name bang brackets argument rest
@@ -47,7 +47,7 @@ mark_leaf (as_leaf.Ident crate) (call (other first second) name bang brackets ar
     else token (as_leaf.Ident crate) (call (other first second) name bang brackets argument rest)
 mark_leaf front rest = token front rest
 
--- a forest with its calls marked, groups inside and out
+-- a forest with its calls marked, inside its groups too
 abbrev pub marked : Forest → Marked
 marked empty = none
 marked (leaf l rest) = mark_leaf l (marked rest)
@@ -60,7 +60,7 @@ in_front (from_crate crate first second) f =
     leaf (as_leaf.Ident crate) (leaf (as_leaf.Punct first) (leaf (as_leaf.Punct second) f))
 in_front (other first second) f = leaf (as_leaf.Punct first) (leaf (as_leaf.Punct second) f)
 
--- the forest again
+-- a forest with the marks of its calls removed
 abbrev pub unmarked : Marked → Forest
 unmarked none = empty
 unmarked (token l m) = leaf l (unmarked m)

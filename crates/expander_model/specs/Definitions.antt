@@ -1,4 +1,4 @@
--- Definition pieces, and what a name finds. (The Rust Reference, "Macros By Example": syntax and textual scope.)
+-- Definitions, and what a name resolves to. (The Rust Reference, "Macros By Example".)
 use Rattle.std.specs.Prelude.{ℕ, refl, Bool, true, false, ◌&&◌, ◌||◌, List, if◌then◌else◌, Option, Some, None, find, unwrap_or, is_some, codes}
 use Rattle.std.specs.Coded.{Coded, code_by, coded×, coded_bool, coded_option}
 use Rattle.tt_data.specs.Coded.{forest_code}
@@ -18,12 +18,12 @@ pub record Definition : Type 0 where
   -- the group before the body, of a `macro` with a single rule
   pub arguments : Option Forest
   pub body : Forest
-  -- read by the rules of `macro`, not by those of `macro_rules`
+  -- parsed as a `macro`, not as a `macro_rules`
   pub is_macro : Bool
-  -- all of it, with its attributes
+  -- the whole piece, with its attributes
   pub piece : Forest
 
--- a definition is stored as its parts
+-- a definition is coded as its parts
 abbrev pub definition_code : Coded Definition
 definition_code =
     code_by (Ident × (Option Forest × (Forest × (Bool × Forest))))
@@ -68,14 +68,14 @@ after_pub f = do
   rest ← after_word (codes "pub") f
   Some (unwrap_or (after_parenthesis rest) rest)
 
--- nothing but a `;`
+-- exactly a `;`
 abbrev pub is_semicolon : Forest → Bool
 is_semicolon f = is_some (do
   (p, rest) ← first_punct f
   is_char ";" p
   is_empty rest >> Some p)
 
--- a brace group ends a `macro_rules` definition by itself, another visible group does with `;`
+-- a `macro_rules` definition ends with a brace group, or with another visible group and `;`
 abbrev pub ends_definition : Delimiter → Forest → Bool
 ends_definition d f =
     (same_kind d.kind Brace && is_empty f)
@@ -98,7 +98,7 @@ macro_rules_of piece f = do
   ends_definition d rest
   Some (record { name = name; arguments = None; body = body; is_macro = false; piece = piece })
 
--- the body of a `macro`: `{ .. }`, or with its one rule's pattern `(..) { .. }`
+-- the body of a `macro`: `{ .. }`, or after its one rule's matcher, `(..) { .. }`
 abbrev pub macro_body : Forest → Option (Option Forest × Forest)
 macro_body f = do
   (d, inner, rest) ← first_group f
@@ -120,12 +120,12 @@ abbrev pub or_else : {X : Type 0} → Option X → Option X → Option X
 or_else None y = y
 or_else (Some x) y = Some x
 
--- the definition that a piece is, or none where it is plain
+-- the definition that a piece is, or none if it is plain
 abbrev pub definition_of : Forest → Option Definition
 definition_of piece =
     let rest : Forest = after_attributes piece in
     or_else (macro_rules_of piece rest) (macro_of piece (unwrap_or (after_pub rest) rest))
 
--- what a name finds among the definitions before, which are given nearest first: rawness doesn't count
+-- what a name resolves to among the definitions before, given nearest first: `r#` is ignored
 abbrev pub nearest : List Definition → List ℕ → Option Definition
 nearest before name = find (λ (d : Definition). same_text d.name.sym name) before

@@ -1,4 +1,4 @@
--- The expansion of a forest: from the left, the outermost call first. (The Rust Reference, "Macros".)
+-- The expansion of a forest, left to right, outermost calls first. (The Rust Reference, "Macros".)
 use Rattle.std.specs.Prelude.{ℕ, zero, suc, Bool, true, false, ◌||◌, List, [], ◌∷◌, ◌++◌, map, Option, Some, None, unwrap_or}
 use Rattle.tt_data.specs.Forest.{Forest, empty, leaf, group}
 use Rattle.tt_data.specs.Walk.{Step, at_leaf, opens, closes, walk}
@@ -11,23 +11,23 @@ use Rattle.expander_model.specs.declared.fault.FaultKind.{FaultKind}
 use Rattle.expander_model.specs.declared.fault.FaultKind.TheVariants.{CannotExpand, BrokenDefinition, RecursionLimit}
 use Rattle.expander_model.specs.Calls.{Path, other, Marked, none, token, inside, call, marked, unmarked, in_front}
 
--- a step of the output, with the span of the name of the outermost call that was expanded to give it, or none
+-- an event of the output, with the span of the name of the outermost call that gave it, or none
 pub record PlacedStep : Type 0 where
   pub step : Step
   pub outer : Option Span
 
--- what definitions mean: which are broken, the forest that a definition gives for a call's argument, or none, and
--- where that makes too many tokens
+-- what definitions mean: which are invalid, the forest that a definition gives for a call's
+-- argument, or none, and where that makes too many tokens
 pub record World (D : Type 0) : Type 0 where
   pub broken : D → Bool
   pub fit : D → Forest → Option Forest
   -- whether a call of a definition with this argument makes more tokens than a tree may have
   pub bursts : D → Forest → Bool
 
--- what an expansion gives
+-- the result of an expansion
 pub record Outcome (D : Type 0) : Type 0 where
   pub steps : List PlacedStep
-  -- each fault with the span of the name that it is told at
+  -- each fault with the span that it is reported at
   pub faults : List (FaultKind × Span)
   -- each name that was looked up, with the definition found or none
   pub finds : List (List ℕ × Option D)
@@ -40,12 +40,12 @@ placed outer steps = map (λ s. record { step = s; outer = outer }) steps
 abbrev pub just : {D : Type 0} → Option Span → List Step → Outcome D
 just outer steps = record { steps = placed outer steps; faults = []; finds = []; bursts = false }
 
--- one outcome after another
+-- one result after another
 abbrev pub followed_by : {D : Type 0} → Outcome D → Outcome D → Outcome D
 followed_by a b =
     record { steps = a.steps ++ b.steps; faults = a.faults ++ b.faults; finds = a.finds ++ b.finds; bursts = a.bursts || b.bursts }
 
--- an outcome in brackets
+-- a result in brackets
 abbrev pub grouped : {D : Type 0} → Option Span → Delimiter → Outcome D → Outcome D
 grouped outer d a =
     record a {
@@ -61,26 +61,26 @@ found name definition a = record a { finds = (name, definition) ∷ a.finds }
 abbrev pub bursting : {D : Type 0} → Bool → Outcome D → Outcome D
 bursting bursts a = record a { bursts = bursts || a.bursts }
 
--- what results are expanded by, under the name that they are placed at: none where no level is left
+-- what expands the result of a call, given its outermost call's name: none if no level is left
 abbrev pub Deeper : Type 0 → Type 0
 Deeper D = Option (Option Span → Forest → Outcome D)
 
--- a call's three forms: its name's span, the call as it stands, and its argument
+-- a call: its name's span, the call as it is, and its argument
 pub record CallSite : Type 0 where
   pub at : Span
   pub whole : Forest
   pub argument : Forest
 
--- a call that stays for a fault, its argument unsearched
+-- a call that stays because of a fault, its argument not expanded
 abbrev pub stays : {D : Type 0} → FaultKind → Option Span → CallSite → Outcome D
 stays kind outer site = faulted kind (unwrap_or outer site.at) (just outer (walk site.whole))
 
--- a fitting forest gives way to its own expansion; without one the call stays
+-- a result that fits is replaced by its own expansion; if none fits the call stays
 abbrev pub fitted : {D : Type 0} → (Option Span → Forest → Outcome D) → Option Span → CallSite → Option Forest → Outcome D
 fitted deeper outer site None = stays CannotExpand outer site
 fitted deeper outer site (Some result) = deeper (Some (unwrap_or outer site.at)) result
 
--- a call of a definition that isn't broken
+-- a call of a valid definition
 abbrev pub at_level : {D : Type 0} → World D → D → Deeper D → Option Span → CallSite → Outcome D
 at_level world d None outer site = stays RecursionLimit outer site
 at_level world d (Some deeper) outer site =
@@ -90,18 +90,18 @@ abbrev pub unbroken : {D : Type 0} → World D → D → Bool → Deeper D → O
 unbroken world d true deeper outer site = stays BrokenDefinition outer site
 unbroken world d false deeper outer site = at_level world d deeper outer site
 
--- a call whose name was looked up; `kept` is the call as it stands with its group searched
+-- a call whose name was looked up; `kept` is the call with only the calls in its group expanded
 abbrev pub looked_up : {D : Type 0} → World D → Option D → Deeper D → Option Span → CallSite → Outcome D → Outcome D
 looked_up world None deeper outer site kept = kept
 looked_up world (Some d) deeper outer site kept = unbroken world d (world.broken d) deeper outer site
 
--- a call by its path: after another `::` there is none
+-- a call by what comes before its name: after another `::` it is none
 abbrev pub at_call : {D : Type 0} → World D → (List ℕ → Option D) → Deeper D → Option Span → Path → Ident → CallSite → Outcome D → Outcome D
 at_call world scope deeper outer (other first second) name site kept = kept
 at_call world scope deeper outer _ name site kept =
     found name.sym (scope name.sym) (looked_up world (scope name.sym) deeper outer site kept)
 
--- a call as it stands, between its path and its group
+-- a call's tokens before its group
 abbrev pub before_group : Path → Ident → Punct → Forest
 before_group path name bang = in_front path (leaf (as_leaf.Ident name) (leaf (as_leaf.Punct bang) empty))
 
@@ -109,7 +109,7 @@ abbrev pub whole_call : Path → Ident → Punct → Delimiter → Forest → Fo
 whole_call path name bang d argument =
     in_front path (leaf (as_leaf.Ident name) (leaf (as_leaf.Punct bang) (group d argument empty)))
 
--- from the left over a forest whose calls are marked
+-- the expansion of a forest whose calls are marked, from left to right
 abbrev pub search_calls : {D : Type 0} → World D → (List ℕ → Option D) → Deeper D → Option Span → Marked → Outcome D
 search_calls world scope deeper outer none = just outer []
 search_calls world scope deeper outer (token l rest) =
@@ -123,7 +123,7 @@ search_calls world scope deeper outer (call path name bang d a rest) =
     (followed_by (just outer (walk (before_group path name bang))) (grouped outer d (search_calls world scope deeper outer a))))
     (search_calls world scope deeper outer rest)
 
--- the expansion of a forest with n levels left, placed at the name of a call that was expanded around it, or at none
+-- the expansion of a forest with n levels left, under the name of an outermost call or none
 abbrev pub expansion : {D : Type 0} → World D → (List ℕ → Option D) → ℕ → Option Span → Forest → Outcome D
 expansion world scope zero outer f = search_calls world scope None outer (marked f)
 expansion world scope (suc n) outer f = search_calls world scope (Some (expansion world scope n)) outer (marked f)

@@ -1,4 +1,4 @@
--- The faults of a text: their places and their order. (Of this project.)
+-- The faults of a text: their ranges and their order. (Of this project.)
 use Rattle.std.specs.Prelude.{ℕ, List, [], ◌∷◌, Bool, false, ◌&&◌, ◌||◌, nat_eq, nat_lt, if◌then◌else◌, unwrap_or, map, filter}
 use Rattle.tt_data.specs.Walk.{Step, at_leaf}
 use Rattle.tt_data.specs.declared.leaf.Leaf.TheVariants as as_leaf
@@ -11,14 +11,14 @@ use Rattle.bridge.specs.Printing.{step_span}
 use Rattle.expander_model.specs.Printing.{PrintedToken}
 use Rattle.small_grammar.specs.Text.{is_word}
 
--- where a fault of an output token is told: at the token itself, or at the name of the outermost expanded call
+-- where a fault of an output token is reported: at the name of the outermost call, or the token
 abbrev pub place : PlacedStep → Span
 place s = unwrap_or s.outer (step_span s.step)
 
 abbrev pub fault_at : FaultKind → Span → Fault
 fault_at kind span = record { kind = kind; range = span.range }
 
--- the words that begin a definition, in an output in which none is allowed
+-- the definition keywords, none of which may be in an output
 abbrev pub is_definition_word : Step → Bool
 is_definition_word (at_leaf (as_leaf.Ident i)) = is_word "macro_rules" i || is_word "macro" i
 is_definition_word _ = false
@@ -31,7 +31,7 @@ nested tokens =
 abbrev pub unspellable : List PlacedStep → List Fault
 unspellable steps = map (λ s. fault_at Unspellable (place s)) steps
 
--- the kinds in the order in which faults of one place are told
+-- the kinds in the order in which faults of one range are reported
 abbrev pub kind_number : FaultKind → ℕ
 kind_number CannotExpand = 0
 kind_number BrokenDefinition = 1
@@ -46,12 +46,12 @@ comes_before a b =
     && (nat_lt a.range.«end» b.range.«end» || (nat_eq a.range.«end» b.range.«end»
     && nat_lt (kind_number a.kind) (kind_number b.kind))))
 
--- a fault put where it belongs among faults in order
+-- a fault inserted among faults in order
 abbrev pub put_in_order : Fault → List Fault → List Fault
 put_in_order f [] = f ∷ []
 put_in_order f (g ∷ gs) = if comes_before g f then g ∷ put_in_order f gs else f ∷ g ∷ gs
 
--- the same faults in order, equal ones kept
+-- the faults in order, equal ones kept
 abbrev pub in_order : List Fault → List Fault
 in_order [] = []
 in_order (f ∷ fs) = put_in_order f (in_order fs)

@@ -1,5 +1,5 @@
--- A text's pieces in places of their own, and how these are places of the text.
-use Rattle.std.specs.Prelude.{◌≡◌, ℕ, ◌+◌, ◌≤◌, zero, suc, All, Contains, List, [], ◌∷◌, Option, Some, None, option_map, filter_map, find, if◌then◌else◌, nat_eq, is_some}
+-- A text's pieces with piece-relative spans, and how these become spans of the text.
+use Rattle.std.specs.Prelude.{◌≡◌, ℕ, ◌+◌, ◌≤◌, zero, suc, All, Contains, List, [], ◌∷◌, Option, Some, None, option_map, find, if◌then◌else◌, nat_eq}
 use Rattle.tt_data.specs.Forest.{Forest, leaf, group, empty, map_spans}
 use Rattle.tt_data.specs.Spans.{span_of}
 use Rattle.tt_data.specs.declared.span.Span.{Span}
@@ -12,46 +12,46 @@ use Rattle.expander_model.specs.OtherPlaces.{definition_with}
 use Rattle.expander_model.specs.Pieces.{first_start, relative}
 use Rattle.small_grammar.specs.Text.{same_text}
 
--- every place in a forest is so
+-- every span in a forest has this property
 abbrev pub AllSpans : (Span → Type 0) → Forest → Type 0
 AllSpans P empty = Unit {0}
 AllSpans P (leaf l rest) = P (span_of l) × AllSpans P rest
 AllSpans P (group d inner rest) = P d.open_span × P d.close_span × AllSpans P inner × AllSpans P rest
 
--- a place of the text itself, no part of which is before n
+-- a span written in the text itself, no part of which is before n
 pub record IsFrom (n : ℕ) (s : Span) : Type 0 where
   pub starts : n ≤ s.range.start
   pub ends : n ≤ s.range.«end»
   pub anchor : s.anchor ≡ 0
   pub ctx : s.ctx ≡ Written
 
--- trees of the text itself, of which no place is before the first token's
+-- trees written in the text itself, none of whose spans begins before the first token's
 abbrev pub StandFromFirst : Forest → Type 0
 StandFromFirst p = AllSpans (IsFrom (first_start p)) p
 
--- a definition's tokens have its number as anchor
+-- the tokens of a definition with this id have it as anchor
 abbrev pub anchored : ℕ → Span → Span
 anchored n s = record s { anchor = n }
 
--- a range counted from a place on, of the text itself
+-- a span counted from n, as a span of the text
 abbrev pub moved_on : ℕ → Span → Span
 moved_on n s = record { range = record { start = n + s.range.start; «end» = n + s.range.«end» }; anchor = 0; ctx = s.ctx }
 
--- a definition in places counted from its first token, and the number of its tree
+-- a definition with piece-relative spans, and the id of its tree
 pub record Numbered : Type 0 where
   pub number : ℕ
   pub definition : Definition
 
--- a definition of the text: where it starts
+-- a definition of the text: where it starts, and what it is
 pub record Met : Type 0 where
   pub start : ℕ
   pub numbered : Numbered
 
--- what numbered definitions mean: their tokens have their numbers as anchors
+-- a definition whose tokens have its id as anchor
 abbrev pub anchored_definition : Numbered → Definition
 anchored_definition d = definition_with (anchored d.number) d.definition
 
--- the world of numbered definitions
+-- what definitions with ids mean: their tokens have their ids as anchors
 abbrev pub numbered_world : World Definition → World Numbered
 numbered_world world = record {
   broken = λ d. world.broken (anchored_definition d);
@@ -59,113 +59,99 @@ numbered_world world = record {
   bursts = λ d argument. world.bursts (anchored_definition d) argument;
 }
 
--- what a name finds among the definitions before, which are given nearest first
+-- what a name resolves to among the definitions before, which are given nearest first
 abbrev pub nearest_met : List Met → List ℕ → Option Met
 nearest_met before name = find (λ (m : Met). same_text m.numbered.definition.name.sym name) before
 
--- a definition with its number, its start aside
+-- a definition with its id, without its start
 abbrev pub numbered_of : Met → Numbered
 numbered_of m = m.numbered
 
--- the scope of these definitions, by number
+-- the scope of these definitions, with their ids
 abbrev pub numbered_scope : List Met → List ℕ → Option Numbered
 numbered_scope before name = option_map numbered_of (nearest_met before name)
 
--- where the nearest definition of a number starts
+-- where the nearest definition of an id starts
 abbrev pub start_of : List Met → ℕ → ℕ
 start_of [] n = 0
 start_of (m ∷ before) n = if nat_eq m.numbered.number n then m.start else start_of before n
 
--- a place of the text: an anchor of 0 stands for the piece itself, another for the nearest definition of that number
+-- the offset that an anchor stands for: 0 is the piece itself, another the nearest definition's
 abbrev pub base_of : ℕ → List Met → ℕ → ℕ
 base_of start before zero = start
 base_of start before (suc n) = start_of before (suc n)
 
--- the same for a whole span
+-- a span of a piece as a span of the text
 abbrev pub resolve : ℕ → List Met → Span → Span
 resolve start before s = moved_on (base_of start before s.anchor) s
 
--- a definition that was met, at its places in the text
+-- a definition of the text, with its spans in the text
 abbrev pub present_definition : Met → Definition
 present_definition m = definition_with (moved_on m.start) m.numbered.definition
 
--- a numbered definition, at the places of the nearest of its number
+-- a definition with its id, at the spans of the nearest one with that id
 abbrev pub resolve_definition : ℕ → List Met → Numbered → Definition
 resolve_definition start before d = definition_with (resolve start before) (anchored_definition d)
 
--- a piece in places of its own: plain, with its start, the definitions before it, its tree and its outcome; or a definition
+-- a piece with piece-relative spans: plain, with start, scope, tree and result; or a definition
 pub data Kept : Type 0 where
   kept : ℕ → List Met → Forest → Outcome Numbered → Kept
   met : Met → Kept
 
--- the same piece in the text
+-- that piece, with its spans in the text
 abbrev pub present : Kept → Member
 present (kept start before tree outcome) =
     plain (map_spans (resolve start before) tree) (outcome_with (resolve start before) (resolve_definition start before) outcome)
 present (met m) = defining (present_definition m)
 
 module _ (world : World Definition) (depth : ℕ) (number_of : Forest → ℕ) where
-  -- a piece that is this definition, as it is met
+  -- a piece that is this definition, with its start and id
   abbrev pub met_of : Forest → Definition → Met
   met_of piece d = record { start = first_start piece; numbered = record { number = number_of (relative piece); definition = d } }
 
-  -- the definitions met so far with that of one more piece, if it is one
+  -- the definitions so far with that of one more piece, if it is one
   abbrev pub with_met : Forest → Option Definition → List Met → List Met
   with_met piece None before = before
   with_met piece (Some d) before = met_of piece d ∷ before
 
-  -- a piece under the definitions before it
+  -- a piece in the scope of the definitions before it
   abbrev pub kept_of : List Met → Forest → Option Definition → Kept
   kept_of before piece (Some d) = met (met_of piece d)
   kept_of before piece None =
       kept (first_start piece) before (relative piece) (expansion (numbered_world world) (numbered_scope before) depth None (relative piece))
 
-  -- the pieces in order, each under the definitions before it, which are given nearest first
+  -- the pieces in order, each in the scope of the definitions before it, given nearest first
   abbrev pub kept_after : List Met → List Forest → List Kept
   kept_after before [] = []
   kept_after before (p ∷ ps) =
       let d : Option Definition = definition_of (relative p) in
       kept_of before p d ∷ kept_after (with_met p d before) ps
 
--- numbers of trees: they begin with 1, different trees have different ones, and a tree has one
+-- ids of trees: they begin with 1, different trees have different ones, and a tree has one
 pub record Tells (table : Forest → ℕ → Type 0) : Type 0 where
   pub positive : (t : Forest) (n : ℕ) → table t n → (k : ℕ) × (n ≡ suc k)
   pub apart : (t u : Forest) (n : ℕ) → table t n → table u n → t ≡ u
   pub one : (t : Forest) (m n : ℕ) → table t m → table t n → m ≡ n
 
--- a definition, with the number of its tree
+-- a definition, with the id of its tree
 pub record IsNumbered (table : Forest → ℕ → Type 0) (d : Numbered) : Type 0 where
   pub tree : Forest
   pub entry : table tree d.number
   pub definition : definition_of tree ≡ Some d.definition
 
--- a definition of the text that was met
+-- a definition of the text has the id of its tree
 abbrev pub IsMet : (Forest → ℕ → Type 0) → Met → Type 0
 IsMet table m = IsNumbered table m.numbered
 
--- the tree of a definition has its number
+-- the tree of a definition has its id
 abbrev pub HasNumber : (Forest → ℕ → Type 0) → (Forest → ℕ) → Forest → Type 0
 HasNumber table number_of p = (d : Definition) → definition_of (relative p) ≡ Some d → table (relative p) (number_of (relative p))
 
--- the trees of those pieces that are definitions, in places of their own
-abbrev pub definition_trees : List Forest → List Forest
-definition_trees [] = []
-definition_trees (p ∷ ps) = if is_some (definition_of (relative p)) then relative p ∷ definition_trees ps else definition_trees ps
-
--- the tree of a definition of a text, places counted from its first token
-abbrev pub defining_tree : Member → Option Forest
-defining_tree (plain piece outcome) = None
-defining_tree (defining d) = Some (relative d.piece)
-
--- those of all definitions of a text
-abbrev pub trees_in : List Member → List Forest
-trees_in ms = filter_map defining_tree ms
-
--- numbers of trees, from 1 on: no two different trees have one number
+-- ids of trees, from 1 on: no two different trees have one id
 pub record TellsApart (number_of : Forest → ℕ) (trees : List Forest) : Type 0 where
   pub positive : All (λ t. 1 ≤ number_of t) trees
   pub apart : All (λ t. All (λ u. number_of t ≡ number_of u → t ≡ u) trees) trees
 
--- one of these trees, and its number
+-- one of these trees, and its id
 abbrev pub Known : (Forest → ℕ) → List Forest → Forest → ℕ → Type 0
 Known number_of trees t n = Contains trees t × (n ≡ number_of t)

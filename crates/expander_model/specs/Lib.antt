@@ -6,15 +6,16 @@ pub mod Expansion
 pub mod Printing
 pub mod Faults
 pub mod Meaning
--- what the meaning of a text stands on
+-- what the meaning of a text is built on
 pub mod World
 -- what the count of pieces and the laws rest on
 pub mod EqualTrees
 pub mod CallSteps
 pub mod Changes
 pub mod OtherPlaces
-pub mod Held
+pub mod DefinitionTrees
 -- what the functions inside the crate promise each other
+pub mod Held
 pub mod HashedTrees
 pub mod Splitting
 pub mod WalkSteps

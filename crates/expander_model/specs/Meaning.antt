@@ -1,4 +1,4 @@
--- The meaning of a text: its reading fault, or the printed text and the faults of its expansion. (Of this project.)
+-- The meaning of a text: its reading fault, or its printed text and faults. (Of this project.)
 use Rattle.std.specs.Prelude.{ℕ, List, [], ◌∷◌, ◌++◌, Option, Some, None, Result, Ok, Err, map, flat_map, if◌then◌else◌}
 use Rattle.tt_data.specs.Forest.{Forest}
 use Rattle.tt_data.specs.Walk.{Step}
@@ -11,8 +11,8 @@ use Rattle.expander_model.specs.Expansion.{World, Outcome, PlacedStep, expansion
 use Rattle.expander_model.specs.Printing.{PrintedToken, visible, printed, left_out, text_of}
 use Rattle.expander_model.specs.Faults.{fault_at, nested, unspellable, in_order}
 
--- what the layers below give: a text's forest or its reading fault, what definitions mean, and the text of a
--- visible token before those that follow, or none
+-- what the layers below give: a text's forest or its reading fault, what definitions mean, and
+-- the text of a visible token before those that follow, or none
 pub record Layers : Type 0 where
   pub read : List ℕ → Result Forest ReadFault
   pub world : World Definition
@@ -23,7 +23,7 @@ pub data Member : Type 0 where
   plain : Forest → Outcome Definition → Member
   defining : Definition → Member
 
--- what a text means that was read
+-- the meaning of a text that was read
 pub record ReadMeaning : Type 0 where
   pub members : List Member
   pub tokens : List PrintedToken
@@ -44,12 +44,12 @@ abbrev pub output : List Member → List PlacedStep
 output ms = visible (flat_map output_of ms)
 
 module _ (layers : Layers) where
-  -- the faults of a piece's expansion, or that of a definition that is broken
+  -- the faults of a piece's expansion, or that of an invalid definition
   abbrev pub member_faults : Member → List Fault
   member_faults (plain piece outcome) = map (λ f. fault_at f.0 f.1) outcome.faults
   member_faults (defining d) = if layers.world.broken d then fault_at BrokenDefinition d.name.span ∷ [] else []
 
-  -- the tokens that are printed, and the faults of a text, in order
+  -- the tokens that are printed
   abbrev pub tokens_of : List Member → List PrintedToken
   tokens_of ms = printed layers.spelling (output ms)
 
@@ -62,7 +62,7 @@ module _ (layers : Layers) where
   meaning_of ms = record { members = ms; tokens = tokens_of ms; text = text_of (tokens_of ms); faults = faults_of ms }
 
 module _ (layers : Layers) (depth : ℕ) where
-  -- a piece under the definitions before it, which are given nearest first
+  -- a piece in the scope of the definitions before it, which are given nearest first
   abbrev pub member : List Definition → Forest → Option Definition → Member
   member before piece (Some d) = defining d
   member before piece None = plain piece (expansion layers.world (nearest before) depth None piece)
@@ -73,11 +73,11 @@ module _ (layers : Layers) (depth : ℕ) where
       let d : Option Definition = definition_of p in
       member before p d ∷ members_after (with_definition d before) ps
 
-  -- the pieces of a forest in order, each under those before it
+  -- the pieces of a forest in order, each in the scope of those before it
   abbrev pub members : Forest → List Member
   members f = members_after [] (pieces f)
 
-  -- what a text means: no session, no edit and no earlier text is in it
+  -- the meaning of a text: it depends on no session, no edit and no earlier text
   abbrev pub meaning_from : Result Forest ReadFault → Result ReadMeaning ReadFault
   meaning_from (Err fault) = Err fault
   meaning_from (Ok f) = Ok (meaning_of layers (members f))

@@ -1,4 +1,4 @@
--- Definitions at other places, and worlds that look at no place.
+-- Definitions under a span map, and worlds that don't look at spans.
 use Rattle.std.specs.Prelude.{◌≡◌, option_map}
 use Rattle.tt_data.specs.Forest.{Forest, map_spans}
 use Rattle.tt_data.specs.declared.span.Span.{Span}
@@ -6,7 +6,7 @@ use Rattle.expander_model.specs.Definitions.{Definition}
 use Rattle.expander_model.specs.Expansion.{World}
 use Rattle.expander_model.specs.World.{made}
 
--- a definition with every place in it changed by f
+-- a definition with f applied to every span in it
 abbrev pub definition_with : (Span → Span) → Definition → Definition
 definition_with f d = record {
   name = record d.name { span = f d.name.span };
@@ -16,11 +16,11 @@ definition_with f d = record {
   piece = map_spans f d.piece;
 }
 
--- it makes no difference whether a place is changed by f before or after it is marked as made
+-- mapping a span by f and then marking it as made equals marking and then mapping it
 abbrev pub CommutesWithMarker : (Span → Span) → Type 0
 CommutesWithMarker f = (s : Span) → f (made s) ≡ made (f s)
 
--- for a definition and an argument at other places a world gives the same forest at other places
+-- under a span map on definition and argument, a world gives the same result under the map
 pub record LooksAtNoPlace (world : World Definition) : Type 0 where
   pub broken : (f : Span → Span) (d : Definition) → world.broken (definition_with f d) ≡ world.broken d
   pub fit : (f : Span → Span) → CommutesWithMarker f → (d : Definition) (argument : Forest)

@@ -1,4 +1,4 @@
--- The printed tokens of a list of steps, each with its place, and those that are left out. (Of this project.)
+-- The printed tokens of a list of events, each with its span, and those that are omitted.
 use Rattle.std.specs.Prelude.{ℕ, List, [], ◌∷◌, ◌++◌, Option, Some, None, map, if◌then◌else◌}
 use Rattle.tt_data.specs.Walk.{Step}
 use Rattle.bridge.specs.Printing as printing
@@ -6,7 +6,7 @@ use Rattle.bridge.specs.Printing.{is_visible_step}
 use Rattle.bridge.specs.Spelling as spelling
 use Rattle.expander_model.specs.Expansion.{PlacedStep}
 
--- the visible ones of the steps
+-- the visible ones of the events
 abbrev pub visible : List PlacedStep → List PlacedStep
 visible [] = []
 visible (s ∷ more) = if is_visible_step s.step then s ∷ visible more else visible more
@@ -16,7 +16,7 @@ pub record PrintedToken : Type 0 where
   pub token : PlacedStep
   pub text : List ℕ
 
--- the same without its place
+-- a printed token without its call
 abbrev pub bare : PrintedToken → printing.PrintedToken
 bare t = record { step = t.token.step; text = t.text }
 
@@ -24,7 +24,7 @@ bare t = record { step = t.token.step; text = t.text }
 abbrev pub text_of : List PrintedToken → List ℕ
 text_of tokens = printing.text_of (map bare tokens)
 
--- `spelling` gives a visible token's text, before those that follow, or none where it has no spelling
+-- `spelling` gives the text of a visible token before those that follow, or none if it has none
 module _ (spelling : Step → List PlacedStep → Option (List ℕ)) where
   abbrev pub spelled : PlacedStep → Option (List ℕ) → List PrintedToken
   spelled s None = []
@@ -39,15 +39,15 @@ module _ (spelling : Step → List PlacedStep → Option (List ℕ)) where
   unspelled s None = s ∷ []
   unspelled s (Some text) = []
 
-  -- those that have none, and are left out
+  -- the visible tokens without a spelling, which are omitted
   abbrev pub left_out : List PlacedStep → List PlacedStep
   left_out [] = []
   left_out (s ∷ more) = unspelled s (spelling s.step more) ++ left_out more
 
--- the steps without their places
+-- the events without their calls
 abbrev pub steps_of : List PlacedStep → List Step
 steps_of steps = map (λ s. s.step) steps
 
--- the spelling of a token, which hangs on no place
+-- the spelling of a token, which depends on no span
 abbrev pub spelling_before : Step → List PlacedStep → Option (List ℕ)
 spelling_before s more = spelling.spelling s (steps_of more)

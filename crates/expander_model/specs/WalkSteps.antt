@@ -1,4 +1,4 @@
--- A walk through trees, step by step.
+-- A traversal of trees, event by event.
 use Rattle.std.specs.Prelude.{◌≡◌, List, [], ◌∷◌, Option, Some, None, reverse}
 use Rattle.tt_data.specs.Forest.{Forest, empty, leaf, group}
 use Rattle.tt_data.specs.declared.delimiter.Delimiter.{Delimiter}
@@ -9,11 +9,11 @@ use Rattle.bridge.specs.declared.printing.event.TokenEvent.TheVariants.{Leaf, Op
 use Rattle.expander_model.specs.declared.tree_walk.Around.{Around}
 use Rattle.expander_model.specs.declared.tree_walk.TreeWalk.{TreeWalk}
 
--- the groups that a walk is in, the innermost first
+-- the groups around the present position, the innermost first
 abbrev pub groups_of : TreeWalk → List Around
 groups_of w = reverse w.around.items
 
--- a group at the beginning was entered: the walk goes on over what it holds
+-- a group at the beginning was entered: the traversal goes on with its trees
 pub record Enters (kind : DelimiterKind) (span : Span) (old new : TreeWalk) : Type 0 where
   pub brackets : Delimiter
   pub behind : Forest
@@ -22,13 +22,13 @@ pub record Enters (kind : DelimiterKind) (span : Span) (old new : TreeWalk) : Ty
   pub first : old.here ≡ group brackets new.here behind
   pub groups : groups_of new ≡ record { kind = kind; close_span = brackets.close_span; behind = behind } ∷ groups_of old
 
--- at the end of a list the innermost group is left, where there is one
+-- at the end of a list the innermost group is left, if there is one
 abbrev pub GoesOut : TreeWalk → Option TokenEvent → TreeWalk → Type 0
 GoesOut old (Some (Closes kind span)) new = groups_of old ≡ record { kind = kind; close_span = span; behind = new.here } ∷ groups_of new
 GoesOut old None new = groups_of old ≡ []
 GoesOut old _ new = ⊥
 
--- one step of a walk, or none at its end
+-- one event of a traversal, or none at its end
 abbrev pub GoesOn : TreeWalk → Option TokenEvent → TreeWalk → Type 0
 GoesOn old (Some (Leaf l)) new = (old.here ≡ leaf l.now new.here) × (groups_of new ≡ groups_of old)
 GoesOn old (Some (Opens kind span)) new = Enters kind span old new

@@ -1,4 +1,4 @@
--- What definitions mean: the rules that are read of them, and what the first that fits a call gives. (The Rust Reference, "Macros By Example".)
+-- What definitions mean: their rules, and what the first rule that fits a call gives.
 use Rattle.std.specs.Prelude.{Option, option_map, is_some, if◌then◌else◌}
 use Rattle.tt_data.specs.Forest.{Forest}
 use Rattle.tt_data.specs.declared.edition.Edition.{Edition}
@@ -14,12 +14,12 @@ use Rattle.mbe.specs.Markers.{is_name}
 use Rattle.expander_model.specs.Definitions.{Definition}
 use Rattle.expander_model.specs.Expansion.{World}
 
--- the rules of a definition, all of whose words are of this edition, with its first fault
+-- the rules of a definition, all of whose identifiers are of this edition, with its first fault
 abbrev pub rules_in : Edition → Definition → Rules
 rules_in edition d =
     if d.is_macro then macro_of (λ context. edition) d.arguments d.body else macro_rules_of (λ context. edition) d.body
 
--- where a template's token stands in what a call gives: at its own place, but made
+-- the span of a transcriber's token in a call's result: its own, with the context `Made`
 abbrev pub made : Span → Span
 made span = record span { ctx = Made }
 

@@ -1,5 +1,5 @@
-//! Guesses where a piece ends, by the kinds of its tokens alone. The reader uses it to choose how far to read; what it
-//! reads decides.
+//! Guesses where a piece ends, by the kinds of its tokens alone. It decides speed alone: the
+//! reader uses the guess to choose how far to read, and what it reads decides.
 ghost use Rattle.std.specs.Prelude.{◌≤◌, IfSome, length};
 
 use rustc_lexer::{DocStyle, Token, TokenKind};
@@ -13,14 +13,14 @@ enum Head {
     Other,
 }
 
-// What was met of a piece: how many groups are open, and what it begins with.
+// What was seen of a piece: how many groups are open, and what it begins with.
 #[derive(Clone, Copy)]
 struct Begun {
     depth: usize,
     head: Head,
 }
 
-// What a piece begins with, with one token more.
+// What a piece begins with, after one more token.
 fn head_with(head: Head, kind: TokenKind) -> Head {
     match (head, kind) {
         (Head::Nothing, TokenKind::Pound) => Head::Pound,
@@ -30,7 +30,7 @@ fn head_with(head: Head, kind: TokenKind) -> Head {
     }
 }
 
-// Whether the token is a comment inside of what it tells of.
+// Whether the token is an inner doc comment.
 fn is_inner_doc(kind: TokenKind) -> bool {
     match kind {
         TokenKind::LineComment { doc_style } => doc_style == Some(DocStyle::Inner),
@@ -39,7 +39,7 @@ fn is_inner_doc(kind: TokenKind) -> bool {
     }
 }
 
-// Whether the token is white space or a comment that is none of an item.
+// Whether the token is trivia: white space, or a comment that is no doc comment.
 fn is_between(kind: TokenKind) -> bool {
     match kind {
         TokenKind::Whitespace => true,
@@ -58,7 +58,7 @@ fn closes_piece(head: Head, kind: TokenKind) -> bool {
     }
 }
 
-// The piece with a token outside groups, or `None` where it ends there.
+// The piece after a token outside groups, or `None` if the token ends it.
 fn with_outer(begun: Begun, kind: TokenKind) -> Option<Begun> {
     let begins = begun.head == Head::Nothing;
     if is_between(kind) {
@@ -78,7 +78,7 @@ fn with_outer(begun: Begun, kind: TokenKind) -> Option<Begun> {
     }
 }
 
-// The piece with a token in a group, or `None` where it ends there.
+// The piece after a token in a group, or `None` if the token ends it.
 fn with_inner(begun: Begun, kind: TokenKind) -> Option<Begun> {
     let Begun { depth, head } = begun;
     match kind {
@@ -100,7 +100,8 @@ fn with_inner(begun: Begun, kind: TokenKind) -> Option<Begun> {
     }
 }
 
-/// How many of the tokens the first piece seems to have: none is told where nothing seems to end it.
+/// A guess of how many of the tokens the first piece has, by their kinds alone. `None` if nothing
+/// seems to end it.
 pub fn piece_end(tokens: &[Token]) -> Option<usize>
     ensures { IfSome result (λ n. n ≤ length tokens.now) }
 {

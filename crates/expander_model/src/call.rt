@@ -10,10 +10,10 @@ use tt_data::{DelimiterKind, Ident, Punct, Spacing};
 #[derive(Drop)]
 pub struct Call<'a> {
     pub name: Ident,
-    /// Its group, and the trees behind it.
+    /// The trees from its group on.
     pub from_group: TtIter<'a>,
     pub argument: TtIter<'a>,
-    /// The trees behind it.
+    /// The trees after it.
     pub rest: TtIter<'a>,
 }
 
@@ -49,7 +49,7 @@ fn bare_call<'a>(trees: &TtIter<'a>) -> Option<Call<'a>>
     })
 }
 
-/// What would be a call, but stands behind a `::` with which the trees begin.
+/// What would be a call but for the `::` with which the trees begin.
 #[inline(always)]
 pub fn call_behind_colons<'a>(trees: &TtIter<'a>) -> Option<Call<'a>>
     ensures { result ≡ call_behind_colons trees.now }
@@ -63,7 +63,7 @@ pub fn call_behind_colons<'a>(trees: &TtIter<'a>) -> Option<Call<'a>>
     }
 }
 
-// A call with its `$crate ::`.
+// A call after its `$crate ::`.
 fn crate_call<'a>(trees: &TtIter<'a>) -> Option<Call<'a>>
     ensures { result ≡ crate_call trees.now }
 {
@@ -75,7 +75,7 @@ fn crate_call<'a>(trees: &TtIter<'a>) -> Option<Call<'a>>
     }
 }
 
-/// The call with which the trees begin.
+/// The call that the trees begin with, if they do. (The Rust Reference, "Macros": invocation.)
 pub fn call_at<'a>(trees: &TtIter<'a>) -> Option<Call<'a>>
     ensures { result ≡ call_at trees.now }
 {

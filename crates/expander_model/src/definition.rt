@@ -1,4 +1,4 @@
-//! Tells whether a piece is a definition, and which parts it has.
+//! Finds whether a piece is a definition, and its parts.
 ghost use Rattle.std.specs.Prelude.{◌≡◌, Option, option_map, unwrap_or};
 ghost use Rattle.expander_model.specs.Definitions.{after_attribute, after_attributes, after_parenthesis, after_word, after_pub, after_macro_rules, is_semicolon, ends_definition, macro_rules_of, macro_body, macro_of, definition_of};
 ghost use Rattle.small_grammar.specs.Text.{has_text};
@@ -7,14 +7,14 @@ use std::marker::Model;
 use tt::TtIter;
 use tt_data::{Delimiter, DelimiterKind, Ident, IdentIsRaw};
 
-/// A definition of a macro, its trees borrowed from the text.
+/// A definition of a macro. Its trees are borrowed from the text.
 #[derive(Drop)]
 pub struct Definition<'a> {
     pub name: Ident,
-    /// The group before the body, of a `macro` with a single rule.
+    /// The group before the body, for a `macro` with a single rule.
     pub arguments: Option<TtIter<'a>>,
     pub body: TtIter<'a>,
-    /// Read by the rules of `macro`, not by those of `macro_rules`.
+    /// Whether it is a `macro`; else it is a `macro_rules`.
     pub is_macro: bool,
     /// The whole piece.
     pub piece: TtIter<'a>,
@@ -30,14 +30,14 @@ impl<'a> Model for Definition<'a> {
     ghost view = { λ d. record { name = d.name; arguments = d.arguments; body = d.body; is_macro = d.is_macro; piece = d.piece } };
 }
 
-// Whether the name is this word, and isn't raw.
+// Whether the identifier is this word, and isn't raw.
 pub(crate) fn is_word(name: &Ident, word: &str) -> bool
     ensures { result ≡ has_text word.now name.now }
 {
     name.is_raw == IdentIsRaw::No && name.sym.as_str() == word
 }
 
-// What follows an outer attribute, where the list begins with one.
+// What follows an outer attribute, if the list begins with one.
 fn after_attribute<'a>(trees: &TtIter<'a>) -> Option<TtIter<'a>>
     ensures { result ≡ after_attribute trees.now }
 {
@@ -99,7 +99,7 @@ fn after_pub<'a>(trees: &TtIter<'a>) -> Option<TtIter<'a>>
     }
 }
 
-// Whether there is nothing but a `;`.
+// Whether the trees are exactly a `;`.
 fn is_semicolon(trees: &TtIter<'_>) -> bool
     ensures { result ≡ is_semicolon trees.now }
 {
@@ -151,7 +151,7 @@ fn macro_rules_of<'a>(piece: &TtIter<'a>, trees: &TtIter<'a>) -> Option<Definiti
     })
 }
 
-// The body of a `macro`: `{ .. }`, or with its one rule's pattern `(..) { .. }`.
+// The body of a `macro`: `{ .. }`, or after its one rule's matcher, `(..) { .. }`.
 fn macro_body<'a>(trees: &TtIter<'a>) -> Option<(Option<TtIter<'a>>, TtIter<'a>)>
     ensures { result ≡ macro_body trees.now }
 {
@@ -190,7 +190,8 @@ fn macro_of<'a>(piece: &TtIter<'a>, trees: &TtIter<'a>) -> Option<Definition<'a>
     })
 }
 
-/// The definition that a piece is, or `None` where it is plain.
+/// The definition that a piece is, or `None` for a plain piece. (The Rust Reference, "Macros By
+/// Example"; Rust's unstable book, `decl_macro`.)
 pub fn definition_of<'a>(piece: &TtIter<'a>) -> Option<Definition<'a>>
     ensures { result ≡ definition_of piece.now }
 {

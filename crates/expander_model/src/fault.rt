@@ -4,33 +4,35 @@ ghost use Rattle.bridge.specs.TokenEvents.{step_of};
 ghost use Rattle.expander_model.specs.Faults.{place, is_definition_word, in_order};
 
 use crate::definition::is_word;
-use bridge::TokenEvent;
+use bridge::parts::TokenEvent;
 use std::alloc::AllocError;
 use tt_data::{Leaf, Span, TextRange};
 
-/// What an expansion found fault with, in the order in which faults of one place are told.
+/// The kind of a fault. Faults with one range are reported in this order.
 #[derive(Clone, Copy, Debug, PartialEq, Eq, PartialOrd, Ord)]
 pub enum FaultKind {
-    /// No rule of the definition matches the call.
+    /// No rule of the definition fits the call.
     CannotExpand,
-    /// The definition's rules cannot be parsed: told at its name, and at each call of it.
+    /// The definition is invalid: its rules cannot be parsed. Reported at its name, and at each
+    /// call of it.
     BrokenDefinition,
     /// No level is left to expand the call.
     RecursionLimit,
-    /// The words `macro_rules` or `macro` are in the output.
+    /// A definition keyword, `macro_rules` or `macro`, is in the output.
     NestedDefinition,
-    /// A token has no spelling and was left out of the output.
+    /// A token has no spelling and was omitted from the output.
     Unspellable,
 }
 
-/// A fault, and the bytes of the text that it is told at.
+/// A fault, and the bytes of the text that it is reported at.
 #[derive(Clone, Copy, Debug, PartialEq, Eq)]
 pub struct Fault {
     pub kind: FaultKind,
     pub range: TextRange,
 }
 
-/// Where a fault of a step of the output is told: at the name of the outermost expanded call, or at the step itself.
+/// The span at which a fault of an output token is reported: the name of the outermost replaced
+/// call, or else the token itself.
 pub fn place(step: &TokenEvent<'_>, outer: Option<Span>) -> Span
     ensures { result ≡ place (record { step = step_of step.now; outer = outer }) }
 {
@@ -43,7 +45,7 @@ pub fn place(step: &TokenEvent<'_>, outer: Option<Span>) -> Span
     }
 }
 
-/// Whether the step is a word that begins a definition.
+/// Whether the event is a definition keyword: `macro_rules` or `macro`, not raw.
 pub fn is_definition_word(step: &TokenEvent<'_>) -> bool
     ensures { result ≡ is_definition_word (step_of step.now) }
 {
@@ -54,7 +56,7 @@ pub fn is_definition_word(step: &TokenEvent<'_>) -> bool
     }
 }
 
-/// Puts the faults in order of start, end and kind.
+/// Sorts faults by start, end and kind.
 pub fn sort_faults(faults: &mut Vec<Fault>) -> Result<(), AllocError>
     ensures { OnOk result (faults.new.items ≡ in_order faults.old.items) }
 {

@@ -8,7 +8,7 @@ use std::hash::{Hash, Hasher};
 use std::marker::Model;
 use tt::TopSubtree;
 
-/// A tree of its own, with its hash, and whether it is a definition, which are computed once.
+/// A piece's tree with its hash, and whether it is a definition; both are computed once.
 #[derive(Drop)]
 pub struct HashedTree {
     tree: TopSubtree,
@@ -70,7 +70,7 @@ fn hash_of(tree: &TopSubtree) -> u64
 }
 
 impl HashedTree {
-    /// The tree, whose hash is computed, and whether it is a definition.
+    /// The tree with its hash, and whether it is a definition.
     pub fn new(tree: TopSubtree) -> Self
         ensures { result ≡ tree }
     {
@@ -90,7 +90,7 @@ impl HashedTree {
         &self.tree
     }
 
-    /// The hash of the tree, which is kept.
+    /// The hash of the tree.
     pub fn kept_hash(&self) -> u64
         ensures { result ≡ tree_hash self.now }
     {
@@ -105,7 +105,7 @@ impl HashedTree {
     }
 }
 
-// Two are equal where their trees are, and then their hashes are, which are looked at first.
+// Two are equal if their trees are. Equal trees have equal hashes, so these are compared first.
 impl PartialEq for HashedTree {
     ghost use Rattle.tt.specs.contracts.top_subtree.TopSubtreePartialEq.TheImpl.Laws as tree_laws;
 
@@ -134,7 +134,7 @@ impl Hash for HashedTree {
 
     ghost respects_eq = { λ a b e. ap (λ writes. fed.u64 (hash_of writes)) (tree_laws.respects_eq-law a b e) };
 
-    /// Feeds the kept hash.
+    /// Feeds the hash that was computed once.
     fn hash<H: Hasher>(&self, state: &mut H) {
         state.write_u64(self.hash);
     }

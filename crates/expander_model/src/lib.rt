@@ -1,5 +1,5 @@
-//! What a text falls into: its pieces, the definitions and calls among them, their faults, and trees whose spans count
-//! from a piece's first token. Everything here is told of one text by itself: nothing is cached.
+//! The parts of a text: its pieces, the definitions and calls among them, their faults, and trees
+//! with piece-relative spans. Everything here is about one text by itself: nothing is cached.
 #![tactic(auto)]
 
 pub mod boundary;

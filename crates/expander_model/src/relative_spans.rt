@@ -16,7 +16,7 @@ use tt_data::{
     laws,
 };
 
-/// The leaf at another place.
+/// The leaf with this span.
 pub(crate) fn leaf_at(leaf: Leaf, span: Span) -> Leaf
     ensures { (f : Span → Span) → span ≡ f (span_of leaf) → result ≡ leaf_with f leaf }
 {
@@ -27,7 +27,7 @@ pub(crate) fn leaf_at(leaf: Leaf, span: Span) -> Leaf
     }
 }
 
-// The place counted from another.
+// The span counted from offset `from`.
 fn moved_back(from: u32, span: Span) -> Span
     ensures { result ≡ moved_back from span }
 {
@@ -39,7 +39,7 @@ fn moved_back(from: u32, span: Span) -> Span
     }
 }
 
-// The token with its places counted from another.
+// The token with its spans counted from offset `from`.
 fn token_from(from: u32, token: TokenTree) -> TokenTree
     ensures { result ≡ token_with (moved_back from) token }
 {
@@ -59,7 +59,7 @@ fn token_from(from: u32, token: TokenTree) -> TokenTree
     }
 }
 
-/// Where the first token of a piece starts.
+/// The offset at which the first token of a piece starts.
 pub fn start_of(piece: &TtIter<'_>) -> u32
     ensures { result ≡ first_start piece.now }
 {
@@ -69,7 +69,7 @@ pub fn start_of(piece: &TtIter<'_>) -> u32
     }
 }
 
-// No brackets, at the start of a text.
+// The top of a tree: no brackets, at the start of a text.
 fn text_top() -> Delimiter
     ensures { result ≡ text_top }
 {
@@ -80,7 +80,7 @@ fn text_top() -> Delimiter
     })
 }
 
-// The tokens of a tree of these trees, with their places counted from another.
+// The tokens of a tree of these trees, with their spans counted from offset `from`.
 fn tokens_from(
     alloc: Global,
     from: u32,
@@ -99,8 +99,8 @@ fn tokens_from(
     Ok(tokens)
 }
 
-/// A piece as a tree of its own, its places counted from its first token. It is some of a tree, so that its tokens are not
-/// too many.
+/// A piece as a tree with piece-relative spans. It is a part of a tree, so it has no more tokens
+/// than a tree may have.
 pub fn own_tree(alloc: Global, piece: &TtIter<'_>) -> Result<TopSubtree, TtFault>
     ensures tree { IfOk result (λ t. t ≡ record { delimiter = text_top; inner = relative piece.now }) }
     ensures memory { IsOkUnless result fault.Memory }

@@ -44,7 +44,7 @@ pub(crate) fn ends_statement(leaf: &Leaf) -> bool
     }
 }
 
-/// A punct that stands alone, another leaf as it is.
+/// A punct with spacing `Alone`, or another leaf as it is.
 pub(crate) fn alone(leaf: Leaf) -> Leaf
     ensures { result ≡ alone leaf }
 {
@@ -57,7 +57,7 @@ pub(crate) fn alone(leaf: Leaf) -> Leaf
     }
 }
 
-// A `;` as it stands alone, and no other leaf.
+// A `;` with spacing `Alone`, or `None` for another leaf.
 fn end_alone(leaf: Leaf) -> Option<Leaf>
     ensures { result ≡ end_alone leaf }
 {
@@ -68,14 +68,14 @@ fn end_alone(leaf: Leaf) -> Option<Leaf>
     }
 }
 
-/// A leaf, and the place among a tree's tokens, its own head included, where it is put.
+/// A leaf, and the index among a tree's tokens at which it is set. The tree's own head counts.
 #[derive(Drop)]
 pub(crate) struct Put {
     at: usize,
     leaf: Leaf,
 }
 
-// Each `;` of the tree's own list as it stands alone.
+// Each `;` of the tree's top list, with spacing `Alone`.
 fn ends_alone(alloc: Global, tree: &TopSubtree) -> Result<Vec<Put>, AllocError>
     ensures { IfOk result (λ puts. put_all puts.items (tokens_of tree.now) ≡ tokens_of (record tree.now { inner = separated tree.now.inner })) }
 {
@@ -93,7 +93,7 @@ fn ends_alone(alloc: Global, tree: &TopSubtree) -> Result<Vec<Put>, AllocError>
     Ok(puts)
 }
 
-/// Makes each `;` of the tree's own list stand alone, where it is: nothing is joined to what ends a piece.
+/// Makes each `;` of the tree's top list `Alone`, in place: nothing is glued to what ends a piece.
 pub fn set_apart(alloc: Global, tree: &mut TopSubtree) -> Result<(), TtFault>
     ensures apart { OnOk result (tree.new.inner ≡ separated tree.old.inner) }
     ensures top { OnOk result (tree.new.delimiter ≡ tree.old.delimiter) }
@@ -106,7 +106,7 @@ pub fn set_apart(alloc: Global, tree: &mut TopSubtree) -> Result<(), TtFault>
     Ok(())
 }
 
-// Passes the next tree, and tells whether it ends the piece that is begun.
+// Passes the next tree, and answers whether it ends the piece begun. `None` if there is no tree.
 fn pass_tree<'a>(rest: &mut TtIter<'a>, begun: &TtIter<'_>) -> Option<bool>
     ensures next { PassesTree begun.now rest.old rest.new result }
     ensures always { PassesAlways begun.now rest.old rest.new result }
@@ -120,7 +120,7 @@ fn pass_tree<'a>(rest: &mut TtIter<'a>, begun: &TtIter<'_>) -> Option<bool>
     Some(ends_piece(begun, brackets))
 }
 
-/// The next piece, or `None` where nothing is left. The iterator goes on to what follows the piece.
+/// The next piece, or `None` at the end. The iterator goes on after the piece.
 pub fn next_piece<'a>(rest: &mut TtIter<'a>) -> Option<TtIter<'a>>
     ensures { CutsOff rest.old rest.new result }
 {
@@ -138,18 +138,18 @@ pub fn next_piece<'a>(rest: &mut TtIter<'a>) -> Option<TtIter<'a>>
     }
 }
 
-/// What trees side by side are.
+/// How many pieces some trees are.
 #[derive(Drop)]
 pub enum Shape {
-    /// One whole piece, wherever they stand and whatever follows.
+    /// One whole piece, wherever they are and whatever follows.
     Whole,
-    /// One piece that nothing ends, wherever they stand: the last of a text.
+    /// One piece that nothing ends: the last of a text.
     Open,
     /// No piece, or more than one.
     Other,
 }
 
-/// What these trees are.
+/// Whether these trees are one whole piece, one open one, or neither.
 pub fn shape_of(piece: &TtIter<'_>) -> Shape
     ensures { HasShape piece.now result }
 {

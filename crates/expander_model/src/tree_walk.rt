@@ -1,14 +1,14 @@
-//! A pre-order walk through trees and the groups in them, step by step, without the call stack.
+//! A pre-order traversal of trees and the groups in them, event by event, without recursion.
 ghost use Rattle.std.specs.Prelude.{◌≡◌, [], ◌∷◌, IfOk, OnOk};
 ghost use Rattle.expander_model.specs.WalkSteps.{GoesOn, GoesOut, groups_of};
 
-use bridge::TokenEvent;
+use bridge::parts::TokenEvent;
 use std::alloc::{AllocError, Global};
 use std::mem::replace;
 use tt::TtIter;
 use tt_data::{Delimiter, DelimiterKind, Span};
 
-/// A group that a walk is in: how it closes, and the trees behind it.
+/// A group around the present position: its closing, and the trees after it.
 #[derive(Drop)]
 pub(crate) struct Around<'a> {
     kind: DelimiterKind,
@@ -16,17 +16,17 @@ pub(crate) struct Around<'a> {
     behind: TtIter<'a>,
 }
 
-/// A walk through trees. It takes memory for each group that it is in, and no stack.
+/// A pre-order traversal. It takes memory for each group that it is in, and no call stack.
 #[derive(Drop)]
 pub struct TreeWalk<'a> {
-    /// The trees that are left of the innermost group.
+    /// The trees left in the innermost group.
     pub here: TtIter<'a>,
-    // The groups that it is in, the innermost last.
+    // The groups around the present position, the innermost last.
     around: Vec<Around<'a>>,
 }
 
 impl<'a> TreeWalk<'a> {
-    /// Before the first of the trees.
+    /// A traversal at the beginning of the trees.
     pub fn new(alloc: Global, trees: &TtIter<'a>) -> Self
         ensures here { result.here ≡ trees.now }
         ensures groups { groups_of result ≡ [] }
@@ -37,7 +37,7 @@ impl<'a> TreeWalk<'a> {
         }
     }
 
-    /// The next step, which is made, a leaf lent: none at the end.
+    /// The next event, a leaf borrowed. `None` at the end.
     #[inline(always)]
     pub fn next(&mut self) -> Result<Option<TokenEvent<'a>>, AllocError>
         ensures { IfOk result (λ step. GoesOn self.old step self.new) }
@@ -56,7 +56,7 @@ impl<'a> TreeWalk<'a> {
         }
     }
 
-    // Goes on over the trees in a group that was passed, before it does behind it.
+    // Goes on with the trees in a group. `self.here` has those after it.
     fn enter(&mut self, brackets: Delimiter, inside: TtIter<'a>) -> Result<(), AllocError>
         ensures here { OnOk result (self.new.here ≡ inside.entry) }
         ensures groups { OnOk result (groups_of self.new
@@ -71,7 +71,7 @@ impl<'a> TreeWalk<'a> {
         Ok(())
     }
 
-    // Goes on behind the innermost group: none where it is in none.
+    // Goes on after the innermost group. `None` if it is in none.
     fn leave(&mut self) -> Option<TokenEvent<'a>>
         ensures { GoesOut self.old result self.new }
     {

@@ -1,4 +1,4 @@
--- Lists by index: what stands at a place, front parts, and what is made of them element by element.
+-- Lists by index: the element at an index, front parts, and maps over a list.
 use Rattle.std.proofs.Common.{◌≡◌, ℕ, ◌<◌, ◌≤◌, ◌+◌, ◌++◌, ◌∙◌, drop, take, zero, suc, Bool, false, List, [], ◌∷◌, length, get_or, map, Option, Some, refl, ap, sym, arith}
 use Rattle.std.specs.Prelude.{◌||◌, slice_get}
 use Rattle.std.specs.List.{list_any}

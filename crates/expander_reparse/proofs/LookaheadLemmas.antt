@@ -1,4 +1,4 @@
--- The characters behind a place of a text.
+-- The two characters after an offset of a text.
 use Rattle.std.proofs.Common.{◌≡◌, ℕ, List, [], ◌∷◌, ◌++◌, Option, None, Some, chars, encode_utf8, length, take, ap, sym, ◌∙◌, IsUtf8}
 use Rattle.std.specs.Option.{MatchOption}
 use Rattle.std.specs.Prelude.{slice_get}

@@ -1,4 +1,4 @@
--- Sources and the pieces that they are of.
+-- Cached pieces, and the pieces that are made from them.
 use Rattle.std.proofs.Common.{◌≡◌, ◌<◌, ℕ, arith, length, zero, suc, List, [], ◌∷◌, ◌++◌, map, Some, ap, sym, ◌∙◌, Global}
 use Rattle.std.specs.Prelude.{slice_get}
 use Rattle.std.specs.Rc.{rc_value}

@@ -1,4 +1,4 @@
--- Pieces as trees of their own, and in the text.
+-- Pieces with piece-relative spans, and the same pieces in the text.
 use Rattle.std.proofs.Common.{◌≡◌, ℕ, suc, ◌+◌, ◌<◌, ◌≤◌, length, List, [], ◌∷◌, ◌++◌, append_assoc, append-nil, drop, get_or, map, refl, ap, sym, subst, ◌∙◌}
 use Rattle.std.specs.Prelude.{All}
 use Rattle.std.proofs.lemmas.List.{at_drop_all, drop_more, map-append}

@@ -1,4 +1,4 @@
--- A text that is passed segment by segment and piece by piece.
+-- A text that is read segment by segment and piece by piece.
 use Rattle.std.proofs.Common.{◌≡◌, ℕ, ◌+◌, ◌-◌, ◌<◌, ◌≤◌, zero, suc, List, [], ◌∷◌, ◌++◌, Option, None, Some, append_assoc, append-nil, length, map, take, drop, refl, ap, sym, subst, ◌∙◌, arith, Global}
 use Rattle.std.specs.Prelude.{All, IfSome, IsUtf8, chars, flat_map, slice_get}
 use Rattle.std.specs.Rc.{rc_value}

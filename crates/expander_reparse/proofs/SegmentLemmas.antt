@@ -1,4 +1,4 @@
--- Stretches: pieces one behind another, with the blanks around them.
+-- Segments: runs of pieces, with the trivia around them.
 use Rattle.std.proofs.Common.{◌≡◌, ℕ, ◌+◌, ◌-◌, ◌≤◌, zero, suc, Bool, List, [], ◌∷◌, ◌++◌, append_assoc, length, map, take, drop, refl, ap, sym, subst, ◌∙◌, arith}
 use Rattle.std.specs.Prelude.{IsUtf8, chars}
 use Rattle.std.specs.Rc.{rc_value}

@@ -1,4 +1,4 @@
--- The pieces of a text, each as a tree of its own with where it stands.
+-- The pieces of a text, each with piece-relative spans and where it starts.
 use Rattle.std.specs.Prelude.{◌≡◌, ℕ, List, map}
 use Rattle.std.specs.Rc.{rc_value}
 use Rattle.tt.specs.Tops.{Top}
@@ -17,20 +17,20 @@ tree_in (held.Alone tree) = rc_value tree
 tree_in (held.Source source) = rc_value (rc_value source).tree
 tree_in (held.Part placed) = part_tree (rc_value placed.segment).parts.items placed.at
 
--- the same of the piece
+-- the tree of a piece with its start
 abbrev pub tree_at : Piece → Top
 tree_at own = tree_in own.tree
 
--- a piece in places of its own stands where its first token does
+-- a piece starts where its first token does, and has its tree with piece-relative spans
 pub record IsOwn (piece : Forest) (own : Piece) : Type 0 where
   pub start : own.start ≡ first_start piece
   pub tree : tree_at own ≡ own_top (relative piece)
 
--- where a piece stands, and its tree in places of its own
+-- where a piece starts, and its tree with piece-relative spans
 abbrev pub own_of : Forest → ℕ × Top
 own_of piece = (first_start piece, own_top (relative piece))
 
--- the same of a piece as the code has it
+-- where a piece of the code starts, and its tree
 abbrev pub own_shown : Piece → ℕ × Top
 own_shown own = (own.start, tree_at own)
 
@@ -38,11 +38,11 @@ own_shown own = (own.start, tree_at own)
 abbrev pub AreOwn : List Forest → List Piece → Type 0
 AreOwn pieces own = map own_shown own ≡ map own_of pieces
 
--- the piece in the text
+-- the piece, with its spans in the text
 abbrev pub piece_at : Piece → Forest
 piece_at own = map_spans (moved_on own.start) (tree_at own).inner
 
--- it stands from its first token on
+-- it starts at its first token
 pub record IsOwnPiece (own : Piece) : Type 0 where
   pub is_own : IsOwn (piece_at own) own
   pub stands : StandFromFirst (piece_at own)

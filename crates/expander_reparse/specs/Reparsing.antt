@@ -27,7 +27,7 @@ use Rattle.expander_reparse.specs.declared.segment.CachedPiece.{CachedPiece}
 use Rattle.expander_reparse.specs.declared.segment.Segments.{Segments}
 use Rattle.expander_reparse.specs.declared.segment.Segment.{Segment}
 
--- the tree of these steps, set apart, is of this shape and starts at its first place
+-- these events read as a tree of this shape, each `;` between pieces alone, that starts at 0
 pub record IsReadPiece (steps : List TextStep) (shape : Shape) (t : Top) : Type 0 where
   pub forest : Forest
   pub read : IsReading steps forest
@@ -36,7 +36,7 @@ pub record IsReadPiece (steps : List TextStep) (shape : Shape) (t : Top) : Type 
   pub shaped : HasShape t.inner shape
   pub at_first : first_start t.inner ≡ 0
 
--- all that stands at this place of a text is this one piece, which nothing ends
+-- all that is left of a text at this offset is this one piece, which nothing ends
 pub record IsLastPiece (text : List ℕ) (at : ℕ) (left : List Token) (o : Piece) : Type 0 where
   pub forest : Forest
   pub read : IsReading (part_steps 0 (length left) (drop at text) left) forest
@@ -46,15 +46,15 @@ pub record IsLastPiece (text : List ℕ) (at : ℕ) (left : List Token) (o : Pie
   pub tree : tree_at o ≡ own_top (separated forest)
   pub met : o.met ≡ None
 
--- a piece is the held one of this number, if one is named: its tree is that one's
+-- a piece has the tree of the cached piece of this index, if one is named
 abbrev pub IsMet : Segments → Option ℕ → Top → Type 0
 IsMet held met tree = IfSome met (λ i. (s : CachedPiece) × IsHeldAt held i s × (rc_value s.tree ≡ tree))
 
--- each piece is the held one that it names, if it names one
+-- each piece has the tree of the cached piece that it names, if it names one
 abbrev pub AreMet : Segments → List Piece → Type 0
 AreMet held own = All (λ (o : Piece). IsMet held o.met (tree_at o)) own
 
--- a piece with these bytes, before this text, with so many tokens, before these, and with this tree
+-- a cached piece with these bytes, before this text, so many tokens, before these, and this tree
 pub record KeepsCached (word behind : List ℕ) (count : ℕ) (after : List Token) (t : Top) (s : CachedPiece) : Type 0 where
   pub bytes : s.cutout.bytes ≡ word
   pub ahead : chars_ahead s.cutout.ahead ≡ take 2 (chars behind)
@@ -62,7 +62,7 @@ pub record KeepsCached (word behind : List ℕ) (count : ℕ) (after : List Toke
   pub mark : s.cutout.mark ≡ begins_with_mark after
   pub tree : rc_value s.tree ≡ t
 
--- a right piece stands first in a text with these tokens
+-- a right cached piece occurs first in a text with these tokens
 pub record IsCachedHere (text : List ℕ) (tokens : List Token) (s : CachedPiece) : Type 0 where
   pub right : IsCachedPiece s
   pub stands : OccursFirst s.cutout text tokens
@@ -71,13 +71,13 @@ pub record IsCachedHere (text : List ℕ) (tokens : List Token) (s : CachedPiece
 abbrev pub IsBlank : TokenKind → Type 0
 IsBlank kind = (t : PlacedToken) (more : List PlacedToken) → steps_of_class (class_of kind) t more ≡ []
 
--- pieces more, which start at these places and have these trees
+-- more pieces were added, which start at these offsets and have these trees
 pub record AddsPieces (shown : List (ℕ × Top)) (old new : List Piece) : Type 0 where
   pub more : List Piece
   pub items : new ≡ old ++ more
   pub are : map own_shown more ≡ shown
 
--- the first trees of a text were passed, whose pieces these are; from this place on these tokens are left
+-- a text was read up to this offset as these pieces, and these tokens are left
 pub record Passed (text : List ℕ) (at : ℕ) (left : List Token) (own : List Piece) : Type 0 where
   pub front : Forest
   pub ps : List Forest
@@ -86,16 +86,16 @@ pub record Passed (text : List ℕ) (at : ℕ) (left : List Token) (own : List P
   pub cuts : (g : Forest) → pieces (joined front g) ≡ ps ++ pieces g
   pub are_own : AreOwn ps own
 
--- each source has the tree of the piece at its place
+-- each cached piece has the tree of the text's piece at its index
 abbrev pub AreTheirs : Segments → List Piece → Type 0
 AreTheirs sources own = (i : ℕ) (s : Rc CachedPiece Global) (o : Piece) → slice_get (all_in sources) i ≡ Some s → slice_get own i ≡ Some o
     → rc_value (rc_value s).tree ≡ tree_at o
 
--- just these sources are of these pieces
+-- these cached pieces have exactly the trees of these pieces
 abbrev pub AreMade : List Piece → List (Rc CachedPiece Global) → Type 0
 AreMade own list = map (λ (s : Rc CachedPiece Global). rc_value (rc_value s).tree) list ≡ map tree_at own
 
--- since a segment was begun these tokens of a text were passed, and read as its parts
+-- the tokens since the open segment began were passed, and are read as its parts
 pub record IsBegun (text : List ℕ) (at : ℕ) (left : List Token) (b : OpenSegment) : Type 0 where
   pub tokens : List Token
   pub here : AreTokensFrom text b.from (tokens ++ left)
@@ -105,7 +105,7 @@ pub record IsBegun (text : List ℕ) (at : ℕ) (left : List Token) (b : OpenSeg
   pub reads : AreReadAs (take (bytes_of tokens) (drop b.from text)) tokens (begins_with_mark left) (λ n. map (part_shown n) b.parts.items)
   pub parts : AreParts (bytes_of tokens) b.parts.items
 
--- one more piece, which stands at this place, is part of a segment that is begun
+-- one more piece, which starts at this offset, is part of the open segment
 pub record TakesPart (at : ℕ) (source : Rc CachedPiece Global) (old new : OpenSegment) : Type 0 where
   pub part : SegmentPart
   pub source_is : part.source ≡ source
@@ -115,14 +115,14 @@ pub record TakesPart (at : ℕ) (source : Rc CachedPiece Global) (old new : Open
   pub tokens : new.tokens ≡ old.tokens
   pub first : new.first ≡ old.first
 
--- one more segment is held, behind so many pieces
+-- one more segment is cached, after so many pieces
 pub record AddsSegment (first : ℕ) (s : Segment) (old new : List CachedSegment) : Type 0 where
   pub held : CachedSegment
   pub first_is : held.first ≡ first
   pub is : rc_value held.segment ≡ s
   pub items : new ≡ old ++ held ∷ []
 
--- a text was passed up to here: its pieces so far, the stretches that they are of, and what is held of them
+-- a text was read up to here: its pieces so far, their segments, and what is cached of them
 pub record IsReparse (held : Segments) (text : List ℕ) (at : ℕ) (left : List Token) (now : Reparse) : Type 0 where
   pub passed : Passed text at left now.own.items
   pub met : AreMet held now.own.items

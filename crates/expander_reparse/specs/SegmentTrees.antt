@@ -1,4 +1,4 @@
--- The trees of the parts of a segment.
+-- The trees of the pieces of a segment.
 use Rattle.std.specs.Prelude.{ℕ, zero, suc, List, [], ◌∷◌}
 use Rattle.std.specs.Rc.{rc_value}
 use Rattle.tt.specs.Tops.{Top}
@@ -6,7 +6,7 @@ use Rattle.tt_data.specs.Forest.{empty}
 use Rattle.expander_model.specs.HashedTrees.{own_top}
 use Rattle.expander_reparse.specs.declared.segment.SegmentPart.{SegmentPart}
 
--- the tree of the part of this index: an empty one where there are not so many
+-- the tree of the piece at this index: an empty one where there are fewer
 abbrev pub part_tree : List SegmentPart → ℕ → Top
 part_tree [] i = own_top empty
 part_tree (p ∷ parts) zero = rc_value (rc_value p.source).tree

@@ -1,4 +1,4 @@
--- What is held of the text that was read last, to read the next one by.
+-- What is cached of the text that was read last, to read the next one.
 use Rattle.std.specs.Prelude.{◌≡◌, ℕ, ◌+◌, ◌≤◌, All, Bool, List, [], ◌∷◌, ◌++◌, Option, None, Some, chars, drop, flat_map, length, map, slice_get, take, ⊤}
 use Rattle.std.specs.Global.{Global}
 use Rattle.std.specs.List.{sum_by}
@@ -32,24 +32,24 @@ abbrev pub one_ahead : Option ℕ → List ℕ → List ℕ
 one_ahead None more = []
 one_ahead (Some c) more = c ∷ more
 
--- the characters that were ahead: two, or those that were left
+-- the characters that followed: two, or those that were left
 abbrev pub chars_ahead : Lookahead → List ℕ
 chars_ahead a = one_ahead a.first (one_ahead a.second [])
 
--- these tokens stand first in a text, by their bytes and the characters that were ahead
+-- these tokens occur first in a text, by their bytes and the characters that followed
 pub record OccursHere (c : TokenRun) (text : List ℕ) : Type 0 where
   pub bytes : text ≡ c.bytes ++ drop (length c.bytes) text
   pub ahead : take 2 (chars (drop (length c.bytes) text)) ≡ chars_ahead c.ahead
 
--- where they stand first in a text its first tokens are these
+-- where they occur first in a text, its first tokens are these
 pub record IsTokenRun (c : TokenRun) (tokens : List Token) : Type 0 where
   pub count : length tokens ≡ c.count
   pub some : 1 ≤ c.count
   pub long : bytes_of tokens ≡ length c.bytes
   pub same : (text : List ℕ) → OccursHere c text → take c.count (tokens_of (chars text)) ≡ tokens
 
--- tokens with these bytes are read as trees wherever they stand, where a punct follows as it did, and where they stand
--- these trees are pieces that start at these places and have these trees of their own
+-- wherever tokens with these bytes occur, with a punct after them as `mark` says, they are read
+-- as pieces that start at these offsets and have these piece-relative trees
 pub record AreReadAs (bytes : List ℕ) (tokens : List Token) (mark : Bool) (shown : ℕ → List (ℕ × Top)) : Type 0 where
   pub forest : ℕ → Forest
   pub ps : ℕ → List Forest
@@ -58,7 +58,7 @@ pub record AreReadAs (bytes : List ℕ) (tokens : List Token) (mark : Bool) (sho
   pub cuts : (at : ℕ) (g : Forest) → pieces (joined (forest at) g) ≡ ps at ++ pieces g
   pub are : (at : ℕ) → map own_of (ps at) ≡ shown at
 
--- the tokens of a piece are read as it, wherever they stand
+-- the tokens of a piece are read as that piece, wherever they occur
 pub record IsCachedPiece (s : CachedPiece) : Type 0 where
   pub tokens : List Token
   pub cutout : IsTokenRun s.cutout tokens
@@ -68,7 +68,7 @@ pub record IsCachedPiece (s : CachedPiece) : Type 0 where
 abbrev pub part_top : SegmentPart → Top
 part_top p = rc_value (rc_value p.source).tree
 
--- where a part stands whose segment stands here, and its tree
+-- where a part starts if its segment starts here, and its tree
 abbrev pub part_shown : ℕ → SegmentPart → ℕ × Top
 part_shown at p = (at + p.before, part_top p)
 
@@ -76,14 +76,14 @@ part_shown at p = (at + p.before, part_top p)
 abbrev pub AreParts : ℕ → List SegmentPart → Type 0
 AreParts bytes parts = All (λ (p : SegmentPart). (p.before ≤ bytes) × IsCachedPiece (rc_value p.source)) parts
 
--- the tokens of a segment are read as its parts, wherever they stand
+-- the tokens of a segment are read as its parts, wherever they occur
 pub record IsSegment (s : Segment) : Type 0 where
   pub tokens : List Token
   pub cutout : IsTokenRun s.cutout tokens
   pub reads : AreReadAs s.cutout.bytes tokens s.cutout.mark (λ at. map (part_shown at) s.parts.items)
   pub parts : AreParts (length s.cutout.bytes) s.parts.items
 
--- tokens stand first in a text with these tokens, and a punct follows as it did
+-- tokens occur first in a text with these tokens, and a punct follows as it did
 pub record OccursFirst (c : TokenRun) (text : List ℕ) (left : List Token) : Type 0 where
   pub here : OccursHere c text
   pub mark : begins_with_mark (drop c.count left) ≡ c.mark
@@ -92,33 +92,33 @@ pub record OccursFirst (c : TokenRun) (text : List ℕ) (left : List Token) : Ty
 abbrev pub sources_of : List SegmentPart → List (Rc CachedPiece Global)
 sources_of parts = map (λ (p : SegmentPart). p.source) parts
 
--- the pieces of stretches, in order
+-- the pieces of segments, in order
 abbrev pub pieces_of : List CachedSegment → List (Rc CachedPiece Global)
 pieces_of list = flat_map (λ (h : CachedSegment). sources_of (rc_value h.segment).parts.items) list
 
--- each segment knows how many pieces are held before it, the first of them so many
+-- each segment has the number of pieces cached before it, which for the first is this one
 abbrev pub AreCounted : ℕ → List CachedSegment → Type 0
 AreCounted n [] = ⊤
 AreCounted n (h ∷ more) = (h.first ≡ n) × AreCounted (n + length (rc_value h.segment).parts.items) more
 
--- stretches are right by themselves, and know how many pieces are held before them
+-- segments are right by themselves, and have the number of pieces cached before them
 pub record AreListed (list : List CachedSegment) : Type 0 where
   pub right : All (λ (h : CachedSegment). IsSegment (rc_value h.segment)) list
   pub counted : AreCounted 0 list
 
--- all pieces that are held
+-- all pieces that are cached
 abbrev pub all_in : Segments → List (Rc CachedPiece Global)
 all_in sources = pieces_of sources.list.items
 
--- the held piece of this number
+-- the cached piece of this index
 abbrev pub IsHeldAt : Segments → ℕ → CachedPiece → Type 0
 IsHeldAt sources i s = (q : Rc CachedPiece Global) × (slice_get (all_in sources) i ≡ Some q) × (rc_value q ≡ s)
 
--- a held segment, and its pieces among all that are held
+-- a cached segment, and its pieces among all that are cached
 pub record IsCachedSegment (sources : Segments) (h : CachedSegment) : Type 0 where
   pub right : IsSegment (rc_value h.segment)
   pub among : (i : ℕ) (p : SegmentPart) → slice_get (rc_value h.segment).parts.items i ≡ Some p → slice_get (all_in sources) (h.first + i) ≡ Some p.source
 
--- all that is held is right
+-- all that is cached is right
 abbrev pub AreSegments : Segments → Type 0
 AreSegments sources = AreListed sources.list.items

@@ -1,4 +1,5 @@
-//! Reads a text piece by piece: a cached piece or segment where its bytes are here again, else the next piece by itself.
+//! Reads a text piece by piece. A cached piece or segment is reused where its bytes occur again,
+//! else the next piece is read by itself.
 ghost use Rattle.std.specs.Prelude.{◌≡◌, ◌+◌, ◌<◌, ◌≤◌, ◌^◌, ◌++◌, ◌∷◌, [], IfOk, IfSome, IsOkUnless, List, None, Ok, OnOk, chars, drop, length, take, true, ℕ};
 ghost use Rattle.std.specs.Rc.{rc_value};
 ghost use Rattle.rustc_lexer.specs.Lexing.{tokens_of};
@@ -15,9 +16,10 @@ ghost use Rattle.expander_reparse.specs.declared.parse.Parsed.TheVariants.{Piece
 use crate::piece::{Piece, PieceTree};
 use crate::resync::{Resync, seek_cached};
 use crate::segment::{CachedPiece, Lookahead, Segments, TokenRun, ahead_at};
-use crate::segment_builder::{Reparse, behind, take_segment};
+use crate::segment_builder::{ReadingContext, Reparse, behind, take_segment};
 use crate::shared_bytes::{ByteStore, SharedBytes};
-use bridge::{NameCache, Read, begins_with_mark, read_part};
+use bridge::Read;
+use bridge::parts::{NameCache, begins_with_mark, read_part};
 use expander_model::boundary::piece_end;
 use expander_model::hashed_tree::HashedTree;
 use expander_model::relative_spans::start_of;
@@ -28,7 +30,8 @@ use std::rc::Rc;
 use tt::TopSubtree;
 use tt_data::TtFault;
 
-// Whether a token of this kind is read as nothing.
+// Whether a token of this kind is trivia. A block comment without an end is none: it has a reading
+// fault.
 fn is_blank(kind: TokenKind) -> bool
     ensures { result ≡ true → IsBlank kind }
 {
@@ -43,7 +46,7 @@ fn is_blank(kind: TokenKind) -> bool
     }
 }
 
-// How many bytes tokens have, where that is a number.
+// How many bytes the tokens have together. `None` if the number is too large.
 fn bytes_in(tokens: &[Token]) -> Option<usize>
     ensures { IfSome result (λ n. n ≡ bytes_of tokens.now) }
 {
@@ -54,7 +57,8 @@ fn bytes_in(tokens: &[Token]) -> Option<usize>
     Some(sum)
 }
 
-// The first bytes of a text, and the characters behind them.
+// The first `len` bytes of a text, and the two characters after them. `None` if `len` is no
+// character boundary of the text.
 fn word_of(text: &str, len: usize) -> Option<(&[u8], Lookahead)>
     ensures word { IfSome result (λ r. (r.0.now ≡ take len text.now) × (len ≤ length text.now)) }
     ensures ahead { IfSome result (λ r. chars_ahead r.1 ≡ take 2 (chars (drop len text.now))) }
@@ -64,7 +68,9 @@ fn word_of(text: &str, len: usize) -> Option<(&[u8], Lookahead)>
     Some((word, ahead))
 }
 
-// The tree of the first tokens and what it is, where it starts at its first place.
+// Reads the first `count` tokens, from offset `at` of the text on, as a tree with spans that count
+// from `at`, and tells whether it is one piece. `None` if the tokens are no trees, or the first
+// tree does not start at `at`. Out of memory is its only error.
 fn read_piece(
     alloc: Global,
     names: &mut NameCache,
@@ -96,7 +102,7 @@ fn read_piece(
     Ok(Some((shape, tree)))
 }
 
-// A piece with what it was read from, and what it was read as.
+// A piece to be cached: its bytes and number of tokens, what follows them, and its tree.
 fn source_of(
     alloc: Global,
     bytes: SharedBytes,
@@ -125,18 +131,18 @@ fn source_of(
     }
 }
 
-// The first piece of these tokens, read by itself.
+// Reads the first piece of these tokens by itself. `None` if nothing ends it, or the tokens up to
+// its end cannot be read as one whole piece.
 fn read_source(
-    alloc: Global,
+    context: &ReadingContext<'_>,
     names: &mut NameCache,
-    words: &ByteStore,
     text: &str,
     at: u32,
     tokens: &[Token],
 ) -> Result<Option<Rc<CachedPiece>>, TtFault>
     requires small { length text.now < 2 ^ 32 }
     requires tokens { AreTokensFrom text.now at tokens.now }
-    requires words { HoldsText words.now text.now }
+    requires words { HoldsText context.now.words text.now }
     ensures found { IfOk result (λ found. IfSome found (λ q. IsCachedHere (drop at text.now) tokens.now (rc_value q))) }
     ensures memory { IsOkUnless result fault.Memory }
 {
@@ -144,6 +150,7 @@ fn read_source(
     bridge::laws::parts_at_other_places();
     bridge::laws::equal_parts();
     laws::first_tokens();
+    let alloc = context.alloc;
     let Some(count) = piece_end(tokens) else {
         return Ok(None);
     };
@@ -161,12 +168,12 @@ fn read_source(
     let Some((Shape::Whole, tree)) = read_piece(alloc, names, text, at, tokens, count)? else {
         return Ok(None);
     };
-    let bytes = words.word(alloc, at as usize, word)?;
+    let bytes = context.words.word(alloc, at as usize, word)?;
     let source = source_of(alloc, bytes, ahead, count, after, tree)?;
     Ok(Some(source))
 }
 
-// A piece at this place that is none of the held ones.
+// A piece that starts at `at` and is not from the cache.
 fn new_piece(alloc: Global, at: u32, tree: TopSubtree) -> Result<Piece, AllocError>
     ensures { IfOk result (λ o. (o.start ≡ at) × (tree_at o ≡ tree) × (o.met ≡ None)) }
 {
@@ -180,7 +187,7 @@ fn new_piece(alloc: Global, at: u32, tree: TopSubtree) -> Result<Piece, AllocErr
     }
 }
 
-// All that these tokens are read as, where it is one piece that nothing ends.
+// Reads all of these tokens as one piece that nothing ends. `None` if they are no such piece.
 fn read_last(
     alloc: Global,
     names: &mut NameCache,
@@ -204,7 +211,8 @@ fn read_last(
     Ok(Some(last))
 }
 
-// The words of a text of which nothing is held are held together.
+// How the bytes of the pieces are stored: in one copy of the text if nothing is cached, else each
+// run by itself.
 fn words_of(alloc: Global, text: &str, held: &Segments) -> Result<ByteStore, AllocError>
     ensures { IfOk result (λ words. HoldsText words text.now) }
 {
@@ -215,12 +223,11 @@ fn words_of(alloc: Global, text: &str, held: &Segments) -> Result<ByteStore, All
     }
 }
 
-// The piece that stands first, held or read, and its number where it is held.
+// The piece that comes first, from the cache with its index there, or read by itself. `None` if it
+// can be neither.
 fn next_source(
-    alloc: Global,
+    context: &ReadingContext<'_>,
     names: &mut NameCache,
-    words: &ByteStore,
-    held: &Segments,
     seeker: &mut Resync,
     text: &str,
     at: u32,
@@ -228,40 +235,42 @@ fn next_source(
 ) -> Result<Option<(Rc<CachedPiece>, Option<usize>)>, TtFault>
     requires small { length text.now < 2 ^ 32 }
     requires tokens { AreTokensFrom text.now at tokens.now }
-    requires words { HoldsText words.now text.now }
-    requires right { AreSegments held.now }
-    ensures found { IfOk result (λ found. IfSome found (λ p. IsCachedHere (drop at text.now) tokens.now (rc_value p.0))) }
-    ensures met { IfOk result (λ found. IfSome found (λ p. IsMet held.now p.1 (rc_value (rc_value p.0).tree))) }
+    requires words { HoldsText context.now.words text.now }
+    requires right { AreSegments context.now.held.now }
+    ensures found { IfOk result (λ found. IfSome found
+        (λ p. IsCachedHere (drop at text.now) tokens.now (rc_value p.0))) }
+    ensures met { IfOk result (λ found. IfSome found
+        (λ p. IsMet context.now.held.now p.1 (rc_value (rc_value p.0).tree))) }
     ensures memory { IsOkUnless result fault.Memory }
 {
     let rest = &text[at as usize..];
-    if let Some((i, source)) = seek_cached(held, seeker, rest, tokens)? {
+    if let Some((i, source)) = seek_cached(context.held, seeker, rest, tokens)? {
         return Ok(Some((source, Some(i))));
     }
-    match read_source(alloc, names, words, text, at, tokens)? {
+    match read_source(context, names, text, at, tokens)? {
         Some(source) => Ok(Some((source, None))),
         None => Ok(None),
     }
 }
 
-// The next token or piece is passed: how many bytes and tokens it has.
+// Passes one token of trivia, or one piece. Answers how many bytes and tokens it has, or `None` if
+// no piece can be read here.
 fn pass_one(
-    alloc: Global,
+    context: &ReadingContext<'_>,
     names: &mut NameCache,
-    words: &ByteStore,
-    held: &Segments,
     now: &mut Reparse,
     text: &str,
     at: u32,
     left: &[Token],
 ) -> Result<Option<(usize, usize)>, TtFault>
     requires small { length text.now < 2 ^ 32 }
-    requires words { HoldsText words.now text.now }
-    requires right { AreSegments held.now }
-    requires passing { IsReparse held.now text.now at left.now now.old }
-    ensures passing { IfOk result (λ size. IfSome size (λ n. IsReparse held.now text.now (at + n.0) (drop n.1 left.now) now.new)) }
+    requires words { HoldsText context.now.words text.now }
+    requires right { AreSegments context.now.held.now }
+    requires passing { IsReparse context.now.held.now text.now at left.now now.old }
+    ensures passing { IfOk result (λ size. IfSome size
+        (λ n. IsReparse context.now.held.now text.now (at + n.0) (drop n.1 left.now) now.new)) }
     ensures shorter { IfOk result (λ size. IfSome size (λ n. length (drop n.1 left.now) < length left.now)) }
-    ensures none { IfOk result (λ size. size ≡ None → IsReparse held.now text.now at left.now now.new) }
+    ensures none { IfOk result (λ size. size ≡ None → IsReparse context.now.held.now text.now at left.now now.new) }
     ensures memory { IsOkUnless result fault.Memory }
 {
     bridge::laws::reading_behind();
@@ -273,7 +282,7 @@ fn pass_one(
         return Ok(Some((token.len as usize, 1)));
     }
     let seeker = &mut now.seeker;
-    let Some((source, met)) = next_source(alloc, names, words, held, seeker, text, at, left)? else {
+    let Some((source, met)) = next_source(context, names, seeker, text, at, left)? else {
         return Ok(None);
     };
     let bytes = source.as_ref().cutout.bytes.len();
@@ -282,45 +291,45 @@ fn pass_one(
     Ok(Some((bytes, count)))
 }
 
-// The next segment, piece or token is passed: how many bytes and tokens it has.
+// Passes a cached segment, or one piece, or one token of trivia. Answers how many bytes and tokens
+// it has, or `None` if no piece can be read here.
 fn pass_next(
-    alloc: Global,
+    context: &ReadingContext<'_>,
     names: &mut NameCache,
-    words: &ByteStore,
-    held: &Segments,
     now: &mut Reparse,
     text: &str,
     at: u32,
     left: &[Token],
 ) -> Result<Option<(usize, usize)>, TtFault>
     requires small { length text.now < 2 ^ 32 }
-    requires words { HoldsText words.now text.now }
-    requires right { AreSegments held.now }
-    requires passing { IsReparse held.now text.now at left.now now.old }
-    ensures passing { IfOk result (λ size. IfSome size (λ n. IsReparse held.now text.now (at + n.0) (drop n.1 left.now) now.new)) }
+    requires words { HoldsText context.now.words text.now }
+    requires right { AreSegments context.now.held.now }
+    requires passing { IsReparse context.now.held.now text.now at left.now now.old }
+    ensures passing { IfOk result (λ size. IfSome size
+        (λ n. IsReparse context.now.held.now text.now (at + n.0) (drop n.1 left.now) now.new)) }
     ensures shorter { IfOk result (λ size. IfSome size (λ n. length (drop n.1 left.now) < length left.now)) }
-    ensures none { IfOk result (λ size. size ≡ None → IsReparse held.now text.now at left.now now.new) }
+    ensures none { IfOk result (λ size. size ≡ None → IsReparse context.now.held.now text.now at left.now now.new) }
     ensures memory { IsOkUnless result fault.Memory }
 {
-    if let Some(size) = take_segment(alloc, words, held, now, text, at, left)? {
+    if let Some(size) = take_segment(context, now, text, at, left)? {
         return Ok(Some(size));
     }
-    now.end_long(alloc, words, text, at, left)?;
-    pass_one(alloc, names, words, held, now, text, at, left)
+    now.end_long(context.alloc, &context.words, text, at, left)?;
+    pass_one(context, names, now, text, at, left)
 }
 
-// The pieces of a text whose last one, which nothing ends, is left, and what is held of them: the last one is not.
+// The pieces of a text, of which the last one remains and nothing ends it, and what to cache: all
+// but that last piece. `None` if the remaining tokens are no such piece.
 fn with_last(
-    alloc: Global,
+    context: &ReadingContext<'_>,
     names: &mut NameCache,
-    words: &ByteStore,
     mut now: Reparse,
     text: &str,
     at: u32,
     left: &[Token],
 ) -> Result<Option<(Vec<Piece>, Segments)>, TtFault>
     requires small { length text.now < 2 ^ 32 }
-    requires words { HoldsText words.now text.now }
+    requires words { HoldsText context.now.words text.now }
     requires passing { (held : Segments) × IsReparse held text.now at left.now now }
     ensures read { IfOk result (λ read. IfSome read (λ p. IsReadInPieces text.now (Pieces p.0 p.1))) }
     ensures theirs { IfOk result (λ read. IfSome read (λ p. AreTheirs p.1 p.0.items)) }
@@ -330,10 +339,11 @@ fn with_last(
     bridge::laws::parts_of_a_text();
     bridge::laws::parts_at_other_places();
     bridge::laws::reading_is_a_relation();
+    let alloc = context.alloc;
     let Some(last) = read_last(alloc, names, text, at, left)? else {
         return Ok(None);
     };
-    now.end(alloc, words, text, at, left)?;
+    now.end(alloc, &context.words, text, at, left)?;
     let Reparse { mut own, list, .. } = now;
     if let Err(e) = own.push(last) {
         return Err(AllocError::from(e).into());
@@ -341,7 +351,11 @@ fn with_last(
     Ok(Some((own, Segments { list })))
 }
 
-/// The pieces of a text, and what is held of them: none where one of them cannot be read by itself.
+/// The pieces of a text, and what to cache of them. `held` is what is cached of the last text that
+/// was read.
+///
+/// `None` if some piece cannot be read by itself, as in a text with a reading fault. Out of memory
+/// is the only error.
 pub(crate) fn read_by_pieces(
     alloc: Global,
     text: &str,
@@ -359,15 +373,13 @@ pub(crate) fn read_by_pieces(
     laws::tokens_begin();
     let mut names = NameCache::new(alloc);
     let words = words_of(alloc, text, held)?;
+    let context = ReadingContext { alloc, held, words };
     let mut now = Reparse::new(alloc, held, tokens)?;
     let mut at: u32 = 0;
     let mut left = tokens;
     while !left.is_empty() {
-        let Some((len, count)) = pass_next(
-            alloc, &mut names, &words, held, &mut now, text, at, left,
-        )?
-        else {
-            return with_last(alloc, &mut names, &words, now, text, at, left);
+        let Some((len, count)) = pass_next(&context, &mut names, &mut now, text, at, left)? else {
+            return with_last(&context, &mut names, now, text, at, left);
         };
         let Some((end, after)) = behind(left, at, len, count) else {
             return Ok(None);
@@ -375,7 +387,7 @@ pub(crate) fn read_by_pieces(
         at = end;
         left = after;
     }
-    now.end(alloc, &words, text, at, left)?;
+    now.end(alloc, &context.words, text, at, left)?;
     let Reparse { own, list, .. } = now;
     Ok(Some((own, Segments { list })))
 }

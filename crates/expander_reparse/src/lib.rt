@@ -1,5 +1,6 @@
-//! A text read as its pieces over what is cached of the last one: segments whose bytes are there again are taken as a
-//! whole, and what an edit touched is read anew. The pieces are those that reading the whole text gives.
+//! Reads a text as its pieces, over what is cached of the last one. Segments whose bytes occur
+//! again are taken whole, and what an edit touched is read anew. The pieces are those that
+//! reading the whole text gives.
 #![tactic(auto)]
 
 mod incremental;

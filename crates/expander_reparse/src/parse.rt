@@ -1,4 +1,4 @@
-//! Reads a text as its pieces: incrementally, and whole where that is out of order.
+//! Reads a text as its pieces: incrementally, or whole where that is not possible.
 ghost use Rattle.std.specs.Prelude.{◌≡◌, ◌<◌, ◌^◌, Err, IfOk, chars, length};
 ghost use Rattle.bridge.specs.ReadText.{HasTooMany};
 ghost use Rattle.bridge.specs.TokenSteps.{text_steps};
@@ -20,11 +20,12 @@ use tt_data::TtFault;
 pub enum Parsed {
     /// The first fault of the text.
     Fault(ReadFault),
-    /// Its pieces in order, and what may be held of them.
+    /// Its pieces in order, and what can be cached of them.
     Pieces(Vec<Piece>, Segments),
 }
 
-// The trees of the text with these tokens, each `;` between pieces standing alone, or its reading fault.
+// The trees of the text with these tokens, each `;` between pieces with the spacing `Alone`, or
+// its reading fault.
 fn read_apart(alloc: Global, text: &str, tokens: &[Token]) -> Result<Read, TtFault>
     requires small { length text.now < 2 ^ 32 }
     requires tokens { tokens.now ≡ tokens_of (chars text.now) }
@@ -41,7 +42,7 @@ fn read_apart(alloc: Global, text: &str, tokens: &[Token]) -> Result<Read, TtFau
     }
 }
 
-/// The pieces of the text with these tokens, over what is held of another text.
+/// The pieces of the text with these tokens, over what is cached of another text.
 pub fn read_pieces(
     alloc: Global,
     text: &str,

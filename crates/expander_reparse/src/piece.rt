@@ -14,7 +14,8 @@ use std::rc::Rc;
 use tt::TtIter;
 use tt_data::TtFault;
 
-/// The tree of a piece, alone or with what it was read from.
+/// The tree of a piece: alone, with the cached piece that it was read from, or as part of a
+/// segment.
 #[derive(Drop)]
 pub enum PieceTree {
     Alone(Rc<HashedTree>),
@@ -23,7 +24,7 @@ pub enum PieceTree {
 }
 
 impl PieceTree {
-    /// The tree, which is not looked at.
+    /// The shared tree. This reads nothing of the tree itself.
     pub fn get(&self) -> &Rc<HashedTree>
         ensures { result.now.value ≡ tree_in self.now }
     {
@@ -35,18 +36,18 @@ impl PieceTree {
     }
 }
 
-/// A piece in places of its own, and where it stands.
+/// A piece with piece-relative spans, and where it starts.
 #[derive(Drop)]
 pub struct Piece {
     /// Where its first token starts.
     pub start: u32,
-    /// Its places are counted from there.
+    /// Its spans count from there.
     pub tree: PieceTree,
-    /// The number of the held piece that it was told by, if it was not read.
+    /// The index of the cached piece that it was taken from, if it was not read anew.
     pub met: Option<usize>,
 }
 
-// A piece of a text in places of its own.
+// A piece of a text, with piece-relative spans.
 fn own_piece(alloc: Global, piece: &TtIter<'_>) -> Result<Piece, TtFault>
     ensures own { IfOk result (IsOwn piece.now) }
     ensures none { IfOk result (λ own. own.met ≡ None) }

@@ -1,4 +1,5 @@
-//! Chooses which cached pieces are tried after an edit. It decides how fast a text is read, and nothing of what is read.
+//! Chooses which cached pieces are tried after an edit. It decides speed alone, and nothing of
+//! what is read.
 ghost use Rattle.std.specs.Prelude.{◌≡◌, IfOk, IfSome, IsOkUnless};
 ghost use Rattle.std.specs.Rc.{rc_value};
 ghost use Rattle.tt_data.specs.fault.TtFault.TheVariants as fault;
@@ -10,27 +11,27 @@ use rustc_lexer::Token;
 use std::rc::Rc;
 use tt_data::TtFault;
 
-// How many held pieces are tried at a place, and at how many places a segment.
+// How many cached pieces are tried at an offset, and at how many offsets a segment is tried.
 const TRIED: usize = 16;
 
-/// Where the next held piece is looked for.
+/// Where the next cached piece is looked for.
 #[derive(Drop)]
 pub(crate) struct Resync {
-    /// Behind the one that was met last.
+    /// The index after the piece that was found last.
     pub next: usize,
-    // Where that was before the last leap.
+    // That index before the last leap.
     left: usize,
-    // How many may be tried far ahead: as many as are held, and some more for each place of the text, so that all take
-    // linear time.
+    // How many pieces may be tried far ahead: at first as many as are cached, and some more for
+    // each offset where one is looked for. So all trials together take linear time.
     saved: usize,
-    // Whether none was met at the last place.
+    // Whether none was found at the last offset.
     missed: bool,
-    // How often a segment was tried since a piece was met.
+    // How often a segment was tried since a piece was found.
     trials: usize,
 }
 
 impl Resync {
-    /// At the first held piece.
+    /// Starts at the first cached piece.
     pub fn new(held: &Segments) -> Self {
         Resync {
             next: 0,
@@ -41,21 +42,22 @@ impl Resync {
         }
     }
 
-    // This one was met, near the one that was met last.
+    // Piece `i` was found, near the one that was found last.
     fn step(&mut self, i: usize) {
         self.next = i.saturating_add(1);
         self.missed = false;
         self.trials = 0;
     }
 
-    /// So many were met, one behind another, where the next one was looked for.
+    /// `count` pieces were found in a row, starting with the one that was expected next.
     pub(crate) fn pass(&mut self, count: usize) {
         self.next = self.next.saturating_add(count);
         self.missed = false;
         self.trials = 0;
     }
 
-    /// Whether a segment is tried once more where pieces of none were met: so few times that all trials take linear time.
+    /// Whether a segment is tried once more where none of its pieces was found. The number of
+    /// trials is limited, so that all take linear time.
     pub(crate) fn tries(&mut self) -> bool {
         if self.trials >= TRIED {
             return false;
@@ -64,14 +66,15 @@ impl Resync {
         true
     }
 
-    // This one was met elsewhere.
+    // Piece `i` was found elsewhere.
     fn leap(&mut self, i: usize) {
         self.left = self.next;
         self.step(i);
     }
 }
 
-// A held piece far ahead that stands first in a text with these tokens, and its place: all are tried, or none.
+// A cached piece far ahead that occurs first in a text with these tokens, and its index. All
+// pieces far ahead are tried, or none.
 fn seek_far(
     held: &Segments,
     seeker: &mut Resync,
@@ -97,8 +100,10 @@ fn seek_far(
     Ok(None)
 }
 
-/// A held piece that stands first in a text with these tokens, and its place: those behind the one that was met last
-/// are tried, then those behind the last leap, and where none was met at the last place either all that are ahead.
+/// A cached piece that occurs first in a text with these tokens, and its index.
+///
+/// The pieces after the one found last are tried, then those after the last leap. If none was
+/// found at the last offset either, all further ahead are tried too.
 pub(crate) fn seek_cached(
     held: &Segments,
     seeker: &mut Resync,

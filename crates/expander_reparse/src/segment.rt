@@ -1,4 +1,5 @@
-//! What is cached of a text to read the next one by: segments, their pieces, and the bytes that they were read from.
+//! What is cached of a text to read the next one: segments, their pieces, and the bytes that they
+//! were read from.
 ghost use Rattle.std.specs.Prelude.{◌≡◌, ◌≤◌, ◌++◌, [], IfOk, IfSome, IsOkUnless, Some, chars, drop, length, slice_get, take, true};
 ghost use Rattle.bridge.specs.Parts.{begins_with_mark};
 ghost use Rattle.std.specs.Rc.{rc_value};
@@ -7,42 +8,44 @@ ghost use Rattle.expander_reparse.specs.Reparsing.{IsCachedHere};
 ghost use Rattle.expander_reparse.specs.Segments.{AreSegments, IsHeldAt, IsCachedSegment, IsCachedPiece, OccursFirst, all_in, chars_ahead};
 
 use crate::shared_bytes::SharedBytes;
-use bridge::begins_with_mark;
+use bridge::parts::begins_with_mark;
 use expander_model::hashed_tree::HashedTree;
 use rustc_lexer::Token;
 use std::alloc::Global;
 use std::rc::Rc;
 use tt_data::TtFault;
 
-/// The two characters behind a piece, or as many as there are: with its own they tell its tokens.
+/// The two characters after some tokens, or as many as there are. With the tokens' own characters
+/// they determine the tokens.
 #[derive(Clone, Copy)]
 pub struct Lookahead {
     first: Option<char>,
     second: Option<char>,
 }
 
-/// Some tokens of a text, and what they stood before: where their bytes stand before the same, they are the same tokens.
+/// Some tokens of a text, and what followed them. Where their bytes occur before the same two
+/// characters, the tokens are the same.
 #[derive(Drop)]
 pub struct TokenRun {
     /// The bytes of the tokens.
     pub bytes: SharedBytes,
     pub ahead: Lookahead,
-    /// How many tokens there are, blanks included.
+    /// How many tokens there are, trivia included.
     pub count: usize,
     /// Whether a token that is read as a punct followed.
     pub mark: bool,
 }
 
-/// A piece with what it was read from.
+/// A piece, with the tokens that it was read from.
 #[derive(Drop)]
 pub struct CachedPiece {
     pub cutout: TokenRun,
-    /// Its tree, in places of its own.
+    /// Its tree, with piece-relative spans.
     pub tree: Rc<HashedTree>,
 }
 
 impl CachedPiece {
-    /// How many tokens there are, and one more for a definition.
+    /// Its number of tokens, and one more for a definition.
     pub fn size(&self) -> usize {
         let more = usize::from(self.tree.as_ref().is_definition());
         self.cutout.count.saturating_add(more)
@@ -52,34 +55,34 @@ impl CachedPiece {
 /// A piece of a segment.
 #[derive(Drop)]
 pub struct SegmentPart {
-    /// How many bytes of the segment stand before it.
+    /// How many bytes of the segment come before it.
     pub before: u32,
     pub source: Rc<CachedPiece>,
 }
 
-/// Pieces that stood one behind another, with the blanks around them.
+/// A run of pieces, with the trivia around them.
 #[derive(Drop)]
 pub struct Segment {
     pub cutout: TokenRun,
     pub parts: Vec<SegmentPart>,
 }
 
-/// A segment that is held.
+/// A segment of the cache.
 #[derive(Drop)]
 pub struct CachedSegment {
-    /// How many pieces are held before it.
+    /// How many pieces are cached before it.
     pub first: usize,
     pub segment: Rc<Segment>,
 }
 
-/// What is held of the text that was read last: its pieces, in order.
+/// What is cached of the text that was read last: its pieces in segments, in order.
 #[derive(Drop)]
 pub struct Segments {
     pub list: Vec<CachedSegment>,
 }
 
 impl Segments {
-    /// Before the first text that is read.
+    /// What is cached before the first text is read: nothing.
     pub fn new(alloc: Global) -> Self
         ensures right { AreSegments result }
         ensures none { result.list.items ≡ [] }
@@ -89,7 +92,7 @@ impl Segments {
         }
     }
 
-    /// How many pieces there are.
+    /// How many pieces are cached.
     pub fn len(&self) -> usize {
         match self.list.last() {
             Some(held) => held.first.saturating_add(held.segment.as_ref().parts.len()),
@@ -97,7 +100,8 @@ impl Segments {
         }
     }
 
-    // The segment that has the piece of this number, if one has it.
+    // The last segment that begins at or before the piece of this index. It has that piece, if
+    // any segment has.
     fn segment_with(&self, number: usize) -> Option<&CachedSegment>
         requires { AreSegments self.now }
         ensures { IfSome result (λ h. IsCachedSegment self.now h.now) }
@@ -118,7 +122,7 @@ impl Segments {
         }
     }
 
-    /// The piece of this number.
+    /// The piece of this index.
     pub fn get(&self, number: usize) -> Option<&Rc<CachedPiece>>
         requires { AreSegments self.now }
         ensures held { IfSome result (λ q. slice_get (all_in self.now) number ≡ Some q.now) }
@@ -134,7 +138,7 @@ impl Segments {
         }
     }
 
-    /// The segment that begins with the piece of this number, if one does.
+    /// The segment that begins with the piece of this index, if one does.
     pub(crate) fn begins(&self, number: usize) -> Option<&CachedSegment>
         requires { AreSegments self.now }
         ensures { IfSome result (λ h. IsCachedSegment self.now h.now) }
@@ -165,7 +169,7 @@ pub(crate) fn ahead_of(text: &str) -> Lookahead
     Lookahead { first, second }
 }
 
-/// The characters behind a place: none where it stands between no two characters.
+/// The two characters after an offset. `None` if the offset is no character boundary.
 pub(crate) fn ahead_at(text: &str, at: usize) -> Option<Lookahead>
     ensures ahead { IfSome result (λ a. chars_ahead a ≡ take 2 (chars (drop at text.now))) }
     ensures within { IfSome result (λ a. at ≤ length text.now) }
@@ -176,7 +180,7 @@ pub(crate) fn ahead_at(text: &str, at: usize) -> Option<Lookahead>
     Some(ahead_of(&text[at..]))
 }
 
-// Whether these are the characters behind a place.
+// Whether these are the characters after an offset.
 fn is_ahead(ahead: Lookahead, text: &str, at: usize) -> bool
     ensures { result ≡ true → take 2 (chars (drop at text.now)) ≡ chars_ahead ahead }
 {
@@ -186,7 +190,7 @@ fn is_ahead(ahead: Lookahead, text: &str, at: usize) -> bool
     }
 }
 
-// Whether a punct follows the first tokens as it is held to.
+// Whether a punct follows the first `count` tokens exactly if `mark` says so.
 fn is_followed(tokens: &[Token], count: usize, mark: bool) -> bool
     ensures { result ≡ true → begins_with_mark (drop count tokens.now) ≡ mark }
 {
@@ -197,7 +201,8 @@ fn is_followed(tokens: &[Token], count: usize, mark: bool) -> bool
     begins_with_mark(after) == mark
 }
 
-/// Whether these tokens stand first in a text with these tokens, before the same.
+/// Whether this run occurs first in a text with these tokens: its bytes, its look-ahead, and a
+/// punct after it exactly if one followed it.
 pub(crate) fn occurs_first(cutout: &TokenRun, text: &str, tokens: &[Token]) -> bool
     ensures { result ≡ true → OccursFirst cutout.now text.now tokens.now }
 {
@@ -206,7 +211,8 @@ pub(crate) fn occurs_first(cutout: &TokenRun, text: &str, tokens: &[Token]) -> b
         && is_followed(tokens, cutout.count, cutout.mark)
 }
 
-/// A held piece that stands first in a text with these tokens, and its place: so many from `next` on are tried.
+/// A cached piece that occurs first in a text with these tokens, and its index. The `tried`
+/// pieces from `next` on are tried.
 pub(crate) fn find_cached(
     held: &Segments,
     next: usize,

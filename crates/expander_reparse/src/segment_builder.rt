@@ -1,4 +1,4 @@
-//! Keeps the pieces of a text that were read so far, and the segments that are made of them.
+//! Collects the pieces of a text as they are read, and makes segments of them.
 ghost use Rattle.std.specs.Prelude.{◌≡◌, ℕ, ◌+◌, ◌-◌, ◌<◌, ◌≤◌, ◌++◌, ◌∷◌, ◌^◌, [], IfOk, IfSome, List, None, OnOk, chars, drop, length, map, take};
 ghost use Rattle.std.specs.Rc.{rc_value};
 ghost use Rattle.rustc_lexer.specs.Lexing.{tokens_of};
@@ -14,36 +14,52 @@ use crate::segment::{
 };
 use crate::segment_piece::SegmentPiece;
 use crate::shared_bytes::ByteStore;
-use bridge::begins_with_mark;
+use bridge::parts::begins_with_mark;
 use rustc_lexer::{Token, laws};
 use std::alloc::{AllocError, Global};
 use std::rc::Rc;
 
-// How many pieces are held as one segment, if they were read one by one.
+// How many pieces a segment has at most, if they were taken one by one.
 const MOST: usize = 64;
 
-/// A segment that is begun.
+/// What a text is read by: what is cached of the last text, and how the bytes of new pieces are
+/// stored.
+///
+/// `read_by_pieces` makes one for each text. It stays the same while that text is read.
+#[derive(Drop)]
+pub(crate) struct ReadingContext<'a> {
+    pub alloc: Global,
+    /// What is cached of the last text that was read.
+    pub held: &'a Segments,
+    /// Stores the bytes of this text's pieces and segments.
+    pub words: ByteStore,
+}
+
+/// A segment that has begun and not ended.
 #[derive(Drop)]
 pub(crate) struct OpenSegment {
-    // How many pieces were passed before it.
+    // How many pieces of the text come before it.
     first: usize,
-    // Where it begins, and how many tokens are left there.
+    // The offset at which it begins, and how many tokens remained there.
     from: u32,
     tokens: usize,
+    // Its pieces so far.
     parts: Vec<SegmentPart>,
 }
 
-/// What was passed of a text.
+/// What has been read of a text so far.
 #[derive(Drop)]
 pub(crate) struct Reparse {
+    /// The pieces, in order.
     pub own: Vec<Piece>,
-    /// The stretches that are ended.
+    /// The segments that have ended.
     pub list: Vec<CachedSegment>,
     begun: OpenSegment,
+    /// Where the next cached piece is looked for.
     pub seeker: Resync,
 }
 
-// A segment that begins here, behind so many pieces.
+// A segment that begins at offset `from`, after `first` pieces, where these tokens remain.
 fn begin(alloc: Global, first: usize, from: u32, left: &[Token]) -> OpenSegment
     ensures begun { (text : List ℕ) → AreTokensFrom text from left.now → IsBegun text from left.now result }
     ensures first { result.first ≡ first }
@@ -57,7 +73,8 @@ fn begin(alloc: Global, first: usize, from: u32, left: &[Token]) -> OpenSegment
     }
 }
 
-// What follows the first tokens and their bytes: where it begins, and its tokens.
+// The offset and the tokens after the first `count` tokens, which have `len` bytes. `None` if
+// there are fewer, or the offset exceeds `u32::MAX`.
 pub(crate) fn behind<'a>(
     tokens: &'a [Token],
     at: u32,
@@ -77,7 +94,7 @@ pub(crate) fn behind<'a>(
     Some((end, after))
 }
 
-// The bytes of a text from one place to another.
+// The bytes of a text between two offsets.
 fn bytes_between(text: &str, from: u32, to: u32) -> &[u8]
     requires { (from ≤ to) × (to ≤ length text.now) }
     ensures { result.now ≡ take (to - from) (drop from text.now) }
@@ -87,7 +104,7 @@ fn bytes_between(text: &str, from: u32, to: u32) -> &[u8]
     bytes
 }
 
-// The segment that was begun, where it ends.
+// The segment that ends at offset `at`, where these tokens remain.
 fn segment_of(
     alloc: Global,
     words: &ByteStore,
@@ -120,7 +137,7 @@ fn segment_of(
     }
 }
 
-// The pieces of a held segment, which stands at this place.
+// Appends the pieces of a cached segment that occurs at offset `at`.
 fn push_parts(own: &mut Vec<Piece>, at: u32, held: &CachedSegment) -> Result<(), AllocError>
     requires within { at + length (rc_value held.now.segment).cutout.bytes < 2 ^ 32 }
     requires right { IsSegment (rc_value held.now.segment) }
@@ -140,7 +157,8 @@ fn push_parts(own: &mut Vec<Piece>, at: u32, held: &CachedSegment) -> Result<(),
 }
 
 impl Reparse {
-    /// Nothing was passed of a text with these tokens. There is room for as many pieces as are held, and one more.
+    /// Before anything of a text with these tokens is read. There is room for one piece and one
+    /// segment more than are cached.
     pub fn new(alloc: Global, held: &Segments, tokens: &[Token]) -> Result<Self, AllocError>
         ensures { (text : List ℕ) → AreTokensFrom text 0 tokens.now → tokens.now ≡ tokens_of (chars text) → IfOk result (λ now. IsReparse held.now text 0 tokens.now now) }
     {
@@ -154,7 +172,7 @@ impl Reparse {
         })
     }
 
-    /// The piece stands at this place, told by the held one of this number, if by one.
+    /// Adds a piece that starts at `at`. `met` is its index in the cache, if it is from there.
     pub(crate) fn pass(
         &mut self,
         at: u32,
@@ -178,7 +196,8 @@ impl Reparse {
         Ok(())
     }
 
-    /// The segment that was begun ends here, and the next one begins. One that has no piece is not held.
+    /// Ends the open segment at `at`, and begins the next one. A segment without pieces is
+    /// dropped.
     pub fn end(
         &mut self,
         alloc: Global,
@@ -205,7 +224,7 @@ impl Reparse {
         Ok(())
     }
 
-    /// Ends the open segment where it has as many pieces as a segment is to have.
+    /// Ends the open segment at `at` if it has as many pieces as a segment may have.
     pub(crate) fn end_long(
         &mut self,
         alloc: Global,
@@ -225,7 +244,8 @@ impl Reparse {
         self.end(alloc, words, text, at, left)
     }
 
-    // A held segment stands at this place, and the next one begins behind it.
+    // Adds a cached segment that occurs at offset `at`, with its pieces, and begins the next
+    // segment at `end`.
     fn take_cached(
         &mut self,
         alloc: Global,
@@ -253,27 +273,28 @@ impl Reparse {
     }
 }
 
-/// The held segment that may be next is passed, where it stands at this place: how many bytes and tokens it has.
+/// Passes the cached segment that begins with the piece expected next, if it occurs here. Answers
+/// how many bytes and tokens it has, or `None` with no piece added.
 pub(crate) fn take_segment(
-    alloc: Global,
-    words: &ByteStore,
-    held: &Segments,
+    context: &ReadingContext<'_>,
     now: &mut Reparse,
     text: &str,
     at: u32,
     left: &[Token],
 ) -> Result<Option<(usize, usize)>, AllocError>
     requires small { length text.now < 2 ^ 32 }
-    requires words { HoldsText words.now text.now }
-    requires right { AreSegments held.now }
-    requires passing { IsReparse held.now text.now at left.now now.old }
-    ensures passing { IfOk result (λ size. IfSome size (λ n. IsReparse held.now text.now (at + n.0) (drop n.1 left.now) now.new)) }
+    requires words { HoldsText context.now.words text.now }
+    requires right { AreSegments context.now.held.now }
+    requires passing { IsReparse context.now.held.now text.now at left.now now.old }
+    ensures passing { IfOk result (λ size. IfSome size
+        (λ n. IsReparse context.now.held.now text.now (at + n.0) (drop n.1 left.now) now.new)) }
     ensures shorter { IfOk result (λ size. IfSome size (λ n. length (drop n.1 left.now) < length left.now)) }
-    ensures none { IfOk result (λ size. size ≡ None → IsReparse held.now text.now at left.now now.new) }
+    ensures none { IfOk result (λ size. size ≡ None → IsReparse context.now.held.now text.now at left.now now.new) }
 {
     laws::next_token();
     bridge::laws::reading_behind();
-    let Some(next) = held.begins(now.seeker.next) else {
+    let (alloc, words) = (context.alloc, &context.words);
+    let Some(next) = context.held.begins(now.seeker.next) else {
         return Ok(None);
     };
     let cutout = &next.segment.as_ref().cutout;

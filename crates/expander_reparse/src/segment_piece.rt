@@ -1,4 +1,4 @@
-//! A piece that is known by its segment and its index there, without a look at it.
+//! A piece given by its segment and its index there, so that nothing of it is read.
 ghost use Rattle.std.specs.Prelude.{◌≡◌, ◌<◌, length};
 ghost use Rattle.std.specs.Rc.{rc_value};
 ghost use Rattle.expander_reparse.specs.SegmentTrees.{part_tree};
@@ -7,7 +7,7 @@ use crate::segment::Segment;
 use expander_model::hashed_tree::HashedTree;
 use std::rc::Rc;
 
-/// A part of a segment.
+/// A piece of a segment.
 #[derive(Drop)]
 pub struct SegmentPiece {
     segment: Rc<Segment>,
@@ -16,7 +16,7 @@ pub struct SegmentPiece {
 }
 
 impl SegmentPiece {
-    /// The part of this index.
+    /// The piece at this index of the segment.
     pub fn new(segment: Rc<Segment>, at: usize) -> Self
         requires { at < length (rc_value segment).parts.items }
         ensures segment { result.segment ≡ segment }
@@ -25,7 +25,7 @@ impl SegmentPiece {
         SegmentPiece { segment, at }
     }
 
-    /// Its tree, which is not looked at.
+    /// Its shared tree. This reads nothing of the tree itself.
     pub fn tree(&self) -> &Rc<HashedTree>
         ensures { result.now.value ≡ part_tree (rc_value self.now.segment).parts.items self.now.at }
     {

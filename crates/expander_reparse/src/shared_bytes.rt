@@ -1,4 +1,5 @@
-//! Bytes that cached pieces were read from: parts of one copy of a text, or copies of their own.
+//! The bytes that cached pieces were read from: ranges of one copy of a text, or copies of their
+//! own.
 ghost use Rattle.std.specs.Prelude.{◌≡◌, IfOk, List, length, ℕ};
 ghost use Rattle.expander_reparse.specs.ByteStores.{HasWord, HoldsText};
 
@@ -6,7 +7,7 @@ use std::alloc::{AllocError, Global};
 use std::marker::Model;
 use std::rc::Rc;
 
-/// Bytes that stand among others, which are shared.
+/// A range of shared bytes.
 #[derive(Drop)]
 pub struct SharedBytes {
     all: Rc<Vec<u8>>,
@@ -43,7 +44,7 @@ impl SharedBytes {
     }
 }
 
-// A copy of these bytes, to be shared.
+// A shared copy of these bytes.
 fn copied(alloc: Global, bytes: &[u8]) -> Result<Rc<Vec<u8>>, AllocError>
     ensures { IfOk result (λ all. all.value.items ≡ bytes.now) }
 {
@@ -54,14 +55,14 @@ fn copied(alloc: Global, bytes: &[u8]) -> Result<Rc<Vec<u8>>, AllocError>
     }
 }
 
-/// How the words of a text are held: all in one copy of it, or each by itself.
+/// How the bytes of a text are stored: all in one copy of the text, or each run by itself.
 #[derive(Drop)]
 pub(crate) struct ByteStore {
     all: Option<Rc<Vec<u8>>>,
 }
 
 impl ByteStore {
-    /// All in one copy.
+    /// One copy of the whole text.
     pub(crate) fn together(alloc: Global, text: &str) -> Result<Self, AllocError>
         ensures { IfOk result (λ words. HoldsText words text.now) }
     {
@@ -69,14 +70,14 @@ impl ByteStore {
         Ok(ByteStore { all: Some(all) })
     }
 
-    /// Each by itself.
+    /// A copy for each run of bytes.
     pub(crate) fn apart() -> Self
         ensures { (text : List ℕ) → HoldsText result text }
     {
         ByteStore { all: None }
     }
 
-    /// The bytes that stand at this place of the text.
+    /// The bytes of the text at offset `at`, as shared bytes.
     pub(crate) fn word(
         &self,
         alloc: Global,

@@ -1,4 +1,4 @@
--- Bytes known one call after another.
+-- The known bytes of a reader or writer, call by call.
 use Rattle.std.proofs.Common.{◌≡◌, ℕ, List, [], ◌++◌, Option, Some, None, sym, ap, ◌∙◌, append_assoc, append-nil, take, drop, length, ◌-◌, ◌+◌, length-drop, arith, take-add, Bool, false, nat_eq, ◌||◌, ◌&&◌}
 use Rattle.std.proofs.lemmas.List.{take_all}
 use Rattle.std.proofs.lemmas.Bool.Decides.{nat_tests}

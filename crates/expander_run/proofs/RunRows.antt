@@ -1,4 +1,4 @@
--- Small runs and calls, worked by hand.
+-- Small runs and calls, as worked examples.
 use Rattle.std.proofs.Common.{◌≡◌, ℕ, List, [], ◌∷◌, ◌++◌, Option, Some, Bool, true, false, refl, ap, arith}
 use Rattle.std.specs.Prelude.{Ok, Err, None, ◌||◌, codes, decimal}
 use Rattle.std.specs.List.{list_any}

@@ -1,4 +1,4 @@
--- The lines by which a program tells its faults. (Of this project.)
+-- The lines in which a run reports its faults. (Of this project.)
 use Rattle.std.specs.Prelude.{ℕ, ◌+◌, Bool, not, List, [], ◌∷◌, ◌++◌, length, take, reverse, codes, decimal, nat_eq, count_by}
 use Rattle.std.specs.List.{take_while}
 use Rattle.bridge.specs.declared.reading.outcome.ReadFaultKind.{ReadFaultKind}
@@ -13,7 +13,7 @@ use Rattle.expander_scope.specs.declared.refusal.Refusal.TheVariants.{Memory, To
 use Rattle.expander_session.specs.declared.session.Reply.{Reply}
 use Rattle.expander_session.specs.declared.session.Reply.TheVariants.{Read, Unread}
 
--- ---- places
+-- ---- positions
 
 -- a line feed
 abbrev pub is_line_feed : ℕ → Bool
@@ -27,9 +27,9 @@ line_at text n = count_by is_line_feed (take n text) + 1
 abbrev pub column_at : List ℕ → ℕ → ℕ
 column_at text n = length (take_while (λ b. not (is_line_feed b)) (reverse (take n text))) + 1
 
--- ---- what is wrong
+-- ---- words for faults
 
--- in an expansion
+-- the words for a fault of an expansion
 abbrev pub fault_words : FaultKind → List ℕ
 fault_words CannotExpand = codes "no rule matches this call"
 fault_words BrokenDefinition = codes "broken macro definition"
@@ -37,19 +37,19 @@ fault_words RecursionLimit = codes "recursion limit reached"
 fault_words NestedDefinition = codes "macro definition in the output"
 fault_words Unspellable = codes "token without a spelling"
 
--- in a text that cannot be read
+-- the words for a reading fault
 abbrev pub read_fault_words : ReadFaultKind → List ℕ
 read_fault_words BadToken = codes "bad token"
 read_fault_words CloserDoesNotFit = codes "closing bracket does not fit"
 read_fault_words GroupLeftOpen = codes "group left open"
 
--- why a session refuses
+-- the words for a refusal of a session
 abbrev pub refusal_words : Refusal → List ℕ
 refusal_words Memory = codes "out of memory"
 refusal_words Tokens = codes "too many tokens"
 refusal_words Numbers = codes "too many definitions"
 
--- why a run stops
+-- the words for what stops a run
 abbrev pub stop_words : Stop → List ℕ
 stop_words NotUtf8 = codes "input is not UTF-8"
 stop_words TooLong = codes "input is too long"
@@ -59,11 +59,11 @@ stop_words (Refused refusal) = refusal_words refusal
 
 -- ---- lines
 
--- what is wrong, and where
+-- a line with its position, and what is wrong there
 abbrev pub line : (line column : ℕ) → List ℕ → List ℕ
 line l c what = codes "line " ++ (decimal l ++ (codes ", byte column " ++ (decimal c ++ (codes ": " ++ (what ++ (10 ∷ []))))))
 
--- the same, by the byte that it begins at
+-- a line whose position is that of a byte of the text
 abbrev pub line_of : List ℕ → ℕ → List ℕ → List ℕ
 line_of text n what = line (line_at text n) (column_at text n) what
 
@@ -72,11 +72,11 @@ abbrev pub fault_lines : List ℕ → List Fault → List ℕ
 fault_lines text [] = []
 fault_lines text (f ∷ fs) = line_of text f.range.start (fault_words f.kind) ++ fault_lines text fs
 
--- what is told of a reply to a text
+-- the report of a reply to a text
 abbrev pub report : List ℕ → Reply → List ℕ
 report text (Read e) = fault_lines text e.faults
 report text (Unread fault) = line_of text fault.range.start (read_fault_words fault.kind)
 
--- what is told of a run that stops
+-- the report of a run that stops
 abbrev pub stop_line : Stop → List ℕ
 stop_line stop = stop_words stop ++ (10 ∷ [])

@@ -1,4 +1,4 @@
--- What a run reads and writes, of this project.
+-- What a run reads and writes. (Of this project.)
 use Rattle.std.specs.Prelude.{◌≡◌, ℕ, ◌≤◌, ◌<◌, ◌^◌, Bool, true, false, List, [], ◌∷◌, length, take, Option, Some, None, IfSome, IsUtf8, ⊤}
 use Rattle.tt_data.specs.declared.edition.Edition.TheVariants.{Edition2024}
 use Rattle.small_grammar.specs.Answer.{answer}
@@ -17,28 +17,28 @@ use Rattle.expander_run.specs.declared.program.Status.{Status}
 use Rattle.expander_run.specs.declared.stop.Stop.{Stop}
 use Rattle.expander_run.specs.declared.stop.Stop.TheVariants.{NotUtf8, TooLong, ReadFailed, WriteFailed, Refused}
 
--- all that a reader had left, where it tells its bytes
+-- all that a reader had left, where its bytes are known
 abbrev pub IsAllOf : Option (List ℕ) → List ℕ → Type 0
 IsAllOf None bytes = ⊤
 IsAllOf (Some left) bytes = bytes ≡ left
 
--- the whole input, as a text that a session takes
+-- the whole input, short enough and UTF-8
 pub record IsInput (input : Option (List ℕ)) (text : List ℕ) : Type 0 where
   pub whole : IsAllOf input text
   pub short : length text < 2 ^ 32
   pub utf8 : IsUtf8 text
 
--- the whole input, short enough, but not a text
+-- the whole input, short enough, but not UTF-8
 pub record IsNoText (input : Option (List ℕ)) (bytes : List ℕ) : Type 0 where
   pub whole : IsAllOf input bytes
   pub short : length bytes < 2 ^ 32
   pub not_utf8 : IsUtf8 bytes → ⊥
 
--- a run expands by the small grammar, and all words are of edition 2024
+-- a run expands by the small grammar, and all identifiers are of edition 2024
 abbrev pub run_layers : Layers
 run_layers = layers answer Edition2024
 
--- what a reply prints: nothing where the text is not read
+-- the printed text of a reply: nothing if the text could not be read
 abbrev pub printed_of : Reply → List ℕ
 printed_of (Read e) = e.printed
 printed_of (Unread fault) = []
@@ -46,12 +46,12 @@ printed_of (Unread fault) = []
 abbrev pub status : ℕ → Status
 status n = record { 0 = n }
 
--- 0 where there is no fault, else 1
+-- 0 if there is no fault, else 1
 abbrev pub status_by : List Fault → Status
 status_by [] = status 0
 status_by (fault ∷ faults) = status 1
 
--- 0 where the text is read and has no fault, else 1
+-- 0 if the text was read and has no fault, else 1
 abbrev pub status_of : Reply → Status
 status_of (Read e) = status_by e.faults
 status_of (Unread fault) = status 1
@@ -61,7 +61,7 @@ abbrev pub IsFlushed : {W : Type 0} → Reply → Watch W → Type 0
 IsFlushed (Read e) writer = writer.flushed ≡ true
 IsFlushed (Unread fault) writer = ⊤
 
--- What a run tells of faults: all of it and flushed last, or a front of it where that writer failed; where nothing is told, nothing is asked of it.
+-- the report is written whole and flushed last, or its first bytes if that writer failed
 pub record Tells {E : Type 0} (told : List ℕ) (tells : List ℕ → Type 0) (faults : Watch E) : Type 0 where
   pub taken : ℕ
   pub written : tells (take taken told)
@@ -78,8 +78,8 @@ abbrev pub is_of_writer : Stop → Bool
 is_of_writer WriteFailed = true
 is_of_writer _ = false
 
--- When a run may stop for a reason, by its input and its levels; readers and writers tell themselves whether they failed. It
--- never lacks numbers: its session is new, and its text has fewer definitions than there are numbers.
+-- what makes a run stop: its reader and writers know whether they failed; ids never run out,
+-- since its session is new and its text has fewer definitions than there are ids
 abbrev pub Stops : Stop → Option (List ℕ) → ℕ → Type 0
 Stops NotUtf8 input depth = (bytes : List ℕ) × IsNoText input bytes
 Stops TooLong input depth = IfSome input (λ bytes. 2 ^ 32 ≤ length bytes)
@@ -89,7 +89,7 @@ Stops (Refused Memory) input depth = ⊤
 Stops (Refused Tokens) input depth = (text : List ℕ) × IsInput input text × NeedsTooMany run_layers depth text
 Stops (Refused Numbers) input depth = ⊥
 
--- A writer that failed has taken a front of the text that was to be printed.
+-- a writer that failed has taken the first bytes of the text to be printed
 pub record BreaksOff (input : Option (List ℕ)) (depth : ℕ) (writes : List ℕ → Type 0) : Type 0 where
   pub text : List ℕ
   pub is_input : IsInput input text
@@ -98,12 +98,12 @@ pub record BreaksOff (input : Option (List ℕ)) (depth : ℕ) (writes : List �
   pub taken : ℕ
   pub written : writes (take taken expansion.printed)
 
--- What a run that stops leaves at its writer: nothing but where the writer failed.
+-- what a run that stops has written: nothing, unless the writer failed
 abbrev pub LeavesAt : Stop → Option (List ℕ) → ℕ → (List ℕ → Type 0) → Type 0
 LeavesAt WriteFailed input depth writes = BreaksOff input depth writes
 LeavesAt _ input depth writes = writes []
 
--- A run that answers: what a reply to its whole input prints is written, its faults are told, and the status is the reply's.
+-- a run that answers: it writes the printed text and the report, and has the reply's status
 pub record Finishes {R W E : Type 0} (input : Option (List ℕ)) (depth : ℕ) (writes tells : List ℕ → Type 0)
     (reader : Watch R) (writer : Watch W) (faults : Watch E) (result : Status) : Type 0 where
   pub text : List ℕ
@@ -117,7 +117,7 @@ pub record Finishes {R W E : Type 0} (input : Option (List ℕ)) (depth : ℕ) (
   pub read_all : reader.failed ≡ false
   pub took_all : writer.failed ≡ false
 
--- A run that stops: it has a cause, which is told, and its status is 1.
+-- a run that stops: it has a cause, which it reports, and its status is 1
 pub record Refuses {R W E : Type 0} (stop : Stop) (input : Option (List ℕ)) (depth : ℕ) (writes tells : List ℕ → Type 0)
     (reader : Watch R) (writer : Watch W) (faults : Watch E) (result : Status) : Type 0 where
   pub cause : Stops stop input depth
@@ -127,7 +127,7 @@ pub record Refuses {R W E : Type 0} (stop : Stop) (input : Option (List ℕ)) (d
   pub of_reader : reader.failed ≡ is_of_reader stop
   pub of_writer : writer.failed ≡ is_of_writer stop
 
--- A run over what its reader had left, with what its two writers took, and the three after it.
+-- a run over what its reader had left, with what its writers took: it answers or it stops
 abbrev pub Runs : {R W E : Type 0} → Option Stop → Option (List ℕ) → ℕ → (writes tells : List ℕ → Type 0) → Watch R → Watch W → Watch E → Status → Type 0
 Runs None input depth writes tells reader writer faults result = Finishes input depth writes tells reader writer faults result
 Runs (Some stop) input depth writes tells reader writer faults result = Refuses stop input depth writes tells reader writer faults result

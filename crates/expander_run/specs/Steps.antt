@@ -19,7 +19,7 @@ StopsReading ReadFailed input failed = failed ≡ true
 StopsReading (Refused Memory) input failed = failed ≡ false
 StopsReading _ input failed = ⊥
 
--- a reply to the whole input, and what is told of it
+-- a reply to the whole input, and its report
 pub record Replied (input : Option (List ℕ)) (depth : ℕ) (reply : Reply) (told : List ℕ) : Type 0 where
   pub text : List ℕ
   pub is_input : IsInput input text
@@ -32,12 +32,12 @@ pub record StopsEarly (stop : Stop) (input : Option (List ℕ)) (depth : ℕ) (f
   pub reader : failed ≡ is_of_reader stop
   pub writer : is_of_writer stop ≡ false
 
--- all is written, flushed last, and nothing failed, or a front and the writer failed
+-- all is written and flushed last, or the first bytes are and the writer failed
 abbrev pub Puts : {W : Type 0} → Option (List ℕ) → Option (List ℕ) → Watch W → List ℕ → Bool → Type 0
 Puts old new writer bytes true = Appends old new bytes × (writer.flushed ≡ true) × (writer.failed ≡ false)
 Puts old new writer bytes false = ((k : ℕ) × Appends old new (take k bytes)) × (writer.failed ≡ true)
 
--- what a reply prints is written, or a front of it and the writer failed
+-- the printed text of a reply is written, or its first bytes are and the writer failed
 abbrev pub PutsReply : {W : Type 0} → Option (List ℕ) → Option (List ℕ) → Watch W → Reply → Bool → Type 0
 PutsReply old new writer reply true = Appends old new (printed_of reply) × IsFlushed reply writer × (writer.failed ≡ false)
 PutsReply old new writer reply false =

@@ -6,7 +6,7 @@ pub record Watch (T : Type 0) : Type 0 where
   pub inner : T
   -- whether one of its calls has failed
   pub failed : Bool
-  -- whether its last call was a flush that went through
+  -- whether its last call was a flush that succeeded
   pub flushed : Bool
 
 -- an error of any kind

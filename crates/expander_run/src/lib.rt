@@ -1,4 +1,5 @@
-//! The run of a program: from a reader to two writers, with its faults told by line and byte column.
+//! A run of the program: from a reader to two writers, with its faults reported by line and byte
+//! column.
 #![tactic(auto)]
 
 mod lines;

@@ -1,4 +1,4 @@
-//! The lines by which a program tells its faults.
+//! The lines in which a run reports its faults.
 ghost use Rattle.std.specs.Prelude.{◌≡◌, ◌++◌, ℕ, ◌≤◌, ◌<◌, ◌^◌, length, string_bytes, IfOk, OnOk};
 ghost use Rattle.expander_run.specs.Lines.{column_at, fault_lines, fault_words, line, line_at, line_of, read_fault_words, report, stop_line, stop_words};
 ghost use Rattle.expander_run.specs.Spots.{IsSpot, next_spot};
@@ -10,7 +10,7 @@ use expander_scope::refusal::Refusal;
 use expander_session::session::Reply;
 use std::alloc::{AllocError, Global};
 
-// A place of a text: its byte, from 0, and its line and byte column, from 1.
+// A position in a text: its byte, from 0, and its line and byte column, from 1.
 #[derive(Clone, Copy)]
 struct Spot {
     at: usize,
@@ -18,14 +18,14 @@ struct Spot {
     column: usize,
 }
 
-// The place that a text begins at.
+// The position at which a text begins.
 const FIRST: Spot = Spot {
     at: 0,
     line: 1,
     column: 1,
 };
 
-// The place behind one more byte.
+// The position after one more byte.
 fn next_spot(spot: Spot, byte: u8) -> Spot
     requires at { spot.at < 2 ^ 32 }
     requires line { spot.line ≤ 2 ^ 32 }
@@ -48,7 +48,7 @@ fn next_spot(spot: Spot, byte: u8) -> Spot
     }
 }
 
-// The place of a byte, reached from one before it.
+// The position of byte `to`, counted on from an earlier position.
 fn walked(text: &[u8], from: Spot, to: usize) -> Spot
     requires short { length text.now < 2 ^ 32 }
     requires from { IsSpot text.now from }
@@ -64,7 +64,8 @@ fn walked(text: &[u8], from: Spot, to: usize) -> Spot
     spot
 }
 
-// The place of a byte, reached from another place. What is behind the text's end is at its end.
+// The position of a byte, counted on from `last` if that is not past it. A byte past the text's
+// end is taken as the end.
 fn spot_of(text: &[u8], last: Spot, start: u32) -> Spot
     requires short { length text.now < 2 ^ 32 }
     requires last { IsSpot text.now last }
@@ -80,7 +81,7 @@ fn spot_of(text: &[u8], last: Spot, start: u32) -> Spot
     }
 }
 
-// What a fault is called.
+// The words for a fault.
 fn fault_words(kind: FaultKind) -> &'static str
     ensures { result.now ≡ fault_words kind }
 {
@@ -93,7 +94,7 @@ fn fault_words(kind: FaultKind) -> &'static str
     }
 }
 
-// What a fault of reading is called.
+// The words for a reading fault.
 fn read_fault_words(kind: ReadFaultKind) -> &'static str
     ensures { result.now ≡ read_fault_words kind }
 {
@@ -104,7 +105,7 @@ fn read_fault_words(kind: ReadFaultKind) -> &'static str
     }
 }
 
-/// The line that tells why a run stops.
+/// The line that reports why a run stops.
 pub(crate) fn stop_line(stop: Stop) -> &'static str
     ensures { result.now ≡ stop_line stop }
 {
@@ -131,7 +132,7 @@ fn push_line(lines: &mut String, spot: Spot, what: &str) -> Result<(), AllocErro
     writeln!(lines, "line {line}, byte column {column}: {what}")
 }
 
-// A line for each fault. Each place is reached from the one before it.
+// A line for each fault. Each position is counted on from the one before it.
 fn fault_lines(alloc: Global, text: &str, faults: &[Fault]) -> Result<String, AllocError>
     requires { length text.now < 2 ^ 32 }
     ensures { IfOk result (λ lines. string_bytes lines ≡ fault_lines text.now faults.now) }
@@ -145,7 +146,7 @@ fn fault_lines(alloc: Global, text: &str, faults: &[Fault]) -> Result<String, Al
     Ok(lines)
 }
 
-/// What is told of the reply to a text.
+/// The lines that report the faults of a reply.
 pub(crate) fn report(alloc: Global, text: &str, reply: &Reply) -> Result<String, AllocError>
     requires { length text.now < 2 ^ 32 }
     ensures { IfOk result (λ told. string_bytes told ≡ report text.now reply.now) }

@@ -1,4 +1,5 @@
-//! The run of a program: it reads a text, expands it, writes what that prints and tells its faults.
+//! A run of the program: it reads a text, expands it, writes the printed text and reports the
+//! faults.
 ghost use Rattle.std.specs.Prelude.{◌≡◌, ℕ, Err, [], ◌^◌, ◌<◌, false, List, length, take, Option, None, IfOk, IfErr, string_bytes};
 ghost use Rattle.std.specs.Io.KnownBytes.{Appends};
 ghost use Rattle.expander_model.specs.Meaning.{meaning};
@@ -20,17 +21,22 @@ use std::alloc::Global;
 use std::io::{Read, Write};
 use tt_data::Edition;
 
-/// The status that a program ends with.
+/// The exit status of a program: 0 for success.
 #[derive(Clone, Copy, Debug, PartialEq, Eq)]
 pub struct Status(pub u8);
 
-/// Reads a text to its end, expands it with `depth` levels by the small grammar, its words of edition 2024, writes and flushes what that prints, and tells its faults.
+/// Reads a text to its end, expands it with `depth` levels by the small grammar in edition 2024,
+/// writes and flushes what it prints, and reports its faults.
 ///
-/// The status is 0 where nothing was refused and the text has no fault, else 1. Nothing is written where
-/// the text is not read or the run is refused, but by a write that fails, which leaves a front of the
-/// printed text. Then `faults` gets a line for each fault, as `line 2, byte column 1: recursion limit reached`
-/// (both numbers from 1), or one line for why the run stops, as `read failed`, and is flushed. An error of any
-/// kind of a reader or a writer is the last that is asked of it: nothing is tried again.
+/// The status is 0 if the text was read and has no fault, else 1. If the run stops or the text has
+/// a reading fault, nothing is written, except that a failed write leaves the first bytes of the
+/// printed text.
+///
+/// `faults` gets a line for each fault, as `line 2, byte column 1: recursion limit reached` (both
+/// numbers from 1), or one line for why the run stops, as `read failed`, and is flushed. After the
+/// first error of a stream, of any kind, nothing more is asked of it.
+///
+/// None of the three streams has failed before.
 pub fn run<R: Read, W: Write, E: Write>(
     alloc: Global,
     reader: &mut Watched<R>,
@@ -63,7 +69,7 @@ pub fn run<R: Read, W: Write, E: Write>(
     }
 }
 
-// The session's reply to the whole input, and what is told of it.
+// The session's reply to the whole input, and its report.
 fn answer_input<R: Read>(
     alloc: Global,
     reader: &mut Watched<R>,
@@ -79,7 +85,7 @@ fn answer_input<R: Read>(
     answer(alloc, text, depth).map_err(Stop::Refused)
 }
 
-// The reply of a session over this text, which has one command: to expand it.
+// The reply of a new session over this text to its one command: to expand it.
 fn expanded(alloc: Global, text: &str, depth: u8) -> Result<Reply, Refusal>
     requires { length text.now < 2 ^ 32 }
     ensures reply { IfOk result (IsReplyTo run_layers depth text.now None) }
@@ -96,8 +102,8 @@ fn expanded(alloc: Global, text: &str, depth: u8) -> Result<Reply, Refusal>
     }
 }
 
-// The reply of a session over this text, and what is told of it. The lines are made before anything is
-// written, so that want of memory is told alone.
+// The reply of a session over this text, and its report. The report is made before anything is
+// written, so that nothing is written when memory runs out.
 fn answer(alloc: Global, text: &str, depth: u8) -> Result<(Reply, String), Refusal>
     requires { length text.now < 2 ^ 32 }
     ensures reply { IfOk result (λ answer. IsReplyTo run_layers depth text.now None answer.0) }
@@ -111,7 +117,7 @@ fn answer(alloc: Global, text: &str, depth: u8) -> Result<(Reply, String), Refus
     Ok((reply, told))
 }
 
-// All bytes to the end, or why not.
+// All bytes up to the end, or why they could not be read.
 fn read_all<R: Read>(alloc: Global, reader: &mut Watched<R>) -> Result<Vec<u8>, Stop>
     requires { reader.old.failed ≡ false }
     ensures whole { IfOk result (λ bytes. IsAllOf (R.remaining reader.old.inner) bytes.items) }
@@ -162,7 +168,7 @@ fn put_reply<W: Write>(writer: &mut Watched<W>, reply: &Reply) -> bool
     }
 }
 
-// Tells this, if it is something.
+// Writes these lines, if there are any.
 fn tell<E: Write>(faults: &mut Watched<E>, told: &str)
     requires { faults.old.failed ≡ false }
     ensures told { Tells told.now (Appends (E.contents faults.old.inner) (E.contents faults.new.inner)) faults.new }
@@ -173,7 +179,7 @@ fn tell<E: Write>(faults: &mut Watched<E>, told: &str)
     }
 }
 
-// 0 where the text is read and has no fault.
+// 0 if the text was read and has no fault, else 1.
 fn status_of(reply: &Reply) -> Status
     ensures { result ≡ status_of reply.now }
 {

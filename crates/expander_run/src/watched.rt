@@ -10,12 +10,12 @@ use std::marker::Model;
 
 /// A reader or writer that remembers whether one of its calls failed.
 ///
-/// `read`, `write` and `flush` go to the one inside, and the bytes are known where it tells them.
+/// `read`, `write` and `flush` go to the one inside. Contracts know its bytes where it tells them.
 #[derive(Drop)]
 pub struct Watched<T> {
     inner: T,
     failed: bool,
-    // Whether the last call was a flush that went through.
+    // Whether the last call was a flush that succeeded.
     flushed: bool,
 }
 
@@ -46,7 +46,8 @@ impl<T> Watched<T> {
         self.inner
     }
 
-    /// Whether a call has answered an error of any kind, or taken 0 bytes of a write that isn't empty.
+    /// Whether a call has answered an error of any kind, or taken 0 bytes of a write that isn't
+    /// empty.
     pub fn failed(&self) -> bool
         ensures { result ≡ self.now.failed }
     {

@@ -1,4 +1,4 @@
--- Definitions whose places have their number as anchor.
+-- Definitions whose spans have their id as anchor.
 use Rattle.std.proofs.Common.{◌≡◌, ℕ, ◌∙◌, true}
 use Rattle.std.specs.Prelude.{Option, Some, None, is_some, option_map, unwrap_or}
 use Rattle.tt_data.specs.Forest.{Forest, map_spans}

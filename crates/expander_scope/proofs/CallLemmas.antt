@@ -1,4 +1,4 @@
--- A call that a list begins with, or none, and how its marks begin.
+-- A list begins with a call, or with none, as its marked form does.
 use Rattle.std.proofs.Common.{◌≡◌, refl, ap, subst, ◌∙◌, Bool, true, false, if◌then◌else◌}
 use Rattle.std.specs.Prelude.{Option, Some, None, ◌&&◌}
 use Rattle.std.proofs.lemmas.Bool.{and_from}

@@ -1,4 +1,4 @@
--- What a call adds to what a search has given.
+-- What a call adds to the output of a search.
 use Rattle.std.proofs.Common.{◌≡◌, ℕ, ◌-◌, ◌<◌, zero, suc, List, [], ◌∷◌, ◌++◌, refl, sym, ap, subst, ◌∙◌, append_assoc, append-nil, arith, Bool, true, false, if◌then◌else◌}
 use Rattle.std.specs.Prelude.{map, Option, Some, None, unwrap_or, Ok, Err, not, ◌&&◌}
 use Rattle.tt_data.specs.Forest.{Forest, joined}

@@ -1,4 +1,4 @@
--- The expansion of a changed forest is the changed expansion.
+-- Expansion commutes with a span map.
 use Rattle.std.proofs.Common.{◌≡◌, ℕ, zero, suc, Bool, true, false, cond, List, [], ◌∷◌, map, Option, Some, None, refl, ap, sym, ◌∙◌, unwrap_or, option_map}
 use Rattle.std.proofs.lemmas.List.{map-append}
 use Rattle.tt_data.specs.Forest.{Forest, empty, leaf, group, map_spans}

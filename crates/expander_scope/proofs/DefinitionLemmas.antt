@@ -1,4 +1,4 @@
--- What is read of a definition.
+-- The rules that are parsed from a definition.
 use Rattle.std.proofs.Common.{◌≡◌, sym, ap, ◌∙◌, true, if◌then◌else◌}
 use Rattle.std.specs.Prelude.{Option}
 use Rattle.tt_data.specs.Forest.{Forest}

@@ -1,4 +1,4 @@
--- Definitions at other places.
+-- Definitions with other spans.
 use Rattle.std.proofs.Common.{◌≡◌, ℕ, Bool, true, false, cond, List, Option, Some, None, refl, ap, sym, ◌∙◌, option_map, unwrap_or}
 use Rattle.std.specs.Prelude.{◌&&◌, ◌||◌, codes, is_some}
 use Rattle.tt.specs.FirstTrees.{first_ident, first_punct, first_group}

@@ -1,4 +1,4 @@
--- One more definition of a text has its number.
+-- One more definition of a text has its id.
 use Rattle.std.proofs.Common.{◌≡◌, ◌↔◌, ℕ, ◌+◌, ◌≤◌, ◌^◌, Global, Bool, true, false, cond, List, [], ◌∷◌, ◌++◌, map, Option, Some, None, refl, ap, sym, subst, ◌∙◌, arith, option_map}
 use Rattle.std.specs.Prelude.{◌||◌, is_some}
 use Rattle.std.specs.List.{list_any}
@@ -15,7 +15,7 @@ use Rattle.expander_model.specs.EqualTrees.{same_forest, same_top}
 use Rattle.expander_scope.specs.Editions.{IsRead}
 use Rattle.expander_scope.specs.DefinitionTexts.{HasNumbered, inner_of}
 use Rattle.expander_scope.specs.DefinitionIds.{AreNumbered, HaveNumbers}
-use Rattle.expander_scope.specs.Numbers.{needed}
+use Rattle.expander_scope.specs.NewNumbers.{needed}
 use Rattle.expander_scope.specs.declared.interner.Interner.{Interner}
 use Rattle.expander_scope.specs.declared.macro_def.MacroDef.{MacroDef}
 use Rattle.expander_scope.specs.declared.definition_ids.DefinitionIds as code

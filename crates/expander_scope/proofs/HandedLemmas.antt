@@ -1,4 +1,4 @@
--- Faults that are handed on.
+-- Errors that are passed on.
 use Rattle.std.proofs.Common.{◌≡◌, sym, subst}
 use Rattle.std.specs.Prelude.{IfErr, Result, Ok, Err}
 use Rattle.std.specs.Result.{IsErrAnd}

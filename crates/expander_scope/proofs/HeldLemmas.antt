@@ -1,4 +1,4 @@
--- What is made of a text in places of its own is what the text means.
+-- The expansion of a text with piece-relative spans is the text's meaning.
 use Rattle.std.proofs.Common.{◌≡◌, ℕ, suc, Bool, true, false, cond, List, [], ◌∷◌, map, Option, Some, None, refl, ap, sym, subst, ◌∙◌, option_map, nat_eq}
 use Rattle.std.specs.Prelude.{All}
 use Rattle.std.proofs.lemmas.Bool.Decides.{Decides-eqb}

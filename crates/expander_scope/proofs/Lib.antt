@@ -1,4 +1,4 @@
--- lemmas by subject; the worked rows
+-- lemmas by subject; the worked examples
 pub mod MarkLemmas
 pub mod OutcomeLemmas
 pub mod CallLemmas

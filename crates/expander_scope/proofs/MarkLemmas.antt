@@ -1,4 +1,4 @@
--- Marked calls, met from the left.
+-- Marked calls, found from left to right.
 use Rattle.std.proofs.Common.{◌≡◌, refl, ap, ◌∙◌, true, false, if◌then◌else◌}
 use Rattle.tt_data.specs.Forest.{Forest, empty, leaf, group}
 use Rattle.tt_data.specs.declared.leaf.Leaf.{Leaf}

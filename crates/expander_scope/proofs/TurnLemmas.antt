@@ -1,4 +1,4 @@
--- What one turn of the search of calls adds to the output.
+-- What one turn of the search for calls adds to the output.
 use Rattle.std.proofs.Common.{◌≡◌, ℕ, ◌<◌, List, [], ◌∷◌, refl, sym, ap, ◌∙◌, arith, Bool, true, false, inl, inr}
 use Rattle.std.specs.Prelude.{Option, Some, None, ◌⊎◌}
 use Rattle.tt_data.proofs.ForestLemmas.{size-joined}

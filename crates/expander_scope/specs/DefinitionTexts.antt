@@ -1,4 +1,4 @@
--- The definitions of a text so far, with their numbers.
+-- The definitions of a text so far, with their ids.
 use Rattle.std.specs.Prelude.{◌≡◌, ℕ, List, map}
 use Rattle.std.specs.Rc.{rc_value}
 use Rattle.tt_data.specs.Forest.{Forest}
@@ -12,7 +12,7 @@ use Rattle.expander_scope.specs.declared.definition_ids.DefinitionIds as code
 abbrev pub inner_of : MacroDef → Forest
 inner_of k = k.tree.inner
 
--- these are the trees so far, over those that had numbers before
+-- these are the trees so far, given ids after those that had one before
 pub record HasNumbered (old_given : ℕ) (old : Interner) (known trees : List Forest) (now : code.DefinitionIds) : Type 0 where
   pub numbers : AreNumbered old_given (numbers_in old) known trees now.given (numbers_in now.by_tree)
   pub trees_are : map (λ k. inner_of (rc_value k)) now.definitions.items ≡ trees

@@ -1,4 +1,4 @@
--- Definitions whose words are of one edition.
+-- Definitions whose identifiers are all of one edition.
 use Rattle.std.specs.Prelude.{◌≡◌}
 use Rattle.mbe.specs.Macros.{rules_of}
 use Rattle.tt_data.specs.declared.edition.Edition.{Edition}
@@ -7,6 +7,6 @@ use Rattle.expander_scope.specs.Outcomes.{numbered_of_known}
 use Rattle.expander_model.specs.World.{rules_in}
 use Rattle.expander_scope.specs.declared.macro_def.MacroDef.{MacroDef}
 
--- a definition stands with the rules that are read of it, where all its words are of this edition
+-- a definition has the rules that are parsed from it, all its identifiers being of this edition
 abbrev pub IsRead : Edition → MacroDef → Type 0
 IsRead edition k = rules_of k.rules ≡ rules_in edition (anchored_definition (numbered_of_known k))

@@ -1,4 +1,5 @@
--- One turn of the search of calls in a tree of its own: what is added for the trees that are passed.
+-- One turn of the search for calls in a tree with piece-relative spans: what it adds to the output
+-- for the trees that it passes.
 use Rattle.std.specs.Prelude.{◌≡◌, ◌<◌, ℕ, zero, suc, Bool, false, ◌&&◌, not, List, ◌++◌, map, Option, Some, None, Result, Ok, Err, if◌then◌else◌}
 use Rattle.tt_data.specs.Forest.{Forest, size}
 use Rattle.tt_data.specs.declared.span.Span.{Span}
@@ -8,46 +9,55 @@ use Rattle.expander_model.specs.declared.fault.FaultKind.{FaultKind}
 use Rattle.expander_model.specs.declared.fault.FaultKind.TheVariants.{CannotExpand, BrokenDefinition, RecursionLimit}
 use Rattle.expander_model.specs.Calls.{marked}
 use Rattle.expander_model.specs.Expansion.{World, Outcome, Deeper, followed_by, search_calls, expansion}
-use Rattle.expander_model.specs.Held.{Numbered}
+use Rattle.expander_model.specs.Held.{Numbered, numbered_world}
+use Rattle.expander_model.specs.World.{world}
+use Rattle.mbe.specs.Grammar.{Grammar}
+use Rattle.expander_scope.specs.ScopeTable.{scope_in}
+use Rattle.expander_scope.specs.declared.scope.Scope as table
 use Rattle.expander_scope.specs.Outcomes.{find_of, placed_of}
 
--- what a definition that isn't broken says to a call, by what it gives for the argument
+-- the result of a call of a valid definition with so many levels left, where `given` is what its
+-- first rule that fits transcribes; or the fault
 abbrev pub answer_at : ℕ → Option Forest → Result Forest FaultKind
 answer_at zero given = Err RecursionLimit
 answer_at (suc n) None = Err CannotExpand
 answer_at (suc n) (Some result) = Ok result
 
 module _ (world : World Numbered) where
-  -- what results are expanded by, with so many levels left
+  -- how results are expanded with so many levels left: not at all with none
   abbrev pub deeper_at : (List ℕ → Option Numbered) → ℕ → Deeper Numbered
   deeper_at scope zero = None
   deeper_at scope (suc n) = Some (expansion world scope n)
 
-  -- the expansion of what is left of a list
+  -- the expansion of the remaining trees of a list
   abbrev pub searched : (List ℕ → Option Numbered) → ℕ → Option Span → Forest → Outcome Numbered
   searched scope depth outer f = search_calls world scope (deeper_at scope depth) outer (marked f)
 
-  -- what comes in a call's place with so many levels left, or the fault for which it stays
+  -- the result of a call with so many levels left, or the fault for which the call stays
   abbrev pub answer : Numbered → ℕ → Forest → Result Forest FaultKind
   answer d depth argument = if world.broken d then Err BrokenDefinition else answer_at depth (world.fit d argument)
 
-  -- a level is left to ask the definition, and it makes too many tokens
+  -- a rule of the definition is tried, and puts out too many tokens
   abbrev pub makes_too_many : Numbered → ℕ → Forest → Bool
   makes_too_many d zero argument = false
   makes_too_many d (suc n) argument = not (world.broken d) && world.bursts d argument
 
--- the trees of a result
+-- the expansion of the remaining trees of a list by this grammar, in the scope of this table
+abbrev pub searched_under : Grammar → table.Scope → ℕ → Option Span → Forest → Outcome Numbered
+searched_under grammar s depth outer f = searched (numbered_world (world grammar s.edition)) (scope_in s) depth outer f
+
+-- the trees of a result, or the fault
 abbrev pub trees_of : Result Top FaultKind → Result Forest FaultKind
 trees_of (Ok top) = Ok top.inner
 trees_of (Err kind) = Err kind
 
--- an outcome is added to what was given
+-- an expansion result is appended to the output
 pub record Adds (old new : Expanding) (o : Outcome Numbered) : Type 0 where
   pub steps : map placed_of new.steps.items ≡ map placed_of old.steps.items ++ o.steps
   pub faults : new.faults.items ≡ old.faults.items ++ o.faults
   pub finds : map find_of new.finds.items ≡ map find_of old.finds.items ++ o.finds
 
--- the trees are passed up to others: what is added is what the search gives for those passed
+-- the search goes on from `f` to the shorter list `g`, and adds what it gives for the trees passed
 pub record Turn (search : Forest → Outcome Numbered) (old new : Expanding) (f g : Forest) : Type 0 where
   pub outcome : Outcome Numbered
   pub is : search f ≡ followed_by outcome (search g)

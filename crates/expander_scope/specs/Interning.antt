@@ -1,4 +1,4 @@
--- Definitions in the table that holds them by their trees, and their numbers.
+-- Definitions in the table that finds them by their trees, and their ids.
 use Rattle.std.specs.Prelude.{◌≡◌, ℕ, All, List, Option, Some, map, option_map}
 use Rattle.std.specs.Global.{Global}
 use Rattle.std.specs.HashMap.{get_by}
@@ -13,23 +13,23 @@ use Rattle.expander_model.specs.EqualTrees.{same_top}
 use Rattle.expander_scope.specs.declared.interner.Interner.{Interner}
 use Rattle.expander_scope.specs.declared.macro_def.MacroDef.{MacroDef}
 
--- the definition that a tree has
+-- the definition that the table has for a tree
 unfoldable pub known_in : Interner → Top → Option MacroDef
 known_in table t = option_map (λ k. k.value) (get_by (λ k. same_top t k.value) table.map)
 
--- each of these definitions is the one that its tree has
+-- the table has each of these definitions for its tree
 abbrev pub AreInTable : Interner → List (Rc MacroDef Global) → Type 0
 AreInTable table knowns = All (λ (k : Rc MacroDef Global). known_in table (rc_value k).tree ≡ Some (rc_value k)) knowns
 
--- its number
+-- the id that the table has for a tree
 abbrev pub numbers_in : Interner → Forest → Option ℕ
 numbers_in table f = option_map (λ (k : MacroDef). k.number) (known_in table (own_top f))
 
--- each tree has itself
+-- the definition that the table has for a tree is of that tree
 abbrev pub IsTable : Interner → Type 0
 IsTable table = (t : Top) (k : MacroDef) → known_in table t ≡ Some k → k.tree ≡ t
 
--- each definition stands with its rules, all of whose words are of this edition
+-- each definition has its rules, all its identifiers being of this edition
 abbrev pub AllRead : Edition → Interner → Type 0
 AllRead edition table = (t : Top) (k : MacroDef) → known_in table t ≡ Some k → IsRead edition k
 

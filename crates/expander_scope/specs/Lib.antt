@@ -1,7 +1,8 @@
 -- what the contracts of `Session` rest on
 pub mod Refusals
-pub mod Numbers
+pub mod NewNumbers
 -- what the functions inside the crate promise each other
+pub mod Numbers
 pub mod MacroDefs
 pub mod Outcomes
 pub mod Editions

@@ -1,4 +1,4 @@
--- A definition as it is kept: in places of its own, with its number.
+-- A cached definition: piece-relative spans, and its id.
 use Rattle.std.specs.Prelude.{ℕ, false, [], None, unwrap_or}
 use Rattle.tt_data.specs.Forest.{Forest, empty}
 use Rattle.tt_data.specs.declared.leaf.IdentIsRaw.TheVariants.{No}
@@ -6,7 +6,7 @@ use Rattle.tt_data.specs.declared.span.SyntaxContext.TheVariants.{Written}
 use Rattle.expander_model.specs.Definitions.{Definition, definition_of}
 use Rattle.expander_model.specs.Held.{Numbered}
 
--- the definition that a tree is; one without a name or a body where it is none
+-- the definition that a tree is, or one without a name and a body if it is none
 abbrev pub definition_in : Forest → Definition
 definition_in tree =
     unwrap_or (definition_of tree) (record {
@@ -17,6 +17,6 @@ definition_in tree =
       piece = tree;
     })
 
--- the definition that a tree is, with its number
+-- the definition that a tree is, with this id
 abbrev pub numbered_in : ℕ → Forest → Numbered
 numbered_in number tree = record { number = number; definition = definition_in tree }

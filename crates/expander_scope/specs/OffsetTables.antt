@@ -1,8 +1,8 @@
--- Where the definitions met so far start, in the table that holds it.
+-- Where the definitions in scope start, in the table by ids.
 use Rattle.std.specs.Prelude.{ℕ, nat_eq, unwrap_or}
 use Rattle.std.specs.HashMap.{get}
 use Rattle.expander_scope.specs.declared.offsets.Offsets.{Offsets}
 
--- where the nearest definition of a number starts
+-- where the nearest definition of an id starts
 unfoldable pub start_at : Offsets → ℕ → ℕ
 start_at starts number = unwrap_or (get nat_eq starts.map number) 0

@@ -1,4 +1,4 @@
--- What the code holds of an expansion in places of its own: steps, faults, and what was looked up.
+-- What the code has of an expansion: events, faults and look-ups, with piece-relative spans.
 use Rattle.std.specs.Prelude.{ℕ, List, Option, Some, None, map, option_map}
 use Rattle.std.specs.Rc.{rc_value}
 use Rattle.tt_data.specs.Forest.{Forest}
@@ -15,7 +15,7 @@ use Rattle.expander_scope.specs.declared.outcome.Event.{Event}
 use Rattle.expander_scope.specs.declared.outcome.EventKind.{EventKind}
 use Rattle.expander_scope.specs.declared.outcome.EventKind.TheVariants as own
 
--- a definition that is known, by its number
+-- a cached definition, with its id
 abbrev pub numbered_of_known : MacroDef → Numbered
 numbered_of_known k = numbered_in k.number k.tree.inner
 
@@ -23,32 +23,32 @@ numbered_of_known k = numbered_in k.number k.tree.inner
 abbrev pub find_of : NameLookup → List ℕ × Option Numbered
 find_of f = (f.name, option_map (λ k. numbered_of_known (rc_value k)) f.known)
 
--- the step that is kept
+-- the event that is cached
 abbrev pub kind_of : EventKind → Step
 kind_of (own.Leaf l) = at_leaf l
 kind_of (own.Opens kind span) = opens kind span
 kind_of (own.Closes kind span) = closes kind span
 
--- the same with the place that it has
+-- that event, with the call that it comes from
 abbrev pub placed_of : Event → PlacedStep
 placed_of s = record { step = kind_of s.kind; outer = s.outer }
 
--- the parts of an outcome that are held
+-- the parts of an expansion result that are cached
 pub record Parts : Type 0 where
   pub steps : List PlacedStep
   pub faults : List (FaultKind × Span)
   pub finds : List (List ℕ × Option Numbered)
 
--- those of an expansion
+-- the parts of an expansion's result
 abbrev pub parts_of : Outcome Numbered → Parts
 parts_of o = record { steps = o.steps; faults = o.faults; finds = o.finds }
 
--- steps that are held for a tree: without any the tree stays as it is
+-- the cached events for a tree: if there are none, those of the tree itself
 abbrev pub steps_for : Forest → Option (List Event) → List PlacedStep
 steps_for tree None = placed None (walk tree)
 steps_for tree (Some steps) = map placed_of steps
 
--- what is held for a tree
+-- what is cached for a tree
 abbrev pub parts_for : Forest → held.Outcome → Parts
 parts_for tree o = record {
   steps = steps_for tree (option_map (λ steps. steps.items) o.steps);

@@ -1,4 +1,4 @@
--- What names find, in the table that holds the definitions met so far, and where these start.
+-- What names resolve to, in the table of the definitions in scope, and where these start.
 use Rattle.std.specs.Prelude.{◌≡◌, ℕ, IfSome, List, None, Option, option_map, option_and_then, slice_get}
 use Rattle.std.specs.Rc.{rc_value}
 use Rattle.mbe.specs.Grammar.{Grammar}
@@ -12,19 +12,19 @@ use Rattle.expander_scope.specs.OffsetTables.{start_at}
 use Rattle.expander_model.specs.World.{world}
 use Rattle.expander_scope.specs.declared.scope.Scope as table
 
--- each definition stands with its rules, all of whose words are of the table's edition
+-- each definition has its rules, all its identifiers being of the table's edition
 abbrev pub AreRead : table.Scope → Type 0
 AreRead s = (i : ℕ) → IfSome (slice_get s.known.items i) (λ k. IsRead s.edition (rc_value k))
 
--- the numbered definition that each name finds
+-- the definition that each name resolves to, with its id
 unfoldable pub scope_in : table.Scope → List ℕ → Option Numbered
 scope_in s name = option_map (λ k. numbered_of_known (rc_value k)) (option_and_then (λ i. slice_get s.known.items i) (index_of s.names name))
 
--- what a tree's expansion gives by this grammar, under the definitions in the table, with so many levels of calls
+-- a tree's expansion by this grammar, in this scope, with so many levels of calls
 abbrev pub expanded_under : Grammar → table.Scope → ℕ → Forest → Outcome Numbered
 expanded_under grammar s depth tree = expansion (numbered_world (world grammar s.edition)) (scope_in s) depth None tree
 
--- these definitions were met, given nearest first
+-- these definitions are in scope, given nearest first
 pub record HasMet (s : table.Scope) (before : List Met) : Type 0 where
   pub finds : scope_in s ≡ numbered_scope before
   pub starts : (n : ℕ) → start_at s.starts n ≡ start_of before n

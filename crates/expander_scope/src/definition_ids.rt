@@ -1,4 +1,5 @@
-//! Gives each definition of a text its id: that of an equal definition of this text or the last, or else the next one.
+//! Gives each definition of a text its id: that of an equal definition of this text or the last,
+//! or else the next one.
 ghost use Rattle.std.specs.Prelude.{◌≡◌, ◌≢◌, ℕ, ◌+◌, ◌≤◌, ◌^◌, ◌∷◌, [], ◌++◌, List, Some, Err, IfOk, IfSome, OnOk, is_some, option_map, true};
 ghost use Rattle.bridge.specs.ReadText.{text_top};
 ghost use Rattle.tt_data.specs.Forest.{Forest};
@@ -8,7 +9,7 @@ ghost use Rattle.expander_scope.specs.Editions.{IsRead};
 ghost use Rattle.expander_scope.specs.Interning.{definition_tops};
 ghost use Rattle.expander_scope.specs.DefinitionTexts.{HasNumbered};
 ghost use Rattle.expander_scope.specs.DefinitionIds.{HaveNumbers};
-ghost use Rattle.expander_scope.specs.Numbers.{needed};
+ghost use Rattle.expander_scope.specs.NewNumbers.{needed};
 
 use crate::interner::Interner;
 use crate::macro_def::MacroDef;
@@ -19,12 +20,12 @@ use std::alloc::{AllocError, Global};
 use std::rc::Rc;
 use tt_data::Edition;
 
-/// The definitions of a text so far.
+/// The definitions of a text so far, with their ids.
 #[derive(Drop)]
 pub struct DefinitionIds {
-    /// How many numbers were given, those for earlier texts among them.
+    /// How many ids were given, those for earlier texts included.
     pub given: u32,
-    /// In order.
+    /// The definitions, in order.
     pub definitions: Vec<Rc<MacroDef>>,
     pub by_tree: Interner,
 }
@@ -35,7 +36,7 @@ impl DefinitionIds {
     ghost use Rattle.expander_scope.specs.Interning.{known_in};
     ghost use Rattle.expander_model.specs.EqualTrees.{same_top};
 
-    // One more definition, whose tree has one already.
+    // Adds a definition whose tree is in the interner already.
     fn push(&mut self, known: Rc<MacroDef>) -> Result<(), AllocError>
         ensures given { OnOk result (self.new.given ≡ self.old.given) }
         ensures definitions { OnOk result (self.new.definitions.items ≡ self.old.definitions.items ++ known ∷ []) }
@@ -45,7 +46,7 @@ impl DefinitionIds {
         Ok(())
     }
 
-    // One more definition, which its tree has from now on.
+    // Adds a definition, and interns its tree.
     fn put(&mut self, tree: Rc<HashedTree>, known: Rc<MacroDef>) -> Result<(), AllocError>
         ensures given { OnOk result (self.new.given ≡ self.old.given) }
         ensures definitions { OnOk result (self.new.definitions.items ≡ self.old.definitions.items ++ known ∷ []) }
@@ -57,7 +58,7 @@ impl DefinitionIds {
     }
 }
 
-// A definition with the next number.
+// A definition with the next id.
 fn next_known(
     alloc: Global,
     edition: Edition,
@@ -82,7 +83,7 @@ fn next_known(
     }
 }
 
-// The definition that a tree has, which need not be looked for where it is held.
+// The definition of this tree: `held` if the caller knows it, else the one in the interner.
 fn known_of<'a>(
     old: &'a Interner,
     held: Option<&'a Rc<MacroDef>>,
@@ -97,8 +98,9 @@ fn known_of<'a>(
     }
 }
 
-/// Gives a definition of a text its number: that of an equal one before it or of the last text, which may be known, or
-/// else the next.
+/// Gives a definition of a text its id: that of an equal definition of this text or of the last
+/// one, or else the next.
+/// `held` is the equal definition of the last text, if the caller knows it.
 pub fn number(
     alloc: Global,
     edition: Edition,

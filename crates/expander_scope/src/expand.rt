@@ -1,5 +1,6 @@
-//! Expands a tree with piece-relative spans: finds its calls from left to right, and searches what each gives.
-ghost use Rattle.std.specs.Prelude.{◌≡◌, ◌<◌, ℕ, ◌++◌, ◌∷◌, [], List, map, true, IfOk, OnOk, Option, None, Err, option_map};
+//! Expands a tree with piece-relative spans: expands its calls from left to right, and searches
+//! each result for further calls.
+ghost use Rattle.std.specs.Prelude.{◌≡◌, ◌-◌, ◌<◌, ℕ, ◌++◌, ◌∷◌, [], List, map, true, IfOk, OnOk, Option, None, Err, option_map};
 ghost use Rattle.mbe.specs.Bursts as made_by;
 ghost use Rattle.mbe.specs.Macros.{rules_of};
 ghost use Rattle.mbe.specs.Markers.{is_name};
@@ -10,11 +11,11 @@ ghost use Rattle.expander_model.specs.CallSteps.{call_at};
 ghost use Rattle.expander_model.specs.Expansion.{World, just, placed};
 ghost use Rattle.expander_scope.specs.Editions.{IsRead};
 ghost use Rattle.expander_model.specs.Held.{Numbered, numbered_world};
-ghost use Rattle.expander_scope.specs.ScopeTable.{AreRead, expanded_under, scope_in};
+ghost use Rattle.expander_scope.specs.ScopeTable.{AreRead, expanded_under};
 ghost use Rattle.tt_data.specs.declared.edition.Edition.{Edition};
 ghost use Rattle.tt_data.specs.declared.span.Span.{Span};
 ghost use Rattle.expander_scope.specs.Outcomes.{find_of, numbered_of_known, parts_for, parts_of};
-ghost use Rattle.expander_scope.specs.Expanding.{Adds, Turn, answer, makes_too_many, searched, trees_of};
+ghost use Rattle.expander_scope.specs.Expanding.{Adds, Turn, answer, makes_too_many, searched, searched_under, trees_of};
 ghost use Rattle.expander_model.specs.World.{fit_of, made, world};
 
 use crate::macro_def::MacroDef;
@@ -29,7 +30,38 @@ use std::rc::Rc;
 use tt::{TopSubtree, TtIter};
 use tt_data::{Delimiter, Span, Symbol, SyntaxContext, TtFault};
 
-/// What a search has given so far.
+/// What a tree is expanded in: the grammar, the definitions before it, and how many levels of
+/// calls may be expanded.
+///
+/// The caller of `expand_piece` makes one for each piece. The search makes another for each
+/// result, with a level less.
+#[derive(Drop)]
+pub struct Environment<'a, G> {
+    pub alloc: Global,
+    /// Decides what fragments are.
+    pub grammar: &'a G,
+    /// Resolves names.
+    pub scope: &'a Scope,
+    /// How many levels of calls may still be expanded.
+    pub depth: u8,
+}
+
+impl<'a, G> Environment<'a, G> {
+    // The environment of a result: one level less is left.
+    fn deeper(&self) -> Environment<'a, G>
+        requires { 0 < self.now.depth }
+        ensures { result ≡ record self.now { depth = self.now.depth - 1 } }
+    {
+        Environment {
+            alloc: self.alloc,
+            grammar: self.grammar,
+            scope: self.scope,
+            depth: self.depth - 1,
+        }
+    }
+}
+
+/// The expansion so far: events, faults and look-ups, each in order.
 #[derive(Drop)]
 pub(crate) struct Expanding {
     pub steps: Vec<Event>,
@@ -37,7 +69,7 @@ pub(crate) struct Expanding {
     pub finds: Vec<NameLookup>,
 }
 
-// Adds a name that was looked up, with what it found.
+// Adds a look-up: a name, and the definition that it resolves to, if any.
 fn push_find(
     finds: &mut Vec<NameLookup>,
     name: &Symbol,
@@ -57,7 +89,7 @@ fn push_find(
     Ok(())
 }
 
-// Adds a fault at the span.
+// Adds a fault at a span.
 fn push_told(
     faults: &mut Vec<(FaultKind, Span)>,
     kind: FaultKind,
@@ -69,7 +101,7 @@ fn push_told(
     Ok(())
 }
 
-// Adds the walk of the trees up to those behind, which are left then.
+// Emits the trees before `behind` as they are, and goes on with `behind`.
 fn keep<'a>(
     alloc: Global,
     outer: Option<Span>,
@@ -87,7 +119,9 @@ fn keep<'a>(
     Ok(())
 }
 
-// What the first of the rules that fits the argument gives, its tokens marked as made, in no brackets at a place.
+// Transcribes the first rule that fits the argument, in invisible delimiters with the span
+// `place`. The tokens that the transcriber wrote are marked as synthesized. `None` if no rule
+// fits.
 fn fit<G: FragmentGrammar>(
     alloc: Global,
     grammar: &G,
@@ -116,104 +150,94 @@ fn fit<G: FragmentGrammar>(
     }
 }
 
-// What comes in the place of a call of the definition, or the fault for which the call stays.
+// The result of a call of this definition. Or the fault for which the call stays: the definition
+// is invalid, no level is left, or no rule fits.
 fn answer<G: FragmentGrammar>(
-    alloc: Global,
-    grammar: &G,
+    env: &Environment<'_, G>,
     known: &MacroDef,
-    depth: u8,
     argument: &TtIter<'_>,
     place: Span,
 ) -> Result<Result<TopSubtree, FaultKind>, TtFault>
     ensures given { (edition : Edition) → IsRead edition known.now → IfOk result (λ given. trees_of given
-        ≡ answer (numbered_world (world (G.answer grammar.now) edition)) (numbered_of_known known.now) depth argument.now) }
-    ensures deep { IfOk result (λ given. OnOk given (0 < depth)) }
+        ≡ answer (numbered_world (world (G.answer env.now.grammar.now) edition))
+        (numbered_of_known known.now) env.now.depth argument.now) }
+    ensures deep { IfOk result (λ given. OnOk given (0 < env.now.depth)) }
     ensures tokens { (edition : Edition) → IsRead edition known.now → result ≡ Err TtFault.Tokens →
-        makes_too_many (numbered_world (world (G.answer grammar.now) edition)) (numbered_of_known known.now) depth argument.now ≡ true }
+        makes_too_many (numbered_world (world (G.answer env.now.grammar.now) edition))
+        (numbered_of_known known.now) env.now.depth argument.now ≡ true }
 {
     if known.rules.err().is_some() {
         return Ok(Err(FaultKind::BrokenDefinition));
     }
-    if depth == 0 {
+    if env.depth == 0 {
         return Ok(Err(FaultKind::RecursionLimit));
     }
-    let result = fit(alloc, grammar, &known.rules, argument, place)?;
+    let result = fit(env.alloc, env.grammar, &known.rules, argument, place)?;
     Ok(result.ok_or(FaultKind::CannotExpand))
 }
 
-// Expands the call with which the trees begin, and passes over it: what comes in its place is searched by itself, with a
-// level less. A call that stays for a fault is passed as it is. Where the name finds nothing, what is passed ends before
-// the group, so that the search goes on inside.
+// Expands the call at the head of the trees, and passes it. Its result is searched with one level
+// less.
+//
+// A call with a fault is emitted as it is. If the name resolves to nothing, only the tokens before
+// the group are passed, so the search goes on inside the group.
 #[cycle(searching)]
 fn expand_call<'a, G: FragmentGrammar>(
-    alloc: Global,
-    grammar: &G,
-    scope: &Scope,
-    depth: u8,
+    env: &Environment<'_, G>,
     outer: Option<Span>,
     out: &mut Expanding,
     trees: &mut TtIter<'a>,
     call: Call<'a>,
 ) -> Result<(), TtFault>
     requires call { call_at trees.old ≡ Some call }
-    requires read { AreRead scope.now }
-    ensures turn { OnOk result (Turn (searched (numbered_world (world (G.answer grammar.now) scope.now.edition)) (scope_in scope.now) depth outer) out.old out.new trees.old trees.new) }
+    requires read { AreRead env.now.scope.now }
+    ensures turn { OnOk result (Turn (searched_under (G.answer env.now.grammar.now) env.now.scope.now env.now.depth outer)
+        out.old out.new trees.old trees.new) }
     ensures tokens { result ≡ Err TtFault.Tokens →
-        (searched (numbered_world (world (G.answer grammar.now) scope.now.edition)) (scope_in scope.now) depth outer trees.old).bursts ≡ true }
+        (searched_under (G.answer env.now.grammar.now) env.now.scope.now env.now.depth outer trees.old).bursts ≡ true }
 {
-    let Some(known) = scope.find(&call.name.sym) else {
+    let Some(known) = env.scope.find(&call.name.sym) else {
         push_find(&mut out.finds, &call.name.sym, None)?;
-        keep(alloc, outer, out, trees, call.from_group)?;
+        keep(env.alloc, outer, out, trees, call.from_group)?;
         return Ok(());
     };
     push_find(&mut out.finds, &call.name.sym, Some(known))?;
     let at = outer.unwrap_or(call.name.span);
-    match answer(alloc, grammar, known.as_ref(), depth, &call.argument, at)? {
+    match answer(env, known.as_ref(), &call.argument, at)? {
         Ok(result) => {
             *trees = call.rest;
             let inside = result.token_trees().iter();
-            search(alloc, grammar, scope, depth - 1, Some(at), out, &inside)
+            search(&env.deeper(), Some(at), out, &inside)
         }
         Err(kind) => {
             push_told(&mut out.faults, kind, at)?;
-            keep(alloc, outer, out, trees, call.rest)?;
+            keep(env.alloc, outer, out, trees, call.rest)?;
             Ok(())
         }
     }
 }
 
-// Searches trees for calls, those in groups too, and expands them with so many levels left. What comes out is placed at
-// the name of the call around, or at none.
+// Searches trees for calls, those in groups included, and expands them. Each event gets `outer`,
+// the span of the name of the outermost call that it comes from, if any.
 #[cycle(searching)]
 fn search<G: FragmentGrammar>(
-    alloc: Global,
-    grammar: &G,
-    scope: &Scope,
-    depth: u8,
+    env: &Environment<'_, G>,
     outer: Option<Span>,
     out: &mut Expanding,
     trees: &TtIter<'_>,
 ) -> Result<(), TtFault>
-    requires { AreRead scope.now }
-    ensures adds { OnOk result (Adds out.old out.new (searched (numbered_world (world (G.answer grammar.now) scope.now.edition)) (scope_in scope.now) depth outer trees.now)) }
+    requires { AreRead env.now.scope.now }
+    ensures adds { OnOk result (Adds out.old out.new
+        (searched_under (G.answer env.now.grammar.now) env.now.scope.now env.now.depth outer trees.now)) }
     ensures tokens { result ≡ Err TtFault.Tokens →
-        (searched (numbered_world (world (G.answer grammar.now) scope.now.edition)) (scope_in scope.now) depth outer trees.now).bursts ≡ true }
+        (searched_under (G.answer env.now.grammar.now) env.now.scope.now env.now.depth outer trees.now).bursts ≡ true }
 {
-    let mut walk = TreeWalk::new(alloc, trees);
+    let mut walk = TreeWalk::new(env.alloc, trees);
     'turns: loop {
         if let Some(call) = call_at(&walk.here) {
-            expand_call(
-                alloc,
-                grammar,
-                scope,
-                depth,
-                outer,
-                out,
-                &mut walk.here,
-                call,
-            )?;
+            expand_call(env, outer, out, &mut walk.here, call)?;
         } else if let Some(call) = call_behind_colons(&walk.here) {
-            keep(alloc, outer, out, &mut walk.here, call.from_group)?;
+            keep(env.alloc, outer, out, &mut walk.here, call.from_group)?;
         } else if let Some(step) = walk.next()? {
             push_own_step(&mut out.steps, &step, outer)?;
         } else {
@@ -222,7 +246,8 @@ fn search<G: FragmentGrammar>(
     }
 }
 
-// Whether no call is in the trees, nor what would be one but for the `::` before it.
+// Whether the trees have no call, and nothing that would be one but for the `::` before it. Such
+// trees stay as they are.
 fn is_quiet(alloc: Global, trees: &TtIter<'_>) -> Result<bool, AllocError>
     ensures { IfOk result (λ quiet. quiet ≡ true → (world : World Numbered) (scope : List ℕ → Option Numbered) (depth : ℕ) (outer : Option Span) →
         searched world scope depth outer trees.now ≡ just outer (walk trees.now)) }
@@ -241,7 +266,7 @@ fn is_quiet(alloc: Global, trees: &TtIter<'_>) -> Result<bool, AllocError>
     }
 }
 
-// What a tree without calls gives: it stays as it is.
+// The result of a tree without calls: the tree itself.
 fn unchanged(alloc: Global) -> Outcome
     ensures { (tree : Forest) → parts_for tree result ≡ record { steps = placed None (walk tree); faults = []; finds = [] } }
 {
@@ -252,20 +277,23 @@ fn unchanged(alloc: Global) -> Outcome
     }
 }
 
-/// Expands a tree under the definitions of a scope, with so many levels of calls.
+/// Expands a tree in an environment. A call that fails stays, and its fault is in the result.
+///
+/// # Errors
+///
+/// `Memory`. `Tokens`, only if a rule that is tried for a call puts out more than `u32::MAX`
+/// tokens.
 pub fn expand_piece<G: FragmentGrammar>(
-    alloc: Global,
-    grammar: &G,
-    scope: &Scope,
-    depth: u8,
+    env: &Environment<'_, G>,
     tree: &TopSubtree,
 ) -> Result<Outcome, TtFault>
-    requires { AreRead scope.now }
-    ensures outcome { IfOk result (λ o. parts_for tree.now.inner o
-        ≡ parts_of (expanded_under (G.answer grammar.now) scope.now depth tree.now.inner)) }
+    requires { AreRead env.now.scope.now }
+    ensures outcome { IfOk result (λ o. parts_for tree.now.inner o ≡ parts_of
+        (expanded_under (G.answer env.now.grammar.now) env.now.scope.now env.now.depth tree.now.inner)) }
     ensures tokens { result ≡ Err TtFault.Tokens →
-        (expanded_under (G.answer grammar.now) scope.now depth tree.now.inner).bursts ≡ true }
+        (expanded_under (G.answer env.now.grammar.now) env.now.scope.now env.now.depth tree.now.inner).bursts ≡ true }
 {
+    let alloc = env.alloc;
     let quiet = is_quiet(alloc, &tree.iter())?;
     if quiet {
         return Ok(unchanged(alloc));
@@ -277,7 +305,7 @@ pub fn expand_piece<G: FragmentGrammar>(
         faults: Vec::new(alloc),
         finds: Vec::new(alloc),
     };
-    search(alloc, grammar, scope, depth, None, &mut out, &tree.iter())?;
+    search(env, None, &mut out, &tree.iter())?;
     let Expanding {
         steps,
         faults,

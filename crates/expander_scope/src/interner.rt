@@ -17,7 +17,7 @@ pub struct Interner {
 }
 
 impl Interner {
-    /// No tree has a definition.
+    /// The table without definitions.
     #[tactic(auto, unfolding(crate::specs::Interning::known_in))]
     pub fn new(alloc: Global) -> Self
         ensures { (t : Top) → known_in result t ≡ None }
@@ -27,7 +27,7 @@ impl Interner {
         }
     }
 
-    /// No definition, with room for so many.
+    /// The table without definitions, with room for `count`.
     #[tactic(auto, unfolding(crate::specs::Interning::known_in))]
     pub fn with_room(alloc: Global, count: usize) -> Result<Self, AllocError>
         ensures { IfOk result (λ table. (t : Top) → known_in table t ≡ None) }
@@ -36,7 +36,7 @@ impl Interner {
         Ok(Interner { map })
     }
 
-    /// What the tree has.
+    /// The definition of a tree, if it has one.
     #[tactic(auto, unfolding(crate::specs::Interning::known_in))]
     pub fn get(&self, tree: &Rc<HashedTree>) -> Option<&Rc<MacroDef>>
         ensures { option_map (λ k. k.now.value) result ≡ known_in self.now tree.now.value }
@@ -44,7 +44,7 @@ impl Interner {
         self.map.get(tree)
     }
 
-    /// The tree has this definition from now on.
+    /// Gives the tree this definition, in place of any that it had.
     #[tactic(auto, unfolding(crate::specs::Interning::known_in))]
     pub fn insert(&mut self, tree: Rc<HashedTree>, known: Rc<MacroDef>) -> Result<(), AllocError>
         ensures { OnOk result ((t : Top) → known_in self.new t ≡ (if same_top tree.value t then Some known.value else known_in self.old t)) }

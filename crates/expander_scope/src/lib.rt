@@ -1,4 +1,5 @@
-//! What names stand for: the definitions met so far, their ids and rules, and the expansion of one piece under them.
+//! How names are resolved: the definitions before a piece, their ids and rules, and the expansion
+//! of one piece in that scope.
 #![tactic(auto)]
 
 pub mod definition_ids;

@@ -1,4 +1,4 @@
-//! Definitions with piece-relative spans, each with its id and the rules that are read of it.
+//! Definitions with piece-relative spans, their ids, and the rules parsed from them.
 ghost use Rattle.std.specs.Prelude.{◌≡◌, IfOk, IsOkUnless, true, is_some};
 ghost use Rattle.tt_data.specs.Forest.{map_spans};
 ghost use Rattle.tt_data.specs.fault.TtFault.TheVariants.{Memory};
@@ -13,24 +13,25 @@ use std::alloc::Global;
 use tt::TopSubtree;
 use tt_data::{Edition, Symbol, TextRange, TtFault};
 
-/// A definition in places of its own, counted from its first token, with what is read of it.
+/// A definition with piece-relative spans, its id and its rules.
 #[derive(Drop)]
 pub struct MacroDef {
-    /// What stands for the definition: equal ones have the same number, others have others.
+    /// Its id: equal definitions share it, and others have another.
     pub number: u32,
     /// The whole piece.
     pub tree: TopSubtree,
+    /// The name that it defines.
     pub name: Symbol,
-    /// Where its name stands.
+    /// The range of its name in the piece.
     pub place: TextRange,
-    /// Its rules. Their places have its number as their anchor.
+    /// Its rules. All their spans have its id as their anchor.
     pub rules: DeclarativeMacro,
     ghost is_definition: { is_some (definition_of tree.inner) ≡ true },
     ghost named: { name ≡ (definition_in tree.inner).name.sym },
     ghost placed: { place ≡ (definition_in tree.inner).name.span.range },
 }
 
-// The tree, each place of which has this number as its anchor.
+// A copy of the tree in which each span has this id as its anchor.
 fn anchored_tree(alloc: Global, number: u32, tree: &TopSubtree) -> Result<TopSubtree, TtFault>
     ensures tree { IfOk result (λ t. t.inner ≡ map_spans (anchored number) tree.now.inner) }
     ensures memory { IsOkUnless result Memory }
@@ -46,7 +47,8 @@ fn anchored_tree(alloc: Global, number: u32, tree: &TopSubtree) -> Result<TopSub
 impl MacroDef {
     ghost use Rattle.expander_scope.specs.Editions.{IsRead};
 
-    /// The definition that a tree is, with this number, and what is read of it, all of whose words are of this edition.
+    /// The definition that a tree is, with this id. All its identifiers have this edition. Out of
+    /// memory is its only error.
     pub fn new(
         alloc: Global,
         edition: Edition,
@@ -77,11 +79,8 @@ impl MacroDef {
         })
     }
 
-    /// How long the name is, and the number.
+    /// How many bytes its name has.
     pub fn size(&self) -> usize {
-        self.name
-            .as_str()
-            .len()
-            .saturating_add(self.number as usize)
+        self.name.as_str().len()
     }
 }

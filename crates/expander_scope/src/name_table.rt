@@ -1,4 +1,4 @@
-//! Values by name: the latest of each name is found.
+//! Indexes by name: each name has the latest one.
 ghost use Rattle.std.specs.Prelude.{◌≡◌, ℕ, List, IfOk, OnOk, OnErr, if◌then◌else◌};
 ghost use Rattle.expander_scope.specs.NameTables.{index_of};
 ghost use Rattle.small_grammar.specs.Text.{same_text};
@@ -7,14 +7,14 @@ use std::alloc::{AllocError, Global};
 use std::collections::HashMap;
 use tt_data::Symbol;
 
-/// Which of a list of values each name stands for, by index: the latest one.
+/// The index that each name resolves to: the latest one inserted.
 #[derive(Drop)]
 pub(crate) struct NameTable {
     map: HashMap<Symbol, usize>,
 }
 
 impl NameTable {
-    /// No name stands for anything. There is room for so many.
+    /// No name resolves. There is room for `count` names.
     #[tactic(auto, unfolding(crate::specs::NameTables::index_of))]
     pub fn with_room(alloc: Global, count: usize) -> Result<Self, AllocError>
         ensures { IfOk result (λ names. (name : List ℕ) → index_of names name ≡ None) }
@@ -23,7 +23,7 @@ impl NameTable {
         Ok(NameTable { map })
     }
 
-    /// The name stands for the value at this index from now on.
+    /// The name resolves to this index from now on.
     #[tactic(auto, unfolding(crate::specs::NameTables::index_of))]
     pub fn insert(&mut self, name: Symbol, index: usize) -> Result<(), AllocError>
         ensures ok { OnOk result ((other : List ℕ) → index_of self.new other
@@ -34,7 +34,7 @@ impl NameTable {
         Ok(())
     }
 
-    /// The index of the value that the name stands for.
+    /// The index that the name resolves to.
     #[tactic(auto, unfolding(crate::specs::NameTables::index_of))]
     pub fn get(&self, name: &Symbol) -> Option<usize>
         ensures { result ≡ index_of self.now name.now }

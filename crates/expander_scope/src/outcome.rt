@@ -6,7 +6,7 @@ ghost use Rattle.expander_model.specs.Expansion.{placed};
 ghost use Rattle.expander_scope.specs.Outcomes.{kind_of, placed_of};
 
 use crate::macro_def::MacroDef;
-use bridge::TokenEvent;
+use bridge::parts::TokenEvent;
 use expander_model::fault::FaultKind;
 use expander_model::tree_walk::TreeWalk;
 use std::alloc::{AllocError, Global};
@@ -14,7 +14,7 @@ use std::rc::Rc;
 use tt::TtIter;
 use tt_data::{DelimiterKind, Leaf, Span, Symbol};
 
-/// A step of a walk over trees: a leaf, or a bracket of a group that may be invisible.
+/// An event of a walk: a leaf, or an opening or closing of a group, which may be invisible.
 #[derive(Drop)]
 pub enum EventKind {
     Leaf(Leaf),
@@ -22,14 +22,15 @@ pub enum EventKind {
     Closes(DelimiterKind, Span),
 }
 
-/// A step of the output, and the name of the outermost call that was expanded to give it, or none.
+/// An event of the output, and the span of the name of the outermost call that it comes from, if
+/// any.
 #[derive(Drop)]
 pub struct Event {
     pub kind: EventKind,
     pub outer: Option<Span>,
 }
 
-/// A name that was looked up, and the definition found, or none.
+/// A look-up: a name, and the definition that it resolved to, if any.
 #[derive(Drop)]
 pub struct NameLookup {
     pub name: Symbol,
@@ -37,28 +38,28 @@ pub struct NameLookup {
 }
 
 impl NameLookup {
-    /// How long the name is, and the number of what it finds.
+    /// How many bytes the name has, and the name of the definition that was found.
     pub fn size(&self) -> usize {
         let name = self.name.as_str().len();
         match &self.known {
-            Some(known) => name.saturating_add(known.as_ref().number as usize),
+            Some(known) => name.saturating_add(known.as_ref().size()),
             None => name,
         }
     }
 }
 
-/// What an expansion gives of a tree.
+/// An expansion result: what a tree expands to, with piece-relative spans.
 #[derive(Drop)]
 pub struct Outcome {
-    /// Its steps: none where the tree stays as it is.
+    /// Its events. `None` if they are those of the tree itself.
     pub steps: Option<Vec<Event>>,
-    /// Each fault with the span of the name that it is told at.
+    /// Each fault, with the span of the name at which it is reported.
     pub faults: Vec<(FaultKind, Span)>,
-    /// Each name that was looked up, in order.
+    /// The look-ups, in order.
     pub finds: Vec<NameLookup>,
 }
 
-// The leaf once more. Its text gets one more owner, and so it is never refused.
+// A copy of the leaf. It shares the text, so it takes no memory and never fails.
 fn same_leaf(leaf: &Leaf) -> Leaf
     ensures { result ≡ leaf.now }
 {
@@ -68,6 +69,7 @@ fn same_leaf(leaf: &Leaf) -> Leaf
     leaf
 }
 
+// An owned copy of a borrowed event.
 fn kept_step(step: &TokenEvent<'_>) -> EventKind
     ensures { kind_of result ≡ step_of step.now }
 {
@@ -78,7 +80,7 @@ fn kept_step(step: &TokenEvent<'_>) -> EventKind
     }
 }
 
-/// The step, lent.
+/// The event, borrowed.
 pub fn lent(kind: &EventKind) -> TokenEvent<'_>
     ensures { step_of result ≡ kind_of kind.now }
 {
@@ -89,7 +91,8 @@ pub fn lent(kind: &EventKind) -> TokenEvent<'_>
     }
 }
 
-/// Adds one step.
+/// Adds one event. `outer` is the span of the name of the outermost call that it comes from, if
+/// any.
 pub(crate) fn push_own_step(
     steps: &mut Vec<Event>,
     step: &TokenEvent<'_>,
@@ -102,7 +105,7 @@ pub(crate) fn push_own_step(
     Ok(())
 }
 
-/// Adds the walk of the trees, placed at the name of a call that was expanded, or at none.
+/// Adds all events of these trees, each with this `outer`.
 pub(crate) fn push_own_walk(
     alloc: Global,
     steps: &mut Vec<Event>,

@@ -1,4 +1,4 @@
-//! Why a session gives no reply.
+//! Why a session gives no reply, and the refusals of the layers below as such reasons.
 ghost use Rattle.std.specs.Prelude.{◌≡◌};
 ghost use Rattle.expander_scope.specs.Refusals.{refusal_of};
 ghost use Rattle.expander_scope.specs.declared.refusal.Refusal.TheVariants.{Memory};
@@ -6,14 +6,14 @@ ghost use Rattle.expander_scope.specs.declared.refusal.Refusal.TheVariants.{Memo
 use std::alloc::AllocError;
 use tt_data::TtFault;
 
-/// Why there is no reply. The session is as it was.
+/// Why there is no reply. A refused call changes nothing.
 #[derive(Clone, Copy, Debug, PartialEq, Eq)]
 pub enum Refusal {
-    /// There was no memory left.
+    /// Memory could not be allocated.
     Memory,
     /// A tree would have more than `u32::MAX` tokens.
     Tokens,
-    /// More than `u32::MAX` definitions would have been numbered.
+    /// More than `u32::MAX` definitions would need an id.
     Numbers,
 }
 

@@ -1,4 +1,4 @@
-//! Reads the rules of a definition, by `mbe`.
+//! Parses the rules of a definition, by `mbe`.
 ghost use Rattle.std.specs.Prelude.{◌≡◌, IfOk, IsOkUnless};
 ghost use Rattle.tt_data.specs.fault.TtFault.TheVariants.{Memory};
 ghost use Rattle.mbe.specs.Macros.{rules_of};
@@ -10,7 +10,8 @@ use std::alloc::Global;
 use tt::{TopSubtree, TtIter};
 use tt_data::{Delimiter, Edition, Span, SyntaxContext, TtFault};
 
-// The trees as a tree of their own. They are some of a tree's, so that they are not too many.
+// A tree of these trees. They are part of a tree, so they are not too many: its only error is out
+// of memory.
 fn tree_of(alloc: Global, trees: &TtIter<'_>, place: Span) -> Result<TopSubtree, TtFault>
     ensures trees { IfOk result (λ t. t.inner ≡ trees.now) }
     ensures memory { IsOkUnless result Memory }
@@ -22,7 +23,7 @@ fn tree_of(alloc: Global, trees: &TtIter<'_>, place: Span) -> Result<TopSubtree,
     }
 }
 
-/// What is read of a definition, all of whose words are of this edition.
+/// The rules parsed from a definition, all of whose identifiers have this edition.
 pub(crate) fn rules_in(
     alloc: Global,
     edition: Edition,

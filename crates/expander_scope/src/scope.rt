@@ -1,4 +1,4 @@
-//! The definitions before a piece: of each name the nearest, and where it starts.
+//! The definitions before a piece: the nearest of each name, and where it starts.
 ghost use Rattle.std.specs.Prelude.{length};
 ghost use Rattle.expander_scope.specs.NameTables.{IsWithin};
 
@@ -9,14 +9,14 @@ use std::alloc::{AllocError, Global};
 use std::rc::Rc;
 use tt_data::{Edition, Symbol};
 
-/// The definitions met so far.
+/// The definitions before the present piece.
 #[derive(Drop)]
 pub struct Scope {
-    /// The edition of all words.
+    /// The edition of all identifiers.
     pub edition: Edition,
     names: NameTable,
     known: Vec<Rc<MacroDef>>,
-    /// Where the nearest definition of each number starts.
+    /// Where the nearest definition of each id starts.
     pub starts: Offsets,
     ghost in_range: { IsWithin names (length known.items) },
 }
@@ -28,7 +28,7 @@ impl Scope {
     ghost use Rattle.expander_scope.specs.ScopeTable.{AreRead, HasMet, scope_in};
     ghost use Rattle.expander_scope.specs.Outcomes.{numbered_of_known};
 
-    /// No definition was met. There is room for so many.
+    /// The scope before any definition, with room for `count`.
     pub fn with_room(alloc: Global, edition: Edition, count: usize) -> Result<Self, AllocError>
         ensures none { IfOk result (λ scope. HasMet scope []) }
         ensures edition { IfOk result (λ scope. scope.edition ≡ edition) }
@@ -45,7 +45,7 @@ impl Scope {
         })
     }
 
-    /// One more definition, which starts here: from now on its name finds it.
+    /// Adds a definition that starts at `start`. From now on its name resolves to it.
     pub fn define(&mut self, start: u32, known: Rc<MacroDef>) -> Result<(), AllocError>
         requires rules { IsRead self.old.edition known.value }
         requires read { AreRead self.old }
@@ -64,7 +64,7 @@ impl Scope {
         self.names.insert(name, index)
     }
 
-    /// What a name finds.
+    /// The definition that a name resolves to.
     #[tactic(auto, unfolding(crate::specs::ScopeTable::scope_in))]
     pub fn find(&self, name: &Symbol) -> Option<&Rc<MacroDef>>
         requires { AreRead self.now }

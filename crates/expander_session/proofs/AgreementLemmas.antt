@@ -1,4 +1,4 @@
--- A forest's expansion is the same under two scopes that agree on its finds.
+-- A forest expands to the same in two scopes that agree on its look-ups.
 use Rattle.std.proofs.Common.{◌≡◌, ℕ, zero, suc, Bool, true, false, List, [], ◌∷◌, ◌++◌, Option, Some, None, refl, ap, ◌∙◌, unwrap_or}
 use Rattle.tt_data.specs.Forest.{Forest}
 use Rattle.tt_data.specs.Walk.{at_leaf, walk}

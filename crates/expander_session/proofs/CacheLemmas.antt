@@ -1,4 +1,4 @@
--- What a session holds.
+-- What a session has cached.
 use Rattle.std.proofs.Common.{◌≡◌, ℕ, List, [], ◌∷◌, map, Option, Some, None, refl, ap, sym, subst, ◌∙◌, Global}
 use Rattle.std.specs.Prelude.{All, is_some, option_map, slice_get}
 use Rattle.std.specs.List.{list_any}

@@ -1,4 +1,4 @@
--- A turn of a session is an answer, and answers one after another are those of all commands.
+-- A turn of a session is an answer, and answers one after another are those to all commands.
 use Rattle.std.proofs.Common.{◌≡◌, ℕ, ◌<◌, ◌^◌, List, [], ◌∷◌, ◌++◌, Option, None, refl, ap, sym, subst, ◌∙◌, append_assoc, append-nil, arith}
 use Rattle.std.specs.Prelude.{Result}
 use Rattle.bridge.specs.declared.reading.outcome.ReadFault.{ReadFault}

@@ -1,4 +1,5 @@
--- A text has at most as many definitions as bytes: a word begins each of them, and no token is read as two such words.
+-- A text has at most as many definitions as bytes: each begins with a definition keyword, and no
+-- token is read as two.
 use Rattle.std.proofs.Common.{◌≡◌, ℕ, zero, suc, ◌+◌, ◌≤◌, ◌<◌, ◌^◌, List, [], ◌∷◌, ◌++◌, length, drop, take, map, refl, ap, subst, ◌∙◌, arith, Bool, true, false, if◌then◌else◌, sum_by, IsUtf8}
 use Rattle.std.specs.Prelude.{All, Option, Some, None, Result, Ok, Err, ◌&&◌, chars, is_none, not}
 use Rattle.std.specs.List.{list_all, list_any}
@@ -22,10 +23,10 @@ use Rattle.tt_data.specs.declared.leaf.LitKind.{LitKind}
 use Rattle.expander_model.specs.EqualTrees.{same_forest}
 use Rattle.expander_model.specs.Definitions.{Definition, definition_of}
 use Rattle.expander_model.specs.Faults.{is_definition_word}
-use Rattle.expander_model.specs.Held.{trees_in}
+use Rattle.expander_model.specs.DefinitionTrees.{trees_in}
 use Rattle.expander_session.specs.Layered.{layers}
 use Rattle.expander_model.specs.Meaning.{Layers, meaning, meaning_from, member, members, members_after, with_definition}
-use Rattle.expander_scope.specs.Numbers.{needed}
+use Rattle.expander_scope.specs.NewNumbers.{needed}
 use Rattle.expander_model.specs.Pieces.{pieces, put_together, separated}
 use Rattle.expander_session.specs.Replies.{HasCause, NeedsNumbers, definitions_in}
 use Rattle.expander_session.specs.State.{State, layers_of}

@@ -1,4 +1,4 @@
--- A tree over what is held.
+-- One tree, evaluated over a cache.
 use Rattle.std.proofs.Common.{◌≡◌, ◌↔◌, ℕ, zero, suc, Bool, true, List, [], ◌∷◌, map, Option, Some, None, refl, ap, sym, subst, ◌∙◌, Global}
 use Rattle.std.specs.Prelude.{◌&&◌, ◌||◌, All, slice_get}
 use Rattle.std.specs.List.{list_any}

@@ -1,4 +1,4 @@
--- A text over what is held, by numbers that are given one after another.
+-- A text, evaluated over a cache, with definition ids that are given one after another.
 use Rattle.std.proofs.Common.{◌≡◌, ◌↔◌, ℕ, Bool, true, cond, zero, suc, false, List, [], ◌∷◌, map, Option, Some, None, refl, ap, sym, ◌∙◌, arith, length}
 use Rattle.std.specs.Prelude.{All, IsUtf8, Ok, filter, filter_map, is_some, unwrap_or, ◌≤◌, ◌||◌}
 use Rattle.std.specs.List.{list_any}
@@ -10,7 +10,8 @@ use Rattle.tt_data.specs.declared.edition.Edition.{Edition}
 use Rattle.expander_session.specs.Count.{expanded_count, looked_of}
 use Rattle.expander_model.specs.EqualTrees.{same_forest}
 use Rattle.expander_model.specs.Definitions.{Definition, definition_of, or_else}
-use Rattle.expander_model.specs.Held.{HasNumber, IsMet, Kept, StandFromFirst, Tells, definition_trees, kept_after, present}
+use Rattle.expander_model.specs.Held.{HasNumber, IsMet, Kept, StandFromFirst, Tells, kept_after, present}
+use Rattle.expander_model.specs.DefinitionTrees.{definition_trees}
 use Rattle.expander_session.specs.Layered.{layers}
 use Rattle.expander_model.specs.Meaning.{Member, members}
 use Rattle.expander_scope.specs.DefinitionIds.{AreNumbered, AreNumbers, HaveNumbers, by_either, number_by, numbered_by}

@@ -1,4 +1,4 @@
--- What a session replies that took a text over what it held.
+-- The reply to a text that was evaluated over a cache.
 use Rattle.std.proofs.Common.{◌≡◌, ◌↔◌, ℕ, ◌+◌, ◌≤◌, ◌^◌, true, List, [], ◌++◌, map, Option, Some, None, refl, ap, sym, subst, ◌∙◌, arith, length, option_map}
 use Rattle.std.specs.Prelude.{All, IsUtf8, Ok, Result, filter, filter_map, unwrap_or}
 use Rattle.bridge.specs.TokenSteps.{text_reading}
@@ -9,11 +9,12 @@ use Rattle.tt_data.specs.declared.edition.Edition.{Edition}
 use Rattle.expander_session.specs.Count.{Looked, expanded_count, looked_of}
 use Rattle.expander_model.specs.EqualTrees.{same_forest}
 use Rattle.expander_session.specs.Expanded.{Expanded, origin_of}
-use Rattle.expander_model.specs.Held.{Kept, definition_trees, kept_after}
+use Rattle.expander_model.specs.Held.{Kept, kept_after}
+use Rattle.expander_model.specs.DefinitionTrees.{definition_trees}
 use Rattle.expander_session.specs.Layered.{layers}
 use Rattle.expander_model.specs.Meaning.{Layers, ReadMeaning, meaning, meaning_from, meaning_of, members}
 use Rattle.expander_scope.specs.DefinitionIds.{AreNumbered, number_by, numbered_by}
-use Rattle.expander_scope.specs.Numbers.{needed}
+use Rattle.expander_scope.specs.NewNumbers.{needed}
 use Rattle.expander_model.specs.Pieces.{pieces}
 use Rattle.expander_session.specs.Replies.{IsMeant, NeedsNumbers, Replies, definitions_in, looked_in}
 use Rattle.expander_session.specs.Reuse.{HeldPiece, IsHeld, looked_held}

@@ -1,4 +1,4 @@
--- A piece's finds are what its scope finds, and say all that its expansion depends on.
+-- The look-ups of a piece are what its scope finds, and its expansion depends on nothing else.
 use Rattle.std.proofs.Common.{◌≡◌, ℕ, zero, suc, Bool, true, false, cond, List, [], ◌∷◌, ◌++◌, Option, Some, None, refl, ap, sym, subst, ◌∙◌, unwrap_or, append_assoc}
 use Rattle.std.proofs.lemmas.Slice.Eq.{bytes_eq-Decides}
 use Rattle.tt_data.specs.Forest.{Forest}

@@ -1,4 +1,4 @@
--- What is held stays right from one text to the next.
+-- The cache stays right from one text to the next.
 use Rattle.std.proofs.Common.{◌≡◌, ◌≢◌, ◌↔◌, ℕ, Bool, true, false, cond, List, [], ◌∷◌, map, Option, Some, None, refl, ap, sym, subst, ◌∙◌}
 use Rattle.std.specs.Prelude.{All, ◌||◌, filter, filter_map, is_some, unwrap_or}
 use Rattle.std.specs.List.{list_any}
@@ -9,7 +9,8 @@ use Rattle.tt_data.specs.declared.edition.Edition.{Edition}
 use Rattle.expander_model.specs.EqualTrees.{same_forest}
 use Rattle.expander_model.specs.Definitions.{Definition, definition_of}
 use Rattle.expander_model.specs.Expansion.{World}
-use Rattle.expander_model.specs.Held.{HasNumber, IsNumbered, Kept, Numbered, definition_trees, kept_after}
+use Rattle.expander_model.specs.Held.{HasNumber, IsNumbered, Kept, Numbered, kept_after}
+use Rattle.expander_model.specs.DefinitionTrees.{definition_trees}
 use Rattle.expander_scope.specs.Numbers.{AreEntries, Entry, Numbering, number_in, number_of, tree_of, with_trees}
 use Rattle.expander_model.specs.Pieces.{pieces, relative}
 use Rattle.expander_session.specs.Reuse.{FoundIs, HeldPiece, IsHeld}

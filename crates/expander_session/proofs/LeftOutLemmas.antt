@@ -1,4 +1,4 @@
--- Visible tokens that are left out, by their numbers, and where their faults are told.
+-- Visible tokens that cannot be printed, by their numbers, and the ranges of their faults.
 use Rattle.std.proofs.Common.{◌≡◌, ℕ, ◌+◌, ◌<◌, ◌≤◌, drop, length, subst, List, [], ◌∷◌, ◌++◌, refl, sym, ap, ◌∙◌, Bool, true, false, arith, if◌then◌else◌}
 use Rattle.std.specs.Prelude.{◌||◌, Option, Some, None, map, nat_eq}
 use Rattle.std.specs.List.{list_any}

@@ -1,4 +1,4 @@
--- lemmas by subject; the worked rows
+-- lemmas by subject; the worked examples
 mod LeftOutLemmas
 pub mod PrintingLemmas
 mod MemoRefLemmas

@@ -1,4 +1,4 @@
--- The search for a held piece that may stand for a tree.
+-- The search for a memo that is valid for a tree.
 use Rattle.std.proofs.Common.{◌≡◌, ◌↔◌, ℕ, ◌<◌, ◌≤◌, ◌+◌, ◌++◌, ◌∙◌, drop, take, zero, suc, Bool, true, false, List, [], ◌∷◌, length, get_or, map, Option, Some, None, refl, ap, sym, subst, arith, Global}
 use Rattle.std.specs.Prelude.{◌&&◌, ◌||◌, IfSome, slice_get}
 use Rattle.std.specs.List.{list_all, list_any}

@@ -1,4 +1,4 @@
--- Numbers tell trees apart.
+-- Different trees have different ids.
 use Rattle.std.proofs.Common.{◌≡◌, ◌≢◌, ◌↔◌, ℕ, ◌+◌, ◌≤◌, Bool, true, false, cond, List, [], ◌∷◌, map, Option, Some, None, refl, ap, sym, subst, ◌∙◌, arith}
 use Rattle.std.specs.Prelude.{All, Contains, ◌||◌, unwrap_or}
 use Rattle.std.specs.List.{list_any}
@@ -6,7 +6,8 @@ use Rattle.std.proofs.lemmas.List.Elements.{All-cons, All-contains, All-contains
 use Rattle.tt_data.specs.Forest.{Forest}
 use Rattle.expander_model.specs.EqualTrees.{same_forest}
 use Rattle.expander_model.specs.Held.{TellsApart}
-use Rattle.expander_scope.specs.Numbers.{AreEntries, Entry, Numbering, needed, number_in, number_of, tree_of, with_number, with_trees}
+use Rattle.expander_scope.specs.Numbers.{AreEntries, Entry, Numbering, number_in, number_of, tree_of, with_number, with_trees}
+use Rattle.expander_scope.specs.NewNumbers.{needed}
 use Rattle.expander_scope.proofs.HeldLemmas.{some_is}
 
 all_map : {X : Type 0} → (P Q : X → Type 0) → ((x : X) → P x → Q x) → (xs : List X) → All P xs → All Q xs

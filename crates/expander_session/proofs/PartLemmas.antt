@@ -1,4 +1,4 @@
--- What a piece prints by itself, and how it is put out.
+-- What a piece prints as a chunk, and how that is emitted.
 use Rattle.std.proofs.Common.{◌≡◌, ℕ, ◌+◌, ◌<◌, ◌≤◌, drop, get_or, append_assoc, append-nil, length, length-append, subst, List, [], ◌∷◌, ◌++◌, refl, sym, ap, ◌∙◌, Bool, true, false, ◌&&◌, nat_eq, arith, if◌then◌else◌}
 use Rattle.std.specs.Prelude.{◌||◌, IfOk, None, Option, Some, Result, Ok, Err, filter, map, option_map, unwrap_or}
 use Rattle.std.specs.List.{list_all, list_any}

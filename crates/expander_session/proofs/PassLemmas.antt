@@ -1,4 +1,4 @@
--- One more piece of a text, taken over what is held.
+-- One more piece of a text, evaluated over a cache.
 use Rattle.std.proofs.Common.{◌≡◌, ◌↔◌, ℕ, ◌+◌, ◌≤◌, Global, Bool, true, false, cond, List, [], ◌∷◌, ◌++◌, append_assoc, append-nil, map, length, Option, Some, None, refl, ap, sym, subst, ◌∙◌, arith}
 use Rattle.std.specs.Prelude.{All, filter, filter_map, flat_map, is_some, not, option_map, unwrap_or}
 use Rattle.std.specs.List.{cons_option, list_any}
@@ -17,7 +17,8 @@ use Rattle.expander_model.specs.EqualTrees.{same_forest}
 use Rattle.expander_model.specs.Definitions.{Definition, definition_of, or_else}
 use Rattle.expander_scope.specs.Editions.{IsRead}
 use Rattle.expander_model.specs.Expansion.{Outcome, World, expansion}
-use Rattle.expander_model.specs.Held.{IsMet, Kept, Met, Numbered, definition_trees, kept, kept_of, met, met_of, numbered_scope, numbered_world, present, with_met}
+use Rattle.expander_model.specs.Held.{IsMet, Kept, Met, Numbered, kept, kept_of, met, met_of, numbered_scope, numbered_world, present, with_met}
+use Rattle.expander_model.specs.DefinitionTrees.{definition_trees}
 use Rattle.expander_session.specs.CachedOutputs.{Holds}
 use Rattle.expander_scope.specs.MacroDefs.{definition_in}
 use Rattle.expander_session.specs.Layered.{layers}

@@ -1,4 +1,4 @@
--- The pieces of a text, taken one after another.
+-- The pieces of a text, evaluated one after another.
 use Rattle.std.proofs.Common.{◌≡◌, ◌↔◌, ℕ, ◌+◌, ◌≤◌, ◌^◌, Bool, true, false, cond, List, [], ◌∷◌, ◌++◌, append_assoc, append-nil, map, Option, Some, None, option_map, refl, ap, sym, subst, ◌∙◌}
 use Rattle.std.specs.Prelude.{◌||◌, All, is_some, unwrap_or}
 use Rattle.std.specs.List.{list_any}
@@ -11,13 +11,14 @@ use Rattle.expander_scope.specs.Interning.{AllRead, numbers_in}
 use Rattle.expander_model.specs.EqualTrees.{same_forest}
 use Rattle.expander_model.specs.Definitions.{Definition, definition_of, nearest}
 use Rattle.expander_model.specs.Expansion.{Outcome, World, expansion}
-use Rattle.expander_model.specs.Held.{IsMet, Kept, Met, Numbered, StandFromFirst, Tells, definition_trees, kept_after, kept_of, met, met_of, moved_on, numbered_world, present, present_definition, resolve, with_met}
+use Rattle.expander_model.specs.Held.{IsMet, Kept, Met, Numbered, StandFromFirst, Tells, kept_after, kept_of, met, met_of, moved_on, numbered_world, present, present_definition, resolve, with_met}
+use Rattle.expander_model.specs.DefinitionTrees.{definition_trees}
 use Rattle.expander_session.specs.Layered.{layers}
 use Rattle.expander_model.specs.Meaning.{Layers, Member, member, members_after, plain, with_definition}
 use Rattle.expander_session.specs.Caches.{IsCache, trees_of}
 use Rattle.expander_scope.specs.ScopeTable.{AreRead, HasMet}
 use Rattle.expander_scope.specs.DefinitionIds.{number_by, numbered_by}
-use Rattle.expander_scope.specs.Numbers.{needed}
+use Rattle.expander_scope.specs.NewNumbers.{needed}
 use Rattle.expander_model.specs.OtherPlaces.{LooksAtNoPlace, definition_with}
 use Rattle.expander_model.specs.Pieces.{first_start, relative}
 use Rattle.expander_session.specs.Evaluating.{CanDefine, Grows, HasTaken, IsEvaluated, MakesTooMany, NeedsMore, Evaluates}

@@ -1,4 +1,4 @@
--- Steps that are put out, and what is printed of them.
+-- Events that are emitted, and the text that they print.
 use Rattle.std.proofs.Common.{◌≡◌, ℕ, ◌+◌, append_assoc, append-nil, length, length-append, subst, List, [], ◌∷◌, ◌++◌, refl, sym, ap, ◌∙◌, Bool, true, false, if◌then◌else◌}
 use Rattle.std.specs.Prelude.{◌||◌, Option, Some, None, codes, filter, map, is_some}
 use Rattle.std.specs.Str.{bytes_eq, chars, is_utf8}

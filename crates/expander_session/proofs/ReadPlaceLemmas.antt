@@ -1,4 +1,4 @@
--- The pieces of a text that was read stand in the text itself, none of their places before the first token's.
+-- The spans of a piece that was read are in the text, none of them before its first token.
 use Rattle.std.proofs.Common.{◌≡◌, ℕ, Bool, true, false, List, [], ◌∷◌, ◌++◌, map, refl, ap, sym, subst, ◌∙◌, if◌then◌else◌}
 use Rattle.std.specs.Prelude.{All, IsUtf8, Ok}
 use Rattle.std.proofs.lemmas.List.Elements.{All-cons, All-head, All-nil, All-tail}

@@ -1,4 +1,4 @@
--- A piece that is held is taken where a new expansion would give the same, and there alone.
+-- A memo is reused exactly where a new expansion would give the same.
 use Rattle.std.proofs.Common.{◌≡◌, ◌↔◌, ℕ, Bool, true, false, cond, List, [], ◌∷◌, map, Option, Some, None, refl, ap, sym, subst, ◌∙◌, option_map, find}
 use Rattle.std.specs.Prelude.{All, ◌&&◌, ◌||◌}
 use Rattle.std.specs.List.{list_any}

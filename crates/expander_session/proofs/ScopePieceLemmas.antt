@@ -1,4 +1,4 @@
--- What a piece that was met is, by what its link leads to.
+-- Whether a cached piece is a definition, by what its reference leads to.
 use Rattle.std.proofs.Common.{◌≡◌, ◌∙◌, ℕ, zero, suc, Bor, Global, true, false, List, [], ◌∷◌, map, Option, Some, None, refl, ap, sym, get_or}
 use Rattle.std.specs.Prelude.{All, IfSome, is_some, slice_get}
 use Rattle.std.specs.Rc.{rc_value}

@@ -1,4 +1,4 @@
--- A session's reply to a text that was read, and what it holds afterwards.
+-- A session's reply to a text that was read, and its cache afterwards.
 use Rattle.std.proofs.Common.{◌≡◌, ◌↔◌, ℕ, ◌+◌, ◌≤◌, ◌^◌, Bool, true, false, if◌then◌else◌, List, [], ◌++◌, map, Option, Some, None, refl, ap, sym, subst, ◌∙◌, length, inr, Global}
 use Rattle.std.specs.Prelude.{All, IsUtf8, Ok, filter, flat_map, unwrap_or}
 use Rattle.std.specs.List.{list_any}
@@ -14,13 +14,14 @@ use Rattle.expander_model.specs.EqualTrees.{same_forest}
 use Rattle.expander_session.specs.Expanded.{Expanded}
 use Rattle.expander_model.specs.Expansion.{PlacedStep}
 use Rattle.expander_model.specs.Faults.{in_order}
-use Rattle.expander_model.specs.Held.{Kept, definition_trees, kept_after, present}
+use Rattle.expander_model.specs.Held.{Kept, kept_after, present}
+use Rattle.expander_model.specs.DefinitionTrees.{definition_trees}
 use Rattle.expander_session.specs.Layered.{layers}
 use Rattle.expander_session.specs.MemoRefs.{AreLinked, plain_tops}
 use Rattle.expander_model.specs.Meaning.{Layers, Member, meaning_of, members, members_after, output_of}
 use Rattle.expander_session.specs.Caches.{IsCache, held_in, looked_plain, piece_of, trees_of}
 use Rattle.expander_scope.specs.DefinitionIds.{HaveNumbers, number_by, numbered_by}
-use Rattle.expander_scope.specs.Numbers.{needed}
+use Rattle.expander_scope.specs.NewNumbers.{needed}
 use Rattle.expander_session.specs.Emitting.{HasOutput, faults_in}
 use Rattle.expander_reparse.specs.RelativePieces.{IsOwnPiece, piece_at}
 use Rattle.expander_model.specs.Pieces.{pieces}

@@ -1,4 +1,4 @@
--- The members of a text are its pieces in places of their own, taken to the text.
+-- The members of a text are its pieces with piece-relative spans, taken back to the text.
 use Rattle.std.proofs.Common.{◌≡◌, ℕ, ◌-◌, ◌≤◌, Bool, true, false, List, [], ◌∷◌, map, refl, ap, sym, ◌∙◌, arith, if◌then◌else◌}
 use Rattle.std.specs.Prelude.{All, Contains, IsUtf8, Ok, is_some}
 use Rattle.std.proofs.lemmas.List.Elements.{All-cons, All-contains, All-contains_itself, All-head, All-nil, All-tail}
@@ -7,7 +7,8 @@ use Rattle.mbe.specs.Grammar.{Grammar}
 use Rattle.tt_data.specs.Forest.{Forest}
 use Rattle.tt_data.specs.declared.edition.Edition.{Edition}
 use Rattle.expander_model.specs.Definitions.{definition_of}
-use Rattle.expander_model.specs.Held.{HasNumber, IsMet, Known, Tells, TellsApart, definition_trees, kept_after, present}
+use Rattle.expander_model.specs.Held.{HasNumber, IsMet, Known, Tells, TellsApart, kept_after, present}
+use Rattle.expander_model.specs.DefinitionTrees.{definition_trees}
 use Rattle.expander_session.specs.Layered.{layers}
 use Rattle.expander_model.specs.Meaning.{members}
 use Rattle.expander_model.specs.Pieces.{pieces, relative}

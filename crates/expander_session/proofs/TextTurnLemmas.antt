@@ -1,4 +1,4 @@
--- What is made of a text with what is held, and what is held afterwards.
+-- A text evaluated over a cache: its output, and the cache afterwards.
 use Rattle.std.proofs.Common.{◌≡◌, ◌↔◌, ℕ, suc, Bool, true, false, cond, List, [], ◌∷◌, map, Option, Some, None, refl, ap, sym, subst, ◌∙◌, option_map, length}
 use Rattle.std.specs.Prelude.{All, not, filter, filter_map}
 use Rattle.std.specs.List.{list_any, cons_option}

@@ -1,4 +1,4 @@
--- Places of equal trees: one more tree, and the search from place to place.
+-- Indexes of equal trees: one more tree, and the search from index to index.
 use Rattle.std.proofs.Common.{◌≡◌, ℕ, ◌<◌, zero, suc, Bool, true, false, cond, List, [], ◌∷◌, ◌++◌, map, length, refl, ap, sym, subst, ◌∙◌, arith, inl, inr}
 use Rattle.std.specs.Prelude.{◌||◌, ◌⊎◌, Option, Some, None, option_and_then, option_map, slice_get, take}
 use Rattle.std.specs.List.{list_any}

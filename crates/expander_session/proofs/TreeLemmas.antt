@@ -3,7 +3,7 @@ use Rattle.std.proofs.Common.{◌≡◌, ℕ, List, [], ◌∷◌, Option, Some,
 use Rattle.std.specs.Prelude.{is_some}
 use Rattle.tt_data.specs.Forest.{Forest}
 use Rattle.expander_model.specs.Definitions.{Definition, definition_of}
-use Rattle.expander_model.specs.Held.{definition_trees, trees_in}
+use Rattle.expander_model.specs.DefinitionTrees.{definition_trees, trees_in}
 use Rattle.expander_model.specs.Meaning.{Layers, member, members_after, with_definition}
 use Rattle.expander_model.specs.OtherPlaces.{definition_with}
 use Rattle.expander_model.specs.Pieces.{first_start, moved_back, relative}

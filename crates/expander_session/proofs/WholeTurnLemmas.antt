@@ -1,4 +1,4 @@
--- A whole text over what is held.
+-- A whole text, evaluated over a cache.
 use Rattle.std.proofs.Common.{◌≡◌, ◌↔◌, ℕ, true, List, [], map, ap, sym, subst, ◌∙◌, Some, length}
 use Rattle.std.specs.Prelude.{All, filter, filter_map}
 use Rattle.std.proofs.lemmas.List.Elements.{All-nil}

@@ -1,4 +1,4 @@
--- Where no word begins a definition, no piece is one.
+-- Without a definition keyword, no piece is a definition.
 use Rattle.std.proofs.Common.{◌≡◌, List, [], ◌∷◌, ◌++◌, refl, ap, ◌∙◌, sym, Bool, true, false, if◌then◌else◌}
 use Rattle.std.specs.Prelude.{Option, Some, None, not, ◌&&◌, ◌||◌, codes, is_none, option_and_then, unwrap_or}
 use Rattle.std.specs.List.{list_all}

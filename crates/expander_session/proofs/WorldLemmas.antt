@@ -1,4 +1,4 @@
--- What definitions mean rests on no place.
+-- What definitions mean does not depend on spans.
 use Rattle.std.proofs.Common.{◌≡◌, ℕ, Bool, true, false, List, Option, Some, None, refl, ap, ◌∙◌, option_map}
 use Rattle.std.specs.Prelude.{if◌then◌else◌, is_some, map}
 use Rattle.tt_data.specs.Forest.{Forest, map_spans}

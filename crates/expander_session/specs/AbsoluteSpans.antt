@@ -1,4 +1,4 @@
--- Places of a piece as places of the text, by the table of where definitions start.
+-- Piece-relative spans as spans of the text, by the table of where definitions start.
 use Rattle.std.specs.Prelude.{ℕ, ◌+◌, List, [], ◌∷◌, is_some, map, nat_eq, if◌then◌else◌}
 use Rattle.mbe.specs.Macros.{rules_of}
 use Rattle.tt_data.specs.declared.span.Span.{Span}
@@ -14,11 +14,11 @@ use Rattle.expander_model.specs.declared.fault.FaultKind.TheVariants.{BrokenDefi
 use Rattle.expander_scope.specs.declared.macro_def.MacroDef.{MacroDef}
 use Rattle.expander_scope.specs.declared.offsets.Offsets.{Offsets}
 
--- where the places of an anchor count from
+-- the offset that spans with this anchor count from
 abbrev pub base_at : ℕ → Offsets → ℕ → ℕ
 base_at start starts anchor = if nat_eq anchor 0 then start else start_at starts anchor
 
--- a range counted from here, as a range of the text
+-- a range counted from this offset, as a range of the text
 abbrev pub range_from : ℕ → TextRange → TextRange
 range_from base r = record { start = base + r.start; «end» = base + r.«end» }
 
@@ -26,7 +26,7 @@ range_from base r = record { start = base + r.start; «end» = base + r.«end» 
 abbrev pub resolved_by : ℕ → Offsets → Span → Span
 resolved_by start starts s = moved_on (base_at start starts s.anchor) s
 
--- steps of a piece, at their places in the text
+-- events of a piece, with their spans in the text
 abbrev pub resolved_steps : ℕ → Offsets → List PlacedStep → List PlacedStep
 resolved_steps start starts steps = map (placed_with (resolved_by start starts)) steps
 
@@ -34,6 +34,6 @@ resolved_steps start starts steps = map (placed_with (resolved_by start starts))
 abbrev pub resolved_faults : ℕ → Offsets → List (FaultKind × Span) → List Fault
 resolved_faults start starts faults = map (λ f. fault_at f.0 (resolved_by start starts f.1)) faults
 
--- the fault of a definition that starts here and is broken, at its name
+-- the fault of a definition that starts here, at its name: none if the definition is valid
 abbrev pub told_if_broken : ℕ → MacroDef → List Fault
 told_if_broken start k = if is_some (rules_of k.rules).err then record { kind = BrokenDefinition; range = range_from start k.place } ∷ [] else []

@@ -14,42 +14,42 @@ use Rattle.expander_model.specs.Meaning.{Layers, meaning}
 use Rattle.expander_session.specs.Replies.{IsReplyTo, NeedsNumbers, definitions_in, given_after, looked_in}
 use Rattle.expander_session.specs.TooMany.{NeedsTooMany}
 
--- both places are boundaries of characters, and the edit fits
+-- both offsets are character boundaries, in order, and the edited text fits
 pub record CanEdit (text : List ℕ) (start stop : ℕ) (replacement : List ℕ) : Type 0 where
   pub from : IsCharBoundary text start
   pub to : IsCharBoundary text stop
   pub order : start ≤ stop
   pub fits : length text - (stop - start) + length replacement < 2 ^ 32
 
--- an edit that was answered changes the text, and nothing else does
+-- an edit that was made changes the text, and nothing else does
 abbrev pub text_after : List ℕ → Command → Answer → List ℕ
 text_after text (Edit start stop replacement) Edited = edited text start stop (string_bytes replacement)
 text_after text _ _ = text
 
--- a text that was read is the last one then
+-- a text that was expanded and could be read becomes the newest of those read
 abbrev pub reads_after : List ℕ → List (List ℕ) → Answer → List (List ℕ)
 reads_after text reads (Replied (Read e)) = text ∷ reads
 reads_after text reads _ = reads
 
--- the text behind all commands, by their answers
+-- the text after all commands, by their answers
 abbrev pub last_text : List ℕ → List Command → List Answer → List ℕ
 last_text text (command ∷ commands) (answer ∷ answers) = last_text (text_after text command answer) commands answers
 last_text text _ _ = text
 
--- the texts that were read behind all commands, by their answers, the newest first
+-- the texts that were read after all commands, by their answers, the newest first
 abbrev pub last_reads : List ℕ → List (List ℕ) → List Command → List Answer → List (List ℕ)
 last_reads text reads (command ∷ commands) (answer ∷ answers) =
     last_reads (text_after text command answer) (reads_after text reads answer) commands answers
 last_reads text reads _ _ = reads
 
--- two replies show the same, whatever pieces were expanded for them
+-- two replies show the same text, faults and origins, however many pieces were expanded for them
 abbrev pub ShowTheSame : Reply → Reply → Type 0
 ShowTheSame (Read e) (Read f) = (e.printed ≡ f.printed) × (e.faults ≡ f.faults) × (e.origins ≡ f.origins)
 ShowTheSame (Unread fault) (Unread other) = fault ≡ other
 ShowTheSame _ _ = ⊥
 
 module _ (layers : Layers) (depth : ℕ) where
-  -- the plain pieces of the last of these texts that were read, which are given newest first: none before the first
+  -- the plain pieces of the last text that was read, given newest first: none before the first
   abbrev pub last_looked : List (List ℕ) → Option (List Looked)
   last_looked [] = None
   last_looked (text ∷ before) = Some (looked_in (meaning layers depth text))

@@ -1,4 +1,4 @@
--- What a session holds of the last text that was read.
+-- What a session has cached of the last text that was read.
 use Rattle.std.specs.Prelude.{◌≡◌, ℕ, false, All, List, [], Option, Some, None, if◌then◌else◌, map, option_map}
 use Rattle.std.specs.Rc.{rc_value}
 use Rattle.bridge.specs.ReadText.{text_top}
@@ -34,20 +34,20 @@ abbrev pub trees_of : code.Cache → List Forest
 trees_of m = map (λ k. inner_of (rc_value k)) m.definitions.items
 
 module _ (world : World Definition) (depth : ℕ) where
-  -- a plain piece with its whole expansion, where each name finds what it is held to find
+  -- a plain piece with its whole expansion, each name resolved as its memo says
   abbrev pub piece_of : Memo → HeldPiece
   piece_of q = record { tree = (tree_of q).inner; outcome = expansion (numbered_world world) (scope_of (finds_of q)) depth None (tree_of q).inner }
 
-  -- a plain piece has a tree of its own, which is no definition, and is what its expansion is
+  -- a memo's tree is plain and under the top of a text, and its parts are those of its expansion
   pub record IsRight (numbers : Forest → Option ℕ) (q : Memo) : Type 0 where
     pub top : (tree_of q).delimiter ≡ text_top
     pub parts : Holds q (parts_of (piece_of q).outcome)
     pub held : IsHeld world depth (numbered_by numbers) (piece_of q)
     pub plain : IsPlain q
 
-  -- what is held is right by the numbers of the definitions that are held
+  -- all that is cached is right, by the ids of the cached definitions
   pub record IsCache (edition : Edition) (m : code.Cache) : Type 0 where
-    -- no piece before the first text that was read
+    -- no memo before the first text that was read
     pub unread : m.was_read ≡ false → m.plains.items ≡ []
     pub numbers : AreNumbers m.given (numbers_in m.by_tree)
     pub have : HaveNumbers (numbers_in m.by_tree) (trees_of m)

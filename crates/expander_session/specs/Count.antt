@@ -8,8 +8,8 @@ use Rattle.expander_model.specs.Meaning.{Member, plain, defining}
 use Rattle.expander_model.specs.Pieces.{relative}
 use Rattle.small_grammar.specs.Text.{same_text}
 
--- a plain piece's tree, and each name that was looked up in it with the definition found or none; places are counted
--- from each tree's first token
+-- a plain piece's tree, and each name that was looked up in it with the definition found or none;
+-- all spans are piece-relative
 pub record Looked : Type 0 where
   pub tree : Forest
   pub finds : List (List ℕ × Option Forest)
@@ -30,7 +30,7 @@ same_found None None = true
 same_found (Some f) (Some g) = same_forest f g
 same_found _ _ = false
 
--- each find of the first is one of the second
+-- each look-up of the first is one of the second
 abbrev pub finds_within : List (List ℕ × Option Forest) → List (List ℕ × Option Forest) → Bool
 finds_within a b = list_all (λ f. list_any (λ g. same_text f.0 g.0 && same_found f.1 g.1) b) a
 
@@ -42,6 +42,6 @@ abbrev pub earlier_pieces : Option (List Looked) → List Looked
 earlier_pieces None = []
 earlier_pieces (Some ps) = ps
 
--- the plain pieces that have no match among the earlier ones: all of them where there is no earlier text
+-- the plain pieces that have no match among the earlier ones: all if there is no earlier text
 abbrev pub expanded_count : Option (List Looked) → List Looked → ℕ
 expanded_count earlier now = length (filter (λ p. not (list_any (is_same p) (earlier_pieces earlier))) now)

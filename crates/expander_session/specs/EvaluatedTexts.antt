@@ -1,4 +1,4 @@
--- What a session shows of a text that was read, and what it holds afterwards.
+-- What a session shows of a text that was read, and what it has cached afterwards.
 use Rattle.std.specs.Prelude.{◌≡◌, ℕ, true, List, [], filter, filter_map, length, map}
 use Rattle.std.specs.Rc.{rc_value}
 use Rattle.mbe.specs.Grammar.{Grammar}
@@ -6,7 +6,8 @@ use Rattle.tt_data.specs.Forest.{Forest}
 use Rattle.tt_data.specs.declared.edition.Edition.{Edition}
 use Rattle.expander_scope.specs.Interning.{numbers_in}
 use Rattle.expander_session.specs.Expanded.{Expanded}
-use Rattle.expander_model.specs.Held.{Kept, definition_trees, kept_after, present}
+use Rattle.expander_model.specs.Held.{Kept, kept_after, present}
+use Rattle.expander_model.specs.DefinitionTrees.{definition_trees}
 use Rattle.expander_session.specs.Layered.{layers}
 use Rattle.expander_model.specs.Meaning.{meaning_of}
 use Rattle.expander_session.specs.Caches.{IsCache, piece_of, trees_of}
@@ -17,11 +18,11 @@ use Rattle.expander_model.specs.World.{world}
 use Rattle.expander_session.specs.declared.cache.Cache.{Cache}
 
 module _ (grammar : Grammar) (edition : Edition) (depth : ℕ) (old : Cache) (ps : List Forest) where
-  -- the pieces under the numbers that are held afterwards
+  -- the pieces, under the ids that are cached afterwards
   abbrev pub pieces_kept : Cache → List Kept
   pieces_kept new = kept_after (world grammar edition) depth (number_by (numbers_in new.by_tree)) [] ps
 
-  -- pieces were taken over what was held: what is shown of them, and what is held afterwards
+  -- pieces were evaluated over a cache: what is shown of them, and what is cached afterwards
   pub record EvaluatesText (e : Expanded) (new : Cache) : Type 0 where
     pub right : IsCache (world grammar edition) depth edition new
     pub was_read : new.was_read ≡ true

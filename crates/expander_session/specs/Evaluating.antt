@@ -1,4 +1,4 @@
--- What a pass over a text's pieces makes of them, over what is held.
+-- What a pass over a text's pieces makes of them, over the old cache.
 use Rattle.std.specs.Prelude.{◌≡◌, ℕ, ◌+◌, ◌≤◌, ◌^◌, All, List, [], ◌∷◌, ◌++◌, None, Some, filter, filter_map, flat_map, length, map, true}
 use Rattle.std.specs.Rc.{rc_value}
 use Rattle.mbe.specs.Grammar.{Grammar}
@@ -8,7 +8,8 @@ use Rattle.tt_data.specs.declared.edition.Edition.{Edition}
 use Rattle.expander_scope.specs.Interning.{AllRead, IsTable, definition_tops, numbers_in}
 use Rattle.expander_model.specs.Definitions.{Definition, definition_of}
 use Rattle.expander_model.specs.Expansion.{World, expansion}
-use Rattle.expander_model.specs.Held.{IsMet, Kept, Met, definition_trees, kept_of, numbered_world, present, with_met}
+use Rattle.expander_model.specs.Held.{IsMet, Kept, Met, kept_of, numbered_world, present, with_met}
+use Rattle.expander_model.specs.DefinitionTrees.{definition_trees}
 use Rattle.expander_session.specs.Layered.{layers}
 use Rattle.expander_session.specs.MemoRefs.{LeadTo, plain_tops}
 use Rattle.expander_model.specs.Meaning.{Layers, member_faults, output_of}
@@ -16,7 +17,7 @@ use Rattle.expander_session.specs.Caches.{IsRight, piece_of, trees_of}
 use Rattle.expander_scope.specs.ScopeTable.{AreRead, HasMet, scope_in}
 use Rattle.expander_scope.specs.DefinitionTexts.{HasNumbered}
 use Rattle.expander_scope.specs.DefinitionIds.{number_by, numbered_by}
-use Rattle.expander_scope.specs.Numbers.{needed}
+use Rattle.expander_scope.specs.NewNumbers.{needed}
 use Rattle.expander_session.specs.Emitting.{HasOutput}
 use Rattle.expander_model.specs.Pieces.{relative}
 use Rattle.expander_session.specs.Memos.{AreHashes}
@@ -26,22 +27,22 @@ use Rattle.expander_model.specs.World.{world}
 use Rattle.expander_session.specs.declared.evaluate.Evaluated.{Evaluated}
 use Rattle.expander_session.specs.declared.evaluate.Evaluation.{Evaluation}
 
--- the first definitions of these pieces need more numbers than there are
+-- the first definitions of these pieces need more ids than there are
 pub record NeedsMore (old : Cache) (ps : List Forest) : Type 0 where
   pub front : List Forest
   pub more : List Forest
   pub are : definition_trees ps ≡ front ++ more
   pub many : 2 ^ 32 ≤ old.given + needed (trees_of old) front
 
--- numbers stay
+-- trees that have an id keep it
 abbrev pub Grows : Evaluated → Evaluated → Type 0
 Grows old new = (t : Forest) (n : ℕ) → numbers_in old.numbers.by_tree t ≡ Some n → numbers_in new.numbers.by_tree t ≡ Some n
 
--- the links of the pieces so far, which have these trees
+-- the references of the pieces so far lead to these trees
 abbrev pub AreLinks : Evaluated → List Top → Type 0
 AreLinks now trees = LeadTo (plain_tops now.plains.items) (definition_tops now.numbers.definitions.items) now.links.items trees
 
--- one more definition may be numbered and met
+-- one more definition may get an id and enter the scope
 pub record CanDefine (old : Cache) (now : Evaluation) : Type 0 where
   pub old_table : IsTable old.by_tree
   pub old_read : AllRead now.scope.edition old.by_tree
@@ -50,7 +51,7 @@ pub record CanDefine (old : Cache) (now : Evaluation) : Type 0 where
   pub scope_read : AreRead now.scope
 
 module _ (world : World Definition) (edition : Edition) (depth : ℕ) (old : Cache) (layers : Layers) where
-  -- these are the pieces so far, kept, and the trees of the definitions among them
+  -- these are the pieces so far, with their results, and the trees of the definitions among them
   pub record IsEvaluated (trees : List Forest) (done : List Kept) (now : Evaluated) : Type 0 where
     pub numbers : HasNumbered old.given old.by_tree (trees_of old) trees now.numbers
     pub table_read : AllRead edition now.numbers.by_tree
@@ -61,7 +62,7 @@ module _ (world : World Definition) (edition : Edition) (depth : ℕ) (old : Cac
     pub faults : now.faults.items ≡ flat_map (member_faults layers) (map present done)
     pub expanded : now.expanded ≡ length (filter (is_unmatched (map (λ q. piece_of world depth (rc_value q)) old.plains.items)) done)
 
-  -- and these are the definitions met, nearest first
+  -- and these are the definitions in scope, nearest first
   pub record HasTaken (before : List Met) (trees : List Forest) (done : List Kept) (now : Evaluation) : Type 0 where
     pub met : HasMet now.scope before
     pub known : All (IsMet (numbered_by (numbers_in now.taken.numbers.by_tree))) before
@@ -69,7 +70,7 @@ module _ (world : World Definition) (edition : Edition) (depth : ℕ) (old : Cac
     pub edition_is : now.scope.edition ≡ edition
     pub taken : IsEvaluated trees done now.taken
 
--- one more piece is taken
+-- one more piece is evaluated
 abbrev pub Evaluates : Grammar → Edition → ℕ → Cache → Forest → Evaluation → Evaluation → Type 0
 Evaluates grammar edition depth old piece now next =
     (before : List Met) (trees : List Forest) (done : List Kept) → HasTaken (world grammar edition) edition depth old (layers grammar edition) before trees done now
@@ -79,7 +80,7 @@ Evaluates grammar edition depth old piece now next =
     (done ++ kept_of (world grammar edition) depth (number_by (numbers_in next.taken.numbers.by_tree)) before piece (definition_of (relative piece)) ∷ [])
     next
 
--- the piece is plain, and makes too many tokens
+-- the piece is plain, and its expansion makes too many tokens
 abbrev pub MakesTooMany : Grammar → Edition → ℕ → Forest → Evaluation → Type 0
 MakesTooMany grammar edition depth piece now =
     (definition_of (relative piece) ≡ None)

@@ -5,7 +5,7 @@ use Rattle.tt_data.specs.declared.span.TextRange.{TextRange}
 use Rattle.expander_model.specs.declared.fault.Fault.{Fault}
 use Rattle.expander_model.specs.Printing.{PrintedToken}
 
--- where a printed token comes from: the place of the span that it carries
+-- where a printed token comes from: the range of the span that it carries
 abbrev pub origin_of : PrintedToken → TextRange
 origin_of t = (step_span t.token.step).range
 

@@ -1,4 +1,4 @@
--- Words of the laws.
+-- Definitions that the laws use.
 use Rattle.std.specs.Prelude.{◌≡◌, ◌≢◌, ◌⊎◌, ℕ, zero, suc, Bool, true, false, not, All, Option, None, List, [], ◌∷◌, is_none}
 use Rattle.std.specs.List.{list_all}
 use Rattle.bridge.specs.Text.{is_punct}
@@ -15,7 +15,7 @@ use Rattle.expander_model.specs.declared.fault.FaultKind.TheVariants.{CannotExpa
 use Rattle.expander_session.specs.declared.session.Reply.{Reply}
 use Rattle.expander_session.specs.declared.session.Reply.TheVariants.{Read, Unread}
 
--- a call fails: its definition is broken, no level is left, or nothing fits
+-- a call fails: its definition is invalid, no level is left, or no rule fits
 abbrev pub Fails : Bool → ℕ → Option Forest → Type 0
 Fails broken depth given = (broken ≡ true) ⊎ (depth ≡ 0) ⊎ (given ≡ None)
 
@@ -25,19 +25,20 @@ why_failed true depth = BrokenDefinition
 why_failed false zero = RecursionLimit
 why_failed false (suc n) = CannotExpand
 
--- a front and what follows it are parted at no call: at each tree of the front, where no call begins without the rest,
--- none begins with it; nor does what would be one but for the `::` before it
+-- no call crosses the border of a front and its rest: where no call begins at a tree of the front
+-- alone, none begins there with the rest added; the same for what would be a call but for the
+-- `::` before it
 pub record IsParted (front rest : Forest) : Type 0 where
   pub calls : (a b : Forest) → front ≡ joined a b → b ≢ empty → call_at b ≡ None → call_at (joined b rest) ≡ None
   pub colons : (a b : Forest) → front ≡ joined a b → b ≢ empty → call_behind_colons b ≡ None → call_behind_colons (joined b rest) ≡ None
 
--- one tree that ends the piece which `begun` begins
+-- one tree that ends the piece that `begun` begins
 abbrev pub is_ender : Forest → Forest → Bool
 is_ender begun (leaf l empty) = is_punct ";" l
 is_ender begun (group d inner empty) = ends_piece begun d
 is_ender begun _ = false
 
--- the last tree of a list ends the piece which those before it begin
+-- the last tree of a list ends the piece that those before it begin
 pub record IsEnded (p : Forest) : Type 0 where
   pub begun : Forest
   pub last : Forest
@@ -48,7 +49,7 @@ pub record IsEnded (p : Forest) : Type 0 where
 abbrev pub AreAllPlain : List Forest → Type 0
 AreAllPlain ps = list_all (λ p. is_none (definition_of p)) ps ≡ true
 
--- no word that begins a definition is anywhere in the trees
+-- no definition keyword is anywhere in the trees
 abbrev pub HasNoWord : Forest → Type 0
 HasNoWord f = list_all (λ s. not (is_definition_word s)) (walk f) ≡ true
 
@@ -57,16 +58,16 @@ abbrev pub ExpandsNothing : Reply → Type 0
 ExpandsNothing (Read e) = e.expanded ≡ 0
 ExpandsNothing (Unread fault) = ⊥
 
--- the definitions met once these pieces follow those before, the nearest first
+-- the definitions in scope once these pieces follow those before, the nearest first
 abbrev pub definitions_after : List Definition → List Forest → List Definition
 definitions_after before [] = before
 definitions_after before (p ∷ ps) = definitions_after (with_definition (definition_of p) before) ps
 
--- a name that was looked up finds an equal definition in this scope, or none as it did: equal in places counted from the
--- first token of each
+-- a name that was looked up finds an equal definition in this scope, or still none; equal by
+-- piece-relative spans
 abbrev pub IsFoundAgain : (List ℕ → Option Definition) → (List ℕ × Option Definition) → Type 0
 IsFoundAgain scope find = found_piece (scope find.0) ≡ found_piece find.1
 
--- each of the names that were looked up finds so
+-- each look-up finds an equal definition, or still none
 abbrev pub FindsAsBefore : (List ℕ → Option Definition) → List (List ℕ × Option Definition) → Type 0
 FindsAsBefore scope finds = All (IsFoundAgain scope) finds

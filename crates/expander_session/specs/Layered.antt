@@ -1,4 +1,4 @@
--- What the meaning of a text stands on: how it is read, what its definitions mean, and how tokens are spelled.
+-- What the meaning of a text is built on: its reading, its definitions' meaning, its spelling.
 use Rattle.tt_data.specs.declared.edition.Edition.{Edition}
 use Rattle.bridge.specs.TokenSteps.{text_reading}
 use Rattle.mbe.specs.Grammar.{Grammar}

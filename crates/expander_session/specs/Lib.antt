@@ -1,6 +1,6 @@
 -- what a text means, in reading order
 pub mod Count
--- what the meaning of a text stands on
+-- what the meaning of a text is built on
 pub mod Layered
 -- what the contracts of `Session` and `replay`, and the laws, rest on
 pub mod State
@@ -10,9 +10,9 @@ pub mod Replies
 pub mod Answers
 pub mod Laws
 pub mod Agreement
+-- what the functions inside the crate promise each other
 pub mod Reuse
 pub mod TextTurn
--- what the functions inside the crate promise each other
 pub mod TreeIndexes
 pub mod AbsoluteSpans
 pub mod Memos

@@ -1,4 +1,4 @@
--- Plain pieces as the code holds them.
+-- Memos: plain pieces as the cache has them.
 use Rattle.std.specs.Prelude.{◌≡◌, ℕ, ◌<◌, Bool, true, false, ◌&&◌, IfSome, List, Option, is_some, length, map, slice_get}
 use Rattle.std.specs.List.{list_any}
 use Rattle.std.specs.Global.{Global}
@@ -23,23 +23,23 @@ tree_of q = q.tree.value
 abbrev pub IsPlain : Memo → Type 0
 IsPlain q = is_some (definition_of (tree_of q).inner) ≡ false
 
--- what its names found
+-- its look-ups
 abbrev pub finds_of : Memo → List (List ℕ × Option Numbered)
 finds_of q = map find_of q.finds.items
 
--- a held piece with this tree, whose names find what they found
+-- a memo with this tree whose look-ups all find the same ids, or still none
 abbrev pub is_match : (List ℕ → Option Numbered) → Top → Memo → Bool
 is_match scope tree q = same_top tree (tree_of q) && agrees scope (finds_of q)
 
--- these are the hashes of the trees of these pieces, in their order
+-- these are the hashes of the trees of these memos, in order
 abbrev pub AreHashes : List ℕ → List (Rc Memo Global) → Type 0
 AreHashes hashes held = hashes ≡ map (λ (q : Rc Memo Global). tree_hash (tree_of (rc_value q))) held
 
--- the table, where it was made, is of these pieces
+-- the index, where it was made, is of these memos
 abbrev pub Finds : MemoIndex → List (Rc Memo Global) → Type 0
 Finds lookup held = IfSome lookup.chains (λ c. AreChained c (map (λ q. tree_of (rc_value q)) held))
 
--- the piece at this place is such a one
+-- the memo at this index is valid for this tree in this scope, so there is one
 pub record IsMatchAt (scope : List ℕ → Option Numbered) (tree : Top) (held : List (Rc Memo Global)) (i : ℕ) : Type 0 where
   pub within : i < length held
   pub any : true ≡ list_any (λ q. is_match scope tree (rc_value q)) held

@@ -1,4 +1,4 @@
--- What is held of a text that was read, and what is taken from it.
+-- What is cached of a text that was read, and what is reused of it.
 use Rattle.std.specs.Prelude.{◌≡◌, ℕ, Bool, true, false, ◌&&◌, All, List, Option, Some, None, map, nat_eq, option_map}
 use Rattle.std.specs.List.{list_all}
 use Rattle.tt_data.specs.Forest.{Forest}
@@ -9,36 +9,36 @@ use Rattle.expander_model.specs.Definitions.{Definition}
 use Rattle.expander_model.specs.Expansion.{Outcome, World, expansion}
 use Rattle.expander_model.specs.Held.{IsNumbered, Numbered, numbered_world}
 
--- a plain piece in places of its own, with its outcome
+-- a plain piece with piece-relative spans, and its expansion result
 pub record HeldPiece : Type 0 where
   pub tree : Forest
   pub outcome : Outcome Numbered
 
--- a name finds a definition of the same number, or none in both
+-- two look-ups of a name find definitions of one id, or both find none
 abbrev pub same_number : Option Numbered → Option Numbered → Bool
 same_number None None = true
 same_number (Some a) (Some b) = nat_eq a.number b.number
 same_number _ _ = false
 
--- the names of these finds find definitions of the same numbers
+-- each of these look-ups finds the same id in this scope, or still none
 abbrev pub agrees : (List ℕ → Option Numbered) → List (List ℕ × Option Numbered) → Bool
 agrees scope finds = list_all (λ f. same_number (scope f.0) f.1) finds
 
--- a held piece with this tree, whose names find what they found
+-- a cached piece with this tree, whose look-ups are all as before in this scope
 abbrev pub matches : (List ℕ → Option Numbered) → Forest → HeldPiece → Bool
 matches scope tree q = same_forest tree q.tree && agrees scope q.outcome.finds
 
--- the outcome of a match, or else a new one
+-- the result of a valid cached piece, or else a new one
 abbrev pub reused_outcome : Option HeldPiece → Outcome Numbered → Outcome Numbered
 reused_outcome (Some q) fresh = q.outcome
 reused_outcome None fresh = fresh
 
--- what was found, if anything, is so
+-- what a look-up found, if anything, has this property
 abbrev pub FoundIs : (Numbered → Type 0) → (List ℕ × Option Numbered) → Type 0
 FoundIs P (name, None) = Unit {0}
 FoundIs P (name, Some d) = P d
 
--- what is true of a held piece: its outcome is the expansion of its tree, where each name finds what it is held to find
+-- what holds of a cached piece: its result is its expansion in the scope of its look-ups
 pub record IsHeld (world : World Definition) (depth : ℕ) (table : Forest → ℕ → Type 0) (q : HeldPiece) : Type 0 where
   pub is : q.outcome ≡ expansion (numbered_world world) (scope_of q.outcome.finds) depth None q.tree
   pub finds : All (FoundIs (IsNumbered table)) q.outcome.finds
@@ -47,6 +47,6 @@ pub record IsHeld (world : World Definition) (depth : ℕ) (table : Forest → �
 abbrev pub looked_at : Forest → Outcome Numbered → Looked
 looked_at tree outcome = record { tree = tree; finds = map (λ f. (f.0, option_map (λ (d : Numbered). d.definition.piece) f.1)) outcome.finds }
 
--- a held piece as the count sees it
+-- a cached piece as the count sees it
 abbrev pub looked_held : HeldPiece → Looked
 looked_held q = looked_at q.tree q.outcome

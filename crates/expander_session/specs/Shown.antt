@@ -8,14 +8,14 @@ use Rattle.expander_model.specs.Meaning.{ReadMeaning}
 use Rattle.expander_session.specs.Emitting.{tokens_in, faults_in}
 use Rattle.expander_model.specs.Printing.{text_of}
 
--- these steps and these faults of calls and definitions are shown, and so many pieces were expanded
+-- these events are shown with these faults of calls and definitions; so many pieces expanded
 pub record ShowsOutput (told : List Fault) (count : ℕ) (steps : List PlacedStep) (e : Expanded) : Type 0 where
   pub printed : e.printed ≡ text_of (tokens_in steps)
   pub faults : e.faults ≡ in_order (told ++ faults_in steps)
   pub origins : e.origins ≡ map origin_of (tokens_in steps)
   pub expanded : e.expanded ≡ count
 
--- what a text means is shown, of which so many pieces were expanded
+-- the meaning of a text is shown, and so many of its pieces were expanded
 pub record ShowsMeaning (m : ReadMeaning) (count : ℕ) (e : Expanded) : Type 0 where
   pub printed : e.printed ≡ m.text
   pub faults : e.faults ≡ m.faults

@@ -1,4 +1,4 @@
--- What a session is.
+-- What a session is: the abstract value of `Session`.
 use Rattle.std.specs.Prelude.{ℕ, List, Option, refl}
 use Rattle.std.specs.Coded.{Coded, code_by, coded×, coded_ℕ, coded_list, coded_option}
 use Rattle.tt_data.specs.Coded.{forest_code}
@@ -10,18 +10,18 @@ use Rattle.expander_session.specs.Count.{Looked}
 use Rattle.expander_session.specs.Layered.{layers}
 use Rattle.expander_model.specs.Meaning.{Layers}
 
--- a text, the grammar and the edition in which it is expanded, how many levels of calls are, and what is kept of the
--- last text that was read
+-- a text, the grammar and the edition in which it is expanded, the number of levels of calls, and
+-- what is cached of the last text that was read
 pub record State (G : Type 0) : Type 0 where
   pub text : List ℕ
   pub grammar : G
   pub edition : Edition
   pub depth : ℕ
-  -- its plain pieces, with what their names found: none before the first text that was read
+  -- its plain pieces, with their look-ups: none before the first text that was read
   pub held : Option (List Looked)
-  -- its definitions, in places of their own
+  -- its definitions, with piece-relative spans
   pub trees : List Forest
-  -- how many numbers were given to definitions so far
+  -- how many ids were given to definitions so far
   pub given : ℕ
 
 -- a piece that the count sees is stored as its parts
@@ -41,6 +41,6 @@ state_code {G} grammar =
     (λ p. record { text = p.0; grammar = p.1.0; edition = p.1.1.0; depth = p.1.1.1.0; held = p.1.1.1.1.0; trees = p.1.1.1.1.1.0; given = p.1.1.1.1.1.1 })
     (λ _. refl)
 
--- what the meaning of a session's text stands on, where the grammars give these answers
+-- what the meaning of a session's text is built on, where the grammars give these answers
 abbrev pub layers_of : {G : Type 0} → (G → Grammar) → State G → Layers
 layers_of answer state = layers (answer state.grammar) state.edition

@@ -1,23 +1,24 @@
--- What is made of a text with what is held, and what is held afterwards.
+-- What a text gives over a cache, and what is cached afterwards.
 use Rattle.std.specs.Prelude.{◌≡◌, ℕ, Bool, false, not, All, Contains, IsUtf8, List, [], ◌∷◌, Option, Some, None, Ok, filter, find, map}
 use Rattle.std.specs.List.{list_any}
 use Rattle.bridge.specs.TokenSteps.{text_reading}
 use Rattle.tt_data.specs.Forest.{Forest}
 use Rattle.expander_model.specs.Definitions.{Definition, definition_of}
 use Rattle.expander_model.specs.Expansion.{Outcome, World, expansion}
-use Rattle.expander_model.specs.Held.{IsMet, Kept, Known, Met, Numbered, StandFromFirst, TellsApart, definition_trees, kept, met, met_of, numbered_scope, numbered_world, with_met}
+use Rattle.expander_model.specs.Held.{IsMet, Kept, Known, Met, Numbered, StandFromFirst, TellsApart, kept, met, met_of, numbered_scope, numbered_world, with_met}
+use Rattle.expander_model.specs.DefinitionTrees.{definition_trees}
 use Rattle.expander_model.specs.EqualTrees.{same_forest}
 use Rattle.expander_scope.specs.Numbers.{AreEntries, Entry, Numbering, number_of, tree_of, with_trees}
 use Rattle.expander_model.specs.Pieces.{first_start, pieces, relative}
 use Rattle.expander_session.specs.Reuse.{HeldPiece, IsHeld, matches, reused_outcome}
 
--- a plain piece that no held piece matches
+-- a plain piece for which no cached piece is valid
 abbrev pub is_unmatched : List HeldPiece → Kept → Bool
 is_unmatched held (kept start before tree outcome) = not (list_any (matches (numbered_scope before) tree) held)
 is_unmatched held (met m) = false
 
 module _ (world : World Definition) (depth : ℕ) (number_of : Forest → ℕ) (held : List HeldPiece) where
-  -- a piece under the definitions before it, with the outcome of a held one that matches
+  -- a piece in the scope before it, with the result of a valid cached piece, or else a new one
   abbrev pub taken_of : List Met → Forest → Option Definition → Kept
   taken_of before piece (Some d) = met (met_of world depth number_of piece d)
   taken_of before piece None =
@@ -25,19 +26,19 @@ module _ (world : World Definition) (depth : ℕ) (number_of : Forest → ℕ) (
       kept (first_start piece) before tree
       (reused_outcome (find (matches (numbered_scope before) tree) held) (expansion (numbered_world world) (numbered_scope before) depth None tree))
 
-  -- the pieces of a text in order: the outcome of the first match, or else a new one
+  -- the pieces of a text in order: each with the first valid cached result, or else a new one
   abbrev pub taken_after : List Met → List Forest → List Kept
   taken_after before [] = []
   taken_after before (p ∷ ps) =
       let d : Option Definition = definition_of (relative p) in
       taken_of before p d ∷ taken_after (with_met world depth number_of p d before) ps
 
--- what is held afterwards: the plain pieces
+-- what is cached afterwards: the plain pieces
 abbrev pub held_of : Kept → Option HeldPiece
 held_of (kept start before tree outcome) = Some (record { tree = tree; outcome = outcome })
 held_of (met m) = None
 
--- a definition of the text that was met, with the piece that it is
+-- a definition of the text that is in scope, with the piece that it is
 pub record StandsInText (table : Forest → ℕ → Type 0) (m : Met) : Type 0 where
   pub numbered : IsMet table m
   pub piece : Forest
@@ -45,7 +46,7 @@ pub record StandsInText (table : Forest → ℕ → Type 0) (m : Met) : Type 0 w
   pub start : m.start ≡ first_start piece
   pub tree : numbered.tree ≡ relative piece
 
--- a plain piece as it stands in a text: where it starts, under which definitions, and with its expansion
+-- a plain piece of a text: where it starts, the definitions before it, and its expansion
 pub record IsPlain (world : World Definition) (depth : ℕ) (table : Forest → ℕ → Type 0) (at : ℕ) (before : List Met) (t : Forest) (o : Outcome Numbered) : Type 0 where
   pub met : All (StandsInText table) before
   pub piece : Forest
@@ -54,12 +55,12 @@ pub record IsPlain (world : World Definition) (depth : ℕ) (table : Forest → 
   pub tree : t ≡ relative piece
   pub outcome : o ≡ expansion (numbered_world world) (numbered_scope before) depth None t
 
--- a piece as it stands in a text, plain or a definition
+-- a piece of a text, plain or a definition
 abbrev pub IsKept : World Definition → ℕ → (Forest → ℕ → Type 0) → Kept → Type 0
 IsKept world depth table (kept start before tree outcome) = IsPlain world depth table start before tree outcome
 IsKept world depth table (met m) = StandsInText table m
 
--- a text that is read as these trees, whose definitions have numbers among these, over pieces that are held rightly
+-- a text that is read as these trees, whose definitions have ids among these, over a right cache
 pub record IsTurn (world : World Definition) (depth : ℕ) (text : List ℕ) (f : Forest) (number_of : Forest → ℕ) (trees : List Forest) (held : List HeldPiece) : Type 0 where
   pub is_text : IsUtf8 text
   pub read : text_reading text ≡ Ok f
@@ -67,11 +68,11 @@ pub record IsTurn (world : World Definition) (depth : ℕ) (text : List ℕ) (f 
   pub known : All (Contains trees) (definition_trees (pieces f))
   pub right : All (IsHeld world depth (Known number_of trees)) held
 
--- the numbers once a text's definitions have theirs
+-- the ids once a text's definitions have theirs
 abbrev pub numbering_of : Numbering → Forest → Numbering
 numbering_of n f = with_trees n (definition_trees (pieces f))
 
--- of those the numbers of the text's own definitions, which are kept
+-- of those, the ids of the text's own definitions, which are cached
 abbrev pub kept_entries : Numbering → Forest → List Entry
 kept_entries n f = filter (λ (e : Entry). list_any (same_forest e.tree) (definition_trees (pieces f))) (numbering_of n f).entries
 
@@ -79,7 +80,7 @@ kept_entries n f = filter (λ (e : Entry). list_any (same_forest e.tree) (defini
 abbrev pub InEntries : List Entry → Forest → ℕ → Type 0
 InEntries entries = Known (number_of entries) (map tree_of entries)
 
--- a text that is read as these trees, over numbers that were given and pieces that are held rightly by them
+-- a text that is read as these trees, over ids that were given and a cache that is right by them
 pub record IsNext (world : World Definition) (depth : ℕ) (n : Numbering) (held : List HeldPiece) (text : List ℕ) (f : Forest) : Type 0 where
   pub entries : AreEntries n.given n.entries
   pub right : All (IsHeld world depth (InEntries n.entries)) held

@@ -1,5 +1,4 @@
--- Which texts are read as a tree with more tokens than a tree may have, or have a call that makes so many, with so many
--- levels of calls.
+-- Texts refused for too many tokens: as read, or in a call with so many levels of calls.
 use Rattle.std.specs.Prelude.{◌≡◌, ◌⊎◌, ℕ, Bool, true, false, List, Result, Ok, Err}
 use Rattle.std.specs.List.{list_any}
 use Rattle.tt_data.specs.Forest.{Forest}
@@ -13,12 +12,12 @@ abbrev pub bursts : Member → Bool
 bursts (plain piece outcome) = outcome.bursts
 bursts (defining d) = false
 
--- such a call stands in a text that was read
+-- a text that was read has such a call
 abbrev pub HasTooMany : Layers → ℕ → Result Forest ReadFault → Type 0
 HasTooMany layers depth (Ok f) = list_any bursts (members layers depth f) ≡ true
 HasTooMany layers depth (Err fault) = ⊥
 
--- why no reply comes for want of tokens: what is read of the text has too many, which doc comments alone can bring about,
--- or it has such a call
+-- why a reply is refused for too many tokens: the text is read as too many, which doc comments
+-- alone can bring about, or it has such a call
 abbrev pub NeedsTooMany : Layers → ℕ → List ℕ → Type 0
 NeedsTooMany layers depth text = reading.HasTooMany (text_steps text) ⊎ HasTooMany layers depth (text_reading text)

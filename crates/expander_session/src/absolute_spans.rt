@@ -1,4 +1,7 @@
-//! Emits what a piece gives, its piece-relative spans made those of the text.
+//! Emits a piece's cached output, with its piece-relative spans turned into spans of the text.
+//!
+//! `evaluate` calls it for each piece. `start` is where the piece starts in the text, and
+//! `starts` is where the definitions start.
 ghost use Rattle.std.specs.Prelude.{◌≡◌, ◌∷◌, [], ◌++◌, IfOk, IfSome, None, OnOk, option_map, map};
 ghost use Rattle.bridge.specs.TokenEvents.{step_of};
 ghost use Rattle.tt_data.specs.Spans.{leaf_with, span_of};
@@ -13,7 +16,7 @@ ghost use Rattle.expander_session.specs.AbsoluteSpans.{base_at, range_from, reso
 
 use crate::cached_output::CachedText;
 use crate::emitter::{Emitter, emit_chunk, emit_chunk_at, push_step};
-use bridge::{Shift, TokenEvent};
+use bridge::parts::{Shift, TokenEvent};
 use expander_model::fault::{Fault, FaultKind};
 use expander_model::tree_walk::TreeWalk;
 use expander_scope::macro_def::MacroDef;
@@ -23,7 +26,7 @@ use std::alloc::{AllocError, Global};
 use tt::TopSubtree;
 use tt_data::{Ident, Leaf, Punct, Span, TextRange};
 
-// Where the places of an anchor count from.
+// The offset that spans with this anchor count from.
 fn base_at(start: u32, starts: &Offsets, anchor: u32) -> u32
     ensures { result ≡ base_at start starts.now anchor }
 {
@@ -34,7 +37,8 @@ fn base_at(start: u32, starts: &Offsets, anchor: u32) -> u32
     }
 }
 
-// A range counted from here, as a range of the text: none where that is past `u32::MAX`, as in no text.
+// A range counted from `base`, as a range of the text. `None` if it exceeds `u32::MAX`, which
+// happens in no text.
 fn range_from(base: u32, range: TextRange) -> Option<TextRange>
     ensures { IfSome result (λ r. r ≡ range_from base range) }
 {
@@ -43,7 +47,8 @@ fn range_from(base: u32, range: TextRange) -> Option<TextRange>
     Some(TextRange { start, end })
 }
 
-// A span of a piece whose places count from here, as a span of the text: none where that is past `u32::MAX`, as in no text.
+// A span counted from `base`, as a span of the text. `None` if it exceeds `u32::MAX`, which
+// happens in no text.
 fn resolved_from(base: u32, span: Span) -> Option<Span>
     ensures { IfSome result (λ s. s ≡ moved_on base span) }
 {
@@ -54,14 +59,15 @@ fn resolved_from(base: u32, span: Span) -> Option<Span>
     })
 }
 
-// A span of a piece that starts here, as a span of the text: none where that is past `u32::MAX`, as in no text.
+// A piece-relative span as a span of the text. `None` if it exceeds `u32::MAX`, which happens in
+// no text.
 fn resolved(start: u32, starts: &Offsets, span: Span) -> Option<Span>
     ensures { IfSome result (λ s. s ≡ resolved_by start starts.now span) }
 {
     resolved_from(base_at(start, starts, span.anchor), span)
 }
 
-// The span of the outermost call, if there is one, as a span of the text.
+// The span of the outermost call as a span of the text, or `Some(None)` if there is no call.
 fn resolved_outer(start: u32, starts: &Offsets, outer: Option<Span>) -> Option<Option<Span>>
     ensures { IfSome result (λ o. o ≡ option_map (resolved_by start starts.now) outer) }
 {
@@ -71,7 +77,7 @@ fn resolved_outer(start: u32, starts: &Offsets, outer: Option<Span>) -> Option<O
     }
 }
 
-// The leaf at another place.
+// The leaf with this span.
 fn leaf_at(leaf: &Leaf, span: Span) -> Leaf
     ensures { (f : Span → Span) → span ≡ f (span_of leaf.now) → result ≡ leaf_with f leaf.now }
 {
@@ -85,7 +91,7 @@ fn leaf_at(leaf: &Leaf, span: Span) -> Leaf
     }
 }
 
-// Puts out a leaf of a piece.
+// Emits a leaf of a piece.
 fn emit_leaf(
     steps: &mut Emitter,
     start: u32,
@@ -102,7 +108,8 @@ fn emit_leaf(
     push_step(steps, &TokenEvent::Leaf(&leaf), outer)
 }
 
-// Puts out a step of a piece, placed at this name of the text, or at none.
+// Emits an event of a piece. `outer` is the span of the outermost call that it comes from, if
+// any.
 fn emit_event(
     steps: &mut Emitter,
     start: u32,
@@ -125,7 +132,7 @@ fn emit_event(
     }
 }
 
-// Puts out a step that is kept.
+// Emits a cached event.
 fn emit_own_event(
     steps: &mut Emitter,
     start: u32,
@@ -140,7 +147,7 @@ fn emit_own_event(
     }
 }
 
-// Puts out steps that are kept.
+// Emits cached events, in order.
 fn emit_own_events(
     steps: &mut Emitter,
     start: u32,
@@ -155,7 +162,7 @@ fn emit_own_events(
     Ok(())
 }
 
-// Puts out a tree as it stands.
+// Emits all events of a tree.
 fn emit_tree(
     alloc: Global,
     steps: &mut Emitter,
@@ -172,7 +179,7 @@ fn emit_tree(
     Ok(())
 }
 
-/// Puts out the steps for a tree, at their places in the text.
+/// Emits the events of a piece: those of its tree, or the cached ones if there are any.
 pub(crate) fn emit_events(
     alloc: Global,
     steps: &mut Emitter,
@@ -189,14 +196,14 @@ pub(crate) fn emit_events(
     }
 }
 
-// Where the places of the anchor that was met last count from.
+// The offset that the spans of one anchor count from.
 #[derive(Clone, Copy)]
 struct Base {
     anchor: u32,
     place: u32,
 }
 
-// Where the spans of this anchor count from. It is looked up where it is not the last one.
+// The base of this anchor. It is looked up only if the anchor differs from that of `last`.
 fn base_behind(last: Base, start: u32, starts: &Offsets, anchor: u32) -> Base
     requires { last.place ≡ base_at start starts.now last.anchor }
     ensures place { result.place ≡ base_at start starts.now anchor }
@@ -209,7 +216,7 @@ fn base_behind(last: Base, start: u32, starts: &Offsets, anchor: u32) -> Base
     Base { anchor, place }
 }
 
-// Spans of a piece, as spans of the text.
+// Piece-relative spans as spans of the text.
 fn resolved_all(
     alloc: Global,
     start: u32,
@@ -233,8 +240,8 @@ fn resolved_all(
     Ok(all)
 }
 
-// Puts out what a piece prints by itself, with places that are not computed yet: `false`, and nothing is done, where it
-// can't be put so.
+// Appends a cached chunk whose spans have one anchor, without computing them. `false`, with
+// nothing emitted, if they have several or the chunk can't be appended.
 fn emit_shifted(
     steps: &mut Emitter,
     start: u32,
@@ -252,8 +259,8 @@ fn emit_shifted(
     emit_chunk_at(steps, &part.printed, Shift { start, base }, words)
 }
 
-// Emits the text that a piece prints, with each of its spans computed: `false`, and nothing is done, where it can't be
-// appended.
+// Appends a cached chunk, computing each of its spans. `false`, with nothing emitted, if the
+// chunk can't be appended.
 fn emit_printed(
     alloc: Global,
     steps: &mut Emitter,
@@ -269,8 +276,8 @@ fn emit_printed(
     emit_chunk(steps, &part.printed, spans.as_slice(), words)
 }
 
-// Puts out what a piece prints by itself, its words told at these places: `false`, and nothing is done, where it can't be put at
-// once.
+// Appends a cached chunk, with `words` as the spans of its definition keywords. `false`, with
+// nothing emitted, if the chunk can't be appended.
 fn emit_told(
     alloc: Global,
     steps: &mut Emitter,
@@ -288,7 +295,7 @@ fn emit_told(
     emit_printed(alloc, steps, start, starts, part, words)
 }
 
-/// Puts out what a piece prints by itself: `false`, and nothing is done, where it can't be put at once.
+/// Appends a piece's cached text. `false`, with nothing emitted, if it can't be appended.
 pub(crate) fn emit_cached(
     alloc: Global,
     steps: &mut Emitter,
@@ -306,7 +313,7 @@ pub(crate) fn emit_cached(
     emit_told(alloc, steps, start, starts, part, words.as_slice())
 }
 
-// Adds a fault of a piece, at its place in the text.
+// Adds a fault of a piece, with its range in the text.
 fn put_fault(
     faults: &mut Vec<Fault>,
     start: u32,
@@ -324,7 +331,7 @@ fn put_fault(
     Ok(())
 }
 
-/// Adds faults of a piece, at their places in the text.
+/// Adds faults of a piece, with their ranges in the text.
 pub(crate) fn put_faults(
     faults: &mut Vec<Fault>,
     start: u32,
@@ -339,7 +346,8 @@ pub(crate) fn put_faults(
     Ok(())
 }
 
-/// Tells a definition that starts here and is broken, at its name.
+/// Adds the fault of an invalid definition that starts at `start`, at its name. Adds nothing if
+/// the definition is valid.
 pub(crate) fn tell_if_broken(
     faults: &mut Vec<Fault>,
     start: u32,

@@ -21,30 +21,31 @@ use expander_scope::macro_def::MacroDef;
 use std::alloc::Global;
 use std::rc::Rc;
 
-// How many held pieces are looked at ahead.
+// How many pieces `look_ahead` looks at together.
 const RUN: usize = 32;
 
-/// What is held of a text that was read.
+/// What is cached of the last text that was read.
 #[derive(Drop)]
 pub(crate) struct Cache {
-    /// Whether a text was read.
+    /// Whether any text was read.
     pub was_read: bool,
-    /// Its plain pieces, in order.
+    /// The memos of its plain pieces, in order.
     pub plains: Vec<Rc<Memo>>,
-    /// The hashes of their trees.
+    /// The hashes of the memos' trees.
     pub hashes: Vec<u64>,
     /// Its definitions, in order.
     pub definitions: Vec<Rc<MacroDef>>,
+    /// The definition that each tree has.
     pub by_tree: Interner,
-    /// How many numbers were given to definitions so far.
+    /// How many ids were given to definitions, in all texts so far.
     pub given: u32,
-    /// How its pieces were read.
+    /// Its pieces in segments, with the bytes that they were read from.
     pub sources: Segments,
-    /// What these are, in their order.
+    /// Which memo or definition each piece of the segments has, in order.
     pub links: Vec<MemoRef>,
 }
 
-// The link of this index, if there are so many.
+// The reference at this index, if there is one.
 fn link_at(links: &[MemoRef], at: usize) -> Option<MemoRef>
     ensures { IfSome result (λ link. slice_get links.now at ≡ Some link) }
 {
@@ -56,7 +57,7 @@ fn link_at(links: &[MemoRef], at: usize) -> Option<MemoRef>
 }
 
 impl Cache {
-    /// Before the first text that is read.
+    /// The cache before the first text is read: empty.
     pub fn new(alloc: Global) -> Self
         ensures right { (world : World Definition) (edition : Edition) (depth : ℕ) → IsCache world depth edition result }
         ensures held { held_in result ≡ None }
@@ -75,7 +76,8 @@ impl Cache {
         }
     }
 
-    // What a piece was, where it was met.
+    // The reference of a piece that was taken from the cached segments. `None` for one that was
+    // read anew.
     fn link_of(&self, own: &Piece) -> Option<MemoRef>
         requires linked { AreLinked (plain_tops self.now.plains.items) (definition_tops self.now.definitions.items) (all_in self.now.sources) self.now.links.items }
         requires met { IsMet self.now.sources own.now.met (tree_at own.now) }
@@ -90,7 +92,7 @@ impl Cache {
         Some(link)
     }
 
-    /// The index of the plain piece that a piece was, where it was met.
+    /// The index of a piece's memo, if the piece was taken from the cached segments and is plain.
     pub(crate) fn plain_at(&self, own: &Piece) -> Option<usize>
         requires linked { AreLinked (plain_tops self.now.plains.items) (definition_tops self.now.definitions.items) (all_in self.now.sources) self.now.links.items }
         requires met { IsMet self.now.sources own.now.met (tree_at own.now) }
@@ -102,7 +104,8 @@ impl Cache {
         }
     }
 
-    /// The definition that a piece was, where it was met.
+    /// The cached definition of a piece, if the piece was taken from the cached segments and is
+    /// one.
     pub(crate) fn definition_at(&self, own: &Piece) -> Option<&Rc<MacroDef>>
         requires linked { AreLinked (plain_tops self.now.plains.items) (definition_tops self.now.definitions.items) (all_in self.now.sources) self.now.links.items }
         requires met { IsMet self.now.sources own.now.met (tree_at own.now) }
@@ -115,29 +118,27 @@ impl Cache {
         }
     }
 
-    /// Looks at the memos that may be met next, where this piece is the first of a run of them, so that the processor
-    /// waits once for all that they have, and not at each. It tells whether there is a number of how much that is.
-    pub(crate) fn look_ahead(&self, own: &Piece) -> bool
+    /// About how much the memos print that may come next, if this piece is the first of a run of
+    /// them, and else 0. The memos of a run are looked at together, so the processor waits for
+    /// memory once and not at each. This decides speed alone.
+    pub(crate) fn look_ahead(&self, own: &Piece) -> usize
         requires { AreSegments self.now.sources }
     {
         let Some(at) = own.met else {
-            return true;
+            return 0;
         };
         if at % RUN != 0 {
-            return true;
+            return 0;
         }
         let end = at.saturating_add(RUN).min(self.links.len());
         let mut sum: usize = 0;
         for i in at..end {
-            let Some(more) = sum.checked_add(self.size_at(i)) else {
-                return false;
-            };
-            sum = more;
+            sum = sum.saturating_add(self.size_at(i));
         }
-        true
+        sum
     }
 
-    // How much there is of the held piece of this number.
+    // The size of the cached piece at this index, as its memo or definition gives it, or 0.
     fn size_at(&self, at: usize) -> usize
         requires { AreSegments self.now.sources }
     {
@@ -157,7 +158,8 @@ impl Cache {
         }
     }
 
-    /// Whether a piece is a definition. The tree of one that was met is not looked at.
+    /// Whether a piece is a definition. If it was taken from the cached segments, its tree is not
+    /// looked at.
     pub fn is_definition(&self, own: &Piece) -> bool
         requires linked { AreLinked (plain_tops self.now.plains.items) (definition_tops self.now.definitions.items) (all_in self.now.sources) self.now.links.items }
         requires met { IsMet self.now.sources own.now.met (tree_at own.now) }

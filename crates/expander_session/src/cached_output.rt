@@ -1,4 +1,4 @@
-//! What is cached of a piece's output: the text that it prints, or its events.
+//! What is cached of a piece's output: its printed text if it can be a chunk, else its events.
 ghost use Rattle.std.specs.Prelude.{◌≡◌, ◌∷◌, [], ◌++◌, IfOk, IfSome, List, None, OnOk, map, option_map};
 ghost use Rattle.bridge.specs.TokenEvents.{step_of};
 ghost use Rattle.tt_data.specs.Walk.{walk};
@@ -7,7 +7,8 @@ ghost use Rattle.expander_session.specs.CachedOutputs.{HasPrinted, IsCachedText,
 ghost use Rattle.expander_session.specs.Emitting.{word_places};
 ghost use Rattle.expander_scope.specs.Outcomes.{placed_of, steps_for};
 
-use bridge::{PrintedChunk, Printer, TokenEvent};
+use bridge::Printer;
+use bridge::parts::{PrintedChunk, TokenEvent};
 use expander_model::fault::{is_definition_word, place};
 use expander_model::tree_walk::TreeWalk;
 use expander_scope::outcome::{Event, lent};
@@ -15,34 +16,35 @@ use std::alloc::{AllocError, Global};
 use tt::TopSubtree;
 use tt_data::Span;
 
-/// What steps print by themselves, and where their words that begin a definition are told.
+/// The chunk that events print, and the spans at which their definition keywords are reported.
 #[derive(Drop)]
 pub(crate) struct CachedText {
     pub printed: PrintedChunk,
     pub words: Vec<Span>,
 }
 
-/// What is held of the steps that a piece gives, at places of its own.
+/// A piece's cached output, with piece-relative spans.
 #[derive(Drop)]
 pub(crate) enum CachedOutput {
-    /// What they print by themselves, where that is a part. They are not kept then.
+    /// The printed text, if the events print as a chunk. The events are not cached then.
     Part(CachedText),
-    /// The steps, where they are no part, or could not be put as one: none where the tree stays as it is.
+    /// The events, if they are no chunk or could not be appended as one. `None` if they are the
+    /// tree's own.
     Steps(Option<Vec<Event>>),
 }
 
-// Steps of a piece, which are printed by themselves as they come.
+// Events of a piece, printed as they come.
 #[derive(Drop)]
 struct OwnPrint {
     printer: Printer,
-    // Where those that are words that begin a definition are told.
+    // The spans at which their definition keywords are reported.
     words: Vec<Span>,
 }
 
-// About how many bytes a token takes with what stands before it.
+// About how many bytes a token takes, with the white space before it.
 const TOKEN: usize = 6;
 
-// No step so far, with room for so many.
+// Nothing printed yet, with room for `count` tokens.
 fn nothing_printed(alloc: Global, count: usize) -> Result<OwnPrint, AllocError>
     ensures { IfOk result (λ own. HasPrinted own []) }
 {
@@ -54,7 +56,7 @@ fn nothing_printed(alloc: Global, count: usize) -> Result<OwnPrint, AllocError>
     })
 }
 
-// Adds where a step is told that is a word that begins a definition.
+// Adds the span at which an event is reported, if it is a definition keyword.
 fn add_word(
     words: &mut Vec<Span>,
     step: &TokenEvent<'_>,
@@ -68,7 +70,7 @@ fn add_word(
     Ok(())
 }
 
-// Prints one step, which is placed at this name, or at none.
+// Prints one event. `outer` is the span of the outermost call that it comes from, if any.
 fn print_step(
     own: &mut OwnPrint,
     step: &TokenEvent<'_>,
@@ -83,11 +85,11 @@ fn print_step(
     }
 }
 
-// Prints a tree as it stands.
+// Prints all events of a tree.
 fn print_tree(alloc: Global, tree: &TopSubtree) -> Result<OwnPrint, AllocError>
     ensures { IfOk result (λ own. HasPrinted own (placed None (walk tree.now.inner))) }
 {
-    // a group is one token of the tree, and two brackets
+    // A group is one token of the tree, and prints two brackets.
     let count = tree.token_trees().len();
     let mut own = nothing_printed(alloc, count.saturating_add(count / 2))?;
     let mut rest = TreeWalk::new(alloc, &tree.iter());
@@ -97,7 +99,7 @@ fn print_tree(alloc: Global, tree: &TopSubtree) -> Result<OwnPrint, AllocError>
     Ok(own)
 }
 
-// Prints steps that are kept.
+// Prints cached events.
 fn print_steps(alloc: Global, steps: &[Event]) -> Result<OwnPrint, AllocError>
     ensures { IfOk result (λ own. HasPrinted own (map placed_of steps.now)) }
 {
@@ -108,7 +110,7 @@ fn print_steps(alloc: Global, steps: &[Event]) -> Result<OwnPrint, AllocError>
     Ok(own)
 }
 
-// The part that was printed, if it is one.
+// What was printed, as cached text. `None` if it is no chunk.
 fn part_of(own: OwnPrint) -> Result<Option<CachedText>, AllocError>
     ensures { IfOk result (λ o. IfSome o (λ part. (steps : List PlacedStep) → HasPrinted own steps → IsCachedText part steps)) }
 {
@@ -120,7 +122,7 @@ fn part_of(own: OwnPrint) -> Result<Option<CachedText>, AllocError>
     }
 }
 
-// Prints the steps for a tree.
+// Prints the events of a piece: those of its tree, or the given ones.
 fn print_all(
     alloc: Global,
     tree: &TopSubtree,
@@ -134,7 +136,8 @@ fn print_all(
     }
 }
 
-/// What is held of the steps for a tree: what they print, where that is wanted and they are a part by themselves.
+/// What to cache of the events of a piece: their text, if `as_part` asks for it and they print as
+/// a chunk, else the events.
 pub(crate) fn output_to_cache(
     alloc: Global,
     tree: &TopSubtree,

@@ -1,4 +1,4 @@
-//! Lists of commands, each of which a session answers.
+//! Lists of commands, and the session that answers them in order.
 ghost use Rattle.std.specs.Prelude.{◌<◌, ◌^◌, [], length, IfOk};
 ghost use Rattle.expander_session.specs.Answers.{AreAnswers, given, last_reads};
 ghost use Rattle.expander_session.specs.CommandTurns.{Edits, Turn};
@@ -11,36 +11,38 @@ use fragment_grammar::FragmentGrammar;
 use std::alloc::{AllocError, Global};
 use tt_data::Edition;
 
-/// What is asked of a session.
+/// A command to a session.
 #[derive(Debug, Drop)]
 pub enum Command {
-    /// To put the replacement in place of the bytes from `start` to `end`.
+    /// Replace the bytes from offset `start` to offset `end` of the text.
     Edit {
         start: usize,
         end: usize,
         replacement: String,
     },
-    /// To expand the text.
+    /// Expand the text.
     Expand,
 }
 
-/// What it answers.
+/// The answer to a command.
 #[derive(Drop)]
 pub enum Answer {
     /// The edit was made.
     Edited,
-    /// One of the two places is no boundary between characters, or the edit does not fit. Nothing changes.
+    /// One of the two offsets is no character boundary, they are not in order, or the edit does
+    /// not fit. Nothing changes.
     BadEdit,
     /// What the text gives.
     Reply(Reply),
-    /// Nothing changes.
+    /// The command was refused. Nothing changes.
     Refused(Refusal),
 }
 
-/// The answers to these commands, one to each, of a session that begins with this text: each by the text at its turn.
+/// The answers to these commands, one to each, in order, by a new session over this text. Each is
+/// by the text at its turn. The text has at most `u32::MAX` bytes.
 ///
-/// It is refused itself where there is no memory for the session or the list of answers. No more than `u32::MAX` definitions
-/// are numbered in all the texts that are read: `numbers`.
+/// Its only error is out of memory, for the session or the list of answers. At most `u32::MAX`
+/// definitions get an id in all the texts that are read: `numbers`.
 pub fn replay<G: FragmentGrammar + Drop>(
     alloc: Global,
     text: &str,
@@ -80,7 +82,7 @@ fn answer_to<G: FragmentGrammar + Drop>(session: &mut Session<G>, command: &Comm
     }
 }
 
-// Changes the text where the edit is one.
+// Edits the text if the offsets are boundaries, in order, and the edit fits.
 fn edit_answer<G: FragmentGrammar + Drop>(
     session: &mut Session<G>,
     start: usize,

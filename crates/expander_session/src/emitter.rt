@@ -1,4 +1,4 @@
-//! Prints events as they come, and keeps where their faults are told.
+//! Prints events as they come, and keeps the ranges at which their faults are reported.
 ghost use Rattle.std.specs.Prelude.{◌≡◌, ◌+◌, ◌∷◌, [], ◌++◌, List, true, IfOk, OnOk, map};
 ghost use Rattle.bridge.specs.RelativeSpans.{shifted};
 ghost use Rattle.bridge.specs.PrintedTrees.{lazy_print_in};
@@ -11,31 +11,34 @@ ghost use Rattle.expander_session.specs.Emitting.{HasOutput, PutsOut, faults_at,
 ghost use Rattle.expander_model.specs.Printing.{steps_of};
 ghost use Rattle.expander_model.specs.declared.fault.FaultKind.TheVariants as as_kind;
 
-use bridge::{LazyPrinted, PrintedChunk, Printer, Shift, TokenEvent, laws};
+use bridge::parts::{LazyPrinted, PrintedChunk, Shift, TokenEvent};
+use bridge::{Printer, laws};
 use expander_model::fault::{Fault, FaultKind, is_definition_word, place};
 use std::alloc::{AllocError, Global};
 use tt_data::{DelimiterKind, Span, TextRange};
 
-// Where a fault of the visible token of this number is told.
+// The range at which a fault of a visible token is reported, and the number of the token.
 #[derive(Clone, Copy)]
 struct Told {
     number: usize,
     range: TextRange,
 }
 
-/// Steps that were put out. They are printed and not kept: a token takes its text and two places, or one in a part.
+/// The output so far. Events are printed at once and not kept: a token takes its text, its span
+/// and the range for its faults, and in a chunk its text and its span.
 #[derive(Drop)]
 pub(crate) struct Emitter {
     printer: Printer,
-    // How many visible tokens were put, printed or left out.
+    // How many visible tokens were emitted, those that cannot be printed included.
     count: usize,
-    // Where faults of those that are in no part are told. None that is in a part is left out.
+    // The ranges for faults of the tokens that came one by one. All tokens of a chunk can be
+    // printed.
     told: Vec<Told>,
-    // The faults of the words that begin a definition.
+    // The faults of the definition keywords.
     nested: Vec<Fault>,
 }
 
-/// No step so far. There is room for a text of so many bytes, and for so many parts.
+/// No output so far, with room for a text of `bytes` bytes and for `parts` chunks.
 pub(crate) fn no_steps(alloc: Global, bytes: usize, parts: usize) -> Result<Emitter, AllocError>
     ensures { IfOk result (λ steps. HasOutput steps []) }
 {
@@ -48,7 +51,15 @@ pub(crate) fn no_steps(alloc: Global, bytes: usize, parts: usize) -> Result<Emit
     })
 }
 
-/// Adds one step.
+/// Makes room for `bytes` more bytes of text.
+pub(crate) fn reserve(steps: &mut Emitter, bytes: usize) -> Result<(), AllocError>
+    ensures { steps.new ≡ steps.old }
+{
+    steps.printer.reserve(bytes)
+}
+
+/// Emits one event. `outer` is the span of the name of the outermost call that it comes from, if
+/// any.
 pub(crate) fn push_step(
     steps: &mut Emitter,
     step: &TokenEvent<'_>,
@@ -65,7 +76,7 @@ pub(crate) fn push_step(
     }
 }
 
-/// Whether the step is a visible token.
+/// Whether an event is a visible token: all but the ends of invisible groups.
 pub(crate) fn is_visible(step: &TokenEvent<'_>) -> bool
     ensures { result ≡ is_visible_step (step_of step.now) }
 {
@@ -76,7 +87,8 @@ pub(crate) fn is_visible(step: &TokenEvent<'_>) -> bool
     }
 }
 
-// Keeps where the faults of a visible step are told, and tells whether it begins a definition.
+// Keeps the range at which faults of a visible token are reported, and adds the fault of a
+// definition keyword.
 fn push_place(
     steps: &mut Emitter,
     step: &TokenEvent<'_>,
@@ -102,7 +114,7 @@ fn push_place(
     Ok(())
 }
 
-// Tells each word that begins a definition, at these places.
+// Adds the fault of a definition keyword at each of these spans.
 fn tell_words(nested: &mut Vec<Fault>, words: &[Span]) -> Result<(), AllocError>
     ensures { OnOk result (nested.new.items ≡ nested.old.items ++ map (fault_at as_kind.NestedDefinition) words.now) }
 {
@@ -113,13 +125,13 @@ fn tell_words(nested: &mut Vec<Fault>, words: &[Span]) -> Result<(), AllocError>
     Ok(())
 }
 
-/// Whether a chunk can be appended.
+/// Whether a chunk can be appended here.
 pub(crate) fn takes_chunks(steps: &Emitter) -> bool {
     steps.printer.takes_chunks()
 }
 
-/// Appends a chunk, its tokens at these spans, and tells its definition keywords at those: `false`, and nothing is done,
-/// where it can't be appended at once.
+/// Appends a chunk with its tokens at `spans`, and adds the faults of its definition keywords at
+/// `words`. `false`, with nothing emitted, if it cannot be appended here.
 pub(crate) fn emit_chunk(
     steps: &mut Emitter,
     part: &PrintedChunk,
@@ -128,8 +140,8 @@ pub(crate) fn emit_chunk(
 ) -> Result<bool, AllocError>
     ensures { IfOk result (PutsChunk steps.old steps.new part.now spans.now words.now) }
 {
-    laws::parts_are_printed_whole();
-    laws::spelling_hangs_on_shapes();
+    laws::chunks_are_printed_whole();
+    laws::spelling_depends_on_shapes_alone();
     let Some(count) = steps.count.checked_add(part.spans().len()) else {
         return Err(AllocError);
     };
@@ -144,8 +156,8 @@ pub(crate) fn emit_chunk(
     }
 }
 
-/// Appends a chunk, its tokens at their own spans, shifted: `false`, and nothing is done, where it can't be appended at
-/// once.
+/// Appends a chunk with its tokens at their own spans, shifted, and adds the faults of its
+/// definition keywords at `words`. `false`, with nothing emitted, if it cannot be appended here.
 pub(crate) fn emit_chunk_at(
     steps: &mut Emitter,
     part: &PrintedChunk,
@@ -154,8 +166,8 @@ pub(crate) fn emit_chunk_at(
 ) -> Result<bool, AllocError>
     ensures { IfOk result (PutsChunk steps.old steps.new part.now (map (shifted shift) part.now.tokens) words.now) }
 {
-    laws::parts_are_printed_whole();
-    laws::spelling_hangs_on_shapes();
+    laws::chunks_are_printed_whole();
+    laws::spelling_depends_on_shapes_alone();
     let Some(count) = steps.count.checked_add(part.spans().len()) else {
         return Err(AllocError);
     };
@@ -170,7 +182,8 @@ pub(crate) fn emit_chunk_at(
     }
 }
 
-// Adds a fault for each visible token of these numbers. They and those that are told go up.
+// Adds a fault for each visible token with one of these numbers. Both lists are in ascending
+// order.
 fn push_left_out(
     faults: &mut Vec<Fault>,
     told: &[Told],
@@ -192,7 +205,8 @@ fn push_left_out(
     Ok(())
 }
 
-/// What is printed of the steps. The faults of its tokens and of those that are left out are added.
+/// The text of the output, with the spans of its tokens. Adds the faults of definition keywords,
+/// and those of tokens that cannot be printed.
 pub(crate) fn finish(steps: Emitter, faults: &mut Vec<Fault>) -> Result<LazyPrinted, AllocError>
     ensures printed { IfOk result (λ p. (all : List PlacedStep) → HasOutput steps all → lazy_print_in p ≡ print_of (steps_of all)) }
     ensures faults { OnOk result ((all : List PlacedStep) → HasOutput steps all → faults.new.items ≡ faults.old.items ++ faults_in all) }

@@ -1,5 +1,5 @@
-//! Goes over the pieces of a text: resolves definitions, takes plain pieces from the cache or expands them, and emits
-//! what they give.
+//! Evaluates the pieces of a text in order: adds definitions to the scope, takes the memos of
+//! plain pieces from the cache or expands the pieces, and emits the output.
 ghost use Rattle.std.specs.Prelude.{◌≡◌, ◌≢◌, ℕ, ◌+◌, ◌<◌, ◌≤◌, ◌^◌, [], ◌∷◌, ◌++◌, All, List, IfOk, IfSome, IsOkUnless, OnOk, None, Err, Option, Some, false, if◌then◌else◌, is_some, length, map, slice_get, true};
 ghost use Rattle.std.specs.Global.{Global as GhostGlobal};
 ghost use Rattle.std.specs.List.{list_any};
@@ -12,7 +12,8 @@ ghost use Rattle.tt_data.specs.fault.TtFault.TheVariants as as_fault;
 ghost use Rattle.expander_scope.specs.Interning.{known_in, numbers_in};
 ghost use Rattle.expander_model.specs.HashedTrees.{own_top, tree_hash};
 ghost use Rattle.expander_model.specs.Definitions.{definition_of};
-ghost use Rattle.expander_model.specs.Held.{IsMet, Met, definition_trees, kept_after, numbered_scope};
+ghost use Rattle.expander_model.specs.Held.{IsMet, Met, kept_after, numbered_scope};
+ghost use Rattle.expander_model.specs.DefinitionTrees.{definition_trees};
 ghost use Rattle.expander_session.specs.CachedOutputs.{Holds};
 ghost use Rattle.expander_session.specs.Layered.{layers};
 ghost use Rattle.expander_session.specs.MemoRefs.{plain_tops};
@@ -21,7 +22,7 @@ ghost use Rattle.expander_session.specs.Caches.{IsCache, piece_of, trees_of};
 ghost use Rattle.expander_scope.specs.ScopeTable.{AreRead, HasMet, expanded_under, scope_in};
 ghost use Rattle.expander_scope.specs.DefinitionTexts.{HasNumbered};
 ghost use Rattle.expander_scope.specs.DefinitionIds.{AreNumbers, HaveNumbers, number_by, numbered_by};
-ghost use Rattle.expander_scope.specs.Numbers.{needed};
+ghost use Rattle.expander_scope.specs.NewNumbers.{needed};
 ghost use Rattle.expander_model.specs.OtherPlaces.{LooksAtNoPlace};
 ghost use Rattle.expander_scope.specs.Outcomes.{parts_of};
 ghost use Rattle.expander_session.specs.Emitting.{PutsOut};
@@ -40,7 +41,7 @@ ghost use Rattle.expander_model.specs.World.{world};
 use crate::absolute_spans::{emit_cached, emit_events, put_faults, tell_if_broken};
 use crate::cache::Cache;
 use crate::cached_output::{CachedOutput, output_to_cache};
-use crate::emitter::{Emitter, no_steps, takes_chunks};
+use crate::emitter::{Emitter, no_steps, reserve, takes_chunks};
 use crate::memo::{Memo, MemoIndex, find_valid};
 use crate::memo_ref::MemoRef;
 use expander_model::fault::Fault;
@@ -48,7 +49,7 @@ use expander_model::hashed_tree::HashedTree;
 use expander_model::laws;
 use expander_reparse::piece::Piece;
 use expander_scope::definition_ids::{DefinitionIds, number};
-use expander_scope::expand::expand_piece;
+use expander_scope::expand::{Environment, expand_piece};
 use expander_scope::interner::Interner;
 use expander_scope::macro_def::MacroDef;
 use expander_scope::outcome::Outcome;
@@ -59,7 +60,7 @@ use std::alloc::{AllocError, Global};
 use std::rc::Rc;
 use tt_data::{Edition, TtFault};
 
-// A plain piece that is shared.
+// A memo with a reference count, so that texts can share it. Out of memory is its only error.
 fn shared(alloc: Global, plain: Memo) -> Result<Rc<Memo>, TtFault>
     ensures same { IfOk result (λ q. q.value ≡ plain) }
     ensures memory { IsOkUnless result as_fault.Memory }
@@ -70,27 +71,41 @@ fn shared(alloc: Global, plain: Memo) -> Result<Rc<Memo>, TtFault>
     }
 }
 
-// A tree, expanded, and what it prints held as a part where that is wanted.
+/// What the pieces of a text are evaluated by: the grammar, how many levels of calls may be
+/// expanded, and the cache of the last text that was read.
+///
+/// `Session::expansion` makes one for each text. It is the same for all pieces.
+#[derive(Drop)]
+pub(crate) struct EvaluationContext<'a, G> {
+    pub alloc: Global,
+    /// Decides what fragments are.
+    pub grammar: &'a G,
+    /// How many levels of calls may be expanded.
+    pub depth: u8,
+    /// What is cached of the last text. The new text changes none of it.
+    pub memory: &'a Cache,
+}
+
+// Expands a tree into a memo. If `as_part` asks for it and the events print as a chunk, their text
+// is cached, else the events.
 fn expanded<G: FragmentGrammar>(
-    alloc: Global,
-    grammar: &G,
-    scope: &Scope,
-    depth: u8,
+    env: &Environment<'_, G>,
     tree: Rc<HashedTree>,
     as_part: bool,
 ) -> Result<Rc<Memo>, TtFault>
-    requires { AreRead scope.now }
+    requires { AreRead env.now.scope.now }
     ensures tree { IfOk result (λ q. tree_of q.value ≡ tree.value) }
-    ensures holds { IfOk result (λ q. Holds q.value
-        (parts_of (expanded_under (G.answer grammar.now) scope.now depth tree.value.inner))) }
+    ensures holds { IfOk result (λ q. Holds q.value (parts_of
+        (expanded_under (G.answer env.now.grammar.now) env.now.scope.now env.now.depth tree.value.inner))) }
     ensures tokens { result ≡ Err TtFault.Tokens →
-        (expanded_under (G.answer grammar.now) scope.now depth tree.value.inner).bursts ≡ true }
+        (expanded_under (G.answer env.now.grammar.now) env.now.scope.now env.now.depth tree.value.inner).bursts ≡ true }
 {
+    let alloc = env.alloc;
     let Outcome {
         steps,
         faults,
         finds,
-    } = expand_piece(alloc, grammar, scope, depth, tree.as_ref().tree())?;
+    } = expand_piece(env, tree.as_ref().tree())?;
     let output = output_to_cache(alloc, tree.as_ref().tree(), steps, as_part)?;
     let plain = Memo {
         tree,
@@ -101,91 +116,95 @@ fn expanded<G: FragmentGrammar>(
     shared(alloc, plain)
 }
 
-/// A tree with its outcome: a held piece that matches, with its place, or else the tree is expanded, and what it prints
-/// held as a part where that is wanted. The tree's hash comes with either.
+/// The memo of a tree: a valid one from the cache, with its index there, or else a new one, with
+/// `None`. The third value is the hash of the tree.
+///
+/// `link` is the index of a memo that is known to have this tree. `as_part` asks for a new memo to
+/// cache text rather than events.
 pub(crate) fn evaluate_tree<G: FragmentGrammar>(
-    alloc: Global,
-    grammar: &G,
-    scope: &Scope,
-    depth: u8,
+    env: &Environment<'_, G>,
     memory: &Cache,
     lookup: &mut MemoIndex,
     link: Option<usize>,
     tree: &Rc<HashedTree>,
     as_part: bool,
 ) -> Result<(Rc<Memo>, Option<usize>, u64), TtFault>
-    requires read { AreRead scope.now }
+    requires read { AreRead env.now.scope.now }
     requires lookup { Finds lookup.old memory.now.plains.items }
     requires link { IfSome link (λ i. slice_get (plain_tops memory.now.plains.items) i ≡ Some tree.now.value) }
     requires top { tree.now.value.delimiter ≡ text_top }
-    requires right { IsCache (world (G.answer grammar.now) scope.now.edition) depth scope.now.edition memory.now }
+    requires right { IsCache (world (G.answer env.now.grammar.now) env.now.scope.now.edition)
+        env.now.depth env.now.scope.now.edition memory.now }
     ensures lookup { OnOk result (Finds lookup.new memory.now.plains.items) }
     ensures tree { IfOk result (λ r. tree_of r.0.value ≡ tree.now.value) }
     ensures hash { IfOk result (λ r. r.2 ≡ tree_hash tree.now.value) }
     ensures holds { (given : ℕ) (numbers : Forest → Option ℕ) (before : List Met) → AreNumbers given numbers →
         ((t : Forest) (n : ℕ) → numbers_in memory.now.by_tree t ≡ Some n → numbers t ≡ Some n) →
-        scope_in scope.now ≡ numbered_scope before → All (IsMet (numbered_by numbers)) before →
-        IfOk result (λ r. Holds r.0.value
-        (parts_of (expanded_under (G.answer grammar.now) scope.now depth tree.now.value.inner))) }
-    ensures counted { IfOk result (λ r. is_some r.1 ≡ list_any (matches (scope_in scope.now) tree.now.value.inner)
-        (map (λ q. piece_of (world (G.answer grammar.now) scope.now.edition) depth (rc_value q)) memory.now.plains.items)) }
+        scope_in env.now.scope.now ≡ numbered_scope before → All (IsMet (numbered_by numbers)) before →
+        IfOk result (λ r. Holds r.0.value (parts_of
+        (expanded_under (G.answer env.now.grammar.now) env.now.scope.now env.now.depth tree.now.value.inner))) }
+    ensures counted { IfOk result (λ r. is_some r.1
+        ≡ list_any (matches (scope_in env.now.scope.now) tree.now.value.inner) (map
+        (λ q. piece_of (world (G.answer env.now.grammar.now) env.now.scope.now.edition) env.now.depth (rc_value q))
+        memory.now.plains.items)) }
     ensures tokens { result ≡ Err TtFault.Tokens →
-        (expanded_under (G.answer grammar.now) scope.now depth tree.now.value.inner).bursts ≡ true }
+        (expanded_under (G.answer env.now.grammar.now) env.now.scope.now env.now.depth tree.now.value.inner).bursts ≡ true }
 {
     laws::equal_pieces();
     tt::laws::equal_trees();
     let held = memory.plains.as_slice();
     let hashes = memory.hashes.as_slice();
-    let found = find_valid(alloc, scope, held, hashes, lookup, link, tree)?;
+    let found = find_valid(env.scope, held, hashes, lookup, link, tree)?;
     match found {
         Some(i) => {
             let plain = held[i].clone()?;
             Ok((plain, Some(i), hashes[i]))
         }
         None => {
-            let plain = expanded(alloc, grammar, scope, depth, tree.clone()?, as_part)?;
+            let plain = expanded(env, tree.clone()?, as_part)?;
             Ok((plain, None, tree.as_ref().kept_hash()))
         }
     }
 }
 
-/// What the pieces of a text so far give.
+/// What the pieces of a text so far have given.
 #[derive(Drop)]
 pub(crate) struct Evaluated {
-    /// Their definitions.
+    /// Their definitions, with the ids.
     pub numbers: DefinitionIds,
-    /// The plain ones, in order.
+    /// The memos of the plain pieces, in order.
     pub plains: Vec<Rc<Memo>>,
-    /// The hashes of their trees.
+    /// The hashes of the memos' trees.
     pub hashes: Vec<u64>,
+    /// The output so far.
     pub steps: Emitter,
-    /// Without those of the steps.
+    /// The faults so far, but for those of printed tokens, which the emitter keeps.
     pub faults: Vec<Fault>,
-    /// How many were expanded.
+    /// The number of cache misses.
     pub expanded: usize,
-    /// What each piece is.
+    /// Which memo or definition each piece has.
     pub links: Vec<MemoRef>,
 }
 
-// What the pieces of a text so far give, and what those that follow depend on.
+// The state between two pieces: what those so far have given, and what the next one depends on.
 #[derive(Drop)]
 struct Evaluation {
     scope: Scope,
     taken: Evaluated,
-    // How held pieces are looked for.
+    // The search for valid memos in the cache.
     lookup: MemoIndex,
 }
 
-// For how much room is made at first: how fast a text is answered hangs on it, and nothing else.
+// How much room is made at first. It decides speed alone.
 #[derive(Clone, Copy)]
 struct Room {
     definitions: usize,
     pieces: usize,
-    // Of the text that is printed.
+    // Bytes of the printed text.
     bytes: usize,
 }
 
-// No definition so far. There is room for so many.
+// No definitions so far, with room for `count`. `given` ids were given for earlier texts.
 fn nothing_numbered(alloc: Global, given: u32, count: usize) -> Result<DefinitionIds, AllocError>
     ensures given { IfOk result (λ n. n.given ≡ given) }
     ensures definitions { IfOk result (λ n. n.definitions.items ≡ []) }
@@ -200,8 +219,8 @@ fn nothing_numbered(alloc: Global, given: u32, count: usize) -> Result<Definitio
     })
 }
 
-// No piece so far. What is held longest is asked for last, so that what is freed before it leaves room below it for the next
-// text, and is not given back to the system each time.
+// Before the first piece. What is kept longest is allocated last: memory that is freed before it
+// then stays below it for the next text, and is not given back to the system each time.
 fn nothing_evaluated(alloc: Global, memory: &Cache, room: Room) -> Result<Evaluated, AllocError>
     ensures links { IfOk result (λ taken. AreLinks taken []) }
     ensures taken { IfOk result (λ taken. (grammar : Grammar) (edition : Edition) (depth : ℕ) → IsCache (world grammar edition) depth edition memory.now →
@@ -223,7 +242,7 @@ fn nothing_evaluated(alloc: Global, memory: &Cache, room: Room) -> Result<Evalua
     })
 }
 
-// Before the first piece.
+// The state before the first piece.
 fn nothing_yet(
     alloc: Global,
     edition: Edition,
@@ -243,11 +262,11 @@ fn nothing_yet(
     Ok(Evaluation {
         scope,
         taken,
-        lookup: MemoIndex::new(),
+        lookup: MemoIndex::new(alloc),
     })
 }
 
-// A piece is linked.
+// Adds the reference of one more piece.
 fn add_link(links: &mut Vec<MemoRef>, link: MemoRef) -> Result<(), AllocError>
     ensures { OnOk result (links.new.items ≡ links.old.items ++ link ∷ []) }
 {
@@ -255,7 +274,8 @@ fn add_link(links: &mut Vec<MemoRef>, link: MemoRef) -> Result<(), AllocError>
     Ok(())
 }
 
-// A definition, which may be held, is numbered, told where it is broken, and met.
+// Evaluates a definition that starts at `start`: gives it an id, adds its fault if it is invalid,
+// and adds it to the scope. `held` is the equal definition of the last text, if it is known.
 fn evaluate_definition(
     alloc: Global,
     memory: &Cache,
@@ -296,28 +316,27 @@ fn evaluate_definition(
     Ok(())
 }
 
-// A tree is expanded once more, since its steps are not kept. These are put out, and held.
+// Expands a tree once more, because its cached text cannot be appended here and its events are not
+// cached. Emits the events, and answers a memo with them. This is no cache miss.
 fn emit_anew<G: FragmentGrammar>(
-    alloc: Global,
-    grammar: &G,
-    scope: &Scope,
-    depth: u8,
+    env: &Environment<'_, G>,
     steps: &mut Emitter,
     start: u32,
     tree: Rc<HashedTree>,
 ) -> Result<Rc<Memo>, TtFault>
-    requires { AreRead scope.now }
-    ensures steps { OnOk result (PutsOut steps.old steps.new (resolved_steps start scope.now.starts
-        (expanded_under (G.answer grammar.now) scope.now depth tree.value.inner).steps)) }
+    requires { AreRead env.now.scope.now }
+    ensures steps { OnOk result (PutsOut steps.old steps.new (resolved_steps start env.now.scope.now.starts
+        (expanded_under (G.answer env.now.grammar.now) env.now.scope.now env.now.depth tree.value.inner).steps)) }
     ensures tree { IfOk result (λ q. tree_of q.value ≡ tree.value) }
-    ensures holds { IfOk result (λ q. Holds q.value
-        (parts_of (expanded_under (G.answer grammar.now) scope.now depth tree.value.inner))) }
+    ensures holds { IfOk result (λ q. Holds q.value (parts_of
+        (expanded_under (G.answer env.now.grammar.now) env.now.scope.now env.now.depth tree.value.inner))) }
     ensures tokens { result ≡ Err TtFault.Tokens →
-        (expanded_under (G.answer grammar.now) scope.now depth tree.value.inner).bursts ≡ true }
+        (expanded_under (G.answer env.now.grammar.now) env.now.scope.now env.now.depth tree.value.inner).bursts ≡ true }
 {
+    let alloc = env.alloc;
     let own = tree.as_ref().tree();
-    let outcome = expand_piece(alloc, grammar, scope, depth, own)?;
-    emit_events(alloc, steps, start, &scope.starts, own, &outcome.steps)?;
+    let outcome = expand_piece(env, own)?;
+    emit_events(alloc, steps, start, &env.scope.starts, own, &outcome.steps)?;
     let plain = Memo {
         tree,
         output: CachedOutput::Steps(outcome.steps),
@@ -328,82 +347,70 @@ fn emit_anew<G: FragmentGrammar>(
     Ok(plain)
 }
 
-// What a piece prints is put out, and what is to be held of it answered: the same, or the same with its steps, where what it
-// prints by itself can't be put here at once.
+// Emits the output of a memo. Answers the memo to cache: the same one, or one with events if its
+// text cannot be appended here.
 fn emit_output<G: FragmentGrammar>(
-    alloc: Global,
-    grammar: &G,
-    scope: &Scope,
-    depth: u8,
+    env: &Environment<'_, G>,
     steps: &mut Emitter,
     start: u32,
     plain: Rc<Memo>,
 ) -> Result<Rc<Memo>, TtFault>
-    requires { AreRead scope.now }
-    ensures steps { Holds plain.value (parts_of (expanded_under (G.answer grammar.now) scope.now depth (tree_of plain.value).inner)) →
-        OnOk result (PutsOut steps.old steps.new (resolved_steps start scope.now.starts
-        (expanded_under (G.answer grammar.now) scope.now depth (tree_of plain.value).inner).steps)) }
+    requires { AreRead env.now.scope.now }
+    ensures steps { let given = expanded_under (G.answer env.now.grammar.now) env.now.scope.now env.now.depth
+        (tree_of plain.value).inner in Holds plain.value (parts_of given) →
+        OnOk result (PutsOut steps.old steps.new (resolved_steps start env.now.scope.now.starts given.steps)) }
     ensures tree { IfOk result (λ q. tree_of q.value ≡ tree_of plain.value) }
-    ensures holds { Holds plain.value (parts_of (expanded_under (G.answer grammar.now) scope.now depth (tree_of plain.value).inner)) →
-        IfOk result (λ q. Holds q.value (parts_of (expanded_under (G.answer grammar.now) scope.now depth (tree_of plain.value).inner))) }
-    ensures tokens { result ≡ Err TtFault.Tokens →
-        (expanded_under (G.answer grammar.now) scope.now depth (tree_of plain.value).inner).bursts ≡ true }
+    ensures holds { let given = expanded_under (G.answer env.now.grammar.now) env.now.scope.now env.now.depth
+        (tree_of plain.value).inner in Holds plain.value (parts_of given) →
+        IfOk result (λ q. Holds q.value (parts_of given)) }
+    ensures tokens { result ≡ Err TtFault.Tokens → (expanded_under (G.answer env.now.grammar.now) env.now.scope.now
+        env.now.depth (tree_of plain.value).inner).bursts ≡ true }
 {
+    let (alloc, starts) = (env.alloc, &env.scope.starts);
     let Memo { tree, output, .. } = plain.as_ref();
     match output {
         CachedOutput::Part(part) => {
-            if emit_cached(alloc, steps, start, &scope.starts, part)? {
+            if emit_cached(alloc, steps, start, starts, part)? {
                 return Ok(plain);
             }
-            emit_anew(alloc, grammar, scope, depth, steps, start, tree.clone()?)
+            emit_anew(env, steps, start, tree.clone()?)
         }
         CachedOutput::Steps(own) => {
-            emit_events(
-                alloc,
-                steps,
-                start,
-                &scope.starts,
-                tree.as_ref().tree(),
-                own,
-            )?;
+            let tree = tree.as_ref().tree();
+            emit_events(alloc, steps, start, starts, tree, own)?;
             Ok(plain)
         }
     }
 }
 
-// A piece with what its expansion gives is put out, and what is to be held of it is answered.
+// Emits the output of a memo and adds its faults. Answers the memo to cache.
 fn emit_plain<G: FragmentGrammar>(
-    alloc: Global,
-    grammar: &G,
-    scope: &Scope,
-    depth: u8,
+    env: &Environment<'_, G>,
     steps: &mut Emitter,
     faults: &mut Vec<Fault>,
     start: u32,
     plain: Rc<Memo>,
 ) -> Result<Rc<Memo>, TtFault>
-    requires { AreRead scope.now }
-    ensures steps { Holds plain.value (parts_of (expanded_under (G.answer grammar.now) scope.now depth (tree_of plain.value).inner)) →
-        OnOk result (PutsOut steps.old steps.new (resolved_steps start scope.now.starts
-        (expanded_under (G.answer grammar.now) scope.now depth (tree_of plain.value).inner).steps)) }
-    ensures faults { IfOk result (λ q. faults.new.items ≡ faults.old.items ++ resolved_faults start scope.now.starts q.value.faults.items) }
+    requires { AreRead env.now.scope.now }
+    ensures steps { let given = expanded_under (G.answer env.now.grammar.now) env.now.scope.now env.now.depth
+        (tree_of plain.value).inner in Holds plain.value (parts_of given) →
+        OnOk result (PutsOut steps.old steps.new (resolved_steps start env.now.scope.now.starts given.steps)) }
+    ensures faults { IfOk result (λ q. faults.new.items
+        ≡ faults.old.items ++ resolved_faults start env.now.scope.now.starts q.value.faults.items) }
     ensures tree { IfOk result (λ q. tree_of q.value ≡ tree_of plain.value) }
-    ensures holds { Holds plain.value (parts_of (expanded_under (G.answer grammar.now) scope.now depth (tree_of plain.value).inner)) →
-        IfOk result (λ q. Holds q.value (parts_of (expanded_under (G.answer grammar.now) scope.now depth (tree_of plain.value).inner))) }
-    ensures tokens { result ≡ Err TtFault.Tokens →
-        (expanded_under (G.answer grammar.now) scope.now depth (tree_of plain.value).inner).bursts ≡ true }
+    ensures holds { let given = expanded_under (G.answer env.now.grammar.now) env.now.scope.now env.now.depth
+        (tree_of plain.value).inner in Holds plain.value (parts_of given) →
+        IfOk result (λ q. Holds q.value (parts_of given)) }
+    ensures tokens { result ≡ Err TtFault.Tokens → (expanded_under (G.answer env.now.grammar.now) env.now.scope.now
+        env.now.depth (tree_of plain.value).inner).bursts ≡ true }
 {
-    let plain = emit_output(alloc, grammar, scope, depth, steps, start, plain)?;
-    put_faults(
-        faults,
-        start,
-        &scope.starts,
-        plain.as_ref().faults.as_slice(),
-    )?;
+    let plain = emit_output(env, steps, start, plain)?;
+    let told = plain.as_ref().faults.as_slice();
+    put_faults(faults, start, &env.scope.starts, told)?;
     Ok(plain)
 }
 
-// A piece is held, with the hash of its tree, and linked.
+// Adds a memo and the hash of its tree to those to cache, and the reference of its piece.
 fn hold(
     plains: &mut Vec<Rc<Memo>>,
     hashes: &mut Vec<u64>,
@@ -421,7 +428,8 @@ fn hold(
     Ok(())
 }
 
-// A piece is counted where no held one matches.
+// Counts a cache miss if no memo was valid. Otherwise notes the index after the memo, where the
+// next one is looked for early.
 fn count(now: &mut Evaluation, at: Option<usize>)
     requires { now.old.taken.expanded + 1 < 2 ^ 64 }
     ensures scope { now.new.scope ≡ now.old.scope }
@@ -434,12 +442,10 @@ fn count(now: &mut Evaluation, at: Option<usize>)
     }
 }
 
-// A plain piece is expanded where no held one matches, put out, and held.
+// Evaluates a plain piece: finds a valid memo or expands the tree, emits the output, and adds the
+// memo to those to cache.
 fn evaluate_plain<G: FragmentGrammar>(
-    alloc: Global,
-    grammar: &G,
-    depth: u8,
-    memory: &Cache,
+    context: &EvaluationContext<'_, G>,
     now: &mut Evaluation,
     start: u32,
     tree: &Rc<HashedTree>,
@@ -448,38 +454,35 @@ fn evaluate_plain<G: FragmentGrammar>(
     requires plain { is_some (definition_of tree.now.value.inner) ≡ false }
     requires top { tree.now.value.delimiter ≡ text_top }
     requires read { AreRead now.old.scope }
-    requires lookup { Finds now.old.lookup memory.now.plains.items }
-    requires link { IfSome link (λ i. slice_get (plain_tops memory.now.plains.items) i ≡ Some tree.now.value) }
-    requires right { IsCache (world (G.answer grammar.now) now.old.scope.edition) depth now.old.scope.edition memory.now }
+    requires lookup { Finds now.old.lookup context.now.memory.now.plains.items }
+    requires link { IfSome link (λ i. slice_get (plain_tops context.now.memory.now.plains.items) i ≡ Some tree.now.value) }
+    requires right { IsCache (world (G.answer context.now.grammar.now) now.old.scope.edition)
+        context.now.depth now.old.scope.edition context.now.memory.now }
     requires room { now.old.taken.expanded + 1 < 2 ^ 64 }
     ensures taken { (piece : Forest) → start ≡ first_start piece → tree.now.value ≡ own_top (relative piece) →
-        OnOk result (Evaluates (G.answer grammar.now) now.old.scope.edition depth memory.now piece now.old now.new) }
-    ensures links { (trees : List Top) → AreLinks now.old.taken trees → OnOk result (AreLinks now.new.taken (trees ++ tree.now.value ∷ [])) }
+        OnOk result (Evaluates (G.answer context.now.grammar.now) now.old.scope.edition
+        context.now.depth context.now.memory.now piece now.old now.new) }
+    ensures links { (trees : List Top) → AreLinks now.old.taken trees →
+        OnOk result (AreLinks now.new.taken (trees ++ tree.now.value ∷ [])) }
     ensures numbers { OnOk result (now.new.taken.numbers ≡ now.old.taken.numbers) }
     ensures edition { OnOk result (now.new.scope.edition ≡ now.old.scope.edition) }
-    ensures lookup { OnOk result (Finds now.new.lookup memory.now.plains.items) }
+    ensures lookup { OnOk result (Finds now.new.lookup context.now.memory.now.plains.items) }
     ensures expanded { OnOk result (now.new.taken.expanded ≤ now.old.taken.expanded + 1) }
-    ensures tokens { result ≡ Err TtFault.Tokens →
-        (expanded_under (G.answer grammar.now) now.old.scope depth tree.now.value.inner).bursts ≡ true }
+    ensures tokens { result ≡ Err TtFault.Tokens → (expanded_under (G.answer context.now.grammar.now) now.old.scope
+        context.now.depth tree.now.value.inner).bursts ≡ true }
 {
     laws::equal_pieces();
-    let scope = &now.scope;
-    let lookup = &mut now.lookup;
-    let as_part = takes_chunks(&now.taken.steps);
-    let (found, at, hash) = evaluate_tree(
-        alloc, grammar, scope, depth, memory, lookup, link, tree, as_part,
-    )?;
+    let env = Environment {
+        alloc: context.alloc,
+        grammar: context.grammar,
+        scope: &now.scope,
+        depth: context.depth,
+    };
     let taken = &mut now.taken;
-    let plain = emit_plain(
-        alloc,
-        grammar,
-        scope,
-        depth,
-        &mut taken.steps,
-        &mut taken.faults,
-        start,
-        found,
-    )?;
+    let as_part = takes_chunks(&taken.steps);
+    let lookup = &mut now.lookup;
+    let (found, at, hash) = evaluate_tree(&env, context.memory, lookup, link, tree, as_part)?;
+    let plain = emit_plain(&env, &mut taken.steps, &mut taken.faults, start, found)?;
     hold(
         &mut taken.plains,
         &mut taken.hashes,
@@ -491,64 +494,71 @@ fn evaluate_plain<G: FragmentGrammar>(
     Ok(())
 }
 
-// The next piece is taken: a definition is met, a plain one is put out and held.
+// Evaluates one more piece: a definition enters the scope, and a plain piece is emitted.
 fn evaluate_piece<G: FragmentGrammar>(
-    alloc: Global,
-    grammar: &G,
-    depth: u8,
-    memory: &Cache,
+    context: &EvaluationContext<'_, G>,
     now: &mut Evaluation,
     own: &Piece,
 ) -> Result<(), Refusal>
-    requires right { IsCache (world (G.answer grammar.now) now.old.scope.edition) depth now.old.scope.edition memory.now }
-    requires can { CanDefine memory.now now.old }
-    requires places { LooksAtNoPlace (world (G.answer grammar.now) now.old.scope.edition) }
+    requires right { IsCache (world (G.answer context.now.grammar.now) now.old.scope.edition)
+        context.now.depth now.old.scope.edition context.now.memory.now }
+    requires can { CanDefine context.now.memory.now now.old }
+    requires places { LooksAtNoPlace (world (G.answer context.now.grammar.now) now.old.scope.edition) }
     requires room { now.old.taken.expanded + 1 < 2 ^ 64 }
-    requires lookup { Finds now.old.lookup memory.now.plains.items }
+    requires lookup { Finds now.old.lookup context.now.memory.now.plains.items }
     requires own { IsOwn (piece_at own.now) own.now }
-    requires met { IsMetIn memory.now.sources own.now.met (tree_at own.now) }
-    ensures taken { OnOk result (Evaluates (G.answer grammar.now) now.old.scope.edition depth memory.now (piece_at own.now) now.old now.new) }
-    ensures links { (trees : List Top) → AreLinks now.old.taken trees → OnOk result (AreLinks now.new.taken (trees ++ tree_at own.now ∷ [])) }
+    requires met { IsMetIn context.now.memory.now.sources own.now.met (tree_at own.now) }
+    ensures taken { OnOk result (Evaluates (G.answer context.now.grammar.now) now.old.scope.edition
+        context.now.depth context.now.memory.now (piece_at own.now) now.old now.new) }
+    ensures links { (trees : List Top) → AreLinks now.old.taken trees →
+        OnOk result (AreLinks now.new.taken (trees ++ tree_at own.now ∷ [])) }
     ensures grows { OnOk result (Grows now.old.taken now.new.taken) }
     ensures edition { OnOk result (now.new.scope.edition ≡ now.old.scope.edition) }
-    ensures lookup { OnOk result (Finds now.new.lookup memory.now.plains.items) }
+    ensures lookup { OnOk result (Finds now.new.lookup context.now.memory.now.plains.items) }
     ensures expanded { OnOk result (now.new.taken.expanded ≤ now.old.taken.expanded + 1) }
-    ensures tokens { result ≡ Err Refusal.Tokens → MakesTooMany (G.answer grammar.now) now.old.scope.edition depth (piece_at own.now) now.old }
-    ensures cause { (trees : List Forest) → HasNumbered memory.now.given memory.now.by_tree (trees_of memory.now) trees now.old.taken.numbers →
-        result ≡ Err Refusal.Numbers → 2 ^ 32 ≤ memory.now.given + needed (trees_of memory.now) (trees ++ definition_trees (piece_at own.now ∷ [])) }
+    ensures tokens { result ≡ Err Refusal.Tokens →
+        MakesTooMany (G.answer context.now.grammar.now) now.old.scope.edition context.now.depth (piece_at own.now) now.old }
+    ensures cause { let memory = context.now.memory.now in (trees : List Forest) →
+        HasNumbered memory.given memory.by_tree (trees_of memory) trees now.old.taken.numbers → result ≡ Err Refusal.Numbers →
+        2 ^ 32 ≤ memory.given + needed (trees_of memory) (trees ++ definition_trees (piece_at own.now ∷ [])) }
 {
-    if !memory.look_ahead(own) {
-        return Err(Refusal::Memory);
-    }
+    let EvaluationContext { alloc, memory, .. } = *context;
+    reserve(&mut now.taken.steps, memory.look_ahead(own))?;
     let tree = own.tree.get();
     if memory.is_definition(own) {
         let held = memory.definition_at(own);
         return evaluate_definition(alloc, memory, now, own.start, tree.clone()?, held);
     }
     let link = memory.plain_at(own);
-    evaluate_plain(alloc, grammar, depth, memory, now, own.start, tree, link)?;
+    evaluate_plain(context, now, own.start, tree, link)?;
     Ok(())
 }
 
-/// The pieces of a text of so many bytes, one after another, each under the definitions before it: a plain one is expanded,
-/// where no held one matches.
+/// Evaluates the pieces of a text of `bytes` bytes in order, each in the scope of the definitions
+/// before it. A plain piece is expanded only if the cache has no valid memo for it.
+///
+/// # Errors
+///
+/// `Memory`. `Tokens`, only if a rule that is tried for a call puts out more than `u32::MAX`
+/// tokens. `Numbers`, only if more than `u32::MAX` definitions would need an id.
 pub(crate) fn evaluate_pieces<G: FragmentGrammar>(
-    alloc: Global,
-    grammar: &G,
+    context: &EvaluationContext<'_, G>,
     edition: Edition,
-    depth: u8,
-    memory: &Cache,
     pieces: &[Piece],
     bytes: usize,
 ) -> Result<Evaluated, Refusal>
-    requires right { IsCache (world (G.answer grammar.now) edition) depth edition memory.now }
+    requires right { IsCache (world (G.answer context.now.grammar.now) edition)
+        context.now.depth edition context.now.memory.now }
     requires own { All IsOwnPiece pieces.now }
-    requires met { AreMet memory.now.sources pieces.now }
-    ensures taken { IfOk result (λ now. IsEvaluated (world (G.answer grammar.now) edition) edition depth memory.now (layers (G.answer grammar.now) edition)
-        (definition_trees (map piece_at pieces.now)) (kept_after (world (G.answer grammar.now) edition) depth (number_by (numbers_in now.numbers.by_tree)) [] (map piece_at pieces.now)) now) }
+    requires met { AreMet context.now.memory.now.sources pieces.now }
+    ensures taken { let w = world (G.answer context.now.grammar.now) edition in let trees = map piece_at pieces.now in
+        IfOk result (λ now. IsEvaluated w edition context.now.depth context.now.memory.now
+        (layers (G.answer context.now.grammar.now) edition) (definition_trees trees)
+        (kept_after w context.now.depth (number_by (numbers_in now.numbers.by_tree)) [] trees) now) }
     ensures links { IfOk result (λ now. AreLinks now (map tree_at pieces.now)) }
-    ensures tokens { result ≡ Err Refusal.Tokens → list_any bursts (members_after (layers (G.answer grammar.now) edition) depth [] (map piece_at pieces.now)) ≡ true }
-    ensures numbers { result ≡ Err Refusal.Numbers → NeedsMore memory.now (map piece_at pieces.now) }
+    ensures tokens { result ≡ Err Refusal.Tokens → list_any bursts (members_after
+        (layers (G.answer context.now.grammar.now) edition) context.now.depth [] (map piece_at pieces.now)) ≡ true }
+    ensures numbers { result ≡ Err Refusal.Numbers → NeedsMore context.now.memory.now (map piece_at pieces.now) }
 {
     mbe_rules::laws::rules_at_other_places();
     mbe::laws::fit_at_other_places();
@@ -556,13 +566,13 @@ pub(crate) fn evaluate_pieces<G: FragmentGrammar>(
     laws::equal_pieces();
     let most = pieces.len();
     let room = Room {
-        definitions: memory.definitions.len().saturating_add(1),
+        definitions: context.memory.definitions.len().saturating_add(1),
         pieces: most,
         bytes,
     };
-    let mut now = nothing_yet(alloc, edition, memory, room)?;
+    let mut now = nothing_yet(context.alloc, edition, context.memory, room)?;
     for own in pieces {
-        evaluate_piece(alloc, grammar, depth, memory, &mut now, own)?;
+        evaluate_piece(context, &mut now, own)?;
     }
     let Evaluation { taken, .. } = now;
     Ok(taken)

@@ -1,4 +1,5 @@
-//! Laws of how many definitions a text has. A call does nothing: it only states.
+//! Laws on how many definitions a text has. Calling a law does nothing: its contract is the
+//! statement.
 ghost use Rattle.std.specs.Prelude.{ℕ, ◌≤◌, ◌<◌, ◌^◌, List, [], length, IsUtf8};
 ghost use Rattle.expander_session.specs.Layered.{layers};
 ghost use Rattle.expander_model.specs.Meaning.{meaning};
@@ -6,8 +7,8 @@ ghost use Rattle.expander_session.specs.Replies.{NeedsNumbers, definitions_in};
 ghost use Rattle.mbe.specs.Grammar.{Grammar};
 ghost use Rattle.tt_data.specs.declared.edition.Edition.{Edition};
 
-/// A text has at most as many definitions as bytes: `counted`. So where none was numbered before and the text has fewer than
-/// 2^32 bytes, there are numbers for them all: `numbered`.
+/// A text has at most as many definitions as bytes: `counted`. So if no definition had an id
+/// before and the text has fewer than 2^32 bytes, there are ids for them all: `numbered`.
 pub fn definitions_are_no_more_than_bytes()
     ensures counted { (grammar : Grammar) (edition : Edition) (depth : ℕ) (text : List ℕ) →
         IsUtf8 text → length (definitions_in (meaning (layers grammar edition) depth text)) ≤ length text }

@@ -1,4 +1,5 @@
-//! A session over a text: its cache, the evaluation of a text over it, and lists of edits and expansions.
+//! A session over a text: its cache, the evaluation of a text over it, and lists of edits and
+//! expansions.
 #![tactic(auto)]
 
 mod absolute_spans;

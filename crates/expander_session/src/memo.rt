@@ -1,4 +1,4 @@
-//! Memos: expansions of plain pieces that are cached, and which of them is valid for a tree.
+//! Memos: the cached expansions of plain pieces, and the search for one that is valid for a tree.
 ghost use Rattle.std.specs.Prelude.{◌≡◌, ◌<◌, IfOk, IfSome, List, OnOk, Some, is_some, length, map, slice_get, true};
 ghost use Rattle.std.specs.Global.{Global as GhostGlobal};
 ghost use Rattle.std.specs.List.{list_all, list_any};
@@ -22,19 +22,21 @@ use std::rc::Rc;
 use tt::laws;
 use tt_data::Span;
 
-/// A plain piece in places of its own, with what its expansion gives.
+/// A plain piece with its cached expansion, all with piece-relative spans.
 #[derive(Drop)]
 pub(crate) struct Memo {
     pub tree: Rc<HashedTree>,
+    /// What its expansion prints.
     pub output: CachedOutput,
-    /// Each fault with the span of the name that it is told at.
+    /// Each fault, with the span of the name at which it is reported.
     pub faults: Vec<(FaultKind, Span)>,
-    /// Each name that was looked up, in order.
+    /// The look-ups of its expansion, in order.
     pub finds: Vec<NameLookup>,
 }
 
 impl Memo {
-    /// How much there is of the first name that it looked up, and how many tokens it prints by itself.
+    /// How many tokens its cached text has, and how many bytes the names of its first look-up.
+    /// Asking brings it into the processor's cache.
     pub(crate) fn size(&self) -> usize {
         let name = match self.finds.first() {
             Some(find) => find.size(),
@@ -47,7 +49,7 @@ impl Memo {
     }
 }
 
-// Whether a name finds what it is held to find.
+// Whether a look-up finds an equal definition in this scope, or still none.
 fn finds_the_same(scope: &Scope, find: &NameLookup) -> bool
     requires { AreRead scope.now }
     ensures { result ≡ same_number (scope_in scope.now (find_of find.now).0) (find_of find.now).1 }
@@ -59,7 +61,7 @@ fn finds_the_same(scope: &Scope, find: &NameLookup) -> bool
     }
 }
 
-// Whether each name finds what it is held to find.
+// Whether each look-up finds an equal definition in this scope, or still none.
 fn agrees(scope: &Scope, finds: &[NameLookup]) -> bool
     requires { AreRead scope.now }
     ensures { result ≡ list_all (λ f. same_number (scope_in scope.now (find_of f).0) (find_of f).1) finds.now }
@@ -72,7 +74,7 @@ fn agrees(scope: &Scope, finds: &[NameLookup]) -> bool
     true
 }
 
-// Whether a held piece may stand for a tree.
+// Whether a memo is valid for a tree: the trees are equal, and its look-ups find the same.
 fn is_match(scope: &Scope, tree: &Rc<HashedTree>, held: &Memo) -> bool
     requires { AreRead scope.now }
     ensures { result ≡ is_match (scope_in scope.now) tree.now.value held.now }
@@ -80,7 +82,7 @@ fn is_match(scope: &Scope, tree: &Rc<HashedTree>, held: &Memo) -> bool
     *tree == held.tree && agrees(scope, held.finds.as_slice())
 }
 
-// Whether the names of a held piece find what they are held to find.
+// Whether a memo is valid for its own tree: its look-ups find the same in this scope.
 fn is_valid(scope: &Scope, held: &Memo) -> bool
     requires { AreRead scope.now }
     ensures { result ≡ agrees (scope_in scope.now) (finds_of held.now) }
@@ -88,7 +90,7 @@ fn is_valid(scope: &Scope, held: &Memo) -> bool
     agrees(scope, held.finds.as_slice())
 }
 
-// The place of a held piece, where it may stand for the tree that it has.
+// The index of the linked memo, if it is valid for its own tree.
 fn linked_memo(scope: &Scope, held: &[Rc<Memo>], link: Option<usize>) -> Option<usize>
     requires read { AreRead scope.now }
     requires within { IfSome link (λ i. i < length held.now) }
@@ -105,7 +107,8 @@ fn linked_memo(scope: &Scope, held: &[Rc<Memo>], link: Option<usize>) -> Option<
     }
 }
 
-// The memo that is valid for a tree: of those with an equal tree the last one.
+// The index of the last memo that is valid for a tree. Only memos with an equal tree are looked
+// at, from the last one on.
 fn last_match(
     scope: &Scope,
     held: &[Rc<Memo>],
@@ -129,8 +132,8 @@ fn last_match(
     None
 }
 
-// The first memo that is valid for a tree. Hashes are compared first, and a memo is looked at only where its tree has the
-// hash of this one.
+// The index of the first memo that is valid for a tree. Hashes are compared first, so only memos
+// with the hash of this tree are looked at.
 fn first_match(
     scope: &Scope,
     held: &[Rc<Memo>],
@@ -153,7 +156,7 @@ fn first_match(
     None
 }
 
-// The trees of held pieces.
+// The index of the memos' trees.
 fn tree_index_of(alloc: Global, held: &[Rc<Memo>]) -> Result<TreeIndex, AllocError>
     ensures { IfOk result (λ chains. AreChained chains (map (λ q. tree_of (rc_value q)) held.now)) }
 {
@@ -164,34 +167,39 @@ fn tree_index_of(alloc: Global, held: &[Rc<Memo>]) -> Result<TreeIndex, AllocErr
     Ok(chains)
 }
 
-/// How held pieces are looked for by their trees: one after another the first times, and then in a table.
+/// The search for valid memos: through the whole list the first times, and then by an index of the
+/// trees.
 #[derive(Drop)]
 pub(crate) struct MemoIndex {
-    /// The place behind the held piece that matched last.
+    alloc: Global,
+    /// The index after the memo that was found last.
     pub next: usize,
+    // How many searches went through the whole list.
     times: usize,
+    // The index of the trees, once a search has needed it.
     chains: Option<TreeIndex>,
 }
 
-// How often held pieces are looked at one after another.
+// How many searches go through the whole list before the index is made.
 const TIMES: usize = 4;
 
 impl MemoIndex {
-    /// Nothing was looked for.
-    pub fn new() -> Self
+    /// Before the first search.
+    pub fn new(alloc: Global) -> Self
         ensures { (held : List (Rc Memo GhostGlobal)) → Finds result held }
     {
         MemoIndex {
+            alloc,
             next: 0,
             times: 0,
             chains: None,
         }
     }
 
-    // The place of a held piece that may stand for a tree, by the table, which is made at first.
+    // The index of a memo that is valid for a tree, by the index of the trees. The first call
+    // makes that index.
     fn find_in_table(
         &mut self,
-        alloc: Global,
         scope: &Scope,
         held: &[Rc<Memo>],
         tree: &Rc<HashedTree>,
@@ -206,16 +214,15 @@ impl MemoIndex {
         if let Some(chains) = &self.chains {
             return Ok(last_match(scope, held, chains, tree));
         }
-        let chains = tree_index_of(alloc, held)?;
+        let chains = tree_index_of(self.alloc, held)?;
         let found = last_match(scope, held, &chains, tree);
         self.chains = Some(chains);
         Ok(found)
     }
 
-    // The place of a held piece that may stand for a tree.
+    // The index of a memo that is valid for a tree, if there is one.
     fn find(
         &mut self,
-        alloc: Global,
         scope: &Scope,
         held: &[Rc<Memo>],
         hashes: &[u64],
@@ -233,14 +240,13 @@ impl MemoIndex {
             self.times += 1;
             return Ok(first_match(scope, held, hashes, tree));
         }
-        self.find_in_table(alloc, scope, held, tree)
+        self.find_in_table(scope, held, tree)
     }
 }
 
-/// The place of a held piece that may stand for a tree: the one that is known to have it is tried first, and then the one
-/// that is behind the last that was found.
+/// The index of a memo that is valid for a tree, if there is one. The linked memo is tried first,
+/// then the one after the memo that was found last, and then all. Out of memory is its only error.
 pub(crate) fn find_valid(
-    alloc: Global,
     scope: &Scope,
     held: &[Rc<Memo>],
     hashes: &[u64],
@@ -264,5 +270,5 @@ pub(crate) fn find_valid(
     if at < held.len() && is_match(scope, tree, held[at].as_ref()) {
         return Ok(Some(at));
     }
-    lookup.find(alloc, scope, held, hashes, tree)
+    lookup.find(scope, held, hashes, tree)
 }

@@ -1,10 +1,11 @@
-//! Links from what a text was read from to its memos and definitions.
+//! References from the pieces that a text was read from to their memos and definitions in the
+//! cache.
 
-/// Which of what is held a piece of a text was.
+/// Which entry of the cache a piece of a text has.
 #[derive(Clone, Copy)]
 pub(crate) enum MemoRef {
-    /// The plain piece of this index.
+    /// The memo at this index.
     Plain(usize),
-    /// The definition of this index.
+    /// The definition at this index.
     Definition(usize),
 }

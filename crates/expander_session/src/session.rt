@@ -1,4 +1,4 @@
-//! A session over a text.
+//! A session: a text that is edited and expanded, with a cache of the last text that was read.
 ghost use Rattle.std.specs.Prelude.{◌≡◌, ◌+◌, ◌-◌, ◌<◌, ◌≤◌, ◌^◌, ◌↔◌, All, Err, List, [], length, IfOk, IfErr, OnOk, OnErr, IsTrue, IsCharBoundary, None, map, slice_get, true};
 ghost use Rattle.std.specs.List.{list_any};
 ghost use Rattle.rustc_lexer.specs.Edit.{edited};
@@ -20,8 +20,9 @@ ghost use Rattle.expander_model.specs.World.{world};
 
 use crate::cache::Cache;
 use crate::emitter::{Emitter, finish};
-use crate::evaluate::{Evaluated, evaluate_pieces};
-use bridge::{LazyPrinted, ReadFault, SpanList};
+use crate::evaluate::{Evaluated, EvaluationContext, evaluate_pieces};
+use bridge::ReadFault;
+use bridge::parts::{LazyPrinted, SpanList};
 use expander_model::fault::{Fault, sort_faults};
 use expander_model::laws;
 use expander_reparse::parse::{Parsed, read_pieces};
@@ -34,7 +35,7 @@ use std::alloc::{AllocError, Global};
 use std::marker::Model;
 use tt_data::{Edition, TextRange, TtFault};
 
-/// The expansion of a text: what is printed, where it comes from, and the faults.
+/// The expansion of a text: the printed text, the origins of its tokens, and the faults.
 #[derive(Drop)]
 pub struct Expansion {
     printed: String,
@@ -67,25 +68,27 @@ impl Expansion {
         self.faults.as_slice()
     }
 
-    /// How many pieces were expanded: all that are no definitions, but for those that the last text that was read had as
-    /// well, with the same definitions for their names.
+    /// The number of cache misses: plain pieces that the last text that was read did not have with
+    /// equal look-ups. Before the first text that was read, every plain piece counts.
     pub fn expanded(&self) -> usize
         ensures { result ≡ self.now.expanded }
     {
         self.expanded
     }
 
-    /// How many tokens are printed.
+    /// The number of printed tokens.
     pub fn tokens(&self) -> usize
         ensures { result ≡ length self.now.origins }
     {
         self.origins.len()
     }
 
-    /// Where in the text the printed token of this number, from 0, comes from. A token that was written in the text, in a
-    /// call's argument too, comes from there, through however many calls it was carried. A token that a template gives
-    /// comes from the template, and what a `$` puts in of itself from this `$`. A doc comment's tokens come from the
-    /// comment.
+    /// The origin of the printed token of this index, from 0 and below `tokens()`: the bytes of
+    /// the present text that its span names.
+    ///
+    /// A token that was written in the text, in a call's argument too, comes from there, through
+    /// however many calls it was carried. A token of a transcriber comes from the transcriber, and
+    /// what a `$` gives by itself from this `$`. A doc comment's tokens come from the comment.
     pub fn origin(&self, i: usize) -> Option<TextRange>
         requires { i < length self.now.origins }
         ensures { result ≡ slice_get self.now.origins i }
@@ -96,7 +99,7 @@ impl Expansion {
         }
     }
 
-    /// An equal expansion. Refused where there is no memory for it.
+    /// An equal expansion. Refused if there is no memory for it.
     pub fn try_clone(&self, alloc: Global) -> Result<Expansion, AllocError>
         ensures { IfOk result (λ e. e ≡ self.now) }
     {
@@ -112,17 +115,18 @@ impl Expansion {
     }
 }
 
-/// What a text gives.
+/// What a text gives: its expansion, or its reading fault.
 #[derive(Drop)]
 pub enum Reply {
-    /// The text was read as trees and expanded.
+    /// The text was read and expanded.
     Read(Expansion),
     /// The text cannot be read as trees.
     Unread(ReadFault),
 }
 
-/// A text that may be edited, and what its calls are expanded by: a grammar, an edition, and how many levels of calls
-/// are expanded.
+/// A text that may be edited and expanded, with a grammar of fragments, an edition, and a number
+/// of levels. It caches what the last text that was read gave, so an expansion does again only
+/// what an edit can affect.
 #[derive(Drop)]
 pub struct Session<G: FragmentGrammar> {
     alloc: Global,
@@ -130,7 +134,7 @@ pub struct Session<G: FragmentGrammar> {
     grammar: G,
     edition: Edition,
     depth: u8,
-    // What is held of the last text that was read.
+    // What is cached of the last text that was read.
     memory: Cache,
 }
 
@@ -150,9 +154,10 @@ impl<G: FragmentGrammar> Model for Session<G> {
 }
 
 impl<G: FragmentGrammar + Drop> Session<G> {
-    /// A session over a text of at most `u32::MAX` bytes, whose words are of this edition. The grammar says what fragments
-    /// are, and `depth` how many levels of calls are expanded. Nothing is expanded yet. Refused where there is no memory
-    /// for a copy of the text and its tokens.
+    /// A session over a text of at most `u32::MAX` bytes, all of whose tokens are of this edition.
+    /// The grammar decides what fragments are, and `depth` how many levels of calls are expanded.
+    /// Nothing is expanded yet. Refused if there is no memory for a copy of the text and its
+    /// tokens.
     pub fn new(
         alloc: Global,
         text: &str,
@@ -189,15 +194,15 @@ impl<G: FragmentGrammar + Drop> Session<G> {
         self.text.text()
     }
 
-    /// Whether the byte `at` is at most the text's length, and begins a character or ends the text.
+    /// Whether the offset `at`, in bytes, is a character boundary of the text, its end included.
     pub fn is_boundary(&self, at: usize) -> bool
         ensures { IsTrue result ↔ IsCharBoundary self.now.text at }
     {
         self.text.is_boundary(at)
     }
 
-    /// Whether the bytes from `start` to `end` are in the text, and it has at most `u32::MAX` bytes once `replacement_len`
-    /// bytes stand in their place.
+    /// Whether the bytes from `start` to `end` are in the text, and it has at most `u32::MAX`
+    /// bytes after `replacement_len` bytes replace them.
     pub fn fits(&self, start: usize, end: usize, replacement_len: usize) -> bool
         ensures { IsTrue result ↔ ((start ≤ «end») × («end» ≤ length self.now.text)
             × (length self.now.text - («end» - start) + replacement_len < 2 ^ 32)) }
@@ -205,8 +210,9 @@ impl<G: FragmentGrammar + Drop> Session<G> {
         self.text.fits(start, end, replacement_len)
     }
 
-    /// Puts the replacement in place of the bytes from `start` to `end`, which are boundaries of the text and fit. Refused
-    /// where there is no memory for the text or its tokens, and then nothing changes.
+    /// Replaces the bytes from `start` to `end`. Both offsets are character boundaries, in order,
+    /// and the edit fits. Refused if there is no memory for the text or its tokens; then nothing
+    /// changes.
     pub fn edit(&mut self, start: usize, end: usize, replacement: &str) -> Result<(), AllocError>
         requires start { IsCharBoundary self.old.text start }
         requires stop { IsCharBoundary self.old.text «end» }
@@ -219,11 +225,17 @@ impl<G: FragmentGrammar + Drop> Session<G> {
         Ok(())
     }
 
-    /// The expansion of the text, or its reading fault. Refused where there is no memory left, where what is read of the
-    /// text has more than `u32::MAX` tokens, which doc comments alone can bring about, or where a call's result would
-    /// have so many, which is never where no level of calls is left; and where so many definitions would have been
-    /// numbered. Pieces that the last text that was read had as well are not expanded again. No more than `u32::MAX`
-    /// definitions are numbered in all, so a text for which that would be more has no `Read`: `numbers`.
+    /// The expansion of the present text, or its reading fault. The answer is that of a new
+    /// session over the same text, but for the count of cache misses. A refusal changes nothing.
+    ///
+    /// # Errors
+    ///
+    /// `Memory`. `Tokens`, only if what is read of the text has more than `u32::MAX` tokens, which
+    /// doc comments alone can bring about, or if a rule that is tried for a call puts out more.
+    /// `Numbers`, only if more than `u32::MAX` definitions would have got an id.
+    ///
+    /// At most `u32::MAX` definitions get an id in all, so a text for which they would be more has
+    /// no `Read`: `numbers`.
     pub fn expansion(&mut self) -> Result<Reply, Refusal>
         ensures reply { IfOk result (λ reply. Replies (layers_of G.answer self.old) self.old self.new reply) }
         ensures same { OnErr result (self.new ≡ self.old) }
@@ -242,41 +254,39 @@ impl<G: FragmentGrammar + Drop> Session<G> {
             Parsed::Fault(fault) => return Ok(Reply::Unread(fault)),
             Parsed::Pieces(pieces, sources) => (pieces, sources),
         };
-        let (expansion, memory) = expand_pieces(
+        let context = EvaluationContext {
             alloc,
-            &self.grammar,
-            self.edition,
-            self.depth,
-            &self.memory,
-            pieces.as_slice(),
-            sources,
-            text.len(),
-        )?;
+            grammar: &self.grammar,
+            depth: self.depth,
+            memory: &self.memory,
+        };
+        let (pieces, bytes) = (pieces.as_slice(), text.len());
+        let (expansion, memory) = expand_pieces(&context, self.edition, pieces, sources, bytes)?;
         self.memory = memory;
         Ok(Reply::Read(expansion))
     }
 }
 
-// The expansion of the pieces of a text of so many bytes over what is held, and what is held afterwards, with how they were
-// read.
+// The expansion of a text of `bytes` bytes with these pieces, by the cache of the last text, and
+// the new cache. `sources` is what the pieces were read from.
 fn expand_pieces<G: FragmentGrammar>(
-    alloc: Global,
-    grammar: &G,
+    context: &EvaluationContext<'_, G>,
     edition: Edition,
-    depth: u8,
-    memory: &Cache,
     pieces: &[Piece],
     sources: Segments,
     bytes: usize,
 ) -> Result<(Expansion, Cache), Refusal>
-    requires right { IsCache (world (G.answer grammar.now) edition) depth edition memory.now }
+    requires right { IsCache (world (G.answer context.now.grammar.now) edition)
+        context.now.depth edition context.now.memory.now }
     requires own { All IsOwnPiece pieces.now }
     requires sources { AreSegments sources }
     requires theirs { AreTheirs sources pieces.now }
-    requires met { AreMet memory.now.sources pieces.now }
-    ensures taken { IfOk result (λ r. EvaluatesText (G.answer grammar.now) edition depth memory.now (map piece_at pieces.now) r.0 r.1) }
-    ensures tokens { result ≡ Err Refusal.Tokens → list_any bursts (members_after (layers (G.answer grammar.now) edition) depth [] (map piece_at pieces.now)) ≡ true }
-    ensures numbers { result ≡ Err Refusal.Numbers → NeedsMore memory.now (map piece_at pieces.now) }
+    requires met { AreMet context.now.memory.now.sources pieces.now }
+    ensures taken { IfOk result (λ r. EvaluatesText (G.answer context.now.grammar.now) edition
+        context.now.depth context.now.memory.now (map piece_at pieces.now) r.0 r.1) }
+    ensures tokens { result ≡ Err Refusal.Tokens → list_any bursts (members_after
+        (layers (G.answer context.now.grammar.now) edition) context.now.depth [] (map piece_at pieces.now)) ≡ true }
+    ensures numbers { result ≡ Err Refusal.Numbers → NeedsMore context.now.memory.now (map piece_at pieces.now) }
 {
     laws::equal_pieces();
     let Evaluated {
@@ -287,7 +297,7 @@ fn expand_pieces<G: FragmentGrammar>(
         faults,
         expanded,
         links,
-    } = evaluate_pieces(alloc, grammar, edition, depth, memory, pieces, bytes)?;
+    } = evaluate_pieces(context, edition, pieces, bytes)?;
     let expansion = expansion_of(steps, faults, expanded)?;
     let memory = Cache {
         was_read: true,
@@ -302,7 +312,8 @@ fn expand_pieces<G: FragmentGrammar>(
     Ok((expansion, memory))
 }
 
-// What these steps print, the places of its tokens, and all faults in order.
+// The expansion that this output makes: its text, the origins of its tokens, and all faults in
+// order.
 fn expansion_of(
     steps: Emitter,
     mut faults: Vec<Fault>,

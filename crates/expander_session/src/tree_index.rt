@@ -1,4 +1,5 @@
-//! Finds the places of equal trees in a list. It decides speed alone: a search of the whole list answers the same.
+//! An index of equal trees in a list. It decides speed alone: a search of the whole list answers
+//! the same.
 ghost use Rattle.std.specs.Prelude.{◌≡◌, ◌∷◌, [], ◌++◌, ◌<◌, List, OnOk, length};
 ghost use Rattle.tt.specs.Tops.{Top};
 ghost use Rattle.expander_session.specs.TreeIndexes.{AreChained, last_place, place_before};
@@ -8,7 +9,8 @@ use std::alloc::{AllocError, Global};
 use std::collections::HashMap;
 use std::rc::Rc;
 
-/// A list of trees, in which the last place of each is found, and from each place the one before it that has an equal tree.
+/// An index of a list of trees. It gives the last index of each tree, and for each index the one
+/// before it with an equal tree.
 #[derive(Drop)]
 pub(crate) struct TreeIndex {
     last: HashMap<Rc<HashedTree>, usize>,
@@ -16,7 +18,7 @@ pub(crate) struct TreeIndex {
 }
 
 impl TreeIndex {
-    /// Of no tree.
+    /// The index of the empty list.
     #[tactic(auto, unfolding(crate::specs::TreeIndexes::place_in))]
     pub fn new(alloc: Global) -> Self
         ensures { AreChained result [] }
@@ -27,7 +29,7 @@ impl TreeIndex {
         }
     }
 
-    /// One more tree, at the end.
+    /// Adds a tree at the end of the list.
     pub fn push(&mut self, tree: Rc<HashedTree>) -> Result<(), AllocError>
         ensures { (trees : List Top) → AreChained self.old trees → OnOk result (AreChained self.new (trees ++ tree.value ∷ [])) }
     {
@@ -37,7 +39,7 @@ impl TreeIndex {
         Ok(())
     }
 
-    /// The last place of an equal tree.
+    /// The last index of an equal tree.
     #[tactic(auto, unfolding(crate::specs::TreeIndexes::place_in))]
     pub fn last(&self, tree: &Rc<HashedTree>) -> Option<usize>
         ensures { (trees : List Top) → AreChained self.now trees → result ≡ last_place trees tree.now.value }
@@ -45,7 +47,7 @@ impl TreeIndex {
         self.last.get(tree).copied()
     }
 
-    /// The last place before this one of a tree that is equal to the one here.
+    /// The last index before `at` of a tree that is equal to the one at `at`.
     pub fn before(&self, at: usize) -> Option<usize>
         requires { (trees : List Top) × AreChained self.now trees × (at < length trees) }
         ensures { (trees : List Top) → AreChained self.now trees → result ≡ place_before trees at }

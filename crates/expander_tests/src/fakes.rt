@@ -1,9 +1,10 @@
-//! Readers that give a text in pieces or fail, and writers that take little or fail.
+//! Readers that give a text in parts or fail, and writers that take little or fail.
 use std::alloc::Global;
 use std::io;
 use std::io::{Read, Write};
 
-/// Gives at most `most` bytes a call, and fails once it has given `cut` bytes. It knows whether it was asked after that.
+/// Gives at most `most` bytes a call, and fails after `cut` bytes. It knows whether it was called
+/// after that.
 #[derive(Drop)]
 pub(crate) struct Pieces<'a> {
     pub left: &'a [u8],
@@ -42,8 +43,8 @@ pub(crate) enum End {
     TakesNothing,
 }
 
-/// Takes at most `most` bytes a call, has room for `room` bytes, and counts its flushes, which may fail. It knows whether it was
-/// asked after a call that failed.
+/// Takes at most `most` bytes a call, has room for `room` bytes, and counts its flushes, which may
+/// fail. It knows whether it was called after a failure.
 #[derive(Drop)]
 pub(crate) struct Narrow {
     pub got: Vec<u8>,

@@ -1,11 +1,12 @@
-//! Other numbers of levels than the program `replay` has, and where printed tokens come from.
+//! Other numbers of levels than the program `replay` has, and the origins of printed tokens.
 use crate::rows::row_of;
+use expander::{Edition, FaultKind, Reply, Session, SmallGrammar};
 use replay_script::answer_script;
 use std::alloc::Global;
 use std::test::Fail;
 
-// A number of levels, a text, and what a script that asks for its expansion and origins is told. `⏎` ends a line of what is
-// told, `\n` one of the text.
+// A number of levels, a text, and the output of a script that asks for its expansion and origins.
+// `⏎` ends a line of the output, `\n` one of the text.
 const ROWS: &str = r#"
 2 ¦ macro_rules! i { ($a:tt) => { $a } }\nmacro_rules! y { () => { x } }\ni!{(y!())}\n ¦ edited⏎printed 6⏎( x )⏎expanded 1⏎origin 71 72⏎origin 62 63⏎origin 76 77⏎
 1 ¦ macro_rules! i { ($a:tt) => { $a } }\nmacro_rules! y { () => { x } }\ni!{(y!())}\n ¦ edited⏎printed 12⏎( y ! ( ) )⏎fault RecursionLimit 68 69⏎expanded 1⏎origin 71 72⏎origin 72 73⏎origin 73 74⏎origin 74 75⏎origin 75 76⏎origin 76 77⏎
@@ -25,7 +26,7 @@ const ROWS: &str = r#"
 128 ¦ /// d\nv ¦ edited⏎printed 19⏎# [ doc = " d" ] v⏎expanded 1⏎origin 0 5⏎origin 0 5⏎origin 0 5⏎origin 0 5⏎origin 0 5⏎origin 0 5⏎origin 6 7⏎
 "#;
 
-// What a script that expands a text is told, as a row has it.
+// The output of a script that expands a text, written as an example.
 fn told(alloc: Global, depth: u8, text: &str) -> Result<String, Fail> {
     let script = format!(in alloc; "origins\nedit 0 0 {text}\nexpand\n")?;
     let replayed = answer_script(alloc, script.as_str(), depth)?;
@@ -41,6 +42,29 @@ fn levels_and_origins(rt: HostRuntime) -> Result<(), Fail> {
                 assert!(rt; got.as_str() == want, "{row}: {got}");
             }
         }
+    }
+    Ok(())
+}
+
+// With ten levels the last call has 1,024 names, and stays.
+#[test]
+fn doubled(rt: HostRuntime) -> Result<(), Fail> {
+    let text = "macro_rules! w { ($($x:tt)*) => { w!{ $($x)* $($x)* } } }\nw!{a}\n";
+    let edition = Edition::Edition2024;
+    let mut session = Session::new(rt.alloc(), text, SmallGrammar, edition, 10)?;
+    let Reply::Read(found) = session.expansion()? else {
+        return Err(Fail::new("the text is not read"));
+    };
+    let names = " a".repeat(rt.alloc(), 1024)?;
+    let want = format!(in rt.alloc(); "w ! {{{names} }}\n")?;
+    assert!(rt; found.printed() == want.as_str() && found.tokens() == 1028);
+    let faults = format!(in rt.alloc(); "{:?}", found.faults())?;
+    assert!(rt; found.faults().len() == 1, "{faults}");
+    for fault in found.faults() {
+        assert!(rt;
+            fault.kind == FaultKind::RecursionLimit && fault.range.start == 58,
+            "{faults}"
+        );
     }
     Ok(())
 }

@@ -1,14 +1,20 @@
-//! Tests of the expander's public calls, in a crate of their own so that the expander is proved once.
+//! Tests of the expander's public calls, in a crate of their own so that the expander is proved
+//! once.
 //!
-//! Expected values were worked out by hand. What definitions alone decide stands as rows in the expander's `proofs/`, and
-//! what texts give with 128 levels in the stored run of the program `replay`. Here are other levels, other grammars, and
-//! calls that no script makes, with memory and without, and with readers and writers that fail.
+//! Expected values were worked out by hand. What definitions alone decide are worked examples in
+//! the expander's `proofs/`, and what texts give with 128 levels is in the stored run of the
+//! program `replay`. Here are other levels, other grammars, and calls that no script makes, with
+//! memory and without, and with readers and writers that fail.
 #![tactic(auto)]
 
 #[cfg(test)]
 mod fakes;
 #[cfg(test)]
 mod levels;
+#[cfg(test)]
+mod printed_again;
+#[cfg(test)]
+mod refused;
 #[cfg(test)]
 mod rows;
 #[cfg(test)]

@@ -1,4 +1,4 @@
-//! Rows of tables, in which `⏎` stands for the end of a line.
+//! The examples of tables, in which `⏎` is the end of a line.
 use std::alloc::{AllocError, Global};
 
 fn swapped(alloc: Global, text: &str, from: char, to: char) -> Result<String, AllocError> {
@@ -9,12 +9,12 @@ fn swapped(alloc: Global, text: &str, from: char, to: char) -> Result<String, Al
     Ok(swapped)
 }
 
-/// The text that a row stands for.
+/// The text of an example.
 pub(crate) fn text_of(alloc: Global, row: &str) -> Result<String, AllocError> {
     swapped(alloc, row, '⏎', '\n')
 }
 
-/// A text as a row has it.
+/// A text, written as an example.
 pub(crate) fn row_of(alloc: Global, text: &str) -> Result<String, AllocError> {
     swapped(alloc, text, '\n', '⏎')
 }

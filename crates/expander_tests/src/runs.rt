@@ -1,4 +1,4 @@
-//! Runs over readers and writers of which some fail.
+//! Runs over readers and writers, some of which fail.
 use crate::fakes::{End, Narrow, Pieces, whole, wide};
 use crate::rows::{row_of, text_of};
 use expander::{Status, Watched, run};
@@ -6,8 +6,9 @@ use std::alloc::Global;
 use std::io;
 use std::test::Fail;
 
-// Who fails, after how many bytes, and how; the text; the status, who was seen to fail, and how often the output and the
-// told faults were flushed; what is printed; what is told. `⏎` stands for the end of a line.
+// Who fails, after how many bytes, and how; the text; the status, who was seen to fail, and how
+// often the output and the fault lines were flushed; the printed text; the fault lines. `⏎` is the
+// end of a line.
 const ROWS: &str = r#"
 - 0 - ¦  ¦ 0 - 1 0 ¦  ¦
 - 0 - ¦ let x = y ;⏎ ¦ 0 - 1 0 ¦ let x = y ;⏎ ¦
@@ -39,12 +40,12 @@ fn kind_of(how: &str) -> io::ErrorKind {
     }
 }
 
-// How many bytes one of them gives or takes before it fails, if it is the one that fails.
+// How many bytes a reader or writer gives or takes before it fails, if it is the one that fails.
 fn room_of(name: &str, who: &str, room: usize) -> Option<usize> {
     if name == who { Some(room) } else { None }
 }
 
-// A writer that takes so many bytes a call.
+// A writer that takes at most `most` bytes a call.
 fn writer(alloc: Global, most: usize, room: Option<usize>, how: &str) -> Narrow {
     Narrow {
         most,
@@ -58,7 +59,7 @@ fn writer(alloc: Global, most: usize, room: Option<usize>, how: &str) -> Narrow 
     }
 }
 
-// How often writers were flushed and what they got, as a row has it.
+// How often writers were flushed and what they got, written as an example.
 fn got_by(alloc: Global, output: &Narrow, faults: &Narrow) -> Result<String, Fail> {
     let printed = row_of(alloc, str::from_utf8(output.got.as_slice())?)?;
     let told = row_of(alloc, str::from_utf8(faults.got.as_slice())?)?;
@@ -66,7 +67,8 @@ fn got_by(alloc: Global, output: &Narrow, faults: &Narrow) -> Result<String, Fai
     Ok(format!(in alloc; "{first} {second} ¦ {printed} ¦ {told}")?)
 }
 
-// What a run over bytes shows, as a row has it, where so many are read or written a call.
+// The results of a run over bytes, written as an example, where each call reads or writes at most
+// `most` bytes.
 fn shown(alloc: Global, fails: &str, input: &[u8], most: usize) -> Result<String, Fail> {
     let (who, rest) = fails.split_once(' ').unwrap_or(("-", "0 -"));
     let (room, how) = rest.split_once(' ').unwrap_or(("0", "-"));
@@ -123,14 +125,14 @@ fn runs(rt: HostRuntime) -> Result<(), Fail> {
     Ok(())
 }
 
-// A text with so many groups in one another around a `x`.
+// A text with `levels` nested groups around an `x`.
 fn nested(alloc: Global, before: &str, levels: usize, after: &str) -> Result<String, Fail> {
     let begun = "(".repeat(alloc, levels)?;
     let ended = ")".repeat(alloc, levels)?;
     Ok(format!(in alloc; "{before}{begun}x{ended}{after}")?)
 }
 
-// How many bytes are printed of it, without a fault.
+// How many bytes such a text prints, without a fault.
 fn printed(alloc: Global, before: &str, levels: usize, after: &str) -> Result<usize, Fail> {
     let text = nested(alloc, before, levels, after)?;
     let mut reader = Watched::new(Pieces {
@@ -160,17 +162,61 @@ fn deep_groups(rt: HostRuntime) -> Result<(), Fail> {
     Ok(())
 }
 
-// For runs of the tests in which a request for memory is refused; the writer's own may be the one.
+// Two lines that print one.
+const TWICE: &str = "macro_rules! twice { ($x:expr) => { $x + $x } }⏎let y = twice!(3);⏎";
+
+const PRINTED: &str = "let y = 3 + 3 ;";
+
+// A reader that fails at any byte, and a writer that fails or takes nothing after any.
 #[test]
-fn a_refused_run_writes_all_or_nothing(rt: HostRuntime) {
-    let mut reader = Watched::new(whole(b"let x = y ;\n"));
-    let mut writer = Watched::new(wide(rt.alloc()));
-    let mut faults = Watched::new(wide(rt.alloc()));
-    let status = run(rt.alloc(), &mut reader, &mut writer, &mut faults, 128);
-    let failed = writer.failed();
-    let writer = writer.into_inner();
-    let got = writer.got.as_slice();
-    let answered = status == Status(0) && got == b"let x = y ;\n".as_slice();
-    let refused = status == Status(1) && (got.is_empty() || failed);
-    assert!(rt; !reader.failed() && (answered || refused));
+fn every_end(rt: HostRuntime) -> Result<(), Fail> {
+    let alloc = rt.alloc();
+    let text = text_of(alloc, TWICE)?;
+    for at in 0..=text.len() {
+        let fails = format!(in alloc; "reader {at} Other")?;
+        let got = shown(alloc, fails.as_str(), text.as_bytes(), 5)?;
+        assert!(rt;
+            got.as_str() == "1 reader 0 1 ¦  ¦ read failed⏎",
+            "{fails}: {got}"
+        );
+    }
+    for at in 0..=PRINTED.len() {
+        let (front, _rest) = PRINTED.split_at_checked(at).unwrap_or(("", ""));
+        let want = format!(in alloc; "1 writer 0 1 ¦ {front} ¦ write failed⏎")?;
+        for how in ["Other", "nothing"] {
+            let fails = format!(in alloc; "writer {at} {how}")?;
+            let got = shown(alloc, fails.as_str(), text.as_bytes(), 4096)?;
+            assert!(rt; got.as_str() == want.as_str(), "{fails}: {got}");
+        }
+    }
+    Ok(())
+}
+
+// Texts, each front of which is run.
+const FRONTS: &str = r#"
+macro_rules! p { ($a:ident $b:tt) => { $b $a } }⏎p!{ x y }⏎
+x+/*c*/=y
+fn f<'a>(x: &'a T) {}
+/// a "b"⏎struct S;⏎
+macro_rules! e { () => { } }⏎e!{}⏎
+#![a]⏎macro_rules! e { () => { 1 } }⏎e!{}⏎
+macro_rules! e { ($($e:expr),* $(,)?) => { $($e);* ; } }⏎e!{ _, const { 1 }, }⏎
+é
+"#;
+
+#[test]
+fn every_front(rt: HostRuntime) -> Result<(), Fail> {
+    let alloc = rt.alloc();
+    for row in FRONTS.lines() {
+        let text = text_of(alloc, row)?;
+        for len in 0..=text.len() {
+            let (front, _rest) = text.as_bytes().split_at_checked(len).unwrap_or((b"", b""));
+            let got = shown(alloc, "- 0 -", front, 4096)?;
+            let is_ended = got.as_str().starts_with("0 - ") || got.as_str().starts_with("1 - ");
+            assert!(rt; is_ended, "{row} cut at {len}: {got}");
+        }
+    }
+    let got = shown(alloc, "- 0 -", b"\xc3", 4096)?;
+    assert!(rt; got.as_str() == "1 - 0 1 ¦  ¦ input is not UTF-8⏎", "{got}");
+    Ok(())
 }

@@ -1,4 +1,4 @@
-//! Sessions with a grammar that is no grammar of Rust, and counts how often it is asked.
+//! Sessions with a grammar that is not Rust's and counts its calls.
 use expander::{Answer, Command, Edition, Expansion, Reply, Session, replay};
 use fragment_grammar::FragmentGrammar;
 use std::alloc::Global;
@@ -7,8 +7,9 @@ use std::fmt::Write;
 use std::test::Fail;
 use test_grammars::{Counting, OneStep};
 
-// A text, an edit, what is printed then, the faults with their places, and how often the grammar is asked before and behind the
-// edit: once for each fragment, but for those in pieces that the text had before as well.
+// A text, an edit, the text printed afterwards, the faults with their ranges, and how often the
+// grammar is called before and after the edit: once for each fragment, except for those in pieces
+// that the text had before.
 const ROWS: &str = r"
 macro_rules! t { ($x:ty $y:ident) => { $x z } } t!{'a} ¦ 0 0  ¦ z ¦ Unspellable 48 49 ¦ 1
 macro_rules! t { ($x:path $y:ident) => { $x z } } t!{'a} ¦ 0 0  ¦ 'z ¦ ¦ 1
@@ -20,7 +21,7 @@ macro_rules! t { ($x:expr) => { $x } } t!{1} t!{2} ¦ 50 50 t!{4} ¦ 1 2 4 ¦ ¦
 macro_rules! s { ($($y:tt)*) => { x +$($y)* } } macro_rules! t { ($x:expr) => { $x } } s!{}t!{1} ¦ 0 0   ¦ x + 1 ¦ ¦ 1
 ";
 
-// The edit that words say.
+// The edit that words describe.
 fn edit_of(alloc: Global, words: &str) -> Result<Command, Fail> {
     if let Some((start, rest)) = words.split_once(' ') {
         if let Some((end, replacement)) = rest.split_once(' ') {
@@ -34,7 +35,8 @@ fn edit_of(alloc: Global, words: &str) -> Result<Command, Fail> {
     Err(Fail::new("no edit"))
 }
 
-// What the last answer prints, its faults, and how often the grammar was asked, as a row has it.
+// What the last answer prints, its faults, and how often the grammar was called, written as an
+// example.
 fn shown(alloc: Global, answers: &[Answer], calls: u64) -> Result<String, Fail> {
     let mut shown = String::new(alloc);
     if let Some(Answer::Reply(Reply::Read(found))) = answers.last() {
@@ -48,7 +50,7 @@ fn shown(alloc: Global, answers: &[Answer], calls: u64) -> Result<String, Fail> 
     Ok(shown)
 }
 
-// What a row says of a text and an edit.
+// The results for a text and an edit, written as an example.
 fn told(alloc: Global, text: &str, edit: &str) -> Result<String, Fail> {
     if text.len() >= 10_000_000 {
         return Err(Fail::new("a text is long"));
@@ -64,7 +66,7 @@ fn told(alloc: Global, text: &str, edit: &str) -> Result<String, Fail> {
     shown(alloc, answers.as_slice(), calls.get())
 }
 
-// Pieces that are held are not expanded again.
+// Cached pieces are not expanded again.
 #[test]
 fn the_grammar_is_asked_for_what_is_new(rt: HostRuntime) -> Result<(), Fail> {
     for row in ROWS.lines() {
@@ -78,7 +80,8 @@ fn the_grammar_is_asked_for_what_is_new(rt: HostRuntime) -> Result<(), Fail> {
     Ok(())
 }
 
-// What the session's text gives, asked for once more where that was refused, which leaves the session as it was.
+// The expansion of the session's text. A refused call leaves the session as it was, so it is made
+// once more.
 fn expanded<G: FragmentGrammar + Drop>(
     session: &mut Session<G>,
     calls: &Cell<u64>,
@@ -97,7 +100,7 @@ fn expanded<G: FragmentGrammar + Drop>(
     }
 }
 
-// Puts a replacement, once more where that was refused, which leaves the session as it was.
+// Edits the text. A refused call leaves the session as it was, so it is made once more.
 fn edit<G: FragmentGrammar + Drop>(
     session: &mut Session<G>,
     start: usize,
@@ -133,8 +136,8 @@ fn is_edited<G: FragmentGrammar + Drop>(
     Ok(bounds && fits && is_text && copy.printed() == "abc ;\n" && copy.tokens() == 2)
 }
 
-// An expansion that is refused between edits lets go of nothing that is held, so that afterwards the grammar is asked for
-// the changed piece alone.
+// An expansion that is refused between edits drops nothing from the cache. So afterwards the
+// grammar is called only for the changed piece.
 fn is_held<G: FragmentGrammar + Drop>(
     session: &mut Session<G>,
     calls: &Cell<u64>,
@@ -145,7 +148,7 @@ fn is_held<G: FragmentGrammar + Drop>(
     Ok(calls.get() == 1 && found.printed() == "1 ;\n3 ;\n" && found.expanded() == 1)
 }
 
-// Both, also in runs of the tests in which a request for memory is refused.
+// Both tests, also for runs in which a request for memory is refused.
 #[test]
 fn refused_calls_can_be_made_again(rt: HostRuntime) -> Result<(), Fail> {
     let calls = Cell::new(0);

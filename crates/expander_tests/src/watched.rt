@@ -6,7 +6,7 @@ use std::io;
 use std::io::{Read, Write};
 use std::test::Fail;
 
-// The kind of the error that a call has to answer.
+// The kind of the error that a call is expected to give.
 fn kind_of<T: Drop>(answer: io::Result<T>) -> Result<io::ErrorKind, Fail> {
     match answer {
         Ok(_) => Err(Fail::new("there is no error")),

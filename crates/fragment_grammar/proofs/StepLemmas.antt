@@ -1,4 +1,4 @@
--- Steps counted over the flat tokens: one for each token, and one more for each group.
+-- Steps of a grammar, counted over flat tokens: one for each token, and one more for each group.
 use Rattle.std.proofs.Common.{◌≡◌, ℕ, ◌+◌, ◌*◌, ◌^◌, ◌≤◌, ◌<◌, List, [], ◌∷◌, ◌++◌, length, refl, arith, length-append}
 use Rattle.tt_data.specs.declared.tree.Subtree.{Subtree}
 use Rattle.tt_data.specs.declared.tree.TokenTree.{TokenTree}

@@ -1,2 +1,2 @@
--- what a grammar's answer is counted in
+-- the unit in which a grammar's answer counts
 pub mod Steps

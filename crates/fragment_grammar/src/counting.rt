@@ -1,4 +1,4 @@
-// How many steps a list of trees has.
+//! Counts the steps of a list of trees.
 ghost use Rattle.std.specs.Prelude.{◌≡◌};
 ghost use Rattle.tt.specs.Views.{forest};
 ghost use Rattle.fragment_grammar.specs.Steps.{steps};

@@ -1,6 +1,7 @@
-//! What a grammar is asked about a list of trees, and what it answers.
+//! What a grammar of fragments is asked about a list of trees, and what it answers.
 //!
-//! A matcher of rules knows no grammar. It is handed one, and of that it knows what the trait promises.
+//! The matching algorithm depends on no particular grammar. It is given one, and of that it knows
+//! what the trait promises.
 #![tactic(auto)]
 
 mod counting;

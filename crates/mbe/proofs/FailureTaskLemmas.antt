@@ -1,4 +1,4 @@
--- How many tasks are left of a template that is filled on after faults.
+-- How many tasks remain when a transcriber is transcribed on after faults.
 use Rattle.std.proofs.Common.{◌≡◌, ap, ◌+◌, ◌<◌, List, ◌∷◌, arith}
 use Rattle.std.specs.Borrow.{Bor}
 use Rattle.std.specs.Prelude.{OnOk, Result, Ok, Err}

@@ -1,4 +1,4 @@
--- Going through rules for the first that fits.
+-- The search through rules for the first that fits.
 use Rattle.std.proofs.Common.{◌≡◌, refl, sym, ap, ◌∙◌, ℕ, zero, suc, ◌<◌, Bool, true, false, ◌||◌, List, [], ◌∷◌, map, length, get_or, drop, drop-cons, Option, Some, None, option_map, arith}
 use Rattle.std.specs.List.{list_any}
 use Rattle.tt.specs.Tops.{Top}

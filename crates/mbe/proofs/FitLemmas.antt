@@ -1,4 +1,4 @@
--- Which rule fits doesn't rest on places, and what it gives has the places changed alike.
+-- Which rule fits does not depend on spans, and its result has its spans mapped alike.
 use Rattle.std.proofs.Common.{◌≡◌, refl, ℕ, suc, List, [], ◌∷◌, map, Bool, Option, Some, None, option_map, option_and_then}
 use Rattle.tt_data.specs.Forest.{Forest, map_spans}
 use Rattle.tt_data.specs.declared.edition.Edition.{Edition}

@@ -1,4 +1,4 @@
--- What is read of a definition has no more rules than the definition has tokens.
+-- A definition has at most as many rules as tokens.
 use Rattle.std.proofs.Common.{◌≡◌, refl, ℕ, zero, suc, ◌+◌, ◌<◌, ◌≤◌, ◌^◌, Bool, true, false, List, [], ◌∷◌, length, Option, Some, None, Ok, Err, if◌then◌else◌, arith}
 use Rattle.std.specs.List.{list_any}
 use Rattle.tt_data.specs.Forest.{Forest, empty, leaf, group, size}

@@ -1,4 +1,4 @@
--- How much a template puts out doesn't rest on places.
+-- How many tokens a transcriber puts out does not depend on spans.
 use Rattle.std.proofs.Common.{◌≡◌, refl, ap, ◌∙◌, ℕ, zero, suc, ◌+◌, ◌-◌, List, [], ◌∷◌, ◌++◌, map, Bool, true, false, Option, Some, None, option_map}
 use Rattle.std.specs.Prelude.{◌||◌, nat_lt}
 use Rattle.tt.specs.Building.{most_tokens}

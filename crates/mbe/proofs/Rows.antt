@@ -1,4 +1,4 @@
--- Rows: which rule fits an argument and what it gives, by computation.
+-- Worked examples, by computation: which rule fits an argument, and what it gives.
 use Rattle.std.proofs.Common.{◌≡◌, refl, ℕ, zero, suc, ◌+◌, Bool, true, false, List, [], ◌∷◌, ◌++◌, Option, Some, None, option_map, codes, map}
 use Rattle.std.specs.Fmt.{digits}
 use Prim.Native.String.{String}

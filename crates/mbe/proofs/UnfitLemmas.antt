@@ -1,4 +1,4 @@
--- Going through rules for one of a style.
+-- The search through rules for one with a given style of call.
 use Rattle.std.proofs.Common.{◌≡◌, sym, ap, ◌∙◌, ℕ, zero, suc, ◌+◌, ◌<◌, true, false, ◌||◌, List, [], ◌∷◌, map, length, get_or, drop, drop-cons, Option, Some, None, option_map, IfSome, arith, rules}
 use Rattle.mbe_rules.specs.Ops.{rule_of}
 use Rattle.mbe_rules.specs.declared.macro_call_style.MacroCallStyle.{MacroCallStyle}

@@ -9,6 +9,6 @@ use Rattle.tt_data.specs.declared.span.Span.{Span}
 abbrev pub within : Delimiter → Forest → Top
 within d f = record { delimiter = d; inner = f }
 
--- no brackets, with both ends at one place
+-- no brackets, with both ends at one span
 abbrev pub no_brackets : Span → Delimiter
 no_brackets place = record { open_span = place; close_span = place; kind = Invisible }

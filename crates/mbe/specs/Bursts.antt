@@ -1,4 +1,4 @@
--- Calls that put out too much: a rule that is tried puts out more tokens than a tree may have, be it before a fault.
+-- Calls with too much output: a rule tried gives too many tokens for a tree, even before a fault.
 use Rattle.std.specs.Prelude.{ℕ, Bool, true, false, ◌||◌, nat_lt, List, [], ◌∷◌, Option, Some, None}
 use Rattle.tt.specs.Building.{most_tokens}
 use Rattle.tt_data.specs.Forest.{Forest}
@@ -12,18 +12,18 @@ use Rattle.mbe_matcher.specs.Grammar.{Grammar}
 use Rattle.mbe_transcriber.specs.Output.{output}
 use Rattle.mbe_matcher.specs.Readings.{Move, the_reading}
 
--- false where a rule fits, and else what is so of later ones
+-- false where a rule fits, and else what holds of later ones
 abbrev pub unless_fit : Option Forest → Bool → Bool
 unless_fit (Some f) later = false
 unless_fit None later = later
 
 module _ (is_identifier : List ℕ → Bool) (grammar : Grammar) (mark : Span → Span) where
-  -- a template puts out too much after a reading, if there is one
+  -- after a reading, if there is one, a transcriber gives more tokens than a tree may have
   abbrev pub template_bursts : Rule → Option (List Move) → Bool
   template_bursts r None = false
   template_bursts r (Some ms) = nat_lt most_tokens (output is_identifier most_rounds mark (bindings ms) r.template)
 
-  -- a rule does so, if it has this style
+  -- a rule of this style does so
   abbrev pub rule_bursts : MacroCallStyle → Rule → Forest → Bool
   rule_bursts style r argument =
       elim (same_style style r.style) [ true ↦ template_bursts r (the_reading grammar r.pattern argument) | false ↦ false ]

@@ -1,4 +1,5 @@
--- Fit: the first rule of a style that matches an argument, with what its template gives. (The Rust Reference, "Macros By Example".)
+-- Fit: the first rule that matches a call, and its result. (The Rust Reference, "Macros By
+-- Example".)
 use Rattle.std.specs.Prelude.{ℕ, suc, Bool, true, false, List, [], ◌∷◌, Option, Some, None, option_map, option_and_then}
 use Rattle.tt_data.specs.Forest.{Forest, map_spans}
 use Rattle.tt_data.specs.declared.span.Span.{Span}
@@ -11,7 +12,7 @@ use Rattle.mbe_transcriber.specs.Limits.{most_rounds}
 use Rattle.mbe_matcher.specs.Grammar.{Grammar}
 use Rattle.mbe_matcher.specs.Readings.{the_reading}
 
--- two styles of calls are one
+-- the two styles of calls are the same
 abbrev pub same_style : MacroCallStyle → MacroCallStyle → Bool
 same_style FnLike FnLike = true
 same_style Attr Attr = true
@@ -24,24 +25,24 @@ or_later n (Some f) later = Some (n, f)
 or_later n None later = later
 
 module _ (is_identifier : List ℕ → Bool) (grammar : Grammar) (mark : Span → Span) where
-  -- what one rule makes of an argument
+  -- what one rule gives for an argument
   abbrev pub rule_fit : Rule → Forest → Option Forest
   rule_fit r argument =
       option_and_then (λ ms. filled is_identifier most_rounds mark (bindings ms) r.template) (the_reading grammar r.pattern argument)
 
-  -- the same, if the rule has this style
+  -- what one rule gives for an argument, if the rule has this style
   abbrev pub styled_fit : MacroCallStyle → Rule → Forest → Option Forest
   styled_fit style r argument = elim (same_style style r.style) [ true ↦ rule_fit r argument | false ↦ None ]
 
-  -- the first of these rules that fits, of which the first has number n
+  -- the first of these rules that fits, where the first of them has index n
   abbrev pub fit_from : MacroCallStyle → Forest → ℕ → List Rule → Option (ℕ × Forest)
   fit_from style argument n [] = None
   fit_from style argument n (r ∷ rs) = or_later n (styled_fit style r argument) (fit_from style argument (suc n) rs)
 
-  -- the first of the rules that fits, by its number from 0, and what it gives
+  -- the first of the rules that fits, by its index from 0, and what it gives
   abbrev pub fit : List Rule → MacroCallStyle → Forest → Option (ℕ × Forest)
   fit rules style argument = fit_from style argument 0 rules
 
--- a fit with its places changed: the same rule, and its forest changed
+-- a fit under a span map: the same rule, with its forest mapped
 abbrev pub fit_with : (Span → Span) → Option (ℕ × Forest) → Option (ℕ × Forest)
 fit_with f = option_map (λ (r : ℕ × Forest). (r.0, map_spans f r.1))

@@ -3,11 +3,11 @@ pub mod Fit
 pub mod Kept
 pub mod Macros
 pub mod MacroEquality
--- what a call gives, and when it gives too much
+-- the result of a call, and when it has too much output
 pub mod Answers
 pub mod Unfit
 pub mod Bursts
--- the definitions of the crates below that these rest on
+-- the definitions of the crates below that these use
 pub use Rattle.mbe_matcher.specs.Grammar
 pub use Rattle.mbe_matcher.specs.Units
 pub use Rattle.mbe_matcher.specs.Fragments

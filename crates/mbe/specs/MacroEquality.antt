@@ -10,7 +10,7 @@ use Rattle.mbe_rules.specs.contracts.rules.RuleEq.TheImpl.Laws as rule_laws
 use Rattle.mbe.specs.Kept.{kept_fault, kept_list}
 use Rattle.mbe.specs.declared.declarative_macro.DeclarativeMacro.{DeclarativeMacro}
 
--- two are equal where their faults are, and their rules, one by one
+-- two are equal if their faults are, and their rules, one by one
 abbrev pub same_macro : DeclarativeMacro → DeclarativeMacro → Bool
 same_macro a b =
     option_eq of_fault.ghosts.eq (kept_fault a.kept) (kept_fault b.kept)

@@ -1,4 +1,4 @@
-//! What a call of a macro gives.
+//! Expands a call of a macro.
 ghost use Rattle.std.specs.Prelude.{◌≡◌, None, Some, Err, true, IfErr, IfOk, IfSome, IsOkUnless, MatchOption, option_map};
 ghost use Rattle.tt.specs.Views.{forest};
 ghost use Rattle.mbe.specs.Answers.{within, no_brackets};
@@ -20,16 +20,16 @@ use std::alloc::Global;
 use tt::{Delimiter, Span, TokenTreesView, TopSubtree, TtFault};
 
 impl DeclarativeMacro {
-    /// The first rule that fits a call with this argument, by its place among all rules, and what it
-    /// gives, inside the brackets `top`: none where no rule fits. Nothing is copied of the argument
-    /// but what the rule puts in. (The Rust Reference, "Macros By Example".)
+    /// The first rule that fits a call with this argument, by its index among all rules, and what
+    /// it gives inside the delimiters `top`. `None` if no rule fits. Of the argument only what the
+    /// rule transcribes is copied. (The Rust Reference, "Macros By Example".)
     ///
-    /// The macro is not broken, `err()` is none, and `marker`, which says where a template's tokens
-    /// stand in what is given, may be called on every place.
+    /// The macro has no fault: `err()` is `None`. `marker` gives the span of a transcriber's
+    /// token in the result, and may be called on every span.
     ///
     /// # Errors
     ///
-    /// `Memory`, or `Tokens` where a rule that is tried puts out more tokens than a tree may have, be it
+    /// `Memory`; or `Tokens` if a rule that is tried puts out more than `u32::MAX` tokens, be it
     /// before a fault.
     pub fn fit<G: FragmentGrammar, M: Fn(Span) -> Span>(
         &self,
@@ -63,18 +63,21 @@ impl DeclarativeMacro {
         }
     }
 
-    /// Expands a call. Where a rule fits it answers what the first that does gives, inside no brackets,
-    /// whose ends stand at `call_site`, with that rule's place among all rules and no error. Elsewhere
-    /// there is an error, the place of a rule of this style, and a tree inside no brackets either. Where
-    /// no rule has the style, there is no such place, the error is that none matches, at `call_site`, and
-    /// the tree is empty. (The Rust Reference, "Macros By Example".)
+    /// Expands a call. (The Rust Reference, "Macros By Example".)
     ///
-    /// The macro is not broken, `err()` is none, and `marker`, which says where a template's tokens
-    /// stand in what is given, may be called on every place.
+    /// If a rule fits, the value is what the first such rule gives, inside invisible delimiters at
+    /// `call_site`, with the rule's index among all rules, and there is no error.
+    ///
+    /// Else there is an error, the index of a rule of this style, and a tree inside such
+    /// delimiters. If no rule has the style, there is no index, the tree is empty, and the error
+    /// is `NoMatchingRule` at `call_site`.
+    ///
+    /// The macro has no fault: `err()` is `None`. `marker` gives the span of a transcriber's
+    /// token in the result, and may be called on every span.
     ///
     /// # Errors
     ///
-    /// `Memory`, or `Tokens` where a rule that is tried puts out more tokens than a tree may have, be it
+    /// `Memory`; or `Tokens` if a rule that is tried puts out more than `u32::MAX` tokens, be it
     /// before a fault.
     pub fn expand<G: FragmentGrammar, M: Fn(Span) -> Span>(
         &self,

@@ -1,4 +1,5 @@
-//! Laws of the definitions, for proofs above this crate. A call does nothing: it only states.
+//! Laws for the proofs of crates above. Calling a law does nothing: its contract is the
+//! statement.
 ghost use Rattle.std.specs.Prelude.{◌≡◌, ℕ, Bool, true, false, List, Option, Some, option_map, map};
 ghost use Rattle.tt_data.specs.Forest.{Forest, map_spans};
 ghost use Rattle.tt_data.specs.declared.edition.Edition.{Edition};
@@ -17,9 +18,8 @@ ghost use Rattle.mbe_matcher.specs.Readings.{Move, State, start, next, has_used_
 use mbe_rules::MacroCallStyle;
 use tt_data::{Edition, Span, SyntaxContext};
 
-/// Where the places of rules and of an argument change by a function that commutes with the marker,
-/// the same rule fits, and what it gives changes in its places alone. So it is of definitions, where
-/// no place comes into another edition.
+/// Under a span map that commutes with the marker, the same rule fits, and its result is mapped.
+/// So it is of definitions, if the map keeps each span's edition.
 pub fn fit_at_other_places()
     ensures rules { (f : Span → Span) (is_identifier : List ℕ → Bool) (grammar : Grammar) (mark : Span → Span) →
         ((s : Span) → f (mark s) ≡ mark (f s)) → (list : List Rule) (style : MacroCallStyle) (argument : Forest) →
@@ -37,7 +37,8 @@ pub fn fit_at_other_places()
         ≡ fit_with f (fit is_identifier grammar mark (macro_of edition arguments body).list style argument) }
 {}
 
-/// Nor does it hang on places whether a rule that is tried puts out more tokens than a tree may have.
+/// Nor does it depend on spans whether a rule that is tried puts out more tokens than a tree may
+/// have.
 pub fn bursts_at_other_places()
     ensures rules { (f : Span → Span) (is_identifier : List ℕ → Bool) (grammar : Grammar) (mark : Span → Span) →
         ((s : Span) → f (mark s) ≡ mark (f s)) → (list : List Rule) (style : MacroCallStyle) (argument : Forest) →
@@ -55,8 +56,9 @@ pub fn bursts_at_other_places()
         ≡ bursts is_identifier grammar mark (macro_of edition arguments body).list style argument }
 {}
 
-/// What is told as the reading of a pattern is a list of valid moves that uses up the argument, and no
-/// other list of moves does. Nowhere on the ways that begin so is a fragment taken, and something else too.
+/// The reading by a matcher is a list of valid moves that uses up the argument, and no other list
+/// of moves does. Nowhere on the ways that begin so is a fragment consumed on one and something
+/// else on another.
 pub fn only_reading()
     ensures { (grammar : Grammar) (pattern : Items) (argument : Forest) (moves : List Move) →
         has_empty_round pattern ≡ false → the_reading grammar pattern argument ≡ Some moves →

@@ -1,4 +1,4 @@
-//! Macros by example: definitions, and what their calls give.
+//! Macros by example: parses definitions and expands calls.
 #![tactic(auto)]
 
 mod declarative_macro;

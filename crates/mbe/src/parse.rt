@@ -1,4 +1,4 @@
-//! Reading a definition, its rules and faults, copies and equality.
+//! Parses a definition, and gives its rules, its fault, copies and equality.
 ghost use Rattle.std.specs.Prelude.{◌≡◌, ◌<◌, ◌^◌, IfOk, IsOkUnless, None, Some, length, map, option_map};
 ghost use Rattle.tt_data.specs.declared.edition.Edition.{Edition};
 ghost use Rattle.tt_data.specs.declared.span.SyntaxContext.{SyntaxContext};
@@ -29,7 +29,7 @@ fn copied(err: &ParseError) -> ParseError
 }
 
 impl DeclarativeMacro {
-    /// The macro without rules that is broken with this fault. It takes no memory.
+    /// A macro without rules that is invalid with this fault. It takes no memory.
     pub fn from_err(err: ParseError) -> DeclarativeMacro
         ensures { rules_of result ≡ no_rules (Some err) }
     {
@@ -38,14 +38,14 @@ impl DeclarativeMacro {
         }
     }
 
-    /// Reads `macro_rules! name { .. }`, whose braces are those of `tt`, as
+    /// Parses `macro_rules! name { .. }`, whose delimiters are those of `tt`, as
     /// [`mbe_rules::parse_macro_rules`] does.
     ///
-    /// `ctx_edition` answers the edition of the words of each of the two contexts.
+    /// `ctx_edition` answers the edition of the tokens of each of the two contexts.
     ///
     /// # Errors
     ///
-    /// `Memory` if memory is refused. It is the only error.
+    /// `Memory`, the only error.
     pub fn parse_macro_rules<F: Fn(SyntaxContext) -> Edition>(
         alloc: Global,
         tt: &TopSubtree,
@@ -77,14 +77,14 @@ impl DeclarativeMacro {
         })
     }
 
-    /// Reads `macro name { .. }`, whose braces are those of `body`, or with `args` the one rule of
-    /// `macro name(..) { .. }`, as [`mbe_rules::parse_macro2`] does.
+    /// Parses `macro name { .. }`, whose delimiters are those of `body`, or with `args` the one
+    /// rule of `macro name(..) { .. }`, as [`mbe_rules::parse_macro2`] does.
     ///
-    /// `ctx_edition` answers the edition of the words of each of the two contexts.
+    /// `ctx_edition` answers the edition of the tokens of each of the two contexts.
     ///
     /// # Errors
     ///
-    /// `Memory` if memory is refused. It is the only error.
+    /// `Memory`, the only error.
     pub fn parse_macro2<F: Fn(SyntaxContext) -> Edition>(
         alloc: Global,
         args: Option<&TopSubtree>,
@@ -118,7 +118,7 @@ impl DeclarativeMacro {
         })
     }
 
-    /// The first fault of the definition, with which the macro is broken, if there is one.
+    /// The first fault of the definition, which makes the macro invalid, if there is one.
     pub fn err(&self) -> Option<&ParseError>
         ensures { option_map (λ e. e.now) result ≡ (rules_of self.now).err }
     {
@@ -139,7 +139,7 @@ impl DeclarativeMacro {
         }
     }
 
-    // The numbers of the names that the rules' patterns begin with.
+    // The keys of the identifiers that the rules' matchers begin with.
     pub(crate) fn keys(&self) -> &[Option<u32>]
         ensures { result.now ≡ keys_of (rules_of self.now).list }
     {
@@ -149,25 +149,25 @@ impl DeclarativeMacro {
         }
     }
 
-    /// How many rules there are.
+    /// The number of rules.
     pub fn num_rules(&self) -> usize
         ensures { result ≡ length (rules_of self.now).list }
     {
         self.list().len()
     }
 
-    /// The styles of the rules. Where there are no rules, calls by name and `!` are taken to be meant.
+    /// The styles of the rules; without a rule, that of calls by name and `!`.
     pub fn rule_styles(&self) -> MacroCallStyles
         ensures { bits_of result ≡ styles_of (rules_of self.now).list }
     {
         styles(self.list())
     }
 
-    /// The same macro, separators and all, in vectors of its own.
+    /// An equal macro, separators the same in every part.
     ///
     /// # Errors
     ///
-    /// `Memory` if memory is refused. It is the only error.
+    /// `Memory`, the only error.
     pub fn try_clone(&self, alloc: Global) -> Result<DeclarativeMacro, TtFault>
         ensures same { IfOk result (λ m. rules_of m ≡ rules_of self.now) }
         ensures memory { IsOkUnless result fault.Memory }
@@ -210,8 +210,8 @@ fn same_fault(first: Option<&ParseError>, second: Option<&ParseError>) -> bool
     }
 }
 
-/// Macros are equal where their faults are, and the styles, patterns and templates of their rules,
-/// places included; but separators are equal by their texts.
+/// Macros are equal if their faults are, and their rules one by one, spans included; separators
+/// are equal by their texts.
 impl PartialEq for DeclarativeMacro {
     ghost use Rattle.std.specs.Cmp.{partial_equiv_from_equiv};
     ghost use Rattle.mbe.specs.MacroEquality.{same_macro, same_macro_equiv};

@@ -1,8 +1,8 @@
-//! Recovery: what is answered of a call that no rule matches. It is the rule that comes nearest, why it does not
-//! match, and what its template gives all the same.
+//! Recovery: the answer for a call that no rule fits. It names the rule that comes nearest and
+//! why it does not match, and gives what its transcriber can still produce.
 //!
-//! Of these answers it is promised that they come, unless memory is refused, that the rule has the style of the
-//! call, and that the tree stands inside no brackets. Calls that a rule matches do not come here.
+//! Proved of these answers: they are refused only if memory runs out, the rule has the style of
+//! the call, and the tree has invisible delimiters. A call that a rule fits does not come here.
 ghost use Rattle.std.specs.Prelude.{◌≡◌, ◌<◌, ◌^◌, ℕ, Bool, true, length, map, option_map, Some, IfOk, IfSome, IsOkUnless};
 ghost use Rattle.symbols.specs.declared.fault.TtFault.TheVariants as fault;
 ghost use Rattle.tt_data.specs.Forest.{empty};
@@ -27,7 +27,7 @@ use mbe_rules::{ExpandError, ExpandErrorKind, MacroCallStyle, MatchedArmIndex, O
 use std::alloc::Global;
 use tt::{DelimSpan, Delimiter, DelimiterKind, Span, TopSubtree, TopSubtreeBuilder, TtFault};
 
-// A rule, by its place among all rules, and how far its pattern reads the argument.
+// A rule, by its index among all rules, and how far its matcher reads the argument.
 #[derive(Drop)]
 struct Candidate<'a> {
     index: u32,
@@ -35,7 +35,7 @@ struct Candidate<'a> {
     attempt: Attempt<'a>,
 }
 
-// The nearer of two rules, the first where they are as near.
+// The nearer of two rules, or the first if they are equally near.
 fn nearer<'a>(first: Option<Candidate<'a>>, second: Candidate<'a>) -> Candidate<'a>
     ensures { (p : ℕ → Bool) → IfSome first.entry (λ c. p c.index ≡ true) → p second.entry.index ≡ true → p result.index ≡ true }
 {
@@ -85,7 +85,7 @@ fn nearest<'a, G: FragmentGrammar>(
     Ok(best)
 }
 
-// The tree that the template gives, inside no brackets, and its first fault.
+// The tree that the transcriber gives, in invisible delimiters, and its first fault.
 fn filled<M: Fn(Span) -> Span>(
     alloc: Global,
     values: &Values<'_>,
@@ -116,7 +116,7 @@ fn filled<M: Fn(Span) -> Span>(
 
 type Answer = (TopSubtree, MatchedArmIndex, ExpandError);
 
-// An empty tree, where no template gives one.
+// An empty tree, where no transcriber gives one.
 fn nothing(
     alloc: Global,
     index: MatchedArmIndex,
@@ -130,12 +130,12 @@ fn nothing(
     Ok((tree, index, error))
 }
 
-/// What is answered of a call that no rule of its style fits: a tree, the rule that it is of, and why that
-/// does not fit. The rule is the one that leaves the fewest tokens unread in the group where its reading
-/// stopped, then that which binds most, then the first.
+/// The answer for a call that no rule of its style fits: a tree, the index of the rule that it is
+/// from, and why that rule does not fit. The rule is the one that leaves the fewest tokens unread
+/// in the group where its reading stopped; then the one that binds most; then the first.
 ///
-/// Where no rule has the style, or the tree would have too many tokens, the tree is empty. `Memory` is its
-/// only error.
+/// The tree is empty if no rule has the style, or if it would have too many tokens. Its only
+/// error is out of memory.
 pub(crate) fn failure<G: FragmentGrammar, M: Fn(Span) -> Span>(
     alloc: Global,
     grammar: &G,
@@ -166,7 +166,7 @@ pub(crate) fn failure<G: FragmentGrammar, M: Fn(Span) -> Span>(
     answer(alloc, candidate, no_rule, marker, call_site)
 }
 
-// What the nearest rule gives.
+// The answer that the nearest rule gives.
 fn answer<M: Fn(Span) -> Span>(
     alloc: Global,
     candidate: Candidate<'_>,

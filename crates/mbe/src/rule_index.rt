@@ -1,4 +1,5 @@
-//! The first names of patterns as numbers, by which rules that begin with another name than an argument are passed at once.
+//! Keys of the identifiers that matchers begin with. Rules that begin with another identifier
+//! than the argument are passed at once. It decides speed alone.
 ghost use Rattle.std.specs.Prelude.{◌≡◌, [], true, map, IfOk};
 ghost use Rattle.tt.specs.Views.{forest};
 ghost use Rattle.tt_data.specs.Forest.{Forest};
@@ -13,7 +14,7 @@ use mbe_rules::{Op, Rule};
 use std::alloc::{AllocError, Global};
 use tt::TokenTreesView;
 
-// The number of a text.
+// The key of a text.
 fn key_of(text: &str) -> u32
     ensures { result ≡ key_from 0 text.now }
 {
@@ -24,7 +25,7 @@ fn key_of(text: &str) -> u32
     key
 }
 
-// The number of the name that an item is.
+// The key of the identifier that an op is, if it is one.
 fn key_of_op(op: &Op) -> Option<u32>
     ensures { (rest : Items) → result ≡ first_key (put_op op.now rest) }
 {
@@ -34,7 +35,7 @@ fn key_of_op(op: &Op) -> Option<u32>
     }
 }
 
-// The number of the name that a pattern begins with.
+// The key of the identifier that a matcher begins with, if it begins with one.
 fn first_key(pattern: &[Op]) -> Option<u32>
     ensures { result ≡ first_key (items_of pattern.now) }
 {
@@ -44,7 +45,7 @@ fn first_key(pattern: &[Op]) -> Option<u32>
     }
 }
 
-/// The numbers of the names that the patterns of rules begin with.
+/// The keys of the identifiers that the matchers of rules begin with.
 pub(crate) fn keys_of(alloc: Global, rules: &[Rule]) -> Result<Vec<Option<u32>>, AllocError>
     ensures { IfOk result (λ keys. keys.items ≡ keys_of (map rule_of rules.now)) }
 {
@@ -55,7 +56,7 @@ pub(crate) fn keys_of(alloc: Global, rules: &[Rule]) -> Result<Vec<Option<u32>>,
     Ok(keys)
 }
 
-/// The number of the name that an argument begins with.
+/// The key of the identifier that an argument begins with, if it begins with one.
 #[tactic(auto, using(crate::proofs::KeyLemmas::a_name_first, crate::proofs::KeyLemmas::no_name))]
 pub(crate) fn name_key(argument: TokenTreesView<'_>) -> Option<u32>
     ensures { result ≡ name_key (forest argument.entry) }
@@ -66,7 +67,8 @@ pub(crate) fn name_key(argument: TokenTreesView<'_>) -> Option<u32>
     }
 }
 
-// Whether a pattern with the one number begins with another name than an argument with the other.
+// Whether a matcher with the key `key` begins with another identifier than an argument with the
+// key `name`.
 #[inline(always)]
 #[tactic(auto, using(crate::proofs::KeyLemmas::no_name_here, crate::proofs::KeyLemmas::another_name))]
 fn is_other(key: Option<u32>, name: Option<u32>) -> bool
@@ -82,7 +84,7 @@ fn is_other(key: Option<u32>, name: Option<u32>) -> bool
     }
 }
 
-/// Whether a pattern cannot begin at an argument, of which these are the numbers.
+/// Whether a matcher cannot begin at an argument with these keys.
 #[inline(always)]
 pub(crate) fn is_passed(
     alloc: Global,

@@ -1,4 +1,4 @@
-//! The first rule that matches a call, and what its template gives.
+//! Selects the first rule that fits a call, and transcribes it.
 ghost use Rattle.std.specs.Prelude.{◌≡◌, ◌<◌, true, false, length, map, option_map, Err, IfErr, IfOk, IfSome};
 ghost use Rattle.std.specs.List.{list_any};
 ghost use Rattle.tt.specs.Views.{forest};
@@ -28,7 +28,7 @@ use mbe_transcriber::fill;
 use std::alloc::Global;
 use tt::{Delimiter, Span, TokenTreesView, TopSubtree, TopSubtreeBuilder, TtFault};
 
-// The tree of a template, filled with bindings: none where filling is at fault.
+// The tree that a transcriber gives with these bindings. `None` if it has a fault.
 fn filled<M: Fn(Span) -> Span>(
     alloc: Global,
     template: &[Op],
@@ -49,7 +49,7 @@ fn filled<M: Fn(Span) -> Span>(
     }
     match out.build() {
         Ok(tree) => Ok(Some(tree)),
-        // a group is open: so it is after no marker that is a function
+        // A group is open, which a marker that is a function rules out.
         Err(_) => Ok(None),
     }
 }
@@ -57,7 +57,7 @@ fn filled<M: Fn(Span) -> Span>(
 // How many bytes an arena has room for at first.
 const USUAL_ROOM: usize = 960;
 
-// What one rule makes of an argument that its pattern is read against: none where it does not fit.
+// What one rule gives for an argument that is read by its matcher. `None` if it does not fit.
 fn read_fit<G: FragmentGrammar, M: Fn(Span) -> Span>(
     alloc: Global,
     grammar: &G,
@@ -82,8 +82,9 @@ fn read_fit<G: FragmentGrammar, M: Fn(Span) -> Span>(
     filled(alloc, &rule.template, &bindings, marker, top)
 }
 
-// What one rule makes of an argument: none where it does not fit. Most do not for their first item. `key` and
-// `name` are the numbers of the names that the pattern and the argument begin with.
+// What one rule gives for an argument. `None` if it does not fit, which most show by their first
+// op. `key` and `name` are the keys of the identifiers that the matcher and the argument begin
+// with.
 fn rule_fit<G: FragmentGrammar, M: Fn(Span) -> Span>(
     alloc: Global,
     grammar: &G,
@@ -110,7 +111,7 @@ fn rule_fit<G: FragmentGrammar, M: Fn(Span) -> Span>(
     read_fit(alloc, grammar, rule, argument, marker, top)
 }
 
-// What one rule makes of an argument, if it has this style: none where it has another.
+// What one rule gives for an argument. `None` if it does not fit or has another style.
 fn styled_fit<G: FragmentGrammar, M: Fn(Span) -> Span>(
     alloc: Global,
     grammar: &G,
@@ -138,7 +139,7 @@ fn styled_fit<G: FragmentGrammar, M: Fn(Span) -> Span>(
     rule_fit(alloc, grammar, rule, key, argument, name, marker, top)
 }
 
-/// The first of these rules that fits, by its place among them, and what it gives.
+/// The first of these rules that fits, by its index among them, and what it gives.
 pub(crate) fn first_fit<G: FragmentGrammar, M: Fn(Span) -> Span>(
     alloc: Global,
     grammar: &G,

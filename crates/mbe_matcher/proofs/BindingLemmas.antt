@@ -1,4 +1,4 @@
--- The bindings of moves at other places are the bindings at other places.
+-- Bindings commute with a span map.
 use Rattle.std.proofs.Common.{◌≡◌, refl, ap, ◌∙◌, ℕ, zero, suc, ◌-◌, if◌then◌else◌, Bool, true, false, List, [], ◌∷◌, ◌++◌, map, Option, Some, None, option_map}
 use Rattle.std.proofs.lemmas.List.{map-append}
 use Rattle.tt_data.specs.Forest.{empty, map_spans}

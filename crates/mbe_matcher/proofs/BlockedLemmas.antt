@@ -1,4 +1,4 @@
--- A pattern that cannot begin has no reading.
+-- A matcher whose first op cannot match has no reading.
 use Rattle.std.proofs.Common.{◌≡◌, refl, ap, ◌∙◌, Bool, true, false, not, List, [], ◌∷◌, ◌++◌, None}
 use Rattle.std.specs.List.{flat_map}
 use Rattle.tt_data.specs.Forest.{Forest}

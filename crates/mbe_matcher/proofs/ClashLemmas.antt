@@ -1,4 +1,4 @@
--- Clashes among takings: the test decides the statement, and takings split by place
+-- Clashes among consuming moves: the test decides the statement, position by position.
 use Rattle.std.proofs.Common.{◌≡◌, ◌⊎◌, inl, inr, refl, sym, ap, subst, ◌∙◌, ℕ, ◌==◌, ◌||◌, Bool, true, false, [], ◌∷◌}
 use Rattle.std.specs.List.{list_any}
 use Rattle.std.proofs.lemmas.Bool.{eqb-true}

@@ -1,4 +1,4 @@
--- A clash, found in one pass
+-- A clash, found in one pass.
 use Rattle.std.proofs.Common.{◌≡◌, refl, ◌&&◌, ◌||◌, not, Bool, true, false, List, [], ◌∷◌}
 use Rattle.std.specs.List.{list_any}
 use Rattle.mbe_rules.specs.Text.{is_nil}

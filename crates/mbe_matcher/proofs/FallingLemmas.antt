@@ -1,4 +1,4 @@
--- Each move lowers a bound, in a pattern where no repetition without separator has a body that can match nothing
+-- Each move lowers a bound, if no repetition without separator has a body that can match nothing.
 use Rattle.std.proofs.Common.{◌≡◌, ◌⊎◌, inl, inr, refl, ap, ℕ, suc, ◌+◌, ◌*◌, ◌≤◌, ◌<◌, ◌||◌, ◌&&◌, Bool, true, false, List, [], ◌∷◌, Option, Some, None, if◌then◌else◌, arith}
 use Rattle.std.proofs.Math.Nat.{mul-le-mul_right}
 use Rattle.mbe_rules.specs.Items.{Separator, dollar, variable, Items, done, item, group_of, repetition, may_skip, can_match_nothing, has_empty_round}

@@ -1,4 +1,4 @@
--- What is gathered along the paths of a transition system whose moves lower a bound
+-- What is gathered along the paths of a transition system whose moves lower a bound.
 use Rattle.std.proofs.Common.{◌≡◌, ◌⊎◌, inl, inr, refl, ap, ◌∙◌, ℕ, zero, suc, ◌≤◌, ◌<◌, List, [], ◌∷◌, ◌++◌, arith}
 use Rattle.std.specs.List.{flat_map}
 use Rattle.mbe_matcher.specs.Paths.{IsAmong}

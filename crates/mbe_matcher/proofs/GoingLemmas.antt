@@ -1,4 +1,4 @@
--- A thread goes on by a round, or by rounds of one tree each.
+-- A thread that goes on by one iteration, or by iterations of one tree each.
 use Rattle.std.proofs.Common.{◌≡◌, refl, sym, ap, subst, ◌∙◌, ℕ, true, List, [], ◌∷◌, ◌++◌, Option, Some, reverse}
 use Rattle.std.specs.Borrow.{Bor}
 use Rattle.tt_data.specs.Forest.{Forest, empty}

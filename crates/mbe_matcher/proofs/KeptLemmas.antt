@@ -1,4 +1,4 @@
--- What is kept of some waiting paths leads to the same.
+-- Of paths that wait, the ones that are kept lead to the same.
 use Rattle.std.proofs.Common.{◌≡◌, inl, inr, refl, sym, ap, subst, ◌∙◌, ℕ, Bool, true, false, List, [], ◌∷◌, ◌++◌, map, append_assoc, append-nil, Option, Some, None}
 use Rattle.std.proofs.lemmas.List.{map-append}
 use Rattle.mbe_matcher.specs.Paths.{IsAmong}

@@ -1,4 +1,4 @@
--- What stands at the head of a list, by the first tree that is lent.
+-- The unit at the head of a list, by the first tree, borrowed.
 use Rattle.std.proofs.Common.{◌≡◌, refl, sym, ap, ℕ, Bool, true, false, List, [], ◌∷◌, Some, None, if◌then◌else◌}
 use Rattle.tt_data.specs.Forest.{Forest, empty, leaf, group}
 use Rattle.tt_data.specs.declared.delimiter.Delimiter.{Delimiter}

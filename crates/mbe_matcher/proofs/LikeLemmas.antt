@@ -1,4 +1,4 @@
--- Threads that are told by the same numbers are in the same state.
+-- Threads with the same numbers are in the same state.
 use Rattle.std.proofs.Common.{◌≡◌, refl, sym, ap, ◌∙◌, ℕ, suc, ◌&&◌, ◌==◌, Bool, true, false, List, [], ◌∷◌, map, length}
 use Rattle.std.proofs.lemmas.Bool.{eqb-true}
 use Rattle.mbe_rules.specs.Items.{Items}

@@ -1,4 +1,4 @@
--- The machine of the macro rules' patterns: the loop's lemmas at `next`
+-- The loop's lemmas for the transition system of matchers, whose moves are `next`.
 use Rattle.std.proofs.Common.{◌≡◌, inl, refl, ap, ◌∙◌, ℕ, zero, suc, ◌+◌, ◌*◌, ◌≤◌, ◌<◌, Bool, true, false, List, [], ◌∷◌, ◌++◌, map, Option, Some, None, if◌then◌else◌, arith}
 use Rattle.std.specs.List.{flat_map}
 use Rattle.mbe_matcher.proofs.PathListLemmas.{only-path}

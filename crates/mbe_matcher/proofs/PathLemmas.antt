@@ -1,4 +1,4 @@
--- The paths of a system whose states and moves are changed alike.
+-- The paths of two systems whose states and moves correspond.
 use Rattle.std.proofs.Common.{◌≡◌, refl, ap, ℕ, zero, suc, List, [], ◌∷◌, ◌++◌, map, flat_map, Bool, true, false, option_map}
 use Rattle.std.proofs.lemmas.List.{map-append}
 use Rattle.mbe_matcher.specs.Paths.{when, only, paths_from, takings_from}

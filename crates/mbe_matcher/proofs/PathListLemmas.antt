@@ -1,4 +1,4 @@
--- The list of readings holds exactly the readings of at most n moves
+-- The list of readings has exactly the readings of at most n moves.
 use Rattle.std.proofs.Common.{◌≡◌, ◌⊎◌, inl, inr, refl, sym, ap, subst, ◌∙◌, ℕ, zero, suc, ◌≤◌, ◌<◌, Bool, true, false, List, [], ◌∷◌, ◌++◌, map, length, arith}
 use Rattle.std.specs.List.{flat_map}
 use Rattle.std.proofs.Common.{Some}

@@ -1,4 +1,4 @@
--- Moves stay in the pattern, and a state in it is told by its numbers.
+-- Moves stay in the matcher, and numbers identify a state in it.
 use Rattle.std.proofs.Common.{◌≡◌, ◌⊎◌, inl, inr, refl, sym, ap, subst, ◌∙◌, ℕ, zero, suc, ◌≤◌, Bool, true, false, List, [], ◌∷◌, map, Option, Some, None, arith}
 use Rattle.tt_data.specs.Forest.{Forest}
 use Rattle.mbe_rules.specs.Items.{Separator, Item, word, puncts, lifetime, dollar, variable, Items, done, item, group_of, repetition, may_skip, variables}

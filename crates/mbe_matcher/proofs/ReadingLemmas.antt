@@ -1,4 +1,4 @@
--- The readings of a rule at other places are the readings at other places.
+-- Readings commute with a span map.
 use Rattle.std.proofs.Common.{◌≡◌, refl, ℕ, zero, suc, List, [], ◌∷◌, map, Bool, true, false, Option, Some, None, option_map, if◌then◌else◌}
 use Rattle.std.proofs.lemmas.List.{map-append}
 use Rattle.tt_data.specs.Forest.{Forest, map_spans}

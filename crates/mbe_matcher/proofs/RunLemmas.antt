@@ -1,4 +1,4 @@
--- Rounds of one variable, whose values are bound at once.
+-- Iterations of one metavariable, whose values are bound at once.
 use Rattle.std.proofs.Common.{◌≡◌, refl, sym, ap, ◌∙◌, ℕ, suc, Bool, true, false, List, [], ◌∷◌, Some, if◌then◌else◌, subst}
 use Rattle.std.proofs.lemmas.Slice.Eq.{bytes_eq-Decides}
 use Rattle.tt_data.specs.Forest.{Forest, empty, leaf, group}

@@ -1,4 +1,4 @@
--- Frames that threads share, and what is left to read.
+-- Frames that threads share, and the ops that remain.
 use Rattle.std.proofs.Common.{◌≡◌, refl, sym, ap, ◌∙◌, false, List, [], ◌∷◌, Option, Some, None, map}
 use Rattle.std.specs.Borrow.{Bor}
 use Rattle.std.specs.List.{slice_get}

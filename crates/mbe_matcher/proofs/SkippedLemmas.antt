@@ -1,4 +1,4 @@
--- Each variable of a repetition that is skipped stands for nothing.
+-- A repetition that is skipped binds each of its metavariables to nothing.
 use Rattle.std.proofs.Common.{◌≡◌, refl, sym, ap, ◌∙◌, ℕ, suc, ◌<◌, List, [], ◌∷◌, ◌++◌, length, get_or, drop, drop-cons, Option}
 use Rattle.std.specs.declared.vec.Vec.{Vec}
 use Rattle.std.specs.declared.alloc.Global.{Global}

@@ -1,4 +1,4 @@
--- The loop's lemmas at the states of a pattern: they are good, and they are in the pattern.
+-- The loop's lemmas at the states of a matcher: they are good, and they are in the matcher.
 use Rattle.std.proofs.Common.{◌≡◌, refl, ap, ℕ, suc, ◌<◌, true, false, List, [], arith}
 use Rattle.std.specs.List.{flat_map}
 use Rattle.tt_data.specs.Forest.{Forest}

@@ -1,4 +1,4 @@
--- The steps of a group.
+-- The steps that a grammar takes over a group.
 use Rattle.std.proofs.Common.{◌≡◌, ap, suc, ◌+◌, ◌∷◌, length-append}
 use Rattle.tt_data.specs.Forest.{Forest, group}
 use Rattle.tt_data.specs.Walk.{walk, closes}

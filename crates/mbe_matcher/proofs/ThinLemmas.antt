@@ -1,4 +1,4 @@
--- Where two paths wait in a state, a third in that state changes nothing of what the paths lead to.
+-- Where two paths wait in a state, a third one adds nothing.
 use Rattle.std.proofs.Common.{◌≡◌, refl, sym, ap, ◌∙◌, ℕ, ◌&&◌, ◌||◌, ◌==◌, Bool, true, false, List, [], ◌∷◌, ◌++◌, map, Option, None}
 use Rattle.std.specs.List.{flat_map, list_any}
 use Rattle.std.proofs.lemmas.List.Folds.{list_any-append}

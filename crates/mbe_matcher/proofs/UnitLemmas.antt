@@ -1,4 +1,4 @@
--- Places don't count for what stands at a place, nor for what a variable takes there.
+-- The unit at a position, and what a metavariable takes there, do not depend on spans.
 use Rattle.std.proofs.Common.{◌≡◌, refl, sym, ap, ◌∙◌, ℕ, zero, suc, ◌-◌, List, [], ◌∷◌, map}
 use Rattle.tt_data.specs.Forest.{Forest, empty, leaf, group, shape, map_spans}
 use Rattle.tt_data.specs.Spans.{delimiter_with}

@@ -1,4 +1,4 @@
--- Bindings as they come about, move by move.
+-- Bindings as they are collected, move by move.
 use Rattle.std.specs.Prelude.{ℕ, suc, List, [], ◌∷◌, map, reverse}
 use Rattle.tt_data.specs.Forest.{Forest, empty, leaf, group}
 use Rattle.mbe_rules.specs.declared.parser.MetaVarKind.{MetaVarKind}
@@ -10,16 +10,16 @@ use Rattle.mbe_matcher.specs.declared.bind.Collected.{Collected}
 use Rattle.mbe_matcher.specs.declared.bind.Open.{Open}
 use Rattle.mbe_matcher.specs.declared.bind.Run.{Run}
 
--- what is bound in the present round, and around each open repetition, inward out, together with the values of its finished rounds and their number
+-- bindings of the present iteration; around each open repetition, with its count of iterations
 abbrev pub Collecting : Type 0
 Collecting = Map × List (Map × ℕ)
 
--- a round has ended, and another begins
+-- an iteration has ended, and another begins
 abbrev pub round_ended : Map → List (Map × ℕ) → Collecting
 round_ended m [] = (m, [])
 round_ended m (o ∷ opens) = ([], (bind_round o.1 m o.0, suc o.1) ∷ opens)
 
--- the last round has ended
+-- the last iteration has ended
 abbrev pub repetition_ended : Map → List (Map × ℕ) → Collecting
 repetition_ended m [] = (m, [])
 repetition_ended m (o ∷ opens) = (bind_round o.1 m o.0, opens)
@@ -39,28 +39,28 @@ abbrev pub after_all : List Move → Collecting → Collecting
 after_all [] s = s
 after_all (m ∷ ms) s = after_all ms (after m s)
 
--- an open repetition that a program keeps
+-- an open repetition of the code
 abbrev pub open_of : Open → Map × ℕ
 open_of o = (map_of o.around, o.rounds)
 
--- open repetitions, of which the innermost stands last
+-- open repetitions, the innermost last
 abbrev pub opens_of : List Open → List (Map × ℕ)
 opens_of os = map open_of (reverse os)
 
--- what a program has collected
+-- what the code has collected
 abbrev pub collected_of : Collected → Collecting
 collected_of c = (map_of c.here, opens_of c.opens.items)
 
--- values of rounds, and that of the round that goes on, with its number
+-- values of iterations, and that of the iteration that goes on, with its index
 abbrev pub Running : Type 0
 Running = Values × Binding × ℕ
 
--- for each of these trees the round ends, and the tree is the value of the next
+-- for each of these trees the iteration ends, and the tree is the value of the next one
 abbrev pub run_through : MetaVarKind → Forest → Running → Running
 run_through k empty x = x
 run_through k (leaf l rest) x = run_through k rest (value_put x.2 x.1 x.0, fragment k (leaf l empty), suc x.2)
 run_through k (group d inner rest) x = run_through k rest (value_put x.2 x.1 x.0, fragment k (group d inner empty), suc x.2)
 
--- what a program holds of them
+-- what the code has of them
 abbrev pub run_of : Run → Running
 run_of x = (values_of x.values.items, standing_for x.last, x.number)

@@ -1,4 +1,4 @@
--- What a variable of each kind takes. (The Rust Reference, "Macros By Example": metavariables.)
+-- What a metavariable of each kind consumes. (The Rust Reference, "Macros By Example".)
 use Rattle.std.specs.Prelude.{ℕ, suc, Bool, true, false, ◌&&◌, ◌||◌, Option, Some, None, if◌then◌else◌}
 use Rattle.tt_data.specs.Forest.{Forest, empty, leaf}
 use Rattle.tt_data.specs.declared.leaf.Ident.{Ident}
@@ -32,7 +32,7 @@ abbrev pub after_minus : Option ℕ → Option ℕ
 after_minus (Some n) = Some (suc n)
 after_minus None = None
 
--- the same, perhaps with a `-` before it
+-- a literal, `true` or `false`, perhaps with a `-` before it
 abbrev pub literal_trees : Forest → Option ℕ
 literal_trees (leaf (as_leaf.Punct p) rest) = if is_char "-" p then after_minus (unsigned_trees rest) else None
 literal_trees f = unsigned_trees f
@@ -49,21 +49,21 @@ abbrev pub is_refused : Forest → Bool
 is_refused (leaf (as_leaf.Ident i) rest) = is_word "let" i
 is_refused _ = false
 
--- not raw
+-- an identifier that is not raw
 abbrev pub is_plain : Ident → Bool
 is_plain i = elim i.is_raw [ is_raw.No ↦ true | is_raw.Yes ↦ false ]
 
--- nor one of the editions before 2024
+-- no expression of the editions before 2024 begins so
 abbrev pub is_refused_2021 : Forest → Bool
 is_refused_2021 (leaf (as_leaf.Ident i) rest) = is_word "let" i || (is_plain i && (is_word "_" i || is_word "const" i))
 is_refused_2021 _ = false
 
--- none where it is refused
+-- none if it is refused
 abbrev pub unless_refused : Bool → Option ℕ → Option ℕ
 unless_refused true n = None
 unless_refused false n = n
 
--- how many trees a variable of a kind takes at the head of a list, if any; only a `vis` may take none
+-- how many trees a metavariable consumes at the front of a list, if any; only `vis` may take none
 abbrev pub taken : Grammar → MetaVarKind → Forest → Option ℕ
 taken grammar kind.Ident f = ident_trees f
 taken grammar kind.Tt f = tree_trees f

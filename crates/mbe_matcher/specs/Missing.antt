@@ -1,4 +1,4 @@
--- Errors that tell that a fragment is missing.
+-- The errors for missing fragments.
 use Rattle.std.specs.Prelude.{ℕ, List, Option, Some, None, codes, if◌then◌else◌}
 use Rattle.tt.specs.Elements.{first_place}
 use Rattle.tt_data.specs.Forest.{Forest}
@@ -10,7 +10,7 @@ use Rattle.fragment_grammar.specs.declared.fragment.Prefix.{Prefix}
 use Rattle.fragment_grammar.specs.declared.fragment.PrefixEntryPoint.{PrefixEntryPoint}
 use Rattle.fragment_grammar.specs.declared.fragment.PrefixEntryPoint.TheVariants as entry
 
--- what is told where a fragment of a kind is missing
+-- the text of the error where a fragment of a kind is missing
 abbrev pub missing_text : PrefixEntryPoint → List ℕ
 missing_text entry.Vis = codes "expected Vis"
 missing_text entry.Block = codes "expected Block"
@@ -23,15 +23,15 @@ missing_text entry.Path = codes "expected Path"
 missing_text entry.Item = codes "expected Item"
 missing_text entry.MetaItem = codes "expected MetaItem"
 
--- a place, or else the end
+-- a span, or else the end
 abbrev pub place_or_end : Span → Option Span → Span
 place_or_end end None = end
 place_or_end end (Some place) = place
 
--- the error that a fragment of a kind is missing at the head of a list with this end
+-- the error that a fragment of a kind is missing at the front of a list with this end
 abbrev pub missing : PrefixEntryPoint → Forest → Span → Span × ExpandErrorKind
 missing k f end = (place_or_end end (first_place f), BindingError (missing_text k))
 
--- the same, where what a grammar takes is no fragment
+-- the error if what a grammar consumes is no fragment
 abbrev pub missing_at : PrefixEntryPoint → Forest → Span → Prefix → Option (Span × ExpandErrorKind)
 missing_at k f end p = if is_no_fragment f p then Some (missing k f end) else None

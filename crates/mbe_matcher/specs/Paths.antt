@@ -1,4 +1,4 @@
--- The paths of a system of states, of which each offers some moves: M are the moves, S the states.
+-- The paths of a system of states that each offer some moves: M are the moves, S the states.
 use Rattle.std.specs.Prelude.{◌≡◌, ◌⊎◌, ℕ, suc, zero, Bool, true, false, List, [], ◌∷◌, ◌++◌, map, Option, Some, None, ◌==◌, not, flat_map}
 use Rattle.std.specs.List.{list_any}
 use Rattle.mbe_rules.specs.Text.{is_nil}
@@ -18,11 +18,11 @@ abbrev pub only : {A : Type 0} → List A → Option A
 only (a ∷ []) = Some a
 only _ = None
 
--- what is taken, place by place: the steps left before it, and whether it is a fragment
+-- what is consumed, position by position: the steps left before it, and whether it is a fragment
 abbrev pub Takings : Type 0
 Takings = List (ℕ × Bool)
 
--- those at one place
+-- what is consumed at one position
 abbrev pub takings_at : ℕ → Takings → List Bool
 takings_at q found = flat_map (λ m. when (m.0 == q) m.1) found
 
@@ -32,11 +32,11 @@ clash [] = false
 clash (true ∷ others) = not (is_nil others)
 clash (false ∷ others) = list_any (λ b. b) others
 
--- at some place a fragment is taken, and something else too
+-- at some position a fragment is consumed, and something else too
 abbrev pub HasClash : Takings → Type 0
 HasClash found = (q : ℕ) × (clash (takings_at q found) ≡ true)
 
--- the same, as a test
+-- a test for such a position
 abbrev pub has_clash : Takings → Bool
 has_clash found = list_any (λ m. clash (takings_at m.0 found)) found
 
@@ -51,7 +51,7 @@ module _ {M S : Type 0} (step : S → List (M × S)) where
   paths_from ends zero s = when (ends s) []
   paths_from ends (suc n) s = when (ends s) [] ++ flat_map (λ c. map (λ ms. c.0 ∷ ms) (paths_from ends n c.1)) (step s)
 
-  -- all that paths of at most n moves take, each with the steps left before it
+  -- all that paths of at most n moves consume, each with the steps left before it
   abbrev pub takings_from : (M → Bool) → (M → Bool) → (S → ℕ) → ℕ → S → Takings
   takings_from takes is_fragment left zero s = []
   takings_from takes is_fragment left (suc n) s =

@@ -1,4 +1,4 @@
--- Rounds of one variable, where no other way leads on
+-- Iterations of one metavariable, where there is no other way on
 use Rattle.std.specs.Prelude.{◌≡◌, ℕ, true, List, [], ◌∷◌, map, Some, None}
 use Rattle.tt_data.specs.Forest.{Forest, empty, joined}
 use Rattle.tt_data.specs.declared.span.Span.{Span}
@@ -18,43 +18,43 @@ use Rattle.mbe_matcher.specs.declared.thread.Frame.TheVariants.{InRound}
 use Rattle.mbe_matcher.specs.declared.thread.Round.{Round}
 use Rattle.mbe_matcher.specs.declared.thread.Thread.{Thread}
 
--- in a round of one variable, without separator, after whose last round no items come
+-- in an iteration of one metavariable, without separator, with no ops after the repetition
 abbrev pub lone : List ℕ → MetaVarKind → Span → RepeatKind → Frame
 lone n k s op = in_round (item (dollar (variable n (Some k)) s) done) None op done
 
--- such a round may be followed by another
+-- such an iteration may be followed by another
 abbrev pub IsLone : Round → List ℕ → MetaVarKind → Type 0
 IsLone x n k = (s : Span) × (frame_of (InRound x) ≡ lone n k s x.kind) × (may_repeat x.kind ≡ true)
 
--- what goes on after a list of items goes on at an end alone, of a group or of the argument
+-- what comes after a list of ops is an end, of a group or of the argument
 abbrev pub IsShut : List Frame → Type 0
 IsShut [] = Unit {0}
 IsShut (in_group after ∷ fs) = Unit {0}
 IsShut (in_round body sep op after ∷ fs) = ⊥
 IsShut (parted body sep op after ∷ fs) = ⊥
 
--- such a round has ended, and only another leads on, but at an end
+-- such an iteration has ended, and only another leads on, unless an end is here
 abbrev pub HasLone : Items → List Frame → List ℕ → MetaVarKind → Type 0
 HasLone items frames n k =
     (items ≡ done) × ((s : Span) × (op : RepeatKind) × (fs : List Frame) × (frames ≡ lone n k s op ∷ fs) × (may_repeat op ≡ true) × IsShut fs)
 
--- the moves that lead to this state are gone on with: then this is all that waits
+-- exactly this path waits once the moves that lead to this state go on
 abbrev pub WaitsAfter : Grammar → List r.Move → State → Waits → Type 0
 WaitsAfter gr ms s w = (N : ℕ) → Good N s → map (prefixed ms) (settled_at gr s) ≡ w ∷ []
 
--- all that waits after a thread is settled is this
+-- exactly this path waits after a thread is settled
 abbrev pub WaitsAlone : Grammar → u.Place → Thread → d.Waiting → Type 0
 WaitsAlone gr p t w = WaitsAfter gr (moves_of t.moves) (state_of t p) (waiting_of p w)
 
--- from paths that wait at a place, those that wait where a path that takes a fragment was alone and one alone waits after it, any
--- number of times
+-- paths that wait, reached from others that wait: any number of times, one path that consumes a
+-- fragment was alone, and exactly one waits after it
 pub data Follows (gr : Grammar) (p : u.Place) (ws : List Waits) : u.Place → List Waits → Type 0 where
   stays : Follows gr p ws p ws
   goes_on : {q : u.Place} {ms : List r.Move} {s : State} {w : Waits} → Follows gr p ws q (pending ms true s ∷ []) → WaitsAfter gr ms s w →
       Follows gr p ws (place_of s) (w ∷ [])
 
--- at the head of a list, one after another, these trees are a fragment each; with the trees that the last of them begins, and those
--- after it
+-- at the front of a list, these trees are each a fragment, one after another; then come the trees
+-- from the last of them on, and those after it
 pub data AreSingle (gr : Grammar) (k : MetaVarKind) (f : Forest) : Forest → Forest → Forest → Type 0 where
   single : (f ≡ empty → ⊥) → taken gr k f ≡ Some 1 → AreSingle gr k f (before 1 f) f (past 1 f)
   one_more : {ts last rest : Forest} → AreSingle gr k f ts last rest → (rest ≡ empty → ⊥) → taken gr k rest ≡ Some 1 →

@@ -1,4 +1,4 @@
--- The paths that wait at a place, where two of a sort stand for all of it.
+-- The paths that wait at a position, where at most two of a sort are kept.
 use Rattle.std.specs.Prelude.{◌≡◌, ◌⊎◌, ℕ, zero, suc, ◌+◌, ◌*◌, Bool, true, false, List, [], ◌∷◌, ◌++◌, map, reverse, sum_by, Option, Some, None, if◌then◌else◌}
 use Rattle.mbe_rules.specs.Items.{Items}
 use Rattle.mbe_matcher.specs.Grammar.{Grammar}
@@ -16,41 +16,41 @@ use Rattle.mbe_matcher.specs.declared.matcher.SettleTask.TheVariants.{GoOn, Note
 
 -- ---- what is kept
 
--- an element stands twice in a list
+-- an element occurs twice in a list
 abbrev pub IsTwice : {A : Type 0} → A → List A → Type 0
 IsTwice x [] = ⊥
 IsTwice x (y ∷ ys) = ((y ≡ x) × IsAmong x ys) ⊎ IsTwice x ys
 
--- once, or twice
+-- it occurs once, or twice
 abbrev pub Stands : {A : Type 0} → Bool → A → List A → Type 0
 Stands true x xs = IsTwice x xs
 Stands false x xs = IsAmong x xs
 
 module _ {M S : Type 0} where
-  -- what a path waits with, its moves aside
+  -- what a path waits with, without its moves
   abbrev pub sort_of : Waiting M S → Option (Bool × S)
   sort_of (ended ms) = None
   sort_of (pending ms b t) = Some (b, t)
 
-  -- the same of all
+  -- what all paths wait with, without their moves
   abbrev pub sorts : List (Waiting M S) → List (Option (Bool × S))
   sorts ws = map sort_of ws
 
-  -- what is kept of all that come after some: what isn't is of a sort that two before it have
+  -- what is kept of all after some: a path that is dropped is of a sort that two before it have
   abbrev pub IsKept : (before all kept : List (Waiting M S)) → Type 0
   IsKept before [] kept = kept ≡ []
   IsKept before (w ∷ all) kept =
       ((rest : List (Waiting M S)) × (kept ≡ w ∷ rest) × IsKept (before ++ (w ∷ [])) all rest)
       ⊎ (IsTwice (sort_of w) (sorts before) × IsKept (before ++ (w ∷ [])) all kept)
 
--- ---- what is left to do
+-- ---- the tasks that are left
 
--- how many tasks come at most of a state from which at most e moves in a row take nothing
+-- how many tasks come at most of a state from which at most e moves in a row consume nothing
 abbrev pub most_tasks : ℕ → ℕ
 most_tasks zero = 4
 most_tasks (suc e) = 2 * most_tasks e + 2
 
--- a state in which no repetition goes round without end
+-- a state in which no repetition iterates without end
 abbrev pub IsGood : r.State → Type 0
 IsGood s = (N : ℕ) × Good N s
 
@@ -63,21 +63,21 @@ module _ (p : u.Place) where
   abbrev pub tasks_of_all : List SettleTask → ℕ
   tasks_of_all ts = sum_by tasks_of ts
 
-  -- a choice whose move takes nothing leads to a good state
+  -- a choice whose move consumes nothing leads to a good state
   abbrev pub HasEnd : SettleTask → Type 0
   HasEnd (Note x) = Unit {0}
   HasEnd (GoOn c) = is_some_taken c.taken ≡ false → IsGood (state_of c.thread p)
 
--- the tasks of a choice that may not be there
+-- the task of a choice, if there is one
 abbrev pub planned : Option Choice → List SettleTask
 planned None = []
 planned (Some c) = GoOn c ∷ []
 
--- a state of the pattern, in which no repetition goes round without end
+-- a state of the matcher, in which no repetition iterates without end
 abbrev pub IsSound : Items → r.State → Type 0
 IsSound pattern s = Good (r.room pattern) s × IsIn pattern s
 
--- a choice whose move takes nothing leads to such a state
+-- a choice whose move consumes nothing leads to such a state
 abbrev pub IsSoundChoice : Items → u.Place → Choice → Type 0
 IsSoundChoice pattern p c = is_some_taken c.taken ≡ false → IsSound pattern (state_of c.thread p)
 
@@ -87,7 +87,7 @@ IsSoundAt pattern (ended ms) = Unit {0}
 IsSoundAt pattern (pending ms b s) = IsSound pattern s
 
 module _ (gr : Grammar) (pattern : Items) (p : u.Place) where
-  -- all that waits after a state of the pattern is of these sorts, twice where it was settled twice
+  -- all that waits after a state of the matcher is of these sorts, twice if it was settled twice
   abbrev pub IsCovered : List (Option (Bool × r.State)) → Seen → Type 0
   IsCovered found x =
       IsIn pattern (state_of x.thread p)
@@ -99,7 +99,7 @@ module _ (gr : Grammar) (pattern : Items) (p : u.Place) where
   IsDue found (GoOn c ∷ ts) all = IsSoundChoice pattern p c × IsDue (found ++ contributes gr (made_of p c)) ts all
   IsDue found (Note x ∷ ts) all = IsCovered (sorts found) x × IsDue found ts all
 
-  -- with the threads that wait, the states that were settled and the tasks that are left, the last one next, all paths will be found
+  -- waiting threads, settled states and tasks left, the last one next, lead to all these paths
   abbrev pub Leads : List Waits → List d.Waiting → List Seen → List SettleTask → Type 0
   Leads all ws seen ts =
       (found : List Waits) × IsKept [] found (waits p ws) × Each (IsCovered (sorts found)) seen × IsDue found (reverse ts) all

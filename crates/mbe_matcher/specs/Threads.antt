@@ -1,4 +1,4 @@
--- What the matcher's threads stand for
+-- What the threads of the code stand for
 use Rattle.std.specs.Prelude.{◌==◌, ◌&&◌, length, Bool, true, false, ℕ, List, [], ◌∷◌, ◌++◌, map, Option, Some, None}
 use Rattle.std.specs.Borrow.{Bor}
 use Rattle.tt_data.specs.Forest.{Forest, empty, leaf, group}
@@ -29,7 +29,7 @@ use Rattle.mbe_matcher.specs.declared.step.Choice.{Choice}
 use Rattle.mbe_matcher.specs.declared.matcher.Waiting.{Waiting}
 use Rattle.mbe_matcher.specs.declared.matcher.Waiting.TheVariants.{Ended, Pending}
 
--- a separator, where there is one
+-- a separator, if there is one
 abbrev pub between_of : Option (Bor Separator) → Option i.Separator
 between_of None = None
 between_of (Some s) = Some (separator_of s.now)
@@ -44,7 +44,7 @@ frame_of (Parted x) = r.parted (items_of x.body.now) (between_of x.separator) x.
 abbrev pub repetition_of : Round → i.Items
 repetition_of x = i.repetition (items_of x.body.now) (between_of x.separator) x.kind (items_of x.after.now)
 
--- a move of a reading
+-- the move that a move of the code stands for
 abbrev pub move_of : Move → r.Move
 move_of unit = r.unit_move
 move_of (Fragment n k trees) = r.fragment_move n.now k (forest trees)
@@ -55,13 +55,13 @@ move_of Leave = r.leave
 move_of separator = r.separator_move
 move_of NextRound = r.next_round
 
--- rounds of one variable, one for each of these trees
+-- iterations of one metavariable, one for each of these trees
 abbrev pub rounds_of : List ℕ → MetaVarKind → Forest → List r.Move
 rounds_of n k empty = []
 rounds_of n k (leaf l rest) = r.next_round ∷ r.fragment_move n k (leaf l empty) ∷ rounds_of n k rest
 rounds_of n k (group d inner rest) = r.next_round ∷ r.fragment_move n k (group d inner empty) ∷ rounds_of n k rest
 
--- the moves that an entry of the log stands for: its own, which may come after one into another round, or rounds of a variable
+-- a log entry's moves: its own, perhaps after one into another iteration, or many iterations
 abbrev pub steps : IterationStart → Move → List r.Move
 steps begun.Nothing m = move_of m ∷ []
 steps begun.RoundForEach (Fragment n k trees) = rounds_of n.now k (forest trees)
@@ -71,7 +71,7 @@ steps _ m = r.next_round ∷ move_of m ∷ []
 abbrev pub steps_in : Entry → List r.Move
 steps_in (Entry' begun made before) = steps begun made
 
--- the same where it is lent
+-- the moves of a borrowed entry
 abbrev pub steps_of : Bor Entry → List r.Move
 steps_of e = steps_in e.now
 
@@ -89,7 +89,7 @@ abbrev pub frames_in : Option (Bor Rung) → List Frame
 frames_in None = []
 frames_in (Some r) = frames_to r.now
 
--- what they go on with
+-- what the frames of a thread go on with
 abbrev pub frames_of : Option (Bor Rung) → List r.Frame
 frames_of fs = map frame_of (frames_in fs)
 
@@ -111,16 +111,16 @@ moves_of (Some e) = moves_to e.now
 abbrev pub state_of : Thread → u.Place → r.State
 state_of t p = r.at (items_of t.items.now) (frames_of t.frames) p
 
--- the moves up to and with the last one, whether it takes something, whether that is a fragment, and the state after it
+-- the moves so far, whether the last consumes, whether a fragment, and the state after it
 abbrev pub Made : Type 0
 Made = List r.Move × Bool × Bool × r.State
 
--- something is taken
+-- something is consumed
 abbrev pub is_some_taken : Option Consumed → Bool
 is_some_taken None = false
 is_some_taken (Some t) = true
 
--- a fragment is taken
+-- a fragment is consumed
 abbrev pub is_trees : Option Consumed → Bool
 is_trees (Some (takes_trees n)) = true
 is_trees _ = false
@@ -129,7 +129,7 @@ is_trees _ = false
 abbrev pub made_of : u.Place → Choice → Made
 made_of p c = (moves_of c.thread.moves, is_some_taken c.taken, is_trees c.taken, state_of c.thread (place_after p c.taken))
 
--- the same of a choice that may not be there
+-- what a choice has made, if there is one
 abbrev pub given : u.Place → Option Choice → List Made
 given p None = []
 given p (Some c) = made_of p c ∷ []
@@ -138,7 +138,7 @@ given p (Some c) = made_of p c ∷ []
 abbrev pub extended : List r.Move → r.Choice → Made
 extended ms d = (ms ++ (d.0 ∷ []), r.takes d.0, r.is_fragment d.0, d.1)
 
--- a path that waits at a place
+-- a path that waits at a position
 abbrev pub Waits : Type 0
 Waits = w.Waiting r.Move r.State
 
@@ -146,48 +146,48 @@ Waits = w.Waiting r.Move r.State
 abbrev pub contributes : Grammar → Made → List Waits
 contributes g m = elim m.1 [ true ↦ w.pending m.0 m.2 m.3 ∷ [] | false ↦ map (w.prefixed m.0) (w.settled_at g m.3) ]
 
--- the path that a waiting thread stands for, whose last move was made at the place p
+-- the path that a waiting thread stands for, whose last move was made at p
 abbrev pub waiting_of : u.Place → Waiting → Waits
 waiting_of p (Ended ms) = w.ended (moves_of ms)
 waiting_of p (Pending t k) = w.pending (moves_of t.moves) (is_trees (Some k)) (state_of t (place_after p (Some k)))
 
--- the same of all waiting threads
+-- the paths that waiting threads stand for, whose last moves were made at p
 abbrev pub waits : u.Place → List Waiting → List Waits
 waits p xs = map (waiting_of p) xs
 
--- the same where each move leads to the place p
+-- the path that a waiting thread stands for, whose last move leads to p
 abbrev pub waiting_at : u.Place → Waiting → Waits
 waiting_at p (Ended ms) = w.ended (moves_of ms)
 waiting_at p (Pending t k) = w.pending (moves_of t.moves) (is_trees (Some k)) (state_of t p)
 
--- the same of all waiting threads
+-- the paths that waiting threads stand for, whose last moves lead to p
 abbrev pub waits_at : u.Place → List Waiting → List Waits
 waits_at p xs = map (waiting_at p) xs
 
--- whether its last move takes a fragment
+-- whether its last move consumes a fragment
 abbrev pub takings_of : Waiting → List Bool
 takings_of (Ended ms) = []
 takings_of (Pending t k) = is_trees (Some k) ∷ []
 
--- what the first waiting path takes
+-- what the first waiting path consumes
 abbrev pub head_taken : List Waiting → Option Consumed
 head_taken [] = None
 head_taken (Ended ms ∷ ws) = head_taken ws
 head_taken (Pending t k ∷ ws) = Some k
 
--- two frames are of one sort, and as many items come after them
+-- two frames are of one sort, and as many ops come after them
 abbrev pub same_mark : Frame → Frame → Bool
 same_mark (InGroup a) (InGroup b) = length a.now == length b.now
 same_mark (InRound x) (InRound y) = length x.after.now == length y.after.now
 same_mark (Parted x) (Parted y) = length x.after.now == length y.after.now
 same_mark _ _ = false
 
--- the same of all frames of two threads
+-- the frames of two threads are so, one by one
 abbrev pub same_marks : List Frame → List Frame → Bool
 same_marks [] [] = true
 same_marks (f ∷ fs) (g ∷ gs) = same_mark f g && same_marks fs gs
 same_marks _ _ = false
 
--- two threads are in one state of a pattern, by the same numbers
+-- two threads are in one state of a matcher, by the same numbers
 abbrev pub same_state : Thread → Thread → Bool
 same_state t u = (length t.items.now == length u.items.now) && same_marks (frames_in t.frames) (frames_in u.frames)

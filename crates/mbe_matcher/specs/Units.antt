@@ -1,4 +1,4 @@
--- Units: what stands at a place of an argument. (The Rust Reference, "Macros By Example": metavariables.)
+-- Units: what is at a position of an argument. (The Rust Reference, "Macros By Example".)
 use Rattle.std.specs.Prelude.{ℕ, suc, ◌+◌, Bool, true, false, ◌&&◌, List, [], ◌∷◌, if◌then◌else◌}
 use Rattle.tt_data.specs.Forest.{Forest, empty, leaf, group}
 use Rattle.tt_data.specs.declared.delimiter.DelimiterKind.{DelimiterKind}
@@ -10,7 +10,7 @@ use Rattle.mbe_rules.specs.Text.{same_text, same_kind, is_nil, is_truth, is_char
 use Rattle.mbe_rules.specs.Trees.{past}
 use Rattle.fragment_grammar.specs.Steps.{steps}
 
--- what stands at a place, places of tokens aside; rawness and the form of a literal don't count
+-- what is at a position, without spans; rawness and the form of a literal don't count
 pub data UnitAt : Type 0 where
   a_name : List ℕ → UnitAt
   a_literal : (text suffix : List ℕ) → UnitAt
@@ -22,7 +22,7 @@ pub data UnitAt : Type 0 where
   closing : UnitAt
   nothing : UnitAt
 
--- two units are the same; `nothing` is the same as none
+-- two units are the same; `nothing` is the same as no unit
 abbrev pub same_unit : UnitAt → UnitAt → Bool
 same_unit (a_name a) (a_name b) = same_text a b
 same_unit (a_literal a s) (a_literal b t) = same_text a b && same_text s t
@@ -32,9 +32,9 @@ same_unit (opening k) (opening j) = same_kind k j
 same_unit closing closing = true
 same_unit _ _ = false
 
--- ---- of a pattern
+-- ---- of a matcher
 
--- the unit that an item of a pattern stands for; a variable stands for none
+-- the unit that an op of a matcher needs; a metavariable needs none
 abbrev pub unit_of : Item → UnitAt
 unit_of (word (as_leaf.Ident i)) = a_name i.sym
 unit_of (word (as_leaf.Literal l)) = a_literal l.text l.suffix
@@ -43,7 +43,7 @@ unit_of (puncts ps) = glued (characters ps)
 unit_of (lifetime p i) = a_lifetime i.sym
 unit_of (dollar d s) = nothing
 
--- the unit that a separator stands for
+-- the unit that a separator needs
 abbrev pub separator_unit : Separator → UnitAt
 separator_unit (literal_between l) = a_literal l.text l.suffix
 separator_unit (ident_between i) = a_name i.sym
@@ -57,11 +57,11 @@ is_separator sep u = same_unit (separator_unit sep) u
 
 -- ---- of an argument
 
--- a place: the trees left in the innermost open group, and those after each open group, inward out
+-- a position: the trees left in the innermost open group, and after each open group, inward out
 pub data Place : Type 0 where
   place : Forest → List Forest → Place
 
--- the characters of the first n trees of a list, as far as they are puncts
+-- the characters of the first n trees of a list, up to the first that is no punct
 abbrev pub first_characters : ℕ → Forest → List ℕ
 first_characters (suc n) (leaf (as_leaf.Punct p) rest) = p.char ∷ first_characters n rest
 first_characters _ f = []
@@ -71,7 +71,7 @@ abbrev pub punct_unit : Punct → Forest → UnitAt
 punct_unit p (leaf (as_leaf.Ident i) rest) = if is_char "'" p then a_lifetime i.sym else glued (p.char ∷ [])
 punct_unit p rest = glued (first_characters (glued_count (leaf (as_leaf.Punct p) rest)) (leaf (as_leaf.Punct p) rest))
 
--- the unit that stands at a place
+-- the unit at a position
 abbrev pub unit_at : Place → UnitAt
 unit_at (place (leaf (as_leaf.Ident i) rest) outer) = a_name i.sym
 unit_at (place (leaf (as_leaf.Literal l) rest) outer) = a_literal l.text l.suffix
@@ -80,20 +80,20 @@ unit_at (place (group d inner rest) outer) = opening d.kind
 unit_at (place empty (rest ∷ outer)) = closing
 unit_at (place empty []) = nothing
 
--- how many trees the unit has at the head of a list, if it is no bracket
+-- how many trees the unit at the front of a list has, if it is no bracket
 abbrev pub unit_trees : Forest → ℕ
 unit_trees (leaf (as_leaf.Punct p) (leaf (as_leaf.Ident i) rest)) = if is_char "'" p then 2 else 1
 unit_trees (leaf (as_leaf.Punct p) rest) = glued_count (leaf (as_leaf.Punct p) rest)
 unit_trees _ = 1
 
--- the place after the unit
+-- the position after the unit
 abbrev pub after_unit : Place → Place
 after_unit (place (leaf l rest) outer) = place (past (unit_trees (leaf l rest)) (leaf l rest)) outer
 after_unit (place (group d inner rest) outer) = place inner (rest ∷ outer)
 after_unit (place empty (rest ∷ outer)) = place rest outer
 after_unit (place empty []) = place empty []
 
--- the steps left from a place on, which tell the places of one argument apart
+-- the steps left from a position on, which tell the positions of one argument apart
 abbrev pub left : Place → ℕ
 left (place f []) = steps f
 left (place f (rest ∷ outer)) = steps f + suc (left (place rest outer))

@@ -9,7 +9,7 @@ ghost use Rattle.mbe_matcher.specs.Bound.{map_of};
 ghost use Rattle.mbe_matcher.specs.Threads.{move_of, moves_of, rounds_of, steps_of};
 
 use crate::bindings::{Binding, Bindings, Bound, put_value};
-use crate::position::{again, parted};
+use crate::position::parted;
 use crate::thread::{Entry, IterationStart, Move};
 use mbe_rules::{MetaVarKind, Op};
 use std::alloc::{AllocError, Global};
@@ -17,7 +17,7 @@ use std::mem;
 use symbols::Symbol;
 use tt::{TokenTreesView, TtIter};
 
-// Each variable of an item stands for nothing.
+// Binds each metavariable of an op to nothing.
 #[cycle(skipping)]
 fn skip_op<'a>(here: &mut Bindings<'a>, op: &'a Op) -> Result<(), AllocError>
     ensures { OnOk result (map_of here.new ≡ bind_skipped (variables (put_op op.now done)) (map_of here.old)) }
@@ -30,7 +30,7 @@ fn skip_op<'a>(here: &mut Bindings<'a>, op: &'a Op) -> Result<(), AllocError>
     }
 }
 
-// Each variable of these items stands for nothing.
+// Binds each metavariable of these ops to nothing: their repetition is skipped.
 #[cycle(skipping)]
 fn skip<'a>(here: &mut Bindings<'a>, ops: &'a [Op]) -> Result<(), AllocError>
     ensures { OnOk result (map_of here.new ≡ bind_skipped (variables (items_of ops.now)) (map_of here.old)) }
@@ -41,14 +41,15 @@ fn skip<'a>(here: &mut Bindings<'a>, ops: &'a [Op]) -> Result<(), AllocError>
     Ok(())
 }
 
-// An open repetition: what is bound around it and in its finished rounds, and how many these are.
+// An open repetition: the bindings around it, with those of its finished iterations, and how many
+// these are.
 #[derive(Drop)]
 struct Open<'a> {
     around: Bindings<'a>,
     rounds: usize,
 }
 
-// What is bound in the present round, and the repetitions that are open, the innermost last.
+// The bindings of the present iteration, and the open repetitions, the innermost last.
 #[derive(Drop)]
 struct Collected<'a> {
     here: Bindings<'a>,
@@ -63,7 +64,7 @@ impl<'a> Open<'a> {
     ghost use Rattle.mbe_matcher.specs.Bindings as spec;
     ghost use Rattle.mbe_matcher.specs.Collecting.{open_of, after_all};
 
-    // One round more has ended.
+    // Ends an iteration: adds its bindings to those around it, and leaves it without bindings.
     #[inline(always)]
     fn end_round(&mut self, round: &mut Bindings<'a>) -> Result<(), AllocError>
         ensures bound { OnOk result (open_of self.new ≡ (bind_round self.old.rounds (map_of round.old) (map_of self.old.around), suc self.old.rounds)) }
@@ -77,7 +78,7 @@ impl<'a> Open<'a> {
         Ok(())
     }
 
-    // An iteration ends, and this is bound first in the next one.
+    // Ends an iteration, and makes `first` the only binding of the next one.
     #[inline(always)]
     fn begin_round(&mut self, round: &mut Bindings<'a>, first: Bound<'a>) -> Result<(), AllocError>
         ensures bound { OnOk result (open_of self.new ≡ (bind_round self.old.rounds (map_of round.old) (map_of self.old.around), suc self.old.rounds)) }
@@ -91,7 +92,8 @@ impl<'a> Open<'a> {
         Ok(())
     }
 
-    // A round ends for each of these trees, and the tree is the fragment of the next.
+    // Ends an iteration for each of these trees, which is the metavariable's fragment in the next
+    // one.
     fn begin_each(
         &mut self,
         round: &mut Bindings<'a>,
@@ -102,7 +104,7 @@ impl<'a> Open<'a> {
         ensures { (os : List (spec.Map × ℕ)) → OnOk result ((map_of round.new, open_of self.new ∷ os)
             ≡ after_all (rounds_of name.now kind trees.now) (map_of round.old, open_of self.old ∷ os)) }
     {
-        let mut rest = again(trees);
+        let mut rest = trees.copied();
         while !rest.is_empty() {
             let (tree, behind) = parted(&rest, 1);
             let binding = Binding::Fragment { kind, trees: tree };
@@ -112,7 +114,8 @@ impl<'a> Open<'a> {
         Ok(())
     }
 
-    // An iteration ends for each of these trees, where it binds this name alone, which has values around it.
+    // As `begin_each`, with all values appended at once. The iteration binds only this name, which
+    // has values of earlier iterations.
     fn begin_more(
         &mut self,
         round: &mut Bindings<'a>,
@@ -142,7 +145,8 @@ impl<'a> Open<'a> {
         Ok(())
     }
 
-    // An iteration ends for each of these trees: at once where it binds one name that has values around it.
+    // As `begin_each`, with all values appended at once if the iteration binds only this name and
+    // the name has values of earlier iterations.
     fn begin_rounds(
         &mut self,
         round: &mut Bindings<'a>,
@@ -160,7 +164,7 @@ impl<'a> Open<'a> {
     }
 }
 
-// Values of rounds, and that of the round that goes on, with its number.
+// The values of finished iterations, the value of the present one, and its number.
 #[derive(Drop)]
 struct Run<'a> {
     values: Vec<Binding<'a>>,
@@ -171,12 +175,12 @@ struct Run<'a> {
 impl<'a> Run<'a> {
     ghost use Rattle.mbe_matcher.specs.Collecting.{run_of, run_through};
 
-    // For each of these trees the round ends, and the tree is the value of the next.
+    // Ends an iteration for each of these trees, which is the value in the next one.
     fn pass(&mut self, kind: MetaVarKind, trees: &TtIter<'a>) -> Result<(), AllocError>
         ensures { OnOk result (run_of self.new ≡ run_through kind trees.now (run_of self.old)) }
     {
         self.values.reserve(trees.remaining().len())?;
-        let mut rest = again(trees);
+        let mut rest = trees.copied();
         while !rest.is_empty() {
             let (tree, behind) = parted(&rest, 1);
             let next = Binding::Fragment { kind, trees: tree };
@@ -206,7 +210,7 @@ impl<'a> Collected<'a> {
         }
     }
 
-    // A repetition begins.
+    // Enters a repetition.
     fn enter(&mut self, alloc: Global) -> Result<(), AllocError>
         ensures { OnOk result (collected_of self.new ≡ after r.enter (collected_of self.old)) }
     {
@@ -215,7 +219,7 @@ impl<'a> Collected<'a> {
         Ok(())
     }
 
-    // A round ends, and another begins.
+    // Ends an iteration of the innermost repetition, and begins another.
     #[inline]
     fn end_round(&mut self) -> Result<(), AllocError>
         ensures { OnOk result (collected_of self.new ≡ after r.next_round (collected_of self.old)) }
@@ -229,7 +233,7 @@ impl<'a> Collected<'a> {
         }
     }
 
-    // An iteration ends, and a fragment comes first in the next one.
+    // Ends an iteration, and binds a fragment in the next one.
     #[inline(always)]
     fn begin_round(
         &mut self,
@@ -249,7 +253,7 @@ impl<'a> Collected<'a> {
         }
     }
 
-    // A repetition ends.
+    // Leaves a repetition, after its last iteration.
     fn leave(&mut self) -> Result<(), AllocError>
         ensures { OnOk result (collected_of self.new ≡ after r.leave (collected_of self.old)) }
     {
@@ -262,7 +266,7 @@ impl<'a> Collected<'a> {
         Ok(())
     }
 
-    // One more move is made.
+    // Makes one more move.
     #[inline]
     fn add(&mut self, alloc: Global, made: Move<'a>) -> Result<(), AllocError>
         ensures { OnOk result (collected_of self.new ≡ after (move_of made.entry) (collected_of self.old)) }
@@ -284,7 +288,8 @@ impl<'a> Collected<'a> {
         }
     }
 
-    // A round ends for each of these trees, and the tree is the fragment of the next.
+    // Ends an iteration for each of these trees, which is the metavariable's fragment in the next
+    // one.
     fn begin_each(
         &mut self,
         name: &'a Symbol,
@@ -293,7 +298,7 @@ impl<'a> Collected<'a> {
     ) -> Result<(), AllocError>
         ensures { OnOk result (collected_of self.new ≡ after_all (rounds_of name.now kind trees.now) (collected_of self.old)) }
     {
-        let mut rest = again(trees);
+        let mut rest = trees.copied();
         while !rest.is_empty() {
             let (tree, behind) = parted(&rest, 1);
             self.begin_round(name, kind, tree)?;
@@ -302,7 +307,7 @@ impl<'a> Collected<'a> {
         Ok(())
     }
 
-    // An iteration ends for each of these trees, by the innermost repetition, where one is open.
+    // As `begin_each`, by the innermost repetition, which can append all values at once.
     fn begin_rounds(
         &mut self,
         name: &'a Symbol,
@@ -320,7 +325,8 @@ impl<'a> Collected<'a> {
         }
     }
 
-    // A round begins for each of these trees: the first may be the first that gives the name a value.
+    // As `begin_each`. The first tree is bound by itself, because it may be the first value of the
+    // name.
     fn begin_all(
         &mut self,
         name: &'a Symbol,
@@ -334,7 +340,7 @@ impl<'a> Collected<'a> {
         self.begin_rounds(name, kind, &rest)
     }
 
-    // A round ends, and this move is made in the next.
+    // Ends an iteration, and makes this move in the next one.
     fn begin(&mut self, alloc: Global, made: Move<'a>) -> Result<(), AllocError>
         ensures { OnOk result (collected_of self.new ≡ after (move_of made.entry) (after r.next_round (collected_of self.old))) }
     {
@@ -348,7 +354,7 @@ impl<'a> Collected<'a> {
         }
     }
 
-    // The moves of one more entry are made.
+    // Makes the moves of one more entry of the log.
     #[inline(always)]
     fn add_entry(&mut self, alloc: Global, entry: &'a Entry<'a>) -> Result<(), AllocError>
         ensures { OnOk result (collected_of self.new ≡ after_all (steps_of entry.entry) (collected_of self.old)) }
@@ -363,10 +369,10 @@ impl<'a> Collected<'a> {
     }
 }
 
-// For how many entries of a log there is room at first.
+// How many entries of a log there is room for at first.
 const USUAL_ENTRIES: usize = 16;
 
-// The entries of the log up to one, the last first.
+// The entries of the log up to this one, the last first.
 fn entries_back<'a>(
     alloc: Global,
     last: Option<&'a Entry<'a>>,
@@ -382,9 +388,9 @@ fn entries_back<'a>(
     Ok(entries)
 }
 
-/// What the variables of a pattern stand for after the moves up to an entry of the log.
+/// What the metavariables of a matcher are bound to by the moves up to an entry of the log.
 ///
-/// The trees of fragments are not copied. Its one error is want of memory.
+/// The trees of fragments are not copied. Out of memory is its only error.
 pub fn bindings_of<'a>(
     alloc: Global,
     last: Option<&'a Entry<'a>>,

@@ -1,4 +1,4 @@
-//! Bindings: what each variable of a pattern is bound to.
+//! Bindings: the value of each metavariable of a matcher.
 ghost use Rattle.std.specs.Prelude.{◌≡◌, ◌≤◌, length, None, Some, OnOk, IfOk};
 ghost use Rattle.mbe_matcher.specs.Bindings as spec;
 ghost use Rattle.mbe_matcher.specs.Bindings.{value_put, with_round};
@@ -11,7 +11,7 @@ use std::mem;
 use symbols::Symbol;
 use tt::TokenTreesView;
 
-/// What a name stands for.
+/// What a metavariable is bound to.
 #[derive(Drop)]
 pub enum Binding<'a> {
     /// The trees of a fragment.
@@ -19,26 +19,26 @@ pub enum Binding<'a> {
         kind: MetaVarKind,
         trees: TokenTreesView<'a>,
     },
-    /// A value for each round of a repetition.
+    /// A value for each iteration of a repetition.
     Rounds(Vec<Binding<'a>>),
-    /// Nothing, where a repetition was skipped.
+    /// Nothing: the repetition was skipped.
     Skipped,
 }
 
-/// A name with what it stands for.
+/// A metavariable with its binding.
 #[derive(Drop)]
 pub struct Bound<'a> {
     pub name: &'a Symbol,
     pub binding: Binding<'a>,
 }
 
-/// What each name stands for.
+/// The bindings of a matcher's metavariables.
 #[derive(Drop)]
 pub struct Bindings<'a> {
     pub(crate) bound: Vec<Bound<'a>>,
 }
 
-// Puts empty lists at the end, for the rounds before this one that have no value.
+// Appends empty lists for the iterations before this one that have no value.
 #[inline(always)]
 fn fill_up<'a>(values: &mut Vec<Binding<'a>>, round: usize) -> Result<(), AllocError>
     ensures filled { OnOk result (round ≤ length values.new.items) }
@@ -51,7 +51,7 @@ fn fill_up<'a>(values: &mut Vec<Binding<'a>>, round: usize) -> Result<(), AllocE
     Ok(())
 }
 
-// Puts the value of a round at the end, after empty lists for the rounds before it that have none.
+// Appends the value of an iteration, after empty lists for those before it that have none.
 #[inline(always)]
 pub(crate) fn put_value<'a>(
     values: &mut Vec<Binding<'a>>,
@@ -65,7 +65,7 @@ pub(crate) fn put_value<'a>(
     Ok(())
 }
 
-// What a name stands for after a round: one that holds no list keeps what it has.
+// A binding after an iteration. One that is no list stays as it is.
 #[inline(always)]
 fn with_round<'a>(
     binding: Binding<'a>,
@@ -83,7 +83,7 @@ fn with_round<'a>(
     }
 }
 
-// What a name stands for after a round, if it stood for nothing before.
+// The binding after an iteration, if there was none before.
 fn first_of<'a>(alloc: Global, round: usize, value: Binding<'a>) -> Result<Binding<'a>, AllocError>
     ensures { IfOk result (λ b. standing_for b ≡ with_round round (standing_for value.entry) None) }
 {
@@ -92,7 +92,7 @@ fn first_of<'a>(alloc: Global, round: usize, value: Binding<'a>) -> Result<Bindi
 }
 
 impl<'a> Bound<'a> {
-    // The name has its value of a round.
+    // Adds the value of an iteration.
     #[inline(always)]
     fn add_round(&mut self, round: usize, value: Binding<'a>) -> Result<(), AllocError>
         ensures name { OnOk result (self.new.name.now ≡ self.old.name.now) }
@@ -109,7 +109,7 @@ impl<'a> Bindings<'a> {
     ghost use Rattle.mbe_matcher.specs.Bindings.{bind, binding_of, bind_round};
     ghost use Rattle.mbe_matcher.specs.Bound.{entries_of, entry_of, map_of, place_among};
 
-    /// No name stands for anything.
+    /// No bindings.
     pub(crate) fn new(alloc: Global) -> Bindings<'a>
         ensures { map_of result ≡ [] }
     {
@@ -118,19 +118,19 @@ impl<'a> Bindings<'a> {
         }
     }
 
-    /// Where the memory for what is bound comes from.
+    /// The allocator that bindings take memory from.
     pub fn allocator(&self) -> Global {
         *self.bound.allocator()
     }
 
-    /// All that is bound, in the order in which the names came.
+    /// All bindings, in the order in which their names were bound.
     pub fn entries(&self) -> &[Bound<'a>]
         ensures { entries_of result.now ≡ map_of self.now }
     {
         &self.bound
     }
 
-    // Where a name stands.
+    // The index of a name.
     fn position(&self, name: &Symbol) -> Option<usize>
         ensures { result ≡ place_among name.now self.now.bound.items }
     {
@@ -142,7 +142,7 @@ impl<'a> Bindings<'a> {
         None
     }
 
-    /// What the name stands for: none where it is not bound.
+    /// The binding of a name, if it has one.
     pub fn get(&self, name: &Symbol) -> Option<&Binding<'a>>
         ensures { option_map (λ b. standing_for b.now) result ≡ binding_of name.now (map_of self.now) }
     {
@@ -152,7 +152,7 @@ impl<'a> Bindings<'a> {
         }
     }
 
-    /// Whether only this name stands for something.
+    /// Whether exactly this name is bound.
     #[inline(always)]
     pub(crate) fn is_alone(&self, name: &Symbol) -> bool
         ensures { result ≡ true → (b : spec.Binding) × (map_of self.now ≡ (name.now, b) ∷ []) }
@@ -160,7 +160,7 @@ impl<'a> Bindings<'a> {
         self.bound.len() == 1 && is_same(name, self.bound[0].name)
     }
 
-    /// What the one name that stands for something stood for, which this takes the place of.
+    /// Replaces the value of the one name that is bound, and answers the old one.
     pub(crate) fn replace_alone(&mut self, binding: Binding<'a>) -> Binding<'a>
         requires { (n : List ℕ) × (b : spec.Binding) × (map_of self.old ≡ (n, b) ∷ []) }
         ensures new { (n : List ℕ) (b : spec.Binding) → map_of self.old ≡ (n, b) ∷ [] → map_of self.new ≡ (n, standing_for binding.entry) ∷ [] }
@@ -169,14 +169,14 @@ impl<'a> Bindings<'a> {
         mem::replace(&mut self.bound[0].binding, binding)
     }
 
-    /// Whether the name has values of rounds.
+    /// Whether the name has values of iterations.
     pub(crate) fn has_values(&self, name: &Symbol) -> bool
         ensures { result ≡ true → (vs : spec.Values) × (binding_of name.now (map_of self.now) ≡ Some (spec.rounds vs)) }
     {
         matches!(self.get(name), Some(Binding::Rounds(_)))
     }
 
-    /// The values that the name has of rounds, which are taken out.
+    /// Takes out the values of iterations that the name has.
     pub(crate) fn take_values(&mut self, name: &Symbol) -> Vec<Binding<'a>>
         requires { (vs : spec.Values) × (binding_of name.now (map_of self.old) ≡ Some (spec.rounds vs)) }
         ensures values { binding_of name.now (map_of self.old) ≡ Some (spec.rounds (values_of result.items)) }
@@ -192,7 +192,7 @@ impl<'a> Bindings<'a> {
         }
     }
 
-    /// The name stands for this, in place of what it stood for.
+    /// Binds the name, in place of what it was bound to.
     #[inline]
     pub fn bind(&mut self, name: &'a Symbol, binding: Binding<'a>) -> Result<(), AllocError>
         ensures { OnOk result (map_of self.new ≡ bind name.now (standing_for binding.entry) (map_of self.old)) }
@@ -210,7 +210,7 @@ impl<'a> Bindings<'a> {
         }
     }
 
-    // The name has this value in a round; one that holds no list keeps what it has.
+    // Binds the value of the name in an iteration. A binding that is no list stays as it is.
     #[inline(always)]
     fn bind_in_round(
         &mut self,
@@ -234,7 +234,8 @@ impl<'a> Bindings<'a> {
         }
     }
 
-    /// The names that are bound in a round have their values of it, and the round holds none any more.
+    /// Adds the bindings of an iteration to the lists of their names. The iteration is left
+    /// without bindings.
     #[inline]
     pub(crate) fn bind_round(
         &mut self,
@@ -251,7 +252,8 @@ impl<'a> Bindings<'a> {
         Ok(())
     }
 
-    /// The names that are bound in a round have their values of it, and the round holds only this one.
+    /// Adds the bindings of an iteration to the lists of their names. The iteration is left with
+    /// only `next`.
     #[inline(always)]
     pub(crate) fn bind_round_before(
         &mut self,

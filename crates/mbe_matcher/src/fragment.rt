@@ -1,4 +1,5 @@
-//! Fragments for callers: what a grammar takes at the head of a list, and the error where it is missing.
+//! Fragments for callers: what a grammar consumes at the front of a list, and the error if no
+//! fragment is there.
 ghost use Rattle.std.specs.Prelude.{◌≡◌, IfOk, IsOkUnless, OnErr, OnOk};
 ghost use Rattle.symbols.specs.declared.fault.TtFault.TheVariants as fault;
 ghost use Rattle.tt.specs.Views.{forest};
@@ -15,16 +16,17 @@ use std::alloc::Global;
 use symbols::Symbol;
 use tt::{DelimSpan, Span, TokenTreesView, TtFault, TtIter};
 
-/// The trees that were passed for a fragment.
+/// The trees that were taken for a fragment.
 #[derive(Clone, Copy, Debug)]
 pub struct PassedFragment<'a> {
     pub trees: TokenTreesView<'a>,
-    /// Whether they are no fragment: the grammar found a fault, or stopped inside the last of them.
+    /// Whether they are no fragment: the grammar answered a fault, or stopped inside the last of
+    /// them.
     pub is_faulty: bool,
 }
 
-/// Passes as many trees as the grammar takes for a fragment of a kind. Where it stops inside a group,
-/// the outermost such group is passed whole. A faulty prefix is passed too.
+/// Takes as many trees as the grammar answers for a fragment of a kind. If the answer ends inside
+/// a group, the outermost such group is taken whole. With a fault the trees are taken too.
 pub fn pass_fragment<'a, G: FragmentGrammar>(
     grammar: &G,
     trees: &mut TtIter<'a>,
@@ -46,7 +48,7 @@ pub fn pass_fragment<'a, G: FragmentGrammar>(
     }
 }
 
-// What is told where a fragment of this kind is missing.
+// The text of the error where a fragment of this kind is missing.
 fn missing_text(entry: PrefixEntryPoint) -> &'static str
     ensures { result.now ≡ missing_text entry }
 {
@@ -64,7 +66,8 @@ fn missing_text(entry: PrefixEntryPoint) -> &'static str
     }
 }
 
-// That a fragment of this kind is missing at the head of a list with this end.
+// The error that a fragment of this kind is missing at the front of a list. `end` is the list's
+// end.
 fn missing(
     alloc: Global,
     trees: &TtIter<'_>,
@@ -82,14 +85,16 @@ fn missing(
     ExpandError::new(alloc, place, ExpandErrorKind::BindingError(text))
 }
 
-/// Passes as many trees as the grammar takes for a fragment of a kind, and answers them. Where it stops
-/// inside a group, the outermost such group is passed whole. There is an error exactly where that
-/// happens or the grammar finds a fault; it stands at the first of the trees that were left, or where
-/// there were none at the closing end of `delim_span`, and names the kind.
+/// Takes as many trees as the grammar answers for a fragment of a kind. If the answer ends inside
+/// a group, the outermost such group is taken whole.
+///
+/// There is an error exactly where that happens or the grammar answers a fault. It is at the first
+/// tree that was left, or, if there was none, at the closing end of `delim_span`, and names the
+/// kind.
 ///
 /// # Errors
 ///
-/// `Memory` if memory is refused; then no tree is passed. It is the only error.
+/// `Memory`, the only error; then no tree is taken.
 pub fn expect_fragment<'a, G: FragmentGrammar>(
     alloc: Global,
     grammar: &G,

@@ -1,14 +1,16 @@
-//! What each fragment specifier accepts: how many trees a variable takes at the head of a list.
+//! What each fragment specifier accepts: how many trees a metavariable takes at the head of a
+//! list.
 ghost use Rattle.std.specs.Prelude.{◌≡◌, Some, ◌-◌, ◌+◌};
 ghost use Rattle.mbe_matcher.specs.Fragments.{taken, ident_trees, lifetime_trees, unsigned_trees, literal_trees, tree_trees, is_refused, is_refused_2021};
 ghost use Rattle.mbe_matcher.specs.Grammar.{asked, reach};
 ghost use Rattle.mbe_matcher.specs.Places.{left_after};
 
-use crate::position::{again, quoted};
+use crate::position::quoted;
 use fragment_grammar::{FragmentGrammar, PrefixEntryPoint, steps};
 use mbe_rules::MetaVarKind;
 use tt::{Leaf, Literal, Punct, TtElement, TtIter};
 
+// How many trees an `ident` takes: one identifier, raw or not, but no `_`.
 #[tactic(auto, using(crate::proofs::LentLemmas::an_ident, crate::proofs::LentLemmas::no_ident))]
 fn ident_trees(trees: &TtIter<'_>) -> Option<usize>
     ensures { result ≡ ident_trees trees.now }
@@ -24,6 +26,7 @@ fn ident_trees(trees: &TtIter<'_>) -> Option<usize>
     }
 }
 
+// How many trees a `lifetime` takes: a quote and its name.
 fn lifetime_trees(trees: &TtIter<'_>) -> Option<usize>
     ensures { result ≡ lifetime_trees trees.now }
 {
@@ -33,6 +36,7 @@ fn lifetime_trees(trees: &TtIter<'_>) -> Option<usize>
     }
 }
 
+// How many trees a literal without sign takes: a literal token, `true` or `false`.
 #[tactic(auto, using(crate::proofs::LentLemmas::a_leaf, crate::proofs::LentLemmas::no_unsigned))]
 fn unsigned_trees(trees: &TtIter<'_>) -> Option<usize>
     ensures { result ≡ unsigned_trees trees.now }
@@ -53,6 +57,7 @@ fn unsigned_trees(trees: &TtIter<'_>) -> Option<usize>
     }
 }
 
+// How many trees a `literal` takes: one without sign, or `-` and one without sign.
 #[tactic(auto, using(crate::proofs::LentLemmas::a_punct_leaf, crate::proofs::LentLemmas::no_minus))]
 fn literal_trees(trees: &TtIter<'_>) -> Option<usize>
     ensures { result ≡ literal_trees trees.now }
@@ -69,6 +74,7 @@ fn literal_trees(trees: &TtIter<'_>) -> Option<usize>
     }
 }
 
+// How many trees a `tt` takes: a quote with its name, a glued operator, or one tree.
 #[inline]
 #[tactic(auto, using(crate::proofs::LentLemmas::a_punct_leaf, crate::proofs::LentLemmas::tree_else))]
 fn tree_trees(trees: &TtIter<'_>) -> Option<usize>
@@ -86,7 +92,7 @@ fn tree_trees(trees: &TtIter<'_>) -> Option<usize>
     Some(1)
 }
 
-/// Whether an `expr` may not begin at the head of a list: with `let`.
+/// Whether a list cannot begin an `expr`: it begins with `let`.
 #[tactic(auto, using(crate::proofs::LentLemmas::an_ident, crate::proofs::LentLemmas::nothing_refused))]
 pub fn is_refused(trees: &TtIter<'_>) -> bool
     ensures { result ≡ is_refused trees.now }
@@ -97,7 +103,8 @@ pub fn is_refused(trees: &TtIter<'_>) -> bool
     }
 }
 
-/// Whether an `expr_2021` may not begin at the head of a list: with `let`, `_` or `const`.
+/// Whether a list cannot begin an `expr_2021`: it begins with `let`, `_` or `const`. A raw
+/// `r#const` may begin one.
 pub fn is_refused_2021(trees: &TtIter<'_>) -> bool
     ensures { result ≡ is_refused_2021 trees.now }
 {
@@ -116,7 +123,7 @@ pub fn is_refused_2021(trees: &TtIter<'_>) -> bool
     }
 }
 
-// What is left of a number after the steps of a tree: none where it is less.
+// The steps that are left of `number` after all steps of a tree. `None` if the tree has more.
 fn without_tree(tree: &TtElement<'_>, number: usize) -> Option<usize>
     ensures { result ≡ left_after tree.now number }
 {
@@ -140,11 +147,12 @@ fn without_tree(tree: &TtElement<'_>, number: usize) -> Option<usize>
     }
 }
 
-// How many trees the first steps of a list reach, and whether these stop inside the last of them.
+// How many trees the first `number` steps of a list reach, and whether they end inside the last of
+// them or go on after the list.
 pub(crate) fn reached(trees: &TtIter<'_>, number: usize) -> (usize, bool)
     ensures { result ≡ reach trees.now number }
 {
-    let mut rest = again(trees);
+    let mut rest = trees.copied();
     let mut left = number;
     let mut count = 0;
     while left > 0 {
@@ -160,7 +168,8 @@ pub(crate) fn reached(trees: &TtIter<'_>, number: usize) -> (usize, bool)
     (count, false)
 }
 
-// How many trees the grammar takes at the head of a list, if any.
+// How many trees the grammar takes at the head of a list. `None` if it finds no such fragment, or
+// stops inside a tree.
 fn asked<G: FragmentGrammar>(
     grammar: &G,
     entry: PrefixEntryPoint,
@@ -179,7 +188,8 @@ fn asked<G: FragmentGrammar>(
     Some(count)
 }
 
-/// How many trees a variable of a kind takes at the head of a list, if any.
+/// How many trees a metavariable with this fragment specifier takes at the head of a list. `None`
+/// if there is no such fragment.
 #[inline]
 pub(crate) fn fragment_trees<G: FragmentGrammar>(
     grammar: &G,

@@ -1,4 +1,4 @@
-//! Matching a pattern of macros by example against an argument, and what its variables are bound to.
+//! Matches a matcher of macros by example against an argument, and binds its metavariables.
 #![tactic(auto)]
 
 mod bind;

@@ -1,4 +1,5 @@
-//! Threads and patterns whose next token cannot match: they are left out before a move is made.
+//! Finds threads and matchers whose next unit cannot match, so that they are pruned before a move
+//! is made. It decides speed alone.
 ghost use Rattle.std.specs.Prelude.{◌≡◌, []};
 ghost use Rattle.mbe_rules.specs.Items.{Items};
 ghost use Rattle.mbe_rules.specs.Ops.{items_of, put_op};
@@ -14,7 +15,7 @@ use mbe_rules::Op;
 use std::alloc::Global;
 use tt::TokenTreesView;
 
-// Whether an item needs a unit that is not here.
+// Whether an op needs a unit that is not here.
 #[inline]
 fn is_elsewhere(op: &Op, place: &Place<'_>) -> bool
     ensures { (rest : Items) → result ≡ is_blocked (put_op op.now rest) (place_of place.now) }
@@ -46,8 +47,8 @@ pub(crate) fn is_stuck(thread: &Thread<'_>, place: &Place<'_>) -> bool
     }
 }
 
-/// Whether the first item of a pattern needs a unit that the argument does not begin with, or the pattern is
-/// empty and the argument is not. It asks for no memory.
+/// Whether the first op of a matcher needs another unit than the argument begins with, or the
+/// matcher is empty and the argument is not. It takes no memory.
 #[inline]
 pub fn is_blocked(alloc: Global, pattern: &[Op], argument: TokenTreesView<'_>) -> bool
     ensures { result ≡ is_blocked (items_of pattern.now) (u.place (forest argument.entry) []) }

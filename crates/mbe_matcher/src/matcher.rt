@@ -1,4 +1,5 @@
-//! The loop of the matcher: all threads that read a pattern against an argument, together, token by token.
+//! The loop of the matching algorithm: all threads that read an argument by a matcher, together,
+//! position by position.
 ghost use Rattle.std.specs.Prelude.{◌≡◌, ◌<◌, ◌≤◌, ◌+◌, ◌&&◌, List, [], ◌∷◌, ◌++◌, option_map, IfOk, OnOk, Some, None, true, false};
 ghost use Rattle.std.specs.List.{flat_map, list_any};
 ghost use Rattle.tt.specs.Views.{forest};
@@ -26,30 +27,31 @@ use std::alloc::{AllocError, Global};
 use std::mem;
 use tt::TokenTreesView;
 
-// A thread that waits for the others: at the end, or after a move that takes something.
+// A thread that waits for the others: at the end, or after a move that consumes something.
 #[derive(Clone, Copy, Drop)]
 pub(crate) enum Waiting<'a> {
     Ended(Option<&'a Entry<'a>>),
     Pending { thread: Thread<'a>, taken: Consumed },
 }
 
-/// A thread in whose state one was settled at this place, and whether a second one was.
+/// A thread whose state was entered at this position, and whether a second one was in it.
 #[derive(Clone, Copy, Drop)]
 pub struct Seen<'a> {
     pub thread: Thread<'a>,
     pub twice: bool,
 }
 
-// What is left to do at a place.
+// A task that is left at a position.
 #[derive(Clone, Copy, Drop)]
 pub(crate) enum SettleTask<'a> {
-    // To go on with a thread, if it has taken nothing.
+    // To go on with a thread, if it has consumed nothing.
     GoOn(Choice<'a>),
-    // All that comes of a thread waits.
+    // To note that all threads that this one leads to wait.
     Note(Seen<'a>),
 }
 
-// The threads that wait at a place, the states that were settled there, and what is left to do, the next last.
+// The threads that wait at a position, the states that were settled there, and the tasks that are
+// left, the next one last.
 #[derive(Drop)]
 pub(crate) struct Settled<'a> {
     pub(crate) waiting: Vec<Waiting<'a>>,
@@ -68,7 +70,7 @@ impl Consumed {
     }
 }
 
-// Whether two frames are of one sort, with as many items after them.
+// Whether two frames are of one sort, with as many ops after them.
 fn is_same_mark(first: Frame<'_>, second: Frame<'_>) -> bool
     ensures { result ≡ same_mark first.entry second.entry }
 {
@@ -80,7 +82,7 @@ fn is_same_mark(first: Frame<'_>, second: Frame<'_>) -> bool
     }
 }
 
-// Whether two threads are in the same groups and rounds.
+// Whether two threads are in the same groups and repetitions.
 fn are_same_marks<'a>(first: Option<&'a Rung<'a>>, second: Option<&'a Rung<'a>>) -> bool
     ensures { result ≡ same_marks (frames_in first.entry) (frames_in second.entry) }
 {
@@ -109,7 +111,7 @@ pub fn is_same_state(first: &Thread<'_>, second: &Thread<'_>) -> bool
     first.items.len() == second.items.len() && are_same_marks(first.frames, second.frames)
 }
 
-/// Whether a thread was settled in the state of this one.
+/// Whether a thread was in the state of this one.
 pub fn was_settled(seen: &[Seen<'_>], thread: &Thread<'_>) -> bool
     ensures { result ≡ list_any (λ x. same_state x.thread thread.now) seen.now }
 {
@@ -121,7 +123,7 @@ pub fn was_settled(seen: &[Seen<'_>], thread: &Thread<'_>) -> bool
     false
 }
 
-/// Whether two threads were settled in the state of this one.
+/// Whether two threads were in the state of this one.
 pub fn was_settled_twice(seen: &[Seen<'_>], thread: &Thread<'_>) -> bool
     ensures { result ≡ list_any (λ x. x.twice && same_state x.thread thread.now) seen.now }
 {
@@ -134,7 +136,7 @@ pub fn was_settled_twice(seen: &[Seen<'_>], thread: &Thread<'_>) -> bool
 }
 
 impl<'a> Settled<'a> {
-    // Nothing waits, and nothing is left to do.
+    // No thread waits, and no task is left.
     fn new(alloc: Global) -> Settled<'a>
         ensures waiting { result.waiting.items ≡ [] }
         ensures seen { result.seen.items ≡ [] }
@@ -147,7 +149,7 @@ impl<'a> Settled<'a> {
         }
     }
 
-    // A choice, where there is one, is the next thing to do.
+    // Plans a choice as the next task, if there is one.
     #[inline]
     fn plan(&mut self, choice: Option<Choice<'a>>) -> Result<(), AllocError>
         ensures waiting { OnOk result (self.new.waiting.items ≡ self.old.waiting.items) }
@@ -163,7 +165,7 @@ impl<'a> Settled<'a> {
         }
     }
 
-    // A choice that takes something waits; another is the next thing to do.
+    // Lets a choice that consumes something wait, or plans it as the next task.
     #[inline(always)]
     fn take_one(&mut self, choice: Choice<'a>) -> Result<(), AllocError>
         ensures all { (gr : Grammar) (pattern : Items) (p : u.Place) (all : List Waits) →
@@ -185,7 +187,7 @@ impl<'a> Settled<'a> {
         }
     }
 
-    // Takes a choice, where there is one.
+    // Takes a choice, if there is one.
     #[inline(always)]
     fn take(&mut self, choice: Option<Choice<'a>>) -> Result<(), AllocError>
         ensures all { (gr : Grammar) (pattern : Items) (p : u.Place) (all : List Waits) →
@@ -203,7 +205,7 @@ impl<'a> Settled<'a> {
         }
     }
 
-    // Goes on with a thread that has taken nothing here.
+    // Goes on with a thread that has consumed nothing here.
     fn go_on<G: FragmentGrammar>(
         &mut self,
         arena: &'a Bump,
@@ -230,8 +232,8 @@ impl<'a> Settled<'a> {
         Ok(())
     }
 
-    // Goes on with a thread and notes it, unless two threads were settled in its state: these tell that no
-    // reading that goes through it is the only one.
+    // Goes on with a thread and notes it, unless two threads were settled in its state: these
+    // show that no reading through it is the only one.
     fn go_on_noted<G: FragmentGrammar>(
         &mut self,
         arena: &'a Bump,
@@ -257,8 +259,8 @@ impl<'a> Settled<'a> {
         Ok(())
     }
 
-    // Goes on with a thread and notes it, but one that no move leads from is left out or, at the end of the
-    // pattern, not noted.
+    // Goes on with a thread and notes it. One that no move leads from is dropped, or at the end
+    // of the matcher not noted.
     fn go_on_twice<G: FragmentGrammar>(
         &mut self,
         arena: &'a Bump,
@@ -321,7 +323,7 @@ impl<'a> Settled<'a> {
         }
     }
 
-    // Makes the moves of a thread that take nothing, and appends the threads that wait then.
+    // Makes the moves of a thread that consume nothing, and appends the threads that wait then.
     fn settle<G: FragmentGrammar>(
         &mut self,
         arena: &'a Bump,
@@ -343,7 +345,7 @@ impl<'a> Settled<'a> {
         Ok(())
     }
 
-    // Settles a thread; one that is seen to lead to one other alone makes no tasks.
+    // Settles a thread. One that clearly leads to one other alone makes no tasks.
     #[inline(always)]
     fn settle_next<G: FragmentGrammar>(
         &mut self,
@@ -372,7 +374,7 @@ impl<'a> Settled<'a> {
         }
     }
 
-    // Appends the threads that wait after one that waited at the place before.
+    // Appends the threads that wait after one that waited at the position before.
     #[inline(always)]
     fn advance<G: FragmentGrammar>(
         &mut self,
@@ -400,7 +402,7 @@ impl<'a> Settled<'a> {
         }
     }
 
-    // The threads that wait after these, which waited at the place before.
+    // Finds the threads that wait after these, which waited at the position before.
     fn advance_all<G: FragmentGrammar>(
         &mut self,
         arena: &'a Bump,
@@ -422,8 +424,8 @@ impl<'a> Settled<'a> {
         Ok(())
     }
 
-    // Goes on with a thread that waits alone, round after round of one variable, as long as another is seen to
-    // be the only way on.
+    // Goes on with the only thread that waits, iteration by iteration of one metavariable, as
+    // long as another iteration is clearly the only way on.
     fn go_round<G: FragmentGrammar>(
         &mut self,
         arena: &'a Bump,
@@ -450,7 +452,7 @@ impl<'a> Settled<'a> {
         Ok(())
     }
 
-    // Hands the threads that wait over, and holds none.
+    // Hands over the threads that wait, and is left with none.
     #[inline(always)]
     fn hand_over(&mut self, waiting: &mut Vec<Waiting<'a>>)
         ensures handed { waiting.new.items ≡ self.old.waiting.items }
@@ -464,7 +466,7 @@ impl<'a> Settled<'a> {
     }
 }
 
-// Whether a thread takes a fragment while another takes something too.
+// Whether a thread consumes a fragment while another consumes something too.
 #[inline]
 fn has_clash(waiting: &[Waiting<'_>]) -> bool
     ensures { result ≡ clash (flat_map takings_of waiting.now) }
@@ -484,7 +486,7 @@ fn has_clash(waiting: &[Waiting<'_>]) -> bool
     false
 }
 
-// What the first waiting thread takes.
+// What the first waiting thread consumes.
 #[inline]
 fn first_taken(waiting: &[Waiting<'_>]) -> Option<Consumed>
     ensures { result ≡ head_taken waiting.now }
@@ -497,7 +499,7 @@ fn first_taken(waiting: &[Waiting<'_>]) -> Option<Consumed>
     None
 }
 
-// The only list of moves, where none waits.
+// The only list of moves, if no thread waits and there is exactly one.
 fn only_ended<'a>(waiting: &[Waiting<'a>]) -> Option<Option<&'a Entry<'a>>>
     requires { head_taken waiting.now ≡ None }
     ensures { (p : u.Place) → option_map moves_of result ≡ only (flat_map finished (waits p waiting.now)) }
@@ -511,12 +513,15 @@ fn only_ended<'a>(waiting: &[Waiting<'a>]) -> Option<Option<&'a Entry<'a>>>
     }
 }
 
-/// The moves of the one way in which a pattern uses up an argument: the last entry of the log, none in it
-/// where there are no moves. There is no such way where no list of moves uses up the argument, where more
-/// than one does, or where at some place a fragment is taken on one way and something else on another.
-/// (The Rust Reference, "Macros By Example": metavariables, forwarding a fragment.)
+/// The moves of the only reading in which a matcher uses up an argument: the last entry of the
+/// log, or `None` in it if there are no moves. (The Rust Reference, "Macros By Example":
+/// metavariables, forwarding a fragment.)
 ///
-/// At each place at most two threads of one state go on, however many lists of moves lead to it.
+/// There is no such reading if no list of moves uses up the argument, if more than one does, or
+/// if at some position a fragment is consumed on one way and something else on another. No
+/// repetition of the matcher may iterate without end.
+///
+/// At most two threads of one state go on, however many lists of moves lead to it.
 ///
 /// # Errors
 ///

@@ -1,4 +1,4 @@
-//! Positions in an argument, what stands there, and where a move from there leads.
+//! Positions in an argument: the unit at a position, and the position after a move.
 ghost use Rattle.std.specs.Prelude.{◌≡◌, IfOk, Some, option_map, ◌-◌, []};
 ghost use Rattle.tt.specs.Views.{forest};
 ghost use Rattle.mbe_rules.specs.Ops.{separator_of};
@@ -15,31 +15,24 @@ use std::alloc::{AllocError, Global};
 use symbols::Symbol;
 use tt::{DelimiterKind, Leaf, Literal, Punct, TokenTreesView, TtElement, TtIter};
 
-/// A position in the argument: the trees left in the innermost open group, and those after each open group.
+/// A position in the argument: the trees left in the innermost open group, and those after each
+/// open group.
 #[derive(Drop)]
 pub struct Place<'a> {
     pub(crate) rest: TtIter<'a>,
     pub(crate) outer: Vec<TtIter<'a>>,
 }
 
-/// What a move takes.
+/// What a move consumes.
 #[derive(Clone, Copy, Drop)]
 pub enum Consumed {
-    /// One word, literal, glued punct, lifetime or bracket.
+    /// One unit: a leaf, a glued operator, a lifetime or a delimiter.
     Unit,
-    /// A fragment of so many trees.
+    /// A fragment of this many trees.
     Fragment(usize),
 }
 
-// The list once more.
-#[inline(always)]
-pub(crate) fn again<'a>(trees: &TtIter<'a>) -> TtIter<'a>
-    ensures { result ≡ trees.now }
-{
-    trees.remaining().iter()
-}
-
-// The trees after the first one.
+// The trees after the first one, or none if there is none.
 #[inline]
 #[tactic(auto, using(crate::proofs::PlaceLemmas::after_leaf, crate::proofs::PlaceLemmas::after_group, crate::proofs::PlaceLemmas::after_nothing))]
 pub(crate) fn after_first<'a>(trees: &TtIter<'a>) -> TtIter<'a>
@@ -50,16 +43,16 @@ pub(crate) fn after_first<'a>(trees: &TtIter<'a>) -> TtIter<'a>
     }
     match trees.first_group() {
         Some((_brackets, _inner, rest)) => rest,
-        None => again(trees),
+        None => trees.copied(),
     }
 }
 
-// The trees after the first ones.
+// The trees after the first `count`.
 #[inline(always)]
 pub(crate) fn past<'a>(trees: &TtIter<'a>, count: usize) -> TtIter<'a>
     ensures { result ≡ past count trees.now }
 {
-    let mut rest = again(trees);
+    let mut rest = trees.copied();
     let mut left = count;
     while left > 0 {
         rest = after_first(&rest);
@@ -68,7 +61,7 @@ pub(crate) fn past<'a>(trees: &TtIter<'a>, count: usize) -> TtIter<'a>
     rest
 }
 
-// The first trees, and those after them.
+// The first `count` trees, and those after them.
 #[inline(always)]
 pub(crate) fn parted<'a>(trees: &TtIter<'a>, count: usize) -> (TokenTreesView<'a>, TtIter<'a>)
     ensures first { forest result.0 ≡ before count trees.now }
@@ -78,7 +71,7 @@ pub(crate) fn parted<'a>(trees: &TtIter<'a>, count: usize) -> (TokenTreesView<'a
     (rest.passed_since(trees.remaining()), rest)
 }
 
-// The first trees.
+// The first `count` trees.
 #[inline(always)]
 pub(crate) fn before<'a>(trees: &TtIter<'a>, count: usize) -> TokenTreesView<'a>
     ensures { forest result ≡ before count trees.now }
@@ -87,7 +80,7 @@ pub(crate) fn before<'a>(trees: &TtIter<'a>, count: usize) -> TokenTreesView<'a>
     first
 }
 
-// The name behind a quote at the head of a list.
+// The name after a quote at the head of a list, if both are there.
 #[inline]
 #[tactic(auto, using(crate::proofs::LentLemmas::no_quote, crate::proofs::LentLemmas::another_punct, crate::proofs::LentLemmas::a_quote_alone, crate::proofs::LentLemmas::a_quote))]
 pub(crate) fn quoted<'a>(trees: &TtIter<'a>) -> Option<&'a Symbol>
@@ -105,7 +98,8 @@ pub(crate) fn quoted<'a>(trees: &TtIter<'a>) -> Option<&'a Symbol>
     }
 }
 
-// Whether the first trees, as far as they are puncts, have the characters of these.
+// Whether the puncts at the head of a list, at most `count` of them, have exactly the characters
+// of these.
 #[tactic(auto, using(crate::proofs::PlaceLemmas::no_punct, crate::proofs::PlaceLemmas::a_punct))]
 fn same_puncts(puncts: &[Punct], trees: &TtIter<'_>, count: usize) -> bool
     ensures { result ≡ same_text (characters puncts.now) (first_characters count trees.now) }
@@ -126,7 +120,7 @@ fn same_puncts(puncts: &[Punct], trees: &TtIter<'_>, count: usize) -> bool
 }
 
 impl<'a> Place<'a> {
-    /// The head of an argument.
+    /// The position at the beginning of an argument.
     pub fn start(alloc: Global, argument: TokenTreesView<'a>) -> Place<'a>
         ensures { place_of result ≡ u.place (forest argument.entry) [] }
     {
@@ -136,14 +130,14 @@ impl<'a> Place<'a> {
         }
     }
 
-    /// The trees that are left in the innermost open group.
+    /// The trees left in the innermost open group.
     pub fn rest(&self) -> &TtIter<'a>
         ensures { result.now ≡ r.trees_here (place_of self.now) }
     {
         &self.rest
     }
 
-    /// Whether all of the argument is read.
+    /// Whether the whole argument is consumed.
     #[inline(always)]
     pub fn is_end(&self) -> bool
         ensures { result ≡ u.is_end (place_of self.now) }
@@ -154,6 +148,7 @@ impl<'a> Place<'a> {
         self.outer.is_empty()
     }
 
+    // Whether the closing of the innermost open group is here.
     #[inline(always)]
     pub(crate) fn is_closing(&self) -> bool
         ensures { result ≡ same_unit closing (unit_at (place_of self.now)) }
@@ -164,6 +159,7 @@ impl<'a> Place<'a> {
         !self.outer.is_empty()
     }
 
+    // Whether a group with delimiters of this kind opens here.
     #[inline]
     #[tactic(auto, using(crate::proofs::LentLemmas::opened, crate::proofs::LentLemmas::unopened))]
     pub(crate) fn is_opening(&self, kind: DelimiterKind) -> bool
@@ -175,6 +171,7 @@ impl<'a> Place<'a> {
         }
     }
 
+    // Whether an identifier with this name is here, raw or not.
     #[inline]
     #[tactic(auto, using(crate::proofs::LentLemmas::named, crate::proofs::LentLemmas::unnamed))]
     pub(crate) fn is_name(&self, name: &Symbol) -> bool
@@ -186,6 +183,7 @@ impl<'a> Place<'a> {
         }
     }
 
+    // Whether a literal with this text and suffix is here.
     #[tactic(auto, using(crate::proofs::LentLemmas::a_leaf, crate::proofs::LentLemmas::leaf_here, crate::proofs::LentLemmas::no_literal_here))]
     pub(crate) fn is_literal(&self, literal: &Literal) -> bool
         ensures { result ≡ same_unit (a_literal literal.now.text literal.now.suffix) (unit_at (place_of self.now)) }
@@ -201,6 +199,7 @@ impl<'a> Place<'a> {
         }
     }
 
+    // Whether a quote with this name is here.
     pub(crate) fn is_lifetime(&self, name: &Symbol) -> bool
         ensures { result ≡ same_unit (a_lifetime name.now) (unit_at (place_of self.now)) }
     {
@@ -210,6 +209,7 @@ impl<'a> Place<'a> {
         }
     }
 
+    // Whether a glued operator with exactly these characters is here.
     #[tactic(auto, using(crate::proofs::LentLemmas::unglued, crate::proofs::LentLemmas::a_punct_leaf))]
     pub(crate) fn is_puncts(&self, puncts: &[Punct]) -> bool
         ensures { result ≡ same_unit (glued (characters puncts.now)) (unit_at (place_of self.now)) }
@@ -224,7 +224,8 @@ impl<'a> Place<'a> {
         same_puncts(puncts, &self.rest, count)
     }
 
-    // Whether a literal without suffix is the name here, which is `true` or `false`.
+    // Whether a literal without suffix has the text of the identifier here, which is `true` or
+    // `false`.
     fn is_truth(&self, literal: &Literal) -> bool
         ensures { result ≡ is_named_truth literal.now.text literal.now.suffix (unit_at (place_of self.now)) }
     {
@@ -239,6 +240,7 @@ impl<'a> Place<'a> {
         }
     }
 
+    // Whether this separator is here.
     pub(crate) fn is_between(&self, separator: &Separator) -> bool
         ensures { result ≡ is_separator (separator_of separator.now) (unit_at (place_of self.now)) }
     {
@@ -250,7 +252,7 @@ impl<'a> Place<'a> {
         }
     }
 
-    /// The place after a move.
+    /// The position after a move. Out of memory is its only error.
     #[inline]
     #[tactic(auto, using(crate::proofs::LentLemmas::past_unit, crate::proofs::LentLemmas::into_group))]
     pub fn after(self, taken: Consumed) -> Result<Place<'a>, AllocError>
@@ -282,7 +284,7 @@ impl<'a> Place<'a> {
     }
 }
 
-// How many trees the unit has at the head of a list.
+// How many trees the unit at the head of a list has.
 fn unit_trees(trees: &TtIter<'_>) -> usize
     ensures { result ≡ unit_trees trees.now }
 {

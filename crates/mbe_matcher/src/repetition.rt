@@ -1,5 +1,5 @@
-//! Repetitions of a single variable with no alternative: their iterations are consumed in one loop. This decides
-//! speed alone.
+//! Repetitions of a single metavariable with no other way on: their iterations are consumed in one
+//! loop. This decides speed alone.
 ghost use Rattle.std.specs.Prelude.{◌≡◌, ◌≢◌, true, [], ◌∷◌, ◌++◌, Some, IfOk, IfSome};
 ghost use Rattle.tt.specs.Views.{forest};
 ghost use Rattle.tt_data.specs.Forest.{empty};
@@ -15,7 +15,7 @@ ghost use Rattle.mbe_matcher.specs.declared.position.Consumed.TheVariants.{Fragm
 
 use crate::fragments::fragment_trees;
 use crate::matcher::Waiting;
-use crate::position::{Consumed, Place, after_first, again, before, parted, past};
+use crate::position::{Consumed, Place, after_first, before, parted, past};
 use crate::thread::{Frame, Move, Round, Rung, Thread, extended_by_round, extended_by_rounds};
 use bumpalo::Bump;
 use fragment_grammar::FragmentGrammar;
@@ -25,8 +25,8 @@ use std::mem;
 use symbols::Symbol;
 use tt::{TokenTreesView, TtIter};
 
-// The variable that is all of a round, where rounds follow each other without separator and nothing comes
-// after the last of them.
+// The metavariable that is the whole body of a repetition, if the repetition has no separator, its
+// operator is not `?`, and no op comes after it in its list.
 #[inline(always)]
 fn lone_variable<'a>(round: &Round<'a>) -> Option<(&'a Symbol, MetaVarKind)>
     ensures { IfSome result (λ v. IsLone round.now v.0.now v.1) }
@@ -53,7 +53,7 @@ fn lone_variable<'a>(round: &Round<'a>) -> Option<(&'a Symbol, MetaVarKind)>
     }
 }
 
-// Whether these groups and rounds, once all their items are passed, are left at an end alone: of a group, or
+// Whether only an end can come after the present list of ops: the closing of a group, or the end
 // of the argument.
 #[inline(always)]
 fn is_shut<'a>(frames: Option<&'a Rung<'a>>) -> bool
@@ -68,7 +68,7 @@ fn is_shut<'a>(frames: Option<&'a Rung<'a>>) -> bool
     }
 }
 
-// How many trees a round of a variable takes at the head of a list, where it takes some.
+// How many trees an iteration takes at the head of a list, if it takes any.
 #[inline(always)]
 fn trees_of_round<G: FragmentGrammar>(
     grammar: &G,
@@ -86,8 +86,8 @@ fn trees_of_round<G: FragmentGrammar>(
     }
 }
 
-// Whether a round of a variable is seen to take a single tree at the head of a list. A grammar is not asked, since
-// where it takes more it would be asked again.
+// Whether an iteration clearly takes a single tree at the head of a list. The grammar is not
+// asked: for a longer fragment it would have to be asked again.
 #[inline(always)]
 fn is_single<G: FragmentGrammar>(grammar: &G, kind: MetaVarKind, trees: &TtIter<'_>) -> bool
     ensures { result ≡ true → (trees.now ≢ empty) × (taken (G.answer grammar.now) kind trees.now ≡ Some 1) }
@@ -103,8 +103,8 @@ fn is_single<G: FragmentGrammar>(grammar: &G, kind: MetaVarKind, trees: &TtIter<
     }
 }
 
-// The trees at the head of a list of which a round takes one each, with what begins with the last of them and what is
-// behind it.
+// The trees at the head of a list that are an iteration each, the list from the last of them on,
+// and the list after it.
 #[inline(always)]
 fn singles<'a, G: FragmentGrammar>(
     grammar: &G,
@@ -116,7 +116,7 @@ fn singles<'a, G: FragmentGrammar>(
     if !is_single(grammar, kind, trees) {
         return None;
     }
-    let mut last = again(trees);
+    let mut last = trees.copied();
     let mut rest = after_first(trees);
     while is_single(grammar, kind, &rest) {
         let behind = after_first(&rest);
@@ -126,7 +126,8 @@ fn singles<'a, G: FragmentGrammar>(
     Some((rest.passed_since(trees.remaining()), last, rest))
 }
 
-// A thread that goes on round after round: how many trees the last round has, and what is behind it.
+// A thread that goes on iteration by iteration: how many trees the last iteration takes, and the
+// trees after it.
 #[derive(Drop)]
 struct Going<'a> {
     thread: Thread<'a>,
@@ -140,7 +141,7 @@ impl<'a> Going<'a> {
     ghost use Rattle.mbe_matcher.specs.Threads.{Waits};
     ghost use Rattle.mbe_matcher.specs.Units as u;
 
-    // Rounds of a single tree each are passed: whether there are some.
+    // Passes the next iterations that take a single tree each. `false` if there are none.
     #[inline(always)]
     fn pass_singles<G: FragmentGrammar>(
         &mut self,
@@ -164,7 +165,7 @@ impl<'a> Going<'a> {
         Ok(true)
     }
 
-    // A round is passed: whether there is one.
+    // Passes one iteration. `false` if there is none.
     #[inline(always)]
     fn pass_round<G: FragmentGrammar>(
         &mut self,
@@ -191,7 +192,8 @@ impl<'a> Going<'a> {
 }
 
 impl<'a> Thread<'a> {
-    // The variable of whose rounds one has ended, where no other way leads on but at an end.
+    // The metavariable of an iteration that has just ended, if only another iteration can follow
+    // but for an end.
     #[inline(always)]
     fn lone_variable(&self) -> Option<(&'a Symbol, MetaVarKind)>
         ensures { IfSome result (λ v. HasLone (items_of self.now.items.now) (frames_of self.now.frames) v.0.now v.1) }
@@ -211,7 +213,7 @@ impl<'a> Thread<'a> {
         lone_variable(round)
     }
 
-    // The thread after one more round, of one fragment.
+    // The thread after one more iteration, which takes one fragment of `count` trees.
     #[inline(always)]
     fn another_round(
         &self,
@@ -236,8 +238,9 @@ impl<'a> Thread<'a> {
         })
     }
 
-    // The thread after as many more rounds as are seen to be the only way on, and how many trees the last one
-    // has, at its place; this one's last move takes `count` trees.
+    // The thread after as many more iterations as are clearly the only way on, and how many trees
+    // the last one takes. `place` moves to where that one begins. This thread's last move takes
+    // `count` trees.
     pub(crate) fn after_rounds<G: FragmentGrammar>(
         &self,
         arena: &'a Bump,
@@ -264,8 +267,8 @@ impl<'a> Thread<'a> {
         Ok((now.thread, now.count))
     }
 
-    // What alone waits after a thread of which a round has ended, where it is one of a variable and the place
-    // is at no end. Not all that wait alone are found.
+    // The only thread that waits after this one, if an iteration of a single metavariable has
+    // ended and no end is here. Not all threads that wait alone are found.
     #[inline]
     pub(crate) fn alone<G: FragmentGrammar>(
         &self,

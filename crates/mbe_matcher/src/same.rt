@@ -1,11 +1,12 @@
-//! Whether two names have the same text.
+//! Compares the texts of two names.
 ghost use Rattle.std.specs.Prelude.{◌≡◌};
 ghost use Rattle.std.specs.Str.{bytes_eq};
 ghost use Rattle.mbe_rules.specs.Text.{same_text};
 
 use symbols::Symbol;
 
-// Whether these are the same bytes. They are compared one by one: most that differ do so in length.
+// Whether these are the same bytes. They are compared one by one: most texts that differ do so in
+// length.
 fn is_equal(first: &[u8], second: &[u8]) -> bool
     ensures { result ≡ bytes_eq first.now second.now }
 {

@@ -18,7 +18,7 @@ use mbe_rules::{MetaVarKind, Op, RepeatKind, Separator};
 use std::alloc::AllocError;
 use symbols::Symbol;
 
-/// A thread after one more move, and what that move takes.
+/// A thread after one more move, and what that move consumes.
 #[derive(Clone, Copy, Drop)]
 pub struct Choice<'a> {
     pub thread: Thread<'a>,
@@ -28,6 +28,14 @@ pub struct Choice<'a> {
 /// The next moves of a thread: at most two.
 pub type Choices<'a> = (Option<Choice<'a>>, Option<Choice<'a>>);
 
+// A metavariable of a matcher, and its fragment specifier.
+#[derive(Clone, Copy)]
+struct Variable<'a> {
+    name: &'a Symbol,
+    kind: MetaVarKind,
+}
+
+// The separator, borrowed.
 fn borrowed<'a>(separator: &'a Option<Separator>) -> Option<&'a Separator>
     ensures { between_of result ≡ option_map separator_of separator.now }
 {
@@ -38,7 +46,7 @@ fn borrowed<'a>(separator: &'a Option<Separator>) -> Option<&'a Separator>
 }
 
 impl<'a> Thread<'a> {
-    // The thread after a unit of the pattern, where that is here.
+    // The thread after a unit of the matcher, if it is here. `items` are the ops after it.
     fn units(
         &self,
         arena: &'a Bump,
@@ -61,20 +69,22 @@ impl<'a> Thread<'a> {
         ))
     }
 
-    // The thread after a fragment, where one is here.
+    // The thread after a fragment of `count` trees, if there is one here. Only a `vis` may take
+    // none. `items` are the ops after it.
     fn fragments(
         &self,
         arena: &'a Bump,
-        name: &'a Symbol,
-        kind: MetaVarKind,
+        variable: Variable<'a>,
         count: Option<usize>,
         items: &'a [Op],
         place: &Place<'a>,
     ) -> Result<Choices<'a>, AllocError>
         ensures { let p = place_of place.now in
             IfOk result (λ cs. given p cs.0 ++ given p cs.1
-            ≡ map (extended (moves_of self.now.moves)) (r.fragment_moves name.now kind count (items_of items.now) (frames_of self.now.frames) p)) }
+            ≡ map (extended (moves_of self.now.moves)) (r.fragment_moves variable.entry.name.now variable.entry.kind count
+            (items_of items.now) (frames_of self.now.frames) p)) }
     {
+        let Variable { name, kind } = variable;
         match count {
             None => Ok((None, None)),
             Some(0) => {
@@ -105,7 +115,8 @@ impl<'a> Thread<'a> {
         }
     }
 
-    // The threads after entering a repetition and after skipping it.
+    // The thread in the first iteration of a repetition, and unless the operator is `+` the one
+    // after skipping it.
     fn repetitions(&self, arena: &'a Bump, round: Round<'a>) -> Result<Choices<'a>, AllocError>
         ensures { (g : Grammar) (p : u.Place) → IfOk result (λ cs. given p cs.0 ++ given p cs.1
             ≡ map (extended (moves_of self.now.moves))
@@ -129,7 +140,8 @@ impl<'a> Thread<'a> {
         Ok((first, second))
     }
 
-    // The thread after a group's opening, where that is here.
+    // The thread after the opening of a group, if it is here. `inner` are the ops of the group,
+    // and `after` those after it.
     fn openings(
         &self,
         arena: &'a Bump,
@@ -177,6 +189,7 @@ impl<'a> Thread<'a> {
         }
     }
 
+    // The next moves at this op, which is the first one left. `rest` are the ops after it.
     fn choices_at<G: FragmentGrammar>(
         &self,
         arena: &'a Bump,
@@ -216,8 +229,9 @@ impl<'a> Thread<'a> {
                 kind: Some(kind),
                 ..
             } => {
+                let variable = Variable { name, kind: *kind };
                 let count = fragment_trees(grammar, *kind, &place.rest);
-                let choices = self.fragments(arena, name, *kind, count, rest, place)?;
+                let choices = self.fragments(arena, variable, count, rest, place)?;
                 Ok(choices)
             }
             Op::Repeat {
@@ -238,6 +252,7 @@ impl<'a> Thread<'a> {
         }
     }
 
+    // The next moves at the end of the ops of this frame. `around` are the frames around it.
     fn choices_after(
         &self,
         arena: &'a Bump,
@@ -267,7 +282,7 @@ impl<'a> Thread<'a> {
         }
     }
 
-    // The thread after a group's closing, where that is here.
+    // The thread after the closing of a group, if it is here.
     fn after_group(
         &self,
         arena: &'a Bump,
@@ -292,7 +307,7 @@ impl<'a> Thread<'a> {
         Ok((Some(choice), None))
     }
 
-    // The thread in the next round, where there may be one.
+    // The thread in the next iteration, after a separator. There is none for the operator `?`.
     fn after_separator(
         &self,
         arena: &'a Bump,
@@ -318,7 +333,8 @@ impl<'a> Thread<'a> {
         Ok((Some(choice), None))
     }
 
-    // The threads after the separator or in the next round, and after the repetition.
+    // The thread after the separator, if that is here. Without a separator it is the thread in the
+    // next iteration, unless the operator is `?`. And the thread after the repetition.
     fn after_round(
         &self,
         arena: &'a Bump,
@@ -354,7 +370,7 @@ impl<'a> Thread<'a> {
                 if round.kind == RepeatKind::ZeroOrOne {
                     return Ok((None, last));
                 }
-                // the round stays open
+                // The frame stays: it is the same repetition.
                 let thread = self.moved(arena, round.body, self.frames, Move::NextRound)?;
                 let first = Choice {
                     thread,

@@ -1,4 +1,4 @@
-//! Threads: partial readings of a pattern, with the log of their moves.
+//! Threads: partial readings by a matcher, with the log of their moves.
 ghost use Rattle.std.specs.Prelude.{◌≡◌, [], ◌∷◌, ◌++◌, IfOk, option_map, true};
 ghost use Rattle.std.specs.List.{slice_get};
 ghost use Rattle.tt.specs.Views.{forest};
@@ -24,57 +24,58 @@ pub(crate) struct Round<'a> {
     pub(crate) after: &'a [Op],
 }
 
-// What goes on after the present list of items.
+// What goes on after the present list of ops.
 #[derive(Clone, Copy)]
 pub(crate) enum Frame<'a> {
     // After a group's closing.
     InGroup { after: &'a [Op] },
-    // After a round.
+    // After an iteration.
     InRound(Round<'a>),
-    // After a separator, behind which only another round may come.
+    // After a separator, when only another iteration may come.
     Parted(Round<'a>),
 }
 
 /// A move of a reading.
 #[derive(Clone, Copy, Drop)]
 pub enum Move<'a> {
-    /// Over a word, a glued punct, a lifetime or a bracket.
+    /// Over a unit: a leaf, a glued operator, a lifetime or a delimiter.
     Unit,
-    /// Over the trees that a variable takes.
+    /// Over the trees of a fragment.
     Fragment {
         name: &'a Symbol,
         kind: MetaVarKind,
         trees: TokenTreesView<'a>,
     },
-    /// A `vis` that takes nothing.
+    /// A `vis` that consumes nothing.
     Nothing {
         name: &'a Symbol,
     },
-    /// Into the first round of a repetition.
+    /// Into the first iteration of a repetition.
     Enter,
-    /// Past a repetition, whose body this is.
+    /// Past a repetition with this body, without an iteration.
     Skip {
         body: &'a [Op],
     },
-    /// Out of a repetition, after a round.
+    /// Out of a repetition, after an iteration.
     Leave,
     /// Over a separator.
     Separator,
-    /// Into another round.
+    /// Into another iteration.
     NextRound,
 }
 
-// The rounds that begin with an entry of the log: the moves into them have no entries of their own.
+// The iterations that begin with an entry of the log. The moves into them have no entries of
+// their own.
 #[derive(Clone, Copy, Drop)]
 pub(crate) enum IterationStart {
     Nothing,
     Round,
-    // One for each tree of the fragment that was taken, which is all that the round takes.
+    // One for each tree of the fragment that was consumed. Each iteration consumes only its tree.
     RoundForEach,
 }
 
-/// A move of the log, and the entry of the move before it; or rounds that are one variable, of one tree each, as
-/// many as follow each other. Entries are shared by the threads that came by them.
+/// A move of the log, and the entry of the move before it; or several iterations of a single
+/// metavariable that consume one tree each. Threads share entries.
 #[derive(Clone, Copy, Drop)]
 pub struct Entry<'a> {
     pub(crate) begun: IterationStart,
@@ -114,7 +115,7 @@ pub(crate) fn extended<'a>(
     with_entry(arena, before, IterationStart::Nothing, made)
 }
 
-// The log with a move into another round, and one more.
+// The log with a move into another iteration, and one more.
 #[inline(always)]
 pub(crate) fn extended_by_round<'a>(
     arena: &'a Bump,
@@ -126,7 +127,7 @@ pub(crate) fn extended_by_round<'a>(
     with_entry(arena, before, IterationStart::Round, made)
 }
 
-// The log with a round for each of these trees, which takes it for the variable.
+// The log with an iteration for each of these trees, which is the metavariable's value there.
 #[inline(always)]
 pub(crate) fn extended_by_rounds<'a>(
     arena: &'a Bump,
@@ -141,14 +142,14 @@ pub(crate) fn extended_by_rounds<'a>(
     with_entry(arena, before, IterationStart::RoundForEach, made)
 }
 
-// A group or round that a thread is in, and the one around it. Those around are shared by all threads in it.
+// A group or repetition that a thread is in, and the one around it. Threads share those around.
 #[derive(Clone, Copy, Drop)]
 pub(crate) struct Rung<'a> {
     pub(crate) frame: Frame<'a>,
     pub(crate) around: Option<&'a Rung<'a>>,
 }
 
-// The groups and rounds with one more inside.
+// The groups and repetitions, with one more inside.
 #[inline(always)]
 pub(crate) fn inside<'a>(
     arena: &'a Bump,
@@ -163,7 +164,7 @@ pub(crate) fn inside<'a>(
     Ok(Some(rung))
 }
 
-/// A partial reading: the items that it goes on with, the groups and rounds that it is in, and its moves.
+/// A partial reading: the ops that come next, the groups and repetitions it is in, and its moves.
 #[derive(Clone, Copy, Drop)]
 pub struct Thread<'a> {
     pub(crate) items: &'a [Op],
@@ -172,7 +173,7 @@ pub struct Thread<'a> {
 }
 
 impl<'a> Thread<'a> {
-    /// The thread that begins to read a pattern.
+    /// The thread that begins to read by a matcher.
     pub fn start(pattern: &'a [Op]) -> Thread<'a>
         ensures state { (p : u.Place) → state_of result p ≡ r.at (items_of pattern.now) [] p }
         ensures moves { moves_of result.moves ≡ [] }
@@ -184,7 +185,7 @@ impl<'a> Thread<'a> {
         }
     }
 
-    /// Whether all items are passed, and no group or round is open.
+    /// Whether all ops are read, and no group or repetition is open.
     pub fn is_past_pattern(&self) -> bool
         ensures { (p : u.Place) → u.is_end p ≡ true → result ≡ r.has_used_up (state_of self.now p) }
     {
@@ -197,7 +198,7 @@ impl<'a> Thread<'a> {
         }
     }
 
-    /// The item that is read next, where one is left in the innermost group or round.
+    /// The op that is read next, if one is left in the innermost group or iteration.
     pub fn next_item(&self) -> Option<&'a Op>
         ensures { option_map (λ op. op.now) result ≡ slice_get self.now.items.now 0 }
     {
@@ -211,7 +212,7 @@ impl<'a> Thread<'a> {
         self.moves
     }
 
-    // The thread after a move, in these groups and rounds.
+    // The thread after a move, in these groups and repetitions.
     #[inline(always)]
     pub(crate) fn moved(
         &self,
@@ -232,7 +233,7 @@ impl<'a> Thread<'a> {
         })
     }
 
-    // Whether the pattern is read to its end.
+    // Whether the matcher and the argument are read to their ends.
     #[inline(always)]
     pub(crate) fn has_ended(&self, place: &Place<'a>) -> bool
         ensures { result ≡ r.has_used_up (state_of self.now (place_of place.now)) }

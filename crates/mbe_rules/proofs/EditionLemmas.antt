@@ -1,4 +1,4 @@
--- The editions of the two contexts are all that a function over contexts says.
+-- A function over contexts is given by the editions of the two contexts.
 use Rattle.std.proofs.Common.{◌≡◌}
 use Rattle.std.proofs.Math.Path.{fun_ext}
 use Rattle.tt_data.specs.declared.edition.Edition.{Edition}

@@ -1,4 +1,4 @@
--- Equality by `==` of an error with its span.
+-- Equality by `==` of errors with their spans.
 use Rattle.std.proofs.Common.{◌∙◌, Bool, ap, refl}
 use Rattle.std.specs.Prelude.{◌&&◌}
 use Rattle.std.specs.Cmp.{first_so, second_so}

@@ -1,4 +1,4 @@
--- Rows: texts of errors, and styles as bits, by computation.
+-- Worked examples, by computation: texts of errors, and styles as bits.
 use Rattle.std.proofs.Common.{◌≡◌, refl, Some, codes, bit_or}
 use Rattle.bitflags.proofs.OnLiterals.{bitflags_on_literals}
 use Rattle.bitflags.specs.Sets.{known_bits, find_name}

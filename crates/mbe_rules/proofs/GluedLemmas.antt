@@ -1,4 +1,4 @@
--- A glued punct, as what a punct begins.
+-- Glued operators, by their first punct.
 use Rattle.std.proofs.Common.{◌≡◌, refl, sym, ap, ◌∙◌, ℕ, zero, suc, ◌-◌, ◌≤◌, List, [], ◌∷◌, length, arith, Ok}
 use Rattle.tt_data.specs.Forest.{Forest, leaf, joined}
 use Rattle.tt_data.specs.declared.leaf.Leaf.{Leaf}

@@ -1,4 +1,4 @@
--- A program's items, one by one.
+-- The ops of a matcher or transcriber, one by one.
 use Rattle.std.proofs.Common.{◌≡◌, refl, sym, ap, ◌∙◌, Bool, true, false, Option, Some, None, option_map, option_and_then, is_some, ◌&&◌, ◌||◌, if◌then◌else◌}
 use Rattle.std.specs.declared.vec.Vec.{Vec}
 use Rattle.std.specs.declared.alloc.Global.{Global}

@@ -1,4 +1,4 @@
--- The rules that are read of a definition at other places are the rules at other spans.
+-- Parsing rules commutes with a span map.
 use Rattle.std.proofs.Common.{◌≡◌, refl, ℕ, zero, suc, ◌+◌, List, [], ◌∷◌, map, if◌then◌else◌, Bool, true, false, Option, Some, None, option_map, Ok, Err}
 use Rattle.std.specs.List.{list_any}
 use Rattle.tt_data.specs.Forest.{Forest, empty, leaf, group, map_spans}

@@ -1,4 +1,4 @@
--- What changes with the places of trees, and what doesn't.
+-- What changes with the spans of trees, and what does not.
 use Rattle.std.proofs.Common.{◌≡◌, refl, ap, ℕ, suc, ◌∷◌, map, Some, None}
 use Rattle.tt_data.specs.Forest.{Forest, empty, leaf, group, map_spans}
 use Rattle.tt_data.specs.Spans.{leaf_with, delimiter_with}

@@ -1,4 +1,4 @@
--- Rows: what is read of a definition, by computation.
+-- Worked examples, by computation: the rules that are parsed from a definition.
 use Rattle.std.proofs.Common.{◌≡◌, refl, List, [], ◌∷◌, Option, Some, None, codes, map, Ok}
 use Rattle.std.specs.Prelude.{slice_index}
 use Prim.Native.String.{String}

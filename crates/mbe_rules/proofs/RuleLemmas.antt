@@ -1,4 +1,4 @@
--- The parts of a rule, by trees that are passed.
+-- The parts of a rule, tree by tree.
 use Rattle.std.proofs.Common.{◌≡◌, refl, ap, ◌∙◌, ℕ, suc, ◌+◌, Bool, true, false, nat_eq, List, [], ◌∷◌, Option, Some, None, Ok, Err, if◌then◌else◌, arith}
 use Rattle.tt_data.specs.Forest.{Forest, empty, leaf, group}
 use Rattle.tt_data.specs.declared.delimiter.Delimiter.{Delimiter}

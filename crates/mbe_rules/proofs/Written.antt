@@ -1,5 +1,6 @@
--- Trees as they are written, for the rows alone: words, numbers with a suffix, strings without escapes, brackets, and
--- puncts of which each is joint that another follows directly. A quote is joint.
+-- Trees as they are written, for the worked examples alone: identifiers, numbers with a suffix,
+-- strings without escapes, brackets, and puncts. A punct is joint if another follows directly, and
+-- a quote always is.
 use Rattle.std.proofs.Common.{ℕ, suc, zero, ◌+◌, Bool, true, false, List, [], ◌∷◌, length, take, drop, codes, ◌&&◌, ◌||◌, not, nat_eq, nat_le, if◌then◌else◌}
 use Rattle.std.specs.Prelude.{slice_index}
 use Rattle.std.specs.List.{prefix_len, list_any, starts_with}

@@ -1,4 +1,4 @@
--- What a clone has to be for a clone of a whole to be the same.
+-- What clones of parts must be, so that a clone of the whole is the same.
 use Rattle.std.specs.Prelude.{◌≡◌}
 
 -- each clone of the value is that value

@@ -1,4 +1,4 @@
--- Expressions over variables: what is in `${..}`.
+-- Metavariable expressions: what is in `${..}`.
 -- (Rust's unstable book, `macro_metavar_expr` and `macro_metavar_expr_concat`.)
 use Rattle.std.specs.Prelude.{ℕ, ◌^◌, ◌&&◌, not, List, [], ◌∷◌, if◌then◌else◌, Option, Some, None, option_map, option_and_then, nat_lt}
 use Rattle.std.specs.Str.{all_ascii_digits}
@@ -10,12 +10,12 @@ use Rattle.mbe_rules.specs.Text.{same_kind, is, is_character, is_nil}
 use Rattle.mbe_rules.specs.Trees.{Sign, name, literal, punct, signs}
 use Rattle.mbe_rules.specs.Items.{Part, itself, value_of, Dollar, count_of, index_of, len_of, ignore_of, concat_of}
 
--- the number that these decimal digits spell, one or more, where a `usize` has room for it: it has 64 bits
+-- the number that one or more decimal digits spell, if it fits a `usize`, which has 64 bits
 abbrev pub number_of_digits : List ℕ → Option ℕ
 number_of_digits [] = None
 number_of_digits ds = if all_ascii_digits ds && nat_lt (digits_value 10 ds) (2 ^ 64) then Some (digits_value 10 ds) else None
 
--- the same, with the `+` that may come before the digits
+-- the number that digits spell, perhaps with a `+` before them
 abbrev pub number_in : List ℕ → Option ℕ
 number_in text = number_of_digits (without_leading_plus text)
 
@@ -48,7 +48,7 @@ ignore_in ss = option_and_then (λ (v : List ℕ × List Sign). if is_nil v.1 th
 abbrev pub with_part : Part → Option (List Part) → Option (List Part)
 with_part p ps = option_map (λ qs. p ∷ qs) ps
 
--- parts with commas between them, and perhaps one after the last: a literal, a name or `_`, or `$` and such a name
+-- parts with commas between them, perhaps with one after the last: a literal, a name, or `$name`
 abbrev mutual
   pub parts_in : List Sign → Option (List Part)
   parts_in [] = Some []

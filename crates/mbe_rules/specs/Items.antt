@@ -1,4 +1,4 @@
--- The rules of a definition: a style, a pattern and a template each. (The Rust Reference, "Macros By Example".)
+-- The rules of a definition. (The Rust Reference, "Macros By Example".)
 use Rattle.std.specs.Prelude.{ℕ, Bool, true, false, ◌&&◌, ◌||◌, List, [], ◌∷◌, ◌++◌, Option, Some, None}
 use Rattle.tt_data.specs.declared.delimiter.Delimiter.{Delimiter}
 use Rattle.tt_data.specs.declared.leaf.Ident.{Ident}
@@ -13,29 +13,29 @@ use Rattle.mbe_rules.specs.declared.parser.RepeatKind.{RepeatKind}
 use Rattle.mbe_rules.specs.declared.parser.RepeatKind.TheVariants.{OneOrMore}
 use Rattle.mbe_rules.specs.declared.macro_call_style.MacroCallStyle.{MacroCallStyle}
 
--- a part of `${concat(..)}`: a text that means itself, or a variable
+-- a part of `${concat(..)}`: a text that means itself, or a metavariable
 pub data Part : Type 0 where
   itself : List ℕ → Part
   value_of : List ℕ → Part
 
--- what a `$` begins that holds no items of its own
+-- what a `$` begins that has no ops inside
 pub data Dollar : Type 0 where
-  -- `$name:kind`, where another word than the fragment specifiers names none; in a template `$name`, with none
+  -- `$name:kind`, with none if the word is no specifier; in a transcriber `$name`, with none
   variable : (name : List ℕ) → Option MetaVarKind → Dollar
-  -- `${count($name, depth)}` and its like
+  -- `${count($name, depth)}` and so on
   count_of : (name : List ℕ) → (depth : ℕ) → Dollar
   index_of : (depth : ℕ) → Dollar
   len_of : (depth : ℕ) → Dollar
   ignore_of : (name : List ℕ) → Dollar
   concat_of : List Part → Dollar
 
--- an item that holds no items
+-- an op without ops inside
 pub data Item : Type 0 where
   -- an identifier or a literal
   word : Leaf → Item
-  -- one to three puncts that are glued to one
+  -- one to three puncts that are glued to one operator
   puncts : List Punct → Item
-  -- in a pattern, a quote and its name
+  -- in a matcher, a quote and its name
   lifetime : Punct → Ident → Item
   -- what a `$` begins, with the span of the `$`
   dollar : Dollar → Span → Item
@@ -47,25 +47,25 @@ pub data Separator : Type 0 where
   lifetime_between : Punct → Ident → Separator
   puncts_between : List Punct → Separator
 
--- a pattern or a template: a list of items, of groups with items inside, and of repetitions
+-- a matcher or a transcriber: a list of ops, of groups with ops inside, and of repetitions
 pub data Items : Type 0 where
   done : Items
   item : Item → Items → Items
   group_of : Delimiter → Items → Items → Items
   repetition : (body : Items) → Option Separator → RepeatKind → Items → Items
 
--- a rule: the style of the calls it is for, its pattern and its template
+-- a rule: the style of the calls it is for, its matcher and its transcriber
 pub record Rule : Type 0 where
   pub style : MacroCallStyle
   pub pattern : Items
   pub template : Items
 
--- what is read of a definition: its rules, and the first fault, with which it is broken
+-- what is parsed of a definition: its rules, and the first fault, which makes it invalid
 pub record Rules : Type 0 where
   pub list : List Rule
   pub err : Option ParseError
 
--- the names of all variables that a pattern binds, in order
+-- the names of all metavariables that a matcher binds, in order
 abbrev pub variables : Items → List (List ℕ)
 variables done = []
 variables (item (dollar (variable n k) s) rest) = n ∷ variables rest
@@ -78,14 +78,14 @@ abbrev pub may_skip : RepeatKind → Bool
 may_skip OneOrMore = false
 may_skip _ = true
 
--- whether a pattern can match nothing
+-- whether a matcher can match nothing
 abbrev pub can_match_nothing : Items → Bool
 can_match_nothing done = true
 can_match_nothing (item (dollar (variable n (Some Vis)) s) rest) = can_match_nothing rest
 can_match_nothing (repetition body sep op rest) = (may_skip op || can_match_nothing body) && can_match_nothing rest
 can_match_nothing _ = false
 
--- whether a repetition without separator, anywhere in a pattern, can match nothing in an iteration
+-- whether a repetition without separator, anywhere in a matcher, can have an empty iteration
 abbrev pub has_empty_round : Items → Bool
 has_empty_round done = false
 has_empty_round (item i rest) = has_empty_round rest

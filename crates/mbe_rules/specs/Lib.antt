@@ -8,11 +8,11 @@ pub mod Expressions
 pub mod Patterns
 pub mod Parsing
 pub mod Editions
--- what the program's rules mean, when two are equal, and the same rules at other places
+-- what the code's rules mean, when two are equal, and rules under a span map
 pub mod Ops
 pub mod Likeness
 pub mod Relabelling
--- errors' texts, styles of calls as bits, and what a clone has to be
+-- errors' texts, styles of calls as bits, and what clones must be
 pub mod Messages
 pub mod Styles
 pub mod Clones

@@ -1,5 +1,5 @@
--- When two separators are alike: they are of one sort and have the same text, and literals the same suffix; spans, spacing, rawness
--- and the forms of literals don't count.
+-- When two separators are alike: they are of one sort and have the same text, and literals the
+-- same suffix; spans, spacing, rawness and the forms of literals don't count.
 use Rattle.std.specs.Prelude.{ℕ, Bool, ◌&&◌, ◌==◌, List, []}
 use Rattle.std.specs.Str.{bytes_eq}
 use Rattle.tt.specs.Glued.{characters}
@@ -13,7 +13,7 @@ sort_of (separator.Ident i) = 1
 sort_of (separator.Lifetime p i) = 2
 sort_of (separator.Puncts ps) = 3
 
--- its text: of a lifetime the name
+-- its text: that of the name for a lifetime
 abbrev pub text_between : Separator → List ℕ
 text_between (separator.Literal l) = l.text
 text_between (separator.Ident i) = i.sym
@@ -25,6 +25,6 @@ abbrev pub suffix_between : Separator → List ℕ
 suffix_between (separator.Literal l) = l.suffix
 suffix_between _ = []
 
--- the two are alike
+-- the two separators are alike
 abbrev pub same_separator : Separator → Separator → Bool
 same_separator a b = (sort_of a == sort_of b) && (bytes_eq (text_between a) (text_between b) && bytes_eq (suffix_between a) (suffix_between b))

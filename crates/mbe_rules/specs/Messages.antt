@@ -7,7 +7,7 @@ use Rattle.mbe_rules.specs.declared.errors.ExpandErrorKind.TheVariants as kind
 use Rattle.mbe_rules.specs.declared.errors.ParseError.{ParseError}
 use Rattle.mbe_rules.specs.declared.errors.ParseError.TheVariants.{UnexpectedToken, Expected, InvalidRepeat, RepetitionEmptyTokenTree}
 
--- why rules cannot be read; an error with a text is that text
+-- why rules cannot be parsed; an error with a text is displayed as that text
 abbrev pub parse_message : ParseError → List ℕ
 parse_message (UnexpectedToken text) = text
 parse_message (Expected text) = text

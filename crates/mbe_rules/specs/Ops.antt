@@ -1,4 +1,4 @@
--- What the rules that a program keeps mean.
+-- What the rules of the code mean.
 use Rattle.std.specs.Prelude.{List, [], ◌∷◌, map, option_map}
 use Rattle.tt_data.specs.declared.leaf.Leaf.TheVariants as as_leaf
 use Rattle.mbe_rules.specs.Items as spec
@@ -23,7 +23,7 @@ separator_of (separator.Ident i) = ident_between i
 separator_of (separator.Lifetime p i) = lifetime_between p i
 separator_of (separator.Puncts ps) = puncts_between ps.items
 
--- an item before others, and the items of a row
+-- an op before others, and the ops of a row
 abbrev mutual
   pub put_op : Op → Items → Items
   put_op (Var name kind id) rest = item (dollar (variable name kind) id) rest
@@ -43,7 +43,7 @@ abbrev mutual
   row_items end_of-Op = done
   row_items (more_of-Op o row) = put_op o (row_items row)
 
--- the items of a list
+-- the ops of a list
 abbrev pub items_of : List Op → Items
 items_of [] = done
 items_of (o ∷ os) = put_op o (items_of os)

@@ -1,5 +1,6 @@
--- What is read of a definition: its rules, and the first fault. (The Rust Reference, "Macros By Example": MacroRules.
--- RFCs 3697 and 3698: rules for attributes and for derives. Rust's unstable book, `decl_macro`: definitions by `macro`.)
+-- What is parsed of a definition: its rules, and the first fault. (The Rust Reference, "Macros By
+-- Example": MacroRules. RFCs 3697 and 3698: rules for attributes and for derives. Rust's unstable
+-- book, `decl_macro`: definitions by `macro`.)
 use Rattle.std.specs.Prelude.{ℕ, zero, suc, ◌+◌, Bool, ◌||◌, List, [], ◌∷◌, codes, if◌then◌else◌, Option, Some, None, Ok, Err}
 use Rattle.std.specs.List.{list_any}
 use Rattle.tt_data.specs.Forest.{Forest, empty, leaf, group}
@@ -32,7 +33,7 @@ abbrev pub a_greater : List Sign → Parsed (List Sign)
 a_greater (punct c ∷ more) = if is_character ">" c then Ok more else expected "expected `>`"
 a_greater _ = expected "expected `>`"
 
--- a pattern, `=>` and a template, each of the two a group, where n trees come before them
+-- a matcher, `=>` and a transcriber, the first and the last a group, with n trees before them
 abbrev pub arms : MacroCallStyle → ℕ → List Sign → Parsed (MacroCallStyle × ℕ)
 arms style n ts = do
   after_pattern ← a_group ts
@@ -41,12 +42,12 @@ arms style n ts = do
   rest ← a_group after_arrow
   Ok (style, n)
 
--- after the keyword for a style a group has to come; what is in it doesn't count
+-- after the keyword for a style a group must come; what is in it doesn't count
 abbrev pub with_parentheses : MacroCallStyle → ℕ → List Sign → Parsed (MacroCallStyle × ℕ)
 with_parentheses style n (bracketed ∷ more) = arms style (suc n) more
 with_parentheses style n _ = expected "expected `()`"
 
--- a rule of one of the styles, where n trees come before it
+-- a rule of one of the styles, with n trees before it
 abbrev pub styled : ℕ → List Sign → Parsed (MacroCallStyle × ℕ)
 styled n (name w ∷ more) =
     if is "attr" w then with_parentheses Attr (suc n) more
@@ -54,15 +55,15 @@ styled n (name w ∷ more) =
     else arms FnLike n (name w ∷ more)
 styled n ts = arms FnLike n ts
 
--- the shape of the rule at the head of a list: its style, and how many trees come before its pattern; an `unsafe`
--- before it all changes nothing
+-- the shape of the rule at the front of a list: its style, and how many trees come before its
+-- matcher; an `unsafe` before it all changes nothing
 abbrev pub rule_shape : List Sign → Parsed (MacroCallStyle × ℕ)
 rule_shape (name w ∷ more) = if is "unsafe" w then styled 1 more else styled 0 (name w ∷ more)
 rule_shape ts = styled 0 ts
 
 -- ---- definitions
 
--- what may separate rules, and the fault where something else does
+-- what may separate rules, and the fault if something else does
 pub record Delimiting : Type 0 where
   pub is_between : ℕ → Bool
   pub fault : ParseError
@@ -92,29 +93,29 @@ delimited between [] more = no_rules None
 delimited between (punct c ∷ ts) more = if between.is_between c then more else no_rules (Some between.fault)
 delimited between _ more = no_rules (Some between.fault)
 
--- a rule and those after it, or the fault that it has
+-- a rule and those after it, or its fault
 abbrev pub rule_then : Parsed Rule → Rules → Rules
 rule_then (Err e) more = no_rules (Some e)
 rule_then (Ok r) more = with_rule r more
 
--- a definition of which a rule can repeat without end has this fault before all others
+-- if a rule can iterate without end, that fault replaces any other
 abbrev pub ending : Rules → Rules
 ending rules =
     if list_any (λ r. has_empty_round r.pattern) rules.list
     then record rules { err = Some RepetitionEmptyTokenTree } else rules
 
 module _ (edition : SyntaxContext → Edition) where
-  -- the rule of these two lists of trees
+  -- the rule of a matcher and a transcriber
   abbrev pub rule_of : MacroCallStyle → Forest → Forest → Parsed Rule
   rule_of style pattern template =
       items_of edition in_pattern pattern >>= λ p. items_of edition in_template template >>= λ t.
       Ok (record { style = style; pattern = p; template = t })
 
-  -- the rule at the head of a list, whose style and number of trees before its pattern are known
+  -- the rule at the front of a list, given its style and how many trees come before its matcher
   abbrev pub rule_at : Forest → MacroCallStyle × ℕ → Parsed Rule
   rule_at f shape = rule_of shape.0 (inside (past shape.1 f)) (inside (past (shape.1 + 3) f))
 
-  -- the rules at the head of a list, where the shape of the first is known; `after` are those that are left after a number of trees
+  -- the rules at the front of a list, given the first one's shape; `after` are those further on
   abbrev pub rules_with : Delimiting → Forest → (ℕ → Rules) → Parsed (MacroCallStyle × ℕ) → Rules
   rules_with between f after (Err e) = no_rules (Some e)
   rules_with between f after (Ok shape) =

@@ -1,5 +1,6 @@
--- Patterns and templates: the items of a list of trees, or the first fault.
--- (The Rust Reference, "Macros By Example": MacroMatch, transcribing, metavariables, and edition differences of fragments.)
+-- Matchers and transcribers: the ops of a list of trees, or the first fault. (The Rust Reference,
+-- "Macros By Example": MacroMatch, transcribing, metavariables, and edition differences of
+-- fragments.)
 use Rattle.std.specs.Prelude.{ℕ, zero, suc, ◌+◌, ◌-◌, Bool, true, false, ◌&&◌, not, List, [], ◌∷◌, codes, if◌then◌else◌, Option, Some, None, option_map, Ok, nat_le}
 use Rattle.tt_data.specs.Editions.{year_of}
 use Rattle.tt_data.specs.Forest.{Forest, empty, leaf, group}
@@ -24,7 +25,7 @@ use Rattle.mbe_rules.specs.Parsed.{Parsed, ◌>>=◌, unexpected, expected, or_f
 use Rattle.mbe_rules.specs.Repetitions.{Between, trees_between, repeated, separator_in}
 use Rattle.mbe_rules.specs.Expressions.{expression_in}
 
--- patterns and templates are read alike, but for a few forms that only one of them has
+-- matchers and transcribers are parsed alike, but for a few forms that only one of them has
 pub data Mode : Type 0 where
   in_pattern : Mode
   in_template : Mode
@@ -33,9 +34,9 @@ pub data Mode : Type 0 where
 
 -- the forms of what a punct begins
 pub data Head : Type 0 where
-  -- so many puncts, glued to one
+  -- so many puncts, glued to one operator
   glued : ℕ → Head
-  -- in a pattern, a quote with its name
+  -- in a matcher, a quote with its name
   named_quote : Head
   -- a `$` at the end of its list
   last_dollar : Head
@@ -59,7 +60,7 @@ trees_of (begun d n) = n
 abbrev pub crate_at : Span → Leaf
 crate_at span = as_leaf.Ident (record { sym = codes "$crate"; span = span; is_raw = is_raw.No })
 
--- the item that a punct begins, with the trees after it
+-- the op that a punct begins, with the trees after it
 abbrev pub item_of : Head → Punct → Forest → Item
 item_of (glued n) p rest = puncts (first_puncts n (leaf (as_leaf.Punct p) rest))
 item_of named_quote p (leaf (as_leaf.Ident i) rest) = lifetime p i
@@ -68,38 +69,38 @@ item_of two_dollars p rest = puncts (first_puncts 1 rest)
 item_of (begun x n) p rest = dollar x p.span
 item_of _ p rest = puncts (p ∷ [])
 
--- what a punct begins that is no `$`: a quote and its name are one item of a pattern, which has no other quote
+-- what a punct begins that is no `$`: in a matcher a quote must have its name, as one op
 abbrev pub punct_head : Mode → Punct → Forest → Parsed Head
 punct_head in_pattern p (leaf (as_leaf.Ident i) rest) = if is_char "'" p then Ok named_quote else Ok (glued 1)
 punct_head in_pattern p rest =
     if is_char "'" p then unexpected "quote without a name" else Ok (glued (glued_count (leaf (as_leaf.Punct p) rest)))
 punct_head in_template p rest = Ok (glued (glued_count (leaf (as_leaf.Punct p) rest)))
 
--- ---- lists of items
+-- ---- lists of ops
 
 -- a `$` and a parenthesis begin a repetition
 abbrev pub is_repetition : Punct → Delimiter → Bool
 is_repetition p d = is_char "$" p && same_kind d.kind Parenthesis
 
--- an item before the items after it
+-- an op before the ops after it
 abbrev pub with_item : Item → Parsed Items → Parsed Items
 with_item i rest = rest >>= λ j. Ok (item i j)
 
--- a group's items, and those after it
+-- a group's ops, and those after it
 abbrev pub with_group : Delimiter → Parsed Items → Parsed Items → Parsed Items
 with_group d inner rest = inner >>= λ i. rest >>= λ j. Ok (group_of d i j)
 
--- the item that a punct begins, and the items after it
+-- the op that a punct begins, and the ops after it
 abbrev pub with_head : Punct → Forest → (ℕ → Parsed Items) → Head → Parsed Items
 with_head p rest after h = with_item (item_of h p rest) (after (trees_of h))
 
--- a repetition with this separator and operator: its items, and those after it; its own fault comes before theirs
+-- a repetition with this separator and operator, and the ops after it; its own fault comes first
 abbrev pub with_repetition : Forest → Parsed Items → (ℕ → Parsed Items) → Between × RepeatKind → Parsed Items
 with_repetition rest inner after b =
     inner >>= λ i. after (trees_between b.0 + 1) >>= λ j. Ok (repetition i (separator_in b.0 rest) b.1 j)
 
 module _ (edition : SyntaxContext → Edition) where
-  -- what a fragment specifier lets a variable take, by the edition of the context where it is written
+  -- the kind of a fragment specifier, by the edition of the context in which it is written
   abbrev pub kind_of : Ident → Option MetaVarKind
   kind_of k =
       if is_word "path" k then Some kind.Path
@@ -119,7 +120,7 @@ module _ (edition : SyntaxContext → Edition) where
       else if is_word "literal" k then Some kind.Literal
       else None
 
-  -- a variable of this name: in a pattern a colon and a fragment specifier must follow
+  -- a metavariable with this name: in a matcher a colon and a fragment specifier must follow
   abbrev pub variable_after : Mode → List ℕ → Forest → Parsed Head
   variable_after in_template n f = Ok (begun (variable n None) 1)
   variable_after in_pattern n (leaf (as_leaf.Punct c) (leaf (as_leaf.Ident k) rest)) =
@@ -147,11 +148,11 @@ module _ (edition : SyntaxContext → Edition) where
       if same_kind d.kind Brace then unexpected "`${}` metavariable expressions are not allowed in matchers"
       else expected "expected `$()` repetition or `${}` expression"
 
-  -- what a punct begins, a repetition aside
+  -- what a punct begins, except for a repetition
   abbrev pub head_at : Mode → Punct → Forest → Parsed Head
   head_at m p rest = if is_char "$" p then dollar_head m rest else punct_head m p rest
 
-  -- the items of the trees that are left after `skip` more
+  -- the ops of the trees that are left after `skip` more
   abbrev pub items_after : Mode → ℕ → Forest → Parsed Items
   items_after m skip empty = Ok done
   items_after m (suc skip) (leaf l rest) = items_after m skip rest
@@ -167,6 +168,6 @@ module _ (edition : SyntaxContext → Edition) where
       head_at m p rest >>= with_head p rest (λ n. items_after m n rest)
   items_after m zero (leaf l rest) = with_item (word l) (items_after m 0 rest)
 
-  -- the items of a list of trees
+  -- the ops of a list of trees
   abbrev pub items_of : Mode → Forest → Parsed Items
   items_of m f = items_after m 0 f

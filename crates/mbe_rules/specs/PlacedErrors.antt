@@ -8,7 +8,7 @@ use Rattle.mbe_rules.specs.declared.errors.ExpandErrorKind.{ExpandErrorKind}
 use Rattle.mbe_rules.specs.contracts.errors.ExpandErrorKindPartialEq.TheImpl as of_kind
 use Rattle.mbe_rules.specs.contracts.errors.ExpandErrorKindEq.TheImpl.Laws as kind_laws
 
--- two are equal where their spans and their kinds are
+-- two are equal if their spans and their kinds are
 abbrev pub same_error : Span × ExpandErrorKind → Span × ExpandErrorKind → Bool
 same_error a b = of_span.ghosts.eq a.0 b.0 && of_kind.ghosts.eq a.1 b.1
 

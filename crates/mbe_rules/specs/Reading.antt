@@ -1,4 +1,4 @@
--- What the parser's functions answer, in the words of the definitions.
+-- What the parser's functions answer, in terms of the definitions.
 use Rattle.std.specs.Prelude.{ℕ, ◌+◌, Bool, true, false, ◌&&◌, ◌||◌, not, nat_eq, if◌then◌else◌, List, ◌++◌, Option, Some, None, option_map, Result, Ok, Err}
 use Rattle.std.specs.declared.vec.Vec.{Vec}
 use Rattle.std.specs.declared.alloc.Global.{Global}
@@ -35,14 +35,14 @@ use Rattle.mbe_rules.specs.declared.parser.Separator.{Separator}
 use Rattle.mbe_rules.specs.declared.rules.Rule.{Rule}
 use Rattle.mbe_rules.specs.declared.parse.rule.RuleParts.{RuleParts}
 
--- ---- what is asked
+-- ---- what the parser is told
 
 -- the edition of a context
 abbrev pub edition_in : Editions → SyntaxContext → Edition
 edition_in e Written = e.written
 edition_in e Made = e.made
 
--- whether a pattern or a template is read
+-- whether a matcher or a transcriber is parsed
 abbrev pub mode_of : parse_mode.Mode → Mode
 mode_of Pattern = in_pattern
 mode_of Template = in_template
@@ -53,32 +53,32 @@ mode_of Template = in_template
 abbrev pub repeat_of : Option (Option Separator × RepeatKind × Forest) → Option (Option spec.Separator × RepeatKind × Forest)
 repeat_of r = option_map (λ (x : Option Separator × RepeatKind × Forest). (option_map separator_of x.0, x.1, x.2)) r
 
--- the separator of this form and the operator at the head of a list, and the trees after them
+-- the separator of this form and the operator at the front of a list, and the trees after them
 abbrev pub taken_from : Forest → Option (Between × RepeatKind) → Option (Option spec.Separator × RepeatKind × Forest)
 taken_from f b = option_map (λ (x : Between × RepeatKind). (separator_in x.0 f, x.1, past (trees_between x.0 + 1) f)) b
 
--- the operator at the head of a list, and the trees after it
+-- the operator at the front of a list, and the trees after it
 abbrev pub operator_next : Forest → Option (RepeatKind × Forest)
 operator_next (leaf (as_leaf.Punct p) rest) = option_map (λ op. (op, rest)) (operator_of p.char)
 operator_next _ = None
 
--- ---- items
+-- ---- ops
 
--- an item as a list of one, and the trees after it
+-- an op as a list of one, and the trees after it
 abbrev pub Read : Type 0
 Read = Items × Forest
 
--- an item of the program
+-- an op of the code
 abbrev pub op_read : Result (Op × Forest) ParseError → Parsed Read
 op_read (Ok r) = Ok (put_op r.0 done, r.1)
 op_read (Err e) = Err e
 
--- a list of items of the program
+-- a list of ops of the code
 abbrev pub ops_read : Result (Vec Op Global) ParseError → Parsed Items
 ops_read (Ok v) = Ok (items_of v.items)
 ops_read (Err e) = Err e
 
--- the item that a punct begins, where the form of what it begins is known
+-- the op that a punct begins, given the form of what it begins
 abbrev pub head_read : Punct → Forest → Parsed Head → Parsed Read
 head_read p f h = h >>= λ x. Ok (item (item_of x p f) done, past (trees_of x) f)
 
@@ -87,7 +87,7 @@ abbrev pub typing : Forest → Option (Ident × Forest)
 typing (leaf (as_leaf.Punct c) (leaf (as_leaf.Ident k) rest)) = if is_char ":" c && not (is_word "_" k) then Some (k, rest) else None
 typing _ = None
 
--- a variable of this name and span, by the trees after the name
+-- a metavariable with this name and span, by the trees after the name
 abbrev pub variable_read : (SyntaxContext → Edition) → Mode → Span → List ℕ → Forest → Parsed Read
 variable_read edition in_template s n f = Ok (item (dollar (variable n None) s) done, f)
 variable_read edition in_pattern s n (leaf (as_leaf.Punct c) (leaf (as_leaf.Ident k) rest)) =
@@ -96,36 +96,36 @@ variable_read edition in_pattern s n (leaf (as_leaf.Punct c) (leaf (as_leaf.Iden
     else unexpected "missing fragment specifier"
 variable_read edition in_pattern s n _ = unexpected "missing fragment specifier"
 
--- the expression that a `$` and braces are, and the trees after it
+-- the metavariable expression that a `$` and braces are, and the trees after it
 abbrev pub expression_read : Punct → Forest → Forest → Parsed Read
 expression_read p inner rest =
     or_fault (option_map (λ x. (item (dollar x p.span) done, rest)) (expression_in inner)) (unexpected "invalid metavariable expression")
 
--- items before others
+-- ops before others
 abbrev pub joined_items : Items → Items → Items
 joined_items done js = js
 joined_items (item i rest) js = item i (joined_items rest js)
 joined_items (group_of d inner rest) js = group_of d inner (joined_items rest js)
 joined_items (repetition body sep op rest) js = repetition body sep op (joined_items rest js)
 
--- items before what is read after them
+-- ops before what is parsed after them
 abbrev pub behind : Items → Parsed Items → Parsed Items
 behind is (Ok js) = Ok (joined_items is js)
 behind is (Err e) = Err e
 
--- an item before those of the trees after it
+-- an op before those of the trees after it
 abbrev pub continued : (SyntaxContext → Edition) → Mode → Parsed Read → Parsed Items
 continued edition m (Ok r) = behind r.0 (patterns.items_of edition m r.1)
 continued edition m (Err f) = Err f
 
--- what a repetition that begins with a punct has inside, and the trees after its parenthesis
+-- the trees inside a repetition that begins with a punct, and the trees after its parentheses
 abbrev pub repetition_parts : Punct → Forest → Option (Forest × Forest)
 repetition_parts p (group d inner rest) = if is_repetition p d then Some (inner, rest) else None
 repetition_parts p _ = None
 
 -- ---- rules
 
--- what the group at the head of a list has inside, and the trees after it
+-- the trees inside the group at the front of a list, and the trees after it
 abbrev pub group_next : Forest → Option (Forest × Forest)
 group_next (group d inner rest) = Some (inner, rest)
 group_next _ = None
@@ -135,17 +135,17 @@ abbrev pub after_char : ℕ → Forest → Option Forest
 after_char c (leaf (as_leaf.Punct p) rest) = if nat_eq p.char c then Some rest else None
 after_char c _ = None
 
--- the parts of the rule at the head of a list, where its style is known, and the number of trees before its pattern
+-- the parts of the rule at the front of a list, given its style and where its matcher is
 abbrev pub parts_read : Forest → Parsed (MacroCallStyle × ℕ) → Parsed RuleParts
 parts_read f shape =
     shape >>= λ s. Ok (record { style = s.0; pattern = inside (past s.1 f); template = inside (past (s.1 + 3) f); rest = past (s.1 + 4) f })
 
--- a rule of the program
+-- a rule of the code
 abbrev pub rule_read : Result Rule ParseError → Parsed spec.Rule
 rule_read (Ok r) = Ok (ops.rule_of r)
 rule_read (Err e) = Err e
 
--- a rule of the program, and the trees after it
+-- a rule of the code, and the trees after it
 abbrev pub rule_and_rest : Result (Rule × Forest) ParseError → Parsed (spec.Rule × Forest)
 rule_and_rest (Ok r) = Ok (ops.rule_of r.0, r.1)
 rule_and_rest (Err e) = Err e
@@ -163,7 +163,7 @@ abbrev pub delimiting_of : definition.Delimiting → Delimiting
 delimiting_of Semicolon = by_semicolon
 delimiting_of SemicolonOrComma = by_semicolon_or_comma
 
--- the trees after what separates rules; none are needed where none are left
+-- the trees after the delimiter between rules; none is needed if no trees are left
 abbrev pub after_delimiter : Delimiting → Forest → Option Forest
 after_delimiter between empty = Some empty
 after_delimiter between (leaf (as_leaf.Punct p) rest) = if between.is_between p.char then Some rest else None
@@ -171,11 +171,11 @@ after_delimiter between _ = None
 
 -- ---- empty iterations
 
--- whether items can match nothing; none where a repetition in them has an empty iteration
+-- whether ops can match nothing; none if a repetition in them can iterate without end
 abbrev pub rounds_of : Items → Option Bool
 rounds_of is = if has_empty_round is then None else Some (can_match_nothing is)
 
--- the same of a repetition, by whether its iterations have a separator, and whether its body can match nothing
+-- whether a repetition can match nothing, by whether it has a separator, and whether its body can
 abbrev pub round_of : Bool → RepeatKind → Bool → Option Bool
 round_of false k true = None
 round_of _ k b = Some (may_skip k || b)

@@ -34,7 +34,7 @@ trees_between an_ident = 1
 trees_between a_lifetime = 2
 trees_between (some_puncts n) = n
 
--- after a separator of this form an operator has to come
+-- after a separator of this form an operator must come
 abbrev pub then_operator : Between → List Sign → Option (Between × RepeatKind)
 then_operator between (punct c ∷ more) = option_map (λ op. (between, op)) (operator_of c)
 then_operator between _ = None
@@ -45,7 +45,7 @@ after_two (punct c ∷ more) =
     elim (operator_of c) [ Some op ↦ Some (some_puncts 2, op) | None ↦ then_operator (some_puncts 3) more ]
 after_two _ = None
 
--- after one punct: the operator, or a second, or after a quote its name; a quote alone separates nothing
+-- after one punct: the operator, a second punct, or a quote's name; a lone quote is no separator
 abbrev pub after_one : ℕ → List Sign → Option (Between × RepeatKind)
 after_one first (name n ∷ more) = if is_character "'" first then then_operator a_lifetime more else None
 after_one first (punct c ∷ more) =
@@ -55,7 +55,7 @@ after_one first (punct c ∷ more) =
     ]
 after_one first _ = None
 
--- a separator's form and the operator: the first of the characters `*`, `+`, `?` is no part of a separator
+-- a separator's form and the operator: the first of `*`, `+`, `?` is no part of a separator
 abbrev pub between_and_operator : List Sign → Option (Between × RepeatKind)
 between_and_operator (literal t s ∷ more) = then_operator a_literal more
 between_and_operator (name n ∷ more) = then_operator an_ident more
@@ -63,7 +63,7 @@ between_and_operator (punct c ∷ more) =
     elim (operator_of c) [ Some op ↦ Some (nothing, op) | None ↦ after_one c more ]
 between_and_operator _ = None
 
--- the same of the trees after a repetition's parenthesis, or the fault
+-- the separator and the operator in the trees after a repetition's parentheses, or the fault
 abbrev pub repeated : Forest → Parsed (Between × RepeatKind)
 repeated rest = or_fault (between_and_operator (signs rest)) (Err InvalidRepeat)
 

@@ -1,4 +1,4 @@
--- What the program answers for `${..}` and its parts, in the words of the definitions.
+-- What the code answers for `${..}` and its parts, in terms of the definitions.
 use Rattle.std.specs.Prelude.{ℕ, Bool, if◌then◌else◌, List, map, Option, Some, None, option_map}
 use Rattle.std.specs.declared.vec.Vec.{Vec}
 use Rattle.std.specs.declared.alloc.Global.{Global}
@@ -11,7 +11,7 @@ use Rattle.mbe_rules.specs.Trees.{Sign, signs}
 use Rattle.mbe_rules.specs.declared.parser.ConcatElement.{ConcatElement}
 use Rattle.mbe_rules.specs.declared.parser.Op.{Op}
 
--- what an item of the program means, as a list of one
+-- what an op of the code means, as a list of one
 abbrev pub meaning : Option Op → Option Items
 meaning o = option_map (λ op. put_op op done) o
 
@@ -28,7 +28,7 @@ abbrev pub function_called : Option (List ℕ × Forest) → Option Dollar
 function_called None = None
 function_called (Some x) = function_of x.0 (signs x.1)
 
--- the parts that a program read
+-- the parts that the code parsed
 abbrev pub parts_of : Option (Vec ConcatElement Global) → Option (List Part)
 parts_of v = option_map (λ (es : Vec ConcatElement Global). map part_of es.items) v
 

@@ -8,7 +8,7 @@ use Rattle.mbe_rules.specs.declared.macro_call_style.MacroCallStyles.{MacroCallS
 abbrev pub bits_of : MacroCallStyles → ℕ
 bits_of styles = styles.0
 
--- the set of one style alone
+-- the set of only one style
 abbrev pub style_bit : MacroCallStyle → ℕ
 style_bit FnLike = 1
 style_bit Attr = 2

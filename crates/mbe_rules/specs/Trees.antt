@@ -1,4 +1,4 @@
--- Trees at the head of a list, by their number; and what they are, spans aside.
+-- Trees at the front of a list, by their number; and trees without their spans.
 use Rattle.std.specs.Prelude.{ℕ, suc, List, [], ◌∷◌}
 use Rattle.tt_data.specs.Forest.{Forest, empty, leaf, group}
 use Rattle.tt_data.specs.declared.leaf.Leaf.{Leaf}
@@ -17,17 +17,17 @@ past (suc n) (leaf l rest) = past n rest
 past (suc n) (group d inner rest) = past n rest
 past _ f = f
 
--- the first n trees of a list, as far as they are puncts
+-- the first n trees of a list, up to the first that is no punct
 abbrev pub first_puncts : ℕ → Forest → List Punct
 first_puncts (suc n) (leaf (as_leaf.Punct p) rest) = p ∷ first_puncts n rest
 first_puncts _ f = []
 
--- what a list's first group has inside
+-- the trees inside a list's first group
 abbrev pub inside : Forest → Forest
 inside (group d inner rest) = inner
 inside f = empty
 
--- ---- what trees are, spans aside
+-- ---- trees without their spans
 
 -- a tree without its span: a name, a literal, a character of punctuation, or some group
 pub data Sign : Type 0 where

@@ -159,7 +159,7 @@ fn copy_ops(alloc: Global, ops: &[Op]) -> Result<Vec<Op>, AllocError>
 }
 
 impl Rule {
-    /// A clone of the rule, separators included, in vectors of its own. `Err`: memory was refused.
+    /// An equal rule, separators the same in every part. Its only error is out of memory.
     pub fn try_clone(&self, alloc: Global) -> Result<Rule, AllocError>
         ensures { IfOk result (λ r. rule_of r ≡ rule_of self.now) }
     {
@@ -174,7 +174,7 @@ impl Rule {
 }
 
 impl Rules {
-    /// A clone of the rules, separators included, in vectors of their own. `Err`: memory was refused.
+    /// Equal rules, separators the same in every part. The only error is out of memory.
     pub fn try_clone(&self, alloc: Global) -> Result<Rules, AllocError>
         ensures { IfOk result (λ r. rules_of r ≡ rules_of self.now) }
     {

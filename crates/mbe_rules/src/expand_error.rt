@@ -1,5 +1,5 @@
 //! Why a call cannot be expanded, and where.
-ghost use Rattle.std.specs.Prelude.{◌≡◌, IfOk, IsOkUnless};
+ghost use Rattle.std.specs.Prelude.{◌≡◌, IfOk, IsOkUnless, ⊤};
 ghost use Rattle.std.specs.Cmp.Rules.{hashing};
 ghost use Rattle.std.proofs.Common.{rules};
 ghost use Rattle.symbols.specs.declared.fault.TtFault.TheVariants as fault;
@@ -9,14 +9,16 @@ use std::alloc::{AllocError, Global};
 use std::fmt;
 use std::hash::{Hash, Hasher};
 use std::marker::Model;
-use std::rc::Rc;
 use symbols::TtFault;
+use symbols::rc::Rc;
 use tt_data::Span;
 
-/// Why a call cannot be expanded, and the place where this shows. Its clones share one block of memory.
+/// Why a call cannot be expanded, and at which span. Clones share one block of memory.
+///
+/// A clone takes no memory and is never refused. The last of them frees the block.
 #[derive(Debug, Drop)]
 pub struct ExpandError {
-    /// The place and the kind.
+    /// The span and the kind.
     pub inner: Rc<(Span, ExpandErrorKind)>,
 }
 
@@ -26,11 +28,11 @@ impl Model for ExpandError {
 
     ghost Value = { Span × ExpandErrorKind };
 
-    ghost view = { λ e. e.inner.value };
+    ghost view = { λ e. e.inner };
 }
 
 impl ExpandError {
-    /// The error of this kind at this place. It takes one block of memory.
+    /// The error of this kind at this span. It takes one block of memory.
     ///
     /// # Errors
     ///
@@ -39,13 +41,11 @@ impl ExpandError {
         ensures error { IfOk result (λ e. e ≡ (span, kind)) }
         ensures memory { IsOkUnless result fault.Memory }
     {
-        match Rc::new(alloc, (span, kind)) {
-            Ok(inner) => Ok(ExpandError { inner }),
-            Err(_refused) => Err(TtFault::Memory),
-        }
+        let inner = Rc::new(alloc, (span, kind))?;
+        Ok(ExpandError { inner })
     }
 
-    /// The place where the error shows.
+    /// The span at which the error shows.
     pub fn span(&self) -> Span
         ensures { result ≡ self.now.0 }
     {
@@ -63,11 +63,12 @@ impl ExpandError {
 impl Clone for ExpandError {
     ghost is_clone = { λ e copy. copy ≡ e };
 
-    /// One more owner of the same error. It takes no memory.
+    ghost is_infallible = { λ _. ⊤ };
+
+    /// One more owner of the same error. It takes no memory, and is never an `Err`.
     fn clone(&self) -> Result<ExpandError, AllocError> {
-        Ok(ExpandError {
-            inner: self.inner.clone()?,
-        })
+        let inner = self.inner.clone()?;
+        Ok(ExpandError { inner })
     }
 }
 
@@ -79,7 +80,7 @@ impl PartialEq for ExpandError {
 
     ghost laws = { partial_equiv_from_equiv same_error_equiv };
 
-    /// Whether the places and the kinds are the same.
+    /// Whether spans and kinds are the same.
     fn eq(&self, other: &ExpandError) -> bool {
         self.inner == other.inner
     }
@@ -96,7 +97,7 @@ impl Hash for ExpandError {
 
     ghost respects_eq = { Prim.search (hashing, rules) };
 
-    /// Feeds the place and the kind.
+    /// Feeds the span and the kind.
     fn hash<H: Hasher>(&self, state: &mut H) {
         self.inner.hash(state);
     }

@@ -1,4 +1,4 @@
-//! The rules of a macro's definition: how they are read, and the errors that are reported.
+//! The rules of a macro's definition: how they are parsed, and the errors that are reported.
 #![tactic(auto)]
 
 mod clone;

@@ -1,4 +1,4 @@
-//! How a macro is called.
+//! The styles of macro calls, and sets of them.
 ghost use Rattle.std.specs.Prelude.{⊤, ◌≡◌};
 ghost use Rattle.std.specs.Int.RustNames.{bit_or};
 ghost use Rattle.mbe_rules.specs.Styles.{bits_of, style_bit, style_names};
@@ -16,7 +16,8 @@ pub enum MacroCallStyle {
     Derive,
 }
 
-/// A set of [`MacroCallStyle`]s. Clauses see it as the number of its bits: 1, 2 and 4 in the order of the styles.
+/// A set of [`MacroCallStyle`]s. Contracts see it as the number of its bits: 1, 2 and 4 in the
+/// order of the styles.
 #[derive(Clone, Copy, PartialEq, Eq, Hash, Debug)]
 pub struct MacroCallStyles(u8);
 
@@ -76,7 +77,7 @@ impl Flags for MacroCallStyles {
 impl From<MacroCallStyle> for MacroCallStyles {
     ghost from_gives = { λ style styles. bits_of styles ≡ style_bit style };
 
-    /// The set of this style alone.
+    /// The set of only this style.
     fn from(style: MacroCallStyle) -> MacroCallStyles {
         match style {
             MacroCallStyle::FnLike => MacroCallStyles::FN_LIKE,

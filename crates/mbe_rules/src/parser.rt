@@ -1,4 +1,4 @@
-//! Patterns and templates, as they are kept.
+//! Matchers and transcribers as data: lists of ops.
 ghost use Rattle.std.specs.Prelude.{◌≡◌};
 ghost use Rattle.std.specs.Str.{bytes_eq};
 ghost use Rattle.std.proofs.Common.{rules};
@@ -7,8 +7,8 @@ ghost use Rattle.tt.specs.Glued.{characters};
 use symbols::Symbol;
 use tt_data::{Delimiter, Ident, Literal, Punct, Span};
 
-/// What a variable of a pattern takes, by its fragment specifier. (The Rust Reference, "Macros By
-/// Example": metavariables.)
+/// A fragment specifier: what a metavariable may take. (The Rust Reference, "Macros By Example":
+/// metavariables.)
 #[derive(Clone, Copy, PartialEq, Eq, Debug)]
 pub enum MetaVarKind {
     /// `path`
@@ -43,7 +43,7 @@ pub enum MetaVarKind {
     Literal,
 }
 
-/// How often a repetition may repeat.
+/// The operator of a repetition. (The Rust Reference, "Macros By Example": repetitions.)
 #[derive(Clone, Copy, PartialEq, Eq, Debug)]
 pub enum RepeatKind {
     /// `*`
@@ -67,7 +67,7 @@ pub enum Separator {
     Puncts(Vec<Punct>),
 }
 
-// Whether two runs of puncts have the same characters.
+// Whether two lists of puncts have the same characters.
 fn same_characters(first: &[Punct], second: &[Punct]) -> bool
     ensures { result ≡ bytes_eq (characters first.now) (characters second.now) }
 {
@@ -86,7 +86,8 @@ fn same_characters(first: &[Punct], second: &[Punct]) -> bool
     same_characters(more, others)
 }
 
-/// Separators are equal by their texts: places, spacing, rawness and the forms of literals don't count.
+/// Separators are equal if sorts, texts and suffixes are. Spans, spacing, rawness and forms of
+/// literals do not count.
 impl PartialEq for Separator {
     ghost use Rattle.std.specs.Cmp.Rules.{comparing};
     ghost use Rattle.mbe_rules.specs.Likeness.{same_separator};
@@ -123,11 +124,12 @@ pub enum ConcatElement {
     Var(Symbol),
 }
 
-/// An item of a pattern or a template. `id` is the place of the `$` that begins it. A depth counts
-/// levels of repetitions.
+/// An op of a matcher or of a transcriber. `id` is the span of the `$` that begins it. A depth
+/// counts levels of repetitions. (The Rust Reference, "Macros By Example".)
 #[derive(PartialEq, Eq, Debug, Drop)]
 pub enum Op {
-    /// `$name:kind`, where `kind` is `None` if the specifier names none; and `$name` in a template, without one.
+    /// `$name:kind` in a matcher, where `kind` is `None` if no specifier is written; `$name` in a
+    /// transcriber.
     Var {
         name: Symbol,
         kind: Option<MetaVarKind>,
@@ -174,8 +176,8 @@ pub enum Op {
     Literal(Literal),
     /// An identifier.
     Ident(Ident),
-    /// One to three puncts that are glued to one.
+    /// One to three puncts that are glued to one operator.
     Punct(Vec<Punct>),
-    /// In a pattern, a quote and its name.
+    /// In a matcher, a quote and its name.
     Lifetime(Punct, Ident),
 }

@@ -1,24 +1,25 @@
-//! The rules of a definition, as they are kept.
+//! The rules of a definition, as they are stored.
 use crate::errors::ParseError;
 use crate::macro_call_style::MacroCallStyle;
 use crate::parser::Op;
 
-/// A rule. (The Rust Reference, "Macros By Example".)
+/// A rule of a macro. (The Rust Reference, "Macros By Example".)
 #[derive(PartialEq, Eq, Debug, Drop)]
 pub struct Rule {
-    /// The calls that it is for.
+    /// The style of calls that it is for.
     pub style: MacroCallStyle,
-    /// What an argument has to look like.
+    /// The pattern, or matcher: what an argument has to look like.
     pub pattern: Vec<Op>,
-    /// What the call gives way to.
+    /// The template, or transcriber: what replaces the call.
     pub template: Vec<Op>,
 }
 
-/// What is read of a definition: its rules, and the first fault, with which it is broken.
+/// The rules of a definition, and the first fault, which makes it invalid.
 #[derive(PartialEq, Eq, Debug, Drop)]
 pub struct Rules {
-    /// The rules before the fault, and the one right before it where a separator is missing.
+    /// The rules before the fault; also the one right before it, if a separator is missing after
+    /// it.
     pub list: Vec<Rule>,
-    /// The first fault; an empty iteration in one of the rules comes before all others.
+    /// The first fault. A repetition that can iterate without end comes before all others.
     pub err: Option<ParseError>,
 }

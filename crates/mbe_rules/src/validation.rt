@@ -1,4 +1,4 @@
-//! Whether a pattern can repeat without end.
+//! Finds whether a matcher can iterate without end.
 ghost use Rattle.std.specs.Prelude.{◌≡◌};
 ghost use Rattle.mbe_rules.specs.Items.{done, can_match_nothing, has_empty_round};
 ghost use Rattle.mbe_rules.specs.Ops.{put_op, items_of};
@@ -6,7 +6,7 @@ ghost use Rattle.mbe_rules.specs.Reading.{round_of, rounds_of};
 
 use crate::parser::{MetaVarKind, Op, RepeatKind};
 
-// Whether an item can match nothing.
+// Whether an op can match nothing.
 #[cycle(nothing)]
 fn op_can_match_nothing(op: &Op) -> bool
     ensures { result ≡ can_match_nothing (put_op op.now done) }
@@ -21,7 +21,7 @@ fn op_can_match_nothing(op: &Op) -> bool
     }
 }
 
-/// Whether a list of items can match nothing.
+/// Whether a list of ops can match no tokens.
 #[cycle(nothing)]
 pub fn can_match_nothing(ops: &[Op]) -> bool
     ensures { result ≡ can_match_nothing (items_of ops.now) }
@@ -34,8 +34,8 @@ pub fn can_match_nothing(ops: &[Op]) -> bool
     true
 }
 
-// Whether a repetition can match nothing, by whether its iteration can: none where nothing separates such
-// iterations, which would have no end.
+// Whether a repetition can match nothing, by whether its iteration can. `None` if such iterations
+// have no separator, since they would have no end.
 fn round(is_apart: bool, kind: RepeatKind, nothing: bool) -> Option<bool>
     ensures { result ≡ round_of is_apart kind nothing }
 {
@@ -45,7 +45,7 @@ fn round(is_apart: bool, kind: RepeatKind, nothing: bool) -> Option<bool>
     Some(nothing || kind != RepeatKind::OneOrMore)
 }
 
-// Whether an item can match nothing: none where it has an empty iteration.
+// Whether an op can match nothing. `None` if a repetition in it can iterate without end.
 #[cycle(rounds)]
 fn op_rounds(op: &Op) -> Option<bool>
     ensures { result ≡ rounds_of (put_op op.now done) }
@@ -68,7 +68,8 @@ fn op_rounds(op: &Op) -> Option<bool>
     }
 }
 
-// Whether a list of items can match nothing: none where it has an empty iteration. Each item is seen once.
+// Whether a list of ops can match nothing. `None` if a repetition in it can iterate without end.
+// Each op is visited once.
 #[cycle(rounds)]
 fn rounds(ops: &[Op]) -> Option<bool>
     ensures { result ≡ rounds_of (items_of ops.now) }
@@ -80,7 +81,8 @@ fn rounds(ops: &[Op]) -> Option<bool>
     Some(nothing)
 }
 
-/// Whether a repetition without separator, anywhere in a list of items, can match nothing in an iteration.
+/// Whether a repetition without a separator, anywhere in a list of ops, has an iteration that can
+/// match no tokens. It could then iterate without end.
 pub fn has_empty_round(ops: &[Op]) -> bool
     ensures { result ≡ has_empty_round (items_of ops.now) }
 {

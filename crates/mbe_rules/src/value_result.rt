@@ -1,4 +1,4 @@
-//! A value with an error beside it.
+//! A value that may have an error beside it.
 ghost use Rattle.std.specs.Prelude.{◌≡◌, None, Some, Ok, Err, IfOk, IsOk, IsOkUnless, IsSomeAnd, MatchOption, MatchResult};
 ghost use Rattle.std.specs.Option.{ForSome};
 ghost use Rattle.mbe_rules.specs.Clones.{ClonesAlike};
@@ -7,13 +7,13 @@ ghost use Rattle.symbols.specs.declared.fault.TtFault.TheVariants as fault;
 use crate::expand_error::ExpandError;
 use symbols::TtFault;
 
-/// What an expansion answers: a value, which may be of use where there is an error too.
+/// The result of an expansion: a value, which may be of use beside an error.
 pub type ExpandResult<T> = ValueResult<T, ExpandError>;
 
-/// The index of the rule that was taken, among all rules of its macro.
+/// The index of the rule that was taken, among all rules of its macro, from 0.
 pub type MatchedArmIndex = Option<u32>;
 
-/// A value, and the error that came up on the way to it, if there was one.
+/// A value, and the error that occurred on the way to it, if any.
 #[derive(PartialEq, Eq, Debug, Drop)]
 pub struct ValueResult<T, E> {
     pub value: T,
@@ -58,7 +58,7 @@ impl<T, E> ValueResult<T, E> {
         }
     }
 
-    /// What `f` makes of the value, with the same error.
+    /// `f` applied to the value, with the same error.
     pub fn map<U, F: FnOnce(T) -> U>(self, f: F) -> ValueResult<U, E>
         requires { F.pre f self.value }
         ensures value { F.post f self.value result.value }
@@ -71,7 +71,7 @@ impl<T, E> ValueResult<T, E> {
         }
     }
 
-    /// This value, with what `f` makes of the error, if there is one.
+    /// The same value, with `f` applied to the error, if there is one.
     pub fn map_err<E2, F: FnOnce(E) -> E2>(self, f: F) -> ValueResult<T, E2>
         requires { ForSome self.err (F.pre f) }
         ensures value { result.value ≡ self.value }
@@ -83,11 +83,11 @@ impl<T, E> ValueResult<T, E> {
         }
     }
 
-    /// A reference to the value, with a clone of the error. A clone of the error has to be that error.
+    /// A reference to the value, with a clone of the error, which has to equal it.
     ///
     /// # Errors
     ///
-    /// `Memory` if the error's clone is refused. It is the only error.
+    /// `Memory` if the error's clone is refused, as that of an [`ExpandError`] never is. It is the only error.
     pub fn as_ref(&self) -> Result<ValueResult<&T, E>, TtFault>
     where
         E: Clone,
@@ -103,7 +103,7 @@ impl<T, E> ValueResult<T, E> {
         })
     }
 
-    /// The error, if there is one, and else the value.
+    /// The error if there is one, else the value.
     pub fn result(self) -> Result<T, E>
     where
         T: Drop,
@@ -116,11 +116,12 @@ impl<T, E> ValueResult<T, E> {
         }
     }
 
-    /// Clones of the value and of the error. A clone of each has to be equal to it.
+    /// Clones of the value and of the error, which have to equal them.
     ///
     /// # Errors
     ///
-    /// `Memory` if the clone of the value or that of the error is refused. It is the only error.
+    /// `Memory` if the clone of the value or of the error is refused. It is the only error. The clone
+    /// of an [`ExpandError`] never is.
     pub fn clone(&self) -> Result<ValueResult<T, E>, TtFault>
     where
         T: Clone,

@@ -1,4 +1,4 @@
-//! Errors: what is displayed of each, and calls on them.
+//! Errors: the texts that they display, and calls on them.
 use mbe_rules::{CountError, ExpandError, ExpandErrorKind, ParseError};
 use std::alloc::Global;
 use std::fmt::{Debug, Display};
@@ -7,7 +7,7 @@ use std::test::Fail;
 use symbols::{Symbol, TtFault};
 use tt_data::{Span, SyntaxContext, TextRange};
 
-// Whether a value is displayed so.
+// Whether a value displays this text.
 fn shows<D: Display>(alloc: Global, value: D, text: &str) -> Result<bool, TtFault>
 where
     D: Drop,
@@ -15,7 +15,7 @@ where
     Ok(format!(in alloc; "{value}")?.as_str() == text)
 }
 
-// Whether `{:?}` tells this of a value.
+// Whether `{:?}` prints this within a value's text.
 fn tells<D: Debug>(alloc: Global, value: &D, text: &str) -> Result<bool, TtFault> {
     Ok(format!(in alloc; "{value:?}")?.as_str().contains(text))
 }
@@ -26,7 +26,7 @@ fn hash_of<H: Hash>(value: &H) -> u64 {
     state.finish()
 }
 
-// Whether an error of a definition is displayed so, and its clone is equal.
+// Whether an error of a definition displays this text, and its clone is equal.
 fn shows_fault(alloc: Global, error: ParseError, text: &str) -> Result<bool, TtFault> {
     Ok(error.clone()? == error && tells(alloc, &error, "")? && shows(alloc, error, text)?)
 }
@@ -59,7 +59,7 @@ fn are_displayed(rt: HostRuntime) -> Result<(), Fail> {
     Ok(())
 }
 
-// An error with a place: its parts, a clone of it, and another error.
+// An error with a span: its parts, a clone of it, and another error.
 fn with_place(alloc: Global) -> Result<bool, TtFault> {
     let span = Span {
         range: TextRange { start: 1, end: 2 },

@@ -1,8 +1,8 @@
-//! Texts of definitions: how many rules are read of them, and which fault is told.
+//! Texts of definitions: how many rules are parsed from them, and the fault.
 use bridge::{Read, read};
 use mbe_rules::{MetaVarKind, Op, ParseError, Rules, parse_macro_rules, parse_macro2};
 use rustc_lexer::LexedText;
-use std::alloc::Global;
+use std::alloc::{AllocError, Global};
 use std::test::Fail;
 use tt::{Edition, SyntaxContext, TopSubtree};
 
@@ -26,12 +26,12 @@ fn at_2021(_context: SyntaxContext) -> Edition {
     Edition::Edition2021
 }
 
-fn at_2024(_context: SyntaxContext) -> Edition {
+pub(crate) fn at_2024(_context: SyntaxContext) -> Edition {
     Edition::Edition2024
 }
 
-// How many rules were read, and the fault.
-fn told(alloc: Global, rules: &Rules) -> Result<String, Fail> {
+// How many rules were parsed, and the fault.
+pub(crate) fn told(alloc: Global, rules: &Rules) -> Result<String, AllocError> {
     let fault = match &rules.err {
         None => "",
         Some(ParseError::UnexpectedToken(text)) => text.as_str(),
@@ -42,7 +42,7 @@ fn told(alloc: Global, rules: &Rules) -> Result<String, Fail> {
     Ok(format!(in alloc; "{} {fault}", rules.list.len())?)
 }
 
-// A definition by `macro_rules!`, how many rules are read of it, and the fault.
+// A definition by `macro_rules!`, how many rules it has, and the fault.
 const ROWS: &str = "
  ¦ 0
 () => {} ¦ 1
@@ -93,7 +93,7 @@ fn of_lists_ten_thousand_deep(rt: HostRuntime) -> Result<(), Fail> {
     Ok(())
 }
 
-// Whether the first rule has so many items in its pattern and in its template.
+// Whether the first rule has this many ops in its matcher and in its transcriber.
 fn has_items(rules: &Rules, pattern: usize, template: usize) -> bool {
     match rules.list.first() {
         Some(rule) => rule.pattern.len() == pattern && rule.template.len() == template,
@@ -101,7 +101,8 @@ fn has_items(rules: &Rules, pattern: usize, template: usize) -> bool {
     }
 }
 
-// How many rules and which fault a macro by the word `macro` gives, whose arguments may be its first rule.
+// How many rules a `macro` definition has, and the fault. With `args`, these are the matcher of
+// its one rule.
 fn told_of(rt: &HostRuntime, args: Option<&str>, body: &str) -> Result<String, Fail> {
     let body = trees(rt, body)?;
     let rules = match args {
@@ -132,7 +133,7 @@ fn of_macros(rt: HostRuntime) -> Result<(), Fail> {
     Ok(())
 }
 
-// What the first variable of the first rule takes.
+// The fragment specifier of the first metavariable of the first rule.
 fn first_kind(rules: &Rules) -> Option<MetaVarKind> {
     match rules.list.first()?.pattern.first()? {
         Op::Var { kind, .. } => *kind,

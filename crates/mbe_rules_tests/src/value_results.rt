@@ -1,4 +1,4 @@
-//! Values with an error beside them.
+//! Values with an optional error.
 use mbe_rules::laws::equal_value_results;
 use mbe_rules::{CountError, ExpandErrorKind, ValueResult};
 use std::alloc::Global;

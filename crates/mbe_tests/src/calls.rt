@@ -1,6 +1,7 @@
-//! Rules, calls, and what they give: a line for each call, with rules, argument and answer. An answer is the number of the
-//! rule and the printed text, in which `⏎` stands for the end of a line; or, of a call that no rule fits, the error, where
-//! it is told, the number of the nearest rule if there is one, and its tree as it is displayed.
+//! Rules, calls, and their results: a line for each call, with rules, argument and result. A
+//! result is the index of the rule and the printed text, in which `⏎` is the end of a line. If no
+//! rule fits, it is the error, its range, the index of the nearest rule if there is one, and its
+//! tree as it is displayed.
 use crate::texts::answered;
 use mbe::FragmentGrammar;
 use small_grammar::SmallGrammar;
@@ -54,6 +55,9 @@ const WITH_THE_SMALL_GRAMMAR: &str = r#"
 ($($e:expr_2021),* $(,)?) => { $($e);* ; } ¦ 4, "literal", funcall(), future.await, ¦ 0 4 ;⏎"literal" ;⏎( funcall ( ) ) ;⏎( future . await ) ;⏎
 ($x:tt $($y:tt)*) => { $( $y $( $x )* )* } ¦ 1 a b ¦ 0 a b⏎
 ($($x:ident)*) => { $x } ¦ a ¦ none
+($($a:ident)* ; $($b:ident)*) => { $( $a $b )* } ¦ x y ; z ¦ 0 x z⏎
+($($a:ident)* $(; $b:ident)?) => { $( $a ${ignore($b)} )* } ¦ x y ¦ 0
+($($a:ident)* ; $($($b:ident)*),*) => { $( $a $( $b )* )* } ¦ x y ; z w ¦ 0 x z w⏎
 (-1) => {-1}; (- 2) => {- 2}; (- 3.0) => {- 3.0}; (@$lit:literal) => {$lit} ¦ -1 ¦ 0 - 1⏎
 (-1) => {-1}; (- 2) => {- 2}; (- 3.0) => {- 3.0}; (@$lit:literal) => {$lit} ¦ - 1 ¦ 0 - 1⏎
 (-1) => {-1}; (- 2) => {- 2}; (- 3.0) => {- 3.0}; (@$lit:literal) => {$lit} ¦ -2 ¦ 1 - 2⏎
@@ -61,13 +65,15 @@ const WITH_THE_SMALL_GRAMMAR: &str = r#"
 (-1) => {-1}; (- 2) => {- 2}; (- 3.0) => {- 3.0}; (@$lit:literal) => {$lit} ¦ @-1 ¦ 3 - 1⏎
 "#;
 
-// A call that no rule fits.
+// Calls that no rule fits. Two faults of a name are never reported. Where a list or a skipped
+// metavariable has no value for an iteration around the name, that iteration is dropped with its
+// faults, since each name in it is looked up before it is transcribed.
 const UNFIT: &str = r#"
 (-1) => {-1}; (- 2) => {- 2}; (- 3.0) => {- 3.0}; (@$lit:literal) => {$lit} ¦ @--1.0 ¦ none: expected literal (1..2, 3) missing
 ($($e:expr),* $(,)?) => { $($e);* ; } ¦ _, ¦ none: no rule matches input tokens (0..1, 0) ;
 ($($e:expr),* $(,)?) => { $($e);* ; } ¦ const { 1 }, ¦ none: no rule matches input tokens (0..5, 0) ;
 (a b) => {x} ¦ a c ¦ none: unexpected token in input (2..3, 0) x
-(a b) => {x} ¦ a ¦ none: expected ident: `b` (0..0, 0) x
+(a b) => {x} ¦ a ¦ none: expected ident: `b` (92..93, 0) x
 (a 'b) => {x} ¦ a 'c ¦ none: unexpected token in input (2..3, 0) x
 (a 'b) => {x} ¦ a + ¦ none: expected punct: `'` (2..3, 0) x
 (a 1) => {x} ¦ a () ¦ none: expected literal: `1` (2..3, 0) x
@@ -76,14 +82,14 @@ const UNFIT: &str = r#"
 (a ==) => {x} ¦ a + b ¦ none: expected punct: `==` (2..3, 0) x
 (a ==) => {x} ¦ a 'b ¦ none: unexpected token in input (2..3, 0) x
 (a ==) => {x} ¦ a b ¦ none: unexpected token in input (2..3, 0) x
-(a ==) => {x} ¦ a ¦ none: unexpected token in input (0..0, 0) x
-(a (b)) => {x} ¦ a [b] ¦ none: leftover tokens (0..0, 0) x
+(a ==) => {x} ¦ a ¦ none: unexpected token in input (92..93, 0) x
+(a (b)) => {x} ¦ a [b] ¦ none: leftover tokens (90..91, 0) x
 (a (b)) => {x} ¦ a (c) ¦ none: unexpected token in input (3..4, 0) x
-(a (b)) => {x} ¦ a (b c) ¦ none: leftover tokens (0..0, 0) x
-(a) => {x} ¦ a b c ¦ none: leftover tokens (0..0, 0) x
+(a (b)) => {x} ¦ a (b c) ¦ none: leftover tokens (90..91, 0) x
+(a) => {x} ¦ a b c ¦ none: leftover tokens (90..91, 0) x
 ($a:ident) => {$a} ¦ 1 ¦ none: expected ident (0..1, 0) missing
-($a:ident) => {$a} ¦  ¦ none: expected ident (0..0, 0) missing
-($a:tt) => {< $a >} ¦  ¦ none: expected token tree (0..0, 0) < >
+($a:ident) => {$a} ¦  ¦ none: expected ident (92..93, 0) missing
+($a:tt) => {< $a >} ¦  ¦ none: expected token tree (92..93, 0) < >
 ($a:lifetime) => {$a} ¦ x ¦ none: expected lifetime (0..1, 0) 'missing
 ($a:literal) => {$a} ¦ x ¦ none: expected literal (0..1, 0) missing
 ($a:ty) => {$a} ¦ ; ¦ none: expected Ty (0..1, 0) missing
@@ -113,21 +119,31 @@ const UNFIT: &str = r#"
 ($($a:ident)* ; $($b:ident)*) => { $( $( ($a $b) )* )* } ¦ x y ; z w ¦ none: Expand exceed limit (77..78, 0)
 ($a:expr, $b:expr, $c:path) => { $a $b $c ${count($d)} } ¦ 1 + 2, -3, A<u8> ¦ none: could not find binding d (42..43, 0) (1 + 2) - 3 A :: < u8 >
 ($a:ident) => {1 $a}; ($a:ident $b:ident) => {2 $a $b}; ($a:tt ,) => {3 $a} ¦ x 1 ¦ none: expected ident (2..3, 1) 2 x missing
-($a:ident a $b:ident) => {1}; ($a:ident b $b:tt) => {$a $b} ¦ x b ¦ none: expected token tree (0..0, 1) x
+($a:ident a $b:ident) => {1}; ($a:ident b $b:tt) => {$a $b} ¦ x b ¦ none: expected token tree (92..93, 1) x
 (($a:ident x) y) => {1}; (($a:ident ; $b:ident) y z w) => {$a $b} ¦ (q ; 1) y z w ¦ none: expected ident (5..6, 1) q missing
 (a) => {1}; (b) => {2} ¦ c ¦ none: unexpected token in input (0..1, 0) 1
  ¦ c ¦ none: no rule matches input tokens (77..78, none)
 attr(a) (b) => {c}; derive() (b) => {d} ¦ e ¦ none: no rule matches input tokens (77..78, none)
 attr(a) (b) => {c}; (b) => {d} ¦ e ¦ none: unexpected token in input (0..1, 1) d
-($($a:tt)* $b:tt) => {1} ¦ c d ¦ none: leftover tokens (0..0, 0) 1
-($($(a)+)*) => {1} ¦ a a a a a a a a a a a a a a a a a a a a a a a a a a a a a a a a a a a a ¦ none: expected ident: `a` (0..0, 0) 1
+($($a:tt)* $b:tt) => {1} ¦ c d ¦ none: leftover tokens (90..91, 0) 1
+($($(a)+)*) => {1} ¦ a a a a a a a a a a a a a a a a a a a a a a a a a a a a a a a a a a a a ¦ none: expected ident: `a` (92..93, 0) 1
 ($($(a)+)*) => {1} ¦ a a a a a a a a a a a a a a a a a a a a a a a a a a a a a a a a a a a a b ¦ none: unexpected token in input (72..73, 0) 1
 ($a:ident, $($b:ident)* ; $c:expr) => {$a $($b)* $c} ¦ x, y z ; let ¦ none: unexpected token in input (3..4, 0) x y z missing
 ($($a:ident = $b:ty);*) => {$($a $b)*} ¦ x = u8; y = ; ¦ none: expected Ty (12..13, 0)
 ($($a:ident),+ ; $(x)?) => {$($a)*} ¦ q, r ¦ none: expected punct: `;` (1..2, 0) q r
 ($($a:ident),+ ; $(x)?) => {$($a)*} ¦ q, r ; x x ¦ none: expected punct: `;` (1..2, 0) q r
 ($($a:tt ; $($b:ident),*)|*) => { [$($a [$($b $a),*])|*] } ¦ 1; x, y| 2; z, 3 ¦ none: expected ident (15..16, 0) []
-($a:foo) => {$a} ¦ x ¦ none: leftover tokens (0..0, 0) $ a
+($($a:vis),*) => {x} ¦  ¦ none: unexpected token in input (90..91, 0) x
+(a 1) => {x} ¦ a ¦ none: expected literal: `1` (92..93, 0) x
+(a 'b) => {x} ¦ a ¦ none: unexpected token in input (92..93, 0) x
+(a ==) => {x} ¦ a () ¦ none: unexpected token in input (2..3, 0) x
+(a ==) => {x} ¦ a 1 ¦ none: unexpected token in input (2..3, 0) x
+(a (b c)) => {x} ¦ a (b) ¦ none: expected ident: `c` (92..93, 0) x
+(a (b $c:ty)) => {$c} ¦ a (b) d ¦ none: expected Ty (92..93, 0) missing
+(a $b:lifetime) => {$b} ¦ a ¦ none: expected lifetime (92..93, 0) 'missing
+(a $b:literal) => {$b} ¦ a ¦ none: expected literal (92..93, 0) missing
+(a $b:ty) => {$b} ¦ a ¦ none: expected Ty (92..93, 0) missing
+($a:foo) => {$a} ¦ x ¦ none: leftover tokens (90..91, 0) $ a
 "#;
 
 const WITH_ONE_STEP: &str = r#"
@@ -151,7 +167,7 @@ const WITH_FAULTS: &str = r#"
 ($a:block) => { ${concat(a, $a)} } ¦ 1 ¦ none: expected Block (0..1, 0) a
 "#;
 
-// Fails with the lines of which something else is answered.
+// Fails with the lines that have another result.
 fn run<G: FragmentGrammar>(
     alloc: Global,
     grammar: &G,
@@ -175,7 +191,7 @@ fn run<G: FragmentGrammar>(
     Err(Fail::new(wrong.as_str()))
 }
 
-// Whether an answer is what was wanted: of one that is `none`, that no rule fits.
+// Whether a result is the expected one. `none` expects any result of a call that no rule fits.
 fn is_wanted(got: &str, want: &str) -> bool {
     got == want || (want == "none" && got.starts_with("none:"))
 }

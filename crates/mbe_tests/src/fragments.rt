@@ -1,5 +1,5 @@
 //! What a grammar takes at the head of a list.
-use crate::texts::{call_site, trees};
+use crate::texts::{bracket, call_site, trees};
 use mbe::{FragmentGrammar, PrefixEntryPoint, expect_fragment};
 use std::alloc::Global;
 use std::fmt::Write;
@@ -7,7 +7,8 @@ use std::test::Fail;
 use test_grammars::{AllSteps, Faults, OneStep};
 use tt::DelimSpan;
 
-// A grammar, what it is asked for, and a list; the trees that are passed, those that are left, and the error with its place.
+// A grammar, what it is asked for, and a list; the trees that are passed, those that remain, and
+// the error with its range.
 const ROWS: &str = "
 OneStep Expr ¦ a b ¦ a | b |
 OneStep Ty ¦ (a b) c ¦ (a b) | c | expected Ty at 0..1
@@ -17,7 +18,7 @@ AllSteps Block ¦ {a} b ¦ {a} b |  |
 Faults Vis ¦ a ¦  | a | expected Vis at 0..1
 ";
 
-// What is passed of a text, as a row has it.
+// What a grammar passes of a text, written as an example.
 fn passed<G: FragmentGrammar>(
     alloc: Global,
     grammar: &G,
@@ -26,7 +27,7 @@ fn passed<G: FragmentGrammar>(
 ) -> Result<String, Fail> {
     let tree = trees(alloc, text)?;
     let mut rest = tree.iter();
-    let end = DelimSpan::from_single(call_site());
+    let end = DelimSpan::from_pair(bracket(90), call_site());
     let found = expect_fragment(alloc, grammar, &mut rest, entry, end)?;
     let mut shown = String::new(alloc);
     write!(shown, "{} | {} |", found.value, rest.remaining())?;
@@ -37,7 +38,7 @@ fn passed<G: FragmentGrammar>(
     Ok(shown)
 }
 
-// The same by a grammar and an entry point that are named.
+// The same, with the grammar and the entry point by name.
 fn passed_by(alloc: Global, call: &str, text: &str) -> Result<String, Fail> {
     match call {
         "OneStep Expr" => passed(alloc, &OneStep, PrefixEntryPoint::Expr, text),

@@ -1,4 +1,4 @@
-//! Arguments that no text gives, or that are nested deep.
+//! Arguments that no text gives, or that are deeply nested.
 use crate::texts::{at_2024, call_site, made, trees};
 use mbe::{DeclarativeMacro, DelimiterKind, MacroCallStyle, ValueResult};
 use small_grammar::SmallGrammar;
@@ -6,7 +6,7 @@ use std::alloc::Global;
 use std::test::Fail;
 use tt::{Delimiter, Ident, Leaf, TopSubtree, TopSubtreeBuilder};
 
-// The rule of a macro that fits an argument, and what it gives.
+// The index of the rule that fits an argument, if one does, and the tree that it gives.
 fn given(
     alloc: Global,
     rules: &str,
@@ -48,7 +48,7 @@ fn invisible(rt: HostRuntime) -> Result<(), Fail> {
     Ok(())
 }
 
-// A text inside so many groups.
+// A text inside `depth` groups.
 fn nested(alloc: Global, depth: usize, text: &str) -> Result<String, Fail> {
     let mut all = String::new(alloc);
     for _ in 0..depth {
@@ -61,14 +61,15 @@ fn nested(alloc: Global, depth: usize, text: &str) -> Result<String, Fail> {
     Ok(all)
 }
 
-// A rule for groups in one another.
+// A rule for nested groups.
 fn deep_rule(alloc: Global, depth: usize) -> Result<String, Fail> {
     let pattern = nested(alloc, depth, "$x:tt")?;
     let template = nested(alloc, depth, "$x")?;
     Ok(format!(in alloc; "({pattern}) => {{{template}}}")?)
 }
 
-// The rule that fits so many groups around a text, and how many tokens it gives.
+// The index of the rule that fits a text inside `depth` groups, if one does, and how many tokens
+// it gives.
 fn given_deep(
     alloc: Global,
     rules: &str,

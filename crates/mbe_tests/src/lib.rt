@@ -1,7 +1,7 @@
 //! Tests of the public calls of `mbe`, in a crate of their own so that it is proved once.
 //!
-//! Most are run from text: a definition and a call are read by `bridge`, and what the call gives is printed
-//! by it. Expected values were worked out by hand.
+//! Most are run from text: `bridge` reads a definition and a call, and prints what the call gives.
+//! Expected values were worked out by hand.
 #![tactic(auto)]
 
 #[cfg(test)]

@@ -1,4 +1,4 @@
-//! What is kept of a definition, and what is told of it.
+//! Macros: their rules, their styles of call, and their faults.
 use crate::texts::{at_2021, at_2024, call_site, made, trees};
 use mbe::{
     DeclarativeMacro, DelimiterKind, ExpandErrorKind, MacroCallStyle, MacroCallStyles, ParseError,
@@ -9,7 +9,7 @@ use std::alloc::Global;
 use std::fmt::Write;
 use std::test::Fail;
 
-// Rules, and what is told of their macro: how many they are, the styles of calls that they are for, and the fault.
+// Rules, and how many they are, the styles of call that they are for, and the fault.
 const ROWS: &str = "
  ¦ 0 FnLike ¦
 (a) => {b} ¦ 1 FnLike ¦
@@ -24,7 +24,8 @@ fn macro_rules(alloc: Global, rules: &str) -> Result<DeclarativeMacro, Fail> {
     Ok(DeclarativeMacro::parse_macro_rules(alloc, &body, at_2024)?)
 }
 
-// What is told of a macro, as a row has it, where its copy is the same.
+// The number of rules, the styles of call and the fault of a macro that is equal to its copy,
+// written as an example.
 fn told(alloc: Global, found: &DeclarativeMacro) -> Result<String, Fail> {
     if found.try_clone(alloc)? != *found {
         return Err(Fail::new("a copy differs"));
@@ -72,7 +73,7 @@ fn compared(rt: HostRuntime) -> Result<(), Fail> {
     Ok(())
 }
 
-// What is told of a macro by the word `macro`, which has this body, and this argument if it has one.
+// The same of a `macro` definition with this body, and with this argument if it has one.
 fn told_by_word(alloc: Global, argument: &str, body: &str) -> Result<String, Fail> {
     let body = trees(alloc, body)?;
     if argument.is_empty() {
@@ -93,7 +94,7 @@ fn by_the_word_macro(rt: HostRuntime) -> Result<(), Fail> {
     Ok(())
 }
 
-// Whether nothing fits a call of the style `Derive`, and what is answered is as empty as can be.
+// Whether no rule fits a call of the style `Derive`, and the result is empty.
 fn derives_nothing(alloc: Global, rules: &str) -> Result<bool, Fail> {
     let found = macro_rules(alloc, rules)?;
     if found.err().is_some() {

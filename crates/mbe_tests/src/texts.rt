@@ -1,4 +1,4 @@
-//! A definition and a call, as texts, and what is printed of what the call gives.
+//! A definition and a call, as texts, and the text that the call's result prints.
 use bridge::{Read, print, read};
 use mbe::{
     DeclarativeMacro, ExpandResult, FragmentGrammar, MacroCallStyle, MatchedArmIndex, ValueResult,
@@ -6,9 +6,9 @@ use mbe::{
 use rustc_lexer::LexedText;
 use std::alloc::Global;
 use std::test::Fail;
-use tt::{Edition, Span, SyntaxContext, TextRange, TopSubtree, TtFault};
+use tt::{DelimSpan, Edition, Span, SyntaxContext, TextRange, TopSubtree, TtFault};
 
-/// The trees of a text: none where it is long, or is not read.
+/// The trees of a text. `None` if it is long or has a reading fault.
 pub(crate) fn trees_of(alloc: Global, text: &str) -> Result<Option<TopSubtree>, TtFault> {
     if text.len() >= 100_000 {
         return Ok(None);
@@ -20,7 +20,7 @@ pub(crate) fn trees_of(alloc: Global, text: &str) -> Result<Option<TopSubtree>, 
     }
 }
 
-/// The same of a text that is short and is read.
+/// The trees of a text that is short and has no reading fault.
 pub(crate) fn trees(alloc: Global, text: &str) -> Result<TopSubtree, Fail> {
     match trees_of(alloc, text)? {
         Some(tree) => Ok(tree),
@@ -28,7 +28,7 @@ pub(crate) fn trees(alloc: Global, text: &str) -> Result<TopSubtree, Fail> {
     }
 }
 
-/// All words are of this edition.
+/// The edition of all identifiers.
 pub(crate) fn at_2021(_context: SyntaxContext) -> Edition {
     Edition::Edition2021
 }
@@ -37,7 +37,7 @@ pub(crate) fn at_2024(_context: SyntaxContext) -> Edition {
     Edition::Edition2024
 }
 
-/// A template's tokens stand where they do, but are made.
+/// Marks a span as that of a synthesized token.
 pub(crate) fn made(span: Span) -> Span {
     Span {
         range: span.range,
@@ -46,7 +46,7 @@ pub(crate) fn made(span: Span) -> Span {
     }
 }
 
-/// The place of the calls.
+/// The span of the calls.
 pub(crate) fn call_site() -> Span {
     Span {
         range: TextRange { start: 77, end: 78 },
@@ -55,7 +55,19 @@ pub(crate) fn call_site() -> Span {
     }
 }
 
-// What is answered of a call, in one line.
+/// A byte of no text: the span of a delimiter of an argument.
+pub(crate) fn bracket(start: u32) -> Span {
+    Span {
+        range: TextRange {
+            start,
+            end: start.saturating_add(1),
+        },
+        anchor: 3,
+        ctx: SyntaxContext::Written,
+    }
+}
+
+// The result of a call, in one line.
 fn shown(
     alloc: Global,
     answer: ExpandResult<(TopSubtree, MatchedArmIndex)>,
@@ -80,7 +92,8 @@ fn shown(
     Ok(format!(in alloc; "none: {err} ({from}..{to}, {number}) {tree}")?)
 }
 
-/// What a call of rules gives, in one line.
+/// The result of a call of these rules, in one line. The argument opens at 90..91 and closes at
+/// 92..93.
 pub(crate) fn answered<G: FragmentGrammar>(
     alloc: Global,
     grammar: &G,
@@ -97,7 +110,8 @@ pub(crate) fn answered<G: FragmentGrammar>(
     if definition.err().is_some() {
         return Err(Fail::new("a definition is broken"));
     }
-    let argument = trees(alloc, argument)?;
+    let mut argument = trees(alloc, argument)?;
+    argument.set_top_subtree_delimiter_span(DelimSpan::from_pair(bracket(90), bracket(92)));
     let answer = definition.expand(
         alloc,
         grammar,

@@ -1,4 +1,4 @@
--- What each task of filling leaves to do comes to the same.
+-- The tasks of transcribing: what one does and leaves to do comes to the same result.
 use Rattle.std.proofs.Common.{◌≡◌, refl, sym, ap, subst, ◌∙◌, ℕ, zero, suc, ◌+◌, ◌-◌, ◌*◌, ◌<◌, ◌≤◌, Bool, true, false, List, [], ◌∷◌, ◌++◌, length, take, reverse, Option, Some, None, option_map, if◌then◌else◌, arith}
 use Rattle.std.specs.Borrow.{Bor}
 use Rattle.std.specs.Prelude.{OnOk, Result, Ok, Err}

@@ -1,4 +1,4 @@
--- A template at other places, filled with bindings at other places, gives the same at other places.
+-- Transcribing commutes with a span map over transcriber and bindings.
 use Rattle.std.proofs.Common.{◌≡◌, refl, ap, ◌∙◌, ℕ, zero, suc, ◌-◌, List, [], ◌∷◌, ◌++◌, map, if◌then◌else◌, Bool, true, false, Option, Some, None, option_map, option_and_then}
 use Rattle.tt_data.specs.Forest.{Forest, empty, leaf, joined, map_spans}
 use Rattle.tt_data.specs.Spans.{leaf_with, delimiter_with}

@@ -1,4 +1,4 @@
--- The trees of a fragment at other places are put in as they are, at other places.
+-- Putting in the trees of a fragment commutes with a span map.
 use Rattle.std.proofs.Common.{◌≡◌, refl, ap, List, [], ◌∷◌, map, if◌then◌else◌, Bool, true, false, Option, Some, None, option_map}
 use Rattle.tt_data.specs.Forest.{Forest, empty, leaf, group, joined, map_spans}
 use Rattle.tt_data.specs.Spans.{leaf_with, delimiter_with}

@@ -1,4 +1,4 @@
--- Leaves that are put in one after the other.
+-- Leaves that are appended one after another.
 use Rattle.std.proofs.Common.{◌≡◌, refl, sym, ap, ◌∙◌, ℕ, ◌+◌, ◌<◌, ◌≤◌, Bool, true, false, List, [], ◌∷◌, map, length, get_or, drop, arith, Option, Some, None, option_map, subst}
 use Rattle.std.specs.Prelude.{Result, IfOk}
 use Rattle.std.proofs.lemmas.List.{drop_all, drop_more}

@@ -1,4 +1,4 @@
--- Rounds whose items are one variable give its values, one after the other.
+-- Iterations whose ops are one metavariable give its values, one after another.
 use Rattle.std.proofs.Common.{◌≡◌, refl, sym, ap, subst, ◌∙◌, ℕ, ◌+◌, ◌<◌, ◌≤◌, Bool, true, false, List, [], ◌∷◌, ◌++◌, length, reverse, Option, Some, None, option_map, option_and_then, arith}
 use Rattle.std.specs.Prelude.{◌==◌, Ok, Result}
 use Rattle.tt_data.specs.fault.TtFault.{TtFault}

@@ -1,4 +1,4 @@
--- The texts of parts, one after the other.
+-- The texts of parts, one after another.
 use Rattle.std.proofs.Common.{◌≡◌, refl, sym, ap, ◌∙◌, ℕ, suc, ◌<◌, ◌≤◌, Bool, true, false, List, [], ◌∷◌, ◌++◌, map, length, get_or, drop, drop-cons, Option, Some, None, option_map}
 use Rattle.std.proofs.lemmas.List.{drop_all}
 use Rattle.mbe_transcriber.proofs.PuttingLemmas.{unsome}

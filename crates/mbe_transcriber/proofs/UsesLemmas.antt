@@ -1,4 +1,4 @@
--- How a round uses the variables of its body, one after the other.
+-- How an iteration uses the metavariables of its body, one after another.
 use Rattle.std.proofs.Common.{◌≡◌, refl, sym, ap, ◌∙◌, ℕ, zero, suc, ◌<◌, false, ◌&&◌, ◌||◌, not, List, [], ◌∷◌, ◌++◌, map, length, get_or, drop, drop-cons, ◌≤◌, Option, Some, None, option_and_then, arith}
 use Rattle.std.proofs.lemmas.List.{map-append, drop_all}
 use Rattle.std.specs.Prelude.{◌==◌}

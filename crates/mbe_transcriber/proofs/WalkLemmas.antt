@@ -1,4 +1,4 @@
--- What a walk over the items of a template that hold no others leaves, item by item.
+-- A walk over the ops of a transcriber that have no ops inside: what remains, op by op.
 use Rattle.std.proofs.Common.{◌≡◌, sym, ap, ◌∙◌, ℕ, ◌+◌, ◌<◌, List, [], ◌∷◌, ◌++◌, reverse, sum_by, append_assoc, arith}
 use Rattle.std.specs.Borrow.{Bor}
 use Rattle.std.specs.List.{flat_map}

@@ -1,4 +1,4 @@
--- What filling does to a tree under construction, item by item
+-- How transcription changes a tree under construction, op by op
 use Rattle.std.specs.Prelude.{◌≡◌, ◌<◌, ◌+◌, ℕ, suc, Bool, true, false, List, [], ◌∷◌, ◌++◌, Option, Some, None, option_map, Result, Err, IfOk}
 use Rattle.tt.specs.Building.{Building, extended, count_of, most_tokens}
 use Rattle.tt_data.specs.Forest.{Forest, empty, group, size}
@@ -16,36 +16,36 @@ use Rattle.mbe_transcriber.specs.Limits.{most_rounds}
 use Rattle.mbe_transcriber.specs.Markers.{is_name}
 use Rattle.mbe_transcriber.specs.Output.{output_in, output_from, output_of_rounds, size_of}
 
--- a tree under construction after filling; none after a fault
+-- a tree under construction after transcription; none after a fault
 abbrev pub ended : Bool → Building → Option Building
 ended true b = Some b
 ended false b = None
 
--- unless it is refused, these trees are put in, and a fault is told as one
+-- unless refused, these trees are added, or the answer says that there is a fault
 abbrev pub Fills : Result Bool TtFault → (old new : Building) → Option Forest → Type 0
 Fills r old new o = IfOk r (λ b. ended b new ≡ option_map (extended old) o)
 
--- a tree is refused for its size only where it would have more tokens than it may with so many more
+-- it is refused for too many tokens only if so many more would be too many for a tree
 abbrev pub IsBurstBy : Result Bool TtFault → Building → ℕ → Type 0
 IsBurstBy r b n = r ≡ Err Tokens → most_tokens < count_of b + n
 
--- a repetition has one round at most
+-- a repetition has at most one iteration
 abbrev pub is_single : RepeatKind → Bool
 is_single ZeroOrOne = true
 is_single _ = false
 
--- the first item holds no others
+-- the first op has no ops inside
 abbrev pub is_plain : Items → Bool
 is_plain (item i rest) = true
 is_plain _ = false
 
--- the place of the `$` that the first item begins with, where one does
+-- the span of the `$` that begins the first op, if one does
 abbrev pub dollar_place : Items → Option Span
 dollar_place (item (dollar d s) rest) = Some s
 dollar_place _ = None
 
 module _ (mark : Span → Span) (bound : Map) where
-  -- what a template gives, and how much it puts out
+  -- what a transcriber gives, and how many tokens it puts out
   abbrev pub gives : List ℕ → Items → Option Forest
   gives = filled_in is_name most_rounds mark bound
 
@@ -55,11 +55,11 @@ module _ (mark : Span → Span) (bound : Map) where
   abbrev pub item_gives : List ℕ → Item → Option Forest
   item_gives = item_in is_name most_rounds mark bound
 
-  -- whether a round stands
+  -- whether an iteration takes place
   abbrev pub stands_in : List ℕ → Items → ℕ → Bool
   stands_in ns body r = round_stands is_name most_rounds mark bound body (ns ++ (r ∷ []))
 
-  -- what a repetition gives, and how much it puts out
+  -- what a repetition gives, and how many tokens it puts out
   abbrev pub repetition_gives : List ℕ → Items → Option Separator → RepeatKind → Option Forest
   repetition_gives ns body sep op =
       rounds_of (stands_in ns body) (λ r. gives (ns ++ (r ∷ [])) body) (separator_leaves sep) most_rounds op
@@ -69,7 +69,7 @@ module _ (mark : Span → Span) (bound : Map) where
       output_of_rounds (stands_in ns body) (λ r. gives (ns ++ (r ∷ [])) body) (λ r. puts_out (ns ++ (r ∷ [])) body)
       (size (separator_leaves sep)) most_rounds op
 
-  -- those from round r on
+  -- what a repetition's iterations from index r on give, and how many tokens they put out
   abbrev pub later_gives : List ℕ → Items → Option Separator → (most r : ℕ) → Option Forest
   later_gives ns body sep = rounds_from (stands_in ns body) (λ r. gives (ns ++ (r ∷ [])) body) (separator_leaves sep)
 
@@ -77,7 +77,7 @@ module _ (mark : Span → Span) (bound : Map) where
   later_puts_out ns body sep =
       output_from (stands_in ns body) (λ r. gives (ns ++ (r ∷ [])) body) (λ r. puts_out (ns ++ (r ∷ [])) body) (size (separator_leaves sep))
 
-  -- a round stands for each of these values and gives what it gives at this place, and no more stand
+  -- for each of these values an iteration takes place and gives it, and no more take place
   abbrev pub HasValues : List ℕ → Items → Span → Values → Type 0
   HasValues ns body place vs =
       ((r : ℕ) (b : Binding) → value_at r vs ≡ Some b →
@@ -88,7 +88,7 @@ module _ (mark : Span → Span) (bound : Map) where
   abbrev pub group_gives : Delimiter → Option Forest → Option Forest
   group_gives d = option_map (λ f. group (delimiter_with mark d) f empty)
 
-  -- what the first of some items gives, and how much it puts out
+  -- what the first of some ops gives, and how many tokens it puts out
   abbrev pub first_gives : List ℕ → Items → Option Forest
   first_gives ns done = Some empty
   first_gives ns (item i rest) = item_gives ns i
@@ -101,12 +101,12 @@ module _ (mark : Span → Span) (bound : Map) where
   first_puts_out ns (group_of d inner rest) = suc (puts_out ns inner)
   first_puts_out ns (repetition body sep op rest) = repetition_puts_out ns body sep op
 
-  -- the same, if it holds no items
+  -- what the first op gives, if it has no ops inside
   abbrev pub plain_gives : List ℕ → Items → Option Forest
   plain_gives ns (item i rest) = item_gives ns i
   plain_gives ns _ = None
 
-  -- the same, if a `$` begins it and this is the marked place of the `$`
+  -- what the first op gives, if it begins with a `$` that has this marked span
   abbrev pub dollar_gives : List ℕ → Items → Span → Option Forest
   dollar_gives ns (item (dollar d s) rest) place = dollar_in is_name most_rounds mark bound ns d place
   dollar_gives ns _ place = None

@@ -1,4 +1,4 @@
--- what a template gives, and how many tokens it puts out
+-- what a transcriber gives, and how many tokens it puts out
 pub mod Filling
 pub mod Limits
 pub mod Markers

@@ -1,6 +1,6 @@
--- How often a repetition of a template may be transcribed
+-- How many iterations a repetition of a transcriber may have
 use Rattle.std.specs.Prelude.{ℕ}
 
--- the rounds that a repetition of a template may have
+-- the most iterations that a repetition of a transcriber may have
 abbrev pub most_rounds : ℕ
 most_rounds = 65535

@@ -1,4 +1,4 @@
--- How many tokens a template puts out, up to the first fault where it has one.
+-- How many tokens a transcriber puts out, up to its first fault if it has one.
 use Rattle.std.specs.Prelude.{ℕ, suc, zero, ◌+◌, ◌-◌, Bool, true, false, List, [], ◌∷◌, ◌++◌, Option, Some, None}
 use Rattle.tt_data.specs.Forest.{Forest, size}
 use Rattle.tt_data.specs.declared.span.Span.{Span}
@@ -8,17 +8,17 @@ use Rattle.mbe_rules.specs.declared.parser.RepeatKind.TheVariants.{ZeroOrOne}
 use Rattle.mbe_matcher.specs.Bindings.{Map}
 use Rattle.mbe_transcriber.specs.Filling.{item_in, round_stands, filled_in, rounds_of, separator_leaves}
 
--- what puts out so many tokens and then others, unless it is a fault
+-- so many tokens of a first part and then others: only those of the part if it is a fault
 abbrev pub and_then : Option Forest → (first others : ℕ) → ℕ
 and_then None first others = first
 and_then (Some f) first others = first + others
 
--- the tokens of trees, and none of a fault
+-- the number of tokens of trees, and 0 for a fault
 abbrev pub size_of : Option Forest → ℕ
 size_of None = 0
 size_of (Some f) = size f
 
--- rounds r, r + 1, .. as long as they stand, each after a separator of so many tokens
+-- iterations r, r + 1, .. while they take place, each after a separator of so many tokens
 abbrev pub output_from : (ℕ → Bool) → (ℕ → Option Forest) → (ℕ → ℕ) → (separator most r : ℕ) → ℕ
 output_from stands_at round_at output_at separator zero r = 0
 output_from stands_at round_at output_at separator (suc most) r =
@@ -27,7 +27,7 @@ output_from stands_at round_at output_at separator (suc most) r =
       | false ↦ 0
     ]
 
--- the rounds of a repetition: the first has no separator before it
+-- the iterations of a repetition: the first has no separator before it
 abbrev pub output_of_rounds : (ℕ → Bool) → (ℕ → Option Forest) → (ℕ → ℕ) → ℕ → ℕ → RepeatKind → ℕ
 output_of_rounds stands_at round_at output_at separator most ZeroOrOne = elim (stands_at 0) [ true ↦ output_at 0 | false ↦ 0 ]
 output_of_rounds stands_at round_at output_at separator most _ =
@@ -37,7 +37,7 @@ output_of_rounds stands_at round_at output_at separator most _ =
     ]
 
 module _ (is_identifier : List ℕ → Bool) (most : ℕ) (mark : Span → Span) (bound : Map) where
-  -- what a template puts out in these rounds
+  -- how many tokens a transcriber puts out in these iterations
   abbrev pub output_in : List ℕ → Items → ℕ
   output_in ns done = 0
   output_in ns (item i rest) =
@@ -56,6 +56,6 @@ module _ (is_identifier : List ℕ → Bool) (most : ℕ) (mark : Span → Span)
       (size (separator_leaves sep)) most op)
       (output_in ns rest)
 
-  -- what a template puts out in all
+  -- how many tokens a transcriber puts out in all
   abbrev pub output : Items → ℕ
   output template = output_in [] template

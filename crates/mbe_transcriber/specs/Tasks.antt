@@ -1,4 +1,4 @@
--- What is left to do while a template is filled, and what it comes to
+-- The tasks that are left of a transcription, and its outcome
 use Rattle.std.specs.Prelude.{◌≡◌, ◌<◌, ℕ, ◌+◌, ◌-◌, ◌*◌, Bool, true, false, List, [], ◌∷◌, length, take, sum_by, Option, Some, None, option_map, Result, Err, IfOk}
 use Rattle.tt.specs.Building.{Building, Opened, extended, closed, count_of, most_tokens}
 use Rattle.tt_data.specs.Forest.{Forest}
@@ -14,12 +14,12 @@ use Rattle.mbe_transcriber.specs.declared.repetition.Iterations.{Iterations}
 use Rattle.mbe_transcriber.specs.declared.transcriber.TranscribeTask.{TranscribeTask}
 use Rattle.mbe_transcriber.specs.declared.transcriber.TranscribeTask.TheVariants.{Items as items_task, Close, Leave, Later}
 
--- what filling comes to: a tree under construction, or a fault when there were so many tokens
+-- the outcome of a transcription: a tree under construction, or a fault after so many tokens
 pub data Outcome : Type 0 where
   filled_up : Building → Outcome
   faulty : ℕ → Outcome
 
--- the tokens that there are in the end
+-- the number of tokens in the end
 abbrev pub reached : Outcome → ℕ
 reached (filled_up b) = count_of b
 reached (faulty n) = n
@@ -29,33 +29,33 @@ abbrev pub IsFaulty : Outcome → Type 0
 IsFaulty (filled_up b) = ⊥
 IsFaulty (faulty n) = Unit {0}
 
--- these trees are put in, which are so many tokens before a fault, and then comes what comes of the tree
+-- these trees are added and `more` follows; if there is a fault, n tokens come before it
 abbrev pub put_and : Option Forest → ℕ → Building → (Building → Outcome) → Outcome
 put_and None n b more = faulty (count_of b + n)
 put_and (Some f) n b more = more (extended b f)
 
--- the innermost of these open groups is closed; it is a fault where none is open
+-- the innermost of these open groups is closed; a fault if none is open
 abbrev pub close_in : List Opened → Building → Span → (Building → Outcome) → Outcome
 close_in [] b s more = faulty (count_of b)
 close_in (o ∷ outer) b s more = more (closed b s)
 
--- the numbers of the rounds around the innermost one, the outermost first
+-- the indices of the iterations around the innermost one, the outermost first
 abbrev pub around : List ℕ → List ℕ
 around ns = take (length ns - 1) ns
 
 module _ (mark : Span → Span) (bound : Map) where
-  -- what these items, in these rounds, and then others come to
+  -- the outcome of these ops in these iterations, and then of `more`
   abbrev pub items_and : List ℕ → Items → Building → (Building → Outcome) → Outcome
   items_and ns i = put_and (gives mark bound ns i) (puts_out mark bound ns i)
 
-  -- the same of the rounds of a repetition from one on
+  -- the outcome of the iterations of a repetition from one on, and then of `more`
   abbrev pub rounds_and : List ℕ → Iterations → Building → (Building → Outcome) → Outcome
   rounds_and ns x =
       put_and
       (later_gives mark bound ns (items_of x.body.now) (option_map (λ s. separator_of s.now) x.separator) (most_rounds - x.number) x.number)
       (later_puts_out mark bound ns (items_of x.body.now) (option_map (λ s. separator_of s.now) x.separator) (most_rounds - x.number) x.number)
 
-  -- what these tasks come to, the next one first, in these rounds
+  -- the outcome of these tasks, the next one first, in these iterations
   abbrev pub outcome : List TranscribeTask → List ℕ → Building → Outcome
   outcome [] ns b = filled_up b
   outcome (items_task ops ∷ ts) ns b = items_and ns (items_of ops.now) b (outcome ts ns)
@@ -63,35 +63,35 @@ module _ (mark : Span → Span) (bound : Map) where
   outcome (Leave ∷ ts) ns b = outcome ts (around ns) b
   outcome (Later x ∷ ts) ns b = rounds_and (around ns) x b (outcome ts (around ns))
 
--- unless a step is a fault, what it leaves comes to what was to come; where it is one, that was a fault
+-- a step without a fault leaves the outcome as it was; a step with one had a fault as outcome
 abbrev pub GoesOn : Bool → (before after : Outcome) → Type 0
 GoesOn true before after = before ≡ after
 GoesOn false before after = IsFaulty before
 
--- the same where the step is not refused
+-- a step does so unless it is refused
 abbrev pub Steps : Result Bool TtFault → (before after : Outcome) → Type 0
 Steps r before after = IfOk r (λ b. GoesOn b before after)
 
--- a tree is refused for its size only where there are to be more tokens than it may have
+-- it is refused for too many tokens only if the outcome has more than a tree may have
 abbrev pub IsBurstIn : Result Bool TtFault → Outcome → Type 0
 IsBurstIn r o = r ≡ Err Tokens → most_tokens < reached o
 
 -- ---- how many tasks there are
 
--- the tasks that come of items, at most
+-- the most tasks that come of ops
 abbrev pub work_of : Items → ℕ
 work_of done = 0
 work_of (item i rest) = 1 + work_of rest
 work_of (group_of d inner rest) = 3 + work_of inner + work_of rest
 work_of (repetition body sep op rest) = 65536 * (work_of body + 3) + work_of rest
 
--- of a task, itself included
+-- the most tasks that come of a task, itself included
 abbrev pub tasks_of : TranscribeTask → ℕ
 tasks_of (items_task ops) = 1 + work_of (items_of ops.now)
 tasks_of (Close s) = 1
 tasks_of Leave = 1
 tasks_of (Later x) = 1 + (65536 - x.number) * (work_of (items_of x.body.now) + 3)
 
--- of all
+-- the most tasks that come of these tasks
 abbrev pub tasks_of_all : List TranscribeTask → ℕ
 tasks_of_all ts = sum_by tasks_of ts

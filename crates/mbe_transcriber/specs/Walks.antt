@@ -1,4 +1,4 @@
--- What is left of a walk over the items of a template that hold no others
+-- What is left of a traversal of the ops without ops inside
 use Rattle.std.specs.Prelude.{ℕ, ◌+◌, List, [], ◌++◌, reverse, sum_by, Option, Some, None}
 use Rattle.std.specs.Borrow.{Bor}
 use Rattle.std.specs.List.{flat_map}
@@ -9,30 +9,30 @@ use Rattle.mbe_transcriber.specs.Filling.{names}
 use Rattle.mbe_transcriber.specs.Tasks.{work_of}
 use Rattle.mbe_transcriber.specs.declared.items.PlainItems.{PlainItems}
 
--- the variables in the items of a list
+-- the metavariables in a list of ops
 abbrev pub names_in : Bor (List Op) → List (List ℕ)
 names_in ops = names (items_of ops.now)
 
--- those in the lists around the one that is walked, the innermost first
+-- the metavariables in the lists around the present one, the innermost first
 abbrev pub names_around : PlainItems → List (List ℕ)
 names_around w = flat_map names_in (reverse w.around.items)
 
--- those in all that is left
+-- the metavariables in all that is left
 abbrev pub names_left : PlainItems → List (List ℕ)
 names_left w = names_in w.ops ++ names_around w
 
--- those in an item, if there is one
+-- the metavariables of an op, if there is one
 abbrev pub names_first : Option (Bor Op) → List (List ℕ)
 names_first None = []
 names_first (Some op) = names (put_op op.now done)
 
--- how many steps the lists around are good for
+-- how many steps a list around the present one takes at most
 abbrev pub work_in : Bor (List Op) → ℕ
 work_in ops = 1 + work_of (items_of ops.now)
 
 abbrev pub work_around : PlainItems → ℕ
 work_around w = sum_by work_in w.around.items
 
--- and all that is left
+-- how many steps all that is left takes at most
 abbrev pub work_left : PlainItems → ℕ
 work_left w = work_of (items_of w.ops.now) + work_around w

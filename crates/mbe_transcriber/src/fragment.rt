@@ -1,4 +1,4 @@
-//! Transcribing the trees of a fragment.
+//! Transcribes the trees of a fragment.
 ghost use Rattle.std.specs.Prelude.{◌≡◌, ◌&&◌, not, Err, IfErr, IfSome, OnOk};
 ghost use Rattle.tt_data.specs.Forest.{empty, leaf};
 ghost use Rattle.tt_data.specs.declared.span.Span.{Span};
@@ -46,7 +46,7 @@ fn stands_alone(trees: TokenTreesView<'_>) -> bool
     }
 }
 
-// Puts in trees of which a last punct stands alone.
+// Appends trees. If the last is a punct it is made `Alone`.
 fn put_alone(out: &mut TopSubtreeBuilder, trees: TokenTreesView<'_>) -> Result<(), TtFault>
     ensures faults { IfErr result IsWantOfRoom }
     ensures added { OnOk result (out.new.tree ≡ extended out.old.tree (last_alone (forest trees.entry))) }
@@ -55,7 +55,7 @@ fn put_alone(out: &mut TopSubtreeBuilder, trees: TokenTreesView<'_>) -> Result<(
     out.extend_with_tt_alone(trees)
 }
 
-// Puts in an expression, in parentheses where it needs them.
+// Appends an expression, in parentheses if it needs them.
 fn put_expression(
     out: &mut TopSubtreeBuilder,
     trees: TokenTreesView<'_>,
@@ -76,7 +76,7 @@ fn put_expression(
     Ok(())
 }
 
-// One of two colons.
+// One of the two colons of `::`.
 fn colon(spacing: Spacing, span: Span) -> Leaf
     ensures { result ≡ punct_at 58 spacing span }
 {
@@ -87,7 +87,7 @@ fn colon(spacing: Spacing, span: Span) -> Leaf
     })
 }
 
-// Puts in `::`.
+// Appends `::`.
 fn put_colons(out: &mut TopSubtreeBuilder, span: Span) -> Result<(), TtFault>
     ensures faults { IfErr result IsWantOfRoom }
     ensures added { OnOk result (out.new.tree ≡ extended out.old.tree (colons span empty)) }
@@ -115,14 +115,14 @@ fn begins_generics(trees: &TtIter<'_>) -> bool
     }
 }
 
-// Whether `::` stands between a tree of a path and the trees after it.
+// Whether `::` is added between a tree of a path and the trees after it.
 fn has_colons(tree: TokenTreesView<'_>, rest: &TtIter<'_>) -> bool
     ensures { result ≡ (begins_ident (forest tree.entry) && begins_generics rest.now) }
 {
     begins_ident(&tree.iter()) && begins_generics(rest)
 }
 
-// Puts in the next tree of a path, and `::` where it stands before the trees after it.
+// Appends the next tree of a path, and `::` if it is added before the trees after it.
 fn put_next(
     out: &mut TopSubtreeBuilder,
     tree: TokenTreesView<'_>,
@@ -140,7 +140,7 @@ fn put_next(
     Ok(())
 }
 
-// Puts in a path, with `::` between an identifier and a `<` after it.
+// Appends a path, with `::` added between an identifier and a `<` after it.
 fn put_path(
     out: &mut TopSubtreeBuilder,
     trees: TokenTreesView<'_>,
@@ -157,7 +157,8 @@ fn put_path(
     Ok(())
 }
 
-// The word or literal that these trees are, which is put in as it is for a variable of any kind.
+// The identifier or literal that these trees are, if they are one. It is transcribed as it is for
+// a metavariable of any kind.
 #[tactic(auto, using(crate::proofs::PuttingLemmas::a_word_put, crate::proofs::PuttingLemmas::a_literal_put))]
 fn lone_leaf<'a>(trees: TokenTreesView<'a>) -> Option<&'a Leaf>
     ensures { (span : Span) (kind : MetaVarKind) → IfSome result (λ l. put_in span kind (forest trees.entry) ≡ leaf l.now empty) }
@@ -175,7 +176,7 @@ fn lone_leaf<'a>(trees: TokenTreesView<'a>) -> Option<&'a Leaf>
     }
 }
 
-/// Puts in the trees of a fragment for a variable, of whose `$` this is the place.
+/// Transcribes the trees of a fragment for a metavariable; `span` is that of its `$`.
 pub fn put_in(
     out: &mut TopSubtreeBuilder,
     kind: MetaVarKind,

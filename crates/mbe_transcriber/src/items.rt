@@ -1,4 +1,4 @@
-//! The items of a template that hold no others, in order, also those inside groups and repetitions.
+//! The ops of a transcriber without ops inside, in order, those in groups and repetitions too.
 ghost use Rattle.std.specs.Prelude.{◌≡◌, ◌<◌, ◌≤◌, ◌+◌, ◌++◌, [], true, None, Ok, OnOk, IfOk, IfSome};
 ghost use Rattle.mbe_rules.specs.Items.{done};
 ghost use Rattle.mbe_rules.specs.Ops.{items_of, put_op};
@@ -10,7 +10,7 @@ ghost use Rattle.mbe_transcriber.specs.Walks.{names_around, names_first, names_l
 use mbe_rules::Op;
 use std::alloc::{AllocError, Global};
 
-/// The items of a list that are left, and those that are left of the lists around it, the innermost last.
+/// The ops of a transcriber without ops inside, in order, those in groups and repetitions too.
 #[derive(Drop)]
 pub struct PlainItems<'t> {
     pub(crate) ops: &'t [Op],
@@ -18,7 +18,7 @@ pub struct PlainItems<'t> {
 }
 
 impl<'t> PlainItems<'t> {
-    /// All items of a list.
+    /// All such ops of a list.
     pub fn new(alloc: Global, ops: &'t [Op]) -> PlainItems<'t>
         ensures { names_left result ≡ names (items_of ops.now) }
     {
@@ -28,7 +28,7 @@ impl<'t> PlainItems<'t> {
         }
     }
 
-    // Goes on with the items that one holds, and then with those after it.
+    // Goes on with the ops inside one, and then with those after it.
     fn enter(&mut self, inner: &'t [Op], rest: &'t [Op]) -> Result<(), AllocError>
         ensures names { OnOk result (names_left self.new ≡ names (items_of inner.now) ++ (names (items_of rest.now) ++ names_around self.old)) }
         ensures work { OnOk result (work_left self.new ≡ work_of (items_of inner.now) + (1 + work_of (items_of rest.now)) + work_around self.old) }
@@ -38,7 +38,7 @@ impl<'t> PlainItems<'t> {
         Ok(())
     }
 
-    // Goes on after an item, which holds no others.
+    // Goes on after an op without ops inside.
     fn pass(&mut self, op: &'t Op, rest: &'t [Op])
         requires { is_plain (put_op op.now done) ≡ true }
         ensures plain { is_plain (put_op op.now done) ≡ true }
@@ -49,7 +49,7 @@ impl<'t> PlainItems<'t> {
         self.ops = rest;
     }
 
-    /// The next item that holds no others.
+    /// The next op without ops inside. `None` at the end.
     pub fn next(&mut self) -> Result<Option<&'t Op>, AllocError>
         ensures names { IfOk result (λ o. names_left self.old ≡ names_first o ++ names_left self.new) }
         ensures plain { IfOk result (λ o. IfSome o (λ op. is_plain (put_op op.now done) ≡ true)) }

@@ -1,4 +1,4 @@
-//! Transcribing an item that holds no others, and separators.
+//! Transcribes an op without ops inside, and separators.
 ghost use Rattle.std.specs.Prelude.{◌≡◌, true, map, Some, Err, IfErr, OnOk, option_map};
 ghost use Rattle.tt.specs.Building.{extended};
 ghost use Rattle.tt_data.specs.Forest.{empty, leaf, size};
@@ -22,7 +22,7 @@ use mbe_matcher::Bindings;
 use mbe_rules::{Op, Separator};
 use tt::{Ident, Leaf, Literal, Punct, Span, TopSubtreeBuilder, TtFault};
 
-// Puts in puncts as they are.
+// Appends puncts as they are.
 fn put_puncts(out: &mut TopSubtreeBuilder, puncts: &[Punct]) -> Result<(), TtFault>
     ensures faults { IfErr result IsWantOfRoom }
     ensures added { OnOk result (out.new.tree ≡ extended out.old.tree (punct_leaves puncts.now)) }
@@ -34,7 +34,7 @@ fn put_puncts(out: &mut TopSubtreeBuilder, puncts: &[Punct]) -> Result<(), TtFau
     Ok(())
 }
 
-// Puts in a quote and its name as they are.
+// Appends a quote and its name as they are.
 fn put_lifetime(out: &mut TopSubtreeBuilder, quote: Punct, name: Ident) -> Result<(), TtFault>
     ensures faults { IfErr result IsWantOfRoom }
     ensures added { OnOk result (out.new.tree ≡ extended out.old.tree (leaf (as_leaf.Punct quote) (leaf (as_leaf.Ident name) empty))) }
@@ -44,7 +44,7 @@ fn put_lifetime(out: &mut TopSubtreeBuilder, quote: Punct, name: Ident) -> Resul
     out.push(Leaf::Ident(name))
 }
 
-// Puts in a separator, as it is written.
+// Appends a separator, as it is written.
 #[inline(never)]
 pub(crate) fn put_separator(
     out: &mut TopSubtreeBuilder,
@@ -63,7 +63,7 @@ pub(crate) fn put_separator(
     }
 }
 
-// A place in the template as its tokens have it in the output.
+// The span of a transcriber's token in the output.
 pub(crate) fn marked<M: Fn(Span) -> Span>(marker: &M, span: Span) -> Span
     requires { M.IsAlwaysCallable marker.now }
     ensures { (mark : Span → Span) → IsMarkedBy (M.post marker.now) mark → result ≡ mark span }
@@ -71,7 +71,7 @@ pub(crate) fn marked<M: Fn(Span) -> Span>(marker: &M, span: Span) -> Span
     marker(span)
 }
 
-// Puts in puncts of a template.
+// Transcribes puncts.
 fn put_marked_puncts<M: Fn(Span) -> Span>(
     out: &mut TopSubtreeBuilder,
     puncts: &[Punct],
@@ -91,7 +91,7 @@ fn put_marked_puncts<M: Fn(Span) -> Span>(
     Ok(true)
 }
 
-// Puts in an identifier of a template.
+// Transcribes an identifier.
 fn put_ident<M: Fn(Span) -> Span>(
     out: &mut TopSubtreeBuilder,
     ident: &Ident,
@@ -109,7 +109,7 @@ fn put_ident<M: Fn(Span) -> Span>(
     put_leaf(out, Leaf::Ident(Ident { sym, span, is_raw }))
 }
 
-// Puts in a literal of a template.
+// Transcribes a literal.
 fn put_literal<M: Fn(Span) -> Span>(
     out: &mut TopSubtreeBuilder,
     literal: &Literal,
@@ -125,7 +125,7 @@ fn put_literal<M: Fn(Span) -> Span>(
     put_leaf(out, Leaf::Literal(literal.clone()?.with_span(span)))
 }
 
-// Puts in a quote and its name of a template.
+// Transcribes a quote and its name.
 fn put_marked_lifetime<M: Fn(Span) -> Span>(
     out: &mut TopSubtreeBuilder,
     quote: Punct,
@@ -143,7 +143,7 @@ fn put_marked_lifetime<M: Fn(Span) -> Span>(
     put_ident(out, name, marker)
 }
 
-// Puts in what `${..}` gives, of whose `$` this is the place.
+// Transcribes a metavariable or metavariable expression. `span` is that of its `$` in the output.
 fn put_dollar(
     out: &mut TopSubtreeBuilder,
     op: &Op,
@@ -167,7 +167,7 @@ fn put_dollar(
     }
 }
 
-// The place of the `$` that begins an item, where one does.
+// The span of the `$` that begins an op, if one does.
 fn dollar_place(op: &Op) -> Option<Span>
     ensures { result ≡ dollar_place (put_op op.now done) }
 {
@@ -182,7 +182,7 @@ fn dollar_place(op: &Op) -> Option<Span>
     }
 }
 
-// Puts in an item of a template that holds no others.
+// Transcribes an op without ops inside. `Ok(false)` is a fault.
 fn put_item<M: Fn(Span) -> Span>(
     out: &mut TopSubtreeBuilder,
     op: &Op,
@@ -209,7 +209,7 @@ fn put_item<M: Fn(Span) -> Span>(
     }
 }
 
-// Puts in an item that is known to hold no others.
+// Transcribes an op that is known to have no ops inside.
 pub(crate) fn put_plain<M: Fn(Span) -> Span>(
     out: &mut TopSubtreeBuilder,
     op: &Op,

@@ -1,4 +1,4 @@
-//! Transcribing the template of a rule with what the variables of its pattern are bound to.
+//! Transcribes a rule's transcriber with the bindings of its metavariables.
 #![tactic(auto)]
 
 mod fragment;

@@ -1,4 +1,4 @@
-//! Transcribing what a `$` begins: variables and metavariable expressions, `${..}`.
+//! Transcribes metavariables and metavariable expressions, `${..}`.
 ghost use Rattle.std.specs.Prelude.{◌≡◌, ◌++◌, ◌∷◌, [], true, false, suc, reverse, map, Some, None, Ok, Err, IfOk, IfErr, OnOk, option_map, option_and_then, string_bytes};
 ghost use Rattle.tt.specs.Building.{extended};
 ghost use Rattle.tt.specs.Views.{forest};
@@ -29,7 +29,7 @@ use tt::{
     TopSubtreeBuilder, TtElement, TtFault,
 };
 
-// The words that are no names unless they are raw.
+// The reserved words, which are identifiers only if they are raw.
 const RESERVED: [&str; 52] = [
     "as", "break", "const", "continue", "crate", "else", "enum", "extern", "false", "fn", "for",
     "if", "impl", "in", "let", "loop", "match", "mod", "move", "mut", "pub", "ref", "return",
@@ -38,7 +38,7 @@ const RESERVED: [&str; 52] = [
     "override", "priv", "typeof", "unsized", "virtual", "yield", "try", "gen",
 ];
 
-/// Puts in a leaf.
+/// Appends a leaf.
 pub(crate) fn put_leaf(out: &mut TopSubtreeBuilder, token: Leaf) -> Result<bool, TtFault>
     ensures faults { IfErr result IsWantOfRoom }
     ensures filled { Fills result out.old.tree out.new.tree (Some (leaf token empty)) }
@@ -48,7 +48,7 @@ pub(crate) fn put_leaf(out: &mut TopSubtreeBuilder, token: Leaf) -> Result<bool,
     Ok(true)
 }
 
-// Puts in `$` and a name that stands for nothing.
+// Appends `$` and a name without a binding.
 fn put_unbound(out: &mut TopSubtreeBuilder, name: &Symbol, span: Span) -> Result<bool, TtFault>
     ensures faults { IfErr result IsWantOfRoom }
     ensures filled { (mark : Span → Span) (bound : Map) → Fills result out.old.tree out.new.tree (Some (unbound is_name most_rounds mark bound name.now span)) }
@@ -70,7 +70,7 @@ fn put_unbound(out: &mut TopSubtreeBuilder, name: &Symbol, span: Span) -> Result
     )
 }
 
-// Puts in a fragment.
+// Appends a fragment.
 fn put_fragment(
     out: &mut TopSubtreeBuilder,
     kind: MetaVarKind,
@@ -85,7 +85,7 @@ fn put_fragment(
     Ok(true)
 }
 
-/// Puts in what a bound variable stands for.
+/// Appends the value of a metavariable. `Ok(false)`, a fault, if it is no fragment.
 pub(crate) fn put_value(
     out: &mut TopSubtreeBuilder,
     value: Option<&Binding<'_>>,
@@ -103,7 +103,7 @@ pub(crate) fn put_value(
     }
 }
 
-/// Puts in what a variable stands for.
+/// Appends what a metavariable gives in these iterations.
 pub(crate) fn put_variable(
     out: &mut TopSubtreeBuilder,
     name: &Symbol,
@@ -123,7 +123,7 @@ pub(crate) fn put_variable(
     }
 }
 
-// How many values there are so many levels down.
+// The number of values in a binding, `depth` lists further in.
 #[cycle(counting)]
 fn count_in(binding: &Binding<'_>, depth: usize) -> Result<usize, AllocError>
     ensures { IfOk result (λ n. n ≡ count_in depth (standing_for binding.now)) }
@@ -138,7 +138,7 @@ fn count_in(binding: &Binding<'_>, depth: usize) -> Result<usize, AllocError>
     }
 }
 
-// How many values there are so many levels down in these.
+// The number of values in these bindings, `depth` lists further in.
 #[cycle(counting)]
 fn count_all(values: &[Binding<'_>], depth: usize) -> Result<usize, AllocError>
     ensures { IfOk result (λ n. n ≡ count_values (suc depth) (values_of values.now)) }
@@ -154,7 +154,7 @@ fn count_all(values: &[Binding<'_>], depth: usize) -> Result<usize, AllocError>
     Ok(count)
 }
 
-/// Puts in a number, as a literal.
+/// Appends a number, as a literal.
 pub(crate) fn put_integer(
     alloc: Global,
     out: &mut TopSubtreeBuilder,
@@ -170,7 +170,7 @@ pub(crate) fn put_integer(
     put_leaf(out, Leaf::Literal(literal))
 }
 
-/// Puts in how many values a name has so many levels down.
+/// Appends the number of values that a name has, `depth` lists further in.
 pub(crate) fn put_count(
     out: &mut TopSubtreeBuilder,
     name: &Symbol,
@@ -194,7 +194,7 @@ pub(crate) fn put_count(
     }
 }
 
-/// The number of the round so many levels up; 0 past the outermost.
+/// The index of the iteration `depth` levels up, or 0 past the outermost.
 pub(crate) fn number_at(depth: usize, rounds: &[usize]) -> usize
     ensures { result ≡ number_at depth (reverse rounds.now) }
 {
@@ -207,7 +207,7 @@ pub(crate) fn number_at(depth: usize, rounds: &[usize]) -> usize
     }
 }
 
-/// Whether a name stands for a fragment, which `${ignore(..)}` asks for.
+/// Whether a name has a fragment here, as `${ignore(..)}` needs.
 pub(crate) fn is_ignored(name: &Symbol, bindings: &Bindings<'_>, rounds: &[usize]) -> bool
     ensures { (mark : Span → Span) → elim result [ true ↦ Some empty | false ↦ None ]
         ≡ ignored is_name most_rounds mark (map_of bindings.now) (option_and_then (value_in rounds.now) (binding_of name.now (map_of bindings.now))) }
@@ -218,7 +218,7 @@ pub(crate) fn is_ignored(name: &Symbol, bindings: &Bindings<'_>, rounds: &[usize
     )
 }
 
-// Appends the text of one identifier or literal: whether the trees are one.
+// Appends the text of one identifier or literal, and answers whether the trees are one.
 fn append_text(text: &mut String, trees: TokenTreesView<'_>) -> Result<bool, AllocError>
     ensures { IfOk result (λ b. elim b [ true ↦ Some (string_bytes text.new) | false ↦ None ]
         ≡ option_map (λ t. string_bytes text.old ++ t) (text_in (forest trees.entry))) }
@@ -238,7 +238,8 @@ fn append_text(text: &mut String, trees: TokenTreesView<'_>) -> Result<bool, All
     Ok(true)
 }
 
-// Appends the text of a value: whether it has one. A path and an expression have none.
+// Appends the text of a value, and answers whether it has one. A path and an expression have
+// none.
 fn append_value(text: &mut String, value: Option<&Binding<'_>>) -> Result<bool, AllocError>
     ensures { IfOk result (λ b. elim b [ true ↦ Some (string_bytes text.new) | false ↦ None ]
         ≡ option_map (λ t. string_bytes text.old ++ t) (text_of_value (option_map (λ b. standing_for b.now) value.entry))) }
@@ -252,7 +253,7 @@ fn append_value(text: &mut String, value: Option<&Binding<'_>>) -> Result<bool, 
     }
 }
 
-// Appends the text of a part: whether it has one.
+// Appends the text of a part of `${concat(..)}`, and answers whether it has one.
 fn append_part(
     text: &mut String,
     part: &ConcatElement,
@@ -271,7 +272,7 @@ fn append_part(
     }
 }
 
-// The texts of these parts, one after the other, where all have one.
+// The joined text of these parts, if all have one.
 fn joined_text(
     parts: &[ConcatElement],
     bindings: &Bindings<'_>,
@@ -301,7 +302,7 @@ fn is_one_of(words: &[&str], text: &str) -> bool
     false
 }
 
-/// Whether a name that was made is raw: where it is a reserved word.
+/// Whether a synthesized name is raw: if it is a reserved word.
 pub fn rawness_of(text: &str) -> IdentIsRaw
     ensures { result ≡ rawness_of text.now }
 {
@@ -313,7 +314,7 @@ pub fn rawness_of(text: &str) -> IdentIsRaw
     }
 }
 
-// Puts in an identifier of a text, where it is one.
+// Appends the identifier that a text is. `Ok(false)`, a fault, if it is none.
 fn put_name(
     alloc: Global,
     out: &mut TopSubtreeBuilder,
@@ -332,7 +333,7 @@ fn put_name(
     put_leaf(out, Leaf::Ident(Ident { sym, span, is_raw }))
 }
 
-/// Puts in the identifier that these parts are joined to.
+/// Appends the identifier that these parts are joined to.
 pub(crate) fn put_concat(
     out: &mut TopSubtreeBuilder,
     parts: &[ConcatElement],

@@ -1,4 +1,5 @@
-//! Whether an iteration of a repetition follows, by how it uses the variables of its body.
+//! Decides whether an iteration of a repetition takes place, by the values of the metavariables
+//! in its body.
 ghost use Rattle.std.specs.Prelude.{◌≡◌, true, ◌++◌, ◌∷◌, [], Some, IfOk, OnOk, map, option_map, option_and_then};
 ghost use Rattle.mbe_rules.specs.Items.{done};
 ghost use Rattle.mbe_rules.specs.Ops.{items_of, part_of, put_op};
@@ -14,7 +15,7 @@ use mbe_rules::{ConcatElement, Op};
 use std::alloc::AllocError;
 use symbols::Symbol;
 
-/// The value of a round.
+/// The value for the iteration of this index.
 pub(crate) fn member<'b, 'a>(values: &'b [Binding<'a>], number: usize) -> Option<&'b Binding<'a>>
     ensures { option_map (λ b. standing_for b.now) result ≡ value_at number (values_of values.now) }
 {
@@ -25,7 +26,7 @@ pub(crate) fn member<'b, 'a>(values: &'b [Binding<'a>], number: usize) -> Option
     }
 }
 
-/// What a name stands for in these rounds, the outermost first.
+/// The value of a binding in these iterations, the outermost first.
 pub(crate) fn value_in<'b, 'a>(
     binding: &'b Binding<'a>,
     rounds: &[usize],
@@ -45,7 +46,7 @@ pub(crate) fn value_in<'b, 'a>(
     }
 }
 
-/// What this name stands for in these rounds.
+/// The value of this name in these iterations.
 pub(crate) fn value_here<'b, 'a>(
     name: &Symbol,
     bindings: &'b Bindings<'a>,
@@ -59,7 +60,7 @@ pub(crate) fn value_here<'b, 'a>(
     }
 }
 
-/// How the innermost of some rounds uses a name, or several.
+/// How the innermost of some iterations uses a name, or several.
 #[derive(Clone, Copy)]
 pub(crate) enum Use {
     /// Not at all.
@@ -71,14 +72,14 @@ pub(crate) enum Use {
 }
 
 impl Use {
-    // Whether a round stands where its variables are used so.
+    // Whether an iteration takes place that uses its metavariables so.
     fn has_value(self) -> bool
         ensures { result ≡ has_it (use_of self) }
     {
         matches!(self, Use::HasValue)
     }
 
-    // The use of these and of others.
+    // This use and another one, taken together.
     fn beside(self, other: Use) -> Use
         ensures { use_of result ≡ beside (use_of self) (use_of other) }
     {
@@ -90,7 +91,7 @@ impl Use {
     }
 }
 
-// How the only round uses a name that stands for this.
+// How the only iteration uses a binding.
 fn use_in_one(binding: &Binding<'_>, number: usize) -> Use
     ensures { use_of result ≡ use_in (number ∷ []) (Some (standing_for binding.now)) }
 {
@@ -104,7 +105,7 @@ fn use_in_one(binding: &Binding<'_>, number: usize) -> Use
     }
 }
 
-// How the innermost of these rounds uses a name.
+// How the innermost of these iterations uses a binding.
 fn use_in(binding: Option<&Binding<'_>>, rounds: &[usize]) -> Use
     ensures { use_of result ≡ use_in rounds.now (option_map (λ b. standing_for b.now) binding.entry) }
 {
@@ -123,14 +124,14 @@ fn use_in(binding: Option<&Binding<'_>>, rounds: &[usize]) -> Use
     }
 }
 
-// How the innermost of these rounds uses this name.
+// How the innermost of these iterations uses this name.
 fn use_of(name: &Symbol, bindings: &Bindings<'_>, rounds: &[usize]) -> Use
     ensures { use_of result ≡ use_in rounds.now (binding_of name.now (map_of bindings.now)) }
 {
     use_in(bindings.get(name), rounds)
 }
 
-// How it uses the parts of `${concat(..)}`.
+// How the innermost of these iterations uses the parts of `${concat(..)}`.
 fn use_of_parts(parts: &[ConcatElement], bindings: &Bindings<'_>, rounds: &[usize]) -> Use
     ensures { use_of result ≡ together (uses_of rounds.now (map_of bindings.now) (part_names (map part_of parts.now))) }
 {
@@ -143,7 +144,7 @@ fn use_of_parts(parts: &[ConcatElement], bindings: &Bindings<'_>, rounds: &[usiz
     all
 }
 
-// How it uses the variables of an item that holds no others.
+// How the innermost of these iterations uses the metavariables of an op without ops inside.
 fn use_of_op(op: &Op, bindings: &Bindings<'_>, rounds: &[usize]) -> Use
     requires { is_plain (put_op op.now done) ≡ true }
     ensures { use_of result ≡ together (uses_of rounds.now (map_of bindings.now) (names (put_op op.now done))) }
@@ -157,7 +158,7 @@ fn use_of_op(op: &Op, bindings: &Bindings<'_>, rounds: &[usize]) -> Use
     }
 }
 
-// How it uses the variables of these items.
+// How the innermost of these iterations uses the metavariables of these ops.
 fn use_of_all(ops: &[Op], bindings: &Bindings<'_>, rounds: &[usize]) -> Result<Use, AllocError>
     ensures { IfOk result (λ u. use_of u ≡ together (uses_of rounds.now (map_of bindings.now) (names (items_of ops.now)))) }
 {
@@ -169,7 +170,8 @@ fn use_of_all(ops: &[Op], bindings: &Bindings<'_>, rounds: &[usize]) -> Result<U
     Ok(all)
 }
 
-/// Whether a round stands: `rounds` are those around it, and come back as they are.
+/// Whether the iteration of this index takes place. `rounds` are the iterations around it, and
+/// are left unchanged.
 #[inline(never)]
 pub(crate) fn round_stands(
     body: &[Op],

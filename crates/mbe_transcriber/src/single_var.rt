@@ -1,4 +1,4 @@
-//! Repetitions of a template that are a single variable. This decides speed alone.
+//! The fast path for repetitions of a single metavariable. It decides speed alone.
 ghost use Rattle.std.specs.Prelude.{◌≡◌, List, ℕ, IfErr, IfSome};
 ghost use Rattle.tt_data.specs.declared.span.Span.{Span};
 ghost use Rattle.mbe_rules.specs.Ops.{items_of};
@@ -17,8 +17,8 @@ use mbe_matcher::{Binding, Bindings};
 use mbe_rules::Op;
 use tt::{Span, TopSubtreeBuilder, TtFault};
 
-/// The values of the rounds of a repetition, one for each, and the place of the `$` that puts them in, where
-/// its items are one variable.
+/// If the body is one metavariable with a list of values: the span of its `$`, and the values,
+/// one for each iteration.
 pub(crate) fn lone_values<'b, 'a>(
     body: &[Op],
     bindings: &'b Bindings<'a>,
@@ -44,7 +44,7 @@ pub(crate) fn lone_values<'b, 'a>(
     }
 }
 
-/// Puts in what these rounds and those after them give, each a value: false where it is a fault.
+/// Transcribes the iterations from `left.number` on, one for each value. `Ok(false)` is a fault.
 pub(crate) fn put_later(
     out: &mut TopSubtreeBuilder,
     left: Iterations<'_>,

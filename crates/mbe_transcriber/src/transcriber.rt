@@ -1,5 +1,5 @@
-//! Transcribing a template with bindings. What is left to do stands in a list of tasks, so that a template may be
-//! nested as deep as memory goes.
+//! Transcribes with bindings. The tasks that are left are on a stack in memory, so that nesting
+//! is limited by memory alone.
 ghost use Rattle.std.specs.Prelude.{◌≡◌, ◌<◌, ◌≤◌, ◌+◌, ◌*◌, ◌∷◌, ◌++◌, [], suc, reverse, option_map, if◌then◌else◌, Err, IfErr, IfOk, OnOk};
 ghost use Rattle.tt_data.specs.declared.span.Span.{Span};
 ghost use Rattle.tt_data.specs.fault.TtFault.TheVariants.{Memory, Tokens};
@@ -28,34 +28,34 @@ use tt::{Delimiter, Span, TopSubtreeBuilder, TtFault};
 // For how many tasks there is room at first.
 const USUAL_TASKS: usize = 8;
 
-// Whether a repetition may have no round.
+// Whether a repetition may have no iteration.
 fn may_be_empty(kind: RepeatKind) -> bool
     ensures { result ≡ may_skip kind }
 {
     kind != RepeatKind::OneOrMore
 }
 
-// Whether a repetition has one round at most.
+// Whether a repetition has at most one iteration.
 fn is_single(kind: RepeatKind) -> bool
     ensures { result ≡ is_single kind }
 {
     kind == RepeatKind::ZeroOrOne
 }
 
-// What is left to do.
+// A task that is left.
 #[derive(Clone, Copy, Drop)]
 pub(crate) enum TranscribeTask<'t> {
-    // To put in what these items give.
+    // To transcribe these ops.
     Items(&'t [Op]),
-    // To close a group whose closing bracket has this place in the template.
+    // To close a group whose closing delimiter has this span in the transcriber.
     Close(Span),
-    // To leave the only round of a repetition.
+    // To leave the only iteration of a repetition.
     Leave,
-    // To leave a round, and to put in what those after it give.
+    // To leave an iteration, and to transcribe those after it.
     Later(Iterations<'t>),
 }
 
-// What comes after the first round of a repetition, where these are those after it.
+// The task after the first iteration of a repetition. `later` are the iterations after it.
 fn after_first<'t>(kind: RepeatKind, later: Iterations<'t>) -> TranscribeTask<'t>
     ensures { result ≡ (if is_single kind then Leave else Later later.entry) }
 {
@@ -65,7 +65,8 @@ fn after_first<'t>(kind: RepeatKind, later: Iterations<'t>) -> TranscribeTask<'t
     TranscribeTask::Later(later)
 }
 
-// The tasks that are left, the next one last, and the numbers of the open rounds, the innermost last.
+// The tasks that are left, the next one last, and the indices of the open iterations, the
+// innermost last.
 #[derive(Drop)]
 pub(crate) struct Transcription<'t> {
     pub(crate) tasks: Vec<TranscribeTask<'t>>,
@@ -73,7 +74,7 @@ pub(crate) struct Transcription<'t> {
 }
 
 impl<'t> Transcription<'t> {
-    // No task is left, and no round is open.
+    // No task, and no open iteration.
     fn new(alloc: Global) -> Result<Transcription<'t>, AllocError>
         ensures tasks { IfOk result (λ left. left.tasks.items ≡ []) }
         ensures rounds { IfOk result (λ left. left.rounds.items ≡ []) }
@@ -83,7 +84,7 @@ impl<'t> Transcription<'t> {
         Ok(Transcription { tasks, rounds })
     }
 
-    // One task more, which is the next.
+    // Adds a task, which comes next.
     fn plan(&mut self, task: TranscribeTask<'t>) -> Result<(), TtFault>
         ensures faults { IfErr result (λ e. e ≡ Memory) }
         ensures tasks { OnOk result (self.new.tasks.items ≡ self.old.tasks.items ++ (task.entry ∷ [])) }
@@ -95,7 +96,7 @@ impl<'t> Transcription<'t> {
         Ok(())
     }
 
-    // Opens a round.
+    // Opens an iteration.
     fn begin_round(&mut self, body: &'t [Op], number: usize) -> Result<(), TtFault>
         ensures faults { IfErr result (λ e. e ≡ Memory) }
         ensures tasks { OnOk result (self.new.tasks.items ≡ self.old.tasks.items ++ (Items body.entry ∷ [])) }
@@ -107,7 +108,7 @@ impl<'t> Transcription<'t> {
         self.plan(TranscribeTask::Items(body))
     }
 
-    // Leaves the innermost round.
+    // Leaves the innermost iteration.
     fn leave(&mut self)
         ensures tasks { self.new.tasks.items ≡ self.old.tasks.items }
         ensures rounds { self.new.rounds.items ≡ around self.old.rounds.items }
@@ -115,7 +116,7 @@ impl<'t> Transcription<'t> {
         let _ = self.rounds.pop();
     }
 
-    // Begins a group of the template.
+    // Begins a group.
     fn enter_group<M: Fn(Span) -> Span>(
         &mut self,
         out: &mut TopSubtreeBuilder,
@@ -140,7 +141,7 @@ impl<'t> Transcription<'t> {
         Ok(true)
     }
 
-    // Begins a repetition of the template.
+    // Begins a repetition.
     fn enter_rounds(
         &mut self,
         out: &TopSubtreeBuilder,
@@ -165,7 +166,7 @@ impl<'t> Transcription<'t> {
         Ok(true)
     }
 
-    // Begins an item of the template.
+    // Begins an op.
     fn enter<M: Fn(Span) -> Span>(
         &mut self,
         out: &mut TopSubtreeBuilder,
@@ -204,7 +205,7 @@ impl<'t> Transcription<'t> {
         }
     }
 
-    // Puts in what the first of some items gives, or begins it.
+    // Transcribes the first of some ops, or begins it.
     fn put_items<M: Fn(Span) -> Span>(
         &mut self,
         out: &mut TopSubtreeBuilder,
@@ -228,7 +229,7 @@ impl<'t> Transcription<'t> {
         self.enter(out, first, bindings, marker)
     }
 
-    // Leaves a round, and begins the next one, if it stands.
+    // Leaves an iteration, and begins the next one if it takes place.
     fn next_round<M: Fn(Span) -> Span>(
         &mut self,
         out: &mut TopSubtreeBuilder,
@@ -270,7 +271,7 @@ impl<'t> Transcription<'t> {
         Ok(true)
     }
 
-    // Does a task: false where it is a fault.
+    // Does a task. `Ok(false)` is a fault.
     fn step<M: Fn(Span) -> Span>(
         &mut self,
         out: &mut TopSubtreeBuilder,
@@ -302,13 +303,16 @@ impl<'t> Transcription<'t> {
     }
 }
 
-/// Puts in what a template gives with these bindings: false where it is a fault, and what was put in
-/// before the fault stays.
+/// Transcribes `template` with bindings: appends what it gives to `out`. `false` means a fault;
+/// what was appended before it stays. (The Rust Reference, "Macros By Example": transcribing.)
+///
+/// Tokens of the transcriber get the span that `marker` answers for theirs, those of a fragment
+/// keep theirs.
 ///
 /// # Errors
 ///
-/// `Memory`, or `Tokens` where the tree would have more tokens than it may: what the template puts out
-/// up to its first fault counts, where it has one.
+/// `Memory`, or `Tokens` if the tree would have more than `u32::MAX` tokens. What the transcriber
+/// puts out up to its first fault counts.
 pub fn fill<M: Fn(Span) -> Span>(
     out: &mut TopSubtreeBuilder,
     template: &[Op],

@@ -1,5 +1,6 @@
-//! Answers a script of edits and expansions, which is read from standard input. What scripts say, and what is told of
-//! them, is told in the crate `replay_script`. A bad line ends the run with its number, on standard error, and status 1.
+//! Answers a script of edits and expansions, which is read from standard input. The crate
+//! `replay_script` says what scripts and their answers look like. A bad line ends the run with
+//! its number, on standard error, and status 1.
 #![tactic(auto)]
 
 use replay_script::answer_script;

@@ -1,4 +1,4 @@
--- Lines that are told one after another, and replacements that are read byte by byte.
+-- Lines that are written one after another, and replacements that are read byte by byte.
 use Rattle.std.proofs.Common.{◌≡◌, ℕ, ◌+◌, ◌<◌, List, [], ◌∷◌, ◌++◌, length, drop, refl, sym, ap, ◌∙◌, append_assoc, append-nil, get_or, Bool, true, false, arith, length-append}
 use Rattle.std.specs.Prelude.{Option, Some, None, flat_map, option_map, option_and_then, slice_get, zero, suc, if◌then◌else◌}
 use Rattle.std.proofs.lemmas.List.{drop_more}

@@ -1,4 +1,4 @@
--- Bytes before and behind a mark.
+-- The bytes before and after a separator.
 use Rattle.std.proofs.Common.{◌≡◌, ℕ, ◌<◌, Bool, true, false, List, [], ◌∷◌, ◌++◌, refl, sym, ap, ◌∙◌, subst, arith, length, get_or, drop, eqb, length-append}
 use Rattle.std.specs.Prelude.{cond, suc, zero}
 use Rattle.std.specs.Str.Parse.{AllDigits}

@@ -1,4 +1,4 @@
--- What is told of a script, and its first bad line. (Of this project.)
+-- The answers to a script, as text, and its first bad line. (Of this project.)
 use Rattle.std.specs.Prelude.{◌≡◌, ◌≢◌, ℕ, ◌+◌, Bool, true, false, List, [], ◌++◌, length, Option, Some, None, codes, if◌then◌else◌}
 use Rattle.expander.specs.Answers.{AreAnswers}
 use Rattle.expander.specs.Runs.{run_layers}
@@ -7,12 +7,12 @@ use Rattle.expander_session.specs.declared.commands.Command.{Command}
 use Rattle.replay_script.specs.Scripts.{AreSaid, IsBad}
 use Rattle.replay_script.specs.Told.{all_told}
 
--- where all is read nothing is left, and else a bad line
+-- if the script is whole nothing is left, else a bad line
 abbrev pub IsLeft : Bool → List ℕ → Type 0
 IsLeft true rest = rest ≡ []
 IsLeft false rest = IsBad rest
 
--- a text's first lines say these commands, and nothing or a bad line is left
+-- a text's first lines ask for these commands, and nothing or a bad line is left
 abbrev pub HasCommands : List ℕ → List Command → Bool → Type 0
 HasCommands text commands is_whole = (rest : List ℕ) × AreSaid text commands rest × IsLeft is_whole rest
 
@@ -20,7 +20,7 @@ HasCommands text commands is_whole = (rest : List ℕ) × AreSaid text commands 
 abbrev pub asking : List ℕ
 asking = codes "origins\n"
 
--- a script's lines: those behind the line that asks for origins, where it begins with that, or else all
+-- a script's lines: those after the line that asks for origins if it begins with it, else all
 abbrev pub HasHead : List ℕ → Bool → List ℕ → Type 0
 HasHead text true lines = text ≡ asking ++ lines
 HasHead text false lines = (text ≡ lines) × ((rest : List ℕ) → text ≢ asking ++ rest)
@@ -30,12 +30,12 @@ abbrev pub bad_line : Bool → Bool → List Command → Option ℕ
 bad_line true origins commands = None
 bad_line false origins commands = Some (length commands + (if origins then 2 else 1))
 
--- what is told of the answers to these commands, of which each is by the text at its turn, and the first by an empty one
+-- the text of the answers to these commands, each at its turn, over an empty text at first
 abbrev pub AreTold : List Command → ℕ → Bool → List ℕ → Type 0
 AreTold commands depth origins told =
     (answers : List Answer) × AreAnswers run_layers depth [] [] commands answers × (told ≡ all_told origins answers)
 
--- what is told of a script: the answers to the commands of its lines, up to the first bad one
+-- the text of the answers to a script: to its lines up to the first bad one
 pub record IsReplayed (text : List ℕ) (depth : ℕ) (told : List ℕ) (bad : Option ℕ) : Type 0 where
   pub origins : Bool
   pub lines : List ℕ

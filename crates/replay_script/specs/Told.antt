@@ -1,4 +1,4 @@
--- What is told of answers. (Of this project.)
+-- Answers as text. (Of this project.)
 use Rattle.std.specs.Prelude.{ℕ, Bool, List, [], ◌∷◌, ◌++◌, length, codes, decimal, flat_map, if◌then◌else◌}
 use Rattle.bridge.specs.declared.reading.outcome.ReadFaultKind.{ReadFaultKind}
 use Rattle.bridge.specs.declared.reading.outcome.ReadFaultKind.TheVariants.{BadToken, CloserDoesNotFit, GroupLeftOpen}
@@ -30,7 +30,7 @@ refusal_name Memory = codes "Memory"
 refusal_name Tokens = codes "Tokens"
 refusal_name Numbers = codes "Numbers"
 
--- a line of a word, a name and a place
+-- a line with a word, a name and a range
 abbrev pub place_line : List ℕ → List ℕ → TextRange → List ℕ
 place_line what name place =
     what ++ (codes " " ++ (name ++ (codes " " ++ (decimal place.start ++ (codes " " ++ (decimal place.«end» ++ (10 ∷ [])))))))
@@ -47,8 +47,8 @@ fault_lines faults = flat_map fault_line faults
 abbrev pub origin_lines : List TextRange → List ℕ
 origin_lines places = flat_map origin_line places
 
--- an expansion: its printed text behind its length, its faults, how many pieces were expanded, and its origins where they
--- are asked for
+-- an expansion: its printed text after its length, its faults, how many pieces were expanded, and
+-- its origins if asked for
 abbrev pub expansion_told : Bool → Expanded → List ℕ
 expansion_told origins e =
     (codes "printed " ++ (decimal (length e.printed) ++ (10 ∷ []))) ++ (e.printed ++ (fault_lines e.faults

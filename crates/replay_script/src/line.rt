@@ -1,11 +1,11 @@
-// A line of a script.
+//! Reads a line of a script as a command.
 ghost use Rattle.std.specs.Prelude.{◌≡◌, ◌≢◌, ◌<◌, ◌++◌, ◌∷◌, IfOk, IfSome, IsUtf8, List, MatchOption, None, Some, length, option_map, string_bytes, ℕ};
 ghost use Rattle.replay_script.specs.Scripts.{AreReadAs, IsNumber, IsReadAs, IsReadAsEdit, Lacks, escape_of, is_backslash, left_of, unescaped};
 
 use expander::Command;
 use std::alloc::{AllocError, Global};
 
-/// What stands in front of the first such character, and behind it.
+/// The text before the first such character, and the text after it.
 pub(crate) fn cut_at(text: &str, mark: char) -> Option<(&str, &str)>
     requires { mark < 128 }
     ensures cut { MatchOption result (Lacks mark text.now) (λ parts. (text.now ≡ parts.0.now ++ mark ∷ parts.1.now) × Lacks mark parts.0.now) }
@@ -14,14 +14,14 @@ pub(crate) fn cut_at(text: &str, mark: char) -> Option<(&str, &str)>
     text.split_once(mark)
 }
 
-/// What stands behind this, where the text begins with it.
+/// The text after `front`, if the text begins with it.
 pub(crate) fn behind<'a>(text: &'a str, front: &str) -> Option<&'a str>
     ensures { MatchOption result ((rest : List ℕ) → text.now ≢ front.now ++ rest) (λ rest. text.now ≡ front.now ++ rest.now) }
 {
     text.strip_prefix(front)
 }
 
-// What a byte behind a backslash stands for.
+// The byte that an escape means: that of this byte after a backslash.
 fn escape_of(byte: u8) -> Option<u8>
     ensures { result ≡ escape_of byte }
 {
@@ -39,8 +39,9 @@ fn is_backslash(byte: u8) -> bool
     byte == b'\\'
 }
 
-// Adds what the next byte of a replacement stands for, behind a backslash or not, and answers whether the byte is a
-// backslash that takes the next one with it; none where no such byte may stand there.
+// Adds what the next byte of a replacement means, and answers whether it is a backslash that
+// begins an escape. `is_escape` says that one came before it. `None` if the byte is not allowed
+// here.
 fn take_byte(bytes: &mut Vec<u8>, is_escape: bool, byte: u8) -> Result<Option<bool>, AllocError>
     ensures { IfOk result (λ taken. MatchOption taken ((rest : List ℕ) → left_of is_escape bytes.old.items (byte ∷ rest) ≡ None)
         (λ next. (rest : List ℕ) → left_of is_escape bytes.old.items (byte ∷ rest) ≡ left_of next bytes.new.items rest)) }
@@ -59,7 +60,7 @@ fn take_byte(bytes: &mut Vec<u8>, is_escape: bool, byte: u8) -> Result<Option<bo
     Ok(Some(false))
 }
 
-// The bytes that a replacement stands for, or none.
+// The bytes that a replacement means, or `None` if it has a wrong escape.
 fn unescaped(alloc: Global, text: &str) -> Result<Option<Vec<u8>>, AllocError>
     ensures { IfOk result (λ bytes. option_map (λ b. b.items) bytes ≡ unescaped text.now) }
 {
@@ -77,7 +78,7 @@ fn unescaped(alloc: Global, text: &str) -> Result<Option<Vec<u8>>, AllocError>
     Ok(Some(bytes))
 }
 
-// The text that a replacement stands for, or none.
+// The text that a replacement means, or `None` if it has a wrong escape or is no UTF-8.
 fn replacement_of(alloc: Global, text: &str) -> Result<Option<String>, AllocError>
     ensures { IfOk result (λ replacement. MatchOption replacement ((bytes : List ℕ) → IsUtf8 bytes → unescaped text.now ≢ Some bytes)
         (λ r. unescaped text.now ≡ Some (string_bytes r))) }
@@ -88,14 +89,14 @@ fn replacement_of(alloc: Global, text: &str) -> Result<Option<String>, AllocErro
     }
 }
 
-// The number that a word says, or none.
+// The decimal number that a word is, or `None`.
 fn number_of(word: &str) -> Option<usize>
     ensures { MatchOption result ((n : ℕ) → IsNumber word.now n → ⊥) (IsNumber word.now) }
 {
     word.parse::<usize>().ok()
 }
 
-// The numbers that two words say, or none.
+// The numbers that two words are, or `None` if one of them is none.
 fn numbers_of(first: &str, second: &str) -> Option<(usize, usize)>
     ensures { AreReadAs first.now second.now result }
 {
@@ -104,7 +105,7 @@ fn numbers_of(first: &str, second: &str) -> Option<(usize, usize)>
     Some((first, second))
 }
 
-// The edit that a line says behind its first word, or none.
+// The edit that a line asks for, without its first word, or `None`.
 fn edit_of(alloc: Global, line: &str) -> Result<Option<Command>, AllocError>
     ensures { IfOk result (IsReadAsEdit line.now) }
 {
@@ -127,7 +128,7 @@ fn edit_of(alloc: Global, line: &str) -> Result<Option<Command>, AllocError>
     }
 }
 
-/// The command that a line says, or none.
+/// The command that a line asks for, or `None`.
 pub(crate) fn command_of(alloc: Global, line: &str) -> Result<Option<Command>, AllocError>
     ensures { IfOk result (IsReadAs line.now) }
 {

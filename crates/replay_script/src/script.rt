@@ -1,4 +1,4 @@
-// A script, and what is told of it.
+//! Answers a script: its commands, up to the first bad line.
 ghost use Rattle.std.specs.Prelude.{◌≡◌, IfOk, string_bytes};
 ghost use Rattle.replay_script.specs.Replays.{AreTold, HasCommands, HasHead, IsReplayed, bad_line};
 
@@ -7,14 +7,15 @@ use crate::tell::push_answers;
 use expander::{Command, Edition, SmallGrammar, replay};
 use std::alloc::{AllocError, Global};
 
-/// What is told of a script, and the number, from 1, of its first bad line, or none.
+/// The answers to a script as text, and the number, from 1, of its first bad line, if there is
+/// one.
 #[derive(Drop)]
 pub struct Replayed {
     pub told: String,
     pub bad: Option<usize>,
 }
 
-// The commands that lines say, up to the first bad one, and whether there was none.
+// The commands of lines up to the first bad one, and whether there was no bad one.
 fn commands_in(alloc: Global, text: &str) -> Result<(Vec<Command>, bool), AllocError>
     ensures { IfOk result (λ r. HasCommands text.now r.0.items r.1) }
 {
@@ -30,7 +31,7 @@ fn commands_in(alloc: Global, text: &str) -> Result<(Vec<Command>, bool), AllocE
     Ok((commands, rest.is_empty()))
 }
 
-// Whether a script asks for origins, and the lines behind that.
+// Whether a script asks for origins, and the lines after that.
 fn head_of(text: &str) -> (bool, &str)
     ensures { HasHead text.now result.0 result.1.now }
 {
@@ -40,7 +41,7 @@ fn head_of(text: &str) -> (bool, &str)
     }
 }
 
-// The number of the first bad line, where not all is read, behind so many commands.
+// The number of the first bad line, which comes after these commands. `None` if there is none.
 fn bad_line(is_whole: bool, origins: bool, commands: &[Command]) -> Option<usize>
     ensures { result ≡ bad_line is_whole origins commands.now }
 {
@@ -51,7 +52,7 @@ fn bad_line(is_whole: bool, origins: bool, commands: &[Command]) -> Option<usize
     Some(commands.len() + first)
 }
 
-// What is told of the answers to commands.
+// The answers to these commands, as text.
 fn told_of(
     alloc: Global,
     commands: &[Command],
@@ -67,8 +68,9 @@ fn told_of(
     Ok(told)
 }
 
-/// Answers the commands of a script, up to its first bad line, with so many levels of calls, by the small grammar and in
-/// edition 2024. Refused where there is no memory for it.
+/// Answers the commands of a script, up to its first bad line, with `depth` levels of calls, by
+/// the small grammar and in edition 2024. The forms of lines and answers are at the head of this
+/// crate. Its only error is out of memory.
 pub fn answer_script(alloc: Global, text: &str, depth: u8) -> Result<Replayed, AllocError>
     ensures { IfOk result (λ r. IsReplayed text.now depth (string_bytes r.told) r.bad) }
 {

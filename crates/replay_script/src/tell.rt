@@ -1,4 +1,4 @@
-// What is told of answers.
+//! Writes answers as text.
 ghost use Rattle.std.specs.Prelude.{◌≡◌, ◌<◌, ◌++◌, OnOk, get_or, length, string_bytes};
 ghost use Rattle.tt_data.specs.declared.span.TextRange.{TextRange};
 ghost use Rattle.replay_script.specs.Told.{all_told, answer_told, expansion_told, fault_lines, kind_name, origin_line, origin_lines, place_line, read_kind_name, refusal_name};
@@ -40,7 +40,7 @@ fn refusal_name(refusal: Refusal) -> &'static str
     }
 }
 
-// Adds a line of a word, a name and a place.
+// Adds a line with a word, a name and a range.
 fn push_place(told: &mut String, what: &str, name: &str, place: TextRange) -> Result<(), AllocError>
     ensures { OnOk result (string_bytes told.new ≡ string_bytes told.old ++ place_line what.now name.now place) }
 {
@@ -58,7 +58,7 @@ fn push_faults(told: &mut String, faults: &[Fault]) -> Result<(), AllocError>
     Ok(())
 }
 
-// Adds a line for an origin.
+// Adds the line of an origin.
 fn push_origin(told: &mut String, place: TextRange) -> Result<(), AllocError>
     ensures { OnOk result (string_bytes told.new ≡ string_bytes told.old ++ origin_line place) }
 {
@@ -66,7 +66,7 @@ fn push_origin(told: &mut String, place: TextRange) -> Result<(), AllocError>
     writeln!(told, "origin {start} {end}")
 }
 
-// Adds a line for the origin of the printed token of this number.
+// Adds the line of a printed token's origin.
 fn push_origin_of(told: &mut String, found: &Expansion, i: usize) -> Result<(), AllocError>
     requires { i < length found.now.origins }
     ensures { (d : TextRange) → OnOk result (string_bytes told.new ≡ string_bytes told.old ++ origin_line (get_or found.now.origins i d)) }
@@ -87,7 +87,7 @@ fn push_origins(told: &mut String, found: &Expansion) -> Result<(), AllocError>
     Ok(())
 }
 
-// Adds what is told of an expansion.
+// Adds the lines of an expansion.
 fn push_expansion(told: &mut String, found: &Expansion, origins: bool) -> Result<(), AllocError>
     ensures { OnOk result (string_bytes told.new ≡ string_bytes told.old ++ expansion_told origins found.now) }
 {
@@ -104,7 +104,7 @@ fn push_expansion(told: &mut String, found: &Expansion, origins: bool) -> Result
     Ok(())
 }
 
-/// Adds what is told of an answer.
+/// Adds the lines of an answer.
 fn push_answer(told: &mut String, answer: &Answer, origins: bool) -> Result<(), AllocError>
     ensures { OnOk result (string_bytes told.new ≡ string_bytes told.old ++ answer_told origins answer.now) }
 {
@@ -122,7 +122,7 @@ fn push_answer(told: &mut String, answer: &Answer, origins: bool) -> Result<(), 
     }
 }
 
-/// Adds what is told of answers, one after another.
+/// Adds the lines of answers, in order.
 pub(crate) fn push_answers(
     told: &mut String,
     answers: &[Answer],

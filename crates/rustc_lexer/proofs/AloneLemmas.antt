@@ -1,4 +1,4 @@
--- The characters of a lexeme that stands alone are that lexeme by themselves, row by row.
+-- The characters of a lexeme, taken alone, are that lexeme, row by row.
 use Rattle.std.proofs.Common.{◌≡◌, ℕ, zero, suc, ◌+◌, ◌-◌, ◌≤◌, ◌<◌, Bool, true, false, not, ◌&&◌, ◌||◌, List, [], ◌∷◌, length, take, drop, refl, sym, ◌∙◌, ap, arith, slice_index_or, if◌then◌else◌, Option}
 use Rattle.std.proofs.lemmas.Bool.{and_parts, or_parts}
 use Rattle.std.proofs.lemmas.Bool.Decides.{nat_tests}

@@ -1,4 +1,4 @@
--- The bodies of comments and literals hang on their own characters, and on the few that follow.
+-- The bodies of comments and literals depend on their own characters and the few that follow.
 use Rattle.std.proofs.Common.{◌≡◌, ℕ, zero, suc, ◌+◌, ◌-◌, ◌≤◌, ◌<◌, Bool, true, false, not, ◌||◌, ◌&&◌, ◌==◌, nat_le, List, [], ◌∷◌, length, take, drop, refl, sym, subst, ap, arith, if◌then◌else◌, Option, None}
 use Rattle.std.specs.List.{prefix_len}
 use Rattle.std.proofs.lemmas.Bool.Decides.{nat_tests}

@@ -1,4 +1,5 @@
--- A UTF-8 text cut behind its first n characters: both parts are UTF-8, and spell these characters and the others.
+-- A UTF-8 text cut after its first n characters: both parts are UTF-8, and spell these characters
+-- and the others.
 use Rattle.std.proofs.Common.{◌≡◌, ℕ, List, [], ◌∷◌, ◌++◌, length, take, drop, refl, sym, ◌∙◌, ap, subst, chars, encode_utf8_all, encode_utf8, IsUtf8, IsCharBoundary, length-append}
 use Rattle.std.proofs.Math.Seq.{take-append_seam, drop-append_seam}
 use Rattle.std.proofs.lemmas.List.{append_assoc, take-append-drop}

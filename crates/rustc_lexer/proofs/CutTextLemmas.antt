@@ -1,7 +1,7 @@
--- A text that is cut off behind its first lexeme: what is read of the longer text is read of it too.
+-- A text that is cut off after its first lexeme is read as the longer text is.
 --     at_cut, begins_cut       a test that fails in the longer text fails in the shorter one
 --     prefix_cut, body_cut     runs and bodies that end before the cut
---     number_cut               numbers, where no point stands before the cut
+--     number_cut               numbers, if no point comes before the cut
 use Rattle.std.proofs.Common.{◌≡◌, ℕ, zero, suc, ◌+◌, ◌-◌, ◌≤◌, ◌<◌, ◌==◌, Bool, true, false, not, ◌&&◌, ◌||◌, nat_le, List, [], ◌∷◌, length, take, drop, refl, sym, ◌∙◌, ap, arith, if◌then◌else◌, Option, None}
 use Rattle.std.proofs.lemmas.Bool.Decides.{nat_tests}
 use Rattle.std.proofs.lemmas.List.{take-take, drop-take}

@@ -1,4 +1,4 @@
--- Worked rows of what an edit keeps, by computation.
+-- Worked examples, by computation: how many tokens an edit keeps.
 use Rattle.std.specs.Prelude.{◌≡◌, ℕ, [], ◌∷◌, codes, refl}
 use Rattle.std.specs.Str.{chars}
 use Rattle.ucd_derived.specs.Binary.{is_xid_start, is_xid_continue}

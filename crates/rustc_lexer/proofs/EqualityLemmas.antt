@@ -1,4 +1,4 @@
--- Equality by `==` is that of values, and a clone is the value that it was made of.
+-- Equality by `==` is that of values, and a clone is equal to its original.
 use Rattle.std.proofs.Common.{rules, ◌≡◌, ◌↔◌, ◌∙◌, ℕ, Bool, true, false, refl, ap, List, [], ◌∷◌, drop, Option}
 use Rattle.std.specs.Bool.{⊤}
 use denote.Enum.Bare.{Bare}

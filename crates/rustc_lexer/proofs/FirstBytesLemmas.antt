@@ -1,4 +1,4 @@
--- The first tokens of a text hang on their own bytes and the two characters behind them.
+-- The first tokens of a text depend only on their own bytes and the two characters after them.
 use Rattle.std.proofs.Common.{◌≡◌, ℕ, zero, suc, ◌+◌, List, [], ◌∷◌, ◌++◌, take, drop, refl, sym, ◌∙◌, ap, subst, arith, chars, IsUtf8, sum_by}
 use Rattle.std.proofs.lemmas.List.{take-append-drop}
 use Rattle.std.proofs.lemmas.Str.{chars-append}

@@ -1,4 +1,4 @@
--- Tokens behind room: those in front of a place are moved, or those behind it.
+-- Tokens with a gap: those before an index are moved, or those after it.
 use Rattle.std.proofs.Common.{◌≡◌, ℕ, ◌+◌, ◌-◌, ◌≤◌, List, ◌++◌, length, take, drop, sym, ◌∙◌, ap, arith, append_assoc, length-append}
 use Rattle.std.specs.List.{copy_within, splice}
 use Rattle.std.proofs.lemmas.List.{take-append-drop, length-drop, length-take-le, drop-drop}

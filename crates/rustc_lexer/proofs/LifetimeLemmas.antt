@@ -1,4 +1,4 @@
--- What begins with a quote and a name, by the tests that the code has made.
+-- Lexemes that begin with a quote and an identifier, by the tests that the code has made.
 use Rattle.std.proofs.Common.{◌≡◌, ℕ, ◌+◌, Bool, true, false, not, ◌&&◌, List, drop, chars, IsUtf8, sym, ◌∙◌, ap, subst, arith}
 use Rattle.std.specs.List.{prefix_len}
 use Rattle.std.proofs.lemmas.Bool.Decides.{nat_tests}

@@ -1,4 +1,4 @@
--- A lexeme hangs on its own characters and on the two that follow, row by row.
+-- A lexeme depends only on its own characters and the two that follow, row by row.
 use Rattle.std.proofs.Common.{◌≡◌, ℕ, ◌+◌, ◌≤◌, ◌<◌, ◌==◌, Bool, true, false, not, ◌&&◌, ◌||◌, List, [], ◌∷◌, drop, refl, sym, ◌∙◌, ap, arith, if◌then◌else◌, Option}
 use Rattle.std.proofs.lemmas.Bool.Decides.{nat_tests}
 use Rattle.rustc_lexer.specs.Character.{char_at, begins, is, is_whitespace, is_id_start, is_id_continue, is_digit, is_hex_digit, continues, identifier_len, utf8_len}

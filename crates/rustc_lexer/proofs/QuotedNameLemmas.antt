@@ -1,4 +1,4 @@
--- What stands behind the quote of a lifetime is an identifier.
+-- What comes after the quote of a lifetime is an identifier.
 use Rattle.std.proofs.Common.{◌≡◌, ℕ, suc, ◌+◌, Bool, true, false, not, ◌||◌, ◌&&◌, List, [], ◌∷◌, take, drop, refl, sym, ◌∙◌, ap, arith, if◌then◌else◌, Option}
 use Rattle.std.proofs.lemmas.Grind.{common_steps}
 use Rattle.std.specs.List.{list_all, prefix_len, slice_range}

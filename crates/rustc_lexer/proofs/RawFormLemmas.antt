@@ -1,4 +1,4 @@
--- The body of a raw string without an end, one `"` on.
+-- The body of an unterminated raw string, one `"` further.
 use Rattle.std.proofs.Common.{◌≡◌, ℕ, ◌+◌, ◌-◌, ◌<◌, ◌≤◌, ◌==◌, max, nat_le, Bool, true, false, Option, Some, None, Ok, Err, List, [], ◌∷◌, length, take, drop, chars, IsUtf8, refl, sym, ◌∙◌, ap, subst, arith}
 use Rattle.std.specs.List.{prefix_len, position_or_len}
 use Rattle.std.proofs.lemmas.Bool.Decides.{nat_tests}

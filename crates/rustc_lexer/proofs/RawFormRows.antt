@@ -1,4 +1,4 @@
--- Worked rows of what is wrong with a raw string, by computation.
+-- Worked examples, by computation: what is wrong with a raw string.
 use Rattle.std.specs.Prelude.{◌≡◌, ℕ, ⊤, Some, None, Result, Ok, Err, codes, replicate, ◌++◌, refl}
 use Prim.Native.String.{String}
 use Rattle.rustc_lexer.specs.RawForms.{validity}

@@ -1,4 +1,4 @@
--- The tokens of an edited text, put together of old ones and of those that were lexed again.
+-- The tokens of an edited text, put together from old and relexed ones.
 use Rattle.std.proofs.Common.{◌≡◌, ℕ, ◌+◌, ◌-◌, ◌≤◌, ◌<◌, ◌^◌, ◌==◌, true, List, ◌++◌, length, take, drop, get_or, sym, ◌∙◌, ap, subst, arith, All, Option, append_assoc, chars, IsUtf8, IsCharBoundary, length-append}
 use Rattle.std.specs.Iterator.{Drains}
 use Rattle.std.specs.List.{position_or_len, list_any, splice}

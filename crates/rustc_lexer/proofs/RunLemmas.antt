@@ -1,4 +1,4 @@
--- The characters at the front of a text that pass a test are passed over one by one.
+-- The characters at the front of a text that pass a test, passed one by one.
 use Rattle.std.proofs.Common.{◌≡◌, ℕ, Bool, true, false, List, [], ◌∷◌, drop, one-add, add-zero}
 use Rattle.std.specs.List.{prefix_len}
 use Rattle.std.proofs.lemmas.List.{get_or-drop}

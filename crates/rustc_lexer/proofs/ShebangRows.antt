@@ -1,4 +1,4 @@
--- Worked rows of the first line of a script, by computation.
+-- Worked examples of the first line of a script, by computation.
 use Rattle.std.specs.Prelude.{◌≡◌, ℕ, Option, Some, None, codes, encode_utf8_all, refl}
 use Rattle.std.specs.Str.{chars}
 use Rattle.ucd_derived.specs.Binary.{is_xid_start, is_xid_continue}

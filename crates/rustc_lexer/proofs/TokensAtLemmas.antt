@@ -1,4 +1,4 @@
--- The tokens that are left of a text: where the first stands, and where the others do.
+-- The remaining tokens of a text: where the first one starts, and where the others do.
 use Rattle.std.proofs.Common.{◌≡◌, ℕ, zero, suc, ◌+◌, ◌-◌, ◌≤◌, List, [], ◌∷◌, length, take, drop, refl, sym, ◌∙◌, ap, subst, arith, chars, encode_utf8_all, IsUtf8, IsCharBoundary, slice_index_or, add-zero, All, sum_by}
 use Rattle.std.specs.List.{slice_range}
 use Rattle.std.proofs.lemmas.List.{drop-drop, length-drop}

@@ -1,4 +1,4 @@
--- Words by their first letter.
+-- Identifiers by their first letter.
 use Rattle.std.proofs.Common.{◌≡◌, ℕ, ◌≤◌, ◌<◌, ◌==◌, ◌&&◌, ◌||◌, Bool, true, false, nat_lt, List, [], ◌∷◌, drop, sym, ◌∙◌, ap, refl, arith, one-add, chars, IsUtf8, if◌then◌else◌}
 use Rattle.std.proofs.lemmas.Bool.Decides.{nat_tests}
 use Rattle.std.proofs.Math.Seq.{drop-nil}

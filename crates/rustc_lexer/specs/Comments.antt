@@ -8,24 +8,24 @@ use Rattle.rustc_lexer.specs.declared.token.DocStyle.TheVariants.{Outer, Inner}
 use Rattle.rustc_lexer.specs.declared.token.TokenKind.{TokenKind}
 use Rattle.rustc_lexer.specs.declared.token.TokenKind.TheVariants.{LineComment, BlockComment}
 
--- whether a line comment documents: `//!` what it stands in, and `///` without a fourth slash what follows
+-- the doc style of a line comment: `//!` is inner, and `///` without a fourth slash is outer
 abbrev pub line_style : List ℕ → Option DocStyle
 line_style cs =
     if begins "//!" cs then Some Inner
     else if begins "///" cs && not (begins "////" cs) then Some Outer else None
 
--- a line comment goes up to the end of its line
+-- a line comment extends up to the end of its line
 abbrev pub line_comment : List ℕ → Scanned TokenKind
 line_comment cs = record { value = LineComment (line_style cs); size = position_or_len (λ c. c == 10) cs }
 
--- whether a block comment documents: `/*!` what it stands in, and `/**` what follows, but `/***` and `/**/` nothing
+-- a block comment's doc style: `/*!` is inner, `/**` outer, but `/***` and `/**/` are none
 abbrev pub block_style : List ℕ → Option DocStyle
 block_style cs =
     if begins "/*!" cs then Some Inner
     else if begins "/**" cs && not (begins "/***" cs || begins "/**/" cs) then Some Outer else None
 
--- what is left of a block comment in which so many other comments are open: up to and with its own `*/`, where each `/*`
--- opens one more and each `*/` ends the innermost; or the whole text, and then it isn't terminated
+-- the rest of a block comment in which so many others are open, up to and with its own `*/`: each
+-- `/*` opens one more and each `*/` ends the innermost; or the whole text, if it isn't terminated
 abbrev pub block_body : ℕ → List ℕ → Scanned Bool
 block_body depth [] = record { value = false; size = 0 }
 block_body depth (c ∷ []) = record { value = false; size = 1 }
@@ -38,7 +38,7 @@ block_body depth (c ∷ d ∷ cs) =
       ]
     ]
 
--- a block comment: `/*` and what is left then
+-- a block comment: `/*` and the rest
 abbrev pub block_comment : List ℕ → Scanned TokenKind
 block_comment cs =
     let body : Scanned Bool = further 2 (block_body 0 (drop 2 cs)) in

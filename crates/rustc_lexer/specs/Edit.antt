@@ -1,4 +1,4 @@
--- What an edit of a text keeps of the text's tokens. Texts are lists of bytes, and places are in bytes.
+-- What an edit of a text keeps of its tokens. Texts are lists of bytes, and offsets are in bytes.
 use Rattle.std.specs.Prelude.{ℕ, ◌+◌, ◌-◌, Bool, ◌&&◌, ◌==◌, nat_le, List, [], ◌∷◌, ◌++◌, length, take, drop, get_or, chars}
 use Rattle.std.specs.List.{prefix_len, position_or_len, list_any}
 use Rattle.rustc_lexer.specs.Lexing.{tokens_of}
@@ -9,7 +9,7 @@ use Rattle.rustc_lexer.specs.declared.token.Token.{Token}
 abbrev pub edited : List ℕ → ℕ → ℕ → List ℕ → List ℕ
 edited text start stop replacement = take start text ++ (replacement ++ drop stop text)
 
--- the places where the tokens end of which the first begins at `at`
+-- the offsets at which the tokens end, the first of which begins at `at`
 abbrev pub ends_from : ℕ → List Token → List ℕ
 ends_from at [] = []
 ends_from at (t ∷ ts) = (at + t.len) ∷ ends_from (at + t.len) ts
@@ -18,11 +18,11 @@ ends_from at (t ∷ ts) = (at + t.len) ∷ ends_from (at + t.len) ts
 abbrev pub boundaries_from : ℕ → List Token → List ℕ
 boundaries_from at ts = at ∷ ends_from at ts
 
--- the boundaries of a text: 0, and the places where its tokens end
+-- the boundaries of a text: 0, and the offsets at which its tokens end
 abbrev pub boundaries : List ℕ → List ℕ
 boundaries text = boundaries_from 0 (tokens_of (chars text))
 
--- at least two characters of the text stand from `at` to `start`
+-- the text has at least two characters from `at` to `start`
 abbrev pub is_clear_of : List ℕ → ℕ → ℕ → Bool
 is_clear_of text start at = nat_le 2 (length (chars (take (start - at) (drop at text))))
 
@@ -30,16 +30,17 @@ is_clear_of text start at = nat_le 2 (length (chars (take (start - at) (drop at 
 abbrev pub front_of : List ℕ → ℕ → ℕ
 front_of text start = prefix_len (is_clear_of text start) (ends_from 0 (tokens_of (chars text)))
 
--- an edit moves what lies at `at` to this place: it lies at `stop` or behind it, and what lies at `stop` is moved to `moved`
+-- an edit moves offset `at` to this one: `at` is not before `stop`, which is moved to `moved`
 abbrev pub moves_to : ℕ → ℕ → ℕ → ℕ → Bool
 moves_to stop moved place at = nat_le stop at && (at - stop + moved == place)
 
--- an edit moves a boundary of the text to this place
+-- an edit moves a boundary of the text to this offset
 abbrev pub is_moved_boundary : List ℕ → ℕ → ℕ → ℕ → Bool
 is_moved_boundary text stop moved place = list_any (moves_to stop moved place) (boundaries text)
 
--- what an edit keeps: the tokens that end at least two characters before `start`; then lexing goes on, up to the first
--- boundary of the new text that is a moved boundary of the old; and the old tokens behind this one
+-- what an edit keeps: the tokens that end at least two characters before `start`; then lexing
+-- goes on, up to the first boundary of the new text that is a moved boundary of the old; and the
+-- old tokens after this one
 abbrev pub kept : List ℕ → ℕ → ℕ → List ℕ → Kept
 kept text start stop replacement =
     let new : List ℕ = boundaries (edited text start stop replacement) in

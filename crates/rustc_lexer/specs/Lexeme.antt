@@ -1,4 +1,4 @@
--- The first lexeme of a text, after the Rust Reference's part "Lexical structure". Texts are lists of characters.
+-- A text's first lexeme, after the Reference's "Lexical structure". Texts are lists of characters.
 use Rattle.std.specs.Prelude.{ℕ, ◌+◌, Bool, true, not, ◌||◌, ◌&&◌, List, drop, Option, if◌then◌else◌}
 use Rattle.std.specs.List.{prefix_len}
 use Rattle.std.specs.Option.{is_some}
@@ -12,33 +12,33 @@ use Rattle.rustc_lexer.specs.declared.token.LiteralKind.TheVariants.{Char, Byte,
 use Rattle.rustc_lexer.specs.declared.token.TokenKind.{TokenKind}
 use Rattle.rustc_lexer.specs.declared.token.TokenKind.TheVariants.{Whitespace, Ident, RawIdent, ForcedKeywordIdent, UnknownPrefix, UnknownPrefixLifetime, RawLifetime, GuardedStrPrefix, Lifetime, Semi, Comma, Dot, OpenParen, CloseParen, OpenBrace, CloseBrace, OpenBracket, CloseBracket, At, Pound, Tilde, Question, Colon, Dollar, Eq, Bang, Lt, Gt, Minus, And, Or, Plus, Star, Slash, Caret, Percent, Unknown}
 
--- a lexeme: its kind, and how many characters it takes
+-- a lexeme: its kind, and its number of characters
 abbrev pub Lexeme : Type 0
 Lexeme = Scanned TokenKind
 
--- the lexeme of a kind that takes that many characters
+-- the lexeme of this kind with so many characters
 abbrev pub lexeme_of : TokenKind → ℕ → Lexeme
 lexeme_of kind size = record { value = kind; size = size }
 
--- white space, as long as it goes on
+-- white space, up to the first other character
 abbrev pub white_space : List ℕ → Lexeme
 white_space cs = lexeme_of Whitespace (prefix_len is_whitespace cs)
 
 -- ---- literals in quotes
 
--- a character: behind its prefix of p characters, of which the last is the quote
+-- a character literal after its prefix of p characters, the last of which is the quote
 abbrev pub quoted : (Bool → LiteralKind) → ℕ → List ℕ → Lexeme
 quoted kind p cs =
     let body : Scanned Bool = further p (quoted_body (drop p cs)) in
     literal body.value (kind body.value) body.size cs
 
--- a string: behind its prefix of p characters, of which the last is the quote
+-- a string after its prefix of p characters, the last of which is the quote
 abbrev pub string : (Bool → LiteralKind) → ℕ → List ℕ → Lexeme
 string kind p cs =
     let body : Scanned Bool = further p (string_body (drop p cs)) in
     literal body.value (kind body.value) body.size cs
 
--- a raw string: behind its prefix of p characters, of which the last is the `r`
+-- a raw string after its prefix of p characters, the last of which is the `r`
 abbrev pub raw_string : (Option ℕ → LiteralKind) → ℕ → List ℕ → Lexeme
 raw_string kind p cs =
     let form : Scanned (Option ℕ) = further p (raw_form (drop p cs)) in
@@ -50,20 +50,20 @@ numeral cs = with_suffix (number cs).value (number cs).size cs
 
 -- ---- words
 
--- the character right behind a word makes the word a prefix
+-- a word right before this character is a prefix
 abbrev pub is_prefix_mark : ℕ → Bool
 is_prefix_mark c = is "#" c || is "\"" c || is "'" c
 
--- an identifier or a keyword, and where a mark of literals stands right behind it, an unknown prefix
+-- an identifier or a keyword, or an unknown prefix if `#` or a quote follows right after it
 abbrev pub plain_word : List ℕ → Lexeme
 plain_word cs = lexeme_of (if is_prefix_mark (char_at cs (identifier_len cs)) then UnknownPrefix else Ident) (identifier_len cs)
 
--- an identifier behind two characters
+-- an identifier after two characters
 abbrev pub marked_word : TokenKind → List ℕ → Lexeme
 marked_word kind cs = lexeme_of kind (2 + identifier_len (drop 2 cs))
 
--- what begins with a character that may begin an identifier: raw identifiers and strings, bytes, strings of bytes and of C,
--- forced keywords; or a plain word
+-- the lexeme that begins with a character that may begin an identifier: raw identifiers and
+-- strings, bytes, byte strings and C strings, forced keywords; or a plain word
 abbrev pub word : List ℕ → Lexeme
 word cs =
     if begins "r#" cs && is_id_start (char_at cs 2) then marked_word RawIdent cs
@@ -76,9 +76,9 @@ word cs =
     else if begins "k#" cs && is_id_start (char_at cs 2) then marked_word ForcedKeywordIdent cs
     else plain_word cs
 
--- ---- what begins with `'`
+-- ---- lexemes that begin with `'`
 
--- a lifetime, or a character of one letter
+-- a lifetime, or a character literal of one letter
 abbrev pub lifetime : List ℕ → Lexeme
 lifetime cs =
     let numbered : Bool = is_digit (char_at cs 1) in
@@ -88,11 +88,11 @@ lifetime cs =
     else if is "#" (char_at cs n) && not numbered then lexeme_of UnknownPrefixLifetime n
     else lexeme_of (Lifetime numbered) n
 
--- behind the `'` stands a letter or a digit, and no second `'` right after it
+-- a letter or a digit follows the `'`, and no second `'` right after it
 abbrev pub begins_lifetime : List ℕ → Bool
 begins_lifetime cs = not (is "'" (char_at cs 2)) && (is_id_start (char_at cs 1) || is_digit (char_at cs 1))
 
--- a lifetime or a character
+-- a lifetime or a character literal
 abbrev pub quote : List ℕ → Lexeme
 quote cs = if begins_lifetime cs then lifetime cs else quoted Char 1 cs
 
@@ -114,7 +114,7 @@ one_char_kind c =
 
 -- ---- the first lexeme
 
--- a string between number signs begins with these
+-- a guarded string begins with these
 abbrev pub begins_guarded : List ℕ → Bool
 begins_guarded cs = begins "#\"" cs || begins "##" cs
 

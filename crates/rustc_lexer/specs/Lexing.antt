@@ -4,7 +4,7 @@ use Rattle.rustc_lexer.specs.Character.{utf8_len}
 use Rattle.rustc_lexer.specs.Lexeme.{Lexeme, lexeme}
 use Rattle.rustc_lexer.specs.declared.token.Token.{Token}
 
--- the lexeme as a token of the text that it begins: its length is in bytes
+-- the lexeme as a token of the text that it begins, with its length in bytes
 abbrev pub token_of : Lexeme → List ℕ → Token
 token_of w cs = record { kind = w.value; len = utf8_len (take w.size cs) }
 
@@ -18,12 +18,12 @@ tokens_after zero (c ∷ cs) = token_of (lexeme (c ∷ cs)) (c ∷ cs) ∷ token
 abbrev pub tokens_of : List ℕ → List Token
 tokens_of cs = tokens_after 0 cs
 
--- how many characters the first k lexemes of a text take
+-- how many characters the first k lexemes of a text have
 abbrev pub place : ℕ → List ℕ → ℕ
 place zero cs = 0
 place (suc k) [] = 0
 place (suc k) (c ∷ cs) = (lexeme (c ∷ cs)).size + place k (drop (lexeme (c ∷ cs)).size (c ∷ cs))
 
--- how many characters of a text its first k tokens hang on: their own, and the two that follow these
+-- how many characters of a text its first k tokens depend on: their own, and the two that follow
 abbrev pub reach : ℕ → List ℕ → ℕ
 reach k cs = place k cs + 2

@@ -8,13 +8,13 @@ use Rattle.rustc_lexer.specs.declared.token.Base.TheVariants.{Binary, Octal, Dec
 use Rattle.rustc_lexer.specs.declared.token.LiteralKind.{LiteralKind}
 use Rattle.rustc_lexer.specs.declared.token.LiteralKind.TheVariants.{Int, Float}
 
--- a run of digits and `_`, and whether a digit is in it
+-- a run of digits and `_`, and whether it has a digit
 abbrev pub run : (ℕ → Bool) → List ℕ → Scanned Bool
 run digit cs =
     let n : ℕ = prefix_len (λ c. digit c || is "_" c) cs in
     record { value = list_any digit (take n cs); size = n }
 
--- a sign, if one stands there
+-- the length of a sign, if there is one
 abbrev pub sign_len : List ℕ → ℕ
 sign_len cs = if is "+" (char_at cs 0) || is "-" (char_at cs 0) then 1 else 0
 
@@ -34,14 +34,14 @@ after_fraction base cs =
     if is_exponent_mark (char_at cs 0) then further 1 (exponent base (drop 1 cs))
     else record { value = Float base false; size = 0 }
 
--- what follows a point: digits, if one stands there
+-- what follows a point: digits, if there is one
 abbrev pub fraction : Base → List ℕ → Scanned LiteralKind
 fraction base cs =
     let digits : ℕ = (run is_digit cs).size in
     if is_digit (char_at cs 0) then further digits (after_fraction base (drop digits cs))
     else record { value = Float base false; size = 0 }
 
--- a point that belongs to the number stands at the front: no second point and no identifier follows it
+-- a point that belongs to the number comes first: no second point and no identifier follows it
 abbrev pub begins_fraction : List ℕ → Bool
 begins_fraction cs = begins "." cs && not (is "." (char_at cs 1) || is_id_start (char_at cs 1))
 
@@ -52,12 +52,12 @@ after_run base cs =
     else if is_exponent_mark (char_at cs 0) then further 1 (exponent base (drop 1 cs))
     else record { value = Int base false; size = 0 }
 
--- a digit as it is read behind a base's prefix: any decimal one, but for hexadecimal ones
+-- a digit after a base's prefix: any decimal one, or a hexadecimal one after that base's
 abbrev pub digit_of : Base → ℕ → Bool
 digit_of Hexadecimal = is_hex_digit
 digit_of base = is_digit
 
--- what follows the prefix of a base: a run, without a digit in which the number ends
+-- what follows the prefix of a base: a run, after which the number ends if it has no digit
 abbrev pub based : Base → (ℕ → Bool) → List ℕ → Scanned LiteralKind
 based base digit cs =
     let digits : Scanned Bool = run digit cs in

@@ -1,4 +1,4 @@
--- What is wrong with a raw string, after the Rust Reference's chapter "Tokens". Texts are lists of characters.
+-- The faults of a raw string, after the Reference's chapter "Tokens". Texts are lists of characters
 use Rattle.std.specs.Prelude.{ℕ, ◌+◌, max, ◌&&◌, ◌==◌, nat_le, ⊤, List, [], ◌∷◌, drop, Option, Some, None, Result, Ok, Err, if◌then◌else◌}
 use Rattle.std.specs.List.{prefix_len}
 use Rattle.rustc_lexer.specs.Character.{char_at, is, utf8_len}
@@ -16,29 +16,29 @@ abbrev pub up_to_quote : ℕ → List ℕ → List ℕ
 up_to_quote k [] = []
 up_to_quote k (c ∷ cs) = if is "\"" c && (prefix_len (is "#") cs == k) then c ∷ [] else c ∷ up_to_quote k cs
 
--- where the end may have been meant: right behind the first `"` that `found` hashes follow, in bytes, where `start` bytes
--- stand before the characters; nowhere, if no hash follows a `"`
+-- where the end may have been meant: right after the first `"` that `found` hashes follow, in
+-- bytes, after `start` bytes; nowhere, if no hash follows a `"`
 abbrev pub possible_end : ℕ → ℕ → List ℕ → Option ℕ
 possible_end start found cs = if found == 0 then None else Some (start + utf8_len (up_to_quote found cs))
 
--- a body that a `"` and n hashes are to end, and before which `start` bytes stand: it is terminated, or the most hashes
--- that follow a `"` are too few
+-- a body that a `"` and n hashes have to end, after `start` bytes: it is terminated, or the most
+-- hashes that follow a `"` are too few
 abbrev pub body_validity : ℕ → ℕ → List ℕ → Result ⊤ RawStrError
 body_validity start n cs =
     let found : ℕ = most_hashes cs in
     if (raw_body n cs).value then Ok tt else Err (NoTerminator n found (possible_end start found cs))
 
--- a form that is terminated has at most 255 hashes
+-- a terminated form has at most 255 hashes
 abbrev pub hashes_validity : ℕ → Result ⊤ RawStrError
 hashes_validity n = if nat_le n 255 then Ok tt else Err (TooManyDelimiters n)
 
--- the first is wrong, or else the second may be
+-- the first fault, if there is one, else the second
 abbrev pub first_fault : Result ⊤ RawStrError → Result ⊤ RawStrError → Result ⊤ RawStrError
 first_fault (Err e) other = Err e
 first_fault (Ok _) other = other
 
--- a raw string behind its prefix of p characters, of which the last is the `r`: n hashes, a `"`, and a body that a `"` and
--- n hashes end; p bytes count for the prefix
+-- a raw string after its prefix of p characters, the last of which is the `r`: n hashes, a `"`,
+-- and a body that a `"` and n hashes end; the prefix counts p bytes
 abbrev pub validity : ℕ → List ℕ → Result ⊤ RawStrError
 validity p cs =
     let form : List ℕ = drop p cs in

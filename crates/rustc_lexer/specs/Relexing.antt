@@ -7,24 +7,24 @@ use Rattle.rustc_lexer.specs.declared.relex.checkpoints.Checkpoint.{Checkpoint}
 use Rattle.rustc_lexer.specs.declared.relex.checkpoints.Relexed.{Relexed}
 use Rattle.rustc_lexer.specs.declared.token.Token.{Token}
 
--- how many bytes the tokens take
+-- how many bytes the tokens have
 abbrev pub total : List Token → ℕ
 total ts = sum_by (λ t. t.len) ts
 
--- how many of the new tokens, which begin at `at`, are lexed until one of their boundaries is one of the old tokens', which
--- begin at `to`
+-- how many of the new tokens, which begin at `at`, are lexed until one of their boundaries is one
+-- of the old tokens', which begin at `to`
 unfoldable pub count_to_meeting : ℕ → List Token → ℕ → List Token → ℕ
 count_to_meeting at new to old = position_or_len (λ place. list_any (λ b. b == place) (boundaries_from to old)) (boundaries_from at new)
 
--- the first of the tokens that were left stands behind the fresh ones, and takes so many bytes
+-- the first of the tokens that were left is added to the fresh ones, and has so many bytes
 abbrev pub LexesOne : List Token → List Token → List Token → List Token → ℕ → Type 0
 LexesOne old new fresh more len = (t : Token) × (old ≡ t ∷ new) × (more ≡ fresh ++ t ∷ []) × (len ≡ t.len)
 
--- the tokens of the text from `at` on, up to the first boundary that is one of the old tokens' too, which begin at `to`
+-- the text's tokens from `at` on, up to the first boundary of the old ones, which begin at `to`
 abbrev pub lexed_again : List ℕ → ℕ → ℕ → List Token → List Token
 lexed_again text at to old = take (count_to_meeting at (tokens_of (chars (drop at text))) to old) (tokens_of (chars (drop at text)))
 
--- the checkpoint is a boundary of the tokens, at its place
+-- the checkpoint is a boundary of the tokens, at its offset
 abbrev pub IsCheckpoint : List Token → Checkpoint → Type 0
 IsCheckpoint ts m = (m.tokens ≤ length ts) × (m.place ≡ total (take m.tokens ts))
 
@@ -32,23 +32,24 @@ IsCheckpoint ts m = (m.tokens ≤ length ts) × (m.place ≡ total (take m.token
 abbrev pub IsInRange : Checkpoint → Type 0
 IsInRange m = (m.tokens < 2 ^ 32) × (m.place < 2 ^ 32)
 
--- the first k tokens are those well before `start`, and end at `at`
+-- the first k tokens are those that end well before `start`, and they end at `at`
 pub record IsBegun (text : List ℕ) (ts : List Token) (start k at : ℕ) : Type 0 where
   pub count : k ≡ front_of text start
   pub is_at : at ≡ total (take k ts)
   pub clear : 0 < k → is_clear_of text start at ≡ true
   pub within : k ≤ length ts
 
--- of the tokens `old`, which begin at `at`, the first `passed` end at `bound`, which is not in front of `stop`, and the boundaries
--- that an edit moves are those from there on
+-- the first `passed` of the tokens `old`, which begin at `at`, end at `bound`, which is not
+-- before `stop`; the boundaries that an edit moves are those from there on
 pub record IsScan (at stop passed bound : ℕ) (old : List Token) : Type 0 where
   pub place : bound ≡ at + total (take passed old)
   pub within : passed ≤ length old
   pub behind : stop ≤ bound
   pub moves : (m p : ℕ) → list_any (moves_to stop m p) (boundaries_from at old) ≡ list_any (moves_to stop m p) (boundaries_from bound (drop passed old))
 
--- behind the first k of the tokens `ts`, which end at `at`, and up to the first `behind`, those of the new text stand that are lexed
--- until they meet a boundary of the old ones, which begin at `to` behind `stop` tokens; the checkpoint is this boundary
+-- after the first k of the tokens `ts`, which end at `at`, and before those from index `behind`
+-- on, the tokens are those of the new text, lexed until they meet a boundary of the old ones,
+-- which begin at `to` after `stop` tokens; the checkpoint is this boundary
 pub record IsSpliced (new : List ℕ) (ts tokens : List Token) (k at stop to behind : ℕ) (m : Checkpoint) : Type 0 where
   pub placed : tokens ≡ splice ts k behind (lexed_again new at to (drop stop ts))
   pub count : length (lexed_again new at to (drop stop ts)) ≡ count_to_meeting at (tokens_of (chars (drop at new))) to (drop stop ts)
@@ -58,8 +59,9 @@ pub record IsSpliced (new : List ℕ) (ts tokens : List Token) (k at stop to beh
   pub order : stop ≤ behind
   pub within : behind ≤ length ts
 
--- the text is an edited one, and `ts` are the tokens of the old: the first k of them are those well before the edit and end at
--- `at`; `passed` more end at `bound`, which is not in front of the edit's end; what lay at `stop` lies at `moved` now
+-- the text is an edited one, and `ts` are the tokens of the old: the first k of them are those
+-- kept before the edit and end at `at`; `passed` more end at `bound`, which is not before the
+-- edit's end; offset `stop` is moved to `moved`
 pub record IsChanged (new : List ℕ) (ts : List Token) (k at passed bound stop moved : ℕ) : Type 0 where
   pub old : List ℕ
   pub start : ℕ
@@ -75,7 +77,7 @@ pub record IsChanged (new : List ℕ) (ts : List Token) (k at passed bound stop 
   pub begun : IsBegun old ts start k at
   pub scan : IsScan at stop passed bound (drop k ts)
 
--- the old and the new tokens agree in front of the one boundary and behind the other
+-- the old and the new tokens agree before the one boundary and after the other
 pub record IsRelexed (old new : List Token) (m : Relexed) : Type 0 where
   pub front : IsCheckpoint old m.front
   pub front_there : IsCheckpoint new m.front
@@ -85,7 +87,7 @@ pub record IsRelexed (old new : List Token) (m : Relexed) : Type 0 where
   pub same_front : take m.front.tokens new ≡ take m.front.tokens old
   pub same_back : drop m.new.tokens new ≡ drop m.old.tokens old
 
--- the checkpoint's boundary in the edited text: where lexing began, if it is no boundary that was kept
+-- the checkpoint's boundary in the edited text: where lexing began, if its own was not kept
 abbrev pub moved_checkpoint : Relexed → Checkpoint → Checkpoint
 moved_checkpoint m checkpoint =
     if nat_le checkpoint.tokens m.front.tokens then checkpoint

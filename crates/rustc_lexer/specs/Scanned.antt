@@ -1,7 +1,7 @@
--- What a scan at the front of a text gives.
+-- The result of a scan at the front of a text.
 use Rattle.std.specs.Prelude.{◌≡◌, ℕ, ◌+◌, List, drop, chars, IsUtf8}
 
--- something that was scanned at the front of a text: what it is, and how many characters it takes
+-- something that was scanned at the front of a text: what it is, and its number of characters
 pub record Scanned (A : Type 0) : Type 0 where
   pub value : A
   pub size : ℕ

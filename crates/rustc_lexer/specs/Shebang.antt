@@ -8,7 +8,7 @@ use Rattle.rustc_lexer.specs.declared.token.Token.{Token}
 use Rattle.rustc_lexer.specs.declared.token.TokenKind.{TokenKind}
 use Rattle.rustc_lexer.specs.declared.token.TokenKind.TheVariants as kind
 
--- white space, or a comment that documents nothing
+-- white space, or a comment that is no doc comment
 abbrev pub is_blank : TokenKind → Bool
 is_blank kind.Whitespace = true
 is_blank (kind.LineComment None) = true
@@ -19,7 +19,7 @@ abbrev pub is_open_bracket : TokenKind → Bool
 is_open_bracket kind.OpenBracket = true
 is_open_bracket _ = false
 
--- the first of the tokens that are not blank is `[`
+-- the first of the tokens that are not trivia is `[`
 abbrev pub begins_with_bracket : List Token → Bool
 begins_with_bracket [] = false
 begins_with_bracket (t ∷ ts) = if is_blank t.kind then begins_with_bracket ts else is_open_bracket t.kind
@@ -28,7 +28,7 @@ begins_with_bracket (t ∷ ts) = if is_blank t.kind then begins_with_bracket ts 
 abbrev pub first_line : List ℕ → List ℕ
 first_line text = unwrap_or (slice_get (lines text) 0) []
 
--- how many bytes of a text are a `#!` at its front and the rest of that line; an inner attribute, as `#![a]`, is none
+-- the length of a `#!` line at the front, in bytes, without its end; `#![a]` is none
 abbrev pub shebang : List ℕ → Option ℕ
 shebang text =
     let rest : List ℕ = drop 2 text in

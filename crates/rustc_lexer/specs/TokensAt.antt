@@ -6,13 +6,14 @@ use Rattle.rustc_lexer.specs.Lexing.{tokens_of}
 use Rattle.rustc_lexer.specs.declared.token.Token.{Token}
 use Rattle.rustc_lexer.specs.declared.token.TokenKind.TheVariants.{Eof}
 
--- a character or the end of the text stands at the byte `at`, and these are the tokens from there on
+-- offset `at` is a character boundary, and these are the tokens from there on
 pub record AreTokensFrom (text : List ℕ) (at : ℕ) (ts : List Token) : Type 0 where
   pub boundary : IsCharBoundary text at
   pub tokens : ts ≡ tokens_of (chars (drop at text))
 
--- the token stands at the byte `at`: it takes at least one byte, it begins and ends between characters and inside the
--- text, its bytes spell the first lexeme of what stands there, and its kind is that lexeme's and never the end
+-- the token is at offset `at`: it has at least one byte, it begins and ends at character
+-- boundaries inside the text, its bytes are the first lexeme of the text from there on, and its
+-- kind is that lexeme's and never `Eof`
 pub record IsTokenAt (text : List ℕ) (at : ℕ) (t : Token) : Type 0 where
   pub positive : 1 ≤ t.len
   pub start : IsCharBoundary text at

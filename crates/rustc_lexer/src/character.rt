@@ -1,8 +1,8 @@
-//! The classes of characters that the grammar of Rust knows.
+//! The classes of characters in Rust's grammar.
 ghost use Rattle.std.specs.Prelude.{◌≡◌};
 ghost use Rattle.rustc_lexer.specs.Character.{is_whitespace, is_horizontal_whitespace, is_id_start, is_id_continue};
 
-/// The version of Unicode that tells letters and digits.
+/// The version of Unicode whose tables decide what an identifier may contain.
 pub const UNICODE_VERSION: (u8, u8, u8) = (18, 0, 0);
 
 /// Whether the character is white space: one of Unicode's `Pattern_White_Space`.
@@ -16,7 +16,7 @@ pub fn is_whitespace(c: char) -> bool
     )
 }
 
-/// Whether the character is white space inside a line: a tabulator or a space.
+/// Whether the character is white space within a line: a tabulator or a space.
 #[inline]
 pub fn is_horizontal_whitespace(c: char) -> bool
     ensures { result ≡ is_horizontal_whitespace c }
@@ -35,7 +35,7 @@ pub fn is_id_start(c: char) -> bool
     unicode_ident::is_xid_start(c)
 }
 
-/// Whether an identifier may go on with the character: one of Unicode's `XID_Continue`.
+/// Whether an identifier may continue with the character: one of Unicode's `XID_Continue`.
 #[inline]
 pub fn is_id_continue(c: char) -> bool
     ensures { result ≡ is_id_continue c }

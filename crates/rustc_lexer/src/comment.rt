@@ -1,4 +1,4 @@
-//! Comments.
+//! Lexes comments.
 ghost use Rattle.std.specs.Prelude.{◌≡◌, ◌&&◌, true, codes, chars};
 ghost use Rattle.rustc_lexer.specs.Character.{begins, is};
 ghost use Rattle.rustc_lexer.specs.Comments.{line_style, line_comment, block_style, block_body, block_comment};
@@ -16,7 +16,7 @@ pub fn line_comment(text: &str) -> (TokenKind, &str)
     (TokenKind::LineComment { doc_style }, from_line_feed(text))
 }
 
-// Whether a line comment documents.
+// The doc style of a line comment, if it is a doc comment.
 fn line_style(text: &str) -> Option<DocStyle>
     requires { begins "//" (chars text.now) ≡ true }
     ensures { result ≡ line_style (chars text.now) }
@@ -28,7 +28,7 @@ fn line_style(text: &str) -> Option<DocStyle>
     }
 }
 
-// A block comment, with the comments inside it.
+// A block comment, with the comments nested in it.
 pub fn block_comment(text: &str) -> (TokenKind, &str)
     requires { begins "/*" (chars text.now) ≡ true }
     ensures { IsRead (block_comment (chars text.now)) text.now result.0 result.1.now }
@@ -44,7 +44,7 @@ pub fn block_comment(text: &str) -> (TokenKind, &str)
     )
 }
 
-// Whether a block comment documents.
+// The doc style of a block comment, if it is a doc comment.
 fn block_style(text: &str) -> Option<DocStyle>
     requires { begins "/*" (chars text.now) ≡ true }
     ensures { result ≡ block_style (chars text.now) }
@@ -56,7 +56,7 @@ fn block_style(text: &str) -> Option<DocStyle>
     }
 }
 
-// What follows the `/*` of a block comment: whether its end was found, and what follows it.
+// The rest of a block comment after its `/*`: whether its end was found, and what follows it.
 fn block_body(text: &str) -> (bool, &str)
     ensures { IsRead (block_body 0 (chars text.now)) text.now result.0 result.1.now }
 {

@@ -1,4 +1,4 @@
-//! A cursor over the lexemes of a text.
+//! A cursor over the tokens of a text, which consumes them one by one.
 ghost use Rattle.std.specs.Prelude.{◌≡◌, ◌<◌, ◌+◌, ◌^◌, length, chars};
 ghost use Rattle.rustc_lexer.specs.Character.{char_at};
 ghost use Rattle.rustc_lexer.specs.Cursors.{Unread, next_token, past_token, next_guarded, past_guarded, later_suffix, suffix_of};
@@ -9,14 +9,14 @@ use crate::scan::{first, third};
 use crate::token::{FrontmatterAllowed, GuardedStr, Token, TokenKind};
 use std::marker::Model;
 
-/// A text that is read lexeme by lexeme, from its front on.
+/// A cursor over a text, which reads it lexeme by lexeme, from left to right.
 ///
-/// Hashes that [`Cursor::guarded_double_quoted_string`] took where no string follows them count in
-/// the next token.
+/// Hashes that [`Cursor::guarded_double_quoted_string`] consumed without a string after them count
+/// in the next token.
 #[derive(Drop)]
 pub struct Cursor<'a> {
     rest: &'a str,
-    // How many bytes were taken that the next token counts.
+    // How many bytes were consumed that count in the next token.
     pending: u32,
     ghost small: { length rest.now + pending < 2 ^ 32 },
 }
@@ -30,7 +30,7 @@ impl<'a> Model for Cursor<'a> {
 }
 
 impl<'a> Cursor<'a> {
-    /// A cursor at the front of the text, which has at most `u32::MAX` bytes.
+    /// A cursor at the start of a text of at most `u32::MAX` bytes.
     pub fn new(input: &'a str, frontmatter_allowed: FrontmatterAllowed) -> Cursor<'a>
         requires { length input.now < 2 ^ 32 }
         ensures { result ≡ record { rest = input.now; pending = 0 } }
@@ -43,28 +43,29 @@ impl<'a> Cursor<'a> {
         }
     }
 
-    /// The text that is left.
+    /// The remaining text.
     pub fn as_str(&self) -> &'a str
         ensures { result.now ≡ self.now.rest }
     {
         self.rest
     }
 
-    /// The first character that is left, or U+0000 where there is none.
+    /// The first remaining character, or U+0000 at the end.
     pub fn first(&self) -> char
         ensures { result ≡ char_at (chars self.now.rest) 0 }
     {
         first(self.rest)
     }
 
-    /// The third character that is left, or U+0000 where there is none.
+    /// The third remaining character, or U+0000 where there are fewer.
     pub fn third(&self) -> char
         ensures { result ≡ char_at (chars self.now.rest) 2 }
     {
         third(self.rest)
     }
 
-    /// The next token, with a length in bytes of at least 1; at the end of the text `Eof`, of length 0.
+    /// The next token, which is consumed. Its length is in bytes and at least 1; at the end of the
+    /// text it is `Eof`, of length 0.
     pub fn advance_token(&mut self) -> Token
         ensures token { result ≡ next_token self.old }
         ensures rest { self.new ≡ past_token self.old }
@@ -85,9 +86,10 @@ impl<'a> Cursor<'a> {
         }
     }
 
-    /// The string between hashes at the front, if one stands there: all hashes, and where a `"` follows
-    /// them, the string, at most as many hashes and a suffix. Where none follows, the hashes count in
-    /// the next token.
+    /// Consumes a guarded string, as `#"a"#`: hashes, a string, at most as many hashes, and a
+    /// suffix. (The Rust Reference, "Reserved guards".)
+    ///
+    /// `None` if no `"` follows the hashes: these are consumed and count in the next token.
     pub fn guarded_double_quoted_string(&mut self) -> Option<GuardedStr>
         ensures guarded { result ≡ next_guarded self.old }
         ensures rest { self.new ≡ past_guarded self.old }
@@ -114,7 +116,8 @@ impl<'a> Cursor<'a> {
     }
 }
 
-// A token's kind, where so many bytes before its lexeme count in it.
+// The kind of a token that begins `pending` bytes before its lexeme: the suffix of a literal
+// starts that much later.
 fn later_suffix(pending: u32, kind: TokenKind) -> TokenKind
     requires { pending + suffix_of kind < 2 ^ 32 }
     ensures { result ≡ later_suffix pending kind }

@@ -1,4 +1,4 @@
-//! The first token of a text: its kind, and the text after its lexeme.
+//! Lexes the first token of a text: its kind, and the text after it.
 ghost use Rattle.std.specs.Prelude.{◌≡◌, ◌<◌, ◌^◌, length, chars, IsUtf8};
 ghost use Rattle.rustc_lexer.specs.Character.{char_at};
 ghost use Rattle.rustc_lexer.specs.Lexeme.{lexeme, string, one_char_kind, begins_guarded, numeral, white_space};
@@ -17,7 +17,7 @@ use crate::scan::{
 };
 use crate::token::{LiteralKind, TokenKind};
 
-// The kind of the first lexeme of the text, and what follows the lexeme.
+// The kind of the first lexeme of the text, and what follows it.
 pub fn first_lexeme(text: &str) -> (TokenKind, &str)
     requires { length text.now < 2 ^ 32 }
     ensures utf8 { IsUtf8 text.now }
@@ -29,14 +29,14 @@ pub fn first_lexeme(text: &str) -> (TokenKind, &str)
         b'a' => word(text),
         b' ' => (TokenKind::Whitespace, skip_while::<White>(text)),
         _ => {
-            // taken apart, so that the usual answers stay in registers
+            // Taken apart, so that the usual answers stay in registers.
             let (kind, rest) = other_lexeme(text);
             (kind, rest)
         }
     }
 }
 
-// The first lexeme, where the first byte does not tell its kind.
+// The first lexeme, if the first byte does not determine its kind.
 #[inline(never)]
 fn other_lexeme(text: &str) -> (TokenKind, &str)
     requires { length text.now < 2 ^ 32 }
@@ -50,7 +50,7 @@ fn other_lexeme(text: &str) -> (TokenKind, &str)
     }
 }
 
-// What begins with `/`: a comment, or the character alone.
+// The lexeme that `/` begins: a comment, or the character alone.
 fn slash(text: &str) -> (TokenKind, &str)
     requires { char_at (chars text.now) 0 ≡ 47 }
     ensures { IsRead (lexeme (chars text.now)) text.now result.0 result.1.now }
@@ -65,7 +65,7 @@ fn slash(text: &str) -> (TokenKind, &str)
     }
 }
 
-// What begins no comment, by its first character.
+// The lexeme that begins with this character, if it is no comment.
 #[inline(always)]
 fn begun_by(c: char, text: &str) -> (TokenKind, &str)
     requires small { length text.now < 2 ^ 32 }
@@ -83,7 +83,7 @@ fn begun_by(c: char, text: &str) -> (TokenKind, &str)
     }
 }
 
-// What begins with neither white space, nor a letter, nor a digit, and is no comment.
+// The lexeme that begins with neither white space, nor a letter, nor a digit, and is no comment.
 #[inline(always)]
 fn sign(text: &str) -> (TokenKind, &str)
     requires { length text.now < 2 ^ 32 }
@@ -99,7 +99,7 @@ fn sign(text: &str) -> (TokenKind, &str)
     }
 }
 
-// Whether a guarded string begins with these two characters.
+// Whether the text begins like a guarded string.
 #[inline]
 fn begins_guarded(text: &str) -> bool
     ensures { result ≡ begins_guarded (chars text.now) }
@@ -125,7 +125,7 @@ fn string(text: &str) -> (TokenKind, &str)
     literal(terminated, LiteralKind::Str { terminated }, text, rest)
 }
 
-// The kind of a character that is a token by itself, and `Unknown` of any other.
+// The kind of a character that is a token by itself, and `Unknown` for any other.
 fn one_char_kind(c: char) -> TokenKind
     ensures { result ≡ one_char_kind c }
 {

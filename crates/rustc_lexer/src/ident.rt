@@ -1,4 +1,4 @@
-//! Identifiers, keywords, and the literals and unknown prefixes that begin with a letter.
+//! Lexes identifiers, keywords, and the literals and unknown prefixes that begin with a letter.
 ghost use Rattle.std.specs.Prelude.{◌≡◌, ◌<◌, ◌^◌, ◌==◌, ◌&&◌, ◌||◌, true, codes, slice_index, length, chars};
 ghost use Rattle.rustc_lexer.specs.Character.{char_at, begins, is_id_start, is_ident};
 ghost use Rattle.rustc_lexer.specs.Lexeme.{plain_word, marked_word, word, quoted, string, raw_string};
@@ -14,8 +14,8 @@ use crate::scan::{
 };
 use crate::token::{LiteralKind, TokenKind};
 
-/// Whether the text is an identifier: one character that may begin it, and others that may go on.
-/// Keywords and `_` are.
+/// Whether the text is one identifier: a character that may begin one, and others that may
+/// continue it. Keywords and `_` are identifiers here. (The Rust Reference, "Identifiers".)
 pub fn is_ident(string: &str) -> bool
     ensures { result ≡ is_ident (chars string.now) }
 {
@@ -25,7 +25,8 @@ pub fn is_ident(string: &str) -> bool
     }
 }
 
-// What begins with a character that may begin an identifier. Most words are of ASCII, and no mark of literals follows them.
+// The lexeme that begins with a character that may begin an identifier. Most are ASCII, and no
+// `#` or quote follows them.
 #[inline(always)]
 pub fn word(text: &str) -> (TokenKind, &str)
     requires small { length text.now < 2 ^ 32 }
@@ -34,14 +35,14 @@ pub fn word(text: &str) -> (TokenKind, &str)
 {
     let rest = skip_ascii::<Continue>(text);
     if start_of(first_byte(rest)) == b'?' {
-        // taken apart, so that the usual answer stays in registers
+        // Taken apart, so that the usual answer stays in registers.
         let (kind, rest) = word_by_letter(text);
         return (kind, rest);
     }
     (TokenKind::Ident, rest)
 }
 
-// What `word` gives, by the first letter.
+// The answer of `word`, by the first letter.
 #[inline(never)]
 fn word_by_letter(text: &str) -> (TokenKind, &str)
     requires small { length text.now < 2 ^ 32 }
@@ -66,7 +67,8 @@ pub fn plain_word(text: &str) -> (TokenKind, &str)
     (word_kind(first_byte(rest)), rest)
 }
 
-// The kind of a word where a character that begins with this byte follows it: before a mark of literals it is a prefix.
+// The kind of a word before a character that begins with this byte: before `#` or a quote it is a
+// prefix.
 #[inline]
 fn word_kind(next: u8) -> TokenKind
     ensures { result ≡ word_kind next }
@@ -92,7 +94,7 @@ fn r_word(text: &str) -> (TokenKind, &str)
     }
 }
 
-// A byte, a string of bytes, or a word.
+// A byte, a byte string, or a word.
 fn b_word(text: &str) -> (TokenKind, &str)
     requires small { length text.now < 2 ^ 32 }
     requires start { is_id_start (char_at (chars text.now) 0) ≡ true }
@@ -109,7 +111,7 @@ fn b_word(text: &str) -> (TokenKind, &str)
     }
 }
 
-// A string of C, or a word.
+// A C string, or a word.
 fn c_word(text: &str) -> (TokenKind, &str)
     requires small { length text.now < 2 ^ 32 }
     requires start { is_id_start (char_at (chars text.now) 0) ≡ true }
@@ -176,7 +178,7 @@ fn begins_raw_c_string(text: &str) -> bool
     begins(text, 'c', 'r') && matches!(third(text), '#' | '"')
 }
 
-// An identifier behind two characters.
+// An identifier after two characters.
 fn marked_word(kind: TokenKind, text: &str) -> (TokenKind, &str)
     ensures { IsRead (marked_word kind (chars text.now)) text.now result.0 result.1.now }
 {

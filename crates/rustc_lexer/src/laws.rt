@@ -1,25 +1,32 @@
-//! Laws of the tokens, for proofs about loops over them. A call costs nothing: it only states.
+//! Laws of the tokens, for proofs about loops over them. Calling a law does nothing: its contract
+//! is the statement.
 //!
-//! A loop `for token in tokenize(text, ..)` that keeps in `at` the place where the next token begins
-//! has the invariant `AreTokensFrom text at left`, where `left` are the tokens that the iterator has
-//! left: [`tokens_begin`] gives it at 0, [`next_token`] keeps it over `at += token.len` and says that
-//! the token's text may be cut out, and [`tokens_end`] says that `at` ends as the text's length. For
-//! a loop that enters a list of tokens at some index, [`token_lengths`] gives it there.
+//! A loop `for token in tokenize(text, ..)` that keeps in `at` the offset where the next token
+//! begins has the invariant `AreTokensFrom text at left`, where `left` are the tokens that the
+//! iterator has left: [`tokens_begin`] gives it at 0, [`next_token`] keeps it over `at +=
+//! token.len` and says that the token's text may be cut out, and [`tokens_end`] says that `at`
+//! ends as the text's length. For a loop that enters a list of tokens at some index,
+//! [`token_lengths`] gives it there.
 //!
-//! A text that is put together of whole tokens, spaces and line feeds between them has these tokens:
-//! [`whole_token`], [`blank_token`], [`one_character`] and [`quoted_name`] give them one by one, and
-//! [`token_shapes`] what each begins and ends with.
-ghost use Rattle.std.specs.Prelude.{◌≡◌, ◌≤◌, ◌+◌, ◌++◌, ◌↔◌, ℕ, List, [], ◌∷◌, true, false, length, chars, IsUtf8, All, sum_by, take, drop, IsCharBoundary};
+//! A text that consists of whole tokens with spaces and line feeds between them has exactly these
+//! tokens: [`whole_token`], [`blank_token`], [`one_character`] and [`quoted_name`] give them one
+//! by one, and [`token_shapes`] says what each begins and ends with.
+ghost use Rattle.std.specs.Prelude.{◌≡◌, ◌≤◌, ◌+◌, ◌++◌, ◌↔◌, ℕ, List, [], ◌∷◌, Some, true, false, length, chars, IsUtf8, All, sum_by, take, drop, IsCharBoundary};
 ghost use Rattle.std.specs.List.{list_all, slice_range};
+ghost use Rattle.std.specs.Ordering.{nat_cmp};
 ghost use Rattle.rustc_lexer.specs.Character.{is_digit, is_ident, utf8_len};
 ghost use Rattle.rustc_lexer.specs.Cursors.{suffix_of};
 ghost use Rattle.rustc_lexer.specs.Lexeme.{lexeme, one_char_kind};
 ghost use Rattle.rustc_lexer.specs.Lexing.{place, reach, token_of, tokens_of};
 ghost use Rattle.rustc_lexer.specs.Literals.{stands_for_itself, with_escapes};
+ghost use Rattle.rustc_lexer.specs.Orders.{base_number, error_ranks, guarded_ranks, in_order, kind_ranks};
 ghost use Rattle.rustc_lexer.specs.Seams.{begins_longer, begins_white, ends_here, is_blank, is_sign, is_whole, stands_alone};
 ghost use Rattle.rustc_lexer.specs.Shapes.{HasByteShape, HasShape, is_ended};
 ghost use Rattle.rustc_lexer.specs.TokensAt.{AreTokensFrom, IsTokenAt};
+ghost use Rattle.rustc_lexer.specs.declared.character.TheConstants.{UNICODE_VERSION};
+ghost use Rattle.rustc_lexer.specs.declared.raw_str.RawStrError.{RawStrError};
 ghost use Rattle.rustc_lexer.specs.declared.relex.Kept.{Kept};
+ghost use Rattle.rustc_lexer.specs.declared.token.Base.{Base};
 ghost use Rattle.rustc_lexer.specs.declared.token.Base.TheVariants.{Decimal};
 ghost use Rattle.rustc_lexer.specs.declared.token.GuardedStr.{GuardedStr};
 ghost use Rattle.rustc_lexer.specs.declared.token.LiteralKind.{LiteralKind};
@@ -27,17 +34,19 @@ ghost use Rattle.rustc_lexer.specs.declared.token.LiteralKind.TheVariants.{Int, 
 ghost use Rattle.rustc_lexer.specs.declared.token.Token.{Token};
 ghost use Rattle.rustc_lexer.specs.declared.token.TokenKind.{TokenKind};
 ghost use Rattle.rustc_lexer.specs.declared.token.TokenKind.TheVariants.{Eof, Ident, Lifetime, Literal, Whitespace};
+ghost use Rattle.ucd_table.specs.declared.version.TheConstants.{UNICODE_VERSION as tables_version};
 
+use crate::raw_str::RawStrError;
 use crate::relex::Kept;
-use crate::token::{GuardedStr, LiteralKind, Token, TokenKind};
+use crate::token::{Base, GuardedStr, LiteralKind, Token, TokenKind};
 
 /// The tokens of a text begin at its first byte.
 pub fn tokens_begin()
     ensures { (text : List ℕ) → IsUtf8 text → AreTokensFrom text 0 (tokens_of (chars text)) }
 {}
 
-/// Where a first token is left, it stands where the tokens that are left begin, and the others begin
-/// behind it.
+/// If tokens remain, the first one is at the offset where they begin, and the others begin right
+/// after it.
 pub fn next_token()
     ensures here { (text : List ℕ) (at : ℕ) (left : List Token) (t : Token) (ts : List Token) →
         IsUtf8 text → AreTokensFrom text at left → left ≡ t ∷ ts → IsTokenAt text at t }
@@ -45,14 +54,14 @@ pub fn next_token()
         IsUtf8 text → AreTokensFrom text at left → left ≡ t ∷ ts → AreTokensFrom text (at + t.len) ts }
 {}
 
-/// Where no token is left, the text ends.
+/// If no token remains, the offset is the end of the text.
 pub fn tokens_end()
     ensures { (text : List ℕ) (at : ℕ) (left : List Token) →
         IsUtf8 text → AreTokensFrom text at left → left ≡ [] → at ≡ length text }
 {}
 
-/// Each length is at least 1. The first lengths sum to the place where the other tokens begin, a
-/// character's boundary, and all of them to the length of the text.
+/// Each length is at least 1. The first k lengths sum to the offset of the next token, a character
+/// boundary; all of them sum to the length of the text.
 pub fn token_lengths()
     ensures positive { (text : List ℕ) → IsUtf8 text → All (λ t. 1 ≤ t.len) (tokens_of (chars text)) }
     ensures boundaries { (text : List ℕ) (k : ℕ) →
@@ -67,8 +76,8 @@ pub fn no_token_is_eof()
     ensures { (text : List ℕ) → IsUtf8 text → All (λ t. ¬ (t.kind ≡ Eof)) (tokens_of (chars text)) }
 {}
 
-/// The first k lexemes of a text take `place k` characters: what follows these has the other tokens,
-/// and the lengths of the first k tokens sum to the bytes of these characters.
+/// The first k lexemes of a text take `place k` characters. The text after these has the other
+/// tokens, and the lengths of the first k tokens sum to the bytes of these characters.
 pub fn rest_of_tokens()
     ensures rest { (k : ℕ) (cs : List ℕ) → tokens_of (drop (place k cs) cs) ≡ drop k (tokens_of cs) }
     ensures bytes { (k : ℕ) (cs : List ℕ) → sum_by (λ t. t.len) (take k (tokens_of cs)) ≡ utf8_len (take (place k cs) cs) }
@@ -81,10 +90,10 @@ pub fn first_of_tokens()
         ≡ token_of (lexeme (c ∷ cs)) (c ∷ cs) ∷ tokens_of (drop (lexeme (c ∷ cs)).size (c ∷ cs)) }
 {}
 
-/// The first k tokens hang on the characters that `reach` counts, and on no others: a text with the
-/// same characters up to there, or that ends where the first one does, has the same first k tokens
-/// at the same places. In bytes: a text that begins with the same bytes of these tokens, behind which
-/// stand the same two characters, or as many of them, has the same first k tokens.
+/// The first k tokens depend on the characters that `reach` counts, and on no others. A text with
+/// the same characters up to there, or that ends where the first one does, has the same first k
+/// tokens at the same offsets. In bytes: so it is for a text that begins with the same bytes of
+/// these tokens, followed by the same two characters, or as many of them.
 pub fn first_tokens()
     ensures tokens { (k : ℕ) (cs ds : List ℕ) →
         take (reach k cs) cs ≡ take (reach k cs) ds → take k (tokens_of ds) ≡ take k (tokens_of cs) }
@@ -96,20 +105,21 @@ pub fn first_tokens()
         take k (tokens_of (chars other)) ≡ take k (tokens_of (chars text)) }
 {}
 
-/// The suffix of a literal begins inside its token or right behind it, between two characters.
+/// The suffix of a literal begins inside its token or right after it, at a character boundary.
 pub fn suffix_starts()
     ensures within { (text : List ℕ) (at : ℕ) (t : Token) → IsTokenAt text at t → suffix_of t.kind ≤ t.len }
     ensures boundary { (text : List ℕ) (at : ℕ) (t : Token) → IsUtf8 text → IsTokenAt text at t →
         IsCharBoundary text (at + suffix_of t.kind) }
 {}
 
-/// A text that is one whole token is that token too where a space, a line feed or nothing follows.
+/// A text that is one whole token is still that token before a space, a line feed or the end.
 pub fn whole_token()
     ensures { (cs ds : List ℕ) (t : Token) → tokens_of cs ≡ t ∷ [] → is_whole t.kind ≡ true → ends_here ds ≡ true →
         tokens_of (cs ++ ds) ≡ t ∷ tokens_of ds }
 {}
 
-/// The characters of a token that stands alone are that token by themselves, whatever follows them in the text.
+/// The characters of a token that stands alone are that token by themselves, whatever follows them
+/// in the text: all whole tokens but raw lifetimes and unknown prefixes.
 pub fn token_alone()
     ensures chars { (cs : List ℕ) (t : Token) (ts : List Token) → tokens_of cs ≡ t ∷ ts → stands_alone t.kind ≡ true →
         tokens_of (take (lexeme cs).size cs) ≡ t ∷ [] }
@@ -141,7 +151,7 @@ pub fn quoted_name()
         tokens_of (39 ∷ cs) ≡ record { kind = Lifetime false; len = t.len + 1 } ∷ [] }
 {}
 
-/// Behind the quote of a lifetime stands an identifier.
+/// The quote of a lifetime is followed by an identifier.
 pub fn name_of_a_lifetime()
     ensures { (text : List ℕ) (at : ℕ) (t : Token) → IsTokenAt text at t → t.kind ≡ Lifetime false →
         is_ident (drop 1 (chars (slice_range text at (at + t.len)))) ≡ true }
@@ -171,8 +181,8 @@ pub fn one_escaped_string()
         ≡ record { kind = Literal (Str true) (utf8_len (34 ∷ with_escapes cs ++ 34 ∷ [])); len = utf8_len (34 ∷ with_escapes cs ++ 34 ∷ []) } ∷ [] }
 {}
 
-/// A token that is terminated begins and ends as its kind does, and the suffix of a literal follows
-/// its ending: `suffix_start` counts what stands before it.
+/// A terminated token begins and ends as its kind does. The suffix of a literal follows its
+/// ending; `suffix_start` is the length of all before it.
 pub fn token_shapes()
     ensures chars { (text : List ℕ) (at : ℕ) (t : Token) → IsTokenAt text at t → is_ended t.kind ≡ true →
         HasShape t.kind (chars (slice_range text at (at + t.len))) }
@@ -187,6 +197,36 @@ pub fn equal_tokens()
     ensures tokens { (a b : Token) → (⟦<Token as PartialEq>⟧.eq a b ≡ true) ↔ (a ≡ b) }
     ensures guarded { (a b : GuardedStr) → (⟦<GuardedStr as PartialEq>⟧.eq a b ≡ true) ↔ (a ≡ b) }
     ensures kept { (a b : Kept) → (⟦<Kept as PartialEq>⟧.eq a b ≡ true) ↔ (a ≡ b) }
+{}
+
+/// Bases are in the order of their numbers. Kinds of literals, strings between hashes and errors of
+/// raw strings are in the order of their variants, and then of their fields, as they are declared.
+pub fn orders()
+    ensures bases { (a b : Base) → ⟦<Base as Ord>⟧.cmp a b ≡ nat_cmp (base_number a) (base_number b) }
+    ensures literals { (a b : LiteralKind) → ⟦<LiteralKind as Ord>⟧.cmp a b ≡ in_order (kind_ranks a) (kind_ranks b) }
+    ensures guarded { (a b : GuardedStr) → ⟦<GuardedStr as Ord>⟧.cmp a b ≡ in_order (guarded_ranks a) (guarded_ranks b) }
+    ensures errors { (a b : RawStrError) → ⟦<RawStrError as Ord>⟧.cmp a b ≡ in_order (error_ranks a) (error_ranks b) }
+    ensures partial_bases { (a b : Base) →
+        ⟦<Base as PartialOrd>⟧.partial_cmp a b ≡ Some (nat_cmp (base_number a) (base_number b)) }
+    ensures partial_literals { (a b : LiteralKind) →
+        ⟦<LiteralKind as PartialOrd>⟧.partial_cmp a b ≡ Some (in_order (kind_ranks a) (kind_ranks b)) }
+    ensures partial_guarded { (a b : GuardedStr) →
+        ⟦<GuardedStr as PartialOrd>⟧.partial_cmp a b ≡ Some (in_order (guarded_ranks a) (guarded_ranks b)) }
+    ensures partial_errors { (a b : RawStrError) →
+        ⟦<RawStrError as PartialOrd>⟧.partial_cmp a b ≡ Some (in_order (error_ranks a) (error_ranks b)) }
+{}
+
+/// The number of a base, which is `base as u32`: 2, 8, 10 or 16.
+pub fn base_number(base: Base) -> u32
+    ensures { result ≡ base_number base }
+{
+    base as u32
+}
+
+/// The version of Unicode is 18.0.0, that of the tables of letters.
+pub fn unicode_version()
+    ensures number { UNICODE_VERSION ≡ (18, 0, 0) }
+    ensures tables { UNICODE_VERSION ≡ tables_version }
 {}
 
 /// A clone is the same value.

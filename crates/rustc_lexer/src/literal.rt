@@ -1,4 +1,4 @@
-//! The bodies and suffixes of literals.
+//! Lexes the bodies and suffixes of literals.
 ghost use Rattle.std.specs.Prelude.{◌≡◌, ◌<◌, ◌≤◌, ◌^◌, ◌-◌, ℕ, List, Bool, true, false, nat_le, min, drop, length, chars, MatchOption, IsUtf8, IfSome};
 ghost use Rattle.std.specs.List.{prefix_len};
 ghost use Rattle.rustc_lexer.specs.Character.{is, identifier_len};
@@ -12,7 +12,7 @@ use crate::scan::{
 };
 use crate::token::{LiteralKind, TokenKind};
 
-// How many bytes of the text stand before what is left of it.
+// How many bytes of `text` come before `rest`, which is its end.
 #[inline]
 fn bytes_before(text: &str, rest: &str) -> u32
     requires { length text.now < 2 ^ 32 }
@@ -21,7 +21,7 @@ fn bytes_before(text: &str, rest: &str) -> u32
     text.len().saturating_sub(rest.len()) as u32
 }
 
-// What follows an identifier, if one stands at the front.
+// What follows an identifier, if the text begins with one.
 #[inline]
 pub fn skip_identifier(text: &str) -> &str
     ensures { chars result.now ≡ drop (identifier_len (chars text.now)) (chars text.now) }
@@ -33,7 +33,7 @@ pub fn skip_identifier(text: &str) -> &str
     }
 }
 
-// What stands before `rest`, with a suffix.
+// The literal before `rest`, with a suffix.
 pub fn with_suffix<'a>(kind: LiteralKind, text: &'a str, rest: &'a str) -> (TokenKind, &'a str)
     requires { length text.now < 2 ^ 32 }
     ensures { (n : ℕ) → chars rest.now ≡ drop n (chars text.now) →
@@ -46,7 +46,7 @@ pub fn with_suffix<'a>(kind: LiteralKind, text: &'a str, rest: &'a str) -> (Toke
     )
 }
 
-// What stands before `rest`, without a suffix.
+// The literal before `rest`, without a suffix.
 pub fn bare<'a>(kind: LiteralKind, text: &'a str, rest: &'a str) -> (TokenKind, &'a str)
     requires { length text.now < 2 ^ 32 }
     ensures { (n : ℕ) → chars rest.now ≡ drop n (chars text.now) →
@@ -56,7 +56,7 @@ pub fn bare<'a>(kind: LiteralKind, text: &'a str, rest: &'a str) -> (TokenKind, 
     (TokenKind::Literal { kind, suffix_start }, rest)
 }
 
-// What stands before `rest`, with a suffix where it is whole.
+// The literal before `rest`, with a suffix if it is whole.
 pub fn literal<'a>(
     whole: bool,
     kind: LiteralKind,
@@ -74,7 +74,8 @@ pub fn literal<'a>(
     }
 }
 
-// What follows the first `'` of a character: whether its end was found, and what follows it.
+// The rest of a character literal after its first `'`: whether its end was found, and what
+// follows it.
 pub fn quoted_body(text: &str) -> (bool, &str)
     ensures { IsRead (quoted_body (chars text.now)) text.now result.0 result.1.now }
 {
@@ -102,7 +103,7 @@ fn quoted_rest(text: &str) -> (bool, &str)
     (false, rest)
 }
 
-// What follows the first `"` of a string: whether its end was found, and what follows it.
+// The rest of a string after its first `"`: whether its end was found, and what follows it.
 pub fn string_body(text: &str) -> (bool, &str)
     ensures { IsRead (string_body (chars text.now)) text.now result.0 result.1.now }
 {
@@ -119,7 +120,7 @@ pub fn string_body(text: &str) -> (bool, &str)
     }
 }
 
-// What follows n hashes at the front, or None where there are fewer.
+// What follows the first n hashes, or `None` if there are fewer.
 fn skip_hashes(text: &str, n: usize) -> Option<&str>
     ensures utf8 { IfSome result (λ rest. IsUtf8 rest.now) }
     ensures hashes { MatchOption result (nat_le n (prefix_len (is "#") (chars text.now)) ≡ false)
@@ -137,7 +138,7 @@ fn skip_hashes(text: &str, n: usize) -> Option<&str>
     Some(rest)
 }
 
-// What follows the first `"` of a raw string: whether its end was found, and what follows it.
+// The rest of a raw string after its first `"`: whether its end was found, and what follows it.
 fn raw_body(text: &str, n: usize) -> (bool, &str)
     ensures { IsRead (raw_body n (chars text.now)) text.now result.0 result.1.now }
 {
@@ -154,7 +155,7 @@ fn raw_body(text: &str, n: usize) -> (bool, &str)
     }
 }
 
-// The hashes at the front: how many, and what follows them.
+// The number of hashes at the front, and what follows them.
 pub fn count_hashes(text: &str) -> (usize, &str)
     ensures utf8 { IsUtf8 text.now }
     ensures read { IsRead (hashes (chars text.now)) text.now result.0 result.1.now }
@@ -164,7 +165,7 @@ pub fn count_hashes(text: &str) -> (usize, &str)
     (n, rest)
 }
 
-// The number of hashes of a raw string that is whole.
+// The number of hashes of a raw string, if it is whole.
 fn hashes_of(terminated: bool, n: usize) -> Option<u8>
     ensures { result ≡ hashes_of terminated n }
 {
@@ -175,7 +176,8 @@ fn hashes_of(terminated: bool, n: usize) -> Option<u8>
     }
 }
 
-// What follows the `r` of a raw string: the number of its hashes where it is whole, and what follows it.
+// The rest of a raw string after its `r`: the number of its hashes if it is whole, and what
+// follows it.
 pub fn raw_form(text: &str) -> (Option<u8>, &str)
     ensures { IsRead (raw_form (chars text.now)) text.now result.0 result.1.now }
 {
@@ -200,7 +202,7 @@ fn skip_closing(text: &str, n: usize) -> &str
     rest
 }
 
-// A string that n hashes stand before, from its quote on: whether it is terminated, and what follows it.
+// A string after n hashes, from its quote on: whether it is terminated, and what follows it.
 fn guarded_body(text: &str, n: usize) -> (bool, &str)
     ensures { IsRead (guarded_body n (chars text.now)) text.now result.0 result.1.now }
 {
@@ -211,7 +213,8 @@ fn guarded_body(text: &str, n: usize) -> (bool, &str)
     (true, skip_identifier(skip_closing(rest, n)))
 }
 
-// What stands behind n hashes: whether a string there is terminated, or None where there is none, and what is left.
+// The rest of a guarded string after n hashes: whether it is terminated, and what follows it.
+// `None` if no string begins here.
 pub fn guarded_string(opening: &str, n: usize) -> (Option<bool>, &str)
     ensures { (text : List ℕ) → IsRead (hashes (chars text)) text n opening.now →
         IsRead (guarded_string (chars text)) text result.0 result.1.now }

@@ -1,4 +1,4 @@
-//! Numbers.
+//! Lexes numbers.
 ghost use Rattle.std.specs.Prelude.{◌≡◌, chars};
 ghost use Rattle.rustc_lexer.specs.Numbers.{digit_of, run, is_exponent_mark, exponent, after_fraction, fraction, begins_fraction, after_run, based, decimal, number};
 ghost use Rattle.rustc_lexer.specs.Scanned.{IsRead};
@@ -30,7 +30,7 @@ fn decimal(text: &str) -> (LiteralKind, &str)
     after_run(Base::Decimal, skip_while::<DecimalRun>(text))
 }
 
-// What follows the prefix of a base.
+// The rest of a number after the prefix of a base.
 fn based(base: Base, text: &str) -> (LiteralKind, &str)
     ensures { IsRead (based base (digit_of base) (chars text.now)) text.now result.0 result.1.now }
 {
@@ -42,7 +42,7 @@ fn based(base: Base, text: &str) -> (LiteralKind, &str)
     (LiteralKind::Int { base, empty_int }, rest)
 }
 
-// A run of the base's digits and `_`: whether a digit is in it, and what follows it.
+// A run of the base's digits and `_`: whether it has a digit, and what follows it.
 fn run(base: Base, text: &str) -> (bool, &str)
     ensures { IsRead (run (digit_of base) (chars text.now)) text.now result.0 result.1.now }
 {
@@ -53,7 +53,7 @@ fn run(base: Base, text: &str) -> (bool, &str)
     }
 }
 
-// What follows the first run of a number.
+// The rest of a number after its first run of digits.
 fn after_run(base: Base, text: &str) -> (LiteralKind, &str)
     ensures { IsRead (after_run base (chars text.now)) text.now result.0 result.1.now }
 {
@@ -67,7 +67,7 @@ fn after_run(base: Base, text: &str) -> (LiteralKind, &str)
     (LiteralKind::Int { base, empty_int }, text)
 }
 
-// Whether a point that belongs to the number stands at the front.
+// Whether the text begins with a point that belongs to the number.
 fn begins_fraction(text: &str) -> bool
     ensures { result ≡ begins_fraction (chars text.now) }
 {
@@ -85,7 +85,7 @@ fn is_exponent_mark(c: char) -> bool
     matches!(c, 'e' | 'E')
 }
 
-// What follows the point of a number.
+// The rest of a number after its point.
 fn fraction(base: Base, text: &str) -> (LiteralKind, &str)
     ensures { IsRead (fraction base (chars text.now)) text.now result.0 result.1.now }
 {
@@ -102,7 +102,7 @@ fn fraction(base: Base, text: &str) -> (LiteralKind, &str)
     )
 }
 
-// What follows the digits behind the point.
+// The rest of a number after the digits that follow its point.
 fn after_fraction(base: Base, text: &str) -> (LiteralKind, &str)
     ensures { IsRead (after_fraction base (chars text.now)) text.now result.0 result.1.now }
 {
@@ -119,7 +119,7 @@ fn after_fraction(base: Base, text: &str) -> (LiteralKind, &str)
     )
 }
 
-// What follows the `e` of an exponent.
+// The rest of a number after the `e` of its exponent.
 fn exponent(base: Base, text: &str) -> (LiteralKind, &str)
     ensures { IsRead (exponent base (chars text.now)) text.now result.0 result.1.now }
 {

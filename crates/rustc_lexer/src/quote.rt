@@ -1,4 +1,4 @@
-//! What begins with `'`: lifetimes and characters.
+//! Lexes what begins with `'`: lifetimes and character literals.
 ghost use Rattle.std.specs.Prelude.{◌≡◌, ◌<◌, ◌^◌, not, ◌==◌, ◌&&◌, codes, length, chars};
 ghost use Rattle.rustc_lexer.specs.Character.{char_at, begins, is, is_id_start};
 ghost use Rattle.rustc_lexer.specs.Lexeme.{begins_lifetime, lifetime, quote, quoted};
@@ -10,7 +10,7 @@ use crate::literal::{bare, literal, quoted_body};
 use crate::scan::{Continue, begins, behind, first, is_digit, second, skip_while, third};
 use crate::token::{LiteralKind, TokenKind};
 
-// A lifetime or a character.
+// A lifetime or a character literal.
 pub fn quote(text: &str) -> (TokenKind, &str)
     requires small { length text.now < 2 ^ 32 }
     requires mark { char_at (chars text.now) 0 ≡ 39 }
@@ -23,7 +23,7 @@ pub fn quote(text: &str) -> (TokenKind, &str)
     }
 }
 
-// Whether a letter or a digit, without a second `'` right after it, stands behind the `'`.
+// Whether a letter or a digit follows the `'`, without a second `'` right after it.
 fn begins_lifetime(text: &str) -> bool
     ensures { result ≡ begins_lifetime (chars text.now) }
 {
@@ -52,7 +52,7 @@ fn begins_raw_lifetime(text: &str) -> bool
     begins(name, 'r', '#') && is_id_start(third(name))
 }
 
-// A lifetime, or a character of one letter.
+// A lifetime, or a character literal of one letter.
 fn lifetime(text: &str) -> (TokenKind, &str)
     requires small { length text.now < 2 ^ 32 }
     requires mark { char_at (chars text.now) 0 ≡ 39 }
@@ -76,7 +76,7 @@ fn lifetime(text: &str) -> (TokenKind, &str)
     (TokenKind::Lifetime { starts_with_number }, rest)
 }
 
-// Whether a name behind a `'` is an unknown prefix where this character follows it.
+// Whether a name after a `'` is an unknown prefix before this character.
 #[inline]
 fn is_unknown_prefix(next: char, starts_with_number: bool) -> bool
     ensures { result ≡ (is "#" next && not starts_with_number) }

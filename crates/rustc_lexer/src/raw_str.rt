@@ -1,4 +1,4 @@
-//! Validation of raw strings.
+//! Validates raw strings.
 ghost use Rattle.std.specs.Prelude.{◌≡◌, ◌<◌, ◌≤◌, ◌+◌, ◌-◌, ◌^◌, true, drop, length, chars};
 ghost use Rattle.rustc_lexer.specs.Character.{char_at, is};
 ghost use Rattle.rustc_lexer.specs.Literals.{hashes};
@@ -8,32 +8,35 @@ ghost use Rattle.rustc_lexer.specs.Scanned.{IsRead};
 use crate::literal::count_hashes;
 use crate::scan::{behind, first, from_quote, split_first};
 
-/// What is wrong with a raw string.
+/// What is wrong with a raw string. (The Rust Reference, "Raw string literals".)
 #[derive(Clone, Copy, PartialEq, Eq, PartialOrd, Ord, Debug)]
 pub enum RawStrError {
-    /// No `"` stands behind the hashes, but this character does, or U+0000 at the end of the text.
+    /// After the hashes comes this character in place of `"`, or U+0000 for the end of the text.
     InvalidStarter {
         bad_char: char,
     },
     /// The end is missing.
     NoTerminator {
-        /// How many hashes are to follow the `"` of the end.
+        /// How many hashes have to follow the final `"`.
         expected: u32,
-        /// The most that follow a `"` of the body.
+        /// The most hashes that follow a `"` of the body.
         found: u32,
-        /// The place in the text, in bytes, right behind the first `"` that `found` hashes follow,
-        /// where the prefix counts as so many bytes as it has characters. None where `found` is 0.
+        /// The offset right after the first `"` that `found` hashes follow, in bytes, where the
+        /// prefix counts as one byte a character. `None` if `found` is 0.
         possible_terminator_offset: Option<u32>,
     },
-    /// The form has an end, but more than 255 hashes.
+    /// It has an end, but more than 255 hashes.
     TooManyDelimiters {
         found: u32,
     },
 }
 
-/// Whether a raw string stands at the front of the text: behind the prefix of `prefix_len`
-/// characters, of which the last is the `r`, come hashes, a `"`, and a body up to a `"` that as many
-/// hashes follow, at most 255. What follows it may be anything.
+/// Checks the raw string at the start of the text: a prefix of `prefix_len` characters that ends
+/// in `r`, at most 255 hashes, a `"`, and a body up to a `"` with as many hashes after it. What
+/// follows may be anything.
+///
+/// The text has at most `u32::MAX` bytes, and `prefix_len` is at least 1. (The Rust Reference,
+/// "Raw string literals".)
 pub fn validate_raw_str(input: &str, prefix_len: u32) -> Result<(), RawStrError>
     requires positive { 1 ≤ prefix_len }
     requires prefix { is "r" (char_at (chars input.now) (prefix_len - 1)) ≡ true }
@@ -60,7 +63,7 @@ fn skip_chars(text: &str, n: u32) -> &str
     rest
 }
 
-// The hashes at the front: how many, and what follows them.
+// The number of hashes at the front, and what follows them.
 fn read_hashes(text: &str) -> (u32, &str)
     requires { length text.now < 2 ^ 32 }
     ensures { IsRead (hashes (chars text.now)) text.now result.0 result.1.now }
@@ -69,7 +72,7 @@ fn read_hashes(text: &str) -> (u32, &str)
     (n as u32, rest)
 }
 
-// Whether a body, before which `start` bytes stand, has a `"` that n hashes follow.
+// Whether a body that comes after `start` bytes has a `"` with n hashes after it.
 fn check_body(body: &str, n: u32, start: u32) -> Result<(), RawStrError>
     requires { start + length body.now < 2 ^ 32 }
     ensures { result ≡ body_validity start n (chars body.now) }

@@ -1,7 +1,7 @@
 //! Incremental lexing: a text that keeps its tokens while it is edited.
 //!
-//! An edit keeps the tokens that end two characters or more before it, lexes on behind them, and stops at the first new boundary
-//! that is an old one too.
+//! An edit keeps the tokens that end at least two characters before it. Lexing starts after them,
+//! and stops at the first new token boundary that is an old one too.
 ghost use Rattle.std.specs.Prelude.{◌≡◌, ◌+◌, ◌-◌, ◌<◌, ◌≤◌, ◌^◌, ◌↔◌, IsTrue, IfOk, OnOk, OnErr, length, chars, string_bytes, IsCharBoundary};
 ghost use Rattle.rustc_lexer.specs.Edit.{edited, kept};
 ghost use Rattle.rustc_lexer.specs.Lexing.{tokens_of};
@@ -19,18 +19,18 @@ use crate::token::{FrontmatterAllowed, Token};
 use std::alloc::{AllocError, Global};
 use std::marker::Model;
 
-/// What an edit has kept of the tokens, and how many were lexed again between.
+/// How many tokens an edit kept, and how many it lexed again.
 #[derive(Clone, Copy, PartialEq, Eq, Debug)]
 pub struct Kept {
-    /// The tokens before the edit that were kept.
+    /// Kept tokens before the edit.
     pub front: usize,
-    /// The tokens that were lexed again.
+    /// Tokens lexed again.
     pub lexed: usize,
-    /// The tokens behind the edit that were kept.
+    /// Kept tokens after the edit.
     pub back: usize,
 }
 
-/// A text and its tokens. A clause sees the text, as the list of its bytes.
+/// A text that keeps its tokens while it is edited. Contracts see it as the list of its bytes.
 #[derive(Drop)]
 pub struct LexedText {
     text: String,
@@ -53,7 +53,8 @@ impl Model for LexedText {
 }
 
 impl LexedText {
-    /// A copy of the text, of at most `u32::MAX` bytes, and its tokens. Refused where there is no memory for them.
+    /// A copy of a text of at most `u32::MAX` bytes, with its tokens. Refused if there is no
+    /// memory for them.
     pub fn new(alloc: Global, text: &str) -> Result<LexedText, AllocError>
         requires { length text.now < 2 ^ 32 }
         ensures { IfOk result (λ t. t ≡ text.now) }
@@ -76,22 +77,22 @@ impl LexedText {
         self.text.as_str()
     }
 
-    /// The text's tokens, those that [`crate::tokenize`] gives.
+    /// The tokens of the present text, as [`crate::tokenize`] gives them.
     pub fn tokens(&self) -> &[Token]
         ensures { result.now ≡ tokens_of (chars self.now) }
     {
         self.tokens.as_slice()
     }
 
-    /// Whether the byte `at` is at most the text's length, and begins a character or ends the text.
+    /// Whether the offset `at`, in bytes, is a character boundary of the text, its end included.
     pub fn is_boundary(&self, at: usize) -> bool
         ensures { IsTrue result ↔ IsCharBoundary self.now at }
     {
         self.text().is_char_boundary(at)
     }
 
-    /// Whether the bytes from `start` to `end` are in the text, and it has at most `u32::MAX` bytes once `replacement_len`
-    /// bytes stand in their place.
+    /// Whether the bytes from `start` to `end` are in the text, and it has at most `u32::MAX`
+    /// bytes after `replacement_len` bytes replace them.
     pub fn fits(&self, start: usize, end: usize, replacement_len: usize) -> bool
         ensures { IsTrue result ↔ ((start ≤ end) × (end ≤ length self.now)
             × (length self.now - (end - start) + replacement_len < 2 ^ 32)) }
@@ -100,10 +101,14 @@ impl LexedText {
         start <= end && end <= len && replacement_len <= 0xffff_ffff - (len - (end - start))
     }
 
-    /// Puts the replacement in place of the bytes from `start` to `end`, which are boundaries of the text and fit, and relexes
-    /// the tokens: those that end at least two characters before `start` are kept, lexing goes on behind them up to the
-    /// first old boundary at or past `end` that it meets at this boundary's new place, and the tokens behind are kept.
-    /// Refused where there is no memory for them, and then text and tokens stay.
+    /// Replaces the bytes from `start` to `end`, and relexes. Both offsets are character
+    /// boundaries, in order, and the edit fits.
+    ///
+    /// Tokens that end at least two characters before `start` are kept. Lexing starts after them.
+    /// It stops at the first token boundary at or after `end` that is an old boundary, shifted by
+    /// the edit; the old tokens after it are kept.
+    ///
+    /// Refused if there is no memory for the text or its tokens; then nothing changes.
     pub fn edit(&mut self, start: usize, end: usize, replacement: &str) -> Result<Kept, AllocError>
         requires start { IsCharBoundary self.old start }
         requires stop { IsCharBoundary self.old «end» }
@@ -113,12 +118,10 @@ impl LexedText {
         ensures kept { IfOk result (λ k. k ≡ kept self.old start «end» replacement.now) }
         ensures err { OnErr result (self.new ≡ self.old) }
     {
-        let alloc = *self.text.allocator();
         let tokens = &self.tokens;
         let old_count = tokens.as_slice().len();
         let near = refine(&self.text, &mut self.checkpoints, tokens.as_slice(), start)?;
         let relexed = edit_and_relex(
-            alloc,
             &mut self.text,
             &mut self.tokens,
             near,

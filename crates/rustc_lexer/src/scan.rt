@@ -1,4 +1,5 @@
-//! Scanning the characters of a text: each function takes the remaining text and gives what remains after it.
+//! Scans the characters of a text: each function takes the remaining text and gives what remains
+//! after it.
 ghost use Rattle.std.specs.Prelude.{◌≡◌, ◌<◌, ◌≤◌, ◌^◌, ◌==◌, ◌&&◌, ◌||◌, ℕ, Bool, drop, ◌∷◌, [], ◌++◌, length, chars, encode_utf8, MatchOption, IfSome, IsTrue, IsUtf8, get_or};
 ghost use Rattle.std.specs.List.{prefix_len, position_or_len};
 ghost use Rattle.rustc_lexer.specs.Character.{ascii_part, char_at, is, is_whitespace, is_id_continue, is_digit, is_hex_digit};
@@ -7,7 +8,8 @@ ghost use Rattle.rustc_lexer.specs.FirstCharacter.{start_of};
 use crate::character::{is_id_continue, is_whitespace};
 use memchr::{memchr, memchr2};
 
-// Each character of ASCII that an identifier may go on with stands at its own place, and a comma at every other.
+// At the index of each ASCII character that an identifier may continue with, that character; a
+// comma at every other index.
 static CONTINUES: [u8; 256] = *b"\
     ,,,,,,,,,,,,,,,,,,,,,,,,,,,,,,,,\
     ,,,,,,,,,,,,,,,,0123456789,,,,,,\
@@ -18,7 +20,8 @@ static CONTINUES: [u8; 256] = *b"\
     ,,,,,,,,,,,,,,,,,,,,,,,,,,,,,,,,\
     ,,,,,,,,,,,,,,,,,,,,,,,,,,,,,,,,";
 
-// What the first byte of a lexeme tells of it: ` ` white space, `a` a word, `.` a character alone, and `?` nothing yet.
+// What the first byte of a lexeme says of it: ` ` white space, `a` a word, `.` one character
+// alone, and `?` nothing yet.
 static STARTS: [u8; 256] = *b"\
     .........     ..................\
     \x20.??...?.......???????????......\
@@ -29,7 +32,7 @@ static STARTS: [u8; 256] = *b"\
     ????????????????????????????????\
     ????????????????????????????????";
 
-// What the first byte of a lexeme tells of it.
+// What the first byte of a lexeme says of it, by `STARTS`.
 #[inline(always)]
 pub fn start_of(b: u8) -> u8
     ensures { result ≡ start_of b }
@@ -44,7 +47,7 @@ pub trait CharTest {
     fn test(c: char) -> bool
         ensures { result ≡ passes c };
 
-    // The test of a byte: it passes where the byte is a character of ASCII that passes.
+    // The test of a byte: whether it is an ASCII character that passes.
     #[inline]
     fn test_byte(b: u8) -> bool
         ensures { result ≡ ascii_part passes b }
@@ -131,7 +134,7 @@ impl CharTest for HexRun {
     }
 }
 
-// Whether the character is a digit of ASCII.
+// Whether the character is an ASCII digit.
 #[inline]
 pub fn is_digit(c: char) -> bool
     ensures { result ≡ is_digit c }
@@ -139,7 +142,7 @@ pub fn is_digit(c: char) -> bool
     matches!(c, '0'..='9')
 }
 
-// Whether the character is a hexadecimal digit of ASCII.
+// Whether the character is an ASCII hexadecimal digit.
 #[inline]
 pub fn is_hex_digit(c: char) -> bool
     ensures { result ≡ is_hex_digit c }
@@ -147,7 +150,7 @@ pub fn is_hex_digit(c: char) -> bool
     matches!(c, '0'..='9' | 'A'..='F' | 'a'..='f')
 }
 
-// The first character and what follows it, or None at the end.
+// The first character and what follows it, or `None` at the end.
 #[inline(always)]
 pub fn split_first(text: &str) -> Option<(char, &str)>
     ensures chars { MatchOption result (chars text.now ≡ []) (λ (c, rest). chars text.now ≡ c ∷ chars rest.now) }
@@ -186,7 +189,7 @@ pub fn first(text: &str) -> char
     decoded(text)
 }
 
-// The first character, where it may be any.
+// The first character, which may be any.
 #[inline(never)]
 fn decoded(text: &str) -> char
     ensures { result ≡ char_at (chars text.now) 0 }
@@ -194,7 +197,7 @@ fn decoded(text: &str) -> char
     text.chars().next().unwrap_or('\0')
 }
 
-// The second character, or U+0000 where there is none.
+// The second character, or U+0000 if there is none.
 #[inline(always)]
 pub fn second(text: &str) -> char
     ensures { result ≡ char_at (chars text.now) 1 }
@@ -202,7 +205,7 @@ pub fn second(text: &str) -> char
     first(behind(text))
 }
 
-// The third character, or U+0000 where there is none.
+// The third character, or U+0000 if there is none.
 #[inline(always)]
 pub fn third(text: &str) -> char
     ensures { result ≡ char_at (chars text.now) 2 }
@@ -221,7 +224,7 @@ pub fn behind(text: &str) -> &str
     behind_any(text)
 }
 
-// The first character is one of ASCII.
+// Whether the first character is ASCII.
 #[inline(always)]
 fn begins_ascii(text: &str) -> bool
     ensures { IsTrue result → (0 < length text.now) × (get_or text.now 0 0 < 128) }
@@ -230,7 +233,7 @@ fn begins_ascii(text: &str) -> bool
     !bytes.is_empty() && bytes[0] < 128
 }
 
-// What follows the first character, where it may be any.
+// What follows the first character, which may be any.
 #[inline(never)]
 fn behind_any(text: &str) -> &str
     ensures { chars result.now ≡ drop 1 (chars text.now) }
@@ -261,7 +264,8 @@ pub fn skip_while<'a, T: CharTest>(text: &'a str) -> &'a str
     skip_chars::<T>(rest)
 }
 
-// What follows all characters of ASCII at the front that pass the test: other characters that pass may follow.
+// What follows all ASCII characters at the front that pass the test. Other characters that pass
+// may follow.
 #[inline(always)]
 pub fn skip_ascii<'a, T: CharTest>(text: &'a str) -> &'a str
     ensures on { drop (prefix_len T.passes (chars result.now)) (chars result.now) ≡ drop (prefix_len T.passes (chars text.now)) (chars text.now) }
@@ -270,7 +274,7 @@ pub fn skip_ascii<'a, T: CharTest>(text: &'a str) -> &'a str
     &text[ascii_run::<T>(text)..]
 }
 
-// How many bytes at the front are characters of ASCII that pass the test.
+// How many bytes at the front are ASCII characters that pass the test.
 #[inline(always)]
 fn ascii_run<T: CharTest>(text: &str) -> usize
     ensures { result ≡ prefix_len (ascii_part T.passes) text.now }
@@ -283,7 +287,7 @@ fn ascii_run<T: CharTest>(text: &str) -> usize
     i
 }
 
-// What `skip_while` gives, character by character.
+// The answer of `skip_while`, found character by character.
 #[inline(never)]
 fn skip_chars<'a, T: CharTest>(text: &'a str) -> &'a str
     ensures { chars result.now ≡ drop (prefix_len T.passes (chars text.now)) (chars text.now) }

@@ -1,4 +1,4 @@
-//! The first line of a script.
+//! Finds the first line of a script, `#!..`.
 ghost use Rattle.std.specs.Prelude.{◌≡◌, ◌<◌, ◌≤◌, ◌^◌, length, chars};
 ghost use Rattle.rustc_lexer.specs.Lexing.{tokens_of};
 ghost use Rattle.rustc_lexer.specs.Shebang.{is_blank, is_open_bracket, begins_with_bracket, first_line, shebang};
@@ -6,11 +6,12 @@ ghost use Rattle.rustc_lexer.specs.Shebang.{is_blank, is_open_bracket, begins_wi
 use crate::lex::tokenize;
 use crate::token::{FrontmatterAllowed, TokenKind};
 
-/// The length in bytes of the `#!` at the front of a script and the rest of that line, without the
-/// line's end (`\n` or `\r\n`).
+/// The length in bytes of a script's first line, from its `#!` up to but not including the line
+/// end (`\n` or `\r\n`). The text has at most `u32::MAX` bytes. (The Rust Reference, "Input
+/// format".)
 ///
-/// None where the text does not begin with `#!`, or where an inner attribute does, as `#![a]`: there
-/// `[` is the first token behind `#!` but for white space and comments that document nothing.
+/// `None` if the text does not begin with `#!`, or begins with an inner attribute, as `#![a]`:
+/// there `[` is the first token after `#!` that is neither white space nor a plain comment.
 pub fn strip_shebang(input: &str) -> Option<usize>
     requires { length input.now < 2 ^ 32 }
     ensures { result ≡ shebang input.now }
@@ -22,7 +23,7 @@ pub fn strip_shebang(input: &str) -> Option<usize>
     Some(2 + first_line_len(rest))
 }
 
-// Whether `[` is the first token that is not blank.
+// Whether `[` is the first token that is not trivia.
 fn begins_with_bracket(text: &str) -> bool
     requires { length text.now < 2 ^ 32 }
     ensures { result ≡ begins_with_bracket (tokens_of (chars text.now)) }
@@ -35,7 +36,7 @@ fn begins_with_bracket(text: &str) -> bool
     false
 }
 
-// Whether this is white space or a comment that documents nothing.
+// Whether this is trivia: white space, or a comment that is no doc comment.
 fn is_blank(kind: TokenKind) -> bool
     ensures { result ≡ is_blank kind }
 {
@@ -56,7 +57,7 @@ fn is_open_bracket(kind: TokenKind) -> bool
     matches!(kind, TokenKind::OpenBracket)
 }
 
-// How many bytes the first line takes, without its end.
+// The length of the first line in bytes, without its end.
 fn first_line_len(text: &str) -> usize
     ensures line { result ≡ length (first_line text.now) }
     ensures fits { result ≤ length text.now }

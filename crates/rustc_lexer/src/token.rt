@@ -1,49 +1,50 @@
 //! Tokens and their kinds.
 
-/// A lexeme of a text: its kind, and how many bytes it takes.
+/// A token: the kind of a lexeme, and its length. (The Rust Reference, "Tokens".)
 #[derive(Clone, Copy, PartialEq, Eq, Debug)]
 pub struct Token {
     pub kind: TokenKind,
-    /// In bytes.
+    /// The length in bytes, at least 1 but for `Eof`.
     pub len: u32,
 }
 
-/// What a lexeme is. An error in it, as a missing quote, is a part of its kind.
+/// The kind of a lexeme. An error in it, as a missing quote, is a part of its kind.
 #[derive(Clone, Copy, PartialEq, Eq, Debug)]
 pub enum TokenKind {
-    /// `// ..`, up to the end of the line and without the line feed.
+    /// `// ..`, up to the end of the line, without the line feed.
     LineComment {
         doc_style: Option<DocStyle>,
     },
-    /// `/* .. */`, comments inside counted; `terminated` tells whether its end was found.
+    /// `/* .. */`, with comments nested in it; `terminated` says whether its end was found.
     BlockComment {
         doc_style: Option<DocStyle>,
         terminated: bool,
     },
-    /// White space, as long as it goes on.
+    /// A run of white space.
     Whitespace,
     /// An identifier or a keyword.
     Ident,
-    /// An identifier with characters that no identifier has. It never comes.
+    /// An identifier with characters that no identifier has. It is never given.
     InvalidIdent,
     /// `r#name`.
     RawIdent,
     /// `k#name`.
     ForcedKeywordIdent,
-    /// A word right before `#`, `"` or `'` that is no prefix of a known form, without that mark.
+    /// A word right before `#`, `"` or `'` that is no prefix of a known form, without that
+    /// character.
     UnknownPrefix,
-    /// `'name` right before `#`, without that mark.
+    /// `'name` right before `#`, without that character.
     UnknownPrefixLifetime,
     /// `'r#name`.
     RawLifetime,
     /// `#"` or `##`, which from edition 2024 on begin a guarded string.
     GuardedStrPrefix,
-    /// A literal; `suffix_start` is the length in bytes of what stands before its suffix.
+    /// A literal; `suffix_start` is the length in bytes of all before its suffix.
     Literal {
         kind: LiteralKind,
         suffix_start: u32,
     },
-    /// `'name`; `starts_with_number` tells of one as `'1`.
+    /// `'name`; `starts_with_number` marks one such as `'1`.
     Lifetime {
         starts_with_number: bool,
     },
@@ -107,19 +108,20 @@ pub enum TokenKind {
     Eof,
 }
 
-/// What a doc comment documents: what follows it (`///`, `/**`) or what it stands in (`//!`, `/*!`).
+/// What a doc comment documents: the item after it (`///`, `/**`), or the one around it (`//!`,
+/// `/*!`). (The Rust Reference, "Comments".)
 #[derive(Clone, Copy, PartialEq, Eq, Debug)]
 pub enum DocStyle {
     Outer,
     Inner,
 }
 
-/// The kind of a literal.
+/// The kind of a literal. (The Rust Reference, "Literals".)
 #[derive(Clone, Copy, PartialEq, Eq, PartialOrd, Ord, Debug)]
 pub enum LiteralKind {
-    /// `12`, `0x1f`; `empty_int` tells that no digit follows the base's prefix.
+    /// `12`, `0x1f`; `empty_int` says that no digit follows the prefix of the base.
     Int { base: Base, empty_int: bool },
-    /// `1.5`, `1e3`; `empty_exponent` tells that no digit follows the `e`.
+    /// `1.5`, `1e3`; `empty_exponent` says that no digit follows the `e`.
     Float { base: Base, empty_exponent: bool },
     /// `'a'`
     Char { terminated: bool },
@@ -131,22 +133,23 @@ pub enum LiteralKind {
     ByteStr { terminated: bool },
     /// `c"a"`
     CStr { terminated: bool },
-    /// `r#"a"#`; the number of hashes, and None where the form is broken.
+    /// `r#"a"#`; the number of hashes, or `None` if it is not terminated or has more than 255.
     RawStr { n_hashes: Option<u8> },
-    /// `br#"a"#`; the number of hashes, and None where the form is broken.
+    /// `br#"a"#`; hashes as for `RawStr`.
     RawByteStr { n_hashes: Option<u8> },
-    /// `cr#"a"#`; the number of hashes, and None where the form is broken.
+    /// `cr#"a"#`; hashes as for `RawStr`.
     RawCStr { n_hashes: Option<u8> },
 }
 
-/// A string between hashes, as `#"a"#`, which edition 2024 reserves.
+/// A guarded string, as `#"a"#`, which edition 2024 reserves. (The Rust Reference, "Reserved
+/// guards".)
 #[derive(Clone, Copy, PartialEq, Eq, PartialOrd, Ord, Debug)]
 pub struct GuardedStr {
-    /// How many hashes stand before the string.
+    /// How many hashes precede the string.
     pub n_hashes: u32,
     /// Whether the string's end was found.
     pub terminated: bool,
-    /// In bytes, with all hashes and the suffix.
+    /// The length in bytes, all hashes and the suffix included.
     pub token_len: u32,
 }
 
@@ -163,7 +166,7 @@ pub enum Base {
     Hexadecimal = 16,
 }
 
-/// Whether a frontmatter may stand at the head of the text. There is none here.
+/// Whether a text may begin with a frontmatter. None is read here.
 #[derive(Clone, Copy, PartialEq, Eq, Debug)]
 pub enum FrontmatterAllowed {
     No,

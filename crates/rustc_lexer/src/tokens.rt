@@ -1,4 +1,4 @@
-//! The tokens of a text, one after another.
+//! The iterator over the tokens of a text.
 ghost use Rattle.std.specs.Prelude.{◌<◌, ◌^◌, length};
 
 use crate::first_token::first_lexeme;

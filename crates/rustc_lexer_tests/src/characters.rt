@@ -3,7 +3,8 @@ use rustc_lexer::{
     UNICODE_VERSION, is_horizontal_whitespace, is_id_continue, is_id_start, is_ident, is_whitespace,
 };
 
-// Whether the character is white space, white space inside a line, begins an identifier, and goes on in one.
+// Whether the character is white space, is white space inside a line, begins an identifier, and
+// continues one.
 fn classes(c: char) -> (bool, bool, bool, bool) {
     (
         is_whitespace(c),

@@ -1,4 +1,4 @@
-//! Cursors.
+//! The calls of a cursor.
 use rustc_lexer::{Base, Cursor, FrontmatterAllowed, GuardedStr, LiteralKind, Token, TokenKind};
 
 const END: Token = Token {
@@ -18,7 +18,7 @@ fn a_cursor_shows_what_is_left(rt: HostRuntime) {
     );
 }
 
-// A string that so many hashes stand before, and the length of its token.
+// A string after this many hashes, and the length of its token.
 fn guarded(n_hashes: u32, terminated: bool, token_len: u32) -> Option<GuardedStr> {
     Some(GuardedStr {
         n_hashes,
@@ -29,7 +29,7 @@ fn guarded(n_hashes: u32, terminated: bool, token_len: u32) -> Option<GuardedStr
 
 #[test]
 fn reads_guarded_strings(rt: HostRuntime) {
-    // The text, the string that is read, and what is left.
+    // The text, the string that is read, and the rest.
     let cases = [
         ("#\"a\"#;", guarded(1, true, 5), ";"),
         ("##\"a\"#;", guarded(2, true, 6), ";"),

@@ -1,8 +1,9 @@
-//! Edits of a text that keeps its tokens.
+//! Edits of a text that keeps its tokens, against lexing from scratch.
 use rustc_lexer::{Kept, LexedText, Token, TokenKind};
+use std::alloc::{AllocError, Global};
 use std::test::Fail;
 
-// The text's tokens, lexed from nothing. Refused where the text is long.
+// A text with its tokens, lexed from scratch. Refused if the text is long.
 fn lexed(rt: &HostRuntime, text: &str) -> Result<LexedText, Fail> {
     if text.len() >= 200_000 {
         return Err(Fail::new("a text is long"));
@@ -10,7 +11,8 @@ fn lexed(rt: &HostRuntime, text: &str) -> Result<LexedText, Fail> {
     Ok(LexedText::new(rt.alloc(), text)?)
 }
 
-// What an edit keeps, or None where it does not fit. Refused where the tokens then are not those of the text then.
+// What an edit keeps, or `None` if it does not fit. Refused if the tokens afterwards are not those
+// of the text.
 fn edited(
     rt: &HostRuntime,
     held: &mut LexedText,
@@ -35,8 +37,8 @@ fn kept(front: usize, lexed: usize, back: usize) -> Option<Kept> {
 
 #[test]
 fn edits_keep_tokens(rt: HostRuntime) -> Result<(), Fail> {
-    // The text, the edited range, the replacement, the text then, and the tokens that are kept in front, lexed again, and
-    // kept behind.
+    // The text, the edited range, the replacement, the edited text, and the tokens that are kept
+    // before, lexed again, and kept after.
     let cases = [
         ("r ;", 1, 1, "\"a\"", "r\"a\" ;", kept(0, 1, 2)),
         ("a; b", 4, 4, " c", "a; b c", kept(2, 4, 0)),
@@ -92,8 +94,8 @@ const SEMI: Token = Token {
     len: 1,
 };
 
-// A call that is refused leaves the text and its tokens as they were, and the same call succeeds then: for runs in which one
-// allocation fails.
+// A refused call leaves the text and its tokens as they were, and then the same call succeeds. For
+// runs in which one allocation fails.
 #[test]
 fn refused_edits_change_nothing(rt: HostRuntime) -> Result<(), Fail> {
     let mut held = match LexedText::new(rt.alloc(), "a; b c") {
@@ -119,9 +121,9 @@ fn refused_edits_change_nothing(rt: HostRuntime) -> Result<(), Fail> {
     Ok(())
 }
 
-// A text that is long enough for marks.
-fn long_text(rt: &HostRuntime) -> Result<String, Fail> {
-    let mut text = String::new(rt.alloc());
+// A text that is long enough for checkpoints.
+fn long_text(alloc: Global) -> Result<String, AllocError> {
+    let mut text = String::new(alloc);
     for _ in 0..700 {
         text.push_str("fn f(x: &str) { g!(x + 1) } // é\n")?;
     }
@@ -130,7 +132,7 @@ fn long_text(rt: &HostRuntime) -> Result<String, Fail> {
 
 #[test]
 fn edits_all_over_a_long_text(rt: HostRuntime) -> Result<(), Fail> {
-    let mut held = lexed(&rt, &long_text(&rt)?)?;
+    let mut held = lexed(&rt, &long_text(rt.alloc())?)?;
     let words = ["", " ", "x", "/*", "*/", "a b c"];
     let mut seed = 1u32;
     for k in 0..30u32 {
@@ -139,12 +141,45 @@ fn edits_all_over_a_long_text(rt: HostRuntime) -> Result<(), Fail> {
         let end = start.saturating_add(k as usize % 3);
         edited(&rt, &mut held, start, end, words[k as usize % 6])?;
     }
-    // Without most of its text, a text gives its marks up.
+    // Without most of its text, it drops its checkpoints.
     let len = held.text().len();
     let all = edited(&rt, &mut held, 0, len, ";")?;
     let one = edited(&rt, &mut held, 1, 1, "a")?;
     assert!(rt;
         len >= 9_000 && all == kept(0, 1, 0) && one == kept(0, 2, 0) && held.text() == ";a"
     );
+    Ok(())
+}
+
+// The tokens of a text. A refused call is made once more.
+fn lexed_again(alloc: Global, text: &str) -> Result<LexedText, Fail> {
+    if text.len() >= 200_000 {
+        return Err(Fail::new("a text is long"));
+    }
+    match LexedText::new(alloc, text) {
+        Ok(held) => Ok(held),
+        Err(_) => Ok(LexedText::new(alloc, text)?),
+    }
+}
+
+#[test]
+fn refused_edits_of_a_long_text(rt: HostRuntime) -> Result<(), Fail> {
+    let alloc = rt.alloc();
+    let text = match long_text(alloc) {
+        Ok(text) => text,
+        Err(_) => long_text(alloc)?,
+    };
+    let mut held = lexed_again(alloc, text.as_str())?;
+    let at = (text.len() / 2).saturating_sub(5);
+    assert!(rt; held.is_boundary(at) && held.fits(at, at, 2));
+    let kept = match held.edit(at, at, "/*") {
+        Ok(kept) => kept,
+        Err(_) => {
+            assert!(rt; held.text() == text.as_str());
+            held.edit(at, at, "/*")?
+        }
+    };
+    let fresh = lexed_again(alloc, held.text())?;
+    assert!(rt; held.tokens() == fresh.tokens() && kept.front >= 1000 && kept.lexed <= 20);
     Ok(())
 }

@@ -1,7 +1,7 @@
 //! Tests of the lexer's public calls, in a crate of their own so that the lexer is proved once.
 //!
-//! Expected values were worked out by hand. What definitions alone decide stands as rows in the
-//! lexer's `proofs/`; here each call is run, with memory and without.
+//! Expected values were worked out by hand. What definitions alone decide are worked examples in
+//! the lexer's `proofs/`; here each call is run, with memory and without.
 #![tactic(auto)]
 
 #[cfg(test)]

@@ -1,8 +1,9 @@
-//! What is wrong with raw strings.
+//! Faults of raw strings.
 use rustc_lexer::{Cursor, FrontmatterAllowed, RawStrError, validate_raw_str};
 use std::test::Fail;
 
-// What is wrong with a raw string behind a prefix of one letter, or None where the text is long or does not begin with `r`.
+// The fault of a raw string after a prefix of one letter. `None` if the text is long or does not
+// begin with `r`.
 fn answer(text: &str) -> Option<Result<(), RawStrError>> {
     if text.len() >= 1000 || Cursor::new(text, FrontmatterAllowed::No).first() != 'r' {
         return None;

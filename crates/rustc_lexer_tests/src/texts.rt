@@ -4,7 +4,7 @@ use std::fmt::Write;
 use std::test::Fail;
 use ucd_category::GeneralCategory;
 
-// The kinds and lengths of the text's tokens, which a cursor gives too, and then the end.
+// The kinds and lengths of the text's tokens, which a cursor gives too, with the end after them.
 fn printed(rt: &HostRuntime, text: &str) -> Result<String, Fail> {
     if text.len() >= 100 {
         return Err(Fail::new("a text is long"));
@@ -86,7 +86,7 @@ fn cuts_texts_into_tokens(rt: HostRuntime) -> Result<(), Fail> {
     Ok(())
 }
 
-// A character of each category but the surrogates'.
+// A character of each category but that of surrogates.
 const CHARACTERS: &str =
     "Éß\u{1c5}\u{2b0}\u{3042}\u{301}\u{903}\u{20dd}\u{663}\u{2160}²\u{203f}\u{2013}\u{2045}\u{2046}«»¡×€¨©\u{a0}\u{2028}\u{2029}\u{85}\u{200e}\u{e000}\u{378}";
 

@@ -1,4 +1,4 @@
--- At each list an expression comes out in one way alone, and that is what it takes.
+-- At each list an expression has only one outcome, and that is what it takes.
 use Rattle.std.proofs.Common.{◌≡◌, ℕ, suc, zero, ◌≤◌, ◌<◌, Bool, true, ◌&&◌, ◌||◌, inl, inr, refl, sym, ap, ◌∙◌, subst, arith, Option, Some, None}
 use Rattle.std.proofs.lemmas.Bool.{and_parts}
 use Rattle.std.specs.Prelude.{option_and_then, unwrap_or, nat_lt}

@@ -1,4 +1,4 @@
--- A pattern behind a reference's sign, or behind a name and `@`: which alternatives are left there.
+-- A pattern after `&`, or after an identifier and `@`: which alternatives remain.
 use Rattle.std.proofs.Common.{◌≡◌, ℕ, Bool, true, false, ◌&&◌, ◌||◌, ◌⊎◌, inl, inr, not, List, nat_eq, refl, sym, ap, ◌∙◌, codes, Option, Some, None}
 use Rattle.std.proofs.lemmas.Bool.{and_parts, eqb-true}
 use Rattle.std.proofs.lemmas.Slice.Eq.{bytes_eq-Decides}

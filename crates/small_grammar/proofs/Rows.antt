@@ -1,6 +1,6 @@
--- Rows: what the grammar takes of the beginning of a text, by computation. Texts are read by a reader for these rows
--- alone: words, integers and floats, strings without escapes, brackets, and puncts of which each is joint that
--- another follows directly.
+-- Worked examples, by computation: what the grammar takes of the beginning of a text.
+-- A reader for these examples alone reads the texts: identifiers, integers and floats, strings
+-- without escapes, brackets, and puncts. A punct is joint if another follows directly.
 use Rattle.std.proofs.Common.{◌≡◌, ℕ, suc, zero, ◌+◌, Bool, true, false, List, [], ◌∷◌, length, take, drop, refl, codes, Option, Some, None}
 use Rattle.std.specs.Prelude.{map, ◌&&◌, ◌||◌, not, nat_eq, nat_le, if◌then◌else◌, slice_index}
 use Rattle.std.specs.List.{prefix_len, list_any, starts_with}

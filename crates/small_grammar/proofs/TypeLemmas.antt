@@ -1,4 +1,4 @@
--- A type behind `&`, `*const` or `*mut`: where such a sign fits, no other alternative does.
+-- A type after `&`, `*const` or `*mut`: where such a sign fits, no other alternative does.
 use Rattle.std.proofs.Common.{◌≡◌, ℕ, Bool, true, false, [], ◌∷◌, nat_eq, refl, ◌∙◌, Option, Some, None}
 use Rattle.std.proofs.lemmas.Bool.{eqb-true}
 use Rattle.tt_data.specs.Forest.{Forest, empty, leaf, group}

@@ -1,4 +1,4 @@
--- What the grammar answers.
+-- The answers of the grammar.
 use Rattle.std.specs.Prelude.{◌-◌, true, false, Option, Some, None}
 use Rattle.tt_data.specs.Forest.{Forest}
 use Rattle.fragment_grammar.specs.declared.fragment.Prefix.{Prefix}
@@ -8,7 +8,7 @@ use Rattle.small_grammar.specs.Expressions.{Expression, never}
 use Rattle.fragment_grammar.specs.Steps.{steps}
 use Rattle.small_grammar.specs.SmallGrammar.{takes, vis, brace, pat, pat_top, type, expr, tpath, meta_item}
 
--- what an entry point asks for: statements and items are never told
+-- the rule of an entry point: statements and items have none
 abbrev pub entry_rule : PrefixEntryPoint → Expression
 entry_rule Vis = vis
 entry_rule Block = brace
@@ -21,7 +21,7 @@ entry_rule Path = tpath
 entry_rule Item = never
 entry_rule MetaItem = meta_item
 
--- the answer where these trees are left of a list
+-- the answer if these trees of a list are left
 abbrev pub answer_of : Forest → Option Forest → Prefix
 answer_of f None = record { tokens = 0; fault = true }
 answer_of f (Some rest) = record { tokens = steps f - steps rest; fault = false }

@@ -1,5 +1,5 @@
--- The laws of the grammar's answer: places don't matter, it never takes more steps than there are, and without a fault at
--- least one, except for a visibility.
+-- The laws of the grammar's answer: spans don't matter, it never takes more steps than there are,
+-- and without a fault at least one, except for a visibility.
 use Rattle.std.proofs.Common.{◌≡◌, ◌≢◌, ℕ, suc, zero, ◌+◌, ◌-◌, ◌≤◌, Bool, true, false, not, ◌&&◌, List, [], ◌∷◌, length, refl, sym, ap, ◌∙◌, arith, Option, Some, None, length-append}
 use Rattle.std.proofs.lemmas.List.{length-map}
 use Rattle.std.specs.Prelude.{option_map, option_and_then, unwrap_or, nat_eq}
@@ -28,10 +28,10 @@ use Rattle.small_grammar.specs.SmallGrammar.{lifetime, arrow, arg, generics, seg
 use Rattle.fragment_grammar.specs.Steps.{steps}
 use Rattle.small_grammar.specs.Answer.{entry_rule, answer_of, answer}
 
--- ---- places
+-- ---- spans
 
 module _ (m : Span → Span) where
-  -- what is taken at other places is what was taken, at other places
+  -- under a span map it takes the same, under the map
   abbrev Moves : Taking → Type 0
   Moves p = (f : Forest) → p (map_spans m f) ≡ option_map (map_spans m) (p f)
 
@@ -39,7 +39,7 @@ module _ (m : Span → Span) where
   passes_moved true f = refl
   passes_moved false f = refl
 
-  -- a test of identifiers that doesn't look at their places
+  -- a test of identifiers that doesn't look at their spans
   ident-moved : (passes : Ident → Bool) → ((i : Ident) (s : Span) → passes (record i { span = s }) ≡ passes i) → Moves (ident_where passes)
   ident-moved passes blind empty = refl
   ident-moved passes blind (leaf (as_leaf.Ident i) rest) = rw (blind i (m i.span)) (passes_moved (passes i) rest)
@@ -176,7 +176,7 @@ module _ (m : Span → Span) where
   answer_of-moved f None = refl
   answer_of-moved f (Some g) = rw (steps-moved f, steps-moved g) refl
 
-  -- places don't matter
+  -- spans don't matter
   pub answer-moved : (entry : PrefixEntryPoint) (f : Forest) → answer entry (map_spans m f) ≡ answer entry f
   answer-moved entry f = ap (answer_of (map_spans m f)) (takes-moved (entry_rule entry) f) ∙ answer_of-moved f (takes (entry_rule entry) f)
 
@@ -193,7 +193,7 @@ size-steps (group d inner rest) =
 steps-joined : (f g : Forest) → steps (joined f g) ≡ steps f + steps g
 steps-joined f g = ap length (walk-joined f g) ∙ length-append (walk f) (walk g)
 
--- the steps of what was passed
+-- the number of steps that were passed
 passed-steps : (n : ℕ) (f g : Forest) → Passed n f g → n ≤ steps f - steps g
 passed-steps n f g passed =
     let e = ap steps passed.1 in
@@ -235,7 +235,7 @@ answer-takes entry f other no_fault =
     let one = entry-takes entry other in
     omega (arith, t, one)
 
--- ---- the answer to trees without their places
+-- ---- the answer at trees without their spans
 
 pub answer-shape : (entry : PrefixEntryPoint) (f : Forest) → answer entry (shape f) ≡ answer entry f
 answer-shape entry f = answer-moved (λ s. no_span) entry f
@@ -246,7 +246,7 @@ shape-within entry f = (let w = answer-within entry f in let e = ap (λ (p : Pre
 pub shape-takes : (entry : PrefixEntryPoint) (f : Forest) → entry ≢ Vis → (answer entry (shape f)).fault ≡ false → 1 ≤ (answer entry (shape f)).tokens
 shape-takes entry f other no_fault = answer-takes entry (shape f) other no_fault
 
--- the answer where the trees that were passed are known
+-- the answer, given the trees that were passed
 pub answer-passed : (entry : PrefixEntryPoint) (f t g : Forest) (n : ℕ) → takes (entry_rule entry) f ≡ Some g → f ≡ joined t g → n ≡ steps t →
     record { tokens = n; fault = false } ≡ answer entry (shape f)
 answer-passed entry f t g n taken_is passed counted =

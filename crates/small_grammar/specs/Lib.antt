@@ -1,11 +1,11 @@
--- what the contracts rest on, in reading order
+-- what the contracts use, in reading order
 pub mod Text
 pub mod Tokens
 pub mod Expressions
 pub mod SmallGrammar
 pub mod Answer
 pub mod Outcomes
--- that the answer keeps the laws of a grammar
+-- the answer keeps the laws of a grammar
 pub mod Passing
 pub mod Rules
 pub mod Laws

@@ -1,4 +1,4 @@
--- What an expression takes are trees at the beginning of the list, and at least so many tokens of them.
+-- What an expression takes are trees at the front of the list, with at least so many tokens.
 use Rattle.std.proofs.Common.{◌≡◌, ℕ, suc, zero, ◌+◌, ◌≤◌, min, Bool, true, false, not, ◌&&◌, List, [], ◌∷◌, refl, sym, ap, ◌∙◌, subst, arith, Option, Some, None}
 use Rattle.std.specs.Prelude.{option_map, option_and_then, unwrap_or, nat_eq}
 use Rattle.tt_data.specs.Forest.{Forest, empty, leaf, group, joined, size}
@@ -17,11 +17,11 @@ use Rattle.small_grammar.specs.Text.{◌>>=◌, ◌>>◌}
 use Rattle.small_grammar.specs.Tokens.{ident_where, literal_where, group_where, puncts_in_turn, operator_of, operator_where, passing, Token, a_word, a_name, an_identifier, a_literal, a_number, a_group, a_restriction, puncts, operator, token_at}
 use Rattle.small_grammar.specs.Expressions.{Name, Expression, never, token, ◌⨾◌, ◌∣◌, many, maybe, rule, Taking, one_after_other, otherwise, first_that_fits, once_where_it_fits, after_rounds, as_often_as_it_fits, taken}
 
--- the second list is what is left of the first behind at least n tokens
+-- the second list is what is left of the first after at least n tokens
 abbrev pub Passed : ℕ → Forest → Forest → Type 0
 Passed n f g = (t : Forest) × (f ≡ joined t g) × (n ≤ size t)
 
--- what is taken are always at least n tokens at the beginning
+-- it always takes at least n tokens at the front
 abbrev pub TakesAtLeast : ℕ → Taking → Type 0
 TakesAtLeast n p = (f g : Forest) → p f ≡ Some g → Passed n f g
 
@@ -37,14 +37,14 @@ least (rule n) = 1
 
 -- ---- tokens
 
--- a forest behind one of its trees
+-- a forest after one of its trees
 pub behind_leaf : (l : Leaf) (rest g : Forest) → rest ≡ g → Passed 1 (leaf l rest) g
 behind_leaf l rest g e = (leaf l empty, ap (leaf l) e, omega arith)
 
 pub behind_group : (d : Delimiter) (inner rest g : Forest) → rest ≡ g → Passed 1 (group d inner rest) g
 behind_group d inner rest g e = (group d inner empty, ap (group d inner) e, omega arith)
 
--- behind a token that a test lets pass
+-- after a token that passes a test
 if_passes : (b : Bool) (f rest g : Forest) → (rest ≡ g → Passed 1 f g) → (b >> Some rest) ≡ Some g → Passed 1 f g
 if_passes true f rest g then_passed e = then_passed cc
 if_passes false f rest g then_passed e = absurd cc

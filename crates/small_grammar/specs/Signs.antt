@@ -1,4 +1,4 @@
--- Types and patterns by what they begin with: the forms that the code takes in turn.
+-- Types and patterns by what they begin with: the forms in the order in which the code tries them
 use Rattle.std.specs.Prelude.{ℕ, ◌&&◌, not, nat_eq, Option, Some}
 use Rattle.tt.specs.FirstTrees.{first_punct}
 use Rattle.tt.specs.Glued.{is_alone}
@@ -7,7 +7,7 @@ use Rattle.small_grammar.specs.Text.{◌>>=◌, ◌>>◌}
 use Rattle.small_grammar.specs.Expressions.{Expression, ◌⨾◌, ◌∣◌, many, maybe}
 use Rattle.small_grammar.specs.SmallGrammar.{lifetime, arrow, tpath, bound, num, path, name, word, paren, brace, bracket, group, single, glued}
 
--- what may stand before a type
+-- what may come before a type
 abbrev pub type_sign : Expression
 type_sign = single "&" ⨾ maybe lifetime ⨾ maybe (word "mut") ∣ single "*" ⨾ (word "const" ∣ word "mut")
 
@@ -35,7 +35,7 @@ bare_pattern =
     ∣ (word "ref" ⨾ maybe (word "mut") ∣ word "mut") ⨾ name
     ∣ path ⨾ maybe (paren ∣ brace ∣ glued "!" ⨾ group)
 
--- a punct of this character that does not stand alone
+-- a punct of this character that isn't `Alone`
 abbrev pub joint_punct : ℕ → Forest → Option Forest
 joint_punct c f = do
   (p, rest) ← first_punct f

@@ -1,4 +1,5 @@
-// Expressions: each function answers the trees after what it is named for, or none.
+//! Expressions. Each function gives the trees after what it is named for, or `None` if the list
+//! begins otherwise.
 ghost use Rattle.std.specs.Prelude.{◌≡◌, Some};
 ghost use Rattle.small_grammar.specs.Expressions.{◌⨾◌, ◌∣◌, many, maybe};
 ghost use Rattle.small_grammar.specs.SmallGrammar.{takes, path, post, atom, operand, binop, expr, name, literal, number, brace, group, generics, type, word, glued};
@@ -64,7 +65,7 @@ fn member<'a>(trees: &TtIter<'a>) -> Option<TtIter<'a>>
     }
 }
 
-// `::` and arguments, where they are there.
+// The trees after `::` and arguments, or all trees if these do not come first.
 fn with_generics<'a>(trees: TtIter<'a>) -> TtIter<'a>
     ensures { Some result ≡ takes (maybe (glued "::" ⨾ generics)) trees.entry }
 {
@@ -101,7 +102,8 @@ fn marked_block<'a>(trees: &TtIter<'a>) -> Option<TtIter<'a>>
     group_of(&rest, DelimiterKind::Brace)
 }
 
-// What may follow a path: a macro's `!` and group, or the fields of a struct.
+// The trees after what may follow a path, if it does: a macro's `!` and group, or the fields of a
+// struct.
 fn with_fields<'a>(trees: TtIter<'a>) -> TtIter<'a>
     ensures { Some result ≡ takes (maybe (glued "!" ⨾ group ∣ brace)) trees.entry }
 {
@@ -119,7 +121,7 @@ pub(crate) fn call<'a>(trees: &TtIter<'a>) -> Option<TtIter<'a>>
     group(&rest)
 }
 
-// An operand without signs before it and calls after it.
+// An operand without prefix signs, and without calls after it.
 #[tactic(auto, unfolding(crate::specs::SmallGrammar::atom))]
 fn atom<'a>(trees: &TtIter<'a>) -> Option<TtIter<'a>>
     ensures { result ≡ takes atom trees.now }
@@ -134,7 +136,7 @@ fn atom<'a>(trees: &TtIter<'a>) -> Option<TtIter<'a>>
     Some(with_fields(rest))
 }
 
-// `-`, `!`, `*`, or `&` with `mut` where it is there.
+// `-`, `!`, `*`, or `&`, the last with `mut` if it follows.
 fn prefix<'a>(trees: &TtIter<'a>) -> Option<TtIter<'a>>
     ensures { result ≡ takes (glued "- ! *" ∣ glued "& &&" ⨾ maybe (word "mut")) trees.now }
 {
@@ -145,7 +147,7 @@ fn prefix<'a>(trees: &TtIter<'a>) -> Option<TtIter<'a>>
     Some(word(&rest, "mut").unwrap_or(rest))
 }
 
-// The signs before an operand, as many as there are.
+// The trees after all signs before an operand.
 fn prefixes<'a>(trees: &TtIter<'a>) -> TtIter<'a>
     ensures { Some result ≡ takes (many (glued "- ! *" ∣ glued "& &&" ⨾ maybe (word "mut"))) trees.now }
 {
@@ -156,7 +158,7 @@ fn prefixes<'a>(trees: &TtIter<'a>) -> TtIter<'a>
     rest
 }
 
-// The calls and members after an operand, as many as there are.
+// The trees after all calls and members that follow an operand.
 fn posts<'a>(trees: TtIter<'a>) -> TtIter<'a>
     ensures { Some result ≡ takes (many post) trees.entry }
 {
@@ -194,7 +196,7 @@ fn second_operand<'a>(trees: &TtIter<'a>) -> Option<TtIter<'a>>
     operand(&rest)
 }
 
-// What follows an operand, as often as it does.
+// The trees after all operators with operands, and all `as` with types, that follow an operand.
 fn tails<'a>(trees: TtIter<'a>) -> TtIter<'a>
     ensures { Some result ≡ takes (many (binop ⨾ operand ∣ word "as" ⨾ type)) trees.entry }
 {

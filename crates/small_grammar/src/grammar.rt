@@ -1,4 +1,4 @@
-//! The small grammar's answers.
+//! The answers of the small grammar, by entry point.
 ghost use Rattle.std.specs.Prelude.{◌≡◌, Some};
 ghost use Rattle.small_grammar.specs.Answer.{answer, entry_rule};
 ghost use Rattle.small_grammar.specs.Expressions.{◌⨾◌, ◌∣◌, maybe};
@@ -15,13 +15,14 @@ use fragment_grammar::{FragmentGrammar, Prefix, PrefixEntryPoint, steps};
 use tt::{TokenTreesView, TtIter};
 use tt_data::DelimiterKind;
 
-/// A small grammar of Rust: visibilities, expressions, types, paths, patterns, attributes and blocks.
+/// A small grammar of Rust: visibilities, expressions, types, paths, patterns, attributes and
+/// blocks. `specs/SmallGrammar.antt` is its table of rules.
 ///
-/// It takes no memory. What is in groups it doesn't look at, but for that of a visibility.
+/// It takes no memory. It passes groups without looking inside, except for a visibility's.
 #[derive(Clone, Copy, Drop, Debug)]
 pub struct SmallGrammar;
 
-// A visibility, where it is there.
+// The trees after a visibility, or all trees if none comes first.
 #[tactic(auto, unfolding(crate::specs::SmallGrammar::vis))]
 fn vis<'a>(trees: &TtIter<'a>) -> TtIter<'a>
     ensures { Some result ≡ takes vis trees.now }
@@ -32,7 +33,7 @@ fn vis<'a>(trees: &TtIter<'a>) -> TtIter<'a>
     }
 }
 
-// An attribute's path with its group or its value.
+// An attribute's path, with its group or its value.
 #[tactic(auto, unfolding(crate::specs::SmallGrammar::meta_item))]
 fn meta_item<'a>(trees: &TtIter<'a>) -> Option<TtIter<'a>>
     ensures { result ≡ takes meta_item trees.now }
@@ -41,7 +42,7 @@ fn meta_item<'a>(trees: &TtIter<'a>) -> Option<TtIter<'a>>
     Some(with_value(rest))
 }
 
-// A group or a value, where it is there.
+// The trees after a group or a value, or all trees if neither comes first.
 fn with_value<'a>(trees: TtIter<'a>) -> TtIter<'a>
     ensures { Some result ≡ takes (maybe (group ∣ glued "=" ⨾ expr)) trees.entry }
 {
@@ -54,7 +55,7 @@ fn with_value<'a>(trees: TtIter<'a>) -> TtIter<'a>
     }
 }
 
-// The trees after what the entry point asks for.
+// The trees after the fragment that the entry point asks for.
 fn behind<'a>(entry: PrefixEntryPoint, trees: &TtIter<'a>) -> Option<TtIter<'a>>
     ensures { result ≡ takes (entry_rule entry) trees.now }
 {

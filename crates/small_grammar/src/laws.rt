@@ -1,6 +1,7 @@
-//! Laws of the small grammar, for proofs above this crate.
+//! Laws of the small grammar, for the proofs of crates above.
 //!
-//! A call does nothing: it only states. The function that calls it has the clauses of the law in its own proof.
+//! Calling a law does nothing: its contract is the statement, which the caller then has in its
+//! own proof.
 ghost use Rattle.std.specs.Prelude.{◌≡◌, ◌≢◌, ◌≤◌, false, Option};
 ghost use Rattle.tt_data.specs.Forest.{Forest, map_spans};
 ghost use Rattle.tt_data.specs.declared.span.Span.{Span};
@@ -11,15 +12,15 @@ ghost use Rattle.fragment_grammar.specs.Steps.{steps};
 ghost use Rattle.fragment_grammar.specs.declared.fragment.PrefixEntryPoint.{PrefixEntryPoint};
 ghost use Rattle.fragment_grammar.specs.declared.fragment.PrefixEntryPoint.TheVariants.{Vis};
 
-/// By the rules of parsing expressions each entry point comes out in one way at each list, and that is
-/// what the grammar takes.
+/// By the rules of parsing expressions each entry point has exactly one outcome at each list, and
+/// that is what the grammar answers.
 pub fn one_outcome()
     ensures comes { (entry : PrefixEntryPoint) (f : Forest) → Comes (entry_rule entry) f (takes (entry_rule entry) f) }
     ensures once { (entry : PrefixEntryPoint) (f : Forest) (o : Option Forest) → Comes (entry_rule entry) f o → takes (entry_rule entry) f ≡ o }
 {}
 
-/// Places don't matter. The answer never takes more steps than there are, and without a fault at least
-/// one, except for a visibility.
+/// The laws of a grammar: the same answer for other spans, never more steps than there are, and
+/// without a fault at least one, except for a visibility.
 pub fn lawful_answers()
     ensures moved { (m : Span → Span) (entry : PrefixEntryPoint) (f : Forest) → answer entry (map_spans m f) ≡ answer entry f }
     ensures within { (entry : PrefixEntryPoint) (f : Forest) → (answer entry f).tokens ≤ steps f }

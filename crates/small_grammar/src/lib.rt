@@ -1,7 +1,9 @@
-//! A small grammar of Rust: how far an expression, a type, a pattern .. reaches at the beginning of a list of trees.
+//! A small grammar of Rust: how far an expression, a type, a pattern and so on extends at the
+//! front of a list of trees.
 //!
-//! `specs/SmallGrammar.antt` is the grammar, rule by rule, as parsing expressions; `specs/Outcomes.antt` says
-//! what such rules mean. Each function of the code is one rule or one alternative of a rule.
+//! `specs/SmallGrammar.antt` is the grammar, rule by rule, as parsing expressions;
+//! `specs/Outcomes.antt` says what such rules mean. Each function of the code is one rule or one
+//! alternative of a rule.
 #![tactic(auto)]
 
 mod expressions;

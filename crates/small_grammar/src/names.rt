@@ -1,4 +1,4 @@
-// Names, and what restricts a visibility.
+//! Names, and the restrictions of visibilities.
 ghost use Rattle.std.specs.Prelude.{◌≡◌, ◌&&◌, ◌||◌, codes};
 ghost use Rattle.std.specs.List.{list_any};
 ghost use Rattle.small_grammar.specs.Text.{same_text, is_word};
@@ -8,7 +8,7 @@ ghost use Rattle.tt.specs.FirstTrees.{first_ident};
 use tt::TtIter;
 use tt_data::{DelimiterKind, Ident, IdentIsRaw};
 
-// The words that are reserved, by how many bytes they have.
+// The reserved words, by their number of bytes.
 const OF_TWO: [&str; 5] = ["as", "fn", "if", "in", "do"];
 
 const OF_THREE: [&str; 11] = [
@@ -34,7 +34,7 @@ const OF_EIGHT: [&str; 3] = ["continue", "abstract", "override"];
 
 const PATH_WORDS: [&str; 4] = ["self", "Self", "super", "crate"];
 
-// Whether a text is this word. Most others differ in their first byte, which is seen at once.
+// Whether a text is this word. Most others differ in their first byte, which is compared first.
 #[tactic(auto, using(crate::proofs::NameLemmas::other_start))]
 fn is_same(text: &str, known: &str) -> bool
     ensures { result ≡ same_text text.now known.now }
@@ -110,7 +110,7 @@ fn is_of_eight(text: &str) -> bool
     is_among(words.as_slice(), text)
 }
 
-// Whether the text is reserved: only words of as many bytes are looked at.
+// Whether the text is reserved: only words with as many bytes are compared.
 fn is_reserved(text: &str) -> bool
     ensures { result ≡ is_among reserved text.now }
 {
@@ -133,7 +133,8 @@ fn is_path_word(text: &str) -> bool
     is_among(words.as_slice(), text)
 }
 
-// An identifier but `_` that is raw, not reserved, or a word of paths.
+// Whether it is a name: an identifier but `_` that is raw, or not reserved, or `self`, `Self`,
+// `super` or `crate`.
 fn is_name(ident: &Ident) -> bool
     ensures { result ≡ is_name ident.now }
 {
@@ -150,14 +151,15 @@ pub(crate) fn name<'a>(trees: &TtIter<'a>) -> Option<TtIter<'a>>
     if is_name(ident) { Some(rest) } else { None }
 }
 
-// Whether a visibility may be restricted to this alone.
+// Whether a visibility may be restricted to exactly this.
 fn is_lone_place(text: &str) -> bool
     ensures { result ≡ (same_text text.now (codes "crate") || (same_text text.now (codes "self") || same_text text.now (codes "super"))) }
 {
     text == "crate" || text == "self" || text == "super"
 }
 
-// Whether a visibility may be restricted to what begins with this name, or is it alone.
+// Whether a visibility may be restricted to what begins with this name, which is all of it if
+// `is_alone`.
 fn begins_place(ident: &Ident, is_alone: bool) -> bool
     ensures { result ≡ (is_word "in" ident.now || (is_alone && (is_word "crate" ident.now || (is_word "self" ident.now || is_word "super" ident.now)))) }
 {
@@ -168,7 +170,7 @@ fn begins_place(ident: &Ident, is_alone: bool) -> bool
     text == "in" || is_alone && is_lone_place(text)
 }
 
-// Whether a visibility may be restricted to what the trees are.
+// Whether a visibility may be restricted to these trees.
 fn is_place(trees: &TtIter<'_>) -> bool
     ensures { result ≡ is_place (first_ident trees.now) }
 {

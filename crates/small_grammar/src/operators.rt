@@ -1,4 +1,4 @@
-// Operators whose puncts are glued, several at once.
+//! Sets of operators. Their puncts are glued.
 ghost use Rattle.std.specs.Prelude.{◌≡◌};
 ghost use Rattle.small_grammar.specs.SmallGrammar.{takes, glued, binop};
 ghost use Rattle.small_grammar.specs.Tokens.{is_operator};

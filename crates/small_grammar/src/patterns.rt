@@ -1,4 +1,5 @@
-// Patterns: each function answers the trees after what it is named for, or none.
+//! Patterns. Each function gives the trees after what it is named for, or `None` if the list
+//! begins otherwise.
 ghost use Rattle.std.specs.Prelude.{◌≡◌, ◌≤◌, Some, None};
 ghost use Rattle.tt_data.specs.Forest.{size};
 ghost use Rattle.small_grammar.specs.Expressions.{◌⨾◌, ◌∣◌, many, maybe};
@@ -13,7 +14,7 @@ use crate::units::Operator;
 use tt::TtIter;
 use tt_data::DelimiterKind;
 
-// A literal, with `-` where it is there.
+// A literal, perhaps with `-` before it.
 #[tactic(auto, unfolding(crate::specs::SmallGrammar::num))]
 fn num<'a>(trees: &TtIter<'a>) -> Option<TtIter<'a>>
     ensures { result ≡ takes num trees.now }
@@ -21,7 +22,7 @@ fn num<'a>(trees: &TtIter<'a>) -> Option<TtIter<'a>>
     literal(&glued(trees, Operator::One('-')).unwrap_or(trees.copied()))
 }
 
-// The end of a range, where it is there.
+// The trees after the end of a range, or all trees if none comes first.
 fn with_end<'a>(trees: TtIter<'a>) -> TtIter<'a>
     ensures { Some result ≡ takes (maybe (glued "..= .." ⨾ num)) trees.entry }
 {
@@ -31,7 +32,7 @@ fn with_end<'a>(trees: TtIter<'a>) -> TtIter<'a>
     }
 }
 
-// A literal or a range of two.
+// A literal, or a range of two.
 fn literals<'a>(trees: &TtIter<'a>) -> Option<TtIter<'a>>
     ensures { result ≡ takes (num ⨾ maybe (glued "..= .." ⨾ num)) trees.now }
 {
@@ -49,7 +50,7 @@ fn truth<'a>(trees: &TtIter<'a>) -> Option<TtIter<'a>>
     }
 }
 
-// `&` or `&&`, and `mut` where it is there.
+// `&` or `&&`, perhaps with `mut`.
 fn reference_sign<'a>(trees: &TtIter<'a>) -> Option<TtIter<'a>>
     ensures { result ≡ takes reference_sign trees.now }
 {
@@ -57,7 +58,7 @@ fn reference_sign<'a>(trees: &TtIter<'a>) -> Option<TtIter<'a>>
     Some(word(&rest, "mut").unwrap_or(rest))
 }
 
-// A name and `@`, with `ref` and `mut` where they are there.
+// A name and `@`, perhaps with `ref` and `mut` before them.
 fn binding_sign<'a>(trees: &TtIter<'a>) -> Option<TtIter<'a>>
     ensures { result ≡ takes binding_sign trees.now }
 {
@@ -67,7 +68,7 @@ fn binding_sign<'a>(trees: &TtIter<'a>) -> Option<TtIter<'a>>
     glued(&rest, Operator::One('@'))
 }
 
-// `ref`, with `mut` where it is there, or `mut`.
+// `ref`, perhaps with `mut`; or `mut`.
 fn mode<'a>(trees: &TtIter<'a>) -> Option<TtIter<'a>>
     ensures { result ≡ takes (word "ref" ⨾ maybe (word "mut") ∣ word "mut") trees.now }
 {
@@ -77,7 +78,7 @@ fn mode<'a>(trees: &TtIter<'a>) -> Option<TtIter<'a>>
     }
 }
 
-// A name that is bound by reference or to be changed.
+// A name after `ref` or `mut`.
 fn moded_name<'a>(trees: &TtIter<'a>) -> Option<TtIter<'a>>
     ensures { result ≡ takes ((word "ref" ⨾ maybe (word "mut") ∣ word "mut") ⨾ name) trees.now }
 {
@@ -85,7 +86,7 @@ fn moded_name<'a>(trees: &TtIter<'a>) -> Option<TtIter<'a>>
     name(&rest)
 }
 
-// What may follow a path in a pattern.
+// The trees after what may follow a path in a pattern, if it does.
 fn with_parts<'a>(trees: TtIter<'a>) -> TtIter<'a>
     ensures { Some result ≡ takes (maybe (paren ∣ brace ∣ glued "!" ⨾ group)) trees.entry }
 {
@@ -98,7 +99,7 @@ fn with_parts<'a>(trees: TtIter<'a>) -> TtIter<'a>
     call(&trees).unwrap_or(trees)
 }
 
-// A path with what may follow it.
+// A path, with what may follow it.
 fn path_pattern<'a>(trees: &TtIter<'a>) -> Option<TtIter<'a>>
     ensures { result ≡ takes (path ⨾ maybe (paren ∣ brace ∣ glued "!" ⨾ group)) trees.now }
 {
@@ -106,7 +107,7 @@ fn path_pattern<'a>(trees: &TtIter<'a>) -> Option<TtIter<'a>>
     Some(with_parts(rest))
 }
 
-// A pattern that begins with no sign of a reference, and with no name and `@`.
+// A pattern that begins with no reference sign, and with no name and `@`.
 #[tactic(auto, unfolding(crate::specs::Signs::bare_pattern))]
 fn bare_pattern<'a>(trees: &TtIter<'a>) -> Option<TtIter<'a>>
     ensures { result ≡ takes bare_pattern trees.now }
@@ -132,7 +133,7 @@ fn bare_pattern<'a>(trees: &TtIter<'a>) -> Option<TtIter<'a>>
     }
 }
 
-// The trees after all signs of references that come before a pattern.
+// The trees after all reference signs before a pattern.
 fn behind_references<'a>(trees: &TtIter<'a>) -> TtIter<'a>
     ensures same { takes pat result ≡ takes pat trees.now }
     ensures no_more { takes reference_sign result ≡ None }
@@ -147,7 +148,7 @@ fn behind_references<'a>(trees: &TtIter<'a>) -> TtIter<'a>
 
 /// A pattern without alternatives.
 ///
-/// Where what follows the last name and `@` is no pattern, that name alone is one.
+/// If what follows the last name and `@` is no pattern, the name by itself is one.
 pub(crate) fn pat<'a>(trees: &TtIter<'a>) -> Option<TtIter<'a>>
     ensures { result ≡ takes pat trees.now }
 {
@@ -171,7 +172,7 @@ fn alternative<'a>(trees: &TtIter<'a>) -> Option<TtIter<'a>>
     pat(&rest)
 }
 
-// The further alternatives.
+// The trees after all further alternatives.
 fn alternatives<'a>(trees: TtIter<'a>) -> TtIter<'a>
     ensures { Some result ≡ takes (many (glued "|" ⨾ pat)) trees.entry }
 {

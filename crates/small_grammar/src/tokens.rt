@@ -1,4 +1,5 @@
-// Single tokens at the beginning of a list: each function answers the trees after the token, or none.
+//! Single tokens. Each function gives the trees after the token, or `None` if another one comes
+//! first.
 ghost use Rattle.std.specs.Prelude.{◌≡◌, [], ◌∷◌};
 ghost use Rattle.small_grammar.specs.Expressions.{◌∣◌};
 ghost use Rattle.small_grammar.specs.Signs.{joint_punct};
@@ -10,7 +11,7 @@ use crate::units::{Operator, first_operator};
 use tt::TtIter;
 use tt_data::{DelimiterKind, Ident, IdentIsRaw, LitKind, Spacing};
 
-// Whether the name has this text, and isn't raw.
+// Whether the identifier has this text, and isn't raw.
 fn has_text(ident: &Ident, text: &str) -> bool
     ensures { result ≡ has_text text.now ident.now }
 {
@@ -104,7 +105,7 @@ pub(crate) fn punct<'a>(trees: &TtIter<'a>, char: char) -> Option<TtIter<'a>>
     if punct.char == char { Some(rest) } else { None }
 }
 
-// A punct of this character that doesn't stand alone.
+// A punct of this character that isn't `Alone`.
 fn joint_punct<'a>(trees: &TtIter<'a>, char: char) -> Option<TtIter<'a>>
     ensures { result ≡ joint_punct char trees.now }
 {
@@ -116,7 +117,7 @@ fn joint_punct<'a>(trees: &TtIter<'a>, char: char) -> Option<TtIter<'a>>
     }
 }
 
-/// A punct of the first character that doesn't stand alone, and one of the second.
+/// A punct of the first character that isn't `Alone`, and one of the second.
 #[tactic(auto, unfolding(crate::specs::Tokens::token_at))]
 pub(crate) fn two_puncts<'a>(trees: &TtIter<'a>, first: char, second: char) -> Option<TtIter<'a>>
     ensures { result ≡ token_at (puncts (first ∷ second ∷ [])) trees.now }

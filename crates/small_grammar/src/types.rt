@@ -1,4 +1,5 @@
-// Types and their paths: each function answers the trees after what it is named for, or none.
+//! Types and their paths. Each function gives the trees after what it is named for, or `None` if
+//! the list begins otherwise.
 ghost use Rattle.std.specs.Prelude.{◌≡◌, ◌≤◌, [], ◌∷◌, Some, None};
 ghost use Rattle.tt_data.specs.Forest.{size};
 ghost use Rattle.small_grammar.specs.Expressions.{◌⨾◌, ◌∣◌, many, maybe};
@@ -10,7 +11,7 @@ use crate::tokens::{group, group_of, lifetime, literal, parts, punct, two_puncts
 use tt::TtIter;
 use tt_data::DelimiterKind;
 
-// `&`, and a lifetime and `mut` where they are there.
+// `&`, perhaps with a lifetime and `mut`.
 fn reference_sign<'a>(trees: &TtIter<'a>) -> Option<TtIter<'a>>
     ensures { result ≡ takes (single "&" ⨾ maybe lifetime ⨾ maybe (word "mut")) trees.now }
 {
@@ -48,7 +49,7 @@ fn function_sign<'a>(trees: &TtIter<'a>) -> Option<TtIter<'a>>
     group_of(&rest, DelimiterKind::Parenthesis)
 }
 
-// A type of one token.
+// A type of one tree.
 fn plain_type<'a>(trees: &TtIter<'a>) -> Option<TtIter<'a>>
     ensures { result ≡ takes (word "_" ∣ single "!" ∣ paren ∣ bracket) trees.now }
 {
@@ -61,7 +62,7 @@ fn plain_type<'a>(trees: &TtIter<'a>) -> Option<TtIter<'a>>
     parts(trees)
 }
 
-// `!` and a group, where they are there.
+// The trees after `!` and a group, or all trees if these do not come first.
 fn with_call<'a>(trees: TtIter<'a>) -> TtIter<'a>
     ensures { Some result ≡ takes (maybe (single "!" ⨾ group)) trees.entry }
 {
@@ -71,7 +72,7 @@ fn with_call<'a>(trees: TtIter<'a>) -> TtIter<'a>
     }
 }
 
-// A literal, with `-` where it is there.
+// A literal, perhaps with `-` before it.
 fn signed_literal<'a>(trees: &TtIter<'a>) -> Option<TtIter<'a>>
     ensures { result ≡ takes (maybe (single "-") ⨾ literal) trees.now }
 {
@@ -97,7 +98,7 @@ fn type_sign<'a>(trees: &TtIter<'a>) -> Option<TtIter<'a>>
     }
 }
 
-// The trees after all such prefixes of a type.
+// The trees after all such signs before a type.
 fn behind_signs<'a>(trees: &TtIter<'a>) -> TtIter<'a>
     ensures same { takes type result ≡ takes type trees.now }
     ensures no_more { takes type_sign result ≡ None }
@@ -166,7 +167,7 @@ fn bound<'a>(trees: &TtIter<'a>) -> Option<TtIter<'a>>
     }
 }
 
-// What a function returns, where it says so.
+// The trees after `->` and a type, or all trees if these do not come first.
 #[cycle(types)]
 #[tactic(auto, unfolding(crate::specs::SmallGrammar::arrow))]
 fn arrow<'a>(trees: TtIter<'a>) -> TtIter<'a>
@@ -188,7 +189,7 @@ pub(crate) fn tpath<'a>(trees: &TtIter<'a>) -> Option<TtIter<'a>>
     Some(more_segs(rest))
 }
 
-// The further segments of a path.
+// The trees after all further segments of a path.
 #[cycle(types)]
 fn more_segs<'a>(trees: TtIter<'a>) -> TtIter<'a>
     ensures { Some result ≡ takes (many (single "::" ⨾ (seg ∣ generics))) trees.entry }
@@ -205,7 +206,7 @@ fn more_segs<'a>(trees: TtIter<'a>) -> TtIter<'a>
     }
 }
 
-// A name, and its arguments where they are there.
+// A name, perhaps with arguments.
 #[cycle(types)]
 #[tactic(auto, unfolding(crate::specs::SmallGrammar::seg))]
 fn seg<'a>(trees: &TtIter<'a>) -> Option<TtIter<'a>>
@@ -231,7 +232,8 @@ pub(crate) fn generics<'a>(trees: &TtIter<'a>) -> Option<TtIter<'a>>
     punct(&args(rest), '>')
 }
 
-// Arguments with commas between them, and one after the last where it is there.
+// The trees after arguments with commas between them, perhaps with one after the last. All trees
+// if none comes first.
 #[cycle(types)]
 fn args<'a>(trees: TtIter<'a>) -> TtIter<'a>
     ensures { Some result ≡ takes (maybe (arg ⨾ many (single "," ⨾ arg) ⨾ maybe (single ","))) trees.entry }

@@ -1,4 +1,4 @@
-// The operator at the beginning of a list of trees.
+//! The operator at the front of a list of trees.
 ghost use Rattle.std.specs.Prelude.{◌≡◌};
 ghost use Rattle.tt.specs.Glued.{characters};
 ghost use Rattle.small_grammar.specs.Tokens.{operator_of, first_operator};
@@ -26,7 +26,7 @@ fn operator_of(puncts: &[Punct]) -> Option<Operator>
     }
 }
 
-/// The operator at the beginning, and the trees after it.
+/// The operator at the front, and the trees after it.
 pub(crate) fn first_operator<'a>(trees: &TtIter<'a>) -> Option<(Operator, TtIter<'a>)>
     ensures { result ≡ first_operator trees.now }
 {

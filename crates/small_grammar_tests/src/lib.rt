@@ -1,7 +1,7 @@
-//! What a caller can prove of any grammar, and tests of the grammars.
+//! What a caller can prove of any grammar, and tests of the small grammar.
 //!
-//! `behind_prefix` shows that the laws of a grammar suffice for a crate above: it goes as far as the
-//! grammar says, and needs no look at what is left.
+//! `behind_prefix` shows that the laws of a grammar suffice for a crate above: it goes as far as
+//! the grammar says, without a check of how much remains.
 #![tactic(auto)]
 
 ghost use Rattle.std.specs.Prelude.{◌≡◌, length};
@@ -16,7 +16,7 @@ use fragment_grammar::{FragmentGrammar, PrefixEntryPoint};
 use tt::laws::walk_of_a_cursor;
 use tt::{Cursor, TokenTreesView};
 
-/// The place behind the steps that the grammar takes of a list.
+/// The position after the steps that the grammar takes of a list.
 pub fn behind_prefix<'a, G: FragmentGrammar>(
     grammar: &G,
     entry: PrefixEntryPoint,

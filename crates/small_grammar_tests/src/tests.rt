@@ -1,4 +1,4 @@
-//! Tests, on trees that a builder makes of texts whose tokens are parted by spaces.
+//! Tests on trees that a builder makes of texts, with spaces between their tokens.
 use crate::behind_prefix;
 use fragment_grammar::{FragmentGrammar, Prefix, PrefixEntryPoint, steps};
 use small_grammar::SmallGrammar;
@@ -57,7 +57,7 @@ fn put_word(alloc: Global, builder: &mut TopSubtreeBuilder, word: &str) -> Resul
     }
 }
 
-// Puncts, each joint but the last.
+// Appends puncts, each `Joint` but the last.
 fn put_puncts(builder: &mut TopSubtreeBuilder, chars: &[u8]) -> Result<(), TtFault> {
     let mut left = chars.len();
     for char in chars {
@@ -88,7 +88,7 @@ const FAULT: Prefix = Prefix {
     fault: true,
 };
 
-// What the small grammar is asked for, a list, and how many steps are taken, or `fault`.
+// What the small grammar is asked for, a list, and how many steps it takes, or `fault`.
 const ROWS: &str = "
 Expr ¦ 1 + 2 ; ¦ 3
 Expr ¦ a . 0 ? [ 1 ] ¦ 7

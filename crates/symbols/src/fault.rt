@@ -4,18 +4,18 @@ ghost use Rattle.symbols.specs.declared.fault.TtFault.TheVariants.{Memory};
 
 use std::alloc::AllocError;
 
-/// Why a call on texts and trees is refused. The objects of a refused call are as they were.
+/// Why a call on texts or trees is refused. A refused call leaves its objects as they were.
 #[derive(Clone, Copy, PartialEq, Eq, Debug)]
 pub enum TtFault {
-    /// There was no memory left to grow.
+    /// Out of memory.
     Memory,
     /// A tree would have more than `u32::MAX` tokens below its top.
     Tokens,
-    /// The tokens that were handed in are no tree.
+    /// The tokens handed in are not those of one tree.
     Malformed,
-    /// The call does not fit the place: no group is open there, or one still is.
+    /// The call is impossible here: no group is open, one still is, or no leaf is there.
     Place,
-    /// A point that no longer stands in its builder.
+    /// The restore point is no longer valid in its builder.
     Stale,
 }
 

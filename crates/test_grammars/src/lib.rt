@@ -1,4 +1,4 @@
-//! Grammars that know nothing of Rust, for tests: what a matcher does must not depend on which grammar it is handed.
+//! Grammars that are not Rust's, for tests: a matcher must behave alike with any grammar.
 #![tactic(auto)]
 
 ghost use Rattle.test_grammars.specs.FakeLaws.{one_step-within, one_step-takes, all_steps-within, all_steps-takes, a_fault-within, a_fault-takes};
@@ -9,7 +9,7 @@ use fragment_grammar::{FragmentGrammar, Prefix, PrefixEntryPoint, steps};
 use std::cell::Cell;
 use tt::TokenTreesView;
 
-// The answer where nothing is left: a visibility may be nothing, all else is missing.
+// The answer at the end of a list: a `vis` may be empty, and everything else is missing.
 fn at_end(entry: PrefixEntryPoint) -> Prefix
     ensures { result ≡ at_end entry }
 {
@@ -63,7 +63,7 @@ impl FragmentGrammar for AllSteps {
     ghost takes = { λ g. all_steps-takes };
 }
 
-/// Faults, whatever it is asked, also for a visibility.
+/// Answers with a fault for every entry point, `Vis` included.
 #[derive(Clone, Copy, Drop, Debug)]
 pub struct Faults;
 
@@ -84,7 +84,8 @@ impl FragmentGrammar for Faults {
 
 /// Answers as the grammar inside, and counts its calls.
 ///
-/// The count is in a cell, of which no contract tells anything. It starts again at zero when it is full.
+/// The count is in a cell, of which no contract says anything. It starts again at zero when it is
+/// full.
 #[derive(Drop)]
 pub struct Counting<'a, G> {
     pub inner: G,

@@ -1,4 +1,4 @@
--- Where the group closed last stands, as a builder goes on.
+-- Where the group that was closed last is, as a builder goes on.
 use Rattle.std.proofs.Common.{◌≡◌, ℕ, ◌≤◌, sym, length, List, [], ◌∷◌, ◌++◌, take, set, arith, Option, Some, None, inl, inr, length-append}
 use Rattle.std.proofs.lemmas.List.{take-append-le, take-set, length-set, length-take, take_at}
 use Rattle.tt_data.specs.declared.tree.TokenTree.{TokenTree}

@@ -1,4 +1,4 @@
--- What a cursor's calls find at its place, and where they leave it.
+-- What the calls of a cursor find at its position, and where they leave it.
 use Rattle.std.proofs.Common.{◌≡◌, ◌≢◌, ℕ, zero, suc, ◌+◌, ◌-◌, ◌<◌, ◌≤◌, List, [], ◌∷◌, ◌++◌, length, take, drop, refl, sym, ap, subst, ◌∙◌, arith, append_assoc, append-nil, slice_index_or, slice_get, Option, Some, None, option_map, IsNone, ◌↔◌, inl, inr}
 use Rattle.std.proofs.lemmas.List.{get_or-append_right, length-drop}
 use Rattle.std.proofs.lemmas.Bool.{cases_lt, true≢false}

@@ -1,4 +1,4 @@
--- Equality of trees by `==` is that of trees.
+-- Equality by `==` of trees is that of their forests.
 use Rattle.std.proofs.Common.{◌≡◌, ◌∙◌, Bool, true, List, [], ◌∷◌, ap, refl, sym}
 use Rattle.std.proofs.lemmas.Bool.{false≢true}
 use Rattle.std.specs.Cmp.{first_so, second_so}

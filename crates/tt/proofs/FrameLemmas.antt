@@ -1,4 +1,4 @@
--- What a cursor's flat list has before and after its place.
+-- The tokens of a cursor's flat list before and after its position.
 use Rattle.std.proofs.Common.{◌≡◌, ℕ, ◌+◌, ◌-◌, ◌≤◌, List, [], ◌∷◌, ◌++◌, length, take, drop, refl, sym, ap, ◌∙◌, arith, append_assoc, length-append, append-nil, slice_index_or}
 use Rattle.std.proofs.Math.Seq.{take-append_seam, drop-append_seam, get_or-append_seam}
 use Rattle.tt_data.specs.declared.tree.TokenTree.{TokenTree}

@@ -1,4 +1,4 @@
--- Glued puncts: what they come before, how many they are, and the same at other places.
+-- Glued operators: what precedes them, how many puncts they have, and the same for other spans.
 use Rattle.std.proofs.Common.{◌≡◌, ◌≤◌, Bool, true, false, refl, ap, ◌∙◌, arith, List, [], ◌∷◌, length, map, Option, Some, None, if◌then◌else◌}
 use Rattle.std.proofs.lemmas.List.{length-map}
 use Rattle.std.specs.Prelude.{option_map}

@@ -1,4 +1,4 @@
--- The very last token, once it is not joined to what follows.
+-- The very last token, once its spacing is `Alone`.
 use Rattle.std.proofs.Common.{◌≡◌, ◌≢◌, IsTrue, false, ℕ, ◌+◌, ◌-◌, ◌<◌, ◌≤◌, length, List, [], ◌∷◌, ◌++◌, take, drop, set, ap, subst, sym, refl, ◌∙◌, arith, Option, Some, None, length-append, append-nil, inl, inr, get_or}
 use Rattle.std.proofs.lemmas.Bool.{cases_lt}
 use Rattle.std.proofs.lemmas.List.{take-append-le, drop-append-le, take_all, take_more, set_at, length-take-le, drop_all}

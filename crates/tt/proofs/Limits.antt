@@ -1,4 +1,4 @@
--- How many tokens a builder has, and what that says of the answers of calls that add one.
+-- How many tokens a builder has, and what follows for the results of calls that add one.
 use Rattle.std.proofs.Common.{◌≡◌, ◌↔◌, ℕ, ◌+◌, ◌<◌, ◌≤◌, length, List, [], ◌∷◌, take, drop, ap, sym, ◌∙◌, arith, Result, Ok, Err, IsErrAnd}
 use Rattle.std.proofs.lemmas.List.{length-drop, length-take}
 use Rattle.tt_data.specs.Forest.{Forest, IsPreorder, forest_of, size}

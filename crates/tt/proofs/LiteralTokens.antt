@@ -1,4 +1,4 @@
--- Where a token that is a literal may be cut: after its first quote, and before its last one.
+-- Where the text of a literal token may be cut: after its first quote, and before its last one.
 use Rattle.std.proofs.Common.{◌≡◌, ℕ, ◌+◌, ◌-◌, ◌<◌, List, [], ◌∷◌, ◌++◌, length, get_or, sym, ap, ◌∙◌, append_assoc, arith}
 use Rattle.std.proofs.Math.Seq.{get_or-append_seam}
 use Rattle.std.proofs.lemmas.List.{length-append}

@@ -1,4 +1,4 @@
--- The places that a cursor keeps, of where the lists around its own begin.
+-- The indices that a cursor keeps, at which the lists around its own begin.
 use Rattle.std.proofs.Common.{◌≡◌, ◌≢◌, ℕ, ◌-◌, List, [], ◌∷◌, ◌++◌, take, drop, refl, sym, ap, subst, ◌∙◌, append_assoc, append-nil, Some, inl, inr}
 use Rattle.std.proofs.lemmas.List.{take-append-drop}
 use Rattle.tt_data.specs.declared.tree.Subtree.{Subtree}

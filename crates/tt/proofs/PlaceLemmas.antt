@@ -1,4 +1,4 @@
--- A place is that of its flat list and two numbers.
+-- A cursor's position is given by its flat list and two numbers.
 use Rattle.std.proofs.Common.{◌≡◌, ℕ, ◌+◌, ◌-◌, ◌<◌, ◌≤◌, List, [], ◌∷◌, refl, ap, ◌∙◌, arith, nat_eq, false}
 use Rattle.std.proofs.lemmas.Bool.{ne_eqb, le-leb, lt-leb}
 use Rattle.tt_data.specs.declared.tree.TokenTree.{TokenTree}

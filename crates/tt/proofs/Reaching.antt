@@ -1,4 +1,4 @@
--- What a tree under construction comes to, and how it is cut back.
+-- The forest of a tree under construction, and how it is cut back.
 use Rattle.std.proofs.Common.{◌≡◌, ◌+◌, ◌-◌, ◌<◌, ◌≤◌, length, List, [], ◌∷◌, ap, subst, sym, refl, ◌∙◌, arith, Some}
 use Rattle.std.proofs.lemmas.Bool.{eq-eqb, ne_eqb, le-leb}
 use Rattle.tt_data.specs.declared.span.Span.{Span}

@@ -1,4 +1,4 @@
--- What the first of some tokens says of the trees that they are.
+-- What the first of some tokens says about their trees.
 use Rattle.std.proofs.Common.{◌≡◌, ℕ, zero, suc, ◌-◌, ◌<◌, List, [], ◌∷◌, ◌++◌, length, drop, ap, refl, sym, ◌∙◌, arith, true, Option, Some, None, option_map, slice_get, slice_index_or}
 use Rattle.std.proofs.lemmas.List.{append-nil}
 use Rattle.tt_data.specs.declared.leaf.Ident.{Ident}

@@ -1,8 +1,8 @@
--- Anchors that are met, asked about and replaced, one after the other.
+-- Anchors that are found, asked about and replaced, one after another.
 --     changed_up_to      a list of which so many elements are changed
 --     among_, fresh      which anchors are in a list
---     Tells              what a table has once an anchor is met, or an answer is put there
---     follows_rule       entries that come of a rule
+--     Tells              what a table has after an anchor is found, or an answer is stored
+--     follows_rule       entries that a rule gives
 use Rattle.std.proofs.Common.{◌≡◌, ℕ, zero, suc, ◌<◌, ◌++◌, List, [], ◌∷◌, map, refl, ap, sym, ◌∙◌, subst, length, set, take, drop, get_or, arith, Bool, true, false, cond, Some, None, ◌||◌, nat_eq, if◌then◌else◌, ⊎_elim}
 use Rattle.std.proofs.lemmas.Bool.{cases_eq, cases_Bool, eq-eqb, ne_eqb, eqb-true, eqb-false, or_parts, or_left, or_right, or_cases}
 use Rattle.std.proofs.lemmas.Map.Keys.{IsDistinct-head, IsDistinct-push, IsDistinct-tail}

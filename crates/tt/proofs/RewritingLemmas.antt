@@ -1,4 +1,4 @@
--- A rewriting walk, step by step: what is left of it, and what it has made so far.
+-- A rewriting walk, step by step: what remains, and what it has made so far.
 use Rattle.std.proofs.Common.{◌≡◌, ℕ, ◌+◌, ◌*◌, ◌<◌, ◌≤◌, List, [], ◌∷◌, ◌++◌, length, reverse, ap, refl, sym, subst, ◌∙◌, arith, append_assoc, append-nil, Some, None}
 use Rattle.std.specs.List.{All}
 use Rattle.std.specs.Prelude.{Bool, true, false, if◌then◌else◌, is_none, Option, Result, Ok, Err, IfOk, IfErr}

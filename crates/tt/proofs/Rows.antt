@@ -1,4 +1,4 @@
--- Rows worked out by hand, by computation: `a(,)b` under construction, and tree by tree.
+-- Worked examples, by computation: `a(,)b` under construction, and tree by tree.
 use Rattle.std.proofs.Common.{◌≡◌, ℕ, ◌+◌, List, [], ◌∷◌, refl, codes, Some, None, true, false}
 use Rattle.tt_data.specs.declared.span.Span.{Span}
 use Rattle.tt_data.specs.declared.span.SyntaxContext.TheVariants.{Written}

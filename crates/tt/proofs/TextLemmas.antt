@@ -1,4 +1,4 @@
--- One tree more is printed: what is written, and what comes before the next token.
+-- One more tree is displayed: its text, and what comes before the next token.
 use Rattle.std.proofs.Common.{◌≡◌, ℕ, List, [], ◌∷◌, ◌++◌, Bool, true, false, codes, ap, refl, sym, ◌∙◌, append_assoc}
 use Rattle.std.proofs.lemmas.Bool.{false≢true}
 use Rattle.tt_data.specs.declared.delimiter.Delimiter.{Delimiter}

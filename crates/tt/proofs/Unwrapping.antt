@@ -1,4 +1,4 @@
--- A group's token taken out of a builder's tokens.
+-- The token of a group, removed from a builder's tokens.
 use Rattle.std.proofs.Common.{◌≡◌, ℕ, ◌+◌, ◌-◌, ◌<◌, ◌≤◌, length, List, [], ◌∷◌, ◌++◌, map, reverse, take, drop, set, ap, subst, sym, refl, ◌∙◌, arith, nat_lt, true, false, length-append, append_assoc, inl, inr, get_or}
 use Rattle.std.proofs.lemmas.Bool.{lt-ltb, le-ltb}
 use Rattle.std.proofs.lemmas.List.{append_cancel_left, length-drop, length-take, take-append-le, drop-append-le, take-append-drop, reverse-append, map-append, drop_more, get_or_at, set_at, map_more, length-map, length-take-le, take_at, drop_at, drop-drop}

@@ -1,4 +1,4 @@
--- Each move of a place passes one step of the walk.
+-- Each move of a position passes one event of the walk.
 use Rattle.std.proofs.Common.{◌≡◌, List, [], ◌∷◌, ◌++◌, refl, sym, ◌∙◌, append_assoc}
 use Rattle.tt_data.specs.Forest.{Forest, empty, leaf, group, joined}
 use Rattle.tt_data.specs.Flat.{joined-empty}

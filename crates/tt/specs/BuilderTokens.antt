@@ -1,4 +1,4 @@
--- How a builder's tokens hold a tree under construction. The token of the top and that of each open group count nothing yet.
+-- How a builder's tokens hold a tree under construction. The top and open groups have no count yet.
 use Rattle.std.specs.Prelude.{◌≡◌, ℕ, ◌+◌, ◌-◌, ◌<◌, ◌≤◌, ◌⊎◌, List, [], ◌∷◌, length, take, drop, Option, Some, None, Bool, false, nat_lt, if◌then◌else◌}
 use Rattle.tt_data.specs.declared.tree.TokenTree.{TokenTree}
 use Rattle.tt_data.specs.declared.tree.TokenTree.TheVariants as token
@@ -6,12 +6,12 @@ use Rattle.tt.specs.declared.top_subtree.builder.Opening.{Opening}
 use Rattle.tt_data.specs.Forest.{Forest, forest_of, IsPreorder, size, front}
 use Rattle.tt.specs.Building.{Opened, count_in, is_invisible}
 
--- how many tokens come before those trees that are in the innermost list; openings come innermost first
+-- how many tokens come before the trees of the innermost list; openings come innermost first
 abbrev pub start_of : List Opening → ℕ
 start_of [] = 1
 start_of (o ∷ outer) = o.at + 1
 
--- the trees inside the innermost open group, or the top's: those of the tokens after its own; openings come innermost first
+-- the trees inside the innermost open group, or the top; openings come innermost first
 abbrev pub here_of : List TokenTree → List Opening → Forest
 here_of tokens [] = forest_of (drop 1 tokens)
 here_of tokens (o ∷ outer) = forest_of (drop (o.at + 1) tokens)
@@ -22,22 +22,22 @@ groups_of tokens [] = []
 groups_of tokens (o ∷ outer) =
     record { kind = o.kind; open_span = o.open_span; before = here_of (take o.at tokens) outer } ∷ groups_of (take o.at tokens) outer
 
--- each opening is among the tokens, and between two openings, and after the last, come whole trees
+-- each opening is among the tokens; between two openings, and after the last, come whole trees
 abbrev pub IsHeld : List TokenTree → List Opening → Type 0
 IsHeld tokens [] = (0 < length tokens) × IsPreorder (drop 1 tokens)
 IsHeld tokens (o ∷ outer) = (o.at < length tokens) × IsPreorder (drop (o.at + 1) tokens) × IsHeld (take o.at tokens) outer
 
--- whole trees end right before this place, in the list that it is in
+-- whole trees end right before this index, in the list that it is in
 abbrev pub IsCut : ℕ → List TokenTree → List Opening → Type 0
 IsCut at tokens [] = IsHeld (take at tokens) []
 IsCut at tokens (o ∷ outer) = ((o.at < at) × IsHeld (take at tokens) (o ∷ outer)) ⊎ ((at < o.at) × IsCut at (take o.at tokens) outer)
 
--- a tree begins at the place, where there is one
+-- a tree begins at the index, if there is one
 abbrev pub IsTreeAt : Option ℕ → List TokenTree → List Opening → Type 0
 IsTreeAt None tokens openings = Unit {0}
 IsTreeAt (Some at) tokens openings = (at < length tokens) × IsCut at tokens openings
 
--- whole trees end right before this place, in the list that it is in: where an open group's token is, in the list around the group
+-- whole trees end right before this index in its list; an open group's token is in the list around
 abbrev pub IsSettled : ℕ → List Opened → Forest → Type 0
 IsSettled at [] here = (0 < at) × (size (front (at - 1) here) ≡ at - 1)
 IsSettled at (o ∷ outer) here =
@@ -49,6 +49,6 @@ abbrev pub begins_invisible : TokenTree → Bool
 begins_invisible (token.Subtree s) = is_invisible s.delimiter.kind
 begins_invisible (token.Leaf l) = false
 
--- an opening, once the token at a place is taken out
+-- an opening, once the token at an index is removed
 abbrev pub moved_back : ℕ → Opening → Opening
 moved_back at o = record { at = if nat_lt at o.at then o.at - 1 else o.at; kind = o.kind; open_span = o.open_span }

@@ -1,27 +1,29 @@
--- How a cursor's flat list and two numbers hold its place.
+-- How a cursor's flat list and two numbers hold its position.
 use Rattle.std.specs.Prelude.{◌≡◌, ℕ, ◌+◌, ◌-◌, ◌<◌, ◌≤◌, List, [], ◌∷◌, ◌++◌, ◌⊎◌, slice_index_or, nat_eq, nat_le, if◌then◌else◌}
 use Rattle.tt_data.specs.declared.tree.TokenTree.{TokenTree}
 use Rattle.tt_data.specs.declared.tree.TokenTree.TheVariants as token
 use Rattle.tt_data.specs.Forest.{Forest, empty, leaf, group, joined, size, preorder, forest_of}
 use Rattle.tt.specs.Places.{Around, Place}
 
--- all trees, where these groups are around the innermost list
+-- all trees, with these groups around the innermost list
 abbrev pub whole_in : List Around → Forest → Forest
 whole_in [] f = f
 whole_in (a ∷ outer) f = whole_in outer (joined a.before (group a.delimiter f a.after))
 
--- how many tokens come before the innermost list: for each group around it those of the trees before, and its head
+-- how many tokens come before the innermost list: before each group around it, and its head
 abbrev pub start_in : List Around → ℕ
 start_in [] = 0
 start_in (a ∷ outer) = start_in outer + size a.before + 1
 
--- the flat list has the trees of the place; the innermost list begins after so many tokens, and the place is after so many
+-- the flat list has all trees; so many tokens come before the innermost list, and the position
 pub record Stands (tokens : List TokenTree) (start at : ℕ) (p : Place) : Type 0 where
   pub whole : tokens ≡ preorder (whole_in p.around (joined p.before p.after))
   pub start_is : start ≡ start_in p.around
   pub at_is : at ≡ start + size p.before
 
--- the place among these trees, which come after those trees in a list with those groups around it: as many of their tokens as `at` come before the place, and as many as `start` before the innermost list (0 where that is this one)
+-- the position among these trees, which follow `before` in a list inside the groups `around`:
+-- `at` of their tokens come before it, and `start` before the innermost list (0 if that is this
+-- one)
 abbrev pub place_in : List Around → Forest → Forest → ℕ → ℕ → Place
 place_in around before empty start at = record { around = around; before = before; after = empty }
 place_in around before (leaf l rest) start at =
@@ -34,38 +36,39 @@ place_in around before (group d inner rest) start at =
     then place_in (record { delimiter = d; before = before; after = rest } ∷ around) empty inner (start - 1) (at - 1)
     else place_in around (joined before (group d inner empty)) rest (start - 1 - size inner) (at - 1 - size inner)
 
--- the place that a flat list and the two numbers hold
+-- the position that a flat list and the two numbers hold
 abbrev pub place_of : List TokenTree → ℕ → ℕ → Place
 place_of tokens start at = place_in [] empty (forest_of tokens) start at
 
--- and they do hold one
+-- they do hold a position
 abbrev pub IsPlaced : List TokenTree → ℕ → ℕ → Type 0
 IsPlaced tokens start at = Stands tokens start at (place_of tokens start at)
 
--- a token is the head of a group that begins after so many tokens and goes beyond so many
+-- a token is the head of a group that begins after so many tokens and ends past so many
 abbrev pub Reaches : TokenTree → ℕ → ℕ → Type 0
 Reaches (token.Leaf l) start n = ⊥
 Reaches (token.Subtree s) start n = n < start + s.len
 
--- the group with its head after so many tokens is a tree of the list that begins after so many: no group that begins between the two goes beyond that head, and the group that the list is in, if any, does
+-- the group with its head at `head` is in the list that begins at `start`: no group that begins
+-- between the two reaches past the head, and the group that the list is in, if any, does
 pub record IsTreeOf (tokens : List TokenTree) (head start : ℕ) : Type 0 where
   pub after : start ≤ head
   pub passed : (k : ℕ) (d : TokenTree) → start ≤ k → k < head → Reaches (slice_index_or tokens k d) (k + 1) head → ⊥
   pub inside : (d : TokenTree) → 0 < start → Reaches (slice_index_or tokens (start - 1) d) start head
 
--- the list that the group at this place is a tree of begins there
+-- the list with the group at this index begins there
 abbrev pub BeginsListOf : List TokenTree → ℕ → ℕ → Type 0
 BeginsListOf tokens head result = (start : ℕ) → IsTreeOf tokens head start → result ≡ start
 
--- where the lists begin that are around the innermost one, the nearest last
+-- the indices at which the lists around the innermost one begin, the nearest last
 abbrev pub starts_around : List Around → List ℕ
 starts_around [] = []
 starts_around (a ∷ outer) = starts_around outer ++ start_in outer ∷ []
 
--- these are where the nearest of those lists begin
+-- these are the beginnings of the nearest of those lists
 abbrev pub AreNearest : List ℕ → List Around → Type 0
 AreNearest starts around = (further : List ℕ) × (starts_around around ≡ further ++ starts)
 
--- the last of the places in a list is taken out of it, or in an empty one the place is that where the list of the group with this head begins
+-- the last beginning is removed, or from an empty list that of the list with this head is given
 abbrev pub IsNextOut : List TokenTree → ℕ → List ℕ → List ℕ → ℕ → Type 0
 IsNextOut tokens head old new result = (old ≡ new ++ result ∷ []) ⊎ ((old ≡ []) × ((new ≡ []) × BeginsListOf tokens head result))

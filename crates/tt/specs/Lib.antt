@@ -1,4 +1,4 @@
--- what the public contracts rest on
+-- what the public contracts use
 pub mod Records
 pub mod Views
 pub mod Elements

@@ -1,4 +1,4 @@
--- A place in a list of trees: between two trees of the list, or of a group in it.
+-- A position in a list of trees: between two trees of the list, or of a group in it.
 use Rattle.std.specs.Prelude.{◌≡◌, List, [], ◌∷◌, ◌++◌, refl, Option, Some, None}
 use Rattle.std.specs.Coded.{Coded, code_by, coded_list, coded×}
 use Rattle.tt_data.specs.declared.delimiter.Delimiter.{Delimiter}
@@ -11,13 +11,13 @@ use Rattle.tt_data.specs.Coded.{forest_code}
 use Rattle.tt_data.specs.Forest.{Forest, empty, leaf, group, joined, size, head_of}
 use Rattle.tt_data.specs.Walk.{Step, opens, closes, walk}
 
--- a group that the place is in, with the trees before and after it in its list
+-- a group that the position is in, with the trees before and after it in its list
 pub record Around : Type 0 where
   pub delimiter : Delimiter
   pub before : Forest
   pub after : Forest
 
--- the groups around the place, innermost first, and the trees before and after it in the innermost list
+-- the groups around the position, innermost first, and the trees before and after it in its list
 pub record Place : Type 0 where
   pub around : List Around
   pub before : Forest
@@ -31,13 +31,13 @@ beginning f = record { around = []; before = empty; after = f }
 abbrev pub IsEnd : Place → Type 0
 IsEnd p = (p.around ≡ []) × (p.after ≡ empty)
 
--- the token that a forest begins with: of a group its head
+-- the token that a forest begins with: for a group its head
 abbrev pub first_token : Forest → Option TokenTree
 first_token empty = None
 first_token (leaf l rest) = Some (token.Leaf l)
 first_token (group d inner rest) = Some (head_of d (size inner))
 
--- a place moved past the leaf that these trees begin with, or into the group
+-- a position moved past the leaf that these trees begin with, or into the group
 abbrev pub bumped_at : Place → Forest → Place
 bumped_at p empty = p
 bumped_at p (leaf l rest) = record p { before = joined p.before (leaf l empty); after = rest }
@@ -48,7 +48,7 @@ bumped_at p (group d inner rest) =
 abbrev pub bumped : Place → Place
 bumped p = bumped_at p p.after
 
--- a place moved out of the first of these groups, past it
+-- a position moved out of the first of these groups, past it
 abbrev pub ended_in : List Around → Place → Place
 ended_in [] p = p
 ended_in (a ∷ outer) p =
@@ -58,7 +58,7 @@ ended_in (a ∷ outer) p =
 abbrev pub ended : Place → Place
 ended p = ended_in p.around p
 
--- the next step of the walk from a place that has these trees after it: past a leaf, into a group, or at the end out of the innermost one
+-- the next position: past a leaf, into a group, or out of the innermost one
 abbrev pub moved_at : Place → Forest → Place
 moved_at p empty = ended p
 moved_at p f = bumped_at p f
@@ -66,21 +66,22 @@ moved_at p f = bumped_at p f
 abbrev pub moved : Place → Place
 moved p = moved_at p p.after
 
--- the head of the first of these groups, in which the place is
+-- the head of the first of these groups, in which the position is
 abbrev pub head_around : List Around → Place → Option Subtree
 head_around [] p = None
 head_around (a ∷ outer) p = Some (record { delimiter = a.delimiter; len = size (joined p.before p.after) })
 
--- the head of the innermost group around a place, where there is one
+-- the head of the innermost group around a position, if there is one
 abbrev pub innermost_head : Place → Option Subtree
 innermost_head p = head_around p.around p
 
--- the first two trees of a forest, where both are leaves
+-- the first two trees of a forest, if both are leaves
 abbrev pub two_leaves : Forest → Option (List Leaf)
 two_leaves (leaf a (leaf b rest)) = Some (a ∷ b ∷ [])
 two_leaves f = None
 
--- the steps of the walk that come before a place: those of the trees before each group around it, each with the group's opening, and those before it in the innermost list
+-- the events before a position: those of the trees before each group around it, each with the
+-- group's opening, and those before it in its list
 abbrev pub steps_before_in : List Around → Forest → List Step
 steps_before_in [] before = walk before
 steps_before_in (a ∷ outer) before = steps_before_in outer a.before ++ (opens a.delimiter.kind a.delimiter.open_span ∷ walk before)
@@ -88,7 +89,8 @@ steps_before_in (a ∷ outer) before = steps_before_in outer a.before ++ (opens 
 abbrev pub steps_before : Place → List Step
 steps_before p = steps_before_in p.around p.before
 
--- the steps that come after it: the rest of the innermost list, then for each group around it its closing and the rest of its list
+-- the events after it: the rest of its list, then for each group around it the closing and the
+-- rest of that list
 abbrev pub steps_after_in : List Around → Forest → List Step
 steps_after_in [] after = walk after
 steps_after_in (a ∷ outer) after = walk after ++ (closes a.delimiter.kind a.delimiter.close_span ∷ steps_after_in outer a.after)
@@ -96,11 +98,11 @@ steps_after_in (a ∷ outer) after = walk after ++ (closes a.delimiter.kind a.de
 abbrev pub steps_after : Place → List Step
 steps_after p = steps_after_in p.around p.after
 
--- the second place is one step further in the walk than the first
+-- the second position is one event further in the traversal than the first
 abbrev pub IsStep : Place → Place → Type 0
 IsStep p q = (s : Step) × (steps_before q ≡ steps_before p ++ s ∷ []) × (steps_after p ≡ s ∷ steps_after q)
 
--- a group around a place is stored as its parts in turn, and so is a place
+-- a group around a position is coded as its parts, and so is a position
 abbrev pub around_code : Coded Around
 around_code =
     code_by (Delimiter × (Forest × Forest)) (coded× delimiter_row.the_row.coded (coded× forest_code forest_code))

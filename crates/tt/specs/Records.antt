@@ -1,4 +1,4 @@
--- What a run of tokens holds.
+-- The tokens of a run.
 use Rattle.std.specs.Prelude.{ℕ, List, ◌∷◌, Option, Some, None, option_and_then, slice_get}
 use Rattle.tt_data.specs.declared.leaf.Ident.{Ident}
 use Rattle.tt_data.specs.declared.leaf.Leaf.{Leaf}
@@ -11,45 +11,45 @@ use Rattle.tt_data.specs.declared.tree.TokenTree.TheVariants as token
 use Rattle.tt.specs.declared.storage.Tokens.{Tokens}
 use Rattle.tt.specs.Building.{alone}
 
--- its tokens, one after the other
+-- the tokens, one after the other
 unfoldable pub items : Tokens → List TokenTree
 items t = t.records.now
 
--- the first token, where it is the head of a group, and those after it
+-- the first token if it is the head of a group, and those after it
 abbrev pub head_in : List TokenTree → Option (Subtree × List TokenTree)
 head_in (token.Subtree s ∷ more) = Some (s, more)
 head_in _ = None
 
--- the first token, where it is a leaf
+-- the first token if it is a leaf, and those after it
 abbrev pub leaf_in : List TokenTree → Option (Leaf × List TokenTree)
 leaf_in (token.Leaf l ∷ more) = Some (l, more)
 leaf_in _ = None
 
--- the first token, where it is a punct
+-- the first token if it is a punct, and those after it
 abbrev pub punct_in : List TokenTree → Option (Punct × List TokenTree)
 punct_in (token.Leaf (as_leaf.Punct p) ∷ more) = Some (p, more)
 punct_in _ = None
 
--- the first token, where it is an identifier
+-- the first token if it is an identifier, and those after it
 abbrev pub ident_in : List TokenTree → Option (Ident × List TokenTree)
 ident_in (token.Leaf (as_leaf.Ident i) ∷ more) = Some (i, more)
 ident_in _ = None
 
--- the kind of the first token, where it is a literal
+-- the kind of the first token if it is a literal, and the tokens after it
 abbrev pub literal_in : List TokenTree → Option (LitKind × List TokenTree)
 literal_in (token.Leaf (as_leaf.Literal l) ∷ more) = Some (l.kind, more)
 literal_in _ = None
 
--- the head that a token is, where it is one
+-- the head that a token is, if it is one
 abbrev pub as_head : TokenTree → Option Subtree
 as_head (token.Subtree s) = Some s
 as_head (token.Leaf l) = None
 
--- the head of a group that begins at a place, where one does
+-- the head of the group that begins at an index, if one does
 abbrev pub head_at : List TokenTree → ℕ → Option Subtree
 head_at tokens at = option_and_then as_head (slice_get tokens at)
 
--- a token that is not joined to what follows
+-- a token, with spacing `Alone` if it is a punct
 abbrev pub alone_token : TokenTree → TokenTree
 alone_token (token.Leaf l) = token.Leaf (alone l)
 alone_token (token.Subtree s) = token.Subtree s

@@ -1,4 +1,4 @@
--- Trees in which other anchors come in place of those that are there.
+-- Trees with their anchors replaced.
 use Rattle.std.specs.Prelude.{◌≡◌, ℕ, List, [], ◌∷◌, ◌++◌, nat_eq, if◌then◌else◌}
 use Rattle.std.specs.Fn.{Mut, Called, AlwaysReturns}
 use Rattle.std.specs.List.{list_any}
@@ -10,16 +10,16 @@ use Rattle.tt_data.specs.Forest.{map_spans, preorder}
 use Rattle.tt_data.specs.Spans.{delimiter_with, span_of}
 use Rattle.tt.specs.Tops.{Top}
 
--- what a finite map makes of an anchor: each entry is an anchor and the one that comes in its place, and an anchor without an entry stays
+-- what a finite map makes of an anchor: the replacement in its entry; without an entry it stays
 abbrev pub renamed : List (ℕ × ℕ) → ℕ → ℕ
 renamed [] a = a
 renamed (e ∷ more) a = if nat_eq e.0 a then e.1 else renamed more a
 
--- a span with its anchor changed by h
+-- a span with h applied to its anchor
 abbrev pub anchor_with : (ℕ → ℕ) → Span → Span
 anchor_with h s = record { range = s.range; anchor = h s.anchor; ctx = s.ctx }
 
--- a tree with the anchor of each span changed by h, those of its own brackets too
+-- a tree with h applied to the anchor of each span, those of its own brackets too
 abbrev pub relabelled : (ℕ → ℕ) → Top → Top
 relabelled h t = record { delimiter = delimiter_with (anchor_with h) t.delimiter; inner = map_spans (anchor_with h) t.inner }
 
@@ -33,11 +33,11 @@ anchors_in [] = []
 anchors_in (token.Leaf l ∷ more) = (span_of l).anchor ∷ anchors_in more
 anchors_in (token.Subtree s ∷ more) = s.delimiter.open_span.anchor ∷ s.delimiter.close_span.anchor ∷ anchors_in more
 
--- the anchors of a tree: those of the tokens inside, a group's before what it has inside, and then those of the tree's own brackets
+-- the anchors of a tree: of its tokens, a group's before those inside, then of its own brackets
 abbrev pub anchors_of : Top → List ℕ
 anchors_of t = anchors_in (preorder t.inner) ++ anchors_of_brackets t.delimiter
 
--- one more anchor, at the end, unless it is there
+-- one more anchor, at the end, unless it is there already
 abbrev pub with_anchor : List ℕ → ℕ → List ℕ
 with_anchor met a = if list_any (nat_eq a) met then met else met ++ a ∷ []
 
@@ -46,7 +46,7 @@ abbrev pub met_after : List ℕ → List ℕ → List ℕ
 met_after met [] = met
 met_after met (a ∷ more) = met_after (with_anchor met a) more
 
--- each anchor once, in the order in which they come for the first time
+-- each anchor once, in the order of first occurrence
 abbrev pub by_first_use : List ℕ → List ℕ
 by_first_use = met_after []
 

@@ -1,4 +1,4 @@
--- What becomes of a list of trees where a callback says of each token, in the order of the walk, whether it stays.
+-- What a list of trees becomes if a callback says of each token, in pre-order, whether it stays.
 use Rattle.std.specs.Prelude.{◌≡◌, ◌⊎◌, List, [], ◌∷◌, ◌++◌, Option, Some, None}
 use Rattle.std.specs.Borrow.{Bor}
 use Rattle.std.specs.List.{All}
@@ -14,12 +14,12 @@ use Rattle.tt.specs.Building.{Building, pushed, extended, opened}
 use Rattle.tt.specs.Tops.{Top, forest_of_top}
 use Rattle.tt.specs.Views.{forest}
 
--- the trees that come in a token's place: none where it stays
+-- the trees that replace a token: none if it stays
 abbrev pub replacement : TransformTtAction → Option Forest
 replacement Keep = None
 replacement (ReplaceWith v) = Some (forest v)
 
--- a call of the callback: the token that it was asked about, and the trees that come in its place, if it gives way
+-- a call of the callback: the token it was asked about, and the trees that replace it, if any
 pub record Call : Type 0 where
   pub token : TokenTree
   pub put : Option Forest
@@ -28,7 +28,7 @@ pub record Call : Type 0 where
 abbrev pub IsAnswered : {F : Type 0} → Mut F (Bor TokenTree × Unit {0}) TransformTtAction → F → Call → F → Type 0
 IsAnswered g f c f' = (action : TransformTtAction) × CalledAt g f c.token action f' × (replacement action ≡ c.put)
 
--- a tree under construction after a token: the trees that come in its place are there, or else the leaf, or the group is open
+-- a tree under construction after a token: with its replacement, or the leaf, or the group opened
 abbrev with_put : Option Forest → TokenTree → Building → Building
 with_put (Some f) t b = extended b f
 with_put None (token.Leaf l) b = pushed b l
@@ -38,9 +38,9 @@ with_put None (token.Subtree s) b = opened b s.delimiter.kind s.delimiter.open_s
 abbrev pub with_answer : Call → Building → Building
 with_answer c b = with_put c.put c.token b
 
--- these calls, one after the other, make the second list of trees of the first
--- each tree is asked about, a group by its head; a leaf that stays is there, and a group that stays is there with what is made of the trees inside
--- a tree that gives way is not walked, and what is put in its place is there
+-- these calls, one after the other, make the second list of trees from the first. Each tree is
+-- asked about, a group by its head; a leaf that stays is kept, and a group that stays is kept
+-- with what becomes of the trees inside. A tree that is replaced is not traversed
 pub data IsRewritten : Forest → List Call → Forest → Type 0 where
   nothing : IsRewritten empty [] empty
   leaf_stays : (l : Leaf) (rest g : Forest) (more : List Call)
@@ -54,14 +54,14 @@ pub data IsRewritten : Forest → List Call → Forest → Type 0 where
       → IsRewritten rest more g
       → IsRewritten (group d inner rest) (record { token = head_of d (size inner); put = Some put } ∷ more) (joined put g)
 
--- the call is about this tree's own head, and leaves one group: the head stays, or one group comes in the tree's place
+-- the call is about this tree's own head, which stays, or one group replaces the tree
 abbrev pub LeavesOneGroup : Top → Call → Type 0
 LeavesOneGroup t c = (c.token ≡ head_of t.delimiter (size t.inner)) × ((c.put ≡ None) ⊎ ((u : Top) × (c.put ≡ Some (forest_of_top u))))
 
--- the call takes its tree away
+-- the call removes its tree
 abbrev pub IsRemoval : Call → Type 0
 IsRemoval c = c.put ≡ Some empty
 
--- with these calls first, and then each tree left taken away, this comes of a list of trees
+-- with these calls first, and then each tree left removed, a list of trees becomes this
 abbrev pub IsStarted : Forest → List Call → Forest → Type 0
 IsStarted f calls g = (more : List Call) × All IsRemoval more × IsRewritten f (calls ++ more) g

@@ -1,4 +1,4 @@
--- The two ways of printing, as the code names them, and what it carries along.
+-- The two styles of writing, as the code names them, and the space before the next token.
 use Rattle.std.specs.Prelude.{ℕ, List, [], ◌∷◌, Bool, codes, if◌then◌else◌}
 use Rattle.tt_data.specs.declared.leaf.Spacing.{Spacing}
 use Rattle.tt.specs.declared.display.Style.{Style}
@@ -16,7 +16,7 @@ touches_in Pretty = touches_pretty
 abbrev pub space_if : Bool → List ℕ
 space_if spaced = if spaced then codes " " else []
 
--- what comes before a token after these steps, with this before their own first: the same where they have no token
+-- what comes before a token after these events, given what comes before their first token
 abbrev pub space_behind : (Spacing → Bool) → List ℕ → List Step → List ℕ
 space_behind touches space [] = space
 space_behind touches space (at_leaf l ∷ more) = space_behind touches (space_after touches l) more

@@ -10,7 +10,7 @@ use Rattle.tt_data.specs.Displayed.{displayed_leaf}
 use Rattle.tt_data.specs.Forest.{Forest}
 use Rattle.tt_data.specs.Walk.{Step, at_leaf, opens, closes, walk}
 
--- the bracket that opens a group of this sort, and the one that closes it
+-- the bracket that opens a group of this kind, and the one that closes it
 abbrev pub opening_text : DelimiterKind → List ℕ
 opening_text Parenthesis = codes "("
 opening_text Brace = codes "{"
@@ -23,13 +23,13 @@ closing_text Brace = codes "}"
 closing_text Bracket = codes "]"
 closing_text Invisible = []
 
--- where trees are displayed, a punct that isn't `Alone` touches what follows
+-- in displayed text a punct that isn't `Alone` touches what follows
 abbrev pub touches_displayed : Spacing → Bool
 touches_displayed Alone = false
 touches_displayed Joint = true
 touches_displayed JointHidden = true
 
--- where they are printed prettily, one that is `Joint` does
+-- in pretty text a punct that is `Joint` touches what follows
 abbrev pub touches_pretty : Spacing → Bool
 touches_pretty Alone = false
 touches_pretty Joint = true
@@ -41,7 +41,7 @@ module _ (touches : Spacing → Bool) where
   space_after (as_leaf.Punct p) = if touches p.spacing then [] else codes " "
   space_after l = codes " "
 
-  -- the text of the steps of a walk, with this before the first token; nothing comes right inside brackets, a space after them, and invisible ones are no tokens
+  -- the text of events, with `space` before the first token; invisible brackets have no text
   abbrev pub text_after : List ℕ → List Step → List ℕ
   text_after space [] = []
   text_after space (at_leaf l ∷ more) = space ++ (displayed_leaf l ++ text_after (space_after l) more)
@@ -54,6 +54,6 @@ module _ (touches : Spacing → Bool) where
 abbrev pub displayed_text : Forest → List ℕ
 displayed_text f = text_after touches_displayed [] (walk f)
 
--- the text of a list of trees, printed prettily
+-- the text of a list of trees in the pretty style
 abbrev pub pretty_text : Forest → List ℕ
 pretty_text f = text_after touches_pretty [] (walk f)

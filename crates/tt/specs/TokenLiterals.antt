@@ -1,4 +1,4 @@
--- The literal that a whole token is: the text inside of the letters, hashes and quotes of its form, and the suffix.
+-- The literal that a whole token is: the text inside letters, hashes and quotes, and the suffix.
 use Rattle.std.specs.Prelude.{◌≡◌, ℕ, ◌-◌, List, ◌++◌, length, take, drop}
 use Rattle.tt_data.specs.Displayed.{form_letters, form_hashes, form_quote}
 use Rattle.tt_data.specs.Literals.{literal_of}
@@ -14,17 +14,17 @@ form_begin form = form_letters form ++ form_hashes form ++ form_quote form
 abbrev pub form_end : LitKind → List ℕ
 form_end form = form_quote form ++ form_hashes form
 
--- a token begins and ends as a literal of this form does, and what is after the byte at this place is its suffix
+-- a token begins and ends as a literal of this form does, with its suffix from this byte on
 pub record IsLiteralToken (form : LitKind) (suffix_start : ℕ) (token : List ℕ) : Type 0 where
   pub text : List ℕ
   pub suffix : List ℕ
   pub is : token ≡ form_begin form ++ (text ++ (form_end form ++ suffix))
   pub starts : suffix_start ≡ length (form_begin form ++ (text ++ form_end form))
 
--- what is in a token between what a literal begins and ends with, where the suffix starts at a place
+-- what a token has between its quotes, where the suffix starts at this byte
 abbrev pub inside_of : LitKind → ℕ → List ℕ → List ℕ
 inside_of form suffix_start token = take (suffix_start - length (form_begin form) - length (form_end form)) (drop (length (form_begin form)) token)
 
--- the literal that a token is, of which the suffix starts at a place
+-- the literal that a token is, where the suffix starts at this byte
 abbrev pub literal_in : LitKind → ℕ → List ℕ → Span → Literal
 literal_in form suffix_start token span = literal_of (inside_of form suffix_start token) (drop suffix_start token) form span

@@ -22,7 +22,7 @@ pub record Top : Type 0 where
 abbrev pub head_of : Top → Subtree
 head_of t = record { delimiter = t.delimiter; len = size t.inner }
 
--- no brackets, with the two ends where they are here
+-- no brackets, with these two ends
 abbrev pub no_brackets : DelimSpan → Delimiter
 no_brackets span = record { open_span = span.open_span; close_span = span.close_span; kind = Invisible }
 
@@ -44,11 +44,11 @@ abbrev pub is_leaf : Option TokenTree → Bool
 is_leaf (Some (token.Leaf l)) = true
 is_leaf found = false
 
--- whether a leaf is at this place of a flat list
+-- whether a leaf is at this index of a flat list
 abbrev pub has_leaf_at : ℕ → List TokenTree → Bool
 has_leaf_at n tokens = is_leaf (slice_get tokens n)
 
--- the tree that a flat list begins with, of which all tokens after the first are the inside; junk for a list that begins with no group
+-- the tree that a flat list is: a head, and all others inside; an empty one if it begins otherwise
 abbrev pub tree_of : List TokenTree → Top
 tree_of (token.Subtree s ∷ more) = record { delimiter = s.delimiter; inner = forest_of more }
 tree_of tokens = record { delimiter = record { open_span = no_span; close_span = no_span; kind = Invisible }; inner = empty }
@@ -57,7 +57,7 @@ tree_of tokens = record { delimiter = record { open_span = no_span; close_span =
 abbrev pub IsOneGroup : List TokenTree → Type 0
 IsOneGroup tokens = tokens_of (tree_of tokens) ≡ tokens
 
--- a whole tree is stored as its two parts
+-- a whole tree is coded as its two parts
 abbrev pub top_code : Coded Top
 top_code =
     code_by (Delimiter × Forest) (coded× delimiter_row.the_row.coded forest_code)

@@ -1,4 +1,4 @@
--- What a borrowed list of trees shows, and what a borrowed group.
+-- The trees of a borrowed list, and of a borrowed group.
 use Rattle.tt_data.specs.Forest.{Forest, forest_of}
 use Rattle.tt.specs.Records.{items}
 use Rattle.tt.specs.declared.view.SubtreeView.{SubtreeView}
@@ -6,7 +6,7 @@ use Rattle.tt.specs.declared.view.TokenTreesView.{TokenTreesView}
 use Rattle.tt.specs.Groups.{group_in}
 use Rattle.tt.specs.Tops.{Top}
 
--- the list's trees
+-- the trees of the list
 unfoldable pub forest : TokenTreesView → Forest
 forest v = forest_of (items v.tokens)
 

@@ -1,4 +1,4 @@
--- Where a walk that rewrites trees is, and what a step of it does.
+-- Where a traversal that rewrites trees is, and what one step of it does.
 use Rattle.std.specs.Prelude.{◌≡◌, List, ◌∷◌, reverse, is_none, if◌then◌else◌}
 use Rattle.tt_data.specs.declared.span.Span.{Span}
 use Rattle.tt_data.specs.declared.tree.Subtree.{Subtree}
@@ -8,28 +8,28 @@ use Rattle.tt.specs.declared.top_subtree.transform.Walk.{Walk}
 use Rattle.tt.specs.Building.{Building, closed}
 use Rattle.tt.specs.Rewriting.{Call, with_answer}
 
--- the tree so far, the trees left in the innermost group, and the groups around it, the innermost first
+-- the tree so far, the trees left in the innermost group, and those around it, innermost first
 pub record Standing : Type 0 where
   pub tree : Building
   pub left : Forest
   pub around : List Around
 
--- the same of the code's walk
+-- where the code's traversal is
 abbrev pub standing : Walk → Standing
 standing w = record { tree = w.tree.tree; left = w.left; around = reverse w.outer.items }
 
--- a group that stays was passed: the walk goes on over these trees, which are inside it
+-- a group stays: the traversal goes on with these trees, which are inside it
 abbrev pub gone_inside : Span → Forest → Standing → Standing
 gone_inside close_span inside s =
     record { tree = s.tree; left = inside; around = record { close_span = close_span; rest = s.left } ∷ s.around }
 
--- the callback was asked about a group with these trees inside, which was passed: the walk goes on inside it where it stays, and else after it
+-- the callback was asked about a group: the traversal enters it if it stays, else goes on after it
 abbrev pub entered : Call → Subtree → Forest → Standing → Standing
 entered c head inside s =
     if is_none c.put
     then record { tree = with_answer c s.tree; left = inside; around = record { close_span = head.delimiter.close_span; rest = s.left } ∷ s.around }
     else record { tree = with_answer c s.tree; left = s.left; around = s.around }
 
--- the innermost group is closed, and the walk goes on after it
+-- the innermost group is closed, and the traversal goes on after it
 abbrev pub LeavesGroup : Standing → Standing → Type 0
 LeavesGroup s t = (a : Around) × (s.around ≡ a ∷ t.around) × (t.left ≡ a.rest) × (t.tree ≡ closed s.tree a.close_span)

@@ -1,7 +1,8 @@
-//! A place in a list of trees that walks through it, leaf by leaf and bracket by bracket.
+//! Cursors: positions in a list of trees that go through it leaf by leaf and bracket by bracket.
 //!
-//! A `Cursor` goes into groups and out of them again, where a `TtIter` passes a group as one tree. Its contracts
-//! see it as a place among trees: those before it, those after it, and the groups around it.
+//! A `Cursor` enters groups and leaves them again, where a `TtIter` passes a group as one tree.
+//! Its contracts see it as a position among trees: those before it, those after it, and the
+//! groups around it.
 ghost use Rattle.tt.specs.CursorTokens.{BeginsListOf, IsNextOut, Reaches};
 ghost use Rattle.tt.specs.Places.{two_leaves};
 ghost use Rattle.tt.specs.Records.{items, as_head};
@@ -16,22 +17,23 @@ use std::alloc::AllocError;
 use std::marker::Model;
 use tt_data::{Leaf, Subtree, TokenTree};
 
-/// A place in a list of trees: between two trees of the list, or of a group in it.
+/// A position in a list of trees: between two trees of the list, or of a group in it.
 ///
-/// Its walk goes over leaves, openings and closings. It takes no memory. A step looks at the innermost
-/// group's head and at most two tokens. Of the lists around its own it knows the sixteen that it came
-/// through last; leaving a group for one that is further out looks back over that list's tokens.
+/// It walks over leaves, openings and closings, and takes no memory. A step looks at the innermost
+/// group's head and at most two tokens. It remembers the nearest sixteen lists around its own;
+/// leaving a group for one further out looks back over that list's tokens.
 #[derive(Debug, Drop)]
 pub struct Cursor<'a> {
     tokens: Tokens<'a>,
-    // Where the innermost list begins: 0 in no group, else just after the group's head.
+    // The index at which the innermost list begins: 0 in no group, else just after the group's
+    // head.
     start: usize,
     at: usize,
-    // Where the nearest of the lists around that one begin, the nearest last.
+    // The indices at which the nearest of the lists around that one begin, the nearest last.
     nearest: ArrayVec<usize, NEAREST>,
 }
 
-// Of how many lists around its own a cursor knows at most where they begin.
+// Of how many lists around its own a cursor knows at most the beginnings.
 const NEAREST: usize = 16;
 
 impl<'a> Model for Cursor<'a> {
@@ -53,7 +55,7 @@ impl<'a> Clone for Cursor<'a> {
 
     ghost is_infallible = { λ _. ⊤ };
 
-    /// A cursor of its own at the same place. It is never refused.
+    /// A second cursor at the same position. It is never refused.
     fn clone(&self) -> Result<Cursor<'a>, AllocError> {
         Ok(Cursor {
             tokens: self.tokens,
@@ -64,7 +66,7 @@ impl<'a> Clone for Cursor<'a> {
     }
 }
 
-// A clone of the nearest places.
+// A clone of the nearest beginnings.
 fn copied(nearest: &ArrayVec<usize, NEAREST>) -> ArrayVec<usize, NEAREST>
     ensures { result ≡ nearest.now }
 {
@@ -74,7 +76,7 @@ fn copied(nearest: &ArrayVec<usize, NEAREST>) -> ArrayVec<usize, NEAREST>
     copy
 }
 
-// Puts a place last, in place of the first where there is no more room.
+// Appends a beginning, in place of the first one if there is no more room.
 fn push_nearest(nearest: &mut ArrayVec<usize, NEAREST>, start: usize)
     ensures { (gone : List ℕ) × (gone ++ nearest.new.items ≡ nearest.old.items ++ start ∷ []) }
 {
@@ -92,8 +94,7 @@ fn reaches(group: Subtree, start: usize, head: usize) -> bool
     head - start < group.usize_len()
 }
 
-// Whether the token just before `start` is the head of a group, this one, that has the token at `head`
-// inside.
+// Whether `group`, the head just before `start` if there is one, has the token at `head` inside.
 fn has_inside(group: Option<Subtree>, start: usize, head: usize) -> bool
     requires { start ≤ head }
     ensures { (t : TokenTree) → as_head t ≡ group → (IsTrue result ↔ Reaches t start head) }
@@ -104,7 +105,7 @@ fn has_inside(group: Option<Subtree>, start: usize, head: usize) -> bool
     }
 }
 
-// Where the list begins that the group with its head at `head` is a tree of.
+// The index at which the list begins that has the group with its head at `head`.
 fn list_around(tokens: Tokens<'_>, head: usize) -> usize
     requires { head ≤ length (items tokens) }
     ensures { BeginsListOf (items tokens.entry) head result }
@@ -119,7 +120,8 @@ fn list_around(tokens: Tokens<'_>, head: usize) -> usize
     0
 }
 
-// `list_around`, from the last of the nearest places, which is taken out, where there are any.
+// The answer of `list_around`: the last of the nearest beginnings, which is removed, or else
+// found anew.
 fn next_out(nearest: &mut ArrayVec<usize, NEAREST>, tokens: Tokens<'_>, head: usize) -> usize
     requires { head ≤ length (items tokens) }
     ensures { IsNextOut (items tokens.entry) head nearest.old.items nearest.new.items result }
@@ -130,7 +132,7 @@ fn next_out(nearest: &mut ArrayVec<usize, NEAREST>, tokens: Tokens<'_>, head: us
     }
 }
 
-// The first two trees, where both are leaves.
+// The first two trees, if both are leaves.
 fn leaf_pair(trees: TokenTreesView<'_>) -> Option<[Leaf; 2]>
     ensures { result ≡ two_leaves (forest trees.entry) }
 {
@@ -143,7 +145,7 @@ impl<'a> Cursor<'a> {
     ghost use Rattle.tt_data.specs.Forest.{empty};
     ghost use Rattle.tt.specs.Places.{beginning, IsEnd, first_token, bumped, ended, moved, innermost_head};
 
-    /// Before the first tree of the list.
+    /// A cursor before the first tree of the list.
     pub fn new(origin: TokenTreesView<'a>) -> Cursor<'a>
         ensures { result ≡ beginning (forest origin.entry) }
     {
@@ -155,7 +157,7 @@ impl<'a> Cursor<'a> {
         }
     }
 
-    // The trees after the place in the innermost list.
+    // The trees after the position in the innermost list.
     pub(crate) fn after(&self) -> TokenTreesView<'a>
         ensures { forest result ≡ self.now.after }
     {
@@ -174,7 +176,7 @@ impl<'a> Cursor<'a> {
         self.tokens.head_at(self.start.checked_sub(1)?)
     }
 
-    /// Whether it is after the last tree, in no group.
+    /// Whether it is in no group, after the last tree.
     pub fn eof(&self) -> bool
         ensures { IsTrue result ↔ IsEnd self.now }
     {
@@ -188,7 +190,7 @@ impl<'a> Cursor<'a> {
         self.start == 0
     }
 
-    /// The token at the place: a leaf, or the head of a group, and none at the end of a list.
+    /// The token at the position: a leaf, or the head of a group. `None` at the end of a list.
     pub fn token_tree(&self) -> Option<TokenTree>
         ensures token { result ≡ first_token self.now.after }
         ensures at_end { IsNone result ↔ (self.now.after ≡ empty) }
@@ -196,7 +198,7 @@ impl<'a> Cursor<'a> {
         self.after().tokens.first()
     }
 
-    /// Leaves the innermost group, at whose end it is, and answers the head of that group.
+    /// Leaves the innermost group, at whose end the cursor is, and answers that group's head.
     pub fn end(&mut self) -> Subtree
         requires inside { self.old.around ≢ [] }
         requires at_end { self.old.after ≡ empty }
@@ -210,7 +212,7 @@ impl<'a> Cursor<'a> {
         group
     }
 
-    /// Goes past the leaf that comes next, or into the group.
+    /// Goes past the leaf that comes next, or into the group that comes next. A tree comes next.
     pub fn bump(&mut self)
         requires { self.old.after ≢ empty }
         ensures { self.new ≡ bumped self.old }
@@ -225,8 +227,8 @@ impl<'a> Cursor<'a> {
         }
     }
 
-    /// Goes past the leaf that comes next, or into the group, or at the end of a list out of the
-    /// innermost group.
+    /// Goes past the leaf that comes next, or into the group; at the end of a list, out of the
+    /// innermost group. It is not at `eof`.
     pub fn bump_or_end(&mut self)
         requires { IsEnd self.old → ⊥ }
         ensures { self.new ≡ moved self.old }
@@ -238,14 +240,14 @@ impl<'a> Cursor<'a> {
         }
     }
 
-    /// The two leaves that come next in the list: none where one of them is a group or missing.
+    /// The next two trees of the list, if both are leaves.
     pub fn peek_two_leaves(&self) -> Option<[Leaf; 2]>
         ensures { result ≡ two_leaves self.now.after }
     {
         leaf_pair(self.after())
     }
 
-    /// The trees before the place, which is in no group.
+    /// The trees before the position. It is in no group.
     pub fn crossed(&self) -> TokenTreesView<'a>
         requires { self.now.around ≡ [] }
         ensures { forest result ≡ self.now.before }
@@ -258,7 +260,7 @@ impl<'a> Cursor<'a> {
 impl<'a> TokenTreesView<'a> {
     ghost use Rattle.tt.specs.Places.{beginning};
 
-    /// A place in the list, before the first tree.
+    /// A cursor before the first tree of the list.
     pub fn cursor(&self) -> Cursor<'a>
         ensures { result ≡ beginning (forest self.now) }
     {

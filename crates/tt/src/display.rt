@@ -1,4 +1,4 @@
-//! How trees are printed.
+//! Writes trees as text.
 ghost use Rattle.std.specs.Prelude.{◌≡◌, ◌++◌, [], Some, IfOk, IsOkUnless, OnOk, string_bytes};
 ghost use Rattle.std.specs.Fmt.{WritesOnOk};
 ghost use Rattle.tt_data.specs.fault.TtFault.TheVariants as fault;
@@ -58,7 +58,7 @@ impl fmt::Display for TopSubtree {
     }
 }
 
-// Trees to be printed prettily.
+// Trees to be written in the pretty style.
 #[derive(Clone, Copy)]
 struct Prettily<'a> {
     trees: TokenTreesView<'a>,
@@ -73,7 +73,7 @@ impl fmt::Display for Prettily<'_> {
 }
 
 /// The text of these trees: their tokens with a space between two of them, but none right inside
-/// brackets and none after a `Joint` punct. Invisible brackets are no tokens.
+/// delimiters and none after a `Joint` punct. Invisible delimiters are no tokens.
 ///
 /// `Memory` is its only error.
 pub fn pretty(alloc: Global, tkns: TokenTreesView<'_>) -> Result<String, TtFault>
@@ -96,8 +96,8 @@ fn write_all<W: fmt::Write>(
     write_trees(trees.iter(), style, &mut spaced, f)
 }
 
-// Writes the text of these trees after a token: `spaced` is whether a space comes before the first
-// token of theirs, and then whether one comes before the next.
+// Writes the text of these trees after a token. `spaced` says whether a space comes before their
+// first token, and afterwards whether one comes before the next.
 fn write_trees<W: fmt::Write>(
     trees: TtIter<'_>,
     style: Style,
@@ -128,7 +128,7 @@ fn write_trees<W: fmt::Write>(
     Ok(())
 }
 
-// Writes one leaf so.
+// Writes one leaf, after a space if `spaced` says so.
 fn write_leaf<W: fmt::Write>(
     leaf: Leaf,
     style: Style,
@@ -144,7 +144,7 @@ fn write_leaf<W: fmt::Write>(
     Ok(())
 }
 
-// Whether brackets of this sort are no tokens.
+// Whether brackets of this kind have no text.
 fn is_bare(kind: DelimiterKind) -> bool
     ensures { result ≡ is_invisible kind }
 {

@@ -3,7 +3,7 @@ use crate::storage::Tokens;
 use std::marker::Model;
 use tt_data::TokenTree;
 
-/// A walk over all tokens of a list of trees, each group's head before what it has inside.
+/// A walk over all tokens of a list of trees: a group's head before the tokens inside.
 #[derive(Drop)]
 pub struct FlatTokens<'a> {
     pub(crate) tokens: Tokens<'a>,
@@ -30,7 +30,7 @@ impl<'a> Iterator for FlatTokens<'a> {
 
     ghost remaining = { item_count (λ left. left) };
 
-    /// The next token: none where none are left.
+    /// The next token, or `None` at the end.
     fn next(&mut self) -> Option<TokenTree> {
         let (first, more) = self.tokens.split_first()?;
         self.tokens = more;

@@ -1,4 +1,4 @@
-//! Flat lists of tokens: whether one is the tokens of a list of trees, and where its trees end.
+//! Checks flat lists of tokens: whether one holds a list of trees, and where its trees end.
 ghost use Rattle.std.specs.Prelude.{◌≡◌, ◌↔◌, ◌≤◌, ◌^◌, length, IsTrue};
 ghost use Rattle.tt_data.specs.Forest.{size, front, IsPreorder};
 ghost use Rattle.tt.specs.Records.{items};
@@ -7,7 +7,7 @@ ghost use Rattle.tt.specs.Tops.{IsOneGroup};
 use crate::iter::{TtElement, TtIter};
 use crate::storage::Tokens;
 
-// Whether a flat list holds trees: each group counts what whole trees after it have.
+// Whether a flat list holds trees: each group counts the tokens of whole trees after it.
 pub(crate) fn is_flat(tokens: Tokens<'_>) -> bool
     ensures { IsTrue result ↔ IsPreorder (items tokens.entry) }
 {
@@ -35,7 +35,7 @@ pub(crate) fn is_one_group(tokens: Tokens<'_>) -> bool
     }
 }
 
-// Whether one of these trees ends after so many tokens, or none is asked for.
+// Whether one of these trees ends after `count` tokens, or `count` is 0.
 pub(crate) fn is_tree_end(mut trees: TtIter<'_>, count: usize) -> bool
     ensures { IsTrue result ↔ (size (front count trees.entry) ≡ count) }
 {
@@ -54,7 +54,8 @@ pub(crate) fn is_tree_end(mut trees: TtIter<'_>, count: usize) -> bool
     true
 }
 
-// `is_tree_end`, where one is known to end after `known` tokens, if there are as many.
+// The answer of `is_tree_end`, where a tree is known to end after `known` tokens if there are as
+// many.
 pub(crate) fn is_later_end(trees: TtIter<'_>, known: usize, count: usize) -> bool
     requires { known ≤ size trees → size (front known trees) ≡ known }
     ensures { IsTrue result ↔ (size (front count trees.entry) ≡ count) }

@@ -1,8 +1,8 @@
-//! Walks over a list of trees, tree by tree.
+//! Iterators over a list of trees, tree by tree.
 //!
-//! A `TtIter` is before the trees that are left, and its contracts see it as the list of those. It gives each
-//! tree as a `TtElement`, and takes no memory. What a walk can be asked besides is in the modules below this one:
-//! the first tree where it is of a sort, what is expected next, and points of a walk.
+//! A `TtIter` is before the trees that are left, and its contracts see it as the list of those.
+//! It gives each tree as a `TtElement`, and takes no memory. The modules below add what else it
+//! can be asked: the first tree of a kind, what is expected next, and savepoints.
 ghost use Rattle.std.specs.Prelude.{◌≡◌, ⊤, IsTrue, ◌↔◌};
 
 pub(crate) mod expect;
@@ -16,7 +16,8 @@ use std::alloc::AllocError;
 use std::marker::Model;
 use tt_data::{Leaf, Span, Subtree, TokenTree};
 
-/// A walk over a list of trees. It is before the trees that are left.
+/// A walk over a list of trees, group by group as one tree. Contracts see it as the trees that are
+/// left.
 #[derive(Debug, Drop)]
 pub struct TtIter<'a> {
     pub(crate) tokens: Tokens<'a>,
@@ -47,7 +48,7 @@ pub enum TtElement<'a> {
 impl<'a> TtElement<'a> {
     ghost use Rattle.tt.specs.Elements.{place_of};
 
-    /// The span of the tree's first token: of a group that of its opening bracket.
+    /// The span of the tree's first token: of a group that of its opening delimiter.
     pub fn first_span(&self) -> Span
         ensures { result ≡ place_of self.now }
     {
@@ -63,7 +64,7 @@ impl<'a> Clone for TtElement<'a> {
 
     ghost is_infallible = { λ _. ⊤ };
 
-    /// A clone of the tree. Memory is never refused.
+    /// The same tree. It is never refused.
     fn clone(&self) -> Result<TtElement<'a>, AllocError> {
         match self {
             TtElement::Leaf(leaf) => Ok(TtElement::Leaf(same_leaf(leaf))),
@@ -79,7 +80,7 @@ impl<'a> Clone for TtIter<'a> {
 
     ghost is_infallible = { λ _. ⊤ };
 
-    /// A walk of its own over the trees that are left. It is never refused.
+    /// A second walk over the trees that are left. It is never refused.
     fn clone(&self) -> Result<TtIter<'a>, AllocError> {
         Ok(self.copied())
     }
@@ -95,7 +96,7 @@ impl<'a> Iterator for TtIter<'a> {
 
     ghost remaining = { item_count elements };
 
-    /// The next tree, which is passed, a group with all that it has inside: none where none are left.
+    /// The next tree, which is passed, a group with all inside it. `None` at the end.
     #[inline]
     fn next(&mut self) -> Option<TtElement<'a>> {
         let (first, more) = self.tokens.split_first()?;
@@ -126,7 +127,7 @@ impl<'a> TtIter<'a> {
         self.tokens.is_empty()
     }
 
-    /// The next tree, without passing it: none where none are left.
+    /// The next tree, without passing it. `None` at the end.
     #[inline]
     pub fn peek(&self) -> Option<TtElement<'a>>
         ensures { result ≡ first_element self.now }
@@ -142,16 +143,17 @@ impl<'a> TtIter<'a> {
         }
     }
 
-    /// The span of the next token: none where no trees are left.
+    /// The span of the next token. `None` at the end.
     pub fn next_span(&self) -> Option<Span>
         ensures { result ≡ first_place self.now }
     {
         self.tokens.first_span()
     }
 
-    /// A second walk over the trees that are left. Memory is never refused.
+    /// A second walk over the trees that are left. It is never refused.
     ///
-    /// Of a walk that is not borrowed write `TtIter::copied(&walk)`: there `walk.copied()` is `Iterator::copied`.
+    /// For a walk that is not borrowed write `TtIter::copied(&walk)`: `walk.copied()` is
+    /// `Iterator::copied`.
     pub fn copied(&self) -> TtIter<'a>
         ensures { result ≡ self.now }
     {
@@ -170,7 +172,7 @@ impl<'a> TtIter<'a> {
         }
     }
 
-    /// The next tree alone, which is passed: none where no trees are left.
+    /// The next tree alone, which is passed. `None` at the end.
     pub fn next_as_view(&mut self) -> Option<TokenTreesView<'a>>
         ensures tree { option_map forest result ≡ first_alone self.old }
         ensures rest { self.new ≡ after_first self.old }
@@ -180,9 +182,8 @@ impl<'a> TtIter<'a> {
         Some(self.passed_since(before))
     }
 
-    /// The trees passed since `then`, which is what was left at an earlier point of this walk.
-    ///
-    /// Those trees and the trees that are left now have to be all of `then` together.
+    /// The trees passed since `then`, which is what was left at an earlier point of this walk:
+    /// `then` is the trees passed followed by those left now.
     pub fn passed_since(&self, then: TokenTreesView<'a>) -> TokenTreesView<'a>
         requires { (passed : Forest) × (forest then ≡ joined passed self.now) }
         ensures { forest then.entry ≡ joined (forest result) self.now }

@@ -1,6 +1,7 @@
-//! Laws of places and of trees under construction, for proofs above this crate.
+//! Laws of positions and of trees under construction, for the proofs of crates above.
 //!
-//! A call does nothing: it only states. The function that calls it has the clauses of the law in its own proof.
+//! Calling a law does nothing: its contract is the statement, which the caller then has in its
+//! own proof.
 ghost use Rattle.std.specs.Prelude.{◌≡◌, ◌↔◌, ℕ, Bool, true, List, [], ◌∷◌, ◌+◌, length, map, nat_eq, Some, option_map};
 ghost use Rattle.std.specs.List.{IsDistinct, count_by, list_any};
 ghost use Rattle.std.specs.Option.{unwrap_or};
@@ -34,22 +35,22 @@ pub fn walk_of_a_cursor()
     ensures done { (p : Place) → IsEnd p → steps_after p ≡ [] }
 {}
 
-/// A point of a builder is valid as long as only leaves and groups come after it, and no group is
-/// closed that was open there. The tree is cut back to what it was.
+/// A restore point of a builder stays valid as long as only leaves and groups come after it, and
+/// no group is closed that was open there. Restoring gives the tree of that point.
 pub fn points_stand()
     ensures { (b t : Building) → Reached b t → cut_back (point_of b) t ≡ Some b }
 {}
 
-/// The pieces of a list of trees come one after another, each up to the next separator, and there is
-/// one more than there are separators.
+/// The parts of a split list come in order, each up to the next separator, and there is one more
+/// than there are separators.
 pub fn pieces_of_trees()
     ensures next { (p : TtElement → Bool) (f : Forest) → pieces_between p f
         ≡ until_separator p f ∷ unwrap_or (option_map (pieces_between p) (behind_separator p f)) [] }
     ensures counted { (p : TtElement → Bool) (f : Forest) → length (pieces_between p f) ≡ count_by p (elements f) + 1 }
 {}
 
-/// A tree with other anchors: its tokens and its anchors are changed one by one, two changes in turn are one, and
-/// what a change makes of anchors that the tree hasn't does not matter.
+/// A tree with other anchors: its tokens and its anchors change one by one, two changes in turn
+/// are one, and what a change makes of anchors that the tree hasn't does not matter.
 pub fn trees_relabelled()
     ensures tokens { (h : ℕ → ℕ) (t : Top) → tokens_of (relabelled h t) ≡ map (token_with (anchor_with h)) (tokens_of t) }
     ensures anchors { (h : ℕ → ℕ) (t : Top) → anchors_of (relabelled h t) ≡ map h (anchors_of t) }
@@ -70,7 +71,7 @@ pub fn equal_trees()
     ensures { (a b : Top) → (⟦<TopSubtree as PartialEq>⟧.eq a b ≡ true) ↔ (a ≡ b) }
 {}
 
-/// A clone of what borrows trees, of a point and of an action is the same value.
+/// A clone of a view, an iterator, a cursor, a point or an action is the same value.
 pub fn clones_are_the_same()
     ensures views { (v copy : TokenTreesView) → ⟦<TokenTreesView<'static> as Clone>⟧.is_clone v copy → copy ≡ v }
     ensures groups { (g copy : SubtreeView) → ⟦<SubtreeView<'static> as Clone>⟧.is_clone g copy → copy ≡ g }

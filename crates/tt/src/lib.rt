@@ -1,8 +1,8 @@
 //! Token trees as a flat list of tokens, in which each group counts the tokens inside it.
 //!
-//! A list of trees is seen by every contract as its forest (`tt_data/specs/Forest.antt`), whatever
-//! borrows it: a view, an iterator's rest or a whole tree. No contract of these names a token's place;
-//! `set_token` takes one, and a builder's contracts give that of the group that was closed last.
+//! Every contract sees a list of trees as its forest (`tt_data/specs/Forest.antt`), whatever
+//! borrows it: a view, an iterator's rest or a whole tree. These contracts name no token's index,
+//! except that `set_token` takes one, and a builder has that of the group that was closed last.
 //! `specs/Building.antt` says what a tree under construction is.
 #![tactic(auto)]
 

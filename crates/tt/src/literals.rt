@@ -1,4 +1,4 @@
-//! Literals of whole tokens.
+//! Literals of whole tokens: the text inside, and the suffix.
 ghost use Rattle.std.specs.Prelude.{◌≡◌, ◌<◌, ◌≤◌, ◌^◌, length, drop, IfOk, IsOkUnless};
 ghost use Rattle.std.specs.Str.{IsCharBoundary};
 ghost use Rattle.tt.specs.TokenLiterals.{IsLiteralToken, form_begin, form_end, inside_of, literal_in};
@@ -33,8 +33,9 @@ fn end_len(kind: LitKind) -> usize
     }
 }
 
-/// The text between the quotes of the literal that the whole token `text` is, and its suffix, which
-/// starts at the byte `suffix_start`. Of a number, and of what was no literal, it is all before the suffix.
+/// The text between the quotes of the literal that the whole token `text` is, and its suffix,
+/// which starts at the byte `suffix_start`. Of a number, and of what is no literal, the text is
+/// all before the suffix.
 pub fn literal_parts(text: &str, kind: LitKind, suffix_start: u32) -> (&str, &str)
     requires boundary { IsCharBoundary text.now suffix_start }
     requires token { IsLiteralToken kind suffix_start text.now }
@@ -47,8 +48,8 @@ pub fn literal_parts(text: &str, kind: LitKind, suffix_start: u32) -> (&str, &st
 }
 
 /// The literal that the whole token `text` is: the text between its quotes, and the suffix, which
-/// starts at the byte `suffix_start`. A number, and what was no literal, has all before its suffix
-/// as its text.
+/// starts at the byte `suffix_start`. Of a number, and of what is no literal, the text is all
+/// before the suffix.
 ///
 /// `Memory` is its only error.
 pub fn token_to_literal(

@@ -1,4 +1,4 @@
-//! Cutting a list of trees at some of them.
+//! Splits a list of trees at those for which a test is true.
 ghost use Rattle.std.specs.Prelude.{◌≡◌, Some};
 ghost use Rattle.tt.specs.Views.{forest};
 ghost use Rattle.tt.specs.Splitting.{Cuts, split_steps, pieces_left};
@@ -6,17 +6,17 @@ ghost use Rattle.tt.specs.Splitting.{Cuts, split_steps, pieces_left};
 use crate::iter::{TtElement, TtIter};
 use crate::view::TokenTreesView;
 
-/// The pieces of a list of trees, between the trees for which a test is true.
+/// The parts of a list of trees, between the trees for which a test is true.
 #[derive(Drop)]
 pub struct Split<'a, F> {
-    // What is left to be cut: none once the last piece is out.
+    // The trees that are left. `None` once the last part was given.
     pub(crate) rest: Option<TtIter<'a>>,
     pub(crate) test: F,
 }
 
 impl<'a> TokenTreesView<'a> {
-    /// The pieces of the list, between the trees for which `test` is true: one more than there are
-    /// such trees, and so one for a list without trees. Each tree is tested once.
+    /// The parts of the list, between the trees for which `test` is true: one more than there are
+    /// such trees, and so one for a list without trees. Each tree is tested once, in order.
     pub fn split<F: FnMut(TtElement<'a>) -> bool>(self, test: F) -> Split<'a, F>
         ensures rest { result.rest ≡ Some (forest self.entry) }
         ensures test { result.test ≡ test }
@@ -28,7 +28,8 @@ impl<'a> TokenTreesView<'a> {
     }
 }
 
-// The trees before the first for which the test is true, and what is after it: none where there is no such tree.
+// The trees before the first for which the test is true, and those after it. `None` for the
+// latter if there is no such tree.
 fn cut<'a, F: FnMut(TtElement<'a>) -> bool>(
     trees: TtIter<'a>,
     test: &mut F,
@@ -61,7 +62,7 @@ impl<'a, F: FnMut(TtElement<'a>) -> bool> Iterator for Split<'a, F> {
 
     ghost remaining = { pieces_left };
 
-    /// The next piece: none where the last is out.
+    /// The next part. `None` after the last.
     fn next(&mut self) -> Option<TokenTreesView<'a>> {
         let trees = self.rest.take()?;
         let (piece, rest) = cut(trees, &mut self.test);

@@ -1,7 +1,7 @@
-//! Flat lists of tokens, as they are stored.
+//! How flat lists of tokens are stored.
 //!
-//! Only this module depends on how a token is stored: what borrows tokens reads them by value through `Tokens`,
-//! and what owns them puts them in and takes them out through `TokenBuffer`.
+//! Only this module depends on how a token is stored. What borrows tokens reads them by value
+//! through `Tokens`, and what owns them adds and removes them through `TokenBuffer`.
 ghost use Rattle.std.specs.Prelude.{◌≡◌, ◌↔◌, ◌<◌, ◌≤◌, ◌^◌, ◌+◌, ◌-◌, ◌∷◌, ◌++◌, [], IsTrue, MatchOption, OnErr, OnOk, length, take, drop, option_map, set, slice_get, slice_index_or};
 ghost use Rattle.tt.specs.Records.{items, alone_token};
 ghost use Rattle.tt.specs.Tops.{has_leaf_at};
@@ -16,7 +16,7 @@ use std::hash::{Hash, Hasher};
 use std::marker::Model;
 use tt_data::{Ident, Leaf, LitKind, Punct, Spacing, Span, Subtree, TokenTree};
 
-/// A run of tokens that is borrowed.
+/// A borrowed run of tokens.
 #[derive(Clone, Copy, Debug)]
 pub(crate) struct Tokens<'a> {
     records: &'a [TokenTree],
@@ -40,7 +40,7 @@ impl<'a> Tokens<'a> {
         Tokens { records: tts }
     }
 
-    /// How many they are: less than half of the numbers that fit.
+    /// The number of tokens, which is less than 2^63.
     pub(crate) fn len(self) -> usize
         ensures len { result ≡ length (items self.entry) }
         ensures fits { result < 2 ^ 63 }
@@ -63,7 +63,7 @@ impl<'a> Tokens<'a> {
         Some((same_token(first), Tokens { records: more }))
     }
 
-    /// The first tokens, as many as are asked for, and those after them.
+    /// The first `count` tokens, and those after them.
     pub(crate) fn split_at(self, count: usize) -> (Tokens<'a>, Tokens<'a>)
         requires { count ≤ length (items self) }
         ensures front { items result.0 ≡ take count (items self.entry) }
@@ -73,7 +73,7 @@ impl<'a> Tokens<'a> {
         (Tokens { records: front }, Tokens { records: back })
     }
 
-    /// The head of the group that begins at a place, where one does.
+    /// The head of the group that begins at this index, if one does.
     pub(crate) fn head_at(self, at: usize) -> Option<Subtree>
         ensures { result ≡ head_at (items self.entry) at }
     {
@@ -83,7 +83,7 @@ impl<'a> Tokens<'a> {
         }
     }
 
-    /// Whether a leaf is at a place.
+    /// Whether a leaf is at this index.
     pub(crate) fn is_leaf_at(self, at: usize) -> bool
         ensures leaf { result ≡ has_leaf_at at (items self.entry) }
         ensures within { IsTrue result → at < length (items self.entry) }
@@ -105,14 +105,14 @@ impl<'a> Tokens<'a> {
         Some(same_token(self.records.last()?))
     }
 
-    /// The span of the first token: of a head that of its opening bracket.
+    /// The span of the first token. For a head, that is the span of its opening.
     pub(crate) fn first_span(self) -> Option<Span>
         ensures { result ≡ option_map first_span_of (slice_get (items self.entry) 0) }
     {
         Some(self.records.first()?.first_span())
     }
 
-    /// The first token, where it is the head of a group, and those after it.
+    /// The first token if it is the head of a group, and the tokens after it.
     pub(crate) fn split_head(self) -> Option<(Subtree, Tokens<'a>)>
         ensures { option_map (λ p. (p.0, items p.1)) result ≡ head_in (items self.entry) }
     {
@@ -122,7 +122,7 @@ impl<'a> Tokens<'a> {
         }
     }
 
-    /// The first token, where it is a leaf, and those after it.
+    /// The first token if it is a leaf, and the tokens after it.
     pub(crate) fn split_leaf(self) -> Option<(Leaf, Tokens<'a>)>
         ensures { option_map (λ p. (p.0, items p.1)) result ≡ leaf_in (items self.entry) }
     {
@@ -132,7 +132,7 @@ impl<'a> Tokens<'a> {
         }
     }
 
-    /// The first token, where it is a leaf, borrowed, and those after it.
+    /// The first token, borrowed, if it is a leaf, and the tokens after it.
     pub(crate) fn lent_leaf(self) -> Option<(&'a Leaf, Tokens<'a>)>
         ensures { option_map (λ p. (p.0.now, items p.1)) result ≡ leaf_in (items self.entry) }
     {
@@ -142,7 +142,7 @@ impl<'a> Tokens<'a> {
         }
     }
 
-    /// The first token, where it is an identifier, borrowed, and those after it.
+    /// The first token, borrowed, if it is an identifier, and the tokens after it.
     pub(crate) fn lent_ident(self) -> Option<(&'a Ident, Tokens<'a>)>
         ensures { option_map (λ p. (p.0.now, items p.1)) result ≡ ident_in (items self.entry) }
     {
@@ -152,7 +152,7 @@ impl<'a> Tokens<'a> {
         }
     }
 
-    /// The first token, where it is a punct, and those after it.
+    /// The first token if it is a punct, and the tokens after it.
     pub(crate) fn split_punct(self) -> Option<(Punct, Tokens<'a>)>
         ensures { option_map (λ p. (p.0, items p.1)) result ≡ punct_in (items self.entry) }
     {
@@ -164,7 +164,7 @@ impl<'a> Tokens<'a> {
         }
     }
 
-    /// The first token, where it is an identifier, and those after it.
+    /// The first token if it is an identifier, and the tokens after it.
     pub(crate) fn split_ident(self) -> Option<(Ident, Tokens<'a>)>
         ensures { option_map (λ p. (p.0, items p.1)) result ≡ ident_in (items self.entry) }
     {
@@ -179,7 +179,7 @@ impl<'a> Tokens<'a> {
         }
     }
 
-    /// The kind of the first token, where it is a literal, and those after it.
+    /// The kind of the first token if it is a literal, and the tokens after it.
     pub(crate) fn split_literal(self) -> Option<(LitKind, Tokens<'a>)>
         ensures { option_map (λ p. (p.0, items p.1)) result ≡ literal_in (items self.entry) }
     {
@@ -214,7 +214,7 @@ pub(crate) fn same_leaf(leaf: &Leaf) -> Leaf
     leaf
 }
 
-/// A run of tokens that is owned.
+/// An owned run of tokens.
 #[derive(Debug, Drop)]
 pub(crate) struct TokenBuffer {
     records: Vec<TokenTree>,
@@ -254,14 +254,14 @@ impl TokenBuffer {
         TokenBuffer { records: tts }
     }
 
-    /// How many they are.
+    /// The number of tokens.
     pub(crate) fn len(&self) -> usize
         ensures { result ≡ length self.now }
     {
         self.records.len()
     }
 
-    /// The tokens, to be read.
+    /// The tokens, borrowed.
     #[tactic(auto, unfolding(crate::specs::Records::items))]
     pub(crate) fn tokens(&self) -> Tokens<'_>
         ensures { items result ≡ self.now }
@@ -271,7 +271,7 @@ impl TokenBuffer {
         }
     }
 
-    /// Puts a token after the others.
+    /// Appends a token.
     #[inline(always)]
     pub(crate) fn push(&mut self, token: TokenTree) -> Result<(), AllocError>
         ensures ok { OnOk result (self.new ≡ self.old ++ token ∷ []) }
@@ -281,7 +281,7 @@ impl TokenBuffer {
         Ok(())
     }
 
-    /// Puts copies of these tokens after the others.
+    /// Appends copies of these tokens.
     #[tactic(auto, unfolding(crate::specs::Records::items))]
     pub(crate) fn extend(&mut self, tokens: Tokens<'_>) -> Result<(), AllocError>
         ensures ok { OnOk result (self.new ≡ self.old ++ items tokens.entry) }
@@ -290,7 +290,7 @@ impl TokenBuffer {
         self.records.extend_with_clones(tokens.records)
     }
 
-    /// Puts a token in place of another.
+    /// Replaces the token at this index.
     pub(crate) fn set(&mut self, at: usize, token: TokenTree)
         requires { at < length self.old }
         ensures { self.new ≡ set self.old at token }
@@ -298,7 +298,7 @@ impl TokenBuffer {
         self.records[at] = token;
     }
 
-    /// The token there, where it is a punct, is no longer joined to what follows.
+    /// Makes the token at this index `Alone`, if it is a punct.
     pub(crate) fn set_alone(&mut self, at: usize)
         requires { at < length self.old }
         ensures { (t : TokenTree) × (t ≡ slice_index_or self.old at t) × (self.new ≡ set self.old at (alone_token t)) }
@@ -306,7 +306,7 @@ impl TokenBuffer {
         set_alone(&mut self.records[at]);
     }
 
-    /// Changes the anchors of each token.
+    /// Replaces the anchors of each token.
     pub(crate) fn relabel(&mut self, renaming: &Renaming)
         requires { IsAtHand renaming.now }
         ensures { self.new ≡ map (token_with (anchor_with (answer_of renaming.now))) self.old }
@@ -316,7 +316,7 @@ impl TokenBuffer {
         }
     }
 
-    /// Takes out a token.
+    /// Removes the token at this index.
     pub(crate) fn remove(&mut self, at: usize)
         requires { at < length self.old }
         ensures { self.new ≡ take at self.old ++ drop (at + 1) self.old }
@@ -324,7 +324,7 @@ impl TokenBuffer {
         let _ = self.records.remove(at);
     }
 
-    /// Whether each token is equal to the one at its place in the other run, and there are no more.
+    /// Whether both runs have equal tokens, one by one.
     pub(crate) fn is_equal(&self, other: &TokenBuffer) -> bool
         ensures { result ≡ pointwise ⟦<TokenTree as PartialEq>⟧.eq self.now other.now }
     {
@@ -338,7 +338,7 @@ impl TokenBuffer {
         self.records.hash(state);
     }
 
-    /// Takes away all tokens but the first ones, as many as are asked for.
+    /// Keeps the first `count` tokens.
     pub(crate) fn truncate(&mut self, count: usize)
         ensures { self.new ≡ take count self.old }
     {
@@ -346,7 +346,7 @@ impl TokenBuffer {
     }
 }
 
-// A punct is no longer joined to what follows.
+// Makes a punct `Alone`.
 fn set_alone(token: &mut TokenTree)
     ensures { token.new ≡ alone_token token.old }
 {

@@ -1,4 +1,4 @@
-//! Whole trees.
+//! Whole trees: one group with all inside it.
 ghost use Rattle.std.specs.Prelude.{◌≡◌, ◌↔◌, ◌⊎◌, ◌<◌, Err, IfOk, IfErr, IsOkUnless, OnOk, OnErr, false};
 ghost use Rattle.tt_data.specs.fault.TtFault.TheVariants as fault;
 
@@ -44,8 +44,7 @@ impl TopSubtree {
     ghost use Rattle.tt.specs.Tops.{Top, head_of, forest_of_top, tokens_of, no_brackets, has_leaf_at};
     ghost use Rattle.tt.specs.Views.{forest, top_of};
 
-    /// The tree with no brackets, of which the two ends are where `span` has them, and nothing
-    /// inside.
+    /// The tree with invisible delimiters at the spans of `span`, and nothing inside.
     ///
     /// `Memory` is its only error.
     pub fn empty(alloc: Global, span: DelimSpan) -> Result<TopSubtree, TtFault>
@@ -62,10 +61,10 @@ impl TopSubtree {
         }
     }
 
-    /// The group with these brackets around a copy of these trees.
+    /// The group with this delimiter around a copy of these trees.
     ///
-    /// It answers `Tokens` where the trees have more than `u32::MAX` tokens, and only there; its one
-    /// other error is `Memory`.
+    /// It refuses `Tokens` exactly where the trees have more than `u32::MAX` tokens; its one other
+    /// error is `Memory`.
     pub fn from_token_trees(
         alloc: Global,
         delimiter: Delimiter,
@@ -98,11 +97,10 @@ impl TopSubtree {
         }
     }
 
-    /// The tree whose tokens these are: the head of a group, and then all that is inside.
+    /// The tree with this flat list of tokens: the head of a group, and then all that is inside.
     ///
-    /// It may take memory from `alloc`, for a form of its own. Where the list is not that of one group,
-    /// and only there, it comes back with `Malformed`; it comes back with `Memory` too, and that is its
-    /// one other error.
+    /// The list comes back with `Malformed` exactly where it is not that of one group, or with
+    /// `Memory`, its one other error. It may take memory from `alloc`.
     pub fn from_serialized(
         _alloc: Global,
         tts: Vec<TokenTree>,
@@ -119,9 +117,9 @@ impl TopSubtree {
         })
     }
 
-    /// The tree with no brackets, of which both ends are at `delim_span`, and these leaves inside.
+    /// The tree with invisible delimiters, both at `delim_span`, and these leaves inside.
     ///
-    /// It answers `Tokens` where there are more than `u32::MAX` leaves, and only there; its one other
+    /// It refuses `Tokens` exactly where there are more than `u32::MAX` leaves; its one other
     /// error is `Memory`.
     pub fn invisible_from_leaves<const N: usize>(
         alloc: Global,
@@ -144,7 +142,7 @@ impl TopSubtree {
         Ok(TopSubtree { tokens })
     }
 
-    /// Another tree that is equal to this one.
+    /// An equal tree.
     ///
     /// `Memory` is its only error.
     pub fn try_clone(&self, alloc: Global) -> Result<TopSubtree, TtFault>
@@ -163,7 +161,7 @@ impl TopSubtree {
         self.view().token_trees()
     }
 
-    /// Gives the group brackets of another sort. It takes no memory.
+    /// Gives the group another kind of delimiters. It takes no memory.
     pub fn set_top_subtree_delimiter_kind(&mut self, kind: DelimiterKind)
         ensures { self.new ≡ record self.old { delimiter = record self.old.delimiter { kind = kind } } }
     {
@@ -172,7 +170,7 @@ impl TopSubtree {
         self.tokens.set(0, TokenTree::Subtree(head));
     }
 
-    /// Gives the group's brackets other spans. It takes no memory.
+    /// Gives the group's delimiters other spans. It takes no memory.
     pub fn set_top_subtree_delimiter_span(&mut self, span: DelimSpan)
         ensures { self.new ≡ record self.old { delimiter = record { open_span = span.open_span; close_span = span.close_span; kind = self.old.delimiter.kind } } }
     {
@@ -182,11 +180,10 @@ impl TopSubtree {
         self.tokens.set(0, TokenTree::Subtree(head));
     }
 
-    /// Puts a leaf in place of another: `idx` is that one's place among all tokens, the group's own
-    /// being 0.
+    /// Replaces the leaf at index `idx` of the flat list, in which the group's own head is 0.
     ///
-    /// It answers `Place` where no leaf is there, and only there. It may take memory from `alloc`,
-    /// for the leaf's text, and its one other error is `Memory`.
+    /// It refuses `Place` exactly where no leaf is there. It may take memory from `alloc` for the
+    /// leaf's text; its one other error is `Memory`.
     pub fn set_token(&mut self, _alloc: Global, idx: usize, leaf: Leaf) -> Result<(), TtFault>
         ensures ok { OnOk result (tokens_of self.new ≡ set (tokens_of self.old) idx (token.Leaf leaf)) }
         ensures err { OnErr result (self.new ≡ self.old) }
@@ -223,7 +220,7 @@ impl TopSubtree {
         self.token_trees().iter()
     }
 
-    /// The head of the group: its brackets, and how many tokens are inside.
+    /// The head of the group: its delimiters, and how many tokens are inside.
     pub fn top_subtree(&self) -> Subtree
         ensures { result ≡ head_of self.now }
     {
@@ -234,7 +231,7 @@ impl TopSubtree {
     }
 }
 
-// Two trees are equal where their tokens are, spans included.
+// Two trees are equal if their tokens are, spans included.
 impl PartialEq for TopSubtree {
     ghost use Rattle.std.specs.Cmp.{on_per};
     ghost use Rattle.tt_data.specs.contracts.tree.TokenTreePartialEq.TheImpl.Laws as token_laws;

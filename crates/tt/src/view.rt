@@ -1,4 +1,4 @@
-//! Lists of trees that are borrowed.
+//! Borrowed lists of trees.
 ghost use Rattle.std.specs.Prelude.{◌≡◌, IsSome, IsTrue, ◌↔◌, true, ◌<◌, ◌^◌};
 ghost use Rattle.tt_data.specs.Forest.{IsPreorder, forest_of};
 ghost use Rattle.tt.specs.Records.{items};
@@ -8,7 +8,7 @@ use crate::flat::FlatTokens;
 use crate::storage::Tokens;
 use tt_data::{DelimiterKind, Span, Subtree, TokenTree};
 
-/// A list of trees.
+/// A borrowed list of trees.
 #[derive(Clone, Copy, Debug)]
 pub struct TokenTreesView<'a> {
     pub(crate) tokens: Tokens<'a>,
@@ -23,7 +23,7 @@ impl<'a> TokenTreesView<'a> {
     ghost use Rattle.tt.specs.Tops.{only_group};
     ghost use Rattle.tt.specs.Views.{forest, top_of};
 
-    /// The list without trees.
+    /// An empty list.
     #[tactic(auto, unfolding(crate::specs::Views::forest))]
     pub fn empty() -> TokenTreesView<'a>
         ensures { forest result ≡ empty }
@@ -33,20 +33,19 @@ impl<'a> TokenTreesView<'a> {
         }
     }
 
-    /// A walk over all tokens, each group's head before what it has inside.
+    /// A walk over all tokens: a group's head before the tokens inside.
     #[tactic(auto, unfolding(crate::specs::Views::forest))]
     pub fn iter_flat_tokens(&self) -> FlatTokens<'a>
         ensures { result ≡ preorder (forest self.now) }
     {
         let flat = self.tokens;
-        // that they can be counted is what the walk promises of itself
+        // The proof that the iterator's tokens can be counted needs this.
         let _count = flat.len();
         FlatTokens { tokens: flat }
     }
 
-    /// The number of all tokens: each leaf, and each group with what it has inside.
-    ///
-    /// It is less than half of the numbers that fit, so steps can be counted: a group has two.
+    /// The number of all tokens: each leaf is one, each group one and its contents. It is below
+    /// 2^63.
     pub fn len(&self) -> usize
         ensures len { result ≡ size (forest self.now) }
         ensures fits { result < 2 ^ 63 }
@@ -54,7 +53,7 @@ impl<'a> TokenTreesView<'a> {
         self.tokens.len()
     }
 
-    /// Whether there are no trees.
+    /// Whether there is no tree.
     #[tactic(auto, unfolding(crate::specs::Views::forest))]
     pub fn is_empty(&self) -> bool
         ensures { IsTrue result ↔ (forest self.now ≡ empty) }
@@ -62,7 +61,7 @@ impl<'a> TokenTreesView<'a> {
         self.tokens.is_empty()
     }
 
-    /// The span of the first token: none where there are no trees.
+    /// The span of the first token. `None` for an empty list.
     #[tactic(auto, unfolding(crate::specs::Views::forest))]
     pub fn first_span(&self) -> Option<Span>
         ensures { result ≡ first_place (forest self.now) }
@@ -70,10 +69,10 @@ impl<'a> TokenTreesView<'a> {
         self.tokens.first_span()
     }
 
-    /// The span of the last of all tokens: none where there are no trees.
+    /// The span of the last token. `None` for an empty list.
     ///
-    /// A leaf has its own span, and a group, which is last where nothing is inside, that of its
-    /// closing bracket.
+    /// A leaf has its own span; a group with nothing inside, if it is last, that of its closing
+    /// delimiter.
     #[tactic(auto, unfolding(crate::specs::Views::forest))]
     pub fn last_span(&self) -> Option<Span>
         ensures { result ≡ last_place (forest self.now) }
@@ -84,7 +83,7 @@ impl<'a> TokenTreesView<'a> {
         }
     }
 
-    /// The one group that the list is: none where there are no trees, several, or one leaf.
+    /// The group, if the list is exactly one group.
     #[tactic(auto, unfolding(crate::specs::Views::forest, crate::specs::Views::top_of))]
     pub fn try_into_subtree(self) -> Option<SubtreeView<'a>>
         ensures { option_map top_of result ≡ only_group (forest self.entry) }
@@ -105,7 +104,7 @@ impl<'a> TokenTreesView<'a> {
         self.try_into_subtree().is_some()
     }
 
-    /// The trees inside, where the list is one invisible group, and else the list as it is.
+    /// The trees inside, if the list is one invisible group; else the list as it is.
     pub fn strip_invisible(self) -> TokenTreesView<'a>
         ensures { forest result ≡ stripped (forest self.entry) }
     {
@@ -116,7 +115,7 @@ impl<'a> TokenTreesView<'a> {
     }
 }
 
-/// One group.
+/// A borrowed group.
 #[derive(Clone, Copy, Debug)]
 pub struct SubtreeView<'a> {
     pub(crate) tokens: Tokens<'a>,
@@ -150,7 +149,7 @@ impl<'a> SubtreeView<'a> {
         }
     }
 
-    /// The head of the group: its brackets, and how many tokens are inside.
+    /// The head of the group: its delimiters, and how many tokens are inside.
     #[tactic(auto, unfolding(crate::specs::Views::forest, crate::specs::Views::top_of))]
     pub fn top_subtree(&self) -> Subtree
         ensures { result ≡ head_of (top_of self.now) }
@@ -161,7 +160,7 @@ impl<'a> SubtreeView<'a> {
         }
     }
 
-    /// The trees inside, where the group is invisible, and else the group.
+    /// The trees inside, if the group is invisible; else the group.
     pub fn strip_invisible(&self) -> TokenTreesView<'a>
         ensures { forest result ≡ stripped (group (top_of self.now).delimiter (top_of self.now).inner empty) }
     {

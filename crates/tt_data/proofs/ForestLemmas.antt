@@ -1,4 +1,4 @@
--- Forests one after another, with other places, and by their walks.
+-- Forests side by side, with other spans, and by their walks.
 use Rattle.std.proofs.Common.{◌≡◌, ℕ, ◌+◌, ◌-◌, List, [], ◌∷◌, ◌++◌, map, refl, sym, ap, ◌∙◌, arith, append_assoc, nat_lt, if◌then◌else◌, Bool, true, false}
 use Rattle.tt_data.specs.declared.span.Span.{Span}
 use Rattle.tt_data.specs.declared.leaf.Leaf.{Leaf}

@@ -1,4 +1,4 @@
--- A text and a suffix that are put together: the suffix begins where the text ends.
+-- A text and a suffix put together: the suffix begins where the text ends.
 use Rattle.std.proofs.Common.{◌≡◌, ◌++◌, ◌-◌, ◌≤◌, List, ℕ, length, take, drop, ap, refl, subst, arith, length-append}
 use Rattle.std.proofs.Math.Seq.{take-append_seam, drop-append_seam}
 use Rattle.std.proofs.lemmas.Str.{IsCharBoundary-at_seam}

@@ -1,4 +1,4 @@
--- Rows worked out by hand, by computation: `a ( b , ) c` and lists that hold no forest.
+-- Worked examples, by computation: `a ( b , ) c`, and lists that hold no forest.
 use Rattle.std.proofs.Common.{◌≡◌, ℕ, ◌+◌, List, [], ◌∷◌, refl, ap, arith, codes}
 use Rattle.tt_data.specs.declared.span.Span.{Span}
 use Rattle.tt_data.specs.declared.span.SyntaxContext.TheVariants.{Written, Made}

@@ -1,4 +1,4 @@
--- A walk is that of one forest alone.
+-- Different forests have different walks.
 use Rattle.std.proofs.Common.{◌≡◌, List, [], ◌∷◌, ◌++◌, refl, sym, ap, ◌∙◌, append_assoc}
 use Rattle.tt_data.specs.declared.span.Span.{Span}
 use Rattle.tt_data.specs.declared.delimiter.DelimiterKind.{DelimiterKind}

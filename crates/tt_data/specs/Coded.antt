@@ -1,4 +1,4 @@
--- A forest is stored as its flat list.
+-- A forest is coded as its flat list.
 use Rattle.std.specs.Prelude.{List}
 use Rattle.std.specs.Coded.{Coded, code_by, coded_list}
 use Rattle.tt_data.specs.declared.tree.TokenTree.{TokenTree}

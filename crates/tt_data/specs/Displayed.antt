@@ -19,7 +19,7 @@ form_letters CStr = codes "c"
 form_letters (CStrRaw n) = codes "cr"
 form_letters kind = []
 
--- the quote on either side of its text; a number has none, and neither has what was no literal
+-- the quote on either side of its text; a number has none, and neither has what is no literal
 abbrev pub form_quote : LitKind → List ℕ
 form_quote Byte = codes "'"
 form_quote Char = codes "'"
@@ -43,7 +43,7 @@ abbrev pub literal_text : Literal → List ℕ
 literal_text l =
     (form_letters l.kind ++ form_hashes l.kind ++ form_quote l.kind) ++ l.text ++ (form_quote l.kind ++ form_hashes l.kind) ++ l.suffix
 
--- a name, with its `r#` where it is raw
+-- a name, with its `r#` if it is raw
 abbrev pub ident_text : Ident → List ℕ
 ident_text i = prefix_of i.is_raw ++ i.sym
 

@@ -76,7 +76,7 @@ drop-preorder f tokens = rw (← length-preorder f) (drop-append_seam (preorder 
 pub IsPreorder-leaf : (l : Leaf) (more : List TokenTree) → IsPreorder (token.Leaf l ∷ more) → IsPreorder more
 IsPreorder-leaf l more whole = cc
 
--- what follows a group's opening: its own trees, and those after it
+-- what follows a group's head: its own trees, and those after it
 pub record Parts (s : Subtree) (more : List TokenTree) : Type 0 where
   pub fits : s.len ≤ length more
   pub inner_whole : IsPreorder (take s.len more)
@@ -85,7 +85,7 @@ pub record Parts (s : Subtree) (more : List TokenTree) : Type 0 where
   pub rest_is : forest_of (drop s.len more) ≡ back s.len (forest_of more)
   pub counted : size (front s.len (forest_of more)) ≡ s.len
 
--- the same for the tokens of two forests
+-- those parts, of the tokens of two forests
 parts_of-append : (s : Subtree) (f g : Forest) (more : List TokenTree) → size f ≡ s.len → preorder f ++ preorder g ≡ more → Parts s more
 parts_of-append s f g more counted e =
     let front_is : take s.len more ≡ preorder f = rw (← e, ← counted) (take-preorder f (preorder g)) in

@@ -13,7 +13,7 @@ pub data Forest : Type 0 where
   leaf : Leaf → Forest → Forest
   group : Delimiter → Forest → Forest → Forest
 
--- one forest after another
+-- two forests, one after the other
 abbrev pub joined : Forest → Forest → Forest
 joined empty g = g
 joined (leaf l rest) g = leaf l (joined rest g)
@@ -29,7 +29,7 @@ size (group d inner rest) = 1 + (size inner + size rest)
 abbrev pub head_of : Delimiter → ℕ → TokenTree
 head_of d n = token.Subtree (record { delimiter = d; len = n })
 
--- the tokens of a forest, each group before what it has inside and with the number of those
+-- the tokens of a forest, each group before the tokens inside it, with their number
 abbrev pub preorder : Forest → List TokenTree
 preorder empty = []
 preorder (leaf l rest) = token.Leaf l ∷ preorder rest
@@ -57,12 +57,12 @@ forest_of (token.Subtree s ∷ more) = group s.delimiter (front s.len (forest_of
 abbrev pub IsPreorder : List TokenTree → Type 0
 IsPreorder tokens = preorder (forest_of tokens) ≡ tokens
 
--- the same trees, with every place changed by f
+-- a forest with f applied to every span
 abbrev pub map_spans : (Span → Span) → Forest → Forest
 map_spans f empty = empty
 map_spans f (leaf l rest) = leaf (leaf_with f l) (map_spans f rest)
 map_spans f (group d inner rest) = group (delimiter_with f d) (map_spans f inner) (map_spans f rest)
 
--- the trees without their places
+-- a forest without its spans
 abbrev pub shape : Forest → Forest
 shape = map_spans (λ _. no_span)

@@ -1,4 +1,4 @@
--- what the contracts and the definitions of the crates above rest on
+-- what the contracts and the definitions of the crates above use
 pub mod Forest
 pub mod Walk
 pub mod Delimiters

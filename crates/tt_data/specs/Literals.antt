@@ -5,7 +5,7 @@ use Rattle.std.proofs.lemmas.List.{take-append-drop}
 use Rattle.tt_data.specs.declared.span.Span.{Span}
 use Rattle.tt_data.specs.declared.leaf.LitKind.{LitKind}
 
--- what a literal is: the text between its quotes, its suffix (empty where it has none), the form that it is written in, and its place
+-- a literal: the text between its quotes, its suffix (empty if none), its form and its span
 pub record LiteralParts : Type 0 where
   pub text : List ℕ
   pub suffix : List ℕ
@@ -16,7 +16,7 @@ pub record LiteralParts : Type 0 where
 abbrev pub literal_of : List ℕ → List ℕ → LitKind → Span → LiteralParts
 literal_of text suffix kind span = record { text = text; suffix = suffix; kind = kind; span = span }
 
--- a text cut so many bytes before its end is put together again
+-- a text cut n bytes before its end is joined again
 pub put_together : {R : Type 0} (make : List ℕ → ℕ → R) (all : List ℕ) (n : ℕ) → n ≤ length all
     → make (take (length all - n) all ++ drop (length all - n) all) (length (drop (length all - n) all)) ≡ make all n
 put_together make all n fits =

@@ -1,20 +1,20 @@
-//! The brackets round a group.
+//! The delimiters of groups.
 ghost use Rattle.std.specs.Prelude.{◌≡◌};
 ghost use Rattle.tt_data.specs.declared.delimiter.DelimiterKind.TheVariants.{Invisible};
 
 use crate::span::Span;
 
-/// The sort of brackets round a group.
+/// The kind of a group's delimiters. (The Rust Reference, "Tokens": delimiters.)
 #[derive(Clone, Copy, PartialEq, Eq, Hash, Debug)]
 pub enum DelimiterKind {
     Parenthesis,
     Brace,
     Bracket,
-    /// The group has no brackets in the text.
+    /// No delimiters in the text.
     Invisible,
 }
 
-/// The brackets round a group, and where each stands.
+/// The delimiters of a group, with their spans.
 #[derive(Clone, Copy, PartialEq, Eq, Hash, Debug)]
 pub struct Delimiter {
     pub open_span: Span,
@@ -22,7 +22,7 @@ pub struct Delimiter {
     pub kind: DelimiterKind,
 }
 
-/// Where the two brackets of a group stand.
+/// The spans of a group's two delimiters.
 #[derive(Clone, Copy, PartialEq, Eq, Hash, Debug)]
 pub struct DelimSpan {
     pub open_span: Span,
@@ -30,7 +30,7 @@ pub struct DelimSpan {
 }
 
 impl DelimSpan {
-    /// Both brackets at one place.
+    /// Both delimiters at one span.
     pub fn from_single(sp: Span) -> DelimSpan
         ensures { result ≡ record { open_span = sp; close_span = sp } }
     {
@@ -40,7 +40,7 @@ impl DelimSpan {
         }
     }
 
-    /// The opening bracket at the first place and the closing one at the second.
+    /// The opening delimiter at the first span, the closing one at the second.
     pub fn from_pair(open: Span, close: Span) -> DelimSpan
         ensures { result ≡ record { open_span = «open»; close_span = close } }
     {
@@ -52,7 +52,7 @@ impl DelimSpan {
 }
 
 impl Delimiter {
-    /// No brackets, with both ends at one place.
+    /// Invisible delimiters, both at one span.
     pub fn invisible_spanned(span: Span) -> Delimiter
         ensures { result ≡ record { open_span = span; close_span = span; kind = Invisible } }
     {
@@ -63,7 +63,7 @@ impl Delimiter {
         }
     }
 
-    /// No brackets, with the two ends where `span` has them.
+    /// Invisible delimiters at these two spans.
     pub fn invisible_delim_spanned(span: DelimSpan) -> Delimiter
         ensures { result ≡ record { open_span = span.open_span; close_span = span.close_span; kind = Invisible } }
     {
@@ -74,7 +74,7 @@ impl Delimiter {
         }
     }
 
-    /// Where the two brackets stand.
+    /// The spans of the two delimiters.
     pub fn delim_span(&self) -> DelimSpan
         ensures { result ≡ record { open_span = self.now.open_span; close_span = self.now.close_span } }
     {

@@ -1,4 +1,4 @@
-//! How leaves are displayed.
+//! Writes leaves as text.
 ghost use Rattle.std.specs.Prelude.{◌≡◌, ◌++◌, replicate};
 ghost use Rattle.std.specs.Fmt.{WritesOnOk};
 ghost use Rattle.tt_data.specs.Displayed.{form_letters, form_quote, form_hashes};
@@ -58,7 +58,7 @@ impl fmt::Display for Literal {
     }
 }
 
-// What stands before the text of a literal of this form.
+// Writes what comes before the text of a literal of this form.
 fn write_opening<W: fmt::Write>(kind: LitKind, f: &mut fmt::Formatter<W>) -> fmt::Result
     ensures { WritesOnOk W.write_str_gives f.old result (form_letters kind ++ form_hashes kind ++ form_quote kind) f.new }
 {
@@ -67,7 +67,7 @@ fn write_opening<W: fmt::Write>(kind: LitKind, f: &mut fmt::Formatter<W>) -> fmt
     f.write_str(quote(kind))
 }
 
-// What stands after it.
+// Writes what comes after the text of a literal of this form.
 fn write_closing<W: fmt::Write>(kind: LitKind, f: &mut fmt::Formatter<W>) -> fmt::Result
     ensures { WritesOnOk W.write_str_gives f.old result (form_quote kind ++ form_hashes kind) f.new }
 {
@@ -114,7 +114,7 @@ fn quote(kind: LitKind) -> &'static str
     }
 }
 
-// How many hashes stand outside of each quote.
+// The number of hashes outside of each quote.
 fn hash_count(kind: LitKind) -> u8
     ensures { replicate result 35 ≡ form_hashes kind }
 {

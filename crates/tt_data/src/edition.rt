@@ -2,7 +2,7 @@
 ghost use Rattle.std.specs.Prelude.{◌≡◌, nat_le};
 ghost use Rattle.tt_data.specs.Editions.{year_of};
 
-/// An edition of the language. What a rule means can depend on it.
+/// An edition of the language. How a definition's rules are read can depend on it.
 #[derive(Clone, Copy, PartialEq, Eq, Hash, Debug)]
 pub enum Edition {
     Edition2015,
@@ -12,14 +12,14 @@ pub enum Edition {
 }
 
 impl Edition {
-    /// Whether it is that of 2021 or a later one.
+    /// Whether it is edition 2021 or later.
     pub fn at_least_2021(self) -> bool
         ensures { result ≡ nat_le 2021 (year_of self) }
     {
         matches!(self, Edition::Edition2021 | Edition::Edition2024)
     }
 
-    /// Whether it is that of 2024 or a later one.
+    /// Whether it is edition 2024 or later.
     pub fn at_least_2024(self) -> bool
         ensures { result ≡ nat_le 2024 (year_of self) }
     {

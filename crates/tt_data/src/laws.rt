@@ -1,4 +1,5 @@
-//! Laws of forests, for proofs above this crate. A call does nothing: it only states.
+//! Laws of forests, for the proofs of crates above. Calling a law does nothing: its contract is
+//! the statement.
 ghost use Rattle.std.specs.Prelude.{◌≡◌, ◌↔◌, true, ℕ, ◌+◌, List, ◌∷◌, ◌++◌, length, map};
 ghost use Rattle.tt_data.specs.Flat.{Parts};
 ghost use Rattle.tt_data.specs.Forest.{Forest, empty, group, joined, size, preorder, front, back, forest_of, head_of, IsPreorder, map_spans, shape};
@@ -26,21 +27,22 @@ use crate::span::{Span, SyntaxContext, TextRange};
 use crate::tree::{Subtree, TokenTree};
 use symbols::Symbol;
 
-/// A forest is that of its tokens, as many as its size says.
+/// A forest and its flat list give each other back; the list is as long as the forest's size.
 pub fn tokens_of_a_forest()
     ensures back { (f : Forest) → forest_of (preorder f) ≡ f }
     ensures whole { (f : Forest) → IsPreorder (preorder f) }
     ensures counted { (f : Forest) → length (preorder f) ≡ size f }
 {}
 
-/// In a flat list that holds a forest, the tokens after a leaf hold the trees after it, and those
-/// after the head of a group hold first the trees inside it, as many as it counts, and then the others.
+/// In the flat list of a forest, the tokens after a leaf are those of the trees after it. Those
+/// after the head of a group are first those of the trees inside, as many as it counts, and then
+/// the others.
 pub fn flat_lists_taken_apart()
     ensures after_leaf { (l : Leaf) (more : List TokenTree) → IsPreorder (token.Leaf l ∷ more) → IsPreorder more }
     ensures after_head { (s : Subtree) (more : List TokenTree) → IsPreorder (token.Subtree s ∷ more) → Parts s more }
 {}
 
-/// Flat lists that hold forests make further ones: a leaf before one, one list after another, and the
+/// Flat lists of forests make further ones: a leaf before one, one list after another, and the
 /// head of a group that counts the tokens of the first of two lists.
 pub fn flat_lists_put_together()
     ensures leaf_before { (l : Leaf) (more : List TokenTree) → IsPreorder more → IsPreorder (token.Leaf l ∷ more) }
@@ -52,8 +54,8 @@ pub fn flat_lists_put_together()
         IsPreorder (head_of d (length a) ∷ a ++ b) }
 {}
 
-/// One forest after another: joining is associative, the empty forest changes nothing, and tokens,
-/// their number and steps are those of the one and then those of the other.
+/// Joining forests is associative, and the empty forest changes nothing. Tokens, their number and
+/// the walk of a joined forest are those of its parts, in order.
 pub fn forests_joined()
     ensures grouping { (f g h : Forest) → joined (joined f g) h ≡ joined f (joined g h) }
     ensures nothing { (f : Forest) → joined f empty ≡ f }
@@ -70,13 +72,13 @@ pub fn forests_cut()
     ensures others { (f g : Forest) → back (size f) (joined f g) ≡ g }
 {}
 
-/// A walk is that of one forest alone.
+/// Two forests with one walk are one forest.
 pub fn walk_of_a_forest()
     ensures { (f g : Forest) → walk f ≡ walk g → f ≡ g }
 {}
 
-/// The same trees with other places: how many tokens there are and where trees begin and end stays,
-/// each token and each step has its own place changed, and two changes in turn are one.
+/// A span map changes no tree, size or shape. It changes the span of each token and of each step
+/// of the walk, and two maps in turn are one.
 pub fn spans_mapped()
     ensures joining { (m : Span → Span) (f g : Forest) → map_spans m (joined f g) ≡ joined (map_spans m f) (map_spans m g) }
     ensures counted { (m : Span → Span) (f : Forest) → size (map_spans m f) ≡ size f }
@@ -89,7 +91,7 @@ pub fn spans_mapped()
     ensures shapes { (m : Span → Span) (f : Forest) → shape (map_spans m f) ≡ shape f }
 {}
 
-/// Two tokens are equal by `==` exactly where they are the same, places included.
+/// Two tokens are equal by `==` exactly where they are the same, spans included.
 pub fn equal_tokens()
     ensures spans { (a b : Span) → (⟦<Span as PartialEq>⟧.eq a b ≡ true) ↔ (a ≡ b) }
     ensures delimiters { (a b : Delimiter) → (⟦<Delimiter as PartialEq>⟧.eq a b ≡ true) ↔ (a ≡ b) }
@@ -103,7 +105,8 @@ pub fn equal_tokens()
     ensures tokens { (a b : TokenTree) → (⟦<TokenTree as PartialEq>⟧.eq a b ≡ true) ↔ (a ≡ b) }
 {}
 
-/// By `Default` a place is that of nothing, written by hand, and a punct stands alone there.
+/// By `Default` a span is 0..0 with anchor 0 and context `Written`, and a punct is U+0000,
+/// `Alone`, there.
 pub fn defaults()
     ensures ranges { (r : TextRange) → ⟦<TextRange as Default>⟧.is_default r → r ≡ record { start = 0; «end» = 0 } }
     ensures contexts { (c : SyntaxContext) → ⟦<SyntaxContext as Default>⟧.is_default c → c ≡ Written }

@@ -1,4 +1,4 @@
-//! The tokens that hold no other tokens: literals, puncts and identifiers.
+//! The leaves of token trees: literals, puncts and identifiers.
 ghost use Rattle.std.specs.Prelude.{◌≡◌, ◌^◌, ◌<◌, ◌++◌, ◌↔◌, ⊤, [], length, IfOk, IsOkUnless, IsTrue};
 ghost use Rattle.tt_data.specs.Names.{prefix_of, rawness, bare_name, ident_of};
 ghost use Rattle.tt_data.specs.Spans.{span_of};
@@ -12,16 +12,19 @@ use crate::symbol::Symbol;
 use std::alloc::{AllocError, Global};
 use std::marker::Model;
 
-/// Whether a punct stands right before another one.
+/// Whether a punct is glued to what follows it.
 #[derive(Clone, Copy, Default, PartialEq, Eq, Hash, Debug)]
 pub enum Spacing {
+    /// No punct follows right after it.
     #[default]
     Alone,
+    /// A punct follows right after it.
     Joint,
+    /// It is glued to something else. No text is read so.
     JointHidden,
 }
 
-/// One character of punctuation.
+/// A punct: one character of punctuation. (The Rust Reference, "Tokens": punctuation.)
 #[derive(Clone, Copy, Default, PartialEq, Eq, Hash, Debug)]
 pub struct Punct {
     pub char: char,
@@ -29,7 +32,7 @@ pub struct Punct {
     pub span: Span,
 }
 
-/// Whether an identifier is written with `r#` before it.
+/// Whether an identifier is raw: written with `r#`. (The Rust Reference, "Identifiers".)
 #[derive(Clone, Copy, PartialEq, Eq, Hash, Debug)]
 pub enum IdentIsRaw {
     No,
@@ -37,21 +40,21 @@ pub enum IdentIsRaw {
 }
 
 impl IdentIsRaw {
-    /// Whether it is `Yes`.
+    /// Whether it is raw.
     pub fn yes(self) -> bool
         ensures { IsTrue result ↔ (self ≡ Yes) }
     {
         matches!(self, IdentIsRaw::Yes)
     }
 
-    /// Whether it is `No`.
+    /// Whether it is not raw.
     pub fn no(&self) -> bool
         ensures { IsTrue result ↔ (self.now ≡ No) }
     {
         matches!(self, IdentIsRaw::No)
     }
 
-    /// What is written before the name: `r#`, or nothing.
+    /// The prefix that is written: `r#`, or nothing.
     pub fn as_str(self) -> &'static str
         ensures { result.now ≡ prefix_of self }
     {
@@ -61,7 +64,7 @@ impl IdentIsRaw {
         }
     }
 
-    /// Whether `sym` is written with `r#` before it, and the name without it.
+    /// Whether `sym` begins with `r#`, and the name without it.
     pub fn split_from_symbol(sym: &str) -> (IdentIsRaw, &str)
         ensures raw { result.0 ≡ rawness sym.now }
         ensures name { result.1.now ≡ bare_name sym.now }
@@ -74,7 +77,7 @@ impl IdentIsRaw {
     }
 }
 
-/// A name, without the `r#` that may be written before it.
+/// An identifier: its name without `r#`, its span, and whether it is raw.
 #[derive(Clone, PartialEq, Eq, Hash, Debug, Drop)]
 pub struct Ident {
     pub sym: Symbol,
@@ -83,7 +86,12 @@ pub struct Ident {
 }
 
 impl Ident {
-    /// The identifier that is written `text`: a leading `r#` makes it raw and is no part of its name.
+    /// The identifier that is written `text`: a leading `r#` makes it raw and is no part of its
+    /// name.
+    ///
+    /// # Errors
+    ///
+    /// `Memory`, the only error.
     pub fn new(alloc: Global, text: &str, span: Span) -> Result<Ident, TtFault>
         ensures ident { IfOk result (λ i. i ≡ ident_of text.now span) }
         ensures memory { IsOkUnless result fault.Memory }
@@ -97,7 +105,8 @@ impl Ident {
     }
 }
 
-/// The form in which a literal is written. A number is that of the hashes on either side.
+/// The form of a literal. The number of a raw form is that of its hashes on either side. (The Rust
+/// Reference, "Literals".)
 #[derive(Clone, Copy, PartialEq, Eq, Hash, Debug)]
 pub enum LitKind {
     Byte,
@@ -110,10 +119,11 @@ pub enum LitKind {
     ByteStrRaw(u8),
     CStr,
     CStrRaw(u8),
+    /// What is no whole literal. No text is read so.
     Err(()),
 }
 
-/// A literal without its place: its form, what stands between its quotes, and its suffix.
+/// A literal without its span: its form, the text between its quotes, and its suffix.
 #[derive(Clone, PartialEq, Eq, Hash, Debug, Drop)]
 pub struct Lit {
     pub kind: LitKind,
@@ -121,7 +131,8 @@ pub struct Lit {
     pub suffix: Option<Symbol>,
 }
 
-/// A literal: what stands between its quotes, its suffix, and the form that it is written in.
+/// A literal: the text between its quotes, its suffix, its form, and its span. Of a number the
+/// text is all before the suffix.
 #[derive(PartialEq, Eq, Hash, Debug, Drop)]
 pub struct Literal {
     // The text and right after it the suffix.
@@ -160,7 +171,7 @@ impl Clone for Literal {
 
     ghost is_infallible = { λ _. ⊤ };
 
-    /// The same literal, of which the text has one more owner. It is never refused.
+    /// The same literal. It shares the text, takes no memory and is never refused.
     fn clone(&self) -> Result<Literal, AllocError> {
         Ok(Literal {
             text_and_suffix: self.text_and_suffix.clone()?,
@@ -172,7 +183,12 @@ impl Clone for Literal {
 }
 
 impl Literal {
-    /// The literal with this text and this suffix, which is empty where it has none.
+    /// The literal with this text and suffix; the suffix may be empty, and has at most `u32::MAX`
+    /// bytes.
+    ///
+    /// # Errors
+    ///
+    /// `Memory`, the only error.
     pub fn new(
         alloc: Global,
         text: &str,
@@ -197,7 +213,11 @@ impl Literal {
         })
     }
 
-    /// The literal with this text and without a suffix.
+    /// The literal with this text and no suffix.
+    ///
+    /// # Errors
+    ///
+    /// `Memory`, the only error.
     pub fn new_no_suffix(
         alloc: Global,
         text: &str,
@@ -215,7 +235,7 @@ impl Literal {
         })
     }
 
-    /// The text and the suffix, which is empty where there is none.
+    /// The text, and the suffix, which may be empty.
     pub fn text_and_suffix(&self) -> (&str, &str)
         ensures text { result.0.now ≡ self.now.text }
         ensures suffix { result.1.now ≡ self.now.suffix }
@@ -231,28 +251,28 @@ impl Literal {
         self.text_and_suffix().0
     }
 
-    /// The suffix, which is empty where there is none.
+    /// The suffix, which may be empty.
     pub fn suffix(&self) -> &str
         ensures { result.now ≡ self.now.suffix }
     {
         self.text_and_suffix().1
     }
 
-    /// The form in which it is written.
+    /// Its form.
     pub fn kind(&self) -> LitKind
         ensures { result ≡ self.now.kind }
     {
         self.kind
     }
 
-    /// Its place.
+    /// Its span.
     pub fn span(&self) -> Span
         ensures { result ≡ self.now.span }
     {
         self.span
     }
 
-    /// The same literal at another place.
+    /// The same literal at another span.
     pub fn with_span(self, span: Span) -> Literal
         ensures { result ≡ record self { span = span } }
     {
@@ -262,7 +282,7 @@ impl Literal {
     }
 }
 
-/// A token that holds no other tokens.
+/// A leaf: a token that holds no other tokens.
 #[derive(Clone, PartialEq, Eq, Hash, Debug, Drop)]
 pub enum Leaf {
     Literal(Literal),
@@ -271,7 +291,7 @@ pub enum Leaf {
 }
 
 impl Leaf {
-    /// The place of the leaf.
+    /// The span of the leaf.
     pub fn span(&self) -> Span
         ensures { result ≡ span_of self.now }
     {

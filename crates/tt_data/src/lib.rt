@@ -1,6 +1,6 @@
-//! The data of token trees: spans, symbols, leaves, delimiters and the records of a flat list of tokens.
+//! The data of token trees: spans, symbols, leaves, delimiters and the tokens of a flat list.
 //!
-//! `specs/Forest.antt` has the one definition of a list of trees on which the crates above stand.
+//! `specs/Forest.antt` has the one definition of a list of trees, which all crates above use.
 #![tactic(auto)]
 
 mod delimiter;

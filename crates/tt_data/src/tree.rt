@@ -1,4 +1,4 @@
-//! The records of a flat list of tokens.
+//! The tokens of a flat list: leaves, and heads of groups.
 ghost use Rattle.std.specs.Prelude.{◌≡◌};
 ghost use Rattle.tt_data.specs.Spans.{first_span_of};
 ghost use Rattle.tt_data.specs.declared.tree.TokenTree.TheVariants as token;
@@ -7,23 +7,23 @@ use crate::delimiter::Delimiter;
 use crate::leaf::Leaf;
 use crate::span::Span;
 
-/// The head of a group: its brackets, and how many of the tokens that follow are inside.
+/// The head of a group in a flat list: its delimiters, and how many tokens are inside.
 #[derive(Clone, Copy, PartialEq, Eq, Hash, Debug)]
 pub struct Subtree {
     pub delimiter: Delimiter,
-    /// The number of all tokens inside: each leaf, and each group with what it has inside.
+    /// The number of tokens inside, all levels: each leaf is one, each group one and its contents.
     pub len: u32,
 }
 
 impl Subtree {
-    /// The number of all tokens inside.
+    /// The number of tokens inside, all levels.
     pub fn usize_len(&self) -> usize
         ensures { result ≡ self.now.len }
     {
         self.len as usize
     }
 
-    /// The number of all tokens inside, a group there counting as one and its contents.
+    /// The number of tokens inside, all levels.
     pub fn count(&self) -> usize
         ensures { result ≡ self.now.len }
     {
@@ -39,7 +39,7 @@ pub enum TokenTree {
 }
 
 impl TokenTree {
-    /// The place where the token begins: a group begins with its opening bracket.
+    /// The span of the token; of a group that of its opening delimiter.
     pub fn first_span(&self) -> Span
         ensures { result ≡ first_span_of self.now }
     {

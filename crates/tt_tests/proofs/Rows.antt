@@ -1,4 +1,4 @@
--- Rows worked out by hand, by computation: `a(,b)`.
+-- Worked examples, by computation: `a(,b)`.
 use Rattle.std.proofs.Common.{◌≡◌, ℕ, ◌+◌, List, refl, codes}
 use Rattle.tt_data.specs.declared.span.Span.{Span}
 use Rattle.tt_data.specs.declared.span.SyntaxContext.TheVariants.{Written}

@@ -1,4 +1,4 @@
-//! Each call that takes no memory once: what it answers is proved, so a value or two are seen here.
+//! Each call that takes no memory, once. Its result is proved, so a value or two are tested here.
 use crate::samples::{begun, built, byte_at, punct, put_all, shows, tells, tree};
 use crate::walks::{count_leaves, passed, rebuilt};
 use std::alloc::Global;
@@ -24,7 +24,7 @@ fn data_calls() -> bool {
         && IdentIsRaw::No.no()
 }
 
-// Calls at `+{-[]}`.
+// Calls on the list `+{-[]}`.
 fn list_calls(trees: TokenTreesView<'_>) -> bool {
     trees.len() == 4
         && !trees.is_empty()
@@ -36,7 +36,7 @@ fn list_calls(trees: TokenTreesView<'_>) -> bool {
         && count_leaves(trees) == 2
 }
 
-// Calls at a walk over the same trees.
+// Calls on an iterator over the same trees.
 fn walk_calls(mut walk: TtIter<'_>) -> Option<bool> {
     let start = walk.next_span()?;
     let first = walk.peek()?.first_span();
@@ -45,7 +45,7 @@ fn walk_calls(mut walk: TtIter<'_>) -> Option<bool> {
     Some(start == first && one == 1 && walk.is_empty() && walk.remaining().is_empty())
 }
 
-// Calls at an invisible group of the same trees.
+// Calls on an invisible group of the same trees.
 fn group_calls(group: SubtreeView<'_>) -> bool {
     group.top_subtree().len == 4
         && group.as_token_trees().len() == 5
@@ -54,7 +54,7 @@ fn group_calls(group: SubtreeView<'_>) -> bool {
         && !group.iter().is_empty()
 }
 
-// Calls at a cursor in a list that begins with `+{-[`: into the second group and out of it.
+// Calls on a cursor in a list that begins with `+{-[`: into the second group and out of it.
 fn cursor_calls(trees: TokenTreesView<'_>) -> bool {
     let mut cursor = trees.cursor();
     for _ in 0..4 {
@@ -71,7 +71,7 @@ fn cursor_calls(trees: TokenTreesView<'_>) -> bool {
         && passed(trees).len() == trees.len()
 }
 
-// Calls at a builder that has come to `{[`.
+// Calls on a builder to which `{[` was appended.
 fn builder_calls(builder: &TopSubtreeBuilder) -> bool {
     let mut expected = builder.expected_delimiters();
     builder.innermost() == Some((DelimiterKind::Bracket, byte_at(1)))
@@ -80,7 +80,7 @@ fn builder_calls(builder: &TopSubtreeBuilder) -> bool {
         && expected.next().is_none()
 }
 
-// Whether what comes after a point can be taken back, and what is there at last.
+// Whether what comes after a restore point can be taken back, and what remains.
 fn goes_back(alloc: Global, before: &str, after: &str, last: &str) -> Result<bool, TtFault> {
     let mut builder = begun(alloc, before)?;
     let point = builder.restore_point();
@@ -102,7 +102,7 @@ fn only_group(alloc: Global) -> Result<bool, TtFault> {
     }
 }
 
-fn hash_of(tree: &TopSubtree) -> u64 {
+pub(crate) fn hash_of(tree: &TopSubtree) -> u64 {
     let mut state = DefaultHasher::new();
     tree.hash(&mut state);
     state.finish()
@@ -145,7 +145,7 @@ fn of_builders(rt: HostRuntime) -> Result<(), Fail> {
     Ok(())
 }
 
-// What `{:?}` prints of a tree, and of what borrows it: no clause tells.
+// What `{:?}` prints of a tree, and of what borrows it. No clause says it.
 #[test]
 fn tell_what_is_inside(rt: HostRuntime) -> Result<(), Fail> {
     let alloc = rt.alloc();

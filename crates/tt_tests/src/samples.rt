@@ -1,4 +1,4 @@
-//! Trees as tests write them: each character is a token, at its own place.
+//! Trees as tests write them: each character is a token, with its own span.
 use std::alloc::Global;
 use std::fmt::{Debug, Display};
 use tt::{TopSubtree, TopSubtreeBuilder};
@@ -6,7 +6,7 @@ use tt_data::{
     Delimiter, DelimiterKind, Leaf, Punct, Spacing, Span, SyntaxContext, TextRange, TtFault,
 };
 
-// The byte at this place, as it was written.
+// The span of the byte at this offset, in the context `Written`.
 pub(crate) fn byte_at(start: u8) -> Span {
     let start = u32::from(start);
     Span {
@@ -27,8 +27,8 @@ pub(crate) fn punct(char: char, start: u8) -> Leaf {
     })
 }
 
-// Puts what a character stands for: a bracket opens or closes a group, an invisible one where it is `<` or `>`,
-// and all else is a punct.
+// Appends what a character stands for: a bracket opens or closes a group, an invisible one for `<`
+// and `>`, and every other character is a punct.
 fn put(builder: &mut TopSubtreeBuilder, char: char, start: u8) -> Result<(), TtFault> {
     let kind = match char {
         '{' => DelimiterKind::Brace,
@@ -40,8 +40,8 @@ fn put(builder: &mut TopSubtreeBuilder, char: char, start: u8) -> Result<(), TtF
     builder.open(kind, byte_at(start))
 }
 
-// Puts what the characters stand for, of which the first is at a place; each once more where memory ran out, since a
-// refused call changes nothing.
+// Appends what the characters stand for, the first one with the span at `start`. A call that is
+// out of memory changes nothing, so it is made once more.
 pub(crate) fn put_all(
     builder: &mut TopSubtreeBuilder,
     text: &str,
@@ -58,7 +58,7 @@ pub(crate) fn put_all(
     Ok(())
 }
 
-// A builder that has come so far.
+// A builder to which these characters were appended.
 pub(crate) fn begun(alloc: Global, text: &str) -> Result<TopSubtreeBuilder, TtFault> {
     let top = Delimiter::invisible_spanned(byte_at(0));
     let mut builder = TopSubtreeBuilder::new(alloc, top)?;
@@ -78,12 +78,12 @@ pub(crate) fn tree(alloc: Global, text: &str) -> Result<TopSubtree, TtFault> {
     built(begun(alloc, text)?)
 }
 
-// Whether a value is displayed so.
+// Whether a value displays this text.
 pub(crate) fn shows<D: Display>(alloc: Global, value: &D, text: &str) -> Result<bool, TtFault> {
     Ok(format!(in alloc; "{value}")?.as_str() == text)
 }
 
-// Whether `{:?}` prints this of a value.
+// Whether `{:?}` prints this within a value's text.
 pub(crate) fn tells<D: Debug>(alloc: Global, value: &D, text: &str) -> Result<bool, TtFault> {
     Ok(format!(in alloc; "{value:?}")?.as_str().contains(text))
 }

@@ -1,10 +1,10 @@
-//! That the memory of shared texts comes back.
+//! Tests that the memory of shared texts is freed.
 use std::alloc::Global;
 use std::fs;
 use std::test::*;
 use tt_data::{Symbol, TtFault};
 
-// The pages of the process that are in memory, or 0 where the system does not tell.
+// The pages of the process that are in memory, or 0 if the system does not say.
 fn resident_pages(rt: &HostRuntime) -> u64 {
     let Ok(text) = fs::read_to_string(rt, "/proc/self/statm") else {
         return 0;
@@ -27,7 +27,7 @@ fn come_and_go(alloc: Global, as_symbol: bool) -> Result<(), TtFault> {
     Ok(())
 }
 
-// By how many pages the process grows while many texts come and go.
+// By how many pages the process grows while many texts are made and dropped.
 fn growth(rt: &HostRuntime, as_symbols: bool) -> Result<u64, TtFault> {
     let before = resident_pages(rt);
     for _ in 0..100_000 {
@@ -36,7 +36,8 @@ fn growth(rt: &HostRuntime, as_symbols: bool) -> Result<u64, TtFault> {
     Ok(resident_pages(rt).saturating_sub(before))
 }
 
-// A build that looks for bad accesses gives no freed memory out again, and would tell nothing.
+// A build that looks for bad accesses does not reuse freed memory, so the test would show nothing
+// there.
 #[test]
 fn dropped_texts_give_their_memory_back(rt: HostRuntime) -> Result<(), Fail> {
     if growth(&rt, false)? < 64 {

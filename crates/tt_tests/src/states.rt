@@ -1,4 +1,4 @@
-//! Calls that ask a closure, here one that has a state.
+//! Calls that take a closure, here one that has a state.
 ghost use Rattle.std.specs.Prelude.{⊤};
 
 use crate::samples::{byte_at, shows, tree};
@@ -7,7 +7,7 @@ use std::test::*;
 use tt::{TokenTreesView, TopSubtree, TransformTtAction, transform_tt};
 use tt_data::{Leaf, Punct, Span, TtFault};
 
-// Takes the second token away, and puts these trees in place of the fourth. The top is the first.
+// Removes the second token, and replaces the fourth by these trees. The top is the first.
 pub(crate) fn rewrite(
     alloc: Global,
     tree: &mut TopSubtree,
@@ -24,7 +24,7 @@ pub(crate) fn rewrite(
     })
 }
 
-// Puts 1, 2 and so on in place of the anchors: how many were asked about, and how it went.
+// Replaces the anchors by 1, 2 and so on: how many were asked about, and the result.
 pub(crate) fn number_anchors(alloc: Global, tree: &mut TopSubtree) -> (u32, Result<(), TtFault>) {
     let mut asked = 0u32;
     let answer = tree.change_every_ast_id(alloc, |_anchor| {
@@ -34,7 +34,7 @@ pub(crate) fn number_anchors(alloc: Global, tree: &mut TopSubtree) -> (u32, Resu
     (asked, answer)
 }
 
-// The anchors of the first and the last tree, and of the brackets round them.
+// The anchors of the first and the last tree, and of the delimiters around them.
 fn anchors(tree: &TopSubtree) -> Option<(u32, u32, u32)> {
     let first = tree.token_trees().first_span()?.anchor;
     let last = tree.token_trees().last_span()?.anchor;
@@ -42,7 +42,7 @@ fn anchors(tree: &TopSubtree) -> Option<(u32, u32, u32)> {
     Some((first, last, top))
 }
 
-// How many anchors `+-` has whose second token has one of its own, and what comes in place of them.
+// How many anchors `+-` has if its second token has another one, and what replaces them.
 fn numbered(alloc: Global) -> Result<(u32, Option<(u32, u32, u32)>), TtFault> {
     let mut tree = tree(alloc, "+-")?;
     let span = Span {
@@ -59,7 +59,7 @@ fn numbered(alloc: Global) -> Result<(u32, Option<(u32, u32, u32)>), TtFault> {
     Ok((asked, anchors(&tree)))
 }
 
-// How many tokens the two pieces have, where every second of three trees parts the list.
+// How many tokens the two parts have if a list of three trees is split at every second one.
 fn lengths(trees: TokenTreesView<'_>) -> Option<(usize, usize)> {
     let mut asked = 0u8;
     let mut pieces = trees.split(

@@ -14,8 +14,8 @@ use std::marker::Model;
 use std::rc::Rc;
 use tt_data::{Span, TtFault};
 
-/// What is printed of token events by themselves, of which none is left out: no group is open after them,
-/// and no quote waits for what follows.
+/// A chunk: the text of some events, printed by themselves, and the spans of its tokens. None is
+/// omitted, no group is open at its end, and no quote waits for what follows.
 #[derive(Drop)]
 pub struct PrintedChunk {
     text: String,
@@ -41,7 +41,7 @@ impl PrintedChunk {
         self.tokens.as_slice()
     }
 
-    /// The spans of the printed tokens, as they are shared.
+    /// The same spans, shared.
     pub fn relative_spans(&self) -> &Rc<RelativeSpans>
         ensures { rc_value result.now ≡ self.now.tokens }
     {
@@ -94,7 +94,8 @@ pub(crate) fn append_at(
     Ok(())
 }
 
-/// Appends a chunk, with its tokens at their own spans, shifted: `false`, and nothing is done, where they do not fit.
+/// Appends a chunk, with its tokens at their own spans, shifted. `false`, with nothing changed, if
+/// they would be no spans of a text.
 pub(crate) fn append_shifted(
     out: &mut PrintState,
     chunk: &PrintedChunk,
@@ -115,7 +116,8 @@ pub(crate) fn append_shifted(
     }
 }
 
-/// What was put, as a chunk, where it is one. Unused room of its text and its spans is given back.
+/// What was printed, as a chunk. `None` if it is no chunk. Unused room of its text and its spans
+/// is given back.
 pub(crate) fn as_chunk(out: PrintState) -> Result<Option<PrintedChunk>, TtFault>
     ensures chunk { IfOk result (λ o. IfSome o (λ chunk. state_of out ≡ just_chunk chunk)) }
     ensures told { IfOk result (λ o. is_some o ≡ is_chunk (state_of out)) }

@@ -1,5 +1,5 @@
-//! Token events: the steps of a pre-order traversal of trees, one by one. The open groups stand on a stack in memory, so that
-//! no function calls itself.
+//! Token events: the pre-order traversal of trees, event by event. The open groups are on a stack
+//! in memory, so that no function calls itself.
 ghost use Rattle.std.specs.Prelude.{◌≡◌, IfOk, OnOk, IsOkUnless, ◌∷◌, ◌++◌};
 ghost use Rattle.bridge.specs.PrintSteps.{Gives, steps_around, steps_left};
 ghost use Rattle.tt.specs.Views.{forest};
@@ -12,7 +12,8 @@ use std::mem::replace;
 use tt::{TokenTreesView, TtIter};
 use tt_data::{Delimiter, DelimiterKind, Leaf, Span, TtFault};
 
-/// A step of a traversal: a leaf, which is lent, or a bracket of a group that may be invisible.
+/// An event of a traversal: a leaf, which is borrowed, or the opening or closing of a group that
+/// may be invisible.
 #[derive(Drop)]
 pub enum TokenEvent<'a> {
     Leaf(&'a Leaf),
@@ -20,7 +21,7 @@ pub enum TokenEvent<'a> {
     Closes(DelimiterKind, Span),
 }
 
-/// An open group: its closing bracket, and the trees behind it.
+/// An open group: its closing delimiter, and the trees after it.
 #[derive(Drop)]
 pub(crate) struct OpenGroup<'a> {
     kind: DelimiterKind,
@@ -28,7 +29,8 @@ pub(crate) struct OpenGroup<'a> {
     rest: TtIter<'a>,
 }
 
-/// The events that remain: the trees that are left of the innermost list, and the open groups, the innermost last.
+/// The events that are left: the trees left in the innermost list, and the open groups, innermost
+/// last.
 #[derive(Drop)]
 pub(crate) struct Events<'a> {
     here: TtIter<'a>,
@@ -45,7 +47,7 @@ pub(crate) fn events_of<'a>(alloc: Global, view: TokenTreesView<'a>) -> Events<'
     }
 }
 
-// Goes into a group, which has these trees inside.
+// Enters a group, which has these trees inside.
 fn enter<'a>(left: &mut Events<'a>, group: Delimiter, inner: TtIter<'a>) -> Result<(), TtFault>
     ensures ok { OnOk result (steps_left left.new ≡ walk inner.entry ++ (closes group.kind group.close_span ∷ steps_left left.old)) }
     ensures memory { IsOkUnless result Memory }
@@ -62,7 +64,7 @@ fn enter<'a>(left: &mut Events<'a>, group: Delimiter, inner: TtIter<'a>) -> Resu
     }
 }
 
-// Leaves the innermost group, where one is open, and answers its closing bracket.
+// Leaves the innermost group and answers its closing. `None` if no group is open.
 fn leave<'a>(left: &mut Events<'a>) -> Option<TokenEvent<'a>>
     requires { left.old.here ≡ empty }
     ensures { Gives (steps_left left.old) result (steps_left left.new) }
@@ -72,7 +74,7 @@ fn leave<'a>(left: &mut Events<'a>) -> Option<TokenEvent<'a>>
     Some(TokenEvent::Closes(outer.kind, outer.close_span))
 }
 
-/// Takes the next event: none at the end.
+/// Takes the next event. `None` at the end.
 pub(crate) fn next_event<'a>(left: &mut Events<'a>) -> Result<Option<TokenEvent<'a>>, TtFault>
     ensures gives { IfOk result (λ step. Gives (steps_left left.old) step (steps_left left.new)) }
     ensures memory { IsOkUnless result Memory }

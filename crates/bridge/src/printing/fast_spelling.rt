@@ -1,4 +1,5 @@
-//! The fast path of spelling: leaves whose kind and text show how they are spelled, so that the text needs no lexing.
+//! The fast path of spelling: leaves whose kind and text alone show how they are spelled, so that
+//! nothing is lexed. It decides speed alone.
 ghost use Rattle.std.specs.Prelude.{◌≡◌, ◌↔◌, ◌<◌, ◌^◌, ◌∷◌, [], true, IfSome, IsTrue, Some, codes, length};
 ghost use Rattle.std.specs.List.{list_all};
 ghost use Rattle.bridge.specs.FastSpellings.{is_mark_char, is_plain_byte};
@@ -10,14 +11,14 @@ ghost use Rattle.tt_data.specs.declared.leaf.Leaf.TheVariants as as_leaf;
 use rustc_lexer::{is_ident, laws};
 use tt_data::{Ident, Leaf, LitKind, Literal, Punct};
 
-// Whether a text is no longer than a text may be that has tokens.
+// Whether the text is no longer than a text with tokens may be.
 fn is_short(text: &str) -> bool
     ensures { IsTrue result ↔ (length text.now < 2 ^ 32) }
 {
     text.len() <= u32::MAX as usize
 }
 
-// The text of a character that is a punct in a text, but for the quote.
+// The text of a character that is a punct in a text. `None` for a quote.
 fn mark_text(char: char) -> Option<&'static str>
     ensures text { IfSome result (λ t. t.now ≡ char ∷ []) }
     ensures mark { IfSome result (λ t. is_mark_char char ≡ true) }
@@ -54,7 +55,7 @@ fn punct_text(punct: &Punct) -> Option<&'static str>
     mark_text(punct.char)
 }
 
-// The name where it is not raw and an identifier.
+// The name, if it is an identifier that is not raw.
 fn name_text(ident: &Ident) -> Option<&str>
     ensures { IfSome result (λ t. leaf_spelling (as_leaf.Ident ident.now) ≡ Some t.now) }
 {
@@ -75,7 +76,7 @@ pub(crate) fn is_dollar_crate(ident: &Ident) -> bool
     ident.is_raw.no() && ident.sym.as_str() == "$crate"
 }
 
-// How a name is spelled that is an identifier, or `$crate`, which is none.
+// The spelling of an identifier that is not raw, or of `$crate`.
 fn ident_text(ident: &Ident) -> Option<&str>
     ensures { IfSome result (λ t. leaf_spelling (as_leaf.Ident ident.now) ≡ Some t.now) }
 {
@@ -86,7 +87,7 @@ fn ident_text(ident: &Ident) -> Option<&str>
     text
 }
 
-// Whether the text has digits alone.
+// Whether the text has only digits.
 fn has_digits_alone(text: &str) -> bool
     ensures { IsTrue result → list_all is_digit text.now ≡ true }
 {
@@ -98,7 +99,7 @@ fn has_digits_alone(text: &str) -> bool
     true
 }
 
-// The text of a number that is a row of digits without a suffix.
+// The text of a number that is only digits, without a suffix.
 fn number_text(literal: &Literal) -> Option<&str>
     ensures { IfSome result (λ t. leaf_spelling (as_leaf.Literal literal.now) ≡ Some t.now) }
 {
@@ -117,7 +118,7 @@ fn number_text(literal: &Literal) -> Option<&str>
     }
 }
 
-// Whether the text is of ASCII, without a quote and without a `\`.
+// Whether the text is ASCII, without a quote and without a `\`.
 fn stands_for_itself(text: &str) -> bool
     ensures { IsTrue result → list_all is_plain_byte text.now ≡ true }
 {
@@ -129,7 +130,7 @@ fn stands_for_itself(text: &str) -> bool
     true
 }
 
-/// Whether the literal is a string whose displayed text is seen to be one token.
+/// Whether the literal is a string whose displayed text is clearly one token.
 pub(crate) fn is_plain_string(literal: &Literal) -> bool
     ensures { IsTrue result → is_text_of (as_leaf.Literal literal.now) (displayed_leaf (as_leaf.Literal literal.now)) ≡ true }
 {
@@ -142,7 +143,7 @@ pub(crate) fn is_plain_string(literal: &Literal) -> bool
     false
 }
 
-/// How the leaf is spelled, where its kind and its text show that.
+/// The spelling of the leaf, if its kind and its text alone show it.
 pub(crate) fn fast_spelling(leaf: &Leaf) -> Option<&str>
     ensures { IfSome result (λ t. leaf_spelling leaf.now ≡ Some t.now) }
 {

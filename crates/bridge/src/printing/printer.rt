@@ -19,31 +19,34 @@ use std::marker::Model;
 use tt::TokenTreesView;
 use tt_data::{Span, TtFault};
 
-/// What is printed of trees.
+/// The printed text of trees, with the spans of its tokens.
 #[derive(Drop)]
 pub struct Printed {
-    /// The text, which is read as just the printed tokens.
+    /// The text. It reads back as exactly the printed tokens.
     pub text: String,
     /// The spans of the printed tokens, in order.
     pub tokens: Vec<Span>,
-    /// The numbers, from 0 on among all visible tokens, of those that have no spelling.
+    /// The indices, from 0 among all visible tokens, of those without a spelling, which are
+    /// omitted.
     pub left_out: Vec<usize>,
 }
 
-/// What is printed of trees, with spans that are computed when they are asked for.
+/// The printed text of trees, with spans that are computed when asked for.
 #[derive(Drop)]
 pub struct LazyPrinted {
-    /// The text, which is read as just the printed tokens.
+    /// The text. It reads back as exactly the printed tokens.
     pub text: String,
     /// The spans of the printed tokens, in order.
     pub tokens: SpanList,
-    /// The numbers, from 0 on among all visible tokens, of those that have no spelling.
+    /// The indices, from 0 among all visible tokens, of those without a spelling, which are
+    /// omitted.
     pub left_out: Vec<usize>,
 }
 
-/// A text under construction: lists of trees are put one after another, and printed as one list.
+/// A text under construction: lists of trees, events and chunks are appended, and printed as one
+/// list.
 ///
-/// A call that is refused changes nothing; `Memory` is the only reason.
+/// A refused call changes nothing; `Memory` is the only reason.
 #[derive(Drop)]
 pub struct Printer {
     out: PrintState,
@@ -68,7 +71,7 @@ impl Printer {
     ghost use Rattle.bridge.specs.PrintedTrees.{lazy_print_in};
     ghost use Rattle.bridge.specs.TokenEvents.{step_of};
 
-    /// A printer to which nothing was put.
+    /// An empty printer.
     pub fn new(alloc: Global) -> Printer
         ensures { HasPut result [] }
     {
@@ -77,7 +80,7 @@ impl Printer {
         }
     }
 
-    /// A printer to which nothing was put, with room for a text of so many bytes, and for so many chunks.
+    /// An empty printer with room for a text of `bytes` bytes, and for `chunks` chunks.
     pub fn with_room(alloc: Global, bytes: usize, chunks: usize) -> Result<Printer, AllocError>
         ensures { IfOk result (λ printer. HasPut printer []) }
     {
@@ -85,7 +88,8 @@ impl Printer {
         Ok(Printer { out })
     }
 
-    /// A printer to which nothing was put, with room for a text of so many bytes, and for so many tokens put one by one.
+    /// An empty printer with room for a text of `bytes` bytes, and for `tokens` tokens appended
+    /// one by one.
     pub fn with_token_room(
         alloc: Global,
         bytes: usize,
@@ -97,7 +101,14 @@ impl Printer {
         Ok(Printer { out })
     }
 
-    /// Prints these trees behind what was put before. A quote that is last waits for the next call.
+    /// Makes room for `bytes` more bytes of text. What is printed does not depend on it.
+    pub fn reserve(&mut self, bytes: usize) -> Result<(), AllocError>
+        ensures { self.new ≡ self.old }
+    {
+        self.out.text.reserve(bytes)
+    }
+
+    /// Appends these trees. A quote that is last waits for the next call.
     pub fn put(&mut self, view: TokenTreesView<'_>) -> Result<(), TtFault>
         ensures ok { OnOk result ((steps : List Step) → HasPut self.old steps → HasPut self.new (steps ++ walk (forest view.entry))) }
         ensures err { OnErr result (self.new ≡ self.old) }
@@ -111,7 +122,7 @@ impl Printer {
         }
     }
 
-    /// Prints one token event behind what was put before, as `put` prints all events of a list of trees.
+    /// Appends one event, as `put` appends all events of a list of trees.
     pub fn put_event(&mut self, step: &TokenEvent<'_>) -> Result<(), TtFault>
         ensures ok { OnOk result ((steps : List Step) → HasPut self.old steps → HasPut self.new (steps ++ step_of step.now ∷ [])) }
         ensures err { OnErr result (self.new ≡ self.old) }
@@ -125,16 +136,17 @@ impl Printer {
         }
     }
 
-    /// Whether a chunk can be appended here: no group is open, no quote is pending, and the gap after the last token does
-    /// not depend on the next token, as it does after a punct that isn't `Alone` and ends no line.
+    /// Whether a chunk can be appended here: no group is open, no quote waits, and the gap after
+    /// the last token does not depend on the next one. It does after a punct that isn't `Alone`
+    /// and ends no line.
     pub fn takes_chunks(&self) -> bool
         ensures { result ≡ takes_chunks self.now }
     {
         takes_chunks(&self.out)
     }
 
-    /// Appends a chunk, with its tokens at these spans, as its events would be put; `false`, and nothing is done, where
-    /// none can be appended.
+    /// Appends a chunk, with its tokens at these spans, as its events would be appended. `false`,
+    /// with nothing changed, if none can be appended here.
     pub fn put_chunk(&mut self, chunk: &PrintedChunk, spans: &[Span]) -> Result<bool, TtFault>
         ensures puts { IfOk result (PutsChunk self.old self.new chunk.now spans.now) }
         ensures told { IfOk result (λ done. done ≡ takes_chunks self.old) }
@@ -151,8 +163,9 @@ impl Printer {
         }
     }
 
-    /// Appends a chunk as `put_chunk` does, with its tokens at their own spans, shifted. These are not computed, but shared
-    /// with the chunk. `false`, and nothing is done, also where they are no spans of a text.
+    /// Appends a chunk as `put_chunk` does, with its own spans, shifted. They are shared with the
+    /// chunk and computed when asked for. `false`, with nothing changed, also if they would be no
+    /// spans of a text.
     pub fn put_chunk_at(&mut self, chunk: &PrintedChunk, shift: Shift) -> Result<bool, TtFault>
         ensures puts { IfOk result (PutsChunk self.old self.new chunk.now (map (shifted shift) chunk.now.tokens)) }
         ensures err { OnErr result (self.new ≡ self.old) }
@@ -168,8 +181,8 @@ impl Printer {
         }
     }
 
-    /// All that was put, as a chunk; `None` where a group is open, a quote waits, a token was left out, or nothing
-    /// was printed. `Memory` is its only error.
+    /// All that was appended, as a chunk. `None` if a group is open, a quote waits, a token was
+    /// omitted, or nothing was printed. `Memory` is its only error.
     pub fn into_chunk(self) -> Result<Option<PrintedChunk>, TtFault>
         ensures chunk { IfOk result (λ o. IfSome o (λ chunk. (steps : List Step) → HasPut self steps → IsChunkOf chunk steps)) }
         ensures told { IfOk result (λ o. is_some o ≡ is_chunk self) }
@@ -178,8 +191,8 @@ impl Printer {
         as_chunk(self.out)
     }
 
-    /// The text of all that was put, with the spans of its tokens and the numbers of those that are
-    /// left out. A refused call gives the printer back as it was.
+    /// The text of all that was appended, the spans of its tokens, and the indices of omitted
+    /// tokens. A refused call gives the printer back as it was.
     pub fn finish(self) -> Result<Printed, (Printer, TtFault)>
         ensures ok { IfOk result (λ p. (steps : List Step) → HasPut self steps → print_in p ≡ print_of steps) }
         ensures err { IfErr result (λ e. (e.0 ≡ self) × (e.1 ≡ Memory)) }
@@ -199,8 +212,8 @@ impl Printer {
         }
     }
 
-    /// What `finish` gives, with spans that are computed when they are asked for. A refused call gives the printer back as it
-    /// was.
+    /// As `finish`, with spans that are computed when asked for. A refused call gives the printer
+    /// back as it was.
     pub fn finish_lazy(self) -> Result<LazyPrinted, (Printer, TtFault)>
         ensures ok { IfOk result (λ p. (steps : List Step) → HasPut self steps → lazy_print_in p ≡ print_of steps) }
         ensures err { IfErr result (λ e. (e.0 ≡ self) × (e.1 ≡ Memory)) }
@@ -221,7 +234,7 @@ impl Printer {
     }
 }
 
-// Puts all events of these trees.
+// Appends all events of these trees.
 fn put_trees(alloc: Global, out: &mut PrintState, view: TokenTreesView<'_>) -> Result<(), TtFault>
     requires fits { Fits (state_of out.old) }
     ensures fits { OnOk result (Fits (state_of out.new)) }

@@ -1,4 +1,4 @@
-//! Item-relative spans: kept once, and shifted to wherever their item is.
+//! Piece-relative spans: stored once, and shifted to wherever their piece is.
 ghost use Rattle.std.specs.Prelude.{◌≡◌, ◌+◌, ◌<◌, ◌^◌, IfSome, true};
 ghost use Rattle.std.specs.List.{list_all};
 ghost use Rattle.bridge.specs.RelativeSpans.{is_anchored, is_in_text, is_within, shifted};
@@ -6,25 +6,26 @@ ghost use Rattle.bridge.specs.RelativeSpans.{is_anchored, is_in_text, is_within,
 use std::marker::Model;
 use tt_data::{Span, TextRange};
 
-/// The offsets to which the ranges of an item are relative: of its own tokens, and of those with another anchor than 0.
+/// The offsets by which the ranges of a piece are shifted: those of its own tokens, and those with
+/// another anchor than 0.
 #[derive(Clone, Copy)]
 pub struct Shift {
     pub start: u32,
     pub base: u32,
 }
 
-// No range goes past `reach`, and each anchor is 0 or this one.
+// A bound on all ranges, and the only anchor besides 0.
 #[derive(Clone, Copy)]
 struct Bounds {
     reach: u32,
     anchor: u32,
 }
 
-/// Spans of an item, in order.
+/// Piece-relative spans, in order.
 #[derive(Drop)]
 pub struct RelativeSpans {
     spans: Vec<Span>,
-    // None where there are two anchors besides 0.
+    // `None` if there are two anchors besides 0.
     bounds: Option<Bounds>,
 }
 
@@ -57,7 +58,7 @@ impl RelativeSpans {
         self.spans.as_slice()
     }
 
-    /// The only anchor besides 0, or any one where there is none; `None` where there are more.
+    /// The only anchor besides 0, or any number if there is none; `None` if there are more.
     pub fn anchor(&self) -> Option<u32>
         ensures { IfSome result (λ a. list_all (is_anchored a) self.now ≡ true) }
     {
@@ -67,7 +68,8 @@ impl RelativeSpans {
         }
     }
 
-    /// Whether all of them are spans of a text when they are shifted; `false` where there are two anchors besides 0.
+    /// Whether all of them are spans of a text when they are shifted; `false` if there are two
+    /// anchors besides 0.
     pub fn fits(&self, shift: Shift) -> bool
         ensures { result ≡ true → list_all (is_in_text shift) self.now ≡ true }
     {
@@ -78,7 +80,7 @@ impl RelativeSpans {
     }
 }
 
-// Whether ranges that go no further can be counted from there.
+// Whether ranges that end at `reach` or before still fit when they are shifted.
 fn has_room(shift: Shift, reach: u32) -> bool
     ensures { result ≡ true → (shift.start + reach < 2 ^ 32) × (shift.base + reach < 2 ^ 32) }
 {
@@ -104,7 +106,7 @@ fn are_within(bounds: Bounds, spans: &[Span]) -> bool
     true
 }
 
-// The furthest end, and the last anchor that isn't 0.
+// The greatest end, and the last anchor that isn't 0.
 fn widest(spans: &[Span]) -> Bounds {
     let mut bounds = Bounds {
         reach: 0,
@@ -130,7 +132,7 @@ fn bounds_of(spans: &[Span]) -> Option<Bounds>
     }
 }
 
-/// A span that is shifted.
+/// The span, shifted.
 pub(crate) fn shifted(shift: Shift, span: Span) -> Span
     requires { is_in_text shift span ≡ true }
     ensures { result ≡ shifted shift span }

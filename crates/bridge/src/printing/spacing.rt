@@ -4,7 +4,7 @@ ghost use Rattle.bridge.specs.Edges.{are_joined, closing_edge, ends_line, gap_be
 
 use tt_data::{DelimiterKind, Leaf, Spacing};
 
-/// All that the gaps before and after a printed token depend on.
+/// What the gaps before and after a printed token depend on.
 #[derive(Clone, Copy)]
 pub(crate) enum Edge {
     /// A punct of this character, and whether it isn't `Alone`.
@@ -40,7 +40,7 @@ pub(crate) fn closing_edge(kind: DelimiterKind) -> Edge
     }
 }
 
-/// Whether a line ends behind the token, outside all groups.
+/// Whether a line ends after the token, outside all groups.
 #[inline(always)]
 pub(crate) fn ends_line(edge: Edge) -> bool
     ensures { result ≡ ends_line edge }
@@ -61,7 +61,7 @@ fn is_comment_or_guard(first: char, second: char) -> bool
         || (first == '#' && second == '#')
 }
 
-// Whether nothing stands between two tokens on one line.
+// Whether two tokens on one line have nothing between them.
 #[inline(always)]
 fn are_joined(last: Edge, next: Edge) -> bool
     ensures { result ≡ are_joined last next }
@@ -75,7 +75,7 @@ fn are_joined(last: Edge, next: Edge) -> bool
     }
 }
 
-/// The gap between two tokens, where so many groups are open after the first.
+/// The gap between two tokens, where `depth` groups are open after the first.
 #[inline(always)]
 pub(crate) fn gap_between(depth: usize, last: Edge, next: Edge) -> Gap
     ensures { gap_text result ≡ gap_between depth last next }

@@ -1,4 +1,4 @@
-//! Lists of spans, of which some are shared with a chunk, and are computed when they are asked for.
+//! Lists of spans. Some spans are shared with a chunk, and computed when they are asked for.
 ghost use Rattle.std.specs.Prelude.{◌≡◌, ℕ, ◌+◌, ◌≤◌, ◌<◌, ◌^◌, ◌-◌, ◌∷◌, ◌++◌, [], IfOk, IfSome, OnErr, OnOk, leb, length, map, slice_get, take, true};
 ghost use Rattle.std.specs.List.{AllWithin, list_all};
 ghost use Rattle.std.specs.Rc.{rc_value};
@@ -13,10 +13,10 @@ use std::mem::replace;
 use std::rc::Rc;
 use tt_data::Span;
 
-// The most spans that stand in runs.
+// The most spans that may be in runs.
 const MOST: usize = 1 << 62;
 
-// Shared spans that stand in a list, shifted or as they are: as many as the list has from `begin` on and before `end`.
+// Shared spans, shifted or as they are: those of the list from index `begin` to before `end`.
 #[derive(Drop)]
 struct SpanRun {
     begin: usize,
@@ -28,13 +28,14 @@ struct SpanRun {
 #[derive(Drop)]
 struct SpanRuns {
     runs: Vec<SpanRun>,
-    // How many spans stand in runs.
+    // How many spans are in runs.
     shared: usize,
-    // The spans behind them.
+    // The spans after the runs.
     own: Vec<Span>,
 }
 
-/// Spans in order.
+/// A list of spans, some of them shared with a chunk and computed when asked for. A refused call
+/// changes nothing.
 #[derive(Drop)]
 pub struct SpanList {
     inner: SpanRuns,
@@ -53,7 +54,7 @@ impl Model for SpanList {
 }
 
 impl SpanList {
-    /// No span.
+    /// An empty list.
     pub fn new(alloc: Global) -> SpanList
         ensures { result ≡ [] }
     {
@@ -66,7 +67,7 @@ impl SpanList {
         }
     }
 
-    /// No span, with room for so many runs of shared ones, and for so many others.
+    /// An empty list with room for so many runs of shared spans, and for so many others.
     pub fn with_room(alloc: Global, runs: usize, own: usize) -> Result<SpanList, AllocError>
         ensures { IfOk result (λ places. places ≡ []) }
     {
@@ -81,21 +82,21 @@ impl SpanList {
         })
     }
 
-    /// How many there are.
+    /// The number of spans.
     pub fn len(&self) -> usize
         ensures { result ≡ length self.now }
     {
         self.inner.shared + self.inner.own.len()
     }
 
-    /// The span of this number, from 0.
+    /// The span of this index, from 0, if there is one.
     pub fn get(&self, i: usize) -> Option<Span>
         ensures { result ≡ slice_get self.now i }
     {
         place_at(&self.inner, i)
     }
 
-    /// Adds a span.
+    /// Appends a span.
     pub fn push(&mut self, span: Span) -> Result<(), AllocError>
         ensures ok { OnOk result (self.new ≡ self.old ++ span ∷ []) }
         ensures err { OnErr result (self.new ≡ self.old) }
@@ -106,7 +107,7 @@ impl SpanList {
         }
     }
 
-    /// Adds these spans.
+    /// Appends these spans.
     pub fn extend_from_slice(&mut self, spans: &[Span]) -> Result<(), AllocError>
         ensures ok { OnOk result (self.new ≡ self.old ++ spans.now) }
         ensures err { OnErr result (self.new ≡ self.old) }
@@ -114,7 +115,8 @@ impl SpanList {
         self.inner.own.extend_from_slice(spans)
     }
 
-    /// Adds shared spans, shifted, which are not copied; `false`, and nothing is done, where they do not fit.
+    /// Appends shared spans, shifted, without copying them. `false`, with nothing changed, if they
+    /// would be no spans of a text.
     pub fn push_shared(
         &mut self,
         shared: &Rc<RelativeSpans>,
@@ -126,14 +128,14 @@ impl SpanList {
         push_shifted(&mut self.inner, shared, shift)
     }
 
-    /// Keeps the first spans alone, so many of them.
+    /// Keeps the first `count` spans.
     pub fn truncate(&mut self, count: usize)
         ensures { self.new ≡ take count self.old }
     {
         cut(&mut self.inner, count)
     }
 
-    /// The spans in one vector. Refused where there is no memory for it, and then nothing changes.
+    /// The spans in one vector. Refused if there is no memory for it.
     pub fn take_spans(&mut self) -> Result<Vec<Span>, AllocError>
         ensures ok { IfOk result (λ spans. spans.items ≡ self.old) }
         ensures err { OnErr result (self.new ≡ self.old) }
@@ -141,7 +143,7 @@ impl SpanList {
         all_spans(&mut self.inner)
     }
 
-    /// Equal spans. Refused where there is no memory for it.
+    /// Equal spans. Refused if there is no memory for them.
     pub fn try_clone(&self, alloc: Global) -> Result<SpanList, AllocError>
         ensures { IfOk result (λ p. p ≡ self.now) }
     {
@@ -157,7 +159,7 @@ impl SpanList {
     }
 }
 
-// The end of so many spans behind others.
+// The index after `count` spans that follow `shared` others. `None` if it is too large.
 fn end_behind(shared: usize, count: usize) -> Option<usize>
     ensures { IfSome result (λ end_at. (end_at ≡ shared + count) × (end_at ≤ 2 ^ 62)) }
 {
@@ -179,7 +181,7 @@ fn runs_before(runs: &[SpanRun], i: usize) -> usize
     )
 }
 
-// The span of this number, which is one of the run's.
+// The span at index `i` of the list, which is in this run.
 fn place_in(run: &SpanRun, i: usize) -> Option<Span>
     requires right { IsRun run.now.begin run.now }
     requires begin { run.now.begin ≤ i }
@@ -227,7 +229,7 @@ fn run_of(alloc: Global, begin: usize, end: usize, spans: &[Span]) -> Result<Spa
     }
 }
 
-// Held spans, shifted, as a run.
+// Shared spans, shifted, as a run.
 fn shifted_run(
     begin: usize,
     end: usize,
@@ -247,7 +249,8 @@ fn shifted_run(
     })
 }
 
-// Makes the spans behind the runs a run: `false`, and nothing is done, where there would be too many.
+// Turns the spans after the runs into a run. `false`, with nothing changed, if there would be too
+// many.
 fn settle(inner: &mut SpanRuns) -> Result<bool, AllocError>
     requires { AreSpanRuns inner.old }
     ensures right { AreSpanRuns inner.new }
@@ -310,7 +313,7 @@ fn cut(inner: &mut SpanRuns, count: usize)
     inner.own.clear();
 }
 
-// Copies of all spans.
+// All spans, copied.
 fn copied(alloc: Global, inner: &SpanRuns) -> Result<Vec<Span>, AllocError>
     requires { AreSpanRuns inner.now }
     ensures { IfOk result (λ spans. spans.items ≡ spans_in inner.now) }

@@ -1,4 +1,4 @@
-//! How a leaf is spelled: by its displayed text, where that is one token that is read as the leaf.
+//! How a leaf is spelled: by its displayed text, if that is one token that is read as the leaf.
 ghost use Rattle.std.specs.Prelude.{◌≡◌, ◌<◌, ◌^◌, List, [], ◌∷◌, Some, None, chars, length, IfOk, IsOkUnless, option_map, string_bytes, if◌then◌else◌};
 ghost use Rattle.bridge.specs.ReadSteps.{MayCut};
 ghost use Rattle.bridge.specs.Reading.{PlacedToken};
@@ -20,7 +20,7 @@ use std::alloc::Global;
 use tt::literal_parts;
 use tt_data::{IdentIsRaw, Leaf, LitKind, Literal, TtFault};
 
-// Whether two literals are of one form. What is no literal has none.
+// Whether two literals are of one form. What is no literal has no form.
 fn are_of_one_form(first: LitKind, second: LitKind) -> bool
     ensures { result ≡ same_form first second }
 {
@@ -49,7 +49,7 @@ fn are_alike_raw(first: IdentIsRaw, second: IdentIsRaw) -> bool
     }
 }
 
-// Whether the literal is the one that the whole token is.
+// Whether the literal is the one that this whole token is read as.
 fn is_literal(literal: &Literal, form: LitKind, suffix_start: u32, text: &str) -> bool
     requires boundary { IsCharBoundary text.now suffix_start }
     requires token { IsLiteralToken form suffix_start text.now }
@@ -59,7 +59,7 @@ fn is_literal(literal: &Literal, form: LitKind, suffix_start: u32, text: &str) -
     are_of_one_form(literal.kind(), form) && literal.text() == inside && literal.suffix() == suffix
 }
 
-// Whether the leaf is what the whole token is read as, spans and spacing aside.
+// Whether the leaf is what this whole token is read as, apart from spans and spacing.
 fn is_read_as(leaf: &Leaf, class: TokenClass, text: &str) -> bool
     requires { MayCut class text.now }
     ensures { (t : PlacedToken) (more : List PlacedToken) → t.text ≡ text.now → result ≡ is_that_leaf leaf.now (steps_of_class class t more) }
@@ -77,7 +77,7 @@ fn is_read_as(leaf: &Leaf, class: TokenClass, text: &str) -> bool
     }
 }
 
-// Whether the leaf is what the text is read as, which is this one token.
+// Whether the leaf is what the text, which is this one token, is read as.
 fn is_token_of(leaf: &Leaf, token: Token, text: &str) -> bool
     requires short { length text.now < 2 ^ 32 }
     requires one { tokens_of (chars text.now) ≡ token ∷ [] }
@@ -91,7 +91,7 @@ fn is_token_of(leaf: &Leaf, token: Token, text: &str) -> bool
     is_read_as(leaf, class_of(token.kind), text)
 }
 
-// Whether the text is one token, which is read as the leaf.
+// Whether the text is one token that is read as the leaf.
 fn is_text_of(leaf: &Leaf, text: &str) -> bool
     ensures { result ≡ is_text_of leaf.now text.now }
 {
@@ -108,7 +108,7 @@ fn is_text_of(leaf: &Leaf, text: &str) -> bool
     is_token_of(leaf, token, text)
 }
 
-// Whether the leaf is what its displayed text is read as, which is that text.
+// Whether the leaf's displayed text is one token that is read as the leaf.
 fn is_own_text(leaf: &Leaf, text: &str) -> bool
     requires { text.now ≡ displayed_leaf leaf.now }
     ensures { result ≡ is_text_of leaf.now text.now }
@@ -119,10 +119,10 @@ fn is_own_text(leaf: &Leaf, text: &str) -> bool
     }
 }
 
-// Most displayed texts have no more bytes.
+// Room for a displayed text. Most have no more bytes.
 const MOST_TEXTS: usize = 64;
 
-// The displayed text of the leaf, where it is one token that is read as the leaf.
+// The displayed text of the leaf, if it is one token that is read as the leaf.
 fn own_text(alloc: Global, leaf: &Leaf) -> Result<Option<String>, TtFault>
     ensures some { IfOk result (λ o. option_map string_bytes o ≡
         (if is_text_of leaf.now (displayed_leaf leaf.now) then Some (displayed_leaf leaf.now) else None)) }
@@ -137,8 +137,8 @@ fn own_text(alloc: Global, leaf: &Leaf) -> Result<Option<String>, TtFault>
     }
 }
 
-/// The text that the leaf is spelled by, where it has one: `$crate` is spelled `crate`. `Memory` is
-/// the only error.
+/// The spelling of the leaf, if it has one. `$crate` is spelled `crate`. Its only error is out of
+/// memory.
 pub(crate) fn leaf_spelling(alloc: Global, leaf: &Leaf) -> Result<Option<String>, TtFault>
     ensures spelling { IfOk result (λ o. option_map string_bytes o ≡ leaf_spelling leaf.now) }
     ensures memory { IsOkUnless result Memory }

@@ -32,7 +32,8 @@ pub(crate) struct PrintState {
     pub(crate) depth: usize,
     // The token printed last.
     pub(crate) last: Option<Edge>,
-    // The span of a `Joint` quote that is pending, of which the next visible token tells whether it has a spelling.
+    // The span of a `Joint` quote that is pending: the next visible token decides whether it has
+    // a spelling.
     pub(crate) waiting: Option<Span>,
 }
 
@@ -58,7 +59,7 @@ fn closing(kind: DelimiterKind) -> Option<&'static str>
     }
 }
 
-// Whether it is a name that isn't raw.
+// Whether it is an identifier that isn't raw.
 fn is_name(leaf: &Leaf) -> bool
     ensures { result ≡ is_name_leaf leaf.now }
 {
@@ -88,7 +89,7 @@ fn push_gap(out: &mut PrintState, next: Edge) -> Result<(), TtFault>
     Ok(())
 }
 
-// Prints a token, behind which so many groups are open.
+// Prints a token, after which `depth` groups are open.
 #[inline(always)]
 fn add(
     out: &mut PrintState,
@@ -117,7 +118,7 @@ fn add(
     Ok(())
 }
 
-// Tells that a token is left out.
+// Records that a token is omitted.
 fn leave_out(out: &mut PrintState) -> Result<(), TtFault>
     ensures left { OnOk result ((step : Step) (more : List Step) (all : Print) → spelling step more ≡ None →
         Prints (state_of out.old) (step ∷ more) all → Prints (state_of out.new) more all) }
@@ -136,7 +137,7 @@ fn leave_out(out: &mut PrintState) -> Result<(), TtFault>
     }
 }
 
-// Prints the quote that waits, if one does, where a name follows, and else leaves it out.
+// Prints the pending quote, if there is one and a name follows; else omits it.
 fn settle(out: &mut PrintState, is_name: bool) -> Result<(), TtFault>
     requires fits { Fits (state_of out.old) }
     ensures fits { OnOk result (Fits (state_of out.new)) }
@@ -165,7 +166,7 @@ fn is_joint(spacing: Spacing) -> bool
     matches!(spacing, Spacing::Joint)
 }
 
-// Puts a quote: it waits where it is `Joint`, and else it is left out.
+// Adds a quote: it is pending if it is `Joint`, else it is omitted.
 fn put_quote(out: &mut PrintState, punct: Punct) -> Result<(), TtFault>
     requires quote { is_char "'" punct ≡ true }
     requires fits { Fits (state_of out.old) }
@@ -182,7 +183,7 @@ fn put_quote(out: &mut PrintState, punct: Punct) -> Result<(), TtFault>
     leave_out(out)
 }
 
-// Puts a leaf that is spelled by this text, and is no quote.
+// Adds a leaf with this spelling, which is no quote.
 #[inline(always)]
 fn put_spelled(out: &mut PrintState, leaf: &Leaf, text: &str) -> Result<(), TtFault>
     requires spelled { (more : List Step) → spelling (at_leaf leaf.now) more ≡ Some text.now }
@@ -197,7 +198,7 @@ fn put_spelled(out: &mut PrintState, leaf: &Leaf, text: &str) -> Result<(), TtFa
     add(out, leaf_edge(leaf), leaf.span(), text, depth)
 }
 
-// Leaves out a leaf that has no spelling, and is no quote.
+// Omits a leaf without a spelling, which is no quote.
 fn put_unspelled(out: &mut PrintState, leaf: &Leaf) -> Result<(), TtFault>
     requires unspelled { (more : List Step) → spelling (at_leaf leaf.now) more ≡ None }
     requires fits { Fits (state_of out.old) }
@@ -231,7 +232,7 @@ fn put_leaf(alloc: Global, out: &mut PrintState, leaf: &Leaf) -> Result<(), TtFa
     }
 }
 
-// Puts a bracket of a visible group.
+// Adds a bracket of a visible group.
 fn put_bracket(
     out: &mut PrintState,
     edge: Edge,
@@ -252,7 +253,7 @@ fn put_bracket(
     add(out, edge, span, text, depth)
 }
 
-// One open group more.
+// The depth after one more opening.
 fn deeper(depth: usize) -> Result<usize, TtFault>
     ensures more { IfOk result (λ more. more ≡ depth + 1) }
     ensures memory { IsOkUnless result Memory }
@@ -263,7 +264,7 @@ fn deeper(depth: usize) -> Result<usize, TtFault>
     }
 }
 
-// Puts an opening bracket, which is printed where its group is visible.
+// Adds an opening, which is printed if its group is visible.
 fn put_opening(out: &mut PrintState, kind: DelimiterKind, span: Span) -> Result<(), TtFault>
     requires fits { Fits (state_of out.old) }
     ensures fits { OnOk result (Fits (state_of out.new)) }
@@ -278,7 +279,7 @@ fn put_opening(out: &mut PrintState, kind: DelimiterKind, span: Span) -> Result<
     put_bracket(out, Edge::Other, span, text, depth)
 }
 
-// Puts a closing bracket, which is printed where its group is visible.
+// Adds a closing, which is printed if its group is visible.
 fn put_closing(out: &mut PrintState, kind: DelimiterKind, span: Span) -> Result<(), TtFault>
     requires fits { Fits (state_of out.old) }
     ensures fits { OnOk result (Fits (state_of out.new)) }
@@ -293,7 +294,7 @@ fn put_closing(out: &mut PrintState, kind: DelimiterKind, span: Span) -> Result<
     put_bracket(out, closing_edge(kind), span, text, depth)
 }
 
-/// Puts a step of a walk: a leaf, or a bracket of a group that may be invisible.
+/// Adds an event: a leaf, or a bracket of a group that may be invisible.
 pub(crate) fn put_event(
     alloc: Global,
     out: &mut PrintState,
@@ -312,7 +313,7 @@ pub(crate) fn put_event(
     }
 }
 
-/// Ends the text: a quote that waits is left out, and a newline is last where anything is printed.
+/// Ends the text: a pending quote is omitted, and a newline comes last if anything is printed.
 pub(crate) fn end(out: &mut PrintState) -> Result<(), TtFault>
     requires fits { Fits (state_of out.old) }
     ensures ends { OnOk result ((all : Print) → Continues (state_of out.old) [] all → printed_so_far (state_of out.new) ≡ all) }
@@ -326,7 +327,7 @@ pub(crate) fn end(out: &mut PrintState) -> Result<(), TtFault>
     Ok(())
 }
 
-/// Ends the text, with the spans of its tokens in one vector.
+/// Ends the text, and gives the spans of its tokens in one vector.
 pub(crate) fn end_with_spans(out: &mut PrintState) -> Result<Vec<Span>, TtFault>
     requires fits { Fits (state_of out.old) }
     ensures ends { IfOk result (λ spans. (all : Print) → Continues (state_of out.old) [] all → print_with out.new spans ≡ all) }
@@ -340,7 +341,7 @@ pub(crate) fn end_with_spans(out: &mut PrintState) -> Result<Vec<Span>, TtFault>
     }
 }
 
-/// How much was printed at some time, and all that the next visible token depended on.
+/// How much was printed at some time, and what the next visible token depended on then.
 #[derive(Clone, Copy)]
 pub(crate) struct SavedState {
     text: usize,
@@ -351,7 +352,7 @@ pub(crate) struct SavedState {
     waiting: Option<Span>,
 }
 
-// Nothing printed, by an empty text and no spans.
+// Nothing printed yet, with this empty text and no spans.
 fn empty_state_in(alloc: Global, text: String, tokens: SpanList) -> PrintState
     requires text { string_bytes text ≡ [] }
     requires tokens { tokens ≡ [] }
@@ -367,14 +368,14 @@ fn empty_state_in(alloc: Global, text: String, tokens: SpanList) -> PrintState
     }
 }
 
-/// Nothing printed.
+/// Nothing printed yet.
 pub(crate) fn empty_state(alloc: Global) -> PrintState
     ensures { state_of result ≡ nothing_put }
 {
     empty_state_in(alloc, String::new(alloc), SpanList::new(alloc))
 }
 
-/// Nothing printed, with room for so many bytes, so many chunks, and so many tokens put one by one.
+/// Nothing printed yet, with room for so many bytes, chunks, and tokens outside chunks.
 pub(crate) fn empty_state_with_room(
     alloc: Global,
     bytes: usize,
@@ -402,7 +403,7 @@ pub(crate) fn save(out: &PrintState) -> SavedState
     }
 }
 
-/// The fault of a refused call, whose changes since the state was saved are taken back.
+/// Undoes what a refused call changed since the state was saved, and answers its fault.
 pub(crate) fn undo(out: &mut PrintState, saved: SavedState, fault: TtFault) -> TtFault
     requires { IsCharBoundary (string_bytes out.old.text) saved.text }
     ensures fault { result ≡ fault }

@@ -28,7 +28,7 @@ fn without_last_return(text: &str) -> &str
     }
 }
 
-// The text of a doc comment: behind its three first characters, up to its end.
+// The text of a doc comment: without its first three characters, and without the end of a block.
 pub fn doc_text(is_block: bool, text: &str) -> &str
     requires begin { IsCharBoundary text.now 3 }
     requires block { is_block ≡ true → (5 ≤ length text.now) × IsCharBoundary text.now (length text.now - 2) }
@@ -69,7 +69,7 @@ fn add_puncts(builder: &mut TopSubtreeBuilder, style: DocStyle, span: Span) -> R
     }
 }
 
-// What stands in the brackets.
+// The tokens inside the brackets.
 fn add_inside(
     names: &mut NameCache,
     builder: &mut TopSubtreeBuilder,
@@ -86,7 +86,8 @@ fn add_inside(
     add_leaf(builder, Leaf::Literal(literal))
 }
 
-// The attribute that a doc comment of this text is. All its tokens stand where the comment does.
+// Adds the attribute that a doc comment with this text is. All its tokens have the comment's
+// span.
 pub fn add_doc(
     names: &mut NameCache,
     builder: &mut TopSubtreeBuilder,

@@ -1,4 +1,4 @@
-//! Leaves of tokens, appended to the trees under construction.
+//! Adds the leaves of tokens to the trees under construction.
 ghost use Rattle.std.specs.Prelude.{◌≡◌, ◌+◌, ◌<◌, ◌^◌, length, IfErr, OnOk};
 ghost use Rattle.std.specs.Str.{IsCharBoundary};
 ghost use Rattle.bridge.specs.ReadSteps.{IsRefusal, quoted_name};
@@ -29,7 +29,7 @@ pub fn written_at(range: TextRange) -> Span
     }
 }
 
-// A name as it is written, without its `r#` where it is raw.
+// A name as it is written, without its `r#` if it is raw.
 pub fn name_in(is_raw: IdentIsRaw, text: &str) -> &str
     requires { is_raw ≡ Yes → IsCharBoundary text.now 2 }
     ensures { result.now ≡ name_in is_raw text.now }
@@ -90,7 +90,7 @@ pub fn add_mark(
     add_leaf(builder, Leaf::Punct(punct))
 }
 
-// A lifetime's quote, joined to the name behind it.
+// Adds a lifetime: its quote, glued to the name after it.
 pub fn add_quoted_name(
     names: &mut NameCache,
     builder: &mut TopSubtreeBuilder,

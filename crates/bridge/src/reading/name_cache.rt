@@ -1,18 +1,20 @@
-//! A cache of names that were read, so that a name that is read again shares its text.
+//! A cache of names, so that a name that is read again shares its text. It decides speed and
+//! memory alone.
 ghost use Rattle.std.specs.Prelude.{◌≡◌, IfOk, IsOkUnless};
 ghost use Rattle.tt_data.specs.fault.TtFault.TheVariants.{Memory};
 
 use std::alloc::Global;
 use tt_data::{Symbol, TtFault};
 
-// How many names are known at most: a power of two.
+// How many names are cached at most: a power of two.
 const MOST_NAMES: usize = 512;
 
-/// Names that were read lately. One that is read again takes no memory.
+/// A cache of names that were read. A name that is read again shares its text and takes no memory.
 #[derive(Drop)]
 pub struct NameCache {
     pub(crate) alloc: Global,
-    // In each slot the name of that slot that was read last, or the very first name; none at first.
+    // In each slot, the last name of that slot, or the very first name of all. Empty before the
+    // first name.
     recent: Vec<Symbol>,
 }
 
@@ -26,7 +28,7 @@ fn slot_of(name: &str) -> usize {
 }
 
 impl NameCache {
-    /// No names so far.
+    /// An empty cache.
     pub fn new(alloc: Global) -> NameCache {
         NameCache {
             alloc,
@@ -50,7 +52,7 @@ impl NameCache {
         Ok(symbol)
     }
 
-    // Keeps a name in its slot.
+    // Stores a name in its slot.
     fn keep(&mut self, slot: usize, symbol: Symbol) -> Result<(), TtFault>
         ensures memory { IsOkUnless result Memory }
     {

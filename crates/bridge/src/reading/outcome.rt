@@ -5,15 +5,15 @@ use tt_data::TextRange;
 /// Why a text cannot be read as trees.
 #[derive(Clone, Copy, Debug, PartialEq, Eq)]
 pub enum ReadFaultKind {
-    /// A token that has no meaning.
+    /// A token without a meaning: unterminated, unknown, or reserved.
     BadToken,
-    /// A closing bracket that does not fit the innermost open one, or meets none.
+    /// A closing delimiter that does not fit the innermost open group, or finds none open.
     CloserDoesNotFit,
-    /// A group that is open at the end of the text.
+    /// A group that is open at the end of the text; the range is that of its opening delimiter.
     GroupLeftOpen,
 }
 
-/// The first fault of a text that cannot be read, with its bytes.
+/// The first reading fault of a text: its kind, and its bytes.
 #[derive(Clone, Copy, Debug, PartialEq, Eq)]
 pub struct ReadFault {
     pub kind: ReadFaultKind,
@@ -23,8 +23,8 @@ pub struct ReadFault {
 /// What a text is read as: its trees, or its first fault.
 #[derive(Drop)]
 pub enum Read {
-    /// The trees of the text, in no brackets.
+    /// The trees of the text, in invisible delimiters.
     Tree(TopSubtree),
-    /// The first fault of the text, which has no trees then.
+    /// The first reading fault; there are no trees.
     Fault(ReadFault),
 }

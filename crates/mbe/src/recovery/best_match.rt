@@ -1,4 +1,4 @@
-//! How far a pattern reads an argument that it does not match.
+//! Finds how far a matcher reads an argument that it does not match.
 use crate::recovery::messages::{fault_at, partial_at};
 use crate::recovery::values::{Partial, Values};
 use bumpalo::Bump;
@@ -11,20 +11,20 @@ use mbe_rules::{ExpandError, ExpandErrorKind, Op};
 use std::alloc::{AllocError, Global};
 use tt::{DelimSpan, Span, TokenTreesView, TtFault};
 
-// A call's argument, and where its brackets stand.
+// A call's argument, and the spans of its delimiters.
 #[derive(Clone, Copy)]
 pub(crate) struct Call<'a> {
     pub(crate) argument: TokenTreesView<'a>,
     pub(crate) ends: DelimSpan,
 }
 
-// What comes of a rule.
+// How far a rule gets.
 #[derive(Drop)]
 pub(crate) struct Attempt<'a> {
-    // Why it does not fit: nothing where its pattern does.
+    // Why it does not fit. `None` if its matcher matches.
     pub(crate) error: Option<ExpandError>,
     pub(crate) values: Values<'a>,
-    // The tokens that are left in the group where reading stopped.
+    // How many tokens are left in the group where reading stopped.
     left: usize,
     // How many fragments and skips are bound.
     bound: usize,
@@ -40,27 +40,27 @@ impl<'a> Attempt<'a> {
     }
 }
 
-// Where a thread ends: its moves, and the fragment that was at fault.
+// Where a thread ends: its moves, and the fragment that was wrong.
 #[derive(Clone, Copy)]
 struct Stop<'a> {
     moves: Option<&'a Entry<'a>>,
     partial: Option<Partial<'a>>,
 }
 
-// The threads that come to one place.
+// The threads at one position.
 #[derive(Drop)]
 struct Step<'a> {
-    // Those that can go on without taking anything, the next one last.
+    // Those that can go on without consuming anything, the next one last.
     current: Vec<Thread<'a>>,
-    // Those that did.
+    // Those that went on.
     seen: Vec<Seen<'a>>,
-    // Those that go on once something is taken, what that is, and whether they don't agree on it.
+    // Those that go on once something is consumed, what that is, and whether they disagree on it.
     waiting: Vec<Thread<'a>>,
     taken: Option<Consumed>,
     has_clash: bool,
-    // Those at the pattern's end.
+    // Those at the matcher's end.
     ended: Vec<Stop<'a>>,
-    // The last that was at fault.
+    // The last one that failed.
     faulty: Option<Stop<'a>>,
 }
 
@@ -80,7 +80,7 @@ impl<'a> Step<'a> {
         Ok(())
     }
 
-    // The thread that tells what is bound, after one of the steps before.
+    // The thread whose bindings count if reading stops here; `before` is that of an earlier step.
     fn stop_after(&self, before: Stop<'a>) -> Stop<'a> {
         match self.faulty {
             Some(stop) => stop,
@@ -88,13 +88,14 @@ impl<'a> Step<'a> {
         }
     }
 
-    // What all threads take: nothing where none waits, or one takes a fragment beside another.
+    // What all threads consume. `None` if none waits, or if one consumes a fragment beside
+    // another.
     fn taken(&self) -> Option<Consumed> {
         if self.has_clash { None } else { self.taken }
     }
 }
 
-// Whether of two takings one is of a fragment.
+// Whether one of two takings is of a fragment.
 fn is_clash(taken: Consumed, before: Option<Consumed>) -> bool {
     match (taken, before) {
         (_, None) | (Consumed::Unit, Some(Consumed::Unit)) => false,
@@ -102,7 +103,7 @@ fn is_clash(taken: Consumed, before: Option<Consumed>) -> bool {
     }
 }
 
-// The reading of an argument by a pattern.
+// The reading of an argument by a matcher.
 #[derive(Drop)]
 struct Reader<'a> {
     alloc: Global,
@@ -113,7 +114,8 @@ struct Reader<'a> {
 }
 
 impl<'a> Reader<'a> {
-    // Goes on with all threads, as far as they take nothing: the one that came last comes first.
+    // Goes on with all threads, as far as they consume nothing. The one that came last goes
+    // first.
     fn step<G: FragmentGrammar>(
         &mut self,
         grammar: &G,
@@ -138,7 +140,7 @@ impl<'a> Reader<'a> {
         Ok(step)
     }
 
-    // Goes on with a thread, unless two did in its state.
+    // Goes on with a thread, unless two in its state did so already.
     fn visit<G: FragmentGrammar>(
         &mut self,
         grammar: &G,
@@ -168,7 +170,7 @@ impl<'a> Reader<'a> {
         Ok(())
     }
 
-    // A thread cannot go on.
+    // A thread cannot go on: notes its fault.
     fn stop<G: FragmentGrammar>(
         &mut self,
         grammar: &G,
@@ -191,7 +193,7 @@ impl<'a> Reader<'a> {
         Ok(())
     }
 
-    // The first fault is told.
+    // Keeps the fault if it is the first.
     fn tell(&mut self, span: Span, fault: ExpandErrorKind) -> Result<(), TtFault> {
         if self.error.is_none() {
             self.error = Some(ExpandError::new(self.alloc, span, fault)?);
@@ -199,7 +201,7 @@ impl<'a> Reader<'a> {
         Ok(())
     }
 
-    // What comes of the rule where reading stops here.
+    // How far the rule got, if reading stops here.
     fn outcome(
         &mut self,
         step: Step<'a>,
@@ -225,7 +227,7 @@ impl<'a> Reader<'a> {
     }
 }
 
-// The place of the second thread in the state of another.
+// The index of the second thread in the same state as `other`.
 fn second_like(threads: &[Thread<'_>], other: &Thread<'_>) -> Option<usize> {
     let mut one = false;
     for (i, thread) in threads.iter().enumerate() {
@@ -239,7 +241,7 @@ fn second_like(threads: &[Thread<'_>], other: &Thread<'_>) -> Option<usize> {
     None
 }
 
-// Of the threads in one state the first and the last.
+// The first and the last of the threads in each state.
 fn thinned<'a>(alloc: Global, threads: Vec<Thread<'a>>) -> Result<Vec<Thread<'a>>, AllocError> {
     let mut kept = Vec::new(alloc);
     for thread in threads {
@@ -253,7 +255,7 @@ fn thinned<'a>(alloc: Global, threads: Vec<Thread<'a>>) -> Result<Vec<Thread<'a>
     Ok(kept)
 }
 
-// Reads an argument by a pattern as far as that goes.
+// Reads an argument by a matcher as far as possible.
 pub(crate) fn attempted<'a, G: FragmentGrammar>(
     alloc: Global,
     arena: &'a Bump,

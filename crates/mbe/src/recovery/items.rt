@@ -1,4 +1,5 @@
-//! Transcribing a template on after faults, task by task, so that it may be nested as deep as memory goes.
+//! Transcribes on after faults, task by task on a stack in memory, so that nesting is limited by
+//! memory alone.
 ghost use Rattle.std.specs.Prelude.{◌≡◌, ◌<◌, ◌≤◌, ◌+◌, ◌-◌, ◌*◌, OnOk};
 ghost use Rattle.mbe_rules.specs.Items.{done};
 ghost use Rattle.mbe_rules.specs.Ops.{items_of, put_op};
@@ -11,35 +12,35 @@ use mbe_rules::{ExpandError, ExpandErrorKind, Op, RepeatKind, Separator};
 use std::alloc::{AllocError, Global};
 use tt::{Delimiter, Span, SubtreeBuilderRestorePoint, TopSubtreeBuilder, TtFault};
 
-// A repetition, of which a round is open.
+// A repetition with an open iteration.
 #[derive(Drop)]
 pub(crate) struct Repetition<'t> {
     pub(crate) body: &'t [Op],
     pub(crate) separator: &'t Option<Separator>,
     pub(crate) kind: RepeatKind,
-    // Where its rounds begin in the output.
+    // Where the output of its iterations begins.
     pub(crate) start: SubtreeBuilderRestorePoint,
-    // The number of the open round.
+    // The index of the open iteration.
     pub(crate) round: usize,
     // The first fault before it.
     pub(crate) before: Option<ExpandError>,
-    // The first fault in the rounds that have ended.
+    // The first fault in the iterations that have ended.
     pub(crate) error: Option<ExpandError>,
 }
 
-// What is left to do.
+// A task that is left.
 #[derive(Drop)]
 pub(crate) enum RecoveryTask<'t> {
-    // To put in what these items give.
+    // To transcribe these ops.
     Items(&'t [Op]),
-    // To close a group whose closing bracket has this place in the template.
+    // To close a group whose closing delimiter has this span in the transcriber.
     Close(Span),
-    // To end a round.
+    // To end an iteration.
     Round(Repetition<'t>),
 }
 
-// The tasks that are left, the next one last, the numbers of the open rounds, the innermost last, and the
-// first fault in the innermost one.
+// The tasks that are left, the next one last; the indices of the open iterations, the innermost
+// last; and the first fault in the innermost one.
 #[derive(Drop)]
 pub(crate) struct Left<'t> {
     pub(crate) tasks: Vec<RecoveryTask<'t>>,
@@ -48,7 +49,7 @@ pub(crate) struct Left<'t> {
 }
 
 impl<'t> Repetition<'t> {
-    // The repetition after an iteration in which this was the first fault.
+    // The repetition after an iteration whose first fault is `next`.
     fn after(self, next: Option<ExpandError>) -> Repetition<'t>
         ensures body { result.body ≡ self.entry.body }
         ensures round { result.round ≡ self.entry.round }
@@ -69,7 +70,7 @@ impl<'t> Left<'t> {
         }
     }
 
-    // One task more, which is the next.
+    // Adds a task, which comes next.
     fn plan(&mut self, task: RecoveryTask<'t>) -> Result<(), AllocError>
         ensures { OnOk result (tasks_of_all self.new.tasks.items ≡ tasks_of_all self.old.tasks.items + tasks_of task.entry) }
     {
@@ -77,7 +78,7 @@ impl<'t> Left<'t> {
         Ok(())
     }
 
-    // Keeps a fault, if it is the first.
+    // Keeps a fault if it is the first.
     fn tell(&mut self, told: Option<ExpandError>)
         ensures { self.new.tasks.items ≡ self.old.tasks.items }
     {
@@ -85,7 +86,7 @@ impl<'t> Left<'t> {
         self.error = error.or(told);
     }
 
-    // Opens a round of this number.
+    // Opens the iteration of this index.
     fn begin_round(&mut self, number: usize) -> Result<(), AllocError>
         ensures { OnOk result (self.new.tasks.items ≡ self.old.tasks.items) }
     {
@@ -93,7 +94,8 @@ impl<'t> Left<'t> {
         Ok(())
     }
 
-    // Ends the rounds of a repetition before which there was this first fault, and in which this one.
+    // Ends the iterations of a repetition. `before` is the first fault before it, and `told` the
+    // first one in it.
     fn end_rounds(&mut self, before: Option<ExpandError>, told: Option<ExpandError>)
         ensures { self.new.tasks.items ≡ self.old.tasks.items }
     {
@@ -103,7 +105,7 @@ impl<'t> Left<'t> {
 }
 
 impl<'f, 'a, M: Fn(Span) -> Span> Filler<'f, 'a, M> {
-    // Ends a repetition of which no more rounds stand.
+    // Ends a repetition that has no more iterations.
     fn end<'t>(&self, left: &mut Left<'t>, repetition: Repetition<'t>) -> Result<(), TtFault>
         ensures { OnOk result (left.new.tasks.items ≡ left.old.tasks.items) }
     {
@@ -124,7 +126,7 @@ impl<'f, 'a, M: Fn(Span) -> Span> Filler<'f, 'a, M> {
         Ok(())
     }
 
-    // Ends one that has too many rounds: what they put in is taken back.
+    // Ends a repetition with too many iterations. Their output is removed.
     fn end_at_limit<'t>(
         &self,
         out: &mut TopSubtreeBuilder,
@@ -139,7 +141,8 @@ impl<'f, 'a, M: Fn(Span) -> Span> Filler<'f, 'a, M> {
         Ok(())
     }
 
-    // Fills the open round of a repetition, if it stands, after a separator or not.
+    // Transcribes the open iteration of a repetition if there is one more, after a separator if
+    // `is_parted`.
     fn go_on<'t>(
         &self,
         out: &mut TopSubtreeBuilder,
@@ -165,7 +168,7 @@ impl<'f, 'a, M: Fn(Span) -> Span> Filler<'f, 'a, M> {
         }
     }
 
-    // Ends a round, and goes on with the next one.
+    // Ends an iteration, and goes on with the next one.
     fn end_round<'t>(
         &self,
         out: &mut TopSubtreeBuilder,
@@ -235,7 +238,7 @@ impl<'f, 'a, M: Fn(Span) -> Span> Filler<'f, 'a, M> {
         Ok(())
     }
 
-    // Puts in what an item gives, or begins it.
+    // Transcribes an op, or begins it if it has ops inside.
     fn put_op<'t>(
         &self,
         out: &mut TopSubtreeBuilder,
@@ -283,7 +286,7 @@ impl<'f, 'a, M: Fn(Span) -> Span> Filler<'f, 'a, M> {
         }
     }
 
-    // Puts in what a template gives, and answers the first fault.
+    // Transcribes ops, and answers the first fault.
     pub(crate) fn fill(&self, out: &mut TopSubtreeBuilder, template: &[Op]) -> Told
         requires { M.IsAlwaysCallable self.now.marker.now }
     {

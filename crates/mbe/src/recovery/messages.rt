@@ -1,4 +1,4 @@
-//! The error for an item of a pattern that is missing in the argument.
+//! The error for an op of a matcher that the argument does not have.
 use crate::recovery::values::Partial;
 use fragment_grammar::{FragmentGrammar, PrefixEntryPoint};
 use mbe_matcher::{is_refused, is_refused_2021, pass_fragment};
@@ -7,13 +7,13 @@ use std::alloc::Global;
 use symbols::Symbol;
 use tt::{Leaf, Punct, TokenTreesView, TtElement, TtFault, TtIter};
 
-// What cannot be bound, or put in.
+// The error for something that cannot be bound or transcribed.
 pub(crate) fn binding_error(alloc: Global, text: &str) -> Result<ExpandErrorKind, TtFault> {
     let text = Symbol::new(alloc, text)?;
     Ok(ExpandErrorKind::BindingError(text))
 }
 
-// These puncts are not here.
+// The error where these puncts are expected.
 fn expected_puncts(alloc: Global, puncts: &[Punct]) -> Result<ExpandErrorKind, TtFault> {
     let mut text = String::from_str(alloc, "expected punct: `")?;
     for punct in puncts {
@@ -23,7 +23,7 @@ fn expected_puncts(alloc: Global, puncts: &[Punct]) -> Result<ExpandErrorKind, T
     binding_error(alloc, &text)
 }
 
-// What the grammar is asked for a fragment of this kind, if it is asked.
+// What the grammar is asked for a fragment of this kind. `None` if it is not asked.
 fn entry_of(kind: MetaVarKind) -> Option<PrefixEntryPoint> {
     match kind {
         MetaVarKind::Path => Some(PrefixEntryPoint::Path),
@@ -40,7 +40,7 @@ fn entry_of(kind: MetaVarKind) -> Option<PrefixEntryPoint> {
     }
 }
 
-// Whether the first word is none that an expression of this kind begins with.
+// Whether no expression of this kind begins with the first identifier.
 fn is_no_expression(kind: MetaVarKind, trees: &TtIter<'_>) -> bool {
     match kind {
         MetaVarKind::Expr => is_refused(trees),
@@ -49,7 +49,7 @@ fn is_no_expression(kind: MetaVarKind, trees: &TtIter<'_>) -> bool {
     }
 }
 
-// A fragment is not here.
+// The error where a fragment is expected.
 fn expected_fragment(
     alloc: Global,
     kind: MetaVarKind,
@@ -70,7 +70,8 @@ fn expected_fragment(
     }
 }
 
-// What is told where a thread cannot go on at this item: nothing of groups and of variables of no kind.
+// The error where a thread cannot go on at this op. `None` for other ops, as groups and
+// metavariables without a fragment specifier.
 pub(crate) fn fault_at(
     alloc: Global,
     op: &Op,
@@ -99,7 +100,8 @@ pub(crate) fn fault_at(
     Ok(Some(kind))
 }
 
-// The fragment that is at fault, where the item is a variable, and the trees that are passed for it.
+// The metavariable whose fragment is wrong, and the trees that the grammar passes for it. `None`
+// if the op is no metavariable with a fragment specifier.
 pub(crate) fn partial_at<'a, G: FragmentGrammar>(
     grammar: &G,
     op: &'a Op,

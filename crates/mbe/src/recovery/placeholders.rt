@@ -1,4 +1,4 @@
-//! Placeholder tokens where transcribing goes on after a fault, and the texts of identifiers that are joined.
+//! Placeholder tokens where transcription goes on after a fault, and the text of `${concat(..)}`.
 use crate::recovery::values::VarLookup;
 use mbe_rules::{MetaVarKind, Separator};
 use mbe_transcriber::rawness_of;
@@ -17,7 +17,7 @@ pub(crate) fn punct(char: char, spacing: Spacing, span: Span) -> Leaf {
     })
 }
 
-// A name, which is raw where it is a reserved word.
+// An identifier, which is raw if it is a reserved word.
 pub(crate) fn word(alloc: Global, text: &str, span: Span) -> Result<Leaf, TtFault> {
     Ok(Leaf::Ident(Ident {
         sym: Symbol::new(alloc, text)?,
@@ -26,7 +26,7 @@ pub(crate) fn word(alloc: Global, text: &str, span: Span) -> Result<Leaf, TtFaul
     }))
 }
 
-// A number.
+// Adds a number.
 pub(crate) fn put_number(
     alloc: Global,
     out: &mut TopSubtreeBuilder,
@@ -38,7 +38,7 @@ pub(crate) fn put_number(
     out.push(Leaf::Literal(literal))
 }
 
-// What stands for a fragment of this kind where nothing was taken for it.
+// Adds the placeholder for a fragment of this kind of which nothing was consumed.
 pub(crate) fn put_missing(
     alloc: Global,
     out: &mut TopSubtreeBuilder,
@@ -60,7 +60,7 @@ pub(crate) fn put_missing(
     }
 }
 
-// A separator, as it is written in the template.
+// Adds a separator, as it is written in the transcriber.
 pub(crate) fn put_separator(
     out: &mut TopSubtreeBuilder,
     separator: &Option<Separator>,
@@ -82,7 +82,8 @@ pub(crate) fn put_separator(
     }
 }
 
-// Adds the text that a name gives, where that is one word or literal: false where it is not.
+// Adds the text that a metavariable gives, if it is one identifier or literal, and answers
+// whether it is.
 pub(crate) fn add_text(text: &mut String, found: VarLookup<'_>) -> Result<bool, TtFault> {
     let trees = match found {
         VarLookup::Missing(

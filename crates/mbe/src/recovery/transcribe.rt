@@ -1,4 +1,5 @@
-//! Transcribing an item that holds no others, as far as its variables have values: it goes on after a fault.
+//! Transcribes an op without ops inside, as far as its metavariables have values. It goes on
+//! after a fault.
 use crate::recovery::messages::binding_error;
 use crate::recovery::placeholders::{add_text, punct, put_missing, put_number, word};
 use crate::recovery::values::{Usage, Value, Values, VarLookup, count, found, usage_in, within};
@@ -12,21 +13,21 @@ use tt::{Ident, IdentIsRaw, Leaf, Punct, Spacing, Span, TopSubtreeBuilder, TtFau
 // The first fault, if there is one.
 pub(crate) type Told = Result<Option<ExpandError>, TtFault>;
 
-// As many rounds a repetition may have.
+// The most iterations that a repetition may have.
 pub(crate) const MOST_ROUNDS: usize = 65_535;
 
 const NO_PART: &str = "metavariables of `${concat(..)}` must be of type `ident`, `literal` or `tt`";
 
 const NO_IDENTIFIER: &str = "`${concat(..)}` is not generating a valid identifier";
 
-// Whether there is one more round.
+// Whether there is one more iteration.
 pub(crate) enum Next {
     None,
     One,
     TooMany,
 }
 
-// What fills a template.
+// What transcription needs.
 #[derive_where(Clone, Copy)]
 pub(crate) struct Filler<'f, 'a, M> {
     pub(crate) alloc: Global,
@@ -43,13 +44,13 @@ impl<'f, 'a, M: Fn(Span) -> Span> Filler<'f, 'a, M> {
         marker(span)
     }
 
-    // A fault at this place.
+    // A fault at this span.
     pub(crate) fn told(&self, span: Span, kind: ExpandErrorKind) -> Told {
         let error = ExpandError::new(self.alloc, span, kind)?;
         Ok(Some(error))
     }
 
-    // What a name gives in these rounds.
+    // What a name gives in these iterations.
     fn find(&self, name: &Symbol, rounds: &[usize]) -> VarLookup<'a> {
         match self.values.get(name) {
             None => VarLookup::Unbound,
@@ -58,7 +59,7 @@ impl<'f, 'a, M: Fn(Span) -> Span> Filler<'f, 'a, M> {
         }
     }
 
-    // How the innermost of these rounds uses a name.
+    // How the innermost of these iterations uses a name.
     fn use_of(&self, name: &Symbol, rounds: &[usize], is_counted: bool) -> Usage {
         match self.values.get(name) {
             Some(Value::Bound(binding)) => usage_in(binding, rounds),
@@ -69,7 +70,7 @@ impl<'f, 'a, M: Fn(Span) -> Span> Filler<'f, 'a, M> {
         }
     }
 
-    // How the innermost of these rounds uses the names of an item that holds no others.
+    // How the innermost of these iterations uses the names of an op without ops inside.
     fn usage_of(&self, op: &Op, rounds: &[usize]) -> Usage {
         match op {
             Op::Var { name, .. } | Op::Ignore { name, .. } => self.use_of(name, rounds, false),
@@ -96,7 +97,7 @@ impl<'f, 'a, M: Fn(Span) -> Span> Filler<'f, 'a, M> {
         Ok(usage)
     }
 
-    // A variable.
+    // Transcribes a metavariable.
     fn variable(
         &self,
         out: &mut TopSubtreeBuilder,
@@ -123,7 +124,7 @@ impl<'f, 'a, M: Fn(Span) -> Span> Filler<'f, 'a, M> {
         Ok(None)
     }
 
-    // The fault of a name, where it gives no fragment.
+    // The fault of a name that gives no fragment.
     fn told_of(&self, name: &Symbol, found: VarLookup<'a>, id: Span) -> Told {
         let alloc = self.alloc;
         let x = name.as_str();
@@ -144,7 +145,7 @@ impl<'f, 'a, M: Fn(Span) -> Span> Filler<'f, 'a, M> {
         self.told(id, binding_error(alloc, &text)?)
     }
 
-    // How many values a name has.
+    // Transcribes the number of values that a name has.
     fn counted(
         &self,
         out: &mut TopSubtreeBuilder,
@@ -164,7 +165,7 @@ impl<'f, 'a, M: Fn(Span) -> Span> Filler<'f, 'a, M> {
         Ok(None)
     }
 
-    // Adds a part to the text of an identifier.
+    // Adds a part of `${concat(..)}` to the text of its identifier.
     fn add_part(
         &self,
         text: &mut String,
@@ -188,7 +189,7 @@ impl<'f, 'a, M: Fn(Span) -> Span> Filler<'f, 'a, M> {
         Ok(told.or(no_part))
     }
 
-    // An identifier that is joined of parts.
+    // Transcribes the identifier that `${concat(..)}` gives.
     fn joined(
         &self,
         out: &mut TopSubtreeBuilder,
@@ -224,7 +225,7 @@ impl<'f, 'a, M: Fn(Span) -> Span> Filler<'f, 'a, M> {
         }))
     }
 
-    // A word, a literal, puncts or a lifetime of the template.
+    // Transcribes an identifier, a literal, puncts or a lifetime.
     fn token(&self, out: &mut TopSubtreeBuilder, op: &Op) -> Result<(), TtFault>
         requires { M.IsAlwaysCallable self.now.marker.now }
     {
@@ -250,7 +251,7 @@ impl<'f, 'a, M: Fn(Span) -> Span> Filler<'f, 'a, M> {
         }
     }
 
-    // What a `$` begins that is no repetition.
+    // Transcribes an op that is no repetition and no group.
     pub(crate) fn dollar(&self, out: &mut TopSubtreeBuilder, rounds: &[usize], op: &Op) -> Told
         requires { M.IsAlwaysCallable self.now.marker.now }
     {
@@ -275,7 +276,8 @@ impl<'f, 'a, M: Fn(Span) -> Span> Filler<'f, 'a, M> {
         }
     }
 
-    // Whether the innermost of these rounds stands. Without a list there is no end to the rounds.
+    // Whether the innermost of these iterations takes place. If no metavariable has a list of
+    // values, the iterations have no end.
     pub(crate) fn next_round(&self, body: &[Op], rounds: &[usize]) -> Result<Next, AllocError> {
         let next = match (self.usage(body, rounds)?, rounds.last()) {
             (Usage::None | Usage::Lacking, _) => Next::None,

@@ -1,11 +1,11 @@
-//! What the variables of a pattern are bound to where it does not match.
+//! The values of a matcher's metavariables where it does not match.
 use mbe_matcher::{Binding, Bindings};
 use mbe_rules::MetaVarKind;
 use std::alloc::AllocError;
 use symbols::Symbol;
 use tt::TokenTreesView;
 
-// The variable whose fragment is at fault, and the trees that are passed for it all the same.
+// The metavariable whose fragment is wrong, and the trees that are passed for it all the same.
 #[derive(Clone, Copy)]
 pub(crate) struct Partial<'a> {
     pub(crate) name: &'a Symbol,
@@ -13,30 +13,30 @@ pub(crate) struct Partial<'a> {
     pub(crate) trees: TokenTreesView<'a>,
 }
 
-// What the names stand for. One may be missing: a fragment of which nothing was taken.
+// The values of metavariables. One may be missing: a fragment of which nothing was consumed.
 #[derive(Drop)]
 pub(crate) struct Values<'a> {
     bindings: Bindings<'a>,
     missing: Option<Partial<'a>>,
 }
 
-// What a name stands for.
+// The value of a name.
 #[derive(Clone, Copy)]
 pub(crate) enum Value<'v, 'a> {
     Bound(&'v Binding<'a>),
     Missing(MetaVarKind),
 }
 
-// What a name gives in the rounds around it.
+// What a name gives in the iterations around it.
 #[derive(Clone, Copy)]
 pub(crate) enum VarLookup<'a> {
     Fragment(MetaVarKind, TokenTreesView<'a>),
     Missing(MetaVarKind),
     Unbound,
-    // A list, or nothing of a skipped repetition, has no member for a round.
+    // A list, or a skipped repetition, has no member for an iteration.
     NoMember,
     NothingInRound,
-    // All rounds are applied, and it is a list or nothing still.
+    // All iterations are applied, and it is still a list or skipped.
     List,
     Nothing,
 }
@@ -46,14 +46,14 @@ pub(crate) enum VarLookup<'a> {
 pub(crate) enum Usage {
     None,
     Fragment,
-    // One has a list of values there, so that there is an end to its rounds.
+    // One has a list of values there, so that its iterations have an end.
     List,
-    // One has no value for the round.
+    // One has no value for the iteration.
     Lacking,
 }
 
 impl<'a> Values<'a> {
-    // The bindings, and the fragment that is at fault.
+    // The bindings, and the fragment that is wrong.
     pub(crate) fn new(
         bindings: Bindings<'a>,
         partial: Option<Partial<'a>>,
@@ -80,7 +80,7 @@ impl<'a> Values<'a> {
         }
     }
 
-    // How many fragments and skips are bound.
+    // The number of fragments and skips that are bound.
     pub(crate) fn count(&self) -> usize {
         let mut count = 0usize;
         for bound in self.bindings.entries() {
@@ -90,7 +90,7 @@ impl<'a> Values<'a> {
     }
 }
 
-// How many fragments and skips are in a value.
+// The number of fragments and skips in a binding.
 fn leaves(binding: &Binding<'_>) -> usize {
     let Binding::Rounds(values) = binding else {
         return 1;
@@ -102,7 +102,7 @@ fn leaves(binding: &Binding<'_>) -> usize {
     sum
 }
 
-// How many values there are in one so many lists further in.
+// The number of values in a binding, `depth` lists further in.
 pub(crate) fn count(binding: &Binding<'_>, depth: usize) -> usize {
     match binding {
         Binding::Fragment { .. } => 1,
@@ -120,7 +120,8 @@ pub(crate) fn count(binding: &Binding<'_>, depth: usize) -> usize {
     }
 }
 
-// What a value is in these rounds, as far as lists have a member for them, and the rounds that are left.
+// What a binding is in these iterations, as far as its lists have members for them, and the
+// iterations that are left.
 pub(crate) fn within<'v, 'r, 'a>(
     binding: &'v Binding<'a>,
     rounds: &'r [usize],
@@ -137,7 +138,7 @@ pub(crate) fn within<'v, 'r, 'a>(
     }
 }
 
-// What a value gives in these rounds.
+// What a binding gives in these iterations.
 pub(crate) fn found<'a>(binding: &Binding<'a>, rounds: &[usize]) -> VarLookup<'a> {
     let (here, left) = within(binding, rounds);
     match here {
@@ -149,7 +150,7 @@ pub(crate) fn found<'a>(binding: &Binding<'a>, rounds: &[usize]) -> VarLookup<'a
     }
 }
 
-// How the innermost of these rounds uses a value.
+// How the innermost of these iterations uses a binding.
 pub(crate) fn usage_in(binding: &Binding<'_>, rounds: &[usize]) -> Usage {
     let Some((round, around)) = rounds.split_last() else {
         return Usage::None;

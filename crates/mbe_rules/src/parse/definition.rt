@@ -1,4 +1,4 @@
-//! The rules of a definition.
+//! Parses a definition as its rules, up to the first fault.
 ghost use Rattle.std.specs.Prelude.{◌≡◌, ◌<◌, None, IfOk, IsOkUnless, map, option_map};
 ghost use Rattle.std.specs.List.{list_any};
 ghost use Rattle.symbols.specs.declared.fault.TtFault.TheVariants as fault;
@@ -44,7 +44,7 @@ impl Delimiting {
         }
     }
 
-    // The fault where something else separates them.
+    // The fault if something else separates them.
     fn fault(self, alloc: Global) -> Result<ParseError, AllocError>
         ensures { IfOk result (λ e. e ≡ (delimiting_of self).fault) }
     {
@@ -57,7 +57,7 @@ impl Delimiting {
     }
 }
 
-// The rule of a pattern and a template.
+// The rule of a matcher and a transcriber.
 fn rule_of(
     alloc: Global,
     editions: Editions,
@@ -80,7 +80,7 @@ fn rule_of(
     }
 }
 
-// The rule at the head of a list, and the trees after it.
+// The rule at the front of a list, and the trees after it.
 fn rule<'a>(
     alloc: Global,
     editions: Editions,
@@ -105,7 +105,7 @@ fn rule<'a>(
     }
 }
 
-// The trees after what separates two rules, where it may do so.
+// The trees after the delimiter between two rules. `None` if something else is there.
 fn after_delimiter<'a>(between: Delimiting, trees: TtIter<'a>) -> Option<TtIter<'a>>
     ensures { result ≡ after_delimiter (delimiting_of between) trees.entry }
 {
@@ -123,7 +123,7 @@ fn after_delimiter<'a>(between: Delimiting, trees: TtIter<'a>) -> Option<TtIter<
     }
 }
 
-// The rules of a list of trees, up to the first fault.
+// The rules in a list of trees, up to the first fault.
 fn rules_of(
     alloc: Global,
     editions: Editions,
@@ -150,7 +150,7 @@ fn rules_of(
     Ok(Rules { list, err: None })
 }
 
-// The one rule of a pattern and a template.
+// The one rule of a matcher and a transcriber.
 fn one_rule(
     alloc: Global,
     editions: Editions,
@@ -170,7 +170,7 @@ fn one_rule(
     }
 }
 
-// Whether the pattern of one of these rules can repeat without end.
+// Whether a matcher of these rules can iterate without end.
 fn is_endless(list: &[Rule]) -> bool
     ensures { result ≡ list_any (λ r. has_empty_round r.pattern) (map ops.rule_of list.now) }
 {
@@ -182,7 +182,7 @@ fn is_endless(list: &[Rule]) -> bool
     false
 }
 
-// These rules, with the fault that comes before all others where one of them can repeat without end.
+// These rules. If one can iterate without end, that fault replaces any other.
 fn ending(rules: Rules) -> Rules
     ensures { rules_of result ≡ parsing.ending (rules_of rules) }
 {
@@ -195,13 +195,15 @@ fn ending(rules: Rules) -> Rules
     rules
 }
 
-/// Reads the rules of `macro_rules! name { .. }`, whose braces are those of `tt`: they are separated by
-/// `;`, which may also come after the last. A rule that has a fault ends the reading: the rules
-/// before it stay, and `err` is that fault. Where one of the patterns can repeat without end, `err` is
-/// `RepetitionEmptyTokenTree`, whatever else was wrong. (The Rust Reference, "Macros By Example".)
+/// Parses the rules of `macro_rules! name { .. }`, whose delimiters are those of `tt`. They are
+/// separated by `;`, which may also follow the last. (The Rust Reference, "Macros By Example".)
 ///
-/// `ctx_edition` answers the edition of the tokens of each of the two contexts; it is asked once about
-/// each. `Err` is `Memory` alone.
+/// A rule with a fault ends the parse: the rules before it stay, and `err` is that fault. If one
+/// of the matchers can iterate without end, `err` is `RepetitionEmptyTokenTree`, whatever else is
+/// wrong.
+///
+/// `ctx_edition` answers the edition of the tokens of each of the two contexts, and is asked once
+/// about each. `Memory` is the only error.
 pub fn parse_macro_rules<F: Fn(SyntaxContext) -> Edition>(
     alloc: Global,
     tt: &TopSubtree,
@@ -217,9 +219,10 @@ pub fn parse_macro_rules<F: Fn(SyntaxContext) -> Edition>(
     Ok(ending(rules))
 }
 
-/// Reads the rules of `macro name { .. }`, whose braces are those of `body`, as `parse_macro_rules`
-/// does; they are separated by `;` or `,`. With `args` it reads `macro name(..) { .. }`: one rule, whose
-/// pattern is in `args` and whose template in `body`. (Rust's unstable book, `decl_macro`.)
+/// Parses the rules of `macro name { .. }`, whose delimiters are those of `body`, as
+/// `parse_macro_rules` does; they are separated by `;` or `,`. With `args` it parses `macro
+/// name(..) { .. }`: one rule, with its matcher in `args` and its transcriber in `body`. (Rust's
+/// unstable book, `decl_macro`.)
 pub fn parse_macro2<F: Fn(SyntaxContext) -> Edition>(
     alloc: Global,
     args: Option<&TopSubtree>,

@@ -1,4 +1,4 @@
-//! What a `$` or another punct begins, except for repetitions.
+//! Parses what a `$` or another punct begins, except for repetitions.
 ghost use Rattle.std.specs.Prelude.{◌≡◌, ◌&&◌, IfOk, Ok};
 ghost use Rattle.tt_data.specs.Forest.{leaf, group};
 ghost use Rattle.tt_data.specs.declared.edition.Edition.{Edition};
@@ -22,20 +22,20 @@ use symbols::Symbol;
 use tt::{TtElement, TtIter};
 use tt_data::{Delimiter, DelimiterKind, Ident, IdentIsRaw, Leaf, Literal, Punct, Span};
 
-// Whether a pattern or a template is read.
+// Whether a matcher or a transcriber is parsed.
 #[derive(Clone, Copy, PartialEq, Eq)]
 pub(crate) enum Mode {
     Pattern,
     Template,
 }
 
-// What is read, or the first fault.
+// What is parsed, or the first fault.
 pub(crate) type Parsed<T> = Result<T, ParseError>;
 
-// An item, and the trees after it.
+// An op, and the trees after it.
 pub(crate) type Read<'a> = (Op, TtIter<'a>);
 
-// A symbol of this text. Out of memory is its only error.
+// A symbol with this text. Its only error is out of memory.
 fn symbol(alloc: Global, text: &str) -> Result<Symbol, AllocError>
     ensures { IfOk result (λ s. s ≡ text.now) }
 {
@@ -45,7 +45,7 @@ fn symbol(alloc: Global, text: &str) -> Result<Symbol, AllocError>
     }
 }
 
-// The fault that a token is where it may not be.
+// The fault that a token is not allowed where it is.
 pub(crate) fn unexpected(alloc: Global, text: &str) -> Result<ParseError, AllocError>
     ensures { IfOk result (λ e. e ≡ error.UnexpectedToken text.now) }
 {
@@ -59,7 +59,8 @@ pub(crate) fn expected(alloc: Global, text: &str) -> Result<ParseError, AllocErr
     Ok(ParseError::Expected(symbol(alloc, text)?))
 }
 
-// The fragment specifier after a colon at the head of a list, and the trees after it: none where there is none.
+// The fragment specifier after a colon at the front of a list, and the trees after it. `None` if
+// there is none.
 fn typing<'a>(trees: &TtIter<'a>) -> Option<(Ident, TtIter<'a>)>
     ensures { result ≡ typing trees.now }
 {
@@ -73,7 +74,7 @@ fn typing<'a>(trees: &TtIter<'a>) -> Option<(Ident, TtIter<'a>)>
     }
 }
 
-// A variable of a pattern: a colon and a fragment specifier have to come after its name.
+// A metavariable of a matcher: a colon and a fragment specifier have to come after its name.
 fn typed_variable<'a>(
     alloc: Global,
     editions: Editions,
@@ -91,7 +92,7 @@ fn typed_variable<'a>(
     Ok(Ok((Op::Var { name, kind, id }, rest)))
 }
 
-// A variable of this name.
+// A metavariable with this name.
 fn variable<'a>(
     alloc: Global,
     editions: Editions,
@@ -111,7 +112,7 @@ fn variable<'a>(
     }
 }
 
-// `$crate`, as an identifier at the place of its `$`.
+// `$crate`, as an identifier with the span of its `$`.
 fn crate_at(alloc: Global, span: Span) -> Result<Op, AllocError>
     ensures { IfOk result (λ o. put_op o done ≡ item (word (crate_at span)) done) }
 {
@@ -139,7 +140,7 @@ fn dollar_name<'a>(
     variable(alloc, editions, mode, sign.span, name.sym, &rest)
 }
 
-// Whether a literal can be a name.
+// Whether a literal is `true` or `false`, which can be a name.
 fn is_name(literal: &Literal) -> bool
     ensures { result ≡ (is_truth literal.now.text && is_nil literal.now.suffix) }
 {
@@ -173,7 +174,7 @@ fn dollar_literal<'a>(
     variable(alloc, editions, mode, sign.span, name, &rest)
 }
 
-// What a `$` before a punct begins: in a template the second of two stays.
+// What a `$` before a punct begins: in a transcriber the second of two `$` stays.
 fn dollar_punct<'a>(
     alloc: Global,
     mode: Mode,
@@ -201,7 +202,7 @@ fn dollar_punct<'a>(
     }
 }
 
-// The expression that `${..}` is.
+// The metavariable expression that `${..}` is.
 fn braces<'a>(
     alloc: Global,
     sign: Punct,
@@ -223,7 +224,7 @@ fn braces<'a>(
     }
 }
 
-// What a `$` before a group begins, which is no repetition.
+// What a `$` before a group begins. It is no repetition.
 fn dollar_group<'a>(
     alloc: Global,
     mode: Mode,
@@ -286,7 +287,7 @@ fn dollar<'a>(
     }
 }
 
-// The one to three puncts that are glued to one, and the trees after them.
+// The one to three puncts that are glued to one operator, and the trees after them.
 fn glued<'a>(
     alloc: Global,
     first: Punct,
@@ -301,7 +302,7 @@ fn glued<'a>(
     Ok((Op::Punct(puncts), rest))
 }
 
-// What a quote of a pattern begins: it has to have its name.
+// What a quote of a matcher begins: its name has to follow.
 fn named_quote<'a>(
     alloc: Global,
     sign: Punct,
@@ -320,7 +321,7 @@ fn named_quote<'a>(
     }
 }
 
-// What another punct than a `$` begins.
+// What a punct begins that is no `$`.
 fn punct<'a>(
     alloc: Global,
     mode: Mode,

@@ -3,7 +3,7 @@ ghost use Rattle.tt_data.specs.declared.span.SyntaxContext.TheVariants.{Written,
 
 use tt_data::{Edition, SyntaxContext};
 
-/// The editions of identifiers that were written by hand, and of those that an expansion made.
+/// The editions of written identifiers, and of synthesized ones.
 #[derive(Clone, Copy)]
 pub(crate) struct Editions {
     written: Edition,
@@ -14,7 +14,7 @@ impl Editions {
     ghost use Rattle.std.specs.Prelude.{◌≡◌};
     ghost use Rattle.mbe_rules.specs.Reading.{edition_in};
 
-    // What is answered for the two contexts.
+    // The answers of `ctx_edition` for the two contexts.
     pub(crate) fn of<F: Fn(SyntaxContext) -> Edition>(ctx_edition: F) -> Editions
         requires { F.IsAlwaysCallable ctx_edition }
         ensures written { F.post ctx_edition Written result.written }
@@ -26,7 +26,7 @@ impl Editions {
         }
     }
 
-    // The edition of an identifier of this context.
+    // The edition of an identifier with this context.
     pub(crate) fn at(self, context: SyntaxContext) -> Edition
         ensures { result ≡ edition_in self context }
     {

@@ -1,4 +1,4 @@
-//! Metavariable expressions: what is in `${..}`.
+//! Parses metavariable expressions: what is in `${..}`.
 ghost use Rattle.std.specs.Prelude.{◌≡◌, ◌≢◌, ◌≤◌, ◌<◌, ◌∷◌, None, if◌then◌else◌, IfOk, IsOkUnless, option_map};
 ghost use Rattle.tt_data.specs.Forest.{empty, size};
 ghost use Rattle.symbols.specs.declared.fault.TtFault.TheVariants as fault;
@@ -14,7 +14,7 @@ use symbols::{Symbol, TtFault};
 use tt::{TtElement, TtIter};
 use tt_data::{DelimiterKind, Leaf, Literal, Punct, Span};
 
-// The number that a text spells, which is what std reads of it.
+// The number that a text spells, as std parses it.
 fn number(text: &str) -> Option<usize>
     ensures { result ≡ number_in text.now }
 {
@@ -116,7 +116,7 @@ fn len(arguments: TtIter<'_>, id: Span) -> Option<Op>
     Some(Op::Len { depth, id })
 }
 
-// The part that a punct begins: a `$` and the name after it, which is passed.
+// The part that a punct begins: a `$` and the name after it, which is consumed.
 fn value(sign: Punct, rest: &mut TtIter<'_>) -> Option<ConcatElement>
     ensures part { parts_in (punct sign.char ∷ signs rest.old) ≡ parts_behind result (signs rest.new) }
     ensures shorter { size rest.new ≤ size rest.old }
@@ -129,7 +129,7 @@ fn value(sign: Punct, rest: &mut TtIter<'_>) -> Option<ConcatElement>
     }
 }
 
-// The part at the head of a list, which is passed: a literal, an identifier, or `$name`.
+// The part at the front of a list, which is consumed: a literal, an identifier, or `$name`.
 fn part(alloc: Global, rest: &mut TtIter<'_>) -> Result<Option<ConcatElement>, TtFault>
     requires { rest.now ≢ empty }
     ensures part { IfOk result (λ r. parts_in (signs rest.old) ≡ parts_behind r (signs rest.new)) }
@@ -147,7 +147,7 @@ fn part(alloc: Global, rest: &mut TtIter<'_>) -> Result<Option<ConcatElement>, T
     }
 }
 
-// Whether a comma or nothing comes after a part. The comma is passed.
+// Whether a comma or nothing comes after a part. The comma is consumed.
 fn comma(rest: &mut TtIter<'_>) -> bool
     ensures comma { (p : Part) → part_then p (signs rest.old) ≡ comma_behind result p (signs rest.new) }
     ensures shorter { size rest.new ≤ size rest.old }
@@ -159,7 +159,7 @@ fn comma(rest: &mut TtIter<'_>) -> bool
     }
 }
 
-// The part at the head of a list, which is passed with the comma after it.
+// The part at the front of a list, which is consumed with the comma after it.
 fn next_part(alloc: Global, rest: &mut TtIter<'_>) -> Result<Option<ConcatElement>, TtFault>
     requires { rest.now ≢ empty }
     ensures part { IfOk result (λ r. parts_in (signs rest.old) ≡ parts_after r (signs rest.new)) }
@@ -208,7 +208,7 @@ fn concat(alloc: Global, arguments: TtIter<'_>, id: Span) -> Result<Option<Op>, 
     Ok(Some(Op::Concat { elements, id }))
 }
 
-// The function of this name, with these arguments.
+// The function with this name, with these arguments.
 fn function(
     alloc: Global,
     called: &str,
@@ -245,9 +245,9 @@ fn call<'a>(trees: TtIter<'a>) -> Option<(Symbol, TtIter<'a>)>
     }
 }
 
-/// The item that `${..}` is, where `trees` are inside its braces and `span` is that of its `$`:
-/// `None` where they call no function over variables. `Err`: memory was refused, and nothing else.
-/// (Rust's unstable book, `macro_metavar_expr` and `macro_metavar_expr_concat`.)
+/// The op that `${..}` is, where `trees` are inside its braces and `span` is that of its `$`.
+/// `None` if they are no call of a function of metavariables. Its only error is `Memory`. (Rust's
+/// unstable book, `macro_metavar_expr` and `macro_metavar_expr_concat`.)
 pub(crate) fn expression(
     alloc: Global,
     trees: TtIter<'_>,

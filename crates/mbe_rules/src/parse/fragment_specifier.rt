@@ -1,4 +1,4 @@
-//! Fragment specifiers: what a variable of a pattern takes.
+//! Fragment specifiers: what a metavariable of a matcher consumes.
 ghost use Rattle.std.specs.Prelude.{◌≡◌};
 ghost use Rattle.mbe_rules.specs.Patterns.{kind_of};
 ghost use Rattle.mbe_rules.specs.Reading.{edition_in};
@@ -7,7 +7,7 @@ use crate::parse::editions::Editions;
 use crate::parser::MetaVarKind;
 use tt_data::Ident;
 
-// The kind of fragment that a specifier names: none where it is no fragment specifier.
+// The kind of fragment that a specifier names. `None` if it is no fragment specifier.
 pub(crate) fn kind_of(word: &Ident, editions: Editions) -> Option<MetaVarKind>
     ensures { result ≡ kind_of (edition_in editions) word.now }
 {

@@ -1,5 +1,5 @@
-//! Lists of ops. Nested lists are read by one loop, which keeps the lists around the innermost one in
-//! memory, so no nesting depth takes stack.
+//! Parses lists of ops. One loop parses nested lists, with the lists around the innermost one in
+//! memory, so that nesting takes no call stack.
 ghost use Rattle.std.specs.Prelude.{◌≡◌, [], ◌∷◌, ◌++◌, IfOk};
 ghost use Rattle.tt_data.specs.declared.edition.Edition.{Edition};
 ghost use Rattle.tt_data.specs.declared.span.SyntaxContext.{SyntaxContext};
@@ -22,23 +22,23 @@ use std::alloc::{AllocError, Global};
 use tt::{TtElement, TtIter};
 use tt_data::{Delimiter, DelimiterKind, Leaf, Punct};
 
-// An item with a list inside, the list aside.
+// An op with a list inside, without that list.
 #[derive(Drop)]
 pub(crate) enum Enclosing {
     Group(Delimiter),
     Repetition(Option<Separator>, RepeatKind),
 }
 
-// What is at the head of a list, and the trees after it.
+// What is at the front of a list, and the trees after it.
 #[derive(Drop)]
 pub(crate) enum Found<'a> {
     Nothing,
     Item(Op, TtIter<'a>),
-    // An item with a list inside, and the trees of that list.
+    // An op with a list inside, and the trees of that list.
     List(Enclosing, TtIter<'a>, TtIter<'a>),
 }
 
-// A list that is left for one inside: its items before that one, and the trees after it.
+// A list around the present one: its ops before that one, and the trees after it.
 #[derive(Drop)]
 pub(crate) struct Around<'a> {
     pub(crate) before: Vec<Op>,
@@ -46,8 +46,8 @@ pub(crate) struct Around<'a> {
     pub(crate) rest: TtIter<'a>,
 }
 
-// The innermost list that is read: its items so far, its trees that are left, and the lists around it,
-// the outermost first.
+// The innermost list: its ops so far, its trees that are left, and the lists around it, the
+// outermost first.
 #[derive(Drop)]
 pub(crate) struct Nest<'a> {
     pub(crate) before: Vec<Op>,
@@ -55,14 +55,14 @@ pub(crate) struct Nest<'a> {
     pub(crate) around: Vec<Around<'a>>,
 }
 
-// More to be read, or all that is read.
+// More is left to parse, or all is parsed.
 #[derive(Drop)]
 pub(crate) enum Step<'a> {
     More(Nest<'a>),
     Last(Parsed<Vec<Op>>),
 }
 
-// The item with this list inside.
+// The op with this list inside.
 fn enclosed(enclosing: Enclosing, tokens: Vec<Op>) -> Op
     ensures { put_op result done ≡ enclosed enclosing (ops.items_of tokens.items) }
 {
@@ -76,7 +76,7 @@ fn enclosed(enclosing: Enclosing, tokens: Vec<Op>) -> Op
     }
 }
 
-// What a repetition that begins with this punct has inside, and the trees after its parenthesis.
+// The trees inside a repetition that begins with this punct, and the trees after its parentheses.
 fn repetition<'a>(sign: Punct, trees: &TtIter<'a>) -> Option<(TtIter<'a>, TtIter<'a>)>
     ensures { result ≡ repetition_parts sign trees.now }
 {
@@ -123,7 +123,7 @@ fn at_punct<'a>(
     }
 }
 
-// What is at the head of a list.
+// What is at the front of a list.
 fn at_head<'a>(
     alloc: Global,
     editions: Editions,
@@ -164,7 +164,7 @@ fn put<'a>(nest: Nest<'a>, op: Op, rest: TtIter<'a>) -> Result<Nest<'a>, AllocEr
     })
 }
 
-// A list inside this one, before any item of it; these trees come after it.
+// Enters a list inside this one. `rest` are the trees after it.
 fn enter<'a>(
     alloc: Global,
     nest: Nest<'a>,
@@ -189,7 +189,8 @@ fn enter<'a>(
     })
 }
 
-// The list around, with the item that has this list inside; or all, where none is around.
+// Leaves a list: the list around it, with the op that has this list inside. If none is around,
+// all is parsed.
 fn leave<'a>(nest: Nest<'a>) -> Result<Step<'a>, AllocError>
     requires { nest.rest ≡ empty }
     ensures read { IfOk result (λ s. (edition : SyntaxContext → Edition) → (m : patterns.Mode) → whole edition m nest.entry ≡ step_read edition m s) }
@@ -208,7 +209,7 @@ fn leave<'a>(nest: Nest<'a>) -> Result<Step<'a>, AllocError>
     }))
 }
 
-// Reads what is at the head of the innermost list.
+// Parses what is at the front of the innermost list.
 fn read_on<'a>(
     alloc: Global,
     editions: Editions,
@@ -232,7 +233,7 @@ fn read_on<'a>(
     }
 }
 
-// The items of a list of trees.
+// The ops of a list of trees.
 pub(crate) fn items<'a>(
     alloc: Global,
     editions: Editions,

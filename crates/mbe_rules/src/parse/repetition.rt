@@ -1,4 +1,4 @@
-//! What comes after `$(..)`: a separator and an operator.
+//! Parses what comes after `$(..)`: a separator and an operator.
 ghost use Rattle.std.specs.Prelude.{◌≡◌, Some, IfOk, option_map};
 ghost use Rattle.mbe_rules.specs.Ops.{separator_of};
 ghost use Rattle.mbe_rules.specs.Repetitions.{operator_of, after_one, after_two, between_and_operator};
@@ -28,7 +28,7 @@ fn operator_of(c: char) -> Option<RepeatKind>
     }
 }
 
-// The operator at the head of a list.
+// The operator at the front of a list.
 fn operator_next<'a>(trees: &TtIter<'a>) -> Option<(RepeatKind, TtIter<'a>)>
     ensures { result ≡ operator_next trees.now }
 {
@@ -42,7 +42,7 @@ fn operator_next<'a>(trees: &TtIter<'a>) -> Option<(RepeatKind, TtIter<'a>)>
     }
 }
 
-// A separator and the operator at the head of the list after it.
+// This separator, and the operator at the front of the list after it.
 fn followed<'a>(separator: Separator, trees: &TtIter<'a>) -> Option<Repeat<'a>>
     ensures { repeat_of result ≡ option_map (λ (x : RepeatKind × Forest). (Some (separator_of separator), x.0, x.1)) (operator_next trees.now) }
 {
@@ -50,7 +50,7 @@ fn followed<'a>(separator: Separator, trees: &TtIter<'a>) -> Option<Repeat<'a>>
     Some((Some(separator), operator, after))
 }
 
-// After two puncts.
+// The separator and the operator that begin with these two puncts.
 fn after_two<'a>(
     alloc: Global,
     first: Punct,
@@ -76,7 +76,7 @@ fn after_two<'a>(
     }
 }
 
-// After one punct.
+// The separator and the operator that begin with this punct.
 fn after_one<'a>(
     alloc: Global,
     first: Punct,
@@ -107,7 +107,7 @@ fn after_one<'a>(
     }
 }
 
-// The separator and the operator at the head of a list, as they come after `$(..)`.
+// The separator and the operator at the front of a list, as they come after `$(..)`.
 pub(crate) fn repeat<'a>(
     alloc: Global,
     trees: &TtIter<'a>,

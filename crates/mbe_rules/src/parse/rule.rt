@@ -1,4 +1,4 @@
-//! One rule: its style, its pattern and its template, by the signs between them.
+//! Finds the parts of one rule: its style, its matcher and its transcriber.
 ghost use Rattle.std.specs.Prelude.{◌≡◌, IfOk, Err};
 ghost use Rattle.mbe_rules.specs.Parsing.{arms, with_parentheses, styled, rule_shape};
 ghost use Rattle.mbe_rules.specs.Reading.{group_next, after_char, parts_read};
@@ -10,7 +10,7 @@ use crate::parse::dollar::{Parsed, expected};
 use std::alloc::{AllocError, Global};
 use tt::{TtElement, TtIter};
 
-// A rule's style, what its pattern and its template have inside, and the trees after it.
+// A rule's style, the trees inside its matcher and its transcriber, and the trees after it.
 #[derive(Drop)]
 pub(crate) struct RuleParts<'a> {
     pub(crate) style: MacroCallStyle,
@@ -19,7 +19,7 @@ pub(crate) struct RuleParts<'a> {
     pub(crate) rest: TtIter<'a>,
 }
 
-// No shape, since something is missing.
+// The fault that something is missing.
 fn missing<'a>(alloc: Global, text: &str) -> Result<Parsed<RuleParts<'a>>, AllocError>
     ensures { IfOk result (λ r. r ≡ Err (error.Expected text.now)) }
 {
@@ -27,7 +27,7 @@ fn missing<'a>(alloc: Global, text: &str) -> Result<Parsed<RuleParts<'a>>, Alloc
     Ok(Err(e))
 }
 
-// What the group at the head of a list has inside, and the trees after it.
+// The trees inside the group at the front of a list, and the trees after it.
 fn group_next<'a>(trees: &TtIter<'a>) -> Option<(TtIter<'a>, TtIter<'a>)>
     ensures { result ≡ group_next trees.now }
 {
@@ -49,7 +49,7 @@ fn after_char<'a>(c: char, trees: &TtIter<'a>) -> Option<TtIter<'a>>
     Some(rest)
 }
 
-// A pattern, `=>` and a template.
+// A matcher, `=>` and a transcriber.
 #[tactic(auto, using(crate::proofs::RuleLemmas::arms_steps))]
 fn arms<'a>(
     alloc: Global,
@@ -78,7 +78,7 @@ fn arms<'a>(
     }))
 }
 
-// A rule after the keyword for its style: a group has to come before its pattern.
+// A rule after the keyword for its style: a group has to come before its matcher.
 #[tactic(auto, using(crate::proofs::RuleLemmas::parentheses_steps))]
 fn with_parentheses<'a>(
     alloc: Global,
@@ -110,7 +110,7 @@ fn styled<'a>(alloc: Global, trees: &TtIter<'a>) -> Result<Parsed<RuleParts<'a>>
     arms(alloc, MacroCallStyle::FnLike, trees)
 }
 
-// The parts of the rule at the head of a list. An `unsafe` before it all changes nothing.
+// The parts of the rule at the front of a list. An `unsafe` before it changes nothing.
 #[tactic(auto, using(crate::proofs::RuleLemmas::shape_steps))]
 pub(crate) fn parts<'a>(
     alloc: Global,

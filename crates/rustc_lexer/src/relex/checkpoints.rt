@@ -1,8 +1,8 @@
-//! Checkpoints: token boundaries with known offsets, so that an offset in a long text is found without a walk over all tokens
-//! before it.
+//! Checkpoints: token boundaries with known offsets. With them an offset in a long text is found
+//! without a walk over all tokens before it.
 //!
-//! Which checkpoints there are decides speed only. A long walk leaves a checkpoint half-way, and an edit moves the checkpoints
-//! after it.
+//! Which checkpoints there are decides speed alone. A long walk leaves a checkpoint half-way, and
+//! an edit moves the checkpoints after it.
 ghost use Rattle.std.specs.Prelude.{◌≡◌, ◌+◌, ◌<◌, ◌≤◌, ◌^◌, ℕ, true, length, map, take, drop, chars, IfOk, IsCharBoundary};
 ghost use Rattle.std.specs.List.{All, list_any};
 ghost use Rattle.rustc_lexer.specs.Edit.{boundaries_from, is_clear_of, moves_to};
@@ -22,14 +22,14 @@ const FEW: usize = 32;
 /// A boundary of a text's tokens.
 #[derive(Clone, Copy)]
 pub struct Checkpoint {
-    /// The tokens in front of it.
+    /// The number of tokens before it.
     pub tokens: usize,
-    /// The bytes in front of it.
+    /// The number of bytes before it.
     pub place: usize,
 }
 
-/// Where the tokens of a text and of an edited one agree: up to `front` in both, and from `old` on in the one as from `new` on
-/// in the other.
+/// Where the tokens of a text and of an edited one agree: before `front` in both, and from `old`
+/// on in the one as from `new` on in the other.
 #[derive(Drop)]
 pub struct Relexed {
     pub front: Checkpoint,
@@ -37,7 +37,8 @@ pub struct Relexed {
     pub new: Checkpoint,
 }
 
-/// How many checkpoints are clear of `start`, and the last of them: the text's begin, if there is none.
+/// How many checkpoints are clear of `start`, and the last of them, or the start of the text if
+/// there is none.
 pub fn nearest(text: &str, checkpoints: &[Checkpoint], start: usize) -> (usize, Checkpoint)
     requires checkpoints { All (IsCheckpoint (tokens_of (chars text.now))) checkpoints.now }
     requires start { IsCharBoundary text.now start }
@@ -58,8 +59,8 @@ pub fn nearest(text: &str, checkpoints: &[Checkpoint], start: usize) -> (usize, 
     (checkpoints.len(), near)
 }
 
-/// How many of the tokens, of which the first begins at `at`, lie in front of the first boundary at `stop` or behind it, and
-/// this boundary.
+/// How many of the tokens, the first of which begins at `at`, come before the first boundary that
+/// is at `stop` or after it, and that boundary.
 pub fn first_from(tokens: &[Token], at: usize, stop: usize) -> (usize, usize)
     requires fits { at + total tokens.now < 2 ^ 32 }
     requires reaches { stop ≤ at + total tokens.now }
@@ -79,7 +80,8 @@ pub fn first_from(tokens: &[Token], at: usize, stop: usize) -> (usize, usize)
     (tokens.len(), place)
 }
 
-// Gives all checkpoints up where they are too many for the tokens, as they may be when much was taken out of the text.
+// Drops all checkpoints if they are too many for the tokens, as they may be after a large
+// deletion.
 fn thin_out(checkpoints: &mut Vec<Checkpoint>, tokens: &[Token])
     requires { All (IsCheckpoint tokens.now) checkpoints.old.items }
     ensures { All (IsCheckpoint tokens.now) checkpoints.new.items }
@@ -89,8 +91,8 @@ fn thin_out(checkpoints: &mut Vec<Checkpoint>, tokens: &[Token])
     }
 }
 
-/// The last checkpoint that is clear of `start`, or the text's begin. Where it is far from there a checkpoint is left half-way first,
-/// unless a single token reaches from there to `start`.
+/// The last checkpoint that is clear of `start`, or the start of the text. If `start` is far from
+/// it, a checkpoint is left half-way first, unless a single token extends from there to `start`.
 pub fn refine(
     text: &str,
     checkpoints: &mut Vec<Checkpoint>,
@@ -121,7 +123,8 @@ pub fn refine(
     Ok(checkpoint)
 }
 
-// The checkpoint's boundary in the edited text, or the boundary where lexing began, if it is lost.
+// The checkpoint's boundary in the edited text. If that boundary is gone, the one where lexing
+// began.
 fn moved(checkpoint: Checkpoint, relexed: &Relexed) -> Checkpoint
     requires checkpoint { IsInRange checkpoint }
     requires to { IsInRange relexed.now.new }

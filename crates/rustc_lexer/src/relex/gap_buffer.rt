@@ -1,7 +1,7 @@
-//! The gap buffer of a text's tokens: a vector of tokens with a gap in front of them.
+//! The gap buffer of a text's tokens: a vector of tokens with a gap before them.
 //!
-//! The gap lets an edit move the tokens before it where these are fewer than those after it. How wide the gap is decides speed
-//! only.
+//! An edit can move the tokens before it, if these are fewer than those after it. How wide the
+//! gap is decides speed alone.
 ghost use Rattle.std.specs.Prelude.{◌≡◌, ◌+◌, ◌-◌, ◌≤◌, true, length, drop, IfOk, OnOk, OnErr};
 ghost use Rattle.std.specs.List.{copy_within, splice};
 
@@ -9,7 +9,7 @@ use crate::token::{Token, TokenKind};
 use std::alloc::AllocError;
 use std::marker::Model;
 
-// For how many tokens more than are wanted room is made at once.
+// For how many more tokens than needed room is made at once.
 const MORE: usize = 64;
 
 // What fills the gap.
@@ -21,9 +21,9 @@ const NOTHING: Token = Token {
 /// Tokens in order.
 #[derive(Drop)]
 pub struct GapBuffer {
-    // The tokens, behind the room.
+    // The tokens, after the gap.
     items: Vec<Token>,
-    // The width of the gap: how many items stand in front of them.
+    // The width of the gap: how many items come before the tokens.
     room: usize,
 }
 
@@ -56,7 +56,7 @@ impl GapBuffer {
         &self.items[self.room..]
     }
 
-    /// Puts the tokens in the place of those from `start` to `stop`. Refused where there is no memory for them, and then nothing
+    /// Replaces the tokens from `start` to `stop`. Refused if memory runs out; then nothing
     /// changes.
     pub fn replace(
         &mut self,
@@ -79,7 +79,8 @@ impl GapBuffer {
     }
 }
 
-// Makes room where there is too little to put `added` tokens in the place of so many others, and answers how much there is.
+// Widens the gap if it is too narrow to put `added` tokens in place of `gone` others, and answers
+// its width.
 fn widened(
     items: &mut Vec<Token>,
     room: usize,
@@ -100,7 +101,7 @@ fn widened(
     Ok(room + more)
 }
 
-// Whether there is enough room, and not too much of it afterwards.
+// Whether the gap is wide enough, and not too wide afterwards.
 fn fits_in_front(items: &[Token], room: usize, gone: usize, added: usize) -> bool
     requires within { room + gone ≤ length items.now }
     ensures { result ≡ true → added ≤ room + gone }
@@ -108,8 +109,10 @@ fn fits_in_front(items: &[Token], room: usize, gone: usize, added: usize) -> boo
     added <= room + gone && room + gone - added <= MORE.max(items.len() / 4)
 }
 
-// How much room there is to put `added` tokens in the place of those from `start` to `stop` behind the room, and whether those
-// in front of them are to be moved: where they are fewer than those behind, for which room is made, or where as many come as go.
+// The width of the gap with which `added` tokens can replace those from `start` to `stop`, and
+// whether the tokens before `start` are to be moved. They are if they are fewer than those after
+// `stop`, for which the gap is widened, or if as many tokens come as go; but not if the gap would
+// then be too wide.
 fn found_room(
     items: &mut Vec<Token>,
     room: usize,
@@ -132,7 +135,7 @@ fn found_room(
     Ok((room, in_front))
 }
 
-// Moves so many tokens from one place to another.
+// Moves `count` tokens from one index to another.
 fn shift(items: &mut Vec<Token>, from: usize, to: usize, count: usize)
     requires from { from + count ≤ length items.old.items }
     requires to { to + count ≤ length items.old.items }
@@ -143,7 +146,7 @@ fn shift(items: &mut Vec<Token>, from: usize, to: usize, count: usize)
     }
 }
 
-// Puts the tokens over those that stand there.
+// Overwrites the tokens from index `at` on.
 fn overwrite(items: &mut Vec<Token>, at: usize, fresh: &[Token])
     requires { at + length fresh.now ≤ length items.old.items }
     ensures { items.new.items ≡ splice items.old.items at (at + length fresh.now) fresh.now }
@@ -151,8 +154,8 @@ fn overwrite(items: &mut Vec<Token>, at: usize, fresh: &[Token])
     items[at..at + fresh.len()].copy_from_slice(fresh);
 }
 
-// Puts the tokens in the place of those from `start` to `stop` behind the room, and moves those in front of them. How much room
-// there is then.
+// Replaces the tokens from `start` to `stop` after the gap, and moves those before them. Answers
+// the new width of the gap.
 fn replace_moving_front(
     items: &mut Vec<Token>,
     room: usize,
@@ -172,7 +175,7 @@ fn replace_moving_front(
     to
 }
 
-// Puts the tokens in the place of those from `start` to `stop` behind the gap, and moves those after them.
+// Replaces the tokens from `start` to `stop` after the gap, and moves those after them.
 fn replace_moving_back(
     items: &mut Vec<Token>,
     room: usize,

@@ -1,10 +1,11 @@
-//! How far the lexer looks ahead: the tokens before an offset that is clear of an edit do not depend on what is edited.
+//! How far the lexer looks ahead: tokens that end at least two characters before an edit do not
+//! depend on it.
 ghost use Rattle.std.specs.Prelude.{◌≡◌, nat_le, length, chars, IsCharBoundary};
 ghost use Rattle.rustc_lexer.specs.Edit.{is_clear_of};
 
 use crate::scan::split_first;
 
-// The text has two characters.
+// Whether the text has at least two characters.
 #[inline]
 fn has_two_chars(text: &str) -> bool
     ensures { result ≡ nat_le 2 (length (chars text.now)) }
@@ -15,8 +16,8 @@ fn has_two_chars(text: &str) -> bool
     }
 }
 
-/// At least two characters stand from the place `at` to `start`. As a character has at most four bytes, few places are near
-/// enough to be looked at.
+/// Whether the text has at least two characters from offset `at` to `start`. A character has at
+/// most four bytes, so the text is looked at only if the two are less than eight bytes apart.
 #[inline]
 pub fn is_clear(text: &str, at: usize, start: usize) -> bool
     requires at { IsCharBoundary text.now at }

@@ -1,4 +1,4 @@
-//! Relexing the tokens of an edited text: those well before the edit and those behind it stay.
+//! Edits a text and relexes it: the tokens well before the edit and those after it are kept.
 ghost use Rattle.std.specs.Prelude.{◌≡◌, ◌+◌, ◌-◌, ◌<◌, ◌≤◌, ◌^◌, true, length, take, drop, chars, string_bytes, string_len, string_capacity, IfOk, OnOk, OnErr, IsCharBoundary};
 ghost use Rattle.std.specs.List.{splice};
 ghost use Rattle.rustc_lexer.specs.Edit.{edited, front_of, is_clear_of, kept};
@@ -14,8 +14,8 @@ use crate::token::{FrontmatterAllowed, Token};
 use crate::tokens::Tokens;
 use std::alloc::{AllocError, Global};
 
-// How many tokens of the text end at least two characters before `start`, and where the last of them ends. The walk begins at
-// a checkpoint, which is such a boundary too.
+// How many tokens of the text end at least two characters before `start`, and the offset at which
+// the last of them ends. The search begins at the checkpoint `near`, before which all tokens do.
 fn front(text: &str, tokens: &[Token], near: Checkpoint, start: usize) -> (usize, usize)
     requires small { length text.now < 2 ^ 32 }
     requires tokens { tokens.now ≡ tokens_of (chars text.now) }
@@ -38,7 +38,7 @@ fn front(text: &str, tokens: &[Token], near: Checkpoint, start: usize) -> (usize
     (tokens.len(), at)
 }
 
-// Puts the next token, of those left, behind the fresh ones, and answers how many bytes it takes.
+// Lexes the next token, appends it to the fresh ones, and answers its length in bytes.
 fn lex_one(tokens: &mut Tokens<'_>, fresh: &mut Vec<Token>) -> Result<usize, AllocError>
     requires { 0 < length (tokens_left tokens.old) }
     ensures lexed { IfOk result (λ len. LexesOne (tokens_left tokens.old) (tokens_left tokens.new) fresh.old.items fresh.new.items len) }
@@ -53,8 +53,9 @@ fn lex_one(tokens: &mut Tokens<'_>, fresh: &mut Vec<Token>) -> Result<usize, All
     }
 }
 
-// The tokens of the text, which begins at `at`, up to the first boundary that is one of the old tokens' too, of which the
-// first begins at `to`; how many old tokens lie in front of this boundary; and the boundary.
+// Lexes `text`, which begins at offset `at`, up to the first boundary that is one of the old
+// tokens too. The first old token begins at offset `to`. Answers the fresh tokens, how many old
+// ones come before this boundary, and its offset.
 fn relex(
     alloc: Global,
     text: &str,
@@ -85,9 +86,10 @@ fn relex(
     Ok((fresh, met, place))
 }
 
-// Lexes the text from the front on, up to the first boundary that is one of the old tokens' too, of which the one behind `stop`
-// tokens is at `to`; and puts these tokens in the place of the old ones up to this boundary. The boundary among the new tokens,
-// and how many old ones are in front of it.
+// Lexes the text from the checkpoint `front` on, up to the first boundary that is one of the old
+// tokens too, and replaces the old tokens up to it. The old token after the first `stop` ones
+// begins at offset `to`. Answers the boundary as a checkpoint of the new tokens, and how many old
+// tokens come before it.
 fn relex_into(
     alloc: Global,
     text: &str,
@@ -120,8 +122,8 @@ fn relex_into(
     Ok((new, behind))
 }
 
-// What stays of the tokens in front of an edit, and where it may meet old boundaries again: so many tokens further on, at the
-// first boundary that is not in front of the edit's end.
+// Where relexing starts, and where it may stop: `front` ends the tokens that are kept. `passed`
+// tokens later is the first old boundary at or after the edit's end, at the offset `boundary`.
 #[derive(Clone, Copy)]
 struct RelexStart {
     front: Checkpoint,
@@ -129,7 +131,7 @@ struct RelexStart {
     boundary: usize,
 }
 
-// What an edit of the bytes from `start` to `stop` finds.
+// Where relexing starts for an edit of the bytes from `start` to `stop`.
 fn find_start(
     text: &str,
     tokens: &[Token],
@@ -160,7 +162,7 @@ fn find_start(
     }
 }
 
-// Puts the replacement in the place of the text's bytes, with room for them kept.
+// Replaces the bytes from `start` to `stop`. The text keeps room for what was there.
 fn replace_bytes(
     text: &mut String,
     start: usize,
@@ -178,7 +180,8 @@ fn replace_bytes(
     text.replace_range(start..stop, replacement)
 }
 
-// Replaces the text's bytes and answers what stood there, for which the text has room.
+// Replaces the bytes from `start` to `stop`, and answers what was there. The text keeps room for
+// it.
 fn replace(
     alloc: Global,
     text: &mut String,
@@ -199,7 +202,7 @@ fn replace(
     Ok(gone)
 }
 
-// Undoes a replacement: the text has room for what was there.
+// Undoes a replacement. The text has room for what was there, so this never fails.
 fn put_back(text: &mut String, start: usize, stop: usize, gone: &str)
     requires start { IsCharBoundary (string_bytes text.old) start }
     requires stop { IsCharBoundary (string_bytes text.old) stop }
@@ -213,7 +216,7 @@ fn put_back(text: &mut String, start: usize, stop: usize, gone: &str)
     }
 }
 
-// Relexes a text that was edited: what lay at `stop` lies at `end` now.
+// Relexes an edited text, in which the old offset `stop` has become `end`.
 fn relex_tokens(
     alloc: Global,
     text: &str,
@@ -246,10 +249,10 @@ fn relex_tokens(
     Ok(Relexed { front, old, new })
 }
 
-/// Puts the replacement in place of the text's bytes from `start` to `stop`, and relexes the text from the
-/// checkpoint on, which is a boundary of its tokens. Where there is no memory, the text and the tokens stay.
+/// Replaces the text's bytes from `start` to `stop`, and relexes the text. `near` is a checkpoint
+/// of its tokens before the edit. Refused if there is no memory for the text or its tokens; then
+/// neither changes.
 pub fn edit_and_relex(
-    alloc: Global,
     text: &mut String,
     tokens: &mut GapBuffer,
     near: Checkpoint,
@@ -273,6 +276,7 @@ pub fn edit_and_relex(
     ensures err { OnErr result (string_bytes text.new ≡ string_bytes text.old) }
     ensures err_tokens { OnErr result (tokens.new ≡ tokens.old) }
 {
+    let alloc = *text.allocator();
     let found = find_start(text, tokens.as_slice(), near, start, stop);
     let gone = replace(alloc, text, start, stop, replacement)?;
     let end = start + replacement.len();

@@ -1,7 +1,7 @@
-//! Taking the first tree of a list, where it is what is expected.
+//! Consumes the first tree of a list if it is what is expected.
 //!
-//! Each call answers what it took and leaves the walk after that. Where something else comes first, or
-//! nothing, it answers `Err(())`, and the walk stays where it was.
+//! Each call answers what it consumed, and leaves the iterator after that. If something else
+//! comes first, or nothing, it answers `Err(())`, and the iterator stays where it was.
 ghost use Rattle.std.specs.Prelude.{◌≡◌, nat_eq, Some, None, IfOk, OnOk, OnErr};
 ghost use Rattle.tt.specs.FirstTrees.{behind_punct, first_ident, first_leaf, first_literal_leaf, first_name, first_punct, first_subtree, is_among, is_literal};
 ghost use Rattle.tt.specs.Glued.{first_glued, glued_at, glued_count, is_pair, is_three, is_triple, is_two};
@@ -46,7 +46,7 @@ fn is_pair(first: Punct, second: Punct) -> bool
     first.spacing != Spacing::Alone && is_two(first.char, second.char)
 }
 
-// Whether three are.
+// Whether three puncts side by side are glued to one operator.
 fn is_triple(first: Punct, second: Punct, third: Punct) -> bool
     ensures { result ≡ is_triple first second third }
 {
@@ -142,7 +142,7 @@ impl<'a> TtIter<'a> {
         Ok(leaf)
     }
 
-    /// Takes an identifier, but `_`.
+    /// Takes an identifier other than `_`.
     pub fn expect_ident(&mut self) -> Result<Ident, ()>
         ensures ok { IfOk result (λ i. first_name self.old ≡ Some (i, self.new)) }
         ensures err { OnErr result ((first_name self.old ≡ None) × (self.new ≡ self.old)) }
@@ -156,7 +156,7 @@ impl<'a> TtIter<'a> {
         }
     }
 
-    /// Takes an identifier, be it `_`.
+    /// Takes an identifier, `_` included.
     pub fn expect_ident_or_underscore(&mut self) -> Result<Ident, ()>
         ensures ok { IfOk result (λ i. first_ident self.old ≡ Some (i, self.new)) }
         ensures err { OnErr result ((first_ident self.old ≡ None) × (self.new ≡ self.old)) }
@@ -194,8 +194,9 @@ impl<'a> TtIter<'a> {
         Ok(punct)
     }
 
-    /// The longest operator that a punct begins which was right before these trees, one to three puncts,
-    /// and the trees after it. `expect_glued_punct` says what is glued.
+    /// The longest operator that begins with the punct `first`, which was right before these
+    /// trees: one to three puncts, and the trees after it. `expect_glued_punct` says what is
+    /// glued.
     pub fn glued_to(self, first: Punct) -> (ArrayVec<Punct, MAX_GLUED_PUNCT_LEN>, TtIter<'a>)
         ensures { (result.0.items, result.1) ≡ glued_at first self.entry }
     {
@@ -218,7 +219,7 @@ impl<'a> TtIter<'a> {
         (glued, self)
     }
 
-    /// How many puncts come next that are glued to one operator: none where another tree comes first.
+    /// How many puncts come next that are glued to one operator: 0 if another tree comes first.
     pub fn glued_count(&self) -> usize
         ensures { result ≡ glued_count self.now }
     {
@@ -228,8 +229,8 @@ impl<'a> TtIter<'a> {
         }
     }
 
-    /// Takes the puncts that are glued to the longest operator, one to three of them. All but the last
-    /// are right before another token, and of three the second is right before the third.
+    /// Takes the longest operator: one to three puncts, all but the last not `Alone`, and of three
+    /// the second `Joint`. (The Rust Reference, "Tokens": punctuation.)
     pub fn expect_glued_punct(&mut self) -> Result<ArrayVec<Punct, MAX_GLUED_PUNCT_LEN>, ()>
         ensures ok { IfOk result (λ ps. first_glued self.old ≡ Some (ps.items, self.new)) }
         ensures err { OnErr result ((first_glued self.old ≡ None) × (self.new ≡ self.old)) }

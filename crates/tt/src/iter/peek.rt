@@ -1,6 +1,7 @@
-//! Peeking: the first tree of a list, where it is of the sort that is asked for, and the trees after it.
+//! Peeks at the first tree of a list, if it is of the kind that is asked for, and gives the trees
+//! after it.
 //!
-//! Nothing is passed, and nothing is copied where another sort of tree comes first.
+//! Nothing is consumed, and nothing is copied if a tree of another kind comes first.
 ghost use Rattle.std.specs.Prelude.{◌≡◌, option_map};
 ghost use Rattle.tt.specs.FirstTrees.{first_ident, first_leaf, first_literal, first_punct, first_group, first_subtree};
 
@@ -8,7 +9,7 @@ use crate::iter::TtIter;
 use tt_data::{Delimiter, Ident, Leaf, LitKind, Punct, Subtree};
 
 impl<'a> TtIter<'a> {
-    /// The punct that comes next.
+    /// The punct that comes next, if one does, and the trees after it.
     pub fn first_punct(&self) -> Option<(Punct, TtIter<'a>)>
         ensures { result ≡ first_punct self.now }
     {
@@ -16,7 +17,7 @@ impl<'a> TtIter<'a> {
         Some((punct, TtIter { tokens: more }))
     }
 
-    /// The identifier that comes next.
+    /// The identifier that comes next, if one does, and the trees after it.
     pub fn first_ident(&self) -> Option<(Ident, TtIter<'a>)>
         ensures { result ≡ first_ident self.now }
     {
@@ -24,7 +25,8 @@ impl<'a> TtIter<'a> {
         Some((ident, TtIter { tokens: more }))
     }
 
-    /// The identifier that comes next, borrowed: its text gets no other owner.
+    /// The identifier that comes next, borrowed, and the trees after it. Its text gets no other
+    /// owner.
     pub fn lent_ident(&self) -> Option<(&'a Ident, TtIter<'a>)>
         ensures { option_map (λ p. (p.0.now, p.1)) result ≡ first_ident self.now }
     {
@@ -32,7 +34,7 @@ impl<'a> TtIter<'a> {
         Some((ident, TtIter { tokens: more }))
     }
 
-    /// The leaf that comes next, borrowed: its text gets no other owner.
+    /// The leaf that comes next, borrowed, and the trees after it. Its text gets no other owner.
     pub fn lent_leaf(&self) -> Option<(&'a Leaf, TtIter<'a>)>
         ensures { option_map (λ p. (p.0.now, p.1)) result ≡ first_leaf self.now }
     {
@@ -40,7 +42,7 @@ impl<'a> TtIter<'a> {
         Some((leaf, TtIter { tokens: more }))
     }
 
-    /// The kind of the literal that comes next.
+    /// The form of the literal that comes next, if one does, and the trees after it.
     pub fn first_literal(&self) -> Option<(LitKind, TtIter<'a>)>
         ensures { result ≡ first_literal self.now }
     {
@@ -56,7 +58,8 @@ impl<'a> TtIter<'a> {
         Some((leaf, TtIter { tokens: more }))
     }
 
-    // The head of the group that comes next, and a walk over the trees inside.
+    // The head of the group that comes next, an iterator over the trees inside, and one over
+    // those after it.
     pub(crate) fn first_subtree(&self) -> Option<(Subtree, TtIter<'a>, TtIter<'a>)>
         ensures { result ≡ first_subtree self.now }
     {
@@ -65,7 +68,8 @@ impl<'a> TtIter<'a> {
         Some((head, TtIter { tokens: inner }, TtIter { tokens: rest }))
     }
 
-    /// The brackets of the group that comes next, and a walk over the trees inside.
+    /// The delimiters of the group that comes next, if one does, a walk over the trees inside, and
+    /// one over the trees after it.
     pub fn first_group(&self) -> Option<(Delimiter, TtIter<'a>, TtIter<'a>)>
         ensures { result ≡ first_group self.now }
     {

@@ -1,4 +1,4 @@
-//! Points of a walk, and what was passed since.
+//! Savepoints of an iterator, and the trees that it passed since.
 ghost use Rattle.std.specs.Prelude.{◌≡◌, []};
 ghost use Rattle.tt_data.specs.Forest.{Forest, joined};
 ghost use Rattle.tt.specs.Views.{forest};
@@ -8,14 +8,14 @@ use crate::buffer::Cursor;
 use crate::iter::TtIter;
 use crate::view::TokenTreesView;
 
-/// A point of a walk over a list of trees.
+/// A savepoint of a walk over a list of trees.
 #[derive(Clone, Copy, Debug)]
 pub struct TtIterSavepoint<'a> {
     trees: TokenTreesView<'a>,
 }
 
 impl<'a> TtIterSavepoint<'a> {
-    /// The trees that were left at the point.
+    /// The trees that were left at the savepoint.
     pub fn remaining(self) -> TokenTreesView<'a>
         ensures { forest result ≡ left_at self.entry }
     {
@@ -24,7 +24,7 @@ impl<'a> TtIterSavepoint<'a> {
 }
 
 impl<'a> TtIter<'a> {
-    /// The point that the walk is at.
+    /// A savepoint at the present position.
     pub fn savepoint(&self) -> TtIterSavepoint<'a>
         ensures { left_at result ≡ self.now }
     {
@@ -33,8 +33,8 @@ impl<'a> TtIter<'a> {
         }
     }
 
-    /// The trees passed since a point of this walk: those that were left there end in those that are
-    /// left now.
+    /// The trees passed since a savepoint of this walk: what was left there ends with what is left
+    /// now.
     pub fn from_savepoint(&self, savepoint: TtIterSavepoint<'a>) -> TokenTreesView<'a>
         requires { (passed : Forest) × (left_at savepoint ≡ joined passed self.now) }
         ensures { left_at savepoint.entry ≡ joined (forest result) self.now }
@@ -42,8 +42,8 @@ impl<'a> TtIter<'a> {
         self.passed_since(savepoint.remaining())
     }
 
-    /// Goes on to the place of a cursor, which is in no group: the trees that are left end in those
-    /// after it.
+    /// Goes on to the position of a cursor, which is in no group. The trees that are left end with
+    /// those after it.
     pub fn flat_advance_to(&mut self, cursor: &Cursor<'a>)
         requires root { cursor.now.around ≡ [] }
         requires ahead { (passed : Forest) × (self.old ≡ joined passed cursor.now.after) }

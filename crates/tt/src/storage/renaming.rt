@@ -1,4 +1,4 @@
-//! What comes in place of each anchor of a tree.
+//! What replaces each anchor of a tree.
 ghost use Rattle.std.specs.Prelude.{◌≡◌};
 ghost use Rattle.tt_data.specs.Spans.{delimiter_with, leaf_with, token_with};
 ghost use Rattle.tt.specs.Anchors.{IsAtHand, answer_in, answer_of};
@@ -8,7 +8,8 @@ use std::collections::HashMap;
 use std::mem::replace;
 use tt_data::{Delimiter, Ident, Leaf, Punct, Span, Subtree, TokenTree};
 
-/// What comes in place of each anchor. That of one of them is at hand.
+/// What replaces each anchor. The replacement of one anchor, `common`, is stored beside the table
+/// for speed.
 #[derive(Drop)]
 pub(crate) struct Renaming {
     answers: HashMap<u32, u32>,
@@ -16,7 +17,7 @@ pub(crate) struct Renaming {
     answer: u32,
 }
 
-// What comes in place of an anchor.
+// What replaces an anchor.
 fn looked_up(answers: &HashMap<u32, u32>, anchor: u32) -> u32
     ensures { result ≡ answer_in answers.now anchor }
 {
@@ -24,7 +25,7 @@ fn looked_up(answers: &HashMap<u32, u32>, anchor: u32) -> u32
 }
 
 impl Renaming {
-    /// What these answers put in place of each anchor, with that of `common` at hand.
+    /// The replacements of this table, with that of `common` stored beside it.
     pub(crate) fn new(answers: HashMap<u32, u32>, common: u32) -> Renaming
         ensures hand { IsAtHand result }
         ensures table { result.answers ≡ answers }
@@ -91,7 +92,7 @@ impl Renaming {
         }
     }
 
-    /// Changes the anchors of a token.
+    /// Replaces the anchors of a token.
     pub(crate) fn relabel(&self, token: &mut TokenTree)
         requires { IsAtHand self.now }
         ensures { token.new ≡ token_with (anchor_with (answer_of self.now)) token.old }

@@ -1,4 +1,4 @@
-//! Trees under construction.
+//! Builders of trees.
 ghost use Rattle.std.specs.Prelude.{◌≡◌, ◌≢◌, ◌↔◌, ◌⊎◌, ◌+◌, ◌<◌, ◌^◌, ◌≤◌, ◌++◌, ◌∷◌, [], reverse, length, take, List, Err, Some, None, option_map, map, IfOk, IfErr, IsOk, IsOkUnless, IsSome, IsTrue, OnOk, OnErr};
 ghost use Rattle.tt_data.specs.Forest.{size, front};
 ghost use Rattle.tt.specs.BuilderTokens.{start_of, begins_invisible, moved_back};
@@ -18,10 +18,11 @@ use std::alloc::Global;
 use std::marker::Model;
 use tt_data::{Delimiter, DelimiterKind, Leaf, Span, Subtree, TokenTree, TtFault};
 
-// The most tokens that a tree has below its top.
+// The most tokens that a tree may have below its top.
 const MOST_TOKENS: usize = u32::MAX as usize;
 
-/// A point of a builder's past: how many tokens it had below the top, and how many groups were open.
+/// A restore point of a builder: how many tokens it had below the top, and how many groups were
+/// open.
 #[derive(Clone, Copy)]
 pub struct SubtreeBuilderRestorePoint {
     tokens: u32,
@@ -40,7 +41,7 @@ impl Model for SubtreeBuilderRestorePoint {
     ghost inverse = { λ p. record { tokens = p.tokens; depth = p.depth } };
 }
 
-// A group that is open, and where its token is.
+// A group that is open, and the index of its token.
 #[derive(Clone, Copy)]
 struct Opening {
     at: usize,
@@ -49,7 +50,7 @@ struct Opening {
 }
 
 impl Opening {
-    // The opening once the token at a place is taken out.
+    // The opening once the token at index `at` is removed.
     fn moved_back(self, at: usize) -> Opening
         ensures { result ≡ moved_back at self }
     {
@@ -58,7 +59,7 @@ impl Opening {
     }
 }
 
-/// The sorts of a builder's open groups, the innermost first.
+/// The kinds of a builder's open groups, innermost first.
 #[derive(Drop)]
 pub struct ExpectedDelimiters<'a> {
     // The innermost last.
@@ -87,7 +88,7 @@ impl<'a> Iterator for ExpectedDelimiters<'a> {
 
     ghost remaining = { item_count (λ it. it) };
 
-    /// The next sort, further out: none where no groups are left.
+    /// The next kind, further out. `None` after the outermost group.
     fn next(&mut self) -> Option<DelimiterKind> {
         let (innermost, outer) = self.openings.split_last()?;
         self.openings = outer;
@@ -95,21 +96,21 @@ impl<'a> Iterator for ExpectedDelimiters<'a> {
     }
 }
 
-/// A tree under construction: some of its groups are open, one inside the other, and what comes
-/// next goes into the innermost one, or into the top where none is open.
+/// A tree under construction. Some of its groups are open, one inside the other. What comes next
+/// goes into the innermost one, or into the top if none is open.
 ///
-/// A call that is refused changes nothing.
+/// A refused call changes nothing.
 #[derive(Drop)]
 pub struct TopSubtreeBuilder {
     top: Delimiter,
-    // The top's token, and those below it. The top and an open group count nothing yet.
+    // The top's token, and those below it. The top and the open groups have no count yet.
     tokens: TokenBuffer,
     // The open groups, the innermost last.
     openings: Vec<Opening>,
-    // Where the token of the group closed last is.
+    // The index of the token of the group that was closed last.
     last_closed: Option<usize>,
-    // A place that no closed group lies across: that of the last point restored, or of the group
-    // around it that was closed since. Restores at growing places walk over each tree once.
+    // An index that no closed group lies across: that of the last point restored, or of the group
+    // around it that was closed since. So restoring at growing indices visits each tree once.
     settled: usize,
 }
 
@@ -144,7 +145,7 @@ impl TopSubtreeBuilder {
     ghost use Rattle.tt.specs.Tops.{only_group};
     ghost use Rattle.tt.specs.Building.{pushed, extended, last_alone, opened, closed, count_of, count_in, most_tokens, innermost_group, point_of, list_in, cut_back, unwrapped_at};
 
-    /// A builder of a tree with the brackets `top`, so far with nothing inside.
+    /// A builder of a tree with the delimiters `top`, with nothing inside.
     ///
     /// `Memory` is its only error.
     pub fn new(alloc: Global, top: Delimiter) -> Result<TopSubtreeBuilder, TtFault>
@@ -166,10 +167,10 @@ impl TopSubtreeBuilder {
         })
     }
 
-    /// Puts a leaf after the last tree of the innermost open group.
+    /// Appends a leaf to the innermost open group.
     ///
-    /// It answers `Tokens` where there are `u32::MAX` tokens below the top already, and only there;
-    /// its one other error is `Memory`.
+    /// It refuses `Tokens` exactly where `u32::MAX` tokens are below the top; its one other error
+    /// is `Memory`.
     #[inline]
     pub fn push(&mut self, leaf: Leaf) -> Result<(), TtFault>
         ensures ok { OnOk result (self.new.tree ≡ pushed self.old.tree leaf) }
@@ -182,10 +183,10 @@ impl TopSubtreeBuilder {
         Ok(())
     }
 
-    /// Puts these trees after the last tree of the innermost open group.
+    /// Appends these trees to the innermost open group.
     ///
-    /// It answers `Tokens` where there would be more than `u32::MAX` tokens below the top, and only
-    /// there; its one other error is `Memory`.
+    /// It refuses `Tokens` exactly where there would be more than `u32::MAX` tokens below the top;
+    /// its one other error is `Memory`.
     pub fn extend_with_tt(&mut self, tt: TokenTreesView<'_>) -> Result<(), TtFault>
         ensures ok { OnOk result (self.new.tree ≡ extended self.old.tree (forest tt.entry)) }
         ensures last { self.new.last_closed ≡ self.old.last_closed }
@@ -201,10 +202,10 @@ impl TopSubtreeBuilder {
         Ok(())
     }
 
-    /// Puts these leaves after the last tree of the innermost open group.
+    /// Appends these leaves to the innermost open group. The iterator ends.
     ///
-    /// It answers `Tokens` only where the leaves that it asked for would be more than fit below the
-    /// top; its one other error is `Memory`.
+    /// It refuses `Tokens` only where the leaves that it asked for would be more than fit below
+    /// the top; its one other error is `Memory`.
     pub fn extend<I: IntoIterator<Item = Leaf>>(&mut self, leaves: I) -> Result<(), TtFault>
         requires { (all : I.IntoIter) → I.into_iter_gives leaves all → I.IntoIter.can_next all × IsFinite (I.IntoIter.remaining all) }
         ensures ok { OnOk result ((all : I.IntoIter) × (ls : List Leaf) × I.into_iter_gives leaves all × Drains I.IntoIter.next_gives all ls × (self.new.tree ≡ extended self.old.tree (leaves_of ls))) }
@@ -223,11 +224,11 @@ impl TopSubtreeBuilder {
         }
     }
 
-    /// Puts these trees there, with the very last token, be it inside a last group, `Alone` where it
-    /// is a punct.
+    /// Appends these trees to the innermost open group, with the very last token, be it inside a
+    /// last group, `Alone` if it is a punct.
     ///
-    /// It answers `Tokens` where there would be more than `u32::MAX` tokens below the top, and only
-    /// there; its one other error is `Memory`.
+    /// It refuses `Tokens` exactly where there would be more than `u32::MAX` tokens below the top;
+    /// its one other error is `Memory`.
     pub fn extend_with_tt_alone(&mut self, tt: TokenTreesView<'_>) -> Result<(), TtFault>
         ensures ok { OnOk result (self.new.tree ≡ extended self.old.tree (last_alone (forest tt.entry))) }
         ensures last { self.new.last_closed ≡ self.old.last_closed }
@@ -242,7 +243,7 @@ impl TopSubtreeBuilder {
         Ok(())
     }
 
-    // The last token is no longer joined to what follows.
+    // Makes the last token `Alone`.
     fn set_last_alone(&mut self)
         requires { self.old.tree.here ≢ empty }
         ensures { self.new ≡ record self.old { tree = record self.old.tree { here = last_alone self.old.tree.here } } }
@@ -251,11 +252,11 @@ impl TopSubtreeBuilder {
         self.tokens.set_alone(last);
     }
 
-    /// Opens a group after the last tree of the innermost open group. It is the innermost one now,
-    /// with nothing inside.
+    /// Opens a group in the innermost open group. It is now the innermost one, with nothing
+    /// inside.
     ///
-    /// It answers `Tokens` where there are `u32::MAX` tokens below the top already, and only there;
-    /// its one other error is `Memory`.
+    /// It refuses `Tokens` exactly where `u32::MAX` tokens are below the top; its one other error
+    /// is `Memory`.
     pub fn open(&mut self, delimiter_kind: DelimiterKind, open_span: Span) -> Result<(), TtFault>
         ensures ok { OnOk result (self.new.tree ≡ opened self.old.tree delimiter_kind open_span) }
         ensures last { self.new.last_closed ≡ self.old.last_closed }
@@ -291,7 +292,8 @@ impl TopSubtreeBuilder {
         }
     }
 
-    /// The innermost open group's kind, and the span of its opening bracket: none where no group is open.
+    /// The kind of the innermost open group, and the span of its opening delimiter. `None` if no
+    /// group is open.
     pub fn innermost(&self) -> Option<(DelimiterKind, Span)>
         ensures { result ≡ innermost_group self.now.tree.groups }
     {
@@ -299,7 +301,7 @@ impl TopSubtreeBuilder {
         Some((opening.kind, opening.open_span))
     }
 
-    /// The sorts of the open groups, the innermost first: what closing brackets are to come.
+    /// The kinds of the open groups, innermost first: which closing delimiters have to come.
     pub fn expected_delimiters(&self) -> ExpectedDelimiters<'_>
         ensures { result ≡ map (λ o. o.kind) self.now.tree.groups }
     {
@@ -308,9 +310,9 @@ impl TopSubtreeBuilder {
         }
     }
 
-    /// Closes the innermost open group, which then is one tree where it was opened.
+    /// Closes the innermost open group, which is now one tree of the group around it.
     ///
-    /// It answers `Place` where no group is open, and only there. It takes no memory.
+    /// It refuses `Place` exactly where no group is open. It takes no memory.
     pub fn close(&mut self, close_span: Span) -> Result<(), TtFault>
         ensures ok { OnOk result (self.new.tree ≡ closed self.old.tree close_span) }
         ensures last { OnOk result (self.new.last_closed ≡ Some (count_in self.old.tree.groups)) }
@@ -334,8 +336,8 @@ impl TopSubtreeBuilder {
         Ok(())
     }
 
-    /// Where the group closed last is invisible, its contents take its place. No group counts as
-    /// the one closed last then, until the next is closed. It takes no memory.
+    /// Replaces the group closed last by its contents, if it is invisible. Until another group is
+    /// closed, none counts as closed last. It takes no memory.
     pub fn remove_last_subtree_if_invisible(&mut self)
         ensures tree { self.new.tree ≡ unwrapped_at self.old.last_closed self.old.tree }
         ensures last { self.new.last_closed ≡ None }
@@ -349,7 +351,7 @@ impl TopSubtreeBuilder {
         }
     }
 
-    /// The point that the builder is at, for `restore`.
+    /// A restore point at the present state, for `restore`.
     pub fn restore_point(&self) -> SubtreeBuilderRestorePoint
         ensures { result ≡ point_of self.now.tree }
     {
@@ -359,11 +361,11 @@ impl TopSubtreeBuilder {
         }
     }
 
-    /// Takes back all that came after a point. No group counts as the one closed last then.
+    /// Takes back all that came after a restore point. No group counts as closed last then.
     ///
-    /// It answers `Stale` where the point isn't valid, and only there. A point is valid where the
-    /// builder has as many tokens, just as many open groups begin among them, and no closed group
-    /// begins among them and ends past them. It takes no memory.
+    /// It refuses `Stale` exactly where the point is not valid. A point is valid if the builder
+    /// has at least its number of tokens, exactly its number of open groups begin among these, and
+    /// no closed group begins among them and ends past them. It takes no memory.
     pub fn restore(&mut self, restore_point: SubtreeBuilderRestorePoint) -> Result<(), TtFault>
         ensures ok { OnOk result (cut_back restore_point self.old.tree ≡ Some self.new.tree) }
         ensures last { OnOk result (self.new.last_closed ≡ None) }
@@ -381,8 +383,9 @@ impl TopSubtreeBuilder {
         Ok(())
     }
 
-    // How many tokens come before the list in which just so many groups are open, the top's among
-    // them, and a walk over that list.
+    // How many tokens come before the list in which exactly `depth` groups are open, and an
+    // iterator over that list. The top's token counts among them. `None` if fewer groups are
+    // open.
     fn list_at(&self, depth: usize) -> Option<(usize, TtIter<'_>)>
         ensures { result ≡ option_map (λ l. (1 + count_in l.0, l.1)) (list_in depth self.now.tree.groups self.now.tree.here) }
     {
@@ -401,7 +404,7 @@ impl TopSubtreeBuilder {
         Some((start, TtIter { tokens: inside }))
     }
 
-    // Whether a point is valid.
+    // Whether a restore point is valid.
     fn stands(&self, point: SubtreeBuilderRestorePoint) -> bool
         ensures { IsTrue result ↔ IsSome (cut_back point self.now.tree) }
     {
@@ -414,10 +417,10 @@ impl TopSubtreeBuilder {
         }
     }
 
-    /// The tree, with all that is inside the top so far.
+    /// The tree, with all that is inside the top.
     ///
-    /// Where a group is open, and only there, the builder comes back as it was, with `Place`. It
-    /// takes no memory.
+    /// Exactly where a group is open, the builder comes back as it was, with `Place`. It takes no
+    /// memory.
     pub fn build(self) -> Result<TopSubtree, (TopSubtreeBuilder, TtFault)>
         ensures ok { IfOk result (λ t. t ≡ record { delimiter = self.tree.top; inner = self.tree.here }) }
         ensures err { IfErr result (λ e. (e.0 ≡ self) × (e.1 ≡ TtFault.Place)) }
@@ -442,10 +445,10 @@ impl TopSubtreeBuilder {
         Ok(TopSubtree { tokens })
     }
 
-    /// The tree whose group is the only one inside the top. The top's own brackets are dropped.
+    /// The one group inside the top, as a tree. The top's own delimiters are dropped.
     ///
-    /// Where a group is open, and only there, the builder comes back as it was, with `Place`; and with
-    /// `Malformed` where else the trees inside the top are not exactly one group. It takes no memory.
+    /// If a group is open, the builder comes back as it was, with `Place`; if the trees inside the
+    /// top are not exactly one group, with `Malformed`. It takes no memory.
     pub fn build_skip_top_subtree(self) -> Result<TopSubtree, (TopSubtreeBuilder, TtFault)>
         ensures ok { IfOk result (λ t. only_group self.tree.here ≡ Some t) }
         ensures err { IfErr result (λ e. e.0 ≡ self) }
@@ -474,7 +477,7 @@ impl TopSubtreeBuilder {
     }
 }
 
-// Puts a leaf after the other tokens, where there is room below the top.
+// Appends a leaf, if there is room below the top.
 #[inline(always)]
 fn put_leaf(tokens: &mut TokenBuffer, leaf: Leaf) -> Result<(), TtFault>
     ensures ok { OnOk result (tokens.new ≡ tokens.old ++ token.Leaf leaf ∷ []) }
@@ -490,7 +493,7 @@ fn put_leaf(tokens: &mut TokenBuffer, leaf: Leaf) -> Result<(), TtFault>
     Ok(())
 }
 
-// Puts leaves after the other tokens. Where it is refused, some of them may have been put.
+// Appends leaves. If it is refused, some of them may have been appended.
 fn put_leaves<I: IntoIterator<Item = Leaf>>(
     tokens: &mut TokenBuffer,
     leaves: I,
@@ -508,7 +511,7 @@ fn put_leaves<I: IntoIterator<Item = Leaf>>(
     Ok(())
 }
 
-// Whether the token whose head this is, if it has one, begins an invisible group.
+// Whether a token begins an invisible group. `head` is its head, if it has one.
 fn is_invisible_head(head: Option<Subtree>) -> bool
     ensures { (t : TokenTree) → as_head t ≡ head → result ≡ begins_invisible t }
 {
@@ -518,7 +521,7 @@ fn is_invisible_head(head: Option<Subtree>) -> bool
     }
 }
 
-// The openings after the token at a place move one token back.
+// Moves the openings after index `at` one token back.
 fn move_back(openings: &mut Vec<Opening>, at: usize)
     ensures { openings.new.items ≡ map (moved_back at) openings.old.items }
 {

@@ -1,4 +1,4 @@
-//! Trees in which other anchors come in place of those that are there.
+//! Trees with their anchors replaced.
 ghost use Rattle.std.specs.Prelude.{◌≡◌, ℕ, List, IfOk, IsOkUnless, OnOk, OnErr, nat_eq};
 ghost use Rattle.std.specs.List.{FoldsTo, list_any};
 ghost use Rattle.tt_data.specs.fault.TtFault.TheVariants as fault;
@@ -14,13 +14,11 @@ use std::collections::HashMap;
 use tt_data::{Delimiter, TtFault};
 
 impl TopSubtree {
-    /// Puts other anchors in place of those of the tree: what `f` answers for each. It is asked about
-    /// each anchor once, in the order in which the tokens inside the group have them for the first
-    /// time, an opening bracket before its closing one and both before what they have inside, and then
-    /// about those that the group's own brackets alone have.
+    /// Replaces every anchor of the tree by what `f` answers for it. `f` is asked about each
+    /// anchor once, in the order of first use below the top, a group's delimiters before its
+    /// contents. Anchors that the top's own delimiters alone have come last.
     ///
-    /// The memory for this is taken before `f` is asked. `Memory` is the only error: then `f` was not
-    /// asked, and the tree is as it was.
+    /// `Memory` is the only error: then `f` was not asked, and the tree is as it was.
     pub fn change_every_ast_id<F: FnMut(u32) -> u32>(
         &mut self,
         alloc: Global,
@@ -41,14 +39,14 @@ impl TopSubtree {
     }
 }
 
-// The anchors of a tree, in the order in which they were met, and what comes in place of each.
+// The anchors of a tree, in the order of their first occurrence, and what replaces each.
 #[derive(Drop)]
 struct Anchors {
     met: Vec<u32>,
     answers: HashMap<u32, u32>,
 }
 
-// Whether the anchor was met.
+// Whether the anchor occurred.
 fn is_met(anchors: &Anchors, anchor: u32) -> bool
     requires { StandForThemselves anchors.now }
     ensures { result ≡ list_any (nat_eq anchor) anchors.now.met.items }
@@ -56,7 +54,7 @@ fn is_met(anchors: &Anchors, anchor: u32) -> bool
     anchors.met.last().copied() == Some(anchor) || anchors.answers.contains_key(&anchor)
 }
 
-// Adds an anchor, unless it was met.
+// Adds an anchor, unless it occurred.
 fn meet(anchors: &mut Anchors, anchor: u32) -> Result<(), AllocError>
     requires { StandForThemselves anchors.old }
     ensures stand { OnOk result (StandForThemselves anchors.new) }
@@ -115,7 +113,7 @@ fn met_in(alloc: Global, tree: &TopSubtree) -> Result<Anchors, AllocError>
     Ok(anchors)
 }
 
-// Asks about each anchor, and puts the answer in its place.
+// Asks about each anchor, and stores the answers.
 fn answered<F: FnMut(u32) -> u32>(anchors: Anchors, f: F) -> HashMap<u32, u32>
     requires callable { F.IsAlwaysCallable f }
     requires stand { StandForThemselves anchors }

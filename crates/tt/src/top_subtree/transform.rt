@@ -1,4 +1,4 @@
-//! Trees that are rewritten token by token.
+//! Rewrites trees token by token.
 ghost use Rattle.std.specs.Prelude.{◌≡◌, ◌<◌, ◌⊎◌, List, [], length, true, false, Err, Some, None, is_none, IfOk, IfErr, OnOk, OnErr};
 ghost use Rattle.std.specs.List.{FoldsTo};
 ghost use Rattle.tt_data.specs.Forest.{Forest, empty, size};
@@ -17,18 +17,17 @@ use std::alloc::{AllocError, Global};
 use std::mem::replace;
 use tt_data::{Delimiter, Leaf, Span, Subtree, TokenTree, TtFault};
 
-/// What becomes of a token that a walk has come to.
+/// What becomes of a token that a walk has reached.
 #[derive(Clone, Copy)]
 pub enum TransformTtAction<'a> {
-    /// It stays. In a group the walk goes on.
+    /// It stays. If it is a group, the walk goes on inside.
     Keep,
-    /// These trees come in its place, for a group in place of all that it has inside too. They are
-    /// not walked.
+    /// These trees replace it, a group with all inside it. They are not walked.
     ReplaceWith(TokenTreesView<'a>),
 }
 
 impl<'a> TransformTtAction<'a> {
-    /// The token goes, and nothing comes in its place.
+    /// The token goes, a group with all inside it.
     pub fn remove() -> TransformTtAction<'a>
         ensures { replacement result ≡ Some empty }
     {
@@ -36,12 +35,13 @@ impl<'a> TransformTtAction<'a> {
     }
 }
 
-/// Asks `callback` about each token, the top's own head first and a group's head before what it has
-/// inside, and puts in a token's place what it answers. What is put there is not walked.
+/// Asks `callback` about each token, the top's own head first and a group's head before its
+/// contents, and does what it answers. Replacements are not walked.
 ///
-/// It answers `Malformed` where the top gave way to anything but one group, and only there; `Tokens`
-/// only where the tree would have more than `u32::MAX` tokens below its top, whatever the callback
-/// were to say of the tokens left; and else only `Memory`. The tree is then as it was.
+/// It refuses `Malformed` exactly where the top gives way to anything but one group. It refuses
+/// `Tokens` only where the tree would have more than `u32::MAX` tokens below its top, whatever the
+/// callback answered for the tokens left. Its one other error is `Memory`. A refused call leaves
+/// the tree as it was.
 pub fn transform_tt<'b, F: FnMut(&TokenTree) -> TransformTtAction<'b>>(
     alloc: Global,
     tt: &mut TopSubtree,
@@ -90,14 +90,14 @@ fn transformed<'b, F: FnMut(&TokenTree) -> TransformTtAction<'b>>(
     }
 }
 
-// A group that stays: where it closes, and a walk over the trees after it.
+// A group that stays: the span of its closing, and an iterator over the trees after it.
 #[derive(Drop)]
 struct Around<'a> {
     close_span: Span,
     rest: TtIter<'a>,
 }
 
-// Asks about a leaf, and puts it into the tree, or what comes in its place.
+// Asks about a leaf, and appends it to the tree, or what replaces it.
 fn put_leaf<'b, F: FnMut(&TokenTree) -> TransformTtAction<'b>>(
     tree: &mut TopSubtreeBuilder,
     leaf: Leaf,
@@ -123,8 +123,8 @@ fn put_leaf<'b, F: FnMut(&TokenTree) -> TransformTtAction<'b>>(
     }
 }
 
-// Asks about a group, and opens it in the tree, or puts there what comes in its place: whether it is
-// opened, for the walk to go into it.
+// Asks about a group, and opens it in the tree, or appends what replaces it. It answers whether
+// the group is open, so that the traversal enters it.
 fn put_head<'b, F: FnMut(&TokenTree) -> TransformTtAction<'b>>(
     tree: &mut TopSubtreeBuilder,
     head: Subtree,
@@ -150,7 +150,7 @@ fn put_head<'b, F: FnMut(&TokenTree) -> TransformTtAction<'b>>(
     }
 }
 
-// A walk that rewrites trees.
+// A traversal that rewrites trees.
 #[derive(Drop)]
 struct Walk<'a> {
     tree: TopSubtreeBuilder,
@@ -160,7 +160,7 @@ struct Walk<'a> {
     outer: Vec<Around<'a>>,
 }
 
-// The walk goes on over the trees inside a group that was passed, and then over those after it.
+// Goes on with the trees inside a group, and then with those after it.
 fn go_inside<'a>(
     walk: &mut Walk<'a>,
     close_span: Span,
@@ -178,7 +178,7 @@ fn go_inside<'a>(
     Ok(())
 }
 
-// Asks about a group that was passed. Where it stays, the walk goes on inside it.
+// Asks about a group. If it stays, the traversal goes on inside it.
 fn enter<'a, 'b, F: FnMut(&TokenTree) -> TransformTtAction<'b>>(
     walk: &mut Walk<'a>,
     head: Subtree,
@@ -199,7 +199,7 @@ fn enter<'a, 'b, F: FnMut(&TokenTree) -> TransformTtAction<'b>>(
     Ok(())
 }
 
-// Closes the innermost group, after whose trees the walk is: whether there is one.
+// Closes the innermost group, at whose end the traversal is, and answers whether there was one.
 fn leave(walk: &mut Walk<'_>) -> bool
     requires { length walk.old.outer.items ≡ length walk.old.tree.tree.groups }
     ensures left { result ≡ true → LeavesGroup (standing walk.old) (standing walk.new) }
@@ -215,7 +215,7 @@ fn leave(walk: &mut Walk<'_>) -> bool
     true
 }
 
-// The tree with these brackets and what the callback makes of these trees inside.
+// The tree with these delimiters, and inside what the callback makes of these trees.
 fn rewritten<'b, F: FnMut(&TokenTree) -> TransformTtAction<'b>>(
     alloc: Global,
     top: Delimiter,

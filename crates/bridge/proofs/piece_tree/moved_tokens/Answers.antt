@@ -1,4 +1,4 @@
--- Token by token, each with its places counted from the first one's start.
+-- Token by token, each with its spans counted from the start of the first one.
 use Rattle.std.proofs.Common.{◌≡◌, ◌∷◌, ◌∙◌, rules, subst, sym}
 use Rattle.std.proofs.lemmas.List.Elements.{All-tail}
 use Rattle.std.specs.Prelude.{All}

@@ -1,4 +1,4 @@
--- One token: brackets, trees, or a fault.
+-- One token: delimiters, trees, or a reading fault.
 use Rattle.std.proofs.Common.{refl}
 use Rattle.bridge.proofs.AddingLemmas.{handed_on, no_value}
 use Rattle.bridge.proofs.ReadStepLemmas.{faults_bad, plain_at, refuses_opening, refuses_trees, takes_trees}

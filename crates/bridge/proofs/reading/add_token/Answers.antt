@@ -1,4 +1,4 @@
--- One token as it stands in the text: where it may be cut, and what it adds.
+-- One token at its offset in the text: where it may be cut, and what it adds.
 use Rattle.std.proofs.Common.{◌≤◌, ◌+◌, length, arith}
 use Rattle.rustc_lexer.specs.Cursors.{suffix_of}
 use Rattle.bridge.proofs.CutLemmas.{boundary_in, may_cut}

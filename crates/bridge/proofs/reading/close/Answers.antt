@@ -1,4 +1,4 @@
--- The bracket closes the innermost group, or fits none.
+-- The closing delimiter closes the innermost group, or fits none.
 use Rattle.std.proofs.Common.{refl}
 use Rattle.bridge.proofs.ReadStepLemmas.{faults_closing, takes_closing}
 use Rattle.bridge.proofs.reading.close.Goals as goal

@@ -1,4 +1,4 @@
--- Token by token: where it stands, and what it adds.
+-- Token by token: where it starts, and what it adds.
 use Rattle.std.proofs.Common.{◌≤◌, ◌+◌, length, arith, subst}
 use Rattle.bridge.proofs.AddingLemmas.{handed_on}
 use Rattle.bridge.proofs.ReadTokensLemmas.{reads_fault, reads_on, refuses}

@@ -1,4 +1,4 @@
--- Token by token: what is left to stand behind the first.
+-- Token by token: the remaining spans are not before the first token.
 use Rattle.std.proofs.Common.{◌≡◌, ◌∙◌, ◌∷◌, rules, subst, sym}
 use Rattle.std.proofs.lemmas.List.Elements.{All-cons}
 use Rattle.std.specs.Prelude.{All}

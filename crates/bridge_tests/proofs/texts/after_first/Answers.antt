@@ -1,4 +1,4 @@
--- Token by token: where it stands, and where the next one does.
+-- Token by token: where it starts, and where the next one does.
 use Rattle.std.proofs.Common.{◌≤◌, ◌+◌, length, arith, subst, sym}
 use Rattle.rustc_lexer.specs.TokensAt.{AreTokensFrom}
 use Rattle.bridge_tests.proofs.texts.after_first.Goals as goal

@@ -11,8 +11,8 @@ pub returns-then-is_blank-clause-passing : goal.returns-then-is_blank-clause-pas
 returns-then-is_blank-clause-passing c =
     let laws : PassLaws = record { behind = c.reading_behind.ensures; next = c.next_token.ensures.others } in
     let more = one_more c.args.left.now c.in-Some._more.now c.in-Some.token.now c.in-Some.ensures.cases.0 in
-    subst (λ (ts : List Token). IsReparse c.args.held.now c.args.text.now (c.args.at + c.in-Some.token.now.len) ts c.args.now.now) (sym more.0)
-    (blank_is_passed laws c.args.held.now c.args.text.now c.utf8.text c.args.at c.in-Some.token.now c.args.left.now c.in-Some._more.now c.args.now.now
+    subst (λ (ts : List Token). IsReparse c.args.context.now.held.now c.args.text.now (c.args.at + c.in-Some.token.now.len) ts c.args.now.now) (sym more.0)
+    (blank_is_passed laws c.args.context.now.held.now c.args.text.now c.utf8.text c.args.at c.in-Some.token.now c.args.left.now c.in-Some._more.now c.args.now.now
     c.in-Some.ensures.cases.0 (c.is_blank.ensures c.if-is_blank.true) c.requires.passing)
 
 pub returns-then-is_blank-clause-shorter : goal.returns-then-is_blank-clause-shorter
@@ -23,12 +23,12 @@ returns-clause-passing c =
     let laws : PassLaws = record { behind = c.reading_behind.ensures; next = c.next_token.ensures.others } in
     let k : TokenRun = (rc_value c.in-Some-2.source).cutout in
     let is : IsCachedHere (drop c.args.at c.args.text.now) c.args.left.now (rc_value c.in-Some-2.source) = search rules in
-    let met : IsMet c.args.held.now c.in-Some-2.met (rc_value (rc_value c.in-Some-2.source).tree) = search rules in
+    let met : IsMet c.args.context.now.held.now c.in-Some-2.met (rc_value (rc_value c.in-Some-2.source).tree) = search rules in
     let size : c.len-bytes.result ≡ length k.bytes = search rules in
     let cut : c.as_ref-2.result.now.cutout ≡ k = search rules in
     rw (size, cut)
-    (piece_is_passed laws c.args.held.now c.args.text.now c.utf8.text c.args.at c.args.left.now c.args.now.now _ c.in-Some-2.source is
-    c.in_ok-pass.ensures.own (c.in_ok-pass.ensures.met c.args.held.now met c.requires.passing.met) c.in_ok-pass.ensures.begun c.in_ok-pass.ensures.list c.requires.passing)
+    (piece_is_passed laws c.args.context.now.held.now c.args.text.now c.utf8.text c.args.at c.args.left.now c.args.now.now _ c.in-Some-2.source is
+    c.in_ok-pass.ensures.own (c.in_ok-pass.ensures.met c.args.context.now.held.now met c.requires.passing.met) c.in_ok-pass.ensures.begun c.in_ok-pass.ensures.list c.requires.passing)
 
 pub returns-clause-shorter : goal.returns-clause-shorter
 returns-clause-shorter c =

@@ -10,18 +10,18 @@ with_last-requires-clause-passing c = (c.args.held.now, search rules)
 
 pub returns-in_default-clause-met : goal.returns-in_default-clause-met
 returns-in_default-clause-met c =
-    let p : IsReparse c.args.held.now c.args.text.now c.loop-names.at c.loop-names.left.now c.pass_next.new.now = search rules in
+    let p : IsReparse c.args.held.now c.args.text.now c.loop-context.at c.loop-context.left.now c.pass_next.new.now = search rules in
     c.with_last.ensures.met c.args.held.now p.met
 
 pub returns-clause-read : goal.returns-clause-read
 returns-clause-read c =
-    let p : IsReparse c.args.held.now c.args.text.now c.loop-names.at c.loop-names.left.now c.end.new.self = c.in_ok-end.ensures.passing c.args.held.now c.loop-names.invariant in
-    let none : c.loop-names.left.now ≡ [] = no_item c.loop-names.left.now (search rules) in
-    let all = all_passed c.args.text.now c.loop-names.at c.loop-names.left.now c.end.new.self.own.items none p.passed in
+    let p : IsReparse c.args.held.now c.args.text.now c.loop-context.at c.loop-context.left.now c.end.new.self = c.in_ok-end.ensures.passing c.args.held.now c.loop-context.invariant in
+    let none : c.loop-context.left.now ≡ [] = no_item c.loop-context.left.now (search rules) in
+    let all = all_passed c.args.text.now c.loop-context.at c.loop-context.left.now c.end.new.self.own.items none p.passed in
     (all.0, all.1.0, all.1.1, p.listed)
 
 pub returns-clause-theirs : goal.returns-clause-theirs
 returns-clause-theirs c =
-    let p : IsReparse c.args.held.now c.args.text.now c.loop-names.at c.loop-names.left.now c.end.new.self = c.in_ok-end.ensures.passing c.args.held.now c.loop-names.invariant in
+    let p : IsReparse c.args.held.now c.args.text.now c.loop-context.at c.loop-context.left.now c.end.new.self = c.in_ok-end.ensures.passing c.args.held.now c.loop-context.invariant in
     made_theirs (record { list = c.end.new.self.list }) c.end.new.self.own.items
-    (made_all c.args.held.now c.args.text.now c.loop-names.at c.loop-names.left.now c.end.new.self p c.in_ok-end.ensures.none)
+    (made_all c.args.held.now c.args.text.now c.loop-context.at c.loop-context.left.now c.end.new.self p c.in_ok-end.ensures.none)

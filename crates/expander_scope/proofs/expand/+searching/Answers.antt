@@ -25,27 +25,27 @@ pub expand_call-returns-in_default-clause-turn : goal.expand_call-returns-in_def
 expand_call-returns-in_default-clause-turn g t c =
     let (w, opened) = call_opened c.args.trees.now c.args.call c.requires.call in
     rw c.in_ok-keep.ensures.rest
-    (unknown_turn (numbered_world (world (g.G.FragmentGrammar.answer c.args.grammar.now) c.args.scope.now.edition)) (scope_in c.args.scope.now) c.args.depth c.args.outer c.args.out.now _ c.args.trees.now c.args.call c.requires.call (sym c.in_default.ensures.found) w opened
+    (unknown_turn (numbered_world (world (g.G.FragmentGrammar.answer c.args.env.now.grammar.now) c.args.env.now.scope.now.edition)) (scope_in c.args.env.now.scope.now) c.args.env.now.depth c.args.outer c.args.out.now _ c.args.trees.now c.args.call c.requires.call (sym c.in_default.ensures.found) w opened
     (adds_found c.args.out.now (record c.args.out.now { finds = c.push_find.new.finds }) c.keep.new.out c.args.call.name.sym None (just c.args.outer (walk w)) refl refl c.in_ok-push_find.ensures (c.in_ok-keep.ensures.adds w opened)))
 
 pub expand_call-returns-in_err-result-clause-tokens : goal.expand_call-returns-in_err-result-clause-tokens
 expand_call-returns-in_err-result-clause-tokens g t c = λ e.
     let (w, passed) = call_passed c.args.trees.now c.args.call c.requires.call in
-    answer_bursts (numbered_world (world (g.G.FragmentGrammar.answer c.args.grammar.now) c.args.scope.now.edition)) (scope_in c.args.scope.now) c.args.depth c.args.outer c.args.out.now c.args.out.now c.args.trees.now c.args.call
+    answer_bursts (numbered_world (world (g.G.FragmentGrammar.answer c.args.env.now.grammar.now) c.args.env.now.scope.now.edition)) (scope_in c.args.env.now.scope.now) c.args.env.now.depth c.args.outer c.args.out.now c.args.out.now c.args.trees.now c.args.call
     (numbered_of_known c.in-Some.known.now.value) c.requires.call (sym c.in-Some.ensures.found) w passed
-    ((rw c.as_ref.ensures at c.in_err-result.ensures.tokens) c.args.scope.now.edition c.in-Some.ensures.rules (handed c.from_residual-in_err-result.result _ c.from_residual-in_err-result.ensures.1 e))
+    ((rw c.as_ref.ensures at c.in_err-result.ensures.tokens) c.args.env.now.scope.now.edition c.in-Some.ensures.rules (handed c.from_residual-in_err-result.result _ c.from_residual-in_err-result.ensures.1 e))
 
 pub expand_call-returns-in-Ok-clause-turn : goal.expand_call-returns-in-Ok-clause-turn
 expand_call-returns-in-Ok-clause-turn g t c =
     let (w, passed) = call_passed c.args.trees.now c.args.call c.requires.call in
-    let says : answer (numbered_world (world (g.G.FragmentGrammar.answer c.args.grammar.now) c.args.scope.now.edition)) (numbered_of_known c.in-Some.known.now.value) c.args.depth c.args.call.argument ≡ Ok c.in-Ok.result.inner = sym ((rw (c.as_ref.ensures, c.in-Ok.is) at c.in_ok-result.ensures.given) c.args.scope.now.edition c.in-Some.ensures.rules) in
+    let says : answer (numbered_world (world (g.G.FragmentGrammar.answer c.args.env.now.grammar.now) c.args.env.now.scope.now.edition)) (numbered_of_known c.in-Some.known.now.value) c.args.env.now.depth c.args.call.argument ≡ Ok c.in-Ok.result.inner = sym ((rw (c.as_ref.ensures, c.in-Ok.is) at c.in_ok-result.ensures.given) c.args.env.now.scope.now.edition c.in-Some.ensures.rules) in
     let mid : Expanding = record c.args.out.now { finds = c.push_find-2.new.finds } in
-    on_ok_weaker c.search.result (λ (adds : Adds mid c.search.new.out (searched (numbered_world (world (g.G.FragmentGrammar.answer c.args.grammar.now) c.args.scope.now.edition)) (scope_in c.args.scope.now) (c.args.depth - 1) (Some c.unwrap_or-at.result) c.iter-inside.result)).
-    comes_turn (numbered_world (world (g.G.FragmentGrammar.answer c.args.grammar.now) c.args.scope.now.edition)) (scope_in c.args.scope.now) c.args.depth c.args.outer c.args.out.now c.search.new.out c.args.trees.now c.args.call
+    on_ok_weaker c.search.result (λ (adds : Adds mid c.search.new.out (searched (numbered_world (world (g.G.FragmentGrammar.answer c.args.env.now.grammar.now) c.args.env.now.scope.now.edition)) (scope_in c.args.env.now.scope.now) (c.args.env.now.depth - 1) (Some c.unwrap_or-at.result) c.iter-inside.result)).
+    comes_turn (numbered_world (world (g.G.FragmentGrammar.answer c.args.env.now.grammar.now) c.args.env.now.scope.now.edition)) (scope_in c.args.env.now.scope.now) c.args.env.now.depth c.args.outer c.args.out.now c.search.new.out c.args.trees.now c.args.call
     (numbered_of_known c.in-Some.known.now.value) c.requires.call (sym c.in-Some.ensures.found) w passed c.in-Ok.result.inner says
     (adds_found c.args.out.now mid c.search.new.out c.args.call.name.sym (Some (numbered_of_known c.in-Some.known.now.value)) _ refl refl c.in_ok-push_find-2.ensures
     (rw (c.unwrap_or-at.ensures, c.iter-inside.ensures, c.token_trees.ensures) at adds)))
-    c.search.ensures.adds
+    (rw c.deeper.ensures at c.search.ensures.adds)
 
 pub expand_call-keep-requires-in-Err : goal.expand_call-keep-requires-in-Err
 expand_call-keep-requires-in-Err g t c = call_passed c.args.trees.now c.args.call c.requires.call
@@ -53,11 +53,11 @@ expand_call-keep-requires-in-Err g t c = call_passed c.args.trees.now c.args.cal
 pub expand_call-returns-clause-turn : goal.expand_call-returns-clause-turn
 expand_call-returns-clause-turn g t c =
     let (w, passed) = call_passed c.args.trees.now c.args.call c.requires.call in
-    let says : answer (numbered_world (world (g.G.FragmentGrammar.answer c.args.grammar.now) c.args.scope.now.edition)) (numbered_of_known c.in-Some.known.now.value) c.args.depth c.args.call.argument ≡ Err c.in-Err.kind = sym ((rw (c.as_ref.ensures, c.in-Err.is) at c.in_ok-result.ensures.given) c.args.scope.now.edition c.in-Some.ensures.rules) in
+    let says : answer (numbered_world (world (g.G.FragmentGrammar.answer c.args.env.now.grammar.now) c.args.env.now.scope.now.edition)) (numbered_of_known c.in-Some.known.now.value) c.args.env.now.depth c.args.call.argument ≡ Err c.in-Err.kind = sym ((rw (c.as_ref.ensures, c.in-Err.is) at c.in_ok-result.ensures.given) c.args.env.now.scope.now.edition c.in-Some.ensures.rules) in
     let mid : Expanding = record c.args.out.now { finds = c.push_find-2.new.finds } in
     let told : Expanding = record mid { faults = c.push_told.new.faults } in
     rw c.in_ok-keep-in-Err.ensures.rest
-    (stays_turn (numbered_world (world (g.G.FragmentGrammar.answer c.args.grammar.now) c.args.scope.now.edition)) (scope_in c.args.scope.now) c.args.depth c.args.outer c.args.out.now _ c.args.trees.now c.args.call
+    (stays_turn (numbered_world (world (g.G.FragmentGrammar.answer c.args.env.now.grammar.now) c.args.env.now.scope.now.edition)) (scope_in c.args.env.now.scope.now) c.args.env.now.depth c.args.outer c.args.out.now _ c.args.trees.now c.args.call
     (numbered_of_known c.in-Some.known.now.value) c.requires.call (sym c.in-Some.ensures.found) w passed c.in-Err.kind says
     (adds_found c.args.out.now mid c.keep-in-Err.new.out c.args.call.name.sym (Some (numbered_of_known c.in-Some.known.now.value)) _ refl refl c.in_ok-push_find-2.ensures
     (adds_stays mid told c.keep-in-Err.new.out c.in-Err.kind c.args.outer (record { at = c.args.call.name.span; whole = w; argument = c.args.call.argument }) refl
@@ -65,17 +65,17 @@ expand_call-returns-clause-turn g t c =
 
 pub search-turns-init : goal.search-turns-init
 search-turns-init g t c =
-    going_first c.args.outer (searched (numbered_world (world (g.G.FragmentGrammar.answer c.args.grammar.now) c.args.scope.now.edition)) (scope_in c.args.scope.now) c.args.depth c.args.outer) c.args.trees.now c.args.out.now c.new-walk.result
+    going_first c.args.outer (searched (numbered_world (world (g.G.FragmentGrammar.answer c.args.env.now.grammar.now) c.args.env.now.scope.now.edition)) (scope_in c.args.env.now.scope.now) c.args.env.now.depth c.args.outer) c.args.trees.now c.args.out.now c.new-walk.result
     c.new-walk.ensures.here c.new-walk.ensures.groups
 
 pub search-turns-preserved-in-Continue-1 : goal.search-turns-preserved-in-Continue-1
 search-turns-preserved-in-Continue-1 g t c =
-    turn_more c.args.outer (searched (numbered_world (world (g.G.FragmentGrammar.answer c.args.grammar.now) c.args.scope.now.edition)) (scope_in c.args.scope.now) c.args.depth c.args.outer) c.args.trees.now c.args.out.now c.turns.out c.expand_call.new.out
+    turn_more c.args.outer (searched (numbered_world (world (g.G.FragmentGrammar.answer c.args.env.now.grammar.now) c.args.env.now.scope.now.edition)) (scope_in c.args.env.now.scope.now) c.args.env.now.depth c.args.outer) c.args.trees.now c.args.out.now c.turns.out c.expand_call.new.out
     c.turns.walk _ c.turns.invariant c.in_ok-expand_call.ensures.turn refl
 
 pub search-returns-in_err-expand_call-clause-tokens : goal.search-returns-in_err-expand_call-clause-tokens
 search-returns-in_err-expand_call-clause-tokens g t c = λ e.
-    going_bursts (numbered_world (world (g.G.FragmentGrammar.answer c.args.grammar.now) c.args.scope.now.edition)) (scope_in c.args.scope.now) c.args.depth c.args.outer c.args.trees.now c.args.out.now c.turns.out c.turns.walk c.turns.invariant
+    going_bursts (numbered_world (world (g.G.FragmentGrammar.answer c.args.env.now.grammar.now) c.args.env.now.scope.now.edition)) (scope_in c.args.env.now.scope.now) c.args.env.now.depth c.args.outer c.args.trees.now c.args.out.now c.turns.out c.turns.walk c.turns.invariant
     (c.in_err-expand_call.ensures.tokens (handed c.from_residual.result _ c.from_residual.ensures.1 e))
 
 pub search-keep-requires : goal.search-keep-requires
@@ -85,19 +85,19 @@ pub search-turns-preserved-in-Some-call_behind_colons : goal.search-turns-preser
 search-turns-preserved-in-Some-call_behind_colons g t c =
     let at : call_behind_colons c.turns.walk.here ≡ Some c.in-Some-call_behind_colons.call = sym c.in-Some-call_behind_colons.ensures in
     let (w, opened) = colons_opened c.turns.walk.here c.in-Some-call_behind_colons.call at in
-    turn_more c.args.outer (searched (numbered_world (world (g.G.FragmentGrammar.answer c.args.grammar.now) c.args.scope.now.edition)) (scope_in c.args.scope.now) c.args.depth c.args.outer) c.args.trees.now c.args.out.now c.turns.out _
+    turn_more c.args.outer (searched (numbered_world (world (g.G.FragmentGrammar.answer c.args.env.now.grammar.now) c.args.env.now.scope.now.edition)) (scope_in c.args.env.now.scope.now) c.args.env.now.depth c.args.outer) c.args.trees.now c.args.out.now c.turns.out _
     c.turns.walk _ c.turns.invariant
     (rw c.in_ok-keep.ensures.rest
-    (colons_turn (numbered_world (world (g.G.FragmentGrammar.answer c.args.grammar.now) c.args.scope.now.edition)) (scope_in c.args.scope.now) c.args.depth c.args.outer c.turns.out _ c.turns.walk.here c.in-Some-call_behind_colons.call at w opened
+    (colons_turn (numbered_world (world (g.G.FragmentGrammar.answer c.args.env.now.grammar.now) c.args.env.now.scope.now.edition)) (scope_in c.args.env.now.scope.now) c.args.env.now.depth c.args.outer c.turns.out _ c.turns.walk.here c.in-Some-call_behind_colons.call at w opened
     (c.in_ok-keep.ensures.adds w opened))) refl
 
 pub expand_call-returns-in-Ok-clause-tokens : goal.expand_call-returns-in-Ok-clause-tokens
 expand_call-returns-in-Ok-clause-tokens g t c = λ e.
     let (w, passed) = call_passed c.args.trees.now c.args.call c.requires.call in
-    let says : answer (numbered_world (world (g.G.FragmentGrammar.answer c.args.grammar.now) c.args.scope.now.edition)) (numbered_of_known c.in-Some.known.now.value) c.args.depth c.args.call.argument ≡ Ok c.in-Ok.result.inner = sym ((rw (c.as_ref.ensures, c.in-Ok.is) at c.in_ok-result.ensures.given) c.args.scope.now.edition c.in-Some.ensures.rules) in
-    result_bursts (numbered_world (world (g.G.FragmentGrammar.answer c.args.grammar.now) c.args.scope.now.edition)) (scope_in c.args.scope.now) c.args.depth c.args.outer c.args.out.now c.args.out.now c.args.trees.now c.args.call
+    let says : answer (numbered_world (world (g.G.FragmentGrammar.answer c.args.env.now.grammar.now) c.args.env.now.scope.now.edition)) (numbered_of_known c.in-Some.known.now.value) c.args.env.now.depth c.args.call.argument ≡ Ok c.in-Ok.result.inner = sym ((rw (c.as_ref.ensures, c.in-Ok.is) at c.in_ok-result.ensures.given) c.args.env.now.scope.now.edition c.in-Some.ensures.rules) in
+    result_bursts (numbered_world (world (g.G.FragmentGrammar.answer c.args.env.now.grammar.now) c.args.env.now.scope.now.edition)) (scope_in c.args.env.now.scope.now) c.args.env.now.depth c.args.outer c.args.out.now c.args.out.now c.args.trees.now c.args.call
     (numbered_of_known c.in-Some.known.now.value) c.requires.call (sym c.in-Some.ensures.found) w passed c.in-Ok.result.inner says
-    (rw (c.unwrap_or-at.ensures, c.iter-inside.ensures, c.token_trees.ensures) at (c.search.ensures.tokens e))
+    (rw (c.unwrap_or-at.ensures, c.iter-inside.ensures, c.token_trees.ensures, c.deeper.ensures) at (c.search.ensures.tokens e))
 
 pub search-turns-smaller : goal.search-turns-smaller
 search-turns-smaller g t c = step_less c.turns.walk c.next.new.self c.in-Some-2.step (rw c.in-Some-2.is at c.in_ok-step.ensures)
@@ -105,6 +105,6 @@ search-turns-smaller g t c = step_less c.turns.walk c.next.new.self c.in-Some-2.
 pub search-turns-preserved : goal.search-turns-preserved
 search-turns-preserved g t c =
     let goes : GoesOn c.turns.walk (Some c.in-Some-2.step) c.next.new.self = rw c.in-Some-2.is at c.in_ok-step.ensures in
-    step_more (numbered_world (world (g.G.FragmentGrammar.answer c.args.grammar.now) c.args.scope.now.edition)) (scope_in c.args.scope.now) c.args.depth c.args.outer c.args.trees.now c.args.out.now c.turns.out _ c.turns.walk c.next.new.self c.in-Some-2.step
+    step_more (numbered_world (world (g.G.FragmentGrammar.answer c.args.env.now.grammar.now) c.args.env.now.scope.now.edition)) (scope_in c.args.env.now.scope.now) c.args.env.now.depth c.args.outer c.args.trees.now c.args.out.now c.turns.out _ c.turns.walk c.next.new.self c.in-Some-2.step
     c.turns.invariant (sym c.in_default.ensures) (sym c.in_default-call_behind_colons.ensures) goes
     (adds_just c.turns.out _ c.args.outer (step_of c.in-Some-2.step ∷ []) c.in_ok-push_own_step.ensures refl refl)

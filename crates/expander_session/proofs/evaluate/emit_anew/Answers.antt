@@ -13,6 +13,6 @@ use Rattle.expander_session.proofs.evaluate.emit_anew.Goals as goal
 pub returns-clause-steps : goal.returns-clause-steps
 returns-clause-steps g c =
     let lent : c.tree-own.result.now ≡ c.args.tree.value = search rules in
-    let now = λ (l : List PlacedStep). PutsOut c.args.steps.now c.emit_events.new.steps (resolved_steps c.args.start c.args.scope.now.starts l) in
+    let now = λ (l : List PlacedStep). PutsOut c.args.steps.now c.emit_events.new.steps (resolved_steps c.args.start c.args.env.now.scope.now.starts l) in
     let puts = subst now (ap (λ (p : Parts). p.steps) c.in_ok-outcome.ensures.outcome) c.in_ok-emit_events.ensures in
-    subst (λ (t : Top). now (expansion (numbered_world (world (g.G.FragmentGrammar.answer c.args.grammar.now) c.args.scope.now.edition)) (scope_in c.args.scope.now) c.args.depth None t.inner).steps) lent puts
+    subst (λ (t : Top). now (expansion (numbered_world (world (g.G.FragmentGrammar.answer c.args.env.now.grammar.now) c.args.env.now.scope.now.edition)) (scope_in c.args.env.now.scope.now) c.args.env.now.depth None t.inner).steps) lent puts

@@ -14,7 +14,14 @@ use Rattle.expander_session.proofs.evaluate.evaluate_piece.Goals as goal
 pub returns-clause-taken : goal.returns-clause-taken
 returns-clause-taken g c =
     let tree_is : c.get-tree.result.now.value ≡ own_top (relative (piece_at c.args.own.now)) = c.get-tree.ensures ∙ c.requires.own.tree in
-    c.in_ok-evaluate_plain.ensures.taken (piece_at c.args.own.now) c.requires.own.start tree_is
+    rw c.reserve.ensures at (c.in_ok-evaluate_plain.ensures.taken (piece_at c.args.own.now) c.requires.own.start tree_is)
+
+pub returns-then-is_definition-clause-taken : goal.returns-then-is_definition-clause-taken
+returns-then-is_definition-clause-taken g c =
+    let A = g.G.FragmentGrammar.answer c.args.context.now.grammar.now in
+    let tree_is : c.in_ok-clone.field-0.value ≡ own_top (relative (piece_at c.args.own.now)) = search rules in
+    rw c.reserve.ensures at
+    (c.evaluate_definition.ensures.taken A c.args.context.now.depth (piece_at c.args.own.now) c.requires.places c.requires.right.have c.requires.own.start tree_is)
 
 pub plain_at-link-requires-clause-linked : goal.plain_at-link-requires-clause-linked
 plain_at-link-requires-clause-linked g c = c.requires.right.linked
@@ -27,11 +34,11 @@ is_definition-requires-clause-linked g c = c.requires.right.linked
 
 pub is_definition-requires-clause-plain : goal.is_definition-requires-clause-plain
 is_definition-requires-clause-plain g c =
-    all_plain (world (g.G.FragmentGrammar.answer c.args.grammar.now) c.args.now.now.scope.edition) c.args.depth (numbers_in c.args.memory.now.by_tree) c.args.memory.now.plains.items c.requires.right.right
+    all_plain (world (g.G.FragmentGrammar.answer c.args.context.now.grammar.now) c.args.now.now.scope.edition) c.args.context.now.depth (numbers_in c.args.context.now.memory.now.by_tree) c.args.context.now.memory.now.plains.items c.requires.right.right
 
 pub evaluate_plain-requires-clause-link : goal.evaluate_plain-requires-clause-link
 evaluate_plain-requires-clause-link g c =
-    subst (λ (t : Top). IfSome c.plain_at-link.result (λ i. slice_get (plain_tops c.args.memory.now.plains.items) i ≡ Some t)) (sym c.get-tree.ensures) c.plain_at-link.ensures
+    subst (λ (t : Top). IfSome c.plain_at-link.result (λ i. slice_get (plain_tops c.args.context.now.memory.now.plains.items) i ≡ Some t)) (sym c.get-tree.ensures) c.plain_at-link.ensures
 
 no_definition : (o : Option Definition) → is_some o ≡ false → o ≡ None
 no_definition None e = refl

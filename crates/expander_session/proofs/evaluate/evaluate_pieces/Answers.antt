@@ -16,23 +16,23 @@ use Rattle.expander_session.proofs.evaluate.evaluate_pieces.Goals as goal
 
 pub loop-own-init : goal.loop-own-init
 loop-own-init g c =
-    let A = g.G.FragmentGrammar.answer c.args.grammar.now in
+    let A = g.G.FragmentGrammar.answer c.args.context.now.grammar.now in
     record {
-      room = omega (arith, (c.in_ok-now.ensures.taken A c.args.depth c.requires.right).expanded);
-      lookup = c.in_ok-now.ensures.lookup c.args.memory.now.plains.items;
+      room = omega (arith, (c.in_ok-now.ensures.taken A c.args.context.now.depth c.requires.right).expanded);
+      lookup = c.in_ok-now.ensures.lookup c.args.context.now.memory.now.plains.items;
       links = c.in_ok-now.ensures.links;
-      left = left_begins A c.args.edition c.args.depth c.args.memory.now (map piece_at c.args.pieces.now) (all_stand c.args.pieces.now c.requires.own) _
-          c.in_ok-now.ensures.none c.in_ok-now.ensures.read c.in_ok-now.ensures.edition (c.in_ok-now.ensures.taken A c.args.depth c.requires.right);
+      left = left_begins A c.args.edition c.args.context.now.depth c.args.context.now.memory.now (map piece_at c.args.pieces.now) (all_stand c.args.pieces.now c.requires.own) _
+          c.in_ok-now.ensures.none c.in_ok-now.ensures.read c.in_ok-now.ensures.edition (c.in_ok-now.ensures.taken A c.args.context.now.depth c.requires.right);
     }
 
 pub evaluate_piece-requires-clause-right : goal.evaluate_piece-requires-clause-right
 evaluate_piece-requires-clause-right g c =
-    let A = g.G.FragmentGrammar.answer c.args.grammar.now in
-    subst (λ (e : Edition). IsCache (world A e) c.args.depth e c.args.memory.now) (sym c.loop-own.invariant.left.has.edition_is) c.requires.right
+    let A = g.G.FragmentGrammar.answer c.args.context.now.grammar.now in
+    subst (λ (e : Edition). IsCache (world A e) c.args.context.now.depth e c.args.context.now.memory.now) (sym c.loop-own.invariant.left.has.edition_is) c.requires.right
 
 pub evaluate_piece-requires-clause-can : goal.evaluate_piece-requires-clause-can
 evaluate_piece-requires-clause-can g c =
-    can_define (g.G.FragmentGrammar.answer c.args.grammar.now) c.args.edition c.args.depth c.args.memory.now (map piece_at c.args.pieces.now) _ c.loop-own.now c.requires.right c.loop-own.invariant.left
+    can_define (g.G.FragmentGrammar.answer c.args.context.now.grammar.now) c.args.edition c.args.context.now.depth c.args.context.now.memory.now (map piece_at c.args.pieces.now) _ c.loop-own.now c.requires.right c.loop-own.invariant.left
 
 pub evaluate_piece-requires-clause-places : goal.evaluate_piece-requires-clause-places
 evaluate_piece-requires-clause-places g c =
@@ -42,7 +42,7 @@ evaluate_piece-requires-clause-places g c =
       fits = c.fit_at_other_places.ensures.rules;
       bursts = c.bursts_at_other_places.ensures.rules;
     } in
-    world_at_other_places laws (g.G.FragmentGrammar.answer c.args.grammar.now) c.loop-own.now.scope.edition
+    world_at_other_places laws (g.G.FragmentGrammar.answer c.args.context.now.grammar.now) c.loop-own.now.scope.edition
 
 pub evaluate_piece-requires-clause-room : goal.evaluate_piece-requires-clause-room
 evaluate_piece-requires-clause-room g c =
@@ -54,7 +54,7 @@ evaluate_piece-requires-clause-lookup g c = c.loop-own.invariant.lookup
 
 pub evaluate_piece-requires-clause-met : goal.evaluate_piece-requires-clause-met
 evaluate_piece-requires-clause-met g c =
-    all_at (λ (o : Piece). IsMet c.args.memory.now.sources o.met (tree_at o)) c.args.pieces.now c.loop-own.own-index c.own-item.result c.requires.met
+    all_at (λ (o : Piece). IsMet c.args.context.now.memory.now.sources o.met (tree_at o)) c.args.pieces.now c.loop-own.own-index c.own-item.result c.requires.met
     (stands_at c.args.pieces.now c.loop-own.own-index c.own-item.result c.loop-own-test.true c.own-item.is)
 
 pub evaluate_piece-requires-clause-own : goal.evaluate_piece-requires-clause-own
@@ -64,7 +64,7 @@ evaluate_piece-requires-clause-own g c =
 
 pub loop-own-preserved : goal.loop-own-preserved
 loop-own-preserved g c =
-    let A = g.G.FragmentGrammar.answer c.args.grammar.now in
+    let A = g.G.FragmentGrammar.answer c.args.context.now.grammar.now in
     let laws : RuleLaws = record {
       rules = c.rules_at_other_places.ensures.macro_rules;
       macros = c.rules_at_other_places.ensures.macros;
@@ -73,22 +73,22 @@ loop-own-preserved g c =
     } in
     let next = next_own c.args.pieces.now c.loop-own.own-index c.own-item.result c.loop-own-test.true c.own-item.is in
     let one = left_length c.args.pieces.now c.loop-own.own-index c.own-item.result c.loop-own-test.true in
-    let left : Left A c.args.edition c.args.depth c.args.memory.now (map piece_at c.args.pieces.now) _ c.loop-own.now = rw next at c.loop-own.invariant.left in
+    let left : Left A c.args.edition c.args.context.now.depth c.args.context.now.memory.now (map piece_at c.args.pieces.now) _ c.loop-own.now = rw next at c.loop-own.invariant.left in
     record {
       room = omega (arith, c.in_ok-evaluate_piece.ensures.expanded, c.loop-own.invariant.room, one);
       lookup = c.in_ok-evaluate_piece.ensures.lookup;
       links = subst (AreLinks c.evaluate_piece.new.now.taken)
           (sym (mapped_more tree_at c.args.pieces.now c.loop-own.own-index c.own-item.result c.loop-own-test.true c.own-item.is))
           (c.in_ok-evaluate_piece.ensures.links (map tree_at (take c.loop-own.own-index c.args.pieces.now)) c.loop-own.invariant.links);
-      left = left_more A c.args.edition c.args.depth c.args.memory.now (map piece_at c.args.pieces.now) (piece_at c.own-item.result)
+      left = left_more A c.args.edition c.args.context.now.depth c.args.context.now.memory.now (map piece_at c.args.pieces.now) (piece_at c.own-item.result)
           (map piece_at (drop (c.loop-own.own-index + 1) c.args.pieces.now)) c.loop-own.now left
           c.equal_pieces.ensures (world_at_other_places laws A c.args.edition) c.evaluate_piece.new.now c.in_ok-evaluate_piece.ensures.grows
-          (subst (λ (e : Edition). Evaluates A e c.args.depth c.args.memory.now (piece_at c.own-item.result) c.loop-own.now c.evaluate_piece.new.now) left.has.edition_is c.in_ok-evaluate_piece.ensures.taken);
+          (subst (λ (e : Edition). Evaluates A e c.args.context.now.depth c.args.context.now.memory.now (piece_at c.own-item.result) c.loop-own.now c.evaluate_piece.new.now) left.has.edition_is c.in_ok-evaluate_piece.ensures.taken);
     }
 
 pub returns-in_err-evaluate_piece-clause-tokens : goal.returns-in_err-evaluate_piece-clause-tokens
 returns-in_err-evaluate_piece-clause-tokens g c = λ e.
-    let A = g.G.FragmentGrammar.answer c.args.grammar.now in
+    let A = g.G.FragmentGrammar.answer c.args.context.now.grammar.now in
     let laws : RuleLaws = record {
       rules = c.rules_at_other_places.ensures.macro_rules;
       macros = c.rules_at_other_places.ensures.macros;
@@ -96,27 +96,27 @@ returns-in_err-evaluate_piece-clause-tokens g c = λ e.
       bursts = c.bursts_at_other_places.ensures.rules;
     } in
     let next = next_own c.args.pieces.now c.loop-own.own-index c.own-item.result c.loop-own-test.true c.own-item.is in
-    let left : Left A c.args.edition c.args.depth c.args.memory.now (map piece_at c.args.pieces.now) _ c.loop-own.now = rw next at c.loop-own.invariant.left in
-    left_bursts A c.args.edition c.args.depth c.args.memory.now (map piece_at c.args.pieces.now) (piece_at c.own-item.result)
+    let left : Left A c.args.edition c.args.context.now.depth c.args.context.now.memory.now (map piece_at c.args.pieces.now) _ c.loop-own.now = rw next at c.loop-own.invariant.left in
+    left_bursts A c.args.edition c.args.context.now.depth c.args.context.now.memory.now (map piece_at c.args.pieces.now) (piece_at c.own-item.result)
     (map piece_at (drop (c.loop-own.own-index + 1) c.args.pieces.now)) c.loop-own.now left
     c.equal_pieces.ensures (world_at_other_places laws A c.args.edition)
-    (subst (λ (e : Edition). MakesTooMany A e c.args.depth (piece_at c.own-item.result) c.loop-own.now) left.has.edition_is
+    (subst (λ (e : Edition). MakesTooMany A e c.args.context.now.depth (piece_at c.own-item.result) c.loop-own.now) left.has.edition_is
     (c.in_err-evaluate_piece.ensures.tokens (handed c.from_residual-in_err-evaluate_piece.result _ c.from_residual-in_err-evaluate_piece.ensures.1 e)))
 
 pub returns-in_err-evaluate_piece-clause-numbers : goal.returns-in_err-evaluate_piece-clause-numbers
 returns-in_err-evaluate_piece-clause-numbers g c = λ e.
-    let A = g.G.FragmentGrammar.answer c.args.grammar.now in
+    let A = g.G.FragmentGrammar.answer c.args.context.now.grammar.now in
     let next = next_own c.args.pieces.now c.loop-own.own-index c.own-item.result c.loop-own-test.true c.own-item.is in
-    let left : Left A c.args.edition c.args.depth c.args.memory.now (map piece_at c.args.pieces.now) _ c.loop-own.now = rw next at c.loop-own.invariant.left in
-    left_needs A c.args.edition c.args.depth c.args.memory.now (map piece_at c.args.pieces.now) (piece_at c.own-item.result)
+    let left : Left A c.args.edition c.args.context.now.depth c.args.context.now.memory.now (map piece_at c.args.pieces.now) _ c.loop-own.now = rw next at c.loop-own.invariant.left in
+    left_needs A c.args.edition c.args.context.now.depth c.args.context.now.memory.now (map piece_at c.args.pieces.now) (piece_at c.own-item.result)
     (map piece_at (drop (c.loop-own.own-index + 1) c.args.pieces.now)) c.loop-own.now left
     (c.in_err-evaluate_piece.ensures.cause left.trees left.has.taken.numbers (handed c.from_residual-in_err-evaluate_piece.result _ c.from_residual-in_err-evaluate_piece.ensures.1 e))
 
 pub returns-clause-taken : goal.returns-clause-taken
 returns-clause-taken g c =
-    let A = g.G.FragmentGrammar.answer c.args.grammar.now in
+    let A = g.G.FragmentGrammar.answer c.args.context.now.grammar.now in
     let none = no_own c.args.pieces.now c.loop-own.own-index c.loop-own-test.false in
-    left_done A c.args.edition c.args.depth c.args.memory.now (map piece_at c.args.pieces.now) c.loop-own.now (rw none at c.loop-own.invariant.left)
+    left_done A c.args.edition c.args.context.now.depth c.args.context.now.memory.now (map piece_at c.args.pieces.now) c.loop-own.now (rw none at c.loop-own.invariant.left)
 
 pub returns-clause-links : goal.returns-clause-links
 returns-clause-links g c =

@@ -22,32 +22,32 @@ pub returns-in_ok-plain-in-Some-clause-holds : goal.returns-in_ok-plain-in-Some-
 returns-in_ok-plain-in-Some-clause-holds g c = λ given numbers before are more scope_is met.
     let q : Rc Memo Global = c.index-held-i.result in
     let stands : slice_get c.as_slice-held.result.now c.in-Some.i ≡ Some q = stands_at c.as_slice-held.result.now c.in-Some.i q (rw c.in-Some.is at c.in_ok-found.ensures.within) c.index-held-i.is in
-    let passes : is_match (scope_in c.args.scope.now) c.args.tree.now.value (rc_value q) ≡ true =
-    subst (λ (o : Option (Rc Memo Global)). IfSome o (λ x. is_match (scope_in c.args.scope.now) c.args.tree.now.value (rc_value x) ≡ true)) stands (rw c.in-Some.is at c.in_ok-found.ensures.found) in
+    let passes : is_match (scope_in c.args.env.now.scope.now) c.args.tree.now.value (rc_value q) ≡ true =
+    subst (λ (o : Option (Rc Memo Global)). IfSome o (λ x. is_match (scope_in c.args.env.now.scope.now) c.args.tree.now.value (rc_value x) ≡ true)) stands (rw c.in-Some.is at c.in_ok-found.ensures.found) in
     let here : slice_get c.args.memory.now.plains.items c.in-Some.i ≡ Some q =
     ap (λ (qs : List (Rc Memo Global)). slice_get qs c.in-Some.i) (sym c.as_slice-held.ensures.value) ∙ stands in
-    let right : IsRight (world (g.G.FragmentGrammar.answer c.args.grammar.now) c.args.scope.now.edition) c.args.depth (numbers_in c.args.memory.now.by_tree) (rc_value q) =
-    all_at (λ x. IsRight (world (g.G.FragmentGrammar.answer c.args.grammar.now) c.args.scope.now.edition) c.args.depth (numbers_in c.args.memory.now.by_tree) (rc_value x))
+    let right : IsRight (world (g.G.FragmentGrammar.answer c.args.env.now.grammar.now) c.args.env.now.scope.now.edition) c.args.env.now.depth (numbers_in c.args.memory.now.by_tree) (rc_value q) =
+    all_at (λ x. IsRight (world (g.G.FragmentGrammar.answer c.args.env.now.grammar.now) c.args.env.now.scope.now.edition) c.args.env.now.depth (numbers_in c.args.memory.now.by_tree) (rc_value x))
     c.args.memory.now.plains.items c.in-Some.i q c.requires.right.right here in
     let same : c.in_ok-plain-in-Some.plain.value ≡ rc_value q = search rules in
     subst (λ (p : Memo). Holds p
-    (parts_of (expansion (numbered_world (world (g.G.FragmentGrammar.answer c.args.grammar.now) c.args.scope.now.edition)) (scope_in c.args.scope.now) c.args.depth None c.args.tree.now.value.inner)))
+    (parts_of (expansion (numbered_world (world (g.G.FragmentGrammar.answer c.args.env.now.grammar.now) c.args.env.now.scope.now.edition)) (scope_in c.args.env.now.scope.now) c.args.env.now.depth None c.args.tree.now.value.inner)))
     (sym same)
-    (matched_parts (world (g.G.FragmentGrammar.answer c.args.grammar.now) c.args.scope.now.edition) c.args.depth (numbers_in c.args.memory.now.by_tree) c.equal_pieces.ensures c.equal_trees.ensures
-    given numbers are more (scope_in c.args.scope.now) before scope_is met c.args.tree.now.value (rc_value q) c.requires.top right passes)
+    (matched_parts (world (g.G.FragmentGrammar.answer c.args.env.now.grammar.now) c.args.env.now.scope.now.edition) c.args.env.now.depth (numbers_in c.args.memory.now.by_tree) c.equal_pieces.ensures c.equal_trees.ensures
+    given numbers are more (scope_in c.args.env.now.scope.now) before scope_is met c.args.tree.now.value (rc_value q) c.requires.top right passes)
 
 pub returns-in_ok-plain-in-Some-clause-counted : goal.returns-in_ok-plain-in-Some-clause-counted
 returns-in_ok-plain-in-Some-clause-counted g c =
     ap is_some (sym c.in-Some.is) ∙ c.in_ok-found.ensures.any
-    ∙ ap (λ (qs : List (Rc Memo Global)). list_any (λ q. is_match (scope_in c.args.scope.now) c.args.tree.now.value (rc_value q)) qs) c.as_slice-held.ensures.value
-    ∙ any_is (world (g.G.FragmentGrammar.answer c.args.grammar.now) c.args.scope.now.edition) c.args.depth (numbers_in c.args.memory.now.by_tree) (scope_in c.args.scope.now)
+    ∙ ap (λ (qs : List (Rc Memo Global)). list_any (λ q. is_match (scope_in c.args.env.now.scope.now) c.args.tree.now.value (rc_value q)) qs) c.as_slice-held.ensures.value
+    ∙ any_is (world (g.G.FragmentGrammar.answer c.args.env.now.grammar.now) c.args.env.now.scope.now.edition) c.args.env.now.depth (numbers_in c.args.memory.now.by_tree) (scope_in c.args.env.now.scope.now)
     c.args.tree.now.value c.args.memory.now.plains.items c.requires.top c.requires.right.right
 
 pub returns-in_ok-plain-in-None-clause-counted : goal.returns-in_ok-plain-in-None-clause-counted
 returns-in_ok-plain-in-None-clause-counted g c =
     ap is_some (sym c.in-None.is) ∙ c.in_ok-found.ensures.any
-    ∙ ap (λ (qs : List (Rc Memo Global)). list_any (λ q. is_match (scope_in c.args.scope.now) c.args.tree.now.value (rc_value q)) qs) c.as_slice-held.ensures.value
-    ∙ any_is (world (g.G.FragmentGrammar.answer c.args.grammar.now) c.args.scope.now.edition) c.args.depth (numbers_in c.args.memory.now.by_tree) (scope_in c.args.scope.now)
+    ∙ ap (λ (qs : List (Rc Memo Global)). list_any (λ q. is_match (scope_in c.args.env.now.scope.now) c.args.tree.now.value (rc_value q)) qs) c.as_slice-held.ensures.value
+    ∙ any_is (world (g.G.FragmentGrammar.answer c.args.env.now.grammar.now) c.args.env.now.scope.now.edition) c.args.env.now.depth (numbers_in c.args.memory.now.by_tree) (scope_in c.args.env.now.scope.now)
     c.args.tree.now.value c.args.memory.now.plains.items c.requires.top c.requires.right.right
 
 pub find_valid-requires-clause-table : goal.find_valid-requires-clause-table

@@ -1,4 +1,4 @@
--- By the parts of a fit, and how much each template puts out.
+-- By the parts of a fit, and how many tokens each transcriber puts out.
 use Rattle.mbe.proofs.OutputLemmas.{bursts-map, macro_rules_bursts-map, macro_bursts-map}
 use Rattle.mbe.proofs.laws.bursts_at_other_places.Goals as goal
 

@@ -1,4 +1,4 @@
--- A rule of another style is passed; of two of the style the nearer is kept.
+-- A rule of another style is passed; of two with the style the nearer is kept.
 use Rattle.std.proofs.Common.{sym, ◌∙◌, ◌+◌, subst, map, option_map}
 use Rattle.mbe_rules.specs.Ops.{rule_of}
 use Rattle.mbe.specs.Unfit.{has_style_at}

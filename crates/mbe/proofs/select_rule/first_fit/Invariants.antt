@@ -1,4 +1,4 @@
--- The first that fits is among the rules that are left.
+-- The first rule that fits is among the remaining ones.
 use Rattle.tt.specs.Views.{forest}
 use Rattle.tt_data.specs.declared.span.Span.{Span}
 use Rattle.mbe_transcriber.specs.Markers.{IsMarkedBy, is_name}

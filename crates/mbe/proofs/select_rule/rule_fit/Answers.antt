@@ -1,4 +1,4 @@
--- Where the pattern cannot begin, nothing is given.
+-- A matcher whose first op cannot match gives nothing.
 use Rattle.std.proofs.Common.{sym, ap, ◌∙◌, [], option_map, option_and_then}
 use Rattle.tt.specs.Views.{forest}
 use Rattle.mbe_rules.specs.Ops.{items_of}

@@ -1,4 +1,4 @@
--- One item after the other is skipped.
+-- One op after another is skipped.
 use Rattle.std.proofs.Common.{◌≡◌, ◌∙◌, sym, ap, arith, drop, [], ◌+◌, subst, OnOk}
 use Rattle.std.proofs.lemmas.List.{drop_all}
 use Rattle.mbe_rules.specs.Items.{variables}

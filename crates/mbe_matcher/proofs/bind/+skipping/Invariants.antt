@@ -1,4 +1,4 @@
--- The items that are left give what all gave at first.
+-- The remaining ops give what all gave at first.
 use Rattle.std.proofs.Common.{◌≡◌, drop}
 use Rattle.mbe_rules.specs.Items.{variables}
 use Rattle.mbe_rules.specs.Ops.{items_of}

@@ -1,4 +1,4 @@
--- The moves of the entries are made one after the other.
+-- The moves of the entries are made one after another.
 use Rattle.std.proofs.Common.{◌≡◌, ◌∙◌, sym, ap, [], reverse, arith}
 use Rattle.std.proofs.lemmas.List.{nil_from_length}
 use Rattle.std.specs.List.{flat_map}

@@ -1,4 +1,4 @@
--- The entries that are left give what all gave at first.
+-- The remaining entries give what all gave at first.
 use Rattle.std.proofs.Common.{◌≡◌, length, reverse}
 use Rattle.std.specs.List.{flat_map}
 use Rattle.mbe_matcher.specs.Collecting.{after_all, collected_of}

@@ -1,4 +1,4 @@
--- The moves up to the next entry and those of the entries taken so far are all.
+-- The moves up to the next entry, and those of the entries taken so far, are all moves.
 use Rattle.std.proofs.Common.{◌≡◌, ◌++◌, reverse}
 use Rattle.std.specs.List.{flat_map}
 use Rattle.mbe_matcher.specs.Threads.{moves_of, steps_of}

@@ -1,4 +1,4 @@
--- The lists that are put in change nothing.
+-- The lists that are appended change nothing.
 use Rattle.std.proofs.Common.{◌∙◌, ap, arith}
 use Rattle.mbe_matcher.specs.Bindings.{rounds, value_put}
 use Rattle.mbe_matcher.specs.Bound.{values_of}

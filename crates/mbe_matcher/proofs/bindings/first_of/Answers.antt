@@ -1,4 +1,4 @@
--- A list of none has the value at its end.
+-- An empty list gets the value at its end.
 use Rattle.std.proofs.Common.{◌∙◌, ap, Some}
 use Rattle.mbe_matcher.specs.Bindings.{rounds, with_round}
 use Rattle.mbe_matcher.specs.Bound.{values_of, standing_for}

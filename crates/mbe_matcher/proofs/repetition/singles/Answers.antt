@@ -1,4 +1,4 @@
--- Tree after tree is a single one.
+-- Tree after tree is an iteration by itself.
 use Rattle.std.proofs.Common.{refl, sym, subst, ◌∙◌}
 use Rattle.tt.specs.Views.{forest}
 use Rattle.tt.proofs.Steps.{joined-left}
@@ -15,7 +15,7 @@ loop-last-init g c =
     let f = c.args.trees.now in
     let one = c.if-not-is_single.ensures refl in (
       before 1 f,
-      subst (λ l. AreSingle gr k f (before 1 f) l c.after_first-rest.result) (sym c.again-last.ensures)
+      subst (λ l. AreSingle gr k f (before 1 f) l c.after_first-rest.result) (sym c.copied-last.ensures)
           (subst (AreSingle gr k f (before 1 f) f) (sym c.after_first-rest.ensures) (single one.0 one.1)),
     )
 

@@ -1,4 +1,4 @@
--- All trees so far are single ones.
+-- Each tree so far is an iteration by itself.
 use Rattle.tt_data.specs.Forest.{Forest}
 use Rattle.mbe_matcher.specs.Rounds.{AreSingle}
 use Rattle.mbe_matcher.specs.Units as u

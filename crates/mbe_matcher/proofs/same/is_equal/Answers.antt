@@ -1,4 +1,4 @@
--- Bytes that differ at one place, or in number, are others.
+-- Bytes that differ at one index, or in number, are not equal.
 use Rattle.std.proofs.Common.{arith}
 use Rattle.mbe_matcher.proofs.SameLemmas.{more-same, all-same, other-length, other-byte}
 use Rattle.mbe_matcher.proofs.same.is_equal.Goals as goal

@@ -1,4 +1,4 @@
--- The bytes that were passed are the same.
+-- The bytes passed so far are equal.
 use Rattle.std.proofs.Common.{◌≡◌, take}
 use Rattle.mbe_matcher.proofs.same.is_equal.Given as goal
 

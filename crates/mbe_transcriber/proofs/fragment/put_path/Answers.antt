@@ -1,4 +1,4 @@
--- One tree more is put in, and in the end all are.
+-- One more tree is appended, and in the end all are.
 use Rattle.std.proofs.Common.{sym, ap}
 use Rattle.tt.specs.Building.{extended}
 use Rattle.tt.specs.Views.{forest}

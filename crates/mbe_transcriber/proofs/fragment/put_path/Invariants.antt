@@ -1,4 +1,4 @@
--- The trees that are left give what all gave at first.
+-- The remaining trees give what all gave at first.
 use Rattle.std.proofs.Common.{◌≡◌}
 use Rattle.tt_data.specs.Forest.{size}
 use Rattle.tt.specs.Building.{extended}

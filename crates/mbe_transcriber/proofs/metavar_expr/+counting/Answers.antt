@@ -1,4 +1,4 @@
--- One value after the other is counted.
+-- One value after another is counted.
 use Rattle.std.proofs.Common.{◌≡◌, ◌∙◌, suc, ap, arith, subst, IfOk}
 use Rattle.mbe_matcher.specs.Bound.{values_of}
 use Rattle.mbe_transcriber.specs.Filling.{count_values}

@@ -1,4 +1,4 @@
--- What so far is counted, and what is left, is all.
+-- What is counted so far, and what remains, is all.
 use Rattle.std.proofs.Common.{◌≡◌, ◌+◌, suc, drop}
 use Rattle.mbe_matcher.specs.Bound.{values_of}
 use Rattle.mbe_transcriber.specs.Filling.{count_values}

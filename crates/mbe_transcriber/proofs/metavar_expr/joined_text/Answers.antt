@@ -1,4 +1,4 @@
--- The text of one part after the other.
+-- The text of one part after another.
 use Rattle.std.proofs.Common.{arith}
 use Rattle.std.specs.Prelude.{string_bytes}
 use Rattle.mbe_matcher.specs.Bound.{map_of}

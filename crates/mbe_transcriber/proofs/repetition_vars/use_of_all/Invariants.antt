@@ -1,4 +1,4 @@
--- What so far is used, and what the items that are left use, is what all use.
+-- What is used so far, and what the remaining ops use, is what all use.
 use Rattle.std.proofs.Common.{◌≡◌}
 use Rattle.mbe_rules.specs.Ops.{items_of}
 use Rattle.mbe_matcher.specs.Bound.{map_of}

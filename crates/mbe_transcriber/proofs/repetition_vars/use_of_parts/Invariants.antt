@@ -1,4 +1,4 @@
--- What so far is used, and what the parts that are left use, is what all use.
+-- What is used so far, and what the remaining parts use, is what all use.
 use Rattle.mbe_matcher.specs.Bound.{map_of}
 use Rattle.mbe_transcriber.specs.Uses.{use_of}
 use Rattle.mbe_transcriber.proofs.UsesLemmas.{PartsFrom}

@@ -1,4 +1,4 @@
--- The text is cut behind the first quote and before the last one, each of one byte.
+-- The text is cut after the first quote and before the last one, each of one byte.
 use Rattle.tt.proofs.LiteralTokens.{begin_boundary, end_boundary}
 use Rattle.tt.proofs.literals.literal_parts.Goals as goal
 

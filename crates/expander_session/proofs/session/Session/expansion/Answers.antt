@@ -18,7 +18,7 @@ expand_pieces-requires-clause-own g c =
       piece = c.tokens_follow_one_another.ensures.piece;
       written = c.tokens_are_written.ensures;
     } in
-    list_are c.text-text.result.now c.in-Pieces.pieces c.in-Pieces.sources (rw c.in-Pieces.is at c.in_ok-fault.ensures.read) order c.text-text.utf8 c.as_slice.result.now c.as_slice.ensures.value
+    list_are c.text-text.result.now c.in-Pieces.pieces c.in-Pieces.sources (rw c.in-Pieces.is at c.in_ok-fault.ensures.read) order c.text-text.utf8 c.as_slice-pieces.result.now c.as_slice-pieces.ensures.value
 
 pub expand_pieces-requires-clause-sources : goal.expand_pieces-requires-clause-sources
 expand_pieces-requires-clause-sources g c =
@@ -26,11 +26,11 @@ expand_pieces-requires-clause-sources g c =
 
 pub expand_pieces-requires-clause-theirs : goal.expand_pieces-requires-clause-theirs
 expand_pieces-requires-clause-theirs g c =
-    subst (AreTheirs c.in-Pieces.sources) (sym c.as_slice.ensures.value) (rw c.in-Pieces.is at c.in_ok-fault.ensures.theirs)
+    subst (AreTheirs c.in-Pieces.sources) (sym c.as_slice-pieces.ensures.value) (rw c.in-Pieces.is at c.in_ok-fault.ensures.theirs)
 
 pub expand_pieces-requires-clause-met : goal.expand_pieces-requires-clause-met
 expand_pieces-requires-clause-met g c =
-    subst (AreMet c.self.inside.memory.sources) (sym c.as_slice.ensures.value) (rw c.in-Pieces.is at c.in_ok-fault.ensures.met)
+    subst (AreMet c.self.inside.memory.sources) (sym c.as_slice-pieces.ensures.value) (rw c.in-Pieces.is at c.in_ok-fault.ensures.met)
 
 pub returns-in_err-expansion-clause-cause : goal.returns-in_err-expansion-clause-cause
 returns-in_err-expansion-clause-cause g c =
@@ -43,7 +43,7 @@ returns-in_err-expansion-clause-cause g c =
     } in
     if_handed (HasCause (layers_of g.G.FragmentGrammar.answer c.args.self.now) c.args.self.now) c.from_residual-in_err-expansion.result c.in_err-expansion.field-0.0
     c.from_residual-in_err-expansion.ensures.1
-    (cause_in_pieces c.text-text.result.now c.in-Pieces.pieces c.in-Pieces.sources (rw c.in-Pieces.is at c.in_ok-fault.ensures.read) order c.text-text.utf8 c.as_slice.result.now c.as_slice.ensures.value
+    (cause_in_pieces c.text-text.result.now c.in-Pieces.pieces c.in-Pieces.sources (rw c.in-Pieces.is at c.in_ok-fault.ensures.read) order c.text-text.utf8 c.as_slice-pieces.result.now c.as_slice-pieces.ensures.value
     c.equal_pieces.ensures g.G.FragmentGrammar.answer c.args.self.now c.self.inside.text c.self.inside.grammar c.self.inside.edition c.self.inside.depth c.self.inside.memory
     c.self.view_is c.text-text.ensures c.in_err-expansion.field-0.0 (λ e. c.in_err-expansion.ensures.tokens (ap Err e)) (λ e. c.in_err-expansion.ensures.numbers (ap Err e)))
 
@@ -63,6 +63,6 @@ returns-clause-reply g c =
       written = c.tokens_are_written.ensures;
     } in
     let laws : TurnLaws = record { rules = rules; order = order; equal = c.equal_pieces.ensures } in
-    replies_in_pieces c.text-text.result.now c.in-Pieces.pieces c.in-Pieces.sources (rw c.in-Pieces.is at c.in_ok-fault.ensures.read) order c.text-text.utf8 c.as_slice.result.now c.as_slice.ensures.value
+    replies_in_pieces c.text-text.result.now c.in-Pieces.pieces c.in-Pieces.sources (rw c.in-Pieces.is at c.in_ok-fault.ensures.read) order c.text-text.utf8 c.as_slice-pieces.result.now c.as_slice-pieces.ensures.value
     laws g.G.FragmentGrammar.answer c.args.self.now c.self.inside.text c.self.inside.grammar c.self.inside.edition c.self.inside.depth c.self.inside.memory
     c.self.view_is c.text-text.ensures c.self.invariant.1 c.in_ok-expansion.expansion c.in_ok-expansion.memory c.in_ok-expansion.ensures.taken

@@ -1,4 +1,4 @@
--- The innermost open repetition has one round more, and the next begins with the fragment.
+-- The innermost open repetition has one more iteration, and the next begins with the fragment.
 use Rattle.std.proofs.Common.{◌∙◌, ◌-◌, refl, sym, ap, slice_set, arith}
 use Rattle.std.specs.Vec.{vec_len}
 use Rattle.tt.specs.Views.{forest}

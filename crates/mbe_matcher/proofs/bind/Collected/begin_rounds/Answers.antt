@@ -1,4 +1,4 @@
--- The innermost open repetition has the rounds.
+-- The innermost open repetition has the iterations.
 use Rattle.std.proofs.Common.{◌∙◌, ◌-◌, refl, sym, ap, arith}
 use Rattle.std.specs.Vec.{vec_len}
 use Rattle.mbe_matcher.specs.Bound.{map_of}

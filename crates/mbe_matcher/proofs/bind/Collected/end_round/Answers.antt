@@ -1,4 +1,4 @@
--- The innermost open repetition has one round more.
+-- The innermost open repetition has one more iteration.
 use Rattle.std.proofs.Common.{◌∙◌, ◌-◌, refl, sym, ap, slice_set, arith}
 use Rattle.std.specs.Vec.{vec_len}
 use Rattle.mbe_matcher.specs.Bound.{map_of}

@@ -1,4 +1,4 @@
--- The rounds that are left give what all gave at first.
+-- The remaining iterations give what all gave at first.
 use Rattle.std.proofs.Common.{◌≡◌, ℕ, List, ◌∷◌}
 use Rattle.tt_data.specs.Forest.{size}
 use Rattle.mbe_matcher.specs.Bindings.{Map}

@@ -1,4 +1,4 @@
--- The entry of the name is replaced, or one is put at the end.
+-- The entry of the name is replaced, or one is appended.
 use Rattle.std.proofs.Common.{◌∙◌, sym, ap, refl, arith}
 use Rattle.mbe_matcher.specs.Bound.{entries_of}
 use Rattle.mbe_matcher.proofs.BoundLemmas.{place-within, bind-at, bind-last}

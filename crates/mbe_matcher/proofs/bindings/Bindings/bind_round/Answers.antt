@@ -1,4 +1,4 @@
--- One entry more is bound, and in the end all are.
+-- One more entry is bound, and in the end all are.
 use Rattle.std.proofs.Common.{◌≡◌, ◌∙◌, sym, ap, arith, [], ◌∷◌, reverse}
 use Rattle.std.proofs.lemmas.List.{nil_from_length, reverse-append, reverse-reverse}
 use Rattle.mbe_matcher.specs.Bindings.{bind_round}

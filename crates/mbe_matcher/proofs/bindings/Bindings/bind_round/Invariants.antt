@@ -1,4 +1,4 @@
--- The entries that are left give what all gave at first.
+-- The remaining entries give what all gave at first.
 use Rattle.std.proofs.Common.{◌≡◌, length, reverse}
 use Rattle.mbe_matcher.specs.Bindings.{bind_round}
 use Rattle.mbe_matcher.specs.Bound.{entries_of, map_of}

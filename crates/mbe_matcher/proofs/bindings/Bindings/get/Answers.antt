@@ -1,4 +1,4 @@
--- The name stands at its place, or nowhere.
+-- The name is at its index, or nowhere.
 use Rattle.std.proofs.Common.{◌∙◌, sym, ap, arith, Some}
 use Rattle.mbe_matcher.specs.Bound.{standing_for}
 use Rattle.mbe_matcher.proofs.BoundLemmas.{place-within, binding-at, binding-none}

@@ -1,4 +1,4 @@
--- The name stands among the entries that are left, or nowhere.
+-- The name is among the remaining entries, or nowhere.
 use Rattle.mbe_matcher.proofs.BoundLemmas.{IsFrom}
 use Rattle.mbe_matcher.proofs.bindings.Bindings.position.Given as goal
 

@@ -1,4 +1,4 @@
--- A thread that is not noted makes two tasks fewer, and one that is left out makes none.
+-- A thread that is not noted makes two tasks fewer, and one that is pruned makes none.
 use Rattle.std.proofs.Common.{sym, ◌∙◌, arith}
 use Rattle.mbe_matcher.specs.Places.{place_of}
 use Rattle.mbe_matcher.proofs.DueLemmas.{stuck-left}

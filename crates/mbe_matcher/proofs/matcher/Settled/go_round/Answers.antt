@@ -1,4 +1,4 @@
--- Where none goes on all stay.
+-- If no thread goes on, all stay.
 use Rattle.mbe_matcher.specs.Rounds.{stays}
 use Rattle.mbe_matcher.proofs.matcher.Settled.go_round.Goals as goal
 

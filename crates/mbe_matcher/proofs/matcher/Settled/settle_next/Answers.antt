@@ -1,4 +1,4 @@
--- One that waits alone is all that waits.
+-- A thread that waits alone is all that waits.
 use Rattle.std.proofs.Common.{subst, refl, [], IfSome}
 use Rattle.mbe_matcher.specs.Places.{place_of}
 use Rattle.mbe_matcher.specs.Rounds.{WaitsAlone}

@@ -1,4 +1,4 @@
--- What takes something waits, and what does not is planned.
+-- A choice that consumes something waits, and any other is planned.
 use Rattle.std.proofs.Common.{sym, ap, subst, refl, [], ◌∷◌, ◌++◌, arith}
 use Rattle.mbe_matcher.specs.Settled.{HasEnd, tasks_of_all}
 use Rattle.mbe_matcher.specs.Waiting.{Each}

@@ -1,4 +1,4 @@
--- It has come by one round more.
+-- The thread has come by one more iteration.
 use Rattle.std.proofs.Common.{◌∙◌, ap, [], ◌∷◌, ◌++◌}
 use Rattle.mbe_matcher.specs.Readings as r
 use Rattle.mbe_matcher.specs.Threads.{moves_of}

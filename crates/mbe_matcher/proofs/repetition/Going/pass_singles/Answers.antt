@@ -1,4 +1,4 @@
--- It has come by rounds of one tree each.
+-- The thread has come by iterations of one tree each.
 use Rattle.tt.specs.Views.{forest}
 use Rattle.mbe_matcher.proofs.GoingLemmas.{goes-singles}
 use Rattle.mbe_matcher.proofs.RoundLemmas.{singles-lower}

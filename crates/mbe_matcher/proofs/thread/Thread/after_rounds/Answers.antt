@@ -1,4 +1,4 @@
--- Another round is the only way on, again and again.
+-- Another iteration is the only way on, again and again.
 use Rattle.mbe_matcher.specs.Rounds.{stays}
 use Rattle.mbe_matcher.proofs.thread.Thread.after_rounds.Goals as goal
 

@@ -1,4 +1,4 @@
--- The thread has come by rounds of the variable, and can go on with one.
+-- The thread has come by iterations of the metavariable, and can go on with another.
 use Rattle.std.proofs.Common.{[], ◌∷◌, ◌+◌, if◌then◌else◌}
 use Rattle.mbe_matcher.specs.Going.{Goes, left_in}
 use Rattle.mbe_matcher.specs.Places.{place_of}

@@ -1,4 +1,4 @@
--- Another round is the only way on.
+-- Another iteration is the only way on.
 use Rattle.std.proofs.Common.{sym, ap, ◌∙◌, [], ◌∷◌, map, arith}
 use Rattle.std.proofs.lemmas.List.{append_assoc}
 use Rattle.mbe_rules.specs.Ops.{items_of}

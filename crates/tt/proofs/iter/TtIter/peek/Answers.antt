@@ -1,4 +1,4 @@
--- The tree that comes next, of a group with what it has inside.
+-- The next tree; for a group with its trees inside.
 use Rattle.std.proofs.Common.{◌≡◌, ◌∷◌, ap, sym, ◌∙◌, Some}
 use Rattle.tt_data.specs.Forest.{Forest, group, size}
 use Rattle.tt_data.specs.declared.tree.Subtree.{Subtree}

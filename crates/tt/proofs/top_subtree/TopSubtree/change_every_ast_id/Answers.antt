@@ -1,4 +1,4 @@
--- The tree is what its tokens hold, and each of these has what the entries say.
+-- The tree is what its tokens hold, and each token has the anchor that the entries give.
 use Rattle.std.proofs.Common.{◌≡◌, ◌∙◌, ℕ, List, ap}
 use Rattle.std.proofs.lemmas.List.{length-map}
 use Rattle.tt.specs.Anchors.{answer_in, answer_of}

@@ -1,4 +1,4 @@
--- Where no group is open the trees inside the top are whole, and one group where their forest is.
+-- If no group is open, the trees inside the top are whole, and one group if their forest is one.
 use Rattle.std.proofs.Common.{◌≡◌, List, [], refl, arith, drop, reverse, IsTrue, false, IsSome}
 use Rattle.std.proofs.lemmas.List.{nil_from_length, length-drop}
 use Rattle.tt_data.specs.Forest.{forest_of, IsPreorder}

@@ -1,5 +1,0 @@
-use Rattle.expander_session.proofs.DefinitionCountLemmas.{first_has_numbers}
-use Rattle.expander.proofs.laws.a_first_answer_lacks_no_numbers.Goals as goal
-
-pub returns : goal.returns
-returns g c = first_has_numbers c.definitions_are_no_more_than_bytes.ensures.numbered g.G.FragmentGrammar.answer

@@ -1,0 +1,13 @@
+use Rattle.bridge.specs.TokenSteps.{text_reading, text_steps}
+use Rattle.expander.proofs.QuietReadLemmas.{quiet_meaning}
+use Rattle.expander.proofs.laws.no_fault_without_definition_keywords.Goals as goal
+
+pub returns-clause-short : goal.returns-clause-short
+returns-clause-short c = λ grammar edition depth text f m u fits read quiet is.
+    let walked = c.reading_is_a_relation.ensures.walk (text_steps text) f read in
+    quiet_meaning grammar edition depth f quiet (c.read_texts_are_printed_whole.ensures.pieces text f u fits walked) (text_reading text) m read is
+
+pub returns-clause-escaped_text : goal.returns-clause-escaped_text
+returns-clause-escaped_text c = λ grammar edition depth text f m u fits read quiet is.
+    let walked = c.reading_is_a_relation.ensures.walk (text_steps text) f read in
+    quiet_meaning grammar edition depth f quiet (c.read_texts_are_printed_whole.ensures.escaped_pieces text f u fits walked) (text_reading text) m read is

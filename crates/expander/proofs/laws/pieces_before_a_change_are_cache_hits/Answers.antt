@@ -1,0 +1,43 @@
+use Rattle.expander_session.proofs.ReadPlaceLemmas.{OrderLaws}
+use Rattle.expander.proofs.SharedPieceLemmas.{all_is_behind, fronts_do_not_count}
+use Rattle.expander_session.proofs.WholeTurnLemmas.{TurnLaws}
+use Rattle.expander_session.proofs.WorldLemmas.{RuleLaws}
+use Rattle.expander.proofs.laws.pieces_before_a_change_are_cache_hits.Goals as goal
+
+pub returns-clause-front : goal.returns-clause-front
+returns-clause-front c =
+    let rules : RuleLaws = record {
+      rules = c.rules_at_other_places.ensures.macro_rules;
+      macros = c.rules_at_other_places.ensures.macros;
+      fits = c.fit_at_other_places.ensures.rules;
+      bursts = c.bursts_at_other_places.ensures.rules;
+    } in
+    let order : OrderLaws = record {
+      walk_read = c.reading_is_a_relation.ensures.walk;
+      text = c.tokens_follow_one_another.ensures.text;
+      part = c.tokens_follow_one_another.ensures.part;
+      piece = c.tokens_follow_one_another.ensures.piece;
+      written = c.tokens_are_written.ensures;
+    } in
+    let laws : TurnLaws = record { rules = rules; order = order; equal = c.equal_pieces.ensures } in
+    λ grammar edition depth text other f g ones twos more_ones more_twos one two read read_too first second same.
+    fronts_do_not_count laws grammar edition depth text other f g ones twos more_ones more_twos one two read read_too first second same
+
+pub returns-clause-behind : goal.returns-clause-behind
+returns-clause-behind c =
+    let rules : RuleLaws = record {
+      rules = c.rules_at_other_places.ensures.macro_rules;
+      macros = c.rules_at_other_places.ensures.macros;
+      fits = c.fit_at_other_places.ensures.rules;
+      bursts = c.bursts_at_other_places.ensures.rules;
+    } in
+    let order : OrderLaws = record {
+      walk_read = c.reading_is_a_relation.ensures.walk;
+      text = c.tokens_follow_one_another.ensures.text;
+      part = c.tokens_follow_one_another.ensures.part;
+      piece = c.tokens_follow_one_another.ensures.piece;
+      written = c.tokens_are_written.ensures;
+    } in
+    let laws : TurnLaws = record { rules = rules; order = order; equal = c.equal_pieces.ensures } in
+    λ grammar edition depth text other f g ones twos more_ones more_twos one two read read_too first second same.
+    all_is_behind laws grammar edition depth text other f g ones twos more_ones more_twos one two read read_too first second same

@@ -1,0 +1,217 @@
+//! Sessions, lists of commands and runs, for runs of the tests in which one request for memory is
+//! refused. A refused call changes nothing, and gives the same when it is made again.
+use crate::fakes::{whole, wide};
+use expander::{
+    Answer, Command, Edition, Expansion, Refusal, Reply, Session, SmallGrammar, Status, TextRange,
+    Watched, replay, run,
+};
+use std::alloc::{AllocError, Global};
+use std::test::Fail;
+
+// A text, how many plain pieces it has and how many of them an edit changes, the printed text, its
+// number of tokens, and the text printed after the edit, which replaces the first `1` by `2`.
+struct Row {
+    text: &'static str,
+    pieces: usize,
+    changed: usize,
+    old: &'static str,
+    tokens: usize,
+    new: &'static str,
+}
+
+const ROWS: [Row; 2] = [
+    Row {
+        text: "macro_rules! m { () => { 1 } }\nm!{}\nfn f() { m!{} }\n",
+        pieces: 2,
+        changed: 2,
+        old: "1 fn f ( ) { 1 }\n",
+        tokens: 8,
+        new: "2 fn f ( ) { 2 }\n",
+    },
+    Row {
+        text: "macro_rules! m { () => { 1 } }\nm!();a;b;c;d;e;f;g;h;i;j;k;l;m;n;o;p;q;r;s;t;u;v;w;x;y;z",
+        pieces: 27,
+        changed: 1,
+        old: "1 ;\na ;\nb ;\nc ;\nd ;\ne ;\nf ;\ng ;\nh ;\ni ;\nj ;\nk ;\nl ;\nm ;\nn ;\no ;\np ;\nq ;\nr ;\ns ;\nt ;\nu ;\nv ;\nw ;\nx ;\ny ;\nz\n",
+        tokens: 53,
+        new: "2 ;\na ;\nb ;\nc ;\nd ;\ne ;\nf ;\ng ;\nh ;\ni ;\nj ;\nk ;\nl ;\nm ;\nn ;\no ;\np ;\nq ;\nr ;\ns ;\nt ;\nu ;\nv ;\nw ;\nx ;\ny ;\nz\n",
+    },
+];
+
+// Whether this text is printed, with this number of cache misses, and the origin of the first
+// token is in the definition.
+fn prints(row: &Row, found: &Expansion, printed: &str, expanded: usize) -> bool {
+    let first = Some(TextRange { start: 25, end: 26 });
+    found.printed() == printed
+        && found.expanded() == expanded
+        && found.faults().is_empty()
+        && found.tokens() == row.tokens
+        && found.origin(0) == first
+}
+
+// The expansion of the session's text. A refused call is made once more.
+fn found(session: &mut Session<SmallGrammar>) -> Result<Expansion, Fail> {
+    let reply = match session.expansion() {
+        Ok(reply) => reply,
+        Err(_refusal) => session.expansion()?,
+    };
+    match reply {
+        Reply::Read(found) => Ok(found),
+        Reply::Unread(_fault) => Err(Fail::new("the text is not read")),
+    }
+}
+
+// Makes the edit. If it is refused, it is made once more, if the text is as before.
+fn edit(row: &Row, session: &mut Session<SmallGrammar>) -> Result<(), Fail> {
+    for _ in 0..2 {
+        let is_text = session.text() == row.text && session.fits(25, 26, 1);
+        let is_edit = is_text && session.is_boundary(25) && session.is_boundary(26);
+        if is_edit && session.edit(25, 26, "2").is_ok() {
+            return Ok(());
+        }
+    }
+    Err(Fail::new("no edit"))
+}
+
+// Whether a session gives what the example says, before the edit, after it and once more.
+fn is_answered(alloc: Global, row: &Row) -> Result<bool, Fail> {
+    if row.text.len() >= 1000 {
+        return Err(Fail::new("a text is long"));
+    }
+    let edition = Edition::Edition2024;
+    let mut session = match Session::new(alloc, row.text, SmallGrammar, edition, 128) {
+        Ok(session) => session,
+        Err(_) => Session::new(alloc, row.text, SmallGrammar, edition, 128)?,
+    };
+    let first = found(&mut session)?;
+    edit(row, &mut session)?;
+    let second = found(&mut session)?;
+    let copy = match second.try_clone(alloc) {
+        Ok(copy) => copy,
+        Err(_) => second.try_clone(alloc)?,
+    };
+    Ok(
+        prints(row, &first, row.old, row.pieces)
+            && prints(row, &second, row.new, row.changed)
+            && prints(row, &copy, row.new, row.changed)
+            && prints(row, &found(&mut session)?, row.new, 0),
+    )
+}
+
+#[test]
+fn refused_sessions(rt: HostRuntime) -> Result<(), Fail> {
+    for row in &ROWS {
+        assert!(rt; is_answered(rt.alloc(), row)?, "{}", row.text);
+    }
+    Ok(())
+}
+
+// An expansion, the edit, and an expansion.
+fn commands(alloc: Global) -> Result<Vec<Command>, AllocError> {
+    let edit = Command::Edit {
+        start: 25,
+        end: 26,
+        replacement: String::from_str(alloc, "2")?,
+    };
+    Ok(vec![in alloc; Command::Expand, edit, Command::Expand]?)
+}
+
+// The answers. If all were refused, they are asked for once more.
+fn answered(alloc: Global, row: &Row, commands: &[Command]) -> Result<Vec<Answer>, Fail> {
+    if row.text.len() >= 1000 {
+        return Err(Fail::new("a text is long"));
+    }
+    let edition = Edition::Edition2024;
+    match replay(alloc, row.text, SmallGrammar, edition, 128, commands) {
+        Ok(answers) => Ok(answers),
+        Err(_) => Ok(replay(alloc, row.text, SmallGrammar, edition, 128, commands)?),
+    }
+}
+
+fn gives(row: &Row, answer: &Answer, printed: &str, expanded: usize) -> bool {
+    match answer {
+        Answer::Reply(Reply::Read(found)) => prints(row, found, printed, expanded),
+        _ => false,
+    }
+}
+
+fn is_refused(answer: &Answer) -> bool {
+    match answer {
+        Answer::Refused(refusal) => *refusal == Refusal::Memory,
+        _ => false,
+    }
+}
+
+// How many of the three answers are refusals: none or one. The others are those of the commands
+// without that one.
+fn refusals(row: &Row, answers: &[Answer]) -> Option<u8> {
+    let (first, rest) = answers.split_first()?;
+    let (edit, rest) = rest.split_first()?;
+    let last = rest.first()?;
+    let is_old = gives(row, first, row.old, row.pieces);
+    let is_edited = matches!(edit, Answer::Edited);
+    let is_new = gives(row, last, row.new, row.changed);
+    let is_first_new = gives(row, last, row.new, row.pieces);
+    if is_old && is_edited && is_new {
+        Some(0)
+    } else if (is_refused(first) && is_edited && is_first_new)
+        || (is_old && is_refused(edit) && gives(row, last, row.old, 0))
+        || (is_old && is_edited && is_refused(last))
+    {
+        Some(1)
+    } else {
+        None
+    }
+}
+
+// A list goes on after a command that is refused. It has all answers when it is run again.
+#[test]
+fn refused_commands(rt: HostRuntime) -> Result<(), Fail> {
+    let alloc = rt.alloc();
+    let commands = match commands(alloc) {
+        Ok(commands) => commands,
+        Err(_) => commands(alloc)?,
+    };
+    for row in &ROWS {
+        let answers = answered(alloc, row, commands.as_slice())?;
+        let refused = refusals(row, answers.as_slice());
+        assert!(rt; refused.is_some(), "{}", row.text);
+        if refused != Some(0) {
+            let again = answered(alloc, row, commands.as_slice())?;
+            assert!(rt; refusals(row, again.as_slice()) == Some(0), "{}", row.text);
+        }
+    }
+    Ok(())
+}
+
+// Whether a run writes all, or if it was refused only why. It may be the writer's own memory that
+// is refused.
+fn is_run(alloc: Global) -> Option<bool> {
+    let mut reader = Watched::new(whole(b"let x = y ;\n"));
+    let mut writer = Watched::new(wide(alloc));
+    let mut faults = Watched::new(wide(alloc));
+    let status = run(alloc, &mut reader, &mut writer, &mut faults, 128);
+    let failed = reader.failed() || faults.failed();
+    let is_cut = writer.failed();
+    let (writer, faults) = (writer.into_inner(), faults.into_inner());
+    let (got, told) = (writer.got.as_slice(), faults.got.as_slice());
+    let is_whole = status == Status(0) && got == b"let x = y ;\n".as_slice() && told.is_empty();
+    let why = if is_cut {
+        b"write failed\n".as_slice()
+    } else {
+        b"out of memory\n".as_slice()
+    };
+    let is_refused = status == Status(1) && (is_cut || got.is_empty()) && told == why;
+    if failed || !(is_whole || is_refused) {
+        return None;
+    }
+    Some(is_whole)
+}
+
+#[test]
+fn refused_runs(rt: HostRuntime) -> Result<(), Fail> {
+    let first = is_run(rt.alloc());
+    assert!(rt; first.is_some());
+    assert!(rt; first == Some(true) || is_run(rt.alloc()) == Some(true));
+    Ok(())
+}
