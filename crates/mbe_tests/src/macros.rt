@@ -8,6 +8,7 @@ use small_grammar::SmallGrammar;
 use std::alloc::Global;
 use std::fmt::Write;
 use std::test::Fail;
+use tt::DelimSpan;
 
 // Rules, and how many they are, the styles of call that they are for, and the fault.
 const ROWS: &str = "
@@ -119,7 +120,7 @@ fn derives_nothing(alloc: Global, rules: &str) -> Result<bool, Fail> {
         rule.is_none()
             && top.len == 0
             && top.delimiter.kind == DelimiterKind::Invisible
-            && top.delimiter.open_span == call_site()
+            && top.delimiter.delim_span() == DelimSpan::from_single(call_site())
             && err.span() == call_site()
             && *err.kind() == ExpandErrorKind::NoMatchingRule,
     )
