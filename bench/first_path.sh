@@ -45,7 +45,7 @@ text() {
 # The microseconds that the program takes on a file.
 once() {
     local before=$EPOCHREALTIME
-    "$top/bin/expand" <"$1" >"$work/printed" || return 2
+    "$top/crates/expand/out/expand" <"$1" >"$work/printed" || return 2
     echo $(( ${EPOCHREALTIME/./} - ${before/./} ))
 }
 

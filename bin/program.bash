@@ -120,6 +120,15 @@ draw() {
     printf '\r\033[K%.79s' "$program: [${full// /#}${empty// /.}] $1" >&2
 }
 
+# On a terminal in the bar, elsewhere in a line.
+tell() {
+    if [ -t 2 ]; then
+        draw "$1"
+    else
+        echo "$program: proving: $1" >&2
+    fi
+}
+
 clear_bar() {
     [ ! -t 2 ] || printf '\r\033[K' >&2
 }
@@ -127,18 +136,14 @@ clear_bar() {
 # Copies what the toolchain says to the log, and shows how far it is: on a terminal a bar, elsewhere a line a crate.
 show() {
     local line name=
-    [ ! -t 2 ] || draw "reading the sources of ${#crates[@]} crates"
+    tell "reading the sources of ${#crates[@]} crates"
     while IFS= read -r line; do
         printf '%s\n' "$line" >>"$log"
         case $line in
             'rt: chose '*' for '*)
                 name=${line##* }
                 at=$(number_of "$name")
-                if [ -t 2 ]; then
-                    draw "crate $at of ${#crates[@]}: $name"
-                else
-                    echo "$program: proving crate $at of ${#crates[@]}: $name" >&2
-                fi
+                tell "crate $at of ${#crates[@]}: $name"
                 ;;
             'so far: '*' of '* | 'checked '*', '*' of '*)
                 [[ $line =~ [0-9]+\ of\ [0-9]+ ]]
@@ -154,7 +159,7 @@ interrupted() {
     trap '' INT TERM HUP
     kill "$prover" 2>/dev/null
     clear_bar
-    echo "$program: stopped at crate $at of ${#crates[@]}: what is proved is kept, and the next run goes on" >&2
+    echo "$program: stopped; what is proved is kept, and the next run goes on from there" >&2
     exit 130
 }
 
