@@ -2,7 +2,6 @@
 #![tactic(auto)]
 
 mod fault;
-pub mod rc;
 mod symbol;
 
 pub use fault::TtFault;

@@ -9,8 +9,10 @@ ghost use Rattle.std.proofs.Common.{rules};
 ghost use Rattle.std.specs.String.{string_bytes};
 ghost use Rattle.symbols.specs.declared.fault.TtFault.TheVariants as fault;
 
+pub(crate) mod shared;
+
 use crate::fault::TtFault;
-use crate::rc::Rc;
+use crate::symbol::shared::{Bare, Block, Shared};
 use std::alloc::{AllocError, Global};
 use std::fmt;
 use std::hash::{Hash, Hasher};
@@ -21,13 +23,14 @@ use std::marker::Model;
 /// A clone takes no memory and is never refused. The last owner frees the text; a text that once
 /// has 2^64 - 1 owners is never freed.
 pub struct Symbol {
-    text: Rc<String>,
+    owner: Shared<String>,
+    alloc: Global,
 }
 
 impl Model for Symbol {
     ghost Value = { List ℕ };
 
-    ghost view = { λ s. string_bytes s.text };
+    ghost view = { λ s. string_bytes s.owner.value };
 }
 
 impl Symbol {
@@ -41,15 +44,19 @@ impl Symbol {
         ensures text { IfOk result (λ s. s ≡ text.now) }
         ensures memory { IsOkUnless result fault.Memory }
     {
-        let text = Rc::new(alloc, String::from_str(alloc, text)?)?;
-        Ok(Symbol { text })
+        let value = String::from_str(alloc, text)?;
+        let Ok(block) = Box::new(alloc, Block { owners: 1, value }) else {
+            return Err(TtFault::Memory);
+        };
+        let owner = Shared::first(Bare::of(block));
+        Ok(Symbol { owner, alloc })
     }
 
     /// The text.
     pub fn as_str(&self) -> &str
         ensures { result.now ≡ self.now }
     {
-        self.text.as_ref().as_str()
+        self.owner.value().as_str()
     }
 }
 
@@ -60,16 +67,21 @@ impl Clone for Symbol {
 
     /// One more owner of the same text. It takes no memory, and is never an `Err`.
     fn clone(&self) -> Result<Symbol, AllocError> {
-        let text = self.text.clone()?;
-        Ok(Symbol { text })
+        let owner = self.owner.another();
+        Ok(Symbol {
+            owner,
+            alloc: self.alloc,
+        })
     }
 }
 
 impl Drop for Symbol {
     /// One owner fewer. The last one frees the text.
     fn drop(self) {
-        let Symbol { text } = self;
-        drop(text);
+        let Symbol { owner, alloc } = self;
+        if let Some(block) = owner.release() {
+            drop(block.into_box(alloc));
+        }
     }
 }
 
