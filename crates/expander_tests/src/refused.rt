@@ -62,9 +62,9 @@ fn found(session: &mut Session<SmallGrammar>) -> Result<Expansion, Fail> {
 }
 
 // Makes the edit. If it is refused, it is made once more, if the text is as before.
-fn edit(row: &Row, session: &mut Session<SmallGrammar>) -> Result<(), Fail> {
+fn edit(text: &str, session: &mut Session<SmallGrammar>) -> Result<(), Fail> {
     for _ in 0..2 {
-        let is_text = session.text() == row.text && session.fits(25, 26, 1);
+        let is_text = session.text() == text && session.fits(25, 26, 1);
         let is_edit = is_text && session.is_boundary(25) && session.is_boundary(26);
         if is_edit && session.edit(25, 26, "2").is_ok() {
             return Ok(());
@@ -84,7 +84,7 @@ fn is_answered(alloc: Global, row: &Row) -> Result<bool, Fail> {
         Err(_) => Session::new(alloc, row.text, SmallGrammar, edition, 128)?,
     };
     let first = found(&mut session)?;
-    edit(row, &mut session)?;
+    edit(row.text, &mut session)?;
     let second = found(&mut session)?;
     let copy = match second.try_clone(alloc) {
         Ok(copy) => copy,
