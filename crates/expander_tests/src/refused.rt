@@ -46,6 +46,7 @@ fn prints(row: &Row, found: &Expansion, printed: &str, expanded: usize) -> bool 
         && found.expanded() == expanded
         && found.faults().is_empty()
         && found.tokens() == row.tokens
+        && found.tokens() > 0
         && found.origin(0) == first
 }
 
