@@ -118,8 +118,8 @@ impl Cache {
         }
     }
 
-    /// About how much the memos print that may come next, if this piece is the first of a run of
-    /// them, and else 0. The memos of a run are looked at together, so the processor waits for
+    /// A rough size of the memos and definitions that may come next, in tokens and bytes of names, if
+    /// this piece is the first of a run, and else 0. The memos of a run are looked at together, so the processor waits for
     /// memory once and not at each. This decides speed alone.
     pub(crate) fn look_ahead(&self, own: &Piece) -> usize
         requires { AreSegments self.now.sources }
