@@ -5,12 +5,12 @@ use Rattle.std.specs.contracts.alloc.Global as heap
 use Rattle.std_alloc.proofs.BoxSteps.Form as box
 use Rattle.std_alloc.proofs.boxed.Box.from_raw.Met.{met}
 use Rattle.symbols.proofs.Destruct++none.drop.Symbol.{glues}
-use Rattle.symbols.specs.contracts.symbol.shared.Bare as F
-use Rattle.symbols.specs.contracts.symbol.shared.Bare.into_box as f
+use Rattle.symbols.specs.contracts.rc.shared.Bare as F
+use Rattle.symbols.specs.contracts.rc.shared.Bare.into_box as f
 use Rattle.symbols.proofs.HeapBoxes.{Heap, Heap_laws, handle, boxed, no_drop, Whole, to_box, from_raw_asks, from_raw_gives}
 use Rattle.symbols.proofs.OwnerWalks.{at_words}
-use Rattle.symbols.proofs.symbol.shared.Bare.into_box.Statement.{statement}
-use Rattle.symbols.proofs.symbol.shared.Bare.into_box.Code as code
+use Rattle.symbols.proofs.rc.shared.Bare.into_box.Statement.{statement}
+use Rattle.symbols.proofs.rc.shared.Bare.into_box.Code as code
 
 pub into_box_spec : {M : Type 1} → statement M
 into_box_spec {M} 𝓤 𝓛 𝓜 𝓡 wired T L =

@@ -7,12 +7,12 @@ use Rattle.std_alloc.proofs.BoxSteps.Form as box
 use Rattle.std_alloc.proofs.boxed.Box.into_raw.Met.{met}
 use Rattle.symbols.specs.SharedBlock.{bare_owns}
 use Rattle.symbols.proofs.Destruct++none.drop.Symbol.{glues}
-use Rattle.symbols.specs.contracts.symbol.shared.Bare as F
-use Rattle.symbols.specs.contracts.symbol.shared.Bare.of as f
+use Rattle.symbols.specs.contracts.rc.shared.Bare as F
+use Rattle.symbols.specs.contracts.rc.shared.Bare.of as f
 use Rattle.symbols.proofs.HeapBoxes.{Heap, Heap_laws, boxed, no_drop, Raw, to_raw, into_raw_asks, into_raw_gives}
 use Rattle.symbols.proofs.OwnerWalks.{at_words}
-use Rattle.symbols.proofs.symbol.shared.Bare.of.Statement.{statement}
-use Rattle.symbols.proofs.symbol.shared.Bare.of.Code as code
+use Rattle.symbols.proofs.rc.shared.Bare.of.Statement.{statement}
+use Rattle.symbols.proofs.rc.shared.Bare.of.Code as code
 
 pub of_spec : {M : Type 1} → statement M
 of_spec {M} 𝓤 𝓛 𝓜 𝓡 wired T L dT glue =

@@ -16,9 +16,9 @@ use denote.Struct.Field.{RawPtr-field}
 use denote.Struct.Laws.{RawPtr-copy}
 use denote.Struct.Lending.{Lends, of_Lends}
 use Rattle.symbols.specs.SharedBlock.{counts, rest, seen, stays, owns_by, owner_owns, lends_by, owner_lends}
-use Rattle.symbols.specs.contracts.symbol.shared.Shared as C
+use Rattle.symbols.specs.contracts.rc.shared.Shared as C
 use Rattle.symbols.proofs.CountedBlock.{key, sees, stays_twice, lends_laws}
-use Rattle.symbols.proofs.symbol.shared.Shared.TheLaw.Statement.{statement}
+use Rattle.symbols.proofs.rc.shared.Shared.TheLaw.Statement.{statement}
 
 -- what a `&` to an owner of the block c holds
 module _ (T : RattleType) (L : Laws T) (c : Ptr) (x : T.Denot) {M : Type 1} {𝓤 : Ura M} (𝓛 : Logic 𝓤) where
