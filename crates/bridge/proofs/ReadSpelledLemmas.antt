@@ -92,6 +92,7 @@ literal_shows (literal.CStr true) n = tt
 literal_shows (literal.RawStr (Some m)) n = tt
 literal_shows (literal.RawByteStr (Some m)) n = tt
 literal_shows (literal.RawCStr (Some m)) n = tt
+literal_shows (literal.GuardedStr (Some m)) n = tt
 literal_shows _ n = tt
 
 kind_shows : (k : TokenKind) → Shows (class_of k)

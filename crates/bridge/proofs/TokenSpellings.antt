@@ -61,6 +61,7 @@ alone_value (literal.CStr true) n h = refl
 alone_value (literal.RawStr (Some m)) n h = refl
 alone_value (literal.RawByteStr (Some m)) n h = refl
 alone_value (literal.RawCStr (Some m)) n h = refl
+alone_value (literal.GuardedStr (Some m)) n h = refl
 alone_value _ n h = no h
 
 -- tokens that are read as one leaf stand alone
@@ -101,6 +102,7 @@ literal_tells (literal.CStr true) n t = refl
 literal_tells (literal.RawStr (Some m)) n t = nat_same m
 literal_tells (literal.RawByteStr (Some m)) n t = nat_same m
 literal_tells (literal.RawCStr (Some m)) n t = nat_same m
+literal_tells (literal.GuardedStr (Some m)) n t = nat_same m
 literal_tells _ n t = tt
 
 kind_tells : (k : TokenKind) → Tells (class_of k) k

@@ -1,12 +1,12 @@
 //! Laws of reading and printing. Calling a law does nothing: its contract is the statement.
-ghost use Rattle.std.specs.Prelude.{◌≡◌, ◌↔◌, ◌<◌, ◌^◌, ◌+◌, ◌++◌, take, drop, length, sum_by, ℕ, IsUtf8, List, [], ◌∷◌, map, true, false, IsSome, Ok, Err};
+ghost use Rattle.std.specs.Prelude.{◌≡◌, ◌↔◌, ◌<◌, ◌^◌, ◌+◌, ◌++◌, chars, take, drop, length, sum_by, ℕ, IsUtf8, List, [], ◌∷◌, map, true, false, IsSome, Ok, Err};
 ghost use Rattle.bridge.specs.Order.{AreWritten, FollowOneAnother};
 ghost use Rattle.bridge.specs.Parts.{begins_with_mark, part_steps, placed_on, starts_with_mark, steps_before};
 ghost use Rattle.bridge.specs.Pieces.{StandsBehindFirst, first_start, relative, separated};
 ghost use Rattle.bridge.specs.PrintedChunks.{IsChunkOf, ChunkState};
-ghost use Rattle.bridge.specs.Printing.{is_quote, print_of, step_span, visible};
+ghost use Rattle.bridge.specs.Printing.{PrintedToken, begins_with_punct, gap, is_punct_but_quote, is_quote, print_of, printed, step_span, text_from, visible};
 ghost use Rattle.bridge.specs.Reading.{IsFault, IsReading, PlacedToken, TextStep, placed_from, reading, step, with_front};
-ghost use Rattle.bridge.specs.ReadsBack.{PrintsAgain, ReadsBack};
+ghost use Rattle.bridge.specs.ReadsBack.{PrintsAgain, ReadsBack, is_nothing};
 ghost use Rattle.bridge.specs.declared.reading.outcome.ReadFault.{ReadFault};
 ghost use Rattle.bridge.specs.declared.reading.outcome.ReadFaultKind.{ReadFaultKind};
 ghost use Rattle.tt_data.specs.Forest.{Forest, joined, map_spans};
@@ -15,6 +15,7 @@ ghost use Rattle.bridge.specs.Text.{is_visible};
 ghost use Rattle.bridge.specs.TokenSteps.{escaped, name_leaf, class_of, steps_of, steps_of_class, text_steps};
 ghost use Rattle.bridge.specs.declared.reading.classify.TokenClass.TheVariants.{QuotedName};
 ghost use Rattle.tt_data.specs.declared.leaf.IdentIsRaw.TheVariants.{No};
+ghost use Rattle.rustc_lexer.specs.Lexeme.{begins_guarded};
 ghost use Rattle.rustc_lexer.specs.TokensAt.{IsTokenAt};
 ghost use Rattle.rustc_lexer.specs.declared.token.Token.{Token};
 ghost use Rattle.std.specs.List.{slice_range};
@@ -139,6 +140,22 @@ pub fn read_texts_are_printed_whole()
 pub fn printed_text_reads_back()
     ensures back { (f : Forest) → ReadsBack (visible (walk f)) }
     ensures again { (f : Forest) → PrintsAgain (visible (walk f)) }
+{
+    rustc_lexer::laws::whole_token();
+    rustc_lexer::laws::whole_token_begins();
+    rustc_lexer::laws::blank_token();
+    rustc_lexer::laws::one_character();
+    rustc_lexer::laws::quoted_name();
+    rustc_lexer::laws::token_lengths();
+}
+
+/// Printed hashes guard no string. Between two printed tokens is a gap, unless the first is a quote
+/// or the second a punct. So where a punct is printed no `"` stands right behind the hashes, and no
+/// guarded string begins, however many hashes are side by side.
+pub fn printed_hashes_guard_no_string()
+    ensures gap { (depth : ℕ) (a b : PrintedToken) → is_quote a.step ≡ false → is_punct_but_quote b.step ≡ false → is_nothing (gap depth a b) ≡ false }
+    ensures text { (depth : ℕ) (steps : List Step) →
+        begins_with_punct (printed steps) ≡ true → begins_guarded (chars (text_from depth (printed steps))) ≡ false }
 {
     rustc_lexer::laws::whole_token();
     rustc_lexer::laws::whole_token_begins();

@@ -1,5 +1,5 @@
 use Rattle.std.proofs.Common.{rules}
-use Rattle.bridge.proofs.printing.spacing.is_comment_or_guard.Goals as goal
+use Rattle.bridge.proofs.printing.spacing.is_comment.Goals as goal
 
 pub returns-then-first-eq35 : goal.returns-then-first-eq35
 returns-then-first-eq35 c = search rules
