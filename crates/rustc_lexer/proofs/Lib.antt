@@ -18,6 +18,7 @@ mod SuffixLemmas
 mod CursorLemmas
 mod EditRows
 mod AgreeLemmas
+mod AheadLemmas
 mod BodyLocalLemmas
 mod LocalLemmas
 mod PlaceLemmas
@@ -48,3 +49,5 @@ mod FrontRowLemmas
 mod StartLemmas
 mod PlainLemmas
 mod GapBufferLemmas
+mod GuardedCutLemmas
+mod HashByteLemmas
