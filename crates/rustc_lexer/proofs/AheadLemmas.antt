@@ -1,8 +1,8 @@
 -- How far a text's first characters look ahead: a run of hashes across a place.
 use Rattle.std.proofs.Common.{◌≡◌, ℕ, zero, suc, ◌+◌, ◌-◌, ◌≤◌, ◌<◌, Bool, true, false, nat_le, List, [], ◌∷◌, ◌++◌, length, take, drop, refl, sym, ◌∙◌, ap, arith, get_or, if◌then◌else◌, length-append}
-use Rattle.std.proofs.Math.Seq.{take-add}
+use Rattle.std.proofs.Math.Seq.{drop-append_seam, take-add, take-append_seam}
 use Rattle.std.proofs.lemmas.Bool.Decides.{nat_tests}
-use Rattle.std.proofs.lemmas.List.{append-nil, drop-drop, get_or-append-add, get_or-take, length-take-le}
+use Rattle.std.proofs.lemmas.List.{append_assoc, drop-drop, get_or-append-add, get_or-take, length-take-le}
 use Rattle.std.proofs.lemmas.List.Sums.{prefix_len-le-length, prefix_len_passes}
 use Rattle.std.specs.List.{prefix_len}
 use Rattle.rustc_lexer.specs.Character.{char_at, is}
@@ -97,3 +97,27 @@ ahead_behind n i cs = by_end (ends_in_hash (take i (drop n cs))) refl
         let all : ahead (n + i) cs ≡ prefix_len (is "#") (drop (n + i) cs) = ap (λ u. ahead_by u (n + i) cs) on in
         let same = ap (prefix_len (is "#")) (drop-drop i n cs) in
         omega (arith, all, same)
+
+-- ---- a text of several parts
+
+-- what goes on before a part goes on behind it, or ends in it
+pub run_on_grows : (ps cs ds : List ℕ) → run_on ps (cs ++ ds) ≤ length cs + run_on (ps ++ cs) ds
+run_on_grows ps cs ds =
+    let all : List ℕ = ps ++ (cs ++ ds) in
+    let again : all ≡ (ps ++ cs) ++ ds = sym (append_assoc ps cs ds) in
+    let size = length-append ps cs in
+    let grows = ahead_grows (length ps) (length (ps ++ cs)) all (omega (arith, size)) in
+    let here : ahead (length ps) all ≡ run_on ps (cs ++ ds) =
+    ap (λ xs. run_on xs (drop (length ps) all)) (take-append_seam ps (cs ++ ds)) ∙ ap (run_on ps) (drop-append_seam ps (cs ++ ds)) in
+    let there : ahead (length (ps ++ cs)) all ≡ run_on (ps ++ cs) ds =
+    ap (ahead (length (ps ++ cs))) again
+    ∙ ap (λ xs. run_on xs (drop (length (ps ++ cs)) ((ps ++ cs) ++ ds))) (take-append_seam (ps ++ cs) ds) ∙ ap (run_on (ps ++ cs)) (drop-append_seam (ps ++ cs) ds) in
+    omega (arith, grows, here, there, size)
+
+-- a run that ends before the end of a part is the same with more behind it
+pub run_on_part : (ps cs ds : List ℕ) → run_on ps cs + 2 ≤ length cs → run_on ps (cs ++ ds) ≡ run_on ps cs
+run_on_part ps cs ds l = by_end (ends_in_hash ps) l
+  where
+    by_end : (u : Bool) → (if u then prefix_len (is "#") cs else 0) + 2 ≤ length cs → (if u then prefix_len (is "#") (cs ++ ds) else 0) ≡ (if u then prefix_len (is "#") cs else 0)
+    by_end true l = run_append (is "#") cs ds (omega (arith, l))
+    by_end false l = refl

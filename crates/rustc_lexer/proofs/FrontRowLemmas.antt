@@ -41,7 +41,7 @@ no_start = rw (is_xid_start-ascii 47 (omega arith)) refl
 pub slash_alone : (cs : List ℕ) → char_at cs 0 ≡ 47 → (char_at cs 1 == 47) ≡ false → (char_at cs 1 == 42) ≡ false → lexeme cs ≡ lexeme_of Slash 1
 slash_alone cs e f g = rw (e, f, g, no_start) refl
 
-hash_no_start : is_id_start 35 ≡ false
+pub hash_no_start : is_id_start 35 ≡ false
 hash_no_start = rw (is_xid_start-ascii 35 (omega arith)) refl
 
 pub by_hash : (cs : List ℕ) → char_at cs 0 ≡ 35 → lexeme cs ≡ hash cs

@@ -25,7 +25,7 @@ other_byte c bs i h l = by_test (is "#" (get_or (encode_utf8 c ++ bs) i 0)) refl
 
 -- ---- runs
 
-none_passes : (bs : List ℕ) → is "#" (char_at bs 0) ≡ false → prefix_len (is "#") bs ≡ 0
+pub none_passes : (bs : List ℕ) → is "#" (char_at bs 0) ≡ false → prefix_len (is "#") bs ≡ 0
 none_passes [] h = refl
 none_passes (b ∷ bs) h = rw h refl
 

@@ -1,5 +1,6 @@
 pub mod TestLemmas
 mod RunLemmas
+mod RunStartLemmas
 mod AsciiLemmas
 mod PositiveLemmas
 mod TokenLemmas
@@ -51,3 +52,4 @@ mod PlainLemmas
 mod GapBufferLemmas
 mod GuardedCutLemmas
 mod HashByteLemmas
+mod HashReadLemmas
