@@ -32,7 +32,6 @@ pub clear_enough : (text : List ℕ) (at start : ℕ) → is_clear_of text start
     run_on (chars (take at text)) (chars (take (start - at) (drop at text))) + 2 ≤ length (chars (take (start - at) (drop at text)))
 clear_enough text at start h = grind (arith, nat_tests)
 
-
 chars_split : (bs : List ℕ) (n : ℕ) → IsUtf8 bs → IsCharBoundary bs n → chars bs ≡ chars (take n bs) ++ chars (drop n bs)
 chars_split bs n u b = ap chars (sym (take-append-drop n bs)) ∙ chars-append (take n bs) (drop n bs) (IsUtf8-take bs n u b)
 

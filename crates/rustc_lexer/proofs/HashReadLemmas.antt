@@ -1,5 +1,5 @@
 -- What a `#` begins, and what is known of the run of hashes behind it.
-use Rattle.std.proofs.Common.{◌≡◌, ℕ, suc, ◌+◌, ◌-◌, ◌≤◌, ◌<◌, ◌==◌, ◌&&◌, min, Bool, true, false, List, [], ◌∷◌, length, take, drop, Option, refl, sym, ◌∙◌, ap, subst, arith, chars, IsUtf8, if◌then◌else◌}
+use Rattle.std.proofs.Common.{◌≡◌, ℕ, suc, ◌-◌, ◌≤◌, ◌==◌, ◌&&◌, min, Bool, true, false, List, [], ◌∷◌, length, take, drop, Option, refl, sym, ◌∙◌, ap, subst, arith, chars, IsUtf8, if◌then◌else◌}
 use Rattle.std.proofs.Math.Nat.{min-le_left}
 use Rattle.std.proofs.lemmas.Bool.Decides.{nat_tests}
 use Rattle.std.proofs.lemmas.List.{drop-drop}
@@ -13,9 +13,8 @@ use Rattle.rustc_lexer.specs.Scanned.{IsRead, Scanned, further}
 use Rattle.rustc_lexer.specs.declared.token.LiteralKind.TheVariants.{GuardedStr}
 use Rattle.rustc_lexer.specs.declared.token.TokenKind.{TokenKind}
 use Rattle.rustc_lexer.specs.declared.token.TokenKind.TheVariants.{Pound}
-use Rattle.rustc_lexer.proofs.BodyLocalLemmas.{closed}
 use Rattle.rustc_lexer.proofs.HashByteLemmas.{none_passes}
-use Rattle.rustc_lexer.proofs.ReadLemmas.{bytes_of_hashes, is_other, literal_read, read_further, retold}
+use Rattle.rustc_lexer.proofs.ReadLemmas.{bytes_of_hashes, is_other, literal_read, read_further}
 use Rattle.rustc_lexer.proofs.RunLemmas.{first_of_drop}
 use Rattle.rustc_lexer.proofs.TokenLemmas.{bytes_passed}
 

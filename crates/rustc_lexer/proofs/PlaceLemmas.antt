@@ -6,7 +6,7 @@ use Rattle.rustc_lexer.specs.Character.{utf8_len}
 use Rattle.rustc_lexer.specs.Lexeme.{Lexeme, lexeme}
 use Rattle.rustc_lexer.specs.Lexing.{tokens_of, token_of, place, reach}
 use Rattle.rustc_lexer.proofs.AgreeLemmas.{Agree, agree_less, agree_drop, agree_end, agree_end_too}
-use Rattle.rustc_lexer.proofs.AheadLemmas.{ahead, ahead_behind, ahead_grows}
+use Rattle.rustc_lexer.proofs.AheadLemmas.{ahead_behind, ahead_grows}
 use Rattle.rustc_lexer.proofs.LocalLemmas.{lexeme_local}
 use Rattle.rustc_lexer.proofs.PositiveLemmas.{lexeme_positive}
 use Rattle.rustc_lexer.proofs.TokenLemmas.{first_of_tokens, utf8_len_split}

@@ -1,5 +1,5 @@
 -- What is clear of an edit, by the run of hashes that ends one character before it.
-use Rattle.std.proofs.Common.{◌≡◌, ℕ, zero, suc, ◌+◌, ◌-◌, ◌≤◌, ◌<◌, ◌==◌, ◌&&◌, Bool, true, false, nat_le, List, [], ◌∷◌, ◌++◌, length, take, drop, get_or, refl, sym, ◌∙◌, ap, subst, arith, chars, IsUtf8, IsCharBoundary, if◌then◌else◌, length-append}
+use Rattle.std.proofs.Common.{◌≡◌, ℕ, zero, suc, ◌+◌, ◌-◌, ◌≤◌, ◌<◌, ◌&&◌, Bool, true, false, nat_le, List, [], ◌∷◌, ◌++◌, length, take, drop, get_or, refl, sym, ◌∙◌, ap, subst, arith, chars, IsUtf8, IsCharBoundary, if◌then◌else◌, length-append}
 use Rattle.std.proofs.Math.Seq.{take-add}
 use Rattle.std.proofs.lemmas.Bool.Decides.{nat_tests}
 use Rattle.std.proofs.lemmas.List.{drop-drop, get_or-drop, get_or-take, length-drop, length-take-le, nil_from_length, take-append-drop}
@@ -14,7 +14,7 @@ use Rattle.rustc_lexer.proofs.AheadLemmas.{run_append}
 use Rattle.rustc_lexer.proofs.CutLemmas.{behind_chars}
 use Rattle.rustc_lexer.proofs.HashByteLemmas.{ends_in_bytes, run_in_bytes}
 use Rattle.rustc_lexer.proofs.ReadLemmas.{bytes_of_hashes}
-use Rattle.rustc_lexer.proofs.RelexLemmas.{boundary_in_rest, not_clear, utf8_between}
+use Rattle.rustc_lexer.proofs.RelexLemmas.{not_clear, utf8_between}
 use Rattle.rustc_lexer.proofs.TokenLemmas.{chars_at_most, length_text, none_left}
 
 -- ---- one character before

@@ -1,5 +1,5 @@
-use Rattle.std.proofs.Common.{◌∙◌, arith, sym}
-use Rattle.rustc_lexer.proofs.RelexLemmas.{clear_by_two, clear_far, clear_not}
+use Rattle.std.proofs.Common.{arith, sym}
+use Rattle.rustc_lexer.proofs.RelexLemmas.{clear_far, clear_not}
 use Rattle.rustc_lexer.proofs.relex.lookahead.is_clear.Goals as goal
 
 pub returns-then-run-at : goal.returns-then-run-at
