@@ -1,7 +1,8 @@
 -- The first lexeme of a text, by its first character.
-use Rattle.std.specs.Prelude.{ℕ, Bool, not, ◌||◌, ◌&&◌, ◌==◌, nat_lt, List, if◌then◌else◌}
+use Rattle.std.specs.Prelude.{◌≡◌, ◌<◌, ◌≤◌, ◌-◌, ℕ, Bool, false, not, ◌||◌, ◌&&◌, ◌==◌, nat_lt, List, chars, length, if◌then◌else◌}
 use Rattle.rustc_lexer.specs.Character.{char_at, begins, is, is_whitespace, is_id_start, is_digit}
 use Rattle.rustc_lexer.specs.Lexeme.{Lexeme, lexeme_of, quoted, string, raw_string, is_prefix_mark, marked_word, plain_word, begins_guarded, guarded, quote, one_char_kind, white_space, word, numeral}
+use Rattle.rustc_lexer.specs.Literals.{hashes}
 use Rattle.rustc_lexer.specs.declared.token.LiteralKind.TheVariants.{Byte, Str, ByteStr, CStr, RawStr, RawByteStr, RawCStr}
 use Rattle.rustc_lexer.specs.declared.token.TokenKind.{TokenKind}
 use Rattle.rustc_lexer.specs.declared.token.TokenKind.TheVariants.{Ident, RawIdent, ForcedKeywordIdent, UnknownPrefix, Pound}
@@ -69,3 +70,8 @@ start_told ascii white start b =
 -- what the first byte says: white space 0x20, a word 0x61, one character 0x2e, nothing yet 0x3f
 abbrev pub start_of : ℕ → ℕ
 start_of b = start_told (nat_lt b 128) (is_whitespace b) (is_id_start b) b
+
+-- all but the last n bytes of a text are hashes of a run that begins no guarded string
+pub record ArePlain (text : List ℕ) (n : ℕ) : Type 0 where
+  pub hashed : length text - n ≤ (hashes (chars text)).size
+  pub plain : n < length text → begins_guarded (chars text) ≡ false

@@ -2,7 +2,7 @@
 ghost use Rattle.std.specs.Prelude.{◌≡◌, ◌<◌, ◌+◌, ◌^◌, length, chars};
 ghost use Rattle.rustc_lexer.specs.Character.{char_at};
 ghost use Rattle.rustc_lexer.specs.Cursors.{Unread, next_token, past_token, next_guarded, past_guarded, later_suffix, suffix_of};
-ghost use Rattle.rustc_lexer.specs.Remaining.{ArePlain};
+ghost use Rattle.rustc_lexer.specs.FirstCharacter.{ArePlain};
 
 use crate::first_token::first_lexeme;
 use crate::literal::{count_hashes, guarded_string};

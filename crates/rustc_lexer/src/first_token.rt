@@ -3,9 +3,8 @@ ghost use Rattle.std.specs.Prelude.{◌≡◌, ◌<◌, ◌^◌, length, chars, 
 ghost use Rattle.rustc_lexer.specs.Character.{char_at};
 ghost use Rattle.rustc_lexer.specs.Lexeme.{lexeme, string, one_char_kind, guarded, numeral, white_space};
 ghost use Rattle.rustc_lexer.specs.Literals.{hashes};
-ghost use Rattle.rustc_lexer.specs.Remaining.{ArePlain};
 ghost use Rattle.rustc_lexer.specs.Scanned.{IsRead};
-ghost use Rattle.rustc_lexer.specs.FirstCharacter.{hash, sign, uncommented};
+ghost use Rattle.rustc_lexer.specs.FirstCharacter.{ArePlain, hash, sign, uncommented};
 ghost use Rattle.rustc_lexer.specs.declared.token.LiteralKind.TheVariants.{Str};
 
 use crate::character::{is_id_start, is_whitespace};

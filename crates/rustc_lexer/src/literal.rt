@@ -1,5 +1,5 @@
 //! Lexes the bodies and suffixes of literals.
-ghost use Rattle.std.specs.Prelude.{◌≡◌, ◌<◌, ◌≤◌, ◌^◌, ◌-◌, ℕ, List, Bool, true, false, nat_le, min, drop, length, chars, MatchOption, IsUtf8, IfSome};
+ghost use Rattle.std.specs.Prelude.{◌≡◌, ◌==◌, ◌&&◌, ◌<◌, ◌≤◌, ◌^◌, ◌-◌, ℕ, List, Bool, true, false, nat_le, min, drop, length, chars, MatchOption, IsUtf8, IfSome};
 ghost use Rattle.std.specs.List.{prefix_len};
 ghost use Rattle.rustc_lexer.specs.Character.{is, identifier_len};
 ghost use Rattle.rustc_lexer.specs.Literals.{with_suffix, bare, literal, quoted_body, quoted_rest, string_body, raw_body, raw_form, hashes, hashes_of, guarded_body, guarded_form, guarded_string};
@@ -193,6 +193,7 @@ pub fn raw_form(text: &str) -> (Option<u8>, &str)
 fn skip_closing(text: &str, n: usize) -> (usize, &str)
     ensures missing { result.0 ≡ n - min n (hashes (chars text.now)).size }
     ensures rest { chars result.1.now ≡ drop (min n (hashes (chars text.now)).size) (chars text.now) }
+    ensures utf8 { IsUtf8 result.1.now }
 {
     let mut left = n;
     let mut rest = text;
@@ -209,7 +210,15 @@ pub fn guarded_form(text: &str, n: usize) -> (Option<u8>, &str)
 {
     let (terminated, body_end) = string_body(behind(text));
     let (missing, rest) = skip_closing(body_end, n);
-    (hashes_of(terminated && missing == 0, n), rest)
+    (hashes_of(is_closed(terminated, missing), n), rest)
+}
+
+// Whether a guarded string is terminated and no hash is missing after it.
+#[inline]
+fn is_closed(terminated: bool, missing: usize) -> bool
+    ensures { result ≡ (terminated && (missing == 0)) }
+{
+    terminated && missing == 0
 }
 
 // What a cursor takes of a string after n hashes, from its quote on: whether it is terminated, and

@@ -1,6 +1,6 @@
 //! The iterator over the tokens of a text.
 ghost use Rattle.std.specs.Prelude.{◌<◌, ◌^◌, length};
-ghost use Rattle.rustc_lexer.specs.Remaining.{ArePlain};
+ghost use Rattle.rustc_lexer.specs.FirstCharacter.{ArePlain};
 
 use crate::first_token::first_lexeme;
 use crate::token::Token;

@@ -26,10 +26,10 @@ fn char_before(text: &str, start: usize) -> usize
     while at > 0 {
         at -= 1;
         if text.is_char_boundary(at) {
-            break;
+            return at;
         }
     }
-    at
+    0
 }
 
 /// Where the run of hashes begins that ends one character before `start`. A run that ends at
@@ -39,7 +39,8 @@ pub fn run_start(text: &str, start: usize) -> usize
     ensures { IsRunStart text.now start result }
 {
     let bytes = text.as_bytes();
-    let mut run = char_before(text, start);
+    let last = char_before(text, start);
+    let mut run = last;
     while run > 0 && bytes[run - 1] == b'#' {
         run -= 1;
     }
