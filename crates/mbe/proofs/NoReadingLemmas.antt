@@ -1,22 +1,21 @@
 -- Why a matcher has no reading: none uses up the argument, two do, or two partial ones clash.
-use Rattle.std.proofs.Common.{◌≡◌, ◌⊎◌, inl, inr, refl, sym, ap, subst, ◌∙◌, ℕ, zero, suc, ◌<◌, Bool, true, false, List, [], ◌∷◌, ◌++◌, Option, Some, None, if◌then◌else◌}
+use Rattle.std.proofs.Common.{◌≡◌, ◌⊎◌, inl, inr, refl, sym, ap, ◌∙◌, ℕ, zero, suc, ◌<◌, Bool, true, false, List, [], ◌∷◌, ◌++◌, Option, Some, None, if◌then◌else◌}
 use Rattle.std.specs.Prelude.{◌↔◌}
 use Rattle.tt_data.specs.Forest.{Forest}
 use Rattle.mbe_rules.specs.Items.{Item, dollar, variable, Separator, Items, done, item, group_of, repetition, variables, may_skip, has_empty_round}
 use Rattle.mbe_rules.specs.declared.parser.MetaVarKind.{MetaVarKind}
 use Rattle.mbe_rules.specs.declared.parser.MetaVarKind.TheVariants.{Vis}
 use Rattle.mbe_rules.specs.declared.parser.RepeatKind.{RepeatKind}
-use Rattle.mbe_matcher.specs.Fragments.{taken}
 use Rattle.mbe_matcher.specs.Grammar.{Grammar}
 use Rattle.mbe_matcher.specs.Paths.{IsAmong, when, only, has_clash}
 use Rattle.mbe_matcher.specs.Readings.{Move, enter, skip, leave, next_round, separator_move, Frame, in_group, in_round, parted, State, at, Choice, fragment_moves, item_moves, may_repeat, round_moves, next, start, has_used_up, place_of, takes, is_fragment, room, most_moves, readings, takings, the_reading}
-use Rattle.mbe_matcher.specs.Units.{same_unit, unit_of, unit_at, is_separator, Place, after_unit, left}
+use Rattle.mbe_matcher.specs.Units.{same_unit, unit_of, unit_at, is_separator, Place, left}
 use Rattle.mbe_matcher.specs.Waiting.{Good}
 use Rattle.mbe_matcher.proofs.FallingLemmas.{bound}
 use Rattle.mbe_matcher.proofs.MatchingLemmas.{enough-moves, good-start, the_reading-only}
 use Rattle.mbe_matcher.proofs.MoveLemmas.{falls}
-use Rattle.mbe.specs.NoReading.{UsesUp, HasTwo, IsPartial, HasClashing}
-use Rattle.mbe.proofs.PartialLemmas.{AreApart, Consumes, TwoClash, TwoPaths, apart-when, clash-two, none-or-two, one-only, two-clash}
+use Rattle.mbe.specs.NoReading.{UsesUp, HasTwo, HasClashing}
+use Rattle.mbe.proofs.PartialLemmas.{AreApart, apart-when, clash-two, none-or-two, one-only, two-clash}
 
 -- ---- the moves of a state differ
 
