@@ -29,3 +29,4 @@ mod FastSpellingLemmas
 mod PartLemmas
 mod DocLemmas
 mod ReadSpelledLemmas
+mod LengthLemmas
