@@ -30,3 +30,4 @@ mod FastSpellingLemmas
 mod PartLemmas
 mod DocLemmas
 mod ReadSpelledLemmas
+mod LengthLemmas

@@ -1,5 +1,6 @@
 //! Laws of reading and printing. Calling a law does nothing: its contract is the statement.
 ghost use Rattle.std.specs.Prelude.{◌≡◌, ◌↔◌, ◌<◌, ◌^◌, ◌+◌, ◌++◌, chars, take, drop, length, sum_by, ℕ, IsUtf8, List, [], ◌∷◌, map, true, false, IsSome, Ok, Err};
+ghost use Rattle.bridge.specs.Lengths.{AreShort, IsShort};
 ghost use Rattle.bridge.specs.Order.{AreWritten, FollowOneAnother};
 ghost use Rattle.bridge.specs.Parts.{begins_with_mark, part_steps, placed_on, starts_with_mark, steps_before};
 ghost use Rattle.bridge.specs.Pieces.{StandsBehindFirst, first_start, relative, separated};
@@ -94,7 +95,8 @@ pub fn spelling_depends_on_shapes_alone()
 {}
 
 /// In a text of fewer than 2^32 bytes, a token that is read as one leaf has a spelling, and so has
-/// the name after the quote of a lifetime.
+/// the name after the quote of a lifetime. So it is in any text if the leaf or the name is short:
+/// `short_leaves`, `short_names`.
 pub fn read_leaves_have_spellings()
     ensures leaves { (text : List ℕ) (at : ℕ) (t : Token) (more : List PlacedToken) (l : Leaf) →
         IsUtf8 text → length text < 2 ^ 32 → IsTokenAt text at t →
@@ -102,6 +104,13 @@ pub fn read_leaves_have_spellings()
         IsSome (leaf_spelling l) }
     ensures names { (text : List ℕ) (at : ℕ) (t : Token) (span : Span) →
         IsUtf8 text → length text < 2 ^ 32 → IsTokenAt text at t → class_of t.kind ≡ QuotedName →
+        IsSome (leaf_spelling (name_leaf (drop 1 (slice_range text at (at + t.len))) No span)) }
+    ensures short_leaves { (text : List ℕ) (at : ℕ) (t : Token) (more : List PlacedToken) (l : Leaf) →
+        IsUtf8 text → IsShort l → IsTokenAt text at t →
+        steps_of_class (class_of t.kind) (record { kind = t.kind; start = at; text = slice_range text at (at + t.len) }) more ≡ step (at_leaf l) ∷ [] →
+        IsSome (leaf_spelling l) }
+    ensures short_names { (text : List ℕ) (at : ℕ) (t : Token) (span : Span) →
+        IsUtf8 text → length (drop 1 (slice_range text at (at + t.len))) < 2 ^ 32 → IsTokenAt text at t → class_of t.kind ≡ QuotedName →
         IsSome (leaf_spelling (name_leaf (drop 1 (slice_range text at (at + t.len))) No span)) }
 {
     rustc_lexer::laws::name_of_a_lifetime();
@@ -125,6 +134,22 @@ pub fn read_texts_are_printed_whole()
         IsUtf8 text → length (escaped text) < 2 ^ 32 → IsReading (text_steps text) f → (print_of (walk f)).left_out ≡ [] }
     ensures escaped_pieces { (text : List ℕ) (f : Forest) →
         IsUtf8 text → length (escaped text) < 2 ^ 32 → IsReading (text_steps text) f → (print_of (walk (separated f))).left_out ≡ [] }
+{
+    read_leaves_have_spellings();
+    rustc_lexer::laws::next_token();
+    rustc_lexer::laws::one_escaped_string();
+    rustc_lexer::laws::suffix_starts();
+    rustc_lexer::laws::token_lengths();
+    rustc_lexer::laws::token_shapes();
+    rustc_lexer::laws::tokens_begin();
+}
+
+/// In a text that is read, of any length, each token has a spelling exactly if each name and
+/// literal is displayed in fewer than 2^32 bytes: `text`. So it is if each `;` of the top list is
+/// made `Alone`: `pieces`. (A longer one is in no text, so it cannot be printed.)
+pub fn short_leaves_are_printed()
+    ensures text { (text : List ℕ) (f : Forest) → IsUtf8 text → IsReading (text_steps text) f → ((print_of (walk f)).left_out ≡ []) ↔ AreShort (walk f) }
+    ensures pieces { (text : List ℕ) (f : Forest) → IsUtf8 text → IsReading (text_steps text) f → ((print_of (walk (separated f))).left_out ≡ []) ↔ AreShort (walk f) }
 {
     read_leaves_have_spellings();
     rustc_lexer::laws::next_token();
