@@ -1,6 +1,7 @@
 pub mod RelabelLemmas
 pub mod ParsingLemmas
 pub mod OpsLemmas
+pub mod CountLemmas
 pub mod CloneLemmas
 pub mod ErrorLemmas
 pub mod ExpressionLemmas

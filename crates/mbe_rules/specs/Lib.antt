@@ -21,3 +21,4 @@ pub mod PlacedErrors
 pub mod Steps
 pub mod Reading
 pub mod Lists
+pub mod Counts
