@@ -22,3 +22,4 @@ pub mod Steps
 pub mod Reading
 pub mod Lists
 pub mod Counts
+pub mod Walks
