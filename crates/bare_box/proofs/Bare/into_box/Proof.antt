@@ -1,16 +1,16 @@
 -- `into_box` makes the box again.
-use Rattle.symbols.proofs.WalkWords.{◌≡◌, List, [], ◌∷◌, ◌++◌, refl, Sym, a_type, inst_fn, Val, ftrue, fsep, flft, WpFn, ‵, raw, some, given, later, at_ret, ◌⊛◌, ◌$◌, ◌∵◌, !, qed, move, keep, drop, split, join, fsplit, fjoin, pick, learn, suffices, use1, use3, await, done, stop, fld, of_opd, no_more, and_then, first, blocks, exec, returns, enter, alloc_all, pass_all, free_all, look_at, get, get_in, sets, lands_last, env, sub, whole, ◌⊑◌, fact, tables, yes, no, RattleType, plain, nothing, heard, layout, layouts, calls_at_last, Stays, stay_dropped, walk_of, says, ends_at, Goes-dropped, handle_tells, fm, Good, after, proved_at, ghosts, dict, word, word-Good, word_had, Ptr-Good}
+use Rattle.bare_box.proofs.WalkWords.{◌≡◌, List, [], ◌∷◌, ◌++◌, refl, Sym, a_type, inst_fn, Val, ftrue, fsep, flft, WpFn, ‵, raw, some, given, later, at_ret, ◌⊛◌, ◌$◌, ◌∵◌, !, qed, move, keep, drop, split, join, fsplit, fjoin, pick, learn, suffices, use1, use3, await, done, stop, fld, of_opd, no_more, and_then, first, blocks, exec, returns, enter, alloc_all, pass_all, free_all, look_at, get, get_in, sets, lands_last, env, sub, whole, ◌⊑◌, fact, tables, yes, no, RattleType, plain, nothing, heard, layout, layouts, calls_at_last, Stays, stay_dropped, walk_of, says, ends_at, Goes-dropped, handle_tells, fm, Good, after, proved_at, ghosts, dict, word, word-Good, word_had, Ptr-Good}
 use Rattle.std.proofs.impls.GlobalAllocator.TheImpl.Met.{passed}
 use Rattle.std.specs.contracts.alloc.Global as heap
 use Rattle.std_alloc.proofs.BoxSteps.Form as box
 use Rattle.std_alloc.proofs.boxed.Box.from_raw.Met.{met}
-use Rattle.symbols.proofs.Destruct++none.drop.Symbol.{glues}
-use Rattle.symbols.specs.contracts.rc.shared.Bare as F
-use Rattle.symbols.specs.contracts.rc.shared.Bare.into_box as f
-use Rattle.symbols.proofs.HeapBoxes.{Heap, Heap_laws, handle, boxed, no_drop, Whole, to_box, from_raw_asks, from_raw_gives}
-use Rattle.symbols.proofs.OwnerWalks.{at_words}
-use Rattle.symbols.proofs.rc.shared.Bare.into_box.Statement.{statement}
-use Rattle.symbols.proofs.rc.shared.Bare.into_box.Code as code
+use Rattle.bare_box.proofs.Destruct++none.drop.Symbol.{glues}
+use Rattle.bare_box.specs.contracts.Bare as F
+use Rattle.bare_box.specs.contracts.Bare.into_box as f
+use Rattle.bare_box.proofs.HeapBoxes.{Heap, Heap_laws, handle, boxed, no_drop, Whole, to_box, from_raw_asks, from_raw_gives}
+use Rattle.bare_box.proofs.MachineWords.{at_words}
+use Rattle.bare_box.proofs.Bare.into_box.Statement.{statement}
+use Rattle.bare_box.proofs.Bare.into_box.Code as code
 
 pub into_box_spec : {M : Type 1} → statement M
 into_box_spec {M} 𝓤 𝓛 𝓜 𝓡 wired T L =
@@ -21,7 +21,7 @@ into_box_spec {M} 𝓤 𝓛 𝓜 𝓡 wired T L =
     let from_raw_met = met 𝓤 𝓛 𝓜 𝓡 (code.calls-std_alloc::boxed::Box::from_raw 𝓡.env wired) T Heap L Heap_laws ghosts dict no_drop
     (passed 𝓡.env (code.calls-std_heap::GlobalAllocator::allocate 𝓡.env wired) (code.calls-std_heap::GlobalAllocator::deallocate 𝓡.env wired)
     (code.calls-std_heap::GlobalAllocator::grow 𝓡.env wired) (code.calls-std_heap::GlobalAllocator::shrink 𝓡.env wired) M 𝓤 𝓛 𝓜 𝓡)
-    (glues 𝓡.env (code.calls-symbols::Destruct++none::drop 𝓡.env wired) Heap Heap_laws M 𝓤 𝓛 𝓜 𝓡) in
+    (glues 𝓡.env (code.calls-bare_box::Destruct++none::drop 𝓡.env wired) Heap Heap_laws M 𝓤 𝓛 𝓜 𝓡) in
     proved_at 𝓛 end stayed c 𝓜 𝓡 (
       Goes-dropped 𝓛 1 (plain (λ _. F.the_row R)) no (λ κs x w. refl),
       (

@@ -1,18 +1,18 @@
 -- `of` keeps the pointer of a box, and the right to free its block.
-use Rattle.symbols.proofs.WalkWords.{◌≡◌, List, [], ◌∷◌, ◌++◌, refl, Sym, a_type, dcons, dnil, Val, inst_fn, ftrue, fsep, flft, WpFn, ‵, raw, some, given, later, ◌⊛◌, ◌$◌, ◌∵◌, !, qed, move, keep, drop, split, join, fsplit, fjoin, pick, learn, suffices, use1, use2, await, done, of_opd, no_more, and_then, returns, enter, alloc_all, pass_all, free_all, look_at, get, sets, lands_as, agg, ◌⊑◌, fact, tables, no, RattleType, plain, Ptr, ptr_val, nothing, heard, bounded, calls_at, Stays, stay_dropped, walk_of, says, ends_at, Goes-dropped, fm, proved_at, ghosts, dict, box_out, box_in, word, word-Good, word_made, Ptr-Good}
+use Rattle.bare_box.proofs.WalkWords.{◌≡◌, List, [], ◌∷◌, ◌++◌, refl, Sym, a_type, dcons, dnil, Val, inst_fn, ftrue, fsep, flft, WpFn, ‵, raw, some, given, later, ◌⊛◌, ◌$◌, ◌∵◌, !, qed, move, keep, drop, split, join, fsplit, fjoin, pick, learn, suffices, use1, use2, await, done, of_opd, no_more, and_then, returns, enter, alloc_all, pass_all, free_all, look_at, get, sets, lands_as, agg, ◌⊑◌, fact, tables, no, RattleType, plain, Ptr, ptr_val, nothing, heard, bounded, calls_at, Stays, stay_dropped, walk_of, says, ends_at, Goes-dropped, fm, proved_at, ghosts, dict, box_out, box_in, word, word-Good, word_made, Ptr-Good}
 use Rattle.std.proofs.impls.GlobalAllocator.TheImpl.Met.{passed}
 use Rattle.std.specs.contracts.alloc.Global as heap
 use Rattle.std_alloc.specs.contracts.boxed.Box as boxes
 use Rattle.std_alloc.proofs.BoxSteps.Form as box
 use Rattle.std_alloc.proofs.boxed.Box.into_raw.Met.{met}
-use Rattle.symbols.specs.SharedBlock.{bare_owns}
-use Rattle.symbols.proofs.Destruct++none.drop.Symbol.{glues}
-use Rattle.symbols.specs.contracts.rc.shared.Bare as F
-use Rattle.symbols.specs.contracts.rc.shared.Bare.of as f
-use Rattle.symbols.proofs.HeapBoxes.{Heap, Heap_laws, boxed, no_drop, Raw, to_raw, into_raw_asks, into_raw_gives}
-use Rattle.symbols.proofs.OwnerWalks.{at_words}
-use Rattle.symbols.proofs.rc.shared.Bare.of.Statement.{statement}
-use Rattle.symbols.proofs.rc.shared.Bare.of.Code as code
+use Rattle.bare_box.specs.BareBox.{bare_owns}
+use Rattle.bare_box.proofs.Destruct++none.drop.Symbol.{glues}
+use Rattle.bare_box.specs.contracts.Bare as F
+use Rattle.bare_box.specs.contracts.Bare.of as f
+use Rattle.bare_box.proofs.HeapBoxes.{Heap, Heap_laws, boxed, no_drop, Raw, to_raw, into_raw_asks, into_raw_gives}
+use Rattle.bare_box.proofs.MachineWords.{at_words}
+use Rattle.bare_box.proofs.Bare.of.Statement.{statement}
+use Rattle.bare_box.proofs.Bare.of.Code as code
 
 pub of_spec : {M : Type 1} → statement M
 of_spec {M} 𝓤 𝓛 𝓜 𝓡 wired T L dT glue =
@@ -23,7 +23,7 @@ of_spec {M} 𝓤 𝓛 𝓜 𝓡 wired T L dT glue =
     let into_raw_met = met 𝓤 𝓛 𝓜 𝓡 (code.calls-std_alloc::boxed::Box::into_raw 𝓡.env wired) T Heap L Heap_laws ghosts dict no_drop dT
     (passed 𝓡.env (code.calls-std_heap::GlobalAllocator::allocate 𝓡.env wired) (code.calls-std_heap::GlobalAllocator::deallocate 𝓡.env wired)
     (code.calls-std_heap::GlobalAllocator::grow 𝓡.env wired) (code.calls-std_heap::GlobalAllocator::shrink 𝓡.env wired) M 𝓤 𝓛 𝓜 𝓡)
-    (glues 𝓡.env (code.calls-symbols::Destruct++none::drop 𝓡.env wired) Heap Heap_laws M 𝓤 𝓛 𝓜 𝓡) glue in
+    (glues 𝓡.env (code.calls-bare_box::Destruct++none::drop 𝓡.env wired) Heap Heap_laws M 𝓤 𝓛 𝓜 𝓡) glue in
     proved_at 𝓛 end stayed c 𝓜 𝓡 (Goes-dropped 𝓛 1 (plain (λ _. boxes.the_row R heap.the_row ghosts)) no (λ κs x w. refl), tt) (f.Key.name inst) fn
     (code.unfolded 𝓤 𝓛.H 𝓜 𝓡 wired (T, tt) dT) (λ y are.
     let κ = y.0.0.0 in let q = y.0.1.0 in let v = y.0.3.0 in let Post = (walk_of 𝓛 end stayed c).post y in

@@ -36,7 +36,7 @@ use Rattle.std_alloc.specs.contracts.boxed.Box.from_raw as from
 use Rattle.core.proofs.cell.Inside.{Good}
 use Rattle.std_alloc.proofs.BoxSteps.Form as box
 use Rattle.std_alloc.proofs.BoxSteps.Steps.{box_out, box_in}
-use Rattle.symbols.specs.SharedBlock.{bare_owns}
+use Rattle.bare_box.specs.BareBox.{bare_owns}
 
 -- the type `Global`, as an argument
 abbrev pub Heap : RattleType
@@ -47,7 +47,7 @@ Heap_laws = arg_laws (bare (layout heap.the_row)) no heap.the_row heap_laws.the_
 
 -- a handle of the heap needs no drop
 abbrev pub no_drop : Dict
-no_drop = impl ("symbols::Destruct++none::drop" ∷ []) (tcons (layout Heap) tnil) dnil
+no_drop = impl ("bare_box::Destruct++none::drop" ∷ []) (tcons (layout Heap) tnil) dnil
 
 abbrev pub handle : Al
 handle = record { row = Heap; laws = Heap_laws; g = ghosts; d = dict; drops = no_drop }
