@@ -5,6 +5,7 @@ use Rattle.std.proofs.lemmas.Str.{chars-append}
 use Rattle.rustc_lexer.specs.Lexing.{look_ahead, place, reach, run_on, tokens_of}
 use Rattle.rustc_lexer.proofs.AheadLemmas.{ahead}
 use Rattle.rustc_lexer.proofs.CutLemmas.{IsBehind, behind_chars}
+use Rattle.rustc_lexer.proofs.HashByteLemmas.{run_on_bytes}
 use Rattle.rustc_lexer.proofs.PlaceLemmas.{first_tokens, place_in_bytes}
 
 none_first : {A : Type 0} (p m : ℕ) (es : List A) → take (m + 2) [] ≡ take (m + 2) es → take p [] ≡ take p es
@@ -31,13 +32,14 @@ module _ (n m : ℕ) (text other : List ℕ) (u : IsUtf8 text) (is : IsBehind te
 
 pub same_first_tokens : (k n : ℕ) (text other : List ℕ) → IsUtf8 text → sum_by (λ t. t.len) (take k (tokens_of (chars text))) ≡ n
     → take n text ≡ take n other
-    → take (look_ahead (chars (take n text)) (chars (drop n text))) (chars (drop n text)) ≡ take (look_ahead (chars (take n text)) (chars (drop n text))) (chars (drop n other))
+    → take (look_ahead (take n text) (drop n text)) (chars (drop n text)) ≡ take (look_ahead (take n text) (drop n text)) (chars (drop n other))
     → take k (tokens_of (chars other)) ≡ take k (tokens_of (chars text))
 same_first_tokens k n text other u sum same more =
     let cs : List ℕ = chars text in
     let p : ℕ = place k cs in
     let is : IsBehind text p n = subst (IsBehind text p) (sym (place_in_bytes k cs) ∙ sum) (behind_chars text p u) in
-    let far : run_on (chars (take n text)) (chars (drop n text)) ≡ ahead p cs = ap (λ xs. run_on xs (chars (drop n text))) is.front ∙ ap (run_on (take p cs)) is.rest in
+    let far : run_on (take n text) (drop n text) ≡ ahead p cs =
+    run_on_bytes (take n text) (drop n text) is.front_utf8 is.rest_utf8 ∙ ap (λ xs. run_on xs (chars (drop n text))) is.front ∙ ap (run_on (take p cs)) is.rest in
     let next : take (ahead p cs + 2) (drop p cs) ≡ take (ahead p cs + 2) (chars (drop n other)) =
     ap (take (ahead p cs + 2)) (sym is.rest) ∙ ap (λ m. take (m + 2) (chars (drop n text))) (sym far) ∙ more ∙ ap (λ m. take (m + 2) (chars (drop n other))) far in
     let front = more_same p (ahead p cs) cs (chars (drop n other)) next in
@@ -45,8 +47,8 @@ same_first_tokens k n text other u sum same more =
 
 -- the same where no run of hashes goes on
 pub two_ahead : (k n : ℕ) (text other : List ℕ) → IsUtf8 text → sum_by (λ t. t.len) (take k (tokens_of (chars text))) ≡ n
-    → take n text ≡ take n other → run_on (chars (take n text)) (chars (drop n text)) ≡ 0
+    → take n text ≡ take n other → run_on (take n text) (drop n text) ≡ 0
     → take 2 (chars (drop n text)) ≡ take 2 (chars (drop n other)) → take k (tokens_of (chars other)) ≡ take k (tokens_of (chars text))
 two_ahead k n text other u sum same none two =
-    let count : look_ahead (chars (take n text)) (chars (drop n text)) ≡ 2 = omega (arith, none) in
+    let count : look_ahead (take n text) (drop n text) ≡ 2 = omega (arith, none) in
     same_first_tokens k n text other u sum same (ap (λ m. take m (chars (drop n text))) count ∙ two ∙ ap (λ m. take m (chars (drop n other))) (sym count))

@@ -5,7 +5,7 @@ use Rattle.std.proofs.lemmas.List.{append-nil, get_or-append-add}
 use Rattle.std.proofs.lemmas.Str.{encode_ascii, encodes-chars, inside_one, len_utf8_bounds, length-encode}
 use Rattle.std.specs.List.{prefix_len}
 use Rattle.rustc_lexer.specs.Character.{char_at, is}
-use Rattle.rustc_lexer.specs.Lexing.{ends_in_hash}
+use Rattle.rustc_lexer.specs.Lexing.{ends_in_hash, run_on}
 
 some_bytes : (c : ℕ) → 1 ≤ length (encode_utf8 c)
 some_bytes c = omega (arith, length-encode c, (len_utf8_bounds c).0)
@@ -76,3 +76,11 @@ ends_of (c ∷ d ∷ cs) =
 
 pub ends_in_bytes : (text : List ℕ) → IsUtf8 text → ends_in_hash (chars text) ≡ ends_in_hash text
 ends_in_bytes text u = sym (ends_of (chars text)) ∙ ap ends_in_hash (encodes-chars text u)
+
+-- ---- both
+
+-- a run goes on in bytes as in characters
+pub run_on_bytes : (before after : List ℕ) → IsUtf8 before → IsUtf8 after → run_on before after ≡ run_on (chars before) (chars after)
+run_on_bytes before after u v =
+    ap (λ t. if t then prefix_len (is "#") after else 0) (sym (ends_in_bytes before u))
+    ∙ ap (λ n. if ends_in_hash (chars before) then n else 0) (sym (run_in_bytes after v))
