@@ -18,4 +18,5 @@ pub mod Settled
 pub mod Rounds
 pub mod Going
 pub mod Blocked
+pub mod Skipping
 pub mod Collecting
