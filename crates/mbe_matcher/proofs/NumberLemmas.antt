@@ -1,7 +1,8 @@
 -- Threads in one state have one number.
 use Rattle.std.proofs.Common.{◌≡◌, refl, sym, ap, ◌∙◌, ℕ, ◌+◌, ◌%◌, ◌^◌, ◌&&◌, ◌==◌, Bool, true, false, List, [], ◌∷◌, length}
 use Rattle.std.proofs.lemmas.Bool.{eqb-true}
-use Rattle.mbe_matcher.specs.Frames.{frames_in, mixed, number_after, number_of}
+use Rattle.mbe_matcher.specs.Frames.{frames_in}
+use Rattle.mbe_matcher.specs.Numbers.{mixed, number_after, number_of}
 use Rattle.mbe_matcher.specs.SeenStates.{is_like, number_of_state}
 use Rattle.mbe_matcher.specs.Threads.{same_mark, same_marks, same_state}
 use Rattle.mbe_matcher.specs.declared.same_state.Seen.{Seen}

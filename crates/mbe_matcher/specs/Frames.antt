@@ -1,24 +1,9 @@
--- The frames that a thread is in, and a number of them: if two numbers differ, so do the frames.
-use Rattle.std.specs.Prelude.{ℕ, ◌+◌, ◌*◌, ◌%◌, ◌^◌, List, [], ◌∷◌, length, Option, Some, None}
+-- The frames of a thread
+use Rattle.std.specs.Prelude.{List, [], ◌∷◌, Option, Some, None}
 use Rattle.std.specs.Borrow.{Bor}
 use Rattle.mbe_matcher.specs.declared.thread.Frame.{Frame}
-use Rattle.mbe_matcher.specs.declared.thread.Frame.TheVariants.{InGroup, InRound, Parted}
 
--- the frames of a thread, the innermost first
+-- the innermost first
 abbrev pub frames_in : Option (Bor (Frame × List Frame)) → List Frame
 frames_in None = []
 frames_in (Some r) = r.now.0 ∷ r.now.1
-
--- the number of some frames with one more inside, by its sort and how many ops come after it
-abbrev pub mixed : ℕ → ℕ → ℕ → ℕ
-mixed sort count n = ((((n + count) % 2 ^ 64) + 1) % 2 ^ 64 * sort) % 2 ^ 64
-
-abbrev pub number_after : Frame → ℕ → ℕ
-number_after (InGroup a) n = mixed 11400714819323198485 (length a.now) n
-number_after (InRound x) n = mixed 14029467366897019727 (length x.after.now) n
-number_after (Parted x) n = mixed 1609587929392839161 (length x.after.now) n
-
--- the number of frames
-abbrev pub number_of : List Frame → ℕ
-number_of [] = 0
-number_of (f ∷ fs) = number_after f (number_of fs)

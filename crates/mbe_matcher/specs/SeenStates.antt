@@ -1,7 +1,8 @@
 -- Threads whose states were entered at a position, and an index by which a state is found.
 use Rattle.std.specs.Prelude.{◌≡◌, ◌<◌, ◌+◌, ◌%◌, ◌^◌, ◌&&◌, ℕ, zero, suc, Bool, true, false, List, length, map, get_or, nat_eq, if◌then◌else◌, unwrap_or}
 use Rattle.std.specs.HashMap.{get_by}
-use Rattle.mbe_matcher.specs.Frames.{frames_in, number_of}
+use Rattle.mbe_matcher.specs.Frames.{frames_in}
+use Rattle.mbe_matcher.specs.Numbers.{number_of}
 use Rattle.mbe_matcher.specs.Threads.{same_state}
 use Rattle.mbe_matcher.specs.declared.seen_states.LastCounts.{LastCounts}
 use Rattle.mbe_matcher.specs.declared.seen_states.StateIndex.{StateIndex}

@@ -30,7 +30,7 @@ fn is_like(one: &Seen<'_>, thread: &Thread<'_>, twice: bool) -> bool
     is_same_state(&one.thread, thread)
 }
 
-// For each number how many there are up to the last one with it.
+// For each number of a list, how many there are up to the last one with it.
 #[derive(Drop)]
 pub(crate) struct LastCounts {
     pub(crate) map: HashMap<usize, usize>,
@@ -40,6 +40,7 @@ impl LastCounts {
     ghost use Rattle.std.specs.Prelude.{nat_eq, if◌then◌else◌};
     ghost use Rattle.mbe_matcher.specs.SeenStates.{last_in};
 
+    // No number has a count.
     #[tactic(auto, unfolding(crate::specs::SeenStates::last_in))]
     fn new(alloc: Global) -> LastCounts
         ensures { (n : ℕ) → last_in result n ≡ 0 }
@@ -68,12 +69,12 @@ impl LastCounts {
     }
 }
 
-// An index of a list by numbers. An entry is found by how many there are up to it.
+// An index of a list of numbers. A place in it is told by how many there are up to it.
 #[derive(Drop)]
 pub(crate) struct StateIndex {
-    // Up to the last one with each number.
+    // The last one with each number.
     pub(crate) last: LastCounts,
-    // For each one, up to the one before it with its number. 0 if there is none.
+    // For each, the one before it with its number, or 0 if there is none.
     pub(crate) before: Vec<usize>,
 }
 
@@ -101,7 +102,7 @@ impl StateIndex {
         Ok(())
     }
 
-    // The index of these.
+    // The index of the states of these.
     fn of(alloc: Global, seen: &[Seen<'_>]) -> Result<StateIndex, AllocError>
         ensures { IfOk result (λ index. IsIndex index (numbers_of seen.now)) }
     {
@@ -112,7 +113,7 @@ impl StateIndex {
         Ok(index)
     }
 
-    // The index of these, made if there is none.
+    // The index of the states of these, made if there is none.
     fn kept_or_made(
         kept: Option<StateIndex>,
         alloc: Global,
@@ -127,7 +128,7 @@ impl StateIndex {
         }
     }
 
-    // Of the number at `at`, how many there are up to the one before it.
+    // The one before that at `at` with its number, or 0.
     fn before(&self, at: usize) -> usize
         requires { at < length self.now.before.items }
         ensures { result ≡ get_or self.now.before.items at 0 }
@@ -163,16 +164,15 @@ pub struct SeenStates<'a> {
 }
 
 impl<'a> Model for SeenStates<'a> {
+    ghost use denote.Signature.{static_lft};
     ghost use Rattle.std.specs.Prelude.{List, IfSome};
-    ghost use Rattle.mbe_matcher.specs.declared.same_state.Seen.{Seen};
-    ghost use Rattle.mbe_matcher.specs.contracts.same_state.Seen as e;
     ghost use Rattle.std.specs.Coded.{codes};
+    ghost use Rattle.mbe_matcher.specs.declared.same_state.Seen.{Seen};
+    ghost use Rattle.mbe_matcher.specs.contracts.same_state.Seen as seen;
 
     ghost Value = { List Seen };
 
-    ghost use denote.Signature.{static_lft};
-
-    ghost coded = { Prim.hlevel (codes, (e.the_row static_lft).coded) };
+    ghost coded = { Prim.hlevel (codes, (seen.the_row static_lft).coded) };
 
     ghost use Rattle.mbe_matcher.specs.SeenStates.{IsIndex, numbers_of};
 

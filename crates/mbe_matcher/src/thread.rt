@@ -3,7 +3,7 @@ ghost use Rattle.std.specs.Prelude.{◌≡◌, [], ◌∷◌, ◌++◌, IfOk, op
 ghost use Rattle.std.specs.List.{slice_get};
 ghost use Rattle.tt.specs.Views.{forest};
 ghost use Rattle.mbe_rules.specs.Ops.{items_of};
-ghost use Rattle.mbe_matcher.specs.Frames.{number_after, number_of};
+ghost use Rattle.mbe_matcher.specs.Numbers.{number_after, number_of};
 ghost use Rattle.mbe_matcher.specs.Places.{place_of};
 ghost use Rattle.mbe_matcher.specs.Readings as r;
 ghost use Rattle.mbe_matcher.specs.Threads.{state_of, frames_in, moves_of, move_of, rounds_of, steps};
@@ -160,7 +160,8 @@ impl<'a> Model for Rung<'a> {
     ghost use Rattle.mbe_rules.specs.contracts.parser.Op as op;
     ghost use Rattle.mbe_rules.specs.contracts.parser.Separator as separator;
     ghost use Rattle.mbe_matcher.specs.declared.thread.Frame.{Frame};
-    ghost use Rattle.mbe_matcher.specs.Frames.{frames_in, number_of};
+    ghost use Rattle.mbe_matcher.specs.Frames.{frames_in};
+    ghost use Rattle.mbe_matcher.specs.Numbers.{number_of};
 
     ghost Value = { Frame × List Frame };
 
