@@ -1,5 +1,5 @@
 -- Threads in one state have one number.
-use Rattle.std.proofs.Common.{◌≡◌, refl, sym, ap, ◌∙◌, ℕ, ◌+◌, ◌%◌, ◌^◌, ◌&&◌, ◌==◌, Bool, true, false, List, [], ◌∷◌, length}
+use Rattle.std.proofs.Common.{◌≡◌, refl, ap, ◌∙◌, ℕ, ◌+◌, ◌%◌, ◌^◌, ◌&&◌, ◌==◌, Bool, true, false, List, [], ◌∷◌, length}
 use Rattle.std.proofs.lemmas.Bool.{eqb-true}
 use Rattle.mbe_matcher.specs.Frames.{frames_in}
 use Rattle.mbe_matcher.specs.Numbers.{mixed, number_after, number_of}

@@ -1,5 +1,5 @@
 -- The search goes from one with the number to the one before.
-use Rattle.std.proofs.Common.{◌≡◌, ◌∙◌, ◌-◌, ◌<◌, ℕ, List, suc, map, length, true, false, sym, ap, subst, arith, slice_get, Some}
+use Rattle.std.proofs.Common.{◌≡◌, ◌∙◌, ◌-◌, ℕ, List, suc, map, length, sym, ap, subst, arith}
 use Rattle.mbe_matcher.specs.SeenStates.{is_like, last_at, number_of_state}
 use Rattle.mbe_matcher.specs.declared.same_state.Seen.{Seen}
 use Rattle.mbe_matcher.proofs.NumberLemmas.{like-number}

@@ -1,4 +1,4 @@
-use Rattle.std.proofs.Common.{◌∙◌, ap, arith, suc, nat_eq, if◌then◌else◌}
+use Rattle.std.proofs.Common.{◌∙◌, ap, arith, nat_eq, if◌then◌else◌}
 use Rattle.mbe_matcher.specs.SeenStates.{last_in}
 use Rattle.mbe_matcher.proofs.StateIndexLemmas.{index-more}
 use Rattle.mbe_matcher.proofs.seen_states.StateIndex.push.Goals as goal
