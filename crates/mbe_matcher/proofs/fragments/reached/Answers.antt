@@ -10,6 +10,7 @@ pub loop-left-preserved-in-Some-without_tree : goal.loop-left-preserved-in-Some-
 loop-left-preserved-in-Some-without_tree c =
     let next : IsNext c.loop-left.rest (Some c.in-Some.tree) c.next.new.self = search rules in
     let some : left_after c.in-Some.tree c.loop-left.left ≡ Some c.in-Some-without_tree.after = search rules in
-    let one = reach-next c.loop-left.left c.in-Some-without_tree.after c.loop-left.rest c.next.new.self c.in-Some.tree next some in
-    (further-one (reach c.next.new.self c.in-Some-without_tree.after) c.loop-left.count ∙ ap (further c.loop-left.count) (sym one.0) ∙ c.loop-left.invariant.0,
-    omega (arith, one.1, c.loop-left.invariant.1))
+    let one = reach-next c.loop-left.left c.in-Some-without_tree.after c.loop-left.rest c.next.new.self c.in-Some.tree next some in (
+      further-one (reach c.next.new.self c.in-Some-without_tree.after) c.loop-left.count ∙ ap (further c.loop-left.count) (sym one.0) ∙ c.loop-left.invariant.0,
+      omega (arith, one.1, c.loop-left.invariant.1),
+    )

@@ -1,7 +1,7 @@
 use Rattle.std.proofs.Common.{◌≡◌, ◌&&◌, drop}
 use Rattle.std.specs.List.{list_any}
 use Rattle.mbe_matcher.specs.Threads.{same_state}
-use Rattle.mbe_matcher.proofs.matcher.was_settled_twice.Given as goal
+use Rattle.mbe_matcher.proofs.same_state.was_settled_twice.Given as goal
 
 abbrev pub invariant-loop-one : goal.invariant-loop-one
 invariant-loop-one l =
