@@ -1,16 +1,24 @@
 -- The table of nodes stands for the rules.
-use Rattle.std.proofs.Common.{◌≡◌, ℕ, suc, zero, ◌+◌, ◌-◌, ◌≤◌, ◌<◌, Bool, true, false, ◌&&◌, List, [], ◌∷◌, length, get_or, drop, map, refl, sym, ap, ◌∙◌, subst, arith, lit<}
-use Rattle.std.specs.Prelude.{nat_lt, nat_eq}
-use Rattle.std.proofs.lemmas.Bool.{and_parts}
+use Rattle.std.proofs.Common.{◌≡◌, ℕ, suc, zero, ◌+◌, ◌-◌, ◌≤◌, ◌<◌, Bool, true, false, ◌&&◌, ◌||◌, List, [], ◌∷◌, length, get_or, drop, map, refl, sym, ap, ◌∙◌, subst, arith, lit<}
+use Rattle.std.specs.Prelude.{nat_lt, Option, Some, None, slice_get}
+use Rattle.std.proofs.lemmas.Bool.{and_parts, ltb-true}
 use Rattle.std.proofs.lemmas.List.{get_or-map, get_or-drop}
+use Rattle.std.proofs.lemmas.Option.{get_or_from_slice_get}
+use Rattle.std.specs.List.{list_any}
+use Rattle.tt_data.specs.Forest.{Forest}
+use Rattle.tt_data.specs.declared.edition.Edition.{Edition}
+use Rattle.small_grammar.specs.Text.{◌>>◌}
+use Rattle.small_grammar.specs.Tokens.{same_operator, spells, is_one_of_words, first_operator, passing}
+use Rattle.small_grammar.specs.declared.units.Operator.{Operator}
+use Rattle.small_grammar.specs.declared.units.Operator.TheVariants.{One, Two, Three}
 use Rattle.rust_grammar.specs.Expressions.{Expression, token, since, ◌⨾◌, ◌∣◌, many, maybe, surely, rule}
 use Rattle.rust_grammar.specs.Names.{Name, names, entry_visibility}
 use Rattle.rust_grammar.specs.Rules.{says}
-use Rattle.rust_grammar.specs.Table.{at, stands, expressions, expression_at, node_at, root_at, name_at, set_texts, word_text, is_sound, is_sound_token}
-use Rattle.rust_grammar.specs.Tokens.{a_name}
+use Rattle.rust_grammar.specs.Table.{at, stands, expressions, expression_at, node_at, root_at, name_at, set_texts, word_text, letters, is_sound, is_sound_token}
+use Rattle.rust_grammar.specs.Tokens.{a_name, one_of, token_at}
 use Rattle.rust_grammar.specs.declared.nodes.Node.{Node}
 use Rattle.rust_grammar.specs.declared.nodes.Node.TheVariants as node
-use Rattle.rust_grammar.specs.declared.table.TheConstants.{NODES, ROOTS}
+use Rattle.rust_grammar.specs.declared.table.TheConstants.{NODES, ROOTS, SETS, WORDS}
 
 -- ---- what is computed
 
@@ -90,14 +98,58 @@ root-says k fits =
     ∙ ap (λ es. get_or es k (token a_name)) roots_say
     ∙ get_or-map says names k entry_visibility (token a_name) fits
 
-less : (n m : ℕ) → nat_lt n m ≡ true → n < m
-less n m e = search (arith, e)
+
+
 
 within_at : (ns : List ℕ) (k : ℕ) → k < length ns → all_within ns ≡ true → get_or ns k 0 < 1392
 within_at [] k fits e = absurd (omega (arith, fits))
-within_at (n ∷ ns) zero fits e = less n 1392 (and_parts (nat_lt n 1392) (all_within ns) e).0
+within_at (n ∷ ns) zero fits e = ltb-true n 1392 (and_parts (nat_lt n 1392) (all_within ns) e).0
 within_at (n ∷ ns) (suc k) fits e = within_at ns k (omega (arith, fits)) (and_parts (nat_lt n 1392) (all_within ns) e).1
 
 pub root-within : (k : ℕ) → k < 92 → root_at k < 1392
 unfolding root_at
 root-within k fits = within_at ROOTS k fits roots_in
+
+-- ---- what is read of the tables
+
+pub root-read : (k n : ℕ) → slice_get ROOTS k ≡ Some n → root_at k ≡ n
+unfolding root_at
+root-read k n e = get_or_from_slice_get ROOTS k n 0 e
+
+pub node-read : (k : ℕ) (n : Node) → slice_get NODES k ≡ Some n → n ≡ node_at k
+unfolding node_at
+node-read k n e = sym (get_or_from_slice_get NODES k n node.Many e)
+
+or-false : (b : Bool) → (b || false) ≡ b
+or-false true = refl
+or-false false = refl
+
+pub element-read : {A B : Type 0} → (show : A → B) (xs : List A) (k : ℕ) (x : A) (d : B) → k < length xs → slice_get xs k ≡ Some x → show x ≡ get_or (map show xs) k d
+element-read show xs k x d fits e = sym (get_or-map show xs k x d fits ∙ ap show (get_or_from_slice_get xs k x x e))
+
+-- ---- sets of operators
+
+spells-letters : (o op : Operator) → spells (letters o) op ≡ same_operator o op
+spells-letters (One a) op = refl
+spells-letters (Two a b) op = refl
+spells-letters (Three a b c) op = refl
+
+-- a set has an operator if one of its texts spells it
+pub among-letters : (ops : List Operator) (op : Operator) → list_any (λ known. same_operator known op) ops ≡ is_one_of_words (map letters ops) op
+among-letters [] op = refl
+among-letters (o ∷ []) op = or-false (same_operator o op) ∙ sym (spells-letters o op)
+among-letters (o ∷ p ∷ ops) op =
+    ap (λ b. same_operator o op || b) (among-letters (p ∷ ops) op)
+    ∙ ap (λ b. b || is_one_of_words (map letters (p ∷ ops)) op) (sym (spells-letters o op))
+
+-- an operator that is read is taken if a set has it
+pub one-of : (ed : Edition) (ops : List Operator) (texts : List (List ℕ)) (f g : Forest) (op : Operator) (b : Bool) → map letters ops ≡ texts →
+    first_operator f ≡ Some (op, g) → list_any (λ known. same_operator known op) ops ≡ b → (b >> Some g) ≡ token_at ed (one_of texts) f
+unfolding token_at
+one-of ed ops texts f g op b same e h =
+    let s : is_one_of_words texts op ≡ b = ap (λ ts. is_one_of_words ts op) (sym same) ∙ sym (among-letters ops op) ∙ h in
+    ap (λ c. c >> Some g) (sym s) ∙ ap (passing (is_one_of_words texts)) (sym e)
+
+pub none-of : (ed : Edition) (texts : List (List ℕ)) (f : Forest) → first_operator f ≡ None → None ≡ token_at ed (one_of texts) f
+unfolding token_at
+none-of ed texts f e = ap (passing (is_one_of_words texts)) (sym e)

@@ -187,11 +187,12 @@ answer-passed ed entry f t g n taken_is passed counted =
     ∙ ap (answer_of f) (sym taken_is)
     ∙ sym (answer-shape ed entry f)
 
-fault_of : (f : Forest) (o : Outcome) → ((g : Forest) → o ≢ Fits g) → record { tokens = 0; fault = true } ≡ answer_of f o
-fault_of f (Fits g) none = absurd (none g refl)
-fault_of f Misses none = refl
-fault_of f Faults none = refl
+pub answer-misses : (ed : Edition) (entry : PrefixEntryPoint) (f : Forest) → comes_of ed entry f ≡ Misses → record { tokens = 0; fault = true } ≡ answer ed entry (shape f)
+answer-misses ed entry f e = ap (answer_of f) (sym e) ∙ sym (answer-shape ed entry f)
 
-pub answer-fault : (ed : Edition) (entry : PrefixEntryPoint) (f : Forest) → ((g : Forest) → comes_of ed entry f ≢ Fits g) →
-    record { tokens = 0; fault = true } ≡ answer ed entry (shape f)
-answer-fault ed entry f none = fault_of f (comes_of ed entry f) none ∙ sym (answer-shape ed entry f)
+pub answer-faults : (ed : Edition) (entry : PrefixEntryPoint) (f : Forest) → comes_of ed entry f ≡ Faults → record { tokens = 0; fault = true } ≡ answer ed entry (shape f)
+answer-faults ed entry f e = ap (answer_of f) (sym e) ∙ sym (answer-shape ed entry f)
+
+-- the answer hangs on shapes alone
+pub answer-same : (ed : Edition) (entry : PrefixEntryPoint) (f g : Forest) → shape f ≡ shape g → answer ed entry f ≡ answer ed entry g
+answer-same ed entry f g e = sym (answer-shape ed entry f) ∙ ap (answer ed entry) e ∙ answer-shape ed entry g

@@ -10,6 +10,12 @@ use fragment_grammar::{FragmentGrammar, Prefix, PrefixEntryPoint, steps};
 use tt::{TokenTreesView, TtIter};
 use tt_data::Edition;
 
+// No fragment begins the list.
+const FAULT: Prefix = Prefix {
+    tokens: 0,
+    fault: true,
+};
+
 /// The grammar of Rust's fragments in an edition. `specs/Rules.antt` is its table of rules.
 ///
 /// It takes no memory. It passes groups without looking inside, except for what restricts a
@@ -66,10 +72,8 @@ impl FragmentGrammar for RustGrammar {
                 tokens: steps(rest.passed_since(input)),
                 fault: false,
             },
-            _ => Prefix {
-                tokens: 0,
-                fault: true,
-            },
+            Outcome::Misses => FAULT,
+            Outcome::Faults => FAULT,
         }
     }
 

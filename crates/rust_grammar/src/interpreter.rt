@@ -63,7 +63,7 @@ fn repeat<'a>(edition: Edition, place: u16, levels: u16, trees: TtIter<'a>) -> O
     ensures { result ≡ rounds (size trees.entry) (comes_at edition levels place) trees.entry }
 {
     let mut rest = trees;
-    for _round in 0..rest.remaining().len() {
+    'rounds: for _round in 0..rest.remaining().len() {
         match come_of(edition, place, levels, &rest) {
             Outcome::Fits(next) => rest = next,
             Outcome::Misses => return Outcome::Fits(rest),
@@ -89,7 +89,7 @@ fn come_of<'a>(
     let mut place = start;
     let mut levels = most_levels;
     let mut rest = trees.copied();
-    loop {
+    'nodes: loop {
         match read_node(place) {
             Node::Token(wanted) => return of_token(edition, wanted, &rest),
             Node::Since(first) => return since(first, edition, rest),
@@ -98,11 +98,13 @@ fn come_of<'a>(
                     rest = next;
                     place += behind;
                 }
-                other => return other,
+                Outcome::Misses => return Outcome::Misses,
+                Outcome::Faults => return Outcome::Faults,
             },
             Node::Or(behind) => match come_of(edition, place + 1, levels, &rest) {
+                Outcome::Fits(next) => return Outcome::Fits(next),
                 Outcome::Misses => place += behind,
-                other => return other,
+                Outcome::Faults => return Outcome::Faults,
             },
             Node::Many => return repeat(edition, place + 1, levels, rest),
             Node::Maybe => return or_nothing(come_of(edition, place + 1, levels, &rest), rest),

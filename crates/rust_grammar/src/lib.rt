@@ -8,6 +8,7 @@
 
 mod grammar;
 mod interpreter;
+pub mod laws;
 mod names;
 mod nodes;
 mod outcome;

@@ -3,6 +3,7 @@
 use tt::TtIter;
 
 /// What comes of an expression at the beginning of a list of trees.
+#[derive(Drop)]
 pub enum Outcome<'a> {
     /// It fits, and these trees are left.
     Fits(TtIter<'a>),

@@ -1,5 +1,5 @@
 //! Single tokens of the table.
-ghost use Rattle.std.specs.Prelude.{◌≡◌, IsTrue, map};
+ghost use Rattle.std.specs.Prelude.{◌≡◌, ◌<◌, IsTrue, map};
 ghost use Rattle.std.specs.List.{list_any};
 ghost use Rattle.small_grammar.specs.Tokens.{is_one_of_words, same_operator};
 ghost use Rattle.rust_grammar.specs.Table.{is_sound_token, letters, set_texts, token_of};
