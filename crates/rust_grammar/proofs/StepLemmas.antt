@@ -66,7 +66,7 @@ module _ (ed : Edition) (levels place : ℕ) (fits : place < 1392) where
   pub or_faults : (k : ℕ) (f : Forest) → node.Or k ≡ node_at place → Faults ≡ comes_at ed levels (place + 1) f → Faults ≡ comes_at ed levels place f
   or_faults k f e first = or_comes k f Faults e first
 
-  pub many_comes : (f : Forest) → node.Many ≡ node_at place → rounds (size f) (comes_at ed levels (place + 1)) f ≡ comes_at ed levels place f
+  pub many_comes : (f : Forest) → node.Many ≡ node_at place → rounds (suc (size f)) (comes_at ed levels (place + 1)) f ≡ comes_at ed levels place f
   many_comes f e = sym (step node.Many f e)
 
   pub maybe_comes : (f : Forest) (o : Outcome) → node.Maybe ≡ node_at place → o ≡ comes_at ed levels (place + 1) f → or_nothing o f ≡ comes_at ed levels place f

@@ -80,14 +80,14 @@ abbrev pub rounds : ℕ → Taking → Taking
 rounds zero p f = Fits f
 rounds (suc n) p f = next_round (rounds n p) (p f) f
 
--- what comes of an expression, given what comes of the rules: each round of a repetition takes a
--- token, so there are no more than tokens
+-- what comes of an expression, given what comes of the rules: each round of a repetition but the last
+-- takes a token, so there is at most one more than tokens
 abbrev pub taken : Edition → (Name → Taking) → Expression → Taking
 taken edition rules (token t) f = found (token_at edition t f)
 taken edition rules (since first) f = nothing_if (nat_le (year_of first) (year_of edition)) f
 taken edition rules (a ⨾ b) f = and_then (taken edition rules b) (taken edition rules a f)
 taken edition rules (a ∣ b) f = otherwise (taken edition rules a f) (taken edition rules b) f
-taken edition rules (many a) f = rounds (size f) (taken edition rules a) f
+taken edition rules (many a) f = rounds (suc (size f)) (taken edition rules a) f
 taken edition rules (maybe a) f = or_nothing (taken edition rules a f) f
 taken edition rules (surely a) f = decided (taken edition rules a f)
 taken edition rules (rule k) f = rules k f

@@ -101,8 +101,8 @@ module _ (m : Span → Span) where
         ap (λ o. otherwise o (taken ed r b) (map_spans m f)) (expression-moved a f)
         ∙ otherwise-moved (taken ed r b) (expression-moved b) (taken ed r a f) f
     expression-moved (many a) f =
-        ap (λ n. rounds n (taken ed r a) (map_spans m f)) (size-map_spans m f)
-        ∙ rounds-moved (taken ed r a) (expression-moved a) (size f) f
+        ap (λ n. rounds (suc n) (taken ed r a) (map_spans m f)) (size-map_spans m f)
+        ∙ rounds-moved (taken ed r a) (expression-moved a) (suc (size f)) f
     expression-moved (maybe a) f =
         ap (λ o. or_nothing o (map_spans m f)) (expression-moved a f) ∙ or_nothing-moved (taken ed r a f) f
     expression-moved (surely a) f = ap decided (expression-moved a f) ∙ decided-moved (taken ed r a f)

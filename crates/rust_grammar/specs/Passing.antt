@@ -98,7 +98,7 @@ module _ (ed : Edition) (rules : Name → Taking) (rules_take : (k : Name) → T
       otherwise-takes (min (least a) (least b)) (taken ed rules b)
       (fewer-taken (least b) (min (least a) (least b)) (taken ed rules b) (omega arith) (expression-takes b)) f g (taken ed rules a f)
       (fewer-taken (least a) (min (least a) (least b)) (taken ed rules a) (omega arith) (expression-takes a) f) h
-  expression-takes (many a) f g h = rounds-take (least a) (taken ed rules a) (expression-takes a) (size f) f g h
+  expression-takes (many a) f g h = rounds-take (least a) (taken ed rules a) (expression-takes a) (suc (size f)) f g h
   expression-takes (maybe a) f g h = or_nothing-takes (least a) f g (taken ed rules a f) (expression-takes a f) h
   expression-takes (surely a) f g h = decided-takes (least a) f g (taken ed rules a f) (expression-takes a f) h
   expression-takes (rule k) f g h = rules_take k f g h

@@ -1,5 +1,5 @@
 //! The interpreter of the table.
-ghost use Rattle.std.specs.Prelude.{◌≡◌, ◌<◌, IsTrue, nat_le};
+ghost use Rattle.std.specs.Prelude.{◌≡◌, ◌<◌, suc, IsTrue, nat_le};
 ghost use Rattle.tt_data.specs.Editions.{year_of};
 ghost use Rattle.tt_data.specs.Forest.{size};
 ghost use Rattle.rust_grammar.specs.Answer.{most_levels, rules_to};
@@ -56,14 +56,14 @@ fn decided(found: Outcome<'_>) -> Outcome<'_>
     }
 }
 
-// What comes of a node as often as it fits, at most once for each token.
+// What comes of a node as often as it fits, until it does not: each time but the last takes a token.
 #[cycle(interpreter)]
 fn repeat<'a>(edition: Edition, place: u16, levels: u16, trees: TtIter<'a>) -> Outcome<'a>
     requires { place < 1392 }
-    ensures { result ≡ rounds (size trees.entry) (comes_at edition levels place) trees.entry }
+    ensures { result ≡ rounds (suc (size trees.entry)) (comes_at edition levels place) trees.entry }
 {
     let mut rest = trees;
-    'rounds: for _round in 0..rest.remaining().len() {
+    'rounds: for _round in 0..rest.remaining().len() + 1 {
         match come_of(edition, place, levels, &rest) {
             Outcome::Fits(next) => rest = next,
             Outcome::Misses => return Outcome::Fits(rest),

@@ -94,6 +94,6 @@ come_of-nodes-preserved t c =
 pub repeat-rounds-preserved : goal.repeat-rounds-preserved
 repeat-rounds-preserved t c =
     let here = c.rounds-test.true in
-    round_on (c.len-round-end.result - c.rounds._round) (c.len-round-end.result - (c.rounds._round + 1)) (comes_at c.args.edition c.args.levels c.args.place)
+    round_on (c.len-round-end.result + 1 - c.rounds._round) (c.len-round-end.result + 1 - (c.rounds._round + 1)) (comes_at c.args.edition c.args.levels c.args.place)
     c.rounds.rest c.in-Fits.next (omega (arith, here)) c.in-Fits.ensures
     ∙ c.rounds.invariant

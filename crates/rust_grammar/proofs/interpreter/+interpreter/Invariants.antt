@@ -1,4 +1,4 @@
-use Rattle.std.proofs.Common.{◌≡◌, ◌+◌, ◌-◌, ◌*◌, ◌≤◌, ◌<◌}
+use Rattle.std.proofs.Common.{◌≡◌, ◌+◌, ◌-◌, ◌*◌, ◌≤◌, ◌<◌, suc}
 use Rattle.tt_data.specs.Forest.{size}
 use Rattle.rust_grammar.specs.Expressions.{rounds}
 use Rattle.rust_grammar.specs.Table.{comes_at}
@@ -22,4 +22,4 @@ decreases-come_of-nodes l = l.levels * 4000 + 2 * (1392 - l.place)
 
 abbrev pub invariant-repeat-rounds : goal.invariant-repeat-rounds
 invariant-repeat-rounds l =
-    rounds (l._round-end - l._round) (comes_at l.edition l.levels l.place) l.rest ≡ rounds (size l.fn.trees) (comes_at l.edition l.levels l.place) l.fn.trees
+    rounds (l._round-end - l._round) (comes_at l.edition l.levels l.place) l.rest ≡ rounds (suc (size l.fn.trees)) (comes_at l.edition l.levels l.place) l.fn.trees
