@@ -98,9 +98,6 @@ root-says k fits =
     ∙ ap (λ es. get_or es k (token a_name)) roots_say
     ∙ get_or-map says names k entry_visibility (token a_name) fits
 
-
-
-
 within_at : (ns : List ℕ) (k : ℕ) → k < length ns → all_within ns ≡ true → get_or ns k 0 < 1392
 within_at [] k fits e = absurd (omega (arith, fits))
 within_at (n ∷ ns) zero fits e = ltb-true n 1392 (and_parts (nat_lt n 1392) (all_within ns) e).0

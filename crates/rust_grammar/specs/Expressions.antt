@@ -30,7 +30,6 @@ pub data Expression : Type 0 where
 
 infixr 30 ◌⨾◌
 infixr 20 ◌∣◌
-
 -- what comes of it at a list: it fits and leaves these trees, or misses, or the fragment is a fault
 abbrev pub Taking : Type 0
 Taking = Forest → Outcome

@@ -58,6 +58,7 @@ glued texts = token (one_of (small.words (codes texts)))
 
 -- the expression of a rule's name
 abbrev pub says : Name → Expression
+-- ---- entry points
 says entry_visibility = maybe (rule visibility)
 says entry_block = brace
 says entry_statement =
@@ -69,13 +70,17 @@ says entry_type = rule type
 says entry_expression = rule expression
 says entry_path = rule type_path ∣ rule qualified_path
 says entry_item =
-    many (rule attribute) ⨾ (maybe (rule visibility) ⨾ maybe (word "default") ⨾ rule item ∣ rule item_macro ∣ word "const" ⨾ brace)
+    many (rule attribute)
+    ⨾ (maybe (rule visibility) ⨾ maybe (word "default") ⨾ rule item ∣ rule item_macro
+    ∣ word "const" ⨾ brace)
 says entry_attribute =
     word "unsafe" ⨾ paren
     ∣ rule simple_path ⨾ maybe (rule group ∣ glued "=" ⨾ surely (rule expression))
+-- ---- lexical help
 says group = paren ∣ brace ∣ bracket
 says lifetime = single "'" ⨾ identifier
 says attribute = glued "#" ⨾ bracket
+-- ---- items
 says visibility = word "pub" ⨾ maybe restriction
 says visible_item = maybe (rule visibility) ⨾ rule item
 says item =
@@ -99,52 +104,91 @@ says extern_crate = word "extern" ⨾ word "crate" ⨾ name ⨾ maybe (rule as_c
 says as_clause = word "as" ⨾ (name ∣ word "_")
 says use_declaration = word "use" ⨾ surely (rule use_tree ⨾ glued ";")
 says use_tree =
-    maybe (glued "::") ⨾ (glued "*" ∣ brace ∣ name ⨾ many (glued "::" ⨾ name) ⨾ maybe (glued "::" ⨾ (glued "*" ∣ brace) ∣ rule as_clause))
+    maybe (glued "::")
+    ⨾ (glued "*" ∣ brace
+    ∣ name ⨾ many (glued "::" ⨾ name)
+    ⨾ maybe (glued "::" ⨾ (glued "*" ∣ brace) ∣ rule as_clause))
 says function =
-    maybe (word "const") ⨾ maybe (word "async") ⨾ maybe (word "gen") ⨾ maybe (word "unsafe" ∣ word "safe") ⨾ maybe (rule abi) ⨾ word "fn" ⨾ surely (name ⨾ maybe (rule generic_params) ⨾ paren ⨾ maybe (single "->" ⨾ surely (rule type)) ⨾ maybe (rule where_clause) ⨾ (brace ∣ glued ";"))
+    maybe (word "const") ⨾ maybe (word "async") ⨾ maybe (word "gen")
+    ⨾ maybe (word "unsafe" ∣ word "safe") ⨾ maybe (rule abi) ⨾ word "fn"
+    ⨾ surely (name ⨾ maybe (rule generic_params) ⨾ paren
+    ⨾ maybe (single "->" ⨾ surely (rule type)) ⨾ maybe (rule where_clause)
+    ⨾ (brace ∣ glued ";"))
 says abi = word "extern" ⨾ maybe literal
 says type_alias =
-    word "type" ⨾ surely (name ⨾ maybe (rule generic_params) ⨾ maybe (glued ":" ⨾ maybe (rule bounds)) ⨾ maybe (rule where_clause) ⨾ maybe (glued "=" ⨾ rule type) ⨾ maybe (rule where_clause) ⨾ glued ";")
+    word "type"
+    ⨾ surely (name ⨾ maybe (rule generic_params) ⨾ maybe (glued ":" ⨾ maybe (rule bounds))
+    ⨾ maybe (rule where_clause) ⨾ maybe (glued "=" ⨾ rule type) ⨾ maybe (rule where_clause)
+    ⨾ glued ";")
 says structure =
-    word "struct" ⨾ surely (name ⨾ maybe (rule generic_params) ⨾ (paren ⨾ maybe (rule where_clause) ⨾ glued ";" ∣ maybe (rule where_clause) ⨾ (brace ∣ glued ";")))
+    word "struct"
+    ⨾ surely (name ⨾ maybe (rule generic_params)
+    ⨾ (paren ⨾ maybe (rule where_clause) ⨾ glued ";"
+    ∣ maybe (rule where_clause) ⨾ (brace ∣ glued ";")))
 says enumeration =
     word "enum" ⨾ surely (name ⨾ maybe (rule generic_params) ⨾ maybe (rule where_clause) ⨾ brace)
 says union = word "union" ⨾ name ⨾ maybe (rule generic_params) ⨾ maybe (rule where_clause) ⨾ brace
 says constant =
-    word "const" ⨾ (name ∣ word "_") ⨾ maybe (rule generic_params) ⨾ glued ":" ⨾ surely (rule type ⨾ maybe (rule where_clause) ⨾ maybe (glued "=" ⨾ surely (rule expression)) ⨾ maybe (rule where_clause) ⨾ glued ";")
+    word "const" ⨾ (name ∣ word "_") ⨾ maybe (rule generic_params) ⨾ glued ":"
+    ⨾ surely (rule type ⨾ maybe (rule where_clause)
+    ⨾ maybe (glued "=" ⨾ surely (rule expression)) ⨾ maybe (rule where_clause) ⨾ glued ";")
 says static_item =
-    maybe (word "unsafe" ∣ word "safe") ⨾ word "static" ⨾ maybe (word "mut") ⨾ name ⨾ glued ":" ⨾ surely (rule type ⨾ maybe (glued "=" ⨾ surely (rule expression)) ⨾ glued ";")
+    maybe (word "unsafe" ∣ word "safe") ⨾ word "static" ⨾ maybe (word "mut") ⨾ name ⨾ glued ":"
+    ⨾ surely (rule type ⨾ maybe (glued "=" ⨾ surely (rule expression)) ⨾ glued ";")
 says trait_item =
-    maybe (word "const") ⨾ maybe (word "unsafe") ⨾ maybe (word "auto") ⨾ word "trait" ⨾ surely (name ⨾ maybe (rule generic_params) ⨾ maybe (glued ":" ⨾ maybe (rule bounds)) ⨾ (glued "=" ⨾ maybe (rule bounds) ⨾ maybe (rule where_clause) ⨾ glued ";" ∣ maybe (rule where_clause) ⨾ brace))
+    maybe (word "const") ⨾ maybe (word "unsafe") ⨾ maybe (word "auto") ⨾ word "trait"
+    ⨾ surely (name ⨾ maybe (rule generic_params) ⨾ maybe (glued ":" ⨾ maybe (rule bounds))
+    ⨾ (glued "=" ⨾ maybe (rule bounds) ⨾ maybe (rule where_clause) ⨾ glued ";"
+    ∣ maybe (rule where_clause) ⨾ brace))
 says implementation =
-    maybe (word "const") ⨾ maybe (word "unsafe") ⨾ word "impl" ⨾ surely (maybe (rule generic_params) ⨾ maybe (word "const") ⨾ (single "!" ⨾ rule type ⨾ word "for" ⨾ rule type ∣ rule type ⨾ maybe (word "for" ⨾ rule type)) ⨾ maybe (rule where_clause) ⨾ brace)
+    maybe (word "const") ⨾ maybe (word "unsafe") ⨾ word "impl"
+    ⨾ surely (maybe (rule generic_params) ⨾ maybe (word "const")
+    ⨾ (single "!" ⨾ rule type ⨾ word "for" ⨾ rule type
+    ∣ rule type ⨾ maybe (word "for" ⨾ rule type)) ⨾ maybe (rule where_clause) ⨾ brace)
 says extern_block = maybe (word "unsafe") ⨾ word "extern" ⨾ maybe literal ⨾ brace
 says macro_rules = word "macro_rules" ⨾ glued "!" ⨾ name ⨾ rule macro_end
 says macro_definition = word "macro" ⨾ name ⨾ maybe paren ⨾ brace
 says item_macro = rule simple_path ⨾ glued "!" ⨾ maybe name ⨾ rule macro_end
 says macro_end = brace ∣ (paren ∣ bracket) ⨾ glued ";"
 says generic_params =
-    single "<" ⨾ maybe (rule generic_param ⨾ many (single "," ⨾ rule generic_param) ⨾ maybe (single ",")) ⨾ single ">"
+    single "<"
+    ⨾ maybe (rule generic_param ⨾ many (single "," ⨾ rule generic_param) ⨾ maybe (single ","))
+    ⨾ single ">"
 says generic_param =
-    many (rule attribute) ⨾ (rule lifetime ⨾ maybe (glued ":" ⨾ maybe (rule bounds)) ∣ word "const" ⨾ name ⨾ glued ":" ⨾ rule type ⨾ maybe (glued "=" ⨾ rule generic_arg) ∣ name ⨾ maybe (glued ":" ⨾ maybe (rule bounds)) ⨾ maybe (glued "=" ⨾ rule type))
+    many (rule attribute)
+    ⨾ (rule lifetime ⨾ maybe (glued ":" ⨾ maybe (rule bounds))
+    ∣ word "const" ⨾ name ⨾ glued ":" ⨾ rule type ⨾ maybe (glued "=" ⨾ rule generic_arg)
+    ∣ name ⨾ maybe (glued ":" ⨾ maybe (rule bounds)) ⨾ maybe (glued "=" ⨾ rule type))
 says where_clause =
-    word "where" ⨾ maybe (rule where_predicate ⨾ many (glued "," ⨾ rule where_predicate) ⨾ maybe (glued ","))
+    word "where"
+    ⨾ maybe (rule where_predicate ⨾ many (glued "," ⨾ rule where_predicate)
+    ⨾ maybe (glued ","))
 says where_predicate =
-    many (rule attribute) ⨾ (rule lifetime ⨾ glued ":" ⨾ maybe (rule bounds) ∣ rule type ⨾ glued ":" ⨾ maybe (rule bounds))
+    many (rule attribute)
+    ⨾ (rule lifetime ⨾ glued ":" ⨾ maybe (rule bounds)
+    ∣ rule type ⨾ glued ":" ⨾ maybe (rule bounds))
+-- ---- statements
 says let_statement =
-    word "let" ⨾ surely (rule patterns ⨾ maybe (glued ":" ⨾ surely (rule type)) ⨾ maybe (glued "=" ⨾ surely (rule expression ⨾ maybe (word "else" ⨾ surely brace))))
+    word "let"
+    ⨾ surely (rule patterns ⨾ maybe (glued ":" ⨾ surely (rule type))
+    ⨾ maybe (glued "=" ⨾ surely (rule expression ⨾ maybe (word "else" ⨾ surely brace))))
 says expression_statement =
-    (rule with_block ∣ rule statement_macro) ⨾ maybe (rule dotted ⨾ many (rule postfix) ⨾ rule operations ⨾ maybe (rule expression_end))
+    (rule with_block ∣ rule statement_macro)
+    ⨾ maybe (rule dotted ⨾ many (rule postfix) ⨾ rule operations
+    ⨾ maybe (rule expression_end))
     ∣ rule expression
 says statement_macro = rule simple_path ⨾ glued "!" ⨾ brace
+-- ---- expressions: precedence of operators is folded away
 says expression = rule half_range ∣ rule operand ⨾ rule operations ⨾ maybe (rule expression_end)
 says expression_in_condition =
     rule half_range_in_condition
-    ∣ rule operand_in_condition ⨾ rule operations_in_condition ⨾ maybe (rule expression_end_in_condition)
+    ∣ rule operand_in_condition ⨾ rule operations_in_condition
+    ⨾ maybe (rule expression_end_in_condition)
 says operations =
     many (rule binary_operator ⨾ surely (rule operand) ∣ word "as" ⨾ surely (rule type_no_bounds))
 says operations_in_condition =
-    many (rule binary_operator ⨾ surely (rule operand_in_condition) ∣ word "as" ⨾ surely (rule type_no_bounds))
+    many (rule binary_operator ⨾ surely (rule operand_in_condition)
+    ∣ word "as" ⨾ surely (rule type_no_bounds))
 says expression_end =
     rule assignment_operator ⨾ surely (rule expression)
     ∣ glued "..=" ⨾ surely (rule operand ⨾ rule operations)
@@ -156,9 +200,12 @@ says expression_end_in_condition =
 says binary_operator = glued "+ - * / % ^ & | && || << >> == != < > <= >= <-"
 says assignment_operator = glued "= += -= *= /= %= ^= &= |= <<= >>="
 says operand =
-    many (rule sign) ⨾ (rule jump ∣ rule closure ∣ rule half_range ∣ rule atom ⨾ many (rule postfix))
+    many (rule sign)
+    ⨾ (rule jump ∣ rule closure ∣ rule half_range ∣ rule atom ⨾ many (rule postfix))
 says operand_in_condition =
-    many (rule sign_in_condition) ⨾ (rule jump_in_condition ∣ rule closure_in_condition ∣ rule half_range_in_condition ∣ rule atom_in_condition ⨾ many (rule postfix))
+    many (rule sign_in_condition)
+    ⨾ (rule jump_in_condition ∣ rule closure_in_condition ∣ rule half_range_in_condition
+    ∣ rule atom_in_condition ⨾ many (rule postfix))
 says sign =
     glued "- ! *"
     ∣ glued "& &&" ⨾ maybe (word "raw" ⨾ (word "const" ∣ word "mut") ∣ word "mut")
@@ -175,17 +222,31 @@ says half_range_in_condition =
     glued "..=" ⨾ surely (rule operand_in_condition ⨾ rule operations_in_condition)
     ∣ glued ".." ⨾ maybe (rule operand_in_condition ⨾ rule operations_in_condition)
 says jump =
-    (word "return" ∣ word "yield" ∣ word "become" ∣ word "do" ⨾ word "yeet") ⨾ maybe (rule expression)
+    (word "return" ∣ word "yield" ∣ word "become" ∣ word "do" ⨾ word "yeet")
+    ⨾ maybe (rule expression)
     ∣ word "break" ⨾ maybe (rule lifetime) ⨾ maybe (rule expression)
     ∣ word "continue" ⨾ maybe (rule lifetime)
 says jump_in_condition =
-    (word "return" ∣ word "yield" ∣ word "become" ∣ word "do" ⨾ word "yeet") ⨾ maybe (rule expression_in_condition)
+    (word "return" ∣ word "yield" ∣ word "become" ∣ word "do" ⨾ word "yeet")
+    ⨾ maybe (rule expression_in_condition)
     ∣ word "break" ⨾ maybe (rule lifetime) ⨾ maybe (rule expression_in_condition)
     ∣ word "continue" ⨾ maybe (rule lifetime)
 says closure =
-    maybe (rule for_lifetimes) ⨾ maybe (word "const") ⨾ maybe (word "static") ⨾ maybe (since Edition2018 ⨾ word "async") ⨾ maybe (since Edition2024 ⨾ word "gen") ⨾ maybe (word "move") ⨾ (glued "||" ∣ single "|" ⨾ maybe (rule closure_param ⨾ many (glued "," ⨾ rule closure_param) ⨾ maybe (glued ",")) ⨾ single "|") ⨾ (single "->" ⨾ rule type ⨾ brace ∣ rule expression)
+    maybe (rule for_lifetimes) ⨾ maybe (word "const") ⨾ maybe (word "static")
+    ⨾ maybe (since Edition2018 ⨾ word "async") ⨾ maybe (since Edition2024 ⨾ word "gen")
+    ⨾ maybe (word "move")
+    ⨾ (glued "||"
+    ∣ single "|"
+    ⨾ maybe (rule closure_param ⨾ many (glued "," ⨾ rule closure_param) ⨾ maybe (glued ","))
+    ⨾ single "|") ⨾ (single "->" ⨾ rule type ⨾ brace ∣ rule expression)
 says closure_in_condition =
-    maybe (rule for_lifetimes) ⨾ maybe (word "const") ⨾ maybe (word "static") ⨾ maybe (since Edition2018 ⨾ word "async") ⨾ maybe (since Edition2024 ⨾ word "gen") ⨾ maybe (word "move") ⨾ (glued "||" ∣ single "|" ⨾ maybe (rule closure_param ⨾ many (glued "," ⨾ rule closure_param) ⨾ maybe (glued ",")) ⨾ single "|") ⨾ (single "->" ⨾ rule type ⨾ brace ∣ rule expression_in_condition)
+    maybe (rule for_lifetimes) ⨾ maybe (word "const") ⨾ maybe (word "static")
+    ⨾ maybe (since Edition2018 ⨾ word "async") ⨾ maybe (since Edition2024 ⨾ word "gen")
+    ⨾ maybe (word "move")
+    ⨾ (glued "||"
+    ∣ single "|"
+    ⨾ maybe (rule closure_param ⨾ many (glued "," ⨾ rule closure_param) ⨾ maybe (glued ","))
+    ⨾ single "|") ⨾ (single "->" ⨾ rule type ⨾ brace ∣ rule expression_in_condition)
 says closure_param = many (rule attribute) ⨾ rule pattern ⨾ maybe (glued ":" ⨾ rule type)
 says atom =
     literal
@@ -218,16 +279,24 @@ says with_block =
     ∣ word "match" ⨾ surely (rule expression_in_condition ⨾ brace)
     ∣ maybe (rule lifetime ⨾ glued ":") ⨾ (rule loop ∣ brace)
 says if_expression =
-    word "if" ⨾ surely (rule expression_in_condition ⨾ brace ⨾ many (word "else" ⨾ word "if" ⨾ surely (rule expression_in_condition ⨾ brace)) ⨾ maybe (word "else" ⨾ surely brace))
+    word "if"
+    ⨾ surely (rule expression_in_condition ⨾ brace
+    ⨾ many (word "else" ⨾ word "if" ⨾ surely (rule expression_in_condition ⨾ brace))
+    ⨾ maybe (word "else" ⨾ surely brace))
 says loop =
     word "loop" ⨾ surely brace
     ∣ word "while" ⨾ surely (rule expression_in_condition ⨾ brace)
-    ∣ word "for" ⨾ maybe (word "await") ⨾ rule patterns ⨾ word "in" ⨾ surely (rule expression_in_condition ⨾ brace)
+    ∣ word "for" ⨾ maybe (word "await") ⨾ rule patterns ⨾ word "in"
+    ⨾ surely (rule expression_in_condition ⨾ brace)
 says postfix = paren ∣ bracket ∣ rule dotted
 says dotted =
     glued "?"
-    ∣ glued "." ⨾ surely (name ⨾ maybe (glued "::" ⨾ surely (rule generic_args)) ∣ since Edition2018 ⨾ word "await" ∣ word "use" ∣ number)
-says patterns = maybe (glued "|") ⨾ rule pattern ⨾ many (glued "|" ⨾ surely (rule pattern ∣ glued "!"))
+    ∣ glued "."
+    ⨾ surely (name ⨾ maybe (glued "::" ⨾ surely (rule generic_args))
+    ∣ since Edition2018 ⨾ word "await" ∣ word "use" ∣ number)
+-- ---- patterns
+says patterns =
+    maybe (glued "|") ⨾ rule pattern ⨾ many (glued "|" ⨾ surely (rule pattern ∣ glued "!"))
 says pattern =
     word "_"
     ∣ rule literal_value ⨾ maybe (rule range_pattern_end)
@@ -237,13 +306,17 @@ says pattern =
     ∣ paren
     ∣ bracket
     ∣ word "const" ⨾ brace
-    ∣ (word "ref" ⨾ maybe (word "mut") ∣ word "mut" ⨾ maybe (word "ref" ⨾ maybe (word "mut"))) ⨾ name ⨾ maybe (glued "@" ⨾ surely (rule pattern))
-    ∣ (rule path ∣ rule qualified_path) ⨾ maybe (glued "@" ⨾ surely (rule pattern) ∣ paren ∣ brace ∣ glued "!" ⨾ surely (rule group) ∣ rule range_pattern_end)
+    ∣ (word "ref" ⨾ maybe (word "mut") ∣ word "mut" ⨾ maybe (word "ref" ⨾ maybe (word "mut")))
+    ⨾ name ⨾ maybe (glued "@" ⨾ surely (rule pattern))
+    ∣ (rule path ∣ rule qualified_path)
+    ⨾ maybe (glued "@" ⨾ surely (rule pattern) ∣ paren ∣ brace
+    ∣ glued "!" ⨾ surely (rule group) ∣ rule range_pattern_end)
 says range_pattern_end =
     glued "..= ..." ⨾ surely (rule pattern_bound)
     ∣ glued ".." ⨾ maybe (rule pattern_bound)
 says pattern_bound = rule literal_value ∣ rule path ∣ rule qualified_path
 says literal_value = maybe (glued "-") ⨾ literal ∣ word "true" ∣ word "false"
+-- ---- types, whose puncts are single
 says type =
     rule type_sign ⨾ rule type_no_bounds
     ∣ (word "impl" ∣ since Edition2018 ⨾ word "dyn") ⨾ maybe (rule bounds)
@@ -251,7 +324,9 @@ says type =
     ∣ rule type_base ⨾ maybe (single "+" ⨾ maybe (rule bounds))
     ∣ rule lifetime ⨾ single "+" ⨾ maybe (rule bounds)
 says type_no_bounds =
-    many (rule type_sign) ⨾ ((word "impl" ∣ since Edition2018 ⨾ word "dyn") ⨾ maybe (rule bound) ∣ word "dyn" ⨾ rule bound ∣ rule type_base)
+    many (rule type_sign)
+    ⨾ ((word "impl" ∣ since Edition2018 ⨾ word "dyn") ⨾ maybe (rule bound)
+    ∣ word "dyn" ⨾ rule bound ∣ rule type_base)
 says type_sign =
     single "&" ⨾ maybe (rule lifetime) ⨾ maybe (word "mut")
     ∣ single "*" ⨾ (word "const" ∣ word "mut")
@@ -265,26 +340,34 @@ says type_base =
     ∣ (rule type_path ∣ rule qualified_path) ⨾ maybe (single "!" ⨾ rule group)
     ∣ single "?" ⨾ rule type_path
 says function_type =
-    maybe (rule for_lifetimes) ⨾ maybe (word "unsafe") ⨾ maybe (rule abi) ⨾ word "fn" ⨾ paren ⨾ maybe (single "->" ⨾ surely (rule type_no_bounds))
+    maybe (rule for_lifetimes) ⨾ maybe (word "unsafe") ⨾ maybe (rule abi) ⨾ word "fn" ⨾ paren
+    ⨾ maybe (single "->" ⨾ surely (rule type_no_bounds))
 says for_lifetimes = word "for" ⨾ rule generic_params
 says bounds = rule bound ⨾ many (single "+" ⨾ rule bound) ⨾ maybe (single "+")
 says bound =
     rule lifetime
     ∣ word "use" ⨾ rule generic_args
     ∣ paren
-    ∣ many (single "?" ∣ single "~" ⨾ word "const" ∣ single "!" ∣ word "const" ∣ word "async" ∣ const_bracket) ⨾ maybe (rule for_lifetimes) ⨾ rule type_path
+    ∣ many (single "?" ∣ single "~" ⨾ word "const" ∣ single "!" ∣ word "const" ∣ word "async"
+    ∣ const_bracket) ⨾ maybe (rule for_lifetimes) ⨾ rule type_path
+-- ---- paths
 says simple_path = maybe (glued "::") ⨾ name ⨾ many (glued "::" ⨾ name)
 says path = maybe (glued "::") ⨾ name ⨾ rule path_rest
 says path_rest = many (glued "::" ⨾ (name ∣ rule generic_args))
 says qualified_path =
-    single "<" ⨾ rule type ⨾ maybe (word "as" ⨾ rule type_path) ⨾ single ">" ⨾ single "::" ⨾ rule type_segment ⨾ rule type_path_rest
+    single "<" ⨾ rule type ⨾ maybe (word "as" ⨾ rule type_path) ⨾ single ">" ⨾ single "::"
+    ⨾ rule type_segment ⨾ rule type_path_rest
 says type_path = maybe (single "::") ⨾ rule type_segment ⨾ rule type_path_rest
 says type_path_rest =
-    many (single "::" ⨾ (rule type_segment ∣ rule generic_args ∣ paren ⨾ maybe (single "->" ⨾ surely (rule type_no_bounds))))
+    many (single "::"
+    ⨾ (rule type_segment ∣ rule generic_args
+    ∣ paren ⨾ maybe (single "->" ⨾ surely (rule type_no_bounds))))
 says type_segment =
     name ⨾ maybe (rule generic_args ∣ paren ⨾ maybe (single "->" ⨾ surely (rule type_no_bounds)))
 says generic_args =
-    single "<" ⨾ maybe (rule generic_arg ⨾ many (single "," ⨾ rule generic_arg) ⨾ maybe (single ",")) ⨾ single ">"
+    single "<"
+    ⨾ maybe (rule generic_arg ⨾ many (single "," ⨾ rule generic_arg) ⨾ maybe (single ","))
+    ⨾ single ">"
 says generic_arg =
     maybe (single "-") ⨾ literal
     ∣ word "true"

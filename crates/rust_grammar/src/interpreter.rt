@@ -77,12 +77,7 @@ fn repeat<'a>(edition: Edition, place: u16, levels: u16, trees: TtIter<'a>) -> O
 //
 // A second part, and a rule that ends another, take no frame of the stack.
 #[cycle(interpreter)]
-fn come_of<'a>(
-    edition: Edition,
-    start: u16,
-    most_levels: u16,
-    trees: &TtIter<'a>,
-) -> Outcome<'a>
+fn come_of<'a>(edition: Edition, start: u16, most_levels: u16, trees: &TtIter<'a>) -> Outcome<'a>
     requires { start < 1392 }
     ensures { result ≡ comes_at edition most_levels start trees.now }
 {
@@ -129,12 +124,7 @@ fn most_levels() -> u16
 }
 
 // What comes of a rule that may refer to rules this many levels deep.
-fn come_of_levels<'a>(
-    edition: Edition,
-    rule: u8,
-    levels: u16,
-    trees: &TtIter<'a>,
-) -> Outcome<'a>
+fn come_of_levels<'a>(edition: Edition, rule: u8, levels: u16, trees: &TtIter<'a>) -> Outcome<'a>
     requires { rule < 92 }
     ensures { result ≡ rules_to edition levels (name_at rule) trees.now }
 {

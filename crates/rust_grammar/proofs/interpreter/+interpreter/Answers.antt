@@ -18,10 +18,9 @@ come_of-returns-in-Since t c =
 
 pub come_of-nodes-preserved-in-Fits : goal.come_of-nodes-preserved-in-Fits
 come_of-nodes-preserved-in-Fits t c =
-    let parts = two_parts c.nodes.place c.in-Then.behind c.in-Then.ensures.sound in
-    (
+    let parts = two_parts c.nodes.place c.in-Then.behind c.in-Then.ensures.sound in (
       then_fits c.args.edition c.nodes.levels c.nodes.place c.nodes.invariant.1 c.in-Then.behind c.nodes.rest c.in-Fits.next c.in-Then.ensures.same c.in-Fits.ensures
-      ∙ c.nodes.invariant.0,
+          ∙ c.nodes.invariant.0,
       parts.1,
       omega (arith, parts.0, parts.1, c.nodes.invariant.2),
     )
@@ -43,10 +42,9 @@ come_of-returns-in-Fits-come_of t c =
 
 pub come_of-nodes-preserved-in-Misses-come_of : goal.come_of-nodes-preserved-in-Misses-come_of
 come_of-nodes-preserved-in-Misses-come_of t c =
-    let parts = two_parts c.nodes.place c.in-Or.behind c.in-Or.ensures.sound in
-    (
+    let parts = two_parts c.nodes.place c.in-Or.behind c.in-Or.ensures.sound in (
       or_misses c.args.edition c.nodes.levels c.nodes.place c.nodes.invariant.1 c.in-Or.behind c.nodes.rest c.in-Or.ensures.same c.in-Misses-come_of.ensures
-      ∙ c.nodes.invariant.0,
+          ∙ c.nodes.invariant.0,
       parts.1,
       omega (arith, parts.0, parts.1, c.nodes.invariant.2),
     )
@@ -82,11 +80,10 @@ come_of-returns-then-levels-eq0 t c =
 pub come_of-nodes-preserved : goal.come_of-nodes-preserved
 come_of-nodes-preserved t c =
     let some_left = c.if-levels-eq0.false in
-    let within = c.root_of-place.ensures.within in
-    (
+    let within = c.root_of-place.ensures.within in (
       rule_on c.args.edition c.nodes.levels (c.nodes.levels - 1) c.nodes.place c.root_of-place.result c.nodes.invariant.1 c.in-Rule.rule c.nodes.rest
-      c.in-Rule.ensures.same (omega (arith, some_left)) c.root_of-place.ensures.same
-      ∙ c.nodes.invariant.0,
+          c.in-Rule.ensures.same (omega (arith, some_left)) c.root_of-place.ensures.same
+          ∙ c.nodes.invariant.0,
       within,
       omega (arith, some_left, within, c.nodes.invariant.2),
     )
