@@ -1,19 +1,17 @@
 -- At each list an expression has only one outcome, and that is what comes of it.
 use Rattle.std.proofs.Common.{◌≡◌, ℕ, suc, zero, ◌+◌, ◌≤◌, ◌<◌, Bool, true, ◌&&◌, refl, sym, ap, ◌∙◌, subst, arith}
 use Rattle.std.proofs.lemmas.Bool.{and_parts, ltb-true}
-use Rattle.std.specs.Prelude.{nat_lt, nat_le}
-use Rattle.tt_data.specs.Editions.{year_of}
+use Rattle.std.specs.Prelude.{nat_lt}
 use Rattle.tt_data.specs.Forest.{Forest, size}
 use Rattle.tt_data.specs.declared.edition.Edition.{Edition}
 use Rattle.fragment_grammar.specs.declared.fragment.PrefixEntryPoint.{PrefixEntryPoint}
 use Rattle.small_grammar.specs.Passing.{passed-size}
 use Rattle.rust_grammar.specs.Answer.{rules_to, most_levels, entry_rule, comes_of}
-use Rattle.rust_grammar.specs.Expressions.{Expression, token, since, ◌⨾◌, ◌∣◌, many, maybe, surely, rule, Taking, found, nothing_if, and_then, otherwise, or_nothing, decided, next_round, rounds, taken}
+use Rattle.rust_grammar.specs.Expressions.{Expression, token, since, ◌⨾◌, ◌∣◌, many, maybe, surely, rule, Taking, and_then, otherwise, or_nothing, decided, next_round, rounds, taken}
 use Rattle.rust_grammar.specs.Names.{Name, entry_visibility, entry_block, entry_statement, entry_pattern, entry_patterns, entry_type, entry_expression, entry_path, entry_item, entry_attribute, group, lifetime, attribute, visibility, visible_item, item, module_item, extern_crate, as_clause, use_declaration, use_tree, function, abi, type_alias, structure, enumeration, union, constant, static_item, trait_item, implementation, extern_block, macro_rules, macro_definition, item_macro, macro_end, generic_params, generic_param, where_clause, where_predicate, let_statement, expression_statement, statement_macro, expression, expression_in_condition, operations, operations_in_condition, expression_end, expression_end_in_condition, binary_operator, assignment_operator, operand, operand_in_condition, sign, sign_in_condition, half_range, half_range_in_condition, jump, jump_in_condition, closure, closure_in_condition, closure_param, atom, atom_in_condition, async_block, with_block, if_expression, loop, postfix, dotted, patterns, pattern, range_pattern_end, pattern_bound, literal_value, type, type_no_bounds, type_sign, type_base, function_type, for_lifetimes, bounds, bound, simple_path, path, path_rest, qualified_path, type_path, type_path_rest, type_segment, generic_args, generic_arg}
 use Rattle.rust_grammar.specs.Outcomes.{Comes, as_token, by_edition, stopped, went_on, by_first, by_second, no_round, one_round, left_out, put_in, not_found, was_found, fault_first, fault_either, fault_round, fault_maybe, fault_surely, by_rule, too_deep}
 use Rattle.rust_grammar.specs.Passing.{least, expression-takes, rules_to-take}
 use Rattle.rust_grammar.specs.Rules.{says}
-use Rattle.rust_grammar.specs.Tokens.{Token, token_at}
 use Rattle.rust_grammar.specs.declared.outcome.Outcome.{Outcome}
 use Rattle.rust_grammar.specs.declared.outcome.Outcome.TheVariants.{Fits, Misses, Faults}
 

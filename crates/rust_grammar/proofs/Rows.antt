@@ -1,6 +1,6 @@
 -- Worked examples, by computation: for each rule a text of which a part is taken, and one that it refuses.
 -- The reader of the small grammar's examples reads the texts.
-use Rattle.std.proofs.Common.{◌≡◌, ℕ, ◌-◌, suc, List, [], ◌∷◌, refl, Option, Some, None}
+use Rattle.std.proofs.Common.{◌≡◌, ℕ, ◌-◌, List, [], ◌∷◌, refl, Option, Some, None}
 use Rattle.std.specs.Prelude.{map}
 use Prim.Native.String.{String}
 use Rattle.tt_data.specs.Forest.{Forest, joined}

@@ -1,14 +1,14 @@
 -- What comes of a node, by what comes of its parts.
-use Rattle.std.proofs.Common.{◌≡◌, ℕ, suc, zero, ◌+◌, ◌-◌, ◌≤◌, ◌<◌, Bool, true, false, ◌&&◌, refl, sym, ap, ◌∙◌, subst, arith}
+use Rattle.std.proofs.Common.{◌≡◌, ℕ, suc, ◌+◌, ◌<◌, true, ◌&&◌, sym, ap, ◌∙◌, subst}
 use Rattle.std.specs.Prelude.{nat_lt, nat_le}
 use Rattle.std.proofs.lemmas.Bool.{and_parts, ltb-true}
 use Rattle.tt_data.specs.Editions.{year_of}
 use Rattle.tt_data.specs.Forest.{Forest, size}
 use Rattle.tt_data.specs.declared.edition.Edition.{Edition}
 use Rattle.rust_grammar.specs.Answer.{rules_to}
-use Rattle.rust_grammar.specs.Expressions.{Expression, rule, Taking, found, nothing_if, and_then, otherwise, or_nothing, decided, next_round, rounds, taken}
+use Rattle.rust_grammar.specs.Expressions.{Taking, found, nothing_if, and_then, otherwise, or_nothing, decided, next_round, rounds, taken}
 use Rattle.rust_grammar.specs.Rules.{says}
-use Rattle.rust_grammar.specs.Table.{stands, expression_at, node_at, name_at, is_sound, is_sound_token, comes_at, token_of}
+use Rattle.rust_grammar.specs.Table.{stands, expression_at, node_at, name_at, is_sound, comes_at, token_of}
 use Rattle.rust_grammar.specs.Tokens.{token_at}
 use Rattle.rust_grammar.specs.declared.nodes.Node.{Node}
 use Rattle.rust_grammar.specs.declared.nodes.Node.TheVariants as node

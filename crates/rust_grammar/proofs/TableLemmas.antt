@@ -1,6 +1,6 @@
 -- The table of nodes stands for the rules.
-use Rattle.std.proofs.Common.{◌≡◌, ℕ, suc, zero, ◌+◌, ◌-◌, ◌≤◌, ◌<◌, Bool, true, false, ◌&&◌, ◌||◌, List, [], ◌∷◌, length, get_or, drop, map, refl, sym, ap, ◌∙◌, subst, arith, lit<}
-use Rattle.std.specs.Prelude.{nat_lt, Option, Some, None, slice_get}
+use Rattle.std.proofs.Common.{◌≡◌, ℕ, suc, zero, ◌+◌, ◌-◌, ◌≤◌, ◌<◌, Bool, true, false, ◌&&◌, ◌||◌, List, [], ◌∷◌, length, get_or, drop, map, refl, sym, ap, ◌∙◌, subst, arith}
+use Rattle.std.specs.Prelude.{nat_lt, Some, None, slice_get}
 use Rattle.std.proofs.lemmas.Bool.{and_parts, ltb-true}
 use Rattle.std.proofs.lemmas.List.{get_or-map, get_or-drop}
 use Rattle.std.proofs.lemmas.Option.{get_or_from_slice_get}
@@ -11,14 +11,14 @@ use Rattle.small_grammar.specs.Text.{◌>>◌}
 use Rattle.small_grammar.specs.Tokens.{same_operator, spells, is_one_of_words, first_operator, passing}
 use Rattle.small_grammar.specs.declared.units.Operator.{Operator}
 use Rattle.small_grammar.specs.declared.units.Operator.TheVariants.{One, Two, Three}
-use Rattle.rust_grammar.specs.Expressions.{Expression, token, since, ◌⨾◌, ◌∣◌, many, maybe, surely, rule}
-use Rattle.rust_grammar.specs.Names.{Name, names, entry_visibility}
+use Rattle.rust_grammar.specs.Expressions.{Expression, token, ◌⨾◌, ◌∣◌, many, maybe, surely}
+use Rattle.rust_grammar.specs.Names.{names, entry_visibility}
 use Rattle.rust_grammar.specs.Rules.{says}
-use Rattle.rust_grammar.specs.Table.{at, stands, expressions, expression_at, node_at, root_at, name_at, set_texts, word_text, letters, is_sound, is_sound_token}
+use Rattle.rust_grammar.specs.Table.{at, stands, expressions, expression_at, node_at, root_at, name_at, set_texts, word_text, letters, is_sound}
 use Rattle.rust_grammar.specs.Tokens.{a_name, one_of, token_at}
 use Rattle.rust_grammar.specs.declared.nodes.Node.{Node}
 use Rattle.rust_grammar.specs.declared.nodes.Node.TheVariants as node
-use Rattle.rust_grammar.specs.declared.table.TheConstants.{NODES, ROOTS, SETS, WORDS}
+use Rattle.rust_grammar.specs.declared.table.TheConstants.{NODES, ROOTS}
 
 -- ---- what is computed
 

@@ -1,6 +1,6 @@
 -- The laws of the grammar's answer: spans don't matter, it never takes more steps than there are,
 -- and without a fault at least one, except for a visibility.
-use Rattle.std.proofs.Common.{◌≡◌, ◌≢◌, ℕ, suc, zero, ◌+◌, ◌-◌, ◌≤◌, Bool, true, false, ◌&&◌, refl, sym, ap, ◌∙◌, arith, Option, Some, None}
+use Rattle.std.proofs.Common.{◌≡◌, ◌≢◌, ℕ, suc, zero, ◌-◌, ◌≤◌, Bool, true, false, refl, sym, ap, ◌∙◌, arith, Option, Some, None}
 use Rattle.std.specs.Prelude.{option_map}
 use Rattle.tt_data.proofs.ForestLemmas.{size-map_spans}
 use Rattle.tt_data.specs.Forest.{Forest, empty, leaf, group, joined, size, map_spans, shape}

@@ -1,10 +1,9 @@
 -- What the table of nodes stands for: the expression of each node, and of each rule.
-use Rattle.std.specs.Prelude.{ℕ, suc, zero, ◌+◌, ◌-◌, Bool, true, false, ◌&&◌, IsTrue, nat_lt, get_or, map, List, [], ◌∷◌}
+use Rattle.std.specs.Prelude.{ℕ, ◌+◌, ◌-◌, Bool, true, ◌&&◌, IsTrue, nat_lt, get_or, map, List, [], ◌∷◌}
 use Rattle.tt_data.specs.declared.edition.Edition.{Edition}
 use Rattle.small_grammar.specs.Tokens as small
 use Rattle.small_grammar.specs.declared.units.Operator.{Operator}
 use Rattle.small_grammar.specs.declared.units.Operator.TheVariants.{One, Two, Three}
-use Rattle.tt_data.specs.Forest.{Forest}
 use Rattle.rust_grammar.specs.Answer.{rules_to}
 use Rattle.rust_grammar.specs.Expressions.{Expression, token, since, ◌⨾◌, ◌∣◌, many, maybe, surely, rule, Taking, taken}
 use Rattle.rust_grammar.specs.Names.{Name, names, entry_visibility}

@@ -1,5 +1,5 @@
 -- The tokens that the rules ask for, by edition. (The Reference, "Keywords", "Tokens".)
-use Rattle.std.specs.Prelude.{ℕ, Bool, true, false, ◌&&◌, ◌||◌, not, nat_lt, codes, List, Option, Some, None}
+use Rattle.std.specs.Prelude.{ℕ, Bool, false, ◌&&◌, ◌||◌, not, nat_lt, codes, List, Option, Some, None}
 use Rattle.tt_data.specs.Editions.{year_of}
 use Rattle.tt_data.specs.Forest.{Forest}
 use Rattle.tt_data.specs.declared.delimiter.DelimiterKind.{DelimiterKind}

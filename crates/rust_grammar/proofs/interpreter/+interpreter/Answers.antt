@@ -1,5 +1,4 @@
-use Rattle.std.proofs.Common.{◌≡◌, ◌+◌, ◌-◌, suc, sym, ap, ◌∙◌, arith}
-use Rattle.rust_grammar.specs.Expressions.{or_nothing, decided}
+use Rattle.std.proofs.Common.{◌+◌, ◌-◌, ◌∙◌, arith}
 use Rattle.rust_grammar.specs.Table.{comes_at}
 use Rattle.rust_grammar.proofs.StepLemmas.{two_parts, token_comes, since_comes, then_fits, then_misses, then_faults, or_fits, or_misses, or_faults, many_comes, maybe_comes, surely_comes, too_deep, rule_on, round_on}
 use Rattle.rust_grammar.proofs.interpreter.+interpreter.Goals as goal

@@ -1,4 +1,4 @@
-use Rattle.std.proofs.Common.{◌≡◌, ap, sym, ◌∙◌}
+use Rattle.std.proofs.Common.{ap, ◌∙◌}
 use Rattle.rust_grammar.specs.Table.{is_sound}
 use Rattle.rust_grammar.proofs.TableLemmas.{node-sound, node-read}
 use Rattle.rust_grammar.proofs.nodes.read_node.Goals as goal

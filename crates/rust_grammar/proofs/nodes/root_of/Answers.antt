@@ -1,4 +1,4 @@
-use Rattle.std.proofs.Common.{◌≡◌, ◌<◌, ap, sym, ◌∙◌, subst}
+use Rattle.std.proofs.Common.{◌<◌, ap, sym, ◌∙◌, subst}
 use Rattle.rust_grammar.specs.Table.{expression_at}
 use Rattle.rust_grammar.proofs.TableLemmas.{root-says, root-within, root-read}
 use Rattle.rust_grammar.proofs.nodes.root_of.Goals as goal
