@@ -1,0 +1,53 @@
+//! Answers that are copied into the caller's room.
+use crate::answers::{ByteRange, byte_range};
+use crate::code::Code;
+use expander::{Expansion, TextRange};
+use printed_tokens::token_ranges;
+use std::alloc::Global;
+
+/// Copies a text to the beginning of the room, if there is enough.
+pub(crate) fn copy_text(text: &str, room: &mut [u8]) -> Code {
+    let bytes = text.as_bytes();
+    if room.len() < bytes.len() {
+        return Code::Room;
+    }
+    room[..bytes.len()].copy_from_slice(bytes);
+    Code::Done
+}
+
+/// Copies the ranges of the tokens of a printed text to the beginning of the room, if there is
+/// enough.
+pub(crate) fn copy_token_ranges(alloc: Global, printed: &str, room: &mut [ByteRange]) -> Code {
+    if printed.len() > 0xffff_ffff {
+        return Code::Length;
+    }
+    match token_ranges(alloc, printed) {
+        Ok(ranges) => copy_ranges(ranges.as_slice(), room),
+        Err(_) => Code::Memory,
+    }
+}
+
+// Copies ranges to the beginning of the room, if there is enough.
+fn copy_ranges(ranges: &[TextRange], room: &mut [ByteRange]) -> Code {
+    if room.len() < ranges.len() {
+        return Code::Room;
+    }
+    for i in 0..ranges.len() {
+        room[i] = byte_range(ranges[i]);
+    }
+    Code::Done
+}
+
+/// Copies the origins of the printed tokens to the beginning of the room, if there is enough.
+pub(crate) fn copy_origins(expansion: &Expansion, room: &mut [ByteRange]) -> Code {
+    let tokens = expansion.tokens();
+    if room.len() < tokens {
+        return Code::Room;
+    }
+    for i in 0..tokens {
+        if let Some(range) = expansion.origin(i) {
+            room[i] = byte_range(range);
+        }
+    }
+    Code::Done
+}
