@@ -1,5 +1,6 @@
 //! A box of the heap as its bare pointer: what a counted block and a handle of C's are made of.
 #![tactic(auto)]
+
 ghost use Rattle.std.specs.Prelude.{◌≡◌};
 ghost use Rattle.bare_box.specs.BareBox.{bare_owns};
 

@@ -133,11 +133,7 @@ pub extern "C" fn expander_raw_counts(
 
 /// The printed text, copied to the beginning of the room.
 #[unsafe(no_mangle)]
-pub extern "C" fn expander_raw_printed(
-    alloc: Global,
-    handle: &mut Handle,
-    room: &mut [u8],
-) -> u32 {
+pub extern "C" fn expander_raw_printed(alloc: Global, handle: &mut Handle, room: &mut [u8]) -> u32 {
     let Some(live) = handle.take(alloc) else {
         return Code::Closed.number();
     };

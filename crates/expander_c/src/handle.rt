@@ -51,7 +51,9 @@ impl Handle {
         if at.is_null() {
             None
         } else {
-            Some(Bare { at: at as *mut Live })
+            Some(Bare {
+                at: at as *mut Live,
+            })
         }
     }
 

@@ -15,10 +15,16 @@ fn calls(rt: HostRuntime) {
     let mut h = Handle::closed();
     let alloc = rt.alloc();
     assert_eq!(rt; expander_raw_expand(alloc, &mut h), 5);
-    assert_eq!(rt; expander_raw_open(alloc, &mut h, TEXT.as_bytes(), 2024, 128, 0), 0);
+    assert_eq!(rt;
+        expander_raw_open(alloc, &mut h, TEXT.as_bytes(), 2024, 128, 0),
+        0
+    );
     let mut len = 0;
     let mut room = [0u8; 100];
-    assert_eq!(rt; expander_raw_text(alloc, &mut h, &mut room[..3], &mut len), 14);
+    assert_eq!(rt;
+        expander_raw_text(alloc, &mut h, &mut room[..3], &mut len),
+        14
+    );
     assert_eq!(rt; len, 59);
     assert_eq!(rt; expander_raw_text(alloc, &mut h, &mut room, &mut len), 0);
     assert!(rt; &room[..59] == TEXT.as_bytes());
@@ -27,7 +33,12 @@ fn calls(rt: HostRuntime) {
     assert_eq!(rt; expander_raw_fits(alloc, &mut h, 0, 59, 4294967295), 0);
     assert_eq!(rt; expander_raw_fits(alloc, &mut h, 0, 58, 4294967295), 7);
     assert_eq!(rt; expander_raw_fits(alloc, &mut h, 1, 0, 0), 11);
-    let mut counts = Counts { printed: 0, tokens: 0, faults: 0, expanded: 0 };
+    let mut counts = Counts {
+        printed: 0,
+        tokens: 0,
+        faults: 0,
+        expanded: 0,
+    };
     assert_eq!(rt; expander_raw_counts(alloc, &mut h, &mut counts), 12);
     assert_eq!(rt; expander_raw_expand(alloc, &mut h), 0);
     assert_eq!(rt; expander_raw_counts(alloc, &mut h, &mut counts), 0);
@@ -45,7 +56,10 @@ fn calls(rt: HostRuntime) {
     assert_eq!(rt; expander_raw_edit(alloc, &mut h, 53, 54, b"1"), 0);
     assert_eq!(rt; expander_raw_edit(alloc, &mut h, 53, 54, b"\xff"), 6);
     assert_eq!(rt; expander_raw_expand(alloc, &mut h), 0);
-    let mut fault = ToldFault { kind: 9, range: ranges[0] };
+    let mut fault = ToldFault {
+        kind: 9,
+        range: ranges[0],
+    };
     assert_eq!(rt; expander_raw_fault(alloc, &mut h, 0, &mut fault), 0);
     assert_eq!(rt; fault.kind, 0);
     assert_eq!(rt; expander_raw_fault(alloc, &mut h, 1, &mut fault), 13);
