@@ -1,5 +1,7 @@
--- The numbers by which C knows the codes.
+-- The codes: their numbers, by which C knows them, and those of a session's refusals.
 use Rattle.std.specs.Prelude.{ℕ}
+use Rattle.expander_scope.specs.declared.refusal.Refusal.{Refusal}
+use Rattle.expander_scope.specs.declared.refusal.Refusal.TheVariants as why
 use Rattle.expander_c.specs.declared.code.Code.{Code}
 use Rattle.expander_c.specs.declared.code.Code.TheVariants.{Done, Unread, Memory, Tokens, Numbers, Closed, Utf8, Length, Edition, Grammar, Boundary, Range, Nothing, Index, Room}
 
@@ -19,3 +21,8 @@ number Range = 11
 number Nothing = 12
 number Index = 13
 number Room = 14
+
+abbrev pub refused : Refusal → Code
+refused why.Memory = Memory
+refused why.Tokens = Tokens
+refused why.Numbers = Numbers

@@ -1,4 +1,7 @@
 //! What is told of an answer, as C sees it.
+ghost use Rattle.std.specs.Prelude.{◌≡◌};
+ghost use Rattle.expander_c.specs.Answered.{byte_range, counts, told, told_unread};
+
 use expander::{Expansion, Fault, FaultKind, ReadFault, ReadFaultKind, TextRange};
 
 /// The bytes of a text from offset `start` up to, but not including, offset `end`.
@@ -31,7 +34,9 @@ pub struct Counts {
 }
 
 /// A range as C sees it.
-pub(crate) fn byte_range(range: TextRange) -> ByteRange {
+pub(crate) fn byte_range(range: TextRange) -> ByteRange
+    ensures { result ≡ byte_range range }
+{
     ByteRange {
         start: range.start,
         end: range.end,
@@ -39,7 +44,9 @@ pub(crate) fn byte_range(range: TextRange) -> ByteRange {
 }
 
 /// A fault as C sees it.
-pub(crate) fn told(fault: Fault) -> ToldFault {
+pub(crate) fn told(fault: Fault) -> ToldFault
+    ensures { result ≡ told fault }
+{
     let kind = match fault.kind {
         FaultKind::CannotExpand => 0,
         FaultKind::BrokenDefinition => 1,
@@ -52,7 +59,9 @@ pub(crate) fn told(fault: Fault) -> ToldFault {
 }
 
 /// A reading fault as C sees it.
-pub(crate) fn told_unread(fault: ReadFault) -> ToldFault {
+pub(crate) fn told_unread(fault: ReadFault) -> ToldFault
+    ensures { result ≡ told_unread fault }
+{
     let kind = match fault.kind {
         ReadFaultKind::BadToken => 0,
         ReadFaultKind::CloserDoesNotFit => 1,
@@ -63,7 +72,9 @@ pub(crate) fn told_unread(fault: ReadFault) -> ToldFault {
 }
 
 /// How much an expansion has.
-pub(crate) fn counts(expansion: &Expansion) -> Counts {
+pub(crate) fn counts(expansion: &Expansion) -> Counts
+    ensures { result ≡ counts expansion.now }
+{
     Counts {
         printed: expansion.printed().len(),
         tokens: expansion.tokens(),

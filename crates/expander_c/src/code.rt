@@ -1,6 +1,6 @@
 //! What a call answers to C.
 ghost use Rattle.std.specs.Prelude.{◌≡◌};
-ghost use Rattle.expander_c.specs.Codes.{number};
+ghost use Rattle.expander_c.specs.Codes.{number, refused};
 
 use expander::Refusal;
 
@@ -65,7 +65,9 @@ impl Code {
 }
 
 /// The code of a refusal.
-pub(crate) fn refused(refusal: Refusal) -> Code {
+pub(crate) fn refused(refusal: Refusal) -> Code
+    ensures { result ≡ refused refusal }
+{
     match refusal {
         Refusal::Memory => Code::Memory,
         Refusal::Tokens => Code::Tokens,

@@ -1,8 +1,13 @@
 //! What C calls. Each answers a code by its number.
+ghost use Rattle.std.specs.Prelude.{◌≡◌, None, ⊤};
+ghost use Rattle.expander_c.specs.Answered.{CountsTold, FaultTold, OfExpansion, OriginsTold, PrintedTold, ReadingFaultTold, TokenRangesTold};
+ghost use Rattle.expander_c.specs.Calls.{BoundaryTold, EditTold, ExpandTold, FitTold};
+ghost use Rattle.expander_c.specs.Tellings.{Looks, Opened, Tells, TextTold, Told};
+
 use crate::answers::{ByteRange, Counts, ToldFault, counts, told, told_unread};
 use crate::code::Code;
 use crate::handle::Handle;
-use crate::live::Live;
+use crate::live::{Answer, Live};
 use crate::room::{copy_origins, copy_text, copy_token_ranges};
 use std::alloc::Global;
 
@@ -15,7 +20,9 @@ pub extern "C" fn expander_raw_open(
     edition: u32,
     depth: u8,
     grammar: u32,
-) -> u32 {
+) -> u32
+    ensures { Tells (Opened text.now edition depth grammar handle.old.held handle.new.held) result }
+{
     match Live::new(alloc, text, edition, depth, grammar) {
         Ok(live) => match Box::new(alloc, live) {
             Ok(live) => {
@@ -30,7 +37,9 @@ pub extern "C" fn expander_raw_open(
 
 /// Closes the session and frees it. Nothing happens if the handle holds none.
 #[unsafe(no_mangle)]
-pub extern "C" fn expander_raw_close(alloc: Global, handle: &mut Handle) {
+pub extern "C" fn expander_raw_close(alloc: Global, handle: &mut Handle)
+    ensures { handle.new.held ≡ None }
+{
     if let Some(live) = handle.take(alloc) {
         drop(live);
     }
@@ -43,7 +52,9 @@ pub extern "C" fn expander_raw_text(
     handle: &mut Handle,
     room: &mut [u8],
     len: &mut usize,
-) -> u32 {
+) -> u32
+    ensures { Tells (Looks ((room.new ≡ room.old) × (len.new ≡ len.old)) (TextTold room.old room.new len.new) handle.old.held handle.new.held) result }
+{
     let Some(live) = handle.take(alloc) else {
         return Code::Closed.number();
     };
@@ -56,7 +67,9 @@ pub extern "C" fn expander_raw_text(
 
 /// Whether the offset is a character boundary of the text.
 #[unsafe(no_mangle)]
-pub extern "C" fn expander_raw_is_boundary(alloc: Global, handle: &mut Handle, at: usize) -> u32 {
+pub extern "C" fn expander_raw_is_boundary(alloc: Global, handle: &mut Handle, at: usize) -> u32
+    ensures { Tells (Looks ⊤ (λ live. BoundaryTold live.session.text at) handle.old.held handle.new.held) result }
+{
     let Some(live) = handle.take(alloc) else {
         return Code::Closed.number();
     };
@@ -73,7 +86,9 @@ pub extern "C" fn expander_raw_fits(
     start: usize,
     end: usize,
     len: usize,
-) -> u32 {
+) -> u32
+    ensures { Tells (Looks ⊤ (λ live. FitTold live.session.text start «end» len) handle.old.held handle.new.held) result }
+{
     let Some(live) = handle.take(alloc) else {
         return Code::Closed.number();
     };
@@ -90,7 +105,9 @@ pub extern "C" fn expander_raw_edit(
     start: usize,
     end: usize,
     replacement: &[u8],
-) -> u32 {
+) -> u32
+    ensures { Tells (Told ⊤ (EditTold start «end» replacement.now) handle.old.held handle.new.held) result }
+{
     let Some(mut live) = handle.take(alloc) else {
         return Code::Closed.number();
     };
@@ -101,7 +118,9 @@ pub extern "C" fn expander_raw_edit(
 
 /// Expands the text. The answer is kept in place of the last one.
 #[unsafe(no_mangle)]
-pub extern "C" fn expander_raw_expand(alloc: Global, handle: &mut Handle) -> u32 {
+pub extern "C" fn expander_raw_expand(alloc: Global, handle: &mut Handle) -> u32
+    ensures { Tells (Told ⊤ ExpandTold handle.old.held handle.new.held) result }
+{
     let Some(mut live) = handle.take(alloc) else {
         return Code::Closed.number();
     };
@@ -116,16 +135,18 @@ pub extern "C" fn expander_raw_counts(
     alloc: Global,
     handle: &mut Handle,
     into: &mut Counts,
-) -> u32 {
+) -> u32
+    ensures { Tells (Looks (into.new ≡ into.old) (λ live. OfExpansion CountsTold into.old into.new live.answer) handle.old.held handle.new.held) result }
+{
     let Some(live) = handle.take(alloc) else {
         return Code::Closed.number();
     };
-    let code = match live.as_ref().expansion() {
-        Ok(expansion) => {
+    let code = match &live.as_ref().answer {
+        Answer::Read(expansion) => {
             *into = counts(expansion);
             Code::Done
         }
-        Err(code) => code,
+        _ => Code::Nothing,
     };
     handle.put(alloc, live);
     code.number()
@@ -133,13 +154,15 @@ pub extern "C" fn expander_raw_counts(
 
 /// The printed text, copied to the beginning of the room.
 #[unsafe(no_mangle)]
-pub extern "C" fn expander_raw_printed(alloc: Global, handle: &mut Handle, room: &mut [u8]) -> u32 {
+pub extern "C" fn expander_raw_printed(alloc: Global, handle: &mut Handle, room: &mut [u8]) -> u32
+    ensures { Tells (Looks (room.new ≡ room.old) (λ live. OfExpansion PrintedTold room.old room.new live.answer) handle.old.held handle.new.held) result }
+{
     let Some(live) = handle.take(alloc) else {
         return Code::Closed.number();
     };
-    let code = match live.as_ref().expansion() {
-        Ok(expansion) => copy_text(expansion.printed(), room),
-        Err(code) => code,
+    let code = match &live.as_ref().answer {
+        Answer::Read(expansion) => copy_text(expansion.printed(), room),
+        _ => Code::Nothing,
     };
     handle.put(alloc, live);
     code.number()
@@ -152,19 +175,21 @@ pub extern "C" fn expander_raw_fault(
     handle: &mut Handle,
     index: usize,
     into: &mut ToldFault,
-) -> u32 {
+) -> u32
+    ensures { Tells (Looks (into.new ≡ into.old) (λ live. OfExpansion (FaultTold index) into.old into.new live.answer) handle.old.held handle.new.held) result }
+{
     let Some(live) = handle.take(alloc) else {
         return Code::Closed.number();
     };
-    let code = match live.as_ref().expansion() {
-        Ok(expansion) => match expansion.faults().get(index) {
+    let code = match &live.as_ref().answer {
+        Answer::Read(expansion) => match expansion.faults().get(index) {
             Some(fault) => {
                 *into = told(*fault);
                 Code::Done
             }
             None => Code::Index,
         },
-        Err(code) => code,
+        _ => Code::Nothing,
     };
     handle.put(alloc, live);
     code.number()
@@ -176,16 +201,18 @@ pub extern "C" fn expander_raw_reading_fault(
     alloc: Global,
     handle: &mut Handle,
     into: &mut ToldFault,
-) -> u32 {
+) -> u32
+    ensures { Tells (Looks (into.new ≡ into.old) (λ live. ReadingFaultTold into.old into.new live.answer) handle.old.held handle.new.held) result }
+{
     let Some(live) = handle.take(alloc) else {
         return Code::Closed.number();
     };
-    let code = match live.as_ref().reading_fault() {
-        Ok(fault) => {
-            *into = told_unread(fault);
+    let code = match &live.as_ref().answer {
+        Answer::Unread(fault) => {
+            *into = told_unread(*fault);
             Code::Done
         }
-        Err(code) => code,
+        _ => Code::Nothing,
     };
     handle.put(alloc, live);
     code.number()
@@ -197,13 +224,15 @@ pub extern "C" fn expander_raw_origins(
     alloc: Global,
     handle: &mut Handle,
     room: &mut [ByteRange],
-) -> u32 {
+) -> u32
+    ensures { Tells (Looks (room.new ≡ room.old) (λ live. OfExpansion OriginsTold room.old room.new live.answer) handle.old.held handle.new.held) result }
+{
     let Some(live) = handle.take(alloc) else {
         return Code::Closed.number();
     };
-    let code = match live.as_ref().expansion() {
-        Ok(expansion) => copy_origins(expansion, room),
-        Err(code) => code,
+    let code = match &live.as_ref().answer {
+        Answer::Read(expansion) => copy_origins(expansion, room),
+        _ => Code::Nothing,
     };
     handle.put(alloc, live);
     code.number()
@@ -215,13 +244,15 @@ pub extern "C" fn expander_raw_token_ranges(
     alloc: Global,
     handle: &mut Handle,
     room: &mut [ByteRange],
-) -> u32 {
+) -> u32
+    ensures { Tells (Looks (room.new ≡ room.old) (λ live. OfExpansion TokenRangesTold room.old room.new live.answer) handle.old.held handle.new.held) result }
+{
     let Some(live) = handle.take(alloc) else {
         return Code::Closed.number();
     };
-    let code = match live.as_ref().expansion() {
-        Ok(expansion) => copy_token_ranges(alloc, expansion.printed(), room),
-        Err(code) => code,
+    let code = match &live.as_ref().answer {
+        Answer::Read(expansion) => copy_token_ranges(alloc, expansion.printed(), room),
+        _ => Code::Nothing,
     };
     handle.put(alloc, live);
     code.number()

@@ -1,4 +1,7 @@
 //! A session with its last answer: what a handle of C's holds.
+ghost use Rattle.std.specs.Prelude.{◌≡◌, ◌<◌, ◌^◌, length, IfOk, IfErr, IsUtf8, MatchResult};
+ghost use Rattle.expander_c.specs.Calls.{BoundaryTold, CannotOpen, EditTold, ExpandTold, FitTold, IsNew, NoText, edition_of};
+
 use crate::code::{Code, refused};
 use expander::{Edition, Expansion, ReadFault, Reply, Session, SmallGrammar};
 use std::alloc::Global;
@@ -22,7 +25,9 @@ pub struct Live {
 }
 
 // The edition of a year.
-fn edition_of(year: u32) -> Option<Edition> {
+fn edition_of(year: u32) -> Option<Edition>
+    ensures { result ≡ edition_of year }
+{
     match year {
         2015 => Some(Edition::Edition2015),
         2018 => Some(Edition::Edition2018),
@@ -33,7 +38,10 @@ fn edition_of(year: u32) -> Option<Edition> {
 }
 
 // Bytes as a text of at most `u32::MAX` bytes.
-fn text_in(bytes: &[u8]) -> Result<&str, Code> {
+fn text_in(bytes: &[u8]) -> Result<&str, Code>
+    ensures text { IfOk result (λ text. (text.now ≡ bytes.now) × (length bytes.now < 2 ^ 32)) }
+    ensures no_text { IfErr result (NoText bytes.now) }
+{
     if bytes.len() > 0xffff_ffff {
         return Err(Code::Length);
     }
@@ -51,7 +59,10 @@ impl Live {
         edition: u32,
         depth: u8,
         grammar: u32,
-    ) -> Result<Live, Code> {
+    ) -> Result<Live, Code>
+        ensures new { IfOk result (λ live. IsNew text.now edition depth live × (grammar ≡ 0)) }
+        ensures why { IfErr result (CannotOpen text.now edition grammar) }
+    {
         let Some(edition) = edition_of(edition) else {
             return Err(Code::Edition);
         };
@@ -69,7 +80,9 @@ impl Live {
     }
 
     /// Whether the offset `at` is a character boundary of the text, its end included.
-    pub(crate) fn is_boundary(&self, at: usize) -> Code {
+    pub(crate) fn is_boundary(&self, at: usize) -> Code
+        ensures { BoundaryTold self.now.session.text at result }
+    {
         if at > self.session.text().len() {
             return Code::Range;
         }
@@ -80,7 +93,9 @@ impl Live {
     }
 
     /// Whether the text has these bytes, and at most `u32::MAX` after `len` bytes replace them.
-    pub(crate) fn fits(&self, start: usize, end: usize, len: usize) -> Code {
+    pub(crate) fn fits(&self, start: usize, end: usize, len: usize) -> Code
+        ensures { FitTold self.now.session.text start «end» len result }
+    {
         if start > end || end > self.session.text().len() {
             return Code::Range;
         }
@@ -90,24 +105,16 @@ impl Live {
         Code::Done
     }
 
-    // Whether the text can be edited so.
-    fn can_edit(&self, start: usize, end: usize, len: usize) -> Code {
-        match self.fits(start, end, len) {
-            Code::Done => {}
-            code => return code,
-        }
-        if self.session.is_boundary(start) && self.session.is_boundary(end) {
-            Code::Done
-        } else {
-            Code::Boundary
-        }
-    }
-
     /// Replaces the bytes from `start` to `end`. The last answer stays.
-    pub(crate) fn edit(&mut self, start: usize, end: usize, replacement: &[u8]) -> Code {
-        match self.can_edit(start, end, replacement.len()) {
+    pub(crate) fn edit(&mut self, start: usize, end: usize, replacement: &[u8]) -> Code
+        ensures { EditTold start «end» replacement.now self.old self.new result }
+    {
+        match self.fits(start, end, replacement.len()) {
             Code::Done => {}
             code => return code,
+        }
+        if !(self.session.is_boundary(start) && self.session.is_boundary(end)) {
+            return Code::Boundary;
         }
         let Ok(replacement) = std::str::from_utf8(replacement) else {
             return Code::Utf8;
@@ -119,7 +126,9 @@ impl Live {
     }
 
     /// Expands the text, and keeps the answer in place of the last one.
-    pub(crate) fn expand(&mut self) -> Code {
+    pub(crate) fn expand(&mut self) -> Code
+        ensures { ExpandTold self.old self.new result }
+    {
         match self.session.expansion() {
             Ok(Reply::Read(expansion)) => {
                 self.answer = Answer::Read(expansion);
@@ -130,22 +139,6 @@ impl Live {
                 Code::Unread
             }
             Err(refusal) => refused(refusal),
-        }
-    }
-
-    /// The last answer, if the text was read.
-    pub(crate) fn expansion(&self) -> Result<&Expansion, Code> {
-        match &self.answer {
-            Answer::Read(expansion) => Ok(expansion),
-            _ => Err(Code::Nothing),
-        }
-    }
-
-    /// The last answer, if the text was not read.
-    pub(crate) fn reading_fault(&self) -> Result<ReadFault, Code> {
-        match &self.answer {
-            Answer::Unread(fault) => Ok(*fault),
-            _ => Err(Code::Nothing),
         }
     }
 }
