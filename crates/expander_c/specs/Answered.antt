@@ -40,8 +40,8 @@ told f = record { kind = kind_number f.kind; range = byte_range f.range }
 abbrev pub told_unread : ReadFault → ToldFault
 told_unread f = record { kind = read_kind_number f.kind; range = byte_range f.range }
 
-abbrev pub counts : Expanded → Counts
-counts e = record { printed = length e.printed; tokens = length e.origins; faults = length e.faults; expanded = e.expanded }
+abbrev pub counted : Expanded → Counts
+counted e = record { printed = length e.printed; tokens = length e.origins; faults = length e.faults; expanded = e.expanded }
 
 -- ---- answers
 
@@ -59,7 +59,7 @@ Copied items old new _ = ⊥
 
 -- the counts are written
 abbrev pub CountsTold : Expanded → Counts → Counts → Code → Type 0
-CountsTold e old new code.Done = new ≡ counts e
+CountsTold e old new code.Done = new ≡ counted e
 CountsTold e old new _ = ⊥
 
 -- the fault of an index is written, if there is one

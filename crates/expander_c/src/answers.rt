@@ -1,6 +1,6 @@
 //! What is told of an answer, as C sees it.
 ghost use Rattle.std.specs.Prelude.{◌≡◌};
-ghost use Rattle.expander_c.specs.Answered.{byte_range, counts, told, told_unread};
+ghost use Rattle.expander_c.specs.Answered.{byte_range, counted, told, told_unread};
 
 use expander::{Expansion, Fault, FaultKind, ReadFault, ReadFaultKind, TextRange};
 
@@ -72,8 +72,8 @@ pub(crate) fn told_unread(fault: ReadFault) -> ToldFault
 }
 
 /// How much an expansion has.
-pub(crate) fn counts(expansion: &Expansion) -> Counts
-    ensures { result ≡ counts expansion.now }
+pub(crate) fn counted(expansion: &Expansion) -> Counts
+    ensures { result ≡ counted expansion.now }
 {
     Counts {
         printed: expansion.printed().len(),

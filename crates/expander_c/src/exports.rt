@@ -4,7 +4,7 @@ ghost use Rattle.expander_c.specs.Answered.{CountsTold, FaultTold, OfExpansion, 
 ghost use Rattle.expander_c.specs.Calls.{BoundaryTold, EditTold, ExpandTold, FitTold};
 ghost use Rattle.expander_c.specs.Tellings.{Looks, Opened, Tells, TextTold, Told};
 
-use crate::answers::{ByteRange, Counts, ToldFault, counts, told, told_unread};
+use crate::answers::{ByteRange, Counts, ToldFault, counted, told, told_unread};
 use crate::code::Code;
 use crate::handle::Handle;
 use crate::live::{Answer, Live};
@@ -131,11 +131,7 @@ pub extern "C" fn expander_raw_expand(alloc: Global, handle: &mut Handle) -> u32
 
 /// How much the expansion has.
 #[unsafe(no_mangle)]
-pub extern "C" fn expander_raw_counts(
-    alloc: Global,
-    handle: &mut Handle,
-    into: &mut Counts,
-) -> u32
+pub extern "C" fn expander_raw_counts(alloc: Global, handle: &mut Handle, into: &mut Counts) -> u32
     ensures { Tells (Looks (into.new ≡ into.old) (λ live. OfExpansion CountsTold into.old into.new live.answer) handle.old.held handle.new.held) result }
 {
     let Some(live) = handle.take(alloc) else {
@@ -143,7 +139,7 @@ pub extern "C" fn expander_raw_counts(
     };
     let code = match &live.as_ref().answer {
         Answer::Read(expansion) => {
-            *into = counts(expansion);
+            *into = counted(expansion);
             Code::Done
         }
         _ => Code::Nothing,
