@@ -4,11 +4,9 @@ ghost use Rattle.expander_c.specs.Answered.{CountsTold, FaultTold, OfExpansion, 
 ghost use Rattle.expander_c.specs.Calls.{BoundaryTold, EditTold, ExpandTold, FitTold};
 ghost use Rattle.expander_c.specs.Tellings.{Looks, Opened, Tells, TextTold, Told};
 
-use crate::answers::{ByteRange, Counts, ToldFault, counted, told, told_unread};
-use crate::code::Code;
+use crate::answers::{ByteRange, Counts, ToldFault};
+use crate::calls;
 use crate::handle::Handle;
-use crate::live::{Answer, Live};
-use crate::room::{copy_origins, copy_text, copy_token_ranges};
 use std::alloc::Global;
 
 /// Opens a session over a copy of the text, in place of what the handle holds, which is freed.
@@ -23,16 +21,7 @@ pub extern "C" fn expander_raw_open(
 ) -> u32
     ensures { Tells (Opened text.now edition depth grammar handle.old.held handle.new.held) result }
 {
-    match Live::new(alloc, text, edition, depth, grammar) {
-        Ok(live) => match Box::new(alloc, live) {
-            Ok(live) => {
-                handle.put(alloc, live);
-                Code::Done.number()
-            }
-            Err(_) => Code::Memory.number(),
-        },
-        Err(code) => code.number(),
-    }
+    calls::open(alloc, handle, text, edition, depth, grammar).number()
 }
 
 /// Closes the session and frees it. Nothing happens if the handle holds none.
@@ -55,14 +44,7 @@ pub extern "C" fn expander_raw_text(
 ) -> u32
     ensures { Tells (Looks ((room.new ≡ room.old) × (len.new ≡ len.old)) (TextTold room.old room.new len.new) handle.old.held handle.new.held) result }
 {
-    let Some(live) = handle.take(alloc) else {
-        return Code::Closed.number();
-    };
-    let text = live.as_ref().session.text();
-    *len = text.len();
-    let code = copy_text(text, room);
-    handle.put(alloc, live);
-    code.number()
+    calls::text(alloc, handle, room, len).number()
 }
 
 /// Whether the offset is a character boundary of the text.
@@ -70,12 +52,7 @@ pub extern "C" fn expander_raw_text(
 pub extern "C" fn expander_raw_is_boundary(alloc: Global, handle: &mut Handle, at: usize) -> u32
     ensures { Tells (Looks ⊤ (λ live. BoundaryTold live.session.text at) handle.old.held handle.new.held) result }
 {
-    let Some(live) = handle.take(alloc) else {
-        return Code::Closed.number();
-    };
-    let code = live.as_ref().is_boundary(at);
-    handle.put(alloc, live);
-    code.number()
+    calls::is_boundary(alloc, handle, at).number()
 }
 
 /// Whether `len` bytes can replace those from `start` to `end`.
@@ -89,12 +66,7 @@ pub extern "C" fn expander_raw_fits(
 ) -> u32
     ensures { Tells (Looks ⊤ (λ live. FitTold live.session.text start «end» len) handle.old.held handle.new.held) result }
 {
-    let Some(live) = handle.take(alloc) else {
-        return Code::Closed.number();
-    };
-    let code = live.as_ref().fits(start, end, len);
-    handle.put(alloc, live);
-    code.number()
+    calls::fits(alloc, handle, start, end, len).number()
 }
 
 /// Replaces the bytes from `start` to `end`.
@@ -108,12 +80,7 @@ pub extern "C" fn expander_raw_edit(
 ) -> u32
     ensures { Tells (Told ⊤ (EditTold start «end» replacement.now) handle.old.held handle.new.held) result }
 {
-    let Some(mut live) = handle.take(alloc) else {
-        return Code::Closed.number();
-    };
-    let code = live.as_mut().edit(start, end, replacement);
-    handle.put(alloc, live);
-    code.number()
+    calls::edit(alloc, handle, start, end, replacement).number()
 }
 
 /// Expands the text. The answer is kept in place of the last one.
@@ -121,12 +88,7 @@ pub extern "C" fn expander_raw_edit(
 pub extern "C" fn expander_raw_expand(alloc: Global, handle: &mut Handle) -> u32
     ensures { Tells (Told ⊤ ExpandTold handle.old.held handle.new.held) result }
 {
-    let Some(mut live) = handle.take(alloc) else {
-        return Code::Closed.number();
-    };
-    let code = live.as_mut().expand();
-    handle.put(alloc, live);
-    code.number()
+    calls::expand(alloc, handle).number()
 }
 
 /// How much the expansion has.
@@ -134,18 +96,7 @@ pub extern "C" fn expander_raw_expand(alloc: Global, handle: &mut Handle) -> u32
 pub extern "C" fn expander_raw_counts(alloc: Global, handle: &mut Handle, into: &mut Counts) -> u32
     ensures { Tells (Looks (into.new ≡ into.old) (λ live. OfExpansion CountsTold into.old into.new live.answer) handle.old.held handle.new.held) result }
 {
-    let Some(live) = handle.take(alloc) else {
-        return Code::Closed.number();
-    };
-    let code = match &live.as_ref().answer {
-        Answer::Read(expansion) => {
-            *into = counted(expansion);
-            Code::Done
-        }
-        _ => Code::Nothing,
-    };
-    handle.put(alloc, live);
-    code.number()
+    calls::counts(alloc, handle, into).number()
 }
 
 /// The printed text, copied to the beginning of the room.
@@ -153,15 +104,7 @@ pub extern "C" fn expander_raw_counts(alloc: Global, handle: &mut Handle, into: 
 pub extern "C" fn expander_raw_printed(alloc: Global, handle: &mut Handle, room: &mut [u8]) -> u32
     ensures { Tells (Looks (room.new ≡ room.old) (λ live. OfExpansion PrintedTold room.old room.new live.answer) handle.old.held handle.new.held) result }
 {
-    let Some(live) = handle.take(alloc) else {
-        return Code::Closed.number();
-    };
-    let code = match &live.as_ref().answer {
-        Answer::Read(expansion) => copy_text(expansion.printed(), room),
-        _ => Code::Nothing,
-    };
-    handle.put(alloc, live);
-    code.number()
+    calls::printed(alloc, handle, room).number()
 }
 
 /// The fault of this index.
@@ -174,21 +117,7 @@ pub extern "C" fn expander_raw_fault(
 ) -> u32
     ensures { Tells (Looks (into.new ≡ into.old) (λ live. OfExpansion (FaultTold index) into.old into.new live.answer) handle.old.held handle.new.held) result }
 {
-    let Some(live) = handle.take(alloc) else {
-        return Code::Closed.number();
-    };
-    let code = match &live.as_ref().answer {
-        Answer::Read(expansion) => match expansion.faults().get(index) {
-            Some(fault) => {
-                *into = told(*fault);
-                Code::Done
-            }
-            None => Code::Index,
-        },
-        _ => Code::Nothing,
-    };
-    handle.put(alloc, live);
-    code.number()
+    calls::fault(alloc, handle, index, into).number()
 }
 
 /// The reading fault.
@@ -200,18 +129,7 @@ pub extern "C" fn expander_raw_reading_fault(
 ) -> u32
     ensures { Tells (Looks (into.new ≡ into.old) (λ live. ReadingFaultTold into.old into.new live.answer) handle.old.held handle.new.held) result }
 {
-    let Some(live) = handle.take(alloc) else {
-        return Code::Closed.number();
-    };
-    let code = match &live.as_ref().answer {
-        Answer::Unread(fault) => {
-            *into = told_unread(*fault);
-            Code::Done
-        }
-        _ => Code::Nothing,
-    };
-    handle.put(alloc, live);
-    code.number()
+    calls::reading_fault(alloc, handle, into).number()
 }
 
 /// Where the printed tokens come from in the text, copied to the beginning of the room.
@@ -223,15 +141,7 @@ pub extern "C" fn expander_raw_origins(
 ) -> u32
     ensures { Tells (Looks (room.new ≡ room.old) (λ live. OfExpansion OriginsTold room.old room.new live.answer) handle.old.held handle.new.held) result }
 {
-    let Some(live) = handle.take(alloc) else {
-        return Code::Closed.number();
-    };
-    let code = match &live.as_ref().answer {
-        Answer::Read(expansion) => copy_origins(expansion, room),
-        _ => Code::Nothing,
-    };
-    handle.put(alloc, live);
-    code.number()
+    calls::origins(alloc, handle, room).number()
 }
 
 /// Where the printed tokens are in the printed text, copied to the beginning of the room.
@@ -243,13 +153,5 @@ pub extern "C" fn expander_raw_token_ranges(
 ) -> u32
     ensures { Tells (Looks (room.new ≡ room.old) (λ live. OfExpansion TokenRangesTold room.old room.new live.answer) handle.old.held handle.new.held) result }
 {
-    let Some(live) = handle.take(alloc) else {
-        return Code::Closed.number();
-    };
-    let code = match &live.as_ref().answer {
-        Answer::Read(expansion) => copy_token_ranges(alloc, expansion.printed(), room),
-        _ => Code::Nothing,
-    };
-    handle.put(alloc, live);
-    code.number()
+    calls::token_ranges(alloc, handle, room).number()
 }

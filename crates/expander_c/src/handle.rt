@@ -37,14 +37,14 @@ impl Handle {
     }
 
     // A handle that holds nothing.
-    pub(crate) fn closed() -> Handle
+    fn closed() -> Handle
         ensures { result.held ≡ None }
     {
         Handle { at: null_mut() }
     }
 
     // What is held.
-    pub(crate) fn into_bare(self) -> Option<Bare<Live>>
+    fn into_bare(self) -> Option<Bare<Live>>
         ensures { option_map (λ live. live.value) result ≡ self.held }
     {
         let Handle { at } = self;

@@ -5,10 +5,10 @@
 #![tactic(auto)]
 
 mod answers;
+mod calls;
 mod code;
 mod exports;
 mod handle;
+mod last;
 mod live;
 mod room;
-#[cfg(test)]
-mod tests;

@@ -1,4 +1,4 @@
-//! Answers that are copied into the caller's room.
+//! What is told of the last answer, written to where the caller says.
 ghost use Rattle.std.specs.Prelude.{◌≡◌, ◌≤◌, ◌++◌, length, drop, map, take};
 ghost use Rattle.expander_c.specs.Answered.{Copied, OriginsTold, RangesTold, byte_range};
 
