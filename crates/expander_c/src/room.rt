@@ -59,9 +59,10 @@ pub(crate) fn copy_origins(expansion: &Expansion, room: &mut [ByteRange]) -> Cod
     }
     let mut i = 0;
     while i < tokens {
-        if let Some(range) = expansion.origin(i) {
-            room[i] = byte_range(range);
-        }
+        let Some(range) = expansion.origin(i) else {
+            unreachable!("a printed token has an origin");
+        };
+        room[i] = byte_range(range);
         i += 1;
     }
     Code::Done
