@@ -90,12 +90,12 @@ const FAULT: Prefix = Prefix {
 const ROWS: &str = "
 Item ¦ 1 ¦ pub const unsafe fn f < T > ( x ) -> Vec < Vec < T >> where T : A { } x ¦ 26
 Item ¦ 1 ¦ struct S ( u8 ) x ¦ fault
-Item ¦ 1 ¦ impl < T > ! Send for S < T > { } ¦ 14
+Item ¦ 1 ¦ impl < T > ! Send for S < T > { } ¦ 13
 Item ¦ 1 ¦ macro_rules ! m { } x ¦ 5
 Stmt ¦ 1 ¦ let Some ( x ) = y else { } ; ¦ 10
 Stmt ¦ 1 ¦ match a { } - 1 ¦ 4
 Stmt ¦ 1 ¦ match a { } . b - 1 ; ¦ 8
-Expr ¦ 1 ¦ if a == S { b } else { c } + 1 , ¦ 13
+Expr ¦ 1 ¦ if a == S { b } else { c } + 1 , ¦ 14
 Expr ¦ 1 ¦ move | a , b : u8 | a + b , ¦ 11
 Expr ¦ 1 ¦ a as u8 < b , ¦ 5
 Expr ¦ 1 ¦ a as ; ¦ fault
@@ -105,7 +105,7 @@ Expr ¦ 8 ¦ async + 1 ¦ fault
 Expr ¦ 1 ¦ gen + 1 ¦ 3
 Expr ¦ 4 ¦ gen + 1 ¦ fault
 Ty ¦ 1 ¦ Vec < Vec < u8 >> a ¦ 7
-Ty ¦ 1 ¦ & ' a mut dyn for < ' b > Fn ( u8 ) -> u8 ; ¦ 18
+Ty ¦ 1 ¦ & ' a mut dyn for < ' b > Fn ( u8 ) -> u8 ; ¦ 17
 Path ¦ 1 ¦ a :: b < c , > ( ) ¦ 8
 PatTop ¦ 1 ¦ | ref mut x @ ( a ) | - 1 ..= 2 = ¦ 15
 Pat ¦ 1 ¦ S { y } | z ¦ 4
@@ -185,12 +185,10 @@ Expr ¦ x =
 Expr ¦ if let x =
 Ty ¦ A <
 Ty ¦ fn ( ) ->
-Ty ¦ impl for <
 Ty ¦ < A as
 PatTop ¦ &
 PatTop ¦ a @
 Item ¦ impl A <
-Stmt ¦ let x : A <
 ";
 
 #[test]
