@@ -1,6 +1,6 @@
 //! How far the lexer looks ahead: tokens that end at least two characters before an edit, and not
 //! inside the run of hashes there, do not depend on it.
-ghost use Rattle.std.specs.Prelude.{◌≡◌, ◌+◌, ◌<◌, ◌≤◌, ◌&&◌, ℕ, nat_le, drop, length, chars, take, IsCharBoundary};
+ghost use Rattle.std.specs.Prelude.{◌≡◌, ◌+◌, ◌-◌, ◌<◌, ◌≤◌, ◌&&◌, ℕ, nat_le, drop, length, chars, take, IsCharBoundary};
 ghost use Rattle.rustc_lexer.specs.Edit.{is_clear_of};
 ghost use Rattle.rustc_lexer.specs.Relexing.{IsLastChar, IsRunStart};
 
@@ -64,4 +64,20 @@ pub fn is_clear(text: &str, at: usize, start: usize, run: usize) -> bool
         return true;
     }
     has_two_chars(&text[at..start])
+}
+
+/// The same, where offsets before `sure` are far enough from `start` and not behind `run`: these
+/// are clear at a glance.
+#[inline]
+pub fn is_clear_from(text: &str, at: usize, start: usize, run: usize, sure: usize) -> bool
+    requires at { IsCharBoundary text.now at }
+    requires start { IsCharBoundary text.now start }
+    requires run { IsRunStart text.now start run }
+    requires sure { (sure ≤ run + 1) × (sure ≤ start - 7) }
+    ensures { result ≡ is_clear_of text.now start at }
+{
+    if at < sure {
+        return true;
+    }
+    is_clear(text, at, start, run)
 }

@@ -9,7 +9,7 @@ ghost use Rattle.rustc_lexer.specs.Remaining.{tokens_left};
 use crate::lex::tokenize;
 use crate::relex::checkpoints::{Checkpoint, Relexed, first_from};
 use crate::relex::gap_buffer::GapBuffer;
-use crate::relex::lookahead::{is_clear, run_start};
+use crate::relex::lookahead::{is_clear_from, run_start};
 use crate::token::{FrontmatterAllowed, Token};
 use crate::tokens::Tokens;
 use std::alloc::{AllocError, Global};
@@ -28,10 +28,12 @@ fn front(text: &str, tokens: &[Token], near: Checkpoint, start: usize) -> (usize
     ensures within { result.0 ≤ length tokens.now }
 {
     let run = run_start(text, start);
+    // Up to here, offsets are clear at a glance.
+    let sure = (run + 1).min(start.saturating_sub(7));
     let mut at = near.place;
     for k in near.tokens..tokens.len() {
         let next = at + tokens[k].len as usize;
-        if !is_clear(text, next, start, run) {
+        if !is_clear_from(text, next, start, run, sure) {
             return (k, at);
         }
         at = next;
