@@ -1,5 +1,4 @@
 -- The steps of a walk that is given a `&` to an owner. The word of an owner is that of std's counted handles. Assumes `Logic`.
---     at_words          a walk is moved to the machine values that its arguments are known to have
 --     owner_opens       an owner, with the thread's token, is opened to the block's count, or to a count that stays
 --     opens, returned   the same of a `&` to an owner, and its token is had back;  Way      the way there
 --     reads_full        a count that stays is looked at
@@ -28,11 +27,7 @@ use denote.Struct.Lending.{lent_at}
 use Rattle.std_alloc.proofs.RcSteps.{Word, word, word_ty, reads, read}
 use Rattle.symbols.specs.SharedBlock.{most, count_in, count_at, value_offset, seen, stays, owns_by, owner_owns, lends_by, owner_lends}
 use Rattle.symbols.proofs.CountedBlock.{Name, shared_for, word_at, part, standing, standing_twice, stays_twice, Inside, Entry, Entered, enters, owner_enters, Lent, looks_in}
-use Rattle.symbols.proofs.HeapBoxes.{boxed}
-
--- a walk at the arguments' machine values, which are known to be these
-pub at_words : {M : Type 1} (𝓤 : Ura M) (Run : List Val → SProp 𝓤) (us ws : List Val) → ws ≡ us → ent 𝓤 (Run us) (Run ws)
-at_words 𝓤 Run us ws e = subst (λ (vs : List Val). ent 𝓤 (Run us) (Run vs)) (sym e) (id⊢ 𝓤 (Run us))
+use Rattle.bare_box.proofs.HeapBoxes.{boxed}
 
 -- shares of a count's memory
 halved : {M : Type 1} {𝓤 : Ura M} (𝓛 : Logic 𝓤) (b o : ℕ) (v : Val) → Halves 𝓤 𝓛.H 𝓛.A (λ q. fat q (ty_int w64) b o v)

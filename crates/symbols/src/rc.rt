@@ -7,7 +7,8 @@ ghost use Rattle.symbols.specs.declared.fault.TtFault.TheVariants as fault;
 pub(crate) mod shared;
 
 use crate::fault::TtFault;
-use crate::rc::shared::{Bare, Block, Shared};
+use crate::rc::shared::{Block, Shared};
+use bare_box::Bare;
 use std::alloc::{AllocError, Global};
 use std::fmt;
 use std::hash::{Hash, Hasher};

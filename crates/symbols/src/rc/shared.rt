@@ -1,8 +1,8 @@
 //! A value with any number of owners, in one block with the count of them.
 ghost use Rattle.std.specs.Prelude.{◌≡◌, IfSome};
-ghost use Rattle.symbols.specs.SharedBlock.{bare_owns, owner_owns, owner_lends};
+ghost use Rattle.symbols.specs.SharedBlock.{owner_owns, owner_lends};
 
-use std::alloc::Global;
+use bare_box::Bare;
 use std::marker::Model;
 
 /// The count of the owners, and what they share.
@@ -12,38 +12,6 @@ use std::marker::Model;
 pub(crate) struct Block<T> {
     pub(crate) owners: usize,
     pub(crate) value: T,
-}
-
-/// A box of the heap as its pointer. Any handle of the heap can take it back.
-///
-/// It has no `Drop`: it ends by [`Bare::into_box`] alone, so no block is lost.
-pub(crate) struct Bare<T> {
-    at: *mut T,
-    pub(crate) ghost value: { T },
-}
-
-impl<T> Model for Bare<T> {
-    ghost also_owns = { λ b. bare_owns T.row b.at b.value };
-}
-
-impl<T> Bare<T> {
-    /// The box's pointer.
-    pub(crate) fn of(from: Box<T, Global>) -> Bare<T>
-    where
-        T: Drop,
-        ensures { result.value ≡ from.value }
-    {
-        let at = Box::into_raw(from);
-        Bare { at }
-    }
-
-    /// The box again.
-    pub(crate) fn into_box(self, alloc: Global) -> Box<T, Global>
-        ensures { result.value ≡ self.value }
-    {
-        let Bare { at } = self;
-        unsafe { Box::from_raw(alloc, at) }
-    }
 }
 
 /// One owner of a block.

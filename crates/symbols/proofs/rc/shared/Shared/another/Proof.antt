@@ -1,12 +1,13 @@
 -- `another` makes one more owner, whom the block counts unless its count stays.
 use contract.Running.{tables_of}
-use Rattle.symbols.proofs.WalkWords.{◌+◌, ◌<◌, ◌^◌, List, [], ◌∷◌, ◌++◌, Bool, false, refl, sym, ap, arith, Sym, a_type, inst_fn, Val, vptr, id⊢, every, fhide, ftrue, flft, ftok, WpFn, ‵, raw, ◌⊛◌, later, at_ret, ◌$◌, ◌∵◌, !, qed, move, keep, drop, split, join, group, fsplit, fjoin, fpack, suffices, use1, await, rewrite, frame, done, stop, fld, load, look, lit, neg_lit, bin, store, of_opd, and_then, no_more, assigns_last, first, blocks, branches, skips, exec, returns, enter, well_typed, alloc_all, pass_all, free_all, look_at, get, through, sets, is, env, agg, sub, whole, look_in, bare_unfolds, RefOf, yes, hidden_shr, layouts, RattleType, owns, Ptr, ptr_val, types_at, plain, nothing, Stays, stay_dropped, walk_of, says, ends_at, Goes-dropped, after, Word, word, word-Good, word_made, reads, read, is_not, is_so}
+use Rattle.bare_box.proofs.WalkWords.{◌+◌, ◌<◌, ◌^◌, List, [], ◌∷◌, ◌++◌, Bool, false, refl, sym, ap, arith, Sym, a_type, inst_fn, Val, vptr, id⊢, every, fhide, ftrue, flft, ftok, WpFn, ‵, raw, ◌⊛◌, later, at_ret, ◌$◌, ◌∵◌, !, qed, move, keep, drop, split, join, group, fsplit, fjoin, fpack, suffices, use1, await, rewrite, frame, done, stop, fld, load, look, lit, neg_lit, bin, store, of_opd, and_then, no_more, assigns_last, first, blocks, branches, skips, exec, returns, enter, well_typed, alloc_all, pass_all, free_all, look_at, get, through, sets, is, env, agg, sub, whole, look_in, bare_unfolds, RefOf, yes, hidden_shr, layouts, RattleType, owns, Ptr, ptr_val, types_at, plain, nothing, Stays, stay_dropped, walk_of, says, ends_at, Goes-dropped, after, Word, word, word-Good, word_made, reads, read, is_not, is_so}
 use Rattle.symbols.specs.SharedBlock.{most, count_at, owns_by, owner_owns, owner_lends}
 use Rattle.symbols.specs.contracts.rc.shared.Shared as owners
 use Rattle.symbols.specs.contracts.rc.shared.Shared.another as f
 use Rattle.symbols.proofs.CountedBlock.{adds}
-use Rattle.symbols.proofs.HeapBoxes.{boxed}
-use Rattle.symbols.proofs.OwnerWalks.{at_words, R, LR, opens, returned, reads_full}
+use Rattle.bare_box.proofs.HeapBoxes.{boxed}
+use Rattle.bare_box.proofs.MachineWords.{at_words}
+use Rattle.symbols.proofs.OwnerWalks.{R, LR, opens, returned, reads_full}
 use Rattle.symbols.proofs.TokenEntry.{inner, calls, asked, walks_with_token}
 use Rattle.symbols.proofs.rc.shared.Shared.another.Statement.{statement}
 use Rattle.symbols.proofs.rc.shared.Shared.another.Code as code

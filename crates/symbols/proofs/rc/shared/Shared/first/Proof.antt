@@ -1,13 +1,15 @@
 -- `first` makes the first owner of a block whose count is 1.
-use Rattle.symbols.proofs.WalkWords.{◌≡◌, ℕ, List, [], ◌∷◌, ◌++◌, refl, sym, Sym, a_type, inst_fn, bare, Val, never, fst∗, fsep, ftrue, flft, WpFn, sem, ‵, raw, ◌⊛◌, later, ◌$◌, ◌∵◌, !, qed, move, keep, split, join, fsplit, fjoin, suffices, use1, use3, await, rewrite, done, stop, fld, of_opd, and_then, no_more, returns, enter, alloc_all, pass_all, free_all, look_at, get, get_in, sets, agg, sub, whole, ◌⊑◌, fact, tables, no, RattleType, plain, Ptr, block_ptr, null_ptr, in_a_block, nothing, heard, layout, layouts, Stays, stay_dropped, walk_of, says, ends_at, Goes-dropped, proved_at, word, word-Good, word_had, word_made, Ptr-Good}
-use Rattle.symbols.specs.SharedBlock.{bare_owns, may_free, rest, owner_owns}
-use Rattle.symbols.specs.contracts.rc.shared.Bare as bares
+use Rattle.bare_box.proofs.WalkWords.{◌≡◌, ℕ, List, [], ◌∷◌, ◌++◌, refl, sym, Sym, a_type, inst_fn, bare, Val, never, fst∗, fsep, ftrue, flft, WpFn, sem, ‵, raw, ◌⊛◌, later, ◌$◌, ◌∵◌, !, qed, move, keep, split, join, fsplit, fjoin, suffices, use1, use3, await, rewrite, done, stop, fld, of_opd, and_then, no_more, returns, enter, alloc_all, pass_all, free_all, look_at, get, get_in, sets, agg, sub, whole, ◌⊑◌, fact, tables, no, RattleType, plain, Ptr, block_ptr, null_ptr, in_a_block, nothing, heard, layout, layouts, Stays, stay_dropped, walk_of, says, ends_at, Goes-dropped, proved_at, word, word-Good, word_had, word_made, Ptr-Good}
+use Rattle.bare_box.specs.BareBox.{bare_owns, may_free}
+use Rattle.symbols.specs.SharedBlock.{rest, owner_owns}
+use Rattle.bare_box.specs.contracts.Bare as bares
 use Rattle.symbols.specs.contracts.rc.shared.Shared as owners
 use Rattle.symbols.specs.contracts.rc.shared.Shared.first as f
 use Rattle.symbols.proofs.BlockFields.{Block, apart}
 use Rattle.symbols.proofs.CountedBlock.{word_at, founded}
-use Rattle.symbols.proofs.HeapBoxes.{boxed}
-use Rattle.symbols.proofs.OwnerWalks.{at_words, R, LR}
+use Rattle.bare_box.proofs.HeapBoxes.{boxed}
+use Rattle.bare_box.proofs.MachineWords.{at_words}
+use Rattle.symbols.proofs.OwnerWalks.{R, LR}
 use Rattle.symbols.proofs.rc.shared.Shared.first.Statement.{statement}
 use Rattle.symbols.proofs.rc.shared.Shared.first.Code as code
 

@@ -1,15 +1,17 @@
 -- `release` gives an owner's part back. The last owner gets the block.
 use contract.Running.{tables_of}
-use Rattle.symbols.proofs.WalkWords.{◌≡◌, ℕ, ◌-◌, ◌<◌, ◌^◌, List, [], ◌∷◌, ◌++◌, refl, sym, ap, lit<, arith, eqb→eq, Sym, a_type, inst_fn, Val, vcons, vnil, every, ftrue, flft, ftok, Wp, WpFn, after_block, after_seq, at_return, ‵, raw, ◌⊛◌, later, at_ret, any_q, ◌$◌, ◌∵◌, !, qed, move, keep, drop, split, join, fsplit, fjoin, suffices, use0, use1, use2, await, rewrite, frame, done, stop, fld, load, look, lit, neg_lit, bin, store, of_opd, and_then, no_more, assigns, first, blocks, branches, skips, exec, returns, returns_within, enter, well_typed, alloc_all, pass_all, free_all, look_at, get, get_in, through, sets, is, env, live, agg, sub, whole, bare_unfolds, no, layouts, RattleType, owns, Ptr, block_ptr, ptr_val, types_at, plain, nothing, Stays, stay_dropped, walk_of, says, ends_at, Goes-dropped, None, Some, Some-of, none_of, after, head, inside, word, word_ty, word-Good, word_had, word_made, some_Good, is_not, is_so}
+use Rattle.bare_box.proofs.WalkWords.{◌≡◌, ℕ, ◌-◌, ◌<◌, ◌^◌, List, [], ◌∷◌, ◌++◌, refl, sym, ap, lit<, arith, eqb→eq, Sym, a_type, inst_fn, Val, vcons, vnil, every, ftrue, flft, ftok, Wp, WpFn, after_block, after_seq, at_return, ‵, raw, ◌⊛◌, later, at_ret, any_q, ◌$◌, ◌∵◌, !, qed, move, keep, drop, split, join, fsplit, fjoin, suffices, use0, use1, use2, await, rewrite, frame, done, stop, fld, load, look, lit, neg_lit, bin, store, of_opd, and_then, no_more, assigns, first, blocks, branches, skips, exec, returns, returns_within, enter, well_typed, alloc_all, pass_all, free_all, look_at, get, get_in, through, sets, is, env, live, agg, sub, whole, bare_unfolds, no, layouts, RattleType, owns, Ptr, block_ptr, ptr_val, types_at, plain, nothing, Stays, stay_dropped, walk_of, says, ends_at, Goes-dropped, None, Some, Some-of, none_of, after, head, inside, word, word_ty, word-Good, word_had, word_made, some_Good, is_not, is_so}
 use Rattle.core.specs.contracts.option.Option as options
-use Rattle.symbols.specs.SharedBlock.{most, count_at, rest, bare_owns}
-use Rattle.symbols.specs.contracts.rc.shared.Bare as bares
+use Rattle.bare_box.specs.BareBox.{bare_owns}
+use Rattle.symbols.specs.SharedBlock.{most, count_at, rest}
+use Rattle.bare_box.specs.contracts.Bare as bares
 use Rattle.symbols.specs.contracts.rc.shared.Shared as owners
 use Rattle.symbols.specs.contracts.rc.shared.Shared.release as f
 use Rattle.symbols.proofs.BlockFields.{Block, together}
 use Rattle.symbols.proofs.CountedBlock.{Inside, leaves, one_less, none_left}
-use Rattle.symbols.proofs.HeapBoxes.{boxed}
-use Rattle.symbols.proofs.OwnerWalks.{at_words, R, LR, owner_opens, reads_full}
+use Rattle.bare_box.proofs.HeapBoxes.{boxed}
+use Rattle.bare_box.proofs.MachineWords.{at_words}
+use Rattle.symbols.proofs.OwnerWalks.{R, LR, owner_opens, reads_full}
 use Rattle.symbols.proofs.TokenEntry.{inner, calls, asked, walks_with_token}
 use Rattle.symbols.proofs.rc.shared.Shared.release.Statement.{statement}
 use Rattle.symbols.proofs.rc.shared.Shared.release.Code as code

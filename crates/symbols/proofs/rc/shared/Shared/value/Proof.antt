@@ -1,11 +1,12 @@
 -- `value` shows what every owner shares.
-use Rattle.symbols.proofs.WalkWords.{◌+◌, List, [], ◌∷◌, ◌++◌, refl, sym, Sym, a_type, inst_fn, Val, vptr, id⊢, fst∗, never, fhide, ftrue, fat, flft, WpFn, sem, ‵, raw, ◌⊛◌, at_ret, ◌$◌, ◌∵◌, !, qed, move, keep, drop, split, join, fsplit, fjoin, fpick, suffices, use1, feq_i, rewrite, done, stop, fld, hop, addr, of_opd, first, blocks, exec, returns, enter, alloc_all, pass_all, free_all, look_at, get, through, sets, sets_last, env, sub, whole, look_in, tables, RefOf, yes, hidden_shr, shared_of, unhide, hide, layouts, RattleType, owns, Ptr, in_a_block, ◌+ₚ◌, types_at, plain, nothing, lent_at, Stays, stay_dropped, walk_of, says, ends_at, Goes-dropped, after, proved_at, Word, word, word_ty, reads, read}
+use Rattle.bare_box.proofs.WalkWords.{◌+◌, List, [], ◌∷◌, ◌++◌, refl, sym, Sym, a_type, inst_fn, Val, vptr, id⊢, fst∗, never, fhide, ftrue, fat, flft, WpFn, sem, ‵, raw, ◌⊛◌, at_ret, ◌$◌, ◌∵◌, !, qed, move, keep, drop, split, join, fsplit, fjoin, fpick, suffices, use1, feq_i, rewrite, done, stop, fld, hop, addr, of_opd, first, blocks, exec, returns, enter, alloc_all, pass_all, free_all, look_at, get, through, sets, sets_last, env, sub, whole, look_in, tables, RefOf, yes, hidden_shr, shared_of, unhide, hide, layouts, RattleType, owns, Ptr, in_a_block, ◌+ₚ◌, types_at, plain, nothing, lent_at, Stays, stay_dropped, walk_of, says, ends_at, Goes-dropped, after, proved_at, Word, word, word_ty, reads, read}
 use Rattle.symbols.specs.SharedBlock.{seen, value_offset, owner_lends}
 use Rattle.symbols.specs.contracts.rc.shared.Shared as owners
 use Rattle.symbols.specs.contracts.rc.shared.Shared.value as f
 use Rattle.symbols.proofs.CountedBlock.{owner_sees}
-use Rattle.symbols.proofs.HeapBoxes.{boxed}
-use Rattle.symbols.proofs.OwnerWalks.{at_words, R, LR}
+use Rattle.bare_box.proofs.HeapBoxes.{boxed}
+use Rattle.bare_box.proofs.MachineWords.{at_words}
+use Rattle.symbols.proofs.OwnerWalks.{R, LR}
 use Rattle.symbols.proofs.rc.shared.Shared.value.Statement.{statement}
 use Rattle.symbols.proofs.rc.shared.Shared.value.Code as code
 
