@@ -108,12 +108,6 @@ pub struct Session {
     stays: PhantomData<*mut ()>,
 }
 
-impl std::fmt::Debug for sys::Session {
-    fn fmt(&self, f: &mut std::fmt::Formatter<'_>) -> std::fmt::Result {
-        f.write_str("Session")
-    }
-}
-
 impl Session {
     /// A session over a copy of the text. `depth` is how many levels of calls are expanded. Nothing
     /// is expanded yet.
@@ -218,12 +212,6 @@ pub struct Expansion<'s> {
     session: &'s Session,
     counts: sys::Counts,
     printed: String,
-}
-
-impl std::fmt::Debug for sys::Counts {
-    fn fmt(&self, f: &mut std::fmt::Formatter<'_>) -> std::fmt::Result {
-        write!(f, "{} tokens, {} faults", self.tokens, self.faults)
-    }
 }
 
 impl<'s> Expansion<'s> {
