@@ -24,3 +24,4 @@ mod ReplyLawLemmas
 mod HeldPieceLemmas
 mod SelfMatchLemmas
 mod SameTextLemmas
+mod TextPieceLemmas

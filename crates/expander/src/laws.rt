@@ -21,6 +21,7 @@ ghost use Rattle.expander_scope.specs.Numbers.{AreEntries, Numbering, number_in,
 ghost use Rattle.expander_scope.specs.NewNumbers.{needed};
 ghost use Rattle.expander_model.specs.OtherPlaces.{CommutesWithMarker, definition_with};
 ghost use Rattle.expander.specs.PieceTokens.{AreWords, placed_tokens, written_in};
+ghost use Rattle.expander.specs.PieceTrees.{own_tree};
 ghost use Rattle.expander_model.specs.Pieces.{cut, pieces, put_together, relative, separated};
 ghost use Rattle.expander_model.specs.Printing.{left_out};
 ghost use Rattle.expander_session.specs.Replies.{HasCause, IsReplyTo, NeedsNumbers, Replies, definitions_in};
@@ -41,6 +42,8 @@ ghost use Rattle.expander_scope.specs.declared.refusal.Refusal.{Refusal};
 ghost use Rattle.expander_scope.specs.declared.refusal.Refusal.TheVariants.{Numbers};
 ghost use Rattle.expander_session.specs.declared.session.Reply.{Reply};
 ghost use Rattle.expander_session.specs.declared.session.Reply.TheVariants.{Read};
+ghost use Rattle.bridge.specs.Pieces.{StandsBehindFirst, piece_of};
+ghost use Rattle.bridge.specs.ReadText.{text_top};
 ghost use Rattle.bridge.specs.Reading.{reading};
 ghost use Rattle.bridge.specs.TokenSteps.{escaped, steps_of, text_reading};
 ghost use Rattle.mbe.specs.Grammar.{Grammar};
@@ -83,6 +86,20 @@ pub fn pieces_are_the_list()
         ((front behind : List Forest) (p q : Forest) → ps ≡ front ++ p ∷ q ∷ behind → IsEnded p) →
         All (λ p. (front behind : Forest) → p ≡ joined front behind → IsEnded front → behind ≡ empty) ps → cut (put_together ps) ≡ ps }
 {}
+
+/// A session has the trees that `bridge::piece` makes. The list that a text is read as is cut into
+/// parts, and each may be cut out as a piece: `may`. Its trees are then the text's pieces, spans
+/// piece-relative: `trees`. So are those of its plain pieces and definitions: `members`.
+pub fn pieces_are_those_of_the_bridge()
+    ensures may { (text : List ℕ) (f : Forest) → IsUtf8 text → text_reading text ≡ Ok f → All StandsBehindFirst (cut f) }
+    ensures trees { (text : List ℕ) (f : Forest) → text_reading text ≡ Ok f →
+        map piece_of (cut f) ≡ map (λ p. record { delimiter = text_top; inner = relative p }) (pieces f) }
+    ensures members { (layers : Layers) (depth : ℕ) (text : List ℕ) (f : Forest) → text_reading text ≡ Ok f →
+        map own_tree (members layers depth f) ≡ map (λ p. (piece_of p).inner) (cut f) }
+{
+    bridge::laws::reading_is_a_relation();
+    bridge::laws::tokens_follow_one_another();
+}
 
 /// A call that fails keeps its tokens, its argument unexpanded, before the expansion of what
 /// follows.
