@@ -25,3 +25,4 @@ mod HeldPieceLemmas
 mod SelfMatchLemmas
 mod SameTextLemmas
 mod TextPieceLemmas
+mod SessionCallLemmas

@@ -30,3 +30,4 @@ pub use Rattle.expander_scope.specs.NewNumbers
 pub mod PieceTokens
 pub mod FixedPoint
 pub mod PieceTrees
+pub mod SessionCalls

@@ -22,6 +22,7 @@ ghost use Rattle.expander_scope.specs.NewNumbers.{needed};
 ghost use Rattle.expander_model.specs.OtherPlaces.{CommutesWithMarker, definition_with};
 ghost use Rattle.expander.specs.PieceTokens.{AreWords, placed_tokens, written_in};
 ghost use Rattle.expander.specs.PieceTrees.{own_tree};
+ghost use Rattle.expander.specs.SessionCalls.{IsAfter, SessionCall};
 ghost use Rattle.expander_model.specs.Pieces.{cut, pieces, put_together, relative, separated};
 ghost use Rattle.expander_model.specs.Printing.{left_out};
 ghost use Rattle.expander_session.specs.Replies.{HasCause, IsReplyTo, NeedsNumbers, Replies, definitions_in};
@@ -524,6 +525,15 @@ pub fn the_text_alone_decides()
         AreAnswers layers depth one [] (ones ++ Expand ∷ []) (first ++ Replied reply ∷ []) →
         AreAnswers layers depth two [] (twos ++ Expand ∷ []) (second ++ Replied other ∷ []) →
         last_text one ones first ≡ last_text two twos second → ShowTheSame reply other }
+{}
+
+/// So it is for the calls of sessions. If two sessions answer by equal layers with as many levels,
+/// and have one text after any edits and replies, their replies show the same.
+pub fn one_text_of_two_sessions_decides<G: FragmentGrammar>()
+    ensures { (one two first second after behind : State G) (calls others : List SessionCall) (reply other : Reply) →
+        layers_of G.answer one ≡ layers_of G.answer two → one.depth ≡ two.depth →
+        IsAfter G.answer one calls first → IsAfter G.answer two others second → first.text ≡ second.text →
+        Replies (layers_of G.answer first) first after reply → Replies (layers_of G.answer second) second behind other → ShowTheSame reply other }
 {}
 
 /// Two answers are equal by `==` exactly where they are the same, ranges included.
