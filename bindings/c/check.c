@@ -37,10 +37,10 @@ static uint32_t open_text(struct expander_session *s, const char *text) {
 
 static void the_row(void) {
     struct expander_session s = EXPANDER_SESSION_INIT;
-    struct expander_counts counts;
-    struct expander_fault fault;
-    struct expander_range at[6], from[6];
-    char room[64];
+    struct expander_counts counts = {0, 0, 0, 0};
+    struct expander_fault fault = {9, {0, 0}};
+    struct expander_range at[6] = {{0, 0}}, from[6] = {{0, 0}};
+    char room[64] = "";
     SAME(open_text(&s, TEXT), EXPANDER_OK);
     SAME(expander_expand(&s), EXPANDER_OK);
     SAME(expander_counts(&s, &counts), EXPANDER_OK);
@@ -208,6 +208,7 @@ static size_t told(struct expander_session *s, uint8_t *into) {
         return n + sizeof fault;
     }
     SAME(code, EXPANDER_OK);
+    if (code) return n;
     SAME(expander_counts(s, &counts), EXPANDER_OK);
     SAME(expander_printed(s, into + n, counts.printed), EXPANDER_OK);
     n += counts.printed;

@@ -13,8 +13,8 @@ module _ (ranges : List TextRange) (room : List ByteRange) (i : ℕ) (r : TextRa
       → take (i + 1) (set room i x) ≡ map byte_range (take (i + 1) ranges)
   copied_more within so_far =
       let next : take (i + 1) ranges ≡ take i ranges ++ r ∷ [] =
-          take_more ranges i r (slice_get_within ranges i r at)
-          ∙ ap (λ y. take i ranges ++ y ∷ []) (get_or_from_slice_get ranges i r r at) in
+      take_more ranges i r (slice_get_within ranges i r at)
+      ∙ ap (λ y. take i ranges ++ y ∷ []) (get_or_from_slice_get ranges i r r at) in
       take_more_set room i x within
       ∙ ap (λ rs. rs ++ x ∷ []) so_far
       ∙ ap (λ y. map byte_range (take i ranges) ++ y ∷ []) is

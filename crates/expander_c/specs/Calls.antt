@@ -1,5 +1,5 @@
 -- What the calls do to a session and its last answer, and what their codes mean.
-use Rattle.std.specs.Prelude.{◌≡◌, ℕ, ◌+◌, ◌-◌, ◌<◌, ◌≤◌, ◌^◌, List, [], length, Bool, Option, Some, None, IsUtf8, IsCharBoundary, ⊤, ◌++◌, drop, true, false, nat_eq, if◌then◌else◌}
+use Rattle.std.specs.Prelude.{◌≡◌, ℕ, ◌+◌, ◌-◌, ◌<◌, ◌≤◌, ◌^◌, List, [], length, Bool, Option, Some, None, IsUtf8, IsCharBoundary, ⊤, true, false, nat_eq, if◌then◌else◌}
 use Rattle.rustc_lexer.specs.Edit.{edited}
 use Rattle.small_grammar.specs.Answer.{answer}
 use Rattle.tt_data.specs.declared.edition.Edition.{Edition}

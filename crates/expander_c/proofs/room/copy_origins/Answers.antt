@@ -1,5 +1,5 @@
 -- Origin by origin: what the room begins with, and what is left of it.
-use Rattle.std.proofs.Common.{◌≡◌, ◌<◌, ◌≤◌, ◌+◌, length, sym, arith}
+use Rattle.std.proofs.Common.{◌<◌, length, sym, arith}
 use Rattle.std.proofs.lemmas.Option.{slice_get_within}
 use Rattle.expander_c.proofs.CopyLemmas.{as_long, copied_more, left_less}
 use Rattle.expander_c.proofs.room.copy_origins.Goals as goal

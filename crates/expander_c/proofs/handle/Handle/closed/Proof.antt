@@ -1,9 +1,7 @@
 -- `closed` owns nothing, since its pointer is null.
-use Rattle.bare_box.proofs.WalkWords.{◌≡◌, List, [], ◌∷◌, ◌++◌, refl, Sym, Val, ftrue, WpFn, ‵, raw, ◌⊛◌, ◌$◌, ◌∵◌, !, qed, move, keep, drop, split, join, fsplit, fjoin, suffices, done, lit, no_more, and_then, returns, enter, alloc_all, pass_all, free_all, look_at, sets, agg, tables, nothing, null_ptr, walk_of, says, ends_at, proved_at, word, word-Good, word_made, None}
-use Rattle.expander_c.specs.contracts.live.Live as lives
+use Rattle.bare_box.proofs.WalkWords.{[], ◌∷◌, refl, Sym, ftrue, ‵, ◌⊛◌, ◌$◌, ◌∵◌, !, qed, keep, drop, join, fjoin, suffices, done, lit, no_more, and_then, returns, enter, alloc_all, pass_all, free_all, look_at, sets, agg, tables, nothing, null_ptr, walk_of, says, ends_at, proved_at, word, word-Good, word_made, None}
 use Rattle.expander_c.specs.contracts.handle.Handle as handles
 use Rattle.expander_c.specs.contracts.handle.Handle.closed as f
-use Rattle.bare_box.proofs.MachineWords.{at_words}
 use Rattle.expander_c.proofs.LiveBoxes.{E}
 use Rattle.expander_c.proofs.handle.Handle.closed.Statement.{statement}
 use Rattle.expander_c.proofs.handle.Handle.closed.Code as code

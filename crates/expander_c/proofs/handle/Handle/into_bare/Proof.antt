@@ -1,5 +1,5 @@
 -- `into_bare` tells null from a block.
-use Rattle.bare_box.proofs.WalkWords.{◌≡◌, ℕ, List, [], ◌∷◌, ◌++◌, refl, sym, lit<, Sym, bare, Val, vcons, vnil, ent, ftrue, fsep, WpFn, sem, ‵, raw, given, at_ret, ◌⊛◌, ◌$◌, ◌∵◌, !, qed, move, keep, drop, split, join, fsplit, fjoin, fpick, fpack, learn, rewrite, suffices, done, use0, use1, use2, stop, fld, lit, bin, of_opd, no_more, and_then, first, branches, exec, returns, enter, alloc_all, pass_all, free_all, look_at, get, get_in, sets, sets_last, env, live, agg, sub, whole, tables, yes, RattleType, plain, Ptr, null_ptr, block_ptr, nothing, layout, Stays, stay_dropped, walk_of, says, ends_at, Goes-dropped, proved_at, word, word_ty, word-Good, word_had, word_made, Ptr-Good, some_Good, Some, None, Some-of, none_of, after, ghosts}
+use Rattle.bare_box.proofs.WalkWords.{◌≡◌, ℕ, List, [], ◌∷◌, ◌++◌, refl, sym, lit<, Sym, bare, Val, vcons, vnil, ent, ftrue, fsep, WpFn, sem, ‵, given, at_ret, ◌⊛◌, ◌$◌, ◌∵◌, !, qed, move, keep, drop, split, join, fsplit, fjoin, fpick, fpack, learn, suffices, done, use0, use1, stop, fld, lit, bin, of_opd, no_more, and_then, first, branches, exec, returns, enter, alloc_all, pass_all, free_all, look_at, get, get_in, sets, sets_last, env, live, agg, sub, whole, tables, yes, RattleType, plain, Ptr, null_ptr, block_ptr, nothing, layout, Stays, stay_dropped, walk_of, says, ends_at, Goes-dropped, proved_at, word, word_ty, word-Good, word_had, word_made, Ptr-Good, some_Good, Some, None, Some-of, none_of, after, ghosts}
 use base.Logic.{never_e, via, snd∗, guard, guard_i, SProp}
 use contract.Monad.{fact_use}
 use denote.RawPtr.{Testable, tests_null, lies_at}
@@ -11,7 +11,7 @@ use Rattle.std.proofs.GlobalToken.{dealloc_token-Testable}
 use Rattle.std_alloc.specs.Box.Ownership.{box_owns}
 use Rattle.expander_c.specs.contracts.live.Live as lives
 use Rattle.core.specs.contracts.option.Option as options
-use Rattle.bare_box.specs.BareBox.{bare_owns, may_free}
+use Rattle.bare_box.specs.BareBox.{bare_owns}
 use Rattle.expander_c.specs.Handles.{handle_owns}
 use Rattle.bare_box.specs.contracts.Bare as bares
 use Rattle.expander_c.specs.contracts.handle.Handle as handles

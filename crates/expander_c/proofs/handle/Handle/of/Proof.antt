@@ -1,5 +1,5 @@
 -- `of` keeps the pointer.
-use Rattle.bare_box.proofs.WalkWords.{◌≡◌, List, [], ◌∷◌, ◌++◌, refl, sym, Sym, bare, Val, never, fst∗, ftrue, fsep, WpFn, sem, ‵, raw, ◌⊛◌, ◌$◌, ◌∵◌, !, qed, move, keep, drop, split, join, fsplit, fjoin, rewrite, suffices, done, stop, fld, of_opd, no_more, and_then, returns, enter, alloc_all, pass_all, free_all, look_at, get, get_in, sets, agg, sub, whole, tables, yes, RattleType, plain, Ptr, null_ptr, block_ptr, in_a_block, nothing, layout, Stays, stay_dropped, walk_of, says, ends_at, Goes-dropped, proved_at, word, word-Good, word_had, word_made, Ptr-Good, Some}
+use Rattle.bare_box.proofs.WalkWords.{List, [], ◌∷◌, ◌++◌, refl, sym, Sym, bare, Val, never, fst∗, ftrue, fsep, WpFn, sem, ‵, ◌⊛◌, ◌$◌, ◌∵◌, !, qed, move, keep, drop, split, join, fsplit, fjoin, rewrite, suffices, done, stop, fld, of_opd, no_more, and_then, returns, enter, alloc_all, pass_all, free_all, look_at, get, get_in, sets, agg, sub, whole, tables, yes, RattleType, plain, Ptr, null_ptr, in_a_block, nothing, layout, Stays, stay_dropped, walk_of, says, ends_at, Goes-dropped, proved_at, word, word-Good, word_had, word_made, Ptr-Good, Some}
 use Rattle.expander_c.specs.contracts.live.Live as lives
 use Rattle.bare_box.specs.BareBox.{bare_owns, may_free}
 use Rattle.expander_c.specs.Handles.{handle_owns}
