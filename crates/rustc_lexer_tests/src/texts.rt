@@ -82,7 +82,10 @@ fn cuts_texts_into_tokens(rt: HostRuntime) -> Result<(), Fail> {
             "#\"é\"##",
             "Literal { kind: GuardedStr { n_hashes: Some(1) }, suffix_start: 6 } 6; Pound 1; ",
         ),
-        ("## #a", "Pound 1; Pound 1; Whitespace 1; Pound 1; Ident 1; "),
+        (
+            "## #a",
+            "Pound 1; Pound 1; Whitespace 1; Pound 1; Ident 1; ",
+        ),
         (
             "\\é😀\u{85}",
             "Unknown 1; Ident 2; Unknown 4; Whitespace 2; ",
