@@ -43,6 +43,7 @@ ghost use Rattle.expander_scope.specs.declared.refusal.Refusal.{Refusal};
 ghost use Rattle.expander_scope.specs.declared.refusal.Refusal.TheVariants.{Numbers};
 ghost use Rattle.expander_session.specs.declared.session.Reply.{Reply};
 ghost use Rattle.expander_session.specs.declared.session.Reply.TheVariants.{Read};
+ghost use Rattle.bridge.specs.Lengths.{AreShort};
 ghost use Rattle.bridge.specs.Pieces.{StandsBehindFirst, piece_of};
 ghost use Rattle.bridge.specs.ReadText.{text_top};
 ghost use Rattle.bridge.specs.Reading.{reading};
@@ -173,16 +174,20 @@ pub fn quiet_texts_have_no_fault()
 
 /// A text of fewer than 2^31 bytes that was read has no fault if it has no definition keyword:
 /// each of its tokens has a spelling: `short`. So it is for a text of fewer than 2^32 bytes once
-/// each `"` and `\` of it is escaped: `escaped_text`. (In a longer one the escapes of a doc
-/// comment could make a literal that is too long for a text.)
+/// each `"` and `\` of it is escaped: `escaped_text`. A text of any length has none exactly if each
+/// name and literal is displayed in fewer than 2^32 bytes: `exact`. (A longer one is in no text, so
+/// it cannot be printed. The escapes of a doc comment could make one of a shorter text.)
 pub fn no_fault_without_definition_keywords()
     ensures short { (grammar : Grammar) (edition : Edition) (depth : ℕ) (text : List ℕ) (f : Forest) (m : ReadMeaning) →
         IsUtf8 text → length text < 2 ^ 31 → text_reading text ≡ Ok f → HasNoWord f → meaning (layers grammar edition) depth text ≡ Ok m → m.faults ≡ [] }
     ensures escaped_text { (grammar : Grammar) (edition : Edition) (depth : ℕ) (text : List ℕ) (f : Forest) (m : ReadMeaning) →
         IsUtf8 text → length (escaped text) < 2 ^ 32 → text_reading text ≡ Ok f → HasNoWord f → meaning (layers grammar edition) depth text ≡ Ok m → m.faults ≡ [] }
+    ensures exact { (grammar : Grammar) (edition : Edition) (depth : ℕ) (text : List ℕ) (f : Forest) (m : ReadMeaning) →
+        IsUtf8 text → text_reading text ≡ Ok f → HasNoWord f → meaning (layers grammar edition) depth text ≡ Ok m → (m.faults ≡ []) ↔ AreShort (walk f) }
 {
     bridge::laws::reading_is_a_relation();
     bridge::laws::read_texts_are_printed_whole();
+    bridge::laws::short_leaves_are_printed();
 }
 
 /// Faultless output is a fixed point. If a text means an expansion without a fault, the printed
