@@ -119,7 +119,7 @@ def main():
     out = ['// Written by table.py from specs/Rules.antt. Do not edit.',
            '//! The rules as a table of nodes. The parts of a node stand behind it, the first right behind it.',
            '',
-           'use crate::nodes::{Node, Token};',
+           'use crate::node::{Node, Token};',
            'use small_grammar::units::Operator;',
            'use tt_data::{DelimiterKind, Edition};',
            '',

@@ -10,9 +10,9 @@ use Rattle.rust_grammar.specs.Expressions.{Taking, found, nothing_if, and_then, 
 use Rattle.rust_grammar.specs.Rules.{says}
 use Rattle.rust_grammar.specs.Table.{stands, expression_at, node_at, name_at, is_sound, comes_at, token_of}
 use Rattle.rust_grammar.specs.Tokens.{token_at}
-use Rattle.rust_grammar.specs.declared.nodes.Node.{Node}
-use Rattle.rust_grammar.specs.declared.nodes.Node.TheVariants as node
-use Rattle.rust_grammar.specs.declared.nodes.Token as coded
+use Rattle.rust_grammar.specs.declared.node.Node.{Node}
+use Rattle.rust_grammar.specs.declared.node.Node.TheVariants as node
+use Rattle.rust_grammar.specs.declared.node.Token as coded
 use Rattle.rust_grammar.specs.declared.outcome.Outcome.{Outcome}
 use Rattle.rust_grammar.specs.declared.outcome.Outcome.TheVariants.{Fits, Misses, Faults}
 use Rattle.rust_grammar.proofs.TableLemmas.{node-stands}

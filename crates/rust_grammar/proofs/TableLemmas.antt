@@ -16,8 +16,8 @@ use Rattle.rust_grammar.specs.Names.{names, entry_visibility}
 use Rattle.rust_grammar.specs.Rules.{says}
 use Rattle.rust_grammar.specs.Table.{at, stands, expressions, expression_at, node_at, root_at, name_at, set_texts, word_text, letters, is_sound}
 use Rattle.rust_grammar.specs.Tokens.{a_name, one_of, token_at}
-use Rattle.rust_grammar.specs.declared.nodes.Node.{Node}
-use Rattle.rust_grammar.specs.declared.nodes.Node.TheVariants as node
+use Rattle.rust_grammar.specs.declared.node.Node.{Node}
+use Rattle.rust_grammar.specs.declared.node.Node.TheVariants as node
 use Rattle.rust_grammar.specs.declared.table.TheConstants.{NODES, ROOTS}
 
 -- ---- what is computed

@@ -8,10 +8,10 @@ use Rattle.rust_grammar.specs.Answer.{rules_to}
 use Rattle.rust_grammar.specs.Expressions.{Expression, token, since, ◌⨾◌, ◌∣◌, many, maybe, surely, rule, Taking, taken}
 use Rattle.rust_grammar.specs.Names.{Name, names, entry_visibility}
 use Rattle.rust_grammar.specs.Tokens.{Token, fixed, a_name, one_of, a_const_bracket}
-use Rattle.rust_grammar.specs.declared.nodes.Node.{Node}
-use Rattle.rust_grammar.specs.declared.nodes.Node.TheVariants as node
-use Rattle.rust_grammar.specs.declared.nodes.Token.TheVariants as as_token
-use Rattle.rust_grammar.specs.declared.nodes.Token as coded
+use Rattle.rust_grammar.specs.declared.node.Node.{Node}
+use Rattle.rust_grammar.specs.declared.node.Node.TheVariants as node
+use Rattle.rust_grammar.specs.declared.node.Token.TheVariants as as_token
+use Rattle.rust_grammar.specs.declared.node.Token as coded
 use Rattle.rust_grammar.specs.declared.table.TheConstants.{NODES, ROOTS, SETS, WORDS}
 
 -- the characters of an operator

@@ -8,7 +8,8 @@ ghost use Rattle.rust_grammar.specs.Table.{comes_at, is_sound_token, name_at, to
 ghost use Rattle.rust_grammar.specs.Tokens.{token_at};
 
 use crate::names::year_of;
-use crate::nodes::{Node, Token, read_node, root_of};
+use crate::node::{Node, Token};
+use crate::nodes::{read_node, root_of};
 use crate::outcome::Outcome;
 use crate::tokens::behind;
 use tt::TtIter;

@@ -10,6 +10,7 @@ mod grammar;
 mod interpreter;
 pub mod laws;
 mod names;
+mod node;
 mod nodes;
 mod outcome;
 mod table;

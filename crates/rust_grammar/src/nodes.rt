@@ -1,47 +1,12 @@
-//! The nodes of the table of rules.
+//! The table of rules, read: its nodes, roots, words and sets.
 ghost use Rattle.std.specs.Prelude.{◌≡◌, ◌<◌, Some, slice_get, get_or, length, []};
 ghost use Rattle.rust_grammar.specs.Rules.{says};
 ghost use Rattle.rust_grammar.specs.Table.{expression_at, name_at, node_at, set_texts, word_text, letters, IsSound};
 ghost use Rattle.std.specs.Prelude.{map};
 
+use crate::node::Node;
 use crate::table::{NODES, ROOTS, SETS, WORDS};
 use small_grammar::units::Operator;
-use tt_data::{DelimiterKind, Edition};
-
-/// A token that a rule asks for.
-#[derive(Clone, Copy)]
-pub(crate) enum Token {
-    /// A word, by its place in the table of words.
-    Word(u8),
-    Name,
-    Identifier,
-    Literal,
-    Number,
-    Group(DelimiterKind),
-    Restriction,
-    ConstBracket,
-    Punct(char),
-    TwoPuncts(char, char),
-    /// One of several operators, by the place of the set in the table of sets.
-    OneOf(u8),
-}
-
-/// A part of a rule. Its first part is the next node. A number says how many nodes further on its
-/// second part is.
-#[derive(Clone, Copy)]
-pub(crate) enum Node {
-    Token(Token),
-    Since(Edition),
-    /// The first part, and then the second.
-    Then(u16),
-    /// The first part, or if it does not fit the second.
-    Or(u16),
-    Many,
-    Maybe,
-    Surely,
-    /// A rule, by its number.
-    Rule(u8),
-}
 
 // An element of a table.
 fn element<T: Copy>(table: &[T], place: usize) -> T

@@ -6,7 +6,8 @@ ghost use Rattle.rust_grammar.specs.Table.{is_sound_token, letters, set_texts, t
 ghost use Rattle.rust_grammar.specs.Tokens.{token_at, one_of};
 
 use crate::names::{const_bracket, name};
-use crate::nodes::{Token, operators_of, text_of};
+use crate::node::Token;
+use crate::nodes::{operators_of, text_of};
 use small_grammar::names::restriction;
 use small_grammar::tokens::{group_of, identifier, literal, number, punct, two_puncts, word};
 use small_grammar::units::{Operator, first_operator};
