@@ -59,6 +59,7 @@ may_cut (kind.Literal (literal.CStr true) at) bs u h b = let s = h refl in (b, r
 may_cut (kind.Literal (literal.RawStr (Some n)) at) bs u h b = let s = h refl in (b, record { text = s.inner; suffix = s.suffix; is = s.is; starts = s.starts })
 may_cut (kind.Literal (literal.RawByteStr (Some n)) at) bs u h b = let s = h refl in (b, record { text = s.inner; suffix = s.suffix; is = s.is; starts = s.starts })
 may_cut (kind.Literal (literal.RawCStr (Some n)) at) bs u h b = let s = h refl in (b, record { text = s.inner; suffix = s.suffix; is = s.is; starts = s.starts })
+may_cut (kind.Literal (literal.GuardedStr (Some n)) at) bs u h b = let s = h refl in (b, record { text = s.inner; suffix = s.suffix; is = s.is; starts = s.starts })
 may_cut (kind.LineComment None) bs u h b = tt
 may_cut (kind.BlockComment None true) bs u h b = tt
 may_cut (kind.BlockComment None false) bs u h b = tt
@@ -72,6 +73,7 @@ may_cut (kind.Literal (literal.CStr false) at) bs u h b = tt
 may_cut (kind.Literal (literal.RawStr None) at) bs u h b = tt
 may_cut (kind.Literal (literal.RawByteStr None) at) bs u h b = tt
 may_cut (kind.Literal (literal.RawCStr None) at) bs u h b = tt
+may_cut (kind.Literal (literal.GuardedStr None) at) bs u h b = tt
 may_cut _ bs u h b = tt
 
 -- a place between two characters of a text is one in the part that holds it

@@ -1,5 +1,5 @@
 -- The literal of a doc comment: its text, escaped, in quotes.
-use Rattle.std.proofs.Common.{◌≡◌, ℕ, ◌+◌, ◌-◌, ◌<◌, ◌≤◌, ◌^◌, List, [], ◌∷◌, ◌++◌, Bool, true, false, length, take, drop, get_or, refl, sym, ap, ◌∙◌, subst, arith, sum_by, is_some, if◌then◌else◌}
+use Rattle.std.proofs.Common.{◌≡◌, ℕ, ◌+◌, ◌-◌, ◌<◌, ◌≤◌, ◌^◌, List, [], ◌∷◌, ◌++◌, Bool, true, false, length, length-append, take, drop, get_or, refl, sym, ap, ◌∙◌, subst, arith, sum_by, is_some, if◌then◌else◌}
 use Rattle.std.specs.Prelude.{IsSome, Some, None, nat_eq}
 use Rattle.std.specs.Str.{IsAscii, IsCharBoundary, IsUtf8, chars}
 use Rattle.std.proofs.lemmas.Bool.Decides.{nat_tests}
@@ -16,13 +16,14 @@ use Rattle.tt_data.specs.Literals.{LiteralParts, literal_of}
 use Rattle.tt_data.specs.declared.leaf.Leaf.TheVariants as as_leaf
 use Rattle.tt_data.specs.declared.leaf.LitKind.TheVariants as form
 use Rattle.tt_data.specs.declared.span.Span.{Span}
+use Rattle.bridge.specs.Lengths.{IsShort}
 use Rattle.bridge.specs.ReadSteps.{EndsBlock}
 use Rattle.bridge.specs.Spelling.{leaf_spelling}
 use Rattle.bridge.specs.TokenSteps.{doc_text, escaped, without_last_return}
 use Rattle.bridge.proofs.BackLemmas.{chars_one}
 use Rattle.bridge.proofs.EscapeLemmas.{no_return, return_taken}
 use Rattle.bridge.proofs.EscapedLemmas.{escaped_chars, escaped_drop, escaped_joined, escaped_take, escaped_utf8}
-use Rattle.bridge.proofs.FastSpellingLemmas.{quoted, string_by}
+use Rattle.bridge.proofs.FastSpellingLemmas.{quoted, string_by, string_shown}
 
 -- ---- the text of a comment
 
@@ -93,3 +94,17 @@ pub doc_spelled : (is_block : Bool) (s : List ℕ) (span : Span) → IsUtf8 s �
 doc_spelled is_block s span u fits b h whole one =
     escaped_spelled (doc_text is_block s) span (doc_utf8 is_block s u b h)
     (omega (arith, doc_escaped is_block s b.0, fits)) whole one
+
+-- the literal of a doc comment, which is short
+pub short_doc_spelled : (is_block : Bool) (s : List ℕ) (span : Span) → IsUtf8 s → IsShort (as_leaf.Literal (literal_of (escaped (doc_text is_block s)) [] form.Str span))
+    → IsCharBoundary s 3 → EndsBlock is_block s
+    → ((text : List ℕ) → IsUtf8 text → sum_by (λ (t : Token). t.len) (tokens_of (chars text)) ≡ length text)
+    → ((cs : List ℕ) → tokens_of (quoted (with_escapes cs))
+    ≡ record { kind = kind.Literal (literal.Str true) (utf8_len (quoted (with_escapes cs))); len = utf8_len (quoted (with_escapes cs)) } ∷ [])
+    → IsSome (leaf_spelling (as_leaf.Literal (literal_of (escaped (doc_text is_block s)) [] form.Str span)))
+short_doc_spelled is_block s span u fits b h whole one =
+    let bs : List ℕ = doc_text is_block s in
+    let long : length (quoted (escaped bs)) ≡ length (escaped bs) + 2 =
+    (let n = length-append (escaped bs) (34 ∷ []) in omega (arith, n)) in
+    let low : length (quoted (escaped bs)) < 2 ^ 32 = subst (λ t. length t < 2 ^ 32) (string_shown (literal_of (escaped bs) [] form.Str span) refl refl) fits in
+    escaped_spelled bs span (doc_utf8 is_block s u b h) (omega (arith, long, low)) whole one

@@ -10,7 +10,7 @@ use Rattle.tt_data.specs.Walk.{Step, at_leaf, opens, closes}
 use Rattle.tt_data.specs.declared.delimiter.DelimiterKind.TheVariants.{Parenthesis, Brace, Bracket, Invisible}
 use Rattle.tt_data.specs.declared.leaf.Leaf.TheVariants as as_leaf
 use Rattle.tt_data.specs.declared.leaf.Punct.{Punct}
-use Rattle.bridge.specs.Edges.{are_joined, edge_of, ends_line, gap_between, is_comment_or_guard}
+use Rattle.bridge.specs.Edges.{are_joined, edge_of, ends_line, gap_between, is_comment}
 use Rattle.bridge.specs.Printing as printing
 use Rattle.bridge.specs.Spelling.{begins_with_name, is_text_of, leaf_spelling, quote_spelling, spelling}
 use Rattle.tt.specs.Glued.{is_alone, is_joint}
@@ -57,19 +57,12 @@ block : codes "/*" ≡ encode_utf8 (char "/") ++ encode_utf8 (char "*")
 unfolding encode_utf8
 block = refl
 
-guard : codes "##" ≡ encode_utf8 (char "#") ++ encode_utf8 (char "#")
-unfolding encode_utf8
-guard = refl
-
-kept_apart : (c d : ℕ) → printing.is_kept_apart (encode_utf8 c) (encode_utf8 d) ≡ is_comment_or_guard c d
+kept_apart : (c d : ℕ) → printing.is_kept_apart (encode_utf8 c) (encode_utf8 d) ≡ is_comment c d
 kept_apart c d =
     let both = encode_utf8 c ++ encode_utf8 d in
     let by_line : bytes_eq both (codes "//") ≡ (nat_eq c (char "/") && nat_eq d (char "/")) = ap (bytes_eq both) line ∙ two c d (char "/") (char "/") in
     let by_block : bytes_eq both (codes "/*") ≡ (nat_eq c (char "/") && nat_eq d (char "*")) = ap (bytes_eq both) block ∙ two c d (char "/") (char "*") in
-    let by_guard : bytes_eq both (codes "##") ≡ (nat_eq c (char "#") && nat_eq d (char "#")) = ap (bytes_eq both) guard ∙ two c d (char "#") (char "#") in
-    ap (λ t. t || bytes_eq both (codes "/*") || bytes_eq both (codes "##")) by_line
-    ∙ ap (λ t. (nat_eq c (char "/") && nat_eq d (char "/")) || t || bytes_eq both (codes "##")) by_block
-    ∙ ap (λ t. (nat_eq c (char "/") && nat_eq d (char "/")) || (nat_eq c (char "/") && nat_eq d (char "*")) || t) by_guard
+    ap (λ t. t || bytes_eq both (codes "/*")) by_line ∙ ap (λ t. (nat_eq c (char "/") && nat_eq d (char "/")) || t) by_block
 
 of_test : (u : Bool) (t text : List ℕ) → (if u then Some t else None) ≡ Some text → text ≡ t
 of_test true t text h = (let e : t ≡ text = cc in sym e)
@@ -103,7 +96,7 @@ marks_joined false false false k l e = refl
 joined_same : (s t : Step) (a b : List ℕ) → IsSpelled s a → IsSpelled t b
     → printing.are_joined (record { step = s; text = a }) (record { step = t; text = b }) ≡ are_joined (edge_of s) (edge_of t)
 joined_same (at_leaf (as_leaf.Punct p)) (at_leaf (as_leaf.Punct q)) a b s t =
-    marks_joined (nat_eq p.char (char "'")) (not (is_alone p.spacing)) (nat_eq q.char (char "'")) (printing.is_kept_apart a b) (is_comment_or_guard p.char q.char)
+    marks_joined (nat_eq p.char (char "'")) (not (is_alone p.spacing)) (nat_eq q.char (char "'")) (printing.is_kept_apart a b) (is_comment p.char q.char)
     (λ m n. ap (λ x. printing.is_kept_apart x b) (punct_spelled p a m s)
     ∙ ap (printing.is_kept_apart (encode_utf8 p.char)) (punct_spelled q b n t) ∙ kept_apart p.char q.char)
 joined_same (at_leaf (as_leaf.Punct p)) (at_leaf (as_leaf.Ident i)) a b s t = no_mark (nat_eq p.char (char "'")) (not (is_alone p.spacing)) (printing.is_kept_apart a b)

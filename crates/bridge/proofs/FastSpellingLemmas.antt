@@ -199,7 +199,7 @@ string_in text t n same long =
     let none : drop n t ≡ [] = drop_all n t (omega (arith, long, ap length same)) in
     ap (λ xs. bytes_eq text xs && bytes_eq [] (drop n t)) inside ∙ (ap (λ xs. bytes_eq text text && bytes_eq [] xs) none ∙ ap (λ b. b && true) (same_text text))
 
-string_shown : (l : LiteralParts) → l.kind ≡ form.Str → l.suffix ≡ [] → displayed_leaf (as_leaf.Literal l) ≡ quoted l.text
+pub string_shown : (l : LiteralParts) → l.kind ≡ form.Str → l.suffix ≡ [] → displayed_leaf (as_leaf.Literal l) ≡ quoted l.text
 string_shown l is none =
     let bare : literal_by form.Str l.text [] ≡ quoted l.text = append-nil (quoted l.text) in
     ap (λ f. literal_by f l.text l.suffix) is ∙ (ap (literal_by form.Str l.text) none ∙ bare)

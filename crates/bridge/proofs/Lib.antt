@@ -11,6 +11,7 @@ mod ReadTokensLemmas
 mod SeamLaws
 mod WordLemmas
 mod SpelledLemmas
+mod HashLemmas
 mod BackLemmas
 mod ForestBackLemmas
 mod AgainLemmas
@@ -29,3 +30,4 @@ mod FastSpellingLemmas
 mod PartLemmas
 mod DocLemmas
 mod ReadSpelledLemmas
+mod LengthLemmas

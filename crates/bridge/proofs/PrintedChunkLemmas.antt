@@ -10,7 +10,7 @@ use Rattle.tt_data.specs.declared.leaf.Leaf.TheVariants as as_leaf
 use Rattle.tt_data.specs.declared.span.Span.{Span}
 use Rattle.bridge.specs.declared.printing.spacing.Edge.{Edge}
 use Rattle.bridge.specs.declared.printing.spacing.Edge.TheVariants.{Mark, ClosingBrace, Other}
-use Rattle.bridge.specs.Edges.{edge_of, gap_between, gap_outside, has_one_gap, is_comment_or_guard}
+use Rattle.bridge.specs.Edges.{edge_of, gap_between, gap_outside, has_one_gap, is_comment}
 use Rattle.bridge.specs.ChunkSteps.{AppendsChunk, one_gap, chunk_behind}
 use Rattle.bridge.specs.PrintedChunks.{IsChunkOf, ChunkState, PutsChunk, has_last_gap, takes_chunks}
 use Rattle.bridge.specs.Printers.{Continues, PrinterState, Prints, continued, pending}
@@ -147,7 +147,7 @@ mark_gap c joined next one = by_next next
     alone false false joined h = refl
 
     by_next : (next : Edge) → gap_between 0 (Mark c joined) next ≡ gap_outside (Mark c joined)
-    by_next (Mark d other) = joins (nat_eq c (char ";")) (nat_eq c (char "'")) joined (not (nat_eq d (char "'")) && not (is_comment_or_guard c d)) one
+    by_next (Mark d other) = joins (nat_eq c (char ";")) (nat_eq c (char "'")) joined (not (nat_eq d (char "'")) && not (is_comment c d)) one
     by_next ClosingBrace = alone (nat_eq c (char ";")) (nat_eq c (char "'")) joined one
     by_next Other = alone (nat_eq c (char ";")) (nat_eq c (char "'")) joined one
 

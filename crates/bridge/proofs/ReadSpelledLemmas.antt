@@ -40,6 +40,7 @@ use Rattle.bridge.specs.declared.reading.classify.TokenClass.{TokenClass}
 use Rattle.bridge.specs.declared.reading.classify.TokenClass.TheVariants.{Blank, Name, Mark, Opening, Closing, QuotedName, Doc, Value, Neither}
 use Rattle.bridge.specs.FastSpellings.{is_mark_char}
 use Rattle.tt.specs.Building.{alone}
+use Rattle.bridge.specs.Lengths.{IsShort}
 use Rattle.bridge.specs.Pieces.{separated}
 use Rattle.bridge.specs.Printing.{is_visible_step, left_out_from, print_of, unspelled, visible}
 use Rattle.bridge.specs.ReadSteps.{MayCut}
@@ -49,7 +50,7 @@ use Rattle.tt.specs.Glued.{is_joint}
 use Rattle.bridge.specs.Text.{is_char, is_punct, is_visible}
 use Rattle.bridge.specs.TokenSteps.{doc_text, escaped, literal_form, literal_class, mark_leaf, name_in, name_leaf, class_of, spacing_before, steps_of, steps_of_class, text_steps}
 use Rattle.bridge.proofs.CutLemmas.{boundary_in, may_cut}
-use Rattle.bridge.proofs.DocLemmas.{doc_spelled}
+use Rattle.bridge.proofs.DocLemmas.{doc_spelled, short_doc_spelled}
 use Rattle.bridge.proofs.EscapedLemmas.{escaped_slice}
 use Rattle.bridge.proofs.FastSpellingLemmas.{mark_spelled, quoted}
 use Rattle.bridge.proofs.ShapeLemmas.{closing_spelled, opening_spelled}
@@ -92,6 +93,7 @@ literal_shows (literal.CStr true) n = tt
 literal_shows (literal.RawStr (Some m)) n = tt
 literal_shows (literal.RawByteStr (Some m)) n = tt
 literal_shows (literal.RawCStr (Some m)) n = tt
+literal_shows (literal.GuardedStr (Some m)) n = tt
 literal_shows _ n = tt
 
 kind_shows : (k : TokenKind) → Shows (class_of k)
@@ -135,12 +137,20 @@ kind_shows _ = tt
 
 -- ---- what one token is read as
 
+-- each leaf of some steps is one that fits
+abbrev pub AreFit : (Leaf → Type 0) → List Step → Type 0
+AreFit Fits [] = Unit {0}
+AreFit Fits (at_leaf l ∷ more) = Fits l × AreFit Fits more
+AreFit Fits (opens kind span ∷ more) = AreFit Fits more
+AreFit Fits (closes kind span ∷ more) = AreFit Fits more
+
 -- what is known of a token with this text: what it is read as where it is one leaf, the name of a lifetime, and the
--- literal of a doc comment have a spelling
-record HasSpellings (k : TokenKind) (start : ℕ) (text : List ℕ) : Type 0 where
-  pub leaf : (more : List PlacedToken) (l : Leaf) → steps_of_class (class_of k) (record { kind = k; start = start; text = text }) more ≡ step (at_leaf l) ∷ [] → IsSome (leaf_spelling l)
-  pub name : class_of k ≡ QuotedName → (span : Span) → IsSome (leaf_spelling (name_leaf (drop 1 text) is_raw.No span))
+-- literal of a doc comment have a spelling, where they fit
+record HasSpellings (Fits : Leaf → Type 0) (k : TokenKind) (start : ℕ) (text : List ℕ) : Type 0 where
+  pub leaf : (more : List PlacedToken) (l : Leaf) → Fits l → steps_of_class (class_of k) (record { kind = k; start = start; text = text }) more ≡ step (at_leaf l) ∷ [] → IsSome (leaf_spelling l)
+  pub name : class_of k ≡ QuotedName → (span : Span) → Fits (name_leaf (drop 1 text) is_raw.No span) → IsSome (leaf_spelling (name_leaf (drop 1 text) is_raw.No span))
   pub comment : (style : DocStyle) (is_block : Bool) → class_of k ≡ Doc style is_block → (span : Span) →
+      Fits (as_leaf.Literal (literal_of (escaped (doc_text is_block text)) [] form.Str span)) →
       IsSome (leaf_spelling (as_leaf.Literal (literal_of (escaped (doc_text is_block text)) [] form.Str span)))
 
 mark_no_quote : (c : ℕ) → is_mark_char c ≡ true → nat_eq c 39 ≡ false
@@ -163,32 +173,33 @@ mark_some : (c : ℕ) (spacing : Spacing) (span : Span) → is_mark_char c ≡ t
 mark_some c spacing span h = ap is_some (mark_spelled (record { char = c; spacing = spacing; span = span }) h)
 
 -- what is put before steps that have spellings
-module _ (k : TokenKind) (start : ℕ) (text : List ℕ) (known : HasSpellings k start text) (more : List PlacedToken) (rest : List TextStep)
-    (later : AreSpelled (readable rest)) where
+module _ (Fits : Leaf → Type 0) (k : TokenKind) (start : ℕ) (text : List ℕ) (known : HasSpellings Fits k start text) (more : List PlacedToken)
+    (rest : List TextStep) (later : AreFit Fits (readable rest) → AreSpelled (readable rest)) where
   abbrev here : PlacedToken
   here = record { kind = k; start = start; text = text }
 
   abbrev place : Span
   place = written_at (range_of here)
 
-  by_class : (class : TokenClass) → class_of k ≡ class → Shows class → AreSpelled (readable (steps_of_class class here more ++ rest))
-  by_class Blank e s = later
-  by_class (Name raw) e s = (refl, known.leaf more (name_leaf (name_in raw text) raw place) (ap (λ x. steps_of_class x here more) e), later)
-  by_class (Mark c) e s =
+  by_class : (class : TokenClass) → class_of k ≡ class → Shows class → AreFit Fits (readable (steps_of_class class here more ++ rest))
+      → AreSpelled (readable (steps_of_class class here more ++ rest))
+  by_class Blank e s fit = later fit
+  by_class (Name raw) e s fit = (refl, known.leaf more (name_leaf (name_in raw text) raw place) fit.0 (ap (λ x. steps_of_class x here more) e), later fit.1)
+  by_class (Mark c) e s fit =
       let q : Punct = record { char = c; spacing = spacing_before more; span = place } in
       let some : IsSome (spelling (at_leaf (as_leaf.Punct q)) (readable rest)) =
       subst (λ u. IsSome (if u then quote_spelling (is_joint (spacing_before more) && begins_with_name (readable rest)) else leaf_spelling (as_leaf.Punct q)))
       (sym (mark_no_quote c s)) (mark_some c (spacing_before more) place s) in
-      (refl, some, later)
-  by_class (Opening d) e s = (s, opening_spelled d place (readable rest) s, later)
-  by_class (Closing d) e s = (s, closing_spelled d place (readable rest) s, later)
-  by_class QuotedName e s =
+      (refl, some, later fit.1)
+  by_class (Opening d) e s fit = (s, opening_spelled d place (readable rest) s, later fit)
+  by_class (Closing d) e s fit = (s, closing_spelled d place (readable rest) s, later fit)
+  by_class QuotedName e s fit =
       let behind : Span = written_at (record { start = start + 1; «end» = start + length text }) in
-      let name = known.name e behind in
-      (refl, ap (λ u. is_some (quote_spelling u)) (some_spelled (leaf_spelling (name_leaf (drop 1 text) is_raw.No behind)) name), (refl, name, later))
-  by_class (Doc Outer is_block) e s =
-      (refl, mark_some 35 Alone place refl, (refl, refl, (refl, doc_name place, (refl, mark_some 61 Alone place refl, (refl, known.comment Outer is_block e place, (refl, refl, later))))))
-  by_class (Doc Inner is_block) e s = (
+      let name = known.name e behind fit.1.0 in
+      (refl, ap (λ u. is_some (quote_spelling u)) (some_spelled (leaf_spelling (name_leaf (drop 1 text) is_raw.No behind)) name), (refl, name, later fit.1.1))
+  by_class (Doc Outer is_block) e s fit =
+      (refl, mark_some 35 Alone place refl, (refl, refl, (refl, doc_name place, (refl, mark_some 61 Alone place refl, (refl, known.comment Outer is_block e place fit.1.1.1.0, (refl, refl, later fit.1.1.1.1))))))
+  by_class (Doc Inner is_block) e s fit = (
     refl,
     mark_some 35 Alone place refl,
     (
@@ -203,18 +214,18 @@ module _ (k : TokenKind) (start : ℕ) (text : List ℕ) (known : HasSpellings k
           (
             refl,
             mark_some 61 Alone place refl,
-            (refl, known.comment Inner is_block e place, (refl, refl, later)),
+            (refl, known.comment Inner is_block e place fit.1.1.1.1.0, (refl, refl, later fit.1.1.1.1.1)),
           ),
         ),
       ),
     ),
   )
-  by_class (Value f n) e s = (refl, known.leaf more (as_leaf.Literal (literal_in f n text place)) (ap (λ x. steps_of_class x here more) e), later)
-  by_class Neither e s = later
+  by_class (Value f n) e s fit = (refl, known.leaf more (as_leaf.Literal (literal_in f n text place)) fit.0 (ap (λ x. steps_of_class x here more) e), later fit.1)
+  by_class Neither e s fit = later fit
 
 -- ---- all tokens
 
--- what the lexer tells of the tokens of a text, and what is known of those that are read as one leaf and of lifetimes
+-- what the lexer tells of the tokens of a text
 pub record TokenLaws (text : List ℕ) : Type 0 where
   pub begin : AreTokensFrom text 0 (tokens_of (chars text))
   pub here : (at : ℕ) (left : List Token) (t : Token) (ts : List Token) → AreTokensFrom text at left → left ≡ t ∷ ts → IsTokenAt text at t
@@ -225,42 +236,72 @@ pub record TokenLaws (text : List ℕ) : Type 0 where
   pub sums : (s : List ℕ) → IsUtf8 s → sum_by (λ (x : Token). x.len) (tokens_of (chars s)) ≡ length s
   pub escaped : (cs : List ℕ) → tokens_of (quoted (with_escapes cs))
       ≡ record { kind = kind.Literal (literal.Str true) (utf8_len (quoted (with_escapes cs))); len = utf8_len (quoted (with_escapes cs)) } ∷ []
-  pub leaf : (at : ℕ) (t : Token) (more : List PlacedToken) (l : Leaf) → IsTokenAt text at t →
-      steps_of_class (class_of t.kind) (record { kind = t.kind; start = at; text = slice_range text at (at + t.len) }) more ≡ step (at_leaf l) ∷ [] → IsSome (leaf_spelling l)
-  pub name : (at : ℕ) (t : Token) (span : Span) → IsTokenAt text at t → class_of t.kind ≡ QuotedName →
-      IsSome (leaf_spelling (name_leaf (drop 1 (slice_range text at (at + t.len))) is_raw.No span))
 
-module _ (text : List ℕ) (fits : length (escaped text) < 2 ^ 32) (laws : TokenLaws text) where
-  comment_spelled : (at : ℕ) (t : Token) → IsTokenAt text at t → (style : DocStyle) (is_block : Bool) → class_of t.kind ≡ Doc style is_block → (span : Span) →
+-- what is known of those that are read as one leaf, of lifetimes and of doc comments
+pub record LeafLaws (Fits : Leaf → Type 0) (text : List ℕ) : Type 0 where
+  pub leaf : (at : ℕ) (t : Token) (more : List PlacedToken) (l : Leaf) → Fits l → IsTokenAt text at t →
+      steps_of_class (class_of t.kind) (record { kind = t.kind; start = at; text = slice_range text at (at + t.len) }) more ≡ step (at_leaf l) ∷ [] → IsSome (leaf_spelling l)
+  pub name : (at : ℕ) (t : Token) (span : Span) → Fits (name_leaf (drop 1 (slice_range text at (at + t.len))) is_raw.No span) → IsTokenAt text at t → class_of t.kind ≡ QuotedName →
+      IsSome (leaf_spelling (name_leaf (drop 1 (slice_range text at (at + t.len))) is_raw.No span))
+  pub comment : (at : ℕ) (t : Token) → IsTokenAt text at t → (style : DocStyle) (is_block : Bool) → class_of t.kind ≡ Doc style is_block → (span : Span) →
+      Fits (as_leaf.Literal (literal_of (escaped (doc_text is_block (slice_range text at (at + t.len)))) [] form.Str span)) →
       IsSome (leaf_spelling (as_leaf.Literal (literal_of (escaped (doc_text is_block (slice_range text at (at + t.len)))) [] form.Str span)))
-  comment_spelled at t h style is_block class span =
+
+module _ (text : List ℕ) (laws : TokenLaws text) where
+  may_cut_comment : (at : ℕ) (t : Token) → IsTokenAt text at t → (style : DocStyle) (is_block : Bool) → class_of t.kind ≡ Doc style is_block →
+      MayCut (Doc style is_block) (slice_range text at (at + t.len))
+  may_cut_comment at t h style is_block class =
       let s : List ℕ = slice_range text at (at + t.len) in
-      let cut : MayCut (Doc style is_block) s =
       subst (λ x. MayCut x s) class
-      (may_cut t.kind s h.utf8 (laws.shape at t h) (boundary_in text at t.len (suffix_of t.kind) (laws.within at t h) h.stop.0 (laws.boundary at t h))) in
+      (may_cut t.kind s h.utf8 (laws.shape at t h) (boundary_in text at t.len (suffix_of t.kind) (laws.within at t h) h.stop.0 (laws.boundary at t h)))
+
+  -- a comment of a text that is no longer than a text may be once it is escaped
+  pub comment_spelled : length (escaped text) < 2 ^ 32 → (at : ℕ) (t : Token) → IsTokenAt text at t → (style : DocStyle) (is_block : Bool) → class_of t.kind ≡ Doc style is_block →
+      (span : Span) → IsSome (leaf_spelling (as_leaf.Literal (literal_of (escaped (doc_text is_block (slice_range text at (at + t.len)))) [] form.Str span)))
+  comment_spelled fits at t h style is_block class span =
+      let s : List ℕ = slice_range text at (at + t.len) in
+      let cut = may_cut_comment at t h style is_block class in
       doc_spelled is_block s span h.utf8 (omega (arith, escaped_slice text at (at + t.len) (omega (arith, h.stop.0)), fits)) cut.0 cut.1 laws.sums laws.escaped
 
-  known : (at : ℕ) (t : Token) → IsTokenAt text at t → HasSpellings t.kind at (slice_range text at (at + t.len))
-  known at t h = record {
-    leaf = λ more l. laws.leaf at t more l h;
-    name = λ class span. laws.name at t span h class;
-    comment = comment_spelled at t h;
-  }
+  -- a comment whose literal is no longer
+  pub short_comment_spelled : (at : ℕ) (t : Token) → IsTokenAt text at t → (style : DocStyle) (is_block : Bool) → class_of t.kind ≡ Doc style is_block → (span : Span) →
+      IsShort (as_leaf.Literal (literal_of (escaped (doc_text is_block (slice_range text at (at + t.len)))) [] form.Str span)) →
+      IsSome (leaf_spelling (as_leaf.Literal (literal_of (escaped (doc_text is_block (slice_range text at (at + t.len)))) [] form.Str span)))
+  short_comment_spelled at t h style is_block class span fits =
+      let cut = may_cut_comment at t h style is_block class in
+      short_doc_spelled is_block (slice_range text at (at + t.len)) span h.utf8 fits cut.0 cut.1 laws.sums laws.escaped
 
-  all_spelled : (at : ℕ) (ts : List Token) → AreTokensFrom text at ts → AreSpelled (readable (steps_of (placed_from at (drop at text) ts)))
-  all_spelled at [] from = tt
-  all_spelled at (t ∷ more) from =
-      let n : at + t.len - at ≡ t.len = omega arith in
-      let told : HasSpellings t.kind at (take t.len (drop at text)) =
-      subst (λ k. HasSpellings t.kind at (take k (drop at text))) n (known at t (laws.here at (t ∷ more) t more from refl)) in
-      let others : List PlacedToken = placed_from (at + t.len) (drop t.len (drop at text)) more in
-      let later : AreSpelled (readable (steps_of others)) =
-      subst (λ r. AreSpelled (readable (steps_of (placed_from (at + t.len) r more)))) (sym (drop-drop t.len at text))
-      (all_spelled (at + t.len) more (laws.others at (t ∷ more) t more from refl)) in
-      by_class t.kind at (take t.len (drop at text)) told others (steps_of others) later (class_of t.kind) refl (kind_shows t.kind)
+  module _ (Fits : Leaf → Type 0) (leaves : LeafLaws Fits text) where
+    known : (at : ℕ) (t : Token) → IsTokenAt text at t → HasSpellings Fits t.kind at (slice_range text at (at + t.len))
+    known at t h = record {
+      leaf = λ more l fit. leaves.leaf at t more l fit h;
+      name = λ class span fit. leaves.name at t span fit h class;
+      comment = leaves.comment at t h;
+    }
 
-  pub read_spelled : (f : Forest) → IsReading (text_steps text) f → AreSpelled (walk f)
-  read_spelled f read = subst AreSpelled (ap readable read ∙ readable_all (walk f)) (all_spelled 0 (tokens_of (chars text)) laws.begin)
+    all_spelled : (at : ℕ) (ts : List Token) → AreTokensFrom text at ts → AreFit Fits (readable (steps_of (placed_from at (drop at text) ts)))
+        → AreSpelled (readable (steps_of (placed_from at (drop at text) ts)))
+    all_spelled at [] from = λ fit. tt
+    all_spelled at (t ∷ more) from =
+        let n : at + t.len - at ≡ t.len = omega arith in
+        let told : HasSpellings Fits t.kind at (take t.len (drop at text)) =
+        subst (λ k. HasSpellings Fits t.kind at (take k (drop at text))) n (known at t (laws.here at (t ∷ more) t more from refl)) in
+        let others : List PlacedToken = placed_from (at + t.len) (drop t.len (drop at text)) more in
+        let later : AreFit Fits (readable (steps_of others)) → AreSpelled (readable (steps_of others)) =
+        subst (λ r. AreFit Fits (readable (steps_of (placed_from (at + t.len) r more))) → AreSpelled (readable (steps_of (placed_from (at + t.len) r more)))) (sym (drop-drop t.len at text))
+        (all_spelled (at + t.len) more (laws.others at (t ∷ more) t more from refl)) in
+        by_class Fits t.kind at (take t.len (drop at text)) told others (steps_of others) later (class_of t.kind) refl (kind_shows t.kind)
+
+    pub read_spelled : (f : Forest) → IsReading (text_steps text) f → AreFit Fits (walk f) → AreSpelled (walk f)
+    read_spelled f read =
+        subst (λ ss. AreFit Fits ss → AreSpelled ss) (ap readable read ∙ readable_all (walk f)) (all_spelled 0 (tokens_of (chars text)) laws.begin)
+
+-- where all leaves fit, those of some steps do
+pub all_fit : (ss : List Step) → AreFit (λ l. Unit {0}) ss
+all_fit [] = tt
+all_fit (at_leaf l ∷ more) = (tt, all_fit more)
+all_fit (opens kind span ∷ more) = all_fit more
+all_fit (closes kind span ∷ more) = all_fit more
 
 -- ---- what is printed
 

@@ -24,6 +24,7 @@ use Rattle.rustc_lexer.specs.declared.token.Token.{Token}
 use Rattle.rustc_lexer.specs.declared.token.TokenKind.{TokenKind}
 use Rattle.rustc_lexer.specs.declared.token.TokenKind.TheVariants as kind
 use Rattle.tt.specs.TokenLiterals.{IsLiteralToken, form_begin, form_end, inside_of, literal_in}
+use Rattle.tt_data.specs.Displayed.{displayed_leaf}
 use Rattle.tt_data.specs.Walk.{at_leaf}
 use Rattle.tt_data.specs.declared.leaf.Ident.{Ident}
 use Rattle.tt_data.specs.declared.leaf.IdentIsRaw.{IdentIsRaw}
@@ -36,6 +37,7 @@ use Rattle.tt_data.specs.declared.span.Span.{Span}
 use Rattle.bridge.specs.declared.reading.classify.TokenClass.{TokenClass}
 use Rattle.bridge.specs.declared.reading.classify.TokenClass.TheVariants.{Blank, Name, Mark, Opening, Closing, QuotedName, Doc, Value, Neither}
 use Rattle.bridge.specs.FastSpellings.{is_mark_char}
+use Rattle.bridge.specs.Lengths.{IsShort}
 use Rattle.bridge.specs.ReadSteps.{MayCut}
 use Rattle.bridge.specs.Reading.{PlacedToken, range_of, step, written_at}
 use Rattle.bridge.specs.Spelling.{is_plain_name, is_that_leaf, leaf_spelling, same_form, same_rawness}
@@ -61,6 +63,7 @@ alone_value (literal.CStr true) n h = refl
 alone_value (literal.RawStr (Some m)) n h = refl
 alone_value (literal.RawByteStr (Some m)) n h = refl
 alone_value (literal.RawCStr (Some m)) n h = refl
+alone_value (literal.GuardedStr (Some m)) n h = refl
 alone_value _ n h = no h
 
 -- tokens that are read as one leaf stand alone
@@ -101,6 +104,7 @@ literal_tells (literal.CStr true) n t = refl
 literal_tells (literal.RawStr (Some m)) n t = nat_same m
 literal_tells (literal.RawByteStr (Some m)) n t = nat_same m
 literal_tells (literal.RawCStr (Some m)) n t = nat_same m
+literal_tells (literal.GuardedStr (Some m)) n t = nat_same m
 literal_tells _ n t = tt
 
 kind_tells : (k : TokenKind) → Tells (class_of k) k
@@ -206,21 +210,25 @@ value_is f n s t span o class w form =
 
 -- ---- what is read of a token
 
--- a token that is read as one leaf, by its class
+-- a token that is read as one leaf, by its class; but for a mark, it is what is displayed of the leaf
 by_class : (class : TokenClass) (s : List ℕ) (t : Token) (p : PlacedToken) (more : List PlacedToken) (l : Leaf) → class_of t.kind ≡ class → p.text ≡ s →
-    (is_single_class class ≡ true → OneToken s t) → Tells class t.kind → MayCut class s → (is_ended t.kind ≡ true → HasByteShape t.kind s) →
-    steps_of_class class p more ≡ step (at_leaf l) ∷ [] → IsSome (leaf_spelling l)
+    (is_single_class class ≡ true → length (displayed_leaf l) ≡ length s → IsShort l ≡ (length (displayed_leaf l) < 2 ^ 32) → OneToken s t) → Tells class t.kind → MayCut class s →
+    (is_ended t.kind ≡ true → HasByteShape t.kind s) → steps_of_class class p more ≡ step (at_leaf l) ∷ [] → IsSome (leaf_spelling l)
 by_class (Name is_raw.No) s t p more l class same one tells cut shape read =
     let span : Span = written_at (range_of p) in
-    let is : as_leaf.Ident (record { sym = p.text; span = span; is_raw = is_raw.No }) ≡ l = cc in
+    let i : Ident = record { sym = p.text; span = span; is_raw = is_raw.No } in
+    let is : as_leaf.Ident i ≡ l = cc in
     ap (λ m. is_some (leaf_spelling m)) (sym is) ∙ ap (λ x. is_some (leaf_spelling (as_leaf.Ident (record { sym = x; span = span; is_raw = is_raw.No })))) same
-    ∙ ap is_some (name_is s t span (one refl) class)
+    ∙ ap is_some (name_is s t span (one refl (ap (λ m. length (displayed_leaf m)) (sym is) ∙ ap length same) (ap IsShort (sym is) ∙ ap (λ m. length (displayed_leaf m) < 2 ^ 32) is)) class)
 by_class (Name is_raw.Yes) s t p more l class same one tells cut shape read =
     let span : Span = written_at (range_of p) in
-    let is : as_leaf.Ident (record { sym = drop 2 p.text; span = span; is_raw = is_raw.Yes }) ≡ l = cc in
+    let i : Ident = record { sym = drop 2 p.text; span = span; is_raw = is_raw.Yes } in
+    let is : as_leaf.Ident i ≡ l = cc in
     let raw : HasByteShape kind.RawIdent s = subst (λ k. HasByteShape k s) tells (shape (ap is_ended tells)) in
+    let shown : codes "r#" ++ drop 2 s ≡ s = ap (λ x. codes "r#" ++ drop 2 x) raw.is ∙ sym raw.is in
     ap (λ m. is_some (leaf_spelling m)) (sym is) ∙ ap (λ x. is_some (leaf_spelling (as_leaf.Ident (record { sym = drop 2 x; span = span; is_raw = is_raw.Yes })))) same
-    ∙ ap is_some (raw_name_is s t span (one refl) class raw)
+    ∙ ap is_some (raw_name_is s t span (one refl (ap (λ m. length (displayed_leaf m)) (sym is) ∙ ap (λ x. length (codes "r#" ++ drop 2 x)) same ∙ ap length shown)
+    (ap IsShort (sym is) ∙ ap (λ m. length (displayed_leaf m) < 2 ^ 32) is)) class raw)
 by_class (Mark c) s t p more l class same one tells cut shape read =
     let q : Punct = record { char = c; spacing = spacing_before more; span = written_at (range_of p) } in
     let is : as_leaf.Punct q ≡ l = cc in
@@ -229,7 +237,9 @@ by_class (Value f n) s t p more l class same one tells cut shape read =
     let span : Span = written_at (range_of p) in
     let is : as_leaf.Literal (literal_in f n p.text span) ≡ l = cc in
     ap (λ m. is_some (leaf_spelling m)) (sym is) ∙ ap (λ x. is_some (leaf_spelling (as_leaf.Literal (literal_in f n x span)))) same
-    ∙ ap is_some (value_is f n s t span (one refl) class cut.1 tells)
+    ∙ ap is_some (value_is f n s t span (one refl
+    (ap (λ m. length (displayed_leaf m)) (sym is) ∙ ap (λ x. length (displayed_leaf (as_leaf.Literal (literal_in f n x span)))) same ∙ ap length (literal_shown f n s cut.1))
+    (ap IsShort (sym is) ∙ ap (λ m. length (displayed_leaf m) < 2 ^ 32) is)) class cut.1 tells)
 by_class Blank s t p more l class same one tells cut shape read = absurd (cc)
 by_class (Opening k) s t p more l class same one tells cut shape read = absurd (cc)
 by_class (Closing k) s t p more l class same one tells cut shape read = absurd (cc)
@@ -255,11 +265,30 @@ leaf_has_spelling text at t more l u fits h alone sums shape within boundary rea
     let long = slice_long text at t.len h.stop.0 in
     let cut = may_cut t.kind s h.utf8 shape (boundary_in text at t.len (suffix_of t.kind) within h.stop.0 boundary) in
     by_class (class_of t.kind) s t (record { kind = t.kind; start = at; text = s }) more l refl refl
-    (λ single. record { utf8 = h.utf8; short = omega (arith, long, fits, h.stop.0); sum = sums s h.utf8; one = alone (single_alone t.kind single) })
+    (λ single shown is. record { utf8 = h.utf8; short = omega (arith, long, fits, h.stop.0); sum = sums s h.utf8; one = alone (single_alone t.kind single) })
+    (kind_tells t.kind) cut shape read
+
+-- so it is in a text of any length, if the leaf is short
+pub short_leaf_has_spelling : (text : List ℕ) (at : ℕ) (t : Token) (more : List PlacedToken) (l : Leaf) → IsUtf8 text → IsShort l → IsTokenAt text at t →
+    (stands_alone t.kind ≡ true → tokens_of (chars (slice_range text at (at + t.len))) ≡ t ∷ []) →
+    ((s : List ℕ) → IsUtf8 s → sum_by (λ (x : Token). x.len) (tokens_of (chars s)) ≡ length s) →
+    (is_ended t.kind ≡ true → HasByteShape t.kind (slice_range text at (at + t.len))) → suffix_of t.kind ≤ t.len → IsCharBoundary text (at + suffix_of t.kind) →
+    steps_of_class (class_of t.kind) (record { kind = t.kind; start = at; text = slice_range text at (at + t.len) }) more ≡ step (at_leaf l) ∷ [] →
+    IsSome (leaf_spelling l)
+short_leaf_has_spelling text at t more l u fits h alone sums shape within boundary read =
+    let s : List ℕ = slice_range text at (at + t.len) in
+    let cut = may_cut t.kind s h.utf8 shape (boundary_in text at t.len (suffix_of t.kind) within h.stop.0 boundary) in
+    by_class (class_of t.kind) s t (record { kind = t.kind; start = at; text = s }) more l refl refl
+    (λ single shown is. record {
+      utf8 = h.utf8;
+      short = (let low : length (displayed_leaf l) < 2 ^ 32 = subst (λ T. T) is fits in subst (λ n. n < 2 ^ 32) shown low);
+      sum = sums s h.utf8;
+      one = alone (single_alone t.kind single);
+    })
     (kind_tells t.kind) cut shape read
 
 -- the name behind the quote of a lifetime
-pub name_has_spelling : (text : List ℕ) (at : ℕ) (t : Token) (span : Span) → IsUtf8 text → length text < 2 ^ 32 → IsTokenAt text at t →
+pub name_has_spelling : (text : List ℕ) (at : ℕ) (t : Token) (span : Span) → IsUtf8 text → length (drop 1 (slice_range text at (at + t.len))) < 2 ^ 32 → IsTokenAt text at t →
     ((s : List ℕ) → IsUtf8 s → sum_by (λ (x : Token). x.len) (tokens_of (chars s)) ≡ length s) →
     ((cs : List ℕ) → is_ident cs ≡ true → tokens_of cs ≡ record { kind = kind.Ident; len = utf8_len cs } ∷ []) →
     (t.kind ≡ kind.Lifetime false → is_ident (drop 1 (chars (slice_range text at (at + t.len)))) ≡ true) →
@@ -268,7 +297,6 @@ pub name_has_spelling : (text : List ℕ) (at : ℕ) (t : Token) (span : Span) �
 name_has_spelling text at t span u fits h sums one named shape within boundary class =
     let s : List ℕ = slice_range text at (at + t.len) in
     let r : List ℕ = drop 1 s in
-    let long = slice_long text at t.len h.stop.0 in
     let lifetime : t.kind ≡ kind.Lifetime false = subst (λ x. Tells x t.kind) class (kind_tells t.kind) in
     let cut : MayCut QuotedName s =
     subst (λ x. MayCut x s) class (may_cut t.kind s h.utf8 shape (boundary_in text at t.len (suffix_of t.kind) within h.stop.0 boundary)) in
@@ -277,4 +305,10 @@ name_has_spelling text at t span u fits h sums one named shape within boundary c
     let all : chars s ≡ 39 ∷ chars r = ap chars split ∙ chars_one 39 r (omega arith) in
     let is : is_ident (chars r) ≡ true = ap (λ cs. is_ident (drop 1 cs)) (sym all) ∙ named lifetime in
     let utf8 : IsUtf8 r = IsUtf8-drop s 1 h.utf8 cut in
-    ap is_some (name_spelled (record { sym = r; span = span; is_raw = is_raw.No }) refl utf8 (omega (arith, long, fits, h.stop.0, length-drop 1 s)) is (sums r utf8) (one (chars r) is))
+    ap is_some (name_spelled (record { sym = r; span = span; is_raw = is_raw.No }) refl utf8 fits is (sums r utf8) (one (chars r) is))
+
+-- which is short in a text that is
+pub name_is_short : (text : List ℕ) (at : ℕ) (t : Token) → length text < 2 ^ 32 → IsTokenAt text at t → length (drop 1 (slice_range text at (at + t.len))) < 2 ^ 32
+name_is_short text at t fits h =
+    let s : List ℕ = slice_range text at (at + t.len) in
+    omega (arith, slice_long text at t.len h.stop.0, fits, h.stop.0, length-drop 1 s)

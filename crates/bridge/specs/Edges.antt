@@ -37,15 +37,14 @@ has_one_gap (Mark c joined) = nat_eq c (char ";") || (not (nat_eq c (char "'")) 
 has_one_gap ClosingBrace = true
 has_one_gap Other = true
 
--- the two characters begin a comment or a guarded string
-abbrev pub is_comment_or_guard : ℕ → ℕ → Bool
-is_comment_or_guard c d =
-    (nat_eq c (char "/") && nat_eq d (char "/")) || (nat_eq c (char "/") && nat_eq d (char "*")) || (nat_eq c (char "#") && nat_eq d (char "#"))
+-- the two characters begin a comment
+abbrev pub is_comment : ℕ → ℕ → Bool
+is_comment c d = (nat_eq c (char "/") && nat_eq d (char "/")) || (nat_eq c (char "/") && nat_eq d (char "*"))
 
 -- nothing is between two tokens on one line
 abbrev pub are_joined : Edge → Edge → Bool
 are_joined (Mark c joined) (Mark d other) =
-    nat_eq c (char "'") || (joined && (not (nat_eq d (char "'")) && not (is_comment_or_guard c d)))
+    nat_eq c (char "'") || (joined && (not (nat_eq d (char "'")) && not (is_comment c d)))
 are_joined (Mark c joined) next = nat_eq c (char "'")
 are_joined last next = false
 

@@ -1,12 +1,13 @@
 //! Laws of reading and printing. Calling a law does nothing: its contract is the statement.
-ghost use Rattle.std.specs.Prelude.{◌≡◌, ◌↔◌, ◌<◌, ◌^◌, ◌+◌, ◌++◌, take, drop, length, sum_by, ℕ, IsUtf8, List, [], ◌∷◌, map, true, false, IsSome, Ok, Err};
+ghost use Rattle.std.specs.Prelude.{◌≡◌, ◌↔◌, ◌<◌, ◌^◌, ◌+◌, ◌++◌, chars, take, drop, length, sum_by, ℕ, IsUtf8, List, [], ◌∷◌, map, true, false, IsSome, Ok, Err};
+ghost use Rattle.bridge.specs.Lengths.{AreShort, IsShort};
 ghost use Rattle.bridge.specs.Order.{AreWritten, FollowOneAnother};
 ghost use Rattle.bridge.specs.Parts.{begins_with_mark, part_steps, placed_on, starts_with_mark, steps_before};
 ghost use Rattle.bridge.specs.Pieces.{StandsBehindFirst, first_start, relative, separated};
 ghost use Rattle.bridge.specs.PrintedChunks.{IsChunkOf, ChunkState};
-ghost use Rattle.bridge.specs.Printing.{is_quote, print_of, step_span, visible};
+ghost use Rattle.bridge.specs.Printing.{PrintedToken, begins_with_punct, gap, is_punct_but_quote, is_quote, print_of, printed, step_span, text_from, visible};
 ghost use Rattle.bridge.specs.Reading.{IsFault, IsReading, PlacedToken, TextStep, placed_from, reading, step, with_front};
-ghost use Rattle.bridge.specs.ReadsBack.{PrintsAgain, ReadsBack};
+ghost use Rattle.bridge.specs.ReadsBack.{PrintsAgain, ReadsBack, is_nothing};
 ghost use Rattle.bridge.specs.declared.reading.outcome.ReadFault.{ReadFault};
 ghost use Rattle.bridge.specs.declared.reading.outcome.ReadFaultKind.{ReadFaultKind};
 ghost use Rattle.tt_data.specs.Forest.{Forest, joined, map_spans};
@@ -15,6 +16,7 @@ ghost use Rattle.bridge.specs.Text.{is_visible};
 ghost use Rattle.bridge.specs.TokenSteps.{escaped, name_leaf, class_of, steps_of, steps_of_class, text_steps};
 ghost use Rattle.bridge.specs.declared.reading.classify.TokenClass.TheVariants.{QuotedName};
 ghost use Rattle.tt_data.specs.declared.leaf.IdentIsRaw.TheVariants.{No};
+ghost use Rattle.rustc_lexer.specs.Lexeme.{begins_guarded};
 ghost use Rattle.rustc_lexer.specs.TokensAt.{IsTokenAt};
 ghost use Rattle.rustc_lexer.specs.declared.token.Token.{Token};
 ghost use Rattle.std.specs.List.{slice_range};
@@ -93,7 +95,8 @@ pub fn spelling_depends_on_shapes_alone()
 {}
 
 /// In a text of fewer than 2^32 bytes, a token that is read as one leaf has a spelling, and so has
-/// the name after the quote of a lifetime.
+/// the name after the quote of a lifetime. So it is in any text if the leaf or the name is short:
+/// `short_leaves`, `short_names`.
 pub fn read_leaves_have_spellings()
     ensures leaves { (text : List ℕ) (at : ℕ) (t : Token) (more : List PlacedToken) (l : Leaf) →
         IsUtf8 text → length text < 2 ^ 32 → IsTokenAt text at t →
@@ -101,6 +104,13 @@ pub fn read_leaves_have_spellings()
         IsSome (leaf_spelling l) }
     ensures names { (text : List ℕ) (at : ℕ) (t : Token) (span : Span) →
         IsUtf8 text → length text < 2 ^ 32 → IsTokenAt text at t → class_of t.kind ≡ QuotedName →
+        IsSome (leaf_spelling (name_leaf (drop 1 (slice_range text at (at + t.len))) No span)) }
+    ensures short_leaves { (text : List ℕ) (at : ℕ) (t : Token) (more : List PlacedToken) (l : Leaf) →
+        IsUtf8 text → IsShort l → IsTokenAt text at t →
+        steps_of_class (class_of t.kind) (record { kind = t.kind; start = at; text = slice_range text at (at + t.len) }) more ≡ step (at_leaf l) ∷ [] →
+        IsSome (leaf_spelling l) }
+    ensures short_names { (text : List ℕ) (at : ℕ) (t : Token) (span : Span) →
+        IsUtf8 text → length (drop 1 (slice_range text at (at + t.len))) < 2 ^ 32 → IsTokenAt text at t → class_of t.kind ≡ QuotedName →
         IsSome (leaf_spelling (name_leaf (drop 1 (slice_range text at (at + t.len))) No span)) }
 {
     rustc_lexer::laws::name_of_a_lifetime();
@@ -134,11 +144,43 @@ pub fn read_texts_are_printed_whole()
     rustc_lexer::laws::tokens_begin();
 }
 
+/// In a text that is read, of any length, each token has a spelling exactly if each name and
+/// literal is displayed in fewer than 2^32 bytes: `text`. So it is if each `;` of the top list is
+/// made `Alone`: `pieces`. (A longer one is in no text, so it cannot be printed.)
+pub fn short_leaves_are_printed()
+    ensures text { (text : List ℕ) (f : Forest) → IsUtf8 text → IsReading (text_steps text) f → ((print_of (walk f)).left_out ≡ []) ↔ AreShort (walk f) }
+    ensures pieces { (text : List ℕ) (f : Forest) → IsUtf8 text → IsReading (text_steps text) f → ((print_of (walk (separated f))).left_out ≡ []) ↔ AreShort (walk f) }
+{
+    read_leaves_have_spellings();
+    rustc_lexer::laws::next_token();
+    rustc_lexer::laws::one_escaped_string();
+    rustc_lexer::laws::suffix_starts();
+    rustc_lexer::laws::token_lengths();
+    rustc_lexer::laws::token_shapes();
+    rustc_lexer::laws::tokens_begin();
+}
+
 /// The printed text of any trees has no reading fault, and is read as just the printed tokens, in
 /// order. Printed again it is the same text, and nothing is omitted.
 pub fn printed_text_reads_back()
     ensures back { (f : Forest) → ReadsBack (visible (walk f)) }
     ensures again { (f : Forest) → PrintsAgain (visible (walk f)) }
+{
+    rustc_lexer::laws::whole_token();
+    rustc_lexer::laws::whole_token_begins();
+    rustc_lexer::laws::blank_token();
+    rustc_lexer::laws::one_character();
+    rustc_lexer::laws::quoted_name();
+    rustc_lexer::laws::token_lengths();
+}
+
+/// Printed hashes guard no string. Between two printed tokens is a gap, unless the first is a quote
+/// or the second a punct. So where a punct is printed no `"` stands right behind the hashes, and no
+/// guarded string begins, however many hashes are side by side.
+pub fn printed_hashes_guard_no_string()
+    ensures gap { (depth : ℕ) (a b : PrintedToken) → is_quote a.step ≡ false → is_punct_but_quote b.step ≡ false → is_nothing (gap depth a b) ≡ false }
+    ensures text { (depth : ℕ) (steps : List Step) →
+        begins_with_punct (printed steps) ≡ true → begins_guarded (chars (text_from depth (printed steps))) ≡ false }
 {
     rustc_lexer::laws::whole_token();
     rustc_lexer::laws::whole_token_begins();

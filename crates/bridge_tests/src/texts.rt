@@ -81,14 +81,15 @@ fn part_shown(
 
 // A text, how many tokens come before a part and how many it has, the part's trees or fault, and
 // whether it begins with a punct.
-const PARTS: &str = "
+const PARTS: &str = r#"
 a;b+=c ¦ 2 2 ¦ b + ¦ false
 a;b+=c ¦ 3 2 ¦ += ¦ true
 a; (b) c ¦ 3 3 ¦ (b) ¦ false
-a; ## b ¦ 3 1 ¦ BadToken 0..2 ¦ false
+a; ## b ¦ 3 1 ¦ # ¦ true
+a; #"b c ¦ 3 1 ¦ BadToken 0..5 ¦ false
 a;b{c ¦ 2 2 ¦ GroupLeftOpen 1..2 ¦ false
 a ¦ 1 0 ¦  ¦ false
-";
+"#;
 
 #[test]
 fn reads_parts(rt: HostRuntime) -> Result<(), Fail> {
@@ -120,7 +121,10 @@ fn f<'a>(x: &'a T) {} ¦ fn f < 'a > (x : & 'a T) {}
 fn f( { ¦ GroupLeftOpen 6..7
 (] ¦ CloserDoesNotFit 1..2
 a) ¦ CloserDoesNotFit 1..2
-a ## b ¦ BadToken 2..4
+a ## b ¦ a ## b
+### x #"a"# ¦ ### x #"a"#
+let s = #"x"#; ¦ let s = #"x"# ;
+##"a"#"## ¦ BadToken 0..6
 "abc ¦ BadToken 0..4
 ( b'x ¦ BadToken 2..5
 /* /* */ ¦ BadToken 0..8
@@ -130,7 +134,13 @@ a#b ¦ BadToken 0..1
 'a#b ¦ BadToken 0..2
 k#a ¦ BadToken 0..3
 ⌖a ¦ BadToken 0..3
-#"a"# ¦ BadToken 0..2
+#"a"# ¦ #"a"#
+##""##x ¦ ##""##x
+#"a\"b"# ¦ #"a\"b"#
+#"a"## ¦ #"a"# #
+#"a" b ¦ BadToken 0..4
+##"a"#x ¦ BadToken 0..6
+a #"b ¦ BadToken 2..5
 a ␀ ¦ BadToken 2..3
 a \ ¦ BadToken 2..3
 "###;
@@ -147,9 +157,9 @@ fn reads_texts(rt: HostRuntime) -> Result<(), Fail> {
     Ok(())
 }
 
-// An empty raw string, between this many hashes.
-fn raw_string(rt: &HostRuntime, hashes: usize) -> Result<String, Fail> {
-    let mut text = String::from_str(rt.alloc(), "r")?;
+// An empty string after these letters, between this many hashes.
+fn empty_string(rt: &HostRuntime, letters: &str, hashes: usize) -> Result<String, Fail> {
+    let mut text = String::from_str(rt.alloc(), letters)?;
     for _ in 0..hashes {
         text.push_str("#")?;
     }
@@ -160,13 +170,23 @@ fn raw_string(rt: &HostRuntime, hashes: usize) -> Result<String, Fail> {
     Ok(text)
 }
 
+// The letters of a string, and its reading fault with one hash too many.
+const TOO_MANY: &str = "
+r ¦ BadToken 0..515
+ ¦ BadToken 0..514
+";
+
 #[test]
 fn reads_many_hashes(rt: HostRuntime) -> Result<(), Fail> {
-    let most = raw_string(&rt, 255)?;
-    let got = shown(&rt, most.as_str())?;
-    assert!(rt; got.as_str() == most.as_str(), "it is read as {got:?}");
-    let more = raw_string(&rt, 256)?;
-    let got = shown(&rt, more.as_str())?;
-    assert!(rt; got.as_str() == "BadToken 0..515", "it is read as {got:?}");
+    for row in TOO_MANY.lines() {
+        if let Some((letters, want)) = row.split_once(" ¦ ") {
+            let most = empty_string(&rt, letters, 255)?;
+            let got = shown(&rt, most.as_str())?;
+            assert!(rt; got.as_str() == most.as_str(), "it is read as {got:?}");
+            let more = empty_string(&rt, letters, 256)?;
+            let got = shown(&rt, more.as_str())?;
+            assert!(rt; got.as_str() == want, "it is read as {got:?}");
+        }
+    }
     Ok(())
 }

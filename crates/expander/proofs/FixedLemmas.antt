@@ -49,11 +49,11 @@ put_some f (g ∷ gs) e = go (comes_before g f) e
     go true h = cc
     go false h = cc
 
-nothing_in_order : (fs : List Fault) → in_order fs ≡ [] → fs ≡ []
+pub nothing_in_order : (fs : List Fault) → in_order fs ≡ [] → fs ≡ []
 nothing_in_order [] e = refl
 nothing_in_order (f ∷ fs) e = absurd (put_some f (in_order fs) e)
 
-nothing_parted : {X : Type 0} → (xs ys : List X) → xs ++ ys ≡ [] → (xs ≡ []) × (ys ≡ [])
+pub nothing_parted : {X : Type 0} → (xs ys : List X) → xs ++ ys ≡ [] → (xs ≡ []) × (ys ≡ [])
 nothing_parted [] ys e = (refl, e)
 nothing_parted (x ∷ xs) ys e = cc
 

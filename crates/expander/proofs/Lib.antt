@@ -24,3 +24,5 @@ mod ReplyLawLemmas
 mod HeldPieceLemmas
 mod SelfMatchLemmas
 mod SameTextLemmas
+mod TextPieceLemmas
+mod SessionCallLemmas

@@ -13,7 +13,7 @@ use Rattle.expander_session.specs.declared.commands.Answer.TheVariants.{Reply as
 use Rattle.expander_session.specs.declared.commands.Command.{Command}
 use Rattle.expander_session.specs.declared.commands.Command.TheVariants.{Expand}
 
-same_meant : (m : Result ReadMeaning ReadFault) (a b : Option (List Looked)) (reply other : Reply) → IsMeant m a reply → IsMeant m b other → ShowTheSame reply other
+pub same_meant : (m : Result ReadMeaning ReadFault) (a b : Option (List Looked)) (reply other : Reply) → IsMeant m a reply → IsMeant m b other → ShowTheSame reply other
 same_meant (Ok m) a b (Read e) (Read f) h k = (h.printed ∙ sym k.printed, h.faults ∙ sym k.faults, h.origins ∙ sym k.origins)
 same_meant (Ok m) a b (Read e) (Unread two) h k = absurd k
 same_meant (Ok m) a b (Unread one) other h k = absurd h

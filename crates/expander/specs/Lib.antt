@@ -29,3 +29,5 @@ pub use Rattle.expander_scope.specs.NewNumbers
 -- what laws alone rest on
 pub mod PieceTokens
 pub mod FixedPoint
+pub mod PieceTrees
+pub mod SessionCalls

@@ -21,6 +21,8 @@ ghost use Rattle.expander_scope.specs.Numbers.{AreEntries, Numbering, number_in,
 ghost use Rattle.expander_scope.specs.NewNumbers.{needed};
 ghost use Rattle.expander_model.specs.OtherPlaces.{CommutesWithMarker, definition_with};
 ghost use Rattle.expander.specs.PieceTokens.{AreWords, placed_tokens, written_in};
+ghost use Rattle.expander.specs.PieceTrees.{own_tree};
+ghost use Rattle.expander.specs.SessionCalls.{IsAfter, SessionCall};
 ghost use Rattle.expander_model.specs.Pieces.{cut, pieces, put_together, relative, separated};
 ghost use Rattle.expander_model.specs.Printing.{left_out};
 ghost use Rattle.expander_session.specs.Replies.{HasCause, IsReplyTo, NeedsNumbers, Replies, definitions_in};
@@ -41,6 +43,9 @@ ghost use Rattle.expander_scope.specs.declared.refusal.Refusal.{Refusal};
 ghost use Rattle.expander_scope.specs.declared.refusal.Refusal.TheVariants.{Numbers};
 ghost use Rattle.expander_session.specs.declared.session.Reply.{Reply};
 ghost use Rattle.expander_session.specs.declared.session.Reply.TheVariants.{Read};
+ghost use Rattle.bridge.specs.Lengths.{AreShort};
+ghost use Rattle.bridge.specs.Pieces.{StandsBehindFirst, piece_of};
+ghost use Rattle.bridge.specs.ReadText.{text_top};
 ghost use Rattle.bridge.specs.Reading.{reading};
 ghost use Rattle.bridge.specs.TokenSteps.{escaped, steps_of, text_reading};
 ghost use Rattle.mbe.specs.Grammar.{Grammar};
@@ -83,6 +88,20 @@ pub fn pieces_are_the_list()
         ((front behind : List Forest) (p q : Forest) → ps ≡ front ++ p ∷ q ∷ behind → IsEnded p) →
         All (λ p. (front behind : Forest) → p ≡ joined front behind → IsEnded front → behind ≡ empty) ps → cut (put_together ps) ≡ ps }
 {}
+
+/// A session has the trees that `bridge::piece` makes. The list that a text is read as is cut into
+/// parts, and each may be cut out as a piece: `may`. Its trees are then the text's pieces, spans
+/// piece-relative: `trees`. So are those of its plain pieces and definitions: `members`.
+pub fn pieces_are_those_of_the_bridge()
+    ensures may { (text : List ℕ) (f : Forest) → IsUtf8 text → text_reading text ≡ Ok f → All StandsBehindFirst (cut f) }
+    ensures trees { (text : List ℕ) (f : Forest) → text_reading text ≡ Ok f →
+        map piece_of (cut f) ≡ map (λ p. record { delimiter = text_top; inner = relative p }) (pieces f) }
+    ensures members { (layers : Layers) (depth : ℕ) (text : List ℕ) (f : Forest) → text_reading text ≡ Ok f →
+        map own_tree (members layers depth f) ≡ map (λ p. (piece_of p).inner) (cut f) }
+{
+    bridge::laws::reading_is_a_relation();
+    bridge::laws::tokens_follow_one_another();
+}
 
 /// A call that fails keeps its tokens, its argument unexpanded, before the expansion of what
 /// follows.
@@ -155,16 +174,20 @@ pub fn quiet_texts_have_no_fault()
 
 /// A text of fewer than 2^31 bytes that was read has no fault if it has no definition keyword:
 /// each of its tokens has a spelling: `short`. So it is for a text of fewer than 2^32 bytes once
-/// each `"` and `\` of it is escaped: `escaped_text`. (In a longer one the escapes of a doc
-/// comment could make a literal that is too long for a text.)
+/// each `"` and `\` of it is escaped: `escaped_text`. A text of any length has none exactly if each
+/// name and literal is displayed in fewer than 2^32 bytes: `exact`. (A longer one is in no text, so
+/// it cannot be printed. The escapes of a doc comment could make one of a shorter text.)
 pub fn no_fault_without_definition_keywords()
     ensures short { (grammar : Grammar) (edition : Edition) (depth : ℕ) (text : List ℕ) (f : Forest) (m : ReadMeaning) →
         IsUtf8 text → length text < 2 ^ 31 → text_reading text ≡ Ok f → HasNoWord f → meaning (layers grammar edition) depth text ≡ Ok m → m.faults ≡ [] }
     ensures escaped_text { (grammar : Grammar) (edition : Edition) (depth : ℕ) (text : List ℕ) (f : Forest) (m : ReadMeaning) →
         IsUtf8 text → length (escaped text) < 2 ^ 32 → text_reading text ≡ Ok f → HasNoWord f → meaning (layers grammar edition) depth text ≡ Ok m → m.faults ≡ [] }
+    ensures exact { (grammar : Grammar) (edition : Edition) (depth : ℕ) (text : List ℕ) (f : Forest) (m : ReadMeaning) →
+        IsUtf8 text → text_reading text ≡ Ok f → HasNoWord f → meaning (layers grammar edition) depth text ≡ Ok m → (m.faults ≡ []) ↔ AreShort (walk f) }
 {
     bridge::laws::reading_is_a_relation();
     bridge::laws::read_texts_are_printed_whole();
+    bridge::laws::short_leaves_are_printed();
 }
 
 /// Faultless output is a fixed point. If a text means an expansion without a fault, the printed
@@ -507,6 +530,15 @@ pub fn the_text_alone_decides()
         AreAnswers layers depth one [] (ones ++ Expand ∷ []) (first ++ Replied reply ∷ []) →
         AreAnswers layers depth two [] (twos ++ Expand ∷ []) (second ++ Replied other ∷ []) →
         last_text one ones first ≡ last_text two twos second → ShowTheSame reply other }
+{}
+
+/// So it is for the calls of sessions. If two sessions answer by equal layers with as many levels,
+/// and have one text after any edits and replies, their replies show the same.
+pub fn one_text_of_two_sessions_decides<G: FragmentGrammar>()
+    ensures { (one two first second after behind : State G) (calls others : List SessionCall) (reply other : Reply) →
+        layers_of G.answer one ≡ layers_of G.answer two → one.depth ≡ two.depth →
+        IsAfter G.answer one calls first → IsAfter G.answer two others second → first.text ≡ second.text →
+        Replies (layers_of G.answer first) first after reply → Replies (layers_of G.answer second) second behind other → ShowTheSame reply other }
 {}
 
 /// Two answers are equal by `==` exactly where they are the same, ranges included.

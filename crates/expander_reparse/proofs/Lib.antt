@@ -1,4 +1,5 @@
 -- lemmas by subject; the worked examples
+mod ApartLemmas
 mod LookaheadLemmas
 pub mod PieceReadingLemmas
 pub mod RelativePieceLemmas

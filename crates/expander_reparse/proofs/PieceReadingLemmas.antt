@@ -6,7 +6,7 @@ use Rattle.std.proofs.lemmas.List.Sums.{sum_by-cons}
 use Rattle.std.proofs.lemmas.List.{drop-append-le, drop-drop, length-append, length-drop, length-take-le, map-append, take-append-drop, take-append-le, take_all}
 use Rattle.std.proofs.Math.Seq.{drop-length}
 use Rattle.tt_data.proofs.ForestLemmas.{joined_assoc}
-use Rattle.rustc_lexer.specs.Lexing.{tokens_of}
+use Rattle.rustc_lexer.specs.Lexing.{run_on, tokens_of}
 use Rattle.rustc_lexer.specs.TokensAt.{AreTokensFrom}
 use Rattle.rustc_lexer.specs.declared.token.Token.{Token}
 use Rattle.tt.specs.Tops.{Top}
@@ -153,10 +153,10 @@ all_passed text at left own none p = (
   ),
 )
 
--- the first tokens of a text hang on their own bytes and the two characters behind them
+-- the first tokens of a text hang on their own bytes and the two characters behind them, where no run of hashes goes on
 abbrev pub FirstLaw : Type 0
 FirstLaw = (k n : ℕ) (text other : List ℕ) → IsUtf8 text → bytes_of (take k (tokens_of (chars text))) ≡ n
-    → take n text ≡ take n other → take 2 (chars (drop n text)) ≡ take 2 (chars (drop n other))
+    → take n text ≡ take n other → run_on (take n text) (drop n text) ≡ 0 → take 2 (chars (drop n text)) ≡ take 2 (chars (drop n other))
     → take k (tokens_of (chars other)) ≡ take k (tokens_of (chars text))
 
 -- ---- what is known of parts of a text
@@ -244,21 +244,21 @@ passed_on behind next text utf8 at bytes tokens mark shown left more own now are
 
 -- a text that begins with the same bytes, before the same characters, has the same first tokens
 pub same_tokens : FirstLaw → (c : TokenRun) (bytes : List ℕ) (left : List Token) (n : ℕ) → IsUtf8 bytes → left ≡ tokens_of (chars bytes)
-    → n ≡ bytes_of (take c.count left) → c.bytes ≡ take n bytes → length c.bytes ≡ n → chars_ahead c.ahead ≡ take 2 (chars (drop n bytes))
+    → n ≡ bytes_of (take c.count left) → c.bytes ≡ take n bytes → length c.bytes ≡ n → run_on (take n bytes) (drop n bytes) ≡ 0 → chars_ahead c.ahead ≡ take 2 (chars (drop n bytes))
     → (text : List ℕ) → OccursHere c text → take c.count (tokens_of (chars text)) ≡ take c.count left
-same_tokens first c bytes left n utf8 are n_is bytes_are size ahead text here =
+same_tokens first c bytes left n utf8 are n_is bytes_are size apart ahead text here =
     let sum : bytes_of (take c.count (tokens_of (chars bytes))) ≡ n = ap (λ (ts : List Token). bytes_of (take c.count ts)) (sym are) ∙ sym n_is in
     let begins : take n text ≡ c.bytes =
     ap (take n) here.bytes ∙ take-append-le n c.bytes (drop (length c.bytes) text) (omega (arith, size)) ∙ take_all n c.bytes (omega (arith, size)) in
     let two : take 2 (chars (drop n bytes)) ≡ take 2 (chars (drop n text)) =
     sym ahead ∙ sym here.ahead ∙ ap (λ (m : ℕ). take 2 (chars (drop m text))) size in
-    first c.count n bytes text utf8 sum (sym bytes_are ∙ sym begins) two ∙ ap (take c.count) (sym are)
+    first c.count n bytes text utf8 sum (sym bytes_are ∙ sym begins) apart two ∙ ap (take c.count) (sym are)
 
 -- the first tokens of a text, which were cut out of it, stand first in it
 pub is_cutout : FirstLaw → (c : TokenRun) (bytes : List ℕ) (left : List Token) (n : ℕ) → IsUtf8 bytes → left ≡ tokens_of (chars bytes)
     → c.count ≤ length left → 1 ≤ c.count → n ≤ length bytes → n ≡ bytes_of (take c.count left) → c.bytes ≡ take n bytes
-    → chars_ahead c.ahead ≡ take 2 (chars (drop n bytes)) → IsTokenRun c (take c.count left) × OccursHere c bytes
-is_cutout first c bytes left n utf8 are within some fits n_is bytes_are ahead =
+    → run_on (take n bytes) (drop n bytes) ≡ 0 → chars_ahead c.ahead ≡ take 2 (chars (drop n bytes)) → IsTokenRun c (take c.count left) × OccursHere c bytes
+is_cutout first c bytes left n utf8 are within some fits n_is bytes_are apart ahead =
     let m : length c.bytes ≡ n = ap length bytes_are ∙ length-take-le n bytes fits in
     let stands_bytes : bytes ≡ c.bytes ++ drop (length c.bytes) bytes =
     sym (take-append-drop n bytes) ∙ ap (λ (bs : List ℕ). bs ++ drop n bytes) (sym bytes_are) ∙ ap (λ (i : ℕ). c.bytes ++ drop i bytes) (sym m) in (
@@ -266,7 +266,7 @@ is_cutout first c bytes left n utf8 are within some fits n_is bytes_are ahead =
         count = length-take-le c.count left within;
         some = some;
         long = sym n_is ∙ sym m;
-        same = same_tokens first c bytes left n utf8 are n_is bytes_are m ahead;
+        same = same_tokens first c bytes left n utf8 are n_is bytes_are m apart ahead;
       },
       record { bytes = stands_bytes; ahead = ap (λ (i : ℕ). take 2 (chars (drop i bytes))) m ∙ sym ahead },
     )
@@ -298,12 +298,12 @@ piece_reads laws s bytes left f t is here mark_is tree top inner read whole firs
 -- what was read, with what it was read from
 pub source_here : (laws : PartLaws) (bytes word : List ℕ) (left first after : List Token) (count n : ℕ) (t : Top) (s : CachedPiece)
     → IsUtf8 bytes → left ≡ tokens_of (chars bytes) → count ≤ length left → 1 ≤ count → n ≤ length bytes → n ≡ bytes_of first
-    → word ≡ take n bytes → first ≡ take count left → after ≡ drop count left
+    → word ≡ take n bytes → first ≡ take count left → after ≡ drop count left → run_on (take n bytes) (drop n bytes) ≡ 0
     → KeepsCached word (drop n bytes) count after t s → IsReadPiece (part_steps 0 count bytes left) Whole t → IsCachedHere bytes left s
-source_here laws bytes word left first after count n t s utf8 are within some fits n_is word_is first_is after_is kept read =
+source_here laws bytes word left first after count n t s utf8 are within some fits n_is word_is first_is after_is apart kept read =
     let c : s.cutout.count ≡ count = kept.count_is in
     let is = is_cutout laws.first s.cutout bytes left n utf8 are (rw c within) (rw c some) fits (n_is ∙ ap bytes_of first_is ∙ ap (λ (i : ℕ). bytes_of (take i left)) (sym c))
-    (kept.bytes ∙ word_is) kept.ahead in
+    (kept.bytes ∙ word_is) apart kept.ahead in
     let mark_is : s.cutout.mark ≡ begins_with_mark (drop s.cutout.count left) =
     kept.mark ∙ ap begins_with_mark after_is ∙ ap (λ (i : ℕ). begins_with_mark (drop i left)) (sym c) in
     let reads = piece_reads laws s bytes left read.forest t is.0 is.1 mark_is kept.tree read.top read.apart

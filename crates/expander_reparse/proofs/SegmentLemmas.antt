@@ -10,6 +10,7 @@ use Rattle.tt.specs.Tops.{Top}
 use Rattle.tt_data.proofs.ForestLemmas.{joined_assoc, walk-joined}
 use Rattle.tt_data.specs.Forest.{Forest, empty, joined}
 use Rattle.tt_data.specs.Walk.{walk}
+use Rattle.rustc_lexer.specs.Lexing.{run_on}
 use Rattle.rustc_lexer.specs.TokensAt.{AreTokensFrom}
 use Rattle.rustc_lexer.specs.declared.token.Token.{Token}
 use Rattle.bridge.specs.Parts.{begins_with_mark, starts_with_mark}
@@ -23,6 +24,7 @@ use Rattle.expander_reparse.specs.declared.segment_builder.OpenSegment.{OpenSegm
 use Rattle.expander_reparse.specs.declared.segment.SegmentPart.{SegmentPart}
 use Rattle.expander_reparse.specs.declared.segment.Segment.{Segment}
 use Rattle.expander_reparse.proofs.PieceReadingLemmas.{FirstLaw, is_cutout, placed_append}
+use Rattle.expander_reparse.proofs.ApartLemmas.{apart_later}
 
 take_split : (n m : ℕ) (xs : List ℕ) → take (n + m) xs ≡ take n xs ++ take m (drop n xs)
 take_split zero m xs = ap (λ (k : ℕ). take k xs) (omega arith)
@@ -132,8 +134,8 @@ begun_more text at left more b next c us mark shown is within reads left_is byte
 -- the segment that was begun, where it ends
 pub is_stretch : FirstLaw → (text : List ℕ) → IsUtf8 text → (at : ℕ) (left : List Token) (b : OpenSegment) (s : Segment) → IsBegun text at left b → at ≤ length text
     → s.cutout.bytes ≡ take (at - b.from) (drop b.from text) → chars_ahead s.cutout.ahead ≡ take 2 (chars (drop at text)) → s.cutout.count ≡ b.tokens - length left
-    → s.cutout.mark ≡ begins_with_mark left → s.parts.items ≡ b.parts.items → 1 ≤ length b.parts.items → IsSegment s
-is_stretch first text utf8 at left b s is within bytes ahead count mark parts some =
+    → s.cutout.mark ≡ begins_with_mark left → s.parts.items ≡ b.parts.items → 1 ≤ length b.parts.items → run_on (take at text) (drop at text) ≡ 0 → IsSegment s
+is_stretch first text utf8 at left b s is within bytes ahead count mark parts some none =
     let n : ℕ = bytes_of is.tokens in
     let n_is : at - b.from ≡ n = omega (arith, is.ends) in
     let all : List Token = is.tokens ++ left in
@@ -144,7 +146,7 @@ is_stretch first text utf8 at left b s is within bytes ahead count mark parts so
     let far : length (drop b.from text) ≡ length text - b.from = length-drop b.from text in
     let cut = is_cutout first s.cutout (drop b.from text) all n (IsUtf8-drop text b.from utf8 is.here.boundary) is.here.tokens
     (omega (arith, k, length-append is.tokens left)) (omega (arith, k, is.some some)) (omega (arith, far, is.ends, within)) (ap bytes_of (sym front))
-    (bytes ∙ ap (λ (i : ℕ). take i (drop b.from text)) n_is) (ahead ∙ ap (λ (bs : List ℕ). take 2 (chars bs)) (sym back)) in
+    (bytes ∙ ap (λ (i : ℕ). take i (drop b.from text)) n_is) (apart_later text b.from n at is.ends none) (ahead ∙ ap (λ (bs : List ℕ). take 2 (chars bs)) (sym back)) in
     let size : length s.cutout.bytes ≡ n = ap length (bytes ∙ ap (λ (i : ℕ). take i (drop b.from text)) n_is) ∙ length-take-le n (drop b.from text) (omega (arith, far, is.ends, within)) in
     record {
       tokens = is.tokens;

@@ -15,7 +15,7 @@ ghost use Rattle.expander_reparse.specs.declared.parse.Parsed.TheVariants.{Piece
 
 use crate::piece::{Piece, PieceTree};
 use crate::resync::{Resync, seek_cached};
-use crate::segment::{CachedPiece, Lookahead, Segments, TokenRun, ahead_at};
+use crate::segment::{CachedPiece, Lookahead, Segments, TokenRun, ahead_at, is_apart};
 use crate::segment_builder::{ReadingContext, Reparse, behind, take_segment};
 use crate::shared_bytes::{ByteStore, SharedBytes};
 use bridge::Read;
@@ -163,6 +163,9 @@ fn read_source(
         return Ok(None);
     };
     if count == 0 {
+        return Ok(None);
+    }
+    if !is_apart(rest, len) {
         return Ok(None);
     }
     let Some((Shape::Whole, tree)) = read_piece(alloc, names, text, at, tokens, count)? else {
@@ -343,6 +346,9 @@ fn with_last(
     let Some(last) = read_last(alloc, names, text, at, left)? else {
         return Ok(None);
     };
+    if !is_apart(text, at as usize) {
+        return Ok(None);
+    }
     now.end(alloc, &context.words, text, at, left)?;
     let Reparse { mut own, list, .. } = now;
     if let Err(e) = own.push(last) {
@@ -386,6 +392,9 @@ pub(crate) fn read_by_pieces(
         };
         at = end;
         left = after;
+    }
+    if !is_apart(text, at as usize) {
+        return Ok(None);
     }
     now.end(alloc, &context.words, text, at, left)?;
     let Reparse { own, list, .. } = now;

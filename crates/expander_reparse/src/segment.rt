@@ -2,6 +2,7 @@
 //! were read from.
 ghost use Rattle.std.specs.Prelude.{◌≡◌, ◌≤◌, ◌++◌, [], IfOk, IfSome, IsOkUnless, Some, chars, drop, length, slice_get, take, true};
 ghost use Rattle.bridge.specs.Parts.{begins_with_mark};
+ghost use Rattle.rustc_lexer.specs.Lexing.{run_on};
 ghost use Rattle.std.specs.Rc.{rc_value};
 ghost use Rattle.tt_data.specs.fault.TtFault.TheVariants as fault;
 ghost use Rattle.expander_reparse.specs.Reparsing.{IsCachedHere};
@@ -16,7 +17,7 @@ use std::rc::Rc;
 use tt_data::TtFault;
 
 /// The two characters after some tokens, or as many as there are. With the tokens' own characters
-/// they determine the tokens.
+/// they determine the tokens, if no run of hashes goes on there.
 #[derive(Clone, Copy)]
 pub struct Lookahead {
     first: Option<char>,
@@ -178,6 +179,21 @@ pub(crate) fn ahead_at(text: &str, at: usize) -> Option<Lookahead>
         return None;
     }
     Some(ahead_of(&text[at..]))
+}
+
+/// Whether no run of hashes goes on across an offset, so that two characters after it determine
+/// the tokens before it. None goes on behind a piece or trivia.
+pub(crate) fn is_apart(text: &str, at: usize) -> bool
+    ensures { result ≡ true → run_on (take at text.now) (drop at text.now) ≡ 0 }
+{
+    let bytes = text.as_bytes();
+    if at == 0 || at >= bytes.len() {
+        return true;
+    }
+    if bytes[at - 1] != b'#' {
+        return true;
+    }
+    bytes[at] != b'#'
 }
 
 // Whether these are the characters after an offset.

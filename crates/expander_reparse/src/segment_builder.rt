@@ -1,7 +1,7 @@
 //! Collects the pieces of a text as they are read, and makes segments of them.
 ghost use Rattle.std.specs.Prelude.{◌≡◌, ℕ, ◌+◌, ◌-◌, ◌<◌, ◌≤◌, ◌++◌, ◌∷◌, ◌^◌, [], IfOk, IfSome, List, None, OnOk, chars, drop, length, map, take};
 ghost use Rattle.std.specs.Rc.{rc_value};
-ghost use Rattle.rustc_lexer.specs.Lexing.{tokens_of};
+ghost use Rattle.rustc_lexer.specs.Lexing.{run_on, tokens_of};
 ghost use Rattle.rustc_lexer.specs.TokensAt.{AreTokensFrom};
 ghost use Rattle.expander_reparse.specs.Reparsing.{AddsPieces, AddsSegment, AreMet, IsBegun, IsMet, IsReparse, TakesPart};
 ghost use Rattle.expander_reparse.specs.Segments.{AreSegments, IsCachedSegment, IsSegment, part_shown};
@@ -10,7 +10,8 @@ ghost use Rattle.expander_reparse.specs.ByteStores.{HoldsText};
 use crate::piece::{Piece, PieceTree};
 use crate::resync::Resync;
 use crate::segment::{
-    CachedPiece, CachedSegment, Segment, SegmentPart, Segments, TokenRun, ahead_of, occurs_first,
+    CachedPiece, CachedSegment, Segment, SegmentPart, Segments, TokenRun, ahead_of, is_apart,
+    occurs_first,
 };
 use crate::segment_piece::SegmentPiece;
 use crate::shared_bytes::ByteStore;
@@ -116,6 +117,7 @@ fn segment_of(
     requires words { HoldsText words.now text.now }
     requires begun { IsBegun text.now at left.now begun }
     requires here { AreTokensFrom text.now at left.now }
+    requires apart { run_on (take at text.now) (drop at text.now) ≡ 0 }
     requires some { 1 ≤ length begun.parts.items }
     ensures right { IfOk result (λ s. IsSegment (rc_value s)) }
     ensures parts { IfOk result (λ s. (rc_value s).parts ≡ begun.parts) }
@@ -196,8 +198,8 @@ impl Reparse {
         Ok(())
     }
 
-    /// Ends the open segment at `at`, and begins the next one. A segment without pieces is
-    /// dropped.
+    /// Ends the open segment at `at`, where no run of hashes goes on, and begins the next one. A
+    /// segment without pieces is dropped.
     pub fn end(
         &mut self,
         alloc: Global,
@@ -209,6 +211,7 @@ impl Reparse {
         requires words { HoldsText words.now text.now }
         requires begun { IsBegun text.now at left.now self.old.begun }
         requires here { AreTokensFrom text.now at left.now }
+        requires apart { run_on (take at text.now) (drop at text.now) ≡ 0 }
         ensures passing { (held : Segments) → IsReparse held text.now at left.now self.old → OnOk result (IsReparse held text.now at left.now self.new) }
         ensures none { OnOk result (self.new.begun.parts.items ≡ []) }
         ensures own { OnOk result (self.new.own ≡ self.old.own) }
@@ -239,6 +242,9 @@ impl Reparse {
         ensures { (held : Segments) → IsReparse held text.now at left.now self.old → OnOk result (IsReparse held text.now at left.now self.new) }
     {
         if self.begun.parts.len() < MOST {
+            return Ok(());
+        }
+        if !is_apart(text, at as usize) {
             return Ok(());
         }
         self.end(alloc, words, text, at, left)
@@ -305,6 +311,9 @@ pub(crate) fn take_segment(
     let Some((end, after)) = behind(left, at, len, count) else {
         return Ok(None);
     };
+    if !is_apart(text, at as usize) {
+        return Ok(None);
+    }
     now.end(alloc, words, text, at, left)?;
     now.take_cached(alloc, at, next, end, after)?;
     Ok(Some((len, count)))

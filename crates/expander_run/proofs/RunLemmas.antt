@@ -35,26 +35,27 @@ told_by_put faults told bytes old new false is puts = record {
   flushed = λ fresh some. absurd (cc (fresh, puts.1));
 }
 
-module _ {R W E : Type 0} (input : Option (List ℕ)) (depth : ℕ) (reader : Watch R) (writer : Watch W) (faults : Watch E) where
+module _ {R W E : Type 0} (input : Option (List ℕ)) (depth : ℕ) (reader : Watch R) (before writer : Watch W) (faults : Watch E) where
   -- without a reply nothing was written, and why is told
-  pub runs_stopped : (stop : Stop) (contents : Option (List ℕ)) (tells : List ℕ → Type 0) → StopsEarly stop input depth reader.failed → writer.failed ≡ false
+  pub runs_stopped : (stop : Stop) (contents : Option (List ℕ)) (tells : List ℕ → Type 0) → StopsEarly stop input depth reader.failed → writer.failed ≡ false → writer ≡ before
       → (why : List ℕ) → why ≡ stop_line stop → Tells why tells faults
-      → Runs (Some stop) input depth (Appends contents contents) tells reader writer faults (status 1)
-  runs_stopped stop contents tells early fresh why is_why told = record {
+      → Runs (Some stop) input depth (Appends contents contents) tells reader before writer faults (status 1)
+  runs_stopped stop contents tells early fresh same why is_why told = record {
     cause = early.cause;
     left = leaves_nothing stop input depth (Appends contents contents) early.writer (appends_none contents);
     told = subst (λ (xs : List ℕ). Tells xs tells faults) is_why told;
     status = refl;
     of_reader = early.reader;
     of_writer = fresh ∙ sym early.writer;
+    unasked = λ other. same;
   }
 
   -- a writer that failed took a front of the printed text
   pub runs_broken_off : (reply : Reply) (lines : List ℕ) (all_taken : Bool) (old new : Option (List ℕ)) (tells : List ℕ → Type 0)
       → Replied input depth reply lines → reader.failed ≡ false
-      → PutsReply old new writer reply all_taken → all_taken ≡ false
+      → PutsReply old new before writer reply all_taken → all_taken ≡ false
       → (why : List ℕ) → why ≡ stop_line WriteFailed → Tells why tells faults
-      → Runs (Some WriteFailed) input depth (Appends old new) tells reader writer faults (status 1)
+      → Runs (Some WriteFailed) input depth (Appends old new) tells reader before writer faults (status 1)
   runs_broken_off reply lines true old new tells replied read puts not_all why is_why told = absurd (cc not_all)
   runs_broken_off reply lines false old new tells replied read puts not_all why is_why told = record {
     cause = tt;
@@ -70,4 +71,5 @@ module _ {R W E : Type 0} (input : Option (List ℕ)) (depth : ℕ) (reader : Wa
     status = refl;
     of_reader = read;
     of_writer = puts.3;
+    unasked = λ other. absurd (cc other);
   }

@@ -6,7 +6,7 @@ use Rattle.std.proofs.lemmas.Fmt.{decimal_digit}
 use Rattle.bridge.specs.declared.reading.outcome.ReadFault.{ReadFault}
 use Rattle.expander_run.specs.Watch.{Watch, is_bad_write}
 use Rattle.expander_run.specs.Lines.{column_at, fault_words, line, line_at}
-use Rattle.expander_run.specs.Runs.{Refuses, Runs, status, status_by}
+use Rattle.expander_run.specs.Runs.{IsFlushed, Refuses, Runs, status, status_by}
 use Rattle.expander_run.specs.declared.program.Status.{Status}
 use Rattle.expander_run.specs.declared.stop.Stop.{Stop}
 use Rattle.expander_run.specs.declared.stop.Stop.TheVariants.{ReadFailed}
@@ -16,6 +16,7 @@ use Rattle.expander_model.specs.Expansion.{World, Outcome, CallSite, unbroken, l
 use Rattle.expander_session.specs.Replies.{NeedsNumbers}
 use Rattle.expander_model.specs.Meaning.{Layers, member, members_after, with_definition}
 use Rattle.expander_session.specs.TooMany.{bursts}
+use Rattle.expander_session.specs.declared.session.Reply.TheVariants.{Unread}
 use Rattle.tt_data.specs.Forest.{Forest}
 use Rattle.tt_data.specs.declared.leaf.Ident.{Ident}
 use Rattle.tt_data.specs.declared.span.Span.{Span}
@@ -46,13 +47,14 @@ with_faults fault faults = refl
 
 -- a run that stops never has status 0
 never_0 : {R W E : Type 0} (stop : Stop) (input : Option (List ℕ)) (depth : ℕ) (writes tells : List ℕ → Type 0)
-    (reader : Watch R) (writer : Watch W) (faults : Watch E) → Refuses stop input depth writes tells reader writer faults (status 0) → ⊥
-never_0 stop input depth writes tells reader writer faults h = omega (arith, ap (λ (s : Status). s.0) h.status)
+    (reader : Watch R) (before writer : Watch W) (faults : Watch E) → Refuses stop input depth writes tells reader before writer faults (status 0) → ⊥
+never_0 stop input depth writes tells reader before writer faults h = omega (arith, ap (λ (s : Status). s.0) h.status)
 
 -- a reader that failed in mid-stream: nothing is written, and that is told
 read_failed : (depth : ℕ) → Runs {R = ℕ} {W = ℕ} {E = ℕ} (Some ReadFailed) (Some (120 ∷ 121 ∷ [])) depth (λ bytes. bytes ≡ [])
     (λ bytes. bytes ≡ codes "read failed" ++ (10 ∷ [])) (record { inner = 0; failed = true; flushed = false })
-    (record { inner = 0; failed = false; flushed = false }) (record { inner = 0; failed = false; flushed = true }) (status 1)
+    (record { inner = 0; failed = false; flushed = false }) (record { inner = 0; failed = false; flushed = false })
+    (record { inner = 0; failed = false; flushed = true }) (status 1)
 read_failed depth = record {
   cause = tt;
   left = refl;
@@ -60,7 +62,12 @@ read_failed depth = record {
   status = refl;
   of_reader = refl;
   of_writer = refl;
+  unasked = λ other. refl;
 }
+
+-- a flush for a reading fault would show: the writer is not as it was
+not_flushed : (fault : ReadFault) → IsFlushed {W = ℕ} (Unread fault) (record { inner = 0; failed = false; flushed = false }) (record { inner = 0; failed = false; flushed = true }) → ⊥
+not_flushed fault h = let k : true ≡ false = ap (λ (w : Watch ℕ). w.flushed) h in cc
 
 -- ---- places in `a`, a line feed, `bc`
 

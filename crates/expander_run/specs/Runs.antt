@@ -56,10 +56,10 @@ abbrev pub status_of : Reply → Status
 status_of (Read e) = status_by e.faults
 status_of (Unread fault) = status 1
 
--- the printed text is flushed last
-abbrev pub IsFlushed : {W : Type 0} → Reply → Watch W → Type 0
-IsFlushed (Read e) writer = writer.flushed ≡ true
-IsFlushed (Unread fault) writer = ⊤
+-- the printed text is flushed last; for a reading fault nothing is asked of the writer
+abbrev pub IsFlushed : {W : Type 0} → Reply → Watch W → Watch W → Type 0
+IsFlushed (Read e) before writer = writer.flushed ≡ true
+IsFlushed (Unread fault) before writer = writer ≡ before
 
 -- the report is written whole and flushed last, or its first bytes if that writer failed
 pub record Tells {E : Type 0} (told : List ℕ) (tells : List ℕ → Type 0) (faults : Watch E) : Type 0 where
@@ -103,31 +103,34 @@ abbrev pub LeavesAt : Stop → Option (List ℕ) → ℕ → (List ℕ → Type 
 LeavesAt WriteFailed input depth writes = BreaksOff input depth writes
 LeavesAt _ input depth writes = writes []
 
--- a run that answers: it writes the printed text and the report, and has the reply's status
+-- a run that answers: it writes the printed text and the report, and has the reply's status;
+-- `before` is the writer as it was handed in
 pub record Finishes {R W E : Type 0} (input : Option (List ℕ)) (depth : ℕ) (writes tells : List ℕ → Type 0)
-    (reader : Watch R) (writer : Watch W) (faults : Watch E) (result : Status) : Type 0 where
+    (reader : Watch R) (before writer : Watch W) (faults : Watch E) (result : Status) : Type 0 where
   pub text : List ℕ
   pub is_input : IsInput input text
   pub reply : Reply
   pub is_reply : IsReplyTo run_layers depth text None reply
   pub written : writes (printed_of reply)
-  pub flushed : IsFlushed reply writer
+  pub flushed : IsFlushed reply before writer
   pub told : Tells (report text reply) tells faults
   pub status : result ≡ status_of reply
   pub read_all : reader.failed ≡ false
   pub took_all : writer.failed ≡ false
 
--- a run that stops: it has a cause, which it reports, and its status is 1
+-- a run that stops: it has a cause, which it reports, and its status is 1; unless the writer
+-- failed, nothing was asked of it
 pub record Refuses {R W E : Type 0} (stop : Stop) (input : Option (List ℕ)) (depth : ℕ) (writes tells : List ℕ → Type 0)
-    (reader : Watch R) (writer : Watch W) (faults : Watch E) (result : Status) : Type 0 where
+    (reader : Watch R) (before writer : Watch W) (faults : Watch E) (result : Status) : Type 0 where
   pub cause : Stops stop input depth
   pub left : LeavesAt stop input depth writes
   pub told : Tells (stop_line stop) tells faults
   pub status : result ≡ status 1
   pub of_reader : reader.failed ≡ is_of_reader stop
   pub of_writer : writer.failed ≡ is_of_writer stop
+  pub unasked : is_of_writer stop ≡ false → writer ≡ before
 
 -- a run over what its reader had left, with what its writers took: it answers or it stops
-abbrev pub Runs : {R W E : Type 0} → Option Stop → Option (List ℕ) → ℕ → (writes tells : List ℕ → Type 0) → Watch R → Watch W → Watch E → Status → Type 0
-Runs None input depth writes tells reader writer faults result = Finishes input depth writes tells reader writer faults result
-Runs (Some stop) input depth writes tells reader writer faults result = Refuses stop input depth writes tells reader writer faults result
+abbrev pub Runs : {R W E : Type 0} → Option Stop → Option (List ℕ) → ℕ → (writes tells : List ℕ → Type 0) → Watch R → Watch W → Watch W → Watch E → Status → Type 0
+Runs None input depth writes tells reader before writer faults result = Finishes input depth writes tells reader before writer faults result
+Runs (Some stop) input depth writes tells reader before writer faults result = Refuses stop input depth writes tells reader before writer faults result

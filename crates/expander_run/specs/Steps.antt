@@ -38,7 +38,7 @@ Puts old new writer bytes true = Appends old new bytes × (writer.flushed ≡ tr
 Puts old new writer bytes false = ((k : ℕ) × Appends old new (take k bytes)) × (writer.failed ≡ true)
 
 -- the printed text of a reply is written, or its first bytes are and the writer failed
-abbrev pub PutsReply : {W : Type 0} → Option (List ℕ) → Option (List ℕ) → Watch W → Reply → Bool → Type 0
-PutsReply old new writer reply true = Appends old new (printed_of reply) × IsFlushed reply writer × (writer.failed ≡ false)
-PutsReply old new writer reply false =
+abbrev pub PutsReply : {W : Type 0} → Option (List ℕ) → Option (List ℕ) → Watch W → Watch W → Reply → Bool → Type 0
+PutsReply old new before writer reply true = Appends old new (printed_of reply) × IsFlushed reply before writer × (writer.failed ≡ false)
+PutsReply old new before writer reply false =
     (e : Expanded) × (reply ≡ Read e) × ((k : ℕ) × Appends old new (take k e.printed)) × (writer.failed ≡ true)

@@ -30,7 +30,8 @@ pub struct Status(pub u8);
 ///
 /// The status is 0 if the text was read and has no fault, else 1. If the run stops or the text has
 /// a reading fault, nothing is written, except that a failed write leaves the first bytes of the
-/// printed text.
+/// printed text. Of a text with a reading fault, and of a run that stops before it writes, the
+/// writer is not asked anything: it is not flushed.
 ///
 /// `faults` gets a line for each fault, as `line 2, byte column 1: recursion limit reached` (both
 /// numbers from 1), or one line for why the run stops, as `read failed`, and is flushed. After the
@@ -49,7 +50,7 @@ pub fn run<R: Read, W: Write, E: Write>(
     requires faults_fresh { faults.old.failed ≡ false }
     ensures runs { (stop : Option Stop) × Runs stop (R.remaining reader.old.inner) depth
         (Appends (W.contents writer.old.inner) (W.contents writer.new.inner))
-        (Appends (E.contents faults.old.inner) (E.contents faults.new.inner)) reader.new writer.new faults.new result }
+        (Appends (E.contents faults.old.inner) (E.contents faults.new.inner)) reader.new writer.old writer.new faults.new result }
     ensures untold { result ≡ status 0 → faults.new ≡ faults.old }
 {
     match answer_input(alloc, reader, depth) {
@@ -160,7 +161,7 @@ fn put<W: Write>(writer: &mut Watched<W>, bytes: &[u8]) -> bool
 // Whether what a reply prints was written and flushed.
 fn put_reply<W: Write>(writer: &mut Watched<W>, reply: &Reply) -> bool
     requires { writer.old.failed ≡ false }
-    ensures { PutsReply (W.contents writer.old.inner) (W.contents writer.new.inner) writer.new reply.now result }
+    ensures { PutsReply (W.contents writer.old.inner) (W.contents writer.new.inner) writer.old writer.new reply.now result }
 {
     match reply {
         Reply::Read(expansion) => put(writer, expansion.printed().as_bytes()),

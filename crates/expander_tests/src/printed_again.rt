@@ -48,7 +48,15 @@ Vec < Vec < u8 >> ( a . 0 ? [ 1 ] ) ;⏎
 4 ;⏎"literal" ;⏎( funcall ( ) ) ;⏎( future . await ) ;⏎
 x += 1 ;⏎
 / / x⏎
-# # [ a ] struct S ;⏎
+## [ a ] struct S ;⏎
+a ## b⏎
+let s = #"x"# ;⏎
+f ( #"a"# ) ;⏎
+a ;⏎## b ;⏎
+a ;⏎##"x"## b ;⏎
+a ;⏎#;⏎"b;c" #;⏎d ;⏎
+a ;⏎#"b;c"# ;⏎d ;⏎
+a ### ###⏎
 - 1 - 1 - 2 1.0 - 1⏎
 é ! { }⏎名 Δ⏎
 a ;⏎;⏎b ;⏎# [ c ] ;⏎
@@ -62,7 +70,7 @@ let x = ( "ab" , 'c' , 1u8 , r#"d"# , b'e' ) ;⏎
 r#fn r#x ;⏎
 1.0e3 'b r#d⏎
 x += 1 x +/ 1 x +* 1⏎
-/ / #/ / * #* / # # #⏎
+/ / #/ / * #* / # ##⏎
 & 'a str fn f < 'b > ( x : & 'b u8 ) { }⏎
 # [ doc = " \"quoted\" \\ doc " ] struct S ;⏎# ! [ doc = " inner " ]⏎
 #! [ a ] #! [ b ] fn f ( ) { }⏎# [ c ] fn g ( ) { }⏎

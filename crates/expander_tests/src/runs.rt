@@ -18,7 +18,7 @@ const ROWS: &str = r#"
 - 0 - ¦ "é" macro ;⏎⏎macro_rules x ;⏎ ¦ 1 - 1 1 ¦ "é" macro ;⏎macro_rules x ;⏎ ¦ line 1, byte column 6: macro definition in the output⏎line 3, byte column 1: macro definition in the output⏎
 - 0 - ¦ fn f( { ¦ 1 - 0 1 ¦  ¦ line 1, byte column 7: group left open⏎
 - 0 - ¦ (] ¦ 1 - 0 1 ¦  ¦ line 1, byte column 2: closing bracket does not fit⏎
-- 0 - ¦ ⏎## ¦ 1 - 0 1 ¦  ¦ line 2, byte column 1: bad token⏎
+- 0 - ¦ ⏎#" ¦ 1 - 0 1 ¦  ¦ line 2, byte column 1: bad token⏎
 reader 0 Interrupted ¦ let x = y ;⏎ ¦ 1 reader 0 1 ¦  ¦ read failed⏎
 reader 5 Other ¦ let x = y ;⏎ ¦ 1 reader 0 1 ¦  ¦ read failed⏎
 reader 12 Interrupted ¦ let x = y ;⏎ ¦ 1 reader 0 1 ¦  ¦ read failed⏎
@@ -27,9 +27,9 @@ writer 1 Other ¦ let x = y ;⏎ ¦ 1 writer 0 1 ¦ l ¦ write failed⏎
 writer 5 nothing ¦ let x = y ;⏎ ¦ 1 writer 0 1 ¦ let x ¦ write failed⏎
 writer 11 Other ¦ let x = y ;⏎ ¦ 1 writer 0 1 ¦ let x = y ; ¦ write failed⏎
 flush 0 BrokenPipe ¦ let x = y ;⏎ ¦ 1 writer 1 1 ¦ let x = y ;⏎ ¦ write failed⏎
-faults 0 Other ¦ ## ¦ 1 faults 0 0 ¦  ¦
-faults 3 nothing ¦ ## ¦ 1 faults 0 0 ¦  ¦ lin
-faults 8 Interrupted ¦ ## ¦ 1 faults 0 0 ¦  ¦ line 1,
+faults 0 Other ¦ #" ¦ 1 faults 0 0 ¦  ¦
+faults 3 nothing ¦ #" ¦ 1 faults 0 0 ¦  ¦ lin
+faults 8 Interrupted ¦ #" ¦ 1 faults 0 0 ¦  ¦ line 1,
 "#;
 
 fn kind_of(how: &str) -> io::ErrorKind {

@@ -6,3 +6,5 @@ pub mod FirstFitLemmas
 pub mod KeyLemmas
 pub mod MacroLemmas
 pub mod UnfitLemmas
+pub mod PartialLemmas
+pub mod NoReadingLemmas

@@ -1,5 +1,6 @@
 -- which rule fits an argument, and what it gives, in reading order
 pub mod Fit
+pub mod NoReading
 pub mod Kept
 pub mod Macros
 pub mod MacroEquality

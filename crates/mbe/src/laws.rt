@@ -1,6 +1,6 @@
 //! Laws for the proofs of crates above. Calling a law does nothing: its contract is the
 //! statement.
-ghost use Rattle.std.specs.Prelude.{◌≡◌, ℕ, Bool, true, false, List, Option, Some, option_map, map};
+ghost use Rattle.std.specs.Prelude.{◌≡◌, ◌↔◌, ◌⊎◌, ℕ, Bool, true, false, List, Option, Some, None, option_map, map};
 ghost use Rattle.tt_data.specs.Forest.{Forest, map_spans};
 ghost use Rattle.tt_data.specs.declared.edition.Edition.{Edition};
 ghost use Rattle.tt_data.specs.declared.span.Span.{Span};
@@ -11,6 +11,7 @@ ghost use Rattle.mbe_rules.specs.Relabelling.{rule_with};
 ghost use Rattle.mbe_rules.specs.declared.macro_call_style.MacroCallStyle.{MacroCallStyle};
 ghost use Rattle.mbe.specs.Bursts.{bursts};
 ghost use Rattle.mbe.specs.Fit.{fit, fit_with};
+ghost use Rattle.mbe.specs.NoReading.{HasClashing, HasTwo, UsesUp};
 ghost use Rattle.mbe_matcher.specs.Grammar.{Grammar};
 ghost use Rattle.mbe_matcher.specs.Paths.{IsPath, has_clash};
 ghost use Rattle.mbe_matcher.specs.Readings.{Move, State, start, next, has_used_up, takings, the_reading};
@@ -65,4 +66,19 @@ pub fn only_reading()
         (has_clash (takings grammar pattern argument) ≡ false)
         × ((last : State) × IsPath (next grammar) (start pattern argument) moves last × (has_used_up last ≡ true))
         × ((others : List Move) (last : State) → IsPath (next grammar) (start pattern argument) others last → has_used_up last ≡ true → others ≡ moves) }
+{}
+
+/// A matcher has no reading of an argument for one of three reasons, and only so: no list of valid
+/// moves uses up the argument, or two different ones do, or two partial readings clash: `none`.
+/// They clash where both consume something at one position, and one of them a fragment. Its
+/// reading is the only list of moves that uses up the argument, where nothing clashes: `one`.
+pub fn when_there_is_no_reading()
+    ensures none { (grammar : Grammar) (pattern : Items) (argument : Forest) → has_empty_round pattern ≡ false →
+        (the_reading grammar pattern argument ≡ None)
+        ↔ (((moves : List Move) → UsesUp grammar pattern argument moves → ⊥) ⊎ (HasTwo grammar pattern argument ⊎ HasClashing grammar pattern argument)) }
+    ensures one { (grammar : Grammar) (pattern : Items) (argument : Forest) (moves : List Move) → has_empty_round pattern ≡ false →
+        (the_reading grammar pattern argument ≡ Some moves)
+        ↔ (UsesUp grammar pattern argument moves
+        × ((others : List Move) → UsesUp grammar pattern argument others → others ≡ moves)
+        × (HasClashing grammar pattern argument → ⊥)) }
 {}

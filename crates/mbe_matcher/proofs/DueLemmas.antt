@@ -16,7 +16,7 @@ use Rattle.mbe_matcher.specs.Threads.{Made, Waits, waits, waiting_of, moves_of, 
 use Rattle.mbe_matcher.specs.Units as u
 use Rattle.mbe_matcher.specs.Waiting.{ended, prefixed, settled_at, Each}
 use Rattle.mbe_matcher.specs.declared.step.Choice.{Choice}
-use Rattle.mbe_matcher.specs.declared.matcher.Seen.{Seen}
+use Rattle.mbe_matcher.specs.declared.same_state.Seen.{Seen}
 use Rattle.mbe_matcher.specs.declared.matcher.SettleTask.{SettleTask}
 use Rattle.mbe_matcher.specs.declared.matcher.SettleTask.TheVariants.{GoOn, Note}
 use Rattle.mbe_matcher.specs.declared.matcher.Waiting as d

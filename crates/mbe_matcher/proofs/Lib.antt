@@ -33,3 +33,5 @@ pub mod CollectingLemmas
 pub mod RunLemmas
 pub mod SkippedLemmas
 pub mod SameLemmas
+pub mod NumberLemmas
+pub mod StateIndexLemmas

@@ -1,5 +1,5 @@
 -- A repetition that is skipped binds each of its metavariables to nothing.
-use Rattle.std.proofs.Common.{◌≡◌, refl, sym, ap, ◌∙◌, ℕ, suc, ◌<◌, List, [], ◌∷◌, ◌++◌, length, get_or, drop, drop-cons, Option}
+use Rattle.std.proofs.Common.{◌≡◌, refl, sym, ap, ◌∙◌, ℕ, suc, ◌+◌, ◌*◌, List, [], ◌∷◌, ◌++◌, Option, Bor, arith}
 use Rattle.std.specs.declared.vec.Vec.{Vec}
 use Rattle.std.specs.declared.alloc.Global.{Global}
 use Rattle.tt_data.specs.declared.delimiter.Delimiter.{Delimiter}
@@ -9,7 +9,9 @@ use Rattle.mbe_rules.specs.declared.parser.Op.{Op, Repeat, Subtree, Repeat', Sub
 use Rattle.mbe_rules.specs.declared.parser.RepeatKind.{RepeatKind}
 use Rattle.mbe_rules.specs.declared.parser.Separator.{Separator}
 use Rattle.mbe_rules.proofs.OpsLemmas.{put-Repeat, put-Subtree}
+use Rattle.mbe_rules.specs.Counts.{count_of}
 use Rattle.mbe_matcher.specs.Bindings.{Map, skipped, bind, bind_skipped}
+use Rattle.mbe_matcher.specs.Skipping.{skipped_in, skipped_around, work_around}
 
 append-nil : (ns : List (List ℕ)) → ns ++ [] ≡ ns
 append-nil [] = refl
@@ -34,11 +36,37 @@ skipped-append : (ns ks : List (List ℕ)) (m : Map) → bind_skipped (ns ++ ks)
 skipped-append [] ks m = refl
 skipped-append (n ∷ ns) ks m = skipped-append ns ks (bind n skipped m)
 
--- one item more
-pub skipped-step : (os : List Op) (i j : ℕ) (d : Op) (m : Map) → j ≡ suc i → i < length os → d ≡ get_or os i d →
-    bind_skipped (variables (items_of (drop j os))) (bind_skipped (variables (put_op d done)) m) ≡ bind_skipped (variables (items_of (drop i os))) m
-skipped-step os i j d m u h e =
-    let k : drop i os ≡ d ∷ drop j os = drop-cons os i d h ∙ ap (λ x. x ∷ drop (suc i) os) (sym e) ∙ ap (λ x. d ∷ drop x os) (sym u) in
-    sym (ap (λ xs. bind_skipped (variables (items_of xs)) m) k
-    ∙ ap (λ ns. bind_skipped ns m) (variables-put d (items_of (drop j os)))
-    ∙ skipped-append (variables (put_op d done)) (variables (items_of (drop j os))) m)
+-- the first of some ops, and those after it
+pub skipped-first : (os : List Op) (o : Op) (rest : List Op) (m : Map) → os ≡ o ∷ rest →
+    skipped_in os m ≡ skipped_in rest (bind_skipped (variables (put_op o done)) m)
+skipped-first os o rest m e =
+    ap (λ xs. skipped_in xs m) e ∙ ap (λ ns. bind_skipped ns m) (variables-put o (items_of rest))
+    ∙ skipped-append (variables (put_op o done)) (variables (items_of rest)) m
+
+-- one list more around the present one
+around-push : (outer : List (Bor (List Op))) (a : Bor (List Op)) (m : Map) → skipped_around (outer ++ (a ∷ [])) m ≡ skipped_around outer (skipped_in a.now m)
+around-push [] a m = refl
+around-push (c ∷ outer) a m = ap (skipped_in c.now) (around-push outer a m)
+
+pub work-push : (outer : List (Bor (List Op))) (a : Bor (List Op)) → work_around (outer ++ (a ∷ [])) ≡ work_around outer + suc (2 * count_of (items_of a.now))
+work-push [] a = omega arith
+work-push (c ∷ outer) a = let i = work-push outer a in omega (arith, i)
+
+-- entering the list inside an op, leaving a list, and going on after an op without ops inside
+pub entered : (os : List Op) (o : Op) (rest : Bor (List Op)) (inner : List Op) (outer new : List (Bor (List Op))) (m : Map) →
+    os ≡ o ∷ rest.now → variables (items_of inner) ≡ variables (put_op o done) → new ≡ outer ++ (rest ∷ []) →
+    skipped_around new (skipped_in inner m) ≡ skipped_around outer (skipped_in os m)
+entered os o rest inner outer new m e f n =
+    ap (λ xs. skipped_around xs (skipped_in inner m)) n ∙ around-push outer rest (skipped_in inner m)
+    ∙ ap (λ ns. skipped_around outer (skipped_in rest.now (bind_skipped ns m))) f
+    ∙ ap (skipped_around outer) (sym (skipped-first os o rest.now m e))
+
+pub left : (os : List Op) (a : Bor (List Op)) (outer old : List (Bor (List Op))) (m : Map) → os ≡ [] → old ≡ outer ++ (a ∷ []) →
+    skipped_around outer (skipped_in a.now m) ≡ skipped_around old (skipped_in os m)
+left os a outer old m e n =
+    sym (ap (λ xs. skipped_around old (skipped_in xs m)) e ∙ ap (λ xs. skipped_around xs m) n ∙ around-push outer a m)
+
+pub passed : (os : List Op) (o : Op) (rest : List Op) (outer : List (Bor (List Op))) (m n : Map) → os ≡ o ∷ rest →
+    n ≡ bind_skipped (variables (put_op o done)) m → skipped_around outer (skipped_in rest n) ≡ skipped_around outer (skipped_in os m)
+passed os o rest outer m n e f =
+    ap (λ x. skipped_around outer (skipped_in rest x)) f ∙ ap (skipped_around outer) (sym (skipped-first os o rest m e))

@@ -9,7 +9,7 @@ use Rattle.mbe_matcher.specs.Threads.{Made, extended, made_of, given, state_of, 
 use Rattle.mbe_matcher.specs.Units as u
 use Rattle.mbe_matcher.specs.Waiting.{Each, Good, empties_at}
 use Rattle.mbe_matcher.specs.declared.step.Choice.{Choice}
-use Rattle.mbe_matcher.specs.declared.matcher.Seen.{Seen}
+use Rattle.mbe_matcher.specs.declared.same_state.Seen.{Seen}
 use Rattle.mbe_matcher.specs.declared.matcher.SettleTask.{SettleTask}
 use Rattle.mbe_matcher.specs.declared.matcher.SettleTask.TheVariants.{GoOn, Note}
 use Rattle.mbe_matcher.specs.declared.position.Consumed.{Consumed}

@@ -15,7 +15,7 @@ use Rattle.mbe_matcher.specs.Settled.{Leads, IsKept, IsSound, IsSoundAt}
 use Rattle.mbe_matcher.specs.Units as u
 use Rattle.mbe_matcher.specs.Waiting.{ended, pending, prefixed, finished, settled_at, Each, heads, advanced_by, unless, IsFrom}
 use Rattle.mbe_matcher.specs.declared.position.Consumed.{Consumed}
-use Rattle.mbe_matcher.specs.declared.matcher.Seen.{Seen}
+use Rattle.mbe_matcher.specs.declared.same_state.Seen.{Seen}
 use Rattle.mbe_matcher.specs.declared.matcher.SettleTask.TheVariants.{GoOn}
 use Rattle.mbe_matcher.specs.declared.matcher.Waiting as d
 use Rattle.mbe_matcher.specs.declared.matcher.Waiting.TheVariants.{Ended, Pending}

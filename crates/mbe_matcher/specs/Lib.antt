@@ -8,6 +8,7 @@ pub mod Bindings
 -- the error where a fragment is missing
 pub mod Missing
 -- how the code has readings and bindings, for `match_pattern`, `bindings_of` and `Bindings`
+pub mod Frames
 pub mod Threads
 pub mod Bound
 -- what the functions inside the crate promise each other, and the crates above
@@ -15,7 +16,10 @@ pub mod Waiting
 pub mod Positions
 pub mod Places
 pub mod Settled
+pub mod Numbers
+pub mod SeenStates
 pub mod Rounds
 pub mod Going
 pub mod Blocked
+pub mod Skipping
 pub mod Collecting

@@ -10,7 +10,7 @@ use Rattle.mbe_matcher.specs.Units as u
 use Rattle.mbe_matcher.specs.Waiting.{Waiting, ended, pending, settled_at, empties_at, Good, Each}
 use Rattle.mbe_matcher.specs.declared.step.Choice.{Choice}
 use Rattle.mbe_matcher.specs.declared.matcher.Waiting as d
-use Rattle.mbe_matcher.specs.declared.matcher.Seen.{Seen}
+use Rattle.mbe_matcher.specs.declared.same_state.Seen.{Seen}
 use Rattle.mbe_matcher.specs.declared.matcher.SettleTask.{SettleTask}
 use Rattle.mbe_matcher.specs.declared.matcher.SettleTask.TheVariants.{GoOn, Note}
 

@@ -9,6 +9,7 @@ use Rattle.mbe_rules.specs.declared.parser.MetaVarKind.{MetaVarKind}
 use Rattle.mbe_rules.specs.declared.parser.Separator.{Separator}
 use Rattle.mbe_rules.specs.Ops.{items_of, separator_of}
 use Rattle.mbe_matcher.specs.Grammar.{Grammar}
+pub use Rattle.mbe_matcher.specs.Frames.{frames_in}
 use Rattle.mbe_matcher.specs.Places.{place_after}
 use Rattle.mbe_matcher.specs.Readings as r
 use Rattle.mbe_matcher.specs.Units as u
@@ -23,7 +24,6 @@ use Rattle.mbe_matcher.specs.declared.thread.Frame.TheVariants.{InGroup, InRound
 use Rattle.mbe_matcher.specs.declared.thread.Move.{Move}
 use Rattle.mbe_matcher.specs.declared.thread.Move.TheVariants.{Unit as unit, Fragment, Nothing, Enter, Skip, Leave, Separator as separator, NextRound}
 use Rattle.mbe_matcher.specs.declared.thread.Round.{Round}
-use Rattle.mbe_matcher.specs.declared.thread.Rung.{Rung, Rung', Held-Rung-around, None' as Outermost', Some' as Around'}
 use Rattle.mbe_matcher.specs.declared.thread.Thread.{Thread}
 use Rattle.mbe_matcher.specs.declared.step.Choice.{Choice}
 use Rattle.mbe_matcher.specs.declared.matcher.Waiting.{Waiting}
@@ -75,22 +75,8 @@ steps_in (Entry' begun made before) = steps begun made
 abbrev pub steps_of : Bor Entry → List r.Move
 steps_of e = steps_in e.now
 
--- a frame and those around it, the innermost first
-abbrev mutual
-  pub frames_to : Rung → List Frame
-  frames_to (Rung' f around) = f ∷ frames_around around
-
-  pub frames_around : Held-Rung-around → List Frame
-  frames_around Outermost' = []
-  frames_around (Around' p r) = frames_to r
-
--- the frames of a thread
-abbrev pub frames_in : Option (Bor Rung) → List Frame
-frames_in None = []
-frames_in (Some r) = frames_to r.now
-
 -- what the frames of a thread go on with
-abbrev pub frames_of : Option (Bor Rung) → List r.Frame
+abbrev pub frames_of : Option (Bor (Frame × List Frame)) → List r.Frame
 frames_of fs = map frame_of (frames_in fs)
 
 -- the moves up to an entry of the log

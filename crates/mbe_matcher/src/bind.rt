@@ -1,9 +1,11 @@
 //! The bindings that the moves of a reading make.
-ghost use Rattle.std.specs.Prelude.{◌≡◌, [], ◌∷◌, OnOk, IfOk, reverse};
+ghost use Rattle.std.specs.Prelude.{◌≡◌, suc, true, None, [], ◌∷◌, OnOk, IfOk, IfSome, reverse};
 ghost use Rattle.std.specs.List.{flat_map};
 ghost use Rattle.tt.specs.Views.{forest};
+ghost use Rattle.mbe_rules.specs.Counts.{count_of};
 ghost use Rattle.mbe_rules.specs.Items.{done, variables};
 ghost use Rattle.mbe_rules.specs.Ops.{items_of, put_op};
+ghost use Rattle.mbe_rules.specs.Walks.{is_plain};
 ghost use Rattle.mbe_matcher.specs.Bindings.{bind_skipped, bindings};
 ghost use Rattle.mbe_matcher.specs.Bound.{map_of};
 ghost use Rattle.mbe_matcher.specs.Threads.{move_of, moves_of, rounds_of, steps_of};
@@ -17,28 +19,56 @@ use std::mem;
 use symbols::Symbol;
 use tt::{TokenTreesView, TtIter};
 
-// Binds each metavariable of an op to nothing.
-#[cycle(skipping)]
-fn skip_op<'a>(here: &mut Bindings<'a>, op: &'a Op) -> Result<(), AllocError>
+// The ops inside an op.
+fn inside(op: &Op) -> Option<&[Op]>
+    ensures names { IfSome result (λ inner. variables (items_of inner.now) ≡ variables (put_op op.now done)) }
+    ensures fewer { IfSome result (λ inner. count_of (put_op op.now done) ≡ suc (count_of (items_of inner.now))) }
+    ensures none { result ≡ None → is_plain (put_op op.now done) ≡ true }
+{
+    match op {
+        Op::Repeat { tokens, .. } => Some(tokens),
+        Op::Subtree { tokens, .. } => Some(tokens),
+        _ => None,
+    }
+}
+
+// Binds the metavariable of an op without ops inside to nothing, if it is one.
+fn skip_plain<'a>(here: &mut Bindings<'a>, op: &'a Op) -> Result<(), AllocError>
+    requires { is_plain (put_op op.now done) ≡ true }
     ensures { OnOk result (map_of here.new ≡ bind_skipped (variables (put_op op.now done)) (map_of here.old)) }
 {
     match op {
         Op::Var { name, .. } => here.bind(name, Binding::Skipped),
-        Op::Repeat { tokens, .. } => skip(here, tokens),
-        Op::Subtree { tokens, .. } => skip(here, tokens),
         _ => Ok(()),
     }
 }
 
-// Binds each metavariable of these ops to nothing: their repetition is skipped.
-#[cycle(skipping)]
-fn skip<'a>(here: &mut Bindings<'a>, ops: &'a [Op]) -> Result<(), AllocError>
+// Binds each metavariable of these ops to nothing: their repetition is skipped. The lists around
+// the present one are in memory, so that nesting takes no call stack.
+fn skip<'a>(alloc: Global, here: &mut Bindings<'a>, ops: &'a [Op]) -> Result<(), AllocError>
     ensures { OnOk result (map_of here.new ≡ bind_skipped (variables (items_of ops.now)) (map_of here.old)) }
 {
-    for op in ops {
-        skip_op(here, op)?;
+    let mut around = Vec::new(alloc);
+    let mut list = ops;
+    loop {
+        let Some((op, rest)) = list.split_first() else {
+            let Some(outer) = around.pop() else {
+                return Ok(());
+            };
+            list = outer;
+            continue;
+        };
+        match inside(op) {
+            Some(inner) => {
+                around.push(rest)?;
+                list = inner;
+            }
+            None => {
+                skip_plain(here, op)?;
+                list = rest;
+            }
+        }
     }
-    Ok(())
 }
 
 // An open repetition: the bindings around it, with those of its finished iterations, and how many
@@ -280,7 +310,7 @@ impl<'a> Collected<'a> {
                 let kind = MetaVarKind::Vis;
                 self.here.bind(name, Binding::Fragment { kind, trees })
             }
-            Move::Skip { body } => skip(&mut self.here, body),
+            Move::Skip { body } => skip(alloc, &mut self.here, body),
             Move::Enter => self.enter(alloc),
             Move::Leave => self.leave(),
             Move::NextRound => self.end_round(),

@@ -1,7 +1,7 @@
 //! The loop of the matching algorithm: all threads that read an argument by a matcher, together,
 //! position by position.
-ghost use Rattle.std.specs.Prelude.{◌≡◌, ◌<◌, ◌≤◌, ◌+◌, ◌&&◌, List, [], ◌∷◌, ◌++◌, option_map, IfOk, OnOk, Some, None, true, false};
-ghost use Rattle.std.specs.List.{flat_map, list_any};
+ghost use Rattle.std.specs.Prelude.{◌≡◌, ◌<◌, ◌≤◌, ◌+◌, List, [], ◌∷◌, ◌++◌, option_map, IfOk, OnOk, Some, None, true, false};
+ghost use Rattle.std.specs.List.{flat_map};
 ghost use Rattle.tt.specs.Views.{forest};
 ghost use Rattle.mbe_rules.specs.Items.{Items, has_empty_round};
 ghost use Rattle.mbe_rules.specs.Ops.{items_of};
@@ -13,13 +13,15 @@ ghost use Rattle.mbe_matcher.specs.Rounds.{Follows};
 ghost use Rattle.mbe_matcher.specs.Settled.{Leads, HasEnd, IsGood, IsSoundAt, most_tasks, planned, tasks_of, tasks_of_all};
 ghost use Rattle.mbe_matcher.specs.Units as u;
 ghost use Rattle.mbe_matcher.specs.Waiting.{settled_at, advanced_by, empties_at, finished, Each};
-ghost use Rattle.mbe_matcher.specs.Threads.{Waits, frames_in, moves_of, state_of, waits, waits_at, waiting_at, takings_of, head_taken, is_trees, same_mark, same_marks, same_state};
+ghost use Rattle.mbe_matcher.specs.Threads.{Waits, moves_of, state_of, waits, waits_at, waiting_at, takings_of, head_taken, is_trees};
 ghost use Rattle.mbe_matcher.specs.declared.matcher.SettleTask.TheVariants.{GoOn};
 
 use crate::lookahead::is_stuck;
 use crate::position::{Consumed, Place};
+use crate::same_state::Seen;
+use crate::seen_states::SeenStates;
 use crate::step::Choice;
-use crate::thread::{Entry, Frame, Rung, Thread};
+use crate::thread::{Entry, Thread};
 use bumpalo::Bump;
 use fragment_grammar::FragmentGrammar;
 use mbe_rules::Op;
@@ -32,13 +34,6 @@ use tt::TokenTreesView;
 pub(crate) enum Waiting<'a> {
     Ended(Option<&'a Entry<'a>>),
     Pending { thread: Thread<'a>, taken: Consumed },
-}
-
-/// A thread whose state was entered at this position, and whether a second one was in it.
-#[derive(Clone, Copy, Drop)]
-pub struct Seen<'a> {
-    pub thread: Thread<'a>,
-    pub twice: bool,
 }
 
 // A task that is left at a position.
@@ -55,7 +50,7 @@ pub(crate) enum SettleTask<'a> {
 #[derive(Drop)]
 pub(crate) struct Settled<'a> {
     pub(crate) waiting: Vec<Waiting<'a>>,
-    pub(crate) seen: Vec<Seen<'a>>,
+    pub(crate) seen: SeenStates<'a>,
     pub(crate) tasks: Vec<SettleTask<'a>>,
 }
 
@@ -70,81 +65,16 @@ impl Consumed {
     }
 }
 
-// Whether two frames are of one sort, with as many ops after them.
-fn is_same_mark(first: Frame<'_>, second: Frame<'_>) -> bool
-    ensures { result ≡ same_mark first.entry second.entry }
-{
-    match (first, second) {
-        (Frame::InGroup { after: a }, Frame::InGroup { after: b }) => a.len() == b.len(),
-        (Frame::InRound(a), Frame::InRound(b)) => a.after.len() == b.after.len(),
-        (Frame::Parted(a), Frame::Parted(b)) => a.after.len() == b.after.len(),
-        _ => false,
-    }
-}
-
-// Whether two threads are in the same groups and repetitions.
-fn are_same_marks<'a>(first: Option<&'a Rung<'a>>, second: Option<&'a Rung<'a>>) -> bool
-    ensures { result ≡ same_marks (frames_in first.entry) (frames_in second.entry) }
-{
-    let mut one = first;
-    let mut other = second;
-    while let Some(a) = one {
-        let Some(b) = other else {
-            return false;
-        };
-        if !is_same_mark(a.frame, b.frame) {
-            return false;
-        }
-        one = a.around;
-        other = b.around;
-    }
-    match other {
-        Some(_) => false,
-        None => true,
-    }
-}
-
-/// Whether two threads are in one state.
-pub fn is_same_state(first: &Thread<'_>, second: &Thread<'_>) -> bool
-    ensures { result ≡ same_state first.now second.now }
-{
-    first.items.len() == second.items.len() && are_same_marks(first.frames, second.frames)
-}
-
-/// Whether a thread was in the state of this one.
-pub fn was_settled(seen: &[Seen<'_>], thread: &Thread<'_>) -> bool
-    ensures { result ≡ list_any (λ x. same_state x.thread thread.now) seen.now }
-{
-    for one in seen {
-        if is_same_state(&one.thread, thread) {
-            return true;
-        }
-    }
-    false
-}
-
-/// Whether two threads were in the state of this one.
-pub fn was_settled_twice(seen: &[Seen<'_>], thread: &Thread<'_>) -> bool
-    ensures { result ≡ list_any (λ x. x.twice && same_state x.thread thread.now) seen.now }
-{
-    for one in seen {
-        if one.twice && is_same_state(&one.thread, thread) {
-            return true;
-        }
-    }
-    false
-}
-
 impl<'a> Settled<'a> {
     // No thread waits, and no task is left.
     fn new(alloc: Global) -> Settled<'a>
         ensures waiting { result.waiting.items ≡ [] }
-        ensures seen { result.seen.items ≡ [] }
+        ensures seen { result.seen ≡ [] }
         ensures tasks { result.tasks.items ≡ [] }
     {
         Settled {
             waiting: Vec::new(alloc),
-            seen: Vec::new(alloc),
+            seen: SeenStates::new(alloc),
             tasks: Vec::new(alloc),
         }
     }
@@ -153,7 +83,7 @@ impl<'a> Settled<'a> {
     #[inline]
     fn plan(&mut self, choice: Option<Choice<'a>>) -> Result<(), AllocError>
         ensures waiting { OnOk result (self.new.waiting.items ≡ self.old.waiting.items) }
-        ensures seen { OnOk result (self.new.seen.items ≡ self.old.seen.items) }
+        ensures seen { OnOk result (self.new.seen ≡ self.old.seen) }
         ensures tasks { OnOk result (self.new.tasks.items ≡ self.old.tasks.items ++ planned choice.entry) }
     {
         match choice {
@@ -169,8 +99,8 @@ impl<'a> Settled<'a> {
     #[inline(always)]
     fn take_one(&mut self, choice: Choice<'a>) -> Result<(), AllocError>
         ensures all { (gr : Grammar) (pattern : Items) (p : u.Place) (all : List Waits) →
-            Leads gr pattern p all self.old.waiting.items self.old.seen.items (self.old.tasks.items ++ (GoOn choice.entry ∷ [])) →
-            OnOk result (Leads gr pattern p all self.new.waiting.items self.new.seen.items self.new.tasks.items) }
+            Leads gr pattern p all self.old.waiting.items self.old.seen (self.old.tasks.items ++ (GoOn choice.entry ∷ [])) →
+            OnOk result (Leads gr pattern p all self.new.waiting.items self.new.seen self.new.tasks.items) }
         ensures tasks { (p : u.Place) → Each (HasEnd p) (self.old.tasks.items ++ (GoOn choice.entry ∷ [])) → OnOk result (Each (HasEnd p) self.new.tasks.items) }
         ensures fewer { (p : u.Place) → OnOk result (tasks_of_all p self.new.tasks.items ≤ tasks_of_all p (self.old.tasks.items ++ (GoOn choice.entry ∷ []))) }
     {
@@ -191,8 +121,8 @@ impl<'a> Settled<'a> {
     #[inline(always)]
     fn take(&mut self, choice: Option<Choice<'a>>) -> Result<(), AllocError>
         ensures all { (gr : Grammar) (pattern : Items) (p : u.Place) (all : List Waits) →
-            Leads gr pattern p all self.old.waiting.items self.old.seen.items (self.old.tasks.items ++ planned choice.entry) →
-            OnOk result (Leads gr pattern p all self.new.waiting.items self.new.seen.items self.new.tasks.items) }
+            Leads gr pattern p all self.old.waiting.items self.old.seen (self.old.tasks.items ++ planned choice.entry) →
+            OnOk result (Leads gr pattern p all self.new.waiting.items self.new.seen self.new.tasks.items) }
         ensures tasks { (p : u.Place) → Each (HasEnd p) (self.old.tasks.items ++ planned choice.entry) → OnOk result (Each (HasEnd p) self.new.tasks.items) }
         ensures fewer { (p : u.Place) → OnOk result (tasks_of_all p self.new.tasks.items ≤ tasks_of_all p (self.old.tasks.items ++ planned choice.entry)) }
     {
@@ -216,8 +146,8 @@ impl<'a> Settled<'a> {
         requires good { IsGood (state_of thread (place_of place.now)) }
         requires tasks { Each (HasEnd (place_of place.now)) self.now.tasks.items }
         ensures all { let p = place_of place.now in let gr = G.answer grammar.now in (pattern : Items) (all : List Waits) →
-            Leads gr pattern p all self.old.waiting.items self.old.seen.items (self.old.tasks.items ++ (GoOn (record { thread = thread.entry; taken = None }) ∷ [])) →
-            OnOk result (Leads gr pattern p all self.new.waiting.items self.new.seen.items self.new.tasks.items) }
+            Leads gr pattern p all self.old.waiting.items self.old.seen (self.old.tasks.items ++ (GoOn (record { thread = thread.entry; taken = None }) ∷ [])) →
+            OnOk result (Leads gr pattern p all self.new.waiting.items self.new.seen self.new.tasks.items) }
         ensures tasks { OnOk result (Each (HasEnd (place_of place.now)) self.new.tasks.items) }
         ensures fewer { let p = place_of place.now in
             OnOk result (tasks_of_all p self.new.tasks.items + 2 ≤ tasks_of_all p self.old.tasks.items + most_tasks (empties_at (state_of thread.entry p))) }
@@ -244,14 +174,14 @@ impl<'a> Settled<'a> {
         requires good { IsGood (state_of thread (place_of place.now)) }
         requires tasks { Each (HasEnd (place_of place.now)) self.now.tasks.items }
         ensures all { let p = place_of place.now in let gr = G.answer grammar.now in (pattern : Items) (all : List Waits) →
-            Leads gr pattern p all self.old.waiting.items self.old.seen.items (self.old.tasks.items ++ (GoOn (record { thread = thread.entry; taken = None }) ∷ [])) →
-            OnOk result (Leads gr pattern p all self.new.waiting.items self.new.seen.items self.new.tasks.items) }
+            Leads gr pattern p all self.old.waiting.items self.old.seen (self.old.tasks.items ++ (GoOn (record { thread = thread.entry; taken = None }) ∷ [])) →
+            OnOk result (Leads gr pattern p all self.new.waiting.items self.new.seen self.new.tasks.items) }
         ensures tasks { OnOk result (Each (HasEnd (place_of place.now)) self.new.tasks.items) }
         ensures fewer { let p = place_of place.now in
             OnOk result (tasks_of_all p self.new.tasks.items < tasks_of_all p self.old.tasks.items + most_tasks (empties_at (state_of thread.entry p))) }
     {
-        let twice = was_settled(&self.seen, &thread);
-        if twice && was_settled_twice(&self.seen, &thread) {
+        let twice = self.seen.was_settled(&thread);
+        if twice && self.seen.was_settled_twice(&thread) {
             return Ok(());
         }
         self.tasks.push(SettleTask::Note(Seen { thread, twice }))?;
@@ -271,8 +201,8 @@ impl<'a> Settled<'a> {
         requires good { IsGood (state_of thread (place_of place.now)) }
         requires tasks { Each (HasEnd (place_of place.now)) self.now.tasks.items }
         ensures all { let p = place_of place.now in let gr = G.answer grammar.now in (pattern : Items) (all : List Waits) →
-            Leads gr pattern p all self.old.waiting.items self.old.seen.items (self.old.tasks.items ++ (GoOn (record { thread = thread.entry; taken = None }) ∷ [])) →
-            OnOk result (Leads gr pattern p all self.new.waiting.items self.new.seen.items self.new.tasks.items) }
+            Leads gr pattern p all self.old.waiting.items self.old.seen (self.old.tasks.items ++ (GoOn (record { thread = thread.entry; taken = None }) ∷ [])) →
+            OnOk result (Leads gr pattern p all self.new.waiting.items self.new.seen self.new.tasks.items) }
         ensures tasks { OnOk result (Each (HasEnd (place_of place.now)) self.new.tasks.items) }
         ensures fewer { let p = place_of place.now in
             OnOk result (tasks_of_all p self.new.tasks.items < tasks_of_all p self.old.tasks.items + most_tasks (empties_at (state_of thread.entry p))) }
@@ -298,8 +228,8 @@ impl<'a> Settled<'a> {
         requires task { HasEnd (place_of place.now) task }
         requires tasks { Each (HasEnd (place_of place.now)) self.now.tasks.items }
         ensures all { let p = place_of place.now in let gr = G.answer grammar.now in (pattern : Items) (all : List Waits) →
-            Leads gr pattern p all self.old.waiting.items self.old.seen.items (self.old.tasks.items ++ (task.entry ∷ [])) →
-            OnOk result (Leads gr pattern p all self.new.waiting.items self.new.seen.items self.new.tasks.items) }
+            Leads gr pattern p all self.old.waiting.items self.old.seen (self.old.tasks.items ++ (task.entry ∷ [])) →
+            OnOk result (Leads gr pattern p all self.new.waiting.items self.new.seen self.new.tasks.items) }
         ensures tasks { OnOk result (Each (HasEnd (place_of place.now)) self.new.tasks.items) }
         ensures fewer { let p = place_of place.now in
             OnOk result (tasks_of_all p self.new.tasks.items < tasks_of_all p self.old.tasks.items + tasks_of p task.entry) }
@@ -335,8 +265,8 @@ impl<'a> Settled<'a> {
         requires good { IsGood (state_of thread (place_of place.now)) }
         ensures done { OnOk result (self.new.tasks.items ≡ []) }
         ensures all { let p = place_of place.now in let gr = G.answer grammar.now in (pattern : Items) (all : List Waits) →
-            Leads gr pattern p all self.old.waiting.items self.old.seen.items (GoOn (record { thread = thread.entry; taken = None }) ∷ []) →
-            OnOk result (Leads gr pattern p all self.new.waiting.items self.new.seen.items self.new.tasks.items) }
+            Leads gr pattern p all self.old.waiting.items self.old.seen (GoOn (record { thread = thread.entry; taken = None }) ∷ []) →
+            OnOk result (Leads gr pattern p all self.new.waiting.items self.new.seen self.new.tasks.items) }
     {
         self.go_on(arena, grammar, thread, place)?;
         while let Some(task) = self.tasks.pop() {
@@ -358,8 +288,8 @@ impl<'a> Settled<'a> {
         requires good { IsGood (state_of thread (place_of place.now)) }
         ensures done { OnOk result (self.new.tasks.items ≡ []) }
         ensures all { let p = place_of place.now in let gr = G.answer grammar.now in (pattern : Items) (all : List Waits) →
-            Leads gr pattern p all self.old.waiting.items self.old.seen.items (GoOn (record { thread = thread.entry; taken = None }) ∷ []) →
-            OnOk result (Leads gr pattern p all self.new.waiting.items self.new.seen.items self.new.tasks.items) }
+            Leads gr pattern p all self.old.waiting.items self.old.seen (GoOn (record { thread = thread.entry; taken = None }) ∷ []) →
+            OnOk result (Leads gr pattern p all self.new.waiting.items self.new.seen self.new.tasks.items) }
     {
         let next = thread.alone(arena, grammar, place)?;
         match next {
@@ -387,8 +317,8 @@ impl<'a> Settled<'a> {
         requires sound { (pattern : Items) × IsSoundAt pattern (waiting_at (place_of place.now) w.now) }
         ensures done { OnOk result (self.new.tasks.items ≡ []) }
         ensures all { let p = place_of place.now in let gr = G.answer grammar.now in (pattern : Items) (all : List Waits) → IsSoundAt pattern (waiting_at p w.now) →
-            Leads gr pattern p all self.old.waiting.items self.old.seen.items [] →
-            OnOk result (Leads gr pattern p (all ++ advanced_by (settled_at gr) (waiting_at p w.now)) self.new.waiting.items self.new.seen.items []) }
+            Leads gr pattern p all self.old.waiting.items self.old.seen [] →
+            OnOk result (Leads gr pattern p (all ++ advanced_by (settled_at gr) (waiting_at p w.now)) self.new.waiting.items self.new.seen []) }
     {
         match w {
             Waiting::Ended(moves) => {
@@ -411,12 +341,12 @@ impl<'a> Settled<'a> {
         place: &Place<'a>,
     ) -> Result<(), AllocError>
         requires waiting { self.now.waiting.items ≡ [] }
-        requires seen { self.now.seen.items ≡ [] }
+        requires seen { self.now.seen ≡ [] }
         requires tasks { self.now.tasks.items ≡ [] }
         requires sound { (pattern : Items) × Each (IsSoundAt pattern) (waits_at (place_of place.now) waiting.now) }
         ensures done { OnOk result (self.new.tasks.items ≡ []) }
         ensures all { let p = place_of place.now in let gr = G.answer grammar.now in (pattern : Items) → Each (IsSoundAt pattern) (waits_at p waiting.now) →
-            OnOk result (Leads gr pattern p (flat_map (advanced_by (settled_at gr)) (waits_at p waiting.now)) self.new.waiting.items self.new.seen.items []) }
+            OnOk result (Leads gr pattern p (flat_map (advanced_by (settled_at gr)) (waits_at p waiting.now)) self.new.waiting.items self.new.seen []) }
     {
         for w in waiting {
             self.advance(arena, grammar, w, place)?;
@@ -457,7 +387,7 @@ impl<'a> Settled<'a> {
     fn hand_over(&mut self, waiting: &mut Vec<Waiting<'a>>)
         ensures handed { waiting.new.items ≡ self.old.waiting.items }
         ensures waiting { self.new.waiting.items ≡ [] }
-        ensures seen { self.new.seen.items ≡ [] }
+        ensures seen { self.new.seen ≡ [] }
         ensures tasks { self.new.tasks.items ≡ self.old.tasks.items }
     {
         mem::swap(waiting, &mut self.waiting);

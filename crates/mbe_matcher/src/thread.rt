@@ -3,6 +3,7 @@ ghost use Rattle.std.specs.Prelude.{◌≡◌, [], ◌∷◌, ◌++◌, IfOk, op
 ghost use Rattle.std.specs.List.{slice_get};
 ghost use Rattle.tt.specs.Views.{forest};
 ghost use Rattle.mbe_rules.specs.Ops.{items_of};
+ghost use Rattle.mbe_matcher.specs.Numbers.{number_after, number_of};
 ghost use Rattle.mbe_matcher.specs.Places.{place_of};
 ghost use Rattle.mbe_matcher.specs.Readings as r;
 ghost use Rattle.mbe_matcher.specs.Threads.{state_of, frames_in, moves_of, move_of, rounds_of, steps};
@@ -12,6 +13,7 @@ use crate::position::Place;
 use bumpalo::Bump;
 use mbe_rules::{MetaVarKind, Op, RepeatKind, Separator};
 use std::alloc::AllocError;
+use std::marker::Model;
 use symbols::Symbol;
 use tt::TokenTreesView;
 
@@ -143,10 +145,61 @@ pub(crate) fn extended_by_rounds<'a>(
 }
 
 // A group or repetition that a thread is in, and the one around it. Threads share those around.
-#[derive(Clone, Copy, Drop)]
+#[derive(Drop)]
 pub(crate) struct Rung<'a> {
     pub(crate) frame: Frame<'a>,
     pub(crate) around: Option<&'a Rung<'a>>,
+    // Tells this frame and those around it from others, but for rare cases.
+    number: usize,
+}
+
+impl<'a> Model for Rung<'a> {
+    ghost use Rattle.std.specs.Prelude.{◌≡◌, ◌∷◌, ◌+◌, List, length};
+    ghost use Rattle.std.specs.Coded.{codes};
+    ghost use Rattle.std.proofs.Common.{arith};
+    ghost use Rattle.mbe_rules.specs.contracts.parser.Op as op;
+    ghost use Rattle.mbe_rules.specs.contracts.parser.Separator as separator;
+    ghost use Rattle.mbe_matcher.specs.declared.thread.Frame.{Frame};
+    ghost use Rattle.mbe_matcher.specs.Frames.{frames_in};
+    ghost use Rattle.mbe_matcher.specs.Numbers.{number_of};
+
+    ghost Value = { Frame × List Frame };
+
+    ghost coded = { Prim.hlevel (codes, op.the_row.coded, separator.the_row.coded) };
+
+    ghost view = { λ r. (r.frame, frames_in r.around) };
+
+    ghost invariant = { λ r. r.number ≡ number_of (r.frame ∷ frames_in r.around) };
+
+    ghost size = { λ v. length v.1 + 1 };
+
+    ghost size_decreases = { λ a h. Prim.grind arith };
+}
+
+// The number of frames with one more inside.
+fn number_after(around: usize, frame: Frame<'_>) -> usize
+    ensures { result ≡ number_after frame.entry around }
+{
+    let (count, factor) = match frame {
+        Frame::InGroup { after } => (after.len(), 11_400_714_819_323_198_485),
+        Frame::InRound(round) => (round.after.len(), 14_029_467_366_897_019_727),
+        Frame::Parted(round) => (round.after.len(), 1_609_587_929_392_839_161),
+    };
+    around
+        .wrapping_add(count)
+        .wrapping_add(1)
+        .wrapping_mul(factor)
+}
+
+// The number of the groups and repetitions that a thread is in.
+#[inline(always)]
+pub(crate) fn number_in(frames: Option<&Rung<'_>>) -> usize
+    ensures { result ≡ number_of (frames_in frames.entry) }
+{
+    match frames {
+        None => 0,
+        Some(rung) => rung.number,
+    }
 }
 
 // The groups and repetitions, with one more inside.
@@ -158,7 +211,12 @@ pub(crate) fn inside<'a>(
 ) -> Result<Option<&'a Rung<'a>>, AllocError>
     ensures { IfOk result (λ f. frames_in f ≡ frame.entry ∷ frames_in around.entry) }
 {
-    let Ok(rung) = arena.try_alloc(Rung { frame, around }) else {
+    let number = number_after(number_in(around), frame);
+    let Ok(rung) = arena.try_alloc(Rung {
+        frame,
+        around,
+        number,
+    }) else {
         return Err(AllocError);
     };
     Ok(Some(rung))

@@ -1,6 +1,8 @@
 pub mod RelabelLemmas
 pub mod ParsingLemmas
 pub mod OpsLemmas
+pub mod CountLemmas
+pub mod WalkLemmas
 pub mod CloneLemmas
 pub mod ErrorLemmas
 pub mod ExpressionLemmas

@@ -1,11 +1,10 @@
 -- The ops of a matcher or transcriber, one by one.
-use Rattle.std.proofs.Common.{◌≡◌, refl, sym, ap, ◌∙◌, Bool, true, false, Option, Some, None, option_map, option_and_then, is_some, ◌&&◌, ◌||◌, if◌then◌else◌}
+use Rattle.std.proofs.Common.{◌≡◌, refl, sym, ap, ◌∙◌, Bool, true, false, Option, Some, None, option_map, ◌&&◌, ◌||◌}
 use Rattle.std.specs.declared.vec.Vec.{Vec}
 use Rattle.std.specs.declared.alloc.Global.{Global}
 use Rattle.tt_data.specs.declared.delimiter.Delimiter.{Delimiter}
 use Rattle.mbe_rules.specs.Items.{Items, done, group_of, repetition, may_skip, can_match_nothing, has_empty_round}
 use Rattle.mbe_rules.specs.Ops.{put_op, row_items, items_of, separator_of}
-use Rattle.mbe_rules.specs.Reading.{rounds_of, round_of}
 use Rattle.mbe_rules.specs.declared.parser.Op.{Op, Var, Repeat, Subtree, Repeat', Subtree', Row_of-Op, end_of-Op, more_of-Op, items-the_row-Op, items_hidden-the_row-Op-0}
 use Rattle.mbe_rules.specs.declared.parser.Op.TheBlock.{hidden-the_row-Op-0}
 use Rattle.mbe_rules.specs.declared.parser.Separator.{Separator}
@@ -26,15 +25,15 @@ pub put-Subtree : (v : Vec Op Global) (d : Delimiter) (rest : Items) → put_op 
 put-Subtree v d rest =
     ap (λ b. group_of d b rest) (row_items-list (hidden-the_row-Op-0 v) ∙ ap items_of (items_hidden-the_row-Op-0 v))
 
-and-true : (b : Bool) → (b && true) ≡ b
+pub and-true : (b : Bool) → (b && true) ≡ b
 and-true true = refl
 and-true false = refl
 
-or-false : (b : Bool) → (b || false) ≡ b
+pub or-false : (b : Bool) → (b || false) ≡ b
 or-false true = refl
 or-false false = refl
 
-or-or : (a b c : Bool) → (a || (b || c)) ≡ ((a || b) || c)
+pub or-or : (a b c : Bool) → (a || (b || c)) ≡ ((a || b) || c)
 or-or true b c = refl
 or-or false b c = refl
 
@@ -57,58 +56,3 @@ empty_round-put (Repeat' shape row None k) rest =
 empty_round-put (Repeat' shape row (Some sep) k) rest = rw (or-false (has_empty_round (row_items row))) refl
 empty_round-put (Subtree' shape row d) rest = rw (or-false (has_empty_round (row_items row))) refl
 empty_round-put _ rest = refl
-
--- whether one item and the others can match nothing
-abbrev pub both : Option Bool → Option Bool → Option Bool
-both None r = None
-both (Some a) None = None
-both (Some a) (Some b) = Some (a && b)
-
-both-tests : (a b c d : Bool) → (if a || b then None else Some (c && d)) ≡ both (if a then None else Some c) (if b then None else Some d)
-both-tests true b c d = refl
-both-tests false true c d = refl
-both-tests false false c d = refl
-
-pub rounds-put : (o : Op) (rest : Items) → rounds_of (put_op o rest) ≡ both (rounds_of (put_op o done)) (rounds_of rest)
-rounds-put o rest =
-    ap (λ e. if e then None else Some (can_match_nothing (put_op o rest))) (empty_round-put o rest)
-    ∙ ap (λ c. if has_empty_round (put_op o done) || has_empty_round rest then None else Some c) (nothing-put o rest)
-    ∙ both-tests (has_empty_round (put_op o done)) (has_empty_round rest) (can_match_nothing (put_op o done)) (can_match_nothing rest)
-
--- one item more
-pub both-more : (n b : Bool) (r : Option Bool) → both (Some n) (both (Some b) r) ≡ both (Some (n && b)) r
-both-more n b None = refl
-both-more true b (Some c) = refl
-both-more false b (Some c) = refl
-
-side_by_side : (k : RepeatKind) (e c : Bool) →
-    (if c || (e || false) then None else Some ((may_skip k || c) && true)) ≡ option_and_then (round_of false k) (if e then None else Some c)
-side_by_side k true true = refl
-side_by_side k true false = refl
-side_by_side k false true = refl
-side_by_side k false false = ap Some (and-true (may_skip k || false))
-
-apart : (k : RepeatKind) (e c : Bool) →
-    (if e || false then None else Some ((may_skip k || c) && true)) ≡ option_and_then (round_of true k) (if e then None else Some c)
-apart k true c = refl
-apart k false true = ap Some (and-true (may_skip k || true))
-apart k false false = ap Some (and-true (may_skip k || false))
-
-repetition-rounds : (is : Items) (sep : Option Separator) (k : RepeatKind) →
-    rounds_of (repetition is (option_map separator_of sep) k done) ≡ option_and_then (round_of (is_some sep) k) (rounds_of is)
-repetition-rounds is None k = side_by_side k (has_empty_round is) (can_match_nothing is)
-repetition-rounds is (Some s) k = apart k (has_empty_round is) (can_match_nothing is)
-
-pub rounds-Repeat : (o : Op) (v : Vec Op Global) (sep : Option Separator) (k : RepeatKind) → o ≡ Repeat v sep k →
-    rounds_of (put_op o done) ≡ option_and_then (round_of (is_some sep) k) (rounds_of (items_of v.items))
-rounds-Repeat o v sep k e =
-    ap (λ x. rounds_of (put_op x done)) e ∙ ap rounds_of (put-Repeat v sep k done) ∙ repetition-rounds (items_of v.items) sep k
-
-pub rounds-Subtree : (o : Op) (v : Vec Op Global) (d : Delimiter) → o ≡ Subtree v d →
-    rounds_of (put_op o done) ≡ option_map (λ _. false) (rounds_of (items_of v.items))
-rounds-Subtree o v d e =
-    ap (λ x. rounds_of (put_op x done)) e ∙ ap rounds_of (put-Subtree v d done) ∙ go (has_empty_round (items_of v.items))
-  where
-    go : (b : Bool) → (if b || false then None else Some false) ≡ option_map (λ _. false) (if b then None else Some (can_match_nothing (items_of v.items)))
-    go true = refl
-    go false = refl

@@ -21,3 +21,5 @@ pub mod PlacedErrors
 pub mod Steps
 pub mod Reading
 pub mod Lists
+pub mod Counts
+pub mod Walks

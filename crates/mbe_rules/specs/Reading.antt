@@ -1,5 +1,5 @@
 -- What the parser's functions answer, in terms of the definitions.
-use Rattle.std.specs.Prelude.{ℕ, ◌+◌, Bool, true, false, ◌&&◌, ◌||◌, not, nat_eq, if◌then◌else◌, List, ◌++◌, Option, Some, None, option_map, Result, Ok, Err}
+use Rattle.std.specs.Prelude.{ℕ, ◌+◌, ◌&&◌, not, nat_eq, if◌then◌else◌, List, ◌++◌, Option, Some, None, option_map, Result, Ok, Err}
 use Rattle.std.specs.declared.vec.Vec.{Vec}
 use Rattle.std.specs.declared.alloc.Global.{Global}
 use Rattle.tt_data.specs.Forest.{Forest, empty, leaf, group}
@@ -12,7 +12,7 @@ use Rattle.tt_data.specs.declared.span.SyntaxContext.{SyntaxContext}
 use Rattle.tt_data.specs.declared.span.SyntaxContext.TheVariants.{Written, Made}
 use Rattle.mbe_rules.specs.Expressions.{expression_in}
 use Rattle.mbe_rules.specs.Items as spec
-use Rattle.mbe_rules.specs.Items.{variable, dollar, Items, done, item, group_of, repetition, may_skip, can_match_nothing, has_empty_round}
+use Rattle.mbe_rules.specs.Items.{variable, dollar, Items, done, item, group_of, repetition}
 use Rattle.mbe_rules.specs.Ops as ops
 use Rattle.mbe_rules.specs.Ops.{put_op, items_of, separator_of}
 use Rattle.mbe_rules.specs.Parsed.{Parsed, ◌>>=◌, unexpected, or_fault}
@@ -168,14 +168,3 @@ abbrev pub after_delimiter : Delimiting → Forest → Option Forest
 after_delimiter between empty = Some empty
 after_delimiter between (leaf (as_leaf.Punct p) rest) = if between.is_between p.char then Some rest else None
 after_delimiter between _ = None
-
--- ---- empty iterations
-
--- whether ops can match nothing; none if a repetition in them can iterate without end
-abbrev pub rounds_of : Items → Option Bool
-rounds_of is = if has_empty_round is then None else Some (can_match_nothing is)
-
--- whether a repetition can match nothing, by whether it has a separator, and whether its body can
-abbrev pub round_of : Bool → RepeatKind → Bool → Option Bool
-round_of false k true = None
-round_of _ k b = Some (may_skip k || b)

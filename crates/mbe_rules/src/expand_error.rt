@@ -1,5 +1,5 @@
 //! Why a call cannot be expanded, and where.
-ghost use Rattle.std.specs.Prelude.{◌≡◌, IfOk, IsOkUnless};
+ghost use Rattle.std.specs.Prelude.{◌≡◌, IfOk, IsOkUnless, ⊤};
 ghost use Rattle.std.specs.Cmp.Rules.{hashing};
 ghost use Rattle.std.proofs.Common.{rules};
 ghost use Rattle.symbols.specs.declared.fault.TtFault.TheVariants as fault;
@@ -9,11 +9,13 @@ use std::alloc::{AllocError, Global};
 use std::fmt;
 use std::hash::{Hash, Hasher};
 use std::marker::Model;
-use std::rc::Rc;
 use symbols::TtFault;
+use symbols::rc::Rc;
 use tt_data::Span;
 
 /// Why a call cannot be expanded, and at which span. Clones share one block of memory.
+///
+/// A clone takes no memory and is never refused. The last of them frees the block.
 #[derive(Debug, Drop)]
 pub struct ExpandError {
     /// The span and the kind.
@@ -26,7 +28,7 @@ impl Model for ExpandError {
 
     ghost Value = { Span × ExpandErrorKind };
 
-    ghost view = { λ e. e.inner.value };
+    ghost view = { λ e. e.inner };
 }
 
 impl ExpandError {
@@ -39,10 +41,8 @@ impl ExpandError {
         ensures error { IfOk result (λ e. e ≡ (span, kind)) }
         ensures memory { IsOkUnless result fault.Memory }
     {
-        match Rc::new(alloc, (span, kind)) {
-            Ok(inner) => Ok(ExpandError { inner }),
-            Err(_refused) => Err(TtFault::Memory),
-        }
+        let inner = Rc::new(alloc, (span, kind))?;
+        Ok(ExpandError { inner })
     }
 
     /// The span at which the error shows.
@@ -63,11 +63,12 @@ impl ExpandError {
 impl Clone for ExpandError {
     ghost is_clone = { λ e copy. copy ≡ e };
 
-    /// One more owner of the same error. It takes no memory.
+    ghost is_infallible = { λ _. ⊤ };
+
+    /// One more owner of the same error. It takes no memory, and is never an `Err`.
     fn clone(&self) -> Result<ExpandError, AllocError> {
-        Ok(ExpandError {
-            inner: self.inner.clone()?,
-        })
+        let inner = self.inner.clone()?;
+        Ok(ExpandError { inner })
     }
 }
 

@@ -1,9 +1,16 @@
-//! Matchers and transcribers as data: lists of ops.
-ghost use Rattle.std.specs.Prelude.{◌≡◌};
+//! Matchers and transcribers as data: lists of ops. A loop frees them, so that nesting takes no
+//! call stack.
+ghost use Rattle.std.specs.Prelude.{◌≡◌, ◌<◌, suc, length, IfSome};
 ghost use Rattle.std.specs.Str.{bytes_eq};
 ghost use Rattle.std.proofs.Common.{rules};
+ghost use denote.Param.Weighed.{most};
 ghost use Rattle.tt.specs.Glued.{characters};
+ghost use Rattle.mbe_rules.specs.Counts.{count_of};
+ghost use Rattle.mbe_rules.specs.Items.{done};
+ghost use Rattle.mbe_rules.specs.Ops.{put_op, items_of};
+ghost use Rattle.mbe_rules.specs.declared.parser.Op.{size-Op};
 
+use std::mem;
 use symbols::Symbol;
 use tt_data::{Delimiter, Ident, Literal, Punct, Span};
 
@@ -126,7 +133,7 @@ pub enum ConcatElement {
 
 /// An op of a matcher or of a transcriber. `id` is the span of the `$` that begins it. A depth
 /// counts levels of repetitions. (The Rust Reference, "Macros By Example".)
-#[derive(PartialEq, Eq, Debug, Drop)]
+#[derive(PartialEq, Eq, Debug)]
 pub enum Op {
     /// `$name:kind` in a matcher, where `kind` is `None` if no specifier is written; `$name` in a
     /// transcriber.
@@ -180,4 +187,95 @@ pub enum Op {
     Punct(Vec<Punct>),
     /// In a matcher, a quote and its name.
     Lifetime(Punct, Ident),
+}
+
+impl Op {
+    // The ops inside. What else the op owns is freed.
+    fn into_inner(self) -> Option<Vec<Op>>
+        ensures fewer { IfSome result (λ v. count_of (put_op self done) ≡ suc (count_of (items_of v.items))) }
+        ensures flatter { IfSome result (λ v. most size-Op v.items < size-Op self) }
+    {
+        match self {
+            Op::Repeat {
+                tokens,
+                separator: _separator,
+                kind: _kind,
+            } => Some(tokens),
+            Op::Subtree {
+                tokens,
+                delimiter: _delimiter,
+            } => Some(tokens),
+            Op::Var {
+                name: _name,
+                kind: _kind,
+                id: _id,
+            } => None,
+            Op::Count {
+                name: _name,
+                depth: _depth,
+                id: _id,
+            } => None,
+            Op::Index {
+                depth: _depth,
+                id: _id,
+            } => None,
+            Op::Len {
+                depth: _depth,
+                id: _id,
+            } => None,
+            Op::Ignore {
+                name: _name,
+                id: _id,
+            } => None,
+            Op::Concat {
+                elements: _elements,
+                id: _id,
+            } => None,
+            Op::Literal(_literal) => None,
+            Op::Ident(_ident) => None,
+            Op::Punct(_puncts) => None,
+            Op::Lifetime(_quote, _name) => None,
+        }
+    }
+}
+
+impl Drop for Op {
+    #[cycle(frees)]
+    fn drop(self) {
+        if let Some(tokens) = self.into_inner()
+            && !tokens.is_empty()
+        {
+            free(tokens);
+        }
+    }
+}
+
+// Frees ops and those inside them. Where an op has ops inside, these come first: the list that is
+// left takes the place of the first of them, so that no memory is needed for it.
+#[cycle(frees)]
+fn free(ops: Vec<Op>)
+    requires { 0 < length ops.items }
+{
+    let mut list = ops;
+    while let Some(op) = list.pop() {
+        let mut next = op;
+        while let Some(mut tokens) = next.into_inner() {
+            if list.is_empty() {
+                list = tokens;
+                break;
+            }
+            let Some(first) = tokens.first_mut() else {
+                break;
+            };
+            next = mem::replace(
+                first,
+                Op::Repeat {
+                    tokens: list,
+                    separator: None,
+                    kind: RepeatKind::ZeroOrMore,
+                },
+            );
+            list = tokens;
+        }
+    }
 }

@@ -87,7 +87,7 @@ impl<T, E> ValueResult<T, E> {
     ///
     /// # Errors
     ///
-    /// `Memory` if the error's clone is refused. It is the only error.
+    /// `Memory` if the error's clone is refused, as that of an [`ExpandError`] never is. It is the only error.
     pub fn as_ref(&self) -> Result<ValueResult<&T, E>, TtFault>
     where
         E: Clone,
@@ -120,7 +120,8 @@ impl<T, E> ValueResult<T, E> {
     ///
     /// # Errors
     ///
-    /// `Memory` if one of the two clones is refused. It is the only error.
+    /// `Memory` if the clone of the value or of the error is refused. It is the only error. The clone
+    /// of an [`ExpandError`] never is.
     pub fn clone(&self) -> Result<ValueResult<T, E>, TtFault>
     where
         T: Clone,

@@ -84,9 +84,9 @@ fn of_macro_rules(rt: HostRuntime) -> Result<(), Fail> {
 }
 
 #[test]
-fn of_lists_ten_thousand_deep(rt: HostRuntime) -> Result<(), Fail> {
-    let begun = "$([".repeat(rt.alloc(), 10_000)?;
-    let ended = "])+".repeat(rt.alloc(), 10_000)?;
+fn of_lists_a_hundred_thousand_deep(rt: HostRuntime) -> Result<(), Fail> {
+    let begun = "$([".repeat(rt.alloc(), 50_000)?;
+    let ended = "])+".repeat(rt.alloc(), 50_000)?;
     let text = format!(in rt.alloc(); "({begun}x{ended}) => {{{begun}x{ended}}}")?;
     let rules = parse_macro_rules(rt.alloc(), &trees(&rt, text.as_str())?, at_2024)?;
     assert!(rt; told(rt.alloc(), &rules)?.as_str() == "1 ");

@@ -11,7 +11,7 @@ use std::test::Fail;
 use test_grammars::{AllSteps, Faults, OneStep};
 use tt::Edition;
 
-const WITH_THE_SMALL_GRAMMAR: &str = r#"
+const WITH_THE_SMALL_GRAMMAR: &str = r###"
 () => {} ¦  ¦ 0
 ($a:ident $b:tt) => { $b $a } ¦ x y ¦ 0 y x⏎
 (a) => {0}; (b) => {1}; ($x:ident) => {2} ¦ b ¦ 1 1⏎
@@ -39,6 +39,13 @@ const WITH_THE_SMALL_GRAMMAR: &str = r#"
 ($l:lifetime) => { $l } ¦ 'a ¦ 0 'a⏎
 ($l:literal) => { $l } ¦ -1 ¦ 0 - 1⏎
 ($l:literal) => { $l } ¦ true ¦ 0 true⏎
+($l:literal) => { f($l) } ¦ #"a"# ¦ 0 f ( #"a"# )⏎
+("a") => { 1 } ¦ #"a"# ¦ 0 1⏎
+(##"a"##x) => { 1 } ¦ "a"x ¦ 0 1⏎
+("a") => { 1 } ¦ #"b"# ¦ none
+($($y:tt)*) => { #$($y)* } ¦ #[a] ¦ 0 ## [ a ]⏎
+($($y:tt)*) => { #$($y)* } ¦ "a" ¦ 0 # "a"⏎
+(##) => { 1 } ¦ ## ¦ 0 1⏎
 ($t:ty) => { $t } ¦ Vec<u8> ¦ 0 Vec < u8 >⏎
 ($p:path) => { $p } ¦ a::B<u8> ¦ 0 a :: B :: < u8 >⏎
 ($p:pat) => { $p } ¦ A | B ¦ 0 A | B⏎
@@ -63,7 +70,7 @@ const WITH_THE_SMALL_GRAMMAR: &str = r#"
 (-1) => {-1}; (- 2) => {- 2}; (- 3.0) => {- 3.0}; (@$lit:literal) => {$lit} ¦ -2 ¦ 1 - 2⏎
 (-1) => {-1}; (- 2) => {- 2}; (- 3.0) => {- 3.0}; (@$lit:literal) => {$lit} ¦ @1.0 ¦ 3 1.0⏎
 (-1) => {-1}; (- 2) => {- 2}; (- 3.0) => {- 3.0}; (@$lit:literal) => {$lit} ¦ @-1 ¦ 3 - 1⏎
-"#;
+"###;
 
 // Calls that no rule fits. Two faults of a name are never reported. Where a list or a skipped
 // metavariable has no value for an iteration around the name, that iteration is dropped with its

@@ -3,7 +3,7 @@ use Rattle.std.proofs.Common.{◌≡◌, ℕ, zero, suc, ◌+◌, ◌-◌, ◌�
 use Rattle.std.proofs.lemmas.Bool.{and_parts, or_parts}
 use Rattle.std.proofs.lemmas.Bool.Decides.{nat_tests}
 use Rattle.std.proofs.lemmas.List.{take-take, length-drop, length-take-le}
-use Rattle.std.specs.List.{list_all, slice_range}
+use Rattle.std.specs.List.{list_all, prefix_len, slice_range}
 use Rattle.std.specs.Option.{is_some}
 use Rattle.std.specs.Prelude.{chars, codes}
 use Rattle.ucd_derived.specs.Binary.{is_xid_start, is_xid_continue}
@@ -12,20 +12,22 @@ use Rattle.ucd_derived.specs.XidStartRanges.{xid_start_ranges}
 use Rattle.ucd_table.specs.Rows.{in_ranges}
 use Rattle.rustc_lexer.specs.Character.{char_at, begins, begins_at, is, is_whitespace, is_id_start, is_id_continue, is_digit, continues, identifier_len, utf8_len}
 use Rattle.rustc_lexer.specs.Comments.{block_comment, line_comment}
-use Rattle.rustc_lexer.specs.Lexeme.{Lexeme, lexeme, lexeme_of, quoted, string, raw_string, numeral, is_prefix_mark, plain_word, marked_word, word, lifetime, begins_lifetime, quote, one_char_kind, begins_guarded}
+use Rattle.rustc_lexer.specs.Lexeme.{Lexeme, lexeme, lexeme_of, quoted, string, raw_string, numeral, is_prefix_mark, plain_word, marked_word, word, lifetime, begins_lifetime, quote, one_char_kind, begins_guarded, guarded}
 use Rattle.rustc_lexer.specs.Lexing.{tokens_of, token_of}
 use Rattle.rustc_lexer.specs.Literals.{bare, literal, quoted_body, string_body, raw_form}
 use Rattle.rustc_lexer.specs.Seams.{is_whole_literal, stands_alone}
 use Rattle.rustc_lexer.specs.TokensAt.{IsTokenAt}
 use Rattle.rustc_lexer.specs.Scanned.{Scanned, further}
 use Rattle.rustc_lexer.specs.declared.token.LiteralKind.{LiteralKind}
-use Rattle.rustc_lexer.specs.declared.token.LiteralKind.TheVariants.{Byte, Char, Str, ByteStr, CStr, RawStr, RawByteStr, RawCStr}
+use Rattle.rustc_lexer.specs.declared.token.LiteralKind.TheVariants.{Byte, Char, Str, ByteStr, CStr, RawStr, RawByteStr, RawCStr, GuardedStr}
 use Rattle.rustc_lexer.specs.declared.token.Token.{Token}
 use Rattle.rustc_lexer.specs.declared.token.TokenKind.{TokenKind}
-use Rattle.rustc_lexer.specs.declared.token.TokenKind.TheVariants.{Ident, RawIdent, ForcedKeywordIdent, UnknownPrefix, UnknownPrefixLifetime, RawLifetime, Lifetime, Literal, GuardedStrPrefix}
+use Rattle.rustc_lexer.specs.declared.token.TokenKind.TheVariants.{Ident, RawIdent, ForcedKeywordIdent, UnknownPrefix, UnknownPrefixLifetime, RawLifetime, Lifetime, Literal}
 use Rattle.rustc_lexer.proofs.BlankLemmas.{is_solid, start_stops}
 use Rattle.rustc_lexer.proofs.CutTextLemmas.{at_cut, at_drop, begins_cut, begins_same, drop_cut, ident_long, identifier_cut, numeral_cut, prefix_cut, quoted_body_cut, raw_form_cut, raw_form_long, same_at, string_cut, suffix_cut}
-use Rattle.rustc_lexer.proofs.LocalLemmas.{literal_long, name, name_at, name_long}
+use Rattle.rustc_lexer.proofs.BodyLocalLemmas.{guarded_at}
+use Rattle.rustc_lexer.proofs.GuardedCutLemmas.{guarded_cut, guarded_fails, guarded_stays}
+use Rattle.rustc_lexer.proofs.LocalLemmas.{guarded_long, literal_long, name, name_at, name_long}
 use Rattle.rustc_lexer.proofs.PositiveLemmas.{lexeme_positive}
 use Rattle.rustc_lexer.proofs.TokenLemmas.{first_of_tokens, length_text}
 
@@ -144,6 +146,9 @@ raw_long kind p cs k h =
     let long = literal_long (is_some form.value) (kind form.value) form.size cs in
     let all = literal_whole (is_some form.value) (kind form.value) form.size cs (k form.value) h in
     omega (arith, long, raw_form_long (drop p cs) all)
+
+guarded_kept : (m : ℕ) (cs : List ℕ) → Kept m guarded cs
+guarded_kept m cs = literal_kept GuardedStr is_some (λ xs. guarded_at (prefix_len (is "#") xs) xs) m cs (λ v. refl) (λ h l. guarded_cut m cs l)
 
 -- ---- words
 
@@ -326,9 +331,8 @@ lexeme_kept k c cs =
     (λ h. kept_if m t (λ xs. is_whitespace (char_at xs 0)) _ _ (λ h w e. h) (λ h w e. h) (λ h. kept_not m _ t refl)
     (λ h. kept_if m t (λ xs. is_id_start (char_at xs 0)) _ _ (λ h w e. h) (λ h w e. h) (λ h. word_kept m t)
     (λ h. kept_if m t (λ xs. is_digit (char_at xs 0)) _ _ (λ h w e. h) (λ h w e. h) (λ h. numeral_kept m t)
-    (λ h. kept_if m t begins_guarded (λ _. lexeme_of GuardedStrPrefix 2) _
-    (λ h w e. or_stays (codes "#\"") (codes "##") m t (omega (arith, e)) (omega (arith, e)) h) (λ h w e. or_fails (codes "#\"") (codes "##") m t refl refl h)
-    (λ h. lexeme_same (lexeme_of GuardedStrPrefix 2) m t)
+    (λ h. kept_if m t begins_guarded guarded _
+    (λ h w e. (let long = guarded_long t in guarded_stays m t h (omega (arith, long, e)))) (λ h w e. guarded_fails m t h) (λ h. guarded_kept m t)
     (λ h. kept_if m t (λ xs. is "'" (char_at xs 0)) _ _ (λ h w e. h) (λ h w e. h) (λ h. quote_kept m t)
     (λ h. kept_if m t (λ xs. is "\"" (char_at xs 0)) _ _ (λ h w e. h) (λ h w e. h) (λ h. string_kept Str 1 m t (λ v. refl))
     (λ h. one_char_kept k c cs))))))))

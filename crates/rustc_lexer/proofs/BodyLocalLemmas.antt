@@ -1,10 +1,11 @@
 -- The bodies of comments and literals depend on their own characters and the few that follow.
-use Rattle.std.proofs.Common.{◌≡◌, ℕ, zero, suc, ◌+◌, ◌-◌, ◌≤◌, ◌<◌, Bool, true, false, not, ◌||◌, ◌&&◌, ◌==◌, nat_le, List, [], ◌∷◌, length, take, drop, refl, sym, subst, ap, arith, if◌then◌else◌, Option, None}
+use Rattle.std.proofs.Common.{◌≡◌, ℕ, zero, suc, ◌+◌, ◌-◌, ◌≤◌, ◌<◌, Bool, true, false, not, ◌||◌, ◌&&◌, ◌==◌, nat_le, nat_lt, min, List, [], ◌∷◌, length, take, drop, refl, sym, ◌∙◌, subst, ap, arith, if◌then◌else◌, Option, None}
+use Rattle.std.proofs.Math.Nat.{min-eq_left, min-eq_right}
 use Rattle.std.specs.List.{prefix_len}
 use Rattle.std.proofs.lemmas.Bool.Decides.{nat_tests}
 use Rattle.rustc_lexer.specs.Character.{char_at, begins, is}
 use Rattle.rustc_lexer.specs.Comments.{block_body}
-use Rattle.rustc_lexer.specs.Literals.{quoted_rest, string_body, raw_body, raw_form, hashes_of}
+use Rattle.rustc_lexer.specs.Literals.{quoted_rest, string_body, raw_body, raw_form, hashes_of, guarded_form}
 use Rattle.rustc_lexer.specs.Scanned.{Scanned, further}
 use Rattle.rustc_lexer.proofs.AgreeLemmas.{Agree, agree_less, agree_at, agree_drop, agree_tail, agree_end, agree_end_too, prefix_len_local, at_least_local}
 use Rattle.rustc_lexer.proofs.EscapeLemmas.{string_from, string_same, quoted_from, quoted_same}
@@ -105,6 +106,42 @@ raw_form_local m cs ds a l =
     let k : n < m = omega (arith, form_long n cs) in
     let e : prefix_len (is "#") ds ≡ n = prefix_len_local (is "#") m cs ds a k in
     rw e (form_local n m cs ds a k l)
+
+-- ---- guarded strings
+
+-- how many of at most k characters pass
+min_local : (p : ℕ → Bool) (k n : ℕ) (cs ds : List ℕ) → Agree n cs ds → min k (prefix_len p cs) < n → min k (prefix_len p ds) ≡ min k (prefix_len p cs)
+min_local p k n cs ds a l = by_tests (nat_lt (prefix_len p cs) n) (nat_le k (prefix_len p cs)) refl refl
+  where
+    by_tests : (u v : Bool) → nat_lt (prefix_len p cs) n ≡ u → nat_le k (prefix_len p cs) ≡ v → min k (prefix_len p ds) ≡ min k (prefix_len p cs)
+    by_tests true v e f = ap (min k) (prefix_len_local p n cs ds a (grind (arith, nat_tests)))
+    by_tests false true e f =
+        let here : k ≤ prefix_len p cs = grind (arith, nat_tests) in
+        let few : k ≤ n = omega (arith, l, min-eq_left here) in
+        let same = at_least_local p k n cs ds a few in
+        let there : k ≤ prefix_len p ds = grind (arith, nat_tests) in
+        min-eq_left there ∙ sym (min-eq_left here)
+    by_tests false false e f =
+        let more : prefix_len p cs ≤ k = grind (arith, nat_tests) in
+        let long : n ≤ prefix_len p cs = grind (arith, nat_tests) in
+        absurd (omega (arith, l, long, min-eq_right more))
+
+-- the form of n hashes with this body, where so many hashes follow the body
+abbrev pub closed : ℕ → Scanned Bool → ℕ → Scanned (Option ℕ)
+closed n body closing = record { value = hashes_of (body.value && (closing == n)) n; size = body.size + closing }
+
+pub guarded_form_local : (n m : ℕ) (cs ds : List ℕ) → Agree m cs ds → (guarded_form n cs).size < m → guarded_form n ds ≡ guarded_form n cs
+guarded_form_local n m cs ds a l =
+    let body : Scanned Bool = further 1 (string_body (drop 1 cs)) in
+    let b : Agree (1 + (m - 1)) cs ds = agree_less _ a (omega (arith, l)) in
+    let same = string_local (m - 1) (drop 1 cs) (drop 1 ds) (agree_drop 1 b) (omega (arith, l)) in
+    let rest : Agree (body.size + (m - body.size)) cs ds = agree_less _ a (omega (arith, l)) in
+    ap (λ (s : Scanned Bool). closed n (further 1 s) (min n (prefix_len (is "#") (drop (1 + s.size) ds)))) same
+    ∙ ap (closed n body) (min_local (is "#") n (m - body.size) (drop body.size cs) (drop body.size ds) (agree_drop body.size rest) (omega (arith, l)))
+
+-- n hashes, and a form after them
+abbrev pub guarded_at : ℕ → List ℕ → Scanned (Option ℕ)
+guarded_at n cs = further n (guarded_form n (drop n cs))
 
 -- ---- block comments
 

@@ -47,6 +47,7 @@ advances text rest pending kind u some r =
 
 pub record ClosingOn (n : ℕ) (cs : List ℕ) (left : ℕ) (ds : List ℕ) : Type 0 where
   pub rest : drop (min left (hashes ds).size) ds ≡ drop (min n (hashes cs).size) cs
+  pub missing : left - min left (hashes ds).size ≡ n - min n (hashes cs).size
 
 -- ---- identifiers
 

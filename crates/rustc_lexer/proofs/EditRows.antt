@@ -98,3 +98,33 @@ letter_of_two_bytes = refl
 token_of_two_bytes : kept (0xc3 ∷ 0xa9 ∷ 0x3b ∷ 0x78 ∷ []) 4 4 [] ≡ counts 1 2 0
 unfolding chars is_xid_start is_xid_continue in_ranges xid_start_ranges xid_continue_ranges
 token_of_two_bytes = refl
+
+-- a run of hashes that ends at the edit is lexed again from its first hash on
+hashes_become_a_string : kept (codes ";### x") 4 4 (codes "\"a\"###") ≡ counts 1 1 2
+unfolding chars is_xid_start is_xid_continue in_ranges xid_start_ranges xid_continue_ranges
+hashes_become_a_string = refl
+
+-- the hashes before the edit count, whether or not more follow
+run_cut_in_its_middle : kept (codes ";####") 3 3 (codes "\"a\"") ≡ counts 1 1 0
+unfolding chars is_xid_start is_xid_continue in_ranges xid_start_ranges xid_continue_ranges
+run_cut_in_its_middle = refl
+
+-- and so is a run that ends one character before the edit
+run_one_before : kept (codes ";##x y") 4 4 (codes "z") ≡ counts 1 3 2
+unfolding chars is_xid_start is_xid_continue in_ranges xid_start_ranges xid_continue_ranges
+run_one_before = refl
+
+-- a run that ends two characters before it is kept
+run_two_before : kept (codes "##ab c") 4 4 (codes "d") ≡ counts 2 1 2
+unfolding chars is_xid_start is_xid_continue in_ranges xid_start_ranges xid_continue_ranges
+run_two_before = refl
+
+-- without its first quote a guarded string is hashes, and its second begins a string
+string_becomes_hashes : kept (codes ";##\"a\"## x") 3 4 [] ≡ counts 1 4 0
+unfolding chars is_xid_start is_xid_continue in_ranges xid_start_ranges xid_continue_ranges
+string_becomes_hashes = refl
+
+-- one hash is too near already
+one_hash : kept (codes "; # x") 3 3 (codes "\"\"#") ≡ counts 1 2 2
+unfolding chars is_xid_start is_xid_continue in_ranges xid_start_ranges xid_continue_ranges
+one_hash = refl

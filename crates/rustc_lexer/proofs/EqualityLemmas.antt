@@ -91,7 +91,10 @@ literal_same a b h =
                       λ x y e. ap (λ v. (v, tt)) (hashes x.0 y.0 e),
                       (
                         λ x y e. ap (λ v. (v, tt)) (hashes x.0 y.0 e),
-                        tt,
+                        (
+                          λ x y e. ap (λ v. (v, tt)) (hashes x.0 y.0 e),
+                          tt,
+                        ),
                       ),
                     ),
                   ),

@@ -5,7 +5,7 @@ use Rattle.rustc_lexer.specs.Character.{char_at, is_whitespace, is_id_start, is_
 use Rattle.rustc_lexer.specs.Comments.{line_comment, block_comment}
 use Rattle.rustc_lexer.specs.Lexeme.{lexeme, lexeme_of, white_space, word, numeral}
 use Rattle.rustc_lexer.specs.Scanned.{Scanned, IsRead}
-use Rattle.rustc_lexer.specs.FirstCharacter.{sign, uncommented}
+use Rattle.rustc_lexer.specs.FirstCharacter.{hash, sign, uncommented}
 use Rattle.rustc_lexer.specs.declared.token.TokenKind.TheVariants.{Slash}
 
 -- what was read is what equals it
@@ -26,8 +26,8 @@ pub by_sign : (cs : List ℕ) (c : ℕ) → char_at cs 0 ≡ c → is_whitespace
     uncommented cs ≡ sign cs
 by_sign cs c e w s h = rw (e, w, s, h) refl
 
-pub no_comment : (cs : List ℕ) → (char_at cs 0 == 47) ≡ false → lexeme cs ≡ uncommented cs
-no_comment cs other = rw other refl
+pub no_comment : (cs : List ℕ) → (char_at cs 0 == 47) ≡ false → (char_at cs 0 == 35) ≡ false → lexeme cs ≡ uncommented cs
+no_comment cs other hash = rw (other, hash) refl
 
 pub slash_line : (cs : List ℕ) → char_at cs 0 ≡ 47 → char_at cs 1 ≡ 47 → lexeme cs ≡ line_comment cs
 slash_line cs e f = rw (e, f) refl
@@ -40,3 +40,9 @@ no_start = rw (is_xid_start-ascii 47 (omega arith)) refl
 
 pub slash_alone : (cs : List ℕ) → char_at cs 0 ≡ 47 → (char_at cs 1 == 47) ≡ false → (char_at cs 1 == 42) ≡ false → lexeme cs ≡ lexeme_of Slash 1
 slash_alone cs e f g = rw (e, f, g, no_start) refl
+
+pub hash_no_start : is_id_start 35 ≡ false
+hash_no_start = rw (is_xid_start-ascii 35 (omega arith)) refl
+
+pub by_hash : (cs : List ℕ) → char_at cs 0 ≡ 35 → lexeme cs ≡ hash cs
+by_hash cs e = rw (e, hash_no_start) refl

@@ -4,10 +4,10 @@ use Rattle.std.proofs.lemmas.Grind.{common_steps}
 use Rattle.std.specs.Option.{is_some}
 use Rattle.rustc_lexer.specs.Character.{char_at, begins, is, is_whitespace, is_id_start, is_digit, continues, identifier_len}
 use Rattle.rustc_lexer.specs.Scanned.{Scanned, further}
-use Rattle.rustc_lexer.specs.Literals.{literal, quoted_body, string_body, raw_form}
-use Rattle.rustc_lexer.specs.Lexeme.{Lexeme, lexeme, quoted, string, raw_string, one_char_kind, plain_word, word, is_prefix_mark, lifetime, begins_lifetime, begins_guarded}
+use Rattle.rustc_lexer.specs.Literals.{literal, quoted_body, string_body, raw_form, hashes, guarded_form}
+use Rattle.rustc_lexer.specs.Lexeme.{Lexeme, lexeme, quoted, string, raw_string, one_char_kind, plain_word, word, is_prefix_mark, lifetime, begins_lifetime, begins_guarded, guarded}
 use Rattle.rustc_lexer.specs.declared.token.LiteralKind.{LiteralKind}
-use Rattle.rustc_lexer.specs.declared.token.LiteralKind.TheVariants.{Byte, Char, Str, ByteStr, CStr, RawStr, RawByteStr, RawCStr}
+use Rattle.rustc_lexer.specs.declared.token.LiteralKind.TheVariants.{Byte, Char, Str, ByteStr, CStr, RawStr, RawByteStr, RawCStr, GuardedStr}
 use Rattle.rustc_lexer.specs.declared.token.TokenKind.{TokenKind}
 use Rattle.rustc_lexer.specs.declared.token.TokenKind.TheVariants.{Eof, UnknownPrefix, Ident}
 use Rattle.rustc_lexer.proofs.PositiveLemmas.{choice}
@@ -37,6 +37,11 @@ string_inside kind p cs =
 raw_inside : (kind : Option ℕ → LiteralKind) (p : ℕ) (cs : List ℕ) → IsInside (raw_string kind p cs)
 raw_inside kind p cs =
     let form : Scanned (Option ℕ) = further p (raw_form (drop p cs)) in literal_inside (is_some form.value) (kind form.value) form.size cs
+
+guarded_inside : (cs : List ℕ) → IsInside (guarded cs)
+guarded_inside cs =
+    let n : ℕ = (hashes cs).size in
+    let form : Scanned (Option ℕ) = further n (guarded_form n (drop n cs)) in literal_inside (is_some form.value) (GuardedStr form.value) form.size cs
 
 plain_inside : (cs : List ℕ) → IsInside (plain_word cs)
 unfolding IsInside
@@ -77,7 +82,7 @@ lexeme_inside t =
     (λ _. choice IsInside (is_id_start c) _ _
     (λ _. prefixed_inside t)
     (λ _. choice IsInside (is_digit c) _ _ (λ _. refl)
-    (λ _. choice IsInside (begins_guarded t) _ _ (λ _. refl)
+    (λ _. choice IsInside (begins_guarded t) _ _ (λ _. guarded_inside t)
     (λ _. choice IsInside (is "'" c) _ _
     (λ _. choice IsInside (begins_lifetime t) _ _ (λ _. lifetime_inside t) (λ _. quoted_inside Char 1 t))
     (λ _. choice IsInside (is "\"" c) _ _ (λ _. string_inside Str 1 t)

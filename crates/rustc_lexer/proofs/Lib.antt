@@ -1,5 +1,6 @@
 pub mod TestLemmas
 mod RunLemmas
+mod RunStartLemmas
 mod AsciiLemmas
 mod PositiveLemmas
 mod TokenLemmas
@@ -18,6 +19,7 @@ mod SuffixLemmas
 mod CursorLemmas
 mod EditRows
 mod AgreeLemmas
+mod AheadLemmas
 mod BodyLocalLemmas
 mod LocalLemmas
 mod PlaceLemmas
@@ -48,3 +50,6 @@ mod FrontRowLemmas
 mod StartLemmas
 mod PlainLemmas
 mod GapBufferLemmas
+mod GuardedCutLemmas
+mod HashByteLemmas
+mod HashReadLemmas

@@ -1,23 +1,28 @@
--- A lexeme depends only on its own characters and the two that follow, row by row.
-use Rattle.std.proofs.Common.{◌≡◌, ℕ, ◌+◌, ◌≤◌, ◌<◌, ◌==◌, Bool, true, false, not, ◌&&◌, ◌||◌, List, [], ◌∷◌, drop, refl, sym, ◌∙◌, ap, arith, if◌then◌else◌, Option}
+-- A lexeme depends only on its own characters and the two that follow, row by row; and a hash
+-- depends on the run of hashes that goes on there.
+use Rattle.std.proofs.Common.{◌≡◌, ℕ, ◌+◌, ◌≤◌, ◌<◌, ◌==◌, Bool, true, false, not, ◌&&◌, ◌||◌, List, [], ◌∷◌, take, drop, refl, sym, ◌∙◌, ap, subst, arith, if◌then◌else◌, Option}
 use Rattle.std.proofs.lemmas.Bool.Decides.{nat_tests}
 use Rattle.rustc_lexer.specs.Character.{char_at, begins, is, is_whitespace, is_id_start, is_id_continue, is_digit, is_hex_digit, continues, identifier_len, utf8_len}
 use Rattle.rustc_lexer.specs.Comments.{line_style, line_comment, block_style, block_body, block_comment}
-use Rattle.rustc_lexer.specs.Lexeme.{Lexeme, lexeme_of, white_space, quoted, string, raw_string, numeral, plain_word, marked_word, word, lifetime, begins_lifetime, quote, one_char_kind, begins_guarded, lexeme}
+use Rattle.rustc_lexer.specs.Lexeme.{Lexeme, lexeme_of, white_space, quoted, string, raw_string, numeral, plain_word, marked_word, word, lifetime, begins_lifetime, quote, one_char_kind, begins_guarded, guarded, lexeme}
+use Rattle.std.specs.List.{prefix_len}
 use Rattle.std.specs.Option.{is_some}
-use Rattle.rustc_lexer.specs.Literals.{with_suffix, bare, literal, quoted_rest, quoted_body, string_body, raw_form}
+use Rattle.rustc_lexer.specs.FirstCharacter.{hash}
+use Rattle.rustc_lexer.specs.Lexing.{look_ahead, run_on}
+use Rattle.rustc_lexer.specs.Literals.{with_suffix, bare, literal, quoted_rest, quoted_body, string_body, raw_form, guarded_form}
 use Rattle.rustc_lexer.specs.Numbers.{run, sign_len, is_exponent_mark, exponent, after_fraction, fraction, begins_fraction, after_run, based, number}
 use Rattle.rustc_lexer.specs.Scanned.{Scanned, further}
 use Rattle.rustc_lexer.proofs.AgreeLemmas.{Agree, agree_less, agree_at, agree_drop, prefix_len_local, identifier_local}
-use Rattle.rustc_lexer.proofs.BodyLocalLemmas.{string_local, quoted_local, raw_form_local, block_local}
+use Rattle.rustc_lexer.proofs.BodyLocalLemmas.{string_local, quoted_local, raw_form_local, block_local, guarded_at, guarded_form_local}
+use Rattle.rustc_lexer.proofs.FrontRowLemmas.{by_hash}
 use Rattle.rustc_lexer.proofs.PositiveLemmas.{choice}
 use Rattle.rustc_lexer.specs.declared.token.Base.{Base}
 use Rattle.rustc_lexer.specs.declared.token.Base.TheVariants.{Binary, Octal, Hexadecimal, Decimal}
 use Rattle.rustc_lexer.specs.declared.token.DocStyle.{DocStyle}
 use Rattle.rustc_lexer.specs.declared.token.LiteralKind.{LiteralKind}
-use Rattle.rustc_lexer.specs.declared.token.LiteralKind.TheVariants.{Byte, Char, Str, ByteStr, CStr, RawStr, RawByteStr, RawCStr, Float, Int}
+use Rattle.rustc_lexer.specs.declared.token.LiteralKind.TheVariants.{Byte, Char, Str, ByteStr, CStr, RawStr, RawByteStr, RawCStr, GuardedStr, Float, Int}
 use Rattle.rustc_lexer.specs.declared.token.TokenKind.{TokenKind}
-use Rattle.rustc_lexer.specs.declared.token.TokenKind.TheVariants.{Whitespace, RawIdent, ForcedKeywordIdent, UnknownPrefixLifetime, RawLifetime, Lifetime, BlockComment, Literal}
+use Rattle.rustc_lexer.specs.declared.token.TokenKind.TheVariants.{Whitespace, RawIdent, ForcedKeywordIdent, UnknownPrefixLifetime, RawLifetime, Lifetime, BlockComment, Literal, Pound}
 
 -- what is read from cs, and has at least j characters, is read from ds too where this agrees two characters further
 unfoldable pub Local : {A : Type 0} → ℕ → (List ℕ → Scanned A) → List ℕ → List ℕ → Type 0
@@ -190,6 +195,27 @@ raw_row kind p cs ds h a =
     rw (raw_form_local _ (drop p cs) (drop p ds) (agree_drop p b) (omega arith))
     (literal_local (is_some form.value) (kind form.value) form.size cs ds (agree_less _ a (omega arith)))
 
+pub guarded_long : (cs : List ℕ) → 1 + prefix_len (is "#") cs ≤ (guarded cs).size
+guarded_long cs =
+    let form : Scanned (Option ℕ) = guarded_at (prefix_len (is "#") cs) cs in
+    let long = literal_long (is_some form.value) (GuardedStr form.value) form.size cs in omega (arith, long)
+
+-- a guarded string with these hashes and this body
+abbrev guarded_with : List ℕ → Scanned (Option ℕ) → Lexeme
+guarded_with cs form = literal (is_some form.value) (GuardedStr form.value) form.size cs
+
+guarded_row : (cs ds : List ℕ) → Local 1 guarded cs ds
+unfolding Local
+guarded_row cs ds h a =
+    let n : ℕ = prefix_len (is "#") cs in
+    let form : Scanned (Option ℕ) = guarded_at n cs in
+    let long = literal_long (is_some form.value) (GuardedStr form.value) form.size cs in
+    let run : prefix_len (is "#") ds ≡ n = prefix_len_local (is "#") _ cs ds a (omega (arith, long)) in
+    let b : Agree (n + ((guarded_form n (drop n cs)).size + 2)) cs ds = agree_less _ a (omega (arith, long)) in
+    ap (λ k. guarded_with ds (guarded_at k ds)) run
+    ∙ ap (λ s. guarded_with ds (further n s)) (guarded_form_local n _ (drop n cs) (drop n ds) (agree_drop n b) (omega arith))
+    ∙ literal_local (is_some form.value) (GuardedStr form.value) form.size cs ds (agree_less _ a (omega arith))
+
 -- ---- comments
 
 line_long : (cs : List ℕ) → begins "//" cs ≡ true → 2 ≤ (line_comment cs).size
@@ -319,18 +345,52 @@ one_char_row : (cs ds : List ℕ) → Local 1 (λ xs. lexeme_of (one_char_kind (
 unfolding Local
 one_char_row cs ds h a = ap (λ c. lexeme_of (one_char_kind c) 1) (agree_at 0 a (omega arith))
 
-lexeme_row : (cs ds : List ℕ) → Local 1 lexeme cs ds
-lexeme_row cs ds =
+lexeme_row : (cs ds : List ℕ) → is "#" (char_at cs 0) ≡ false → Local 1 lexeme cs ds
+lexeme_row cs ds no_hash =
     local_if 1 cs ds (begins "//") _ _ (λ a. rw (agree_at 0 a (omega arith), agree_at 1 a (omega arith))) (λ h. line_row cs ds h)
     (λ h. local_if 1 cs ds (begins "/*") _ _ (λ a. rw (agree_at 0 a (omega arith), agree_at 1 a (omega arith))) (λ h. block_row cs ds)
     (λ h. local_if 1 cs ds (λ xs. is_whitespace (char_at xs 0)) _ _ (λ a. ap is_whitespace (agree_at 0 a (omega arith))) (λ h. white_row cs ds)
     (λ h. local_if 1 cs ds (λ xs. is_id_start (char_at xs 0)) _ _ (λ a. ap is_id_start (agree_at 0 a (omega arith))) (λ h. word_row cs ds)
     (λ h. local_if 1 cs ds (λ xs. is_digit (char_at xs 0)) _ _ (λ a. ap is_digit (agree_at 0 a (omega arith))) (λ h. numeral_local cs ds)
-    (λ h. local_if 1 cs ds begins_guarded _ _ (λ a. rw (agree_at 0 a (omega arith), agree_at 1 a (omega arith))) (λ h. local_same 1 _ cs ds)
+    (λ h. local_if 1 cs ds begins_guarded _ _ (λ a. rw (agree_at 0 a (omega arith), no_hash) refl) (λ h. guarded_row cs ds)
     (λ h. local_if 1 cs ds (λ xs. is "'" (char_at xs 0)) _ _ (λ a. ap (is "'") (agree_at 0 a (omega arith))) (λ h. quote_row cs ds)
     (λ h. local_if 1 cs ds (λ xs. is "\"" (char_at xs 0)) _ _ (λ a. ap (is "\"") (agree_at 0 a (omega arith))) (λ h. string_row Str 1 cs ds)
     (λ h. one_char_row cs ds))))))))
 
-pub lexeme_local : (cs ds : List ℕ) → 1 ≤ (lexeme cs).size → Agree ((lexeme cs).size + 2) cs ds → lexeme ds ≡ lexeme cs
+-- whether a guarded string begins hangs on the run, and the character after it
+guarded_test : (cs ds : List ℕ) → Agree (1 + prefix_len (is "#") cs) cs ds → begins_guarded ds ≡ begins_guarded cs
+guarded_test cs ds a =
+    rw (prefix_len_local (is "#") _ cs ds a (omega arith), agree_at 0 a (omega arith), agree_at (prefix_len (is "#") cs) a (omega arith))
+
+-- all hashes of a run are ahead of its first, or that itself
+run_ahead : (cs : List ℕ) → is "#" (char_at cs 0) ≡ true → prefix_len (is "#") cs ≤ 1 + run_on (take 1 cs) (drop 1 cs)
+run_ahead [] e = absurd (let t : false ≡ true = e in cc)
+run_ahead (c ∷ cs) e = rw e (omega arith)
+
+-- a guarded string, or a hash
+abbrev row : Bool → List ℕ → Lexeme
+row u xs = if u then guarded xs else lexeme_of Pound 1
+
+hash_row : (cs ds : List ℕ) → is "#" (char_at cs 0) ≡ true → Agree ((hash cs).size + look_ahead (take (hash cs).size cs) (drop (hash cs).size cs)) cs ds → hash ds ≡ hash cs
 unfolding Local
-lexeme_local cs ds h a = lexeme_row cs ds h a
+hash_row cs ds e a = by_test (begins_guarded cs) refl a
+  where
+    by_test : (u : Bool) → begins_guarded cs ≡ u → Agree ((row u cs).size + look_ahead (take (row u cs).size cs) (drop (row u cs).size cs)) cs ds → hash ds ≡ row u cs
+    by_test true f a =
+        let long = guarded_long cs in
+        ap (λ u. row u ds) (guarded_test cs ds (agree_less _ a (omega (arith, long))) ∙ f) ∙ guarded_row cs ds (omega (arith, long)) (agree_less _ a (omega arith))
+    by_test false f a = (let run = run_ahead cs e in ap (λ u. row u ds) (guarded_test cs ds (agree_less _ a (omega (arith, run))) ∙ f))
+
+-- a lexeme depends on no more than the characters that it looks ahead at
+pub lexeme_local : (cs ds : List ℕ) → 1 ≤ (lexeme cs).size → Agree ((lexeme cs).size + look_ahead (take (lexeme cs).size cs) (drop (lexeme cs).size cs)) cs ds →
+    lexeme ds ≡ lexeme cs
+unfolding Local
+lexeme_local cs ds h a = by_test (is "#" (char_at cs 0)) refl
+  where
+    by_test : (u : Bool) → is "#" (char_at cs 0) ≡ u → lexeme ds ≡ lexeme cs
+    by_test true e =
+        let first : char_at cs 0 ≡ 35 = grind (arith, nat_tests) in
+        let same = by_hash cs first in
+        let b = subst (λ (w : Lexeme). Agree (w.size + look_ahead (take w.size cs) (drop w.size cs)) cs ds) same a in
+        by_hash ds (agree_at 0 a (omega (arith, h)) ∙ first) ∙ hash_row cs ds e b ∙ sym same
+    by_test false e = lexeme_row cs ds e h (agree_less _ a (omega arith))

@@ -4,25 +4,26 @@ use Rattle.std.proofs.Math.Seq.{take-add}
 use Rattle.std.proofs.lemmas.Bool.Decides.{nat_tests}
 use Rattle.std.proofs.lemmas.List.{drop-drop}
 use Rattle.std.proofs.lemmas.List.Sums.{prefix_len-drop_yes}
-use Rattle.std.proofs.lemmas.Str.{chars-append}
+use Rattle.std.proofs.lemmas.Str.{chars-append, IsUtf8-take}
 use Rattle.std.specs.List.{prefix_len}
 use Rattle.rustc_lexer.specs.Edit.{ends_from, front_of, is_clear_of}
-use Rattle.rustc_lexer.specs.Lexing.{tokens_of}
+use Rattle.rustc_lexer.specs.Lexing.{run_on, tokens_of}
+use Rattle.rustc_lexer.proofs.AheadLemmas.{run_on_grows}
 use Rattle.rustc_lexer.specs.Relexing.{IsCheckpoint, total}
 use Rattle.rustc_lexer.proofs.BoundaryLemmas.{ends_drop, ends_length, total_cons}
-use Rattle.rustc_lexer.proofs.FrontLemmas.{clear_before, clear_two}
+use Rattle.rustc_lexer.proofs.FrontLemmas.{clear_before, clear_enough}
 use Rattle.rustc_lexer.proofs.RelexLemmas.{utf8_between}
 use Rattle.rustc_lexer.proofs.RelexedLemmas.{total_append}
 use Rattle.rustc_lexer.proofs.TokensAtLemmas.{token_places}
 use Rattle.rustc_lexer.specs.declared.relex.checkpoints.Checkpoint.{Checkpoint}
 use Rattle.rustc_lexer.specs.declared.token.Token.{Token}
 
--- what lies in front of a place that is two characters before `start` is so too
+-- what lies in front of a place that is clear of `start` is so too
 clear_sooner : (text : List ℕ) (start soon at : ℕ) → IsUtf8 text → IsCharBoundary text soon → IsCharBoundary text at → soon ≤ at →
     is_clear_of text start at ≡ true → is_clear_of text start soon ≡ true
 clear_sooner text start soon at u b c l h =
     let behind : at ≤ start = clear_before text at start h in
-    let two = clear_two text at start h in
+    let clear = clear_enough text at start h in
     let first : List ℕ = take (at - soon) (drop soon text) in
     let last : List ℕ = take (start - at) (drop at text) in
     let there : soon + (at - soon) ≡ at = omega arith in
@@ -34,7 +35,15 @@ clear_sooner text start soon at u b c l h =
     let count = ap (λ xs. length (chars xs)) parts
     ∙ ap length (chars-append first last (utf8_between text soon at u l b c))
     ∙ length-append (chars first) (chars last) in
-    let enough : 2 ≤ length (chars (take (start - soon) (drop soon text))) = omega (arith, count, two) in
+    let between : chars (take (start - soon) (drop soon text)) ≡ chars first ++ chars last =
+    ap chars parts ∙ chars-append first last (utf8_between text soon at u l b c) in
+    let front : chars (take at text) ≡ chars (take soon text) ++ chars first =
+    ap (λ n. chars (take n text)) (sym there) ∙ ap chars (take-add soon (at - soon) text) ∙ chars-append (take soon text) first (IsUtf8-take text soon u b) in
+    let grows = run_on_grows (chars (take soon text)) (chars first) (chars last) in
+    let here = ap (run_on (chars (take soon text))) between in
+    let later = ap (λ xs. run_on xs (chars last)) front in
+    let enough : run_on (chars (take soon text)) (chars (take (start - soon) (drop soon text))) + 2 ≤ length (chars (take (start - soon) (drop soon text))) =
+    omega (arith, count, clear, grows, here, later) in
     grind (arith, nat_tests, enough)
 
 end_at : (at : ℕ) (ts : List Token) (i d : ℕ) → i < length ts → get_or (ends_from at ts) i d ≡ at + total (take (i + 1) ts)

@@ -4,8 +4,9 @@ use Rattle.std.proofs.lemmas.List.{drop-drop, drop-take, take-take}
 use Rattle.std.proofs.lemmas.List.Sums.{sum_by-cons}
 use Rattle.rustc_lexer.specs.Character.{utf8_len}
 use Rattle.rustc_lexer.specs.Lexeme.{Lexeme, lexeme}
-use Rattle.rustc_lexer.specs.Lexing.{tokens_of, token_of, place}
+use Rattle.rustc_lexer.specs.Lexing.{tokens_of, token_of, place, reach}
 use Rattle.rustc_lexer.proofs.AgreeLemmas.{Agree, agree_less, agree_drop, agree_end, agree_end_too}
+use Rattle.rustc_lexer.proofs.AheadLemmas.{ahead_behind, ahead_grows}
 use Rattle.rustc_lexer.proofs.LocalLemmas.{lexeme_local}
 use Rattle.rustc_lexer.proofs.PositiveLemmas.{lexeme_positive}
 use Rattle.rustc_lexer.proofs.TokenLemmas.{first_of_tokens, utf8_len_split}
@@ -54,28 +55,32 @@ same_step k cs ds w v e front again =
     ap (λ (x : Lexeme). token_of x ds ∷ take k (tokens_of (drop x.size ds))) e
     ∙ ap (λ ts. token_of w ds ∷ ts) again ∙ ap (λ xs. record { kind = w.value; len = utf8_len xs } ∷ take k (tokens_of (drop w.size cs))) (sym front)
 
-pub first_tokens : (k : ℕ) (cs ds : List ℕ) → Agree (place k cs + 2) cs ds → take k (tokens_of ds) ≡ take k (tokens_of cs)
+pub first_tokens : (k : ℕ) (cs ds : List ℕ) → Agree (reach k cs) cs ds → take k (tokens_of ds) ≡ take k (tokens_of cs)
 first_tokens zero cs ds a = refl
 first_tokens (suc k) [] [] a = refl
-first_tokens (suc k) [] (d ∷ ds) a = agree_end 1 d ds a
+first_tokens (suc k) [] (d ∷ ds) a = agree_end 1 d ds (agree_less 2 a (omega arith))
 first_tokens (suc k) (c ∷ cs) [] a = agree_end_too 0 c cs (agree_less 1 a (omega arith))
 first_tokens (suc k) (c ∷ cs) (d ∷ ds) a =
     let w : Lexeme = lexeme (c ∷ cs) in
-    let b : Agree (w.size + (place k (drop w.size (c ∷ cs)) + 2)) (c ∷ cs) (d ∷ ds) = agree_less _ a (omega arith) in
-    let same = lexeme_local (c ∷ cs) (d ∷ ds) (lexeme_positive c cs) (agree_less _ a (omega arith)) in
+    let n : ℕ = place k (drop w.size (c ∷ cs)) in
+    let grows = ahead_grows w.size (w.size + n) (c ∷ cs) (omega arith) in
+    let b : Agree (w.size + reach k (drop w.size (c ∷ cs))) (c ∷ cs) (d ∷ ds) = agree_less _ a (omega (arith, ahead_behind w.size n (c ∷ cs))) in
+    let same = lexeme_local (c ∷ cs) (d ∷ ds) (lexeme_positive c cs) (agree_less _ a (omega (arith, grows))) in
     ap (take (suc k)) (first_of_tokens d ds)
     ∙ same_step k (c ∷ cs) (d ∷ ds) w (lexeme (d ∷ ds)) same (agree_less w.size a (omega arith)).same
     (first_tokens k (drop w.size (c ∷ cs)) (drop w.size (d ∷ ds)) (agree_drop w.size b))
     ∙ ap (take (suc k)) (sym (first_of_tokens c cs))
 
-pub same_place : (k : ℕ) (cs ds : List ℕ) → Agree (place k cs + 2) cs ds → place k ds ≡ place k cs
+pub same_place : (k : ℕ) (cs ds : List ℕ) → Agree (reach k cs) cs ds → place k ds ≡ place k cs
 same_place zero cs ds a = refl
 same_place (suc k) [] [] a = refl
-same_place (suc k) [] (d ∷ ds) a = agree_end 1 d ds a
+same_place (suc k) [] (d ∷ ds) a = agree_end 1 d ds (agree_less 2 a (omega arith))
 same_place (suc k) (c ∷ cs) [] a = agree_end_too 0 c cs (agree_less 1 a (omega arith))
 same_place (suc k) (c ∷ cs) (d ∷ ds) a =
     let w : Lexeme = lexeme (c ∷ cs) in
-    let b : Agree (w.size + (place k (drop w.size (c ∷ cs)) + 2)) (c ∷ cs) (d ∷ ds) = agree_less _ a (omega arith) in
-    let same = lexeme_local (c ∷ cs) (d ∷ ds) (lexeme_positive c cs) (agree_less _ a (omega arith)) in
+    let n : ℕ = place k (drop w.size (c ∷ cs)) in
+    let grows = ahead_grows w.size (w.size + n) (c ∷ cs) (omega arith) in
+    let b : Agree (w.size + reach k (drop w.size (c ∷ cs))) (c ∷ cs) (d ∷ ds) = agree_less _ a (omega (arith, ahead_behind w.size n (c ∷ cs))) in
+    let same = lexeme_local (c ∷ cs) (d ∷ ds) (lexeme_positive c cs) (agree_less _ a (omega (arith, grows))) in
     ap (λ (x : Lexeme). x.size + place k (drop x.size (d ∷ ds))) same
     ∙ ap (λ n. w.size + n) (same_place k (drop w.size (c ∷ cs)) (drop w.size (d ∷ ds)) (agree_drop w.size b))

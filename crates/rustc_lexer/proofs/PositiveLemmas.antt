@@ -5,11 +5,11 @@ use Rattle.std.specs.List.{position_or_len}
 use Rattle.std.specs.Option.{is_some}
 use Rattle.rustc_lexer.specs.Character.{char_at, begins, is, is_whitespace, is_id_start, is_digit, continues}
 use Rattle.rustc_lexer.specs.Scanned.{Scanned, further}
-use Rattle.rustc_lexer.specs.Literals.{literal, quoted_body, string_body, raw_form}
+use Rattle.rustc_lexer.specs.Literals.{literal, quoted_body, string_body, raw_form, hashes, guarded_form}
 use Rattle.rustc_lexer.specs.Numbers.{number}
-use Rattle.rustc_lexer.specs.Lexeme.{lexeme, quoted, string, raw_string, plain_word, word, lifetime, begins_lifetime, begins_guarded}
+use Rattle.rustc_lexer.specs.Lexeme.{lexeme, quoted, string, raw_string, plain_word, word, lifetime, begins_lifetime, begins_guarded, guarded}
 use Rattle.rustc_lexer.specs.declared.token.LiteralKind.{LiteralKind}
-use Rattle.rustc_lexer.specs.declared.token.LiteralKind.TheVariants.{Byte, Char, Str, ByteStr, CStr, RawStr, RawByteStr, RawCStr}
+use Rattle.rustc_lexer.specs.declared.token.LiteralKind.TheVariants.{Byte, Char, Str, ByteStr, CStr, RawStr, RawByteStr, RawCStr, GuardedStr}
 
 -- what holds of both branches holds of the choice
 pub choice : {A : Type 0} (P : A → Type 0) (b : Bool) (x y : A) → (b ≡ true → P x) → (b ≡ false → P y) → P (if b then x else y)
@@ -37,6 +37,12 @@ raw_positive : (kind : Option ℕ → LiteralKind) (p : ℕ) (cs : List ℕ) →
 raw_positive kind p cs h =
     let form : Scanned (Option ℕ) = further p (raw_form (drop p cs)) in
     literal_positive (is_some form.value) (kind form.value) form.size cs (omega arith)
+
+guarded_positive : (cs : List ℕ) → HasCharacters (guarded cs)
+guarded_positive cs =
+    let n : ℕ = (hashes cs).size in
+    let form : Scanned (Option ℕ) = further n (guarded_form n (drop n cs)) in
+    literal_positive (is_some form.value) (GuardedStr form.value) form.size cs (omega arith)
 
 number_positive : (c : ℕ) (cs : List ℕ) → is_digit c ≡ true → HasCharacters (number (c ∷ cs))
 unfolding HasCharacters
@@ -86,7 +92,7 @@ lexeme_positive c cs =
     (λ _. choice HasCharacters (is_id_start c) _ _
     (λ h. prefixed_positive c cs h)
     (λ _. choice HasCharacters (is_digit c) _ _ (λ h. (let p = number_positive c cs h in omega (arith, p)))
-    (λ _. choice HasCharacters (begins_guarded t) _ _ (λ _. omega arith)
+    (λ _. choice HasCharacters (begins_guarded t) _ _ (λ _. guarded_positive t)
     (λ _. choice HasCharacters (is "'" c) _ _
     (λ _. choice HasCharacters (begins_lifetime t) _ _ (λ _. lifetime_positive t) (λ _. quoted_positive Char 1 t (omega arith)))
     (λ _. choice HasCharacters (is "\"" c) _ _ (λ _. string_positive Str 1 t (omega arith))

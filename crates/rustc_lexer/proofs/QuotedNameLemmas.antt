@@ -6,11 +6,11 @@ use Rattle.std.specs.Option.{is_some}
 use Rattle.std.specs.Prelude.{chars}
 use Rattle.rustc_lexer.specs.Character.{char_at, begins, is, is_whitespace, is_id_start, is_id_continue, is_digit, is_ident, continues, identifier_len}
 use Rattle.rustc_lexer.specs.Scanned.{Scanned, further}
-use Rattle.rustc_lexer.specs.Literals.{literal, quoted_body, string_body, raw_form}
-use Rattle.rustc_lexer.specs.Lexeme.{Lexeme, lexeme, quoted, string, raw_string, one_char_kind, is_prefix_mark, plain_word, word, lifetime, begins_lifetime, begins_guarded}
+use Rattle.rustc_lexer.specs.Literals.{literal, quoted_body, string_body, raw_form, hashes, guarded_form}
+use Rattle.rustc_lexer.specs.Lexeme.{Lexeme, lexeme, quoted, string, raw_string, one_char_kind, is_prefix_mark, plain_word, word, lifetime, begins_lifetime, begins_guarded, guarded}
 use Rattle.rustc_lexer.specs.TokensAt.{IsTokenAt}
 use Rattle.rustc_lexer.specs.declared.token.LiteralKind.{LiteralKind}
-use Rattle.rustc_lexer.specs.declared.token.LiteralKind.TheVariants.{Byte, Char, Str, ByteStr, CStr, RawStr, RawByteStr, RawCStr}
+use Rattle.rustc_lexer.specs.declared.token.LiteralKind.TheVariants.{Byte, Char, Str, ByteStr, CStr, RawStr, RawByteStr, RawCStr, GuardedStr}
 use Rattle.rustc_lexer.specs.declared.token.Token.{Token}
 use Rattle.rustc_lexer.specs.declared.token.TokenKind.{TokenKind}
 use Rattle.rustc_lexer.specs.declared.token.TokenKind.TheVariants.{Ident, Lifetime, UnknownPrefix}
@@ -54,6 +54,11 @@ string_named kind p cs =
 raw_named : (kind : Option ℕ → LiteralKind) (p : ℕ) (cs : List ℕ) → Named cs (raw_string kind p cs)
 raw_named kind p cs =
     let form : Scanned (Option ℕ) = further p (raw_form (drop p cs)) in literal_named cs (is_some form.value) (kind form.value) form.size cs
+
+guarded_named : (cs : List ℕ) → Named cs (guarded cs)
+guarded_named cs =
+    let n : ℕ = (hashes cs).size in
+    let form : Scanned (Option ℕ) = further n (guarded_form n (drop n cs)) in literal_named cs (is_some form.value) (GuardedStr form.value) form.size cs
 
 word_kind_named : (u : Bool) → is_name_kind (if u then UnknownPrefix else Ident) ≡ false
 word_kind_named true = refl
@@ -101,7 +106,7 @@ lexeme_named t =
     (λ _. choice (Named t) (is_whitespace c) _ _ (λ _. no_name t _ refl)
     (λ _. choice (Named t) (is_id_start c) _ _ (λ _. word_named t)
     (λ _. choice (Named t) (is_digit c) _ _ (λ _. no_name t _ refl)
-    (λ _. choice (Named t) (begins_guarded t) _ _ (λ _. no_name t _ refl)
+    (λ _. choice (Named t) (begins_guarded t) _ _ (λ _. guarded_named t)
     (λ _. choice (Named t) (is "'" c) _ _
     (λ _. choice (Named t) (begins_lifetime t) _ _ (λ b. lifetime_named t b) (λ _. quoted_named Char 1 t))
     (λ _. choice (Named t) (is "\"" c) _ _ (λ _. string_named Str 1 t)

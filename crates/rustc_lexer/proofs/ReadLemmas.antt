@@ -63,7 +63,7 @@ bytes_read text rest n start u v e is_start =
     omega (arith, len, s)
 
 -- each hash is one byte
-bytes_of_hashes : (cs : List ℕ) → utf8_len (take (prefix_len (is "#") cs) cs) ≡ prefix_len (is "#") cs
+pub bytes_of_hashes : (cs : List ℕ) → utf8_len (take (prefix_len (is "#") cs) cs) ≡ prefix_len (is "#") cs
 bytes_of_hashes [] = refl
 bytes_of_hashes (c ∷ cs) = by_first (is "#" c) refl (bytes_of_hashes cs)
   where

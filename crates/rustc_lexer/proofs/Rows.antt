@@ -1,5 +1,5 @@
 -- Worked examples of tokens, by computation.
-use Rattle.std.specs.Prelude.{◌≡◌, ℕ, true, false, List, [], ◌∷◌, ◌++◌, Some, None, codes, refl}
+use Rattle.std.specs.Prelude.{◌≡◌, ℕ, true, false, List, [], ◌∷◌, ◌++◌, Some, None, codes, refl, replicate}
 use Rattle.ucd_derived.specs.Binary.{is_xid_start, is_xid_continue}
 use Rattle.ucd_derived.specs.XidContinueRanges.{xid_continue_ranges}
 use Rattle.ucd_derived.specs.XidStartRanges.{xid_start_ranges}
@@ -7,10 +7,10 @@ use Rattle.ucd_table.specs.Rows.{in_ranges}
 use Rattle.rustc_lexer.specs.Lexing.{tokens_of}
 use Rattle.rustc_lexer.specs.declared.token.Base.TheVariants.{Binary, Octal, Decimal, Hexadecimal}
 use Rattle.rustc_lexer.specs.declared.token.DocStyle.TheVariants.{Outer, Inner}
-use Rattle.rustc_lexer.specs.declared.token.LiteralKind.TheVariants.{Int, Float, Char, Byte, Str, ByteStr, CStr, RawStr, RawByteStr, RawCStr}
+use Rattle.rustc_lexer.specs.declared.token.LiteralKind.TheVariants.{Int, Float, Char, Byte, Str, ByteStr, CStr, RawStr, RawByteStr, RawCStr, GuardedStr}
 use Rattle.rustc_lexer.specs.declared.token.Token.{Token}
 use Rattle.rustc_lexer.specs.declared.token.TokenKind.{TokenKind}
-use Rattle.rustc_lexer.specs.declared.token.TokenKind.TheVariants.{LineComment, BlockComment, Whitespace, Ident, RawIdent, ForcedKeywordIdent, UnknownPrefix, UnknownPrefixLifetime, RawLifetime, GuardedStrPrefix, Literal, Lifetime, Semi, Comma, Dot, OpenParen, CloseParen, OpenBrace, CloseBrace, OpenBracket, CloseBracket, At, Pound, Tilde, Question, Colon, Dollar, Eq, Bang, Lt, Gt, Minus, And, Or, Plus, Star, Slash, Caret, Percent, Unknown}
+use Rattle.rustc_lexer.specs.declared.token.TokenKind.TheVariants.{LineComment, BlockComment, Whitespace, Ident, RawIdent, ForcedKeywordIdent, UnknownPrefix, UnknownPrefixLifetime, RawLifetime, Literal, Lifetime, Semi, Comma, Dot, OpenParen, CloseParen, OpenBrace, CloseBrace, OpenBracket, CloseBracket, At, Pound, Tilde, Question, Colon, Dollar, Eq, Bang, Lt, Gt, Minus, And, Or, Plus, Star, Slash, Caret, Percent, Unknown}
 
 -- a token of the kind and of that many bytes
 abbrev of : TokenKind → ℕ → Token
@@ -172,9 +172,9 @@ string_escape : tokens_of (codes "\"a\\\"b\"c") ≡ of (Literal (Str true) 6) 7 
 unfolding is_xid_start is_xid_continue in_ranges xid_start_ranges xid_continue_ranges
 string_escape = refl
 
-guarded : tokens_of (codes "## a") ≡ of GuardedStrPrefix 2 ∷ of Whitespace 1 ∷ of Ident 1 ∷ []
+hashes_alone : tokens_of (codes "## a") ≡ of Pound 1 ∷ of Pound 1 ∷ of Whitespace 1 ∷ of Ident 1 ∷ []
 unfolding is_xid_start is_xid_continue in_ranges xid_start_ranges xid_continue_ranges
-guarded = refl
+hashes_alone = refl
 
 prefixed : tokens_of (codes "a#b") ≡ of UnknownPrefix 1 ∷ of Pound 1 ∷ of Ident 1 ∷ []
 unfolding is_xid_start is_xid_continue in_ranges xid_start_ranges xid_continue_ranges
@@ -325,9 +325,9 @@ lone_quote : tokens_of (codes "'") ≡ of (Literal (Char false) 1) 1 ∷ []
 unfolding is_xid_start is_xid_continue in_ranges xid_start_ranges xid_continue_ranges
 lone_quote = refl
 
-guarded_string : tokens_of (codes "#\"a") ≡ of GuardedStrPrefix 2 ∷ of Ident 1 ∷ []
+no_quote_behind : tokens_of (codes "#\"a") ≡ of (Literal (GuardedStr None) 3) 3 ∷ []
 unfolding is_xid_start is_xid_continue in_ranges xid_start_ranges xid_continue_ranges
-guarded_string = refl
+no_quote_behind = refl
 
 one_hash : tokens_of (codes "#a") ≡ of Pound 1 ∷ of Ident 1 ∷ []
 unfolding is_xid_start is_xid_continue in_ranges xid_start_ranges xid_continue_ranges
@@ -337,3 +337,52 @@ one_hash = refl
 other_digit : tokens_of (0x663 ∷ 0x27 ∷ 0x663 ∷ []) ≡ of Unknown 2 ∷ of (Literal (Char false) 3) 3 ∷ []
 unfolding is_xid_start is_xid_continue in_ranges xid_start_ranges xid_continue_ranges
 other_digit = refl
+
+-- ---- guarded strings
+
+guarded_with_suffix : tokens_of (codes "##\"a\"##x;") ≡ of (Literal (GuardedStr (Some 2)) 7) 8 ∷ of Semi 1 ∷ []
+unfolding is_xid_start is_xid_continue in_ranges xid_start_ranges xid_continue_ranges
+guarded_with_suffix = refl
+
+too_few_hashes : tokens_of (codes "#\"a\" ") ≡ of (Literal (GuardedStr None) 4) 4 ∷ of Whitespace 1 ∷ []
+unfolding is_xid_start is_xid_continue in_ranges xid_start_ranges xid_continue_ranges
+too_few_hashes = refl
+
+-- a guarded string that isn't whole has no suffix
+too_few_before_a_word : tokens_of (codes "##\"a\"#x") ≡ of (Literal (GuardedStr None) 6) 6 ∷ of Ident 1 ∷ []
+unfolding is_xid_start is_xid_continue in_ranges xid_start_ranges xid_continue_ranges
+too_few_before_a_word = refl
+
+-- no more hashes are taken than come before
+more_hashes : tokens_of (codes "#\"a\"##") ≡ of (Literal (GuardedStr (Some 1)) 5) 5 ∷ of Pound 1 ∷ []
+unfolding is_xid_start is_xid_continue in_ranges xid_start_ranges xid_continue_ranges
+more_hashes = refl
+
+guarded_escape : tokens_of (codes "#\"\\\"\"#") ≡ of (Literal (GuardedStr (Some 1)) 6) 6 ∷ []
+unfolding is_xid_start is_xid_continue in_ranges xid_start_ranges xid_continue_ranges
+guarded_escape = refl
+
+guarded_behind_a_word : tokens_of (codes "a##\"\"##") ≡ of UnknownPrefix 1 ∷ of (Literal (GuardedStr (Some 2)) 6) 6 ∷ []
+unfolding is_xid_start is_xid_continue in_ranges xid_start_ranges xid_continue_ranges
+guarded_behind_a_word = refl
+
+hashes_before_a_comment : tokens_of (codes "##//\"") ≡ of Pound 1 ∷ of Pound 1 ∷ of (LineComment None) 3 ∷ []
+unfolding is_xid_start is_xid_continue in_ranges xid_start_ranges xid_continue_ranges
+hashes_before_a_comment = refl
+
+hash_comment_string : tokens_of (codes "#/**/\"\"") ≡ of Pound 1 ∷ of (BlockComment None true) 4 ∷ of (Literal (Str true) 2) 2 ∷ []
+unfolding is_xid_start is_xid_continue in_ranges xid_start_ranges xid_continue_ranges
+hash_comment_string = refl
+
+hashes_at_the_end : tokens_of (codes "a ##") ≡ of Ident 1 ∷ of Whitespace 1 ∷ of Pound 1 ∷ of Pound 1 ∷ []
+unfolding is_xid_start is_xid_continue in_ranges xid_start_ranges xid_continue_ranges
+hashes_at_the_end = refl
+
+most_hashes : tokens_of (replicate 255 35 ++ (34 ∷ 34 ∷ replicate 255 35)) ≡ of (Literal (GuardedStr (Some 255)) 512) 512 ∷ []
+unfolding is_xid_start is_xid_continue in_ranges xid_start_ranges xid_continue_ranges
+most_hashes = refl
+
+-- with more than 255 hashes it isn't whole, and they are still in it
+too_many_hashes : tokens_of (replicate 256 35 ++ (34 ∷ 34 ∷ replicate 256 35)) ≡ of (Literal (GuardedStr None) 514) 514 ∷ []
+unfolding is_xid_start is_xid_continue in_ranges xid_start_ranges xid_continue_ranges
+too_many_hashes = refl

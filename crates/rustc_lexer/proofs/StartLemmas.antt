@@ -5,7 +5,7 @@ use Rattle.unicode_ident.proofs.IdentLemmas.{is_xid_start-ascii}
 use Rattle.rustc_lexer.specs.Character.{ascii_part, char_at, is_whitespace, is_id_start, is_digit}
 use Rattle.rustc_lexer.specs.Lexeme.{is_prefix_mark, lexeme, lexeme_of, one_char_kind, white_space, word}
 use Rattle.rustc_lexer.specs.FirstCharacter.{sign, begins_more, start_of, start_told}
-use Rattle.rustc_lexer.proofs.FrontRowLemmas.{by_letter, by_sign, by_white, no_comment, no_start}
+use Rattle.rustc_lexer.proofs.FrontRowLemmas.{by_letter, by_sign, by_white, hash_no_start, no_comment, no_start}
 use Rattle.rustc_lexer.proofs.WordLemmas.{either_left, either_right}
 
 -- the answers of the tests give what the byte tells
@@ -30,16 +30,16 @@ told_white b = by_tests (nat_lt b 128) (is_whitespace b) (is_id_start b) (begins
 low_first : (cs : List ℕ) (b : ℕ) → (b < 128 → char_at cs 0 ≡ b) → nat_lt b 128 ≡ true → char_at cs 0 ≡ b
 low_first cs b low e = low (grind (arith, nat_tests))
 
--- what begins no comment, by what its first character passes
-no_slash : (p : ℕ → Bool) (b : ℕ) → p 47 ≡ false → p b ≡ true → (b == 47) ≡ false
-no_slash p b fails passes = by_test (b == 47) refl
+-- what is not this character, by what its first character passes
+is_not : (w : ℕ) (p : ℕ → Bool) (b : ℕ) → p w ≡ false → p b ≡ true → (b == w) ≡ false
+is_not w p b fails passes = by_test (b == w) refl
   where
-    by_test : (t : Bool) → (b == 47) ≡ t → t ≡ false
+    by_test : (t : Bool) → (b == w) ≡ t → t ≡ false
     by_test false e = refl
-    by_test true e = (let same : b ≡ 47 = grind (arith, nat_tests) in sym passes ∙ ap p same ∙ fails)
+    by_test true e = (let same : b ≡ w = grind (arith, nat_tests) in sym passes ∙ ap p same ∙ fails)
 
-begins_no_comment : (cs : List ℕ) (b : ℕ) → char_at cs 0 ≡ b → (b == 47) ≡ false → (char_at cs 0 == 47) ≡ false
-begins_no_comment cs b e other = ap (λ c. c == 47) e ∙ other
+begins_other : (w : ℕ) (cs : List ℕ) (b : ℕ) → char_at cs 0 ≡ b → (b == w) ≡ false → (char_at cs 0 == w) ≡ false
+begins_other w cs b e other = ap (λ c. c == w) e ∙ other
 
 pub start_white : (cs : List ℕ) (b : ℕ) → (b < 128 → char_at cs 0 ≡ b) → start_of b ≡ 0x20 → lexeme cs ≡ white_space cs
 start_white cs b low h = by_tests (nat_lt b 128) (is_whitespace b) (is_id_start b) (begins_more b) refl refl h
@@ -47,7 +47,7 @@ start_white cs b low h = by_tests (nat_lt b 128) (is_whitespace b) (is_id_start 
     by_tests : (a w s m : Bool) → nat_lt b 128 ≡ a → is_whitespace b ≡ w → told a w s m ≡ 0x20 → lexeme cs ≡ white_space cs
     by_tests true true s m e f h =
         let c = low_first cs b low e in
-        no_comment cs (begins_no_comment cs b c (no_slash is_whitespace b refl f)) ∙ by_white cs b c f
+        no_comment cs (begins_other 47 cs b c (is_not 47 is_whitespace b refl f)) (begins_other 35 cs b c (is_not 35 is_whitespace b refl f)) ∙ by_white cs b c f
     by_tests false w s m e f h = is_other 0x3f 0x20 refl h
     by_tests true false true m e f h = is_other 0x61 0x20 refl h
     by_tests true false false true e f h = is_other 0x3f 0x20 refl h
@@ -62,7 +62,11 @@ pub record BeginsWord (cs : List ℕ) (b : ℕ) : Type 0 where
 begins_word : (cs : List ℕ) (b : ℕ) → (b < 128 → char_at cs 0 ≡ b) → nat_lt b 128 ≡ true → is_whitespace b ≡ false → is_id_start b ≡ true → BeginsWord cs b
 begins_word cs b low e f g =
     let c = low_first cs b low e in
-    record { first = c; start = g; same = no_comment cs (begins_no_comment cs b c (no_slash is_id_start b no_start g)) ∙ by_letter cs b c f g }
+    record {
+      first = c;
+      start = g;
+      same = no_comment cs (begins_other 47 cs b c (is_not 47 is_id_start b no_start g)) (begins_other 35 cs b c (is_not 35 is_id_start b hash_no_start g)) ∙ by_letter cs b c f g;
+    }
 
 pub starts_word : (cs : List ℕ) (b : ℕ) → (b < 128 → char_at cs 0 ≡ b) → start_of b ≡ 0x61 → BeginsWord cs b
 starts_word cs b low h = by_tests (nat_lt b 128) (is_whitespace b) (is_id_start b) (begins_more b) refl refl refl h
@@ -81,9 +85,8 @@ word_starts cs b w = ap is_id_start w.first ∙ w.start
 pub word_same : (cs : List ℕ) (b : ℕ) → BeginsWord cs b → lexeme cs ≡ word cs
 word_same cs b w = w.same
 
-sign_alone : (cs : List ℕ) (b : ℕ) → char_at cs 0 ≡ b → (b == 0x23) ≡ false → (b == 0x27) ≡ false → (b == 0x22) ≡ false →
-    sign cs ≡ lexeme_of (one_char_kind b) 1
-sign_alone cs b e hash quote string = rw (e, hash, quote, string) refl
+sign_alone : (cs : List ℕ) (b : ℕ) → char_at cs 0 ≡ b → (b == 0x27) ≡ false → (b == 0x22) ≡ false → sign cs ≡ lexeme_of (one_char_kind b) 1
+sign_alone cs b e quote string = rw (e, quote, string) refl
 
 pub start_alone : (cs : List ℕ) (b : ℕ) → (b < 128 → char_at cs 0 ≡ b) → start_of b ≡ 0x2e → lexeme cs ≡ lexeme_of (one_char_kind b) 1
 start_alone cs b low h = by_tests (nat_lt b 128) (is_whitespace b) (is_id_start b) (begins_more b) refl refl refl refl h
@@ -95,9 +98,9 @@ start_alone cs b low h = by_tests (nat_lt b 128) (is_whitespace b) (is_id_start 
         let front = either_left (is_digit b || b == 0x2f) (b == 0x23 || (b == 0x22 || b == 0x27)) i in
         let marks = either_right (is_digit b || b == 0x2f) (b == 0x23 || (b == 0x22 || b == 0x27)) i in
         let quotes = either_right (b == 0x23) (b == 0x22 || b == 0x27) marks in
-        no_comment cs (begins_no_comment cs b c (either_right (is_digit b) (b == 0x2f) front))
+        no_comment cs (begins_other 47 cs b c (either_right (is_digit b) (b == 0x2f) front)) (begins_other 35 cs b c (either_left (b == 0x23) (b == 0x22 || b == 0x27) marks))
         ∙ by_sign cs b c f g (either_left (is_digit b) (b == 0x2f) front)
-        ∙ sign_alone cs b c (either_left (b == 0x23) (b == 0x22 || b == 0x27) marks) (either_right (b == 0x22) (b == 0x27) quotes)
+        ∙ sign_alone cs b c (either_right (b == 0x22) (b == 0x27) quotes)
         (either_left (b == 0x22) (b == 0x27) quotes)
     by_tests false w s m e f g i h = is_other 0x3f 0x2e refl h
     by_tests true true s m e f g i h = is_other 0x20 0x2e refl h
@@ -131,6 +134,12 @@ told_string = rw (is_xid_start-ascii 0x22 (omega arith)) refl
 
 told_quote : start_of 0x27 ≡ 0x3f
 told_quote = rw (is_xid_start-ascii 0x27 (omega arith)) refl
+
+-- what the first byte tells of is begun by no hash
+pub no_hash : (cs : List ℕ) (b n : ℕ) → (b < 128 → char_at cs 0 ≡ b) → start_of b ≡ n → (n == 0x3f) ≡ false → (char_at cs 0 == 0x23) ≡ false
+no_hash cs b n low e h =
+    let told : (start_of b == 0x3f) ≡ false = ap (λ m. m == 0x3f) e ∙ h in
+    begins_other 0x23 cs b (low (is_low b told)) (not_mark 0x23 told_hash b told)
 
 -- a byte of ASCII, and no mark of literals
 pub record EndsWord (b : ℕ) : Type 0 where

@@ -8,13 +8,13 @@ use Rattle.std.specs.Option.{is_some}
 use Rattle.rustc_lexer.specs.Character.{char_at, begins, is, is_whitespace, is_id_start, is_digit, continues, identifier_len, utf8_len}
 use Rattle.rustc_lexer.specs.Scanned.{Scanned, further}
 use Rattle.rustc_lexer.specs.Cursors.{suffix_of}
-use Rattle.rustc_lexer.specs.Literals.{literal, quoted_body, string_body, raw_form}
-use Rattle.rustc_lexer.specs.Lexeme.{Lexeme, lexeme, lexeme_of, quoted, string, raw_string, one_char_kind, plain_word, word, is_prefix_mark, lifetime, begins_lifetime, begins_guarded}
+use Rattle.rustc_lexer.specs.Literals.{literal, quoted_body, string_body, raw_form, hashes, guarded_form}
+use Rattle.rustc_lexer.specs.Lexeme.{Lexeme, lexeme, lexeme_of, quoted, string, raw_string, one_char_kind, plain_word, word, is_prefix_mark, lifetime, begins_lifetime, begins_guarded, guarded}
 use Rattle.rustc_lexer.specs.Numbers.{number}
 use Rattle.rustc_lexer.specs.TokensAt.{IsTokenAt}
 use Rattle.rustc_lexer.specs.declared.token.Token.{Token}
 use Rattle.rustc_lexer.specs.declared.token.LiteralKind.{LiteralKind}
-use Rattle.rustc_lexer.specs.declared.token.LiteralKind.TheVariants.{Byte, Char, Str, ByteStr, CStr, RawStr, RawByteStr, RawCStr}
+use Rattle.rustc_lexer.specs.declared.token.LiteralKind.TheVariants.{Byte, Char, Str, ByteStr, CStr, RawStr, RawByteStr, RawCStr, GuardedStr}
 use Rattle.rustc_lexer.specs.declared.token.TokenKind.TheVariants.{UnknownPrefix, Ident}
 use Rattle.rustc_lexer.proofs.CutLemmas.{behind_chars}
 use Rattle.rustc_lexer.proofs.PositiveLemmas.{choice}
@@ -52,6 +52,11 @@ string_suffix kind p cs =
 raw_suffix : (kind : Option ℕ → LiteralKind) (p : ℕ) (cs : List ℕ) → SuffixInside cs (raw_string kind p cs)
 raw_suffix kind p cs =
     let form : Scanned (Option ℕ) = further p (raw_form (drop p cs)) in literal_suffix (is_some form.value) (kind form.value) form.size cs
+
+guarded_suffix : (cs : List ℕ) → SuffixInside cs (guarded cs)
+guarded_suffix cs =
+    let n : ℕ = (hashes cs).size in
+    let form : Scanned (Option ℕ) = further n (guarded_form n (drop n cs)) in literal_suffix (is_some form.value) (GuardedStr form.value) form.size cs
 
 plain_suffix : (cs : List ℕ) → SuffixInside cs (plain_word cs)
 plain_suffix cs = no_suffix cs (plain_word cs) (by_mark (is_prefix_mark (char_at cs (identifier_len cs))))
@@ -91,7 +96,7 @@ suffix_behind t =
     (λ _. choice (SuffixInside t) (is_id_start c) _ _
     (λ _. prefixed_suffix t)
     (λ _. choice (SuffixInside t) (is_digit c) _ _ (λ _. ((number t).size, omega arith, refl))
-    (λ _. choice (SuffixInside t) (begins_guarded t) _ _ (λ _. (0, omega arith, refl))
+    (λ _. choice (SuffixInside t) (begins_guarded t) _ _ (λ _. guarded_suffix t)
     (λ _. choice (SuffixInside t) (is "'" c) _ _
     (λ _. choice (SuffixInside t) (begins_lifetime t) _ _ (λ _. lifetime_suffix t) (λ _. quoted_suffix Char 1 t))
     (λ _. choice (SuffixInside t) (is "\"" c) _ _ (λ _. string_suffix Str 1 t)

@@ -1,7 +1,7 @@
 -- What an edit of a text keeps of its tokens. Texts are lists of bytes, and offsets are in bytes.
 use Rattle.std.specs.Prelude.{ℕ, ◌+◌, ◌-◌, Bool, ◌&&◌, ◌==◌, nat_le, List, [], ◌∷◌, ◌++◌, length, take, drop, get_or, chars}
 use Rattle.std.specs.List.{prefix_len, position_or_len, list_any}
-use Rattle.rustc_lexer.specs.Lexing.{tokens_of}
+use Rattle.rustc_lexer.specs.Lexing.{look_ahead, tokens_of}
 use Rattle.rustc_lexer.specs.declared.relex.Kept.{Kept}
 use Rattle.rustc_lexer.specs.declared.token.Token.{Token}
 
@@ -22,11 +22,14 @@ boundaries_from at ts = at ∷ ends_from at ts
 abbrev pub boundaries : List ℕ → List ℕ
 boundaries text = boundaries_from 0 (tokens_of (chars text))
 
--- the text has at least two characters from `at` to `start`
+-- the tokens up to `at` depend on nothing from `start` on: the text has at least two characters
+-- from `at` to `start`, besides the hashes that go on with a run at `at`
 abbrev pub is_clear_of : List ℕ → ℕ → ℕ → Bool
-is_clear_of text start at = nat_le 2 (length (chars (take (start - at) (drop at text))))
+is_clear_of text start at =
+    let between : List ℕ = chars (take (start - at) (drop at text)) in
+    nat_le (look_ahead (chars (take at text)) between) (length between)
 
--- how many tokens end at least two characters before `start`
+-- how many tokens end clear of `start`
 abbrev pub front_of : List ℕ → ℕ → ℕ
 front_of text start = prefix_len (is_clear_of text start) (ends_from 0 (tokens_of (chars text)))
 
@@ -38,7 +41,7 @@ moves_to stop moved place at = nat_le stop at && (at - stop + moved == place)
 abbrev pub is_moved_boundary : List ℕ → ℕ → ℕ → ℕ → Bool
 is_moved_boundary text stop moved place = list_any (moves_to stop moved place) (boundaries text)
 
--- what an edit keeps: the tokens that end at least two characters before `start`; then lexing
+-- what an edit keeps: the tokens that end clear of `start`; then lexing
 -- goes on, up to the first boundary of the new text that is a moved boundary of the old; and the
 -- old tokens after this one
 abbrev pub kept : List ℕ → ℕ → ℕ → List ℕ → Kept

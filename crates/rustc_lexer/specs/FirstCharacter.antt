@@ -1,10 +1,11 @@
 -- The first lexeme of a text, by its first character.
-use Rattle.std.specs.Prelude.{ℕ, Bool, not, ◌||◌, ◌&&◌, ◌==◌, nat_lt, List, if◌then◌else◌}
+use Rattle.std.specs.Prelude.{◌≡◌, ◌<◌, ◌≤◌, ◌-◌, ℕ, Bool, false, not, ◌||◌, ◌&&◌, ◌==◌, nat_lt, List, chars, length, if◌then◌else◌}
 use Rattle.rustc_lexer.specs.Character.{char_at, begins, is, is_whitespace, is_id_start, is_digit}
-use Rattle.rustc_lexer.specs.Lexeme.{Lexeme, lexeme_of, quoted, string, raw_string, is_prefix_mark, marked_word, plain_word, begins_guarded, quote, one_char_kind, white_space, word, numeral}
+use Rattle.rustc_lexer.specs.Lexeme.{Lexeme, lexeme_of, quoted, string, raw_string, is_prefix_mark, marked_word, plain_word, begins_guarded, guarded, quote, one_char_kind, white_space, word, numeral}
+use Rattle.rustc_lexer.specs.Literals.{hashes}
 use Rattle.rustc_lexer.specs.declared.token.LiteralKind.TheVariants.{Byte, Str, ByteStr, CStr, RawStr, RawByteStr, RawCStr}
 use Rattle.rustc_lexer.specs.declared.token.TokenKind.{TokenKind}
-use Rattle.rustc_lexer.specs.declared.token.TokenKind.TheVariants.{Ident, RawIdent, ForcedKeywordIdent, UnknownPrefix, GuardedStrPrefix}
+use Rattle.rustc_lexer.specs.declared.token.TokenKind.TheVariants.{Ident, RawIdent, ForcedKeywordIdent, UnknownPrefix, Pound}
 
 -- the lexeme that begins with `r`
 abbrev pub r_word : List ℕ → Lexeme
@@ -36,15 +37,19 @@ k_word cs = if begins "k#" cs && is_id_start (char_at cs 2) then marked_word For
 abbrev pub word_kind : ℕ → TokenKind
 word_kind next = if is_prefix_mark next then UnknownPrefix else Ident
 
--- the lexeme that begins with neither white space, nor a letter, nor a digit, and is no comment
+-- the lexeme that begins with `#`
+abbrev pub hash : List ℕ → Lexeme
+hash cs = if begins_guarded cs then guarded cs else lexeme_of Pound 1
+
+-- the lexeme that begins with neither white space, nor a letter, nor a digit, nor `#`, and is no
+-- comment
 abbrev pub sign : List ℕ → Lexeme
 sign cs =
-    if begins_guarded cs then lexeme_of GuardedStrPrefix 2
-    else if is "'" (char_at cs 0) then quote cs
+    if is "'" (char_at cs 0) then quote cs
     else if is "\"" (char_at cs 0) then string Str 1 cs
     else lexeme_of (one_char_kind (char_at cs 0)) 1
 
--- the first lexeme, if it is no comment
+-- the first lexeme, if it is no comment and does not begin with `#`
 abbrev pub uncommented : List ℕ → Lexeme
 uncommented cs =
     if is_whitespace (char_at cs 0) then white_space cs
@@ -65,3 +70,8 @@ start_told ascii white start b =
 -- what the first byte says: white space 0x20, a word 0x61, one character 0x2e, nothing yet 0x3f
 abbrev pub start_of : ℕ → ℕ
 start_of b = start_told (nat_lt b 128) (is_whitespace b) (is_id_start b) b
+
+-- all but the last n bytes of a text are hashes of a run that begins no guarded string
+pub record ArePlain (text : List ℕ) (n : ℕ) : Type 0 where
+  pub hashed : length text - n ≤ (hashes (chars text)).size
+  pub plain : n < length text → begins_guarded (chars text) ≡ false

@@ -4,13 +4,13 @@ use Rattle.std.specs.List.{prefix_len}
 use Rattle.std.specs.Option.{is_some}
 use Rattle.rustc_lexer.specs.Character.{char_at, begins, is, is_whitespace, is_id_start, is_digit, continues, identifier_len}
 use Rattle.rustc_lexer.specs.Comments.{line_comment, block_comment}
-use Rattle.rustc_lexer.specs.Literals.{literal, with_suffix, bare, quoted_body, string_body, raw_form}
+use Rattle.rustc_lexer.specs.Literals.{literal, with_suffix, bare, quoted_body, string_body, raw_form, hashes, guarded_form}
 use Rattle.rustc_lexer.specs.Numbers.{number}
 use Rattle.rustc_lexer.specs.Scanned.{Scanned, further}
 use Rattle.rustc_lexer.specs.declared.token.LiteralKind.{LiteralKind}
-use Rattle.rustc_lexer.specs.declared.token.LiteralKind.TheVariants.{Char, Byte, Str, ByteStr, CStr, RawStr, RawByteStr, RawCStr}
+use Rattle.rustc_lexer.specs.declared.token.LiteralKind.TheVariants.{Char, Byte, Str, ByteStr, CStr, RawStr, RawByteStr, RawCStr, GuardedStr}
 use Rattle.rustc_lexer.specs.declared.token.TokenKind.{TokenKind}
-use Rattle.rustc_lexer.specs.declared.token.TokenKind.TheVariants.{Whitespace, Ident, RawIdent, ForcedKeywordIdent, UnknownPrefix, UnknownPrefixLifetime, RawLifetime, GuardedStrPrefix, Lifetime, Semi, Comma, Dot, OpenParen, CloseParen, OpenBrace, CloseBrace, OpenBracket, CloseBracket, At, Pound, Tilde, Question, Colon, Dollar, Eq, Bang, Lt, Gt, Minus, And, Or, Plus, Star, Slash, Caret, Percent, Unknown}
+use Rattle.rustc_lexer.specs.declared.token.TokenKind.TheVariants.{Whitespace, Ident, RawIdent, ForcedKeywordIdent, UnknownPrefix, UnknownPrefixLifetime, RawLifetime, Lifetime, Semi, Comma, Dot, OpenParen, CloseParen, OpenBrace, CloseBrace, OpenBracket, CloseBracket, At, Pound, Tilde, Question, Colon, Dollar, Eq, Bang, Lt, Gt, Minus, And, Or, Plus, Star, Slash, Caret, Percent, Unknown}
 
 -- a lexeme: its kind, and its number of characters
 abbrev pub Lexeme : Type 0
@@ -114,9 +114,16 @@ one_char_kind c =
 
 -- ---- the first lexeme
 
--- a guarded string begins with these
+-- a guarded string begins with a run of hashes and a quote right after it
 abbrev pub begins_guarded : List ℕ → Bool
-begins_guarded cs = begins "#\"" cs || begins "##" cs
+begins_guarded cs = is "#" (char_at cs 0) && is "\"" (char_at cs (hashes cs).size)
+
+-- a guarded string: the hashes, and the string after them
+abbrev pub guarded : List ℕ → Lexeme
+guarded cs =
+    let n : ℕ = (hashes cs).size in
+    let form : Scanned (Option ℕ) = further n (guarded_form n (drop n cs)) in
+    literal (is_some form.value) (GuardedStr form.value) form.size cs
 
 -- the first lexeme of a text that is not empty
 abbrev pub lexeme : List ℕ → Lexeme
@@ -127,7 +134,7 @@ lexeme cs =
     else if is_whitespace c then white_space cs
     else if is_id_start c then word cs
     else if is_digit c then numeral cs
-    else if begins_guarded cs then lexeme_of GuardedStrPrefix 2
+    else if begins_guarded cs then guarded cs
     else if is "'" c then quote cs
     else if is "\"" c then string Str 1 cs
     else lexeme_of (one_char_kind c) 1

@@ -1,7 +1,8 @@
 -- The tokens of a text: the text cut into lexemes, from its first character to its last.
-use Rattle.std.specs.Prelude.{ℕ, zero, suc, ◌+◌, ◌-◌, List, [], ◌∷◌, take, drop}
-use Rattle.rustc_lexer.specs.Character.{utf8_len}
+use Rattle.std.specs.Prelude.{ℕ, zero, suc, ◌+◌, ◌-◌, Bool, List, [], ◌∷◌, length, take, drop, if◌then◌else◌}
+use Rattle.rustc_lexer.specs.Character.{char_at, is, utf8_len}
 use Rattle.rustc_lexer.specs.Lexeme.{Lexeme, lexeme}
+use Rattle.rustc_lexer.specs.Literals.{hashes}
 use Rattle.rustc_lexer.specs.declared.token.Token.{Token}
 
 -- the lexeme as a token of the text that it begins, with its length in bytes
@@ -24,6 +25,19 @@ place zero cs = 0
 place (suc k) [] = 0
 place (suc k) (c ∷ cs) = (lexeme (c ∷ cs)).size + place k (drop (lexeme (c ∷ cs)).size (c ∷ cs))
 
--- how many characters of a text its first k tokens depend on: their own, and the two that follow
+-- the text ends in `#`
+abbrev pub ends_in_hash : List ℕ → Bool
+ends_in_hash cs = is "#" (char_at cs (length cs - 1))
+
+-- how many hashes at the front of `after` go on with a run of hashes at the end of `before`
+abbrev pub run_on : List ℕ → List ℕ → ℕ
+run_on before after = if ends_in_hash before then (hashes after).size else 0
+
+-- how many characters of `after` the tokens of `before` depend on: the hashes that go on with a
+-- run, and two more
+abbrev pub look_ahead : List ℕ → List ℕ → ℕ
+look_ahead before after = run_on before after + 2
+
+-- how many characters of a text its first k tokens depend on: their own, and those ahead
 abbrev pub reach : ℕ → List ℕ → ℕ
-reach k cs = place k cs + 2
+reach k cs = place k cs + look_ahead (take (place k cs) cs) (drop (place k cs) cs)

@@ -83,6 +83,14 @@ raw_form cs =
     if is "\"" (char_at cs n) then further n (record { value = hashes_of body.value n; size = body.size })
     else further n (record { value = None; size = length (take 1 (drop n cs)) })
 
+-- a string after n hashes, from its quote on, with at most n hashes after its body: n, if it is
+-- whole: terminated, with n hashes after it and no more than 255
+abbrev pub guarded_form : ℕ → List ℕ → Scanned (Option ℕ)
+guarded_form n cs =
+    let body : Scanned Bool = further 1 (string_body (drop 1 cs)) in
+    let closing : ℕ = min n (hashes (drop body.size cs)).size in
+    record { value = hashes_of (body.value && (closing == n)) n; size = body.size + closing }
+
 -- what follows the body of a string after n hashes: at most n hashes, and a suffix
 abbrev pub guard_end : ℕ → List ℕ → ℕ
 guard_end n cs =
@@ -97,7 +105,8 @@ guarded_body n cs =
       size = if body.value then body.size + guard_end n (drop body.size cs) else body.size;
     }
 
--- a guarded string: all hashes at the front and the string after them, or the hashes alone
+-- what a cursor takes for a guarded string: all hashes at the front and the string after them,
+-- or the hashes alone
 abbrev pub guarded_string : List ℕ → Scanned (Option Bool)
 guarded_string cs =
     let n : ℕ = (hashes cs).size in

@@ -10,7 +10,7 @@ use Rattle.rustc_lexer.specs.declared.token.Base.{Base}
 use Rattle.rustc_lexer.specs.declared.token.Base.TheVariants.{Binary, Octal, Decimal, Hexadecimal}
 use Rattle.rustc_lexer.specs.declared.token.GuardedStr.{GuardedStr}
 use Rattle.rustc_lexer.specs.declared.token.LiteralKind.{LiteralKind}
-use Rattle.rustc_lexer.specs.declared.token.LiteralKind.TheVariants.{Int, Float, Char, Byte, Str, ByteStr, CStr, RawStr, RawByteStr, RawCStr}
+use Rattle.rustc_lexer.specs.declared.token.LiteralKind.TheVariants.{Int, Float, Char, Byte, Str, ByteStr, CStr, RawStr, RawByteStr, RawCStr, GuardedStr as GuardedLiteral}
 
 -- the number of a base
 abbrev pub base_number : Base → ℕ
@@ -44,6 +44,7 @@ kind_ranks (CStr terminated) = 6 ∷ bool_rank terminated ∷ []
 kind_ranks (RawStr n_hashes) = 7 ∷ option_ranks n_hashes
 kind_ranks (RawByteStr n_hashes) = 8 ∷ option_ranks n_hashes
 kind_ranks (RawCStr n_hashes) = 9 ∷ option_ranks n_hashes
+kind_ranks (GuardedLiteral n_hashes) = 10 ∷ option_ranks n_hashes
 
 abbrev pub guarded_ranks : GuardedStr → List ℕ
 guarded_ranks g = g.n_hashes ∷ bool_rank g.terminated ∷ g.token_len ∷ []

@@ -1,5 +1,5 @@
 -- How an edited text is relexed, and its new tokens are spliced in.
-use Rattle.std.specs.Prelude.{◌≡◌, ◌==◌, ◌<◌, ◌≤◌, ◌+◌, ◌-◌, ◌^◌, ℕ, true, nat_le, List, [], ◌∷◌, ◌++◌, sum_by, length, take, drop, chars, IsUtf8, IsCharBoundary, if◌then◌else◌}
+use Rattle.std.specs.Prelude.{◌≡◌, ◌==◌, ◌<◌, ◌≤◌, ◌+◌, ◌-◌, ◌^◌, ◌&&◌, ℕ, true, nat_le, List, [], ◌∷◌, ◌++◌, sum_by, length, take, drop, chars, IsUtf8, IsCharBoundary, if◌then◌else◌}
 use Rattle.std.specs.List.{position_or_len, list_any, splice}
 use Rattle.rustc_lexer.specs.Edit.{boundaries_from, edited, front_of, is_clear_of, moves_to}
 use Rattle.rustc_lexer.specs.Lexing.{tokens_of}
@@ -32,7 +32,19 @@ IsCheckpoint ts m = (m.tokens ≤ length ts) × (m.place ≡ total (take m.token
 abbrev pub IsInRange : Checkpoint → Type 0
 IsInRange m = (m.tokens < 2 ^ 32) × (m.place < 2 ^ 32)
 
--- the first k tokens are those that end well before `start`, and they end at `at`
+-- `last` is one character before `start`, or both are the start of the text
+pub record IsLastChar (text : List ℕ) (start last : ℕ) : Type 0 where
+  pub boundary : IsCharBoundary text last
+  pub before : last ≤ start
+  pub one : 0 < start → length (chars (take (start - last) (drop last text))) ≡ 1
+
+-- what is clear of `start` is up to offset `run`, and two characters before `start`
+pub record IsRunStart (text : List ℕ) (start run : ℕ) : Type 0 where
+  pub before : run ≤ start
+  pub clear : (at : ℕ) → IsCharBoundary text at → is_clear_of text start at
+      ≡ (nat_le at run && nat_le 2 (length (chars (take (start - at) (drop at text)))))
+
+-- the first k tokens are those that end clear of `start`, and they end at `at`
 pub record IsBegun (text : List ℕ) (ts : List Token) (start k at : ℕ) : Type 0 where
   pub count : k ≡ front_of text start
   pub is_at : at ≡ total (take k ts)

@@ -2,6 +2,7 @@
 ghost use Rattle.std.specs.Prelude.{◌≡◌, ◌<◌, ◌+◌, ◌^◌, length, chars};
 ghost use Rattle.rustc_lexer.specs.Character.{char_at};
 ghost use Rattle.rustc_lexer.specs.Cursors.{Unread, next_token, past_token, next_guarded, past_guarded, later_suffix, suffix_of};
+ghost use Rattle.rustc_lexer.specs.FirstCharacter.{ArePlain};
 
 use crate::first_token::first_lexeme;
 use crate::literal::{count_hashes, guarded_string};
@@ -18,7 +19,10 @@ pub struct Cursor<'a> {
     rest: &'a str,
     // How many bytes were consumed that count in the next token.
     pending: u32,
+    // How many bytes remain behind the run of hashes that was looked at last.
+    behind_run: usize,
     ghost small: { length rest.now + pending < 2 ^ 32 },
+    ghost plain: { ArePlain rest.now behind_run },
 }
 
 impl<'a> Model for Cursor<'a> {
@@ -39,6 +43,7 @@ impl<'a> Cursor<'a> {
             FrontmatterAllowed::No => Cursor {
                 rest: input,
                 pending: 0,
+                behind_run: input.len(),
             },
         }
     }
@@ -75,7 +80,7 @@ impl<'a> Cursor<'a> {
             let kind = TokenKind::Eof;
             return Token { kind, len: 0 };
         }
-        let (kind, rest) = first_lexeme(text);
+        let (kind, rest) = first_lexeme(text, &mut self.behind_run);
         let pending = self.pending;
         let len = pending + (text.len() - rest.len()) as u32;
         self.rest = rest;
@@ -99,6 +104,7 @@ impl<'a> Cursor<'a> {
         let (found, rest) = guarded_string(opening, n_hashes);
         let token_len = self.pending + (text.len() - rest.len()) as u32;
         self.rest = rest;
+        self.behind_run = rest.len();
         match found {
             Some(terminated) => {
                 self.pending = 0;

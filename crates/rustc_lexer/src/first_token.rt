@@ -1,27 +1,30 @@
 //! Lexes the first token of a text: its kind, and the text after it.
 ghost use Rattle.std.specs.Prelude.{◌≡◌, ◌<◌, ◌^◌, length, chars, IsUtf8};
 ghost use Rattle.rustc_lexer.specs.Character.{char_at};
-ghost use Rattle.rustc_lexer.specs.Lexeme.{lexeme, string, one_char_kind, begins_guarded, numeral, white_space};
+ghost use Rattle.rustc_lexer.specs.Lexeme.{lexeme, string, one_char_kind, guarded, numeral, white_space};
+ghost use Rattle.rustc_lexer.specs.Literals.{hashes};
 ghost use Rattle.rustc_lexer.specs.Scanned.{IsRead};
-ghost use Rattle.rustc_lexer.specs.FirstCharacter.{sign, uncommented};
+ghost use Rattle.rustc_lexer.specs.FirstCharacter.{ArePlain, hash, sign, uncommented};
 ghost use Rattle.rustc_lexer.specs.declared.token.LiteralKind.TheVariants.{Str};
 
 use crate::character::{is_id_start, is_whitespace};
 use crate::comment::{block_comment, line_comment};
 use crate::ident::word;
-use crate::literal::{literal, string_body, with_suffix};
+use crate::literal::{count_hashes, guarded_form, literal, string_body, with_suffix};
 use crate::number::number;
 use crate::quote::quote;
-use crate::scan::{
-    White, begins, behind, first, first_byte, is_digit, second, skip_while, start_of,
-};
+use crate::scan::{White, behind, first, first_byte, is_digit, second, skip_while, start_of};
 use crate::token::{LiteralKind, TokenKind};
 
-// The kind of the first lexeme of the text, and what follows it.
-pub fn first_lexeme(text: &str) -> (TokenKind, &str)
-    requires { length text.now < 2 ^ 32 }
+// The kind of the first lexeme of the text, and what follows it. While the text has more than
+// `behind_run` bytes, it begins with hashes that are known to be tokens by themselves, so a run of
+// hashes is looked at once and not again for each of them.
+pub fn first_lexeme<'a>(text: &'a str, behind_run: &mut usize) -> (TokenKind, &'a str)
+    requires small { length text.now < 2 ^ 32 }
+    requires plain { ArePlain text.now behind_run.old }
     ensures utf8 { IsUtf8 text.now }
     ensures read { IsRead (lexeme (chars text.now)) text.now result.0 result.1.now }
+    ensures plain { ArePlain result.1.now behind_run.new }
 {
     let b = first_byte(text);
     match start_of(b) {
@@ -30,7 +33,7 @@ pub fn first_lexeme(text: &str) -> (TokenKind, &str)
         b' ' => (TokenKind::Whitespace, skip_while::<White>(text)),
         _ => {
             // Taken apart, so that the usual answers stay in registers.
-            let (kind, rest) = other_lexeme(text);
+            let (kind, rest) = other_lexeme(text, behind_run);
             (kind, rest)
         }
     }
@@ -38,16 +41,51 @@ pub fn first_lexeme(text: &str) -> (TokenKind, &str)
 
 // The first lexeme, if the first byte does not determine its kind.
 #[inline(never)]
-fn other_lexeme(text: &str) -> (TokenKind, &str)
-    requires { length text.now < 2 ^ 32 }
-    ensures { IsRead (lexeme (chars text.now)) text.now result.0 result.1.now }
+fn other_lexeme<'a>(text: &'a str, behind_run: &mut usize) -> (TokenKind, &'a str)
+    requires small { length text.now < 2 ^ 32 }
+    requires plain { ArePlain text.now behind_run.old }
+    ensures read { IsRead (lexeme (chars text.now)) text.now result.0 result.1.now }
+    ensures plain { ArePlain result.1.now behind_run.new }
 {
     let c = first(text);
     if c == '/' {
         slash(text)
+    } else if c == '#' {
+        hash(text, behind_run)
     } else {
         begun_by(c, text)
     }
+}
+
+// The lexeme that `#` begins: a guarded string, or the character alone. No `"` follows a run that
+// is known to be tokens by themselves.
+fn hash<'a>(text: &'a str, behind_run: &mut usize) -> (TokenKind, &'a str)
+    requires small { length text.now < 2 ^ 32 }
+    requires first { char_at (chars text.now) 0 ≡ 35 }
+    requires plain { ArePlain text.now behind_run.old }
+    ensures read { IsRead (hash (chars text.now)) text.now result.0 result.1.now }
+    ensures plain { ArePlain result.1.now behind_run.new }
+{
+    if *behind_run < text.len() {
+        return (TokenKind::Pound, behind(text));
+    }
+    let (n, opening) = count_hashes(text);
+    if first(opening) == '"' {
+        return guarded(text, n, opening);
+    }
+    *behind_run = opening.len();
+    (TokenKind::Pound, behind(text))
+}
+
+// `#"a"#`, after its n hashes
+fn guarded<'a>(text: &'a str, n: usize, opening: &'a str) -> (TokenKind, &'a str)
+    requires small { length text.now < 2 ^ 32 }
+    requires opening { IsRead (hashes (chars text.now)) text.now n opening.now }
+    ensures { IsRead (guarded (chars text.now)) text.now result.0 result.1.now }
+{
+    let (n_hashes, rest) = guarded_form(opening, n);
+    let kind = LiteralKind::GuardedStr { n_hashes };
+    literal(n_hashes.is_some(), kind, text, rest)
 }
 
 // The lexeme that `/` begins: a comment, or the character alone.
@@ -65,7 +103,7 @@ fn slash(text: &str) -> (TokenKind, &str)
     }
 }
 
-// The lexeme that begins with this character, if it is no comment.
+// The lexeme that begins with this character, if it is no comment and the character no `#`.
 #[inline(always)]
 fn begun_by(c: char, text: &str) -> (TokenKind, &str)
     requires small { length text.now < 2 ^ 32 }
@@ -83,28 +121,18 @@ fn begun_by(c: char, text: &str) -> (TokenKind, &str)
     }
 }
 
-// The lexeme that begins with neither white space, nor a letter, nor a digit, and is no comment.
+// The lexeme that begins with neither white space, nor a letter, nor a digit, nor `#`, and is no
+// comment.
 #[inline(always)]
 fn sign(text: &str) -> (TokenKind, &str)
     requires { length text.now < 2 ^ 32 }
     ensures { IsRead (sign (chars text.now)) text.now result.0 result.1.now }
 {
-    if begins_guarded(text) {
-        return (TokenKind::GuardedStrPrefix, behind(behind(text)));
-    }
     match first(text) {
         '\'' => quote(text),
         '"' => string(text),
         c => (one_char_kind(c), behind(text)),
     }
-}
-
-// Whether the text begins like a guarded string.
-#[inline]
-fn begins_guarded(text: &str) -> bool
-    ensures { result ≡ begins_guarded (chars text.now) }
-{
-    begins(text, '#', '"') || begins(text, '#', '#')
 }
 
 // A number and its suffix.

@@ -17,7 +17,7 @@ ghost use Rattle.std.specs.Ordering.{nat_cmp};
 ghost use Rattle.rustc_lexer.specs.Character.{is_digit, is_ident, utf8_len};
 ghost use Rattle.rustc_lexer.specs.Cursors.{suffix_of};
 ghost use Rattle.rustc_lexer.specs.Lexeme.{lexeme, one_char_kind};
-ghost use Rattle.rustc_lexer.specs.Lexing.{place, reach, token_of, tokens_of};
+ghost use Rattle.rustc_lexer.specs.Lexing.{look_ahead, place, reach, run_on, token_of, tokens_of};
 ghost use Rattle.rustc_lexer.specs.Literals.{stands_for_itself, with_escapes};
 ghost use Rattle.rustc_lexer.specs.Orders.{base_number, error_ranks, guarded_ranks, in_order, kind_ranks};
 ghost use Rattle.rustc_lexer.specs.Seams.{begins_longer, begins_white, ends_here, is_blank, is_sign, is_whole, stands_alone};
@@ -90,10 +90,13 @@ pub fn first_of_tokens()
         ≡ token_of (lexeme (c ∷ cs)) (c ∷ cs) ∷ tokens_of (drop (lexeme (c ∷ cs)).size (c ∷ cs)) }
 {}
 
-/// The first k tokens depend on the characters that `reach` counts, and on no others. A text with
-/// the same characters up to there, or that ends where the first one does, has the same first k
-/// tokens at the same offsets. In bytes: so it is for a text that begins with the same bytes of
-/// these tokens, followed by the same two characters, or as many of them.
+/// The first k tokens depend on the characters that `reach` counts, and on no others: their own,
+/// the hashes that go on with a run at their end, and two more. A text with the same characters up
+/// to there, or that ends where the first one does, has the same first k tokens at the same
+/// offsets. In bytes: so it is for a text that begins with the same bytes of these tokens, followed
+/// by the same characters that are looked ahead at, or as many of them. (A hash is one byte, and no
+/// other character has that byte.) These are two where no run of hashes goes on: where the tokens
+/// do not end in `#`, or no `#` follows.
 pub fn first_tokens()
     ensures tokens { (k : ℕ) (cs ds : List ℕ) →
         take (reach k cs) cs ≡ take (reach k cs) ds → take k (tokens_of ds) ≡ take k (tokens_of cs) }
@@ -101,6 +104,12 @@ pub fn first_tokens()
         take (reach k cs) cs ≡ take (reach k cs) ds → place k ds ≡ place k cs }
     ensures bytes { (k n : ℕ) (text other : List ℕ) → IsUtf8 text →
         sum_by (λ t. t.len) (take k (tokens_of (chars text))) ≡ n → take n text ≡ take n other →
+        take (look_ahead (take n text) (drop n text)) (chars (drop n text))
+        ≡ take (look_ahead (take n text) (drop n text)) (chars (drop n other)) →
+        take k (tokens_of (chars other)) ≡ take k (tokens_of (chars text)) }
+    ensures two { (k n : ℕ) (text other : List ℕ) → IsUtf8 text →
+        sum_by (λ t. t.len) (take k (tokens_of (chars text))) ≡ n → take n text ≡ take n other →
+        run_on (take n text) (drop n text) ≡ 0 →
         take 2 (chars (drop n text)) ≡ take 2 (chars (drop n other)) →
         take k (tokens_of (chars other)) ≡ take k (tokens_of (chars text)) }
 {}

@@ -16,6 +16,9 @@ pub fn tokenize(input: &str, frontmatter_allowed: FrontmatterAllowed) -> Tokens<
     ensures { tokens_left result ≡ tokens_of (chars input.now) }
 {
     match frontmatter_allowed {
-        FrontmatterAllowed::No => Tokens { rest: input },
+        FrontmatterAllowed::No => Tokens {
+            rest: input,
+            behind_run: input.len(),
+        },
     }
 }

@@ -1,8 +1,8 @@
 //! Lexes the bodies and suffixes of literals.
-ghost use Rattle.std.specs.Prelude.{◌≡◌, ◌<◌, ◌≤◌, ◌^◌, ◌-◌, ℕ, List, Bool, true, false, nat_le, min, drop, length, chars, MatchOption, IsUtf8, IfSome};
+ghost use Rattle.std.specs.Prelude.{◌≡◌, ◌==◌, ◌&&◌, ◌<◌, ◌≤◌, ◌^◌, ◌-◌, ℕ, List, Bool, true, false, nat_le, min, drop, length, chars, MatchOption, IsUtf8, IfSome};
 ghost use Rattle.std.specs.List.{prefix_len};
 ghost use Rattle.rustc_lexer.specs.Character.{is, identifier_len};
-ghost use Rattle.rustc_lexer.specs.Literals.{with_suffix, bare, literal, quoted_body, quoted_rest, string_body, raw_body, raw_form, hashes, hashes_of, guarded_body, guarded_string};
+ghost use Rattle.rustc_lexer.specs.Literals.{with_suffix, bare, literal, quoted_body, quoted_rest, string_body, raw_body, raw_form, hashes, hashes_of, guarded_body, guarded_form, guarded_string};
 ghost use Rattle.rustc_lexer.specs.Scanned.{IsRead};
 
 use crate::character::is_id_start;
@@ -165,7 +165,7 @@ pub fn count_hashes(text: &str) -> (usize, &str)
     (n, rest)
 }
 
-// The number of hashes of a raw string, if it is whole.
+// The number of hashes of a raw or guarded string, if it is whole.
 fn hashes_of(terminated: bool, n: usize) -> Option<u8>
     ensures { result ≡ hashes_of terminated n }
 {
@@ -189,9 +189,11 @@ pub fn raw_form(text: &str) -> (Option<u8>, &str)
     (hashes_of(terminated, n), rest)
 }
 
-// What follows at most n hashes at the front.
-fn skip_closing(text: &str, n: usize) -> &str
-    ensures { chars result.now ≡ drop (min n (hashes (chars text.now)).size) (chars text.now) }
+// Passes at most n hashes at the front. Answers how many of the n are not there, and what follows.
+fn skip_closing(text: &str, n: usize) -> (usize, &str)
+    ensures missing { result.0 ≡ n - min n (hashes (chars text.now)).size }
+    ensures rest { chars result.1.now ≡ drop (min n (hashes (chars text.now)).size) (chars text.now) }
+    ensures utf8 { IsUtf8 result.1.now }
 {
     let mut left = n;
     let mut rest = text;
@@ -199,10 +201,28 @@ fn skip_closing(text: &str, n: usize) -> &str
         rest = behind(rest);
         left -= 1;
     }
-    rest
+    (left, rest)
 }
 
-// A string after n hashes, from its quote on: whether it is terminated, and what follows it.
+// A guarded string after n hashes, from its quote on: n, if it is whole, and what follows it.
+pub fn guarded_form(text: &str, n: usize) -> (Option<u8>, &str)
+    ensures { IsRead (guarded_form n (chars text.now)) text.now result.0 result.1.now }
+{
+    let (terminated, body_end) = string_body(behind(text));
+    let (missing, rest) = skip_closing(body_end, n);
+    (hashes_of(is_closed(terminated, missing), n), rest)
+}
+
+// Whether a guarded string is terminated and no hash is missing after it.
+#[inline]
+fn is_closed(terminated: bool, missing: usize) -> bool
+    ensures { result ≡ (terminated && (missing == 0)) }
+{
+    terminated && missing == 0
+}
+
+// What a cursor takes of a string after n hashes, from its quote on: whether it is terminated, and
+// what follows it.
 fn guarded_body(text: &str, n: usize) -> (bool, &str)
     ensures { IsRead (guarded_body n (chars text.now)) text.now result.0 result.1.now }
 {
@@ -210,7 +230,8 @@ fn guarded_body(text: &str, n: usize) -> (bool, &str)
     if !terminated {
         return (false, rest);
     }
-    (true, skip_identifier(skip_closing(rest, n)))
+    let (_, rest) = skip_closing(rest, n);
+    (true, skip_identifier(rest))
 }
 
 // The rest of a guarded string after n hashes: whether it is terminated, and what follows it.

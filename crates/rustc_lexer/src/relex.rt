@@ -1,7 +1,8 @@
 //! Incremental lexing: a text that keeps its tokens while it is edited.
 //!
-//! An edit keeps the tokens that end at least two characters before it. Lexing starts after them,
-//! and stops at the first new token boundary that is an old one too.
+//! An edit keeps the tokens that end at least two characters before it, and not inside a run of
+//! hashes that ends at it or one character before. Lexing starts after them, and stops at the first
+//! new token boundary that is an old one too.
 ghost use Rattle.std.specs.Prelude.{◌≡◌, ◌+◌, ◌-◌, ◌<◌, ◌≤◌, ◌^◌, ◌↔◌, IsTrue, IfOk, OnOk, OnErr, length, chars, string_bytes, IsCharBoundary};
 ghost use Rattle.rustc_lexer.specs.Edit.{edited, kept};
 ghost use Rattle.rustc_lexer.specs.Lexing.{tokens_of};
@@ -104,9 +105,10 @@ impl LexedText {
     /// Replaces the bytes from `start` to `end`, and relexes. Both offsets are character
     /// boundaries, in order, and the edit fits.
     ///
-    /// Tokens that end at least two characters before `start` are kept. Lexing starts after them.
-    /// It stops at the first token boundary at or after `end` that is an old boundary, shifted by
-    /// the edit; the old tokens after it are kept.
+    /// Tokens that end at least two characters before `start` are kept, unless they end inside a
+    /// run of hashes that ends at `start` or one character before it. Lexing starts after them. It
+    /// stops at the first token boundary at or after `end` that is an old boundary, shifted by the
+    /// edit; the old tokens after it are kept.
     ///
     /// Refused if there is no memory for the text or its tokens; then nothing changes.
     pub fn edit(&mut self, start: usize, end: usize, replacement: &str) -> Result<Kept, AllocError>

@@ -37,7 +37,7 @@ pub enum TokenKind {
     UnknownPrefixLifetime,
     /// `'r#name`.
     RawLifetime,
-    /// `#"` or `##`, which from edition 2024 on begin a guarded string.
+    /// The start of a guarded string. It is never given: a guarded string is a literal.
     GuardedStrPrefix,
     /// A literal; `suffix_start` is the length in bytes of all before its suffix.
     Literal {
@@ -139,10 +139,14 @@ pub enum LiteralKind {
     RawByteStr { n_hashes: Option<u8> },
     /// `cr#"a"#`; hashes as for `RawStr`.
     RawCStr { n_hashes: Option<u8> },
+    /// `#"a"#`, which edition 2024 reserves; the number of hashes, or `None` if it is not
+    /// terminated, has fewer hashes after it, or more than 255. (The Rust Reference, "Reserved
+    /// guards".)
+    GuardedStr { n_hashes: Option<u8> },
 }
 
-/// A guarded string, as `#"a"#`, which edition 2024 reserves. (The Rust Reference, "Reserved
-/// guards".)
+/// What [`crate::Cursor::guarded_double_quoted_string`] takes: `#"a"#` with any number of hashes,
+/// and at most as many after it. (The Rust Reference, "Reserved guards".)
 #[derive(Clone, Copy, PartialEq, Eq, PartialOrd, Ord, Debug)]
 pub struct GuardedStr {
     /// How many hashes precede the string.

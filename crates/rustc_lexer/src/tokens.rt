@@ -1,5 +1,6 @@
 //! The iterator over the tokens of a text.
 ghost use Rattle.std.specs.Prelude.{◌<◌, ◌^◌, length};
+ghost use Rattle.rustc_lexer.specs.FirstCharacter.{ArePlain};
 
 use crate::first_token::first_lexeme;
 use crate::token::Token;
@@ -8,7 +9,10 @@ use crate::token::Token;
 #[derive(Drop)]
 pub struct Tokens<'a> {
     pub(crate) rest: &'a str,
+    // How many bytes remain behind the run of hashes that was looked at last.
+    pub(crate) behind_run: usize,
     ghost small: { length rest.now < 2 ^ 32 },
+    ghost plain: { ArePlain rest.now behind_run },
 }
 
 impl<'a> Iterator for Tokens<'a> {
@@ -26,7 +30,7 @@ impl<'a> Iterator for Tokens<'a> {
         if text.is_empty() {
             return None;
         }
-        let (kind, rest) = first_lexeme(text);
+        let (kind, rest) = first_lexeme(text, &mut self.behind_run);
         let len = (text.len() - rest.len()) as u32;
         self.rest = rest;
         Some(Token { kind, len })

@@ -44,6 +44,8 @@ fn edits_keep_tokens(rt: HostRuntime) -> Result<(), Fail> {
         ("a; b", 4, 4, " c", "a; b c", kept(2, 4, 0)),
         ("a; /* b */ c", 8, 10, "", "a; /* b  c", kept(3, 1, 0)),
         ("é😀 x; y", 2, 6, "ü", "éü x; y", kept(0, 1, 5)),
+        (";### x", 4, 4, "\"a\"###", ";###\"a\"### x", kept(1, 1, 2)),
+        (";##\"a\"## x", 3, 4, "", ";##a\"## x", kept(1, 4, 0)),
         ("é", 1, 1, "a", "é", None),
         ("ab", 2, 1, "", "ab", None),
     ];
@@ -51,6 +53,24 @@ fn edits_keep_tokens(rt: HostRuntime) -> Result<(), Fail> {
         let mut held = lexed(&rt, text)?;
         let got = edited(&rt, &mut held, start, end, word)?;
         assert!(rt; got == want && held.text() == then, "edit of {text:?}");
+    }
+    Ok(())
+}
+
+// Runs of hashes that an edit makes longer, cuts, or parts from a quote.
+#[test]
+fn edits_at_each_place_of_a_run(rt: HostRuntime) -> Result<(), Fail> {
+    let text = "a;####\"é\"###; ## [b]";
+    for word in ["", "\"", "#", "x", "\"#", "\"\"##"] {
+        for start in 0..text.len() {
+            for len in 0..4usize {
+                let mut held = lexed(&rt, text)?;
+                let end = start.saturating_add(len);
+                if edited(&rt, &mut held, start, end, word)?.is_some() {
+                    edited(&rt, &mut held, start, start.saturating_add(word.len()), "")?;
+                }
+            }
+        }
     }
     Ok(())
 }

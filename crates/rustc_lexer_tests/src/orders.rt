@@ -60,6 +60,9 @@ fn kinds_of_literals_ascend(rt: HostRuntime) {
         Kind::RawByteStr { n_hashes: Some(0) },
         Kind::RawCStr { n_hashes: None },
         Kind::RawCStr { n_hashes: Some(0) },
+        Kind::GuardedStr { n_hashes: None },
+        Kind::GuardedStr { n_hashes: Some(1) },
+        Kind::GuardedStr { n_hashes: Some(2) },
     ];
     for (low, high) in kinds.iter().zip(kinds[1..].iter()) {
         assert!(rt; low < high && low.cmp(high) == Ordering::Less, "{low:?}");

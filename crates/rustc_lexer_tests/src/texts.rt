@@ -72,7 +72,19 @@ fn cuts_texts_into_tokens(rt: HostRuntime) -> Result<(), Fail> {
         ),
         (
             "##\"",
-            "GuardedStrPrefix 2; Literal { kind: Str { terminated: false }, suffix_start: 1 } 1; ",
+            "Literal { kind: GuardedStr { n_hashes: None }, suffix_start: 3 } 3; ",
+        ),
+        (
+            "##\"a\"##x;",
+            "Literal { kind: GuardedStr { n_hashes: Some(2) }, suffix_start: 7 } 8; Semi 1; ",
+        ),
+        (
+            "#\"é\"##",
+            "Literal { kind: GuardedStr { n_hashes: Some(1) }, suffix_start: 6 } 6; Pound 1; ",
+        ),
+        (
+            "## #a",
+            "Pound 1; Pound 1; Whitespace 1; Pound 1; Ident 1; ",
         ),
         (
             "\\é😀\u{85}",

@@ -7,4 +7,4 @@ mod OperatorLemmas
 mod TypeLemmas
 mod PatternLemmas
 mod OutcomeLemmas
-mod Rows
+pub mod Rows

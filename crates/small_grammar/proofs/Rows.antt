@@ -105,7 +105,7 @@ read (suc n) (c ∷ cs) =
           ]
     ]
 
-abbrev trees : String → Forest
+abbrev pub trees : String → Forest
 trees text = (read (suc (length (codes text))) (codes text)).0
 
 -- the steps that are taken, none for a fault

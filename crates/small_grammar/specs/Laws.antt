@@ -32,7 +32,7 @@ use Rattle.small_grammar.specs.Answer.{entry_rule, answer_of, answer}
 
 module _ (m : Span → Span) where
   -- under a span map it takes the same, under the map
-  abbrev Moves : Taking → Type 0
+  abbrev pub Moves : Taking → Type 0
   Moves p = (f : Forest) → p (map_spans m f) ≡ option_map (map_spans m) (p f)
 
   passes_moved : (b : Bool) (f : Forest) → (b >> Some (map_spans m f)) ≡ option_map (map_spans m) (b >> Some f)
@@ -40,7 +40,7 @@ module _ (m : Span → Span) where
   passes_moved false f = refl
 
   -- a test of identifiers that doesn't look at their spans
-  ident-moved : (passes : Ident → Bool) → ((i : Ident) (s : Span) → passes (record i { span = s }) ≡ passes i) → Moves (ident_where passes)
+  pub ident-moved : (passes : Ident → Bool) → ((i : Ident) (s : Span) → passes (record i { span = s }) ≡ passes i) → Moves (ident_where passes)
   ident-moved passes blind empty = refl
   ident-moved passes blind (leaf (as_leaf.Ident i) rest) = rw (blind i (m i.span)) (passes_moved (passes i) rest)
   ident-moved passes blind (leaf (as_leaf.Punct p) rest) = refl
@@ -54,14 +54,14 @@ module _ (m : Span → Span) where
   literal-moved passes (leaf (as_leaf.Literal l) rest) = passes_moved (passes l.kind) rest
   literal-moved passes (group d inner rest) = refl
 
-  group-moved : (passes : DelimiterKind → Forest → Bool) → ((k : DelimiterKind) (f : Forest) → passes k (map_spans m f) ≡ passes k f) → Moves (group_where passes)
+  pub group-moved : (passes : DelimiterKind → Forest → Bool) → ((k : DelimiterKind) (f : Forest) → passes k (map_spans m f) ≡ passes k f) → Moves (group_where passes)
   group-moved passes blind empty = refl
   group-moved passes blind (leaf (as_leaf.Ident i) rest) = refl
   group-moved passes blind (leaf (as_leaf.Punct p) rest) = refl
   group-moved passes blind (leaf (as_leaf.Literal l) rest) = refl
   group-moved passes blind (group d inner rest) = rw (blind d.kind inner) (passes_moved (passes d.kind inner) rest)
 
-  empty-moved : (f : Forest) → is_empty (map_spans m f) ≡ is_empty f
+  pub empty-moved : (f : Forest) → is_empty (map_spans m f) ≡ is_empty f
   empty-moved empty = refl
   empty-moved (leaf l rest) = refl
   empty-moved (group d inner rest) = refl
@@ -91,7 +91,7 @@ module _ (m : Span → Span) where
   puncts-moved (c ∷ b ∷ cs) (leaf (as_leaf.Literal l) rest) = refl
   puncts-moved (c ∷ b ∷ cs) (group d inner rest) = refl
 
-  chosen-moved : (passes : Operator → Bool) (o : Option Operator) (g : Forest) →
+  pub chosen-moved : (passes : Operator → Bool) (o : Option Operator) (g : Forest) →
       passing passes (o >>= λ op. Some (op, map_spans m g)) ≡ option_map (map_spans m) (passing passes (o >>= λ op. Some (op, g)))
   chosen-moved passes None g = refl
   chosen-moved passes (Some op) g = passes_moved (passes op) g
@@ -103,10 +103,10 @@ module _ (m : Span → Span) where
       ap (λ cs. passing passes (operator_of cs >>= λ op. Some (op, map_spans m glued.1))) (characters-map m glued.0)
       ∙ chosen-moved passes (operator_of (characters glued.0)) glued.1
 
-  operator-moved : (passes : Operator → Bool) → Moves (operator_where passes)
+  pub operator-moved : (passes : Operator → Bool) → Moves (operator_where passes)
   operator-moved passes f = ap (λ o. passing passes (o >>= operator_before)) (first_glued-map m f) ∙ glued-moved passes (first_glued f)
 
-  token-moved : (t : Token) → Moves (token_at t)
+  pub token-moved : (t : Token) → Moves (token_at t)
   unfolding token_at
   token-moved (a_word text) = ident-moved _ (λ i s. refl)
   token-moved a_name = ident-moved _ (λ i s. refl)
@@ -169,7 +169,7 @@ module _ (m : Span → Span) where
   pub takes-moved : (e : Expression) (f : Forest) → takes e (map_spans m f) ≡ option_map (map_spans m) (takes e f)
   takes-moved e f = expression-moved rules rules-moved e f
 
-  steps-moved : (f : Forest) → steps (map_spans m f) ≡ steps f
+  pub steps-moved : (f : Forest) → steps (map_spans m f) ≡ steps f
   steps-moved f = ap length (walk-map_spans m f) ∙ length-map (walk f) (step_with m)
 
   answer_of-moved : (f : Forest) (o : Option Forest) → answer_of (map_spans m f) (option_map (map_spans m) o) ≡ answer_of f o
@@ -190,11 +190,11 @@ size-steps (group d inner rest) =
     let g = size-steps rest in
     omega (arith, e, g, length-append (walk inner) (closes d.kind d.close_span ∷ walk rest))
 
-steps-joined : (f g : Forest) → steps (joined f g) ≡ steps f + steps g
+pub steps-joined : (f g : Forest) → steps (joined f g) ≡ steps f + steps g
 steps-joined f g = ap length (walk-joined f g) ∙ length-append (walk f) (walk g)
 
 -- the number of steps that were passed
-passed-steps : (n : ℕ) (f g : Forest) → Passed n f g → n ≤ steps f - steps g
+pub passed-steps : (n : ℕ) (f g : Forest) → Passed n f g → n ≤ steps f - steps g
 passed-steps n f g passed =
     let e = ap steps passed.1 in
     let s = steps-joined passed.0 g in

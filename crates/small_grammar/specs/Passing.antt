@@ -49,7 +49,7 @@ if_passes : (b : Bool) (f rest g : Forest) → (rest ≡ g → Passed 1 f g) →
 if_passes true f rest g then_passed e = then_passed cc
 if_passes false f rest g then_passed e = absurd cc
 
-ident-takes : (passes : Ident → Bool) → TakesAtLeast 1 (ident_where passes)
+pub ident-takes : (passes : Ident → Bool) → TakesAtLeast 1 (ident_where passes)
 ident-takes passes empty g e = absurd cc
 ident-takes passes (leaf (as_leaf.Ident i) rest) g e = if_passes (passes i) (leaf (as_leaf.Ident i) rest) rest g (behind_leaf _ _ _) e
 ident-takes passes (leaf (as_leaf.Punct p) rest) g e = absurd cc
@@ -63,7 +63,7 @@ literal-takes passes (leaf (as_leaf.Punct p) rest) g e = absurd cc
 literal-takes passes (leaf (as_leaf.Ident i) rest) g e = absurd cc
 literal-takes passes (group d inner rest) g e = absurd cc
 
-group-takes : (passes : DelimiterKind → Forest → Bool) → TakesAtLeast 1 (group_where passes)
+pub group-takes : (passes : DelimiterKind → Forest → Bool) → TakesAtLeast 1 (group_where passes)
 group-takes passes empty g e = absurd cc
 group-takes passes (leaf (as_leaf.Literal l) rest) g e = absurd cc
 group-takes passes (leaf (as_leaf.Punct p) rest) g e = absurd cc
@@ -102,7 +102,7 @@ behind_operator : (passes : Operator → Bool) (f rest g : Forest) (o : Option O
 behind_operator passes f rest g None passed e = absurd cc
 behind_operator passes f rest g (Some op) passed e = if_passes (passes op) f rest g (λ same. subst (Passed 1 f) same passed) e
 
-operator-takes : (passes : Operator → Bool) → TakesAtLeast 1 (operator_where passes)
+pub operator-takes : (passes : Operator → Bool) → TakesAtLeast 1 (operator_where passes)
 operator-takes passes empty g e = absurd cc
 operator-takes passes (leaf (as_leaf.Punct p) rest) g e =
     behind_operator passes (leaf (as_leaf.Punct p) rest) (glued_at p rest).1 g (operator_of (characters (glued_at p rest).0)) (behind_glued p rest) e

@@ -9,11 +9,11 @@
 mod expressions;
 mod grammar;
 pub mod laws;
-mod names;
+pub mod names;
 mod operators;
 mod patterns;
-mod tokens;
+pub mod tokens;
 mod types;
-mod units;
+pub mod units;
 
 pub use grammar::SmallGrammar;

@@ -110,8 +110,8 @@ fn is_of_eight(text: &str) -> bool
     is_among(words.as_slice(), text)
 }
 
-// Whether the text is reserved: only words with as many bytes are compared.
-fn is_reserved(text: &str) -> bool
+/// Whether the text is reserved in some edition: only words with as many bytes are compared.
+pub fn is_reserved(text: &str) -> bool
     ensures { result ≡ is_among reserved text.now }
 {
     match text.len() {
@@ -126,7 +126,8 @@ fn is_reserved(text: &str) -> bool
     }
 }
 
-fn is_path_word(text: &str) -> bool
+/// Whether the text is `self`, `Self`, `super` or `crate`.
+pub fn is_path_word(text: &str) -> bool
     ensures { result ≡ is_among path_words text.now }
 {
     let words: [&str; 4] = PATH_WORDS;
@@ -182,7 +183,7 @@ fn is_place(trees: &TtIter<'_>) -> bool
 
 /// A parenthesis group that restricts a visibility.
 #[tactic(auto, unfolding(crate::specs::Tokens::token_at))]
-pub(crate) fn restriction<'a>(trees: &TtIter<'a>) -> Option<TtIter<'a>>
+pub fn restriction<'a>(trees: &TtIter<'a>) -> Option<TtIter<'a>>
     ensures { result ≡ token_at a_restriction trees.now }
 {
     let (delimiter, inner, rest) = trees.first_group()?;

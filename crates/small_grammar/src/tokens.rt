@@ -20,7 +20,7 @@ fn has_text(ident: &Ident, text: &str) -> bool
 
 /// An identifier of this text that isn't raw.
 #[tactic(auto, unfolding(crate::specs::Tokens::token_at))]
-pub(crate) fn word<'a>(trees: &TtIter<'a>, text: &str) -> Option<TtIter<'a>>
+pub fn word<'a>(trees: &TtIter<'a>, text: &str) -> Option<TtIter<'a>>
     ensures { result ≡ token_at (a_word text.now) trees.now }
 {
     let (ident, rest) = trees.lent_ident()?;
@@ -33,7 +33,7 @@ pub(crate) fn word<'a>(trees: &TtIter<'a>, text: &str) -> Option<TtIter<'a>>
 
 /// Any identifier.
 #[tactic(auto, unfolding(crate::specs::Tokens::token_at))]
-pub(crate) fn identifier<'a>(trees: &TtIter<'a>) -> Option<TtIter<'a>>
+pub fn identifier<'a>(trees: &TtIter<'a>) -> Option<TtIter<'a>>
     ensures { result ≡ token_at an_identifier trees.now }
 {
     let (_, rest) = trees.first_ident()?;
@@ -42,7 +42,7 @@ pub(crate) fn identifier<'a>(trees: &TtIter<'a>) -> Option<TtIter<'a>>
 
 /// A literal of any kind.
 #[tactic(auto, unfolding(crate::specs::Tokens::token_at))]
-pub(crate) fn literal<'a>(trees: &TtIter<'a>) -> Option<TtIter<'a>>
+pub fn literal<'a>(trees: &TtIter<'a>) -> Option<TtIter<'a>>
     ensures { result ≡ token_at a_literal trees.now }
 {
     let (_, rest) = trees.first_literal()?;
@@ -51,7 +51,7 @@ pub(crate) fn literal<'a>(trees: &TtIter<'a>) -> Option<TtIter<'a>>
 
 /// An integer or a float.
 #[tactic(auto, unfolding(crate::specs::Tokens::token_at))]
-pub(crate) fn number<'a>(trees: &TtIter<'a>) -> Option<TtIter<'a>>
+pub fn number<'a>(trees: &TtIter<'a>) -> Option<TtIter<'a>>
     ensures { result ≡ token_at a_number trees.now }
 {
     let (kind, rest) = trees.first_literal()?;
@@ -63,7 +63,7 @@ pub(crate) fn number<'a>(trees: &TtIter<'a>) -> Option<TtIter<'a>>
 
 /// A group in brackets of this kind.
 #[tactic(auto, unfolding(crate::specs::Tokens::token_at))]
-pub(crate) fn group_of<'a>(trees: &TtIter<'a>, kind: DelimiterKind) -> Option<TtIter<'a>>
+pub fn group_of<'a>(trees: &TtIter<'a>, kind: DelimiterKind) -> Option<TtIter<'a>>
     ensures { result ≡ token_at (a_group kind) trees.now }
 {
     let (delimiter, _, rest) = trees.first_group()?;
@@ -98,7 +98,7 @@ pub(crate) fn group<'a>(trees: &TtIter<'a>) -> Option<TtIter<'a>>
 
 /// A punct of this character.
 #[tactic(auto, unfolding(crate::specs::Tokens::token_at))]
-pub(crate) fn punct<'a>(trees: &TtIter<'a>, char: char) -> Option<TtIter<'a>>
+pub fn punct<'a>(trees: &TtIter<'a>, char: char) -> Option<TtIter<'a>>
     ensures { result ≡ token_at (puncts (char ∷ [])) trees.now }
 {
     let (punct, rest) = trees.first_punct()?;
@@ -119,7 +119,7 @@ fn joint_punct<'a>(trees: &TtIter<'a>, char: char) -> Option<TtIter<'a>>
 
 /// A punct of the first character that isn't `Alone`, and one of the second.
 #[tactic(auto, unfolding(crate::specs::Tokens::token_at))]
-pub(crate) fn two_puncts<'a>(trees: &TtIter<'a>, first: char, second: char) -> Option<TtIter<'a>>
+pub fn two_puncts<'a>(trees: &TtIter<'a>, first: char, second: char) -> Option<TtIter<'a>>
     ensures { result ≡ token_at (puncts (first ∷ second ∷ [])) trees.now }
 {
     punct(&joint_punct(trees, first)?, second)

@@ -8,9 +8,12 @@ use tt_data::Punct;
 
 /// One punct, or two or three that are glued to one operator.
 #[derive(Clone, Copy, PartialEq, Eq)]
-pub(crate) enum Operator {
+pub enum Operator {
+    /// One punct.
     One(char),
+    /// Two puncts.
     Two(char, char),
+    /// Three puncts.
     Three(char, char, char),
 }
 
@@ -27,7 +30,7 @@ fn operator_of(puncts: &[Punct]) -> Option<Operator>
 }
 
 /// The operator at the front, and the trees after it.
-pub(crate) fn first_operator<'a>(trees: &TtIter<'a>) -> Option<(Operator, TtIter<'a>)>
+pub fn first_operator<'a>(trees: &TtIter<'a>) -> Option<(Operator, TtIter<'a>)>
     ensures { result ≡ first_operator trees.now }
 {
     let mut rest = trees.copied();

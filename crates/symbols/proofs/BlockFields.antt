@@ -19,8 +19,9 @@ use denote.Struct.Laws.{u64-laws}
 use denote.Struct.Members.{Member, rows_of, parts_at, lawful_Lones}
 use denote.Struct.Parts.{shape_of, Struct-left, left_Struct}
 use denote.Struct.Struct.{Struct}
-use Rattle.symbols.specs.SharedBlock.{bare_owns, left_at, block_type, field_types, rest}
-use Rattle.symbols.specs.contracts.symbol.shared.Block as blocks
+use Rattle.symbols.specs.SharedBlock.{left_at, block_type, field_types, rest}
+use Rattle.bare_box.specs.BareBox.{bare_owns}
+use Rattle.symbols.specs.contracts.rc.shared.Block as blocks
 use Rattle.symbols.proofs.CountedBlock.{word_at}
 
 module _ (T : RattleType) where

@@ -33,7 +33,8 @@ use denote.SharingLaws.{contraction, shortens, one_shr_laws, beside_shr_laws, so
 use denote.Moves.{moves_from}
 use denote.Steps.{nothing}
 use denote.Struct.Lending.{Lends, Lends-first, Lends-lies, lent_at_shr_laws}
-use Rattle.symbols.specs.SharedBlock.{most, count_in, count_at, left_at, block_type, field_types, value_offset, may_free, rest, seen, full, stays, says, counting, counts, owns_by, owner_owns, lends_by, owner_lends}
+use Rattle.symbols.specs.SharedBlock.{most, count_in, count_at, left_at, block_type, field_types, value_offset, rest, seen, full, stays, says, counting, counts, owns_by, owner_owns, lends_by, owner_lends}
+use Rattle.bare_box.specs.BareBox.{may_free}
 
 -- the lifetime for which the value is shared, and one for which the block stands
 abbrev pub Name : Type 0

@@ -28,7 +28,7 @@ use denote.Struct.Lending.{lent_at}
 use Rattle.std_alloc.proofs.RcSteps.{Word, word, word_ty, reads, read}
 use Rattle.symbols.specs.SharedBlock.{most, count_in, count_at, value_offset, seen, stays, owns_by, owner_owns, lends_by, owner_lends}
 use Rattle.symbols.proofs.CountedBlock.{Name, shared_for, word_at, part, standing, standing_twice, stays_twice, Inside, Entry, Entered, enters, owner_enters, Lent, looks_in}
-use Rattle.symbols.proofs.HeapBoxes.{boxed}
+use Rattle.bare_box.proofs.HeapBoxes.{boxed}
 
 -- a walk at the arguments' machine values, which are known to be these
 pub at_words : {M : Type 1} (𝓤 : Ura M) (Run : List Val → SProp 𝓤) (us ws : List Val) → ws ≡ us → ent 𝓤 (Run us) (Run ws)

@@ -12,9 +12,7 @@ use denote.RawPtr.{Ptr, block_ptr, null_ptr, block_of, count_of, lies_at, ◌+�
 use denote.Struct.Lending.{lent_at}
 use denote.RcWeak.{rc_cell_owns, rc_lends}
 use denote.Sharing.{one, beside, some, held}
-use Rattle.std.specs.Box.Ownership.{box_owns}
-use Rattle.std.specs.declared.alloc.Global.{Global}
-use Rattle.std.specs.contracts.impls.GlobalAllocator.TheImpl.{ghosts}
+use Rattle.bare_box.specs.BareBox.{may_free}
 
 -- the count at which a block is never freed
 abbrev pub most : ℕ
@@ -33,14 +31,6 @@ count_at = count_in full_share
 abbrev pub left_at : Ty → Tys → Ptr → Fml
 left_at τ τs (block_ptr b o) = fleft full_share τ τs b o
 left_at τ τs null_ptr = ffalse
-
--- the right to free a block of the type τ, by whatever handle of the heap
-abbrev pub may_free : Ty → Ptr → Fml
-may_free τ p = fex Global (λ heap. ghosts.dealloc_token heap τ p)
-
--- the value at p, and the right to free its block
-abbrev pub bare_owns : (R : RattleType) → Ptr → R.Denot → Fml
-bare_owns = box_owns may_free
 
 module _ (R : RattleType) (c : Ptr) (x : R.Denot) where
   -- the types of the block's fields, as the machine sees them

@@ -2,6 +2,7 @@
 #![tactic(auto)]
 
 mod fault;
+pub mod rc;
 mod symbol;
 
 pub use fault::TtFault;

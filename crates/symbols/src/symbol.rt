@@ -9,10 +9,8 @@ ghost use Rattle.std.proofs.Common.{rules};
 ghost use Rattle.std.specs.String.{string_bytes};
 ghost use Rattle.symbols.specs.declared.fault.TtFault.TheVariants as fault;
 
-pub(crate) mod shared;
-
 use crate::fault::TtFault;
-use crate::symbol::shared::{Bare, Block, Shared};
+use crate::rc::Rc;
 use std::alloc::{AllocError, Global};
 use std::fmt;
 use std::hash::{Hash, Hasher};
@@ -23,14 +21,13 @@ use std::marker::Model;
 /// A clone takes no memory and is never refused. The last owner frees the text; a text that once
 /// has 2^64 - 1 owners is never freed.
 pub struct Symbol {
-    owner: Shared<String>,
-    alloc: Global,
+    text: Rc<String>,
 }
 
 impl Model for Symbol {
     ghost Value = { List ℕ };
 
-    ghost view = { λ s. string_bytes s.owner.value };
+    ghost view = { λ s. string_bytes s.text };
 }
 
 impl Symbol {
@@ -44,19 +41,15 @@ impl Symbol {
         ensures text { IfOk result (λ s. s ≡ text.now) }
         ensures memory { IsOkUnless result fault.Memory }
     {
-        let value = String::from_str(alloc, text)?;
-        let Ok(block) = Box::new(alloc, Block { owners: 1, value }) else {
-            return Err(TtFault::Memory);
-        };
-        let owner = Shared::first(Bare::of(block));
-        Ok(Symbol { owner, alloc })
+        let text = Rc::new(alloc, String::from_str(alloc, text)?)?;
+        Ok(Symbol { text })
     }
 
     /// The text.
     pub fn as_str(&self) -> &str
         ensures { result.now ≡ self.now }
     {
-        self.owner.value().as_str()
+        self.text.as_ref().as_str()
     }
 }
 
@@ -67,21 +60,16 @@ impl Clone for Symbol {
 
     /// One more owner of the same text. It takes no memory, and is never an `Err`.
     fn clone(&self) -> Result<Symbol, AllocError> {
-        let owner = self.owner.another();
-        Ok(Symbol {
-            owner,
-            alloc: self.alloc,
-        })
+        let text = self.text.clone()?;
+        Ok(Symbol { text })
     }
 }
 
 impl Drop for Symbol {
     /// One owner fewer. The last one frees the text.
     fn drop(self) {
-        let Symbol { owner, alloc } = self;
-        if let Some(block) = owner.release() {
-            drop(block.into_box(alloc));
-        }
+        let Symbol { text } = self;
+        drop(text);
     }
 }
 

@@ -7,7 +7,7 @@ use Rattle.std.specs.Prelude.{codes, replicate}
 use Rattle.std.specs.Str.{IsCharBoundary, IsUtf8}
 use Rattle.tt.specs.TokenLiterals.{IsLiteralToken, form_begin, form_end}
 use Rattle.tt_data.specs.declared.leaf.LitKind.{LitKind}
-use Rattle.tt_data.specs.declared.leaf.LitKind.TheVariants.{Byte, Char, Integer, Float, Str, StrRaw, ByteStr, ByteStrRaw, CStr, CStrRaw, Err}
+use Rattle.tt_data.specs.declared.leaf.LitKind.TheVariants.{Byte, Char, Integer, Float, Str, StrRaw, ByteStr, ByteStrRaw, CStr, CStrRaw, StrGuarded, Err}
 
 -- after a character of one byte
 behind : (bs front rest : List ℕ) (q : ℕ) → IsUtf8 bs → q < 128 → bs ≡ front ++ (q ∷ rest) → IsCharBoundary bs (length front + 1)
@@ -44,6 +44,7 @@ begin_boundary CStr at bs u w = behind_begin bs (codes "c") [] _ 34 u (omega ari
 begin_boundary (StrRaw n) at bs u w = behind_begin bs (codes "r") (replicate n 35) _ 34 u (omega arith) w.is
 begin_boundary (ByteStrRaw n) at bs u w = behind_begin bs (codes "br") (replicate n 35) _ 34 u (omega arith) w.is
 begin_boundary (CStrRaw n) at bs u w = behind_begin bs (codes "cr") (replicate n 35) _ 34 u (omega arith) w.is
+begin_boundary (StrGuarded n) at bs u w = behind_begin bs [] (replicate n 35) _ 34 u (omega arith) w.is
 
 -- before a quote and hashes
 before_end : (bs begin text hashes rest : List ℕ) (q at : ℕ) → q < 128 → bs ≡ begin ++ (text ++ ((q ∷ hashes) ++ rest))
@@ -71,3 +72,4 @@ end_boundary CStr at bs b w = before_end bs (form_begin CStr) w.text [] w.suffix
 end_boundary (StrRaw n) at bs b w = before_end bs (form_begin (StrRaw n)) w.text (replicate n 35) w.suffix 34 at (omega arith) w.is w.starts
 end_boundary (ByteStrRaw n) at bs b w = before_end bs (form_begin (ByteStrRaw n)) w.text (replicate n 35) w.suffix 34 at (omega arith) w.is w.starts
 end_boundary (CStrRaw n) at bs b w = before_end bs (form_begin (CStrRaw n)) w.text (replicate n 35) w.suffix 34 at (omega arith) w.is w.starts
+end_boundary (StrGuarded n) at bs b w = before_end bs (form_begin (StrGuarded n)) w.text (replicate n 35) w.suffix 34 at (omega arith) w.is w.starts

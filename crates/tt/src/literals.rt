@@ -15,6 +15,7 @@ fn begin_len(kind: LitKind) -> usize
         LitKind::Integer | LitKind::Float | LitKind::Err(_) => 0,
         LitKind::Char | LitKind::Str => 1,
         LitKind::Byte | LitKind::ByteStr | LitKind::CStr => 2,
+        LitKind::StrGuarded(hashes) => 1 + hashes as usize,
         LitKind::StrRaw(hashes) => 2 + hashes as usize,
         LitKind::ByteStrRaw(hashes) | LitKind::CStrRaw(hashes) => 3 + hashes as usize,
     }
@@ -26,9 +27,10 @@ fn end_len(kind: LitKind) -> usize
 {
     match kind {
         LitKind::Integer | LitKind::Float | LitKind::Err(_) => 0,
-        LitKind::StrRaw(hashes) | LitKind::ByteStrRaw(hashes) | LitKind::CStrRaw(hashes) => {
-            1 + hashes as usize
-        }
+        LitKind::StrRaw(hashes)
+        | LitKind::ByteStrRaw(hashes)
+        | LitKind::CStrRaw(hashes)
+        | LitKind::StrGuarded(hashes) => 1 + hashes as usize,
         _ => 1,
     }
 }

@@ -7,7 +7,7 @@ use Rattle.tt_data.specs.declared.delimiter.DelimiterKind.TheVariants.{Parenthes
 use Rattle.tt_data.specs.declared.leaf.IdentIsRaw.TheVariants as is_raw
 use Rattle.tt_data.specs.declared.leaf.Leaf.{Leaf}
 use Rattle.tt_data.specs.declared.leaf.Leaf.TheVariants as as_leaf
-use Rattle.tt_data.specs.declared.leaf.LitKind.TheVariants.{Byte, Integer, Float, Str, StrRaw, ByteStr, ByteStrRaw, CStr, CStrRaw, Char}
+use Rattle.tt_data.specs.declared.leaf.LitKind.TheVariants.{Byte, Integer, Float, Str, StrRaw, ByteStr, ByteStrRaw, CStr, CStrRaw, StrGuarded, Char}
 use Rattle.tt_data.specs.declared.leaf.Spacing.TheVariants.{Alone}
 use Rattle.tt_data.specs.declared.tree.TokenTree.{TokenTree}
 use Rattle.tt_data.specs.declared.tree.TokenTree.TheVariants as token
@@ -181,6 +181,13 @@ displayed_c_string = refl
 
 displayed_raw_c_string : literal_text (literal (codes "a") [] (CStrRaw 1)) ≡ codes "cr#\"a\"#"
 displayed_raw_c_string = refl
+
+-- `##"a"##x` and `#""#`
+displayed_guarded_string : literal_text (literal (codes "a") (codes "x") (StrGuarded 2)) ≡ codes "##\"a\"##x"
+displayed_guarded_string = refl
+
+displayed_empty_guarded_string : literal_text (literal [] [] (StrGuarded 1)) ≡ codes "#\"\"#"
+displayed_empty_guarded_string = refl
 
 -- only one `r#` at the very beginning is none of the name
 doubly_raw_name : ident_of (codes "r#r#a") (at 0) ≡ record { sym = codes "r#a"; span = at 0; is_raw = is_raw.Yes }

@@ -4,7 +4,7 @@ use Rattle.tt_data.specs.declared.leaf.Ident.{Ident}
 use Rattle.tt_data.specs.declared.leaf.Leaf.{Leaf}
 use Rattle.tt_data.specs.declared.leaf.Leaf.TheVariants as as_leaf
 use Rattle.tt_data.specs.declared.leaf.LitKind.{LitKind}
-use Rattle.tt_data.specs.declared.leaf.LitKind.TheVariants.{Byte, Char, Str, StrRaw, ByteStr, ByteStrRaw, CStr, CStrRaw}
+use Rattle.tt_data.specs.declared.leaf.LitKind.TheVariants.{Byte, Char, Str, StrRaw, ByteStr, ByteStrRaw, CStr, CStrRaw, StrGuarded}
 use Rattle.tt_data.specs.declared.leaf.Literal.{Literal}
 use Rattle.tt_data.specs.declared.leaf.Punct.{Punct}
 use Rattle.tt_data.specs.Names.{prefix_of}
@@ -29,6 +29,7 @@ form_quote ByteStr = codes "\""
 form_quote (ByteStrRaw n) = codes "\""
 form_quote CStr = codes "\""
 form_quote (CStrRaw n) = codes "\""
+form_quote (StrGuarded n) = codes "\""
 form_quote kind = []
 
 -- the hashes outside of each quote
@@ -36,6 +37,7 @@ abbrev pub form_hashes : LitKind → List ℕ
 form_hashes (StrRaw n) = replicate n 35
 form_hashes (ByteStrRaw n) = replicate n 35
 form_hashes (CStrRaw n) = replicate n 35
+form_hashes (StrGuarded n) = replicate n 35
 form_hashes kind = []
 
 -- a literal: letters, hashes and quote, its text, quote and hashes, and its suffix

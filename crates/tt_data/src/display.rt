@@ -94,7 +94,12 @@ fn letters(kind: LitKind) -> &'static str
         LitKind::StrRaw(_) => "r",
         LitKind::ByteStrRaw(_) => "br",
         LitKind::CStrRaw(_) => "cr",
-        LitKind::Char | LitKind::Integer | LitKind::Float | LitKind::Str | LitKind::Err(_) => "",
+        LitKind::Char
+        | LitKind::Integer
+        | LitKind::Float
+        | LitKind::Str
+        | LitKind::StrGuarded(_)
+        | LitKind::Err(_) => "",
     }
 }
 
@@ -110,7 +115,8 @@ fn quote(kind: LitKind) -> &'static str
         | LitKind::ByteStr
         | LitKind::ByteStrRaw(_)
         | LitKind::CStr
-        | LitKind::CStrRaw(_) => "\"",
+        | LitKind::CStrRaw(_)
+        | LitKind::StrGuarded(_) => "\"",
     }
 }
 
@@ -119,7 +125,10 @@ fn hash_count(kind: LitKind) -> u8
     ensures { replicate result 35 ≡ form_hashes kind }
 {
     match kind {
-        LitKind::StrRaw(count) | LitKind::ByteStrRaw(count) | LitKind::CStrRaw(count) => count,
+        LitKind::StrRaw(count)
+        | LitKind::ByteStrRaw(count)
+        | LitKind::CStrRaw(count)
+        | LitKind::StrGuarded(count) => count,
         _ => 0,
     }
 }

@@ -105,8 +105,8 @@ impl Ident {
     }
 }
 
-/// The form of a literal. The number of a raw form is that of its hashes on either side. (The Rust
-/// Reference, "Literals".)
+/// The form of a literal. The number of a raw or guarded form is that of its hashes on either side.
+/// (The Rust Reference, "Literals"; guarded strings: RFC 3593.)
 #[derive(Clone, Copy, PartialEq, Eq, Hash, Debug)]
 pub enum LitKind {
     Byte,
@@ -119,6 +119,8 @@ pub enum LitKind {
     ByteStrRaw(u8),
     CStr,
     CStrRaw(u8),
+    /// A guarded string, as `#"a"#`.
+    StrGuarded(u8),
     /// What is no whole literal. No text is read so.
     Err(()),
 }

@@ -1,6 +1,6 @@
 //! Spacing: the gap between two printed tokens.
 ghost use Rattle.std.specs.Prelude.{◌≡◌};
-ghost use Rattle.bridge.specs.Edges.{are_joined, closing_edge, ends_line, gap_between, gap_outside, gap_text, has_one_gap, is_comment_or_guard, leaf_edge};
+ghost use Rattle.bridge.specs.Edges.{are_joined, closing_edge, ends_line, gap_between, gap_outside, gap_text, has_one_gap, is_comment, leaf_edge};
 
 use tt_data::{DelimiterKind, Leaf, Spacing};
 
@@ -52,13 +52,11 @@ pub(crate) fn ends_line(edge: Edge) -> bool
     }
 }
 
-// Whether two puncts side by side would begin a comment or a guarded string.
-fn is_comment_or_guard(first: char, second: char) -> bool
-    ensures { result ≡ is_comment_or_guard first second }
+// Whether two puncts side by side would begin a comment.
+fn is_comment(first: char, second: char) -> bool
+    ensures { result ≡ is_comment first second }
 {
-    (first == '/' && second == '/')
-        || (first == '/' && second == '*')
-        || (first == '#' && second == '#')
+    (first == '/' && second == '/') || (first == '/' && second == '*')
 }
 
 // Whether two tokens on one line have nothing between them.
@@ -68,7 +66,7 @@ fn are_joined(last: Edge, next: Edge) -> bool
 {
     match (last, next) {
         (Edge::Mark(first, is_joined), Edge::Mark(second, _)) => {
-            first == '\'' || (is_joined && (second != '\'' && !is_comment_or_guard(first, second)))
+            first == '\'' || (is_joined && (second != '\'' && !is_comment(first, second)))
         }
         (Edge::Mark(first, _), _) => first == '\'',
         _ => false,

@@ -35,6 +35,7 @@ fn are_of_one_form(first: LitKind, second: LitKind) -> bool
         (LitKind::StrRaw(m), LitKind::StrRaw(n)) => m == n,
         (LitKind::ByteStrRaw(m), LitKind::ByteStrRaw(n)) => m == n,
         (LitKind::CStrRaw(m), LitKind::CStrRaw(n)) => m == n,
+        (LitKind::StrGuarded(m), LitKind::StrGuarded(n)) => m == n,
         _ => false,
     }
 }

@@ -38,6 +38,7 @@ fn literal_form(kind: LiteralKind) -> Option<LitKind>
         LiteralKind::RawStr { n_hashes: Some(n) } => Some(LitKind::StrRaw(n)),
         LiteralKind::RawByteStr { n_hashes: Some(n) } => Some(LitKind::ByteStrRaw(n)),
         LiteralKind::RawCStr { n_hashes: Some(n) } => Some(LitKind::CStrRaw(n)),
+        LiteralKind::GuardedStr { n_hashes: Some(n) } => Some(LitKind::StrGuarded(n)),
         _ => None,
     }
 }

@@ -3,10 +3,7 @@ use crate::recovery::messages::{fault_at, partial_at};
 use crate::recovery::values::{Partial, Values};
 use bumpalo::Bump;
 use fragment_grammar::FragmentGrammar;
-use mbe_matcher::{
-    Choice, Consumed, Entry, Place, Seen, Thread, bindings_of, is_same_state, was_settled,
-    was_settled_twice,
-};
+use mbe_matcher::{Choice, Consumed, Entry, Place, Seen, SeenStates, Thread, bindings_of};
 use mbe_rules::{ExpandError, ExpandErrorKind, Op};
 use std::alloc::{AllocError, Global};
 use tt::{DelimSpan, Span, TokenTreesView, TtFault};
@@ -53,8 +50,9 @@ struct Step<'a> {
     // Those that can go on without consuming anything, the next one last.
     current: Vec<Thread<'a>>,
     // Those that went on.
-    seen: Vec<Seen<'a>>,
+    seen: SeenStates<'a>,
     // Those that go on once something is consumed, what that is, and whether they disagree on it.
+    // At most two are in one state, since only one state leads to each and two threads went on.
     waiting: Vec<Thread<'a>>,
     taken: Option<Consumed>,
     has_clash: bool,
@@ -124,7 +122,7 @@ impl<'a> Reader<'a> {
     ) -> Result<Step<'a>, TtFault> {
         let mut step = Step {
             current,
-            seen: Vec::new(self.alloc),
+            seen: SeenStates::new(self.alloc),
             waiting: Vec::new(self.alloc),
             taken: None,
             has_clash: false,
@@ -148,12 +146,11 @@ impl<'a> Reader<'a> {
         thread: Thread<'a>,
         place: &Place<'a>,
     ) -> Result<(), TtFault> {
-        let twice = was_settled(&step.seen, &thread);
-        if twice && was_settled_twice(&step.seen, &thread) {
+        let twice = step.seen.was_settled(&thread);
+        if twice && step.seen.was_settled_twice(&thread) {
             return Ok(());
         }
-        let seen = Seen { thread, twice };
-        step.seen.push(seen).map_err(AllocError::from)?;
+        step.seen.push(Seen { thread, twice })?;
         if thread.is_past_pattern() {
             let end = Stop {
                 moves: thread.moves(),
@@ -227,34 +224,6 @@ impl<'a> Reader<'a> {
     }
 }
 
-// The index of the second thread in the same state as `other`.
-fn second_like(threads: &[Thread<'_>], other: &Thread<'_>) -> Option<usize> {
-    let mut one = false;
-    for (i, thread) in threads.iter().enumerate() {
-        if is_same_state(other, thread) {
-            if one {
-                return Some(i);
-            }
-            one = true;
-        }
-    }
-    None
-}
-
-// The first and the last of the threads in each state.
-fn thinned<'a>(alloc: Global, threads: Vec<Thread<'a>>) -> Result<Vec<Thread<'a>>, AllocError> {
-    let mut kept = Vec::new(alloc);
-    for thread in threads {
-        if let Some(i) = second_like(&kept, &thread) {
-            if i < kept.len() {
-                let _ = kept.remove(i);
-            }
-        }
-        kept.push(thread)?;
-    }
-    Ok(kept)
-}
-
 // Reads an argument by a matcher as far as possible.
 pub(crate) fn attempted<'a, G: FragmentGrammar>(
     alloc: Global,
@@ -283,8 +252,7 @@ pub(crate) fn attempted<'a, G: FragmentGrammar>(
             break;
         };
         place = place.after(taken)?;
-        let threads = thinned(alloc, step.waiting)?;
-        step = reader.step(grammar, threads, &place)?;
+        step = reader.step(grammar, step.waiting, &place)?;
         stop = step.stop_after(stop);
     }
     reader.outcome(step, stop, &place)

@@ -171,28 +171,28 @@ fn one_rule(
 }
 
 // Whether a matcher of these rules can iterate without end.
-fn is_endless(list: &[Rule]) -> bool
-    ensures { result ≡ list_any (λ r. has_empty_round r.pattern) (map ops.rule_of list.now) }
+fn is_endless(alloc: Global, list: &[Rule]) -> Result<bool, AllocError>
+    ensures { IfOk result (λ b. b ≡ list_any (λ r. has_empty_round r.pattern) (map ops.rule_of list.now)) }
 {
     for rule in list {
-        if has_empty_round(&rule.pattern) {
-            return true;
+        if has_empty_round(alloc, &rule.pattern)? {
+            return Ok(true);
         }
     }
-    false
+    Ok(false)
 }
 
 // These rules. If one can iterate without end, that fault replaces any other.
-fn ending(rules: Rules) -> Rules
-    ensures { rules_of result ≡ parsing.ending (rules_of rules) }
+fn ending(alloc: Global, rules: Rules) -> Result<Rules, AllocError>
+    ensures { IfOk result (λ r. rules_of r ≡ parsing.ending (rules_of rules)) }
 {
-    if is_endless(&rules.list) {
-        return Rules {
+    if is_endless(alloc, &rules.list)? {
+        return Ok(Rules {
             list: rules.list,
             err: Some(ParseError::RepetitionEmptyTokenTree),
-        };
+        });
     }
-    rules
+    Ok(rules)
 }
 
 /// Parses the rules of `macro_rules! name { .. }`, whose delimiters are those of `tt`. They are
@@ -216,7 +216,8 @@ pub fn parse_macro_rules<F: Fn(SyntaxContext) -> Edition>(
 {
     let editions = Editions::of(ctx_edition);
     let rules = rules_of(alloc, editions, Delimiting::Semicolon, &tt.iter())?;
-    Ok(ending(rules))
+    let rules = ending(alloc, rules)?;
+    Ok(rules)
 }
 
 /// Parses the rules of `macro name { .. }`, whose delimiters are those of `body`, as
@@ -238,11 +239,13 @@ pub fn parse_macro2<F: Fn(SyntaxContext) -> Edition>(
     match args {
         Some(args) => {
             let rules = one_rule(alloc, editions, &args.iter(), &body.iter())?;
-            Ok(ending(rules))
+            let rules = ending(alloc, rules)?;
+            Ok(rules)
         }
         None => {
             let rules = rules_of(alloc, editions, Delimiting::SemicolonOrComma, &body.iter())?;
-            Ok(ending(rules))
+            let rules = ending(alloc, rules)?;
+            Ok(rules)
         }
     }
 }

@@ -7,9 +7,9 @@ ghost use Rattle.std.specs.Prelude.{◌≡◌, ◌+◌, ◌<◌, ◌≤◌, ◌^
 ghost use Rattle.std.specs.List.{All, list_any};
 ghost use Rattle.rustc_lexer.specs.Edit.{boundaries_from, is_clear_of, moves_to};
 ghost use Rattle.rustc_lexer.specs.Lexing.{tokens_of};
-ghost use Rattle.rustc_lexer.specs.Relexing.{IsCheckpoint, IsInRange, moved_checkpoint, total};
+ghost use Rattle.rustc_lexer.specs.Relexing.{IsCheckpoint, IsInRange, IsRunStart, moved_checkpoint, total};
 
-use crate::relex::lookahead::is_clear;
+use crate::relex::lookahead::{is_clear, run_start};
 use crate::token::Token;
 use std::alloc::AllocError;
 
@@ -39,9 +39,15 @@ pub struct Relexed {
 
 /// How many checkpoints are clear of `start`, and the last of them, or the start of the text if
 /// there is none.
-pub fn nearest(text: &str, checkpoints: &[Checkpoint], start: usize) -> (usize, Checkpoint)
+pub fn nearest(
+    text: &str,
+    checkpoints: &[Checkpoint],
+    start: usize,
+    run: usize,
+) -> (usize, Checkpoint)
     requires checkpoints { All (IsCheckpoint (tokens_of (chars text.now))) checkpoints.now }
     requires start { IsCharBoundary text.now start }
+    requires run { IsRunStart text.now start run }
     ensures within { result.0 ≤ length checkpoints.now }
     ensures checkpoint { IsCheckpoint (tokens_of (chars text.now)) result.1 }
     ensures clear { 0 < result.1.tokens → is_clear_of text.now start result.1.place ≡ true }
@@ -51,7 +57,7 @@ pub fn nearest(text: &str, checkpoints: &[Checkpoint], start: usize) -> (usize, 
         place: 0,
     };
     for (k, checkpoint) in checkpoints.iter().enumerate() {
-        if !is_clear(text, checkpoint.place, start) {
+        if !is_clear(text, checkpoint.place, start, run) {
             return (k, near);
         }
         near = *checkpoint;
@@ -91,8 +97,9 @@ fn thin_out(checkpoints: &mut Vec<Checkpoint>, tokens: &[Token])
     }
 }
 
-/// The last checkpoint that is clear of `start`, or the start of the text. If `start` is far from
-/// it, a checkpoint is left half-way first, unless a single token extends from there to `start`.
+/// The last checkpoint that is clear of `start`, or the start of the text. If `start` and the run
+/// of hashes before it are far from it, a checkpoint is left half-way first, unless a single token
+/// extends from there to `start`.
 pub fn refine(
     text: &str,
     checkpoints: &mut Vec<Checkpoint>,
@@ -108,13 +115,14 @@ pub fn refine(
     ensures clear { IfOk result (λ m. 0 < m.tokens → is_clear_of text.now start m.place ≡ true) }
 {
     thin_out(checkpoints, tokens);
-    let (passed, near) = nearest(text, checkpoints, start);
-    if start < near.place || start - near.place < FAR {
+    let run = run_start(text, start);
+    let (passed, near) = nearest(text, checkpoints, start, run);
+    if run < near.place || run - near.place < FAR {
         return Ok(near);
     }
-    let half = near.place + (start - near.place) / 2;
+    let half = near.place + (run - near.place) / 2;
     let (walked, place) = first_from(&tokens[near.tokens..], near.place, half);
-    if !is_clear(text, place, start) {
+    if !is_clear(text, place, start, run) {
         return Ok(near);
     }
     let tokens = near.tokens + walked;

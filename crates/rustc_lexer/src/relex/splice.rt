@@ -9,13 +9,13 @@ ghost use Rattle.rustc_lexer.specs.Remaining.{tokens_left};
 use crate::lex::tokenize;
 use crate::relex::checkpoints::{Checkpoint, Relexed, first_from};
 use crate::relex::gap_buffer::GapBuffer;
-use crate::relex::lookahead::is_clear;
+use crate::relex::lookahead::{is_clear_from, run_start};
 use crate::token::{FrontmatterAllowed, Token};
 use crate::tokens::Tokens;
 use std::alloc::{AllocError, Global};
 
-// How many tokens of the text end at least two characters before `start`, and the offset at which
-// the last of them ends. The search begins at the checkpoint `near`, before which all tokens do.
+// How many tokens of the text end clear of `start`, and the offset at which the last of them ends.
+// The search begins at the checkpoint `near`, before which all tokens do.
 fn front(text: &str, tokens: &[Token], near: Checkpoint, start: usize) -> (usize, usize)
     requires small { length text.now < 2 ^ 32 }
     requires tokens { tokens.now ≡ tokens_of (chars text.now) }
@@ -27,10 +27,13 @@ fn front(text: &str, tokens: &[Token], near: Checkpoint, start: usize) -> (usize
     ensures clear { 0 < result.0 → is_clear_of text.now start result.1 ≡ true }
     ensures within { result.0 ≤ length tokens.now }
 {
+    let run = run_start(text, start);
+    // Up to here, offsets are clear at a glance.
+    let sure = (run + 1).min(start.saturating_sub(7));
     let mut at = near.place;
     for k in near.tokens..tokens.len() {
         let next = at + tokens[k].len as usize;
-        if !is_clear(text, next, start) {
+        if !is_clear_from(text, next, start, run, sure) {
             return (k, at);
         }
         at = next;

@@ -20,9 +20,9 @@ loop-waiting-init g c =
     let p = u.place c.iter.result (reverse c.new.result.items) in
     let o = ap (λ f. u.place f (reverse c.new.result.items)) c.iter.ensures ∙ ap (λ xs. u.place (forest c.args.argument) (reverse xs)) c.new.ensures.items in (
       first-held gr pattern (forest c.args.argument) p (record { items = c.args.pattern; frames = None; moves = None }) c.requires o refl refl
-          c.settle.new.self.waiting.items c.new-found.result.waiting.items c.settle.new.self.seen.items c.new-found.result.seen.items
+          c.settle.new.self.waiting.items c.new-found.result.waiting.items c.settle.new.self.seen c.new-found.result.seen
           c.new-found.ensures.waiting c.new-found.ensures.seen
-          (λ all h. subst (λ ts. Leads gr pattern p all c.settle.new.self.waiting.items c.settle.new.self.seen.items ts) c.in_ok-settle.ensures.done
+          (λ all h. subst (λ ts. Leads gr pattern p all c.settle.new.self.waiting.items c.settle.new.self.seen ts) c.in_ok-settle.ensures.done
           (c.in_ok-settle.ensures.all pattern all h)),
       c.in_ok-settle.ensures.done,
     )
@@ -50,11 +50,11 @@ loop-waiting-smaller g c =
     let ws = c.loop-waiting.found.waiting.items in
     let e = c.deref-in-loop-waiting-2.ensures.value ∙ c.hand_over.ensures.handed in
     (turned gr pattern (forest c.args.argument) (place_of c.loop-waiting.place) s (place_of c.go_round.new.place)
-    ws c.advance_all.new.self.waiting.items c.go_round.new.self.waiting.items c.advance_all.new.self.seen.items c.in-Some.taken c.loop-waiting.invariant.0
+    ws c.advance_all.new.self.waiting.items c.go_round.new.self.waiting.items c.advance_all.new.self.seen c.in-Some.taken c.loop-waiting.invariant.0
     (sym c.if-has_clash.false ∙ c.has_clash.ensures ∙ ap (λ ws. clash (flat_map takings_of ws)) c.deref.ensures.value)
     (sym c.in-Some.is ∙ c.first_taken.ensures ∙ ap head_taken c.deref-in-loop-waiting.ensures.value)
     c.in_ok-place.ensures
-    (λ good. subst (λ x. Leads gr pattern s (flat_map (advanced_by (settled_at gr)) (waits_at s x)) c.advance_all.new.self.waiting.items c.advance_all.new.self.seen.items []) e
+    (λ good. subst (λ x. Leads gr pattern s (flat_map (advanced_by (settled_at gr)) (waits_at s x)) c.advance_all.new.self.waiting.items c.advance_all.new.self.seen []) e
     (c.in_ok-advance_all.ensures.all pattern (subst (λ x. Each (IsSoundAt pattern) (waits_at s x)) (sym e) good)))
     c.in_ok-go_round.ensures.rounds).1
 
@@ -67,11 +67,11 @@ loop-waiting-preserved g c =
     let e = c.deref-in-loop-waiting-2.ensures.value ∙ c.hand_over.ensures.handed in (
       (
           turned gr pattern (forest c.args.argument) (place_of c.loop-waiting.place) s (place_of c.go_round.new.place)
-          ws c.advance_all.new.self.waiting.items c.go_round.new.self.waiting.items c.advance_all.new.self.seen.items c.in-Some.taken c.loop-waiting.invariant.0
+          ws c.advance_all.new.self.waiting.items c.go_round.new.self.waiting.items c.advance_all.new.self.seen c.in-Some.taken c.loop-waiting.invariant.0
           (sym c.if-has_clash.false ∙ c.has_clash.ensures ∙ ap (λ ws. clash (flat_map takings_of ws)) c.deref.ensures.value)
           (sym c.in-Some.is ∙ c.first_taken.ensures ∙ ap head_taken c.deref-in-loop-waiting.ensures.value)
           c.in_ok-place.ensures
-          (λ good. subst (λ x. Leads gr pattern s (flat_map (advanced_by (settled_at gr)) (waits_at s x)) c.advance_all.new.self.waiting.items c.advance_all.new.self.seen.items []) e
+          (λ good. subst (λ x. Leads gr pattern s (flat_map (advanced_by (settled_at gr)) (waits_at s x)) c.advance_all.new.self.waiting.items c.advance_all.new.self.seen []) e
           (c.in_ok-advance_all.ensures.all pattern (subst (λ x. Each (IsSoundAt pattern) (waits_at s x)) (sym e) good)))
           c.in_ok-go_round.ensures.rounds).0,
       c.in_ok-go_round.ensures.tasks ∙ c.in_ok-advance_all.ensures.done,

@@ -12,9 +12,9 @@ returns-in_ok-push-in-Ended-clause-all g c = λ pattern all sound h.
     let gr = g.G.FragmentGrammar.answer c.args.grammar.now in
     let p = place_of c.args.place.now in
     let s = c.args.self.now in
-    subst (λ w. Leads gr pattern p (all ++ advanced_by (settled_at gr) (waiting_at p w)) c.push.new.self.items s.seen.items []) (sym c.in-Ended.is)
-    (same-leads gr pattern p _ _ c.push.new.self.items s.seen.items s.seen.items [] [] c.in_ok-push-in-Ended.ensures.items refl refl
-    (more-ended gr pattern p all s.waiting.items s.seen.items c.in-Ended.moves h))
+    subst (λ w. Leads gr pattern p (all ++ advanced_by (settled_at gr) (waiting_at p w)) c.push.new.self.items s.seen []) (sym c.in-Ended.is)
+    (same-leads gr pattern p _ _ c.push.new.self.items s.seen s.seen [] [] c.in_ok-push-in-Ended.ensures.items refl refl
+    (more-ended gr pattern p all s.waiting.items s.seen c.in-Ended.moves h))
 
 pub returns-in_ok-settle_next-in-Pending-clause-all : goal.returns-in_ok-settle_next-in-Pending-clause-all
 returns-in_ok-settle_next-in-Pending-clause-all g c = λ pattern all sound h.
@@ -23,11 +23,11 @@ returns-in_ok-settle_next-in-Pending-clause-all g c = λ pattern all sound h.
     let s = c.args.self.now in
     let t = c.in-Pending.thread in
     let more = all ++ map (prefixed (moves_of t.moves)) (settled_at gr (state_of t p)) in
-    subst (λ w. Leads gr pattern p (all ++ advanced_by (settled_at gr) (waiting_at p w)) c.settle_next.new.self.waiting.items c.settle_next.new.self.seen.items [])
+    subst (λ w. Leads gr pattern p (all ++ advanced_by (settled_at gr) (waiting_at p w)) c.settle_next.new.self.waiting.items c.settle_next.new.self.seen [])
     (sym c.in-Pending.is)
-    (subst (λ ts. Leads gr pattern p more c.settle_next.new.self.waiting.items c.settle_next.new.self.seen.items ts) c.in_ok-settle_next-in-Pending.ensures.done
+    (subst (λ ts. Leads gr pattern p more c.settle_next.new.self.waiting.items c.settle_next.new.self.seen ts) c.in_ok-settle_next-in-Pending.ensures.done
     (c.in_ok-settle_next-in-Pending.ensures.all pattern more
-    (more-due gr pattern p all s.waiting.items s.seen.items t (subst (λ w. IsSoundAt pattern (waiting_at p w)) c.in-Pending.is sound) h)))
+    (more-due gr pattern p all s.waiting.items s.seen t (subst (λ w. IsSoundAt pattern (waiting_at p w)) c.in-Pending.is sound) h)))
 
 pub settle_next-requires-clause-good : goal.settle_next-requires-clause-good
 settle_next-requires-clause-good g c =

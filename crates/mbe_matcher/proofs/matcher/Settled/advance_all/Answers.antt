@@ -18,7 +18,7 @@ loop-w-preserved g c = (
       let i = c.loop-w.w-index in
       let next = advanced_by (settled_at gr) in
       let before = flat_map next (waits_at p (take i ws)) in
-      subst (λ x. Leads gr pattern p x c.advance.new.self.waiting.items c.advance.new.self.seen.items [])
+      subst (λ x. Leads gr pattern p x c.advance.new.self.waiting.items c.advance.new.self.seen [])
       (ap (λ w. before ++ next (waiting_at p w)) c.w-item.is ∙ sym (flat_map-take next (waiting_at p) ws i c.w-item.result c.loop-w-test.true))
       (c.in_ok-advance.ensures.all pattern before
       (subst (λ w. IsSoundAt pattern (waiting_at p w)) (sym c.w-item.is) (each-at (IsSoundAt pattern) (waiting_at p) ws i c.w-item.result each c.loop-w-test.true))
@@ -29,7 +29,7 @@ pub returns-clause-all : goal.returns-clause-all
 returns-clause-all g c = λ pattern each.
     let gr = g.G.FragmentGrammar.answer c.args.grammar.now in
     let p = place_of c.args.place.now in
-    subst (λ x. Leads gr pattern p (flat_map (advanced_by (settled_at gr)) (waits_at p x)) c.loop-w.self.waiting.items c.loop-w.self.seen.items [])
+    subst (λ x. Leads gr pattern p (flat_map (advanced_by (settled_at gr)) (waits_at p x)) c.loop-w.self.waiting.items c.loop-w.self.seen [])
     (take_all c.loop-w.w-index c.args.waiting.now (omega (arith, c.loop-w-test.false))) (c.loop-w.invariant.1 pattern each)
 
 pub advance-requires-clause-sound : goal.advance-requires-clause-sound

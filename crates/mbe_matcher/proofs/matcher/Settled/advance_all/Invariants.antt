@@ -13,4 +13,4 @@ invariant-loop-w g l =
     × ((pattern : Items) → Each (IsSoundAt pattern) (waits_at (place_of l.place) l.waiting) →
     Leads (g.G.FragmentGrammar.answer l.grammar) pattern (place_of l.place)
     (flat_map (advanced_by (settled_at (g.G.FragmentGrammar.answer l.grammar))) (waits_at (place_of l.place) (take l.w-index l.waiting)))
-    l.self.waiting.items l.self.seen.items [])
+    l.self.waiting.items l.self.seen [])

@@ -12,8 +12,8 @@ returns-then-has_ended-clause-all g c = λ pattern all h.
     let gr = g.G.FragmentGrammar.answer c.args.grammar.now in
     let p = place_of c.args.place.now in
     let s = c.args.self.now in
-    same-leads gr pattern p all _ c.push.new.self.items s.seen.items s.seen.items s.tasks.items s.tasks.items c.in_ok-push.ensures.items refl refl
-    (ended-waits gr pattern p all s.waiting.items s.seen.items s.tasks.items c.args.thread (sym c.if-has_ended.true ∙ c.has_ended.ensures) h)
+    same-leads gr pattern p all _ c.push.new.self.items s.seen s.seen s.tasks.items s.tasks.items c.in_ok-push.ensures.items refl refl
+    (ended-waits gr pattern p all s.waiting.items s.seen s.tasks.items c.args.thread (sym c.if-has_ended.true ∙ c.has_ended.ensures) h)
 
 pub returns-clause-all : goal.returns-clause-all
 returns-clause-all g c = λ pattern all h.
@@ -21,10 +21,10 @@ returns-clause-all g c = λ pattern all h.
     let p = place_of c.args.place.now in
     let s = c.args.self.now in
     c.in_ok-take.ensures.all gr pattern p all
-    (same-leads gr pattern p all s.waiting.items c.plan.new.self.waiting.items s.seen.items c.plan.new.self.seen.items
+    (same-leads gr pattern p all s.waiting.items c.plan.new.self.waiting.items s.seen c.plan.new.self.seen
     ((s.tasks.items ++ planned c.in_ok-first.second) ++ planned c.in_ok-first.first) (c.plan.new.self.tasks.items ++ planned c.in_ok-first.first)
     c.in_ok-plan.ensures.waiting c.in_ok-plan.ensures.seen (ap (λ ts. ts ++ planned c.in_ok-first.first) c.in_ok-plan.ensures.tasks)
-    (goes-on gr pattern p all s.waiting.items s.seen.items s.tasks.items c.args.thread c.in_ok-first.first c.in_ok-first.second
+    (goes-on gr pattern p all s.waiting.items s.seen s.tasks.items c.args.thread c.in_ok-first.first c.in_ok-first.second
     (sym c.if-has_ended.false ∙ c.has_ended.ensures) c.in_ok-first.ensures h))
 
 pub returns-then-has_ended-clause-fewer : goal.returns-then-has_ended-clause-fewer

@@ -1,8 +1,7 @@
-use Rattle.std.proofs.Common.{sym, ap, subst, ◌∙◌, ◌&&◌, [], ◌∷◌, ◌++◌, arith}
-use Rattle.std.specs.List.{list_any}
+use Rattle.std.proofs.Common.{sym, subst, ◌∙◌, [], ◌∷◌, ◌++◌, arith}
 use Rattle.mbe_matcher.specs.Places.{place_of}
 use Rattle.mbe_matcher.specs.Settled.{Leads}
-use Rattle.mbe_matcher.specs.Threads.{same_state, state_of}
+use Rattle.mbe_matcher.specs.Threads.{state_of}
 use Rattle.mbe_matcher.specs.Waiting.{empties_at}
 use Rattle.mbe_matcher.specs.declared.matcher.SettleTask.TheVariants.{GoOn}
 use Rattle.mbe_matcher.proofs.TaskLemmas.{noted, some-tasks}
@@ -13,8 +12,8 @@ pub returns-then-was_settled_twice-clause-all : goal.returns-then-was_settled_tw
 returns-then-was_settled_twice-clause-all g c = λ pattern all h.
     let gr = g.G.FragmentGrammar.answer c.args.grammar.now in
     let s = c.args.self.now in
-    few-left gr pattern (place_of c.args.place.now) all s.waiting.items s.seen.items s.tasks.items c.args.thread
-    (sym c.if-was_settled_twice.true ∙ c.was_settled_twice.ensures ∙ ap (list_any (λ x. x.twice && same_state x.thread c.args.thread)) c.deref-then-twice.ensures.value) h
+    few-left gr pattern (place_of c.args.place.now) all s.waiting.items s.seen s.tasks.items c.args.thread
+    (sym c.if-was_settled_twice.true ∙ c.was_settled_twice.ensures) h
 
 pub returns-clause-all : goal.returns-clause-all
 returns-clause-all g c = λ pattern all h.
@@ -22,9 +21,9 @@ returns-clause-all g c = λ pattern all h.
     let p = place_of c.args.place.now in
     let s = c.args.self.now in
     c.in_ok-go_on.ensures.all pattern all
-    (subst (λ ts. Leads gr pattern p all s.waiting.items s.seen.items (ts ++ (GoOn (as_choice c.args.thread) ∷ []))) (sym c.in_ok-push.ensures.items)
-    (few-noted gr pattern p all s.waiting.items s.seen.items s.tasks.items c.args.thread c.was_settled-twice.result
-    (c.was_settled-twice.ensures ∙ ap (list_any (λ x. same_state x.thread c.args.thread)) c.deref.ensures.value) h))
+    (subst (λ ts. Leads gr pattern p all s.waiting.items s.seen (ts ++ (GoOn (as_choice c.args.thread) ∷ []))) (sym c.in_ok-push.ensures.items)
+    (few-noted gr pattern p all s.waiting.items s.seen s.tasks.items c.args.thread c.was_settled-twice.result
+    c.was_settled-twice.ensures h))
 
 pub returns-then-was_settled_twice-clause-fewer : goal.returns-then-was_settled_twice-clause-fewer
 returns-then-was_settled_twice-clause-fewer g c =

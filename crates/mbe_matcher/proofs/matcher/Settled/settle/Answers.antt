@@ -16,7 +16,7 @@ loop-task-init g c = record {
       let gr = g.G.FragmentGrammar.answer c.args.grammar.now in
       let s = c.args.self.now in
       c.in_ok-go_on.ensures.all pattern all
-      (subst (λ ts. Leads gr pattern (place_of c.args.place.now) all s.waiting.items s.seen.items (ts ++ (GoOn (as_choice c.args.thread) ∷ []))) (sym c.requires.tasks) h);
+      (subst (λ ts. Leads gr pattern (place_of c.args.place.now) all s.waiting.items s.seen (ts ++ (GoOn (as_choice c.args.thread) ∷ []))) (sym c.requires.tasks) h);
   tasks = c.in_ok-go_on.ensures.tasks;
 }
 
@@ -41,7 +41,7 @@ loop-task-preserved g c = record {
   all = λ pattern all h.
       let gr = g.G.FragmentGrammar.answer c.args.grammar.now in
       c.in_ok-step.ensures.all pattern all
-      (subst (λ ts. Leads gr pattern (place_of c.args.place.now) all c.loop-task.self.waiting.items c.loop-task.self.seen.items ts) c.in-Some.ensures.items
+      (subst (λ ts. Leads gr pattern (place_of c.args.place.now) all c.loop-task.self.waiting.items c.loop-task.self.seen ts) c.in-Some.ensures.items
       (c.loop-task.invariant.all pattern all h));
   tasks = c.in_ok-step.ensures.tasks;
 }
@@ -49,5 +49,5 @@ loop-task-preserved g c = record {
 pub returns-clause-all : goal.returns-clause-all
 returns-clause-all g c = λ pattern all h.
     let gr = g.G.FragmentGrammar.answer c.args.grammar.now in
-    subst (λ ts. Leads gr pattern (place_of c.args.place.now) all c.loop-task.self.waiting.items c.loop-task.self.seen.items ts)
+    subst (λ ts. Leads gr pattern (place_of c.args.place.now) all c.loop-task.self.waiting.items c.loop-task.self.seen ts)
     (c.in_default.ensures.items ∙ append-nil c.pop.new.self.items) (c.loop-task.invariant.all pattern all h)

@@ -10,9 +10,9 @@ use Rattle.mbe_matcher.proofs.matcher.Settled.settle.Given as goal
 abbrev pub invariant-loop-task : goal.invariant-loop-task
 invariant-loop-task g l = record {
   all : (pattern : Items) (all : List Waits) →
-      Leads (g.G.FragmentGrammar.answer l.grammar) pattern (place_of l.place) all l.fn.self.waiting.items l.fn.self.seen.items
+      Leads (g.G.FragmentGrammar.answer l.grammar) pattern (place_of l.place) all l.fn.self.waiting.items l.fn.self.seen
       (GoOn (record { thread = l.thread; taken = None }) ∷ []) →
-      Leads (g.G.FragmentGrammar.answer l.grammar) pattern (place_of l.place) all l.self.waiting.items l.self.seen.items l.self.tasks.items;
+      Leads (g.G.FragmentGrammar.answer l.grammar) pattern (place_of l.place) all l.self.waiting.items l.self.seen l.self.tasks.items;
   tasks : Each (HasEnd (place_of l.place)) l.self.tasks.items;
 }
 

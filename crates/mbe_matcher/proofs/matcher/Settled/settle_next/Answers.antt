@@ -10,6 +10,6 @@ returns-in_ok-push-in-Some-clause-all g c = λ pattern all h.
     let gr = g.G.FragmentGrammar.answer c.args.grammar.now in
     let p = place_of c.args.place.now in
     let s = c.args.self.now in
-    same-leads gr pattern p all _ c.push.new.self.items s.seen.items s.seen.items [] s.tasks.items c.in_ok-push-in-Some.ensures.items refl c.requires.tasks
-    (alone-waits gr pattern p all s.waiting.items s.seen.items [] c.args.thread c.in-Some.w
+    same-leads gr pattern p all _ c.push.new.self.items s.seen s.seen [] s.tasks.items c.in_ok-push-in-Some.ensures.items refl c.requires.tasks
+    (alone-waits gr pattern p all s.waiting.items s.seen [] c.args.thread c.in-Some.w
     (subst (λ o. IfSome o (λ w. WaitsAlone gr p c.args.thread w)) c.in-Some.is c.in_ok-next.ensures) h)

@@ -10,9 +10,9 @@ returns-in_ok-push-in-Some-clause-all g c = λ pattern all h.
     let gr = g.G.FragmentGrammar.answer c.args.grammar.now in
     let p = place_of c.args.place.now in
     let s = c.args.self.now in
-    same-leads gr pattern p all _ c.push-in-Some.new.self.items s.seen.items s.seen.items s.tasks.items s.tasks.items c.in_ok-push-in-Some.ensures.items refl refl
-    (taken-waits gr pattern p all s.waiting.items s.seen.items s.tasks.items c.in-GoOn.choice c.in-Some.taken c.in-Some.is
-    (subst (λ t. Leads gr pattern p all s.waiting.items s.seen.items (s.tasks.items ++ (t ∷ []))) c.in-GoOn.is h))
+    same-leads gr pattern p all _ c.push-in-Some.new.self.items s.seen s.seen s.tasks.items s.tasks.items c.in_ok-push-in-Some.ensures.items refl refl
+    (taken-waits gr pattern p all s.waiting.items s.seen s.tasks.items c.in-GoOn.choice c.in-Some.taken c.in-Some.is
+    (subst (λ t. Leads gr pattern p all s.waiting.items s.seen (s.tasks.items ++ (t ∷ []))) c.in-GoOn.is h))
 
 pub returns-in_ok-go_on_twice-in-None-clause-all : goal.returns-in_ok-go_on_twice-in-None-clause-all
 returns-in_ok-go_on_twice-in-None-clause-all g c = λ pattern all h.
@@ -21,4 +21,4 @@ returns-in_ok-go_on_twice-in-None-clause-all g c = λ pattern all h.
     let s = c.args.self.now in
     let same = c.in-GoOn.is ∙ ap (λ o. GoOn (record { thread = c.in-GoOn.choice.thread; taken = o })) c.in-None.is in
     c.in_ok-go_on_twice-in-None.ensures.all pattern all
-    (subst (λ t. Leads gr pattern p all s.waiting.items s.seen.items (s.tasks.items ++ (t ∷ []))) same h)
+    (subst (λ t. Leads gr pattern p all s.waiting.items s.seen (s.tasks.items ++ (t ∷ []))) same h)

@@ -7,12 +7,12 @@ use Rattle.mbe_matcher.proofs.matcher.Settled.take.Goals as goal
 pub returns-in-None-clause-all : goal.returns-in-None-clause-all
 returns-in-None-clause-all c = λ gr pattern p all h.
     let s = c.args.self.now in
-    subst (λ ts. Leads gr pattern p all s.waiting.items s.seen.items ts) (ap (λ o. s.tasks.items ++ planned o) c.in-None.is ∙ append-nil s.tasks.items) h
+    subst (λ ts. Leads gr pattern p all s.waiting.items s.seen ts) (ap (λ o. s.tasks.items ++ planned o) c.in-None.is ∙ append-nil s.tasks.items) h
 
 pub returns-in_ok-take_one-in-Some-clause-all : goal.returns-in_ok-take_one-in-Some-clause-all
 returns-in_ok-take_one-in-Some-clause-all c = λ gr pattern p all h.
     let s = c.args.self.now in
-    c.in_ok-take_one-in-Some.ensures.all gr pattern p all (subst (λ o. Leads gr pattern p all s.waiting.items s.seen.items (s.tasks.items ++ planned o)) c.in-Some.is h)
+    c.in_ok-take_one-in-Some.ensures.all gr pattern p all (subst (λ o. Leads gr pattern p all s.waiting.items s.seen (s.tasks.items ++ planned o)) c.in-Some.is h)
 
 pub returns-in-None-clause-tasks : goal.returns-in-None-clause-tasks
 returns-in-None-clause-tasks c = λ p h.

@@ -10,13 +10,13 @@ use Rattle.mbe_matcher.proofs.matcher.Settled.take_one.Goals as goal
 pub returns-in_ok-push-in-Some-clause-all : goal.returns-in_ok-push-in-Some-clause-all
 returns-in_ok-push-in-Some-clause-all c = λ gr pattern p all h.
     let s = c.args.self.now in
-    same-leads gr pattern p all _ c.push.new.self.items s.seen.items s.seen.items s.tasks.items s.tasks.items c.in_ok-push-in-Some.ensures.items refl refl
-    (taken-waits gr pattern p all s.waiting.items s.seen.items s.tasks.items c.args.choice c.in-Some.taken c.in-Some.is h)
+    same-leads gr pattern p all _ c.push.new.self.items s.seen s.seen s.tasks.items s.tasks.items c.in_ok-push-in-Some.ensures.items refl refl
+    (taken-waits gr pattern p all s.waiting.items s.seen s.tasks.items c.args.choice c.in-Some.taken c.in-Some.is h)
 
 pub returns-in_ok-push-in-None-clause-all : goal.returns-in_ok-push-in-None-clause-all
 returns-in_ok-push-in-None-clause-all c = λ gr pattern p all h.
     let s = c.args.self.now in
-    same-leads gr pattern p all s.waiting.items s.waiting.items s.seen.items s.seen.items (s.tasks.items ++ (GoOn c.args.choice ∷ [])) c.push-in-None.new.self.items
+    same-leads gr pattern p all s.waiting.items s.waiting.items s.seen s.seen (s.tasks.items ++ (GoOn c.args.choice ∷ [])) c.push-in-None.new.self.items
     refl refl c.in_ok-push-in-None.ensures.items h
 
 pub returns-in_ok-push-in-Some-clause-tasks : goal.returns-in_ok-push-in-Some-clause-tasks

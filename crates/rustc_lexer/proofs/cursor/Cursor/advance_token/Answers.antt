@@ -12,7 +12,7 @@ pub invariant_of-self-inside : goal.invariant_of-self-inside
 invariant_of-self-inside c =
     let some : length c.self.inside.rest.now ≡ 0 → ⊥ = search rules in
     let a = advances _ _ c.self.inside.pending _ c.first_lexeme-kind.ensures.utf8 some c.first_lexeme-kind.ensures.read in
-    (omega (arith, a.shorter, c.self.inside.small), tt)
+    (omega (arith, a.shorter, c.self.inside.small), (c.first_lexeme-kind.ensures.plain, tt))
 
 pub later_suffix-requires : goal.later_suffix-requires
 later_suffix-requires c =

@@ -1,6 +1,7 @@
 use Rattle.std.proofs.Common.{◌∙◌, sym, ap, arith}
 use Rattle.rustc_lexer.specs.Cursors.{next_guarded, past_guarded}
 use Rattle.rustc_lexer.proofs.CursorLemmas.{guards}
+use Rattle.rustc_lexer.proofs.HashReadLemmas.{plain_short}
 use Rattle.rustc_lexer.proofs.ReadLemmas.{retold}
 use Rattle.rustc_lexer.proofs.cursor.Cursor.guarded_double_quoted_string.Goals as goal
 
@@ -17,12 +18,12 @@ overflow_cast-result c =
 pub invariant_of-self-inside : goal.invariant_of-self-inside
 invariant_of-self-inside c =
     let g = guards _ _ _ c.self.inside.pending _ _ c.count_hashes-n_hashes.ensures.utf8 c.count_hashes-n_hashes.ensures.read (c.guarded_string-found.ensures _ c.count_hashes-n_hashes.ensures.read) in
-    (omega (arith, g.shorter, c.self.inside.small), tt)
+    (omega (arith, g.shorter, c.self.inside.small), (plain_short _ _ (omega arith), tt))
 
 pub invariant_of-self-inside-in-None : goal.invariant_of-self-inside-in-None
 invariant_of-self-inside-in-None c =
     let g = guards _ _ _ c.self.inside.pending _ _ c.count_hashes-n_hashes.ensures.utf8 c.count_hashes-n_hashes.ensures.read (c.guarded_string-found.ensures _ c.count_hashes-n_hashes.ensures.read) in
-    (omega (arith, g.shorter, c.self.inside.small), tt)
+    (omega (arith, g.shorter, c.self.inside.small), (plain_short _ _ (omega arith), tt))
 
 pub returns-in-Some-clause-guarded : goal.returns-in-Some-clause-guarded
 returns-in-Some-clause-guarded c =

@@ -6,8 +6,8 @@ pub overflow_add-next : goal.overflow_add-next
 overflow_add-next c =
     next_fits c.args.text.now _ _ _ _ c.utf8.text c.requires.small c.requires.tokens c.loop-k-test.true c.loop-k.invariant.at
 
-pub is_clear-requires-clause-at : goal.is_clear-requires-clause-at
-is_clear-requires-clause-at c =
+pub is_clear_from-requires-clause-at : goal.is_clear_from-requires-clause-at
+is_clear_from-requires-clause-at c =
     next_boundary c.args.text.now _ _ _ _ c.utf8.text c.requires.tokens c.loop-k-test.true c.loop-k.invariant.at
 
 pub loop-k-init : goal.loop-k-init

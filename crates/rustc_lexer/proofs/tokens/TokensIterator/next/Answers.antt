@@ -11,7 +11,7 @@ pub invariant_of-self : goal.invariant_of-self
 invariant_of-self c =
     let some : length c.args.self.now.rest.now ≡ 0 → ⊥ = search rules in
     let r = reads _ _ _ c.first_lexeme-kind.ensures.utf8 some c.first_lexeme-kind.ensures.read in
-    record { small = omega (arith, r.shorter) }
+    record { small = omega (arith, r.shorter); plain = c.first_lexeme-kind.ensures.plain }
 
 pub returns-then-is_empty-clause-steps : goal.returns-then-is_empty-clause-steps
 returns-then-is_empty-clause-steps c =

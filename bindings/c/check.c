@@ -1,0 +1,266 @@
+/* Checks of the C interface: the row of the README, every code that a text of this size can bring about, want of
+ * memory, and random edits of one session against fresh sessions. Link with -Wl,--wrap=malloc,--wrap=realloc. */
+#define _GNU_SOURCE
+#include "expander.h"
+#include <stdbool.h>
+#include <stdio.h>
+#include <stdlib.h>
+#include <string.h>
+#include <sys/mman.h>
+
+#define TEXT "macro_rules! p { ($a:ident $b:tt) => { $b $a } } p!{ x y }"
+
+static int failures;
+
+static void same(const char *what, size_t is, size_t wanted) {
+    if (is != wanted) printf("%s: %zu, not %zu\n", what, is, wanted), failures++;
+}
+#define SAME(is, wanted) same(#is, is, wanted)
+
+/* The allocations that are left before all are refused; below 0 none is. */
+static long allowed = -1;
+static bool refused(void) {
+    return allowed == 0 || (allowed > 0 && --allowed < 0);
+}
+void *__real_malloc(size_t);
+void *__real_realloc(void *, size_t);
+void *__wrap_malloc(size_t n) {
+    return refused() ? NULL : __real_malloc(n);
+}
+void *__wrap_realloc(void *p, size_t n) {
+    return refused() ? NULL : __real_realloc(p, n);
+}
+
+static uint32_t open_text(struct expander_session *s, const char *text) {
+    return expander_open(s, text, strlen(text), 2024, 128, EXPANDER_GRAMMAR_SMALL);
+}
+
+static void the_row(void) {
+    struct expander_session s = EXPANDER_SESSION_INIT;
+    struct expander_counts counts = {0, 0, 0, 0};
+    struct expander_fault fault = {9, {0, 0}};
+    struct expander_range at[6] = {{0, 0}}, from[6] = {{0, 0}};
+    char room[64] = "";
+    SAME(open_text(&s, TEXT), EXPANDER_OK);
+    SAME(expander_expand(&s), EXPANDER_OK);
+    SAME(expander_counts(&s, &counts), EXPANDER_OK);
+    SAME(counts.printed, 4);
+    SAME(counts.tokens, 2);
+    SAME(counts.faults, 0);
+    SAME(counts.expanded, 1);
+    SAME(expander_printed(&s, room, sizeof room), EXPANDER_OK);
+    SAME(memcmp(room, "y x\n", 4), 0);
+    SAME(expander_token_ranges(&s, at, 2), EXPANDER_OK);
+    SAME(expander_origins(&s, from, 2), EXPANDER_OK);
+    SAME(at[1].start, 2), SAME(at[1].end, 3);
+    SAME(from[1].start, 53), SAME(from[1].end, 54);
+
+    /* A comment in front moves everything and expands nothing. */
+    SAME(expander_edit(&s, 0, 0, "// a\n", 5), EXPANDER_OK);
+    SAME(expander_expand(&s), EXPANDER_OK);
+    SAME(expander_counts(&s, &counts), EXPANDER_OK);
+    SAME(counts.expanded, 0);
+    SAME(expander_origins(&s, from, 6), EXPANDER_OK);
+    SAME(from[1].start, 58);
+
+    /* No rule matches. */
+    SAME(expander_edit(&s, 58, 59, "1", 1), EXPANDER_OK);
+    SAME(expander_expand(&s), EXPANDER_OK);
+    SAME(expander_counts(&s, &counts), EXPANDER_OK);
+    SAME(counts.faults, 1);
+    SAME(expander_fault(&s, 0, &fault), EXPANDER_OK);
+    SAME(fault.kind, EXPANDER_CANNOT_EXPAND);
+    SAME(fault.range.start, 54), SAME(fault.range.end, 55);
+    expander_close(&s);
+}
+
+static void codes(void) {
+    struct expander_session s = EXPANDER_SESSION_INIT;
+    struct expander_counts counts = {7, 7, 7, 7};
+    struct expander_fault fault;
+    struct expander_range range[2] = {{7, 7}, {7, 7}};
+    size_t wanted = 7;
+    char room[64] = "....";
+
+    SAME(expander_text(&s, room, 64, &wanted), EXPANDER_CLOSED);
+    SAME(wanted, 7);
+    SAME(expander_is_boundary(&s, 0), EXPANDER_CLOSED);
+    SAME(expander_fits(&s, 0, 0, 0), EXPANDER_CLOSED);
+    SAME(expander_edit(&s, 0, 0, "", 0), EXPANDER_CLOSED);
+    SAME(expander_expand(&s), EXPANDER_CLOSED);
+    SAME(expander_counts(&s, &counts), EXPANDER_CLOSED);
+    SAME(expander_printed(&s, room, 64), EXPANDER_CLOSED);
+    SAME(expander_fault(&s, 0, &fault), EXPANDER_CLOSED);
+    SAME(expander_reading_fault(&s, &fault), EXPANDER_CLOSED);
+    SAME(expander_origins(&s, range, 2), EXPANDER_CLOSED);
+    SAME(expander_token_ranges(&s, range, 2), EXPANDER_CLOSED);
+    expander_close(&s), expander_close(NULL);
+
+    SAME(expander_open(&s, "a", 1, 2020, 128, 0), EXPANDER_EDITION);
+    SAME(expander_open(&s, "a", 1, 2024, 128, 1), EXPANDER_GRAMMAR);
+    SAME(expander_open(&s, "\xff", 1, 2024, 128, 0), EXPANDER_UTF8);
+    SAME(expander_open(&s, NULL, 1, 2024, 128, 0), EXPANDER_NULL);
+    SAME(expander_open(NULL, "a", 1, 2024, 128, 0), EXPANDER_NULL);
+    size_t huge = (size_t)1 << 32;
+    void *zeros = mmap(NULL, huge, PROT_READ, MAP_PRIVATE | MAP_ANONYMOUS | MAP_NORESERVE, -1, 0);
+    if (zeros != MAP_FAILED) SAME(expander_open(&s, zeros, huge, 2024, 128, 0), EXPANDER_LENGTH);
+
+    SAME(expander_open(&s, NULL, 0, 2015, 0, 0), EXPANDER_OK);
+    SAME(expander_expand(&s), EXPANDER_OK);
+    SAME(open_text(&s, "\xc3\xa9;"), EXPANDER_OK);
+    SAME(expander_counts(&s, &counts), EXPANDER_NOTHING);
+    SAME(counts.tokens, 7);
+    SAME(expander_printed(&s, room, 64), EXPANDER_NOTHING);
+    SAME(expander_is_boundary(&s, 0), EXPANDER_OK);
+    SAME(expander_is_boundary(&s, 1), EXPANDER_BOUNDARY);
+    SAME(expander_is_boundary(&s, 3), EXPANDER_OK);
+    SAME(expander_is_boundary(&s, 4), EXPANDER_RANGE);
+    SAME(expander_is_boundary(&s, SIZE_MAX), EXPANDER_RANGE);
+    SAME(expander_fits(&s, 0, 3, 4294967295), EXPANDER_OK);
+    SAME(expander_fits(&s, 0, 2, 4294967295), EXPANDER_LENGTH);
+    SAME(expander_fits(&s, 0, 0, SIZE_MAX), EXPANDER_LENGTH);
+    SAME(expander_fits(&s, 2, 1, 0), EXPANDER_RANGE);
+    SAME(expander_fits(&s, 0, 4, 0), EXPANDER_RANGE);
+    if (zeros != MAP_FAILED) SAME(expander_edit(&s, 0, 0, zeros, huge - 1), EXPANDER_LENGTH);
+    SAME(expander_edit(&s, 1, 2, "a", 1), EXPANDER_BOUNDARY);
+    SAME(expander_edit(&s, 0, 4, "a", 1), EXPANDER_RANGE);
+    SAME(expander_edit(&s, 2, 0, "a", 1), EXPANDER_RANGE);
+    SAME(expander_edit(&s, 0, 0, "\xc3", 1), EXPANDER_UTF8);
+    SAME(expander_edit(&s, 0, 0, NULL, 1), EXPANDER_NULL);
+    SAME(expander_text(&s, room, 2, &wanted), EXPANDER_ROOM);
+    SAME(wanted, 3);
+    SAME(memcmp(room, "....", 4), 0);
+    SAME(expander_text(&s, NULL, 0, &wanted), EXPANDER_ROOM);
+    SAME(expander_text(&s, room, 3, NULL), EXPANDER_NULL);
+    SAME(expander_text(&s, room, 3, &wanted), EXPANDER_OK);
+    SAME(memcmp(room, "\xc3\xa9;.", 4), 0);
+    SAME(expander_expand(&s), EXPANDER_OK);
+    SAME(expander_reading_fault(&s, &fault), EXPANDER_NOTHING);
+    SAME(expander_fault(&s, 0, &fault), EXPANDER_INDEX);
+    SAME(expander_fault(&s, SIZE_MAX, &fault), EXPANDER_INDEX);
+    SAME(expander_printed(&s, room, 1), EXPANDER_ROOM);
+    SAME(expander_origins(&s, range, 1), EXPANDER_ROOM);
+    SAME(expander_token_ranges(&s, range, 1), EXPANDER_ROOM);
+    SAME(range[0].start, 7);
+    SAME(expander_token_ranges(&s, NULL, 2), EXPANDER_NULL);
+
+    SAME(expander_edit(&s, 3, 3, "(", 1), EXPANDER_OK);
+    SAME(expander_expand(&s), EXPANDER_UNREAD);
+    SAME(expander_reading_fault(&s, &fault), EXPANDER_OK);
+    SAME(fault.kind, EXPANDER_GROUP_LEFT_OPEN);
+    SAME(fault.range.start, 3), SAME(fault.range.end, 4);
+    SAME(expander_fault(&s, 0, &fault), EXPANDER_NOTHING);
+    SAME(expander_printed(&s, room, 64), EXPANDER_NOTHING);
+    expander_close(&s), expander_close(&s);
+    SAME(expander_expand(&s), EXPANDER_CLOSED);
+    if (zeros != MAP_FAILED) munmap(zeros, huge);
+}
+
+/* Each request for memory is refused in turn, with all that follow; the session is then as it was. */
+static void want_of_memory(void) {
+    long refusals = 0;
+    for (long n = 0;; n++) {
+        struct expander_session s = EXPANDER_SESSION_INIT;
+        struct expander_range at[2];
+        char room[64];
+        allowed = n;
+        uint32_t code = open_text(&s, TEXT);
+        if (!code) code = expander_edit(&s, 55, 56, "(z)", 3);
+        if (!code) code = expander_expand(&s);
+        if (!code) code = expander_token_ranges(&s, at, 2);
+        allowed = -1;
+        if (code == EXPANDER_MEMORY) {
+            size_t wanted;
+            refusals++;
+            if (s.held) {
+                SAME(expander_text(&s, room, 64, &wanted), EXPANDER_OK);
+                SAME(wanted == 58 || wanted == 60, 1);
+                SAME(expander_expand(&s), EXPANDER_OK);
+            }
+        } else if (code == EXPANDER_ROOM) {
+            expander_close(&s);
+            break;
+        } else {
+            SAME(code, EXPANDER_MEMORY);
+        }
+        expander_close(&s);
+        if (n > 10000) break;
+    }
+    SAME(refusals > 10, 1);
+}
+
+static uint32_t seed = 41;
+static uint32_t below(uint32_t n) {
+    seed = seed * 1664525 + 1013904223;
+    return (uint32_t)((uint64_t)seed * n >> 32);
+}
+
+/* All that is told of an answer, as bytes. */
+static size_t told(struct expander_session *s, uint8_t *into) {
+    size_t n = 0;
+    struct expander_counts counts;
+    struct expander_fault fault;
+    uint32_t code = expander_expand(s);
+    memcpy(into, &code, 4), n = 4;
+    if (code == EXPANDER_UNREAD) {
+        SAME(expander_reading_fault(s, &fault), EXPANDER_OK);
+        memcpy(into + n, &fault, sizeof fault);
+        return n + sizeof fault;
+    }
+    SAME(code, EXPANDER_OK);
+    if (code) return n;
+    SAME(expander_counts(s, &counts), EXPANDER_OK);
+    SAME(expander_printed(s, into + n, counts.printed), EXPANDER_OK);
+    n += counts.printed;
+    n = (n + 7) / 8 * 8;
+    for (int which = 0; which < 2; which++) {
+        struct expander_range *ranges = (struct expander_range *)(into + n);
+        code = which ? expander_origins(s, ranges, counts.tokens) : expander_token_ranges(s, ranges, counts.tokens);
+        SAME(code, EXPANDER_OK);
+        n += counts.tokens * sizeof *ranges;
+    }
+    for (size_t i = 0; i < counts.faults; i++) {
+        SAME(expander_fault(s, i, &fault), EXPANDER_OK);
+        memcpy(into + n, &fault, sizeof fault), n += sizeof fault;
+    }
+    return n;
+}
+
+static void random_edits(int count) {
+    static const char *const parts[] = {"x", " y", "(", ")", "{", "}", "p!{ x y }", "'a", "\"s\"", "1.0", ";", "\xc3\xa9", "//c\n",
+        "/// d\n", "macro_rules! q { ($($t:tt)*) => { $($t)* } }\n", "q!{ p!{ a b } }\n", "$", "#", "::", " "};
+    static uint8_t one[1 << 20], other[1 << 20];
+    static char text[1 << 16];
+    struct expander_session s = EXPANDER_SESSION_INIT;
+    int read = 0;
+    SAME(open_text(&s, TEXT "\n"), EXPANDER_OK);
+    for (int i = 0; i < count; i++) {
+        size_t len;
+        SAME(expander_text(&s, text, sizeof text, &len), EXPANDER_OK);
+        size_t start = below((uint32_t)len + 1), end = start + below(4);
+        const char *part = parts[below(sizeof parts / sizeof *parts)];
+        if (len > 400) start = 0, end = len, part = TEXT "\n";
+        uint32_t code = expander_edit(&s, start, end, part, strlen(part));
+        SAME(code == EXPANDER_OK || code == EXPANDER_RANGE || code == EXPANDER_BOUNDARY, 1);
+        memset(one, 0, sizeof one), memset(other, 0, sizeof other);
+        size_t n = told(&s, one);
+        SAME(expander_text(&s, text, sizeof text, &len), EXPANDER_OK);
+        struct expander_session fresh = EXPANDER_SESSION_INIT;
+        SAME(expander_open(&fresh, text, len, 2024, 128, 0), EXPANDER_OK);
+        SAME(told(&fresh, other), n);
+        SAME(memcmp(one, other, n), 0);
+        read += one[0] == EXPANDER_OK;
+        expander_close(&fresh);
+    }
+    expander_close(&s);
+    printf("%d edits, of which %d left a text that is read\n", count, read);
+}
+
+int main(int argc, char **argv) {
+    the_row();
+    codes();
+    want_of_memory();
+    random_edits(argc > 1 ? atoi(argv[1]) : 1000);
+    if (failures) printf("%d failures\n", failures);
+    return failures != 0;
+}

@@ -1,0 +1,205 @@
+/* The expander for C: sessions over a text that is edited and expanded.
+ *
+ * Link libexpander_c.a (`rt lib` in crates/expander_c) and liblibc_c.a of the Rattle kit.
+ *
+ *     struct expander_session session = EXPANDER_SESSION_INIT;
+ *     if (expander_open(&session, text, strlen(text), 2024, 128, EXPANDER_GRAMMAR_SMALL)) return 1;
+ *     uint32_t code = expander_expand(&session);
+ *     ...
+ *     expander_close(&session);
+ *
+ * Ownership. The caller provides the struct, which is EXPANDER_SESSION_INIT before its first use, and
+ * owns what it holds until expander_close. An open session has to be closed once, or its memory is
+ * never freed. Closing it again does nothing. The struct may be moved while no call runs, but not
+ * used as two copies: a copy of an open session is not known to be one, and closing both frees twice.
+ *
+ * Lifetimes. No call keeps a pointer that it is passed, and none hands one out: texts are copied in,
+ * and answers are copied out into room that the caller provides. An answer stays until the next
+ * expander_expand that gives one; edits leave it.
+ *
+ * Threads. There is no state but in sessions. Two threads may use two sessions at once. One session is
+ * used by one thread, the one that opened it, and by one call at a time. No call may come from a signal
+ * handler, or from the forked child of a process with threads.
+ *
+ * Codes. Each function but expander_close returns one. A call that is refused changes nothing: neither
+ * the session, nor its answer, nor what the pointers point to, except for the wanted length of
+ * expander_text. No call ends the program, unwinds, reads or writes a file, or starts a thread.
+ *
+ * Proved. The library is proved, under the caller's part of the bargain, which nothing checks: a
+ * pointer that is not NULL points to as many elements as are said, no two pointers of a call overlap,
+ * and nobody writes a session's struct. Memory comes from malloc, realloc and free, which have to be
+ * one allocator's. The stack is set aside: a type of more than about 12,000 levels of `<` in a fragment
+ * may overflow 8 MiB. */
+#ifndef EXPANDER_H
+#define EXPANDER_H
+
+#include <stddef.h>
+#include <stdint.h>
+
+#ifdef __cplusplus
+extern "C" {
+#endif
+
+/* A session, or none. `held` is NULL if there is none; only EXPANDER_SESSION_INIT and calls write it. */
+struct expander_session {
+    void *held;
+};
+#define EXPANDER_SESSION_INIT {NULL}
+
+enum expander_code {
+    EXPANDER_OK = 0,
+    EXPANDER_UNREAD = 1,   /* the text cannot be read as trees: expander_reading_fault says why */
+    EXPANDER_MEMORY = 2,   /* there is no memory for it */
+    EXPANDER_TOKENS = 3,   /* there would be more than 4,294,967,295 tokens */
+    EXPANDER_NUMBERS = 4,  /* more than 4,294,967,295 definitions would have got an id */
+    EXPANDER_CLOSED = 5,   /* the struct holds no session */
+    EXPANDER_UTF8 = 6,     /* the bytes are not UTF-8 */
+    EXPANDER_LENGTH = 7,   /* a text would have more than 4,294,967,295 bytes */
+    EXPANDER_EDITION = 8,  /* there is no such edition */
+    EXPANDER_GRAMMAR = 9,  /* there is no such grammar */
+    EXPANDER_BOUNDARY = 10, /* an offset is within a character */
+    EXPANDER_RANGE = 11,   /* the bytes are not all in the text, or end before they start */
+    EXPANDER_NOTHING = 12, /* the last answer is not of this kind, or there is none */
+    EXPANDER_INDEX = 13,   /* there is nothing of this index */
+    EXPANDER_ROOM = 14,    /* there is not enough room; nothing was written to it */
+    EXPANDER_NULL = 15     /* a pointer is NULL, and not to be */
+};
+
+enum expander_grammar { EXPANDER_GRAMMAR_SMALL = 0 };
+
+enum expander_fault_kind {
+    EXPANDER_CANNOT_EXPAND = 0,     /* no rule fits the call */
+    EXPANDER_BROKEN_DEFINITION = 1, /* the definition's rules cannot be parsed */
+    EXPANDER_RECURSION_LIMIT = 2,   /* no level is left for the call */
+    EXPANDER_NESTED_DEFINITION = 3, /* `macro_rules` or `macro` is in the output */
+    EXPANDER_UNSPELLABLE = 4        /* a token has no spelling, and was omitted */
+};
+
+enum expander_reading_fault_kind {
+    EXPANDER_BAD_TOKEN = 0,
+    EXPANDER_CLOSER_DOES_NOT_FIT = 1,
+    EXPANDER_GROUP_LEFT_OPEN = 2
+};
+
+/* The bytes of a text from `start` up to, but not including, `end`. */
+struct expander_range {
+    uint32_t start, end;
+};
+
+/* A fault, of one of the two enums above, and the bytes of the expanded text that it is reported at. */
+struct expander_fault {
+    uint32_t kind;
+    struct expander_range range;
+};
+
+/* How much an expansion has: bytes of its printed text, printed tokens, faults, and pieces that were
+ * expanded anew since the last text that was read did not have them. */
+struct expander_counts {
+    size_t printed, tokens, faults, expanded;
+};
+
+/* The calls as the library exports them. Here no pointer may be NULL, also if there are no elements.
+ * C callers use the functions below, which test that. */
+uint32_t expander_raw_open(struct expander_session *, const uint8_t *, size_t, uint32_t, uint8_t, uint32_t);
+void expander_raw_close(struct expander_session *);
+uint32_t expander_raw_text(struct expander_session *, uint8_t *, size_t, size_t *);
+uint32_t expander_raw_is_boundary(struct expander_session *, size_t);
+uint32_t expander_raw_fits(struct expander_session *, size_t, size_t, size_t);
+uint32_t expander_raw_edit(struct expander_session *, size_t, size_t, const uint8_t *, size_t);
+uint32_t expander_raw_expand(struct expander_session *);
+uint32_t expander_raw_counts(struct expander_session *, struct expander_counts *);
+uint32_t expander_raw_printed(struct expander_session *, uint8_t *, size_t);
+uint32_t expander_raw_fault(struct expander_session *, size_t, struct expander_fault *);
+uint32_t expander_raw_reading_fault(struct expander_session *, struct expander_fault *);
+uint32_t expander_raw_origins(struct expander_session *, struct expander_range *, size_t);
+uint32_t expander_raw_token_ranges(struct expander_session *, struct expander_range *, size_t);
+
+/* Opens a session over a copy of the text, in place of what the struct holds, which is closed.
+ * `edition` is 2015, 2018, 2021 or 2024; `depth` is how many levels of calls are expanded (the program
+ * `expand` takes 128). Nothing is expanded yet. If it is refused, what the struct held stays open.
+ * OK, EDITION, GRAMMAR, LENGTH, UTF8, MEMORY, NULL. */
+static inline uint32_t expander_open(struct expander_session *s, const void *text, size_t len, uint32_t edition,
+                                     uint8_t depth, uint32_t grammar) {
+    if (!s || (!text && len)) return EXPANDER_NULL;
+    return expander_raw_open(s, text ? (const uint8_t *)text : (const uint8_t *)"", len, edition, depth, grammar);
+}
+
+/* Closes the session and frees all that it holds. Nothing happens if there is none. */
+static inline void expander_close(struct expander_session *s) {
+    if (s) expander_raw_close(s);
+}
+
+/* The text: its length to `*wanted`, and its bytes to the beginning of the room. OK, CLOSED, ROOM, NULL. */
+static inline uint32_t expander_text(struct expander_session *s, void *room, size_t len, size_t *wanted) {
+    uint8_t none;
+    if (!s || !wanted || (!room && len)) return EXPANDER_NULL;
+    return expander_raw_text(s, room ? (uint8_t *)room : &none, len, wanted);
+}
+
+/* Whether offset `at` is a character boundary of the text, its end included: OK if it is, and BOUNDARY or
+ * RANGE if not. Also CLOSED, NULL. */
+static inline uint32_t expander_is_boundary(struct expander_session *s, size_t at) {
+    return s ? expander_raw_is_boundary(s, at) : (uint32_t)EXPANDER_NULL;
+}
+
+/* Whether `len` bytes can replace those from `start` to `end`, as far as lengths go: OK if so, and RANGE
+ * or LENGTH if not. Also CLOSED, NULL. */
+static inline uint32_t expander_fits(struct expander_session *s, size_t start, size_t end, size_t len) {
+    return s ? expander_raw_fits(s, start, end, len) : (uint32_t)EXPANDER_NULL;
+}
+
+/* Replaces the bytes from `start` to `end`. OK, CLOSED, RANGE, LENGTH, BOUNDARY, UTF8, MEMORY, NULL. */
+static inline uint32_t expander_edit(struct expander_session *s, size_t start, size_t end, const void *replacement,
+                                     size_t len) {
+    if (!s || (!replacement && len)) return EXPANDER_NULL;
+    return expander_raw_edit(s, start, end, replacement ? (const uint8_t *)replacement : (const uint8_t *)"", len);
+}
+
+/* Expands the text. The answer, an expansion or a reading fault, is kept in place of the last one.
+ * OK, UNREAD; and if there is no answer CLOSED, MEMORY, TOKENS, NUMBERS, NULL. */
+static inline uint32_t expander_expand(struct expander_session *s) {
+    return s ? expander_raw_expand(s) : (uint32_t)EXPANDER_NULL;
+}
+
+/* How much the expansion has. OK, CLOSED, NOTHING, NULL. */
+static inline uint32_t expander_counts(struct expander_session *s, struct expander_counts *into) {
+    return s && into ? expander_raw_counts(s, into) : (uint32_t)EXPANDER_NULL;
+}
+
+/* The printed text: `counts.printed` bytes of UTF-8, without a NUL. OK, CLOSED, NOTHING, ROOM, NULL. */
+static inline uint32_t expander_printed(struct expander_session *s, void *room, size_t len) {
+    uint8_t none;
+    if (!s || (!room && len)) return EXPANDER_NULL;
+    return expander_raw_printed(s, room ? (uint8_t *)room : &none, len);
+}
+
+/* The fault of this index, in order of start, end and kind. OK, CLOSED, NOTHING, INDEX, NULL. */
+static inline uint32_t expander_fault(struct expander_session *s, size_t index, struct expander_fault *into) {
+    return s && into ? expander_raw_fault(s, index, into) : (uint32_t)EXPANDER_NULL;
+}
+
+/* The reading fault. OK, CLOSED, NOTHING, NULL. */
+static inline uint32_t expander_reading_fault(struct expander_session *s, struct expander_fault *into) {
+    return s && into ? expander_raw_reading_fault(s, into) : (uint32_t)EXPANDER_NULL;
+}
+
+/* Where each of the `counts.tokens` printed tokens comes from in the expanded text.
+ * OK, CLOSED, NOTHING, ROOM, NULL. */
+static inline uint32_t expander_origins(struct expander_session *s, struct expander_range *room, size_t len) {
+    struct expander_range none;
+    if (!s || (!room && len)) return EXPANDER_NULL;
+    return expander_raw_origins(s, room ? room : &none, len);
+}
+
+/* Where each of them is in the printed text. A lifetime is two tokens, its quote and its name. They are
+ * found at each call. OK, CLOSED, NOTHING, ROOM, MEMORY, LENGTH (of the printed text), NULL. */
+static inline uint32_t expander_token_ranges(struct expander_session *s, struct expander_range *room, size_t len) {
+    struct expander_range none;
+    if (!s || (!room && len)) return EXPANDER_NULL;
+    return expander_raw_token_ranges(s, room ? room : &none, len);
+}
+
+#ifdef __cplusplus
+}
+#endif
+#endif

@@ -1,0 +1,282 @@
+//! An incremental expander of Rust's declarative macros: it keeps what a text gave, and after an edit
+//! expands again only what the edit can affect. The library under this crate is proved to answer as
+//! a new session over the edited text does.
+//!
+//! ```
+//! use filgordd::{Edition, Reply, Session};
+//!
+//! let text = "macro_rules! p { ($a:ident $b:tt) => { $b $a } } p!{ x y }";
+//! let mut session = Session::new(text, Edition::Edition2024, 128)?;
+//! let Reply::Read(expansion) = session.expand()? else { panic!("it is read") };
+//! assert_eq!(expansion.printed(), "y x\n");
+//! # Ok::<(), filgordd::Error>(())
+//! ```
+//!
+//! Ranges are of bytes. A range of the text has to begin and end at character boundaries.
+
+mod error;
+mod sys;
+
+pub use error::Error;
+
+use error::checked;
+use std::cell::UnsafeCell;
+use std::marker::PhantomData;
+use std::ops::Range;
+
+const UNREAD: u32 = 1;
+
+/// The edition of all identifiers of a text.
+#[derive(Clone, Copy, Debug, PartialEq, Eq, Hash)]
+pub enum Edition {
+    Edition2015 = 2015,
+    Edition2018 = 2018,
+    Edition2021 = 2021,
+    Edition2024 = 2024,
+}
+
+/// The kind of a fault.
+#[derive(Clone, Copy, Debug, PartialEq, Eq, Hash)]
+pub enum FaultKind {
+    /// No rule of the definition fits the call.
+    CannotExpand,
+    /// The definition's rules cannot be parsed.
+    BrokenDefinition,
+    /// No level is left to expand the call.
+    RecursionLimit,
+    /// `macro_rules` or `macro` is in the output.
+    NestedDefinition,
+    /// A token has no spelling, and was omitted.
+    Unspellable,
+}
+
+/// A fault, and the bytes of the text that it is reported at.
+#[derive(Clone, Debug, PartialEq, Eq, Hash)]
+pub struct Fault {
+    pub kind: FaultKind,
+    pub range: Range<usize>,
+}
+
+/// Why a text cannot be read as trees.
+#[derive(Clone, Copy, Debug, PartialEq, Eq, Hash)]
+pub enum ReadFaultKind {
+    BadToken,
+    CloserDoesNotFit,
+    GroupLeftOpen,
+}
+
+/// The first fault of a text that cannot be read, and its bytes.
+#[derive(Clone, Debug, PartialEq, Eq, Hash)]
+pub struct ReadFault {
+    pub kind: ReadFaultKind,
+    pub range: Range<usize>,
+}
+
+/// A printed token. A lifetime is two, its quote and its name.
+#[derive(Clone, Debug, PartialEq, Eq, Hash)]
+pub struct Token {
+    /// Its bytes in the printed text.
+    pub range: Range<usize>,
+    /// The bytes of the text that it comes from.
+    pub origin: Range<usize>,
+}
+
+/// What a text gives.
+#[derive(Debug)]
+pub enum Reply<'s> {
+    /// Its expansion.
+    Read(Expansion<'s>),
+    /// Why it cannot be read.
+    Unread(ReadFault),
+}
+
+fn range(it: sys::Range) -> Range<usize> {
+    it.start as usize..it.end as usize
+}
+
+/// A text that may be edited and expanded. It stays on its thread.
+///
+/// ```compile_fail
+/// fn needs_send(_: impl Send) {}
+/// # use filgordd::{Edition, Session};
+/// needs_send(Session::new("", Edition::Edition2024, 128));
+/// ```
+#[derive(Debug)]
+pub struct Session {
+    // Each call takes what is held out and puts it back, also one that only looks.
+    raw: UnsafeCell<sys::Session>,
+    stays: PhantomData<*mut ()>,
+}
+
+impl Session {
+    /// A session over a copy of the text. `depth` is how many levels of calls are expanded. Nothing
+    /// is expanded yet.
+    pub fn new(text: &str, edition: Edition, depth: u8) -> Result<Session, Error> {
+        let held = std::ptr::null_mut();
+        let raw = UnsafeCell::new(sys::Session { held });
+        let session = Session { raw, stays: PhantomData };
+        // SAFETY: the struct holds no session, and the bytes are those of a `&str`.
+        checked(unsafe {
+            sys::expander_raw_open(session.at(), text.as_ptr(), text.len(), edition as u32, depth, 0)
+        })?;
+        Ok(session)
+    }
+
+    // What all calls are handed. No two run at once: a `Session` stays on its thread, and no call
+    // calls back.
+    fn at(&self) -> *mut sys::Session {
+        self.raw.get()
+    }
+
+    /// The text.
+    ///
+    /// ```
+    /// # use filgordd::{Edition, Session};
+    /// let mut session = Session::new("a;", Edition::Edition2024, 128)?;
+    /// session.edit(0..1, "b")?;
+    /// assert_eq!(session.text(), "b;");
+    /// # Ok::<(), filgordd::Error>(())
+    /// ```
+    pub fn text(&self) -> String {
+        let (mut none, mut len) = (0, 0);
+        // SAFETY: there is room for 0 bytes, and for the length.
+        unsafe { sys::expander_raw_text(self.at(), &mut none, 0, &mut len) };
+        let mut bytes = vec![0; len];
+        // SAFETY: there is room for as many bytes as are said.
+        unsafe { sys::expander_raw_text(self.at(), bytes.as_mut_ptr(), len, &mut len) };
+        String::from_utf8(bytes).expect("a session's text is UTF-8")
+    }
+
+    /// Whether the offset is a character boundary of the text, its end included.
+    pub fn is_boundary(&self, at: usize) -> bool {
+        // SAFETY: the session is open.
+        unsafe { sys::expander_raw_is_boundary(self.at(), at) == 0 }
+    }
+
+    /// Whether `len` bytes can replace these, as far as lengths go.
+    pub fn fits(&self, range: Range<usize>, len: usize) -> bool {
+        // SAFETY: the session is open.
+        unsafe { sys::expander_raw_fits(self.at(), range.start, range.end, len) == 0 }
+    }
+
+    /// Replaces these bytes of the text.
+    ///
+    /// ```
+    /// # use filgordd::{Edition, Error, Session};
+    /// let mut session = Session::new("é", Edition::Edition2024, 128)?;
+    /// assert_eq!(session.edit(1..2, ""), Err(Error::Boundary));
+    /// assert_eq!(session.edit(0..3, ""), Err(Error::Range));
+    /// # Ok::<(), Error>(())
+    /// ```
+    pub fn edit(&mut self, range: Range<usize>, replacement: &str) -> Result<(), Error> {
+        let (at, len) = (replacement.as_ptr(), replacement.len());
+        // SAFETY: the bytes are those of a `&str`.
+        checked(unsafe { sys::expander_raw_edit(self.at(), range.start, range.end, at, len) })
+    }
+
+    /// Expands the text, or says why it cannot be read.
+    pub fn expand(&mut self) -> Result<Reply<'_>, Error> {
+        // SAFETY: the session is open.
+        match unsafe { sys::expander_raw_expand(self.at()) } {
+            UNREAD => Ok(Reply::Unread(self.reading_fault())),
+            code => {
+                checked(code)?;
+                Ok(Reply::Read(Expansion::of(self)))
+            }
+        }
+    }
+
+    fn reading_fault(&self) -> ReadFault {
+        let mut fault = sys::Fault::default();
+        // SAFETY: there is room for a fault.
+        unsafe { sys::expander_raw_reading_fault(self.at(), &mut fault) };
+        let kind = match fault.kind {
+            0 => ReadFaultKind::BadToken,
+            1 => ReadFaultKind::CloserDoesNotFit,
+            _ => ReadFaultKind::GroupLeftOpen,
+        };
+        ReadFault { kind, range: range(fault.range) }
+    }
+}
+
+impl Drop for Session {
+    fn drop(&mut self) {
+        // SAFETY: the session is closed once; it may not have been opened, and then nothing happens.
+        unsafe { sys::expander_raw_close(self.at()) }
+    }
+}
+
+/// What a text is expanded to. It is read from the session, which is not edited meanwhile.
+#[derive(Debug)]
+pub struct Expansion<'s> {
+    session: &'s Session,
+    counts: sys::Counts,
+    printed: String,
+}
+
+impl<'s> Expansion<'s> {
+    fn of(session: &'s Session) -> Expansion<'s> {
+        let mut counts = sys::Counts::default();
+        // SAFETY: there is room for the counts.
+        unsafe { sys::expander_raw_counts(session.at(), &mut counts) };
+        let mut bytes = vec![0; counts.printed];
+        // SAFETY: there is room for as many bytes as are said.
+        unsafe { sys::expander_raw_printed(session.at(), bytes.as_mut_ptr(), bytes.len()) };
+        let printed = String::from_utf8(bytes).expect("printed text is UTF-8");
+        Expansion { session, counts, printed }
+    }
+
+    /// The printed text.
+    pub fn printed(&self) -> &str {
+        &self.printed
+    }
+
+    /// How many pieces were expanded anew: those that the last text that was read did not have with
+    /// equal look-ups.
+    pub fn expanded(&self) -> usize {
+        self.counts.expanded
+    }
+
+    /// The faults, in order of start, end and kind.
+    pub fn faults(&self) -> impl ExactSizeIterator<Item = Fault> + '_ {
+        (0..self.counts.faults).map(|index| {
+            let mut fault = sys::Fault::default();
+            // SAFETY: there is room for a fault.
+            unsafe { sys::expander_raw_fault(self.session.at(), index, &mut fault) };
+            let kind = match fault.kind {
+                0 => FaultKind::CannotExpand,
+                1 => FaultKind::BrokenDefinition,
+                2 => FaultKind::RecursionLimit,
+                3 => FaultKind::NestedDefinition,
+                _ => FaultKind::Unspellable,
+            };
+            Fault { kind, range: range(fault.range) }
+        })
+    }
+
+    /// The printed tokens, in order. Their ranges are found at each call.
+    ///
+    /// ```
+    /// # use filgordd::{Edition, Reply, Session};
+    /// let mut session = Session::new("a + 'b", Edition::Edition2024, 128)?;
+    /// let Reply::Read(expansion) = session.expand()? else { panic!("it is read") };
+    /// let tokens: Vec<&str> = expansion.tokens()?.map(|it| &expansion.printed()[it.range]).collect();
+    /// assert_eq!(tokens, ["a", "+", "'", "b"]);
+    /// # Ok::<(), filgordd::Error>(())
+    /// ```
+    pub fn tokens(&self) -> Result<impl ExactSizeIterator<Item = Token> + use<>, Error> {
+        let count = self.counts.tokens;
+        let mut ranges = vec![sys::Range::default(); count];
+        let mut origins = ranges.clone();
+        let at = self.session.at();
+        // SAFETY: there is room for as many ranges as are said.
+        checked(unsafe { sys::expander_raw_token_ranges(at, ranges.as_mut_ptr(), count) })?;
+        // SAFETY: as above.
+        checked(unsafe { sys::expander_raw_origins(at, origins.as_mut_ptr(), count) })?;
+        let token = |(of, from)| Token { range: range(of), origin: range(from) };
+        Ok(ranges.into_iter().zip(origins).map(token))
+    }
+}
+
+#[cfg(test)]
+mod tests;

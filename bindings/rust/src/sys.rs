@@ -1,0 +1,58 @@
+//! What the archive exports. `bindings/c/expander.h` says what each call does.
+
+#[repr(C)]
+pub struct Session {
+    pub held: *mut u8,
+}
+
+#[repr(C)]
+#[derive(Clone, Copy, Debug, Default)]
+pub struct Range {
+    pub start: u32,
+    pub end: u32,
+}
+
+#[repr(C)]
+#[derive(Clone, Copy, Debug, Default)]
+pub struct Fault {
+    pub kind: u32,
+    pub range: Range,
+}
+
+#[repr(C)]
+#[derive(Clone, Copy, Debug, Default)]
+pub struct Counts {
+    pub printed: usize,
+    pub tokens: usize,
+    pub faults: usize,
+    pub expanded: usize,
+}
+
+unsafe extern "C" {
+    pub fn expander_raw_open(
+        s: *mut Session,
+        text: *const u8,
+        len: usize,
+        edition: u32,
+        depth: u8,
+        grammar: u32,
+    ) -> u32;
+    pub fn expander_raw_close(s: *mut Session);
+    pub fn expander_raw_text(s: *mut Session, room: *mut u8, len: usize, wanted: *mut usize) -> u32;
+    pub fn expander_raw_is_boundary(s: *mut Session, at: usize) -> u32;
+    pub fn expander_raw_fits(s: *mut Session, start: usize, end: usize, len: usize) -> u32;
+    pub fn expander_raw_edit(
+        s: *mut Session,
+        start: usize,
+        end: usize,
+        replacement: *const u8,
+        len: usize,
+    ) -> u32;
+    pub fn expander_raw_expand(s: *mut Session) -> u32;
+    pub fn expander_raw_counts(s: *mut Session, into: *mut Counts) -> u32;
+    pub fn expander_raw_printed(s: *mut Session, room: *mut u8, len: usize) -> u32;
+    pub fn expander_raw_fault(s: *mut Session, index: usize, into: *mut Fault) -> u32;
+    pub fn expander_raw_reading_fault(s: *mut Session, into: *mut Fault) -> u32;
+    pub fn expander_raw_origins(s: *mut Session, room: *mut Range, len: usize) -> u32;
+    pub fn expander_raw_token_ranges(s: *mut Session, room: *mut Range, len: usize) -> u32;
+}

@@ -1,0 +1,121 @@
+//! The row of the README, every code that a text of this size can bring about, and random edits of one
+//! session against fresh sessions.
+use super::*;
+
+const TEXT: &str = "macro_rules! p { ($a:ident $b:tt) => { $b $a } } p!{ x y }";
+
+fn open(text: &str) -> Session {
+    Session::new(text, Edition::Edition2024, 128).expect("it is opened")
+}
+
+fn read(session: &mut Session) -> Expansion<'_> {
+    match session.expand() {
+        Ok(Reply::Read(expansion)) => expansion,
+        other => panic!("{other:?}"),
+    }
+}
+
+#[test]
+fn the_row() {
+    let mut session = open(TEXT);
+    let expansion = read(&mut session);
+    assert_eq!((expansion.printed(), expansion.expanded()), ("y x\n", 1));
+    let tokens: Vec<Token> = expansion.tokens().expect("there is memory").collect();
+    assert_eq!(tokens, [Token { range: 0..1, origin: 55..56 }, Token { range: 2..3, origin: 53..54 }]);
+    assert_eq!(expansion.faults().len(), 0);
+
+    session.edit(0..0, "// a\n").expect("it is edited");
+    assert_eq!(read(&mut session).expanded(), 0);
+
+    session.edit(58..59, "1").expect("it is edited");
+    let faults: Vec<Fault> = read(&mut session).faults().collect();
+    assert_eq!(faults, [Fault { kind: FaultKind::CannotExpand, range: 54..55 }]);
+}
+
+#[test]
+fn refusals() {
+    let mut session = open("é;");
+    assert_eq!([0, 1, 2, 3, 4].map(|at| session.is_boundary(at)), [true, false, true, true, false]);
+    assert!(session.fits(0..3, 0xffff_ffff));
+    assert!(!session.fits(0..2, 0xffff_ffff));
+    assert_eq!(session.edit(1..2, "a"), Err(Error::Boundary));
+    assert_eq!(session.edit(0..4, "a"), Err(Error::Range));
+    assert_eq!(session.text(), "é;");
+    session.edit(3..3, "(").expect("it is edited");
+    let Ok(Reply::Unread(fault)) = session.expand() else { panic!("it is read") };
+    assert_eq!(fault, ReadFault { kind: ReadFaultKind::GroupLeftOpen, range: 3..4 });
+}
+
+#[test]
+fn codes() {
+    let (mut fault, mut counts) = (sys::Fault::default(), sys::Counts::default());
+    let session = open("a;");
+    let (at, mut none) = (session.at(), 0);
+    // SAFETY: each pointer is to as much as is said.
+    unsafe {
+        assert_eq!(sys::expander_raw_open(at, "a".as_ptr(), 1, 2020, 0, 0), 8);
+        assert_eq!(sys::expander_raw_open(at, "a".as_ptr(), 1, 2024, 0, 1), 9);
+        assert_eq!(sys::expander_raw_open(at, b"\xff".as_ptr(), 1, 2024, 0, 0), 6);
+        assert_eq!(session.text(), "a;");
+        assert_eq!(sys::expander_raw_fits(at, 0, 0, usize::MAX), 7);
+        assert_eq!(sys::expander_raw_edit(at, 0, 0, b"\xff".as_ptr(), 1), 6);
+        assert_eq!(sys::expander_raw_counts(at, &mut counts), 12);
+        assert_eq!(sys::expander_raw_expand(at), 0);
+        assert_eq!(sys::expander_raw_reading_fault(at, &mut fault), 12);
+        assert_eq!(sys::expander_raw_fault(at, 0, &mut fault), 13);
+        assert_eq!(sys::expander_raw_printed(at, &mut none, 1), 14);
+        sys::expander_raw_close(at);
+        sys::expander_raw_close(at);
+        assert_eq!(sys::expander_raw_expand(at), 5);
+        assert_eq!(sys::expander_raw_edit(at, 0, 0, b"".as_ptr(), 0), 5);
+    }
+}
+
+// Numbers that look random, below a bound.
+struct Numbers(u32);
+
+impl Numbers {
+    fn below(&mut self, bound: usize) -> usize {
+        self.0 = self.0.wrapping_mul(1_664_525).wrapping_add(1_013_904_223);
+        (self.0 as usize * bound) >> 32
+    }
+}
+
+// All that is told of an answer but how many pieces were expanded.
+fn told(session: &mut Session) -> String {
+    match session.expand() {
+        Ok(Reply::Read(it)) => {
+            let faults: Vec<Fault> = it.faults().collect();
+            let tokens: Vec<Token> = it.tokens().expect("there is memory").collect();
+            format!("{:?} {faults:?} {tokens:?}", it.printed())
+        }
+        other => format!("{other:?}"),
+    }
+}
+
+#[test]
+fn a_thousand_edits() {
+    let definition = "macro_rules! q { ($($t:tt)*) => { $($t)* } }\n";
+    let parts = ["x", " y", "(", ")", "p!{ x y }", "'a", "\"s\"", ";", "é", "//c\n", "/// d\n", "$", "::", definition];
+    let mut numbers = Numbers(41);
+    let mut text = format!("{TEXT}\n");
+    let mut session = open(&text);
+    for _ in 0..1000 {
+        let start = numbers.below(text.len() + 1);
+        let (mut range, mut part) = (start..start + numbers.below(4), parts[numbers.below(parts.len())]);
+        if text.len() > 400 {
+            (range, part) = (0..text.len(), TEXT);
+        }
+        let wanted = match text.get(range.clone()) {
+            Some(_) => Ok(()),
+            None if range.end > text.len() => Err(Error::Range),
+            None => Err(Error::Boundary),
+        };
+        assert_eq!(session.edit(range.clone(), part), wanted);
+        if wanted.is_ok() {
+            text.replace_range(range, part);
+        }
+        assert_eq!(session.text(), text);
+        assert_eq!(told(&mut session), told(&mut open(&text)));
+    }
+}

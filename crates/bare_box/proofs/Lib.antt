@@ -1,0 +1,3 @@
+pub mod HeapBoxes
+pub mod MachineWords
+pub mod WalkWords

@@ -1,0 +1,30 @@
+-- Ranges that are copied one by one: the room begins with those of the first i, and ends as it did.
+use Rattle.std.proofs.Common.{◌≡◌, ℕ, ◌+◌, ◌<◌, ◌≤◌, List, [], ◌∷◌, ◌++◌, length, take, drop, sym, ap, ◌∙◌, arith}
+use Rattle.std.proofs.lemmas.Grind.{drop_more_same}
+use Rattle.std.proofs.lemmas.List.{drop-set-lt, length-set, map-append, take_more, take_more_set}
+use Rattle.std.proofs.lemmas.Option.{get_or_from_slice_get, slice_get_within}
+use Rattle.std.specs.Prelude.{map, set, slice_get, Some}
+use Rattle.tt_data.specs.declared.span.TextRange.{TextRange}
+use Rattle.expander_c.specs.Answered.{byte_range}
+use Rattle.expander_c.specs.declared.answers.ByteRange.{ByteRange}
+
+module _ (ranges : List TextRange) (room : List ByteRange) (i : ℕ) (r : TextRange) (x : ByteRange) (at : slice_get ranges i ≡ Some r) (is : x ≡ byte_range r) where
+  pub copied_more : i < length room → take i room ≡ map byte_range (take i ranges)
+      → take (i + 1) (set room i x) ≡ map byte_range (take (i + 1) ranges)
+  copied_more within so_far =
+      let next : take (i + 1) ranges ≡ take i ranges ++ r ∷ [] =
+      take_more ranges i r (slice_get_within ranges i r at)
+      ∙ ap (λ y. take i ranges ++ y ∷ []) (get_or_from_slice_get ranges i r r at) in
+      take_more_set room i x within
+      ∙ ap (λ rs. rs ++ x ∷ []) so_far
+      ∙ ap (λ y. map byte_range (take i ranges) ++ y ∷ []) is
+      ∙ sym (map-append byte_range (take i ranges) (r ∷ []))
+      ∙ ap (map byte_range) (sym next)
+
+  pub left_less : (old : List ByteRange) → drop i room ≡ drop i old → drop (i + 1) (set room i x) ≡ drop (i + 1) old
+  left_less old so_far =
+      let later : i < i + 1 = omega arith in
+      drop-set-lt (i + 1) room i x later ∙ drop_more_same room old i so_far
+
+  pub as_long : (n : ℕ) → n ≤ length room → n ≤ length (set room i x)
+  as_long n enough = rw (length-set room i x) enough

@@ -1,0 +1,115 @@
+-- What the calls do to a session and its last answer, and what their codes mean.
+use Rattle.std.specs.Prelude.{◌≡◌, ℕ, ◌+◌, ◌-◌, ◌<◌, ◌≤◌, ◌^◌, List, [], length, Bool, Option, Some, None, IsUtf8, IsCharBoundary, ⊤, true, false, nat_eq, if◌then◌else◌}
+use Rattle.rustc_lexer.specs.Edit.{edited}
+use Rattle.small_grammar.specs.Answer.{answer}
+use Rattle.tt_data.specs.declared.edition.Edition.{Edition}
+use Rattle.tt_data.specs.declared.edition.Edition.TheVariants.{Edition2015, Edition2018, Edition2021, Edition2024}
+use Rattle.expander_scope.specs.declared.refusal.Refusal.TheVariants as why
+use Rattle.expander_session.specs.Layered.{layers}
+use Rattle.expander_session.specs.Replies.{HasCause, Replies}
+use Rattle.expander_session.specs.declared.session.Reply.TheVariants as reply
+use Rattle.expander_c.specs.declared.code.Code.{Code}
+use Rattle.expander_c.specs.declared.code.Code.TheVariants as code
+use Rattle.expander_c.specs.declared.live.Answer.{Answer}
+use Rattle.expander_c.specs.declared.live.Answer.TheVariants as last
+use Rattle.expander_c.specs.declared.live.Live.{Live}
+
+-- ---- opening
+
+-- the edition of a year
+abbrev pub edition_of : ℕ → Option Edition
+edition_of year =
+    if nat_eq year 2015 then Some Edition2015
+    else if nat_eq year 2018 then Some Edition2018
+    else if nat_eq year 2021 then Some Edition2021
+    else if nat_eq year 2024 then Some Edition2024
+    else None
+
+-- a new session over this text, before any answer
+pub record IsNew (bytes : List ℕ) (year levels : ℕ) (live : Live) : Type 0 where
+  pub edition : edition_of year ≡ Some live.session.edition
+  pub text : live.session.text ≡ bytes
+  pub depth : live.session.depth ≡ levels
+  pub held : live.session.held ≡ None
+  pub trees : live.session.trees ≡ []
+  pub given : live.session.given ≡ 0
+  pub answer : live.answer ≡ last.Nothing
+
+-- why bytes are no text
+abbrev pub NoText : List ℕ → Code → Type 0
+NoText bytes code.Length = length bytes < 2 ^ 32 → ⊥
+NoText bytes code.Utf8 = IsUtf8 bytes → ⊥
+NoText bytes _ = ⊥
+
+-- why there is no session
+abbrev pub CannotOpen : List ℕ → ℕ → ℕ → Code → Type 0
+CannotOpen text year grammar code.Edition = edition_of year ≡ None
+CannotOpen text year grammar code.Grammar = grammar ≡ 0 → ⊥
+CannotOpen text year grammar code.Memory = ⊤
+CannotOpen text year grammar c = NoText text c
+
+-- ---- edits
+
+-- these bytes are in the text, in order
+abbrev pub IsRange : List ℕ → ℕ → ℕ → Type 0
+IsRange text start stop = (start ≤ stop) × (stop ≤ length text)
+
+-- the text has fewer than 2^32 bytes after this many replace those
+abbrev pub IsShort : List ℕ → ℕ → ℕ → ℕ → Type 0
+IsShort text start stop len = length text - (stop - start) + len < 2 ^ 32
+
+-- whether an offset is a character boundary
+abbrev pub BoundaryTold : List ℕ → ℕ → Code → Type 0
+BoundaryTold text at code.Done = IsCharBoundary text at
+BoundaryTold text at code.Boundary = (at ≤ length text) × (IsCharBoundary text at → ⊥)
+BoundaryTold text at code.Range = length text < at
+BoundaryTold text at _ = ⊥
+
+-- whether an edit fits
+abbrev pub FitTold : List ℕ → ℕ → ℕ → ℕ → Code → Type 0
+FitTold text start stop len code.Done = IsRange text start stop × IsShort text start stop len
+FitTold text start stop len code.Range = IsRange text start stop → ⊥
+FitTold text start stop len code.Length = IsRange text start stop × (IsShort text start stop len → ⊥)
+FitTold text start stop len _ = ⊥
+
+-- an edit may be made
+pub record CanEdit (text : List ℕ) (start stop : ℕ) (bytes : List ℕ) : Type 0 where
+  pub range : IsRange text start stop
+  pub begins : IsCharBoundary text start
+  pub ends : IsCharBoundary text stop
+  pub utf8 : IsUtf8 bytes
+  pub short : IsShort text start stop (length bytes)
+
+-- an edit: it was made, or why it was not, and then nothing changed
+abbrev pub EditTold : ℕ → ℕ → List ℕ → Live → Live → Code → Type 0
+EditTold start stop bytes old new code.Done =
+    CanEdit old.session.text start stop bytes
+    × (new ≡ record old { session = record old.session { text = edited old.session.text start stop bytes } })
+EditTold start stop bytes old new code.Range = (IsRange old.session.text start stop → ⊥) × (new ≡ old)
+EditTold start stop bytes old new code.Length = (IsShort old.session.text start stop (length bytes) → ⊥) × (new ≡ old)
+EditTold start stop bytes old new code.Boundary =
+    (IsCharBoundary old.session.text start × IsCharBoundary old.session.text stop → ⊥) × (new ≡ old)
+EditTold start stop bytes old new code.Utf8 = (IsUtf8 bytes → ⊥) × (new ≡ old)
+EditTold start stop bytes old new code.Memory = new ≡ old
+EditTold start stop bytes old new _ = ⊥
+
+-- ---- expansions
+
+-- a session's reply is its last answer
+abbrev pub Answers : Live → Live → Answer → Type 0
+Answers old new last.Nothing = ⊥
+Answers old new (last.Read e) = Replies (layers answer old.session.edition) old.session new.session (reply.Read e)
+Answers old new (last.Unread fault) = Replies (layers answer old.session.edition) old.session new.session (reply.Unread fault)
+
+abbrev pub is_read : Answer → Bool
+is_read (last.Read e) = true
+is_read _ = false
+
+-- an expansion: the session's reply, or why there is none, and then nothing changed
+abbrev pub ExpandTold : Live → Live → Code → Type 0
+ExpandTold old new code.Done = Answers old new new.answer × (is_read new.answer ≡ true)
+ExpandTold old new code.Unread = Answers old new new.answer × (is_read new.answer ≡ false)
+ExpandTold old new code.Memory = new ≡ old
+ExpandTold old new code.Tokens = HasCause (layers answer old.session.edition) old.session why.Tokens × (new ≡ old)
+ExpandTold old new code.Numbers = HasCause (layers answer old.session.edition) old.session why.Numbers × (new ≡ old)
+ExpandTold old new _ = ⊥

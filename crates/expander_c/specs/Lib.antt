@@ -1,0 +1,5 @@
+pub mod Codes
+pub mod Calls
+pub mod Answered
+pub mod Tellings
+pub mod Handles

@@ -1,0 +1,35 @@
+-- What a call tells of the session that a handle holds.
+use Rattle.std.specs.Prelude.{◌≡◌, ℕ, List, length, Option, Some, None}
+use Rattle.expander_c.specs.Answered.{Copied}
+use Rattle.expander_c.specs.Calls.{CannotOpen, IsNew}
+use Rattle.expander_c.specs.Codes.{number}
+use Rattle.expander_c.specs.declared.code.Code.{Code}
+use Rattle.expander_c.specs.declared.code.Code.TheVariants.{Closed, Done}
+use Rattle.expander_c.specs.declared.live.Live.{Live}
+
+-- a number is that of a code which means this
+pub record Tells (meaning : Code → Type 0) (n : ℕ) : Type 0 where
+  pub code : Code
+  pub is : n ≡ number code
+  pub means : meaning code
+
+-- what a call told of what the handle holds before and after it; or that it holds nothing, and then
+-- this is kept
+abbrev pub Told : Type 0 → (Live → Live → Code → Type 0) → Option Live → Option Live → Code → Type 0
+Told kept told (Some old) (Some new) c = told old new c
+Told kept told None None c = (c ≡ Closed) × kept
+Told kept told _ _ c = ⊥
+
+-- the same of a call that changes nothing that the handle holds
+abbrev pub Looks : Type 0 → (Live → Code → Type 0) → Option Live → Option Live → Code → Type 0
+Looks kept told = Told kept (λ old new c. (new ≡ old) × told old c)
+
+-- a session was opened in place of what the handle held, or why not, and then nothing changed
+abbrev pub Opened : List ℕ → ℕ → ℕ → ℕ → Option Live → Option Live → Code → Type 0
+Opened text year depth grammar old (Some live) Done = IsNew text year depth live × (grammar ≡ 0)
+Opened text year depth grammar old None Done = ⊥
+Opened text year depth grammar old new c = CannotOpen text year grammar c × (new ≡ old)
+
+-- the text is copied, and its length told
+abbrev pub TextTold : List ℕ → List ℕ → ℕ → Live → Code → Type 0
+TextTold old new len live c = Copied live.session.text old new c × (len ≡ length live.session.text)

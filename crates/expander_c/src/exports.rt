@@ -1,0 +1,157 @@
+//! What C calls. Each answers a code by its number.
+ghost use Rattle.std.specs.Prelude.{◌≡◌, None, ⊤};
+ghost use Rattle.expander_c.specs.Answered.{CountsTold, FaultTold, OfExpansion, OriginsTold, PrintedTold, ReadingFaultTold, TokenRangesTold};
+ghost use Rattle.expander_c.specs.Calls.{BoundaryTold, EditTold, ExpandTold, FitTold};
+ghost use Rattle.expander_c.specs.Tellings.{Looks, Opened, Tells, TextTold, Told};
+
+use crate::answers::{ByteRange, Counts, ToldFault};
+use crate::calls;
+use crate::handle::Handle;
+use std::alloc::Global;
+
+/// Opens a session over a copy of the text, in place of what the handle holds, which is freed.
+#[unsafe(no_mangle)]
+pub extern "C" fn expander_raw_open(
+    alloc: Global,
+    handle: &mut Handle,
+    text: &[u8],
+    edition: u32,
+    depth: u8,
+    grammar: u32,
+) -> u32
+    ensures { Tells (Opened text.now edition depth grammar handle.old.held handle.new.held) result }
+{
+    calls::open(alloc, handle, text, edition, depth, grammar).number()
+}
+
+/// Closes the session and frees it. Nothing happens if the handle holds none.
+#[unsafe(no_mangle)]
+pub extern "C" fn expander_raw_close(alloc: Global, handle: &mut Handle)
+    ensures { handle.new.held ≡ None }
+{
+    if let Some(live) = handle.take(alloc) {
+        drop(live);
+    }
+}
+
+/// The length of the text, and the text itself, copied to the beginning of the room.
+#[unsafe(no_mangle)]
+pub extern "C" fn expander_raw_text(
+    alloc: Global,
+    handle: &mut Handle,
+    room: &mut [u8],
+    len: &mut usize,
+) -> u32
+    ensures { Tells (Looks ((room.new ≡ room.old) × (len.new ≡ len.old)) (TextTold room.old room.new len.new) handle.old.held handle.new.held) result }
+{
+    calls::text(alloc, handle, room, len).number()
+}
+
+/// Whether the offset is a character boundary of the text.
+#[unsafe(no_mangle)]
+pub extern "C" fn expander_raw_is_boundary(alloc: Global, handle: &mut Handle, at: usize) -> u32
+    ensures { Tells (Looks ⊤ (λ live. BoundaryTold live.session.text at) handle.old.held handle.new.held) result }
+{
+    calls::is_boundary(alloc, handle, at).number()
+}
+
+/// Whether `len` bytes can replace those from `start` to `end`.
+#[unsafe(no_mangle)]
+pub extern "C" fn expander_raw_fits(
+    alloc: Global,
+    handle: &mut Handle,
+    start: usize,
+    end: usize,
+    len: usize,
+) -> u32
+    ensures { Tells (Looks ⊤ (λ live. FitTold live.session.text start «end» len) handle.old.held handle.new.held) result }
+{
+    calls::fits(alloc, handle, start, end, len).number()
+}
+
+/// Replaces the bytes from `start` to `end`.
+#[unsafe(no_mangle)]
+pub extern "C" fn expander_raw_edit(
+    alloc: Global,
+    handle: &mut Handle,
+    start: usize,
+    end: usize,
+    replacement: &[u8],
+) -> u32
+    ensures { Tells (Told ⊤ (EditTold start «end» replacement.now) handle.old.held handle.new.held) result }
+{
+    calls::edit(alloc, handle, start, end, replacement).number()
+}
+
+/// Expands the text. The answer is kept in place of the last one.
+#[unsafe(no_mangle)]
+pub extern "C" fn expander_raw_expand(alloc: Global, handle: &mut Handle) -> u32
+    ensures { Tells (Told ⊤ ExpandTold handle.old.held handle.new.held) result }
+{
+    calls::expand(alloc, handle).number()
+}
+
+/// How much the expansion has.
+#[unsafe(no_mangle)]
+pub extern "C" fn expander_raw_counts(alloc: Global, handle: &mut Handle, into: &mut Counts) -> u32
+    ensures { Tells (Looks (into.new ≡ into.old) (λ live. OfExpansion CountsTold into.old into.new live.answer) handle.old.held handle.new.held) result }
+{
+    calls::counts(alloc, handle, into).number()
+}
+
+/// The printed text, copied to the beginning of the room.
+#[unsafe(no_mangle)]
+pub extern "C" fn expander_raw_printed(alloc: Global, handle: &mut Handle, room: &mut [u8]) -> u32
+    ensures { Tells (Looks (room.new ≡ room.old) (λ live. OfExpansion PrintedTold room.old room.new live.answer) handle.old.held handle.new.held) result }
+{
+    calls::printed(alloc, handle, room).number()
+}
+
+/// The fault of this index.
+#[unsafe(no_mangle)]
+pub extern "C" fn expander_raw_fault(
+    alloc: Global,
+    handle: &mut Handle,
+    index: usize,
+    into: &mut ToldFault,
+) -> u32
+    ensures { Tells (Looks (into.new ≡ into.old) (λ live. OfExpansion (FaultTold index) into.old into.new live.answer) handle.old.held handle.new.held) result }
+{
+    calls::fault(alloc, handle, index, into).number()
+}
+
+/// The reading fault.
+#[unsafe(no_mangle)]
+pub extern "C" fn expander_raw_reading_fault(
+    alloc: Global,
+    handle: &mut Handle,
+    into: &mut ToldFault,
+) -> u32
+    ensures { Tells (Looks (into.new ≡ into.old) (λ live. ReadingFaultTold into.old into.new live.answer) handle.old.held handle.new.held) result }
+{
+    calls::reading_fault(alloc, handle, into).number()
+}
+
+/// Where the printed tokens come from in the text, copied to the beginning of the room.
+#[unsafe(no_mangle)]
+pub extern "C" fn expander_raw_origins(
+    alloc: Global,
+    handle: &mut Handle,
+    room: &mut [ByteRange],
+) -> u32
+    ensures { Tells (Looks (room.new ≡ room.old) (λ live. OfExpansion OriginsTold room.old room.new live.answer) handle.old.held handle.new.held) result }
+{
+    calls::origins(alloc, handle, room).number()
+}
+
+/// Where the printed tokens are in the printed text, copied to the beginning of the room.
+#[unsafe(no_mangle)]
+pub extern "C" fn expander_raw_token_ranges(
+    alloc: Global,
+    handle: &mut Handle,
+    room: &mut [ByteRange],
+) -> u32
+    ensures { Tells (Looks (room.new ≡ room.old) (λ live. OfExpansion TokenRangesTold room.old room.new live.answer) handle.old.held handle.new.held) result }
+{
+    calls::token_ranges(alloc, handle, room).number()
+}

@@ -1,0 +1,3 @@
+pub mod LawLemmas
+pub mod ShareLemmas
+pub mod TokenLemmas

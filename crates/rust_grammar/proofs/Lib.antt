@@ -1,0 +1,4 @@
+mod TableLemmas
+mod StepLemmas
+mod OutcomeLemmas
+mod Rows

@@ -1,0 +1,69 @@
+//! The table of rules, read: its nodes, roots, words and sets.
+ghost use Rattle.std.specs.Prelude.{◌≡◌, ◌<◌, Some, slice_get, get_or, length, []};
+ghost use Rattle.rust_grammar.specs.Rules.{says};
+ghost use Rattle.rust_grammar.specs.Table.{expression_at, name_at, node_at, set_texts, word_text, letters, IsSound};
+ghost use Rattle.std.specs.Prelude.{map};
+
+use crate::node::Node;
+use crate::table::{NODES, ROOTS, SETS, WORDS};
+use small_grammar::units::Operator;
+
+// An element of a table.
+fn element<T: Copy>(table: &[T], place: usize) -> T
+    requires { place < length table.now }
+    ensures { slice_get table.now place ≡ Some result }
+{
+    table[place]
+}
+
+/// The node at this place.
+pub(crate) fn read_node(place: u16) -> Node
+    requires { place < 1392 }
+    ensures same { result ≡ node_at place }
+    ensures sound { IsSound place result }
+{
+    element(&NODES, place as usize)
+}
+
+/// The place of a rule's first node.
+pub(crate) fn root_of(rule: u8) -> u16
+    requires { rule < 92 }
+    ensures same { expression_at result ≡ says (name_at rule) }
+    ensures within { result < 1392 }
+{
+    element(&ROOTS, rule as usize)
+}
+
+// A text of a table.
+fn text_in(texts: &[&'static str], place: usize) -> &'static str
+    requires { place < length texts.now }
+    ensures { result.now ≡ get_or (map (λ t. t.now) texts.now) place [] }
+{
+    texts[place]
+}
+
+// A set of a table.
+fn set_in(sets: &[&'static [Operator]], place: usize) -> &'static [Operator]
+    requires { place < length sets.now }
+    ensures { map letters result.now ≡ get_or (map (λ s. map letters s.now) sets.now) place [] }
+{
+    sets[place]
+}
+
+/// A word of the table.
+#[tactic(auto, unfolding(crate::specs::Table::word_text))]
+pub(crate) fn text_of(word: u8) -> &'static str
+    requires { word < 50 }
+    ensures { result.now ≡ word_text word }
+{
+    text_in(&WORDS, word as usize)
+}
+
+/// A set of the table.
+#[tactic(auto, unfolding(crate::specs::Table::set_texts))]
+pub(crate) fn operators_of(set: u8) -> &'static [Operator]
+    requires { set < 21 }
+    ensures { map letters result.now ≡ set_texts set }
+{
+    set_in(&SETS, set as usize)
+}

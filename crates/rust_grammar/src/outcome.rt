@@ -1,0 +1,14 @@
+//! What comes of an expression at a list of trees.
+
+use tt::TtIter;
+
+/// What comes of an expression at the beginning of a list of trees.
+#[derive(Drop)]
+pub enum Outcome<'a> {
+    /// It fits, and these trees are left.
+    Fits(TtIter<'a>),
+    /// It does not fit: another alternative may.
+    Misses,
+    /// What was decided does not fit, so the whole fragment is a fault.
+    Faults,
+}

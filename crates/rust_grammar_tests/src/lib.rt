@@ -1,0 +1,5 @@
+//! Tests of the grammar of Rust.
+#![tactic(auto)]
+
+#[cfg(test)]
+mod tests;
