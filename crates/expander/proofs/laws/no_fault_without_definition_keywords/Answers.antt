@@ -15,8 +15,7 @@ returns-clause-escaped_text c = λ grammar edition depth text f m u fits read qu
 pub returns-clause-exact : goal.returns-clause-exact
 returns-clause-exact c = λ grammar edition depth text f m u read quiet is.
     let walked = c.reading_is_a_relation.ensures.walk (text_steps text) f read in
-    let printed = c.short_leaves_are_printed.ensures.pieces text f u walked in
-    (
+    let printed = c.short_leaves_are_printed.ensures.pieces text f u walked in (
       (λ none. printed.0 (whole_meaning grammar edition depth f quiet (text_reading text) m read is none)),
       λ short. quiet_meaning grammar edition depth f quiet (printed.1 short) (text_reading text) m read is,
     )
