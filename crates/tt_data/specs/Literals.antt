@@ -1,5 +1,6 @@
 -- Literals: the text between the quotes, and the suffix right after it.
 use Rattle.std.specs.Prelude.{◌≡◌, ℕ, ◌-◌, ◌≤◌, List, ◌++◌, length, take, drop}
+use Rattle.std.specs.Str.{IsCharBoundary}
 use Rattle.std.proofs.Common.{◌∙◌, ap, arith, length-drop}
 use Rattle.std.proofs.lemmas.List.{take-append-drop}
 use Rattle.tt_data.specs.declared.span.Span.{Span}
@@ -15,6 +16,10 @@ pub record LiteralParts : Type 0 where
 -- the literal of these parts
 abbrev pub literal_of : List ℕ → List ℕ → LitKind → Span → LiteralParts
 literal_of text suffix kind span = record { text = text; suffix = suffix; kind = kind; span = span }
+
+-- the last n bytes of a text are whole characters
+abbrev pub HasSuffix : List ℕ → ℕ → Type 0
+HasSuffix all n = (n ≤ length all) × IsCharBoundary all (length all - n)
 
 -- a text cut n bytes before its end is joined again
 pub put_together : {R : Type 0} (make : List ℕ → ℕ → R) (all : List ℕ) (n : ℕ) → n ≤ length all

@@ -1,5 +1,6 @@
 //! The leaves of token trees: literals, puncts and identifiers.
-ghost use Rattle.std.specs.Prelude.{◌≡◌, ◌^◌, ◌<◌, ◌++◌, ◌↔◌, ⊤, [], length, IfOk, IsOkUnless, IsTrue};
+ghost use Rattle.std.specs.Prelude.{◌≡◌, ◌^◌, ◌<◌, ◌-◌, ◌++◌, ◌↔◌, ⊤, [], length, take, drop, IfOk, IsOkUnless, IsTrue, SomeIff};
+ghost use Rattle.tt_data.specs.Literals.{HasSuffix, literal_of};
 ghost use Rattle.tt_data.specs.Names.{prefix_of, rawness, bare_name, ident_of};
 ghost use Rattle.tt_data.specs.Spans.{span_of};
 ghost use Rattle.symbols.specs.declared.fault.TtFault.TheVariants as fault;
@@ -235,6 +236,36 @@ impl Literal {
             kind,
             span,
         })
+    }
+
+    /// The literal whose text and suffix are together this entry of a table, if its last
+    /// `suffix_len` bytes are whole characters.
+    pub(crate) fn from_entry(
+        entry: Symbol,
+        suffix_len: u32,
+        kind: LitKind,
+        span: Span,
+    ) -> Option<Literal>
+        ensures { SomeIff result (HasSuffix entry suffix_len)
+            (literal_of (take (length entry - suffix_len) entry) (drop (length entry - suffix_len) entry) kind span) }
+    {
+        let at = entry.as_str().len().checked_sub(suffix_len as usize)?;
+        if !entry.as_str().is_char_boundary(at) {
+            return None;
+        }
+        Some(Literal {
+            text_and_suffix: entry,
+            suffix_len,
+            kind,
+            span,
+        })
+    }
+
+    /// The number of bytes of the suffix.
+    pub(crate) fn suffix_len(&self) -> u32
+        ensures { result ≡ length self.now.suffix }
+    {
+        self.suffix_len
     }
 
     /// The text, and the suffix, which may be empty.
