@@ -10,6 +10,8 @@ mod calls;
 #[cfg(test)]
 mod faults;
 #[cfg(test)]
+mod packed;
+#[cfg(test)]
 mod refused;
 #[cfg(test)]
 mod samples;

@@ -1,5 +1,6 @@
 //! Each call that takes memory, made once more if it was refused: for runs in which one allocation
 //! fails. A refused call changes nothing, so the tree is the expected one.
+use crate::packed::are_read_back;
 use crate::samples::{begun, built, byte_at, punct, shows, tells, tree};
 use crate::states::{number_anchors, rewrite};
 use std::alloc::Global;
@@ -162,5 +163,15 @@ fn rewriting(rt: HostRuntime) -> Result<(), Fail> {
         answer => answer?,
     };
     assert!(rt; changed);
+    Ok(())
+}
+
+#[test]
+fn packs(rt: HostRuntime) -> Result<(), Fail> {
+    let packed = match are_read_back(rt.alloc()) {
+        Err(TtFault::Memory) => are_read_back(rt.alloc())?,
+        answer => answer?,
+    };
+    assert!(rt; packed);
     Ok(())
 }
