@@ -12,8 +12,8 @@ ghost use Rattle.mbe_transcriber.specs.Putting.{begins_ident, before_more};
 
 use mbe_rules::MetaVarKind;
 use tt::{
-    DelimiterKind, Leaf, LeafRef, Punct, Spacing, Span, TokenTreesView, TopSubtreeBuilder, TtElement,
-    TtFault, TtIter,
+    DelimiterKind, Leaf, LeafRef, Punct, Spacing, Span, TokenTreesView, TopSubtreeBuilder,
+    TtElement, TtFault, TtIter,
 };
 
 fn is_seen(kind: DelimiterKind) -> bool

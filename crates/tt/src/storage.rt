@@ -14,9 +14,7 @@ use crate::storage::renaming::Renaming;
 use std::alloc::{AllocError, Global};
 use std::hash::{Hash, Hasher};
 use std::marker::Model;
-use tt_data::{
-    Ident, IdentRef, Leaf, LeafRef, LitKind, Punct, Spacing, Span, Subtree, TokenTree,
-};
+use tt_data::{Ident, IdentRef, Leaf, LeafRef, LitKind, Punct, Spacing, Span, Subtree, TokenTree};
 
 /// A borrowed run of tokens.
 #[derive(Clone, Copy, Debug)]

@@ -146,7 +146,9 @@ pub(crate) fn leaf_spelling(alloc: Global, leaf: LeafRef<'_>) -> Result<Option<S
     ensures memory { IsOkUnless result Memory }
 {
     match leaf {
-        LeafRef::Ident(ident) if is_dollar_crate(ident) => Ok(Some(String::from_str(alloc, "crate")?)),
+        LeafRef::Ident(ident) if is_dollar_crate(ident) => {
+            Ok(Some(String::from_str(alloc, "crate")?))
+        }
         _ => own_text(alloc, leaf),
     }
 }
