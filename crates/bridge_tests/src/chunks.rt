@@ -82,7 +82,7 @@ fn put_joined(printer: &mut Printer, char: char) -> Result<(), TtFault> {
         spacing,
         span,
     });
-    printer.put_event(&TokenEvent::Leaf(&punct))
+    printer.put_event(&TokenEvent::Leaf(punct.lent()))
 }
 
 #[test]

@@ -155,7 +155,7 @@ fn step_for(char: char, leaf: &Leaf) -> TokenEvent<'_> {
         '<' => TokenEvent::Opens(DelimiterKind::Invisible, span),
         ')' => TokenEvent::Closes(DelimiterKind::Parenthesis, span),
         '>' => TokenEvent::Closes(DelimiterKind::Invisible, span),
-        _ => TokenEvent::Leaf(leaf),
+        _ => TokenEvent::Leaf(leaf.lent()),
     }
 }
 

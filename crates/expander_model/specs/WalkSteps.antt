@@ -1,6 +1,7 @@
 -- A traversal of trees, event by event.
 use Rattle.std.specs.Prelude.{◌≡◌, List, [], ◌∷◌, Option, Some, None, reverse}
 use Rattle.tt_data.specs.Forest.{Forest, empty, leaf, group}
+use Rattle.tt_data.specs.Lent.{leaf_lent}
 use Rattle.tt_data.specs.declared.delimiter.Delimiter.{Delimiter}
 use Rattle.tt_data.specs.declared.delimiter.DelimiterKind.{DelimiterKind}
 use Rattle.tt_data.specs.declared.span.Span.{Span}
@@ -30,6 +31,6 @@ GoesOut old _ new = ⊥
 
 -- one event of a traversal, or none at its end
 abbrev pub GoesOn : TreeWalk → Option TokenEvent → TreeWalk → Type 0
-GoesOn old (Some (Leaf l)) new = (old.here ≡ leaf l.now new.here) × (groups_of new ≡ groups_of old)
+GoesOn old (Some (Leaf l)) new = (old.here ≡ leaf (leaf_lent l) new.here) × (groups_of new ≡ groups_of old)
 GoesOn old (Some (Opens kind span)) new = Enters kind span old new
 GoesOn old out new = (old.here ≡ empty) × GoesOut old out new

@@ -38,11 +38,8 @@ fn bare_call<'a>(trees: &TtIter<'a>) -> Option<Call<'a>>
     if brackets.kind == DelimiterKind::Invisible {
         return None;
     }
-    let Ok(name) = name.clone() else {
-        unreachable!()
-    };
     Some(Call {
-        name,
+        name: name.to_ident(),
         from_group: after_bang,
         argument,
         rest,

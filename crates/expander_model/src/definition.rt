@@ -2,10 +2,11 @@
 ghost use Rattle.std.specs.Prelude.{◌≡◌, Option, option_map, unwrap_or};
 ghost use Rattle.expander_model.specs.Definitions.{after_attribute, after_attributes, after_parenthesis, after_word, after_pub, after_macro_rules, is_semicolon, ends_definition, macro_rules_of, macro_body, macro_of, definition_of};
 ghost use Rattle.small_grammar.specs.Text.{has_text};
+ghost use Rattle.tt_data.specs.Lent.{ident_lent};
 
 use std::marker::Model;
 use tt::TtIter;
-use tt_data::{Delimiter, DelimiterKind, Ident, IdentIsRaw};
+use tt_data::{Delimiter, DelimiterKind, Ident, IdentIsRaw, IdentRef};
 
 /// A definition of a macro. Its trees are borrowed from the text.
 #[derive(Drop)]
@@ -31,8 +32,8 @@ impl<'a> Model for Definition<'a> {
 }
 
 // Whether the identifier is this word, and isn't raw.
-pub(crate) fn is_word(name: &Ident, word: &str) -> bool
-    ensures { result ≡ has_text word.now name.now }
+pub(crate) fn is_word(name: IdentRef<'_>, word: &str) -> bool
+    ensures { result ≡ has_text word.now (ident_lent name.entry) }
 {
     name.is_raw == IdentIsRaw::No && name.sym.as_str() == word
 }
@@ -80,8 +81,8 @@ fn after_parenthesis<'a>(trees: &TtIter<'a>) -> Option<TtIter<'a>>
 fn after_word<'a>(trees: &TtIter<'a>, word: &str) -> Option<TtIter<'a>>
     ensures { result ≡ after_word word.now trees.now }
 {
-    let (name, rest) = trees.first_ident()?;
-    if is_word(&name, word) {
+    let (name, rest) = trees.lent_ident()?;
+    if is_word(name, word) {
         Some(rest)
     } else {
         None

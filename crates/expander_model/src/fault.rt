@@ -6,7 +6,7 @@ ghost use Rattle.expander_model.specs.Faults.{place, is_definition_word, in_orde
 use crate::definition::is_word;
 use bridge::parts::TokenEvent;
 use std::alloc::AllocError;
-use tt_data::{Leaf, Span, TextRange};
+use tt_data::{LeafRef, Span, TextRange};
 
 /// The kind of a fault. Faults with one range are reported in this order.
 #[derive(Clone, Copy, Debug, PartialEq, Eq, PartialOrd, Ord)]
@@ -50,8 +50,8 @@ pub fn is_definition_word(step: &TokenEvent<'_>) -> bool
     ensures { result ≡ is_definition_word (step_of step.now) }
 {
     match step {
-        TokenEvent::Leaf(Leaf::Ident(name)) => is_word(name, "macro_rules")
-            || is_word(name, "macro"),
+        TokenEvent::Leaf(LeafRef::Ident(name)) => is_word(*name, "macro_rules")
+            || is_word(*name, "macro"),
         _ => false,
     }
 }

@@ -2,6 +2,7 @@
 ghost use Rattle.std.specs.Prelude.{◌≡◌, ◌≢◌, IfErr, IfOk, OnOk, true};
 ghost use Rattle.tt.specs.Tops.{tokens_of};
 ghost use Rattle.tt_data.specs.Forest.{Forest, empty, size};
+ghost use Rattle.tt_data.specs.Lent.{leaf_lent};
 ghost use Rattle.expander_model.specs.Pieces.{is_pound_bang, ends_piece, separated};
 ghost use Rattle.bridge.specs.Text.{is_punct};
 ghost use Rattle.tt.specs.Building.{alone};
@@ -9,7 +10,7 @@ ghost use Rattle.expander_model.specs.Splitting.{CutsOff, HasShape, PassesAlways
 
 use std::alloc::{AllocError, Global};
 use tt::{TopSubtree, TtElement, TtIter};
-use tt_data::{Delimiter, DelimiterKind, Leaf, Punct, Spacing, TtFault};
+use tt_data::{Delimiter, DelimiterKind, Leaf, LeafRef, Punct, Spacing, TtFault};
 
 // Whether these are exactly `#` and `!`.
 fn is_pound_bang(begun: &TtIter<'_>) -> bool
@@ -35,11 +36,11 @@ fn ends_piece(begun: &TtIter<'_>, brackets: Delimiter) -> bool
 }
 
 // Whether the leaf is a `;`.
-pub(crate) fn ends_statement(leaf: &Leaf) -> bool
-    ensures { result ≡ is_punct ";" leaf.now }
+pub(crate) fn ends_statement(leaf: LeafRef<'_>) -> bool
+    ensures { result ≡ is_punct ";" (leaf_lent leaf.entry) }
 {
     match leaf {
-        Leaf::Punct(punct) => punct.char == ';',
+        LeafRef::Punct(punct) => punct.char == ';',
         _ => false,
     }
 }
@@ -61,7 +62,7 @@ pub(crate) fn alone(leaf: Leaf) -> Leaf
 fn end_alone(leaf: Leaf) -> Option<Leaf>
     ensures { result ≡ end_alone leaf }
 {
-    if ends_statement(&leaf) {
+    if ends_statement(leaf.lent()) {
         Some(alone(leaf))
     } else {
         None

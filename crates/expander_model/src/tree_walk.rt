@@ -37,7 +37,7 @@ impl<'a> TreeWalk<'a> {
         }
     }
 
-    /// The next event, a leaf borrowed. `None` at the end.
+    /// The next event, a leaf lent. `None` at the end.
     #[inline(always)]
     pub fn next(&mut self) -> Result<Option<TokenEvent<'a>>, AllocError>
         ensures { IfOk result (λ step. GoesOn self.old step self.new) }

@@ -13,6 +13,7 @@ use Rattle.bridge.specs.declared.printing.event.TokenEvent.TheVariants as as_ste
 use Rattle.expander_model.specs.declared.tree_walk.TreeWalk.{TreeWalk}
 use Rattle.expander_model.specs.Expansion.{Outcome, just, followed_by, grouped}
 use Rattle.bridge.specs.TokenEvents.{step_of}
+use Rattle.tt_data.specs.Lent.{leaf_lent}
 use Rattle.expander_model.specs.WalkSteps.{groups_of, GoesOn}
 
 or_assoc : (a b c : Bool) → ((a || b) || c) ≡ (a || (b || c))
@@ -88,8 +89,8 @@ module _ {D : Type 0} (outer : Option Span) (search : Forest → Outcome D) wher
       → ((l : Leaf) → old.here ≡ leaf l new.here → search old.here ≡ followed_by (just outer (at_leaf l ∷ [])) (search new.here))
       → left old.here (groups_of old) ≡ followed_by (just outer (step_of s ∷ [])) (left new.here (groups_of new))
   step_left is old new (as_step.Leaf l) (first, groups) passes =
-      passed_left old.here new.here (groups_of old) (just outer (at_leaf l.now ∷ [])) (passes l.now first)
-      ∙ ap (λ around. followed_by (just outer (at_leaf l.now ∷ [])) (left new.here around)) (sym groups)
+      passed_left old.here new.here (groups_of old) (just outer (at_leaf (leaf_lent l) ∷ [])) (passes (leaf_lent l) first)
+      ∙ ap (λ around. followed_by (just outer (at_leaf (leaf_lent l) ∷ [])) (left new.here around)) (sym groups)
   step_left is old new (as_step.Opens kind span) e passes =
       ap (λ f. left f (groups_of old)) e.first
       ∙ entered_left is e.brackets new.here e.behind (groups_of old)

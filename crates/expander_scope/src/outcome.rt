@@ -59,33 +59,23 @@ pub struct Outcome {
     pub finds: Vec<NameLookup>,
 }
 
-// A copy of the leaf. It shares the text, so it takes no memory and never fails.
-fn same_leaf(leaf: &Leaf) -> Leaf
-    ensures { result ≡ leaf.now }
-{
-    let Ok(leaf) = leaf.clone() else {
-        unreachable!()
-    };
-    leaf
-}
-
-// An owned copy of a borrowed event.
+// An owned copy of an event. It shares the text, takes no memory and is never refused.
 fn kept_step(step: &TokenEvent<'_>) -> EventKind
     ensures { kind_of result ≡ step_of step.now }
 {
     match step {
-        TokenEvent::Leaf(leaf) => EventKind::Leaf(same_leaf(leaf)),
+        TokenEvent::Leaf(leaf) => EventKind::Leaf(leaf.to_leaf()),
         TokenEvent::Opens(kind, span) => EventKind::Opens(*kind, *span),
         TokenEvent::Closes(kind, span) => EventKind::Closes(*kind, *span),
     }
 }
 
-/// The event, borrowed.
+/// The event, lent.
 pub fn lent(kind: &EventKind) -> TokenEvent<'_>
     ensures { step_of result ≡ kind_of kind.now }
 {
     match kind {
-        EventKind::Leaf(leaf) => TokenEvent::Leaf(leaf),
+        EventKind::Leaf(leaf) => TokenEvent::Leaf(leaf.lent()),
         EventKind::Opens(kind, span) => TokenEvent::Opens(*kind, *span),
         EventKind::Closes(kind, span) => TokenEvent::Closes(*kind, *span),
     }

@@ -4,6 +4,7 @@
 //! `starts` is where the definitions start.
 ghost use Rattle.std.specs.Prelude.{◌≡◌, ◌∷◌, [], ◌++◌, IfOk, IfSome, None, OnOk, option_map, map};
 ghost use Rattle.bridge.specs.TokenEvents.{step_of};
+ghost use Rattle.tt_data.specs.Lent.{leaf_lent};
 ghost use Rattle.tt_data.specs.Spans.{leaf_with, span_of};
 ghost use Rattle.tt_data.specs.Walk.{at_leaf, step_with, walk};
 ghost use Rattle.tt_data.specs.declared.span.Span.{Span};
@@ -24,7 +25,7 @@ use expander_scope::offsets::Offsets;
 use expander_scope::outcome::{Event, lent};
 use std::alloc::{AllocError, Global};
 use tt::TopSubtree;
-use tt_data::{Ident, Leaf, Punct, Span, TextRange};
+use tt_data::{IdentRef, LeafRef, Punct, Span, TextRange};
 
 // The offset that spans with this anchor count from.
 fn base_at(start: u32, starts: &Offsets, anchor: u32) -> u32
@@ -78,16 +79,13 @@ fn resolved_outer(start: u32, starts: &Offsets, outer: Option<Span>) -> Option<O
 }
 
 // The leaf with this span.
-fn leaf_at(leaf: &Leaf, span: Span) -> Leaf
-    ensures { (f : Span → Span) → span ≡ f (span_of leaf.now) → result ≡ leaf_with f leaf.now }
+fn leaf_at<'a>(leaf: LeafRef<'a>, span: Span) -> LeafRef<'a>
+    ensures { (f : Span → Span) → span ≡ f (span_of (leaf_lent leaf.entry)) → leaf_lent result ≡ leaf_with f (leaf_lent leaf.entry) }
 {
-    let Ok(leaf) = leaf.clone() else {
-        unreachable!()
-    };
     match leaf {
-        Leaf::Literal(literal) => Leaf::Literal(literal.with_span(span)),
-        Leaf::Punct(punct) => Leaf::Punct(Punct { span, ..punct }),
-        Leaf::Ident(ident) => Leaf::Ident(Ident { span, ..ident }),
+        LeafRef::Literal(literal) => LeafRef::Literal(literal.with_span(span)),
+        LeafRef::Punct(punct) => LeafRef::Punct(Punct { span, ..punct }),
+        LeafRef::Ident(ident) => LeafRef::Ident(IdentRef { span, ..ident }),
     }
 }
 
@@ -96,16 +94,16 @@ fn emit_leaf(
     steps: &mut Emitter,
     start: u32,
     starts: &Offsets,
-    leaf: &Leaf,
+    leaf: LeafRef<'_>,
     outer: Option<Span>,
 ) -> Result<(), AllocError>
-    ensures { OnOk result (PutsOut steps.old steps.new (placed outer (step_with (resolved_by start starts.now) (at_leaf leaf.now) ∷ []))) }
+    ensures { OnOk result (PutsOut steps.old steps.new (placed outer (step_with (resolved_by start starts.now) (at_leaf (leaf_lent leaf.entry)) ∷ []))) }
 {
     let Some(span) = resolved(start, starts, leaf.span()) else {
         return Err(AllocError);
     };
     let leaf = leaf_at(leaf, span);
-    push_step(steps, &TokenEvent::Leaf(&leaf), outer)
+    push_step(steps, &TokenEvent::Leaf(leaf), outer)
 }
 
 // Emits an event of a piece. `outer` is the span of the outermost call that it comes from, if
@@ -120,7 +118,7 @@ fn emit_event(
     ensures { OnOk result (PutsOut steps.old steps.new (placed outer (step_with (resolved_by start starts.now) (step_of step.now) ∷ []))) }
 {
     match step {
-        TokenEvent::Leaf(leaf) => emit_leaf(steps, start, starts, leaf, outer),
+        TokenEvent::Leaf(leaf) => emit_leaf(steps, start, starts, *leaf, outer),
         TokenEvent::Opens(kind, span) => match resolved(start, starts, *span) {
             Some(span) => push_step(steps, &TokenEvent::Opens(*kind, span), outer),
             None => Err(AllocError),

@@ -8,7 +8,7 @@ ghost use Rattle.mbe_matcher.specs.Places.{left_after};
 use crate::position::quoted;
 use fragment_grammar::{FragmentGrammar, PrefixEntryPoint, steps};
 use mbe_rules::MetaVarKind;
-use tt::{Leaf, Literal, Punct, TtElement, TtIter};
+use tt::{Leaf, LeafRef, TtElement, TtIter};
 
 // How many trees an `ident` takes: one identifier, raw or not, but no `_`.
 #[tactic(auto, using(crate::proofs::LentLemmas::an_ident, crate::proofs::LentLemmas::no_ident))]
@@ -45,15 +45,15 @@ fn unsigned_trees(trees: &TtIter<'_>) -> Option<usize>
         return None;
     };
     match leaf {
-        Leaf::Literal(_) => Some(1),
-        Leaf::Ident(name) => {
+        LeafRef::Literal(_) => Some(1),
+        LeafRef::Ident(name) => {
             let name = name.sym.as_str();
             if name == "true" || name == "false" {
                 return Some(1);
             }
             None
         }
-        Leaf::Punct(_) => None,
+        LeafRef::Punct(_) => None,
     }
 }
 

@@ -13,7 +13,7 @@ ghost use Rattle.mbe_matcher.specs.Places.{place_of, place_after, quoted_name, i
 use mbe_rules::Separator;
 use std::alloc::{AllocError, Global};
 use symbols::Symbol;
-use tt::{DelimiterKind, Leaf, Literal, Punct, TokenTreesView, TtElement, TtIter};
+use tt::{DelimiterKind, Leaf, LeafRef, Literal, Punct, TokenTreesView, TtElement, TtIter};
 
 /// A position in the argument: the trees left in the innermost open group, and those after each
 /// open group.
@@ -93,7 +93,7 @@ pub(crate) fn quoted<'a>(trees: &TtIter<'a>) -> Option<&'a Symbol>
         return None;
     }
     match rest.lent_ident() {
-        Some((name, _behind)) => Some(&name.sym),
+        Some((name, _behind)) => Some(name.sym),
         None => None,
     }
 }
@@ -192,7 +192,7 @@ impl<'a> Place<'a> {
             return false;
         };
         match leaf {
-            Leaf::Literal(here) => {
+            LeafRef::Literal(here) => {
                 literal.text() == here.text() && literal.suffix() == here.suffix()
             }
             _ => false,

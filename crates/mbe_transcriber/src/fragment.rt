@@ -1,6 +1,7 @@
 //! Transcribes the trees of a fragment.
 ghost use Rattle.std.specs.Prelude.{◌≡◌, ◌&&◌, not, Err, IfErr, IfSome, OnOk};
 ghost use Rattle.tt_data.specs.Forest.{empty, leaf};
+ghost use Rattle.tt_data.specs.Lent.{leaf_lent};
 ghost use Rattle.tt_data.specs.declared.span.Span.{Span};
 ghost use Rattle.mbe_rules.specs.declared.parser.MetaVarKind.{MetaVarKind};
 ghost use Rattle.tt.specs.Building.{extended, is_invisible, last_alone};
@@ -11,8 +12,8 @@ ghost use Rattle.mbe_transcriber.specs.Putting.{begins_ident, before_more};
 
 use mbe_rules::MetaVarKind;
 use tt::{
-    DelimiterKind, Leaf, Punct, Spacing, Span, TokenTreesView, TopSubtreeBuilder, TtElement,
-    TtFault, TtIter,
+    DelimiterKind, Leaf, LeafRef, Punct, Spacing, Span, TokenTreesView, TopSubtreeBuilder,
+    TtElement, TtFault, TtIter,
 };
 
 fn is_seen(kind: DelimiterKind) -> bool
@@ -160,8 +161,8 @@ fn put_path(
 // The identifier or literal that these trees are, if they are one. It is transcribed as it is for
 // a metavariable of any kind.
 #[tactic(auto, using(crate::proofs::PuttingLemmas::a_word_put, crate::proofs::PuttingLemmas::a_literal_put))]
-fn lone_leaf<'a>(trees: TokenTreesView<'a>) -> Option<&'a Leaf>
-    ensures { (span : Span) (kind : MetaVarKind) → IfSome result (λ l. put_in span kind (forest trees.entry) ≡ leaf l.now empty) }
+fn lone_leaf<'a>(trees: TokenTreesView<'a>) -> Option<LeafRef<'a>>
+    ensures { (span : Span) (kind : MetaVarKind) → IfSome result (λ l. put_in span kind (forest trees.entry) ≡ leaf (leaf_lent l) empty) }
 {
     let Some((first, rest)) = trees.iter().lent_leaf() else {
         return None;
@@ -170,9 +171,9 @@ fn lone_leaf<'a>(trees: TokenTreesView<'a>) -> Option<&'a Leaf>
         return None;
     }
     match first {
-        Leaf::Punct(_) => None,
-        Leaf::Ident(_) => Some(first),
-        Leaf::Literal(_) => Some(first),
+        LeafRef::Punct(_) => None,
+        LeafRef::Ident(_) => Some(first),
+        LeafRef::Literal(_) => Some(first),
     }
 }
 
@@ -188,7 +189,7 @@ pub fn put_in(
     ensures tokens { result ≡ Err TtFault.Tokens → LacksRoom out.old.tree (put_in span kind (forest trees.entry)) }
 {
     if let Some(leaf) = lone_leaf(trees) {
-        return out.push(leaf.clone()?);
+        return out.push(leaf.to_leaf());
     }
     match kind {
         MetaVarKind::Expr | MetaVarKind::Expr2021 => {

@@ -1,12 +1,13 @@
 //! Names, by edition.
 ghost use Rattle.std.specs.Prelude.{◌≡◌, ◌||◌, codes};
 ghost use Rattle.tt_data.specs.Editions.{year_of};
+ghost use Rattle.tt_data.specs.Lent.{ident_lent};
 ghost use Rattle.tt.specs.FirstTrees.{first_ident};
 ghost use Rattle.rust_grammar.specs.Tokens.{token_at, a_name, a_const_bracket, is_name, is_reserved, is_not_yet_reserved, is_of_2018, is_lone_const};
 
 use small_grammar::names::{is_path_word, is_reserved as is_ever_reserved};
 use tt::TtIter;
-use tt_data::{DelimiterKind, Edition, Ident, IdentIsRaw};
+use tt_data::{DelimiterKind, Edition, IdentIsRaw, IdentRef};
 
 /// The year that an edition is named after.
 pub(crate) fn year_of(edition: Edition) -> u16
@@ -43,8 +44,8 @@ fn is_reserved(edition: Edition, text: &str) -> bool
 }
 
 // Whether it is a name in the edition.
-fn is_name(edition: Edition, ident: &Ident) -> bool
-    ensures { result ≡ is_name edition ident.now }
+fn is_name(edition: Edition, ident: IdentRef<'_>) -> bool
+    ensures { result ≡ is_name edition (ident_lent ident.entry) }
 {
     let text = ident.sym.as_str();
     text != "_"

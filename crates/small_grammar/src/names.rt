@@ -4,9 +4,10 @@ ghost use Rattle.std.specs.List.{list_any};
 ghost use Rattle.small_grammar.specs.Text.{same_text, is_word};
 ghost use Rattle.small_grammar.specs.Tokens.{token_at, a_name, a_restriction, is_name, is_among, reserved, path_words, words, is_place};
 ghost use Rattle.tt.specs.FirstTrees.{first_ident};
+ghost use Rattle.tt_data.specs.Lent.{ident_lent};
 
 use tt::TtIter;
-use tt_data::{DelimiterKind, Ident, IdentIsRaw};
+use tt_data::{DelimiterKind, IdentIsRaw, IdentRef};
 
 // The reserved words, by their number of bytes.
 const OF_TWO: [&str; 5] = ["as", "fn", "if", "in", "do"];
@@ -136,8 +137,8 @@ pub fn is_path_word(text: &str) -> bool
 
 // Whether it is a name: an identifier but `_` that is raw, or not reserved, or `self`, `Self`,
 // `super` or `crate`.
-fn is_name(ident: &Ident) -> bool
-    ensures { result ≡ is_name ident.now }
+fn is_name(ident: IdentRef<'_>) -> bool
+    ensures { result ≡ is_name (ident_lent ident.entry) }
 {
     let text = ident.sym.as_str();
     text != "_" && (ident.is_raw == IdentIsRaw::Yes || !is_reserved(text) || is_path_word(text))
@@ -161,8 +162,8 @@ fn is_lone_place(text: &str) -> bool
 
 // Whether a visibility may be restricted to what begins with this name, which is all of it if
 // `is_alone`.
-fn begins_place(ident: &Ident, is_alone: bool) -> bool
-    ensures { result ≡ (is_word "in" ident.now || (is_alone && (is_word "crate" ident.now || (is_word "self" ident.now || is_word "super" ident.now)))) }
+fn begins_place(ident: IdentRef<'_>, is_alone: bool) -> bool
+    ensures { result ≡ (is_word "in" (ident_lent ident.entry) || (is_alone && (is_word "crate" (ident_lent ident.entry) || (is_word "self" (ident_lent ident.entry) || is_word "super" (ident_lent ident.entry))))) }
 {
     if ident.is_raw == IdentIsRaw::Yes {
         return false;
@@ -175,8 +176,8 @@ fn begins_place(ident: &Ident, is_alone: bool) -> bool
 fn is_place(trees: &TtIter<'_>) -> bool
     ensures { result ≡ is_place (first_ident trees.now) }
 {
-    match trees.first_ident() {
-        Some((ident, rest)) => begins_place(&ident, rest.is_empty()),
+    match trees.lent_ident() {
+        Some((ident, rest)) => begins_place(ident, rest.is_empty()),
         None => false,
     }
 }

@@ -29,7 +29,8 @@ pub use top_subtree::TopSubtree;
 pub use top_subtree::builder::{ExpectedDelimiters, SubtreeBuilderRestorePoint, TopSubtreeBuilder};
 pub use top_subtree::transform::{TransformTtAction, transform_tt};
 pub use tt_data::{
-    DelimSpan, Delimiter, DelimiterKind, Edition, Ident, IdentIsRaw, Leaf, Lit, LitKind, Literal,
-    Punct, Spacing, Span, Subtree, Symbol, SyntaxContext, TextRange, TextSize, TokenTree, TtFault,
+    DelimSpan, Delimiter, DelimiterKind, Edition, Ident, IdentIsRaw, IdentRef, Leaf, LeafRef, Lit,
+    LitKind, Literal, LiteralRef, Punct, Spacing, Span, Subtree, Symbol, SyntaxContext, TextRange,
+    TextSize, TokenTree, TtFault,
 };
 pub use view::{SubtreeView, TokenTreesView};

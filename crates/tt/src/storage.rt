@@ -14,7 +14,7 @@ use crate::storage::renaming::Renaming;
 use std::alloc::{AllocError, Global};
 use std::hash::{Hash, Hasher};
 use std::marker::Model;
-use tt_data::{Ident, Leaf, LitKind, Punct, Spacing, Span, Subtree, TokenTree};
+use tt_data::{Ident, IdentRef, Leaf, LeafRef, LitKind, Punct, Spacing, Span, Subtree, TokenTree};
 
 /// A borrowed run of tokens.
 #[derive(Clone, Copy, Debug)]
@@ -25,6 +25,7 @@ pub(crate) struct Tokens<'a> {
 #[tactic(auto, unfolding(crate::specs::Records::items))]
 impl<'a> Tokens<'a> {
     ghost use Rattle.tt.specs.Records.{head_at, head_in, leaf_in, punct_in, ident_in, literal_in};
+    ghost use Rattle.tt_data.specs.Lent.{ident_lent, leaf_lent};
 
     /// No tokens.
     pub(crate) fn empty() -> Tokens<'a>
@@ -132,22 +133,24 @@ impl<'a> Tokens<'a> {
         }
     }
 
-    /// The first token, borrowed, if it is a leaf, and the tokens after it.
-    pub(crate) fn lent_leaf(self) -> Option<(&'a Leaf, Tokens<'a>)>
-        ensures { option_map (λ p. (p.0.now, items p.1)) result ≡ leaf_in (items self.entry) }
+    /// The first token, lent, if it is a leaf, and the tokens after it.
+    pub(crate) fn lent_leaf(self) -> Option<(LeafRef<'a>, Tokens<'a>)>
+        ensures { option_map (λ p. (leaf_lent p.0, items p.1)) result ≡ leaf_in (items self.entry) }
     {
         match self.records.split_first()? {
-            (TokenTree::Leaf(leaf), more) => Some((leaf, Tokens { records: more })),
+            (TokenTree::Leaf(leaf), more) => Some((leaf.lent(), Tokens { records: more })),
             _ => None,
         }
     }
 
-    /// The first token, borrowed, if it is an identifier, and the tokens after it.
-    pub(crate) fn lent_ident(self) -> Option<(&'a Ident, Tokens<'a>)>
-        ensures { option_map (λ p. (p.0.now, items p.1)) result ≡ ident_in (items self.entry) }
+    /// The first token, lent, if it is an identifier, and the tokens after it.
+    pub(crate) fn lent_ident(self) -> Option<(IdentRef<'a>, Tokens<'a>)>
+        ensures { option_map (λ p. (ident_lent p.0, items p.1)) result ≡ ident_in (items self.entry) }
     {
         match self.records.split_first()? {
-            (TokenTree::Leaf(Leaf::Ident(ident)), more) => Some((ident, Tokens { records: more })),
+            (TokenTree::Leaf(Leaf::Ident(ident)), more) => {
+                Some((ident.lent(), Tokens { records: more }))
+            }
             _ => None,
         }
     }

@@ -5,6 +5,7 @@ pub mod Delimiters
 pub mod Spans
 pub mod Names
 pub mod Literals
+pub mod Lent
 pub mod Displayed
 pub mod Editions
 -- a forest and its flat list give each other back

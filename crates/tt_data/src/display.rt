@@ -3,6 +3,7 @@ ghost use Rattle.std.specs.Prelude.{◌≡◌, ◌++◌, replicate};
 ghost use Rattle.std.specs.Fmt.{WritesOnOk};
 ghost use Rattle.tt_data.specs.Displayed.{form_letters, form_quote, form_hashes};
 
+use crate::leaf::lent::{IdentRef, LeafRef, LiteralRef};
 use crate::leaf::{Ident, Leaf, LitKind, Literal, Punct};
 use std::fmt;
 
@@ -13,10 +14,22 @@ impl fmt::Display for Leaf {
     ghost output = { λ leaf. Some (displayed_leaf leaf) };
 
     fn fmt<W: fmt::Write>(&self, f: &mut fmt::Formatter<W>) -> fmt::Result {
+        self.lent().fmt(f)
+    }
+}
+
+impl fmt::Display for LeafRef<'_> {
+    ghost use Rattle.std.specs.Prelude.{Some};
+    ghost use Rattle.tt_data.specs.Displayed.{displayed_leaf};
+    ghost use Rattle.tt_data.specs.Lent.{leaf_lent};
+
+    ghost output = { λ leaf. Some (displayed_leaf (leaf_lent leaf)) };
+
+    fn fmt<W: fmt::Write>(&self, f: &mut fmt::Formatter<W>) -> fmt::Result {
         match self {
-            Leaf::Literal(literal) => literal.fmt(f),
-            Leaf::Punct(punct) => punct.fmt(f),
-            Leaf::Ident(ident) => ident.fmt(f),
+            LeafRef::Literal(literal) => literal.fmt(f),
+            LeafRef::Punct(punct) => punct.fmt(f),
+            LeafRef::Ident(ident) => ident.fmt(f),
         }
     }
 }
@@ -26,6 +39,18 @@ impl fmt::Display for Ident {
     ghost use Rattle.tt_data.specs.Displayed.{ident_text};
 
     ghost output = { λ ident. Some (ident_text ident) };
+
+    fn fmt<W: fmt::Write>(&self, f: &mut fmt::Formatter<W>) -> fmt::Result {
+        self.lent().fmt(f)
+    }
+}
+
+impl fmt::Display for IdentRef<'_> {
+    ghost use Rattle.std.specs.Prelude.{Some};
+    ghost use Rattle.tt_data.specs.Displayed.{ident_text};
+    ghost use Rattle.tt_data.specs.Lent.{ident_lent};
+
+    ghost output = { λ ident. Some (ident_text (ident_lent ident)) };
 
     fn fmt<W: fmt::Write>(&self, f: &mut fmt::Formatter<W>) -> fmt::Result {
         f.write_str(self.is_raw.as_str())?;
@@ -49,6 +74,18 @@ impl fmt::Display for Literal {
     ghost use Rattle.tt_data.specs.Displayed.{literal_text};
 
     ghost output = { λ literal. Some (literal_text literal) };
+
+    fn fmt<W: fmt::Write>(&self, f: &mut fmt::Formatter<W>) -> fmt::Result {
+        self.lent().fmt(f)
+    }
+}
+
+impl fmt::Display for LiteralRef<'_> {
+    ghost use Rattle.std.specs.Prelude.{Some};
+    ghost use Rattle.tt_data.specs.Displayed.{literal_text};
+    ghost use Rattle.tt_data.specs.Lent.{literal_lent};
+
+    ghost output = { λ literal. Some (literal_text (literal_lent literal)) };
 
     fn fmt<W: fmt::Write>(&self, f: &mut fmt::Formatter<W>) -> fmt::Result {
         write_opening(self.kind(), f)?;

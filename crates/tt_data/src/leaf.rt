@@ -7,6 +7,8 @@ ghost use Rattle.symbols.specs.declared.fault.TtFault.TheVariants as fault;
 ghost use Rattle.tt_data.specs.declared.leaf.IdentIsRaw.TheVariants.{No, Yes};
 ghost use Rattle.tt_data.specs.declared.leaf.Leaf.TheVariants as as_leaf;
 
+pub(crate) mod lent;
+
 use crate::fault::TtFault;
 use crate::span::Span;
 use crate::symbol::Symbol;

@@ -17,6 +17,7 @@ mod tree;
 pub use delimiter::{DelimSpan, Delimiter, DelimiterKind};
 pub use edition::Edition;
 pub use fault::TtFault;
+pub use leaf::lent::{IdentRef, LeafRef, LiteralRef};
 pub use leaf::{Ident, IdentIsRaw, Leaf, Lit, LitKind, Literal, Punct, Spacing};
 pub use span::{Span, SyntaxContext, TextRange, TextSize};
 pub use symbol::Symbol;

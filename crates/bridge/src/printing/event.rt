@@ -10,13 +10,13 @@ ghost use Rattle.tt_data.specs.fault.TtFault.TheVariants.{Memory};
 use std::alloc::Global;
 use std::mem::replace;
 use tt::{TokenTreesView, TtIter};
-use tt_data::{Delimiter, DelimiterKind, Leaf, Span, TtFault};
+use tt_data::{Delimiter, DelimiterKind, LeafRef, Span, TtFault};
 
-/// An event of a traversal: a leaf, which is borrowed, or the opening or closing of a group that
+/// An event of a traversal: a leaf, which is lent, or the opening or closing of a group that
 /// may be invisible.
 #[derive(Drop)]
 pub enum TokenEvent<'a> {
-    Leaf(&'a Leaf),
+    Leaf(LeafRef<'a>),
     Opens(DelimiterKind, Span),
     Closes(DelimiterKind, Span),
 }

@@ -6,10 +6,11 @@ ghost use Rattle.bridge.specs.FastSpellings.{is_mark_char, is_plain_byte};
 ghost use Rattle.bridge.specs.Spelling.{is_plain_name, is_text_of, leaf_spelling};
 ghost use Rattle.rustc_lexer.specs.Character.{is_digit};
 ghost use Rattle.tt_data.specs.Displayed.{displayed_leaf};
+ghost use Rattle.tt_data.specs.Lent.{ident_lent, leaf_lent, literal_lent};
 ghost use Rattle.tt_data.specs.declared.leaf.Leaf.TheVariants as as_leaf;
 
 use rustc_lexer::{is_ident, laws};
-use tt_data::{Ident, Leaf, LitKind, Literal, Punct};
+use tt_data::{IdentRef, LeafRef, LitKind, LiteralRef, Punct};
 
 // Whether the text is no longer than a text with tokens may be.
 fn is_short(text: &str) -> bool
@@ -49,15 +50,15 @@ fn mark_text(char: char) -> Option<&'static str>
     }
 }
 
-fn punct_text(punct: &Punct) -> Option<&'static str>
-    ensures { IfSome result (λ t. leaf_spelling (as_leaf.Punct punct.now) ≡ Some t.now) }
+fn punct_text(punct: Punct) -> Option<&'static str>
+    ensures { IfSome result (λ t. leaf_spelling (as_leaf.Punct punct) ≡ Some t.now) }
 {
     mark_text(punct.char)
 }
 
 // The name, if it is an identifier that is not raw.
-fn name_text(ident: &Ident) -> Option<&str>
-    ensures { IfSome result (λ t. leaf_spelling (as_leaf.Ident ident.now) ≡ Some t.now) }
+fn name_text<'a>(ident: IdentRef<'a>) -> Option<&'a str>
+    ensures { IfSome result (λ t. leaf_spelling (as_leaf.Ident (ident_lent ident.entry)) ≡ Some t.now) }
 {
     laws::token_lengths();
     laws::one_identifier();
@@ -70,15 +71,15 @@ fn name_text(ident: &Ident) -> Option<&str>
 }
 
 /// Whether the name is `$crate`.
-pub(crate) fn is_dollar_crate(ident: &Ident) -> bool
-    ensures { result ≡ is_plain_name (codes "$crate") ident.now }
+pub(crate) fn is_dollar_crate(ident: IdentRef<'_>) -> bool
+    ensures { result ≡ is_plain_name (codes "$crate") (ident_lent ident.entry) }
 {
     ident.is_raw.no() && ident.sym.as_str() == "$crate"
 }
 
 // The spelling of an identifier that is not raw, or of `$crate`.
-fn ident_text(ident: &Ident) -> Option<&str>
-    ensures { IfSome result (λ t. leaf_spelling (as_leaf.Ident ident.now) ≡ Some t.now) }
+fn ident_text<'a>(ident: IdentRef<'a>) -> Option<&'a str>
+    ensures { IfSome result (λ t. leaf_spelling (as_leaf.Ident (ident_lent ident.entry)) ≡ Some t.now) }
 {
     let text = name_text(ident);
     if text.is_none() && is_dollar_crate(ident) {
@@ -100,8 +101,8 @@ fn has_digits_alone(text: &str) -> bool
 }
 
 // The text of a number that is only digits, without a suffix.
-fn number_text(literal: &Literal) -> Option<&str>
-    ensures { IfSome result (λ t. leaf_spelling (as_leaf.Literal literal.now) ≡ Some t.now) }
+fn number_text<'a>(literal: LiteralRef<'a>) -> Option<&'a str>
+    ensures { IfSome result (λ t. leaf_spelling (as_leaf.Literal (literal_lent literal.entry)) ≡ Some t.now) }
 {
     laws::token_lengths();
     laws::one_number();
@@ -131,8 +132,8 @@ fn stands_for_itself(text: &str) -> bool
 }
 
 /// Whether the literal is a string whose displayed text is clearly one token.
-pub(crate) fn is_plain_string(literal: &Literal) -> bool
-    ensures { IsTrue result → is_text_of (as_leaf.Literal literal.now) (displayed_leaf (as_leaf.Literal literal.now)) ≡ true }
+pub(crate) fn is_plain_string(literal: LiteralRef<'_>) -> bool
+    ensures { IsTrue result → is_text_of (as_leaf.Literal (literal_lent literal.entry)) (displayed_leaf (as_leaf.Literal (literal_lent literal.entry))) ≡ true }
 {
     laws::token_lengths();
     laws::one_string();
@@ -144,12 +145,12 @@ pub(crate) fn is_plain_string(literal: &Literal) -> bool
 }
 
 /// The spelling of the leaf, if its kind and its text alone show it.
-pub(crate) fn fast_spelling(leaf: &Leaf) -> Option<&str>
-    ensures { IfSome result (λ t. leaf_spelling leaf.now ≡ Some t.now) }
+pub(crate) fn fast_spelling<'a>(leaf: LeafRef<'a>) -> Option<&'a str>
+    ensures { IfSome result (λ t. leaf_spelling (leaf_lent leaf.entry) ≡ Some t.now) }
 {
     match leaf {
-        Leaf::Ident(ident) => ident_text(ident),
-        Leaf::Punct(punct) => punct_text(punct),
-        Leaf::Literal(literal) => number_text(literal),
+        LeafRef::Ident(ident) => ident_text(ident),
+        LeafRef::Punct(punct) => punct_text(punct),
+        LeafRef::Literal(literal) => number_text(literal),
     }
 }

@@ -1,8 +1,9 @@
 //! Spacing: the gap between two printed tokens.
 ghost use Rattle.std.specs.Prelude.{◌≡◌};
 ghost use Rattle.bridge.specs.Edges.{are_joined, closing_edge, ends_line, gap_between, gap_outside, gap_text, has_one_gap, is_comment, leaf_edge};
+ghost use Rattle.tt_data.specs.Lent.{leaf_lent};
 
-use tt_data::{DelimiterKind, Leaf, Spacing};
+use tt_data::{DelimiterKind, LeafRef, Spacing};
 
 /// What the gaps before and after a printed token depend on.
 #[derive(Clone, Copy)]
@@ -22,11 +23,11 @@ pub(crate) enum Gap {
 }
 
 #[inline(always)]
-pub(crate) fn leaf_edge(leaf: &Leaf) -> Edge
-    ensures { result ≡ leaf_edge leaf.now }
+pub(crate) fn leaf_edge(leaf: LeafRef<'_>) -> Edge
+    ensures { result ≡ leaf_edge (leaf_lent leaf.entry) }
 {
     match leaf {
-        Leaf::Punct(punct) => Edge::Mark(punct.char, punct.spacing != Spacing::Alone),
+        LeafRef::Punct(punct) => Edge::Mark(punct.char, punct.spacing != Spacing::Alone),
         _ => Edge::Other,
     }
 }

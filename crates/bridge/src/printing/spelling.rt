@@ -7,6 +7,7 @@ ghost use Rattle.bridge.specs.TokenSteps.{steps_of_class};
 ghost use Rattle.rustc_lexer.specs.Lexing.{tokens_of};
 ghost use Rattle.tt.specs.TokenLiterals.{IsLiteralToken, literal_in};
 ghost use Rattle.tt_data.specs.Displayed.{displayed_leaf};
+ghost use Rattle.tt_data.specs.Lent.{leaf_lent, literal_lent};
 ghost use Rattle.tt_data.specs.fault.TtFault.TheVariants.{Memory};
 ghost use Rattle.tt_data.specs.declared.leaf.Leaf.TheVariants as as_leaf;
 ghost use Rattle.tt_data.specs.declared.span.Span.{Span};
@@ -18,7 +19,7 @@ use crate::reading::leaf::name_in;
 use rustc_lexer::{FrontmatterAllowed, Token, tokenize};
 use std::alloc::Global;
 use tt::literal_parts;
-use tt_data::{IdentIsRaw, Leaf, LitKind, Literal, TtFault};
+use tt_data::{IdentIsRaw, LeafRef, LitKind, LiteralRef, TtFault};
 
 // Whether two literals are of one form. What is no literal has no form.
 fn are_of_one_form(first: LitKind, second: LitKind) -> bool
@@ -51,27 +52,27 @@ fn are_alike_raw(first: IdentIsRaw, second: IdentIsRaw) -> bool
 }
 
 // Whether the literal is the one that this whole token is read as.
-fn is_literal(literal: &Literal, form: LitKind, suffix_start: u32, text: &str) -> bool
+fn is_literal(literal: LiteralRef<'_>, form: LitKind, suffix_start: u32, text: &str) -> bool
     requires boundary { IsCharBoundary text.now suffix_start }
     requires token { IsLiteralToken form suffix_start text.now }
-    ensures { (span : Span) → result ≡ same_leaf (as_leaf.Literal literal.now) (as_leaf.Literal (literal_in form suffix_start text.now span)) }
+    ensures { (span : Span) → result ≡ same_leaf (as_leaf.Literal (literal_lent literal.entry)) (as_leaf.Literal (literal_in form suffix_start text.now span)) }
 {
     let (inside, suffix) = literal_parts(text, form, suffix_start);
     are_of_one_form(literal.kind(), form) && literal.text() == inside && literal.suffix() == suffix
 }
 
 // Whether the leaf is what this whole token is read as, apart from spans and spacing.
-fn is_read_as(leaf: &Leaf, class: TokenClass, text: &str) -> bool
+fn is_read_as(leaf: LeafRef<'_>, class: TokenClass, text: &str) -> bool
     requires { MayCut class text.now }
-    ensures { (t : PlacedToken) (more : List PlacedToken) → t.text ≡ text.now → result ≡ is_that_leaf leaf.now (steps_of_class class t more) }
+    ensures { (t : PlacedToken) (more : List PlacedToken) → t.text ≡ text.now → result ≡ is_that_leaf (leaf_lent leaf.entry) (steps_of_class class t more) }
 {
     match (leaf, class) {
-        (Leaf::Ident(ident), TokenClass::Name(is_raw)) => {
+        (LeafRef::Ident(ident), TokenClass::Name(is_raw)) => {
             let name = name_in(is_raw, text);
             are_alike_raw(ident.is_raw, is_raw) && ident.sym.as_str() == name
         }
-        (Leaf::Punct(punct), TokenClass::Mark(char)) => punct.char == char,
-        (Leaf::Literal(literal), TokenClass::Value { form, suffix_start }) => {
+        (LeafRef::Punct(punct), TokenClass::Mark(char)) => punct.char == char,
+        (LeafRef::Literal(literal), TokenClass::Value { form, suffix_start }) => {
             is_literal(literal, form, suffix_start, text)
         }
         _ => false,
@@ -79,10 +80,10 @@ fn is_read_as(leaf: &Leaf, class: TokenClass, text: &str) -> bool
 }
 
 // Whether the leaf is what the text, which is this one token, is read as.
-fn is_token_of(leaf: &Leaf, token: Token, text: &str) -> bool
+fn is_token_of(leaf: LeafRef<'_>, token: Token, text: &str) -> bool
     requires short { length text.now < 2 ^ 32 }
     requires one { tokens_of (chars text.now) ≡ token ∷ [] }
-    ensures { result ≡ is_text_of leaf.now text.now }
+    ensures { result ≡ is_text_of (leaf_lent leaf.entry) text.now }
 {
     rustc_lexer::laws::tokens_begin();
     rustc_lexer::laws::next_token();
@@ -93,8 +94,8 @@ fn is_token_of(leaf: &Leaf, token: Token, text: &str) -> bool
 }
 
 // Whether the text is one token that is read as the leaf.
-fn is_text_of(leaf: &Leaf, text: &str) -> bool
-    ensures { result ≡ is_text_of leaf.now text.now }
+fn is_text_of(leaf: LeafRef<'_>, text: &str) -> bool
+    ensures { result ≡ is_text_of (leaf_lent leaf.entry) text.now }
 {
     if text.len() > u32::MAX as usize {
         return false;
@@ -110,12 +111,12 @@ fn is_text_of(leaf: &Leaf, text: &str) -> bool
 }
 
 // Whether the leaf's displayed text is one token that is read as the leaf.
-fn is_own_text(leaf: &Leaf, text: &str) -> bool
-    requires { text.now ≡ displayed_leaf leaf.now }
-    ensures { result ≡ is_text_of leaf.now text.now }
+fn is_own_text(leaf: LeafRef<'_>, text: &str) -> bool
+    requires { text.now ≡ displayed_leaf (leaf_lent leaf) }
+    ensures { result ≡ is_text_of (leaf_lent leaf.entry) text.now }
 {
     match leaf {
-        Leaf::Literal(literal) if is_plain_string(literal) => true,
+        LeafRef::Literal(literal) if is_plain_string(literal) => true,
         _ => is_text_of(leaf, text),
     }
 }
@@ -124,9 +125,9 @@ fn is_own_text(leaf: &Leaf, text: &str) -> bool
 const MOST_TEXTS: usize = 64;
 
 // The displayed text of the leaf, if it is one token that is read as the leaf.
-fn own_text(alloc: Global, leaf: &Leaf) -> Result<Option<String>, TtFault>
+fn own_text(alloc: Global, leaf: LeafRef<'_>) -> Result<Option<String>, TtFault>
     ensures some { IfOk result (λ o. option_map string_bytes o ≡
-        (if is_text_of leaf.now (displayed_leaf leaf.now) then Some (displayed_leaf leaf.now) else None)) }
+        (if is_text_of (leaf_lent leaf.entry) (displayed_leaf (leaf_lent leaf.entry)) then Some (displayed_leaf (leaf_lent leaf.entry)) else None)) }
     ensures memory { IsOkUnless result Memory }
 {
     let mut text = String::with_capacity(alloc, MOST_TEXTS)?;
@@ -140,12 +141,14 @@ fn own_text(alloc: Global, leaf: &Leaf) -> Result<Option<String>, TtFault>
 
 /// The spelling of the leaf, if it has one. `$crate` is spelled `crate`. Its only error is out of
 /// memory.
-pub(crate) fn leaf_spelling(alloc: Global, leaf: &Leaf) -> Result<Option<String>, TtFault>
-    ensures spelling { IfOk result (λ o. option_map string_bytes o ≡ leaf_spelling leaf.now) }
+pub(crate) fn leaf_spelling(alloc: Global, leaf: LeafRef<'_>) -> Result<Option<String>, TtFault>
+    ensures spelling { IfOk result (λ o. option_map string_bytes o ≡ leaf_spelling (leaf_lent leaf.entry)) }
     ensures memory { IsOkUnless result Memory }
 {
     match leaf {
-        Leaf::Ident(ident) if is_dollar_crate(ident) => Ok(Some(String::from_str(alloc, "crate")?)),
+        LeafRef::Ident(ident) if is_dollar_crate(ident) => {
+            Ok(Some(String::from_str(alloc, "crate")?))
+        }
         _ => own_text(alloc, leaf),
     }
 }

@@ -10,6 +10,7 @@ ghost use Rattle.bridge.specs.Spelling.{begins_with_name, close_text, open_text,
 ghost use Rattle.tt.specs.Glued.{is_joint};
 ghost use Rattle.bridge.specs.Text.{is_char};
 ghost use Rattle.bridge.specs.TokenEvents.{step_of};
+ghost use Rattle.tt_data.specs.Lent.{leaf_lent};
 ghost use Rattle.tt_data.specs.Walk.{Step, at_leaf, opens, closes};
 ghost use Rattle.tt_data.specs.declared.leaf.Leaf.TheVariants as as_leaf;
 ghost use Rattle.tt_data.specs.fault.TtFault.TheVariants.{Memory};
@@ -20,7 +21,7 @@ use crate::printing::spacing::{Edge, Gap, closing_edge, gap_between, leaf_edge};
 use crate::printing::span_list::SpanList;
 use crate::printing::spelling::leaf_spelling;
 use std::alloc::{AllocError, Global};
-use tt_data::{DelimiterKind, Leaf, Punct, Spacing, Span, TtFault};
+use tt_data::{DelimiterKind, LeafRef, Punct, Spacing, Span, TtFault};
 
 /// What is printed so far, and all that the next visible token depends on.
 #[derive(Drop)]
@@ -60,11 +61,11 @@ fn closing(kind: DelimiterKind) -> Option<&'static str>
 }
 
 // Whether it is an identifier that isn't raw.
-fn is_name(leaf: &Leaf) -> bool
-    ensures { result ≡ is_name_leaf leaf.now }
+fn is_name(leaf: LeafRef<'_>) -> bool
+    ensures { result ≡ is_name_leaf (leaf_lent leaf.entry) }
 {
     match leaf {
-        Leaf::Ident(ident) => ident.is_raw.no(),
+        LeafRef::Ident(ident) => ident.is_raw.no(),
         _ => false,
     }
 }
@@ -185,11 +186,11 @@ fn put_quote(out: &mut PrintState, punct: Punct) -> Result<(), TtFault>
 
 // Adds a leaf with this spelling, which is no quote.
 #[inline(always)]
-fn put_spelled(out: &mut PrintState, leaf: &Leaf, text: &str) -> Result<(), TtFault>
-    requires spelled { (more : List Step) → spelling (at_leaf leaf.now) more ≡ Some text.now }
+fn put_spelled(out: &mut PrintState, leaf: LeafRef<'_>, text: &str) -> Result<(), TtFault>
+    requires spelled { (more : List Step) → spelling (at_leaf (leaf_lent leaf)) more ≡ Some text.now }
     requires fits { Fits (state_of out.old) }
     ensures fits { OnOk result (Fits (state_of out.new)) }
-    ensures puts { OnOk result (Puts (state_of out.old) (state_of out.new) (at_leaf leaf.now)) }
+    ensures puts { OnOk result (Puts (state_of out.old) (state_of out.new) (at_leaf (leaf_lent leaf.entry))) }
     ensures grows { Grows (state_of out.old) (state_of out.new) }
     ensures memory { IsOkUnless result Memory }
 {
@@ -199,11 +200,11 @@ fn put_spelled(out: &mut PrintState, leaf: &Leaf, text: &str) -> Result<(), TtFa
 }
 
 // Omits a leaf without a spelling, which is no quote.
-fn put_unspelled(out: &mut PrintState, leaf: &Leaf) -> Result<(), TtFault>
-    requires unspelled { (more : List Step) → spelling (at_leaf leaf.now) more ≡ None }
+fn put_unspelled(out: &mut PrintState, leaf: LeafRef<'_>) -> Result<(), TtFault>
+    requires unspelled { (more : List Step) → spelling (at_leaf (leaf_lent leaf)) more ≡ None }
     requires fits { Fits (state_of out.old) }
     ensures fits { OnOk result (Fits (state_of out.new)) }
-    ensures puts { OnOk result (Puts (state_of out.old) (state_of out.new) (at_leaf leaf.now)) }
+    ensures puts { OnOk result (Puts (state_of out.old) (state_of out.new) (at_leaf (leaf_lent leaf.entry))) }
     ensures grows { Grows (state_of out.old) (state_of out.new) }
     ensures memory { IsOkUnless result Memory }
 {
@@ -211,16 +212,16 @@ fn put_unspelled(out: &mut PrintState, leaf: &Leaf) -> Result<(), TtFault>
     leave_out(out)
 }
 
-fn put_leaf(alloc: Global, out: &mut PrintState, leaf: &Leaf) -> Result<(), TtFault>
+fn put_leaf(alloc: Global, out: &mut PrintState, leaf: LeafRef<'_>) -> Result<(), TtFault>
     requires fits { Fits (state_of out.old) }
     ensures fits { OnOk result (Fits (state_of out.new)) }
-    ensures puts { OnOk result (Puts (state_of out.old) (state_of out.new) (at_leaf leaf.now)) }
+    ensures puts { OnOk result (Puts (state_of out.old) (state_of out.new) (at_leaf (leaf_lent leaf.entry))) }
     ensures grows { Grows (state_of out.old) (state_of out.new) }
     ensures memory { IsOkUnless result Memory }
 {
-    if let Leaf::Punct(punct) = leaf {
+    if let LeafRef::Punct(punct) = leaf {
         if punct.char == '\'' {
-            return put_quote(out, *punct);
+            return put_quote(out, punct);
         }
     }
     if let Some(text) = fast_spelling(leaf) {
@@ -307,7 +308,7 @@ pub(crate) fn put_event(
     ensures memory { IsOkUnless result Memory }
 {
     match step {
-        TokenEvent::Leaf(leaf) => put_leaf(alloc, out, leaf),
+        TokenEvent::Leaf(leaf) => put_leaf(alloc, out, *leaf),
         TokenEvent::Opens(kind, span) => put_opening(out, *kind, *span),
         TokenEvent::Closes(kind, span) => put_closing(out, *kind, *span),
     }

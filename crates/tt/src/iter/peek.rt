@@ -4,9 +4,10 @@
 //! Nothing is consumed, and nothing is copied if a tree of another kind comes first.
 ghost use Rattle.std.specs.Prelude.{◌≡◌, option_map};
 ghost use Rattle.tt.specs.FirstTrees.{first_ident, first_leaf, first_literal, first_punct, first_group, first_subtree};
+ghost use Rattle.tt_data.specs.Lent.{ident_lent, leaf_lent};
 
 use crate::iter::TtIter;
-use tt_data::{Delimiter, Ident, Leaf, LitKind, Punct, Subtree};
+use tt_data::{Delimiter, Ident, IdentRef, Leaf, LeafRef, LitKind, Punct, Subtree};
 
 impl<'a> TtIter<'a> {
     /// The punct that comes next, if one does, and the trees after it.
@@ -25,18 +26,17 @@ impl<'a> TtIter<'a> {
         Some((ident, TtIter { tokens: more }))
     }
 
-    /// The identifier that comes next, borrowed, and the trees after it. Its text gets no other
-    /// owner.
-    pub fn lent_ident(&self) -> Option<(&'a Ident, TtIter<'a>)>
-        ensures { option_map (λ p. (p.0.now, p.1)) result ≡ first_ident self.now }
+    /// The identifier that comes next, lent, and the trees after it. Its text gets no other owner.
+    pub fn lent_ident(&self) -> Option<(IdentRef<'a>, TtIter<'a>)>
+        ensures { option_map (λ p. (ident_lent p.0, p.1)) result ≡ first_ident self.now }
     {
         let (ident, more) = self.tokens.lent_ident()?;
         Some((ident, TtIter { tokens: more }))
     }
 
-    /// The leaf that comes next, borrowed, and the trees after it. Its text gets no other owner.
-    pub fn lent_leaf(&self) -> Option<(&'a Leaf, TtIter<'a>)>
-        ensures { option_map (λ p. (p.0.now, p.1)) result ≡ first_leaf self.now }
+    /// The leaf that comes next, lent, and the trees after it. Its text gets no other owner.
+    pub fn lent_leaf(&self) -> Option<(LeafRef<'a>, TtIter<'a>)>
+        ensures { option_map (λ p. (leaf_lent p.0, p.1)) result ≡ first_leaf self.now }
     {
         let (leaf, more) = self.tokens.lent_leaf()?;
         Some((leaf, TtIter { tokens: more }))

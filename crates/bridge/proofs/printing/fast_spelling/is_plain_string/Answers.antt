@@ -1,6 +1,7 @@
 use Rattle.std.proofs.Common.{◌+◌, ◌<◌, ◌^◌, ◌≡◌, [], ap, arith, length, rules, subst, sym, true, ◌∙◌}
 use Rattle.std.proofs.lemmas.List.{nil_from_length}
 use Rattle.std.specs.List.{list_all}
+use Rattle.tt_data.specs.Lent.{literal_lent}
 use Rattle.tt_data.specs.declared.leaf.LitKind.TheVariants as form
 use Rattle.bridge.proofs.FastSpellingLemmas.{string_spelled}
 use Rattle.bridge.specs.FastSpellings.{is_plain_byte}
@@ -8,7 +9,7 @@ use Rattle.bridge.proofs.printing.fast_spelling.is_plain_string.Goals as goal
 
 pub returns-then-text : goal.returns-then-text
 returns-then-text c = λ told.
-    let l = c.args.literal.now in
+    let l = literal_lent c.args.literal in
     let same = c.text_and_suffix.ensures.text in
     let string : l.kind ≡ form.Str = search rules in
     let none : l.suffix ≡ [] = sym c.text_and_suffix.ensures.suffix ∙ nil_from_length c.text_and_suffix.result.1.now (search rules) in

@@ -1,11 +1,12 @@
 use Rattle.std.proofs.Common.{◌<◌, ◌^◌, ◌≡◌, ap, chars, length, refl, subst, sym, true, ◌∙◌, IsUtf8, Some}
+use Rattle.tt_data.specs.Lent.{ident_lent}
 use Rattle.rustc_lexer.specs.Character.{is_ident}
 use Rattle.bridge.proofs.FastSpellingLemmas.{name_spelled}
 use Rattle.bridge.proofs.printing.fast_spelling.name_text.Goals as goal
 
 pub returns-then-is_ident : goal.returns-then-is_ident
 returns-then-is_ident c =
-    let i = c.args.ident.now in
+    let i = ident_lent c.args.ident in
     let same = c.as_str-name.ensures in
     let utf8 : IsUtf8 i.sym = subst IsUtf8 same c.as_str-name.utf8 in
     let is : is_ident (chars i.sym) ≡ true = ap (λ t. is_ident (chars t)) (sym same) ∙ (sym c.is_ident.ensures ∙ c.if-is_ident.true) in

@@ -1,4 +1,5 @@
 -- The one token begins where the text does and is as long.
+use Rattle.tt_data.specs.Lent.{leaf_lent}
 use Rattle.bridge.proofs.SpellingLemmas.{cut_whole, told_of_one}
 use Rattle.bridge.proofs.printing.spelling.is_token_of.Goals as goal
 
@@ -13,5 +14,5 @@ is_read_as-requires c =
 pub returns : goal.returns
 returns c =
     let text = c.args.text.now in
-    told_of_one text c.args.token c.args.leaf.now _ c.utf8.text c.requires.short (c.token_lengths.ensures.whole text c.utf8.text) c.requires.one
+    told_of_one text c.args.token (leaf_lent c.args.leaf) _ c.utf8.text c.requires.short (c.token_lengths.ensures.whole text c.utf8.text) c.requires.one
     (λ p more same. rw (← c.class_of.ensures) (c.is_read_as.ensures p more same))

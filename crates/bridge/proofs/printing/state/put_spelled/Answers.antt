@@ -1,4 +1,5 @@
 use Rattle.std.proofs.Common.{◌∷◌, sym, ◌∙◌, refl}
+use Rattle.tt_data.specs.Lent.{leaf_lent}
 use Rattle.tt_data.specs.Walk.{at_leaf}
 use Rattle.bridge.specs.PrintStates.{state_of}
 use Rattle.bridge.proofs.PrintStepLemmas.{carried, name_follows, none_waits}
@@ -6,7 +7,7 @@ use Rattle.bridge.proofs.printing.state.put_spelled.Goals as goal
 
 pub returns-clause-puts : goal.returns-clause-puts
 returns-clause-puts c =
-    let leaf = c.args.leaf.now in
+    let leaf = leaf_lent c.args.leaf in
     carried c.add.result _ _
     (λ h more all p.
     none_waits (state_of c.add.new.out) more all (c.add.ensures.waiting ∙ c.in_ok-settle.ensures.none)

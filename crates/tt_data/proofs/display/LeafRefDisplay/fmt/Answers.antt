@@ -1,5 +1,5 @@
 use Rattle.std.proofs.Common.{rules}
-use Rattle.tt_data.proofs.display.LeafDisplay.fmt.Goals as goal
+use Rattle.tt_data.proofs.display.LeafRefDisplay.fmt.Goals as goal
 
 pub returns-in-Punct : goal.returns-in-Punct
 returns-in-Punct c = search rules
