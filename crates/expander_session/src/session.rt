@@ -2,6 +2,7 @@
 ghost use Rattle.std.specs.Prelude.{◌≡◌, ◌+◌, ◌-◌, ◌<◌, ◌≤◌, ◌^◌, ◌↔◌, All, Err, List, [], length, IfOk, IfErr, OnOk, OnErr, IsTrue, IsCharBoundary, None, map, slice_get, true};
 ghost use Rattle.std.specs.List.{list_any};
 ghost use Rattle.rustc_lexer.specs.Edit.{edited};
+ghost use Rattle.bridge.specs.PrintedRanges.{read_ranges};
 ghost use Rattle.expander_model.specs.Expansion.{PlacedStep};
 ghost use Rattle.expander_session.specs.Layered.{layers};
 ghost use Rattle.expander_model.specs.Meaning.{members_after};
@@ -21,7 +22,8 @@ ghost use Rattle.expander_model.specs.World.{world};
 use crate::cache::Cache;
 use crate::emitter::{Emitter, finish};
 use crate::evaluate::{Evaluated, EvaluationContext, evaluate_pieces};
-use bridge::ReadFault;
+use bridge::laws::tokens_are_where_they_are_printed;
+use bridge::{ReadFault, TokenRanges, token_ranges};
 use bridge::parts::{LazyPrinted, SpanList};
 use expander_model::fault::{Fault, sort_faults};
 use expander_model::laws;
@@ -97,6 +99,17 @@ impl Expansion {
             Some(span) => Some(span.range),
             None => None,
         }
+    }
+
+    /// Where the printed tokens are in the printed text, of at most `u32::MAX` bytes, in order. The
+    /// printed token of index i is spelled at range i.
+    ///
+    /// Nothing is kept for it: it lexes the printed text as far as it is asked, and takes no memory.
+    pub fn token_ranges(&self) -> TokenRanges<'_>
+        requires { length self.now.printed < 2 ^ 32 }
+        ensures { result ≡ read_ranges self.now.printed }
+    {
+        token_ranges(self.printed())
     }
 
     /// An equal expansion. Refused if there is no memory for it.
@@ -321,6 +334,7 @@ fn expansion_of(
 ) -> Result<Expansion, AllocError>
     ensures { IfOk result (λ e. (all : List PlacedStep) → HasOutput steps all → ShowsOutput faults.items expanded all e) }
 {
+    tokens_are_where_they_are_printed();
     let LazyPrinted { text, tokens, .. } = finish(steps, &mut faults)?;
     sort_faults(&mut faults)?;
     Ok(Expansion {
