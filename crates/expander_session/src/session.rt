@@ -47,12 +47,15 @@ pub struct Expansion {
 }
 
 impl Model for Expansion {
-    ghost use Rattle.std.specs.Prelude.{map, string_bytes};
+    ghost use Rattle.std.specs.Prelude.{◌≡◌, length, map, string_bytes};
+    ghost use Rattle.bridge.specs.PrintedRanges.{read_ranges};
     ghost use Rattle.expander_session.specs.Expanded.{Expanded};
 
     ghost Value = { Expanded };
 
     ghost view = { λ e. record { printed = string_bytes e.printed; faults = e.faults.items; origins = map (λ s. s.range) e.origins; expanded = e.expanded } };
+
+    ghost invariant = { λ e. length (read_ranges (string_bytes e.printed)) ≡ length e.origins };
 }
 
 impl Expansion {
@@ -107,7 +110,8 @@ impl Expansion {
     /// Nothing is kept for it: it lexes the printed text as far as it is asked, and takes no memory.
     pub fn token_ranges(&self) -> TokenRanges<'_>
         requires { length self.now.printed < 2 ^ 32 }
-        ensures { result ≡ read_ranges self.now.printed }
+        ensures ranges { result ≡ read_ranges self.now.printed }
+        ensures count { length result ≡ length self.now.origins }
     {
         token_ranges(self.printed())
     }
@@ -332,6 +336,7 @@ fn expansion_of(
     mut faults: Vec<Fault>,
     expanded: usize,
 ) -> Result<Expansion, AllocError>
+    requires { (all : List PlacedStep) × HasOutput steps all }
     ensures { IfOk result (λ e. (all : List PlacedStep) → HasOutput steps all → ShowsOutput faults.items expanded all e) }
 {
     tokens_are_where_they_are_printed();

@@ -1,4 +1,4 @@
-use Rattle.std.proofs.Common.{◌≡◌, ap, refl, sym, ◌∙◌, map}
+use Rattle.std.proofs.Common.{◌≡◌, ap, refl, sym, ◌∙◌, length, map}
 use Rattle.std.specs.Prelude.{string_bytes}
 use Rattle.tt_data.specs.declared.span.Span.{Span}
 use Rattle.bridge.specs.PrintedRanges.{printed_ranges, read_ranges}
@@ -19,3 +19,9 @@ returns c = λ steps has.
       ranges = ap read_ranges text ∙ c.tokens_are_where_they_are_printed.ensures.printed (steps_of steps) ∙ ap printed_ranges (sym (tokens_bare steps));
       expanded = refl;
     }
+
+pub invariant_of-expansion : goal.invariant_of-expansion
+invariant_of-expansion c =
+    let all = c.requires.0 in
+    let shows = c.in_ok-text.ensures.printed all c.requires.1 in
+    ap (λ (p : Print). length (read_ranges p.text)) shows ∙ c.tokens_are_where_they_are_printed.ensures.count (steps_of all) ∙ sym (ap (λ (p : Print). length p.tokens) shows)
