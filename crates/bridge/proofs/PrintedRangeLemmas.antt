@@ -8,7 +8,6 @@ use Rattle.std.specs.List.{slice_range}
 use Rattle.std.specs.Str.{chars, is_utf8}
 use Rattle.rustc_lexer.specs.Lexing.{tokens_of}
 use Rattle.rustc_lexer.specs.declared.token.Token.{Token}
-use Rattle.rustc_lexer.specs.declared.token.TokenKind.TheVariants as kind
 use Rattle.tt_data.specs.Walk.{Step}
 use Rattle.tt_data.specs.declared.span.TextRange.{TextRange}
 use Rattle.bridge.specs.Printing.{PrintedToken, are_joined, depth_after, ends_line, gap, print_of, printed, step_span, text_from, text_of, visible}
@@ -17,7 +16,7 @@ use Rattle.bridge.specs.TokenShares.{share_of, shared_ranges, token_ranges_from}
 use Rattle.bridge.specs.declared.printing.token_share.Share.{Share}
 use Rattle.bridge.specs.declared.printing.token_share.Share.TheVariants.{Times, QuoteAndName}
 use Rattle.bridge.proofs.BackLemmas.{Back, GapIs, back, blank, nothing, blank_tokens, chars_none, end_tokens, gap_is, quote_gap, quoted_text, quoted_tokens, tail_is, tail_of, text_tail, word_tokens}
-use Rattle.bridge.proofs.RangeLemmas.{text_ranges, total}
+use Rattle.bridge.proofs.RangeLemmas.{text_ranges}
 use Rattle.bridge.proofs.SeamLaws.{SeamLaws}
 use Rattle.bridge.proofs.ShareLemmas.{kind_ranges}
 use Rattle.bridge.proofs.SpelledLemmas.{AreSpelled, IsWord, are_spelled, none, quoted, word}

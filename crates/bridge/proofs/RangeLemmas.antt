@@ -1,17 +1,16 @@
 -- The ranges of the tokens of a text, token by token.
-use Rattle.std.proofs.Common.{◌≡◌, ℕ, ◌+◌, ◌≤◌, List, [], ◌∷◌, ◌++◌, length, take, drop, refl, sym, ap, ◌∙◌, arith, chars, IsUtf8}
+use Rattle.std.proofs.Common.{◌≡◌, ℕ, ◌+◌, ◌≤◌, List, [], ◌∷◌, ◌++◌, length, take, drop, refl, sym, ap, ◌∙◌, arith, chars}
 use Rattle.std.proofs.lemmas.List.{length-drop, length-take-le, map-append}
 use Rattle.std.proofs.lemmas.List.Sums.{sum_by-cons}
 use Rattle.std.specs.Prelude.{map, sum_by}
 use Rattle.rustc_lexer.specs.Lexing.{tokens_of}
 use Rattle.rustc_lexer.specs.declared.token.Token.{Token}
-use Rattle.tt_data.specs.declared.span.TextRange.{TextRange}
 use Rattle.tt_data.specs.Forest.{Forest}
 use Rattle.tt_data.specs.Walk.{Step, walk}
 use Rattle.bridge.specs.Printing.{step_span}
 use Rattle.bridge.specs.PrintedRanges.{range_of_step, read_ranges}
 use Rattle.bridge.specs.TokenShares.{share_of, shared_ranges, token_ranges_from}
-use Rattle.bridge.specs.Reading.{IsReading, PlacedToken, placed_from, range_of, step}
+use Rattle.bridge.specs.Reading.{IsReading, PlacedToken, placed_from, step}
 use Rattle.bridge.specs.TokenSteps.{class_of, steps_of, steps_of_class, text_steps}
 use Rattle.bridge.proofs.ShareLemmas.{kind_ranges}
 

@@ -1,8 +1,8 @@
 -- The ranges that are left, one by one.
-use Rattle.std.proofs.Common.{◌≡◌, ℕ, zero, suc, ◌+◌, ◌-◌, ◌<◌, ◌≤◌, ◌^◌, List, [], ◌∷◌, ◌++◌, length, refl, sym, ap, ◌∙◌, subst, arith}
+use Rattle.std.proofs.Common.{◌≡◌, ℕ, zero, suc, ◌+◌, ◌-◌, ◌<◌, ◌≤◌, ◌^◌, List, [], ◌∷◌, refl, ap, ◌∙◌, subst, arith}
 use Rattle.std.proofs.lemmas.List.Elements.{All-head, All-tail}
 use Rattle.std.proofs.lemmas.List.Sums.{sum_by-cons}
-use Rattle.std.specs.Prelude.{All, replicate, sum_by}
+use Rattle.std.specs.Prelude.{All}
 use Rattle.rustc_lexer.specs.declared.token.Token.{Token}
 use Rattle.tt_data.specs.declared.span.TextRange.{TextRange}
 use Rattle.bridge.specs.TokenShares.{AreInText, HasRoom, ranges_left, share_of}

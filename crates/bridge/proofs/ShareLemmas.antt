@@ -1,6 +1,6 @@
 -- The tokens that one token is read as have the ranges of its share.
 use Rattle.std.proofs.Common.{◌≡◌, refl, ℕ, List, [], ◌∷◌, true, false}
-use Rattle.std.specs.Prelude.{Option, Some, None, map, replicate}
+use Rattle.std.specs.Prelude.{Option, Some, None, map}
 use Rattle.rustc_lexer.specs.declared.token.DocStyle.TheVariants.{Outer, Inner}
 use Rattle.rustc_lexer.specs.declared.token.TokenKind.{TokenKind}
 use Rattle.rustc_lexer.specs.declared.token.TokenKind.TheVariants as kind

@@ -1,7 +1,6 @@
 -- Range by range: what is left is what was left, but for the ranges that were given.
 use Rattle.std.proofs.Common.{◌≡◌, ◌+◌, ◌<◌, ◌^◌, ap, length, sym, ◌∙◌, rules, arith, subst}
 use Rattle.rustc_lexer.specs.Remaining.{tokens_left}
-use Rattle.tt_data.specs.declared.span.TextRange.{TextRange}
 use Rattle.bridge.specs.TokenShares.{AreInText, HasRoom, ranges_left}
 use Rattle.bridge.specs.declared.printing.token_share.Share.TheVariants.{Times}
 use Rattle.bridge.proofs.RangeLemmas.{total}
