@@ -31,8 +31,11 @@ void *__wrap_realloc(void *p, size_t n) {
     return refused() ? NULL : __real_realloc(p, n);
 }
 
+static uint32_t open_with(struct expander_session *s, const char *text, uint32_t grammar) {
+    return expander_open(s, text, strlen(text), 2024, 128, grammar);
+}
 static uint32_t open_text(struct expander_session *s, const char *text) {
-    return expander_open(s, text, strlen(text), 2024, 128, EXPANDER_GRAMMAR_SMALL);
+    return open_with(s, text, EXPANDER_GRAMMAR_RUST);
 }
 
 static void the_row(void) {
@@ -74,6 +77,19 @@ static void the_row(void) {
     expander_close(&s);
 }
 
+/* A closure is an expression to the grammar of Rust alone. */
+static void grammars(void) {
+    for (uint32_t grammar = EXPANDER_GRAMMAR_SMALL; grammar <= EXPANDER_GRAMMAR_RUST; grammar++) {
+        struct expander_session s = EXPANDER_SESSION_INIT;
+        struct expander_counts counts = {0, 0, 0, 0};
+        SAME(open_with(&s, "macro_rules! e { ($a:expr) => { $a } } e!{ |x| x + 1 }", grammar), EXPANDER_OK);
+        SAME(expander_expand(&s), EXPANDER_OK);
+        SAME(expander_counts(&s, &counts), EXPANDER_OK);
+        SAME(counts.faults, grammar == EXPANDER_GRAMMAR_SMALL);
+        expander_close(&s);
+    }
+}
+
 static void codes(void) {
     struct expander_session s = EXPANDER_SESSION_INIT;
     struct expander_counts counts = {7, 7, 7, 7};
@@ -97,7 +113,8 @@ static void codes(void) {
     expander_close(&s), expander_close(NULL);
 
     SAME(expander_open(&s, "a", 1, 2020, 128, 0), EXPANDER_EDITION);
-    SAME(expander_open(&s, "a", 1, 2024, 128, 1), EXPANDER_GRAMMAR);
+    SAME(expander_open(&s, "a", 1, 2024, 128, 2), EXPANDER_GRAMMAR);
+    SAME(expander_open(&s, "a", 1, 2024, 128, UINT32_MAX), EXPANDER_GRAMMAR);
     SAME(expander_open(&s, "\xff", 1, 2024, 128, 0), EXPANDER_UTF8);
     SAME(expander_open(&s, NULL, 1, 2024, 128, 0), EXPANDER_NULL);
     SAME(expander_open(NULL, "a", 1, 2024, 128, 0), EXPANDER_NULL);
@@ -246,7 +263,7 @@ static void random_edits(int count) {
         size_t n = told(&s, one);
         SAME(expander_text(&s, text, sizeof text, &len), EXPANDER_OK);
         struct expander_session fresh = EXPANDER_SESSION_INIT;
-        SAME(expander_open(&fresh, text, len, 2024, 128, 0), EXPANDER_OK);
+        SAME(expander_open(&fresh, text, len, 2024, 128, EXPANDER_GRAMMAR_RUST), EXPANDER_OK);
         SAME(told(&fresh, other), n);
         SAME(memcmp(one, other, n), 0);
         read += one[0] == EXPANDER_OK;
@@ -258,6 +275,7 @@ static void random_edits(int count) {
 
 int main(int argc, char **argv) {
     the_row();
+    grammars();
     codes();
     want_of_memory();
     random_edits(argc > 1 ? atoi(argv[1]) : 1000);

@@ -39,7 +39,7 @@ static int show(struct expander_session *s) {
 int main(void) {
     const char *text = "macro_rules! p { ($a:ident $b:tt) => { $b $a } } p!{ x y }";
     struct expander_session session = EXPANDER_SESSION_INIT;
-    if (expander_open(&session, text, strlen(text), 2024, 128, EXPANDER_GRAMMAR_SMALL)) return 1;
+    if (expander_open(&session, text, strlen(text), 2024, 128, EXPANDER_GRAMMAR_RUST)) return 1;
     int failed = show(&session);
     failed |= expander_edit(&session, 55, 56, "z", 1) || show(&session);
     failed |= expander_edit(&session, 53, 54, "1", 1) || show(&session);

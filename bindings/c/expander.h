@@ -3,7 +3,7 @@
  * Link libexpander_c.a (`rt lib` in crates/expander_c) and liblibc_c.a of the Rattle kit.
  *
  *     struct expander_session session = EXPANDER_SESSION_INIT;
- *     if (expander_open(&session, text, strlen(text), 2024, 128, EXPANDER_GRAMMAR_SMALL)) return 1;
+ *     if (expander_open(&session, text, strlen(text), 2024, 128, EXPANDER_GRAMMAR_RUST)) return 1;
  *     uint32_t code = expander_expand(&session);
  *     ...
  *     expander_close(&session);
@@ -65,7 +65,12 @@ enum expander_code {
     EXPANDER_NULL = 15     /* a pointer is NULL, and not to be */
 };
 
-enum expander_grammar { EXPANDER_GRAMMAR_SMALL = 0 };
+/* What fragments such as `$e:expr` take. The grammar of Rust, in the edition of the session, knows all
+ * fragments; the small one has no statements, no items, no closures and no control flow. */
+enum expander_grammar {
+    EXPANDER_GRAMMAR_SMALL = 0,
+    EXPANDER_GRAMMAR_RUST = 1
+};
 
 enum expander_fault_kind {
     EXPANDER_CANNOT_EXPAND = 0,     /* no rule fits the call */
@@ -116,7 +121,8 @@ uint32_t expander_raw_token_ranges(struct expander_session *, struct expander_ra
 
 /* Opens a session over a copy of the text, in place of what the struct holds, which is closed.
  * `edition` is 2015, 2018, 2021 or 2024; `depth` is how many levels of calls are expanded (the program
- * `expand` takes 128). Nothing is expanded yet. If it is refused, what the struct held stays open.
+ * `expand` takes 128); `grammar` is one of the enum above. Nothing is expanded yet. If it is refused, what
+ * the struct held stays open.
  * OK, EDITION, GRAMMAR, LENGTH, UTF8, MEMORY, NULL. */
 static inline uint32_t expander_open(struct expander_session *s, const void *text, size_t len, uint32_t edition,
                                      uint8_t depth, uint32_t grammar) {
@@ -192,7 +198,7 @@ static inline uint32_t expander_origins(struct expander_session *s, struct expan
 }
 
 /* Where each of them is in the printed text. A lifetime is two tokens, its quote and its name. They are
- * found at each call. OK, CLOSED, NOTHING, ROOM, MEMORY, LENGTH (of the printed text), NULL. */
+ * found at each call, without memory. OK, CLOSED, NOTHING, ROOM, LENGTH (of the printed text), NULL. */
 static inline uint32_t expander_token_ranges(struct expander_session *s, struct expander_range *room, size_t len) {
     struct expander_range none;
     if (!s || (!room && len)) return EXPANDER_NULL;

@@ -7,7 +7,7 @@ import random
 import sys
 
 import expander
-from expander import Code, Fault, FaultKind, Range, ReadFault, ReadFaultKind, Refused, Session, Token, Unread
+from expander import Code, Fault, FaultKind, Grammar, Range, ReadFault, ReadFaultKind, Refused, Session, Token, Unread
 
 TEXT = "macro_rules! p { ($a:ident $b:tt) => { $b $a } } p!{ x y }"
 
@@ -34,9 +34,15 @@ def the_row():
         assert session.expand().faults == (fault,)
 
 
+def grammars():
+    text = "macro_rules! e { ($a:expr) => { $a } } e!{ |x| x + 1 }"
+    assert not Session(text).expand().faults and not Session(text, grammar=Grammar.RUST).expand().faults
+    assert [fault.kind for fault in Session(text, grammar=Grammar.SMALL).expand().faults] == [FaultKind.CANNOT_EXPAND]
+
+
 def codes():
     assert refusal(Session, "a", 2020) == Code.EDITION
-    assert refusal(Session, "a", 2024, 128, 1) == Code.GRAMMAR
+    assert refusal(Session, "a", 2024, 128, 2) == Code.GRAMMAR
     session = Session("é;")
     assert refusal(session._call, "counts", ctypes.byref(expander._Counts())) == Code.NOTHING
     assert [session.is_boundary(at) for at in range(5)] == [True, False, True, True, False]
@@ -95,6 +101,7 @@ def random_edits(count):
 
 
 the_row()
+grammars()
 codes()
 random_edits(int(sys.argv[1]) if len(sys.argv) > 1 else 1000)
 sys.exit(doctest.testmod(expander).failed)

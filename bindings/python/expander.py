@@ -38,6 +38,17 @@ class Code(IntEnum):
     ROOM = 14
 
 
+class Grammar(IntEnum):
+    """What fragments such as `$e:expr` take.
+
+    That of Rust, in the edition of the session, knows all fragments. The small one has no
+    statements, no items, no closures and no control flow.
+    """
+
+    SMALL = 0
+    RUST = 1
+
+
 class FaultKind(IntEnum):
     CANNOT_EXPAND = 0
     BROKEN_DEFINITION = 1
@@ -154,7 +165,9 @@ class Session:
     It is closed by `close`, at the end of a `with`, or when it is no longer reachable.
     """
 
-    def __init__(self, text: str, edition: int = 2024, depth: int = 128, grammar: int = 0) -> None:
+    def __init__(
+        self, text: str, edition: int = 2024, depth: int = 128, grammar: int = Grammar.RUST
+    ) -> None:
         self._held = _Session(None)
         if not 0 <= depth <= 255:
             raise ValueError("depth is not from 0 to 255")

@@ -35,6 +35,16 @@ pub enum Edition {
     Edition2024 = 2024,
 }
 
+/// What fragments such as `$e:expr` take.
+#[derive(Clone, Copy, Debug, Default, PartialEq, Eq, Hash)]
+pub enum Grammar {
+    /// A small one: no statements, no items, no closures and no control flow.
+    Small = 0,
+    /// That of Rust, in the edition of the session. It knows all fragments.
+    #[default]
+    Rust = 1,
+}
+
 /// The kind of a fault.
 #[derive(Clone, Copy, Debug, PartialEq, Eq, Hash)]
 pub enum FaultKind {
@@ -109,15 +119,35 @@ pub struct Session {
 }
 
 impl Session {
-    /// A session over a copy of the text. `depth` is how many levels of calls are expanded. Nothing
-    /// is expanded yet.
+    /// A session over a copy of the text, with the grammar of Rust. `depth` is how many levels of
+    /// calls are expanded. Nothing is expanded yet.
     pub fn new(text: &str, edition: Edition, depth: u8) -> Result<Session, Error> {
+        Session::with_grammar(text, Grammar::Rust, edition, depth)
+    }
+
+    /// The same with a grammar.
+    ///
+    /// ```
+    /// # use filgordd::{Edition, Grammar, Reply, Session};
+    /// let text = "macro_rules! e { ($a:expr) => { $a } } e!{ |x| x + 1 }";
+    /// let mut session = Session::with_grammar(text, Grammar::Small, Edition::Edition2024, 128)?;
+    /// let Reply::Read(expansion) = session.expand()? else { panic!("it is read") };
+    /// assert_eq!(expansion.faults().len(), 1);
+    /// # Ok::<(), filgordd::Error>(())
+    /// ```
+    pub fn with_grammar(
+        text: &str,
+        grammar: Grammar,
+        edition: Edition,
+        depth: u8,
+    ) -> Result<Session, Error> {
         let held = std::ptr::null_mut();
         let raw = UnsafeCell::new(sys::Session { held });
         let session = Session { raw, stays: PhantomData };
+        let (edition, grammar) = (edition as u32, grammar as u32);
         // SAFETY: the struct holds no session, and the bytes are those of a `&str`.
         checked(unsafe {
-            sys::expander_raw_open(session.at(), text.as_ptr(), text.len(), edition as u32, depth, 0)
+            sys::expander_raw_open(session.at(), text.as_ptr(), text.len(), edition, depth, grammar)
         })?;
         Ok(session)
     }
@@ -254,7 +284,8 @@ impl<'s> Expansion<'s> {
         })
     }
 
-    /// The printed tokens, in order. Their ranges are found at each call.
+    /// The printed tokens, in order. Their ranges are found at each call. `Error::Length` if the
+    /// printed text has more than 4,294,967,295 bytes.
     ///
     /// ```
     /// # use filgordd::{Edition, Reply, Session};

@@ -20,7 +20,7 @@ fn the_row() {
     let mut session = open(TEXT);
     let expansion = read(&mut session);
     assert_eq!((expansion.printed(), expansion.expanded()), ("y x\n", 1));
-    let tokens: Vec<Token> = expansion.tokens().expect("there is memory").collect();
+    let tokens: Vec<Token> = expansion.tokens().expect("it is short").collect();
     assert_eq!(tokens, [Token { range: 0..1, origin: 55..56 }, Token { range: 2..3, origin: 53..54 }]);
     assert_eq!(expansion.faults().len(), 0);
 
@@ -30,6 +30,16 @@ fn the_row() {
     session.edit(58..59, "1").expect("it is edited");
     let faults: Vec<Fault> = read(&mut session).faults().collect();
     assert_eq!(faults, [Fault { kind: FaultKind::CannotExpand, range: 54..55 }]);
+}
+
+#[test]
+fn grammars() {
+    let text = "macro_rules! e { ($a:expr) => { $a } } e!{ |x| x + 1 }";
+    assert_eq!(read(&mut open(text)).faults().len(), 0);
+    for (grammar, faults) in [(Grammar::Small, 1), (Grammar::default(), 0)] {
+        let session = Session::with_grammar(text, grammar, Edition::Edition2024, 128);
+        assert_eq!(read(&mut session.expect("it is opened")).faults().len(), faults);
+    }
 }
 
 #[test]
@@ -54,7 +64,7 @@ fn codes() {
     // SAFETY: each pointer is to as much as is said.
     unsafe {
         assert_eq!(sys::expander_raw_open(at, "a".as_ptr(), 1, 2020, 0, 0), 8);
-        assert_eq!(sys::expander_raw_open(at, "a".as_ptr(), 1, 2024, 0, 1), 9);
+        assert_eq!(sys::expander_raw_open(at, "a".as_ptr(), 1, 2024, 0, 2), 9);
         assert_eq!(sys::expander_raw_open(at, b"\xff".as_ptr(), 1, 2024, 0, 0), 6);
         assert_eq!(session.text(), "a;");
         assert_eq!(sys::expander_raw_fits(at, 0, 0, usize::MAX), 7);
@@ -86,7 +96,7 @@ fn told(session: &mut Session) -> String {
     match session.expand() {
         Ok(Reply::Read(it)) => {
             let faults: Vec<Fault> = it.faults().collect();
-            let tokens: Vec<Token> = it.tokens().expect("there is memory").collect();
+            let tokens: Vec<Token> = it.tokens().expect("it is short").collect();
             format!("{:?} {faults:?} {tokens:?}", it.printed())
         }
         other => format!("{other:?}"),

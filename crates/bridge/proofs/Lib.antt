@@ -27,6 +27,10 @@ mod SpanListLemmas
 mod OrderLemmas
 mod WrittenLemmas
 mod FastSpellingLemmas
+mod ShareLemmas
+mod RangeLemmas
+mod RangesLeftLemmas
+mod PrintedRangeLemmas
 mod PartLemmas
 mod DocLemmas
 mod ReadSpelledLemmas

@@ -5,6 +5,7 @@ ghost use Rattle.bridge.specs.Order.{AreWritten, FollowOneAnother};
 ghost use Rattle.bridge.specs.Parts.{begins_with_mark, part_steps, placed_on, starts_with_mark, steps_before};
 ghost use Rattle.bridge.specs.Pieces.{StandsBehindFirst, first_start, relative, separated};
 ghost use Rattle.bridge.specs.PrintedChunks.{IsChunkOf, ChunkState};
+ghost use Rattle.bridge.specs.PrintedRanges.{AreSpelledAt, printed_ranges, read_ranges};
 ghost use Rattle.bridge.specs.Printing.{PrintedToken, begins_with_punct, gap, is_punct_but_quote, is_quote, print_of, printed, step_span, text_from, visible};
 ghost use Rattle.bridge.specs.Reading.{IsFault, IsReading, PlacedToken, TextStep, placed_from, reading, step, with_front};
 ghost use Rattle.bridge.specs.ReadsBack.{PrintsAgain, ReadsBack, is_nothing};
@@ -165,6 +166,23 @@ pub fn short_leaves_are_printed()
 pub fn printed_text_reads_back()
     ensures back { (f : Forest) → ReadsBack (visible (walk f)) }
     ensures again { (f : Forest) → PrintsAgain (visible (walk f)) }
+{
+    rustc_lexer::laws::whole_token();
+    rustc_lexer::laws::whole_token_begins();
+    rustc_lexer::laws::blank_token();
+    rustc_lexer::laws::one_character();
+    rustc_lexer::laws::quoted_name();
+    rustc_lexer::laws::token_lengths();
+}
+
+/// The tokens of a printed text are read where they were printed: as many ranges as printed tokens,
+/// in order and disjoint, and each token is spelled at its range. A text that is read as trees has
+/// the ranges of their tokens.
+pub fn tokens_are_where_they_are_printed()
+    ensures printed { (steps : List Step) → read_ranges (print_of steps).text ≡ printed_ranges (printed (visible steps)) }
+    ensures count { (steps : List Step) → length (read_ranges (print_of steps).text) ≡ length (print_of steps).tokens }
+    ensures spelled { (steps : List Step) → AreSpelledAt (print_of steps).text 0 (printed (visible steps)) (printed_ranges (printed (visible steps))) }
+    ensures read { (text : List ℕ) (f : Forest) → IsReading (text_steps text) f → read_ranges text ≡ map (λ s. (step_span s).range) (walk f) }
 {
     rustc_lexer::laws::whole_token();
     rustc_lexer::laws::whole_token_begins();

@@ -3,7 +3,8 @@
 //! `printer` is what callers use. It adds token events (`event`) to a state (`state`): each
 //! token's spelling (`spelling`, with `fast_spelling` for most tokens) and the gap before it
 //! (`spacing`). A chunk (`chunk`) is text printed once and appended as a whole, with spans that
-//! are shifted when they are asked for (`relative_spans`, `span_list`).
+//! are shifted when they are asked for (`relative_spans`, `span_list`). Where the printed tokens are
+//! is found out when it is asked for (`token_ranges`, `token_share`).
 pub(crate) mod chunk;
 pub(crate) mod event;
 mod fast_spelling;
@@ -13,3 +14,5 @@ mod spacing;
 pub(crate) mod span_list;
 mod spelling;
 mod state;
+pub(crate) mod token_ranges;
+mod token_share;

@@ -3,7 +3,7 @@
 
 pub mod laws;
 
-pub use bridge::{ReadFault, ReadFaultKind};
+pub use bridge::{ReadFault, ReadFaultKind, TokenRanges};
 pub use expander_model::fault::{Fault, FaultKind};
 pub use expander_run::program::{Status, run};
 pub use expander_run::watched::Watched;

@@ -1,6 +1,7 @@
 -- What calls tell of the last answer, as C sees it.
 use Rattle.std.specs.Prelude.{◌≡◌, ℕ, ◌<◌, ◌≤◌, ◌^◌, ◌++◌, List, length, drop, map, slice_get, Option, Some, None}
 use Rattle.tt_data.specs.declared.span.TextRange.{TextRange}
+use Rattle.bridge.specs.PrintedRanges.{read_ranges}
 use Rattle.bridge.specs.declared.reading.outcome.ReadFault.{ReadFault}
 use Rattle.bridge.specs.declared.reading.outcome.ReadFaultKind.{ReadFaultKind}
 use Rattle.bridge.specs.declared.reading.outcome.ReadFaultKind.TheVariants as reads
@@ -8,7 +9,6 @@ use Rattle.expander_model.specs.declared.fault.Fault.{Fault}
 use Rattle.expander_model.specs.declared.fault.FaultKind.{FaultKind}
 use Rattle.expander_model.specs.declared.fault.FaultKind.TheVariants as kinds
 use Rattle.expander_session.specs.Expanded.{Expanded}
-use Rattle.printed_tokens.specs.TokenRanges.{token_ranges}
 use Rattle.expander_c.specs.declared.answers.ByteRange.{ByteRange}
 use Rattle.expander_c.specs.declared.answers.Counts.{Counts}
 use Rattle.expander_c.specs.declared.answers.ToldFault.{ToldFault}
@@ -83,12 +83,7 @@ PrintedTold e = Copied e.printed
 abbrev pub OriginsTold : Expanded → List ByteRange → List ByteRange → Code → Type 0
 OriginsTold e = Copied (map byte_range e.origins)
 
--- the ranges of the printed tokens are copied, unless the printed text is too long for them or
--- there is no memory
-abbrev pub RangesTold : List ℕ → List ByteRange → List ByteRange → Code → Type 0
-RangesTold printed old new code.Length = (2 ^ 32 ≤ length printed) × (new ≡ old)
-RangesTold printed old new code.Memory = new ≡ old
-RangesTold printed old new c = Copied (map byte_range (token_ranges printed)) old new c
-
+-- the ranges of the printed tokens are copied, unless the printed text is too long for them
 abbrev pub TokenRangesTold : Expanded → List ByteRange → List ByteRange → Code → Type 0
-TokenRangesTold e = RangesTold e.printed
+TokenRangesTold e old new code.Length = (2 ^ 32 ≤ length e.printed) × (new ≡ old)
+TokenRangesTold e old new c = Copied (map byte_range (read_ranges e.printed)) old new c

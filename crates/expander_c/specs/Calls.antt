@@ -1,9 +1,12 @@
 -- What the calls do to a session and its last answer, and what their codes mean.
 use Rattle.std.specs.Prelude.{◌≡◌, ℕ, ◌+◌, ◌-◌, ◌<◌, ◌≤◌, ◌^◌, List, [], length, Bool, Option, Some, None, IsUtf8, IsCharBoundary, ⊤, true, false, nat_eq, if◌then◌else◌}
 use Rattle.rustc_lexer.specs.Edit.{edited}
-use Rattle.small_grammar.specs.Answer.{answer}
+use Rattle.any_grammar.specs.Answer.{answer}
+use Rattle.any_grammar.specs.declared.chosen.AnyGrammar.{AnyGrammar}
+use Rattle.any_grammar.specs.declared.chosen.AnyGrammar.TheVariants.{Small, Rust}
 use Rattle.tt_data.specs.declared.edition.Edition.{Edition}
 use Rattle.tt_data.specs.declared.edition.Edition.TheVariants.{Edition2015, Edition2018, Edition2021, Edition2024}
+use Rattle.expander_model.specs.Meaning.{Layers}
 use Rattle.expander_scope.specs.declared.refusal.Refusal.TheVariants as why
 use Rattle.expander_session.specs.Layered.{layers}
 use Rattle.expander_session.specs.Replies.{HasCause, Replies}
@@ -25,9 +28,17 @@ edition_of year =
     else if nat_eq year 2024 then Some Edition2024
     else None
 
+-- the grammar of a number, which is of this edition
+abbrev pub grammar_of : ℕ → Edition → Option AnyGrammar
+grammar_of number edition =
+    if nat_eq number 0 then Some Small
+    else if nat_eq number 1 then Some (Rust edition)
+    else None
+
 -- a new session over this text, before any answer
-pub record IsNew (bytes : List ℕ) (year levels : ℕ) (live : Live) : Type 0 where
+pub record IsNew (bytes : List ℕ) (year levels grammar : ℕ) (live : Live) : Type 0 where
   pub edition : edition_of year ≡ Some live.session.edition
+  pub grammar : grammar_of grammar live.session.edition ≡ Some live.session.grammar
   pub text : live.session.text ≡ bytes
   pub depth : live.session.depth ≡ levels
   pub held : live.session.held ≡ None
@@ -44,7 +55,7 @@ NoText bytes _ = ⊥
 -- why there is no session
 abbrev pub CannotOpen : List ℕ → ℕ → ℕ → Code → Type 0
 CannotOpen text year grammar code.Edition = edition_of year ≡ None
-CannotOpen text year grammar code.Grammar = grammar ≡ 0 → ⊥
+CannotOpen text year grammar code.Grammar = (edition : Edition) → grammar_of grammar edition ≡ None
 CannotOpen text year grammar code.Memory = ⊤
 CannotOpen text year grammar c = NoText text c
 
@@ -95,11 +106,15 @@ EditTold start stop bytes old new _ = ⊥
 
 -- ---- expansions
 
+-- what a text means depends on the grammar of the session and on its edition
+abbrev pub layers_of : Live → Layers
+layers_of live = layers (answer live.session.grammar) live.session.edition
+
 -- a session's reply is its last answer
 abbrev pub Answers : Live → Live → Answer → Type 0
 Answers old new last.Nothing = ⊥
-Answers old new (last.Read e) = Replies (layers answer old.session.edition) old.session new.session (reply.Read e)
-Answers old new (last.Unread fault) = Replies (layers answer old.session.edition) old.session new.session (reply.Unread fault)
+Answers old new (last.Read e) = Replies (layers_of old) old.session new.session (reply.Read e)
+Answers old new (last.Unread fault) = Replies (layers_of old) old.session new.session (reply.Unread fault)
 
 abbrev pub is_read : Answer → Bool
 is_read (last.Read e) = true
@@ -110,6 +125,6 @@ abbrev pub ExpandTold : Live → Live → Code → Type 0
 ExpandTold old new code.Done = Answers old new new.answer × (is_read new.answer ≡ true)
 ExpandTold old new code.Unread = Answers old new new.answer × (is_read new.answer ≡ false)
 ExpandTold old new code.Memory = new ≡ old
-ExpandTold old new code.Tokens = HasCause (layers answer old.session.edition) old.session why.Tokens × (new ≡ old)
-ExpandTold old new code.Numbers = HasCause (layers answer old.session.edition) old.session why.Numbers × (new ≡ old)
+ExpandTold old new code.Tokens = HasCause (layers_of old) old.session why.Tokens × (new ≡ old)
+ExpandTold old new code.Numbers = HasCause (layers_of old) old.session why.Numbers × (new ≡ old)
 ExpandTold old new _ = ⊥

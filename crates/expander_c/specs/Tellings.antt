@@ -26,7 +26,7 @@ Looks kept told = Told kept (λ old new c. (new ≡ old) × told old c)
 
 -- a session was opened in place of what the handle held, or why not, and then nothing changed
 abbrev pub Opened : List ℕ → ℕ → ℕ → ℕ → Option Live → Option Live → Code → Type 0
-Opened text year depth grammar old (Some live) Done = IsNew text year depth live × (grammar ≡ 0)
+Opened text year depth grammar old (Some live) Done = IsNew text year depth grammar live
 Opened text year depth grammar old None Done = ⊥
 Opened text year depth grammar old new c = CannotOpen text year grammar c × (new ≡ old)
 

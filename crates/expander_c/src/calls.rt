@@ -169,7 +169,7 @@ pub(crate) fn token_ranges(alloc: Global, handle: &mut Handle, room: &mut [ByteR
     let Some(live) = handle.take(alloc) else {
         return Code::Closed;
     };
-    let code = last::ranges(alloc, &live.as_ref().answer, room);
+    let code = last::ranges(&live.as_ref().answer, room);
     handle.put(alloc, live);
     code
 }

@@ -6,7 +6,6 @@ use crate::answers::{ByteRange, Counts, ToldFault, counted, told, told_unread};
 use crate::code::Code;
 use crate::live::Answer;
 use crate::room::{copy_origins, copy_text, copy_token_ranges};
-use std::alloc::Global;
 
 /// How much the expansion has.
 pub(crate) fn counts(answer: &Answer, into: &mut Counts) -> Code
@@ -67,11 +66,11 @@ pub(crate) fn origins(answer: &Answer, room: &mut [ByteRange]) -> Code
 }
 
 /// Where the printed tokens are in the printed text, copied to the beginning of the room.
-pub(crate) fn ranges(alloc: Global, answer: &Answer, room: &mut [ByteRange]) -> Code
+pub(crate) fn ranges(answer: &Answer, room: &mut [ByteRange]) -> Code
     ensures { OfExpansion TokenRangesTold room.old room.new answer.now result }
 {
     let Answer::Read(expansion) = answer else {
         return Code::Nothing;
     };
-    copy_token_ranges(alloc, expansion.printed(), room)
+    copy_token_ranges(expansion, room)
 }

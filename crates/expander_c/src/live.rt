@@ -1,9 +1,10 @@
 //! A session with its last answer: what a handle of C's holds.
 ghost use Rattle.std.specs.Prelude.{◌≡◌, ◌<◌, ◌^◌, length, IfOk, IfErr, IsUtf8, MatchResult};
-ghost use Rattle.expander_c.specs.Calls.{BoundaryTold, CannotOpen, EditTold, ExpandTold, FitTold, IsNew, NoText, edition_of};
+ghost use Rattle.expander_c.specs.Calls.{BoundaryTold, CannotOpen, EditTold, ExpandTold, FitTold, IsNew, NoText, edition_of, grammar_of};
 
 use crate::code::{Code, refused};
-use expander::{Edition, Expansion, ReadFault, Reply, Session, SmallGrammar};
+use any_grammar::AnyGrammar;
+use expander::{Edition, Expansion, ReadFault, Reply, Session};
 use std::alloc::Global;
 
 /// The last answer of a session.
@@ -20,7 +21,7 @@ pub enum Answer {
 /// A session, and its last answer.
 #[derive(Drop)]
 pub struct Live {
-    pub session: Session<SmallGrammar>,
+    pub session: Session<AnyGrammar>,
     pub answer: Answer,
 }
 
@@ -33,6 +34,17 @@ fn edition_of(year: u32) -> Option<Edition>
         2018 => Some(Edition::Edition2018),
         2021 => Some(Edition::Edition2021),
         2024 => Some(Edition::Edition2024),
+        _ => None,
+    }
+}
+
+// The grammar of a number, which is of this edition.
+fn grammar_of(number: u32, edition: Edition) -> Option<AnyGrammar>
+    ensures { result ≡ grammar_of number edition }
+{
+    match number {
+        0 => Some(AnyGrammar::Small),
+        1 => Some(AnyGrammar::Rust(edition)),
         _ => None,
     }
 }
@@ -60,17 +72,17 @@ impl Live {
         depth: u8,
         grammar: u32,
     ) -> Result<Live, Code>
-        ensures new { IfOk result (λ live. IsNew text.now edition depth live × (grammar ≡ 0)) }
+        ensures new { IfOk result (λ live. IsNew text.now edition depth grammar live) }
         ensures why { IfErr result (CannotOpen text.now edition grammar) }
     {
         let Some(edition) = edition_of(edition) else {
             return Err(Code::Edition);
         };
-        if grammar != 0 {
+        let Some(grammar) = grammar_of(grammar, edition) else {
             return Err(Code::Grammar);
-        }
+        };
         let text = text_in(text)?;
-        match Session::new(alloc, text, SmallGrammar, edition, depth) {
+        match Session::new(alloc, text, grammar, edition, depth) {
             Ok(session) => Ok(Live {
                 session,
                 answer: Answer::Nothing,

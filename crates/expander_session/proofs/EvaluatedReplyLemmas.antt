@@ -1,6 +1,7 @@
 -- The reply to a text that was evaluated over a cache.
 use Rattle.std.proofs.Common.{◌≡◌, ◌↔◌, ℕ, ◌+◌, ◌≤◌, ◌^◌, true, List, [], ◌++◌, map, Option, Some, None, refl, ap, sym, subst, ◌∙◌, arith, length, option_map}
 use Rattle.std.specs.Prelude.{All, IsUtf8, Ok, Result, filter, filter_map, unwrap_or}
+use Rattle.bridge.specs.PrintedRanges.{printed_ranges, read_ranges}
 use Rattle.bridge.specs.TokenSteps.{text_reading}
 use Rattle.bridge.specs.declared.reading.outcome.ReadFault.{ReadFault}
 use Rattle.mbe.specs.Grammar.{Grammar}
@@ -13,6 +14,7 @@ use Rattle.expander_model.specs.Held.{Kept, kept_after}
 use Rattle.expander_model.specs.DefinitionTrees.{definition_trees}
 use Rattle.expander_session.specs.Layered.{layers}
 use Rattle.expander_model.specs.Meaning.{Layers, ReadMeaning, meaning, meaning_from, meaning_of, members}
+use Rattle.expander_model.specs.Printing.{bare}
 use Rattle.expander_scope.specs.DefinitionIds.{AreNumbered, number_by, numbered_by}
 use Rattle.expander_scope.specs.NewNumbers.{needed}
 use Rattle.expander_model.specs.Pieces.{pieces}
@@ -42,6 +44,7 @@ pub record ShowsText (layers : Layers) (depth : ℕ) (f : Forest) (count : ℕ) 
   pub printed : e.printed ≡ (meaning_of layers (members layers depth f)).text
   pub faults : e.faults ≡ (meaning_of layers (members layers depth f)).faults
   pub origins : e.origins ≡ map origin_of (meaning_of layers (members layers depth f)).tokens
+  pub ranges : read_ranges e.printed ≡ printed_ranges (map bare (meaning_of layers (members layers depth f)).tokens)
   pub expanded : e.expanded ≡ count
 
 -- a session that is the same but for what it holds
@@ -83,6 +86,7 @@ module _ {G : Type 0} (grammar : Grammar) (edition : Edition) (s : State G) (f :
             printed = shows.printed;
             faults = shows.faults;
             origins = shows.origins;
+            ranges = shows.ranges;
             expanded = shows.expanded
                 ∙ sym (taken_count laws grammar edition s.depth s.text f is_text read s.given old s.trees given now are (unwrap_or held []) had.right)
                 ∙ same_earlier held (looked_of (members L s.depth f))

@@ -103,6 +103,7 @@ module _ (equal : (f g : Forest) → (same_forest f g ≡ true) ↔ (f ≡ g)) (
           printed = shows.printed;
           faults = shows.faults ∙ ap (λ (fs : List Fault). in_order (fs ++ faults_in (flat_map output_of (map present (news now))))) t.faults;
           origins = shows.origins;
+          ranges = shows.ranges;
           expanded = shows.expanded ∙ t.expanded;
         };
       }
@@ -113,7 +114,7 @@ shows_text : (L : Layers) (depth : ℕ) (f : Forest) (ms : List Member) → memb
     → ShowsMeaning (meaning_of L ms) count e → ShowsText L depth f other e
 shows_text L depth f ms same count other counts e shows =
     let back : ShowsMeaning (meaning_of L (members L depth f)) count e = subst (λ (xs : List Member). ShowsMeaning (meaning_of L xs) count e) (sym same) shows in
-    record { printed = back.printed; faults = back.faults; origins = back.origins; expanded = back.expanded ∙ counts }
+    record { printed = back.printed; faults = back.faults; origins = back.origins; ranges = back.ranges; expanded = back.expanded ∙ counts }
 
 -- a session that holds this
 abbrev pub session_with : {G : Type 0} → List ℕ → G → Edition → ℕ → code.Cache → State G

@@ -1,5 +1,6 @@
 -- What a session replies: its text's meaning, and how many pieces the last text did not have.
 use Rattle.std.specs.Prelude.{◌≡◌, ℕ, ◌+◌, ◌≤◌, ◌^◌, List, [], map, Option, Some, Result, Ok, Err, ⊤}
+use Rattle.bridge.specs.PrintedRanges.{printed_ranges, read_ranges}
 use Rattle.bridge.specs.declared.reading.outcome.ReadFault.{ReadFault}
 use Rattle.tt_data.specs.Forest.{Forest}
 use Rattle.expander_scope.specs.declared.refusal.Refusal.{Refusal}
@@ -10,16 +11,19 @@ use Rattle.expander_session.specs.Count.{Looked, expanded_count, looked_of}
 use Rattle.expander_session.specs.Expanded.{Expanded, origin_of}
 use Rattle.expander_model.specs.DefinitionTrees.{trees_in}
 use Rattle.expander_model.specs.Meaning.{Layers, ReadMeaning, meaning}
+use Rattle.expander_model.specs.Printing.{bare}
 use Rattle.expander_scope.specs.NewNumbers.{needed}
 use Rattle.expander_session.specs.State.{State}
 use Rattle.expander_session.specs.TooMany.{NeedsTooMany}
 
 -- an expansion is what the text means: its printed text, its faults in order, the origins of its
--- tokens, and how many of its plain pieces have no match among the earlier ones
+-- tokens and where each of them is in the printed text, and how many of its plain pieces have no
+-- match among the earlier ones
 pub record IsExpansionOf (m : ReadMeaning) (earlier : Option (List Looked)) (e : Expanded) : Type 0 where
   pub printed : e.printed ≡ m.text
   pub faults : e.faults ≡ m.faults
   pub origins : e.origins ≡ map origin_of m.tokens
+  pub ranges : read_ranges e.printed ≡ printed_ranges (map bare m.tokens)
   pub expanded : e.expanded ≡ expanded_count earlier (looked_of m.members)
 
 -- a reply is what a text means: its expansion, or the fault for which it cannot be read

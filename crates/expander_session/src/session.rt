@@ -2,6 +2,7 @@
 ghost use Rattle.std.specs.Prelude.{◌≡◌, ◌+◌, ◌-◌, ◌<◌, ◌≤◌, ◌^◌, ◌↔◌, All, Err, List, [], length, IfOk, IfErr, OnOk, OnErr, IsTrue, IsCharBoundary, None, map, slice_get, true};
 ghost use Rattle.std.specs.List.{list_any};
 ghost use Rattle.rustc_lexer.specs.Edit.{edited};
+ghost use Rattle.bridge.specs.PrintedRanges.{read_ranges};
 ghost use Rattle.expander_model.specs.Expansion.{PlacedStep};
 ghost use Rattle.expander_session.specs.Layered.{layers};
 ghost use Rattle.expander_model.specs.Meaning.{members_after};
@@ -21,7 +22,8 @@ ghost use Rattle.expander_model.specs.World.{world};
 use crate::cache::Cache;
 use crate::emitter::{Emitter, finish};
 use crate::evaluate::{Evaluated, EvaluationContext, evaluate_pieces};
-use bridge::ReadFault;
+use bridge::laws::tokens_are_where_they_are_printed;
+use bridge::{ReadFault, TokenRanges, token_ranges};
 use bridge::parts::{LazyPrinted, SpanList};
 use expander_model::fault::{Fault, sort_faults};
 use expander_model::laws;
@@ -45,12 +47,15 @@ pub struct Expansion {
 }
 
 impl Model for Expansion {
-    ghost use Rattle.std.specs.Prelude.{map, string_bytes};
+    ghost use Rattle.std.specs.Prelude.{◌≡◌, length, map, string_bytes};
+    ghost use Rattle.bridge.specs.PrintedRanges.{read_ranges};
     ghost use Rattle.expander_session.specs.Expanded.{Expanded};
 
     ghost Value = { Expanded };
 
     ghost view = { λ e. record { printed = string_bytes e.printed; faults = e.faults.items; origins = map (λ s. s.range) e.origins; expanded = e.expanded } };
+
+    ghost invariant = { λ e. length (read_ranges (string_bytes e.printed)) ≡ length e.origins };
 }
 
 impl Expansion {
@@ -97,6 +102,18 @@ impl Expansion {
             Some(span) => Some(span.range),
             None => None,
         }
+    }
+
+    /// Where the printed tokens are in the printed text, of at most `u32::MAX` bytes, in order. The
+    /// printed token of index i is spelled at range i.
+    ///
+    /// Nothing is kept for it: it lexes the printed text as far as it is asked, and takes no memory.
+    pub fn token_ranges(&self) -> TokenRanges<'_>
+        requires { length self.now.printed < 2 ^ 32 }
+        ensures ranges { result ≡ read_ranges self.now.printed }
+        ensures count { length result ≡ length self.now.origins }
+    {
+        token_ranges(self.printed())
     }
 
     /// An equal expansion. Refused if there is no memory for it.
@@ -319,8 +336,10 @@ fn expansion_of(
     mut faults: Vec<Fault>,
     expanded: usize,
 ) -> Result<Expansion, AllocError>
+    requires { (all : List PlacedStep) × HasOutput steps all }
     ensures { IfOk result (λ e. (all : List PlacedStep) → HasOutput steps all → ShowsOutput faults.items expanded all e) }
 {
+    tokens_are_where_they_are_printed();
     let LazyPrinted { text, tokens, .. } = finish(steps, &mut faults)?;
     sort_faults(&mut faults)?;
     Ok(Expansion {

@@ -1,12 +1,14 @@
 //! The printer: lists of trees and token events as one text that reads back.
-ghost use Rattle.std.specs.Prelude.{◌≡◌, ◌++◌, ◌∷◌, [], List, OnOk, OnErr, IfOk, IfErr, IfSome, IsOkUnless, is_some, map};
+ghost use Rattle.std.specs.Prelude.{◌≡◌, ◌<◌, ◌^◌, ◌++◌, ◌∷◌, [], List, OnOk, OnErr, IfOk, IfErr, IfSome, IsOkUnless, is_some, length, map, string_bytes};
 ghost use Rattle.bridge.specs.PrintStates.{Fits, Grows, PutsAny, state_of};
 ghost use Rattle.bridge.specs.PrintedTrees.{print_in};
-ghost use Rattle.bridge.specs.Printing.{print_of};
+ghost use Rattle.bridge.specs.PrintedRanges.{printed_ranges, read_ranges};
+ghost use Rattle.bridge.specs.Printing.{print_of, printed, visible};
 ghost use Rattle.tt_data.specs.Walk.{Step, walk};
 ghost use Rattle.tt.specs.Views.{forest};
 ghost use Rattle.tt_data.specs.fault.TtFault.TheVariants.{Memory};
 
+use crate::laws::tokens_are_where_they_are_printed;
 use crate::printing::chunk::{PrintedChunk, append_at, append_shifted, as_chunk, takes_chunks};
 use crate::printing::event::{TokenEvent, events_of, next_event};
 use crate::printing::relative_spans::Shift;
@@ -14,6 +16,7 @@ use crate::printing::span_list::SpanList;
 use crate::printing::state::{
     PrintState, empty_state, empty_state_with_room, end, end_with_spans, put_event, save, undo,
 };
+use crate::printing::token_ranges::{TokenRanges, token_ranges};
 use std::alloc::{AllocError, Global};
 use std::marker::Model;
 use tt::TokenTreesView;
@@ -29,6 +32,19 @@ pub struct Printed {
     /// The indices, from 0 among all visible tokens, of those without a spelling, which are
     /// omitted.
     pub left_out: Vec<usize>,
+}
+
+impl Printed {
+    /// Where the printed tokens are in the text, of at most `u32::MAX` bytes, in order. Nothing is
+    /// kept for it: it lexes the text as far as it is asked, and takes no memory.
+    pub fn token_ranges(&self) -> TokenRanges<'_>
+        requires { length (string_bytes self.now.text) < 2 ^ 32 }
+        ensures read { result ≡ read_ranges (string_bytes self.now.text) }
+        ensures exact { (steps : List Step) → string_bytes self.now.text ≡ (print_of steps).text → result ≡ printed_ranges (printed (visible steps)) }
+    {
+        tokens_are_where_they_are_printed();
+        token_ranges(self.text.as_str())
+    }
 }
 
 /// The printed text of trees, with spans that are computed when asked for.

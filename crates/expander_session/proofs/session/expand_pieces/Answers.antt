@@ -6,6 +6,9 @@ use Rattle.expander_session.proofs.MemoRefLemmas.{links_are}
 use Rattle.expander_session.proofs.SessionLemmas.{takes_text}
 use Rattle.expander_session.proofs.session.expand_pieces.Goals as goal
 
+pub expansion_of-requires : goal.expansion_of-requires
+expansion_of-requires g c = (_, c.in_ok-numbers.ensures.taken.steps)
+
 pub returns-clause-taken : goal.returns-clause-taken
 returns-clause-taken g c =
     takes_text c.equal_pieces.ensures (g.G.FragmentGrammar.answer c.args.context.now.grammar.now) c.args.edition c.args.context.now.depth c.args.context.now.memory.now (map piece_at c.args.pieces.now) c.in_ok-numbers.field-0

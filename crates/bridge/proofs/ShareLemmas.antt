@@ -5,17 +5,17 @@ use Rattle.rustc_lexer.specs.declared.token.DocStyle.TheVariants.{Outer, Inner}
 use Rattle.rustc_lexer.specs.declared.token.TokenKind.{TokenKind}
 use Rattle.rustc_lexer.specs.declared.token.TokenKind.TheVariants as kind
 use Rattle.tt_data.specs.declared.leaf.LitKind.{LitKind}
+use Rattle.bridge.specs.PrintedRanges.{range_of_step}
+use Rattle.bridge.specs.TokenShares.{share_of, shared_ranges}
 use Rattle.bridge.specs.Reading.{PlacedToken, range_of}
 use Rattle.bridge.specs.TokenSteps.{class_of, literal_class, literal_form, steps_of_class}
-use Rattle.printed_tokens.specs.Shares.{ranges_of, share_of}
-use Rattle.printed_tokens.specs.TokenRanges.{range_of_step}
 
 -- a literal has all of its range, whether or not it can be read
 form_ranges : (o : Option LitKind) (n : ℕ) (t : PlacedToken) (more : List PlacedToken) → map range_of_step (steps_of_class (literal_class o n) t more) ≡ range_of t ∷ []
 form_ranges None n t more = refl
 form_ranges (Some f) n t more = refl
 
-pub kind_ranges : (k : TokenKind) (t : PlacedToken) (more : List PlacedToken) → map range_of_step (steps_of_class (class_of k) t more) ≡ ranges_of (share_of k) (range_of t)
+pub kind_ranges : (k : TokenKind) (t : PlacedToken) (more : List PlacedToken) → map range_of_step (steps_of_class (class_of k) t more) ≡ shared_ranges (share_of k) (range_of t)
 kind_ranges (kind.LineComment None) t more = refl
 kind_ranges (kind.LineComment (Some Outer)) t more = refl
 kind_ranges (kind.LineComment (Some Inner)) t more = refl

@@ -1,3 +1,0 @@
-pub mod LawLemmas
-pub mod ShareLemmas
-pub mod TokenLemmas
