@@ -1,4 +1,6 @@
 mod TableLemmas
 mod StepLemmas
+mod ClassLemmas
+mod StartLemmas
 mod OutcomeLemmas
 mod Rows

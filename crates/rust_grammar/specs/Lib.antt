@@ -10,3 +10,5 @@ pub mod Passing
 pub mod Laws
 -- what the functions inside the crate promise each other
 pub mod Table
+pub mod Classes
+pub mod Starts

@@ -4,6 +4,7 @@ ghost use Rattle.rust_grammar.specs.Answer.{answer, comes_of, entry_rule};
 ghost use Rattle.rust_grammar.specs.Table.{name_at};
 ghost use Rattle.rust_grammar.specs.Laws.{shape-within, shape-takes};
 
+use crate::cursor::Cursor;
 use crate::interpreter::come_of_rule;
 use crate::outcome::Outcome;
 use fragment_grammar::{FragmentGrammar, Prefix, PrefixEntryPoint, steps};
@@ -60,7 +61,7 @@ fn rule_of(entry: PrefixEntryPoint) -> u8
 fn come_of_entry<'a>(edition: Edition, entry: PrefixEntryPoint, trees: &TtIter<'a>) -> Outcome<'a>
     ensures { result ≡ comes_of edition entry trees.now }
 {
-    come_of_rule(edition, rule_of(entry), trees)
+    come_of_rule(edition, rule_of(entry), &Cursor::new(TtIter::copied(trees)))
 }
 
 impl FragmentGrammar for RustGrammar {
@@ -69,7 +70,7 @@ impl FragmentGrammar for RustGrammar {
     fn prefix(&self, entry: PrefixEntryPoint, input: TokenTreesView<'_>) -> Prefix {
         match come_of_entry(self.edition, entry, &input.iter()) {
             Outcome::Fits(rest) => Prefix {
-                tokens: steps(rest.passed_since(input)),
+                tokens: steps(rest.trees().passed_since(input)),
                 fault: false,
             },
             Outcome::Misses => FAULT,

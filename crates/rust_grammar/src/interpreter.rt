@@ -7,27 +7,27 @@ ghost use Rattle.rust_grammar.specs.Expressions.{decided, found, nothing_if, or_
 ghost use Rattle.rust_grammar.specs.Table.{comes_at, is_sound_token, name_at, token_of};
 ghost use Rattle.rust_grammar.specs.Tokens.{token_at};
 
+use crate::cursor::Cursor;
 use crate::names::year_of;
 use crate::node::{Node, Token};
 use crate::nodes::{read_node, root_of};
 use crate::outcome::Outcome;
 use crate::tokens::behind;
-use tt::TtIter;
 use tt_data::Edition;
 
 // What comes of a token.
-fn of_token<'a>(edition: Edition, token: Token, trees: &TtIter<'a>) -> Outcome<'a>
+fn of_token<'a>(edition: Edition, token: Token, trees: &Cursor<'a>) -> Outcome<'a>
     requires { IsTrue (is_sound_token token) }
     ensures { result ≡ found (token_at edition (token_of token) trees.now) }
 {
-    match behind(edition, token, trees) {
-        Some(rest) => Outcome::Fits(rest),
+    match behind(edition, token, trees.trees()) {
+        Some(rest) => Outcome::Fits(Cursor::new(rest)),
         None => Outcome::Misses,
     }
 }
 
 // Nothing is taken from an edition on.
-fn since<'a>(first: Edition, edition: Edition, trees: TtIter<'a>) -> Outcome<'a>
+fn since<'a>(first: Edition, edition: Edition, trees: Cursor<'a>) -> Outcome<'a>
     ensures { result ≡ nothing_if (nat_le (year_of first) (year_of edition)) trees.entry }
 {
     if year_of(first) <= year_of(edition) {
@@ -38,7 +38,7 @@ fn since<'a>(first: Edition, edition: Edition, trees: TtIter<'a>) -> Outcome<'a>
 }
 
 // What was found, or else nothing is taken.
-fn or_nothing<'a>(found: Outcome<'a>, trees: TtIter<'a>) -> Outcome<'a>
+fn or_nothing<'a>(found: Outcome<'a>, trees: Cursor<'a>) -> Outcome<'a>
     ensures { result ≡ or_nothing found.entry trees.entry }
 {
     match found {
@@ -59,13 +59,13 @@ fn decided(found: Outcome<'_>) -> Outcome<'_>
 
 // What comes of a node as often as it fits, until it does not: each time but the last takes a token.
 #[cycle(interpreter)]
-fn repeat<'a>(edition: Edition, place: u16, levels: u16, trees: TtIter<'a>) -> Outcome<'a>
+fn repeat<'a>(edition: Edition, place: u16, levels: u16, trees: Cursor<'a>) -> Outcome<'a>
     requires { place < 1392 }
     ensures { result ≡ rounds (suc (size trees.entry)) (comes_at edition levels place) trees.entry }
 {
     let mut rest = trees;
-    'rounds: for _round in 0..rest.remaining().len() + 1 {
-        match come_of(edition, place, levels, &rest) {
+    'rounds: for _round in 0..rest.trees().remaining().len() + 1 {
+        match part(edition, place, levels, &rest) {
             Outcome::Fits(next) => rest = next,
             Outcome::Misses => return Outcome::Fits(rest),
             Outcome::Faults => return Outcome::Faults,
@@ -74,11 +74,23 @@ fn repeat<'a>(edition: Edition, place: u16, levels: u16, trees: TtIter<'a>) -> O
     Outcome::Fits(rest)
 }
 
+// What comes of a part. Nothing is tried where the class of the first tree rules it out.
+#[cycle(interpreter)]
+fn part<'a>(edition: Edition, place: u16, levels: u16, trees: &Cursor<'a>) -> Outcome<'a>
+    requires { place < 1392 }
+    ensures { result ≡ comes_at edition levels place trees.now }
+{
+    if trees.misses(place, levels) {
+        return Outcome::Misses;
+    }
+    come_of(edition, place, levels, trees)
+}
+
 // What comes of the expression at a place of the table, with so many levels of rules left.
 //
 // A second part, and a rule that ends another, take no frame of the stack.
 #[cycle(interpreter)]
-fn come_of<'a>(edition: Edition, start: u16, most_levels: u16, trees: &TtIter<'a>) -> Outcome<'a>
+fn come_of<'a>(edition: Edition, start: u16, most_levels: u16, trees: &Cursor<'a>) -> Outcome<'a>
     requires { start < 1392 }
     ensures { result ≡ comes_at edition most_levels start trees.now }
 {
@@ -89,7 +101,7 @@ fn come_of<'a>(edition: Edition, start: u16, most_levels: u16, trees: &TtIter<'a
         match read_node(place) {
             Node::Token(wanted) => return of_token(edition, wanted, &rest),
             Node::Since(first) => return since(first, edition, rest),
-            Node::Then(behind) => match come_of(edition, place + 1, levels, &rest) {
+            Node::Then(behind) => match part(edition, place + 1, levels, &rest) {
                 Outcome::Fits(next) => {
                     rest = next;
                     place += behind;
@@ -97,13 +109,13 @@ fn come_of<'a>(edition: Edition, start: u16, most_levels: u16, trees: &TtIter<'a
                 Outcome::Misses => return Outcome::Misses,
                 Outcome::Faults => return Outcome::Faults,
             },
-            Node::Or(behind) => match come_of(edition, place + 1, levels, &rest) {
+            Node::Or(behind) => match part(edition, place + 1, levels, &rest) {
                 Outcome::Fits(next) => return Outcome::Fits(next),
                 Outcome::Misses => place += behind,
                 Outcome::Faults => return Outcome::Faults,
             },
             Node::Many => return repeat(edition, place + 1, levels, rest),
-            Node::Maybe => return or_nothing(come_of(edition, place + 1, levels, &rest), rest),
+            Node::Maybe => return or_nothing(part(edition, place + 1, levels, &rest), rest),
             Node::Surely => return decided(come_of(edition, place + 1, levels, &rest)),
             Node::Rule(rule) => {
                 if levels == 0 {
@@ -125,7 +137,7 @@ fn most_levels() -> u16
 }
 
 // What comes of a rule that may refer to rules this many levels deep.
-fn come_of_levels<'a>(edition: Edition, rule: u8, levels: u16, trees: &TtIter<'a>) -> Outcome<'a>
+fn come_of_levels<'a>(edition: Edition, rule: u8, levels: u16, trees: &Cursor<'a>) -> Outcome<'a>
     requires { rule < 92 }
     ensures { result ≡ rules_to edition levels (name_at rule) trees.now }
 {
@@ -137,7 +149,7 @@ fn come_of_levels<'a>(edition: Edition, rule: u8, levels: u16, trees: &TtIter<'a
 }
 
 /// What comes of a rule.
-pub(crate) fn come_of_rule<'a>(edition: Edition, rule: u8, trees: &TtIter<'a>) -> Outcome<'a>
+pub(crate) fn come_of_rule<'a>(edition: Edition, rule: u8, trees: &Cursor<'a>) -> Outcome<'a>
     requires { rule < 92 }
     ensures { result ≡ rules_to edition most_levels (name_at rule) trees.now }
 {

@@ -6,6 +6,7 @@
 //! writes from the rules.
 #![tactic(auto)]
 
+mod cursor;
 mod grammar;
 mod interpreter;
 pub mod laws;

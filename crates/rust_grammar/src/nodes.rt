@@ -1,11 +1,14 @@
 //! The table of rules, read: its nodes, roots, words and sets.
-ghost use Rattle.std.specs.Prelude.{◌≡◌, ◌<◌, Some, slice_get, get_or, length, []};
+ghost use Rattle.std.specs.Prelude.{◌≡◌, ◌<◌, ◌+◌, ◌*◌, ◌%◌, min, Some, slice_get, get_or, length, []};
+ghost use Rattle.rust_grammar.specs.Classes.{sign_class};
+ghost use Rattle.rust_grammar.specs.Starts.{starts_at};
 ghost use Rattle.rust_grammar.specs.Rules.{says};
 ghost use Rattle.rust_grammar.specs.Table.{expression_at, name_at, node_at, set_texts, word_text, letters, IsSound};
+ghost use Rattle.rust_grammar.specs.declared.table.TheConstants.{IDENTS};
 ghost use Rattle.std.specs.Prelude.{map};
 
 use crate::node::Node;
-use crate::table::{NODES, ROOTS, SETS, WORDS};
+use crate::table::{IDENTS, NODES, ROOTS, SETS, SIGNS, STARTS, WORDS};
 use small_grammar::units::Operator;
 
 // An element of a table.
@@ -32,6 +35,28 @@ pub(crate) fn root_of(rule: u8) -> u16
     ensures within { result < 1392 }
 {
     element(&ROOTS, rule as usize)
+}
+
+/// What the table says of the first trees of the node at this place.
+pub(crate) fn starts_at(place: u16) -> u64
+    requires { place < 1392 }
+    ensures { result ≡ starts_at place }
+{
+    element(&STARTS, place as usize)
+}
+
+/// The class of an identifier whose text has this first byte and so many more.
+pub(crate) fn class_of_ident(first: u8, more: usize) -> u8
+    ensures { result ≡ get_or IDENTS (min more 15 * 32 + first % 32) 6 }
+{
+    element(&IDENTS, more.min(15) * 32 + (first % 32) as usize)
+}
+
+/// The class of a punct of this character.
+pub(crate) fn class_of_sign(char: char) -> u8
+    ensures { result ≡ sign_class char }
+{
+    element(&SIGNS, (char as usize).min(127))
 }
 
 // A text of a table.

@@ -1,4 +1,4 @@
-use Rattle.std.proofs.Common.{◌+◌, ◌-◌, ◌∙◌, arith}
+use Rattle.std.proofs.Common.{◌+◌, ◌-◌, sym, ◌∙◌, arith}
 use Rattle.rust_grammar.specs.Table.{comes_at}
 use Rattle.rust_grammar.proofs.StepLemmas.{two_parts, token_comes, since_comes, then_fits, then_misses, then_faults, or_fits, or_misses, or_faults, many_comes, maybe_comes, surely_comes, too_deep, rule_on, round_on}
 use Rattle.rust_grammar.proofs.interpreter.+interpreter.Goals as goal
@@ -34,23 +34,23 @@ come_of-returns-in-Faults t c =
     then_faults c.args.edition c.nodes.levels c.nodes.place c.nodes.invariant.1 c.in-Then.behind c.nodes.rest c.in-Then.ensures.same c.in-Faults.ensures
     ∙ c.nodes.invariant.0
 
-pub come_of-returns-in-Fits-come_of : goal.come_of-returns-in-Fits-come_of
-come_of-returns-in-Fits-come_of t c =
-    or_fits c.args.edition c.nodes.levels c.nodes.place c.nodes.invariant.1 c.in-Or.behind c.nodes.rest c.in-Fits-come_of.next c.in-Or.ensures.same c.in-Fits-come_of.ensures
+pub come_of-returns-in-Fits-part : goal.come_of-returns-in-Fits-part
+come_of-returns-in-Fits-part t c =
+    or_fits c.args.edition c.nodes.levels c.nodes.place c.nodes.invariant.1 c.in-Or.behind c.nodes.rest c.in-Fits-part.next c.in-Or.ensures.same c.in-Fits-part.ensures
     ∙ c.nodes.invariant.0
 
-pub come_of-nodes-preserved-in-Misses-come_of : goal.come_of-nodes-preserved-in-Misses-come_of
-come_of-nodes-preserved-in-Misses-come_of t c =
+pub come_of-nodes-preserved-in-Misses-part : goal.come_of-nodes-preserved-in-Misses-part
+come_of-nodes-preserved-in-Misses-part t c =
     let parts = two_parts c.nodes.place c.in-Or.behind c.in-Or.ensures.sound in (
-      or_misses c.args.edition c.nodes.levels c.nodes.place c.nodes.invariant.1 c.in-Or.behind c.nodes.rest c.in-Or.ensures.same c.in-Misses-come_of.ensures
+      or_misses c.args.edition c.nodes.levels c.nodes.place c.nodes.invariant.1 c.in-Or.behind c.nodes.rest c.in-Or.ensures.same c.in-Misses-part.ensures
           ∙ c.nodes.invariant.0,
       parts.1,
       omega (arith, parts.0, parts.1, c.nodes.invariant.2),
     )
 
-pub come_of-returns-in-Faults-come_of : goal.come_of-returns-in-Faults-come_of
-come_of-returns-in-Faults-come_of t c =
-    or_faults c.args.edition c.nodes.levels c.nodes.place c.nodes.invariant.1 c.in-Or.behind c.nodes.rest c.in-Or.ensures.same c.in-Faults-come_of.ensures
+pub come_of-returns-in-Faults-part : goal.come_of-returns-in-Faults-part
+come_of-returns-in-Faults-part t c =
+    or_faults c.args.edition c.nodes.levels c.nodes.place c.nodes.invariant.1 c.in-Or.behind c.nodes.rest c.in-Or.ensures.same c.in-Faults-part.ensures
     ∙ c.nodes.invariant.0
 
 pub come_of-returns-in-Many : goal.come_of-returns-in-Many
@@ -62,13 +62,13 @@ come_of-returns-in-Many t c =
 pub come_of-returns-in-Maybe : goal.come_of-returns-in-Maybe
 come_of-returns-in-Maybe t c =
     c.or_nothing.ensures
-    ∙ maybe_comes c.args.edition c.nodes.levels c.nodes.place c.nodes.invariant.1 c.nodes.rest c.come_of-in-Maybe.result c.in-Maybe.ensures.same c.come_of-in-Maybe.ensures
+    ∙ maybe_comes c.args.edition c.nodes.levels c.nodes.place c.nodes.invariant.1 c.nodes.rest c.part-in-Maybe.result c.in-Maybe.ensures.same c.part-in-Maybe.ensures
     ∙ c.nodes.invariant.0
 
 pub come_of-returns-in-Surely : goal.come_of-returns-in-Surely
 come_of-returns-in-Surely t c =
     c.decided.ensures
-    ∙ surely_comes c.args.edition c.nodes.levels c.nodes.place c.nodes.invariant.1 c.nodes.rest c.come_of-in-Surely.result c.in-Surely.ensures.same c.come_of-in-Surely.ensures
+    ∙ surely_comes c.args.edition c.nodes.levels c.nodes.place c.nodes.invariant.1 c.nodes.rest c.come_of.result c.in-Surely.ensures.same c.come_of.ensures
     ∙ c.nodes.invariant.0
 
 pub come_of-returns-then-levels-eq0 : goal.come_of-returns-then-levels-eq0
@@ -93,3 +93,6 @@ repeat-rounds-preserved t c =
     round_on (c.len-round-end.result + 1 - c.rounds._round) (c.len-round-end.result + 1 - (c.rounds._round + 1)) (comes_at c.args.edition c.args.levels c.args.place)
     c.rounds.rest c.in-Fits.next (omega (arith, here)) c.in-Fits.ensures
     ∙ c.rounds.invariant
+
+pub part-returns-then-misses : goal.part-returns-then-misses
+part-returns-then-misses t c = sym (c.misses.ensures c.if-misses.true c.args.edition)

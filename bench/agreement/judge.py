@@ -1,0 +1,81 @@
+"""Asks rustc what the calls give.
+
+    judge.py FOLDER YEAR    adds to each FOLDER/NAME.json what rustc says of each call
+
+For each source it writes a crate with the definitions and the calls, each call in a module of its own, and
+runs rustc over it with `trace_macros!`, which prints the tokens of each expansion before they are parsed. So
+it does not matter in which position a call stands, nor whether the names of its expansion are there.
+"""
+import glob, json, os, re, subprocess, sys
+
+FEATURES = ['trace_macros', 'macro_metavar_expr', 'macro_metavar_expr_concat', 'decl_macro', 'rustc_attrs',
+            'allow_internal_unstable', 'allow_internal_unsafe', 'macro_attr', 'auto_traits', 'negative_impls',
+            'never_type', 'box_patterns', 'const_trait_impl', 'specialization', 'yeet_expr', 'try_blocks',
+            'staged_api', 'lang_items', 'intrinsics', 'unboxed_closures', 'associated_type_defaults',
+            'extern_types', 'coroutines', 'gen_blocks', 'guard_patterns', 'async_closure']
+
+
+def crate(source):
+    """The text, and for each call its first and last byte."""
+    text = '#![feature(%s)]\n#![allow(warnings)]\n' % ', '.join(FEATURES)
+    parts, at, places = [text], len(text.encode()), []
+
+    def put(s):
+        nonlocal at
+        parts.append(s)
+        at += len(s.encode())
+
+    put('trace_macros!(true);\n')
+    for number, pair in enumerate(source['pairs']):
+        put(pair['definition'] + '\n')
+        places.append([])
+        for k, call in enumerate(pair['calls']):
+            put('mod filgordd_%d_%d { ' % (number, k))
+            places[-1].append(at)
+            put(call if call.endswith('}') else call + ';')
+            put(' }\n')
+    return ''.join(parts), places
+
+
+def asked(path, year):
+    command = ['timeout', '30', 'rustc', '--edition', year, '--crate-type', 'lib', '--emit=metadata', '-o', '/dev/null',
+               '--cap-lints=allow', '--error-format=json', path]
+    got = subprocess.run(command, capture_output=True, env=dict(os.environ, RUSTC_BOOTSTRAP='1'))
+    notes, errors = {}, {}
+    for line in got.stderr.decode('utf-8', 'replace').splitlines():
+        if not line.startswith('{'):
+            continue
+        told = json.loads(line)
+        if told['message'] == 'trace_macro':
+            notes.setdefault(told["spans"][0]["byte_start"], [c["message"] for c in told["children"]])
+        elif told['level'].startswith('error'):
+            for span in told['spans']:
+                errors.setdefault(span['byte_start'], told['message'])
+    return notes, errors
+
+
+def outcome(notes):
+    """The first expansion: `gives` and its tokens, or `refuses`."""
+    if not notes:
+        return None
+    if len(notes) > 1 and notes[1].startswith('to `'):
+        return ['gives', notes[1][4:-1]]
+    return ['refuses', '']
+
+
+def main():
+    folder, year = sys.argv[1:3]
+    for path in sorted(glob.glob(os.path.join(folder, '*.json'))):
+        source = json.load(open(path))
+        text, places = crate(source)
+        with open(os.path.join(folder, 'crate.rs'), 'w') as f:
+            f.write(text)
+        notes, errors = asked(os.path.join(folder, 'crate.rs'), year)
+        for pair, starts in zip(source['pairs'], places):
+            pair['rustc'] = [outcome(notes.get(at)) for at in starts]
+        with open(path, 'w') as f:
+            json.dump(source, f)
+
+
+if __name__ == '__main__':
+    main()
