@@ -19,18 +19,18 @@ use Rattle.rust_grammar.proofs.TableLemmas.{node-stands}
 
 -- ---- places
 
-pub two_parts : (i k : ℕ) → (nat_lt 1 k && nat_lt (i + k) 1392) ≡ true → (1 < k) × (i + k < 1392)
-two_parts i k e = (ltb-true 1 k (and_parts (nat_lt 1 k) (nat_lt (i + k) 1392) e).0, ltb-true (i + k) 1392 (and_parts (nat_lt 1 k) (nat_lt (i + k) 1392) e).1)
+pub two_parts : (i k : ℕ) → (nat_lt 1 k && nat_lt (i + k) 1391) ≡ true → (1 < k) × (i + k < 1391)
+two_parts i k e = (ltb-true 1 k (and_parts (nat_lt 1 k) (nat_lt (i + k) 1391) e).0, ltb-true (i + k) 1391 (and_parts (nat_lt 1 k) (nat_lt (i + k) 1391) e).1)
 
-pub one_part : (i : ℕ) → nat_lt (i + 1) 1392 ≡ true → i + 1 < 1392
-one_part i e = ltb-true (i + 1) 1392 e
+pub one_part : (i : ℕ) → nat_lt (i + 1) 1391 ≡ true → i + 1 < 1391
+one_part i e = ltb-true (i + 1) 1391 e
 
 pub sound_as : (i : ℕ) (n m : Node) → is_sound i n ≡ true → n ≡ m → is_sound i m ≡ true
 sound_as i n m sound e = subst (λ k. is_sound i k ≡ true) e sound
 
 -- ---- nodes
 
-module _ (ed : Edition) (levels place : ℕ) (fits : place < 1392) where
+module _ (ed : Edition) (levels place : ℕ) (fits : place < 1391) where
   step : (n : Node) (f : Forest) → n ≡ node_at place → comes_at ed levels place f ≡ taken ed (rules_to ed levels) (stands n (λ m. expression_at (place + m))) f
   step n f e = ap (λ x. taken ed (rules_to ed levels) x f) (node-stands place fits ∙ ap (λ k. stands k (λ m. expression_at (place + m))) (sym e))
 
@@ -87,7 +87,7 @@ pub rule_from : (ed : Edition) (levels fewer root : ℕ) (k : ℕ) (f : Forest) 
 rule_from ed levels fewer root k f less says_so =
     ap (λ x. taken ed (rules_to ed fewer) x f) says_so ∙ ap (λ n. rules_to ed n (name_at k) f) (sym less)
 
-pub rule_on : (ed : Edition) (levels fewer place root : ℕ) → place < 1392 → (k : ℕ) (f : Forest) → node.Rule k ≡ node_at place → levels ≡ suc fewer →
+pub rule_on : (ed : Edition) (levels fewer place root : ℕ) → place < 1391 → (k : ℕ) (f : Forest) → node.Rule k ≡ node_at place → levels ≡ suc fewer →
     expression_at root ≡ says (name_at k) → comes_at ed fewer root f ≡ comes_at ed levels place f
 rule_on ed levels fewer place root fits k f e less says_so = rule_from ed levels fewer root k f less says_so ∙ rule_comes ed levels place fits k f e
 

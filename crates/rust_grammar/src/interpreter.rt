@@ -60,7 +60,7 @@ fn decided(found: Outcome<'_>) -> Outcome<'_>
 // What comes of a node as often as it fits, until it does not: each time but the last takes a token.
 #[cycle(interpreter)]
 fn repeat<'a>(edition: Edition, place: u16, levels: u16, trees: Cursor<'a>) -> Outcome<'a>
-    requires { place < 1392 }
+    requires { place < 1391 }
     ensures { result ≡ rounds (suc (size trees.entry)) (comes_at edition levels place) trees.entry }
 {
     let mut rest = trees;
@@ -77,7 +77,7 @@ fn repeat<'a>(edition: Edition, place: u16, levels: u16, trees: Cursor<'a>) -> O
 // What comes of a part. Nothing is tried where the class of the first tree rules it out.
 #[cycle(interpreter)]
 fn part<'a>(edition: Edition, place: u16, levels: u16, trees: &Cursor<'a>) -> Outcome<'a>
-    requires { place < 1392 }
+    requires { place < 1391 }
     ensures { result ≡ comes_at edition levels place trees.now }
 {
     if trees.misses(place, levels) {
@@ -91,7 +91,7 @@ fn part<'a>(edition: Edition, place: u16, levels: u16, trees: &Cursor<'a>) -> Ou
 // A second part, and a rule that ends another, take no frame of the stack.
 #[cycle(interpreter)]
 fn come_of<'a>(edition: Edition, start: u16, most_levels: u16, trees: &Cursor<'a>) -> Outcome<'a>
-    requires { start < 1392 }
+    requires { start < 1391 }
     ensures { result ≡ comes_at edition most_levels start trees.now }
 {
     let mut place = start;
