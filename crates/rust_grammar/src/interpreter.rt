@@ -74,7 +74,8 @@ fn repeat<'a>(edition: Edition, place: u16, levels: u16, trees: Cursor<'a>) -> O
     Outcome::Fits(rest)
 }
 
-// What comes of a part. Nothing is tried where the class of the first tree rules it out.
+// What comes of a part. Nothing is tried where the class of the first tree rules it out, and a token
+// takes no frame of the stack.
 #[cycle(interpreter)]
 fn part<'a>(edition: Edition, place: u16, levels: u16, trees: &Cursor<'a>) -> Outcome<'a>
     requires { place < 1391 }
@@ -83,7 +84,10 @@ fn part<'a>(edition: Edition, place: u16, levels: u16, trees: &Cursor<'a>) -> Ou
     if trees.misses(place, levels) {
         return Outcome::Misses;
     }
-    come_of(edition, place, levels, trees)
+    match read_node(place) {
+        Node::Token(wanted) => of_token(edition, wanted, trees),
+        _ => come_of(edition, place, levels, trees),
+    }
 }
 
 // What comes of the expression at a place of the table, with so many levels of rules left.

@@ -96,3 +96,7 @@ repeat-rounds-preserved t c =
 
 pub part-returns-then-misses : goal.part-returns-then-misses
 part-returns-then-misses t c = sym (c.misses.ensures c.if-misses.true c.args.edition)
+
+pub part-returns-in-Token : goal.part-returns-in-Token
+part-returns-in-Token t c =
+    c.of_token.ensures ∙ token_comes c.args.edition c.args.levels c.args.place c.requires c.in-Token.wanted c.args.trees.now c.in-Token.ensures.same
