@@ -132,10 +132,10 @@ start_at i (suc j) (n ∷ ns) fits e =
     let same : i + suc j ≡ suc i + j = omega arith in
     rw same (start_at (suc i) j ns (omega (arith, fits)) (and_parts (is_start i n) (all_start (suc i) ns) e).1)
 
-nodes_long : length NODES ≡ 1392
+nodes_long : length NODES ≡ 1391
 nodes_long = refl
 
-node-start : (i : ℕ) → i < 1392 → is_start i (node_at i) ≡ true
+node-start : (i : ℕ) → i < 1391 → is_start i (node_at i) ≡ true
 unfolding node_at
 node-start i fits = (let same : 0 + i ≡ i = omega arith in subst (λ k. is_start k (get_or NODES i node.Many) ≡ true) same (start_at 0 i NODES (omega (arith, fits, nodes_long)) all_nodes_start))
 
@@ -155,20 +155,20 @@ module _ (ed : Edition) (f : Forest) where
       let one = bit_at_ones 60 (class_of f) (class-below f) in
       omega (arith, h, out, one)
 
-  module _ (levels i : ℕ) (fits : i < 1392) (deep : levels_at i ≤ levels) (out : bit_at (starts_at i) (class_of f) ≡ 0)
-      (below_it : (l j : ℕ) → j < 1392 → l * 2000 + (1392 - j) < levels * 2000 + (1392 - i) → MissesAt l j) where
-    part : (j : ℕ) → i < j → j < 1392 → has_part i j ≡ true → comes_at ed levels j f ≡ Misses
+  module _ (levels i : ℕ) (fits : i < 1391) (deep : levels_at i ≤ levels) (out : bit_at (starts_at i) (class_of f) ≡ 0)
+      (below_it : (l j : ℕ) → j < 1391 → l * 2000 + (1391 - j) < levels * 2000 + (1391 - i) → MissesAt l j) where
+    part : (j : ℕ) → i < j → j < 1391 → has_part i j ≡ true → comes_at ed levels j f ≡ Misses
     part j later within has =
         let parts = and_parts (covers 60 (starts_at j) (starts_at i)) (nat_le (levels_at j) (levels_at i)) has in
         let less = leb-true (levels_at j) (levels_at i) parts.1 in
         below_it levels j within (omega (arith, later, within)) (omega (arith, less, deep)) (lacks i j parts.0 out)
 
     -- a first part that takes nothing, and a second that misses
-    behind_nothing : (n : ℕ) → node.Then n ≡ node_at i → 1 < n → i + n < 1392 → has_part i (i + n) ≡ true → comes_at ed levels (i + 1) f ≡ Fits f → comes_at ed levels i f ≡ Misses
+    behind_nothing : (n : ℕ) → node.Then n ≡ node_at i → 1 < n → i + n < 1391 → has_part i (i + n) ≡ true → comes_at ed levels (i + 1) f ≡ Fits f → comes_at ed levels i f ≡ Misses
     behind_nothing n e more within has nothing =
         sym (then_fits ed levels i fits n f f e (sym nothing)) ∙ part (i + n) (omega (arith, more)) within has
 
-    by_first : (n : ℕ) → node.Then n ≡ node_at i → 1 < n → i + n < 1392 → (first : Node) → first ≡ node_at (i + 1) → is_sound (i + 1) first ≡ true → is_first i n first ≡ true →
+    by_first : (n : ℕ) → node.Then n ≡ node_at i → 1 < n → i + n < 1391 → (first : Node) → first ≡ node_at (i + 1) → is_sound (i + 1) first ≡ true → is_first i n first ≡ true →
         comes_at ed levels i f ≡ Misses
     by_first n e more within node.Maybe is sound has =
         let parts = and_parts (has_part i (i + 2)) (has_part i (i + n)) has in
@@ -217,13 +217,13 @@ module _ (ed : Edition) (f : Forest) where
         sym (rule_on ed levels (levels - 1) i (root_at k) fits k f e (omega (arith, more, deep)) (root-says k known))
         ∙ below_it (levels - 1) (root_at k) within (omega (arith, within, more, deep)) (omega (arith, more, deep)) (lacks i (root_at k) both.0 out)
 
-  misses_from : (fuel levels i : ℕ) → i < 1392 → levels * 2000 + (1392 - i) < fuel → MissesAt levels i
+  misses_from : (fuel levels i : ℕ) → i < 1391 → levels * 2000 + (1391 - i) < fuel → MissesAt levels i
   misses_from zero levels i fits less deep out = absurd (omega (arith, less))
   misses_from (suc fuel) levels i fits less deep out =
       by_node levels i fits deep out (λ l j within fewer. misses_from fuel l j within (omega (arith, less, fewer))) (node_at i) refl (node-sound i fits) (node-start i fits)
 
   -- so what the table says of a node holds
-  pub starts_miss : (levels i c : ℕ) → i < 1392 → levels_at i ≤ levels → c ≡ class_of f → bit_and (starts_at i / 2 ^ c) 1 ≡ 0 → comes_at ed levels i f ≡ Misses
+  pub starts_miss : (levels i c : ℕ) → i < 1391 → levels_at i ≤ levels → c ≡ class_of f → bit_and (starts_at i / 2 ^ c) 1 ≡ 0 → comes_at ed levels i f ≡ Misses
   starts_miss levels i c fits deep same out =
-      misses_from (suc (levels * 2000 + (1392 - i))) levels i fits (omega arith) deep
+      misses_from (suc (levels * 2000 + (1391 - i))) levels i fits (omega arith) deep
       (ap (bit_at (starts_at i)) (sym same) ∙ sym (shr_and_one (starts_at i) c) ∙ out)

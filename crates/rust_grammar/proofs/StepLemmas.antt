@@ -1,5 +1,5 @@
 -- What comes of a node, by what comes of its parts.
-use Rattle.std.proofs.Common.{◌≡◌, ℕ, suc, ◌+◌, ◌<◌, true, ◌&&◌, sym, ap, ◌∙◌, subst}
+use Rattle.std.proofs.Common.{◌≡◌, ◌⊎◌, inl, inr, ℕ, suc, ◌+◌, ◌<◌, true, ◌&&◌, refl, sym, ap, ◌∙◌, subst}
 use Rattle.std.specs.Prelude.{nat_lt, nat_le}
 use Rattle.std.proofs.lemmas.Bool.{and_parts, ltb-true}
 use Rattle.tt_data.specs.Editions.{year_of}
@@ -8,6 +8,7 @@ use Rattle.tt_data.specs.declared.edition.Edition.{Edition}
 use Rattle.rust_grammar.specs.Answer.{rules_to}
 use Rattle.rust_grammar.specs.Expressions.{Taking, found, nothing_if, and_then, otherwise, or_nothing, decided, next_round, rounds, taken}
 use Rattle.rust_grammar.specs.Rules.{says}
+use Rattle.rust_grammar.specs.Starts.{IsOptional}
 use Rattle.rust_grammar.specs.Table.{stands, expression_at, node_at, name_at, is_sound, comes_at, token_of}
 use Rattle.rust_grammar.specs.Tokens.{token_at}
 use Rattle.rust_grammar.specs.declared.node.Node.{Node}
@@ -19,18 +20,18 @@ use Rattle.rust_grammar.proofs.TableLemmas.{node-stands}
 
 -- ---- places
 
-pub two_parts : (i k : ℕ) → (nat_lt 1 k && nat_lt (i + k) 1392) ≡ true → (1 < k) × (i + k < 1392)
-two_parts i k e = (ltb-true 1 k (and_parts (nat_lt 1 k) (nat_lt (i + k) 1392) e).0, ltb-true (i + k) 1392 (and_parts (nat_lt 1 k) (nat_lt (i + k) 1392) e).1)
+pub two_parts : (i k : ℕ) → (nat_lt 1 k && nat_lt (i + k) 1391) ≡ true → (1 < k) × (i + k < 1391)
+two_parts i k e = (ltb-true 1 k (and_parts (nat_lt 1 k) (nat_lt (i + k) 1391) e).0, ltb-true (i + k) 1391 (and_parts (nat_lt 1 k) (nat_lt (i + k) 1391) e).1)
 
-pub one_part : (i : ℕ) → nat_lt (i + 1) 1392 ≡ true → i + 1 < 1392
-one_part i e = ltb-true (i + 1) 1392 e
+pub one_part : (i : ℕ) → nat_lt (i + 1) 1391 ≡ true → i + 1 < 1391
+one_part i e = ltb-true (i + 1) 1391 e
 
 pub sound_as : (i : ℕ) (n m : Node) → is_sound i n ≡ true → n ≡ m → is_sound i m ≡ true
 sound_as i n m sound e = subst (λ k. is_sound i k ≡ true) e sound
 
 -- ---- nodes
 
-module _ (ed : Edition) (levels place : ℕ) (fits : place < 1392) where
+module _ (ed : Edition) (levels place : ℕ) (fits : place < 1391) where
   step : (n : Node) (f : Forest) → n ≡ node_at place → comes_at ed levels place f ≡ taken ed (rules_to ed levels) (stands n (λ m. expression_at (place + m))) f
   step n f e = ap (λ x. taken ed (rules_to ed levels) x f) (node-stands place fits ∙ ap (λ k. stands k (λ m. expression_at (place + m))) (sym e))
 
@@ -87,7 +88,7 @@ pub rule_from : (ed : Edition) (levels fewer root : ℕ) (k : ℕ) (f : Forest) 
 rule_from ed levels fewer root k f less says_so =
     ap (λ x. taken ed (rules_to ed fewer) x f) says_so ∙ ap (λ n. rules_to ed n (name_at k) f) (sym less)
 
-pub rule_on : (ed : Edition) (levels fewer place root : ℕ) → place < 1392 → (k : ℕ) (f : Forest) → node.Rule k ≡ node_at place → levels ≡ suc fewer →
+pub rule_on : (ed : Edition) (levels fewer place root : ℕ) → place < 1391 → (k : ℕ) (f : Forest) → node.Rule k ≡ node_at place → levels ≡ suc fewer →
     expression_at root ≡ says (name_at k) → comes_at ed fewer root f ≡ comes_at ed levels place f
 rule_on ed levels fewer place root fits k f e less says_so = rule_from ed levels fewer root k f less says_so ∙ rule_comes ed levels place fits k f e
 
@@ -100,3 +101,9 @@ rounds_end n m p f e misses = ap (λ o. next_round (rounds m p) o f) misses ∙ 
 
 pub rounds_fault : (n m : ℕ) (p : Taking) (f : Forest) → n ≡ suc m → Faults ≡ p f → Faults ≡ rounds n p f
 rounds_fault n m p f e faults = ap (λ o. next_round (rounds m p) o f) faults ∙ ap (λ k. rounds k p f) (sym e)
+
+-- an option or a repetition whose part misses takes nothing
+pub optional_comes : (ed : Edition) (levels place : ℕ) → place < 1391 → (f : Forest) → IsOptional place → Misses ≡ comes_at ed levels (place + 1) f → Fits f ≡ comes_at ed levels place f
+optional_comes ed levels place fits f (inl is) missed = maybe_comes ed levels place fits f Misses (sym is) missed
+optional_comes ed levels place fits f (inr is) missed =
+    rounds_end (suc (size f)) (size f) (comes_at ed levels (place + 1)) f refl missed ∙ many_comes ed levels place fits f (sym is)

@@ -22,7 +22,7 @@ use Rattle.rust_grammar.specs.declared.table.TheConstants.{NODES, ROOTS}
 
 -- ---- what is computed
 
-nodes_long : length NODES ≡ 1392
+nodes_long : length NODES ≡ 1391
 nodes_long = refl
 
 abbrev all_sound : ℕ → List Node → Bool
@@ -39,7 +39,7 @@ roots_say = refl
 
 abbrev all_within : List ℕ → Bool
 all_within [] = true
-all_within (n ∷ ns) = nat_lt n 1392 && all_within ns
+all_within (n ∷ ns) = nat_lt n 1391 && all_within ns
 
 roots_in : all_within ROOTS ≡ true
 roots_in = refl
@@ -53,7 +53,7 @@ sound_at i (suc j) (n ∷ ns) fits e =
     let same : i + suc j ≡ suc i + j = omega arith in
     rw same (sound_at (suc i) j ns (omega (arith, fits)) (and_parts (is_sound i n) (all_sound (suc i) ns) e).1)
 
-pub node-sound : (i : ℕ) → i < 1392 → is_sound i (node_at i) ≡ true
+pub node-sound : (i : ℕ) → i < 1391 → is_sound i (node_at i) ≡ true
 unfolding node_at
 node-sound i fits = (let same : 0 + i ≡ i = omega arith in subst (λ k. is_sound k (get_or NODES i node.Many) ≡ true) same (sound_at 0 i NODES (omega (arith, fits, nodes_long)) nodes_sound))
 
@@ -62,7 +62,7 @@ stands_at [] i fits = absurd (omega (arith, fits))
 stands_at (n ∷ ns) zero fits = refl
 stands_at (n ∷ ns) (suc i) fits = stands_at ns i (omega (arith, fits))
 
-above_one : (i n : ℕ) → (nat_lt 1 n && nat_lt (i + n) 1392) ≡ true → 1 ≤ n
+above_one : (i n : ℕ) → (nat_lt 1 n && nat_lt (i + n) 1391) ≡ true → 1 ≤ n
 above_one i zero e = absurd cc
 above_one i (suc n) e = omega arith
 
@@ -82,7 +82,7 @@ part_at es i m one =
     get_or-drop (suc i) es (m - 1) (token a_name) ∙ ap (at es) same
 
 -- a node stands for an expression made of those of the nodes further on
-pub node-stands : (i : ℕ) → i < 1392 → expression_at i ≡ stands (node_at i) (λ m. expression_at (i + m))
+pub node-stands : (i : ℕ) → i < 1391 → expression_at i ≡ stands (node_at i) (λ m. expression_at (i + m))
 unfolding node_at expression_at
 node-stands i fits =
     stands_at NODES i (omega (arith, fits, nodes_long))
@@ -98,12 +98,12 @@ root-says k fits =
     ∙ ap (λ es. get_or es k (token a_name)) roots_say
     ∙ get_or-map says names k entry_visibility (token a_name) fits
 
-within_at : (ns : List ℕ) (k : ℕ) → k < length ns → all_within ns ≡ true → get_or ns k 0 < 1392
+within_at : (ns : List ℕ) (k : ℕ) → k < length ns → all_within ns ≡ true → get_or ns k 0 < 1391
 within_at [] k fits e = absurd (omega (arith, fits))
-within_at (n ∷ ns) zero fits e = ltb-true n 1392 (and_parts (nat_lt n 1392) (all_within ns) e).0
-within_at (n ∷ ns) (suc k) fits e = within_at ns k (omega (arith, fits)) (and_parts (nat_lt n 1392) (all_within ns) e).1
+within_at (n ∷ ns) zero fits e = ltb-true n 1391 (and_parts (nat_lt n 1391) (all_within ns) e).0
+within_at (n ∷ ns) (suc k) fits e = within_at ns k (omega (arith, fits)) (and_parts (nat_lt n 1391) (all_within ns) e).1
 
-pub root-within : (k : ℕ) → k < 92 → root_at k < 1392
+pub root-within : (k : ℕ) → k < 92 → root_at k < 1391
 unfolding root_at
 root-within k fits = within_at ROOTS k fits roots_in
 

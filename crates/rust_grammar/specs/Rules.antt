@@ -336,11 +336,11 @@ says type_base =
     ∣ paren
     ∣ bracket
     ∣ rule function_type
-    ∣ rule for_lifetimes ⨾ rule type_path
+    ∣ rule for_lifetimes ⨾ (rule function_type ∣ rule type_path)
     ∣ (rule type_path ∣ rule qualified_path) ⨾ maybe (single "!" ⨾ rule group)
     ∣ single "?" ⨾ rule type_path
 says function_type =
-    maybe (rule for_lifetimes) ⨾ maybe (word "unsafe") ⨾ maybe (rule abi) ⨾ word "fn" ⨾ paren
+    maybe (word "unsafe") ⨾ maybe (rule abi) ⨾ word "fn" ⨾ paren
     ⨾ maybe (single "->" ⨾ surely (rule type_no_bounds))
 says for_lifetimes = word "for" ⨾ rule generic_params
 says bounds = rule bound ⨾ many (single "+" ⨾ rule bound) ⨾ maybe (single "+")

@@ -87,11 +87,11 @@ is_sound_token _ = true
 abbrev pub is_sound : ℕ → Node → Bool
 is_sound i (node.Token t) = is_sound_token t
 is_sound i (node.Since first) = true
-is_sound i (node.Then n) = nat_lt 1 n && nat_lt (i + n) 1392
-is_sound i (node.Or n) = nat_lt 1 n && nat_lt (i + n) 1392
-is_sound i node.Many = nat_lt (i + 1) 1392
-is_sound i node.Maybe = nat_lt (i + 1) 1392
-is_sound i node.Surely = nat_lt (i + 1) 1392
+is_sound i (node.Then n) = nat_lt 1 n && nat_lt (i + n) 1391
+is_sound i (node.Or n) = nat_lt 1 n && nat_lt (i + n) 1391
+is_sound i node.Many = nat_lt (i + 1) 1391
+is_sound i node.Maybe = nat_lt (i + 1) 1391
+is_sound i node.Surely = nat_lt (i + 1) 1391
 is_sound i (node.Rule k) = nat_lt k 92
 
 -- what comes of the expression of a node, with so many levels of rules left

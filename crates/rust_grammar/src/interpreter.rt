@@ -1,9 +1,10 @@
 //! The interpreter of the table.
-ghost use Rattle.std.specs.Prelude.{◌≡◌, ◌<◌, suc, IsTrue, nat_le};
+ghost use Rattle.std.specs.Prelude.{◌≡◌, ◌<◌, ◌+◌, suc, IsTrue, nat_le};
 ghost use Rattle.tt_data.specs.Editions.{year_of};
 ghost use Rattle.tt_data.specs.Forest.{size};
 ghost use Rattle.rust_grammar.specs.Answer.{most_levels, rules_to};
 ghost use Rattle.rust_grammar.specs.Expressions.{decided, found, nothing_if, or_nothing, rounds};
+ghost use Rattle.rust_grammar.specs.Starts.{IsOptional};
 ghost use Rattle.rust_grammar.specs.Table.{comes_at, is_sound_token, name_at, token_of};
 ghost use Rattle.rust_grammar.specs.Tokens.{token_at};
 
@@ -60,7 +61,7 @@ fn decided(found: Outcome<'_>) -> Outcome<'_>
 // What comes of a node as often as it fits, until it does not: each time but the last takes a token.
 #[cycle(interpreter)]
 fn repeat<'a>(edition: Edition, place: u16, levels: u16, trees: Cursor<'a>) -> Outcome<'a>
-    requires { place < 1392 }
+    requires { place < 1391 }
     ensures { result ≡ rounds (suc (size trees.entry)) (comes_at edition levels place) trees.entry }
 {
     let mut rest = trees;
@@ -74,16 +75,36 @@ fn repeat<'a>(edition: Edition, place: u16, levels: u16, trees: Cursor<'a>) -> O
     Outcome::Fits(rest)
 }
 
-// What comes of a part. Nothing is tried where the class of the first tree rules it out.
+// What comes of an option or a repetition: nothing is taken where the class of the first tree rules
+// its part out.
+#[cycle(interpreter)]
+fn optional<'a>(edition: Edition, place: u16, levels: u16, trees: &Cursor<'a>) -> Outcome<'a>
+    requires within { place + 1 < 1391 }
+    requires node { IsOptional place }
+    ensures { result ≡ comes_at edition levels place trees.now }
+{
+    if trees.misses(place + 1, levels) {
+        return Outcome::Fits(trees.copied());
+    }
+    come_of(edition, place, levels, trees)
+}
+
+// What comes of a part. Nothing is tried where the class of the first tree rules it out, and a token
+// takes no frame of the stack.
 #[cycle(interpreter)]
 fn part<'a>(edition: Edition, place: u16, levels: u16, trees: &Cursor<'a>) -> Outcome<'a>
-    requires { place < 1392 }
+    requires { place < 1391 }
     ensures { result ≡ comes_at edition levels place trees.now }
 {
     if trees.misses(place, levels) {
         return Outcome::Misses;
     }
-    come_of(edition, place, levels, trees)
+    match read_node(place) {
+        Node::Token(wanted) => of_token(edition, wanted, trees),
+        Node::Maybe => optional(edition, place, levels, trees),
+        Node::Many => optional(edition, place, levels, trees),
+        _ => come_of(edition, place, levels, trees),
+    }
 }
 
 // What comes of the expression at a place of the table, with so many levels of rules left.
@@ -91,7 +112,7 @@ fn part<'a>(edition: Edition, place: u16, levels: u16, trees: &Cursor<'a>) -> Ou
 // A second part, and a rule that ends another, take no frame of the stack.
 #[cycle(interpreter)]
 fn come_of<'a>(edition: Edition, start: u16, most_levels: u16, trees: &Cursor<'a>) -> Outcome<'a>
-    requires { start < 1392 }
+    requires { start < 1391 }
     ensures { result ≡ comes_at edition most_levels start trees.now }
 {
     let mut place = start;

@@ -21,7 +21,7 @@ fn element<T: Copy>(table: &[T], place: usize) -> T
 
 /// The node at this place.
 pub(crate) fn read_node(place: u16) -> Node
-    requires { place < 1392 }
+    requires { place < 1391 }
     ensures same { result ≡ node_at place }
     ensures sound { IsSound place result }
 {
@@ -32,14 +32,14 @@ pub(crate) fn read_node(place: u16) -> Node
 pub(crate) fn root_of(rule: u8) -> u16
     requires { rule < 92 }
     ensures same { expression_at result ≡ says (name_at rule) }
-    ensures within { result < 1392 }
+    ensures within { result < 1391 }
 {
     element(&ROOTS, rule as usize)
 }
 
 /// What the table says of the first trees of the node at this place.
 pub(crate) fn starts_at(place: u16) -> u64
-    requires { place < 1392 }
+    requires { place < 1391 }
     ensures { result ≡ starts_at place }
 {
     element(&STARTS, place as usize)
