@@ -23,8 +23,8 @@ use crate::cache::Cache;
 use crate::emitter::{Emitter, finish};
 use crate::evaluate::{Evaluated, EvaluationContext, evaluate_pieces};
 use bridge::laws::tokens_are_where_they_are_printed;
-use bridge::{ReadFault, TokenRanges, token_ranges};
 use bridge::parts::{LazyPrinted, SpanList};
+use bridge::{ReadFault, TokenRanges, token_ranges};
 use expander_model::fault::{Fault, sort_faults};
 use expander_model::laws;
 use expander_reparse::parse::{Parsed, read_pieces};
@@ -113,7 +113,7 @@ impl Expansion {
         ensures ranges { result ≡ read_ranges self.now.printed }
         ensures count { length result ≡ length self.now.origins }
     {
-        token_ranges(self.printed())
+        token_ranges(self.printed.as_str())
     }
 
     /// An equal expansion. Refused if there is no memory for it.

@@ -11,7 +11,7 @@ use Rattle.expander_session.proofs.session.expansion_of.Goals as goal
 pub returns : goal.returns
 returns c = λ steps has.
     let shows = c.in_ok-text.ensures.printed steps has in
-    let text : string_bytes c.in_ok-text.text ≡ (print_of (steps_of steps)).text = ap (λ (p : Print). p.text) shows in
+    let text = ap (λ (p : Print). p.text) shows in
     record {
       printed = text ∙ text_is steps;
       faults = c.in_ok-sort_faults.ensures ∙ ap in_order (c.in_ok-text.ensures.faults steps has);
@@ -20,8 +20,8 @@ returns c = λ steps has.
       expanded = refl;
     }
 
-pub invariant_of-expansion : goal.invariant_of-expansion
-invariant_of-expansion c =
+pub invariant_of-result : goal.invariant_of-result
+invariant_of-result c =
     let all = c.requires.0 in
     let shows = c.in_ok-text.ensures.printed all c.requires.1 in
     ap (λ (p : Print). length (read_ranges p.text)) shows ∙ c.tokens_are_where_they_are_printed.ensures.count (steps_of all) ∙ sym (ap (λ (p : Print). length p.tokens) shows)
