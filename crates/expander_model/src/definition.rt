@@ -1,12 +1,11 @@
 //! Finds whether a piece is a definition, and its parts.
 ghost use Rattle.std.specs.Prelude.{◌≡◌, Option, option_map, unwrap_or};
 ghost use Rattle.expander_model.specs.Definitions.{after_attribute, after_attributes, after_parenthesis, after_word, after_pub, after_macro_rules, is_semicolon, ends_definition, macro_rules_of, macro_body, macro_of, definition_of};
-ghost use Rattle.small_grammar.specs.Text.{has_text};
-ghost use Rattle.tt_data.specs.Lent.{ident_lent};
 
+use small_grammar::names::has_text;
 use std::marker::Model;
 use tt::TtIter;
-use tt_data::{Delimiter, DelimiterKind, Ident, IdentIsRaw, IdentRef};
+use tt_data::{Delimiter, DelimiterKind, Ident};
 
 /// A definition of a macro. Its trees are borrowed from the text.
 #[derive(Drop)]
@@ -29,13 +28,6 @@ impl<'a> Model for Definition<'a> {
     ghost coded = { definition_code };
 
     ghost view = { λ d. record { name = d.name; arguments = d.arguments; body = d.body; is_macro = d.is_macro; piece = d.piece } };
-}
-
-// Whether the identifier is this word, and isn't raw.
-pub(crate) fn is_word(name: IdentRef<'_>, word: &str) -> bool
-    ensures { result ≡ has_text word.now (ident_lent name.entry) }
-{
-    name.is_raw == IdentIsRaw::No && name.sym.as_str() == word
 }
 
 // What follows an outer attribute, if the list begins with one.
@@ -82,7 +74,7 @@ fn after_word<'a>(trees: &TtIter<'a>, word: &str) -> Option<TtIter<'a>>
     ensures { result ≡ after_word word.now trees.now }
 {
     let (name, rest) = trees.lent_ident()?;
-    if is_word(name, word) {
+    if has_text(name, word) {
         Some(rest)
     } else {
         None

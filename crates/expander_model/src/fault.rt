@@ -3,8 +3,8 @@ ghost use Rattle.std.specs.Prelude.{◌≡◌, OnOk};
 ghost use Rattle.bridge.specs.TokenEvents.{step_of};
 ghost use Rattle.expander_model.specs.Faults.{place, is_definition_word, in_order};
 
-use crate::definition::is_word;
 use bridge::parts::TokenEvent;
+use small_grammar::names::has_text;
 use std::alloc::AllocError;
 use tt_data::{LeafRef, Span, TextRange};
 
@@ -50,8 +50,8 @@ pub fn is_definition_word(step: &TokenEvent<'_>) -> bool
     ensures { result ≡ is_definition_word (step_of step.now) }
 {
     match step {
-        TokenEvent::Leaf(LeafRef::Ident(name)) => is_word(*name, "macro_rules")
-            || is_word(*name, "macro"),
+        TokenEvent::Leaf(LeafRef::Ident(name)) => has_text(*name, "macro_rules")
+            || has_text(*name, "macro"),
         _ => false,
     }
 }

@@ -5,9 +5,9 @@ ghost use Rattle.tt_data.specs.Lent.{ident_lent};
 ghost use Rattle.tt.specs.FirstTrees.{first_ident};
 ghost use Rattle.rust_grammar.specs.Tokens.{token_at, a_name, a_const_bracket, is_name, is_reserved, is_not_yet_reserved, is_of_2018, is_lone_const};
 
-use small_grammar::names::{is_path_word, is_reserved as is_ever_reserved};
+use small_grammar::names::{has_text, is_path_word, is_raw_name, is_reserved as is_ever_reserved};
 use tt::TtIter;
-use tt_data::{DelimiterKind, Edition, IdentIsRaw, IdentRef};
+use tt_data::{DelimiterKind, Edition, IdentRef};
 
 /// The year that an edition is named after.
 pub(crate) fn year_of(edition: Edition) -> u16
@@ -48,8 +48,7 @@ fn is_name(edition: Edition, ident: IdentRef<'_>) -> bool
     ensures { result ≡ is_name edition (ident_lent ident.entry) }
 {
     let text = ident.sym.as_str();
-    text != "_"
-        && (ident.is_raw == IdentIsRaw::Yes || !is_reserved(edition, text) || is_path_word(text))
+    text != "_" && (is_raw_name(ident) || !is_reserved(edition, text) || is_path_word(text))
 }
 
 /// A name.
@@ -70,9 +69,7 @@ fn is_lone_const(trees: &TtIter<'_>) -> bool
     ensures { result ≡ is_lone_const (first_ident trees.now) }
 {
     match trees.lent_ident() {
-        Some((ident, rest)) => {
-            rest.is_empty() && ident.is_raw == IdentIsRaw::No && ident.sym.as_str() == "const"
-        }
+        Some((ident, rest)) => rest.is_empty() && has_text(ident, "const"),
         None => false,
     }
 }

@@ -5,6 +5,7 @@ use Prim.Native.String.{String}
 pub use Rattle.tt_data.specs.Delimiters.{same_kind}
 use Rattle.tt_data.specs.Forest.{Forest, empty}
 use Rattle.tt_data.specs.declared.leaf.Ident.{Ident}
+use Rattle.tt_data.specs.declared.leaf.IdentIsRaw.{IdentIsRaw}
 use Rattle.tt_data.specs.declared.leaf.IdentIsRaw.TheVariants as is_raw
 
 -- one step after another; none if a step gives none
@@ -26,9 +27,14 @@ is_empty _ = false
 abbrev pub same_text : List ℕ → List ℕ → Bool
 same_text = bytes_eq
 
+-- a name is written with `r#`
+abbrev pub has_prefix : IdentIsRaw → Bool
+has_prefix is_raw.No = false
+has_prefix is_raw.Yes = true
+
 -- an identifier written with `r#`
 abbrev pub is_raw_name : Ident → Bool
-is_raw_name i = elim i.is_raw [ is_raw.No ↦ false | is_raw.Yes ↦ true ]
+is_raw_name i = has_prefix i.is_raw
 
 -- the identifier has this text, and isn't raw
 abbrev pub has_text : List ℕ → Ident → Bool

@@ -1,7 +1,7 @@
 //! Names, and the restrictions of visibilities.
 ghost use Rattle.std.specs.Prelude.{◌≡◌, ◌&&◌, ◌||◌, codes};
 ghost use Rattle.std.specs.List.{list_any};
-ghost use Rattle.small_grammar.specs.Text.{same_text, is_word};
+ghost use Rattle.small_grammar.specs.Text.{has_text, is_raw_name, is_word, same_text};
 ghost use Rattle.small_grammar.specs.Tokens.{token_at, a_name, a_restriction, is_name, is_among, reserved, path_words, words, is_place};
 ghost use Rattle.tt.specs.FirstTrees.{first_ident};
 ghost use Rattle.tt_data.specs.Lent.{ident_lent};
@@ -135,13 +135,32 @@ pub fn is_path_word(text: &str) -> bool
     is_among(words.as_slice(), text)
 }
 
+/// Whether the identifier is written with `r#`.
+#[inline]
+pub fn is_raw_name(ident: IdentRef<'_>) -> bool
+    ensures { result ≡ is_raw_name (ident_lent ident.entry) }
+{
+    match ident.is_raw {
+        IdentIsRaw::No => false,
+        IdentIsRaw::Yes => true,
+    }
+}
+
+/// Whether the identifier has this text, and isn't raw.
+#[inline]
+pub fn has_text(ident: IdentRef<'_>, text: &str) -> bool
+    ensures { result ≡ has_text text.now (ident_lent ident.entry) }
+{
+    !is_raw_name(ident) && ident.sym.as_str() == text
+}
+
 // Whether it is a name: an identifier but `_` that is raw, or not reserved, or `self`, `Self`,
 // `super` or `crate`.
 fn is_name(ident: IdentRef<'_>) -> bool
     ensures { result ≡ is_name (ident_lent ident.entry) }
 {
     let text = ident.sym.as_str();
-    text != "_" && (ident.is_raw == IdentIsRaw::Yes || !is_reserved(text) || is_path_word(text))
+    text != "_" && (is_raw_name(ident) || !is_reserved(text) || is_path_word(text))
 }
 
 /// A name.
@@ -165,7 +184,7 @@ fn is_lone_place(text: &str) -> bool
 fn begins_place(ident: IdentRef<'_>, is_alone: bool) -> bool
     ensures { result ≡ (is_word "in" (ident_lent ident.entry) || (is_alone && (is_word "crate" (ident_lent ident.entry) || (is_word "self" (ident_lent ident.entry) || is_word "super" (ident_lent ident.entry))))) }
 {
-    if ident.is_raw == IdentIsRaw::Yes {
+    if is_raw_name(ident) {
         return false;
     }
     let text = ident.sym.as_str();

@@ -4,20 +4,12 @@ ghost use Rattle.std.specs.Prelude.{◌≡◌, [], ◌∷◌};
 ghost use Rattle.small_grammar.specs.Expressions.{◌∣◌};
 ghost use Rattle.small_grammar.specs.Signs.{joint_punct};
 ghost use Rattle.small_grammar.specs.SmallGrammar.{takes, paren, bracket, group, lifetime};
-ghost use Rattle.small_grammar.specs.Text.{has_text};
 ghost use Rattle.small_grammar.specs.Tokens.{token_at, a_word, an_identifier, a_literal, a_number, a_group, puncts, operator, same_operator};
-ghost use Rattle.tt_data.specs.Lent.{ident_lent};
 
+use crate::names::has_text;
 use crate::units::{Operator, first_operator};
 use tt::TtIter;
-use tt_data::{DelimiterKind, IdentIsRaw, IdentRef, LitKind, Spacing};
-
-// Whether the identifier has this text, and isn't raw.
-fn has_text(ident: IdentRef<'_>, text: &str) -> bool
-    ensures { result ≡ has_text text.now (ident_lent ident.entry) }
-{
-    ident.is_raw == IdentIsRaw::No && ident.sym.as_str() == text
-}
+use tt_data::{DelimiterKind, LitKind, Spacing};
 
 /// An identifier of this text that isn't raw.
 #[tactic(auto, unfolding(crate::specs::Tokens::token_at))]
