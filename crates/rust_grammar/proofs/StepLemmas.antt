@@ -1,5 +1,5 @@
 -- What comes of a node, by what comes of its parts.
-use Rattle.std.proofs.Common.{◌≡◌, ◌⊎◌, inl, inr, ℕ, suc, ◌+◌, ◌<◌, true, ◌&&◌, refl, sym, ap, ◌∙◌, subst}
+use Rattle.std.proofs.Common.{◌≡◌, ℕ, suc, ◌+◌, ◌<◌, true, ◌&&◌, sym, ap, ◌∙◌, subst}
 use Rattle.std.specs.Prelude.{nat_lt, nat_le}
 use Rattle.std.proofs.lemmas.Bool.{and_parts, ltb-true}
 use Rattle.tt_data.specs.Editions.{year_of}
@@ -8,7 +8,6 @@ use Rattle.tt_data.specs.declared.edition.Edition.{Edition}
 use Rattle.rust_grammar.specs.Answer.{rules_to}
 use Rattle.rust_grammar.specs.Expressions.{Taking, found, nothing_if, and_then, otherwise, or_nothing, decided, next_round, rounds, taken}
 use Rattle.rust_grammar.specs.Rules.{says}
-use Rattle.rust_grammar.specs.Starts.{IsOptional}
 use Rattle.rust_grammar.specs.Table.{stands, expression_at, node_at, name_at, is_sound, comes_at, token_of}
 use Rattle.rust_grammar.specs.Tokens.{token_at}
 use Rattle.rust_grammar.specs.declared.node.Node.{Node}
@@ -101,9 +100,3 @@ rounds_end n m p f e misses = ap (λ o. next_round (rounds m p) o f) misses ∙ 
 
 pub rounds_fault : (n m : ℕ) (p : Taking) (f : Forest) → n ≡ suc m → Faults ≡ p f → Faults ≡ rounds n p f
 rounds_fault n m p f e faults = ap (λ o. next_round (rounds m p) o f) faults ∙ ap (λ k. rounds k p f) (sym e)
-
--- an option or a repetition whose part misses takes nothing
-pub optional_comes : (ed : Edition) (levels place : ℕ) → place < 1391 → (f : Forest) → IsOptional place → Misses ≡ comes_at ed levels (place + 1) f → Fits f ≡ comes_at ed levels place f
-optional_comes ed levels place fits f (inl is) missed = maybe_comes ed levels place fits f Misses (sym is) missed
-optional_comes ed levels place fits f (inr is) missed =
-    rounds_end (suc (size f)) (size f) (comes_at ed levels (place + 1)) f refl missed ∙ many_comes ed levels place fits f (sym is)

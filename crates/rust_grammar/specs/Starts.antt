@@ -1,9 +1,8 @@
 -- What the table says of the first trees of its nodes.
-use Rattle.std.specs.Prelude.{◌≡◌, ◌⊎◌, ℕ, ◌/◌, ◌^◌, Bool, true, ◌&&◌, nat_lt, get_or, List, [], ◌∷◌}
+use Rattle.std.specs.Prelude.{ℕ, ◌/◌, ◌^◌, Bool, true, ◌&&◌, nat_lt, get_or, List, [], ◌∷◌}
 use Rattle.std.specs.Int.{bit_at}
 use Rattle.rust_grammar.specs.Classes.{ident_class, sign_class, group_class}
-use Rattle.rust_grammar.specs.Table.{node_at, set_texts, word_text}
-use Rattle.rust_grammar.specs.declared.node.Node.TheVariants as node
+use Rattle.rust_grammar.specs.Table.{set_texts, word_text}
 use Rattle.rust_grammar.specs.declared.node.Token.TheVariants as as_token
 use Rattle.rust_grammar.specs.declared.node.Token as coded
 use Rattle.rust_grammar.specs.declared.table.TheConstants.{IDENTS, STARTS}
@@ -42,7 +41,3 @@ has_token m as_token.ConstBracket = has_class m 4
 has_token m (as_token.Punct c) = has_class m (sign_class c)
 has_token m (as_token.TwoPuncts c d) = has_class m (sign_class c)
 has_token m (as_token.OneOf k) = has_signs m (set_texts k)
-
--- the node at a place of the table is an option or a repetition
-abbrev pub IsOptional : ℕ → Type 0
-IsOptional i = (node_at i ≡ node.Maybe) ⊎ (node_at i ≡ node.Many)

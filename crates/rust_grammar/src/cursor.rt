@@ -14,7 +14,7 @@ use tt_data::{DelimiterKind, Leaf};
 #[derive(Drop)]
 pub struct Cursor<'a> {
     trees: TtIter<'a>,
-    // As wide as a pointer: a narrower field costs a fifth of the time, in copies of what pads it.
+    // As wide as the rest: the copies of what would pad a narrower field wait for each other.
     class: u64,
 }
 

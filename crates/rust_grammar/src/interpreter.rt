@@ -1,10 +1,9 @@
 //! The interpreter of the table.
-ghost use Rattle.std.specs.Prelude.{◌≡◌, ◌<◌, ◌+◌, suc, IsTrue, nat_le};
+ghost use Rattle.std.specs.Prelude.{◌≡◌, ◌<◌, suc, IsTrue, nat_le};
 ghost use Rattle.tt_data.specs.Editions.{year_of};
 ghost use Rattle.tt_data.specs.Forest.{size};
 ghost use Rattle.rust_grammar.specs.Answer.{most_levels, rules_to};
 ghost use Rattle.rust_grammar.specs.Expressions.{decided, found, nothing_if, or_nothing, rounds};
-ghost use Rattle.rust_grammar.specs.Starts.{IsOptional};
 ghost use Rattle.rust_grammar.specs.Table.{comes_at, is_sound_token, name_at, token_of};
 ghost use Rattle.rust_grammar.specs.Tokens.{token_at};
 
@@ -75,20 +74,6 @@ fn repeat<'a>(edition: Edition, place: u16, levels: u16, trees: Cursor<'a>) -> O
     Outcome::Fits(rest)
 }
 
-// What comes of an option or a repetition: nothing is taken where the class of the first tree rules
-// its part out.
-#[cycle(interpreter)]
-fn optional<'a>(edition: Edition, place: u16, levels: u16, trees: &Cursor<'a>) -> Outcome<'a>
-    requires within { place + 1 < 1391 }
-    requires node { IsOptional place }
-    ensures { result ≡ comes_at edition levels place trees.now }
-{
-    if trees.misses(place + 1, levels) {
-        return Outcome::Fits(trees.copied());
-    }
-    come_of(edition, place, levels, trees)
-}
-
 // What comes of a part. Nothing is tried where the class of the first tree rules it out, and a token
 // takes no frame of the stack.
 #[cycle(interpreter)]
@@ -101,8 +86,6 @@ fn part<'a>(edition: Edition, place: u16, levels: u16, trees: &Cursor<'a>) -> Ou
     }
     match read_node(place) {
         Node::Token(wanted) => of_token(edition, wanted, trees),
-        Node::Maybe => optional(edition, place, levels, trees),
-        Node::Many => optional(edition, place, levels, trees),
         _ => come_of(edition, place, levels, trees),
     }
 }

@@ -1,7 +1,6 @@
-use Rattle.std.proofs.Common.{◌+◌, ◌-◌, sym, ap, ◌∙◌, arith}
+use Rattle.std.proofs.Common.{◌+◌, ◌-◌, sym, ◌∙◌, arith}
 use Rattle.rust_grammar.specs.Table.{comes_at}
-use Rattle.rust_grammar.proofs.StepLemmas.{two_parts, token_comes, since_comes, then_fits, then_misses, then_faults, or_fits, or_misses, or_faults, many_comes, maybe_comes, surely_comes, too_deep, rule_on, round_on, optional_comes}
-use Rattle.rust_grammar.specs.declared.outcome.Outcome.TheVariants.{Fits}
+use Rattle.rust_grammar.proofs.StepLemmas.{two_parts, token_comes, since_comes, then_fits, then_misses, then_faults, or_fits, or_misses, or_faults, many_comes, maybe_comes, surely_comes, too_deep, rule_on, round_on}
 use Rattle.rust_grammar.proofs.interpreter.+interpreter.Goals as goal
 
 pub come_of-returns-in-Token : goal.come_of-returns-in-Token
@@ -101,10 +100,3 @@ part-returns-then-misses t c = sym (c.misses.ensures c.if-misses.true c.args.edi
 pub part-returns-in-Token : goal.part-returns-in-Token
 part-returns-in-Token t c =
     c.of_token.ensures ∙ token_comes c.args.edition c.args.levels c.args.place c.requires c.in-Token.wanted c.args.trees.now c.in-Token.ensures.same
-
-pub optional-returns-then-misses : goal.optional-returns-then-misses
-optional-returns-then-misses t c =
-    let within = c.requires.within in
-    ap Fits c.copied.ensures
-    ∙ optional_comes c.args.edition c.args.levels c.args.place (omega (arith, within)) c.args.trees.now c.requires.node
-    (sym (c.misses.ensures c.if-misses.true c.args.edition))
