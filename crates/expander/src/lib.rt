@@ -5,7 +5,8 @@ pub mod laws;
 
 pub use bridge::{ReadFault, ReadFaultKind, TokenRanges};
 pub use expander_model::fault::{Fault, FaultKind};
-pub use expander_run::program::{Status, run};
+pub use expander_run::options::Options;
+pub use expander_run::program::{Status, run, run_with};
 pub use expander_run::watched::Watched;
 pub use expander_scope::refusal::Refusal;
 pub use expander_session::commands::{Answer, Command, replay};

@@ -3,8 +3,9 @@ use Rattle.std.proofs.Common.{◌≡◌, ℕ, List, [], length, take, Option, So
 use Rattle.std.proofs.Math.Seq.{take-length}
 use Rattle.std.specs.Io.KnownBytes.{Appends}
 use Rattle.expander_run.proofs.KnownByteLemmas.{appends_none}
+use Rattle.expander_model.specs.Meaning.{Layers}
 use Rattle.expander_run.specs.Lines.{stop_line}
-use Rattle.expander_run.specs.Runs.{LeavesAt, Runs, Tells, is_of_writer, status}
+use Rattle.expander_run.specs.Runs.{LeavesAt, RunsBy, Tells, is_of_writer, status}
 use Rattle.expander_run.specs.Watch.{Watch}
 use Rattle.expander_run.specs.Steps.{Puts, PutsReply, Replied, StopsEarly}
 use Rattle.expander_run.specs.declared.stop.Stop.{Stop}
@@ -12,12 +13,12 @@ use Rattle.expander_run.specs.declared.stop.Stop.TheVariants.{NotUtf8, TooLong, 
 use Rattle.expander_session.specs.declared.session.Reply.{Reply}
 
 -- a stop that is not the writer's leaves nothing
-leaves_nothing : (stop : Stop) (input : Option (List ℕ)) (depth : ℕ) (writes : List ℕ → Type 0) → is_of_writer stop ≡ false → writes [] → LeavesAt stop input depth writes
-leaves_nothing WriteFailed input depth writes not_writer h = absurd (cc not_writer)
-leaves_nothing NotUtf8 input depth writes not_writer h = h
-leaves_nothing TooLong input depth writes not_writer h = h
-leaves_nothing ReadFailed input depth writes not_writer h = h
-leaves_nothing (Refused refusal) input depth writes not_writer h = h
+leaves_nothing : (layers : Layers) (stop : Stop) (input : Option (List ℕ)) (depth : ℕ) (writes : List ℕ → Type 0) → is_of_writer stop ≡ false → writes [] → LeavesAt layers stop input depth writes
+leaves_nothing layers WriteFailed input depth writes not_writer h = absurd (cc not_writer)
+leaves_nothing layers NotUtf8 input depth writes not_writer h = h
+leaves_nothing layers TooLong input depth writes not_writer h = h
+leaves_nothing layers ReadFailed input depth writes not_writer h = h
+leaves_nothing layers (Refused refusal) input depth writes not_writer h = h
 
 -- what is put is told
 pub told_by_put : {E : Type 0} (faults : Watch E) (told bytes : List ℕ) (old new : Option (List ℕ)) (all_taken : Bool)
@@ -35,14 +36,14 @@ told_by_put faults told bytes old new false is puts = record {
   flushed = λ fresh some. absurd (cc (fresh, puts.1));
 }
 
-module _ {R W E : Type 0} (input : Option (List ℕ)) (depth : ℕ) (reader : Watch R) (before writer : Watch W) (faults : Watch E) where
+module _ {R W E : Type 0} (layers : Layers) (input : Option (List ℕ)) (depth : ℕ) (reader : Watch R) (before writer : Watch W) (faults : Watch E) where
   -- without a reply nothing was written, and why is told
-  pub runs_stopped : (stop : Stop) (contents : Option (List ℕ)) (tells : List ℕ → Type 0) → StopsEarly stop input depth reader.failed → writer.failed ≡ false → writer ≡ before
+  pub runs_stopped : (stop : Stop) (contents : Option (List ℕ)) (tells : List ℕ → Type 0) → StopsEarly layers stop input depth reader.failed → writer.failed ≡ false → writer ≡ before
       → (why : List ℕ) → why ≡ stop_line stop → Tells why tells faults
-      → Runs (Some stop) input depth (Appends contents contents) tells reader before writer faults (status 1)
+      → RunsBy layers (Some stop) input depth (Appends contents contents) tells reader before writer faults (status 1)
   runs_stopped stop contents tells early fresh same why is_why told = record {
     cause = early.cause;
-    left = leaves_nothing stop input depth (Appends contents contents) early.writer (appends_none contents);
+    left = leaves_nothing layers stop input depth (Appends contents contents) early.writer (appends_none contents);
     told = subst (λ (xs : List ℕ). Tells xs tells faults) is_why told;
     status = refl;
     of_reader = early.reader;
@@ -52,10 +53,10 @@ module _ {R W E : Type 0} (input : Option (List ℕ)) (depth : ℕ) (reader : Wa
 
   -- a writer that failed took a front of the printed text
   pub runs_broken_off : (reply : Reply) (lines : List ℕ) (all_taken : Bool) (old new : Option (List ℕ)) (tells : List ℕ → Type 0)
-      → Replied input depth reply lines → reader.failed ≡ false
+      → Replied layers input depth reply lines → reader.failed ≡ false
       → PutsReply old new before writer reply all_taken → all_taken ≡ false
       → (why : List ℕ) → why ≡ stop_line WriteFailed → Tells why tells faults
-      → Runs (Some WriteFailed) input depth (Appends old new) tells reader before writer faults (status 1)
+      → RunsBy layers (Some WriteFailed) input depth (Appends old new) tells reader before writer faults (status 1)
   runs_broken_off reply lines true old new tells replied read puts not_all why is_why told = absurd (cc not_all)
   runs_broken_off reply lines false old new tells replied read puts not_all why is_why told = record {
     cause = tt;

@@ -46,9 +46,9 @@ with_faults : (fault : Fault) (faults : List Fault) → status_by (fault ∷ fau
 with_faults fault faults = refl
 
 -- a run that stops never has status 0
-never_0 : {R W E : Type 0} (stop : Stop) (input : Option (List ℕ)) (depth : ℕ) (writes tells : List ℕ → Type 0)
-    (reader : Watch R) (before writer : Watch W) (faults : Watch E) → Refuses stop input depth writes tells reader before writer faults (status 0) → ⊥
-never_0 stop input depth writes tells reader before writer faults h = omega (arith, ap (λ (s : Status). s.0) h.status)
+never_0 : {R W E : Type 0} (layers : Layers) (stop : Stop) (input : Option (List ℕ)) (depth : ℕ) (writes tells : List ℕ → Type 0)
+    (reader : Watch R) (before writer : Watch W) (faults : Watch E) → Refuses layers stop input depth writes tells reader before writer faults (status 0) → ⊥
+never_0 layers stop input depth writes tells reader before writer faults h = omega (arith, ap (λ (s : Status). s.0) h.status)
 
 -- a reader that failed in mid-stream: nothing is written, and that is told
 read_failed : (depth : ℕ) → Runs {R = ℕ} {W = ℕ} {E = ℕ} (Some ReadFailed) (Some (120 ∷ 121 ∷ [])) depth (λ bytes. bytes ≡ [])

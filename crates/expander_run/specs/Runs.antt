@@ -13,6 +13,8 @@ use Rattle.expander_model.specs.declared.fault.Fault.{Fault}
 use Rattle.expander_scope.specs.declared.refusal.Refusal.TheVariants.{Memory, Tokens, Numbers}
 use Rattle.expander_session.specs.declared.session.Reply.{Reply}
 use Rattle.expander_session.specs.declared.session.Reply.TheVariants.{Read, Unread}
+use Rattle.mbe.specs.Grammar.{Grammar}
+use Rattle.expander_run.specs.declared.options.Options.{Options}
 use Rattle.expander_run.specs.declared.program.Status.{Status}
 use Rattle.expander_run.specs.declared.stop.Stop.{Stop}
 use Rattle.expander_run.specs.declared.stop.Stop.TheVariants.{NotUtf8, TooLong, ReadFailed, WriteFailed, Refused}
@@ -34,7 +36,11 @@ pub record IsNoText (input : Option (List ℕ)) (bytes : List ℕ) : Type 0 wher
   pub short : length bytes < 2 ^ 32
   pub not_utf8 : IsUtf8 bytes → ⊥
 
--- a run expands by the small grammar, and all identifiers are of edition 2024
+-- what a run expands by: the answers of its grammar, and its edition for all identifiers
+abbrev pub layers_of : {G : Type 0} → (G → Grammar) → Options G → Layers
+layers_of answer_of options = layers (answer_of options.grammar) options.edition
+
+-- `run` expands by the small grammar, in edition 2024
 abbrev pub run_layers : Layers
 run_layers = layers answer Edition2024
 
@@ -80,37 +86,37 @@ is_of_writer _ = false
 
 -- what makes a run stop: its reader and writers know whether they failed; ids never run out,
 -- since its session is new and its text has fewer definitions than there are ids
-abbrev pub Stops : Stop → Option (List ℕ) → ℕ → Type 0
-Stops NotUtf8 input depth = (bytes : List ℕ) × IsNoText input bytes
-Stops TooLong input depth = IfSome input (λ bytes. 2 ^ 32 ≤ length bytes)
-Stops ReadFailed input depth = ⊤
-Stops WriteFailed input depth = ⊤
-Stops (Refused Memory) input depth = ⊤
-Stops (Refused Tokens) input depth = (text : List ℕ) × IsInput input text × NeedsTooMany run_layers depth text
-Stops (Refused Numbers) input depth = ⊥
+abbrev pub Stops : Layers → Stop → Option (List ℕ) → ℕ → Type 0
+Stops layers NotUtf8 input depth = (bytes : List ℕ) × IsNoText input bytes
+Stops layers TooLong input depth = IfSome input (λ bytes. 2 ^ 32 ≤ length bytes)
+Stops layers ReadFailed input depth = ⊤
+Stops layers WriteFailed input depth = ⊤
+Stops layers (Refused Memory) input depth = ⊤
+Stops layers (Refused Tokens) input depth = (text : List ℕ) × IsInput input text × NeedsTooMany layers depth text
+Stops layers (Refused Numbers) input depth = ⊥
 
 -- a writer that failed has taken the first bytes of the text to be printed
-pub record BreaksOff (input : Option (List ℕ)) (depth : ℕ) (writes : List ℕ → Type 0) : Type 0 where
+pub record BreaksOff (layers : Layers) (input : Option (List ℕ)) (depth : ℕ) (writes : List ℕ → Type 0) : Type 0 where
   pub text : List ℕ
   pub is_input : IsInput input text
   pub expansion : Expanded
-  pub is_reply : IsReplyTo run_layers depth text None (Read expansion)
+  pub is_reply : IsReplyTo layers depth text None (Read expansion)
   pub taken : ℕ
   pub written : writes (take taken expansion.printed)
 
 -- what a run that stops has written: nothing, unless the writer failed
-abbrev pub LeavesAt : Stop → Option (List ℕ) → ℕ → (List ℕ → Type 0) → Type 0
-LeavesAt WriteFailed input depth writes = BreaksOff input depth writes
-LeavesAt _ input depth writes = writes []
+abbrev pub LeavesAt : Layers → Stop → Option (List ℕ) → ℕ → (List ℕ → Type 0) → Type 0
+LeavesAt layers WriteFailed input depth writes = BreaksOff layers input depth writes
+LeavesAt layers _ input depth writes = writes []
 
 -- a run that answers: it writes the printed text and the report, and has the reply's status;
 -- `before` is the writer as it was handed in
-pub record Finishes {R W E : Type 0} (input : Option (List ℕ)) (depth : ℕ) (writes tells : List ℕ → Type 0)
+pub record Finishes {R W E : Type 0} (layers : Layers) (input : Option (List ℕ)) (depth : ℕ) (writes tells : List ℕ → Type 0)
     (reader : Watch R) (before writer : Watch W) (faults : Watch E) (result : Status) : Type 0 where
   pub text : List ℕ
   pub is_input : IsInput input text
   pub reply : Reply
-  pub is_reply : IsReplyTo run_layers depth text None reply
+  pub is_reply : IsReplyTo layers depth text None reply
   pub written : writes (printed_of reply)
   pub flushed : IsFlushed reply before writer
   pub told : Tells (report text reply) tells faults
@@ -120,10 +126,10 @@ pub record Finishes {R W E : Type 0} (input : Option (List ℕ)) (depth : ℕ) (
 
 -- a run that stops: it has a cause, which it reports, and its status is 1; unless the writer
 -- failed, nothing was asked of it
-pub record Refuses {R W E : Type 0} (stop : Stop) (input : Option (List ℕ)) (depth : ℕ) (writes tells : List ℕ → Type 0)
+pub record Refuses {R W E : Type 0} (layers : Layers) (stop : Stop) (input : Option (List ℕ)) (depth : ℕ) (writes tells : List ℕ → Type 0)
     (reader : Watch R) (before writer : Watch W) (faults : Watch E) (result : Status) : Type 0 where
-  pub cause : Stops stop input depth
-  pub left : LeavesAt stop input depth writes
+  pub cause : Stops layers stop input depth
+  pub left : LeavesAt layers stop input depth writes
   pub told : Tells (stop_line stop) tells faults
   pub status : result ≡ status 1
   pub of_reader : reader.failed ≡ is_of_reader stop
@@ -131,6 +137,10 @@ pub record Refuses {R W E : Type 0} (stop : Stop) (input : Option (List ℕ)) (d
   pub unasked : is_of_writer stop ≡ false → writer ≡ before
 
 -- a run over what its reader had left, with what its writers took: it answers or it stops
+abbrev pub RunsBy : {R W E : Type 0} → Layers → Option Stop → Option (List ℕ) → ℕ → (writes tells : List ℕ → Type 0) → Watch R → Watch W → Watch W → Watch E → Status → Type 0
+RunsBy layers None input depth writes tells reader before writer faults result = Finishes layers input depth writes tells reader before writer faults result
+RunsBy layers (Some stop) input depth writes tells reader before writer faults result = Refuses layers stop input depth writes tells reader before writer faults result
+
+-- a run of `run`
 abbrev pub Runs : {R W E : Type 0} → Option Stop → Option (List ℕ) → ℕ → (writes tells : List ℕ → Type 0) → Watch R → Watch W → Watch W → Watch E → Status → Type 0
-Runs None input depth writes tells reader before writer faults result = Finishes input depth writes tells reader before writer faults result
-Runs (Some stop) input depth writes tells reader before writer faults result = Refuses stop input depth writes tells reader before writer faults result
+Runs stop input depth writes tells reader before writer faults result = RunsBy run_layers stop input depth writes tells reader before writer faults result

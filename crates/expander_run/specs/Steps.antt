@@ -1,9 +1,10 @@
 -- What the steps of a run promise each other.
 use Rattle.std.specs.Prelude.{◌≡◌, ℕ, ◌≤◌, ◌^◌, Bool, true, false, List, length, take, Option, None, IfSome}
 use Rattle.std.specs.Io.KnownBytes.{Appends}
+use Rattle.expander_model.specs.Meaning.{Layers}
 use Rattle.expander_run.specs.Lines.{report}
 use Rattle.expander_session.specs.Replies.{IsReplyTo}
-use Rattle.expander_run.specs.Runs.{IsFlushed, IsInput, Stops, run_layers, is_of_reader, is_of_writer, printed_of}
+use Rattle.expander_run.specs.Runs.{IsFlushed, IsInput, Stops, is_of_reader, is_of_writer, printed_of}
 use Rattle.expander_run.specs.Watch.{Watch}
 use Rattle.expander_scope.specs.declared.refusal.Refusal.TheVariants.{Memory}
 use Rattle.expander_session.specs.Expanded.{Expanded}
@@ -20,15 +21,15 @@ StopsReading (Refused Memory) input failed = failed ≡ false
 StopsReading _ input failed = ⊥
 
 -- a reply to the whole input, and its report
-pub record Replied (input : Option (List ℕ)) (depth : ℕ) (reply : Reply) (told : List ℕ) : Type 0 where
+pub record Replied (layers : Layers) (input : Option (List ℕ)) (depth : ℕ) (reply : Reply) (told : List ℕ) : Type 0 where
   pub text : List ℕ
   pub is_input : IsInput input text
-  pub is_reply : IsReplyTo run_layers depth text None reply
+  pub is_reply : IsReplyTo layers depth text None reply
   pub is_told : told ≡ report text reply
 
 -- why there is no reply, and whether the reader failed
-pub record StopsEarly (stop : Stop) (input : Option (List ℕ)) (depth : ℕ) (failed : Bool) : Type 0 where
-  pub cause : Stops stop input depth
+pub record StopsEarly (layers : Layers) (stop : Stop) (input : Option (List ℕ)) (depth : ℕ) (failed : Bool) : Type 0 where
+  pub cause : Stops layers stop input depth
   pub reader : failed ≡ is_of_reader stop
   pub writer : is_of_writer stop ≡ false
 

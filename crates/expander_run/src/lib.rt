@@ -3,6 +3,7 @@
 #![tactic(auto)]
 
 mod lines;
+pub mod options;
 pub mod program;
 mod stop;
 pub mod watched;

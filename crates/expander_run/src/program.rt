@@ -5,17 +5,19 @@ ghost use Rattle.std.specs.Io.KnownBytes.{Appends};
 ghost use Rattle.expander_model.specs.Meaning.{meaning};
 ghost use Rattle.expander_session.specs.Replies.{IsReplyTo, NeedsNumbers};
 ghost use Rattle.expander_run.specs.Lines.{report};
-ghost use Rattle.expander_run.specs.Runs.{IsAllOf, Runs, Tells, run_layers, status, status_of};
+ghost use Rattle.expander_run.specs.Runs.{IsAllOf, Runs, RunsBy, Tells, layers_of, status, status_of};
 ghost use Rattle.expander_session.specs.TooMany.{NeedsTooMany};
 ghost use Rattle.expander_run.specs.Steps.{Puts, PutsReply, Replied, StopsEarly, StopsReading};
 
 use crate::lines::{report, stop_line};
+use crate::options::Options;
 use crate::stop::Stop;
 use crate::watched::Watched;
 use expander_scope::refusal::Refusal;
 use expander_session::commands::{Answer, Command, replay};
 use expander_session::laws;
 use expander_session::session::Reply;
+use fragment_grammar::FragmentGrammar;
 use small_grammar::SmallGrammar;
 use std::alloc::Global;
 use std::io::{Read, Write};
@@ -53,7 +55,35 @@ pub fn run<R: Read, W: Write, E: Write>(
         (Appends (E.contents faults.old.inner) (E.contents faults.new.inner)) reader.new writer.old writer.new faults.new result }
     ensures untold { result ≡ status 0 → faults.new ≡ faults.old }
 {
-    match answer_input(alloc, reader, depth) {
+    let options = Options {
+        grammar: SmallGrammar,
+        edition: Edition::Edition2024,
+        depth,
+    };
+    run_with(alloc, reader, writer, faults, options)
+}
+
+/// Runs as [`run`] does, by a grammar, an edition and a number of levels that the caller chooses.
+///
+/// What is read, written and reported, and the status, are as `run` has them, with `options` in
+/// place of the small grammar, edition 2024 and `depth`. None of the three streams has failed
+/// before.
+pub fn run_with<G: FragmentGrammar + Drop, R: Read, W: Write, E: Write>(
+    alloc: Global,
+    reader: &mut Watched<R>,
+    writer: &mut Watched<W>,
+    faults: &mut Watched<E>,
+    options: Options<G>,
+) -> Status
+    requires reader_fresh { reader.old.failed ≡ false }
+    requires writer_fresh { writer.old.failed ≡ false }
+    requires faults_fresh { faults.old.failed ≡ false }
+    ensures runs { (stop : Option Stop) × RunsBy (layers_of G.answer options) stop (R.remaining reader.old.inner) options.depth
+        (Appends (W.contents writer.old.inner) (W.contents writer.new.inner))
+        (Appends (E.contents faults.old.inner) (E.contents faults.new.inner)) reader.new writer.old writer.new faults.new result }
+    ensures untold { result ≡ status 0 → faults.new ≡ faults.old }
+{
+    match answer_input(alloc, reader, options) {
         Ok((reply, told)) => {
             if put_reply(writer, &reply) {
                 tell(faults, told.as_str());
@@ -71,31 +101,39 @@ pub fn run<R: Read, W: Write, E: Write>(
 }
 
 // The session's reply to the whole input, and its report.
-fn answer_input<R: Read>(
+fn answer_input<G: FragmentGrammar + Drop, R: Read>(
     alloc: Global,
     reader: &mut Watched<R>,
-    depth: u8,
+    options: Options<G>,
 ) -> Result<(Reply, String), Stop>
     requires { reader.old.failed ≡ false }
-    ensures replied { IfOk result (λ answer. Replied (R.remaining reader.old.inner) depth answer.0 (string_bytes answer.1)) }
+    ensures replied { IfOk result (λ answer. Replied (layers_of G.answer options) (R.remaining reader.old.inner) options.depth answer.0 (string_bytes answer.1)) }
     ensures read { IfOk result (λ answer. reader.new.failed ≡ false) }
-    ensures stopped { IfErr result (λ stop. StopsEarly stop (R.remaining reader.old.inner) depth reader.new.failed) }
+    ensures stopped { IfErr result (λ stop. StopsEarly (layers_of G.answer options) stop (R.remaining reader.old.inner) options.depth reader.new.failed) }
 {
     let bytes = read_all(alloc, reader)?;
     let text = std::str::from_utf8(bytes.as_slice()).map_err(|_| Stop::NotUtf8)?;
-    answer(alloc, text, depth).map_err(Stop::Refused)
+    answer(alloc, text, options).map_err(Stop::Refused)
 }
 
 // The reply of a new session over this text to its one command: to expand it.
-fn expanded(alloc: Global, text: &str, depth: u8) -> Result<Reply, Refusal>
+fn expanded<G: FragmentGrammar + Drop>(
+    alloc: Global,
+    text: &str,
+    options: Options<G>,
+) -> Result<Reply, Refusal>
     requires { length text.now < 2 ^ 32 }
-    ensures reply { IfOk result (IsReplyTo run_layers depth text.now None) }
-    ensures tokens { result ≡ Err Refusal.Tokens → NeedsTooMany run_layers depth text.now }
-    ensures numbers { result ≡ Err Refusal.Numbers → NeedsNumbers 0 [] (meaning run_layers depth text.now) }
+    ensures reply { IfOk result (IsReplyTo (layers_of G.answer options) options.depth text.now None) }
+    ensures tokens { result ≡ Err Refusal.Tokens → NeedsTooMany (layers_of G.answer options) options.depth text.now }
+    ensures numbers { result ≡ Err Refusal.Numbers → NeedsNumbers 0 [] (meaning (layers_of G.answer options) options.depth text.now) }
 {
     let commands = [Command::Expand];
-    let edition = Edition::Edition2024;
-    let mut answers = replay(alloc, text, SmallGrammar, edition, depth, &commands)?;
+    let Options {
+        grammar,
+        edition,
+        depth,
+    } = options;
+    let mut answers = replay(alloc, text, grammar, edition, depth, &commands)?;
     match answers.pop() {
         Some(Answer::Reply(reply)) => Ok(reply),
         Some(Answer::Refused(refusal)) => Err(refusal),
@@ -105,15 +143,19 @@ fn expanded(alloc: Global, text: &str, depth: u8) -> Result<Reply, Refusal>
 
 // The reply of a session over this text, and its report. The report is made before anything is
 // written, so that nothing is written when memory runs out.
-fn answer(alloc: Global, text: &str, depth: u8) -> Result<(Reply, String), Refusal>
+fn answer<G: FragmentGrammar + Drop>(
+    alloc: Global,
+    text: &str,
+    options: Options<G>,
+) -> Result<(Reply, String), Refusal>
     requires { length text.now < 2 ^ 32 }
-    ensures reply { IfOk result (λ answer. IsReplyTo run_layers depth text.now None answer.0) }
+    ensures reply { IfOk result (λ answer. IsReplyTo (layers_of G.answer options) options.depth text.now None answer.0) }
     ensures told { IfOk result (λ answer. string_bytes answer.1 ≡ report text.now answer.0) }
-    ensures tokens { result ≡ Err Refusal.Tokens → NeedsTooMany run_layers depth text.now }
+    ensures tokens { result ≡ Err Refusal.Tokens → NeedsTooMany (layers_of G.answer options) options.depth text.now }
     ensures numbers { result ≡ Err Refusal.Numbers → ⊥ }
 {
     laws::definitions_are_no_more_than_bytes();
-    let reply = expanded(alloc, text, depth)?;
+    let reply = expanded(alloc, text, options)?;
     let told = report(alloc, text, &reply)?;
     Ok((reply, told))
 }
