@@ -2,7 +2,7 @@
 //! column.
 #![tactic(auto)]
 
-mod lines;
+pub mod lines;
 pub mod program;
 mod stop;
 pub mod watched;
