@@ -1,5 +1,5 @@
 -- The parts of an expansion token by token, and the text that they show.
-use Rattle.std.proofs.Common.{◌≡◌, ℕ, ◌+◌, List, [], ◌∷◌, ◌++◌, Bool, true, false, take, drop, refl, sym, ap, ◌∙◌, append_assoc, arith}
+use Rattle.std.proofs.Common.{◌≡◌, ℕ, ◌+◌, List, [], ◌∷◌, ◌++◌, true, false, take, drop, refl, sym, ap, ◌∙◌, append_assoc}
 use Rattle.std.proofs.lemmas.List.{drop-drop, append-nil}
 use Rattle.std.specs.Prelude.{chars, codes, if◌then◌else◌}
 use Rattle.rustc_lexer.specs.Lexing.{tokens_of}
@@ -40,20 +40,22 @@ module _ (fold : List ℕ) where
   -- at the end
   pub ends : (all : List Gap → List ℕ) (bytes new : List ℕ) (place : Place) (rest : List ℕ) (left : List Token)
       → IsSoFar all bytes place rest left → left ≡ [] → new ≡ bytes ++ fold_end place.in_summary → (gaps : List Gap) × (new ≡ all gaps)
-  ends all bytes new place rest left so_far is added =
-      (so_far.0 ++ [],
-        added ∙ ap (λ (xs : List ℕ). bytes ++ xs) (sym (append-nil (fold_end place.in_summary)))
+  ends all bytes new place rest left so_far is added = (
+    so_far.0 ++ [],
+    added ∙ ap (λ (xs : List ℕ). bytes ++ xs) (sym (append-nil (fold_end place.in_summary)))
         ∙ sym (ap (λ (ts : List Token). bytes ++ html_of (expansion_from fold [] place rest ts)) is)
-        ∙ so_far.1 [])
+        ∙ so_far.1 [],
+  )
 
   -- with what begins the first fold
   pub whole : (old begun new numbers printed : List ℕ) → begun ≡ old ++ fold
       → ((gaps : List Gap) × (new ≡ begun ++ html_of (expansion_from fold gaps (record { in_summary = true; last = 0; numbers = numbers }) printed (tokens_of (chars printed)))))
       → (gaps : List Gap) × (new ≡ old ++ html_of (expansion_parts fold gaps numbers printed))
-  whole old begun new numbers printed is all =
-      (all.0,
-        let body : List ℕ = html_of (expansion_from fold all.0 (record { in_summary = true; last = 0; numbers = numbers }) printed (tokens_of (chars printed))) in
-        all.1 ∙ ap (λ (xs : List ℕ). xs ++ body) is ∙ append_assoc old fold body)
+  whole old begun new numbers printed is all = (
+    all.0,
+    let body : List ℕ = html_of (expansion_from fold all.0 (record { in_summary = true; last = 0; numbers = numbers }) printed (tokens_of (chars printed))) in
+        all.1 ∙ ap (λ (xs : List ℕ). xs ++ body) is ∙ append_assoc old fold body,
+  )
 
   text_of_word : (gap : Gap) (place : Place) (kind : TokenKind) (word : List ℕ)
       → text_of (word_parts fold gap place kind word) ≡ (if is_white kind then [] else word)

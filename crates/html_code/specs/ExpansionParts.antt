@@ -1,7 +1,6 @@
 -- An expansion on a page: its tokens with the numbers of their origins. What is between two tokens is white
 -- space and the ends of folds.
-use Rattle.std.specs.Prelude.{◌≡◌, ℕ, zero, suc, ◌+◌, ◌-◌, List, [], ◌∷◌, ◌++◌, Bool, true, false, ◌&&◌, codes, decimal, nat_eq, nat_lt, min, if◌then◌else◌, take, drop, chars, replicate}
-use Rattle.std.specs.List.{concat}
+use Rattle.std.specs.Prelude.{◌≡◌, ℕ, zero, suc, ◌-◌, List, [], ◌∷◌, ◌++◌, Bool, true, false, ◌&&◌, codes, decimal, nat_eq, nat_lt, min, if◌then◌else◌, take, drop, chars}
 use Rattle.rustc_lexer.specs.Lexing.{tokens_of}
 use Rattle.rustc_lexer.specs.declared.token.Token.{Token}
 use Rattle.rustc_lexer.specs.declared.token.TokenKind.{TokenKind}

@@ -1,5 +1,5 @@
 -- The text on a page: its tokens and comments as elements, and its faults marked.
-use Rattle.std.specs.Prelude.{ℕ, ◌+◌, List, [], ◌∷◌, ◌++◌, true, Option, None, codes, decimal, nat_lt, if◌then◌else◌, take, drop, chars}
+use Rattle.std.specs.Prelude.{ℕ, ◌+◌, List, [], ◌∷◌, ◌++◌, true, None, codes, decimal, nat_lt, if◌then◌else◌, take, drop, chars}
 use Rattle.rustc_lexer.specs.Lexing.{tokens_of}
 use Rattle.rustc_lexer.specs.declared.token.Token.{Token}
 use Rattle.rustc_lexer.specs.declared.token.TokenKind.{TokenKind}

@@ -1,5 +1,5 @@
 -- Token by token: what it adds behind some gap, and where the next one begins.
-use Rattle.std.proofs.Common.{◌≡◌, ◌≤◌, ◌+◌, ◌++◌, ℕ, List, true, drop, length, refl, string_bytes, arith}
+use Rattle.std.proofs.Common.{◌≤◌, ◌+◌, ◌++◌, ℕ, List, true, drop, length, refl, string_bytes, arith}
 use Rattle.std.specs.Prelude.{chars}
 use Rattle.rustc_lexer.specs.Lexing.{tokens_of}
 use Rattle.rustc_lexer.specs.Remaining.{tokens_left}
@@ -40,7 +40,7 @@ returns c =
     let all : List Gap → List ℕ =
     λ gaps. string_bytes c.push_str.new.self ++ html_of (expansion_from c.args.fold.now gaps begin c.args.printed.now (tokens_of (chars c.args.printed.now))) in
     whole c.args.fold.now (string_bytes c.args.page.now) (string_bytes c.push_str.new.self) (string_bytes c.push_fold_end.new.page)
-      c.args.numbers.now c.args.printed.now c.in_ok-push_str.ensures.bytes
-      (ends c.args.fold.now all (string_bytes c.loop-token.page) (string_bytes c.push_fold_end.new.page) (place_of c.loop-token.progress)
-        (drop c.loop-token.start c.args.printed.now) (tokens_left c.loop-token.token-iterator) c.loop-token.invariant.parts
-        c.in-None.ensures.steps.0 c.in_ok-push_fold_end.ensures)
+    c.args.numbers.now c.args.printed.now c.in_ok-push_str.ensures.bytes
+    (ends c.args.fold.now all (string_bytes c.loop-token.page) (string_bytes c.push_fold_end.new.page) (place_of c.loop-token.progress)
+    (drop c.loop-token.start c.args.printed.now) (tokens_left c.loop-token.token-iterator) c.loop-token.invariant.parts
+    c.in-None.ensures.steps.0 c.in_ok-push_fold_end.ensures)

@@ -1,4 +1,4 @@
-use Rattle.std.proofs.Common.{◌≡◌, ◌++◌, drop, string_bytes}
+use Rattle.std.proofs.Common.{◌++◌, drop, string_bytes}
 use Rattle.std.specs.Prelude.{chars}
 use Rattle.rustc_lexer.specs.Lexing.{tokens_of}
 use Rattle.rustc_lexer.specs.Remaining.{tokens_left}

@@ -1,5 +1,5 @@
 -- Token by token: what it adds, and where the next one begins.
-use Rattle.std.proofs.Common.{◌≡◌, ◌≤◌, ◌+◌, ◌∙◌, List, ℕ, ap, length, refl, arith}
+use Rattle.std.proofs.Common.{◌≤◌, ◌+◌, List, ℕ, ap, length, refl, arith}
 use Rattle.html_code.proofs.SourceLemmas.{count_more, parts_more, starts_more}
 use Rattle.html_code.proofs.source.push_source.Goals as goal
 
