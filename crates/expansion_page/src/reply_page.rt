@@ -6,11 +6,10 @@ ghost use Rattle.html_code.specs.PageParts.{IsShort};
 ghost use Rattle.html_code.specs.declared.page.Frame.{Frame};
 
 use crate::frame::FRAME;
-use crate::told::{lines_of, marks_of, origins_of};
+use crate::told::{lines_of, lone_mark, marks_of, origins_of};
 use bridge::ReadFault;
 use expander_run::lines::{FIRST, push_line, read_fault_words, spot_of};
 use expander_session::session::{Expansion, Reply};
-use html_code::Mark;
 use html_code::page::{Frame, Printed, Shown};
 use std::alloc::{AllocError, Global};
 
@@ -32,11 +31,11 @@ fn printed_of<'a>(expansion: &'a Expansion, origins: &'a [u32]) -> Option<Printe
 }
 
 // The page of an expansion.
-fn page_of_expansion(
+fn page_of_expansion<'a>(
     alloc: Global,
     frame: &Frame<'_>,
-    title: &str,
-    text: &str,
+    title: &'a str,
+    text: &'a str,
     expansion: &Expansion,
 ) -> Result<String, AllocError>
     requires { length text.now < 2 ^ 32 }
@@ -58,11 +57,11 @@ fn page_of_expansion(
 }
 
 // The page of a text that cannot be read.
-fn page_of_fault(
+fn page_of_fault<'a>(
     alloc: Global,
     frame: &Frame<'_>,
-    title: &str,
-    text: &str,
+    title: &'a str,
+    text: &'a str,
     fault: ReadFault,
 ) -> Result<String, AllocError>
     requires { length text.now < 2 ^ 32 }
@@ -72,24 +71,25 @@ fn page_of_fault(
     let spot = spot_of(text.as_bytes(), FIRST, start);
     let mut line = String::new(alloc);
     push_line(&mut line, spot, read_fault_words(fault.kind))?;
-    let told = line.as_str();
-    let marks = [Mark { start, told }];
+    let marks = lone_mark(alloc, start, &line)?;
+    let faults = marks.as_slice();
+    let printed: Option<Printed<'a>> = None;
     let shown = Shown {
         title,
         text,
-        faults: &marks,
-        printed: None,
+        faults,
+        printed,
     };
     let html = html_code::page::page(alloc, frame, &shown)?;
     Ok(html)
 }
 
 // The page of a reply in this frame.
-fn framed_page(
+fn framed_page<'a>(
     alloc: Global,
     frame: &Frame<'_>,
-    title: &str,
-    text: &str,
+    title: &'a str,
+    text: &'a str,
     reply: &Reply,
 ) -> Result<String, AllocError>
     requires { length text.now < 2 ^ 32 }

@@ -1,5 +1,5 @@
 //! What a page tells of an expansion.
-ghost use Rattle.std.specs.Prelude.{◌≡◌, ◌<◌, ◌^◌, IfOk, length, map, string_bytes};
+ghost use Rattle.std.specs.Prelude.{◌≡◌, ◌<◌, ◌^◌, [], ◌∷◌, IfOk, length, map, string_bytes};
 ghost use Rattle.expansion_page.specs.Pages.{fault_line, origin_starts};
 
 use expander_model::fault::Fault;
@@ -7,6 +7,7 @@ use expander_run::lines::{FIRST, fault_words, push_line, spot_of};
 use expander_session::session::Expansion;
 use html_code::Mark;
 use std::alloc::{AllocError, Global};
+use tt_data::TextRange;
 
 /// The line that reports each fault.
 pub(crate) fn lines_of(
@@ -47,15 +48,32 @@ pub(crate) fn marks_of<'a>(
     Ok(marks)
 }
 
+/// One fault as a page shows it, with this line.
+pub(crate) fn lone_mark<'a>(
+    alloc: Global,
+    start: u32,
+    line: &'a String,
+) -> Result<Vec<Mark<'a>>, AllocError>
+    ensures starts { IfOk result (λ marks. map (λ m. m.start) marks.items ≡ start ∷ []) }
+    ensures lines { IfOk result (λ marks. map (λ m. m.told.now) marks.items ≡ string_bytes line.now ∷ []) }
+{
+    let mut marks = Vec::new(alloc);
+    let told = line.as_str();
+    marks.push(Mark { start, told })?;
+    Ok(marks)
+}
+
+// The origin of a token that is not there.
+const NOWHERE: TextRange = TextRange { start: 0, end: 0 };
+
 /// Where each printed token's origin begins.
 pub(crate) fn origins_of(alloc: Global, expansion: &Expansion) -> Result<Vec<u32>, AllocError>
     ensures { IfOk result (λ origins. origins.items ≡ origin_starts expansion.now) }
 {
     let mut origins = Vec::new(alloc);
     for i in 0..expansion.tokens() {
-        if let Some(origin) = expansion.origin(i) {
-            origins.push(origin.start)?;
-        }
+        let origin = expansion.origin(i).unwrap_or(NOWHERE);
+        origins.push(origin.start)?;
     }
     Ok(origins)
 }
