@@ -1,7 +1,7 @@
--- what the contracts of `Watched` and `run` rest on
+-- what the contracts of `Watched`, of `run` and of the lines rest on
 pub mod Watch
 pub mod Lines
 pub mod Runs
--- what the functions inside the crate promise each other
 pub mod Spots
+-- what the functions inside the crate promise each other
 pub mod Steps

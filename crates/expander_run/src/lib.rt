@@ -2,7 +2,7 @@
 //! column.
 #![tactic(auto)]
 
-mod lines;
+pub mod lines;
 pub mod options;
 pub mod program;
 mod stop;

@@ -10,16 +10,16 @@ use expander_scope::refusal::Refusal;
 use expander_session::session::Reply;
 use std::alloc::{AllocError, Global};
 
-// A position in a text: its byte, from 0, and its line and byte column, from 1.
+/// A position in a text: its byte, from 0, and its line and byte column, from 1.
 #[derive(Clone, Copy)]
-struct Spot {
-    at: usize,
-    line: usize,
-    column: usize,
+pub struct Spot {
+    pub at: usize,
+    pub line: usize,
+    pub column: usize,
 }
 
-// The position at which a text begins.
-const FIRST: Spot = Spot {
+/// The position at which a text begins.
+pub const FIRST: Spot = Spot {
     at: 0,
     line: 1,
     column: 1,
@@ -64,9 +64,9 @@ fn walked(text: &[u8], from: Spot, to: usize) -> Spot
     spot
 }
 
-// The position of a byte, counted on from `last` if that is not past it. A byte past the text's
-// end is taken as the end.
-fn spot_of(text: &[u8], last: Spot, start: u32) -> Spot
+/// The position of a byte, counted on from `last` if that is not past it. A byte past the text's
+/// end is taken as the end.
+pub fn spot_of(text: &[u8], last: Spot, start: u32) -> Spot
     requires short { length text.now < 2 ^ 32 }
     requires last { IsSpot text.now last }
     ensures spot { IsSpot text.now result }
@@ -81,8 +81,8 @@ fn spot_of(text: &[u8], last: Spot, start: u32) -> Spot
     }
 }
 
-// The words for a fault.
-fn fault_words(kind: FaultKind) -> &'static str
+/// The words for a fault.
+pub fn fault_words(kind: FaultKind) -> &'static str
     ensures { result.now ≡ fault_words kind }
 {
     match kind {
@@ -94,8 +94,8 @@ fn fault_words(kind: FaultKind) -> &'static str
     }
 }
 
-// The words for a reading fault.
-fn read_fault_words(kind: ReadFaultKind) -> &'static str
+/// The words for a reading fault.
+pub fn read_fault_words(kind: ReadFaultKind) -> &'static str
     ensures { result.now ≡ read_fault_words kind }
 {
     match kind {
@@ -120,8 +120,8 @@ pub(crate) fn stop_line(stop: Stop) -> &'static str
     }
 }
 
-// Adds a line.
-fn push_line(lines: &mut String, spot: Spot, what: &str) -> Result<(), AllocError>
+/// Adds a line: a position, and what is wrong there.
+pub fn push_line(lines: &mut String, spot: Spot, what: &str) -> Result<(), AllocError>
     ensures { OnOk result (string_bytes lines.new ≡ string_bytes lines.old ++ line spot.line spot.column what.now) }
 {
     let Spot {

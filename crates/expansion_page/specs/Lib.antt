@@ -1,0 +1,2 @@
+-- what the public contracts rest on
+pub mod Pages

@@ -1,0 +1,51 @@
+-- The page of a reply to a text.
+use Rattle.std.specs.Prelude.{◌≡◌, ℕ, ◌≤◌, ◌^◌, List, [], ◌∷◌, Option, Some, None, length, map}
+use Rattle.expander_model.specs.declared.fault.Fault.{Fault}
+use Rattle.expander_run.specs.Lines.{fault_words, line_of, read_fault_words}
+use Rattle.expander_session.specs.Expanded.{Expanded}
+use Rattle.expander_session.specs.declared.session.Reply.{Reply}
+use Rattle.expander_session.specs.declared.session.Reply.TheVariants.{Read, Unread}
+use Rattle.html_code.specs.PageParts.{IsPage}
+use Rattle.html_code.specs.declared.page.Frame.{Frame}
+use Rattle.html_code.specs.declared.page.Printed.{Printed}
+use Rattle.html_code.specs.declared.page.Shown.{Shown}
+
+-- the line that a run reports for a fault
+abbrev pub fault_line : List ℕ → Fault → List ℕ
+fault_line text f = line_of text f.range.start (fault_words f.kind)
+
+-- where the faults of a reply begin
+abbrev pub fault_starts : Reply → List ℕ
+fault_starts (Read e) = map (λ f. f.range.start) e.faults
+fault_starts (Unread f) = f.range.start ∷ []
+
+-- the lines that a run reports for them
+abbrev pub fault_lines : List ℕ → Reply → List (List ℕ)
+fault_lines text (Read e) = map (fault_line text) e.faults
+fault_lines text (Unread f) = line_of text f.range.start (read_fault_words f.kind) ∷ []
+
+-- where each printed token's origin begins
+abbrev pub origin_starts : Expanded → List ℕ
+origin_starts e = map (λ r. r.start) e.origins
+
+pub record IsPrinted (e : Expanded) (printed : Printed) : Type 0 where
+  pub text : printed.text.now ≡ e.printed
+  pub origins : printed.origins.now ≡ origin_starts e
+  pub expanded : printed.expanded ≡ e.expanded
+
+-- an expansion is shown if its printed text has at most `u32::MAX` bytes
+abbrev pub ShowsReply : Reply → Option Printed → Type 0
+ShowsReply (Read e) (Some printed) = IsPrinted e printed
+ShowsReply (Read e) None = 2 ^ 32 ≤ length e.printed
+ShowsReply (Unread f) None = Unit {0}
+ShowsReply (Unread f) (Some printed) = ⊥
+
+-- the page of a reply to a text, in a frame
+pub record IsReplyPage (frame : Frame) (title text : List ℕ) (reply : Reply) (html : List ℕ) : Type 0 where
+  pub page : Shown
+  pub has_title : page.title.now ≡ title
+  pub has_text : page.text.now ≡ text
+  pub has_starts : map (λ m. m.start) page.faults.now ≡ fault_starts reply
+  pub has_lines : map (λ m. m.told.now) page.faults.now ≡ fault_lines text reply
+  pub has_printed : ShowsReply reply page.printed
+  pub is_page : IsPage frame page html

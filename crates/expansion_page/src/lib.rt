@@ -1,0 +1,8 @@
+//! An expansion as one HTML page that needs nothing else.
+#![tactic(auto)]
+
+mod frame;
+mod reply_page;
+mod told;
+
+pub use reply_page::page;

@@ -1,0 +1,115 @@
+//! The page of a reply to a text.
+ghost use Rattle.std.specs.Prelude.{◌≡◌, ◌<◌, ◌^◌, IfOk, length, string_bytes};
+ghost use Rattle.expander_session.specs.declared.session.Reply.TheVariants.{Read, Unread};
+ghost use Rattle.expansion_page.specs.Pages.{IsReplyPage, ShowsReply, origin_starts};
+ghost use Rattle.html_code.specs.PageParts.{IsShort};
+ghost use Rattle.html_code.specs.declared.page.Frame.{Frame};
+
+use crate::frame::FRAME;
+use crate::told::{lines_of, lone_mark, marks_of, origins_of};
+use bridge::ReadFault;
+use expander_run::lines::{FIRST, push_line, read_fault_words, spot_of};
+use expander_session::session::{Expansion, Reply};
+use html_code::page::{Frame, Printed, Shown};
+use std::alloc::{AllocError, Global};
+
+// What was printed, if it can be shown.
+fn printed_of<'a>(expansion: &'a Expansion, origins: &'a [u32]) -> Option<Printed<'a>>
+    requires { origins.now ≡ origin_starts expansion.now }
+    ensures shows { ShowsReply (Read expansion.now) result }
+    ensures short { IsShort result }
+{
+    let (text, expanded) = (expansion.printed(), expansion.expanded());
+    if text.len() > 0xffff_ffff {
+        return None;
+    }
+    Some(Printed {
+        text,
+        origins,
+        expanded,
+    })
+}
+
+// The page of an expansion.
+fn page_of_expansion<'a>(
+    alloc: Global,
+    frame: &Frame<'_>,
+    title: &'a str,
+    text: &'a str,
+    expansion: &Expansion,
+) -> Result<String, AllocError>
+    requires { length text.now < 2 ^ 32 }
+    ensures { IfOk result (λ html. IsReplyPage frame.now title.now text.now (Read expansion.now) (string_bytes html)) }
+{
+    let lines = lines_of(alloc, text, expansion.faults())?;
+    let marks = marks_of(alloc, expansion.faults(), lines.as_slice())?;
+    let origins = origins_of(alloc, expansion)?;
+    let faults = marks.as_slice();
+    let printed = printed_of(expansion, origins.as_slice());
+    let shown = Shown {
+        title,
+        text,
+        faults,
+        printed,
+    };
+    let html = html_code::page::page(alloc, frame, &shown)?;
+    Ok(html)
+}
+
+// The page of a text that cannot be read.
+fn page_of_fault<'a>(
+    alloc: Global,
+    frame: &Frame<'_>,
+    title: &'a str,
+    text: &'a str,
+    fault: ReadFault,
+) -> Result<String, AllocError>
+    requires { length text.now < 2 ^ 32 }
+    ensures { IfOk result (λ html. IsReplyPage frame.now title.now text.now (Unread fault) (string_bytes html)) }
+{
+    let start = fault.range.start;
+    let spot = spot_of(text.as_bytes(), FIRST, start);
+    let mut line = String::new(alloc);
+    push_line(&mut line, spot, read_fault_words(fault.kind))?;
+    let marks = lone_mark(alloc, start, &line)?;
+    let faults = marks.as_slice();
+    let printed: Option<Printed<'a>> = None;
+    let shown = Shown {
+        title,
+        text,
+        faults,
+        printed,
+    };
+    let html = html_code::page::page(alloc, frame, &shown)?;
+    Ok(html)
+}
+
+// The page of a reply in this frame.
+fn framed_page<'a>(
+    alloc: Global,
+    frame: &Frame<'_>,
+    title: &'a str,
+    text: &'a str,
+    reply: &Reply,
+) -> Result<String, AllocError>
+    requires { length text.now < 2 ^ 32 }
+    ensures { IfOk result (λ html. IsReplyPage frame.now title.now text.now reply.now (string_bytes html)) }
+{
+    match reply {
+        Reply::Read(expansion) => page_of_expansion(alloc, frame, title, text, expansion),
+        Reply::Unread(fault) => page_of_fault(alloc, frame, title, text, *fault),
+    }
+}
+
+/// The page of a reply to a text of at most `u32::MAX` bytes, with this title, such as the file's
+/// name. Refused if there is no memory for it.
+///
+/// It has the text with its faults, beside it the expansion with each token's origin, and below a
+/// link to each fault. Of a text that cannot be read it has the reading fault alone, and of an
+/// expansion that prints more than `u32::MAX` bytes the text and the faults.
+pub fn page(alloc: Global, title: &str, text: &str, reply: &Reply) -> Result<String, AllocError>
+    requires { length text.now < 2 ^ 32 }
+    ensures { IfOk result (λ html. (frame : Frame) × IsReplyPage frame title.now text.now reply.now (string_bytes html)) }
+{
+    framed_page(alloc, &FRAME, title, text, reply)
+}

@@ -1,0 +1,6 @@
+pub mod EscapeLemmas
+pub mod SafeLemmas
+pub mod SourceLemmas
+pub mod ExpansionLemmas
+pub mod PageRows
+pub mod PageLemmas

@@ -1,0 +1,46 @@
+-- Token by token: what it adds behind some gap, and where the next one begins.
+use Rattle.std.proofs.Common.{◌≤◌, ◌+◌, ◌++◌, ℕ, List, true, drop, length, refl, string_bytes, arith}
+use Rattle.std.specs.Prelude.{chars}
+use Rattle.rustc_lexer.specs.Lexing.{tokens_of}
+use Rattle.rustc_lexer.specs.Remaining.{tokens_left}
+use Rattle.html_code.specs.ExpansionParts.{Place, expansion_from}
+use Rattle.html_code.specs.Parts.{html_of}
+use Rattle.html_code.specs.declared.layout.Gap.{Gap}
+use Rattle.html_code.proofs.ExpansionLemmas.{ends, whole, word_more}
+use Rattle.html_code.specs.Places.{place_of}
+use Rattle.html_code.proofs.expansion.push_expansion.Goals as goal
+
+pub overflow_add-end : goal.overflow_add-end
+overflow_add-end c =
+    let at = (c.next_token.ensures.here _ _ _ _ _ c.utf8.printed c.loop-token.invariant.stand c.in-Some.ensures.steps) in
+    let fits : c.loop-token.start + c.in-Some.token.len ≤ length c.args.printed.now = at.stop.0 in
+    omega (arith, c.requires)
+
+pub word_at-word-requires-clause-here : goal.word_at-word-requires-clause-here
+word_at-word-requires-clause-here c =
+    c.next_token.ensures.here _ _ _ _ _ c.utf8.printed c.loop-token.invariant.stand c.in-Some.ensures.steps
+
+pub loop-token-preserved : goal.loop-token-preserved
+loop-token-preserved c =
+    let begin : Place = record { in_summary = true; last = 0; numbers = c.args.numbers.now } in
+    let all : List Gap → List ℕ =
+    λ gaps. string_bytes c.push_str.new.self ++ html_of (expansion_from c.args.fold.now gaps begin c.args.printed.now (tokens_of (chars c.args.printed.now))) in
+    record {
+      stand = c.next_token.ensures.others _ _ _ _ _ c.utf8.printed c.loop-token.invariant.stand c.in-Some.ensures.steps;
+      parts =
+          word_more c.args.fold.now c.args.printed.now c.loop-token.start c.in-Some.token _ _ c.in-Some.ensures.steps all
+          (string_bytes c.loop-token.page) (string_bytes c.push_word.new.page) c.word_at-word.result.now
+          (place_of c.loop-token.progress) (place_of c.push_word.new.progress) (c.loop-token.start + c.in-Some.token.len)
+          c.loop-token.invariant.parts refl c.word_at-word.ensures c.in_ok-push_word.ensures;
+    }
+
+pub returns : goal.returns
+returns c =
+    let begin : Place = record { in_summary = true; last = 0; numbers = c.args.numbers.now } in
+    let all : List Gap → List ℕ =
+    λ gaps. string_bytes c.push_str.new.self ++ html_of (expansion_from c.args.fold.now gaps begin c.args.printed.now (tokens_of (chars c.args.printed.now))) in
+    whole c.args.fold.now (string_bytes c.args.page.now) (string_bytes c.push_str.new.self) (string_bytes c.push_fold_end.new.page)
+    c.args.numbers.now c.args.printed.now c.in_ok-push_str.ensures.bytes
+    (ends c.args.fold.now all (string_bytes c.loop-token.page) (string_bytes c.push_fold_end.new.page) (place_of c.loop-token.progress)
+    (drop c.loop-token.start c.args.printed.now) (tokens_left c.loop-token.token-iterator) c.loop-token.invariant.parts
+    c.in-None.ensures.steps.0 c.in_ok-push_fold_end.ensures)

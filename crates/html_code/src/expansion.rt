@@ -1,0 +1,203 @@
+//! An expansion on a page: its tokens with the numbers of their origins, laid out as code.
+ghost use Rattle.std.specs.Prelude.{◌≡◌, ◌+◌, ◌-◌, ◌*◌, ◌++◌, ◌<◌, ◌≤◌, ◌^◌, List, codes, drop, length, string_bytes, OnOk, option_copied, slice_get};
+ghost use Rattle.html_code.specs.ExpansionParts.{AddsWord, expansion_parts, fold_end, gap_tag, is_in_summary, is_white, line_end, number_here, origin_tag, printed_tokens_in};
+ghost use Rattle.html_code.specs.Parts.{html_of};
+ghost use Rattle.html_code.specs.Places.{place_of};
+ghost use Rattle.html_code.specs.declared.layout.Gap.{Gap};
+
+use crate::escape::push_escaped;
+use crate::layout::{Gap, Layout};
+use crate::sort::sort_of;
+use crate::word::word_at;
+use rustc_lexer::{FrontmatterAllowed, TokenKind, laws, tokenize};
+use std::alloc::{AllocError, Global};
+
+// How many levels of blocks are indented.
+const LEVELS: usize = 32;
+
+/// How far an expansion is on the page.
+#[derive(Drop)]
+pub(crate) struct Progress<'a> {
+    layout: Layout,
+    // The numbers of the origins of the tokens to come.
+    numbers: &'a [usize],
+    // The number of the last token's origin.
+    last: usize,
+    // Whether the line is the first of its fold.
+    in_summary: bool,
+    // Whether white space came last.
+    apart: bool,
+}
+
+// Adds the end of a line, and the indentation of one in so many blocks.
+fn push_line_end(page: &mut String, in_summary: bool, blocks: usize) -> Result<(), AllocError>
+    ensures { OnOk result (string_bytes page.new ≡ string_bytes page.old ++ line_end in_summary blocks) }
+{
+    page.push_str(if in_summary { "</summary>" } else { "\n" })?;
+    for _ in 0..blocks.min(LEVELS) {
+        page.push_str("    ")?;
+    }
+    Ok(())
+}
+
+// Adds the end of a fold.
+fn push_fold_end(page: &mut String, in_summary: bool) -> Result<(), AllocError>
+    ensures { OnOk result (string_bytes page.new ≡ string_bytes page.old ++ fold_end in_summary) }
+{
+    if in_summary {
+        page.push_str("</summary></details>")
+    } else {
+        page.push_str("</details>")
+    }
+}
+
+// Adds what is between two tokens.
+fn push_gap(page: &mut String, gap: Gap, in_summary: bool, fold: &str) -> Result<(), AllocError>
+    ensures { OnOk result (string_bytes page.new ≡ string_bytes page.old ++ gap_tag fold.now gap in_summary) }
+{
+    match gap {
+        Gap::Nothing => Ok(()),
+        Gap::Blank => page.push_str(" "),
+        Gap::Line(blocks) => push_line_end(page, in_summary, blocks),
+        Gap::Top => {
+            push_fold_end(page, in_summary)?;
+            page.push_str(fold)
+        }
+    }
+}
+
+// Whether the line behind this gap is the first of its fold.
+fn is_in_summary(gap: Gap, in_summary: bool) -> bool
+    ensures { result ≡ is_in_summary gap in_summary }
+{
+    match gap {
+        Gap::Nothing => in_summary,
+        Gap::Blank => in_summary,
+        Gap::Line(_) => false,
+        Gap::Top => true,
+    }
+}
+
+// Adds the tag of a token whose origin has this number; `last` is that of the token before.
+fn push_origin_tag(page: &mut String, number: usize, last: usize) -> Result<(), AllocError>
+    ensures { OnOk result (string_bytes page.new ≡ string_bytes page.old ++ origin_tag number last) }
+{
+    if number > 0 && number - 1 == last {
+        page.push_str("<i>")
+    } else {
+        write!(page, "<i o={number}>")
+    }
+}
+
+// How many printed tokens this one is.
+fn printed_tokens_in(kind: TokenKind) -> usize
+    ensures { result ≡ printed_tokens_in kind }
+{
+    match kind {
+        TokenKind::Lifetime {
+            starts_with_number: false,
+        } => 2,
+        _ => 1,
+    }
+}
+
+/// The first number, or 0 where there is none.
+pub(crate) fn number_here(numbers: &[usize]) -> usize
+    ensures { result ≡ number_here numbers.now }
+{
+    match numbers.split_first() {
+        Some((first, _)) => *first,
+        None => 0,
+    }
+}
+
+/// The numbers behind the first `count`.
+pub(crate) fn numbers_after(numbers: &[usize], count: usize) -> &[usize]
+    ensures { result.now ≡ drop count numbers.now }
+{
+    if count < numbers.len() {
+        &numbers[count..]
+    } else {
+        &numbers[numbers.len()..]
+    }
+}
+
+// Whether a token of this kind is white space.
+fn is_white(kind: TokenKind) -> bool
+    ensures { result ≡ is_white kind }
+{
+    match kind {
+        TokenKind::Whitespace => true,
+        _ => false,
+    }
+}
+
+// Adds a token, whose text is followed by the byte `next`.
+fn push_word(
+    page: &mut String,
+    progress: &mut Progress<'_>,
+    fold: &str,
+    kind: TokenKind,
+    word: &str,
+    next: Option<u8>,
+) -> Result<(), AllocError>
+    ensures { OnOk result (AddsWord fold.now (string_bytes page.old) (string_bytes page.new)
+        (place_of progress.old) (place_of progress.new) kind word.now) }
+{
+    if is_white(kind) {
+        progress.apart = true;
+        return Ok(());
+    }
+    let gap = progress
+        .layout
+        .next(sort_of(kind, word, next), progress.apart)?;
+    let number = number_here(progress.numbers);
+    push_gap(page, gap, progress.in_summary, fold)?;
+    push_origin_tag(page, number, progress.last)?;
+    push_escaped(page, word)?;
+    page.push_str("</i>")?;
+    progress.in_summary = is_in_summary(gap, progress.in_summary);
+    progress.numbers = numbers_after(progress.numbers, printed_tokens_in(kind));
+    progress.last = number;
+    progress.apart = false;
+    Ok(())
+}
+
+/// Adds a printed text of at most `u32::MAX` bytes, whose tokens have origins of these numbers.
+/// `fold` begins each item.
+///
+/// Each token is an `<i>` with its origin's number as `o=12`, unless that is one more than the
+/// number of the token before. A lifetime is one such token, with the number of its quote.
+pub(crate) fn push_expansion(
+    alloc: Global,
+    page: &mut String,
+    printed: &str,
+    numbers: &[usize],
+    fold: &str,
+) -> Result<(), AllocError>
+    requires { length printed.now < 2 ^ 32 }
+    ensures { OnOk result ((gaps : List Gap) ×
+        (string_bytes page.new ≡ string_bytes page.old ++ html_of (expansion_parts fold.now gaps numbers.now printed.now))) }
+{
+    laws::tokens_begin();
+    laws::next_token();
+    laws::tokens_end();
+    let mut progress = Progress {
+        layout: Layout::new(alloc),
+        numbers,
+        last: 0,
+        in_summary: true,
+        apart: true,
+    };
+    page.push_str(fold)?;
+    let mut start: u32 = 0;
+    for token in tokenize(printed, FrontmatterAllowed::No) {
+        let end = start + token.len;
+        let word = word_at(printed, start, token);
+        let next = printed.as_bytes().get(end as usize).copied();
+        push_word(page, &mut progress, fold, token.kind, word, next)?;
+        start = end;
+    }
+    push_fold_end(page, progress.in_summary)?;
+    Ok(())
+}

@@ -1,0 +1,34 @@
+//! Laws of pages. Calling a law does nothing: its contract is the statement.
+ghost use Rattle.std.specs.Prelude.{◌≡◌, ℕ, List, IsUtf8};
+ghost use Rattle.std.specs.Str.{NoCharPasses};
+ghost use Rattle.html_code.specs.Escaping.{escaped, is_unsafe};
+ghost use Rattle.html_code.specs.ExpansionParts.{expansion_parts, words_of};
+ghost use Rattle.html_code.specs.Parts.{text_of};
+ghost use Rattle.html_code.specs.SourceParts.{source_parts};
+ghost use Rattle.html_code.specs.declared.layout.Gap.{Gap};
+ghost use Rattle.html_code.specs.declared.source.Mark.{Mark};
+
+/// An escaped text can neither open nor close a tag, nor end an attribute's value, and it has no
+/// control but tab and line feed, and no character that hides or changes the order of others.
+pub fn escaped_texts_are_safe()
+    ensures { (text : List ℕ) → NoCharPasses is_unsafe (escaped text) }
+{}
+
+/// Escaping loses nothing: two texts that are escaped alike are equal.
+pub fn escaping_loses_nothing()
+    ensures { (a b : List ℕ) → IsUtf8 a → IsUtf8 b → escaped a ≡ escaped b → a ≡ b }
+{}
+
+/// The parts of a text show just the text: nothing is left out, added or moved, whatever the faults.
+pub fn sources_are_whole()
+    ensures { (faults : List Mark) (text : List ℕ) → IsUtf8 text → text_of (source_parts faults text) ≡ text }
+{
+    rustc_lexer::laws::token_lengths();
+}
+
+/// The parts of an expansion show the tokens of the printed text in order, whatever is between them
+/// and wherever they come from.
+pub fn expansions_show_their_tokens()
+    ensures { (fold : List ℕ) (gaps : List Gap) (numbers printed : List ℕ) →
+        text_of (expansion_parts fold gaps numbers printed) ≡ words_of printed }
+{}
