@@ -5,6 +5,7 @@ mod TakingLemmas
 mod ChoiceLemmas
 mod OperatorLemmas
 mod TypeLemmas
+mod LevelLemmas
 mod PatternLemmas
 mod OutcomeLemmas
 pub mod Rows

@@ -33,7 +33,7 @@ passes true rest g e = refl
 passes false rest g e = absurd cc
 
 -- a list that begins with a punct of this character
-begins : (c : ℕ) (f g : Forest) → token_at (puncts (c ∷ [])) f ≡ Some g → (p : Punct) × (rest : Forest) × (f ≡ leaf (as_leaf.Punct p) rest) × (p.char ≡ c)
+pub begins : (c : ℕ) (f g : Forest) → token_at (puncts (c ∷ [])) f ≡ Some g → (p : Punct) × (rest : Forest) × (f ≡ leaf (as_leaf.Punct p) rest) × (p.char ≡ c)
 unfolding token_at
 begins c empty g e = absurd cc
 begins c (leaf (as_leaf.Ident i) rest) g e = absurd cc

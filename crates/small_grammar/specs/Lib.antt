@@ -11,3 +11,4 @@ pub mod Rules
 pub mod Laws
 -- what the functions inside the crate promise each other
 pub mod Signs
+pub mod Levels

@@ -13,6 +13,8 @@ pub mod names;
 mod operators;
 mod patterns;
 pub mod tokens;
+mod type_parts;
+mod type_steps;
 mod types;
 pub mod units;
 

@@ -1,225 +1,59 @@
 //! Types and their paths. Each function gives the trees after what it is named for, or `None` if
 //! the list begins otherwise.
-ghost use Rattle.std.specs.Prelude.{◌≡◌, ◌≤◌, [], ◌∷◌, Some, None};
+//!
+//! What is open around a place is kept in a list of fixed length, so that a call goes through many
+//! levels. A further call is made only where that list is full.
+ghost use Rattle.std.specs.Prelude.{◌≡◌, ◌<◌, ◌≤◌, ◌+◌, ◌*◌, true, IfSome, option_and_then};
+ghost use Rattle.arrayvec.specs.ArrayVec.{array_vec_len};
 ghost use Rattle.tt_data.specs.Forest.{size};
-ghost use Rattle.small_grammar.specs.Expressions.{◌⨾◌, ◌∣◌, many, maybe};
-ghost use Rattle.small_grammar.specs.Signs.{type_sign, bare_type};
-ghost use Rattle.small_grammar.specs.SmallGrammar.{takes, type, arrow, arg, generics, seg, tpath, bound, lifetime, name, literal, group, paren, bracket, single, word};
+ghost use Rattle.small_grammar.specs.declared.type_steps.Begun.TheVariants.{Angle, Arrow};
+ghost use Rattle.small_grammar.specs.Expressions.{Taking};
+ghost use Rattle.small_grammar.specs.Levels.{after, left, gone, outside, within, size_of, weight, next_size, next_weight};
+ghost use Rattle.small_grammar.specs.SmallGrammar.{takes, type, generics, tpath, single};
 
-use crate::names::name;
-use crate::tokens::{group, group_of, lifetime, literal, parts, punct, two_puncts, word};
+use crate::tokens::{punct, two_puncts};
+use crate::type_parts::path_start;
+use crate::type_steps::{
+    Begun, Follow, Next, begin_type, behind_name, behind_result, behind_segment, first_arg,
+    next_arg,
+};
+use arrayvec::ArrayVec;
 use tt::TtIter;
-use tt_data::DelimiterKind;
 
-// `&`, perhaps with a lifetime and `mut`.
-fn reference_sign<'a>(trees: &TtIter<'a>) -> Option<TtIter<'a>>
-    ensures { result ≡ takes (single "&" ⨾ maybe lifetime ⨾ maybe (word "mut")) trees.now }
-{
-    let rest = punct(trees, '&')?;
-    let rest = lifetime(&rest).unwrap_or(rest);
-    Some(word(&rest, "mut").unwrap_or(rest))
+// How many levels a call goes through.
+const LEVELS: usize = 128;
+
+// What is open around a place. Each remembers what may follow the segment that it belongs to.
+#[derive(Clone, Copy)]
+enum Level {
+    // Arguments in angle brackets.
+    Args(Follow),
+    // A function's result.
+    Result(Option<Follow>),
 }
 
-// `*const` or `*mut`.
-fn pointer_sign<'a>(trees: &TtIter<'a>) -> Option<TtIter<'a>>
-    ensures { result ≡ takes (single "*" ⨾ (word "const" ∣ word "mut")) trees.now }
-{
-    let rest = punct(trees, '*')?;
-    match word(&rest, "const") {
-        Some(rest) => Some(rest),
-        None => word(&rest, "mut"),
+impl Default for Level {
+    fn default() -> Level {
+        Level::Args(Follow::Segments)
     }
 }
 
-// `dyn` or `impl`.
-fn bounds_sign<'a>(trees: &TtIter<'a>) -> Option<TtIter<'a>>
-    ensures { result ≡ takes (word "dyn" ∣ word "impl") trees.now }
-{
-    match word(trees, "dyn") {
-        Some(rest) => Some(rest),
-        None => word(trees, "impl"),
-    }
-}
-
-// `fn` and its parameters.
-fn function_sign<'a>(trees: &TtIter<'a>) -> Option<TtIter<'a>>
-    ensures { result ≡ takes (word "fn" ⨾ paren) trees.now }
-{
-    let rest = word(trees, "fn")?;
-    group_of(&rest, DelimiterKind::Parenthesis)
-}
-
-// A type of one tree.
-fn plain_type<'a>(trees: &TtIter<'a>) -> Option<TtIter<'a>>
-    ensures { result ≡ takes (word "_" ∣ single "!" ∣ paren ∣ bracket) trees.now }
-{
-    if let Some(rest) = word(trees, "_") {
-        return Some(rest);
-    }
-    if let Some(rest) = punct(trees, '!') {
-        return Some(rest);
-    }
-    parts(trees)
-}
-
-// The trees after `!` and a group, or all trees if these do not come first.
-fn with_call<'a>(trees: TtIter<'a>) -> TtIter<'a>
-    ensures { Some result ≡ takes (maybe (single "!" ⨾ group)) trees.entry }
-{
-    match punct(&trees, '!') {
-        None => trees,
-        Some(rest) => group(&rest).unwrap_or(trees),
-    }
-}
-
-// A literal, perhaps with `-` before it.
-fn signed_literal<'a>(trees: &TtIter<'a>) -> Option<TtIter<'a>>
-    ensures { result ≡ takes (maybe (single "-") ⨾ literal) trees.now }
-{
-    let rest = punct(trees, '-').unwrap_or(trees.copied());
-    literal(&rest)
-}
-
-// A name and `=`.
-fn binding_sign<'a>(trees: &TtIter<'a>) -> Option<TtIter<'a>>
-    ensures { result ≡ takes (name ⨾ single "=") trees.now }
-{
-    let rest = name(trees)?;
-    punct(&rest, '=')
-}
-
-// `&`, `*const` or `*mut`: what may come before a type.
-fn type_sign<'a>(trees: &TtIter<'a>) -> Option<TtIter<'a>>
-    ensures { result ≡ takes type_sign trees.now }
-{
-    match reference_sign(trees) {
-        Some(rest) => Some(rest),
-        None => pointer_sign(trees),
-    }
-}
-
-// The trees after all such signs before a type.
-fn behind_signs<'a>(trees: &TtIter<'a>) -> TtIter<'a>
-    ensures same { takes type result ≡ takes type trees.now }
-    ensures no_more { takes type_sign result ≡ None }
-    ensures further { size result ≤ size trees.now }
-{
-    let mut rest = trees.copied();
-    while let Some(next) = type_sign(&rest) {
-        rest = next;
-    }
-    rest
-}
+type Levels = ArrayVec<Level, LEVELS>;
 
 /// A type.
 #[cycle(types)]
 pub(crate) fn ty<'a>(trees: &TtIter<'a>) -> Option<TtIter<'a>>
     ensures { result ≡ takes type trees.now }
 {
-    bare_type(&behind_signs(trees))
-}
-
-// A type that begins with no such sign.
-#[cycle(types)]
-fn bare_type<'a>(trees: &TtIter<'a>) -> Option<TtIter<'a>>
-    ensures { result ≡ takes bare_type trees.now }
-{
-    if let Some(rest) = bounds(trees) {
-        return Some(rest);
-    }
-    if let Some(rest) = function_sign(trees) {
-        return Some(arrow(rest));
-    }
-    if let Some(rest) = plain_type(trees) {
-        return Some(rest);
-    }
-    let rest = tpath(trees)?;
-    Some(with_call(rest))
-}
-
-// Bounds after `dyn` or `impl`.
-#[cycle(types)]
-fn bounds<'a>(trees: &TtIter<'a>) -> Option<TtIter<'a>>
-    ensures { result ≡ takes ((word "dyn" ∣ word "impl") ⨾ bound ⨾ many (single "+" ⨾ bound)) trees.now }
-{
-    let rest = bounds_sign(trees)?;
-    let mut rest = bound(&rest)?;
-    loop {
-        let Some(after) = punct(&rest, '+') else {
-            return Some(rest);
-        };
-        let Some(next) = bound(&after) else {
-            return Some(rest);
-        };
-        rest = next;
-    }
-}
-
-// A lifetime, or a path that may have `?` before it.
-#[cycle(types)]
-#[tactic(auto, unfolding(crate::specs::SmallGrammar::bound))]
-fn bound<'a>(trees: &TtIter<'a>) -> Option<TtIter<'a>>
-    ensures { result ≡ takes bound trees.now }
-{
-    match lifetime(trees) {
-        Some(rest) => Some(rest),
-        None => tpath(&punct(trees, '?').unwrap_or(trees.copied())),
-    }
-}
-
-// The trees after `->` and a type, or all trees if these do not come first.
-#[cycle(types)]
-#[tactic(auto, unfolding(crate::specs::SmallGrammar::arrow))]
-fn arrow<'a>(trees: TtIter<'a>) -> TtIter<'a>
-    ensures { Some result ≡ takes arrow trees.entry }
-{
-    match two_puncts(&trees, '-', '>') {
-        None => trees,
-        Some(rest) => ty(&rest).unwrap_or(trees),
-    }
+    complete(begin_type(trees)?, false)
 }
 
 /// A path of a type.
-#[cycle(types)]
 #[tactic(auto, unfolding(crate::specs::SmallGrammar::tpath))]
 pub(crate) fn tpath<'a>(trees: &TtIter<'a>) -> Option<TtIter<'a>>
     ensures { result ≡ takes tpath trees.now }
 {
-    let rest = seg(&two_puncts(trees, ':', ':').unwrap_or(trees.copied()))?;
-    Some(more_segs(rest))
-}
-
-// The trees after all further segments of a path.
-#[cycle(types)]
-fn more_segs<'a>(trees: TtIter<'a>) -> TtIter<'a>
-    ensures { Some result ≡ takes (many (single "::" ⨾ (seg ∣ generics))) trees.entry }
-{
-    let mut rest = trees;
-    loop {
-        let Some(after) = two_puncts(&rest, ':', ':') else {
-            return rest;
-        };
-        let Some(next) = seg(&after).or(generics(&after)) else {
-            return rest;
-        };
-        rest = next;
-    }
-}
-
-// A name, perhaps with arguments.
-#[cycle(types)]
-#[tactic(auto, unfolding(crate::specs::SmallGrammar::seg))]
-fn seg<'a>(trees: &TtIter<'a>) -> Option<TtIter<'a>>
-    ensures { result ≡ takes seg trees.now }
-{
-    let rest = name(trees)?;
-    if let Some(rest) = generics(&rest) {
-        return Some(rest);
-    }
-    match group_of(&rest, DelimiterKind::Parenthesis) {
-        Some(rest) => Some(arrow(rest)),
-        None => Some(rest),
-    }
+    complete(Begun::Named(path_start(trees)?, Follow::Segments), false)
 }
 
 /// Arguments in angle brackets.
@@ -228,56 +62,136 @@ fn seg<'a>(trees: &TtIter<'a>) -> Option<TtIter<'a>>
 pub(crate) fn generics<'a>(trees: &TtIter<'a>) -> Option<TtIter<'a>>
     ensures { result ≡ takes generics trees.now }
 {
-    let rest = punct(trees, '<')?;
-    punct(&args(rest), '>')
+    match first_arg(&punct(trees, '<')?)? {
+        Next::Part(begun) => complete(begun, true),
+        Next::End(rest) => Some(rest),
+    }
 }
 
-// The trees after arguments with commas between them, perhaps with one after the last. All trees
-// if none comes first.
+// The trees after what is begun; and, if that is an argument, after all arguments and their `>`.
 #[cycle(types)]
-fn args<'a>(trees: TtIter<'a>) -> TtIter<'a>
-    ensures { Some result ≡ takes (maybe (arg ⨾ many (single "," ⨾ arg) ⨾ maybe (single ","))) trees.entry }
+fn complete<'a>(begun: Begun<'a>, is_arg: bool) -> Option<TtIter<'a>>
+    ensures { result ≡ outside is_arg (left begun.entry) }
 {
-    let Some(mut rest) = arg(&trees) else {
-        return trees;
-    };
+    let mut levels: Levels = ArrayVec::new();
+    let mut at = begun;
     loop {
-        let Some(after) = punct(&rest, ',') else {
-            return rest;
+        at = match at {
+            Begun::Named(rest, follow) => behind_name(rest, follow),
+            Begun::Angle(rest, follow) if is_arg && !levels.is_full() => {
+                enter_args(rest, follow, &mut levels)?
+            }
+            Begun::Angle(rest, follow) => pass_args(rest, follow),
+            Begun::Arrow(rest, follow) if !levels.is_full() => {
+                enter_result(rest, follow, &mut levels)
+            }
+            Begun::Arrow(rest, follow) => pass_result(rest, follow),
+            Begun::Whole(rest) => match leave(rest, is_arg, &mut levels)? {
+                Next::Part(begun) => begun,
+                Next::End(rest) => return Some(rest),
+            },
         };
-        let Some(next) = arg(&after) else {
-            return after;
-        };
-        rest = next;
     }
 }
 
-// An argument.
-#[cycle(types)]
-#[tactic(auto, unfolding(crate::specs::SmallGrammar::arg))]
-fn arg<'a>(trees: &TtIter<'a>) -> Option<TtIter<'a>>
-    ensures { result ≡ takes arg trees.now }
+// The trees behind `::` if that comes first.
+fn behind_colons<'a>(trees: &TtIter<'a>) -> TtIter<'a>
+    ensures what { result ≡ after (single "::") trees.now }
+    ensures further { size result ≤ size trees.now }
 {
-    if let Some(rest) = lifetime(trees) {
-        return Some(rest);
-    }
-    if let Some(rest) = signed_literal(trees) {
-        return Some(rest);
-    }
-    if let Some(rest) = group_of(trees, DelimiterKind::Brace) {
-        return Some(rest);
-    }
-    match binding(trees) {
+    two_puncts(trees, ':', ':').unwrap_or(trees.copied())
+}
+
+// The trees behind `<`, or behind `::` and `<`.
+fn open_angle<'a>(trees: &TtIter<'a>) -> Option<TtIter<'a>>
+    ensures { result ≡ takes (single "<") (after (single "::") trees.now) }
+{
+    match punct(trees, '<') {
         Some(rest) => Some(rest),
-        None => ty(trees),
+        None => punct(&two_puncts(trees, ':', ':')?, '<'),
     }
 }
 
-// A name, `=` and a type.
-#[cycle(types)]
-fn binding<'a>(trees: &TtIter<'a>) -> Option<TtIter<'a>>
-    ensures { result ≡ takes (name ⨾ single "=" ⨾ type) trees.now }
+// Goes into arguments, all within others. `None` if these cannot be complete.
+fn enter_args<'a>(trees: TtIter<'a>, follow: Follow, levels: &mut Levels) -> Option<Begun<'a>>
+    requires { array_vec_len levels.old < 128 }
+    ensures what { option_and_then (λ b. within (outside true) levels.new.items (left b)) result ≡ within (outside true) levels.old.items (left (Angle trees.entry follow)) }
+    ensures further { IfSome result (λ b. size_of b ≤ size trees.entry) }
+    ensures falls { IfSome result (λ b. weight b + array_vec_len levels.new * 4 ≤ size trees.entry * 8 + 1 + array_vec_len levels.old * 4) }
+    ensures room { array_vec_len levels.new ≤ 128 }
 {
-    let rest = binding_sign(trees)?;
-    ty(&rest)
+    let Some(open) = open_angle(&trees) else {
+        return Some(Begun::Whole(trees));
+    };
+    match first_arg(&open)? {
+        Next::Part(begun) => {
+            levels.push(Level::Args(follow));
+            Some(begun)
+        }
+        Next::End(rest) => Some(behind_segment(rest, follow)),
+    }
+}
+
+// Passes arguments if they are complete.
+#[cycle(types)]
+fn pass_args<'a>(trees: TtIter<'a>, follow: Follow) -> Begun<'a>
+    ensures what { left result ≡ left (Angle trees.entry follow) }
+    ensures further { weight result ≤ size trees.entry * 8 + 1 }
+{
+    match generics(&behind_colons(&trees)) {
+        Some(rest) => behind_segment(rest, follow),
+        None => Begun::Whole(trees),
+    }
+}
+
+// Goes into a result if a type comes behind `->`.
+fn enter_result<'a>(trees: TtIter<'a>, follow: Option<Follow>, levels: &mut Levels) -> Begun<'a>
+    requires { array_vec_len levels.old < 128 }
+    ensures what { (around : Taking) → within around levels.new.items (left result) ≡ within around levels.old.items (left (Arrow trees.entry follow)) }
+    ensures further { size_of result ≤ size trees.entry }
+    ensures falls { weight result + array_vec_len levels.new * 4 ≤ size trees.entry * 8 + 2 + array_vec_len levels.old * 4 }
+    ensures room { array_vec_len levels.new ≤ 128 }
+{
+    let Some(rest) = two_puncts(&trees, '-', '>') else {
+        return behind_result(trees, follow);
+    };
+    let Some(begun) = begin_type(&rest) else {
+        return behind_result(trees, follow);
+    };
+    levels.push(Level::Result(follow));
+    begun
+}
+
+// Passes a result if a type comes behind `->`.
+#[cycle(types)]
+fn pass_result<'a>(trees: TtIter<'a>, follow: Option<Follow>) -> Begun<'a>
+    ensures what { left result ≡ left (Arrow trees.entry follow) }
+    ensures further { weight result ≤ size trees.entry * 8 + 2 }
+{
+    let Some(rest) = two_puncts(&trees, '-', '>') else {
+        return behind_result(trees, follow);
+    };
+    behind_result(ty(&rest).unwrap_or(trees), follow)
+}
+
+// Goes out of what is open after a type or an argument. `None` if nothing that may follow it comes.
+fn leave<'a>(trees: TtIter<'a>, is_arg: bool, levels: &mut Levels) -> Option<Next<'a>>
+    requires { array_vec_len levels.old ≤ 128 }
+    ensures what { gone (within (outside is_arg) levels.new.items) result ≡ within (outside is_arg) levels.old.items trees.entry }
+    ensures further { IfSome result (λ n. next_size n ≤ size trees.entry) }
+    ensures falls { IfSome result (λ n. next_weight n + array_vec_len levels.new * 4 ≤ size trees.entry * 8 + array_vec_len levels.old * 4) }
+    ensures room { array_vec_len levels.new ≤ 128 }
+{
+    match levels.pop() {
+        Some(Level::Result(follow)) => Some(Next::Part(behind_result(trees, follow))),
+        Some(Level::Args(follow)) => match next_arg(&trees)? {
+            Next::Part(begun) => {
+                levels.push(Level::Args(follow));
+                Some(Next::Part(begun))
+            }
+            Next::End(rest) => Some(Next::Part(behind_segment(rest, follow))),
+        },
+        None if is_arg => next_arg(&trees),
+        None => Some(Next::End(trees)),
+    }
 }

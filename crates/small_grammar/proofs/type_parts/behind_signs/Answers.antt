@@ -2,7 +2,7 @@ use Rattle.std.proofs.Common.{sym, ◌∙◌, arith}
 use Rattle.small_grammar.specs.Signs.{type_sign}
 use Rattle.small_grammar.proofs.TakingLemmas.{shorter}
 use Rattle.small_grammar.proofs.TypeLemmas.{type_behind_sign}
-use Rattle.small_grammar.proofs.types.behind_signs.Goals as goal
+use Rattle.small_grammar.proofs.type_parts.behind_signs.Goals as goal
 
 pub loop-next-smaller : goal.loop-next-smaller
 loop-next-smaller c =
