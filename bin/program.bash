@@ -1,13 +1,15 @@
 # shellcheck shell=bash
-# For the commands beside it: `run_program` runs a program and ends with its status. The first run, and the first after
-# a source changed, proves and builds the program before.
+# For the commands beside it: `run_on_text` and `run_with_words` run a program and end with its status. The first run,
+# and the first after a source changed, proves and builds the program before.
 version=0.1.0
 # Bytes that the input and the output of a run before the proof may have.
 limit=1048576
+# What the program is run with.
+words=()
 top=$(cd "$(dirname "$(readlink -f "${BASH_SOURCE[0]}")")/.." && pwd) || exit 2
 
 usage() {
-    echo "usage: bin/$program [--quick] [--] [FILE]"
+    echo "usage: bin/$command [--quick] $arguments"
 }
 
 help() {
@@ -30,12 +32,12 @@ END
 }
 
 fail() {
-    echo "$program: $*" >&2
+    echo "$command: $*" >&2
     exit 2
 }
 
 misused() {
-    echo "$program: $*" >&2
+    echo "$command: $*" >&2
     usage >&2
     exit 2
 }
@@ -48,7 +50,7 @@ read_arguments() {
         case $1 in
             --quick) quick=yes ;;
             -h | --help) help && exit 0 ;;
-            --version) echo "$program (Filgordd) $version" && exit 0 ;;
+            --version) echo "$command (Filgordd) $version" && exit 0 ;;
             --) shift && break ;;
             -?*) misused "there is no option $1" ;;
             *) file=$1 files=$((files + 1)) ;;
@@ -67,7 +69,44 @@ open_file() {
     exec <"$1" || exit 2
 }
 
-# Sets `crates`: those that the program needs, itself last, in the order in which the toolchain proves them.
+# Reads the words for a program that has its own options: sets `quick`, and keeps the others in `words`.
+read_words() {
+    quick=
+    while [ $# != 0 ]; do
+        case $1 in
+            --quick) quick=yes ;;
+            --) words+=("$@") && return ;;
+            *) words+=("$1") ;;
+        esac
+        shift
+    done
+}
+
+# Whether the words ask for help or the version, which takes no text.
+ask_for_help() {
+    local word
+    for word in "${words[@]}"; do
+        case $word in
+            -h | --help | -V | --version) return 0 ;;
+            --) return 1 ;;
+        esac
+    done
+    return 1
+}
+
+# Opens the file that the words name, in whose place they then have standard input. It follows a subcommand, and is
+# neither an option nor the value of one.
+lend_file() {
+    local i
+    for ((i = 1; i < ${#words[@]}; i++)); do
+        case ${words[i - 1]},${words[i]} in
+            --grammar,* | --edition,* | --depth,* | *,-*) ;;
+            *) open_file "${words[i]}" && words[i]=- ;;
+        esac
+    done
+}
+
+# Sets `crates`: these and those that they need, in the order in which the toolchain proves them.
 list_crates() {
     local -A below=() listed=()
     local name needs
@@ -75,7 +114,9 @@ list_crates() {
         case $name in '' | '#'*) ;; *) below[${name%% *}]=$needs ;; esac
     done <"$top/crates.txt"
     crates=()
-    list_crate "$program"
+    for name in "$@"; do
+        list_crate "$name"
+    done
 }
 
 # Puts a crate into that list, behind those that it needs. Crates of the toolchain have no line.
@@ -117,7 +158,7 @@ draw() {
     local width=24 full empty
     printf -v full '%*s' $((width * (at > 0 ? at - 1 : 0) / ${#crates[@]})) ''
     printf -v empty '%*s' $((width - ${#full})) ''
-    printf '\r\033[K%.79s' "$program: [${full// /#}${empty// /.}] $1" >&2
+    printf '\r\033[K%.79s' "$command: [${full// /#}${empty// /.}] $1" >&2
 }
 
 # On a terminal in the bar, elsewhere in a line.
@@ -125,7 +166,7 @@ tell() {
     if [ -t 2 ]; then
         draw "$1"
     else
-        echo "$program: proving: $1" >&2
+        echo "$command: proving: $1" >&2
     fi
 }
 
@@ -159,18 +200,18 @@ interrupted() {
     trap '' INT TERM HUP
     kill "$prover" 2>/dev/null
     clear_bar
-    echo "$program: stopped; what is proved is kept, and the next run goes on from there" >&2
+    echo "$command: stopped; what is proved is kept, and the next run goes on from there" >&2
     exit 130
 }
 
 build() {
     local status
     need_rt
-    echo "$program: proving and building the program, about 40 minutes on 4 cores from nothing" >&2
+    echo "$command: proving and building the program, about 40 minutes on 4 cores from nothing" >&2
     mkdir -p "$crate/out" && touch "$built.next" && : >"$log" || exit 2
     at=0
     # It is run once, on an empty text, whose status is 0.
-    exec 3< <(cd "$crate" && exec rt run </dev/null 2>&1)
+    exec 3< <(cd "$crate" && exec rt run -- "${first_words[@]}" </dev/null 2>&1)
     prover=$!
     trap interrupted INT TERM HUP
     show <&3
@@ -191,10 +232,10 @@ run_unproved() {
     room=$(mktemp -d) || exit 2
     trap 'rm -rf "$room"' EXIT
     trap 'exit 130' INT TERM HUP
-    echo "$program: unproved run, about a minute; bin/$program without --quick proves the program first" >&2
+    echo "$command: unproved run, about a minute; bin/$command without --quick proves the program first" >&2
     head -c $((limit + 1)) >"$room/in"
     [ "$(wc -c <"$room/in")" -le "$limit" ] || fail "the input has more than 1 MiB: leave --quick out"
-    (cd "$crate" && exec rt try <"$room/in" >"$room/out" 2>"$room/told")
+    (cd "$crate" && exec rt try -- "${words[@]}" <"$room/in" >"$room/out" 2>"$room/told")
     last=$(tail -n 1 "$room/told")
     case $last in
         'run=ended status='*) ;;
@@ -204,26 +245,51 @@ run_unproved() {
     status=${last#run=ended status=}
     cat "$room/out"
     # What the toolchain says of the run comes behind what the program says.
-    sed '/^interpreter: /,$d' "$room/told" >&2
+    sed '/^\(interpreter\|checked\): /,$d' "$room/told" >&2
     exit "${status%% *}"
 }
 
-# Runs a program by name, with what its help says of it and of its status, and the arguments of the command.
+# Runs a program with `words`.
 run_program() {
-    program=$1 about=$2 statuses=$3
+    program=$1
     crate=$top/crates/$program
     binary=$crate/out/$program
     # As old as the sources of which the program was built.
     built=$crate/out/built
     # All that the toolchain says while it proves and builds.
     log=$crate/out/log
-    shift 3
-    read_arguments "$@"
-    list_crates
+    list_crates "$program"
     ulimit -s hard 2>/dev/null
     if ! is_built; then
         [ -z "$quick" ] || run_unproved
         build
     fi
-    exec "$binary"
+    exec "$binary" "${words[@]}"
+}
+
+# Runs a command's program on a text: `run_on_text COMMAND PROGRAM ABOUT STATUSES ARGUMENT..`, where the help says
+# what the command is about and its statuses. The program gets `words`, and the text on standard input.
+run_on_text() {
+    command=$1 about=$3 statuses=$4 arguments='[--] [FILE]'
+    local name=$2
+    shift 4
+    first_words=("${words[@]}")
+    read_arguments "$@"
+    run_program "$name"
+}
+
+# Runs a program that has options of its own, and the command's name: `run_with_words PROGRAM ABOUT STATUSES WORD..`.
+run_with_words() {
+    command=$1 about=$2 statuses=$3 arguments='COMMAND [OPTION].. [FILE]'
+    shift 3
+    first_words=(expand)
+    read_words "$@"
+    crate=$top/crates/$command
+    if ask_for_help; then
+        [ -x "$crate/out/$command" ] || [ -n "$quick" ] || { help && exit 0; }
+        exec </dev/null
+    elif [ -n "$quick" ]; then
+        lend_file
+    fi
+    run_program "$command"
 }

@@ -1,6 +1,6 @@
-//! Other numbers of levels than the program `replay` has, and the origins of printed tokens.
+//! Other numbers of levels than the stored run of scripts has, and the origins of printed tokens.
 use crate::rows::row_of;
-use expander::{Edition, FaultKind, Reply, Session, SmallGrammar};
+use expander::{Edition, FaultKind, Options, Reply, Session, SmallGrammar};
 use replay_script::answer_script;
 use std::alloc::Global;
 use std::test::Fail;
@@ -29,7 +29,12 @@ const ROWS: &str = r#"
 // The output of a script that expands a text, written as an example.
 fn told(alloc: Global, depth: u8, text: &str) -> Result<String, Fail> {
     let script = format!(in alloc; "origins\nedit 0 0 {text}\nexpand\n")?;
-    let replayed = answer_script(alloc, script.as_str(), depth)?;
+    let options = Options {
+        grammar: SmallGrammar,
+        edition: Edition::Edition2024,
+        depth,
+    };
+    let replayed = answer_script(alloc, script.as_str(), options)?;
     Ok(row_of(alloc, replayed.told.as_str())?)
 }
 

@@ -3,7 +3,7 @@
 //!
 //! Expected values were worked out by hand. What definitions alone decide are worked examples in
 //! the expander's `proofs/`, and what texts give with 128 levels is in the stored run of the
-//! program `replay`. Here are other levels, other grammars, and calls that no script makes, with
+//! program `filgordd`. Here are other levels, other grammars, and calls that no script makes, with
 //! memory and without, and with readers and writers that fail.
 #![tactic(auto)]
 
@@ -11,6 +11,8 @@
 mod fakes;
 #[cfg(test)]
 mod levels;
+#[cfg(test)]
+mod options;
 #[cfg(test)]
 mod printed_again;
 #[cfg(test)]

@@ -1,7 +1,7 @@
 -- The answers to a script, as text, and its first bad line. (Of this project.)
 use Rattle.std.specs.Prelude.{◌≡◌, ◌≢◌, ℕ, ◌+◌, Bool, true, false, List, [], ◌++◌, length, Option, Some, None, codes, if◌then◌else◌}
 use Rattle.expander.specs.Answers.{AreAnswers}
-use Rattle.expander.specs.Runs.{run_layers}
+use Rattle.expander_model.specs.Meaning.{Layers}
 use Rattle.expander_session.specs.declared.commands.Answer.{Answer}
 use Rattle.expander_session.specs.declared.commands.Command.{Command}
 use Rattle.replay_script.specs.Scripts.{AreSaid, IsBad}
@@ -31,17 +31,17 @@ bad_line true origins commands = None
 bad_line false origins commands = Some (length commands + (if origins then 2 else 1))
 
 -- the text of the answers to these commands, each at its turn, over an empty text at first
-abbrev pub AreTold : List Command → ℕ → Bool → List ℕ → Type 0
-AreTold commands depth origins told =
-    (answers : List Answer) × AreAnswers run_layers depth [] [] commands answers × (told ≡ all_told origins answers)
+abbrev pub AreTold : Layers → List Command → ℕ → Bool → List ℕ → Type 0
+AreTold layers commands depth origins told =
+    (answers : List Answer) × AreAnswers layers depth [] [] commands answers × (told ≡ all_told origins answers)
 
 -- the text of the answers to a script: to its lines up to the first bad one
-pub record IsReplayed (text : List ℕ) (depth : ℕ) (told : List ℕ) (bad : Option ℕ) : Type 0 where
+pub record IsReplayed (layers : Layers) (text : List ℕ) (depth : ℕ) (told : List ℕ) (bad : Option ℕ) : Type 0 where
   pub origins : Bool
   pub lines : List ℕ
   pub head : HasHead text origins lines
   pub commands : List Command
   pub is_whole : Bool
   pub said : HasCommands lines commands is_whole
-  pub all : AreTold commands depth origins told
+  pub all : AreTold layers commands depth origins told
   pub bad_is : bad ≡ bad_line is_whole origins commands

@@ -1,10 +1,12 @@
 //! Answers a script: its commands, up to the first bad line.
 ghost use Rattle.std.specs.Prelude.{◌≡◌, IfOk, string_bytes};
+ghost use Rattle.expander.specs.Runs.{layers_of};
 ghost use Rattle.replay_script.specs.Replays.{AreTold, HasCommands, HasHead, IsReplayed, bad_line};
 
 use crate::line::{behind, command_of, cut_at};
 use crate::tell::push_answers;
-use expander::{Command, Edition, SmallGrammar, replay};
+use expander::{Command, Options, replay};
+use fragment_grammar::FragmentGrammar;
 use std::alloc::{AllocError, Global};
 
 /// The answers to a script as text, and the number, from 1, of its first bad line, if there is
@@ -53,30 +55,38 @@ fn bad_line(is_whole: bool, origins: bool, commands: &[Command]) -> Option<usize
 }
 
 // The answers to these commands, as text.
-fn told_of(
+fn told_of<G: FragmentGrammar + Drop>(
     alloc: Global,
     commands: &[Command],
-    depth: u8,
+    options: Options<G>,
     origins: bool,
 ) -> Result<String, AllocError>
-    ensures { IfOk result (λ told. AreTold commands.now depth origins (string_bytes told)) }
+    ensures { IfOk result (λ told. AreTold (layers_of G.answer options) commands.now options.depth origins (string_bytes told)) }
 {
-    let edition = Edition::Edition2024;
-    let answers = replay(alloc, "", SmallGrammar, edition, depth, commands)?;
+    let Options {
+        grammar,
+        edition,
+        depth,
+    } = options;
+    let answers = replay(alloc, "", grammar, edition, depth, commands)?;
     let mut told = String::new(alloc);
     push_answers(&mut told, answers.as_slice(), origins)?;
     Ok(told)
 }
 
-/// Answers the commands of a script, up to its first bad line, with `depth` levels of calls, by
-/// the small grammar and in edition 2024. The forms of lines and answers are at the head of this
-/// crate. Its only error is out of memory.
-pub fn answer_script(alloc: Global, text: &str, depth: u8) -> Result<Replayed, AllocError>
-    ensures { IfOk result (λ r. IsReplayed text.now depth (string_bytes r.told) r.bad) }
+/// Answers the commands of a script, up to its first bad line, by a grammar, an edition and a
+/// number of levels. The forms of lines and answers are at the head of this crate. Its only error
+/// is out of memory.
+pub fn answer_script<G: FragmentGrammar + Drop>(
+    alloc: Global,
+    text: &str,
+    options: Options<G>,
+) -> Result<Replayed, AllocError>
+    ensures { IfOk result (λ r. IsReplayed (layers_of G.answer options) text.now options.depth (string_bytes r.told) r.bad) }
 {
     let (origins, lines) = head_of(text);
     let (commands, is_whole) = commands_in(alloc, lines)?;
-    let told = told_of(alloc, commands.as_slice(), depth, origins)?;
+    let told = told_of(alloc, commands.as_slice(), options, origins)?;
     let bad = bad_line(is_whole, origins, commands.as_slice());
     Ok(Replayed { told, bad })
 }

@@ -1,0 +1,50 @@
+-- Which words choose which options. (Of this project.)
+use Rattle.std.specs.Prelude.{◌≡◌, ℕ, List, Some, codes}
+use Rattle.std.specs.Str.Parse.{IsNumeral, digits_value, without_leading_plus}
+use Rattle.clap.specs.Words.{first_value}
+use Rattle.clap.specs.declared.parser.matches.Found.{Found}
+use Rattle.tt_data.specs.declared.edition.Edition.{Edition}
+use Rattle.tt_data.specs.declared.edition.Edition.TheVariants.{Edition2015, Edition2018, Edition2021, Edition2024}
+use Rattle.any_grammar.specs.declared.chosen.AnyGrammar.{AnyGrammar}
+use Rattle.any_grammar.specs.declared.chosen.AnyGrammar.TheVariants.{Small, Rust}
+use Rattle.expander_run.specs.declared.options.Options.{Options}
+use Rattle.filgordd.specs.declared.job.Action.{Action}
+use Rattle.filgordd.specs.declared.job.Action.TheVariants.{Expand, Replay}
+
+-- the name of a subcommand
+abbrev pub action_name : Action → List ℕ
+action_name Expand = codes "expand"
+action_name Replay = codes "replay"
+
+-- the name of an edition: its year
+abbrev pub edition_name : Edition → List ℕ
+edition_name Edition2015 = codes "2015"
+edition_name Edition2018 = codes "2018"
+edition_name Edition2021 = codes "2021"
+edition_name Edition2024 = codes "2024"
+
+-- a word names a grammar; that of Rust is of this edition
+abbrev pub IsGrammar : List ℕ → Edition → AnyGrammar → Type 0
+IsGrammar word edition Small = word ≡ codes "small"
+IsGrammar word edition (Rust e) = (word ≡ codes "rust") × (e ≡ edition)
+
+-- a word is a decimal number; a plus may come before it
+pub record IsDepth (word : List ℕ) (n : ℕ) : Type 0 where
+  pub numeral : IsNumeral 10 (without_leading_plus word)
+  pub value : n ≡ digits_value 10 (without_leading_plus word)
+
+-- the words for a grammar, an edition and a number of levels choose these options
+pub record Chosen (grammar edition depth : List ℕ) (options : Options AnyGrammar) : Type 0 where
+  pub by_grammar : IsGrammar grammar options.edition options.grammar
+  pub by_edition : edition ≡ edition_name options.edition
+  pub by_depth : IsDepth depth options.depth
+
+-- the values of a subcommand's options choose these
+pub record Asks (found : Found) (options : Options AnyGrammar) : Type 0 where
+  pub grammar : List ℕ
+  pub edition : List ℕ
+  pub depth : List ℕ
+  pub has_grammar : first_value found (codes "grammar") ≡ Some grammar
+  pub has_edition : first_value found (codes "edition") ≡ Some edition
+  pub has_depth : first_value found (codes "depth") ≡ Some depth
+  pub chosen : Chosen grammar edition depth options

@@ -1,0 +1,72 @@
+//! The options that the program has, as a command of `clap`.
+use clap::{Arg, Command, value_parser};
+use std::alloc::{AllocError, Global};
+
+const ABOUT: &str =
+    "Expands the declarative macros of Rust, macro_rules! and macro, that one text defines";
+
+const STATUSES: &str =
+    "Status: 0 without a fault, 1 with one or where the program stops, 2 for wrong arguments \
+    or a file that cannot be read";
+
+static GRAMMARS: [&str; 2] = ["rust", "small"];
+
+static EDITIONS: [&str; 4] = ["2015", "2018", "2021", "2024"];
+
+fn grammar<'a>(alloc: Global) -> Arg<'a> {
+    Arg::new(alloc, "grammar")
+        .long("grammar")
+        .value_name("NAME")
+        .value_parser(GRAMMARS.as_slice())
+        .default_value("rust")
+        .help("The grammar of fragments: that of Rust, or the small one")
+}
+
+fn edition<'a>(alloc: Global) -> Arg<'a> {
+    Arg::new(alloc, "edition")
+        .long("edition")
+        .value_name("YEAR")
+        .value_parser(EDITIONS.as_slice())
+        .default_value("2024")
+        .help("The edition of Rust")
+}
+
+fn depth<'a>(alloc: Global) -> Arg<'a> {
+    Arg::new(alloc, "depth")
+        .long("depth")
+        .value_name("N")
+        .value_parser(value_parser!(u8))
+        .default_value("128")
+        .help("How many levels of calls are expanded, 0 to 255")
+}
+
+fn file<'a>(alloc: Global) -> Arg<'a> {
+    Arg::new(alloc, "file")
+        .value_name("FILE")
+        .help("The text; without it, or for -, standard input")
+}
+
+// A subcommand on a text, with the options that each has.
+fn subcommand<'a>(alloc: Global, name: &'a str, about: &'a str) -> Result<Command<'a>, AllocError> {
+    Command::new(alloc, name)
+        .about(about)
+        .arg(grammar(alloc))?
+        .arg(edition(alloc))?
+        .arg(depth(alloc))?
+        .arg(file(alloc))
+}
+
+/// The program's command. Its subcommands are the names of [`Action`](crate::job::Action).
+pub(crate) fn program<'a>(alloc: Global) -> Result<Command<'a>, AllocError> {
+    let expand = "Prints the expansion of a text, and reports its faults";
+    let replay = "Answers a script of edits and expansions";
+    Command::new(alloc, "filgordd")
+        .bin_name("filgordd")?
+        .version("0.1.0")
+        .about(ABOUT)
+        .after_help(STATUSES)
+        .subcommand_required(true)
+        .disable_help_subcommand(true)
+        .subcommand(subcommand(alloc, "expand", expand)?)?
+        .subcommand(subcommand(alloc, "replay", replay)?)
+}

@@ -1,0 +1,72 @@
+//! What the program is asked for: a subcommand, its options and its text.
+ghost use Rattle.std.specs.Prelude.{◌≡◌, ◌≢◌, IfSome, MatchOption};
+ghost use Rattle.tt_data.specs.declared.edition.Edition.{Edition};
+ghost use Rattle.filgordd.specs.Choices.{Chosen, IsGrammar, action_name, edition_name};
+
+use any_grammar::AnyGrammar;
+use expander::{Edition, Options};
+
+/// What is done with a text.
+#[derive(Clone, Copy, PartialEq, Eq, Debug)]
+pub(crate) enum Action {
+    /// Its macros are expanded.
+    Expand,
+    /// It is answered as a script of edits and expansions.
+    Replay,
+}
+
+/// What is done by the subcommand of a name, if there is one.
+pub(crate) fn action_of(name: &str) -> Option<Action>
+    ensures { MatchOption result ((a : Action) → name.now ≢ action_name a) (λ a. name.now ≡ action_name a) }
+{
+    match name {
+        "expand" => Some(Action::Expand),
+        "replay" => Some(Action::Replay),
+        _ => None,
+    }
+}
+
+/// A text, what is done with it, and by which grammar, edition and number of levels.
+#[derive(Drop, Debug)]
+pub(crate) struct Job<'a> {
+    pub(crate) action: Action,
+    pub(crate) options: Options<AnyGrammar>,
+    /// The path of the text's file; without one it is standard input.
+    pub(crate) file: Option<&'a str>,
+}
+
+// The edition of a name, if it is one's.
+fn edition_of(name: &str) -> Option<Edition>
+    ensures { MatchOption result ((e : Edition) → name.now ≢ edition_name e) (λ e. name.now ≡ edition_name e) }
+{
+    match name {
+        "2015" => Some(Edition::Edition2015),
+        "2018" => Some(Edition::Edition2018),
+        "2021" => Some(Edition::Edition2021),
+        "2024" => Some(Edition::Edition2024),
+        _ => None,
+    }
+}
+
+// The grammar of a name, if it is one's; that of Rust is of this edition.
+fn grammar_of(name: &str, edition: Edition) -> Option<AnyGrammar>
+    ensures { IfSome result (IsGrammar name.now edition) }
+{
+    match name {
+        "rust" => Some(AnyGrammar::Rust(edition)),
+        "small" => Some(AnyGrammar::Small),
+        _ => None,
+    }
+}
+
+/// The options that these three words choose, if each of them is one.
+pub(crate) fn options_of(grammar: &str, edition: &str, depth: &str) -> Option<Options<AnyGrammar>>
+    ensures { IfSome result (Chosen grammar.now edition.now depth.now) }
+{
+    let edition = edition_of(edition)?;
+    Some(Options {
+        grammar: grammar_of(grammar, edition)?,
+        edition,
+        depth: depth.parse::<u8>().ok()?,
+    })
+}
