@@ -9,12 +9,13 @@ use Rattle.any_grammar.specs.declared.chosen.AnyGrammar.{AnyGrammar}
 use Rattle.any_grammar.specs.declared.chosen.AnyGrammar.TheVariants.{Small, Rust}
 use Rattle.expander_run.specs.declared.options.Options.{Options}
 use Rattle.filgordd.specs.declared.job.Action.{Action}
-use Rattle.filgordd.specs.declared.job.Action.TheVariants.{Expand, Replay}
+use Rattle.filgordd.specs.declared.job.Action.TheVariants.{Expand, Replay, View}
 
 -- the name of a subcommand
 abbrev pub action_name : Action → List ℕ
 action_name Expand = codes "expand"
 action_name Replay = codes "replay"
+action_name View = codes "view"
 
 -- the name of an edition: its year
 abbrev pub edition_name : Edition → List ℕ

@@ -60,6 +60,7 @@ fn subcommand<'a>(alloc: Global, name: &'a str, about: &'a str) -> Result<Comman
 pub(crate) fn program<'a>(alloc: Global) -> Result<Command<'a>, AllocError> {
     let expand = "Prints the expansion of a text, and reports its faults";
     let replay = "Answers a script of edits and expansions";
+    let view = "Prints an HTML page of a text, its expansion and its faults";
     Command::new(alloc, "filgordd")
         .bin_name("filgordd")?
         .version("0.1.0")
@@ -68,5 +69,6 @@ pub(crate) fn program<'a>(alloc: Global) -> Result<Command<'a>, AllocError> {
         .subcommand_required(true)
         .disable_help_subcommand(true)
         .subcommand(subcommand(alloc, "expand", expand)?)?
-        .subcommand(subcommand(alloc, "replay", replay)?)
+        .subcommand(subcommand(alloc, "replay", replay)?)?
+        .subcommand(subcommand(alloc, "view", view)?)
 }

@@ -13,6 +13,8 @@ pub(crate) enum Action {
     Expand,
     /// It is answered as a script of edits and expansions.
     Replay,
+    /// It is shown with its expansion, as an HTML page.
+    View,
 }
 
 /// What is done by the subcommand of a name, if there is one.
@@ -22,6 +24,7 @@ pub(crate) fn action_of(name: &str) -> Option<Action>
     match name {
         "expand" => Some(Action::Expand),
         "replay" => Some(Action::Replay),
+        "view" => Some(Action::View),
         _ => None,
     }
 }

@@ -1,5 +1,5 @@
-//! The program `filgordd`: it expands the macros of a text, or answers a script of edits and
-//! expansions.
+//! The program `filgordd`: it expands the macros of a text, shows the expansion as a page, or
+//! answers a script of edits and expansions.
 #![tactic(auto)]
 
 mod command;
@@ -7,6 +7,7 @@ mod job;
 mod request;
 #[cfg(test)]
 mod tests;
+mod view;
 mod work;
 
 use crate::request::{Request, request_of};

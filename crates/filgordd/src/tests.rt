@@ -10,6 +10,7 @@ expand - ¦ Work(Job { action: Expand, options: Options { grammar: Rust(Edition2
 expand --edition=2015 a.rs ¦ Work(Job { action: Expand, options: Options { grammar: Rust(Edition2015), edition: Edition2015, depth: 128 }, file: Some("a.rs") })
 expand -- --depth ¦ Work(Job { action: Expand, options: Options { grammar: Rust(Edition2024), edition: Edition2024, depth: 128 }, file: Some("--depth") })
 replay s --grammar small --edition 2018 --depth 0 ¦ Work(Job { action: Replay, options: Options { grammar: Small, edition: Edition2018, depth: 0 }, file: Some("s") })
+view --grammar=small a.rs ¦ Work(Job { action: View, options: Options { grammar: Small, edition: Edition2024, depth: 128 }, file: Some("a.rs") })
 replay --edition 2021 --depth 255 ¦ Work(Job { action: Replay, options: Options { grammar: Rust(Edition2021), edition: Edition2021, depth: 255 }, file: None })
 expand --depth 256 ¦ Misuse("invalid value '256' for '--depth <N>': 256 is not in 0..=255")
 expand --depth deep ¦ Misuse("invalid value 'deep' for '--depth <N>': invalid digit found in string")
@@ -19,7 +20,7 @@ expand --edition ¦ Misuse("a value is required for '--edition <YEAR>' but none 
 expand --fast ¦ Misuse("unexpected argument '--fast' found")
 expand a b ¦ Misuse("unexpected argument 'b' found")
 explode ¦ Misuse("unrecognized subcommand 'explode'")
- ¦ Misuse("'filgordd' requires a subcommand but one was not provided [subcommands: expand, replay]")
+ ¦ Misuse("'filgordd' requires a subcommand but one was not provided [subcommands: expand, replay, view]")
 --version ¦ Show("filgordd 0.1.0\n")
 "#;
 

@@ -1,6 +1,7 @@
 //! Does what the program is asked for.
 use crate::job::{Action, Job};
 use crate::request::one_line;
+use crate::view::view;
 use any_grammar::AnyGrammar;
 use expander::{Options, Status, Watched, run_with};
 use replay_script::answer_script;
@@ -49,6 +50,14 @@ fn replay(rt: &HostRuntime, options: Options<AnyGrammar>, script: &str) -> io::R
     }
 }
 
+// Does a job on a whole text. `name` is its file's.
+fn answer(rt: &HostRuntime, job: &Job<'_>, name: &str, text: &str) -> io::Result<ExitCode> {
+    match job.action {
+        Action::View => view(rt, job.options, name, text),
+        _ => replay(rt, job.options, text),
+    }
+}
+
 // Does a job on what a reader has left. `name` is the reader's.
 fn work_on<R: Read + Drop>(
     rt: &HostRuntime,
@@ -58,8 +67,8 @@ fn work_on<R: Read + Drop>(
 ) -> io::Result<ExitCode> {
     match job.action {
         Action::Expand => Ok(expand(rt, job.options, reader)),
-        Action::Replay => match io::read_to_string(rt.alloc(), reader) {
-            Ok(script) => replay(rt, job.options, script.as_str()),
+        Action::Replay | Action::View => match io::read_to_string(rt.alloc(), reader) {
+            Ok(text) => answer(rt, job, name, text.as_str()),
             Err(error) => misused(rt, name, &error),
         },
     }

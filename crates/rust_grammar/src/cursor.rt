@@ -8,7 +8,7 @@ ghost use Rattle.rust_grammar.specs.declared.outcome.Outcome.TheVariants.{Misses
 use crate::nodes::{class_of_ident, class_of_sign, starts_at};
 use std::marker::Model;
 use tt::TtIter;
-use tt_data::{DelimiterKind, Leaf};
+use tt_data::{DelimiterKind, LeafRef};
 
 /// Trees that are left, and the class of the first. Contracts see it as the trees.
 #[derive(Drop)]
@@ -59,9 +59,9 @@ fn class_of(trees: &TtIter<'_>) -> u8
     ensures { result ≡ class_of trees.now }
 {
     match trees.lent_leaf() {
-        Some((Leaf::Ident(ident), _)) => ident_class(ident.sym.as_str()),
-        Some((Leaf::Punct(punct), _)) => class_of_sign(punct.char),
-        Some((Leaf::Literal(_), _)) => 1,
+        Some((LeafRef::Ident(ident), _)) => ident_class(ident.sym.as_str()),
+        Some((LeafRef::Punct(punct), _)) => class_of_sign(punct.char),
+        Some((LeafRef::Literal(_), _)) => 1,
         None => match trees.first_group() {
             Some((delimiter, _, _)) => group_class(delimiter.kind),
             None => 0,

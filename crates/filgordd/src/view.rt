@@ -1,0 +1,67 @@
+//! Shows a text with its expansion.
+ghost use Rattle.std.specs.Prelude.{◌<◌, ◌^◌, length, None, IfOk};
+ghost use Rattle.any_grammar.specs.Answer.{answer};
+ghost use Rattle.expander_run.specs.Runs.{layers_of};
+ghost use Rattle.expander_session.specs.Replies.{IsReplyTo};
+
+use any_grammar::AnyGrammar;
+use expander::{Options, Refusal, Reply, Session};
+use expansion_page::page;
+use std::alloc::{AllocError, Global};
+use std::io;
+use std::process::ExitCode;
+
+// The reply of a new session over a text.
+fn reply_of(alloc: Global, options: Options<AnyGrammar>, text: &str) -> Result<Reply, Refusal>
+    requires { length text.now < 2 ^ 32 }
+    ensures { IfOk result (IsReplyTo (layers_of answer options) options.depth text.now None) }
+{
+    let mut session = match Session::new(
+        alloc,
+        text,
+        options.grammar,
+        options.edition,
+        options.depth,
+    ) {
+        Ok(session) => session,
+        Err(AllocError) => return Err(Refusal::Memory),
+    };
+    session.expansion()
+}
+
+fn is_faultless(reply: &Reply) -> bool {
+    match reply {
+        Reply::Read(expansion) => expansion.faults().is_empty(),
+        Reply::Unread(_) => false,
+    }
+}
+
+fn stopped(rt: &HostRuntime, why: &str) -> io::Result<ExitCode> {
+    eprintln!(rt; "{why}")?;
+    Ok(ExitCode::FAILURE)
+}
+
+/// Prints the page of a text, with this title. The status is 0 if the text has no fault, else 1.
+pub(crate) fn view(
+    rt: &HostRuntime,
+    options: Options<AnyGrammar>,
+    title: &str,
+    text: &str,
+) -> io::Result<ExitCode> {
+    if text.len() > 0xffff_ffff {
+        return stopped(rt, "input is too long");
+    }
+    match reply_of(rt.alloc(), options, text) {
+        Ok(reply) => {
+            let html = page(rt.alloc(), title, text, &reply)?;
+            print!(rt; "{html}")?;
+            Ok(if is_faultless(&reply) {
+                ExitCode::SUCCESS
+            } else {
+                ExitCode::FAILURE
+            })
+        }
+        Err(Refusal::Memory) => stopped(rt, "out of memory"),
+        Err(_) => stopped(rt, "too many tokens"),
+    }
+}
