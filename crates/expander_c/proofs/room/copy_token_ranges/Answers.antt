@@ -30,8 +30,8 @@ returns c =
     let i = c.loop-range.i in
     let is = c.loop-range.invariant in
     let many : length (map byte_range ranges) ≡ length c.args.expansion.now.origins =
-      length-map ranges byte_range ∙ ap length (sym c.token_ranges-ranges.ensures.ranges) ∙ c.token_ranges-ranges.ensures.count in
+    length-map ranges byte_range ∙ ap length (sym c.token_ranges-ranges.ensures.ranges) ∙ c.token_ranges-ranges.ensures.count in
     let fits : length (map byte_range ranges) ≤ length c.args.room.now =
-      omega (arith, many, c.tokens.ensures, c.if-room-tokens.false) in
+    omega (arith, many, c.tokens.ensures, c.if-room-tokens.false) in
     let (none, _) = c.in-None.ensures.steps in
     (fits, copied_all ranges c.loop-range.room c.args.room.now i (is.rest ∙ none) is.so_far is.copied is.left)
