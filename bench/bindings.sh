@@ -1,12 +1,12 @@
 #!/bin/bash
-# What a call through C costs beside the same call in Rattle: the program of bench/edits and bench/bindings/turns.c do
-# the same with the same input, and tell the same. First a text is opened, expanded and closed again and again; then a
-# letter is typed and taken out again, and each time the text is expanded. Instructions by callgrind where valgrind is
-# installed, which other work on the machine does not change, and processor time, the least of five runs.
-# EXPANDER_ARCHIVES may name the folders of the archives, as for .ci/bindings: then none is built before.
+# What calls through C cost: bench/bindings/turns.c opens, expands and closes a text again and again, or types a letter
+# and takes it out again, and each time expands the text. First it tells the instructions of each call, by callgrind where
+# valgrind is installed, which other work on the machine does not change. Then it compares with the program of bench/edits,
+# which does the same in Rattle with the same input and has to tell the same, also in processor time, the least of five
+# runs. With CALLS_ALONE=1 it leaves that out. EXPANDER_ARCHIVES may name the folders of the archives, as for
+# .ci/bindings: then none is built before.
 . "$(dirname "$(readlink -f "${BASH_SOURCE[0]}")")/common.sh"
 turns=${1:-2000}
-[ -n "$program" ] || build edits rustc_lexer symbols tt_data tt fragment_grammar small_grammar bridge mbe_rules mbe_matcher mbe_transcriber mbe expander_model expander_reparse expander_scope expander_session expander_run expander
 if [ -z "${EXPANDER_ARCHIVES-}" ]; then
     (cd "$top/crates/expander_c" && rt lib >&2) || exit 2
     EXPANDER_ARCHIVES=$top/crates/expander_c/out:$(dirname "$(rt doc)")/c
@@ -26,11 +26,30 @@ input() {
     printf '%s %s 53 a\n%s' "$1" "$2" 'macro_rules! p { ($a:ident $b:tt) => { $b $a } } p!{ x y }' >"$work/in"
 }
 
-# How many instructions a program takes for so many turns.
+# How many instructions a program takes for so many turns, or one of its functions if that is named.
 instructions() {
     input "$1" "$2"
-    valgrind --tool=callgrind --callgrind-out-file=/dev/null "$3" <"$work/in" 2>&1 >"$work/out" | awk '/Collected/ { print $NF }'
+    valgrind --tool=callgrind --callgrind-out-file=/dev/null ${4:+--toggle-collect="$4"} "$3" <"$work/in" 2>&1 >"$work/out" |
+        awk '/Collected/ { print $NF }'
 }
+
+# What a call of a kind of turn takes.
+call() {
+    local none many
+    none=$(instructions "$1" 0 "$work/turns" "expander_raw_$2")
+    many=$(instructions "$1" "$turns" "$work/turns" "expander_raw_$2")
+    echo "  $3: $(( (many - none) / turns )) instructions"
+}
+if command -v valgrind >/dev/null; then
+    call s open 'opening'
+    call s expand 'the first answer'
+    call s close 'closing'
+    call e edit 'an edit'
+    call e expand 'the answer after it'
+    call e counts 'its counts'
+fi
+[ -z "${CALLS_ALONE-}" ] || exit 0
+[ -n "$program" ] || build edits rustc_lexer symbols tt_data tt fragment_grammar small_grammar bridge mbe_rules mbe_matcher mbe_transcriber mbe expander_model expander_reparse expander_scope expander_session expander_run expander
 
 # The microseconds of processor time of them.
 time_of() {

@@ -36,9 +36,9 @@ grammar_of number edition =
     else None
 
 -- a new session over this text, before any answer
-pub record IsNew (bytes : List ℕ) (year levels grammar : ℕ) (live : Live) : Type 0 where
+pub record IsNew (bytes : List ℕ) (year levels number : ℕ) (live : Live) : Type 0 where
   pub edition : edition_of year ≡ Some live.session.edition
-  pub grammar : grammar_of grammar live.session.edition ≡ Some live.session.grammar
+  pub grammar : grammar_of number live.session.edition ≡ Some live.session.grammar
   pub text : live.session.text ≡ bytes
   pub depth : live.session.depth ≡ levels
   pub held : live.session.held ≡ None

@@ -25,11 +25,12 @@ pub(crate) fn copy_token_ranges(expansion: &Expansion, room: &mut [ByteRange]) -
     if expansion.printed().len() > 0xffff_ffff {
         return Code::Length;
     }
+    let ranges = expansion.token_ranges();
     if room.len() < expansion.tokens() {
         return Code::Room;
     }
     let mut i = 0;
-    for range in expansion.token_ranges() {
+    for range in ranges {
         room[i] = byte_range(range);
         i += 1;
     }
