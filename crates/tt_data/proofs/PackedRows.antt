@@ -1,5 +1,5 @@
 -- Worked examples, by computation: `a ( 1u8 ; a )` as bytes and a table.
-use Rattle.std.proofs.Common.{◌≡◌, ◌≤◌, ℕ, ◌+◌, List, [], ◌∷◌, ◌++◌, length, drop, refl, arith, codes, Option, Some, None}
+use Rattle.std.proofs.Common.{◌≡◌, ℕ, ◌+◌, List, [], ◌∷◌, length, refl, arith, codes}
 use Rattle.tt_data.specs.declared.span.Span.{Span}
 use Rattle.tt_data.specs.declared.span.SyntaxContext.TheVariants.{Written, Made}
 use Rattle.tt_data.specs.declared.delimiter.DelimiterKind.TheVariants.{Parenthesis}
@@ -11,7 +11,7 @@ use Rattle.tt_data.specs.declared.tree.TokenTree.TheVariants as token
 use Rattle.tt_data.specs.Forest.{head_of}
 use Rattle.tt_data.specs.Literals.{literal_of}
 use Rattle.tt_data.specs.Names.{ident_of}
-use Rattle.tt_data.specs.Records.{BeginsWithToken, first_size, first_token, token_bytes, word}
+use Rattle.tt_data.specs.Records.{BeginsWithToken, first_token, token_bytes, word}
 use Rattle.tt_data.specs.Packing.{number_of, records, table_after, tokens_in}
 
 abbrev at : ℕ → Span

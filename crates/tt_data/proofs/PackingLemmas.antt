@@ -1,13 +1,11 @@
 -- Records and a table give a list of tokens back.
-use Rattle.std.proofs.Common.{rules, if◌then◌else◌, ◌≡◌, ◌∙◌, ap, sym, ℕ, zero, suc, ◌+◌, ◌*◌, ◌≤◌, ◌<◌, List, [], ◌∷◌, ◌++◌, length, drop, refl, arith, append_assoc, append-nil, length-append, slice_index_or, nat_eq, Option, Some, None, Bool, true, false}
+use Rattle.std.proofs.Common.{rules, if◌then◌else◌, ◌≡◌, ◌∙◌, ap, sym, ℕ, suc, ◌*◌, ◌≤◌, List, [], ◌∷◌, ◌++◌, length, drop, refl, arith, append_assoc, append-nil, length-append, slice_index_or, nat_eq, Option, Some, None, Bool, true, false}
 use Rattle.std.proofs.Math.Seq.{drop-append_seam}
 use Rattle.std.specs.Cmp.Lexicographic.{pointwise}
-use Rattle.tt_data.specs.declared.leaf.Leaf.{Leaf}
-use Rattle.tt_data.specs.declared.leaf.Leaf.TheVariants as as_leaf
 use Rattle.tt_data.specs.declared.tree.Subtree.{Subtree}
 use Rattle.tt_data.specs.declared.tree.TokenTree.{TokenTree}
 use Rattle.tt_data.specs.declared.tree.TokenTree.TheVariants as token
-use Rattle.tt_data.specs.Records.{first_size, first_token, text_of, token_bytes}
+use Rattle.tt_data.specs.Records.{first_size, first_token, text_of}
 use Rattle.tt_data.specs.Packing.{number_in, number_of, record_of, records, table_after, tokens_in, with_text, with_token}
 use Rattle.tt_data.proofs.RecordLemmas.{HasText, first_size-bytes, first_token-bytes, length-bytes}
 
