@@ -1,9 +1,10 @@
 -- How a cursor's flat list and two numbers hold its position.
-use Rattle.std.specs.Prelude.{◌≡◌, ℕ, ◌+◌, ◌-◌, ◌<◌, ◌≤◌, List, [], ◌∷◌, ◌++◌, ◌⊎◌, slice_index_or, nat_eq, nat_le, if◌then◌else◌}
+use Rattle.std.specs.Prelude.{◌≡◌, ℕ, ◌+◌, ◌-◌, ◌<◌, ◌≤◌, List, [], ◌∷◌, slice_index_or, nat_eq, nat_le, if◌then◌else◌}
 use Rattle.tt_data.specs.declared.tree.TokenTree.{TokenTree}
 use Rattle.tt_data.specs.declared.tree.TokenTree.TheVariants as token
 use Rattle.tt_data.specs.Forest.{Forest, empty, leaf, group, joined, size, preorder, forest_of}
 use Rattle.tt.specs.Places.{Around, Place}
+use Rattle.tt.specs.declared.buffer.ListAround.{ListAround}
 
 -- all trees, with these groups around the innermost list
 abbrev pub whole_in : List Around → Forest → Forest
@@ -60,15 +61,6 @@ pub record IsTreeOf (tokens : List TokenTree) (head start : ℕ) : Type 0 where
 abbrev pub BeginsListOf : List TokenTree → ℕ → ℕ → Type 0
 BeginsListOf tokens head result = (start : ℕ) → IsTreeOf tokens head start → result ≡ start
 
--- the indices at which the lists around the innermost one begin, the nearest last
-abbrev pub starts_around : List Around → List ℕ
-starts_around [] = []
-starts_around (a ∷ outer) = starts_around outer ++ start_in outer ∷ []
-
--- these are the beginnings of the nearest of those lists
-abbrev pub AreNearest : List ℕ → List Around → Type 0
-AreNearest starts around = (further : List ℕ) × (starts_around around ≡ further ++ starts)
-
--- the last beginning is removed, or from an empty list that of the list with this head is given
-abbrev pub IsNextOut : List TokenTree → ℕ → List ℕ → List ℕ → ℕ → Type 0
-IsNextOut tokens head old new result = (old ≡ new ++ result ∷ []) ⊎ ((old ≡ []) × ((new ≡ []) × BeginsListOf tokens head result))
+-- the list with the group at this head begins where this says
+abbrev pub IsKept : List TokenTree → ListAround → Type 0
+IsKept tokens list = BeginsListOf tokens list.head list.start

@@ -3,12 +3,13 @@
 //! A `Cursor` enters groups and leaves them again, where a `TtIter` passes a group as one tree.
 //! Its contracts see it as a position among trees: those before it, those after it, and the
 //! groups around it.
-ghost use Rattle.tt.specs.CursorTokens.{BeginsListOf, IsNextOut, Reaches};
+ghost use Rattle.arrayvec.specs.ArrayVec.{array_vec_len};
+ghost use Rattle.tt.specs.CursorTokens.{BeginsListOf, IsKept, Reaches};
 ghost use Rattle.tt.specs.Places.{two_leaves};
 ghost use Rattle.tt.specs.Records.{items, as_head};
 ghost use Rattle.tt.specs.Views.{forest};
 ghost use Rattle.tt_data.specs.declared.tree.TokenTree.{TokenTree};
-ghost use Rattle.std.specs.Prelude.{◌≡◌, ◌≢◌, ⊤, IsTrue, ◌↔◌, ◌+◌, ◌<◌, ◌≤◌, ◌++◌, ◌∷◌, ℕ, List, length, [], Some, IsNone};
+ghost use Rattle.std.specs.Prelude.{◌≡◌, ◌≢◌, ⊤, All, IsTrue, ◌↔◌, ◌+◌, ◌<◌, ◌≤◌, ℕ, List, length, [], Some, IsNone};
 
 use crate::storage::Tokens;
 use crate::view::TokenTreesView;
@@ -20,8 +21,10 @@ use tt_data::{Leaf, Subtree, TokenTree};
 /// A position in a list of trees: between two trees of the list, or of a group in it.
 ///
 /// It walks over leaves, openings and closings, and takes no memory. A step looks at the innermost
-/// group's head and at most two tokens. It remembers the nearest sixteen lists around its own;
-/// leaving a group for one further out looks back over that list's tokens.
+/// group's head and at most two tokens. It remembers up to sixteen lists around its own; leaving a
+/// group for a list that it forgot looks back over that list's tokens. It forgets a long list only
+/// once it is far behind it, so a walk over fewer than 2^37 tokens looks back at no more than 128
+/// times as many.
 #[derive(Debug, Drop)]
 pub struct Cursor<'a> {
     tokens: Tokens<'a>,
@@ -29,16 +32,25 @@ pub struct Cursor<'a> {
     // head.
     start: usize,
     at: usize,
-    // The indices at which the nearest of the lists around that one begin, the nearest last.
-    nearest: ArrayVec<usize, NEAREST>,
+    // Lists around that one, the nearest last.
+    kept: ArrayVec<ListAround, KEPT>,
 }
 
-// Of how many lists around its own a cursor knows at most the beginnings.
-const NEAREST: usize = 16;
+// A list around: the index at which it begins, and that of the head of the group in it that is
+// around too, or that is the innermost one.
+#[derive(Clone, Copy, Debug, Default)]
+struct ListAround {
+    start: usize,
+    head: usize,
+}
+
+// How many lists around its own a cursor remembers at most.
+const KEPT: usize = 16;
 
 impl<'a> Model for Cursor<'a> {
+    ghost use Rattle.std.specs.Prelude.{All};
     ghost use Rattle.tt.specs.Places.{Place, place_code};
-    ghost use Rattle.tt.specs.CursorTokens.{place_of, IsPlaced, AreNearest};
+    ghost use Rattle.tt.specs.CursorTokens.{place_of, IsKept, IsPlaced};
     ghost use Rattle.tt.specs.Records.{items};
 
     ghost Value = { Place };
@@ -47,7 +59,7 @@ impl<'a> Model for Cursor<'a> {
 
     ghost view = { λ c. place_of (items c.tokens) c.start c.at };
 
-    ghost invariant = { λ c. IsPlaced (items c.tokens) c.start c.at × AreNearest c.nearest.items (place_of (items c.tokens) c.start c.at).around };
+    ghost invariant = { λ c. IsPlaced (items c.tokens) c.start c.at × All (IsKept (items c.tokens)) c.kept.items };
 }
 
 impl<'a> Clone for Cursor<'a> {
@@ -61,29 +73,52 @@ impl<'a> Clone for Cursor<'a> {
             tokens: self.tokens,
             start: self.start,
             at: self.at,
-            nearest: copied(&self.nearest),
+            kept: copied(&self.kept),
         })
     }
 }
 
-// A clone of the nearest beginnings.
-fn copied(nearest: &ArrayVec<usize, NEAREST>) -> ArrayVec<usize, NEAREST>
-    ensures { result ≡ nearest.now }
+// A clone of the lists around.
+fn copied(kept: &ArrayVec<ListAround, KEPT>) -> ArrayVec<ListAround, KEPT>
+    ensures { result ≡ kept.now }
 {
-    let Ok(copy) = nearest.clone() else {
+    let Ok(copy) = kept.clone() else {
         unreachable!()
     };
     copy
 }
 
-// Appends a beginning, in place of the first one if there is no more room.
-fn push_nearest(nearest: &mut ArrayVec<usize, NEAREST>, start: usize)
-    ensures { (gone : List ℕ) × (gone ++ nearest.new.items ≡ nearest.old.items ++ start ∷ []) }
-{
-    if nearest.is_full() {
-        let _ = nearest.remove(0);
+impl ListAround {
+    // Whether the way from its group's head to `at` is a quarter as long as the list, or longer.
+    fn is_far(self, at: usize) -> bool {
+        self.head.saturating_sub(self.start) / 4 <= at.saturating_sub(self.head)
     }
-    nearest.push(start);
+}
+
+// Which list is forgotten before the group at `at` is gone into: the first that is far from it.
+fn forgotten(kept: &ArrayVec<ListAround, KEPT>, at: usize) -> usize
+    requires { 0 < array_vec_len kept.now }
+    ensures { result < array_vec_len kept.now }
+{
+    let mut index = 0;
+    while index < kept.len() {
+        if kept.as_slice()[index].is_far(at) {
+            return index;
+        }
+        index += 1;
+    }
+    0
+}
+
+// Remembers one list more, in place of another one if there is no more room.
+fn keep(kept: &mut ArrayVec<ListAround, KEPT>, list: ListAround)
+    ensures { (tokens : List TokenTree) → All (IsKept tokens) kept.old.items → IsKept tokens list → All (IsKept tokens) kept.new.items }
+{
+    if kept.is_full() {
+        let index = forgotten(kept, list.head);
+        let _ = kept.remove(index);
+    }
+    kept.push(list);
 }
 
 // Whether a group whose inside begins at `start` has the token at `head` inside.
@@ -120,16 +155,23 @@ fn list_around(tokens: Tokens<'_>, head: usize) -> usize
     0
 }
 
-// The answer of `list_around`: the last of the nearest beginnings, which is removed, or else
-// found anew.
-fn next_out(nearest: &mut ArrayVec<usize, NEAREST>, tokens: Tokens<'_>, head: usize) -> usize
-    requires { head ≤ length (items tokens) }
-    ensures { IsNextOut (items tokens.entry) head nearest.old.items nearest.new.items result }
+// The answer of `list_around`: that of the last list around, which is no more kept, or else found
+// anew.
+fn next_out(kept: &mut ArrayVec<ListAround, KEPT>, tokens: Tokens<'_>, head: usize) -> usize
+    requires within { head ≤ length (items tokens) }
+    requires kept { All (IsKept (items tokens)) kept.old.items }
+    ensures begins { BeginsListOf (items tokens.entry) head result }
+    ensures kept { All (IsKept (items tokens.entry)) kept.new.items }
 {
-    match nearest.pop() {
-        Some(start) => start,
-        None => list_around(tokens, head),
+    let Some(list) = kept.as_slice().last() else {
+        return list_around(tokens, head);
+    };
+    if list.head != head {
+        return list_around(tokens, head);
     }
+    let start = list.start;
+    let _ = kept.pop();
+    start
 }
 
 // The first two trees, if both are leaves.
@@ -153,7 +195,7 @@ impl<'a> Cursor<'a> {
             tokens: origin.tokens,
             start: 0,
             at: 0,
-            nearest: ArrayVec::new(),
+            kept: ArrayVec::new(),
         }
     }
 
@@ -208,7 +250,7 @@ impl<'a> Cursor<'a> {
         let Some(group) = self.head() else {
             unreachable!()
         };
-        self.start = next_out(&mut self.nearest, self.tokens, self.start - 1);
+        self.start = next_out(&mut self.kept, self.tokens, self.start - 1);
         group
     }
 
@@ -220,8 +262,12 @@ impl<'a> Cursor<'a> {
         match self.after().tokens.head_at(0) {
             None => self.at += 1,
             Some(_head) => {
+                let list = ListAround {
+                    start: self.start,
+                    head: self.at,
+                };
+                keep(&mut self.kept, list);
                 self.at += 1;
-                push_nearest(&mut self.nearest, self.start);
                 self.start = self.at;
             }
         }

@@ -7,8 +7,8 @@ use Rattle.tt.specs.Places.{first_token, bumped}
 use Rattle.tt.specs.CursorTokens.{Stands}
 use Rattle.tt.proofs.CursorLemmas.{stood, past_leaf, into_group}
 use Rattle.tt.proofs.CursorReads.{leaf_first, group_first}
-use Rattle.tt.proofs.NearestLemmas.{near, held, nearest_past_leaf, nearest_into_group}
-use Rattle.tt.proofs.PlaceLemmas.{found}
+use Rattle.tt.proofs.KeptLemmas.{begins}
+use Rattle.tt.proofs.PlaceLemmas.{found, placed}
 use Rattle.tt.proofs.FrameLemmas.{fits}
 use Rattle.tt.proofs.buffer.Cursor.bump.Goals as goal
 
@@ -26,8 +26,7 @@ past : (c : goal.After-self-1) → Stands (items c.self.inside.tokens) c.self.in
 past c = past_leaf _ _ _ _ (first c).0 (stood _ _ _ _ c.self.view_is c.self.invariant.0) (first c).1
 
 pub invariant_of-self : goal.invariant_of-self
-invariant_of-self c = held _ _ _ _ _ (past c) (nearest_past_leaf _ _ (first c).0 (first c).1
-    (near (items c.self.inside.tokens) c.self.inside.start c.self.inside.at _ _ c.self.view_is c.self.invariant.1))
+invariant_of-self c = (placed _ _ _ _ (past c), c.self.invariant.1)
 
 pub returns-in-None : goal.returns-in-None
 returns-in-None c = found _ _ _ _ (past c)
@@ -48,11 +47,8 @@ into c = into_group _ c.self.inside.start _ _ c.in-Some._head (stood _ _ _ _ c.s
 
 pub invariant_of-self-in-Some : goal.invariant_of-self-in-Some
 invariant_of-self-in-Some c =
-    let latest = c.push_nearest.ensures in
-    held _ _ _ _ _ (into c)
-    (nearest_into_group (items c.self.inside.tokens) c.self.inside.start c.self.inside.at _ c.in-Some._head _ latest.0 _
-    (stood _ _ _ _ c.self.view_is c.self.invariant.0) (group c)
-    (near (items c.self.inside.tokens) c.self.inside.start c.self.inside.at _ _ c.self.view_is c.self.invariant.1) latest.1)
+    let stands = stood _ _ _ _ c.self.view_is c.self.invariant.0 in
+    (placed _ _ _ _ (into c), c.keep.ensures _ c.self.invariant.1 (begins _ _ _ _ _ stands (group c)))
 
 pub returns-in-Some : goal.returns-in-Some
 returns-in-Some c = found _ _ _ _ (into c)
