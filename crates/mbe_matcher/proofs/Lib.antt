@@ -29,6 +29,7 @@ pub mod DueLemmas
 pub mod TaskLemmas
 pub mod TheLoopLemmas
 pub mod BoundLemmas
+pub mod CountLemmas
 pub mod CollectingLemmas
 pub mod RunLemmas
 pub mod SkippedLemmas

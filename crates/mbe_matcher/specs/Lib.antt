@@ -22,4 +22,5 @@ pub mod Rounds
 pub mod Going
 pub mod Blocked
 pub mod Skipping
+pub mod Counts
 pub mod Collecting

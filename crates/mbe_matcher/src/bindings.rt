@@ -1,8 +1,12 @@
-//! Bindings: the value of each metavariable of a matcher.
-ghost use Rattle.std.specs.Prelude.{◌≡◌, ◌≤◌, length, None, Some, OnOk, IfOk};
+//! Bindings: the value of each metavariable of a matcher. A loop frees them, so that repetitions in
+//! one another take no call stack.
+ghost use Rattle.std.specs.Prelude.{◌≡◌, ◌<◌, ◌≤◌, suc, length, None, Some, OnOk, IfOk, IfSome};
+ghost use denote.Param.Weighed.{most};
 ghost use Rattle.mbe_matcher.specs.Bindings as spec;
 ghost use Rattle.mbe_matcher.specs.Bindings.{value_put, with_round};
 ghost use Rattle.mbe_matcher.specs.Bound.{standing_for, values_of};
+ghost use Rattle.mbe_matcher.specs.Counts.{count_of, count_values};
+ghost use Rattle.mbe_matcher.specs.declared.bindings.Binding.{size-Binding};
 
 use crate::same::is_same;
 use mbe_rules::MetaVarKind;
@@ -12,7 +16,6 @@ use symbols::Symbol;
 use tt::TokenTreesView;
 
 /// What a metavariable is bound to.
-#[derive(Drop)]
 pub enum Binding<'a> {
     /// The trees of a fragment.
     Fragment {
@@ -23,6 +26,87 @@ pub enum Binding<'a> {
     Rounds(Vec<Binding<'a>>),
     /// Nothing: the repetition was skipped.
     Skipped,
+}
+
+impl<'a> Binding<'a> {
+    // The values of iterations. A fragment's trees are not freed: they are only borrowed.
+    fn into_values(self) -> Option<Vec<Binding<'a>>>
+        ensures fewer { IfSome result (λ v. count_of (standing_for self.entry) ≡ suc (count_values (values_of v.items))) }
+        ensures flatter { IfSome result (λ v. most size-Binding v.items < size-Binding self.entry) }
+    {
+        match self {
+            Binding::Rounds(values) => Some(values),
+            Binding::Fragment {
+                kind: _kind,
+                trees: _trees,
+            } => None,
+            Binding::Skipped => None,
+        }
+    }
+}
+
+impl<'a> Binding<'a> {
+    ghost use Rattle.mbe_matcher.specs.Bindings.{Values, rounds};
+
+    // The values of iterations, which the binding has.
+    fn expect_values(self) -> Vec<Binding<'a>>
+        requires { (vs : Values) × (standing_for self ≡ rounds vs) }
+        ensures { standing_for self.entry ≡ rounds (values_of result.items) }
+    {
+        match self {
+            Binding::Rounds(values) => values,
+            Binding::Fragment { .. } => unreachable!(),
+            Binding::Skipped => unreachable!(),
+        }
+    }
+
+    // The binding after an iteration. One that is no list stays as it is.
+    #[inline(always)]
+    fn with_round(self, round: usize, value: Binding<'a>) -> Result<Binding<'a>, AllocError>
+        ensures { IfOk result (λ b. standing_for b ≡ with_round round (standing_for value.entry) (Some (standing_for self.entry))) }
+    {
+        match self {
+            Binding::Rounds(mut values) => {
+                put_value(&mut values, round, value)?;
+                Ok(Binding::Rounds(values))
+            }
+            kept => Ok(kept),
+        }
+    }
+}
+
+impl<'a> Drop for Binding<'a> {
+    #[cycle(frees)]
+    fn drop(self) {
+        if let Some(values) = self.into_values()
+            && !values.is_empty()
+        {
+            free(values);
+        }
+    }
+}
+
+// Frees values and those inside them. Where a value has values inside, these come first: the list
+// that is left takes the place of the first of them, so that no memory is needed for it.
+#[cycle(frees)]
+fn free<'a>(values: Vec<Binding<'a>>)
+    requires { 0 < length values.items }
+{
+    let mut list = values;
+    while let Some(value) = list.pop() {
+        let mut next = value;
+        while let Some(mut inner) = next.into_values() {
+            if list.is_empty() {
+                list = inner;
+                break;
+            }
+            let Some(first) = inner.first_mut() else {
+                break;
+            };
+            next = mem::replace(first, Binding::Rounds(list));
+            list = inner;
+        }
+    }
 }
 
 /// A metavariable with its binding.
@@ -65,29 +149,11 @@ pub(crate) fn put_value<'a>(
     Ok(())
 }
 
-// A binding after an iteration. One that is no list stays as it is.
-#[inline(always)]
-fn with_round<'a>(
-    binding: Binding<'a>,
-    round: usize,
-    value: Binding<'a>,
-) -> Result<Binding<'a>, AllocError>
-    ensures { IfOk result (λ b. standing_for b ≡ with_round round (standing_for value.entry) (Some (standing_for binding.entry))) }
-{
-    match binding {
-        Binding::Rounds(mut values) => {
-            put_value(&mut values, round, value)?;
-            Ok(Binding::Rounds(values))
-        }
-        kept => Ok(kept),
-    }
-}
-
 // The binding after an iteration, if there was none before.
 fn first_of<'a>(alloc: Global, round: usize, value: Binding<'a>) -> Result<Binding<'a>, AllocError>
     ensures { IfOk result (λ b. standing_for b ≡ with_round round (standing_for value.entry) None) }
 {
-    let binding = with_round(Binding::Rounds(Vec::new(alloc)), round, value)?;
+    let binding = Binding::Rounds(Vec::new(alloc)).with_round(round, value)?;
     Ok(binding)
 }
 
@@ -99,7 +165,7 @@ impl<'a> Bound<'a> {
         ensures binding { OnOk result (standing_for self.new.binding ≡ with_round round (standing_for value.entry) (Some (standing_for self.old.binding))) }
     {
         let before = mem::replace(&mut self.binding, Binding::Skipped);
-        self.binding = with_round(before, round, value)?;
+        self.binding = before.with_round(round, value)?;
         Ok(())
     }
 }
@@ -185,11 +251,7 @@ impl<'a> Bindings<'a> {
         let Some(i) = self.position(name) else {
             unreachable!()
         };
-        match mem::replace(&mut self.bound[i].binding, Binding::Skipped) {
-            Binding::Rounds(values) => values,
-            Binding::Fragment { .. } => unreachable!(),
-            Binding::Skipped => unreachable!(),
-        }
+        mem::replace(&mut self.bound[i].binding, Binding::Skipped).expect_values()
     }
 
     /// Binds the name, in place of what it was bound to.

@@ -1,12 +1,15 @@
 -- How many ops there are, list by list.
-use Rattle.std.proofs.Common.{◌≡◌, ap, ◌∙◌, ℕ, suc, ◌+◌, ◌<◌, List, [], ◌∷◌, ◌++◌, length, get_or, slice_set, Option, option_map, arith}
+use Rattle.std.proofs.Common.{◌≡◌, ap, ℕ, suc, ◌+◌, ◌<◌, List, [], ◌∷◌, ◌++◌, length, get_or, slice_set, Option, arith}
 use Rattle.std.specs.declared.vec.Vec.{Vec}
 use Rattle.std.specs.declared.alloc.Global.{Global}
 use denote.Param.Weighed.{most}
 use Rattle.tt_data.specs.declared.delimiter.Delimiter.{Delimiter}
 use Rattle.mbe_rules.specs.Counts.{count_of}
 use Rattle.mbe_rules.specs.Items.{Items, done}
+use Rattle.mbe_rules.specs.Lists.{enclosed}
 use Rattle.mbe_rules.specs.Ops.{put_op, items_of}
+use Rattle.mbe_rules.specs.declared.parse.items.Enclosing.{Enclosing}
+use Rattle.mbe_rules.specs.declared.parse.items.Enclosing.TheVariants.{Group, Repetition}
 use Rattle.mbe_rules.specs.declared.parser.Op.{Op, size-Op, Var, Count, Index, Len, Ignore, Concat, Literal, Ident, Punct, Lifetime, Repeat, Subtree, Repeat', Subtree'}
 use Rattle.mbe_rules.specs.declared.parser.RepeatKind.{RepeatKind}
 use Rattle.mbe_rules.specs.declared.parser.Separator.{Separator}
@@ -43,6 +46,11 @@ count-push (p ∷ os) o =
     let one = count-put p (items_of (os ++ (o ∷ []))) in
     let two = count-put p (items_of os) in
     omega (arith, i, one, two)
+
+-- an op and those of the list inside it
+pub count-enclosed : (e : Enclosing) (inner : List Op) (o : Op) → enclosed e (items_of inner) ≡ put_op o done → count_op o ≡ suc (count_ops inner)
+count-enclosed (Group d) inner o same = let e = ap count_of same in omega (arith, e)
+count-enclosed (Repetition sep op) inner o same = let e = ap count_of same in omega (arith, e)
 
 -- the first op, and another one in its place
 pub count-first : (os : List Op) (first o : Op) → 0 < length os → first ≡ get_or os 0 first →

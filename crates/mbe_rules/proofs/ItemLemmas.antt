@@ -19,13 +19,13 @@ use Rattle.mbe_rules.specs.declared.errors.ParseError.TheVariants.{InvalidRepeat
 use Rattle.mbe_rules.specs.declared.parser.Op.{Op, Repeat', Subtree'}
 use Rattle.mbe_rules.specs.declared.parser.RepeatKind.{RepeatKind}
 
-joined_items-done : (is : Items) → joined_items is done ≡ is
+pub joined_items-done : (is : Items) → joined_items is done ≡ is
 joined_items-done done = refl
 joined_items-done (item i rest) = ap (item i) (joined_items-done rest)
 joined_items-done (group_of d inner rest) = ap (group_of d inner) (joined_items-done rest)
 joined_items-done (repetition body sep op rest) = ap (repetition body sep op) (joined_items-done rest)
 
-joined_items-grouping : (is js ks : Items) → joined_items (joined_items is js) ks ≡ joined_items is (joined_items js ks)
+pub joined_items-grouping : (is js ks : Items) → joined_items (joined_items is js) ks ≡ joined_items is (joined_items js ks)
 joined_items-grouping done js ks = refl
 joined_items-grouping (item i rest) js ks = ap (item i) (joined_items-grouping rest js ks)
 joined_items-grouping (group_of d inner rest) js ks = ap (group_of d inner) (joined_items-grouping rest js ks)
@@ -39,7 +39,7 @@ behind-behind is js (Err e) = refl
 pub behind-done : (is : Items) → behind is (Ok done) ≡ Ok is
 behind-done is = ap Ok (joined_items-done is)
 
-put-behind : (o : Op) (rest : Items) → put_op o rest ≡ joined_items (put_op o done) rest
+pub put-behind : (o : Op) (rest : Items) → put_op o rest ≡ joined_items (put_op o done) rest
 put-behind (Repeat' shape row sep kind) rest = refl
 put-behind (Subtree' shape row d) rest = refl
 put-behind _ rest = refl

@@ -21,5 +21,6 @@ pub mod PlacedErrors
 pub mod Steps
 pub mod Reading
 pub mod Lists
+pub mod Copying
 pub mod Counts
 pub mod Walks

@@ -9,6 +9,6 @@ mod dollar;
 mod editions;
 mod expression;
 mod fragment_specifier;
-mod items;
+pub(crate) mod items;
 mod repetition;
 mod rule;

@@ -90,6 +90,8 @@ fn of_lists_a_hundred_thousand_deep(rt: HostRuntime) -> Result<(), Fail> {
     let text = format!(in rt.alloc(); "({begun}x{ended}) => {{{begun}x{ended}}}")?;
     let rules = parse_macro_rules(rt.alloc(), &trees(&rt, text.as_str())?, at_2024)?;
     assert!(rt; told(rt.alloc(), &rules)?.as_str() == "1 ");
+    let copy = rules.try_clone(rt.alloc())?;
+    assert!(rt; told(rt.alloc(), &copy)?.as_str() == "1 ");
     Ok(())
 }
 

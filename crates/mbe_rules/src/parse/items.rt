@@ -63,7 +63,7 @@ pub(crate) enum Step<'a> {
 }
 
 // The op with this list inside.
-fn enclosed(enclosing: Enclosing, tokens: Vec<Op>) -> Op
+pub(crate) fn enclosed(enclosing: Enclosing, tokens: Vec<Op>) -> Op
     ensures { put_op result done ≡ enclosed enclosing (ops.items_of tokens.items) }
 {
     match enclosing {

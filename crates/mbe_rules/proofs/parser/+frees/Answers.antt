@@ -1,4 +1,4 @@
-use Rattle.std.proofs.Common.{rules, ◌≡◌, ap, ◌∙◌, List, [], None, arith}
+use Rattle.std.proofs.Common.{rules, ◌≡◌, ap, ◌∙◌, [], None, arith}
 use Rattle.std.proofs.lemmas.List.{nil_from_length}
 use Rattle.mbe_rules.specs.declared.parser.RepeatKind.TheVariants.{ZeroOrMore}
 use Rattle.mbe_rules.proofs.CountLemmas.{count_op, count_ops, count-some, count-Repeat, count-push, count-first, most-some}

@@ -2,7 +2,7 @@
 use Rattle.std.proofs.Common.{◌∙◌, sym, ap, arith, Some}
 use Rattle.mbe_matcher.specs.Bindings as spec
 use Rattle.mbe_matcher.specs.Bound.{map_of, standing_for}
-use Rattle.mbe_matcher.proofs.BoundLemmas.{place-within, binding-none, binding-at, bind-at, name-at, standing-Rounds}
+use Rattle.mbe_matcher.proofs.BoundLemmas.{place-within, binding-none, binding-at, bind-at, name-at}
 use Rattle.mbe_matcher.proofs.RunLemmas.{bound-again}
 use Rattle.mbe_matcher.proofs.bindings.Bindings.take_values.Goals as goal
 
@@ -17,24 +17,19 @@ index_mut-requires c =
     let h = place-within c.args.name.now c.args.self.now.bound.items c.in-Some.i (sym c.position.ensures ∙ c.in-Some.is) in
     omega (arith, h, c.args.self.now.bound.ok.0)
 
-pub unreachable-requires-in-Fragment : goal.unreachable-requires-in-Fragment
-unreachable-requires-in-Fragment c =
+pub expect_values-requires : goal.expect_values-requires
+expect_values-requires c =
     let at = binding-at c.args.name.now c.args.self.now.bound.items c.in-Some.i c.index_mut.result.now (sym c.position.ensures ∙ c.in-Some.is) in
-    let here = ap (λ x. Some (standing_for x.binding)) (sym c.index_mut.ensures.value) ∙ ap (λ x. Some (standing_for x)) (sym c.replace.ensures.value ∙ c.in-Fragment.is) in
-    cc (sym c.requires.1 ∙ at ∙ here)
-
-pub unreachable-requires-in-Skipped : goal.unreachable-requires-in-Skipped
-unreachable-requires-in-Skipped c =
-    let at = binding-at c.args.name.now c.args.self.now.bound.items c.in-Some.i c.index_mut.result.now (sym c.position.ensures ∙ c.in-Some.is) in
-    let here = ap (λ x. Some (standing_for x.binding)) (sym c.index_mut.ensures.value) ∙ ap (λ x. Some (standing_for x)) (sym c.replace.ensures.value ∙ c.in-Skipped.is) in
-    cc (sym c.requires.1 ∙ at ∙ here)
+    let here = ap (λ x. Some (standing_for x.binding)) (sym c.index_mut.ensures.value) ∙ ap (λ x. Some (standing_for x)) (sym c.replace.ensures.value) in
+    let list = sym here ∙ sym at ∙ c.requires.1 in
+    (c.requires.0, cc)
 
 pub returns-clause-values : goal.returns-clause-values
 returns-clause-values c =
     binding-at c.args.name.now c.args.self.now.bound.items c.in-Some.i c.index_mut.result.now (sym c.position.ensures ∙ c.in-Some.is)
     ∙ ap (λ x. Some (standing_for x.binding)) (sym c.index_mut.ensures.value)
-    ∙ ap (λ x. Some (standing_for x)) (sym c.replace.ensures.value ∙ c.in-Rounds.is)
-    ∙ ap Some (standing-Rounds c.in-Rounds.values)
+    ∙ ap (λ x. Some (standing_for x)) (sym c.replace.ensures.value)
+    ∙ ap Some c.expect_values.ensures
 
 pub returns-clause-others : goal.returns-clause-others
 returns-clause-others c = λ b.

@@ -4,7 +4,7 @@ use Rattle.mbe_matcher.specs.Bindings.{rounds, with_round}
 use Rattle.std.proofs.Common.{Some}
 use Rattle.mbe_matcher.specs.Bound.{standing_for}
 use Rattle.mbe_matcher.proofs.BoundLemmas.{standing-Rounds}
-use Rattle.mbe_matcher.proofs.bindings.with_round.Goals as goal
+use Rattle.mbe_matcher.proofs.bindings.Binding.with_round.Goals as goal
 
 pub returns-in-Rounds : goal.returns-in-Rounds
 returns-in-Rounds c =
