@@ -4,6 +4,7 @@ pub mod OpsLemmas
 pub mod CountLemmas
 pub mod WalkLemmas
 pub mod CloneLemmas
+pub mod EqualityLemmas
 pub mod ErrorLemmas
 pub mod ExpressionLemmas
 pub mod EditionLemmas

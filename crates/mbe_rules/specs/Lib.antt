@@ -11,6 +11,7 @@ pub mod Editions
 -- what the code's rules mean, when two are equal, and rules under a span map
 pub mod Ops
 pub mod Likeness
+pub mod Equality
 pub mod Relabelling
 -- errors' texts, styles of calls as bits, and what clones must be
 pub mod Messages
@@ -22,5 +23,6 @@ pub mod Steps
 pub mod Reading
 pub mod Lists
 pub mod Copying
+pub mod Comparing
 pub mod Counts
 pub mod Walks

@@ -2,6 +2,7 @@
 #![tactic(auto)]
 
 mod clone;
+mod equality;
 mod errors;
 mod expand_error;
 pub mod laws;

@@ -133,7 +133,7 @@ pub enum ConcatElement {
 
 /// An op of a matcher or of a transcriber. `id` is the span of the `$` that begins it. A depth
 /// counts levels of repetitions. (The Rust Reference, "Macros By Example".)
-#[derive(PartialEq, Eq, Debug)]
+#[derive(Debug)]
 pub enum Op {
     /// `$name:kind` in a matcher, where `kind` is `None` if no specifier is written; `$name` in a
     /// transcriber.

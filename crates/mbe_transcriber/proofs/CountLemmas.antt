@@ -1,10 +1,11 @@
 -- The number of values of a metavariable, and other metavariable expressions.
-use Rattle.std.proofs.Common.{◌≡◌, refl, sym, ap, ◌∙◌, ℕ, zero, suc, ◌+◌, ◌<◌, ◌≤◌, List, [], ◌∷◌, length, get_or, drop, drop-cons, arith}
-use Rattle.std.proofs.lemmas.List.{drop_all}
+use Rattle.std.proofs.Common.{◌≡◌, refl, sym, ap, ◌∙◌, ℕ, zero, suc, ◌+◌, ◌<◌, List, [], ◌∷◌, ◌++◌, length, arith}
 use Rattle.std.specs.declared.vec.Vec.{Vec}
 use Rattle.std.specs.declared.alloc.Global.{Global}
 use Rattle.mbe_matcher.specs.Bound.{standing_for, values_of}
+use Rattle.mbe_transcriber.specs.Counting.{left_sum, around_sum, weight, weight_around}
 use Rattle.mbe_transcriber.specs.Filling.{count_in, count_values}
+use Rattle.mbe_transcriber.specs.declared.metavar_expr.Left.{Left}
 use Rattle.mbe_matcher.specs.declared.bindings.Binding.{Binding, Rounds}
 use Rattle.mbe_matcher.proofs.BoundLemmas.{standing-Rounds}
 
@@ -23,14 +24,10 @@ pub count-below : (d e : ℕ) (x : Binding) (v : Vec Binding Global) → x ≡ R
     count_values (suc e) (values_of v.items) ≡ count_in d (standing_for x)
 count-below d e x v is f = ap (λ k. count_values k (values_of v.items)) (sym f) ∙ sym (count-rounds d x v is)
 
-pub count-one : (d : ℕ) (xs : List Binding) (i j : ℕ) (x : Binding) (count sum more all : ℕ) → j ≡ suc i → i < length xs → x ≡ get_or xs i x →
-    sum ≡ count + more → more ≡ count_in d (standing_for x) → count + count_values (suc d) (values_of (drop i xs)) ≡ all →
-    sum + count_values (suc d) (values_of (drop j xs)) ≡ all
-count-one d xs i j x count sum more all u h e added is same =
-    let k : drop i xs ≡ x ∷ drop j xs = drop-cons xs i x h ∙ ap (λ y. y ∷ drop (suc i) xs) (sym e) ∙ ap (λ y. x ∷ drop y xs) (sym u) in
-    let l = ap (λ ys. count_values (suc d) (values_of ys)) k in
-    omega (arith, added, is, same, l)
+pub sum-push : (outer : List Left) (l : Left) → around_sum (outer ++ (l ∷ [])) ≡ around_sum outer + left_sum l
+sum-push [] l = omega arith
+sum-push (k ∷ outer) l = let i = sum-push outer l in omega (arith, i)
 
-pub count-all : (d : ℕ) (xs : List Binding) (i count all : ℕ) → length xs ≤ i → count + count_values (suc d) (values_of (drop i xs)) ≡ all → count ≡ all
-count-all d xs i count all h same =
-    let l = ap (λ ys. count_values (suc d) (values_of ys)) (drop_all i xs h) in omega (arith, same, l)
+pub weight-push : (outer : List Left) (l : Left) → weight_around (outer ++ (l ∷ [])) ≡ weight_around outer + weight l
+weight-push [] l = omega arith
+weight-push (k ∷ outer) l = let i = weight-push outer l in omega (arith, i)

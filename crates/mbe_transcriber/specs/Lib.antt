@@ -10,3 +10,4 @@ pub mod Uses
 pub mod Given
 pub mod Tasks
 pub mod Walks
+pub mod Counting

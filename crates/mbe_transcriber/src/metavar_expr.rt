@@ -1,5 +1,5 @@
 //! Transcribes metavariables and metavariable expressions, `${..}`.
-ghost use Rattle.std.specs.Prelude.{◌≡◌, ◌++◌, ◌∷◌, [], true, false, suc, reverse, map, Some, None, Ok, Err, IfOk, IfErr, OnOk, option_map, option_and_then, string_bytes};
+ghost use Rattle.std.specs.Prelude.{◌≡◌, ◌++◌, ◌∷◌, [], true, false, reverse, map, Some, None, Ok, Err, IfOk, IfErr, OnOk, option_map, option_and_then, string_bytes};
 ghost use Rattle.tt.specs.Building.{extended};
 ghost use Rattle.tt.specs.Views.{forest};
 ghost use Rattle.tt_data.specs.Forest.{empty, leaf, size};
@@ -9,8 +9,10 @@ ghost use Rattle.mbe_rules.specs.Ops.{part_of};
 ghost use Rattle.std.specs.List.{list_any};
 ghost use Rattle.mbe_rules.specs.Text.{same_text};
 ghost use Rattle.mbe_matcher.specs.Bindings.{Map, binding_of};
-ghost use Rattle.mbe_matcher.specs.Bound.{map_of, standing_for, values_of};
-ghost use Rattle.mbe_transcriber.specs.Filling.{count_in, count_values, dollar_in, fragment_in, identifier, ignored, integer, joined_text, number_at, put_in, rawness_of, reserved_words, text_in, text_of_value, unbound, value_in, variable_in};
+ghost use Rattle.mbe_matcher.specs.Bound.{map_of, standing_for};
+ghost use Rattle.mbe_matcher.specs.Counts.{count_of};
+ghost use Rattle.mbe_transcriber.specs.Counting.{left_sum, amount_of, IsFewer};
+ghost use Rattle.mbe_transcriber.specs.Filling.{count_in, dollar_in, fragment_in, identifier, ignored, integer, joined_text, number_at, put_in, rawness_of, reserved_words, text_in, text_of_value, unbound, value_in, variable_in};
 ghost use Rattle.mbe_transcriber.specs.Limits.{most_rounds};
 ghost use Rattle.mbe_transcriber.specs.Given.{Fills, IsBurstBy};
 ghost use Rattle.mbe_transcriber.specs.Markers.{is_name};
@@ -123,35 +125,74 @@ pub(crate) fn put_variable(
     }
 }
 
-// The number of values in a binding, `depth` lists further in.
-#[cycle(counting)]
-fn count_in(binding: &Binding<'_>, depth: usize) -> Result<usize, AllocError>
-    ensures { IfOk result (λ n. n ≡ count_in depth (standing_for binding.now)) }
+// Values that are left to count, each of them `depth` lists further in.
+#[derive(Clone, Copy)]
+struct Left<'b, 'a> {
+    values: &'b [Binding<'a>],
+    depth: usize,
+}
+
+// What a binding counts for: a number, or what the values inside it do.
+#[derive(Clone, Copy)]
+enum Amount<'b, 'a> {
+    Number(usize),
+    Inside(Left<'b, 'a>),
+}
+
+// What a binding counts for, `depth` lists further in.
+fn counted<'b, 'a>(binding: &'b Binding<'a>, depth: usize) -> Amount<'b, 'a>
+    ensures sum { amount_of result ≡ count_in depth (standing_for binding.now) }
+    ensures fewer { IsFewer (count_of (standing_for binding.now)) result }
 {
     match binding {
-        Binding::Fragment { .. } => Ok(1),
-        Binding::Skipped => Ok(0),
+        Binding::Fragment { .. } => Amount::Number(1),
+        Binding::Skipped => Amount::Number(0),
         Binding::Rounds(values) => match depth.checked_sub(1) {
-            None => Ok(values.len()),
-            Some(less) => count_all(values, less),
+            None => Amount::Number(values.len()),
+            Some(depth) => Amount::Inside(Left { values, depth }),
         },
     }
 }
 
-// The number of values in these bindings, `depth` lists further in.
-#[cycle(counting)]
-fn count_all(values: &[Binding<'_>], depth: usize) -> Result<usize, AllocError>
-    ensures { IfOk result (λ n. n ≡ count_values (suc depth) (values_of values.now)) }
+// The number of these values. The lists around the present one are in memory, so that nesting
+// takes no call stack.
+fn count_left(alloc: Global, left: Left<'_, '_>) -> Result<usize, AllocError>
+    ensures { IfOk result (λ n. n ≡ left_sum left.entry) }
 {
+    let mut around = Vec::new(alloc);
+    let mut list = left;
     let mut count: usize = 0;
-    for value in values {
-        let more = count_in(value, depth)?;
-        let Some(sum) = count.checked_add(more) else {
-            return Err(AllocError);
+    loop {
+        let Some((value, values)) = list.values.split_first() else {
+            let Some(outer) = around.pop() else {
+                return Ok(count);
+            };
+            list = outer;
+            continue;
         };
-        count = sum;
+        let depth = list.depth;
+        list = Left { values, depth };
+        match counted(value, depth) {
+            Amount::Inside(inner) => {
+                around.push(list)?;
+                list = inner;
+            }
+            Amount::Number(more) => match count.checked_add(more) {
+                Some(sum) => count = sum,
+                None => return Err(AllocError),
+            },
+        }
     }
-    Ok(count)
+}
+
+// The number of values in a binding, `depth` lists further in.
+fn count_in(alloc: Global, binding: &Binding<'_>, depth: usize) -> Result<usize, AllocError>
+    ensures { IfOk result (λ n. n ≡ count_in depth (standing_for binding.now)) }
+{
+    match counted(binding, depth) {
+        Amount::Number(count) => Ok(count),
+        Amount::Inside(left) => count_left(alloc, left),
+    }
 }
 
 /// Appends a number, as a literal.
@@ -187,8 +228,9 @@ pub(crate) fn put_count(
 {
     match value_here(name, bindings, rounds) {
         Some(binding) => {
-            let count = count_in(binding, depth)?;
-            put_integer(bindings.allocator(), out, count, span)
+            let alloc = bindings.allocator();
+            let count = count_in(alloc, binding, depth)?;
+            put_integer(alloc, out, count, span)
         }
         None => Ok(false),
     }
