@@ -91,7 +91,7 @@ fn of_lists_a_hundred_thousand_deep(rt: HostRuntime) -> Result<(), Fail> {
     let rules = parse_macro_rules(rt.alloc(), &trees(&rt, text.as_str())?, at_2024)?;
     assert!(rt; told(rt.alloc(), &rules)?.as_str() == "1 ");
     let copy = rules.try_clone(rt.alloc())?;
-    assert!(rt; told(rt.alloc(), &copy)?.as_str() == "1 ");
+    assert!(rt; copy == rules);
     Ok(())
 }
 

@@ -162,6 +162,44 @@ pub value-step : (ns : List ℕ) (n : ℕ) (inner : List ℕ) (x : Binding) (v :
     ns ≡ n ∷ inner → x ≡ Rounds v → m ≡ value_at n (values_of v.items) → option_and_then (value_in inner) m ≡ value_in ns (standing_for x)
 value-step ns n inner x v m e is found = rw (e, is, found) (ap (value_in (n ∷ inner)) (sym (standing-Rounds v)))
 
+pub value-one : (n : ℕ) (x : Binding) (v : Vec Binding Global) (m : Option b.Binding) →
+    x ≡ Rounds v → m ≡ value_at n (values_of v.items) → m ≡ value_in (n ∷ []) (standing_for x)
+value-one n x v m is found = itself m ∙ value-step (n ∷ []) n [] x v m refl is found
+  where
+    itself : (m : Option b.Binding) → m ≡ option_and_then (value_in []) m
+    itself None = refl
+    itself (Some y) = refl
+
+-- the value in one iteration, and then in those inside it
+pub value-then : (n : ℕ) (inner : List ℕ) (y : b.Binding) →
+    option_and_then (value_in inner) (value_in (n ∷ []) y) ≡ value_in (n ∷ inner) y
+value-then n [] (b.fragment k f) = refl
+value-then n (q ∷ inner) (b.fragment k f) = refl
+value-then n inner b.skipped = refl
+value-then n inner (b.rounds vs) = go (value_at n vs)
+  where
+    go : (m : Option b.Binding) → option_and_then (value_in inner) (option_and_then (value_in []) m) ≡ option_and_then (value_in inner) m
+    go None = refl
+    go (Some y) = refl
+
+value-later : (n : ℕ) (inner : List ℕ) (m : Option b.Binding) →
+    option_and_then (value_in inner) (option_and_then (value_in (n ∷ [])) m) ≡ option_and_then (value_in (n ∷ inner)) m
+value-later n inner None = refl
+value-later n inner (Some y) = value-then n inner y
+
+pub value-next : (ns : List ℕ) (i j : ℕ) (m k all : Option b.Binding) → j ≡ suc i → i < length ns →
+    k ≡ option_and_then (value_in (get_or ns i 0 ∷ [])) m → option_and_then (value_in (drop i ns)) m ≡ all → option_and_then (value_in (drop j ns)) k ≡ all
+value-next ns i j m k all u h e same =
+    let d : drop i ns ≡ get_or ns i 0 ∷ drop j ns = drop-cons ns i 0 h ∙ ap (λ y. get_or ns i 0 ∷ drop y ns) (sym u) in
+    ap (option_and_then (value_in (drop j ns))) e ∙ value-later (get_or ns i 0) (drop j ns) m ∙ ap (λ xs. option_and_then (value_in xs) m) (sym d) ∙ same
+
+pub value-ended : (ns : List ℕ) (i : ℕ) (m all : Option b.Binding) → length ns ≤ i → option_and_then (value_in (drop i ns)) m ≡ all → m ≡ all
+value-ended ns i m all h same = itself m ∙ ap (λ xs. option_and_then (value_in xs) m) (sym (drop_all i ns h)) ∙ same
+  where
+    itself : (m : Option b.Binding) → m ≡ option_and_then (value_in []) m
+    itself None = refl
+    itself (Some y) = refl
+
 pub use-last : (n : ℕ) (x : Binding) (v : Vec Binding Global) (m : Option b.Binding) →
     x ≡ Rounds v → m ≡ value_at n (values_of v.items) → use_of_member m ≡ use_in (n ∷ []) (Some (standing_for x))
 use-last n x v m is found = rw (is, found) (ap (λ y. use_in (n ∷ []) (Some y)) (sym (standing-Rounds v)))

@@ -240,12 +240,17 @@ pub(crate) fn put_count(
 pub(crate) fn number_at(depth: usize, rounds: &[usize]) -> usize
     ensures { result ≡ number_at depth (reverse rounds.now) }
 {
-    let Some((number, outer)) = rounds.split_last() else {
-        return 0;
-    };
-    match depth.checked_sub(1) {
-        Some(less) => number_at(less, outer),
-        None => *number,
+    let mut left = rounds;
+    let mut depth = depth;
+    loop {
+        let Some((number, outer)) = left.split_last() else {
+            return 0;
+        };
+        match depth.checked_sub(1) {
+            Some(less) => depth = less,
+            None => return *number,
+        }
+        left = outer;
     }
 }
 

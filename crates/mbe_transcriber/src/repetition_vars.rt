@@ -26,6 +26,29 @@ pub(crate) fn member<'b, 'a>(values: &'b [Binding<'a>], number: usize) -> Option
     }
 }
 
+// The value of a binding in the iteration of this index.
+#[inline]
+fn value_in_one<'b, 'a>(binding: &'b Binding<'a>, number: usize) -> Option<&'b Binding<'a>>
+    ensures { option_map (λ b. standing_for b.now) result ≡ value_in (number ∷ []) (standing_for binding.now) }
+{
+    match binding {
+        Binding::Fragment { .. } => Some(binding),
+        Binding::Skipped => None,
+        Binding::Rounds(values) => member(values, number),
+    }
+}
+
+// The value of a value, if there is one, in the iteration of this index.
+#[inline]
+fn value_then<'b, 'a>(value: Option<&'b Binding<'a>>, number: usize) -> Option<&'b Binding<'a>>
+    ensures { option_map (λ b. standing_for b.now) result ≡ option_and_then (value_in (number ∷ [])) (option_map (λ b. standing_for b.now) value.entry) }
+{
+    match value {
+        Some(binding) => value_in_one(binding, number),
+        None => None,
+    }
+}
+
 /// The value of a binding in these iterations, the outermost first.
 pub(crate) fn value_in<'b, 'a>(
     binding: &'b Binding<'a>,
@@ -33,17 +56,14 @@ pub(crate) fn value_in<'b, 'a>(
 ) -> Option<&'b Binding<'a>>
     ensures { option_map (λ b. standing_for b.now) result ≡ value_in rounds.now (standing_for binding.now) }
 {
-    let Some((number, inner)) = rounds.split_first() else {
+    let Some((first, inner)) = rounds.split_first() else {
         return Some(binding);
     };
-    match binding {
-        Binding::Fragment { .. } => Some(binding),
-        Binding::Skipped => None,
-        Binding::Rounds(values) => match member(values, *number) {
-            Some(value) => value_in(value, inner),
-            None => None,
-        },
+    let mut here = value_in_one(binding, *first);
+    for number in inner {
+        here = value_then(here, *number);
     }
+    here
 }
 
 /// The value of this name in these iterations.
@@ -109,18 +129,23 @@ fn use_in_one(binding: &Binding<'_>, number: usize) -> Use
 fn use_in(binding: Option<&Binding<'_>>, rounds: &[usize]) -> Use
     ensures { use_of result ≡ use_in rounds.now (option_map (λ b. standing_for b.now) binding.entry) }
 {
-    let Some(binding) = binding else {
-        return Use::Unused;
-    };
-    let Some((number, inner)) = rounds.split_first() else {
-        return Use::Unused;
-    };
-    if inner.is_empty() {
-        return use_in_one(binding, *number);
-    }
-    match binding {
-        Binding::Rounds(values) => use_in(member(values, *number), inner),
-        _ => Use::Unused,
+    let mut here = binding;
+    let mut left = rounds;
+    loop {
+        let Some(binding) = here else {
+            return Use::Unused;
+        };
+        let Some((number, inner)) = left.split_first() else {
+            return Use::Unused;
+        };
+        if inner.is_empty() {
+            return use_in_one(binding, *number);
+        }
+        let Binding::Rounds(values) = binding else {
+            return Use::Unused;
+        };
+        here = member(values, *number);
+        left = inner;
     }
 }
 
