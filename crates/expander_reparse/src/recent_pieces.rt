@@ -74,7 +74,7 @@ impl RecentPieces {
     }
 
     /// Keeps the piece that a text begins with, if it is short.
-    #[tactic(auto, using(crate::proofs::RecentPieceLemmas::right_set, crate::proofs::RecentPieceLemmas::right_all))]
+    #[tactic(auto, using(crate::proofs::RecentPieceLemmas::right_set))]
     pub fn keep(&mut self, text: &str, source: &Rc<CachedPiece>) -> Result<(), AllocError>
         requires kept { AreRight self.old.pieces.items }
         requires right { IsCachedPiece (rc_value source.now) }
