@@ -140,7 +140,10 @@ fn fresh_memo<G: FragmentGrammar>(
     tt::laws::equal_trees();
     let made = taken.plains.as_slice();
     match find_in_text(env.scope, made, taken.hashes.as_slice(), recent, tree) {
-        Some(i) => Ok(made[i].clone()?),
+        Some(i) => {
+            let plain = made[i].clone()?;
+            Ok(plain)
+        }
         None => expanded(env, tree.clone()?, takes_chunks(&taken.steps)),
     }
 }
@@ -510,9 +513,7 @@ fn evaluate_plain<G: FragmentGrammar>(
     };
     let (taken, lookup) = (&mut now.taken, &mut now.lookup);
     let (found, at, hash) = evaluate_tree(&env, context.memory, lookup, link, tree, taken)?;
-    if at.is_none() {
-        lookup.recent.keep(hash, taken.plains.len())?;
-    }
+    lookup.keep(at, hash, taken.plains.len())?;
     let plain = emit_plain(&env, &mut taken.steps, &mut taken.faults, start, found)?;
     hold(
         &mut taken.plains,

@@ -246,6 +246,17 @@ impl MemoIndex {
         }
         self.find_in_table(scope, held, tree)
     }
+
+    /// Keeps where the next memo of this text stands, unless it is from the cache, where its index
+    /// is `at` then. Its tree has this hash.
+    pub fn keep(&mut self, at: Option<usize>, hash: u64, index: usize) -> Result<(), AllocError>
+        ensures { (held : List (Rc Memo GhostGlobal)) → Finds self.old held → OnOk result (Finds self.new held) }
+    {
+        match at {
+            Some(_) => Ok(()),
+            None => self.recent.keep(hash, index),
+        }
+    }
 }
 
 /// The index of a memo that is valid for a tree, if there is one. The linked memo is tried first,
