@@ -1,4 +1,4 @@
-use Rattle.std.proofs.Common.{◌≡◌, ◌∙◌, ℕ, List, Option, Some, Global, ap, subst, sym, rules, true}
+use Rattle.std.proofs.Common.{◌≡◌, ◌∙◌, ℕ, List, Some, Global, ap, subst, sym, rules, true}
 use Rattle.std.specs.Prelude.{IfSome, None, is_some, slice_get}
 use Rattle.std.specs.List.{list_any}
 use Rattle.std.specs.Rc.{rc_value}
