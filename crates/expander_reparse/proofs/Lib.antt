@@ -7,3 +7,4 @@ mod SegmentLemmas
 mod MadeLemmas
 mod SegmentBuilderLemmas
 pub mod ListLemmas
+mod RecentPieceLemmas

@@ -5,3 +5,4 @@ pub mod Segments
 pub mod Reparsing
 pub mod ParsedTexts
 pub mod ByteStores
+pub mod RecentPieces

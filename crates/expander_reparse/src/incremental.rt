@@ -6,6 +6,7 @@ ghost use Rattle.rustc_lexer.specs.Lexing.{tokens_of};
 ghost use Rattle.rustc_lexer.specs.TokensAt.{AreTokensFrom};
 ghost use Rattle.tt_data.specs.fault.TtFault.TheVariants as fault;
 ghost use Rattle.bridge.specs.Parts.{part_steps};
+ghost use Rattle.expander_reparse.specs.RecentPieces.{AreRight};
 ghost use Rattle.expander_reparse.specs.RelativePieces.{tree_at};
 ghost use Rattle.expander_reparse.specs.Reparsing.{AreMet, AreTheirs, IsBlank, IsLastPiece, IsMet, IsReparse, IsReadPiece, IsCachedHere, KeepsCached};
 ghost use Rattle.expander_reparse.specs.ParsedTexts.{IsReadInPieces};
@@ -14,6 +15,7 @@ ghost use Rattle.expander_reparse.specs.ByteStores.{HoldsText};
 ghost use Rattle.expander_reparse.specs.declared.parse.Parsed.TheVariants.{Pieces};
 
 use crate::piece::{Piece, PieceTree};
+use crate::recent_pieces::RecentPieces;
 use crate::resync::{Resync, seek_cached};
 use crate::segment::{CachedPiece, Lookahead, Segments, TokenRun, ahead_at, is_apart};
 use crate::segment_builder::{ReadingContext, Reparse, behind, take_segment};
@@ -226,11 +228,11 @@ fn words_of(alloc: Global, text: &str, held: &Segments) -> Result<ByteStore, All
     }
 }
 
-// The piece that comes first, from the cache with its index there, or read by itself. `None` if it
-// can be neither.
+// The piece that comes first: from the cache with its index there, or one that this text had
+// before, or read by itself. `None` if it can be none of these.
 fn next_source(
     context: &ReadingContext<'_>,
-    names: &mut NameCache,
+    recent: &mut RecentPieces,
     seeker: &mut Resync,
     text: &str,
     at: u32,
@@ -240,18 +242,26 @@ fn next_source(
     requires tokens { AreTokensFrom text.now at tokens.now }
     requires words { HoldsText context.now.words text.now }
     requires right { AreSegments context.now.held.now }
+    requires kept { AreRight recent.old.pieces.items }
     ensures found { IfOk result (λ found. IfSome found
         (λ p. IsCachedHere (drop at text.now) tokens.now (rc_value p.0))) }
     ensures met { IfOk result (λ found. IfSome found
         (λ p. IsMet context.now.held.now p.1 (rc_value (rc_value p.0).tree))) }
+    ensures kept { OnOk result (AreRight recent.new.pieces.items) }
     ensures memory { IsOkUnless result fault.Memory }
 {
     let rest = &text[at as usize..];
     if let Some((i, source)) = seek_cached(context.held, seeker, rest, tokens)? {
         return Ok(Some((source, Some(i))));
     }
-    match read_source(context, names, text, at, tokens)? {
-        Some(source) => Ok(Some((source, None))),
+    if let Some(source) = recent.find(rest, tokens) {
+        return Ok(Some((source.clone()?, None)));
+    }
+    match read_source(context, &mut recent.names, text, at, tokens)? {
+        Some(source) => {
+            recent.keep(rest, &source)?;
+            Ok(Some((source, None)))
+        }
         None => Ok(None),
     }
 }
@@ -260,7 +270,7 @@ fn next_source(
 // no piece can be read here.
 fn pass_one(
     context: &ReadingContext<'_>,
-    names: &mut NameCache,
+    recent: &mut RecentPieces,
     now: &mut Reparse,
     text: &str,
     at: u32,
@@ -269,11 +279,13 @@ fn pass_one(
     requires small { length text.now < 2 ^ 32 }
     requires words { HoldsText context.now.words text.now }
     requires right { AreSegments context.now.held.now }
+    requires kept { AreRight recent.old.pieces.items }
     requires passing { IsReparse context.now.held.now text.now at left.now now.old }
     ensures passing { IfOk result (λ size. IfSome size
         (λ n. IsReparse context.now.held.now text.now (at + n.0) (drop n.1 left.now) now.new)) }
     ensures shorter { IfOk result (λ size. IfSome size (λ n. length (drop n.1 left.now) < length left.now)) }
     ensures none { IfOk result (λ size. size ≡ None → IsReparse context.now.held.now text.now at left.now now.new) }
+    ensures kept { OnOk result (AreRight recent.new.pieces.items) }
     ensures memory { IsOkUnless result fault.Memory }
 {
     bridge::laws::reading_behind();
@@ -285,7 +297,7 @@ fn pass_one(
         return Ok(Some((token.len as usize, 1)));
     }
     let seeker = &mut now.seeker;
-    let Some((source, met)) = next_source(context, names, seeker, text, at, left)? else {
+    let Some((source, met)) = next_source(context, recent, seeker, text, at, left)? else {
         return Ok(None);
     };
     let bytes = source.as_ref().cutout.bytes.len();
@@ -298,7 +310,7 @@ fn pass_one(
 // it has, or `None` if no piece can be read here.
 fn pass_next(
     context: &ReadingContext<'_>,
-    names: &mut NameCache,
+    recent: &mut RecentPieces,
     now: &mut Reparse,
     text: &str,
     at: u32,
@@ -307,18 +319,20 @@ fn pass_next(
     requires small { length text.now < 2 ^ 32 }
     requires words { HoldsText context.now.words text.now }
     requires right { AreSegments context.now.held.now }
+    requires kept { AreRight recent.old.pieces.items }
     requires passing { IsReparse context.now.held.now text.now at left.now now.old }
     ensures passing { IfOk result (λ size. IfSome size
         (λ n. IsReparse context.now.held.now text.now (at + n.0) (drop n.1 left.now) now.new)) }
     ensures shorter { IfOk result (λ size. IfSome size (λ n. length (drop n.1 left.now) < length left.now)) }
     ensures none { IfOk result (λ size. size ≡ None → IsReparse context.now.held.now text.now at left.now now.new) }
+    ensures kept { OnOk result (AreRight recent.new.pieces.items) }
     ensures memory { IsOkUnless result fault.Memory }
 {
     if let Some(size) = take_segment(context, now, text, at, left)? {
         return Ok(Some(size));
     }
     now.end_long(context.alloc, &context.words, text, at, left)?;
-    pass_one(context, names, now, text, at, left)
+    pass_one(context, recent, now, text, at, left)
 }
 
 // The pieces of a text, of which the last one remains and nothing ends it, and what to cache: all
@@ -377,15 +391,15 @@ pub(crate) fn read_by_pieces(
     ensures memory { IsOkUnless result fault.Memory }
 {
     laws::tokens_begin();
-    let mut names = NameCache::new(alloc);
+    let mut recent = RecentPieces::new(alloc);
     let words = words_of(alloc, text, held)?;
     let context = ReadingContext { alloc, held, words };
     let mut now = Reparse::new(alloc, held, tokens)?;
     let mut at: u32 = 0;
     let mut left = tokens;
     while !left.is_empty() {
-        let Some((len, count)) = pass_next(&context, &mut names, &mut now, text, at, left)? else {
-            return with_last(&context, &mut names, now, text, at, left);
+        let Some((len, count)) = pass_next(&context, &mut recent, &mut now, text, at, left)? else {
+            return with_last(&context, &mut recent.names, now, text, at, left);
         };
         let Some((end, after)) = behind(left, at, len, count) else {
             return Ok(None);

@@ -6,6 +6,7 @@
 mod incremental;
 pub mod parse;
 pub mod piece;
+mod recent_pieces;
 mod resync;
 pub mod segment;
 mod segment_builder;

@@ -1,6 +1,6 @@
 -- One tree, evaluated over a cache.
 use Rattle.std.proofs.Common.{◌≡◌, ◌↔◌, ℕ, zero, suc, Bool, true, List, [], ◌∷◌, map, Option, Some, None, refl, ap, sym, subst, ◌∙◌, Global}
-use Rattle.std.specs.Prelude.{◌&&◌, ◌||◌, All, slice_get}
+use Rattle.std.specs.Prelude.{◌&&◌, ◌||◌, All, IfSome, slice_get}
 use Rattle.std.specs.List.{list_any}
 use Rattle.std.specs.Rc.{rc_value}
 use Rattle.std.specs.declared.rc.Rc.{Rc}
@@ -27,6 +27,15 @@ use Rattle.expander_session.proofs.EvaluatedLemmas.{numbers_tell}
 
 same_is : (t u : Top) → t.delimiter ≡ text_top → u.delimiter ≡ text_top → same_top t u ≡ same_forest t.inner u.inner
 same_is t u is are = ap (λ (a : Top). same_top a u) (sym (own_is t is)) ∙ ap (same_top (own_top t.inner)) (sym (own_is u are))
+
+-- one of all
+pub all_at : {X : Type 0} (P : X → Type 0) (xs : List X) (i : ℕ) (x : X) → All P xs → slice_get xs i ≡ Some x → P x
+all_at P [] i x h e = cc
+all_at P (y ∷ xs) zero x h e = subst P (some_is y x e) (All-head P y xs h)
+  where
+    some_is : {X : Type 0} (a b : X) → Some a ≡ Some b → a ≡ b
+    some_is a b q = cc
+all_at P (y ∷ xs) (suc i) x h e = all_at P xs i x (All-tail P y xs h) e
 
 module _ (world : World Definition) (depth : ℕ) (old : Forest → Option ℕ) where
   -- a match by the code is one by the laws
@@ -62,11 +71,13 @@ module _ (world : World Definition) (depth : ℕ) (old : Forest → Option ℕ) 
         subst (λ (s : List ℕ → Option Numbered). Holds q (parts_of (expansion (numbered_world world) s depth None t.inner))) (sym scope_is)
         (subst (λ (o : Outcome Numbered). Holds q (parts_of o)) outcome right.parts)
 
--- one of all
-pub all_at : {X : Type 0} (P : X → Type 0) (xs : List X) (i : ℕ) (x : X) → All P xs → slice_get xs i ≡ Some x → P x
-all_at P [] i x h e = cc
-all_at P (y ∷ xs) zero x h e = subst P (some_is y x e) (All-head P y xs h)
-  where
-    some_is : {X : Type 0} (a b : X) → Some a ≡ Some b → a ≡ b
-    some_is a b q = cc
-all_at P (y ∷ xs) (suc i) x h e = all_at P xs i x (All-tail P y xs h) e
+    -- one that is found to match among such pieces has what an expansion gives
+    pub found_parts : (given : ℕ) (now : Forest → Option ℕ) → AreNumbers given now → ((t : Forest) (n : ℕ) → old t ≡ Some n → now t ≡ Some n)
+        → (scope : List ℕ → Option Numbered) (before : List Met) → scope ≡ numbered_scope before → All (IsMet (numbered_by now)) before
+        → (t : Top) → t.delimiter ≡ text_top → (qs : List (Rc Memo Global)) → All (λ x. IsRight world depth old (rc_value x)) qs
+        → (i : ℕ) (q : Rc Memo Global) → slice_get qs i ≡ Some q → IfSome (slice_get qs i) (λ x. is_match scope t (rc_value x) ≡ true)
+        → Holds (rc_value q) (parts_of (expansion (numbered_world world) scope depth None t.inner))
+    found_parts given now are more scope before scope_is met t is qs rights i q stands found =
+        matched_parts given now are more scope before scope_is met t (rc_value q) is
+        (all_at (λ x. IsRight world depth old (rc_value x)) qs i q rights stands)
+        (subst (λ (o : Option (Rc Memo Global)). IfSome o (λ x. is_match scope t (rc_value x) ≡ true)) stands found)

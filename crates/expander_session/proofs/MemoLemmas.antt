@@ -1,6 +1,6 @@
 -- The search for a memo that is valid for a tree.
-use Rattle.std.proofs.Common.{◌≡◌, ◌↔◌, ℕ, ◌<◌, ◌≤◌, ◌+◌, ◌++◌, ◌∙◌, drop, take, zero, suc, Bool, true, false, List, [], ◌∷◌, length, get_or, map, Option, Some, None, refl, ap, sym, subst, arith, Global}
-use Rattle.std.specs.Prelude.{◌&&◌, ◌||◌, IfSome, slice_get}
+use Rattle.std.proofs.Common.{◌≡◌, ◌↔◌, ℕ, ◌<◌, ◌+◌, ◌∙◌, drop, zero, suc, Bool, true, false, List, [], ◌∷◌, length, get_or, map, Option, Some, None, refl, ap, sym, subst, arith, Global}
+use Rattle.std.specs.Prelude.{◌&&◌, IfSome, slice_get}
 use Rattle.std.specs.List.{list_all, list_any}
 use Rattle.std.specs.Rc.{rc_value}
 use Rattle.std.specs.declared.rc.Rc.{Rc}
@@ -14,7 +14,6 @@ use Rattle.expander_session.specs.Reuse.{agrees, same_number}
 use Rattle.expander_model.specs.EqualTrees.{same_top}
 use Rattle.expander_scope.specs.declared.outcome.NameLookup.{NameLookup}
 use Rattle.expander_session.specs.declared.memo.Memo.{Memo}
-use Rattle.std.proofs.lemmas.List.{drop_more, map-append}
 use Rattle.expander_session.proofs.TreeIndexLemmas.{at_found, at_last, at_next, next_below, reach}
 use Rattle.expander_reparse.proofs.ListLemmas.{at_place, in_range, mapped_length, passed_by, stands_at}
 

@@ -182,6 +182,7 @@ module _ (grammar : Grammar) (edition : Edition) (depth : ℕ) (old : Cache) (pi
   -- what is taken for a tree, by the numbers of both texts
   pub parts_taken : (t : Top) (q : Memo) → t ≡ own_top r
       → ((given : ℕ) (numbers : Forest → Option ℕ) (before : List Met) → AreNumbers given numbers → MoreNumbers (numbers_in old.by_tree) numbers
+      → All (λ q. IsRight W depth numbers (rc_value q)) now.taken.plains.items
       → scope_in now.scope ≡ numbered_scope before → All (IsMet (numbered_by numbers)) before
       → Holds q (parts_of (expansion (numbered_world W) (scope_in now.scope) depth None t.inner)))
       → (before : List Met) (trees : List Forest) (done : List Kept) → Has before trees done now
@@ -190,10 +191,11 @@ module _ (grammar : Grammar) (edition : Edition) (depth : ℕ) (old : Cache) (pi
       let are = has.taken.numbers.numbers in
       let numbers : Forest → Option ℕ = numbers_in now.taken.numbers.by_tree in
       let both : Forest → Option ℕ = by_either numbers (numbers_in old.by_tree) in
+      let stays : MoreNumbers numbers both = now_stays old.given (numbers_in old.by_tree) (trees_of old) trees now.taken.numbers.given numbers are in
       subst (λ (u : Top). Holds q (parts_of (expansion (numbered_world W) (scope_in now.scope) depth None u.inner))) tree_is
       (outcome now.taken.numbers.given both before are.numbers
-      (old_stays old.given (numbers_in old.by_tree) (trees_of old) trees now.taken.numbers.given numbers are) has.met.finds
-      (known_grows numbers both (now_stays old.given (numbers_in old.by_tree) (trees_of old) trees now.taken.numbers.given numbers are) before has.known))
+      (old_stays old.given (numbers_in old.by_tree) (trees_of old) trees now.taken.numbers.given numbers are)
+      (right_grows W depth numbers both stays now.taken.plains.items has.taken.right) has.met.finds (known_grows numbers both stays before has.known))
 
   -- a plain piece, put out and held
   module _ (equal : (f g : Forest) → (same_forest f g ≡ true) ↔ (f ≡ g)) (q : Rc Memo Global) (matched : Bool) (scope_is : next.scope ≡ now.scope) (numbers_are : next.taken.numbers ≡ now.taken.numbers)

@@ -7,7 +7,6 @@ use Rattle.tt.specs.Tops.{Top}
 use Rattle.expander_session.specs.Memos.{tree_of}
 use Rattle.expander_session.specs.declared.memo_ref.MemoRef.{MemoRef}
 use Rattle.expander_session.specs.declared.memo_ref.MemoRef.TheVariants as link
-use Rattle.expander_scope.specs.declared.macro_def.MacroDef.{MacroDef}
 use Rattle.expander_session.specs.declared.memo.Memo.{Memo}
 use Rattle.expander_reparse.specs.declared.segment.CachedPiece.{CachedPiece}
 

@@ -18,7 +18,7 @@ ghost use Rattle.expander_session.specs.CachedOutputs.{Holds};
 ghost use Rattle.expander_session.specs.Layered.{layers};
 ghost use Rattle.expander_session.specs.MemoRefs.{plain_tops};
 ghost use Rattle.expander_model.specs.Meaning.{members_after};
-ghost use Rattle.expander_session.specs.Caches.{IsCache, piece_of, trees_of};
+ghost use Rattle.expander_session.specs.Caches.{IsCache, IsRight, piece_of, trees_of};
 ghost use Rattle.expander_scope.specs.ScopeTable.{AreRead, HasMet, expanded_under, scope_in};
 ghost use Rattle.expander_scope.specs.DefinitionTexts.{HasNumbered};
 ghost use Rattle.expander_scope.specs.DefinitionIds.{AreNumbers, HaveNumbers, number_by, numbered_by};
@@ -42,8 +42,9 @@ use crate::absolute_spans::{emit_cached, emit_events, put_faults, tell_if_broken
 use crate::cache::Cache;
 use crate::cached_output::{CachedOutput, output_to_cache};
 use crate::emitter::{Emitter, no_steps, reserve, takes_chunks};
-use crate::memo::{Memo, MemoIndex, find_valid};
+use crate::memo::{Memo, MemoIndex, find_in_text, find_valid};
 use crate::memo_ref::MemoRef;
+use crate::recent_memos::RecentMemos;
 use expander_model::fault::Fault;
 use expander_model::hashed_tree::HashedTree;
 use expander_model::laws;
@@ -116,18 +117,49 @@ fn expanded<G: FragmentGrammar>(
     shared(alloc, plain)
 }
 
-/// The memo of a tree: a valid one from the cache, with its index there, or else a new one, with
-/// `None`. The third value is the hash of the tree.
+// A memo of a tree that the cache has none for: a valid one of this text, if it is found, or else a
+// new one. `taken` is what the pieces so far have given.
+fn fresh_memo<G: FragmentGrammar>(
+    env: &Environment<'_, G>,
+    taken: &Evaluated,
+    recent: &RecentMemos,
+    tree: &Rc<HashedTree>,
+) -> Result<Rc<Memo>, TtFault>
+    requires read { AreRead env.now.scope.now }
+    requires top { tree.now.value.delimiter ≡ text_top }
+    ensures tree { IfOk result (λ q. tree_of q.value ≡ tree.now.value) }
+    ensures holds { (given : ℕ) (numbers : Forest → Option ℕ) (before : List Met) → AreNumbers given numbers →
+        All (λ q. IsRight (world (G.answer env.now.grammar.now) env.now.scope.now.edition) env.now.depth numbers (rc_value q)) taken.now.plains.items →
+        scope_in env.now.scope.now ≡ numbered_scope before → All (IsMet (numbered_by numbers)) before →
+        IfOk result (λ q. Holds q.value (parts_of
+        (expanded_under (G.answer env.now.grammar.now) env.now.scope.now env.now.depth tree.now.value.inner))) }
+    ensures tokens { result ≡ Err TtFault.Tokens →
+        (expanded_under (G.answer env.now.grammar.now) env.now.scope.now env.now.depth tree.now.value.inner).bursts ≡ true }
+{
+    laws::equal_pieces();
+    tt::laws::equal_trees();
+    let made = taken.plains.as_slice();
+    match find_in_text(env.scope, made, taken.hashes.as_slice(), recent, tree) {
+        Some(i) => {
+            let plain = made[i].clone()?;
+            Ok(plain)
+        }
+        None => expanded(env, tree.clone()?, takes_chunks(&taken.steps)),
+    }
+}
+
+/// The memo of a tree: a valid one from the cache, with its index there, or else one of this text,
+/// with `None`. The third value is the hash of the tree.
 ///
-/// `link` is the index of a memo that is known to have this tree. `as_part` asks for a new memo to
-/// cache text rather than events.
+/// `link` is the index of a memo that is known to have this tree. `taken` is what the pieces so far
+/// have given.
 pub(crate) fn evaluate_tree<G: FragmentGrammar>(
     env: &Environment<'_, G>,
     memory: &Cache,
     lookup: &mut MemoIndex,
     link: Option<usize>,
     tree: &Rc<HashedTree>,
-    as_part: bool,
+    taken: &Evaluated,
 ) -> Result<(Rc<Memo>, Option<usize>, u64), TtFault>
     requires read { AreRead env.now.scope.now }
     requires lookup { Finds lookup.old memory.now.plains.items }
@@ -140,6 +172,7 @@ pub(crate) fn evaluate_tree<G: FragmentGrammar>(
     ensures hash { IfOk result (λ r. r.2 ≡ tree_hash tree.now.value) }
     ensures holds { (given : ℕ) (numbers : Forest → Option ℕ) (before : List Met) → AreNumbers given numbers →
         ((t : Forest) (n : ℕ) → numbers_in memory.now.by_tree t ≡ Some n → numbers t ≡ Some n) →
+        All (λ q. IsRight (world (G.answer env.now.grammar.now) env.now.scope.now.edition) env.now.depth numbers (rc_value q)) taken.now.plains.items →
         scope_in env.now.scope.now ≡ numbered_scope before → All (IsMet (numbered_by numbers)) before →
         IfOk result (λ r. Holds r.0.value (parts_of
         (expanded_under (G.answer env.now.grammar.now) env.now.scope.now env.now.depth tree.now.value.inner))) }
@@ -161,7 +194,7 @@ pub(crate) fn evaluate_tree<G: FragmentGrammar>(
             Ok((plain, Some(i), hashes[i]))
         }
         None => {
-            let plain = expanded(env, tree.clone()?, as_part)?;
+            let plain = fresh_memo(env, taken, &lookup.recent, tree)?;
             Ok((plain, None, tree.as_ref().kept_hash()))
         }
     }
@@ -478,10 +511,9 @@ fn evaluate_plain<G: FragmentGrammar>(
         scope: &now.scope,
         depth: context.depth,
     };
-    let taken = &mut now.taken;
-    let as_part = takes_chunks(&taken.steps);
-    let lookup = &mut now.lookup;
-    let (found, at, hash) = evaluate_tree(&env, context.memory, lookup, link, tree, as_part)?;
+    let (taken, lookup) = (&mut now.taken, &mut now.lookup);
+    let (found, at, hash) = evaluate_tree(&env, context.memory, lookup, link, tree, taken)?;
+    lookup.keep(at, hash, taken.plains.len())?;
     let plain = emit_plain(&env, &mut taken.steps, &mut taken.faults, start, found)?;
     hold(
         &mut taken.plains,

@@ -11,5 +11,6 @@ mod evaluate;
 pub mod laws;
 mod memo;
 mod memo_ref;
+mod recent_memos;
 pub mod session;
 mod tree_index;

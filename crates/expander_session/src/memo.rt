@@ -12,6 +12,7 @@ ghost use Rattle.expander_session.specs.Reuse.{agrees, same_number};
 ghost use Rattle.tt.specs.Tops.{Top};
 
 use crate::cached_output::CachedOutput;
+use crate::recent_memos::RecentMemos;
 use crate::tree_index::TreeIndex;
 use expander_model::fault::FaultKind;
 use expander_model::hashed_tree::HashedTree;
@@ -167,8 +168,8 @@ fn tree_index_of(alloc: Global, held: &[Rc<Memo>]) -> Result<TreeIndex, AllocErr
     Ok(chains)
 }
 
-/// The search for valid memos: through the whole list the first times, and then by an index of the
-/// trees.
+/// The search for valid memos: in the cache through the whole list the first times, and then by an
+/// index of the trees.
 #[derive(Drop)]
 pub(crate) struct MemoIndex {
     alloc: Global,
@@ -178,6 +179,8 @@ pub(crate) struct MemoIndex {
     times: usize,
     // The index of the trees, once a search has needed it.
     chains: Option<TreeIndex>,
+    /// Where this text's own memos are looked for.
+    pub recent: RecentMemos,
 }
 
 // How many searches go through the whole list before the index is made.
@@ -193,6 +196,7 @@ impl MemoIndex {
             next: 0,
             times: 0,
             chains: None,
+            recent: RecentMemos::new(alloc),
         }
     }
 
@@ -242,6 +246,17 @@ impl MemoIndex {
         }
         self.find_in_table(scope, held, tree)
     }
+
+    /// Keeps where the next memo of this text stands, unless it is from the cache, where its index
+    /// is `at` then. Its tree has this hash.
+    pub fn keep(&mut self, at: Option<usize>, hash: u64, index: usize) -> Result<(), AllocError>
+        ensures { (held : List (Rc Memo GhostGlobal)) → Finds self.old held → OnOk result (Finds self.new held) }
+    {
+        match at {
+            Some(_) => Ok(()),
+            None => self.recent.keep(hash, index),
+        }
+    }
 }
 
 /// The index of a memo that is valid for a tree, if there is one. The linked memo is tried first,
@@ -271,4 +286,29 @@ pub(crate) fn find_valid(
         return Ok(Some(at));
     }
     lookup.find(scope, held, hashes, tree)
+}
+
+/// The index of a memo of this text that is valid for a tree, if it is found. `made` are the text's
+/// memos so far, with the hashes of their trees.
+pub(crate) fn find_in_text(
+    scope: &Scope,
+    made: &[Rc<Memo>],
+    hashes: &[u64],
+    recent: &RecentMemos,
+    tree: &Rc<HashedTree>,
+) -> Option<usize>
+    requires read { AreRead scope.now }
+    ensures found { IfSome result (λ i. IfSome (slice_get made.now i) (λ q. is_match (scope_in scope.now) tree.now.value (rc_value q) ≡ true)) }
+    ensures within { IfSome result (λ i. i < length made.now) }
+{
+    let hash = tree.as_ref().kept_hash();
+    let i = recent.get(hash)?;
+    if i >= made.len() || i >= hashes.len() || hashes[i] != hash {
+        return None;
+    }
+    if is_match(scope, tree, made[i].as_ref()) {
+        Some(i)
+    } else {
+        None
+    }
 }

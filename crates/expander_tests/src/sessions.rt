@@ -171,3 +171,39 @@ fn refused_calls_can_be_made_again(rt: HostRuntime) -> Result<(), Fail> {
     }
     Ok(())
 }
+
+// Adds a definition with this transcriber, and so many equal calls.
+fn push_calls(text: &mut String, transcriber: &str, count: usize) -> Result<(), Fail> {
+    write!(
+        text,
+        "macro_rules! t {{ ($x:expr) => {{ {transcriber} }} }}\n"
+    )?;
+    for _ in 0..count {
+        text.push_str("t!{1}\n")?;
+    }
+    Ok(())
+}
+
+// From the 513th on, equal calls of one text share an expansion, as long as the name finds an equal
+// definition. Each counts as a cache miss all the same.
+#[test]
+fn equal_pieces_share(rt: HostRuntime) -> Result<(), Fail> {
+    let mut text = String::new(rt.alloc());
+    push_calls(&mut text, "$x", 600)?;
+    push_calls(&mut text, "$x $x", 2)?;
+    push_calls(&mut text, "$x", 600)?;
+    if text.len() >= 10_000_000 {
+        return Err(Fail::new("the text is long"));
+    }
+    let calls = Cell::new(0);
+    let inner = OneStep;
+    let grammar = Counting {
+        inner,
+        calls: &calls,
+    };
+    let edition = Edition::Edition2024;
+    let mut session = Session::new(rt.alloc(), text.as_str(), grammar, edition, 128)?;
+    let found = expanded(&mut session, &calls)?;
+    assert!(rt; calls.get() == 514 && found.expanded() == 1202 && found.tokens() == 1204);
+    Ok(())
+}

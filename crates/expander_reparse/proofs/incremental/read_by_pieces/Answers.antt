@@ -15,13 +15,13 @@ returns-in_default-clause-met c =
 
 pub returns-clause-read : goal.returns-clause-read
 returns-clause-read c =
-    let p : IsReparse c.args.held.now c.args.text.now c.loop-context.at c.loop-context.left.now c.end.new.self = c.in_ok-end.ensures.passing c.args.held.now c.loop-context.invariant in
+    let p : IsReparse c.args.held.now c.args.text.now c.loop-context.at c.loop-context.left.now c.end.new.self = c.in_ok-end.ensures.passing c.args.held.now c.loop-context.invariant.0 in
     let none : c.loop-context.left.now ≡ [] = no_item c.loop-context.left.now (search rules) in
     let all = all_passed c.args.text.now c.loop-context.at c.loop-context.left.now c.end.new.self.own.items none p.passed in
     (all.0, all.1.0, all.1.1, p.listed)
 
 pub returns-clause-theirs : goal.returns-clause-theirs
 returns-clause-theirs c =
-    let p : IsReparse c.args.held.now c.args.text.now c.loop-context.at c.loop-context.left.now c.end.new.self = c.in_ok-end.ensures.passing c.args.held.now c.loop-context.invariant in
+    let p : IsReparse c.args.held.now c.args.text.now c.loop-context.at c.loop-context.left.now c.end.new.self = c.in_ok-end.ensures.passing c.args.held.now c.loop-context.invariant.0 in
     made_theirs (record { list = c.end.new.self.list }) c.end.new.self.own.items
     (made_all c.args.held.now c.args.text.now c.loop-context.at c.loop-context.left.now c.end.new.self p c.in_ok-end.ensures.none)

@@ -69,4 +69,6 @@ returns-clause-links g c = λ trees h.
     c.args.now.now.taken.links.items c.hold.new.links.items trees c.args.tree.now.value c.in_ok-hold.ensures.plains (c.in_ok-plain.ensures.tree ∙ c.in_ok-found.ensures.tree) c.in_ok-hold.ensures.links h)
 
 pub returns-clause-lookup : goal.returns-clause-lookup
-returns-clause-lookup g c = c.count.ensures.lookup c.args.context.now.memory.now.plains.items c.in_ok-found.ensures.lookup
+returns-clause-lookup g c =
+    let plains = c.args.context.now.memory.now.plains.items in
+    c.count.ensures.lookup plains (c.in_ok-keep.ensures plains c.in_ok-found.ensures.lookup)

@@ -1,4 +1,4 @@
-use Rattle.std.proofs.Common.{◌≡◌, ◌∙◌, ℕ, List, Option, Some, Global, ap, subst, sym, rules, true}
+use Rattle.std.proofs.Common.{◌≡◌, ◌∙◌, ℕ, List, Some, Global, ap, subst, sym, rules, true}
 use Rattle.std.specs.Prelude.{IfSome, None, is_some, slice_get}
 use Rattle.std.specs.List.{list_any}
 use Rattle.std.specs.Rc.{rc_value}
@@ -6,7 +6,6 @@ use Rattle.std.specs.declared.rc.Rc.{Rc}
 use Rattle.expander_scope.specs.Interning.{numbers_in}
 use Rattle.expander_model.specs.Expansion.{expansion}
 use Rattle.expander_model.specs.Held.{numbered_world}
-use Rattle.expander_session.specs.Caches.{IsRight}
 use Rattle.expander_scope.specs.ScopeTable.{scope_in}
 use Rattle.expander_session.specs.CachedOutputs.{Holds}
 use Rattle.expander_scope.specs.Outcomes.{parts_of}
@@ -15,26 +14,27 @@ use Rattle.expander_session.specs.Memos.{AreHashes, Finds, is_match}
 use Rattle.expander_model.specs.World.{world}
 use Rattle.expander_session.specs.declared.memo.Memo.{Memo}
 use Rattle.expander_reparse.proofs.ListLemmas.{stands_at}
-use Rattle.expander_session.proofs.EvaluateLemmas.{all_at, any_is, matched_parts}
+use Rattle.expander_session.proofs.EvaluateLemmas.{any_is, found_parts}
 use Rattle.expander_session.proofs.evaluate.evaluate_tree.Goals as goal
 
 pub returns-in_ok-plain-in-Some-clause-holds : goal.returns-in_ok-plain-in-Some-clause-holds
-returns-in_ok-plain-in-Some-clause-holds g c = λ given numbers before are more scope_is met.
+returns-in_ok-plain-in-Some-clause-holds g c = λ given numbers before are more made scope_is met.
     let q : Rc Memo Global = c.index-held-i.result in
-    let stands : slice_get c.as_slice-held.result.now c.in-Some.i ≡ Some q = stands_at c.as_slice-held.result.now c.in-Some.i q (rw c.in-Some.is at c.in_ok-found.ensures.within) c.index-held-i.is in
-    let passes : is_match (scope_in c.args.env.now.scope.now) c.args.tree.now.value (rc_value q) ≡ true =
-    subst (λ (o : Option (Rc Memo Global)). IfSome o (λ x. is_match (scope_in c.args.env.now.scope.now) c.args.tree.now.value (rc_value x) ≡ true)) stands (rw c.in-Some.is at c.in_ok-found.ensures.found) in
     let here : slice_get c.args.memory.now.plains.items c.in-Some.i ≡ Some q =
-    ap (λ (qs : List (Rc Memo Global)). slice_get qs c.in-Some.i) (sym c.as_slice-held.ensures.value) ∙ stands in
-    let right : IsRight (world (g.G.FragmentGrammar.answer c.args.env.now.grammar.now) c.args.env.now.scope.now.edition) c.args.env.now.depth (numbers_in c.args.memory.now.by_tree) (rc_value q) =
-    all_at (λ x. IsRight (world (g.G.FragmentGrammar.answer c.args.env.now.grammar.now) c.args.env.now.scope.now.edition) c.args.env.now.depth (numbers_in c.args.memory.now.by_tree) (rc_value x))
-    c.args.memory.now.plains.items c.in-Some.i q c.requires.right.right here in
+    ap (λ (qs : List (Rc Memo Global)). slice_get qs c.in-Some.i) (sym c.as_slice-held.ensures.value)
+    ∙ stands_at c.as_slice-held.result.now c.in-Some.i q (rw c.in-Some.is at c.in_ok-found.ensures.within) c.index-held-i.is in
+    let found : IfSome (slice_get c.args.memory.now.plains.items c.in-Some.i) (λ x. is_match (scope_in c.args.env.now.scope.now) c.args.tree.now.value (rc_value x) ≡ true) =
+    subst (λ (qs : List (Rc Memo Global)). IfSome (slice_get qs c.in-Some.i) (λ x. is_match (scope_in c.args.env.now.scope.now) c.args.tree.now.value (rc_value x) ≡ true)) c.as_slice-held.ensures.value
+    (rw c.in-Some.is at c.in_ok-found.ensures.found) in
     let same : c.in_ok-plain-in-Some.plain.value ≡ rc_value q = search rules in
     subst (λ (p : Memo). Holds p
     (parts_of (expansion (numbered_world (world (g.G.FragmentGrammar.answer c.args.env.now.grammar.now) c.args.env.now.scope.now.edition)) (scope_in c.args.env.now.scope.now) c.args.env.now.depth None c.args.tree.now.value.inner)))
     (sym same)
-    (matched_parts (world (g.G.FragmentGrammar.answer c.args.env.now.grammar.now) c.args.env.now.scope.now.edition) c.args.env.now.depth (numbers_in c.args.memory.now.by_tree) c.equal_pieces.ensures c.equal_trees.ensures
-    given numbers are more (scope_in c.args.env.now.scope.now) before scope_is met c.args.tree.now.value (rc_value q) c.requires.top right passes)
+    (found_parts (world (g.G.FragmentGrammar.answer c.args.env.now.grammar.now) c.args.env.now.scope.now.edition) c.args.env.now.depth (numbers_in c.args.memory.now.by_tree) c.equal_pieces.ensures c.equal_trees.ensures
+    given numbers are more (scope_in c.args.env.now.scope.now) before scope_is met c.args.tree.now.value c.requires.top c.args.memory.now.plains.items c.requires.right.right c.in-Some.i q here found)
+
+pub returns-in_ok-plain-in-None-clause-holds : goal.returns-in_ok-plain-in-None-clause-holds
+returns-in_ok-plain-in-None-clause-holds g c = λ given numbers before are more made scope_is met. c.in_ok-plain-in-None.ensures.holds given numbers before are made scope_is met
 
 pub returns-in_ok-plain-in-Some-clause-counted : goal.returns-in_ok-plain-in-Some-clause-counted
 returns-in_ok-plain-in-Some-clause-counted g c =

@@ -1,8 +1,7 @@
-use Rattle.std.proofs.Common.{◌≡◌, ap, refl, sym, ◌∙◌, length, map}
-use Rattle.std.specs.Prelude.{string_bytes}
+use Rattle.std.proofs.Common.{ap, refl, sym, ◌∙◌, length, map}
 use Rattle.tt_data.specs.declared.span.Span.{Span}
 use Rattle.bridge.specs.PrintedRanges.{printed_ranges, read_ranges}
-use Rattle.bridge.specs.Printing.{Print, print_of}
+use Rattle.bridge.specs.Printing.{Print}
 use Rattle.expander_model.specs.Faults.{in_order}
 use Rattle.expander_model.specs.Printing.{steps_of}
 use Rattle.expander_session.proofs.PrintingLemmas.{text_is, tokens_bare, origins_are}
