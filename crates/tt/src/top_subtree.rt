@@ -8,6 +8,7 @@ pub(crate) mod transform;
 
 use crate::flatten::is_one_group;
 use crate::iter::TtIter;
+use crate::storage::mark::Mark;
 use crate::storage::{TokenBuffer, Tokens};
 use crate::view::{SubtreeView, TokenTreesView};
 use std::alloc::Global;
@@ -167,7 +168,7 @@ impl TopSubtree {
     {
         let mut head = self.top_subtree();
         head.delimiter.kind = kind;
-        self.tokens.set(0, TokenTree::Subtree(head));
+        self.tokens.set_head(Mark::start(), head);
     }
 
     /// Gives the group's delimiters other spans. It takes no memory.
@@ -177,7 +178,7 @@ impl TopSubtree {
         let mut head = self.top_subtree();
         head.delimiter.open_span = span.open_span;
         head.delimiter.close_span = span.close_span;
-        self.tokens.set(0, TokenTree::Subtree(head));
+        self.tokens.set_head(Mark::start(), head);
     }
 
     /// Replaces the leaf at index `idx` of the flat list, in which the group's own head is 0.
@@ -193,7 +194,7 @@ impl TopSubtree {
         if !self.tokens.tokens().is_leaf_at(idx) {
             return Err(TtFault::Place);
         }
-        self.tokens.set(idx, TokenTree::Leaf(leaf));
+        self.tokens.set_leaf(idx, leaf)?;
         Ok(())
     }
 
