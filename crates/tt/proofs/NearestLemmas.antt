@@ -1,13 +1,15 @@
 -- The indices that a cursor keeps, at which the lists around its own begin.
 use Rattle.std.proofs.Common.{◌≡◌, ◌≢◌, ℕ, ◌-◌, List, [], ◌∷◌, ◌++◌, take, drop, refl, sym, ap, subst, ◌∙◌, append_assoc, append-nil, Some, inl, inr}
-use Rattle.std.proofs.lemmas.List.{take-append-drop}
+use Rattle.std.proofs.lemmas.List.{map-append, take-append-drop}
 use Rattle.tt_data.specs.declared.tree.Subtree.{Subtree}
 use Rattle.tt_data.specs.declared.tree.TokenTree.{TokenTree}
 use Rattle.tt_data.specs.declared.tree.TokenTree.TheVariants as token
 use Rattle.tt_data.specs.declared.leaf.Leaf.{Leaf}
 use Rattle.tt_data.specs.Forest.{Forest, empty, leaf, group}
 use Rattle.tt.specs.Places.{Around, Place, first_token, bumped, ended}
-use Rattle.tt.specs.CursorTokens.{start_in, starts_around, AreNearest, IsNextOut, Stands, place_of, IsPlaced}
+use Rattle.tt.specs.declared.storage.mark.Mark.{Mark}
+use Rattle.tt.specs.Marks.{IsMarkIn}
+use Rattle.tt.specs.CursorTokens.{AreMarksIn, counts, start_in, starts_around, AreNearest, IsNextOut, Stands, place_of, IsPlaced}
 use Rattle.tt.proofs.CursorLemmas.{next_start, begins_next}
 use Rattle.tt.proofs.PlaceLemmas.{found, placed}
 
@@ -112,6 +114,33 @@ held tokens start at kept p stands kept_are =
     (placed tokens start at p stands, subst (λ (q : Place). AreNearest kept q.around) (sym (found tokens start at p stands)) kept_are)
 
 -- what a list is without its first and with one more after it, or with its first too
-pub without_first : (old rest new : List ℕ) (x : ℕ) → new ≡ rest ++ x ∷ [] → rest ≡ drop 1 old → (gone : List ℕ) × (gone ++ new ≡ old ++ x ∷ [])
+pub without_first : {A : Type 0} (old rest new : List A) (x : A) → new ≡ rest ++ x ∷ [] → rest ≡ drop 1 old → (gone : List A) × (gone ++ new ≡ old ++ x ∷ [])
 without_first old rest new x last less =
     (take 1 old, rw (last, less) (sym (append_assoc (take 1 old) (drop 1 old) (x ∷ [])) ∙ ap (λ xs. xs ++ x ∷ []) (take-append-drop 1 old)))
+
+-- marks of which the last is taken off
+pub popped_marks : (tokens : List TokenTree) (ms : List Mark) (m : Mark) → AreMarksIn (ms ++ m ∷ []) tokens → AreMarksIn ms tokens × IsMarkIn m tokens
+popped_marks tokens [] m all = (tt, all.0)
+popped_marks tokens (x ∷ ms) m all =
+    let rest = popped_marks tokens ms m all.1 in
+    ((all.0, rest.0), rest.1)
+
+pub pushed_marks : (tokens : List TokenTree) (ms : List Mark) (m : Mark) → AreMarksIn ms tokens → IsMarkIn m tokens → AreMarksIn (ms ++ m ∷ []) tokens
+pushed_marks tokens [] m all is = (is, tt)
+pushed_marks tokens (x ∷ ms) m all is = (all.0, pushed_marks tokens ms m all.1 is)
+
+later_marks : (tokens : List TokenTree) (gone new : List Mark) → AreMarksIn (gone ++ new) tokens → AreMarksIn new tokens
+later_marks tokens [] new all = all
+later_marks tokens (x ∷ gone) new all = later_marks tokens gone new all.1
+
+-- marks with one more at the end, and some at the beginning left off
+pub latest_marks : (tokens : List TokenTree) (old gone new : List Mark) (m : Mark) → gone ++ new ≡ old ++ m ∷ [] → AreMarksIn old tokens → IsMarkIn m tokens
+    → AreMarksIn new tokens
+latest_marks tokens old gone new m e all is =
+    let P : List Mark → Type 0 = λ ms. AreMarksIn ms tokens in
+    later_marks tokens gone new (subst P (sym e) (pushed_marks tokens old m all is))
+
+-- their counts
+pub counts_latest : (old gone new : List Mark) (m : Mark) → gone ++ new ≡ old ++ m ∷ [] → counts gone ++ counts new ≡ counts old ++ m.count ∷ []
+counts_latest old gone new m e =
+    sym (map-append (λ (k : Mark). k.count) gone new) ∙ ap counts e ∙ map-append (λ (k : Mark). k.count) old (m ∷ [])

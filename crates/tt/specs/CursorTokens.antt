@@ -1,8 +1,10 @@
 -- How a cursor's flat list and two numbers hold its position.
-use Rattle.std.specs.Prelude.{◌≡◌, ℕ, ◌+◌, ◌-◌, ◌<◌, ◌≤◌, List, [], ◌∷◌, ◌++◌, ◌⊎◌, slice_index_or, nat_eq, nat_le, if◌then◌else◌}
+use Rattle.std.specs.Prelude.{◌≡◌, ℕ, ◌+◌, ◌-◌, ◌<◌, ◌≤◌, List, [], ◌∷◌, ◌++◌, ◌⊎◌, slice_index_or, map, nat_eq, nat_le, if◌then◌else◌}
 use Rattle.tt_data.specs.declared.tree.TokenTree.{TokenTree}
 use Rattle.tt_data.specs.declared.tree.TokenTree.TheVariants as token
 use Rattle.tt_data.specs.Forest.{Forest, empty, leaf, group, joined, size, preorder, forest_of}
+use Rattle.tt.specs.declared.storage.mark.Mark.{Mark}
+use Rattle.tt.specs.Marks.{IsMarkIn}
 use Rattle.tt.specs.Places.{Around, Place}
 
 -- all trees, with these groups around the innermost list
@@ -39,6 +41,21 @@ place_in around before (group d inner rest) start at =
 -- the position that a flat list and the two numbers hold
 abbrev pub place_of : List TokenTree → ℕ → ℕ → Place
 place_of tokens start at = place_in [] empty (forest_of tokens) start at
+
+-- how many tokens come before each of some marks
+abbrev pub counts : List Mark → List ℕ
+counts marks = map (λ m. m.count) marks
+
+-- all of these are marks among the tokens
+abbrev pub AreMarksIn : List Mark → List TokenTree → Type 0
+AreMarksIn [] tokens = Unit {0}
+AreMarksIn (m ∷ more) tokens = IsMarkIn m tokens × AreMarksIn more tokens
+
+-- a cursor's marks: of its list's beginning, of its position, and of the beginnings of lists around
+pub record CursorMarks (tokens : List TokenTree) (start at : Mark) (nearest : List Mark) : Type 0 where
+  pub begins : IsMarkIn start tokens
+  pub stands : IsMarkIn at tokens
+  pub around : AreMarksIn nearest tokens
 
 -- they do hold a position
 abbrev pub IsPlaced : List TokenTree → ℕ → ℕ → Type 0

@@ -3,14 +3,16 @@
 //! A `Cursor` enters groups and leaves them again, where a `TtIter` passes a group as one tree.
 //! Its contracts see it as a position among trees: those before it, those after it, and the
 //! groups around it.
-ghost use Rattle.tt.specs.CursorTokens.{BeginsListOf, IsNextOut, Reaches};
+ghost use Rattle.tt.specs.CursorTokens.{AreMarksIn, IsNextOut, counts};
+ghost use Rattle.tt.specs.Marks.{IsMarkIn};
 ghost use Rattle.tt.specs.Places.{two_leaves};
-ghost use Rattle.tt.specs.Records.{items, as_head};
+ghost use Rattle.tt.specs.Records.{items};
 ghost use Rattle.tt.specs.Views.{forest};
-ghost use Rattle.tt_data.specs.declared.tree.TokenTree.{TokenTree};
-ghost use Rattle.std.specs.Prelude.{◌≡◌, ◌≢◌, ⊤, IsTrue, ◌↔◌, ◌+◌, ◌<◌, ◌≤◌, ◌++◌, ◌∷◌, ℕ, List, length, [], Some, IsNone};
+ghost use Rattle.tt.specs.declared.storage.mark.Mark.{Mark};
+ghost use Rattle.std.specs.Prelude.{◌≡◌, ◌≢◌, ⊤, IsTrue, ◌↔◌, ◌-◌, ◌<◌, ◌++◌, ◌∷◌, List, [], Some, IsNone};
 
 use crate::storage::Tokens;
+use crate::storage::mark::Mark;
 use crate::view::TokenTreesView;
 use arrayvec::ArrayVec;
 use std::alloc::AllocError;
@@ -25,12 +27,12 @@ use tt_data::{Leaf, Subtree, TokenTree};
 #[derive(Debug, Drop)]
 pub struct Cursor<'a> {
     tokens: Tokens<'a>,
-    // The index at which the innermost list begins: 0 in no group, else just after the group's
-    // head.
-    start: usize,
-    at: usize,
-    // The indices at which the nearest of the lists around that one begin, the nearest last.
-    nearest: ArrayVec<usize, NEAREST>,
+    // The mark at which the innermost list begins: the first in no group, else that just after the
+    // group's head.
+    start: Mark,
+    at: Mark,
+    // The marks at which the nearest of the lists around that one begin, the nearest last.
+    nearest: ArrayVec<Mark, NEAREST>,
 }
 
 // Of how many lists around its own a cursor knows at most the beginnings.
@@ -38,16 +40,18 @@ const NEAREST: usize = 16;
 
 impl<'a> Model for Cursor<'a> {
     ghost use Rattle.tt.specs.Places.{Place, place_code};
-    ghost use Rattle.tt.specs.CursorTokens.{place_of, IsPlaced, AreNearest};
+    ghost use Rattle.tt.specs.CursorTokens.{counts, place_of, IsPlaced, AreNearest, CursorMarks};
     ghost use Rattle.tt.specs.Records.{items};
 
     ghost Value = { Place };
 
     ghost coded = { place_code };
 
-    ghost view = { λ c. place_of (items c.tokens) c.start c.at };
+    ghost view = { λ c. place_of (items c.tokens) c.start.count c.at.count };
 
-    ghost invariant = { λ c. IsPlaced (items c.tokens) c.start c.at × AreNearest c.nearest.items (place_of (items c.tokens) c.start c.at).around };
+    ghost invariant = { λ c. IsPlaced (items c.tokens) c.start.count c.at.count
+        × AreNearest (counts c.nearest.items) (place_of (items c.tokens) c.start.count c.at.count).around
+        × CursorMarks (items c.tokens) c.start c.at c.nearest.items };
 }
 
 impl<'a> Clone for Cursor<'a> {
@@ -67,7 +71,7 @@ impl<'a> Clone for Cursor<'a> {
 }
 
 // A clone of the nearest beginnings.
-fn copied(nearest: &ArrayVec<usize, NEAREST>) -> ArrayVec<usize, NEAREST>
+fn copied(nearest: &ArrayVec<Mark, NEAREST>) -> ArrayVec<Mark, NEAREST>
     ensures { result ≡ nearest.now }
 {
     let Ok(copy) = nearest.clone() else {
@@ -77,8 +81,8 @@ fn copied(nearest: &ArrayVec<usize, NEAREST>) -> ArrayVec<usize, NEAREST>
 }
 
 // Appends a beginning, in place of the first one if there is no more room.
-fn push_nearest(nearest: &mut ArrayVec<usize, NEAREST>, start: usize)
-    ensures { (gone : List ℕ) × (gone ++ nearest.new.items ≡ nearest.old.items ++ start ∷ []) }
+fn push_nearest(nearest: &mut ArrayVec<Mark, NEAREST>, start: Mark)
+    ensures { (gone : List Mark) × (gone ++ nearest.new.items ≡ nearest.old.items ++ start ∷ []) }
 {
     if nearest.is_full() {
         let _ = nearest.remove(0);
@@ -86,49 +90,19 @@ fn push_nearest(nearest: &mut ArrayVec<usize, NEAREST>, start: usize)
     nearest.push(start);
 }
 
-// Whether a group whose inside begins at `start` has the token at `head` inside.
-fn reaches(group: Subtree, start: usize, head: usize) -> bool
-    requires { start ≤ head }
-    ensures { IsTrue result ↔ (head < start + group.len) }
-{
-    head - start < group.usize_len()
-}
-
-// Whether `group`, the head just before `start` if there is one, has the token at `head` inside.
-fn has_inside(group: Option<Subtree>, start: usize, head: usize) -> bool
-    requires { start ≤ head }
-    ensures { (t : TokenTree) → as_head t ≡ group → (IsTrue result ↔ Reaches t start head) }
-{
-    match group {
-        None => false,
-        Some(group) => reaches(group, start, head),
-    }
-}
-
-// The index at which the list begins that has the group with its head at `head`.
-fn list_around(tokens: Tokens<'_>, head: usize) -> usize
-    requires { head ≤ length (items tokens) }
-    ensures { BeginsListOf (items tokens.entry) head result }
-{
-    let mut start = head;
-    while start > 0 {
-        if has_inside(tokens.head_at(start - 1), start, head) {
-            return start;
-        }
-        start -= 1;
-    }
-    0
-}
-
-// The answer of `list_around`: the last of the nearest beginnings, which is removed, or else
-// found anew.
-fn next_out(nearest: &mut ArrayVec<usize, NEAREST>, tokens: Tokens<'_>, head: usize) -> usize
-    requires { head ≤ length (items tokens) }
-    ensures { IsNextOut (items tokens.entry) head nearest.old.items nearest.new.items result }
+// Where the list begins that has the group whose inside begins at `inside`: the last of the nearest
+// beginnings, which is removed, or else found anew.
+fn next_out(nearest: &mut ArrayVec<Mark, NEAREST>, tokens: Tokens<'_>, inside: Mark) -> Mark
+    requires inside { IsMarkIn inside (items tokens) }
+    requires some { 0 < inside.count }
+    requires around { AreMarksIn nearest.old.items (items tokens) }
+    ensures out { IsNextOut (items tokens.entry) (inside.count - 1) (counts nearest.old.items) (counts nearest.new.items) result.count }
+    ensures marked { IsMarkIn result (items tokens.entry) }
+    ensures around { AreMarksIn nearest.new.items (items tokens.entry) }
 {
     match nearest.pop() {
         Some(start) => start,
-        None => list_around(tokens, head),
+        None => tokens.list_around(inside),
     }
 }
 
@@ -151,8 +125,8 @@ impl<'a> Cursor<'a> {
     {
         Cursor {
             tokens: origin.tokens,
-            start: 0,
-            at: 0,
+            start: Mark::start(),
+            at: Mark::start(),
             nearest: ArrayVec::new(),
         }
     }
@@ -161,11 +135,12 @@ impl<'a> Cursor<'a> {
     pub(crate) fn after(&self) -> TokenTreesView<'a>
         ensures { forest result ≡ self.now.after }
     {
-        let (_, ahead) = self.tokens.split_at(self.at);
+        let ahead = self.tokens.after(self.at);
         let Some(group) = self.head() else {
             return TokenTreesView { tokens: ahead };
         };
-        let (list, _) = ahead.split_at(group.usize_len() - (self.at - self.start));
+        let count = group.usize_len() - (self.at.count() - self.start.count());
+        let list = ahead.front(count);
         TokenTreesView { tokens: list }
     }
 
@@ -173,7 +148,7 @@ impl<'a> Cursor<'a> {
     fn head(&self) -> Option<Subtree>
         ensures { result ≡ innermost_head self.now }
     {
-        self.tokens.head_at(self.start.checked_sub(1)?)
+        self.tokens.head_before(self.start)
     }
 
     /// Whether it is in no group, after the last tree.
@@ -187,7 +162,7 @@ impl<'a> Cursor<'a> {
     pub fn is_root(&self) -> bool
         ensures { IsTrue result ↔ (self.now.around ≡ []) }
     {
-        self.start == 0
+        self.start.count() == 0
     }
 
     /// The token at the position: a leaf, or the head of a group. `None` at the end of a list.
@@ -208,7 +183,7 @@ impl<'a> Cursor<'a> {
         let Some(group) = self.head() else {
             unreachable!()
         };
-        self.start = next_out(&mut self.nearest, self.tokens, self.start - 1);
+        self.start = next_out(&mut self.nearest, self.tokens, self.start);
         group
     }
 
@@ -217,10 +192,10 @@ impl<'a> Cursor<'a> {
         requires { self.old.after ≢ empty }
         ensures { self.new ≡ bumped self.old }
     {
-        match self.after().tokens.head_at(0) {
-            None => self.at += 1,
+        match self.after().tokens.first_head() {
+            None => self.at = self.tokens.past_token(self.at),
             Some(_head) => {
-                self.at += 1;
+                self.at = self.tokens.past_token(self.at);
                 push_nearest(&mut self.nearest, self.start);
                 self.start = self.at;
             }
@@ -252,7 +227,7 @@ impl<'a> Cursor<'a> {
         requires { self.now.around ≡ [] }
         ensures { forest result ≡ self.now.before }
     {
-        let (before, _) = self.tokens.split_at(self.at);
+        let before = self.tokens.front(self.at.count());
         TokenTreesView { tokens: before }
     }
 }

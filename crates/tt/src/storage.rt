@@ -2,7 +2,7 @@
 //!
 //! Only this module depends on how a token is stored. What borrows tokens reads them by value
 //! through `Tokens`, and what owns them adds and removes them through `TokenBuffer`.
-ghost use Rattle.std.specs.Prelude.{◌≡◌, ◌↔◌, ◌<◌, ◌≤◌, ◌^◌, ◌+◌, ◌-◌, ◌∷◌, ◌++◌, [], true, IsTrue, MatchOption, OnErr, OnOk, length, take, drop, option_map, set, slice_get, slice_index_or};
+ghost use Rattle.std.specs.Prelude.{◌≡◌, ◌↔◌, ◌<◌, ◌≤◌, ◌^◌, ◌+◌, ◌-◌, ◌∷◌, ◌++◌, [], true, None, IsSome, IsTrue, MatchOption, OnErr, OnOk, length, take, drop, option_map, set, slice_get, slice_index_or};
 ghost use Rattle.tt.specs.Marks.{mark_of, IsMarkIn, IsHeadIn};
 ghost use Rattle.tt.specs.Records.{items, alone_token, head_at};
 ghost use Rattle.tt.specs.Tops.{has_leaf_at};
@@ -10,6 +10,7 @@ ghost use Rattle.tt_data.specs.declared.tree.TokenTree.{TokenTree};
 ghost use Rattle.tt_data.specs.declared.tree.TokenTree.TheVariants as token;
 ghost use Rattle.tt_data.specs.Spans.{first_span_of};
 
+mod around;
 pub(crate) mod mark;
 pub(crate) mod renaming;
 
@@ -36,13 +37,6 @@ impl<'a> Tokens<'a> {
         ensures { items result ≡ [] }
     {
         Tokens { records: &[] }
-    }
-
-    /// The tokens of a slice.
-    pub(crate) fn from_slice(tts: &'a [TokenTree]) -> Tokens<'a>
-        ensures { items result ≡ tts.now }
-    {
-        Tokens { records: tts }
     }
 
     /// The number of tokens, which is less than 2^63.
@@ -95,8 +89,41 @@ impl<'a> Tokens<'a> {
         self.split_at(mark.count).1
     }
 
-    /// The head of the group that begins at this index, if one does.
-    pub(crate) fn head_at(self, at: usize) -> Option<Subtree>
+    /// The mark after the token right after a mark.
+    #[inline]
+    pub(crate) fn past_token(self, at: Mark) -> Mark
+        requires marked { IsMarkIn at (items self) }
+        requires some { at.count < length (items self) }
+        ensures marked { IsMarkIn result (items self.entry) }
+        ensures count { result.count ≡ at.count + 1 }
+    {
+        // The proof that the count fits needs this.
+        let _len = self.records.len();
+        Mark {
+            count: at.count + 1,
+        }
+    }
+
+    /// The head of the group right before a mark, unless the mark is at the beginning.
+    pub(crate) fn head_before(self, mark: Mark) -> Option<Subtree>
+        requires marked { IsMarkIn mark (items self) }
+        requires head { 0 < mark.count → IsSome (head_at (items self) (mark.count - 1)) }
+        ensures none { mark.count ≡ 0 → result ≡ None }
+        ensures some { 0 < mark.count → result ≡ head_at (items self.entry) (mark.count - 1) }
+    {
+        self.head_at(mark.count.checked_sub(1)?)
+    }
+
+    /// The head of the group that begins with the first token, if one does.
+    #[inline]
+    pub(crate) fn first_head(self) -> Option<Subtree>
+        ensures { result ≡ head_at (items self.entry) 0 }
+    {
+        self.head_at(0)
+    }
+
+    // The head of the group that begins at this index, if one does.
+    fn head_at(self, at: usize) -> Option<Subtree>
         ensures { result ≡ head_at (items self.entry) at }
     {
         match self.records.get(at)? {

@@ -8,8 +8,8 @@ pub(crate) mod transform;
 
 use crate::flatten::is_one_group;
 use crate::iter::TtIter;
+use crate::storage::TokenBuffer;
 use crate::storage::mark::Mark;
-use crate::storage::{TokenBuffer, Tokens};
 use crate::view::{SubtreeView, TokenTreesView};
 use std::alloc::Global;
 use std::hash::{Hash, Hasher};
@@ -110,7 +110,7 @@ impl TopSubtree {
         ensures err { IfErr result (λ e. (e.0 ≡ tts) × ((e.1 ≡ fault.Memory) ⊎ (e.1 ≡ fault.Malformed))) }
         ensures malformed { IfErr result (λ e. e.1 ≡ fault.Malformed → (t : Top) → tokens_of t ≡ tts.items → ⊥) }
     {
-        if !is_one_group(Tokens::from_slice(tts.as_slice())) {
+        if !is_one_group(tts.as_slice()) {
             return Err((tts, TtFault::Malformed));
         }
         Ok(TopSubtree {
@@ -225,7 +225,7 @@ impl TopSubtree {
     pub fn top_subtree(&self) -> Subtree
         ensures { result ≡ head_of self.now }
     {
-        let Some(head) = self.tokens.tokens().head_at(0) else {
+        let Some(head) = self.tokens.tokens().first_head() else {
             unreachable!()
         };
         head

@@ -3,7 +3,7 @@ ghost use Rattle.std.specs.Prelude.{◌≡◌, ◌⊎◌, ◌≤◌, [], min};
 ghost use Rattle.tt.specs.Marks.{mark_of, without_head};
 
 /// Where the first tokens of a run end.
-#[derive(Clone, Copy, Debug)]
+#[derive(Clone, Copy, Debug, Default)]
 pub(crate) struct Mark {
     pub(super) count: usize,
 }

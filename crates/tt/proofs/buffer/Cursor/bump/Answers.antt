@@ -4,17 +4,13 @@ use Rattle.tt_data.specs.declared.tree.TokenTree.TheVariants as token
 use Rattle.tt.specs.Records.{items}
 use Rattle.tt.specs.Views.{forest}
 use Rattle.tt.specs.Places.{first_token, bumped}
-use Rattle.tt.specs.CursorTokens.{Stands}
+use Rattle.tt.specs.CursorTokens.{Stands, counts}
 use Rattle.tt.proofs.CursorLemmas.{stood, past_leaf, into_group}
 use Rattle.tt.proofs.CursorReads.{leaf_first, group_first}
-use Rattle.tt.proofs.NearestLemmas.{near, held, nearest_past_leaf, nearest_into_group}
+use Rattle.tt.proofs.NearestLemmas.{near, held, nearest_past_leaf, nearest_into_group, counts_latest, latest_marks}
 use Rattle.tt.proofs.PlaceLemmas.{found}
 use Rattle.tt.proofs.FrameLemmas.{fits}
 use Rattle.tt.proofs.buffer.Cursor.bump.Goals as goal
-
-pub overflow_add-self : goal.overflow_add-self
-unfolding items
-overflow_add-self c = omega (arith, fits _ _ _ _ (stood _ _ _ _ c.self.view_is c.self.invariant.0))
 
 -- the leaf that comes first
 first : (c : goal.After-self-1) → (l : Leaf) × (Some (token.Leaf l) ≡ first_token c.args.self.now.after)
@@ -22,19 +18,30 @@ unfolding forest
 first c = leaf_first (items c.after.result.tokens) c.args.self.now.after c.after.ensures c.in-None.ensures c.requires
 
 -- past the leaf
-past : (c : goal.After-self-1) → Stands (items c.self.inside.tokens) c.self.inside.start (c.self.inside.at + 1) (bumped c.args.self.now)
+past : (c : goal.After-self-1) → Stands (items c.self.inside.tokens) c.self.inside.start.count (c.self.inside.at.count + 1) (bumped c.args.self.now)
 past c = past_leaf _ _ _ _ (first c).0 (stood _ _ _ _ c.self.view_is c.self.invariant.0) (first c).1
 
 pub invariant_of-self : goal.invariant_of-self
-invariant_of-self c = held _ _ _ _ _ (past c) (nearest_past_leaf _ _ (first c).0 (first c).1
-    (near (items c.self.inside.tokens) c.self.inside.start c.self.inside.at _ _ c.self.view_is c.self.invariant.1))
+invariant_of-self c =
+    let h = held _ _ _ _ _ (past c) (nearest_past_leaf _ _ (first c).0 (first c).1
+    (near (items c.self.inside.tokens) c.self.inside.start.count c.self.inside.at.count _ _ c.self.view_is c.self.invariant.1)) in
+    let next = c.past_token-self-inside.ensures in
+    (rw next.count h.0, rw next.count h.1, record { begins = c.self.invariant.2.begins; stands = next.marked; around = c.self.invariant.2.around })
+
+pub past_token-self-inside-requires-clause-some : goal.past_token-self-inside-requires-clause-some
+unfolding forest
+past_token-self-inside-requires-clause-some c =
+    let l = leaf_first (items c.after.result.tokens) c.args.self.now.after c.after.ensures c.in-None.ensures c.requires in
+    omega (arith, fits _ _ _ _ (past_leaf _ _ _ _ l.0 (stood _ _ _ _ c.self.view_is c.self.invariant.0) l.1))
 
 pub returns-in-None : goal.returns-in-None
-returns-in-None c = found _ _ _ _ (past c)
+returns-in-None c = rw c.past_token-self-inside.ensures.count (found _ _ _ _ (past c))
 
-pub overflow_add-self-in-Some : goal.overflow_add-self-in-Some
-unfolding items
-overflow_add-self-in-Some c = omega (arith, fits _ _ _ _ (stood _ _ _ _ c.self.view_is c.self.invariant.0))
+pub past_token-self-inside-requires-in-Some-clause-some : goal.past_token-self-inside-requires-in-Some-clause-some
+unfolding forest
+past_token-self-inside-requires-in-Some-clause-some c =
+    let head = group_first (items c.after.result.tokens) c.in-Some._head c.args.self.now.after c.after.result.whole c.after.ensures c.in-Some.ensures in
+    omega (arith, fits _ _ _ _ (into_group _ c.self.inside.start.count _ _ c.in-Some._head (stood _ _ _ _ c.self.view_is c.self.invariant.0) head))
 
 -- the group comes first
 group : (c : goal.After-self-in-Some-2-1) → Some (token.Subtree c.in-Some._head) ≡ first_token c.args.self.now.after
@@ -43,16 +50,28 @@ group c = group_first (items c.after.result.tokens) c.in-Some._head c.args.self.
 
 -- into the group
 into : (c : goal.After-self-in-Some-2-1)
-    → Stands (items c.self.inside.tokens) (c.self.inside.at + 1) (c.self.inside.at + 1) (bumped c.args.self.now)
-into c = into_group _ c.self.inside.start _ _ c.in-Some._head (stood _ _ _ _ c.self.view_is c.self.invariant.0) (group c)
+    → Stands (items c.self.inside.tokens) (c.self.inside.at.count + 1) (c.self.inside.at.count + 1) (bumped c.args.self.now)
+into c = into_group _ c.self.inside.start.count _ _ c.in-Some._head (stood _ _ _ _ c.self.view_is c.self.invariant.0) (group c)
 
 pub invariant_of-self-in-Some : goal.invariant_of-self-in-Some
 invariant_of-self-in-Some c =
     let latest = c.push_nearest.ensures in
+    let next = c.past_token-self-inside-in-Some.ensures in
+    let marks = c.self.invariant.2 in
+    let h =
     held _ _ _ _ _ (into c)
-    (nearest_into_group (items c.self.inside.tokens) c.self.inside.start c.self.inside.at _ c.in-Some._head _ latest.0 _
+    (nearest_into_group (items c.self.inside.tokens) c.self.inside.start.count c.self.inside.at.count _ c.in-Some._head _ (counts latest.0) _
     (stood _ _ _ _ c.self.view_is c.self.invariant.0) (group c)
-    (near (items c.self.inside.tokens) c.self.inside.start c.self.inside.at _ _ c.self.view_is c.self.invariant.1) latest.1)
+    (near (items c.self.inside.tokens) c.self.inside.start.count c.self.inside.at.count _ _ c.self.view_is c.self.invariant.1)
+    (counts_latest c.self.inside.nearest.items latest.0 c.push_nearest.new.nearest.items c.self.inside.start latest.1)) in (
+      rw next.count h.0,
+      rw next.count h.1,
+      record {
+        begins = next.marked;
+        stands = next.marked;
+        around = latest_marks (items c.self.inside.tokens) c.self.inside.nearest.items latest.0 c.push_nearest.new.nearest.items c.self.inside.start latest.1 marks.around marks.begins;
+      },
+    )
 
 pub returns-in-Some : goal.returns-in-Some
-returns-in-Some c = found _ _ _ _ (into c)
+returns-in-Some c = rw c.past_token-self-inside-in-Some.ensures.count (found _ _ _ _ (into c))

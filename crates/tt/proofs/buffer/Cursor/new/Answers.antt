@@ -1,4 +1,6 @@
-use Rattle.std.proofs.Common.{[], sym}
+use Rattle.std.proofs.Common.{[], refl}
+use Rattle.tt.specs.Records.{items}
+use Rattle.tt.proofs.MarkLemmas.{start_marked}
 use Rattle.tt.specs.Views.{forest}
 use Rattle.tt.proofs.CursorLemmas.{at_beginning}
 use Rattle.tt.proofs.NearestLemmas.{held}
@@ -6,8 +8,12 @@ use Rattle.tt.proofs.PlaceLemmas.{found}
 use Rattle.tt.proofs.buffer.Cursor.new.Goals as goal
 
 pub invariant_of-result : goal.invariant_of-result
-invariant_of-result c = held _ _ _ _ _ (at_beginning _ c.args.origin.whole) ([], sym c.new.ensures)
+invariant_of-result c =
+    let h = held _ _ _ _ _ (at_beginning _ c.args.origin.whole) ([], refl) in
+    let tokens = items c.args.origin.tokens in
+    rw (c.start.ensures, c.start-2.ensures, c.new.ensures)
+    (h.0, h.1, record { begins = start_marked tokens; stands = start_marked tokens; around = tt })
 
 pub returns : goal.returns
 unfolding forest
-returns c = found _ _ _ _ (at_beginning _ c.args.origin.whole)
+returns c = rw (c.start.ensures, c.start-2.ensures) (found _ _ _ _ (at_beginning _ c.args.origin.whole))
