@@ -1,7 +1,8 @@
 //! How flat lists of tokens are stored.
 //!
 //! Only this module depends on how a token is stored. What borrows tokens reads them by value
-//! through `Tokens`, and what owns them adds and removes them through `TokenBuffer`.
+//! through `Tokens`, and what owns them adds and removes them through `TokenBuffer`. A place among
+//! them is a `Mark`, which only this module looks into.
 ghost use Rattle.std.specs.Prelude.{◌≡◌, ◌↔◌, ◌<◌, ◌≤◌, ◌^◌, ◌+◌, ◌-◌, ◌∷◌, ◌++◌, [], true, None, IsSome, IsTrue, MatchOption, OnErr, OnOk, length, take, drop, option_map, set, slice_get, slice_index_or};
 ghost use Rattle.tt.specs.Marks.{mark_of, IsMarkIn, IsHeadIn};
 ghost use Rattle.tt.specs.Records.{items, alone_token, head_at};
