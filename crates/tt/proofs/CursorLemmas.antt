@@ -79,7 +79,7 @@ is_inside tokens a (o ∷ outer) f d all some =
     rw (all, head_in o outer (list_in a f) d) (omega (arith, size-joined a.before (group a.delimiter f a.after)))
 
 -- the group around the innermost list is a tree of the next
-is_tree : (tokens : List TokenTree) (a : Around) (outer : List Around) (f : Forest) → tokens ≡ preorder (whole_in (a ∷ outer) f)
+pub is_tree : (tokens : List TokenTree) (a : Around) (outer : List Around) (f : Forest) → tokens ≡ preorder (whole_in (a ∷ outer) f)
     → IsTreeOf tokens (start_in (a ∷ outer) - 1) (start_in outer)
 is_tree tokens a outer f all =
     let base : ℕ = start_in outer in

@@ -1,11 +1,12 @@
 -- How a cursor's flat list and two numbers hold its position.
-use Rattle.std.specs.Prelude.{◌≡◌, ℕ, ◌+◌, ◌-◌, ◌<◌, ◌≤◌, List, [], ◌∷◌, ◌++◌, ◌⊎◌, slice_index_or, map, nat_eq, nat_le, if◌then◌else◌}
+use Rattle.std.specs.Prelude.{◌≡◌, ℕ, ◌+◌, ◌-◌, ◌<◌, ◌≤◌, List, [], ◌∷◌, slice_index_or, nat_eq, nat_le, if◌then◌else◌}
 use Rattle.tt_data.specs.declared.tree.TokenTree.{TokenTree}
 use Rattle.tt_data.specs.declared.tree.TokenTree.TheVariants as token
 use Rattle.tt_data.specs.Forest.{Forest, empty, leaf, group, joined, size, preorder, forest_of}
 use Rattle.tt.specs.declared.storage.mark.Mark.{Mark}
 use Rattle.tt.specs.Marks.{IsMarkIn}
 use Rattle.tt.specs.Places.{Around, Place}
+use Rattle.tt.specs.declared.buffer.ListAround.{ListAround}
 
 -- all trees, with these groups around the innermost list
 abbrev pub whole_in : List Around → Forest → Forest
@@ -42,20 +43,10 @@ place_in around before (group d inner rest) start at =
 abbrev pub place_of : List TokenTree → ℕ → ℕ → Place
 place_of tokens start at = place_in [] empty (forest_of tokens) start at
 
--- how many tokens come before each of some marks
-abbrev pub counts : List Mark → List ℕ
-counts marks = map (λ m. m.count) marks
-
--- all of these are marks among the tokens
-abbrev pub AreMarksIn : List Mark → List TokenTree → Type 0
-AreMarksIn [] tokens = Unit {0}
-AreMarksIn (m ∷ more) tokens = IsMarkIn m tokens × AreMarksIn more tokens
-
--- a cursor's marks: of its list's beginning, of its position, and of the beginnings of lists around
-pub record CursorMarks (tokens : List TokenTree) (start at : Mark) (nearest : List Mark) : Type 0 where
+-- a cursor's marks, of its list's beginning and of its position, are among the tokens
+pub record CursorMarks (tokens : List TokenTree) (start at : Mark) : Type 0 where
   pub begins : IsMarkIn start tokens
   pub stands : IsMarkIn at tokens
-  pub around : AreMarksIn nearest tokens
 
 -- they do hold a position
 abbrev pub IsPlaced : List TokenTree → ℕ → ℕ → Type 0
@@ -77,15 +68,7 @@ pub record IsTreeOf (tokens : List TokenTree) (head start : ℕ) : Type 0 where
 abbrev pub BeginsListOf : List TokenTree → ℕ → ℕ → Type 0
 BeginsListOf tokens head result = (start : ℕ) → IsTreeOf tokens head start → result ≡ start
 
--- the indices at which the lists around the innermost one begin, the nearest last
-abbrev pub starts_around : List Around → List ℕ
-starts_around [] = []
-starts_around (a ∷ outer) = starts_around outer ++ start_in outer ∷ []
-
--- these are the beginnings of the nearest of those lists
-abbrev pub AreNearest : List ℕ → List Around → Type 0
-AreNearest starts around = (further : List ℕ) × (starts_around around ≡ further ++ starts)
-
--- the last beginning is removed, or from an empty list that of the list with this head is given
-abbrev pub IsNextOut : List TokenTree → ℕ → List ℕ → List ℕ → ℕ → Type 0
-IsNextOut tokens head old new result = (old ≡ new ++ result ∷ []) ⊎ ((old ≡ []) × ((new ≡ []) × BeginsListOf tokens head result))
+-- the list with the group whose inside begins here begins at this mark, which is one among the tokens
+pub record IsKept (tokens : List TokenTree) (list : ListAround) : Type 0 where
+  pub begins : BeginsListOf tokens (list.inside.count - 1) list.start.count
+  pub marked : IsMarkIn list.start tokens

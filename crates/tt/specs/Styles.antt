@@ -1,11 +1,11 @@
 -- The two styles of writing, as the code names them, and the space before the next token.
-use Rattle.std.specs.Prelude.{ℕ, List, [], ◌∷◌, Bool, codes, if◌then◌else◌}
+use Rattle.std.specs.Prelude.{ℕ, List, [], ◌++◌, Bool, codes, if◌then◌else◌}
 use Rattle.tt_data.specs.declared.leaf.Spacing.{Spacing}
 use Rattle.tt.specs.declared.display.Style.{Style}
 use Rattle.tt.specs.declared.display.Style.TheVariants.{Displayed, Pretty}
-use Rattle.tt_data.specs.Walk.{Step, at_leaf, opens, closes}
+use Rattle.tt_data.specs.declared.delimiter.DelimiterKind.{DelimiterKind}
 use Rattle.tt_data.specs.declared.delimiter.DelimiterKind.TheVariants.{Invisible}
-use Rattle.tt.specs.Texts.{touches_displayed, touches_pretty, space_after}
+use Rattle.tt.specs.Texts.{touches_displayed, touches_pretty, opening_text}
 
 -- which puncts touch what follows
 abbrev pub touches_in : Style → Spacing → Bool
@@ -16,11 +16,16 @@ touches_in Pretty = touches_pretty
 abbrev pub space_if : Bool → List ℕ
 space_if spaced = if spaced then codes " " else []
 
--- what comes before a token after these events, given what comes before their first token
-abbrev pub space_behind : (Spacing → Bool) → List ℕ → List Step → List ℕ
-space_behind touches space [] = space
-space_behind touches space (at_leaf l ∷ more) = space_behind touches (space_after touches l) more
-space_behind touches space (opens Invisible at ∷ more) = space_behind touches space more
-space_behind touches space (opens kind at ∷ more) = space_behind touches [] more
-space_behind touches space (closes Invisible at ∷ more) = space_behind touches space more
-space_behind touches space (closes kind at ∷ more) = space_behind touches (codes " ") more
+-- the bracket that opens a group, after `space`; invisible brackets have no text
+abbrev pub opening_after : List ℕ → DelimiterKind → List ℕ
+opening_after space Invisible = []
+opening_after space kind = space ++ opening_text kind
+
+-- what comes before the next token after that bracket, and after the one that closes the group
+abbrev pub space_behind_opening : List ℕ → DelimiterKind → List ℕ
+space_behind_opening space Invisible = space
+space_behind_opening space kind = []
+
+abbrev pub space_behind_closing : List ℕ → DelimiterKind → List ℕ
+space_behind_closing space Invisible = space
+space_behind_closing space kind = codes " "

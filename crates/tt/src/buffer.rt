@@ -3,13 +3,14 @@
 //! A `Cursor` enters groups and leaves them again, where a `TtIter` passes a group as one tree.
 //! Its contracts see it as a position among trees: those before it, those after it, and the
 //! groups around it.
-ghost use Rattle.tt.specs.CursorTokens.{AreMarksIn, IsNextOut, counts};
+ghost use Rattle.arrayvec.specs.ArrayVec.{array_vec_len};
+ghost use Rattle.tt.specs.CursorTokens.{BeginsListOf, IsKept};
 ghost use Rattle.tt.specs.Marks.{IsMarkIn};
 ghost use Rattle.tt.specs.Places.{two_leaves};
 ghost use Rattle.tt.specs.Records.{items};
 ghost use Rattle.tt.specs.Views.{forest};
-ghost use Rattle.tt.specs.declared.storage.mark.Mark.{Mark};
-ghost use Rattle.std.specs.Prelude.{◌≡◌, ◌≢◌, ⊤, IsTrue, ◌↔◌, ◌-◌, ◌<◌, ◌++◌, ◌∷◌, List, [], Some, IsNone};
+ghost use Rattle.tt_data.specs.declared.tree.TokenTree.{TokenTree};
+ghost use Rattle.std.specs.Prelude.{◌≡◌, ◌≢◌, ⊤, All, IsTrue, ◌↔◌, ◌-◌, ◌<◌, List, [], Some, IsNone};
 
 use crate::storage::Tokens;
 use crate::storage::mark::Mark;
@@ -22,8 +23,10 @@ use tt_data::{Leaf, Subtree, TokenTree};
 /// A position in a list of trees: between two trees of the list, or of a group in it.
 ///
 /// It walks over leaves, openings and closings, and takes no memory. A step looks at the innermost
-/// group's head and at most two tokens. It remembers the nearest sixteen lists around its own;
-/// leaving a group for one further out looks back over that list's tokens.
+/// group's head and at most two tokens. It remembers up to sixteen lists around its own; leaving a
+/// group for a list that it forgot looks back over that list's tokens. It forgets a long list only
+/// once it is far behind it, so a walk over fewer than 2^37 tokens looks back at no more than 128
+/// times as many.
 #[derive(Debug, Drop)]
 pub struct Cursor<'a> {
     tokens: Tokens<'a>,
@@ -31,16 +34,25 @@ pub struct Cursor<'a> {
     // group's head.
     start: Mark,
     at: Mark,
-    // The marks at which the nearest of the lists around that one begin, the nearest last.
-    nearest: ArrayVec<Mark, NEAREST>,
+    // Lists around that one, the nearest last.
+    kept: ArrayVec<ListAround, KEPT>,
 }
 
-// Of how many lists around its own a cursor knows at most the beginnings.
-const NEAREST: usize = 16;
+// A list around: the mark at which it begins, and that just after the head of the group in it that
+// is around too, or that is the innermost one.
+#[derive(Clone, Copy, Debug, Default)]
+struct ListAround {
+    start: Mark,
+    inside: Mark,
+}
+
+// How many lists around its own a cursor remembers at most.
+const KEPT: usize = 16;
 
 impl<'a> Model for Cursor<'a> {
+    ghost use Rattle.std.specs.Prelude.{All};
     ghost use Rattle.tt.specs.Places.{Place, place_code};
-    ghost use Rattle.tt.specs.CursorTokens.{counts, place_of, IsPlaced, AreNearest, CursorMarks};
+    ghost use Rattle.tt.specs.CursorTokens.{place_of, IsKept, IsPlaced, CursorMarks};
     ghost use Rattle.tt.specs.Records.{items};
 
     ghost Value = { Place };
@@ -50,8 +62,8 @@ impl<'a> Model for Cursor<'a> {
     ghost view = { λ c. place_of (items c.tokens) c.start.count c.at.count };
 
     ghost invariant = { λ c. IsPlaced (items c.tokens) c.start.count c.at.count
-        × AreNearest (counts c.nearest.items) (place_of (items c.tokens) c.start.count c.at.count).around
-        × CursorMarks (items c.tokens) c.start c.at c.nearest.items };
+        × All (IsKept (items c.tokens)) c.kept.items
+        × CursorMarks (items c.tokens) c.start c.at };
 }
 
 impl<'a> Clone for Cursor<'a> {
@@ -65,45 +77,75 @@ impl<'a> Clone for Cursor<'a> {
             tokens: self.tokens,
             start: self.start,
             at: self.at,
-            nearest: copied(&self.nearest),
+            kept: copied(&self.kept),
         })
     }
 }
 
-// A clone of the nearest beginnings.
-fn copied(nearest: &ArrayVec<Mark, NEAREST>) -> ArrayVec<Mark, NEAREST>
-    ensures { result ≡ nearest.now }
+// A clone of the lists around.
+fn copied(kept: &ArrayVec<ListAround, KEPT>) -> ArrayVec<ListAround, KEPT>
+    ensures { result ≡ kept.now }
 {
-    let Ok(copy) = nearest.clone() else {
+    let Ok(copy) = kept.clone() else {
         unreachable!()
     };
     copy
 }
 
-// Appends a beginning, in place of the first one if there is no more room.
-fn push_nearest(nearest: &mut ArrayVec<Mark, NEAREST>, start: Mark)
-    ensures { (gone : List Mark) × (gone ++ nearest.new.items ≡ nearest.old.items ++ start ∷ []) }
-{
-    if nearest.is_full() {
-        let _ = nearest.remove(0);
+impl ListAround {
+    // Whether the way from its group's inside to `at` is a quarter as long as the list up to there,
+    // or longer.
+    fn is_far(self, at: Mark) -> bool {
+        let inside = self.inside.count();
+        inside.saturating_sub(self.start.count()) / 4 <= at.count().saturating_sub(inside)
     }
-    nearest.push(start);
 }
 
-// Where the list begins that has the group whose inside begins at `inside`: the last of the nearest
-// beginnings, which is removed, or else found anew.
-fn next_out(nearest: &mut ArrayVec<Mark, NEAREST>, tokens: Tokens<'_>, inside: Mark) -> Mark
+// Which list is forgotten before the group with its inside at `at`: the first that is far from it.
+fn forgotten(kept: &ArrayVec<ListAround, KEPT>, at: Mark) -> usize
+    requires { 0 < array_vec_len kept.now }
+    ensures { result < array_vec_len kept.now }
+{
+    let mut index = 0;
+    while index < kept.len() {
+        if kept.as_slice()[index].is_far(at) {
+            return index;
+        }
+        index += 1;
+    }
+    0
+}
+
+// Remembers one list more, in place of another one if there is no more room.
+fn keep(kept: &mut ArrayVec<ListAround, KEPT>, list: ListAround)
+    ensures { (tokens : List TokenTree) → All (IsKept tokens) kept.old.items → IsKept tokens list → All (IsKept tokens) kept.new.items }
+{
+    if kept.is_full() {
+        let index = forgotten(kept, list.inside);
+        let _ = kept.remove(index);
+    }
+    kept.push(list);
+}
+
+// The answer of `Tokens::list_around`: that of the last list around, which is no more kept, or else
+// found anew.
+fn next_out(kept: &mut ArrayVec<ListAround, KEPT>, tokens: Tokens<'_>, inside: Mark) -> Mark
     requires inside { IsMarkIn inside (items tokens) }
     requires some { 0 < inside.count }
-    requires around { AreMarksIn nearest.old.items (items tokens) }
-    ensures out { IsNextOut (items tokens.entry) (inside.count - 1) (counts nearest.old.items) (counts nearest.new.items) result.count }
+    requires kept { All (IsKept (items tokens)) kept.old.items }
+    ensures begins { BeginsListOf (items tokens.entry) (inside.count - 1) result.count }
     ensures marked { IsMarkIn result (items tokens.entry) }
-    ensures around { AreMarksIn nearest.new.items (items tokens.entry) }
+    ensures kept { All (IsKept (items tokens.entry)) kept.new.items }
 {
-    match nearest.pop() {
-        Some(start) => start,
-        None => tokens.list_around(inside),
+    let Some(list) = kept.as_slice().last() else {
+        return tokens.list_around(inside);
+    };
+    if list.inside.count() != inside.count() {
+        return tokens.list_around(inside);
     }
+    let start = list.start;
+    let _ = kept.pop();
+    start
 }
 
 // The first two trees, if both are leaves.
@@ -127,7 +169,7 @@ impl<'a> Cursor<'a> {
             tokens: origin.tokens,
             start: Mark::start(),
             at: Mark::start(),
-            nearest: ArrayVec::new(),
+            kept: ArrayVec::new(),
         }
     }
 
@@ -183,7 +225,7 @@ impl<'a> Cursor<'a> {
         let Some(group) = self.head() else {
             unreachable!()
         };
-        self.start = next_out(&mut self.nearest, self.tokens, self.start);
+        self.start = next_out(&mut self.kept, self.tokens, self.start);
         group
     }
 
@@ -196,7 +238,11 @@ impl<'a> Cursor<'a> {
             None => self.at = self.tokens.past_token(self.at),
             Some(_head) => {
                 self.at = self.tokens.past_token(self.at);
-                push_nearest(&mut self.nearest, self.start);
+                let list = ListAround {
+                    start: self.start,
+                    inside: self.at,
+                };
+                keep(&mut self.kept, list);
                 self.start = self.at;
             }
         }

@@ -5,16 +5,15 @@ ghost use Rattle.tt_data.specs.fault.TtFault.TheVariants as fault;
 ghost use Rattle.tt_data.specs.Displayed.{displayed_leaf};
 ghost use Rattle.tt_data.specs.Walk.{walk};
 ghost use Rattle.tt.specs.Building.{is_invisible};
-ghost use Rattle.tt.specs.Styles.{touches_in, space_if, space_behind};
+ghost use Rattle.tt.specs.Styles.{touches_in, space_if, opening_after, space_behind_opening, space_behind_closing};
 ghost use Rattle.tt.specs.Texts.{opening_text, closing_text, space_after, text_after, pretty_text};
 ghost use Rattle.tt.specs.Views.{forest};
 
-use crate::iter::{TtElement, TtIter};
 use crate::top_subtree::TopSubtree;
 use crate::view::{SubtreeView, TokenTreesView};
 use std::alloc::Global;
 use std::fmt::{self, Display};
-use tt_data::{DelimiterKind, Leaf, Spacing, TtFault};
+use tt_data::{DelimiterKind, Leaf, Spacing, TokenTree, TtFault};
 
 // Which puncts touch what follows.
 #[derive(Clone, Copy)]
@@ -84,7 +83,7 @@ pub fn pretty(alloc: Global, tkns: TokenTreesView<'_>) -> Result<String, TtFault
     Ok(text)
 }
 
-// Writes the text of these trees.
+// Writes the text of these trees, by a cursor: nesting takes no call stack.
 fn write_all<W: fmt::Write>(
     trees: TokenTreesView<'_>,
     style: Style,
@@ -93,37 +92,56 @@ fn write_all<W: fmt::Write>(
     ensures { WritesOnOk W.write_str_gives f.old result (text_after (touches_in style) [] (walk (forest trees.entry))) f.new }
 {
     let mut spaced = false;
-    write_trees(trees.iter(), style, &mut spaced, f)
+    let mut cursor = trees.cursor();
+    while !cursor.eof() {
+        match cursor.token_tree() {
+            Some(TokenTree::Leaf(leaf)) => {
+                write_leaf(leaf, style, &mut spaced, f)?;
+                cursor.bump();
+            }
+            Some(TokenTree::Subtree(head)) => {
+                write_opening(head.delimiter.kind, &mut spaced, f)?;
+                cursor.bump();
+            }
+            None => {
+                let group = cursor.end();
+                write_closing(group.delimiter.kind, &mut spaced, f)?;
+            }
+        }
+    }
+    Ok(())
 }
 
-// Writes the text of these trees after a token. `spaced` says whether a space comes before their
-// first token, and afterwards whether one comes before the next.
-fn write_trees<W: fmt::Write>(
-    trees: TtIter<'_>,
-    style: Style,
+// Writes the bracket that opens a group, after a space if `spaced` says so. Afterwards `spaced`
+// says whether a space comes before the next token.
+fn write_opening<W: fmt::Write>(
+    kind: DelimiterKind,
     spaced: &mut bool,
     f: &mut fmt::Formatter<W>,
 ) -> fmt::Result
-    ensures text { WritesOnOk W.write_str_gives f.old result (text_after (touches_in style) (space_if spaced.old) (walk trees.entry)) f.new }
-    ensures behind { OnOk result (space_if spaced.new ≡ space_behind (touches_in style) (space_if spaced.old) (walk trees.entry)) }
+    ensures text { WritesOnOk W.write_str_gives f.old result (opening_after (space_if spaced.old) kind) f.new }
+    ensures behind { OnOk result (space_if spaced.new ≡ space_behind_opening (space_if spaced.old) kind) }
 {
-    for tree in trees {
-        match tree {
-            TtElement::Leaf(leaf) => write_leaf(leaf, style, spaced, f)?,
-            TtElement::Subtree(head, inside) => {
-                let kind = head.delimiter.kind;
-                if is_bare(kind) {
-                    write_trees(inside, style, spaced, f)?;
-                } else {
-                    f.write_str(space_if(*spaced))?;
-                    f.write_str(opening(kind))?;
-                    *spaced = false;
-                    write_trees(inside, style, spaced, f)?;
-                    f.write_str(closing(kind))?;
-                    *spaced = true;
-                }
-            }
-        }
+    if !is_bare(kind) {
+        f.write_str(space_if(*spaced))?;
+        f.write_str(opening(kind))?;
+        *spaced = false;
+    }
+    Ok(())
+}
+
+// Writes the bracket that closes a group.
+fn write_closing<W: fmt::Write>(
+    kind: DelimiterKind,
+    spaced: &mut bool,
+    f: &mut fmt::Formatter<W>,
+) -> fmt::Result
+    ensures text { WritesOnOk W.write_str_gives f.old result (closing_text kind) f.new }
+    ensures behind { OnOk result (space_if spaced.new ≡ space_behind_closing (space_if spaced.old) kind) }
+{
+    if !is_bare(kind) {
+        f.write_str(closing(kind))?;
+        *spaced = true;
     }
     Ok(())
 }

@@ -2,13 +2,15 @@
 //! their own, and the tests of `symbols`, `tt_data` and `tt`.
 //!
 //! A clause holds for all arguments, so tests are few: each public call with enough memory,
-//! closures with a state, what `{:?}` prints, and refused requests for memory.
+//! closures with a state, what `{:?}` prints, deep nesting, and refused requests for memory.
 #![tactic(auto)]
 
 #[cfg(test)]
 mod calls;
 #[cfg(test)]
 mod faults;
+#[cfg(test)]
+mod nesting;
 #[cfg(test)]
 mod packed;
 #[cfg(test)]

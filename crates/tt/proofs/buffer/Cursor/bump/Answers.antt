@@ -4,11 +4,11 @@ use Rattle.tt_data.specs.declared.tree.TokenTree.TheVariants as token
 use Rattle.tt.specs.Records.{items}
 use Rattle.tt.specs.Views.{forest}
 use Rattle.tt.specs.Places.{first_token, bumped}
-use Rattle.tt.specs.CursorTokens.{Stands, counts}
+use Rattle.tt.specs.CursorTokens.{Stands}
 use Rattle.tt.proofs.CursorLemmas.{stood, past_leaf, into_group}
 use Rattle.tt.proofs.CursorReads.{leaf_first, group_first}
-use Rattle.tt.proofs.NearestLemmas.{near, held, nearest_past_leaf, nearest_into_group, counts_latest, latest_marks}
-use Rattle.tt.proofs.PlaceLemmas.{found}
+use Rattle.tt.proofs.KeptLemmas.{kept}
+use Rattle.tt.proofs.PlaceLemmas.{found, placed}
 use Rattle.tt.proofs.FrameLemmas.{fits}
 use Rattle.tt.proofs.buffer.Cursor.bump.Goals as goal
 
@@ -23,10 +23,8 @@ past c = past_leaf _ _ _ _ (first c).0 (stood _ _ _ _ c.self.view_is c.self.inva
 
 pub invariant_of-self : goal.invariant_of-self
 invariant_of-self c =
-    let h = held _ _ _ _ _ (past c) (nearest_past_leaf _ _ (first c).0 (first c).1
-    (near (items c.self.inside.tokens) c.self.inside.start.count c.self.inside.at.count _ _ c.self.view_is c.self.invariant.1)) in
     let next = c.past_token-self-inside.ensures in
-    (rw next.count h.0, rw next.count h.1, record { begins = c.self.invariant.2.begins; stands = next.marked; around = c.self.invariant.2.around })
+    (rw next.count (placed _ _ _ _ (past c)), c.self.invariant.1, record { begins = c.self.invariant.2.begins; stands = next.marked })
 
 pub past_token-self-inside-requires-clause-some : goal.past_token-self-inside-requires-clause-some
 unfolding forest
@@ -55,23 +53,10 @@ into c = into_group _ c.self.inside.start.count _ _ c.in-Some._head (stood _ _ _
 
 pub invariant_of-self-in-Some : goal.invariant_of-self-in-Some
 invariant_of-self-in-Some c =
-    let latest = c.push_nearest.ensures in
     let next = c.past_token-self-inside-in-Some.ensures in
-    let marks = c.self.invariant.2 in
-    let h =
-    held _ _ _ _ _ (into c)
-    (nearest_into_group (items c.self.inside.tokens) c.self.inside.start.count c.self.inside.at.count _ c.in-Some._head _ (counts latest.0) _
-    (stood _ _ _ _ c.self.view_is c.self.invariant.0) (group c)
-    (near (items c.self.inside.tokens) c.self.inside.start.count c.self.inside.at.count _ _ c.self.view_is c.self.invariant.1)
-    (counts_latest c.self.inside.nearest.items latest.0 c.push_nearest.new.nearest.items c.self.inside.start latest.1)) in (
-      rw next.count h.0,
-      rw next.count h.1,
-      record {
-        begins = next.marked;
-        stands = next.marked;
-        around = latest_marks (items c.self.inside.tokens) c.self.inside.nearest.items latest.0 c.push_nearest.new.nearest.items c.self.inside.start latest.1 marks.around marks.begins;
-      },
-    )
+    let stands = stood _ _ _ _ c.self.view_is c.self.invariant.0 in
+    let one = kept _ _ _ _ c.in-Some._head stands (group c) next.count c.self.invariant.2.begins in
+    (rw next.count (placed _ _ _ _ (into c)), c.keep.ensures _ c.self.invariant.1 one, record { begins = next.marked; stands = next.marked })
 
 pub returns-in-Some : goal.returns-in-Some
 returns-in-Some c = rw c.past_token-self-inside-in-Some.ensures.count (found _ _ _ _ (into c))
