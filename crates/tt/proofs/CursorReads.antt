@@ -1,16 +1,16 @@
 -- What a cursor reads of its tokens.
-use Rattle.std.proofs.Common.{◌≡◌, ◌↔◌, ℕ, ◌+◌, ◌-◌, ◌<◌, Bool, IsTrue, false, List, [], ◌∷◌, ap, refl, sym, ◌∙◌, arith, Option, Some, None, option_map}
-use Rattle.std.proofs.lemmas.Bool.{false≢true}
+use Rattle.std.proofs.Common.{◌≡◌, ◌↔◌, ℕ, ◌+◌, ◌-◌, ◌<◌, Bool, IsTrue, false, List, [], ◌∷◌, ap, refl, sym, ◌∙◌, arith, Option, Some, None, IsSome, option_map, ◌≢◌, inl, inr}
+use Rattle.std.proofs.lemmas.Bool.{false≢true, cases_lt}
 use Rattle.tt_data.specs.Forest.{Forest, empty, leaf, IsPreorder, forest_of}
 use Rattle.tt_data.specs.declared.leaf.Leaf.{Leaf}
 use Rattle.tt_data.specs.declared.tree.Subtree.{Subtree}
 use Rattle.tt_data.specs.declared.tree.TokenTree.{TokenTree}
 use Rattle.tt_data.specs.declared.tree.TokenTree.TheVariants as token
-use Rattle.tt.specs.CursorTokens.{Stands, Reaches}
-use Rattle.tt.specs.Places.{Place, first_token, innermost_head, two_leaves}
+use Rattle.tt.specs.CursorTokens.{Stands, Reaches, start_in}
+use Rattle.tt.specs.Places.{Around, Place, first_token, innermost_head, two_leaves}
 use Rattle.tt.specs.Records.{as_head, head_at, leaf_in}
 use Rattle.tt.proofs.RecordLemmas.{ReadAt, read_at}
-use Rattle.tt.proofs.CursorLemmas.{head_read, first_is}
+use Rattle.tt.proofs.CursorLemmas.{head_read, first_is, root_of}
 use Rattle.tt.proofs.FrameLemmas.{fits}
 
 -- a token that is no head has nothing inside
@@ -80,3 +80,23 @@ pub both_leaves : (tokens : List TokenTree) (f : Forest) (a b : Leaf) (more rest
     → forest_of tokens ≡ f → Some (a ∷ b ∷ []) ≡ two_leaves f
 both_leaves tokens f a b more rest e d shown =
     pair_of a b more rest d ∙ ap (λ ts. two_leaves (forest_of ts)) (sym (leaf_in-is tokens a more e)) ∙ ap two_leaves shown
+
+-- a list in a group has the group's head before it
+pub some_around : (tokens : List TokenTree) (start at : ℕ) (p : Place) → Stands tokens start at p → p.around ≢ [] → 0 < start
+some_around tokens start at p stands some =
+    elim (cases_lt 0 start) [
+      | inl lt ↦ lt
+      | inr le ↦ absurd (some (root_of p.around (sym stands.start_is ∙ (let none : start ≡ 0 = omega (arith, le) in none))))
+    ]
+
+-- in no group no head is before it
+pub none_around : (tokens : List TokenTree) (start at : ℕ) (p : Place) → Stands tokens start at p → start ≡ 0 → innermost_head p ≡ None
+none_around tokens start at p stands none = rw (root_of p.around (sym stands.start_is ∙ none)) refl
+
+pub head_some : (tokens : List TokenTree) (start at : ℕ) (p : Place) → Stands tokens start at p → 0 < start → IsSome (head_at tokens (start - 1))
+head_some tokens start at p stands some =
+    rw (head_found tokens start at (start - 1) p stands refl some) (there p.around p (λ e. absurd (omega (arith, some, stands.start_is, ap start_in e))) refl)
+  where
+    there : (around : List Around) (p : Place) → (around ≡ [] → ⊥) → p.around ≡ around → IsSome (innermost_head p)
+    there [] p some e = absurd (some refl)
+    there (a ∷ outer) p some e = rw e refl

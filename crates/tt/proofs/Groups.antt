@@ -1,8 +1,9 @@
 -- Flat lists that hold one group.
-use Rattle.std.proofs.Common.{◌≡◌, ℕ, zero, suc, ◌+◌, ◌-◌, ◌<◌, length, List, [], ◌∷◌, ◌++◌, take, drop, set, get_or, ap, subst, sym, refl, ◌∙◌, arith, append-nil, Some, IsSome}
+use Rattle.std.proofs.Common.{◌≡◌, ◌↔◌, ◌≤◌, ℕ, zero, suc, ◌+◌, ◌-◌, ◌<◌, length, List, [], ◌∷◌, ◌++◌, take, drop, set, get_or, ap, subst, sym, refl, ◌∙◌, arith, append-nil, Some, IsSome}
+use Rattle.std.proofs.lemmas.Bool.{lt-ltb, le-ltb}
 use Rattle.std.proofs.lemmas.List.{take-append-drop, drop_more}
 use Rattle.tt_data.specs.Forest.{Forest, empty, leaf, group, size, preorder, forest_of, head_of, front, back, IsPreorder}
-use Rattle.tt_data.specs.Flat.{forest_of-preorder, IsPreorder-leaf, Parts, parts, preorder-joined}
+use Rattle.tt_data.specs.Flat.{front-zero, forest_of-preorder, IsPreorder-leaf, Parts, parts, preorder-joined}
 use Rattle.tt_data.proofs.FlatLemmas.{IsPreorder-append, IsPreorder-leaf_before}
 use Rattle.tt_data.proofs.ForestLemmas.{joined-front-back}
 use Rattle.tt_data.specs.declared.leaf.Leaf.{Leaf}
@@ -10,6 +11,7 @@ use Rattle.tt_data.specs.declared.delimiter.Delimiter.{Delimiter}
 use Rattle.tt_data.specs.declared.tree.Subtree.{Subtree}
 use Rattle.tt_data.specs.declared.tree.TokenTree.{TokenTree}
 use Rattle.tt_data.specs.declared.tree.TokenTree.TheVariants as token
+use Rattle.tt.specs.Records.{inside_of}
 use Rattle.tt.specs.Tops.{Top, tree_of, tokens_of, only_group, IsOneGroup}
 use Rattle.tt.proofs.Limits.{size-whole}
 
@@ -99,6 +101,43 @@ rest_with_leaf tokens at l x below read is whole =
     drop_more tokens at x below ∙ ap (λ y. y ∷ drop (at + 1) tokens) (sym read ∙ is) in
     let P : List TokenTree → Type 0 = λ t. IsPreorder t in
     subst P (sym first) (IsPreorder-leaf_before l (drop (at + 1) tokens) whole)
+
+-- the same for any token
+pub token_counts : (tokens : List TokenTree) (at : ℕ) (x : TokenTree) → at < length tokens → x ≡ get_or tokens at x → IsPreorder tokens
+    → size (front (inside_of x) (forest_of (drop (at + 1) tokens))) ≡ inside_of x
+token_counts tokens at (token.Leaf l) below read whole = rw (front-zero (forest_of (drop (at + 1) tokens))) refl
+token_counts tokens at (token.Subtree s) below read whole = rest_counts tokens at s (token.Subtree s) below read refl whole
+
+pub rest_with_token : (tokens : List TokenTree) (at : ℕ) (x : TokenTree) → at < length tokens → x ≡ get_or tokens at x → IsPreorder (drop (at + 1) tokens)
+    → size (front (inside_of x) (forest_of (drop (at + 1) tokens))) ≡ inside_of x → IsPreorder (drop at tokens)
+rest_with_token tokens at (token.Leaf l) below read whole counts = rest_with_leaf tokens at l (token.Leaf l) below read refl whole
+rest_with_token tokens at (token.Subtree s) below read whole counts = rest_with_head tokens at s (token.Subtree s) below read refl whole counts
+
+-- the trees of a flat list after its first tree
+pub record Next (t : TokenTree) (more : List TokenTree) : Type 0 where
+  pub fits : inside_of t ≤ length more
+  pub rest_whole : IsPreorder (drop (inside_of t) more)
+  pub short : (n : ℕ) → 0 < n → n ≤ inside_of t → size (front n (forest_of (t ∷ more))) ≡ n → ⊥
+  pub ends : (n : ℕ) → inside_of t < n
+      → (size (front (n - (inside_of t + 1)) (forest_of (drop (inside_of t) more))) ≡ n - (inside_of t + 1)) ↔ (size (front n (forest_of (t ∷ more))) ≡ n)
+
+pub next : (t : TokenTree) (more : List TokenTree) → IsPreorder (t ∷ more) → Next t more
+next (token.Leaf l) more whole = record {
+  fits = omega arith;
+  rest_whole = IsPreorder-leaf l more whole;
+  short = λ n some le e. absurd (omega (arith, some, le));
+  ends = λ n some. rw (lt-ltb 0 n some) (λ e. omega (arith, e, some), λ e. omega (arith, e, some));
+}
+next (token.Subtree s) more whole =
+    let p : Parts s more = parts s more whole in
+    record {
+      fits = p.fits;
+      rest_whole = p.rest_whole;
+      short = λ n some le. rw (p.counted, le-ltb s.len n le) (λ e. omega (arith, e, some));
+      ends = λ n past.
+          let less : n - 1 - s.len ≡ n - (s.len + 1) = omega arith in
+          rw (p.counted, lt-ltb s.len n past, p.rest_is, less) (λ e. omega (arith, e, past, p.counted), λ e. omega (arith, e, past, p.counted));
+    }
 
 -- a head before whole trees, which counts them or not
 pub one_from : (s : Subtree) (more : List TokenTree) → s.len ≡ length more → IsPreorder more → IsOneGroup (token.Subtree s ∷ more)

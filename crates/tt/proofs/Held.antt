@@ -30,11 +30,11 @@ IsHeld-append tokens [] g held =
     let h : 1 ≤ length tokens = omega (arith, held.0) in
     (omega (arith, held.0, length-append tokens (preorder g)), rw (drop-append-le 1 tokens (preorder g) h) (whole-append (drop 1 tokens) g held.1))
 IsHeld-append tokens (o ∷ outer) g held =
-    let h : o.at + 1 ≤ length tokens = omega (arith, held.0) in
-    let k : o.at ≤ length tokens = omega (arith, held.0) in (
+    let h : o.at.count + 1 ≤ length tokens = omega (arith, held.0) in
+    let k : o.at.count ≤ length tokens = omega (arith, held.0) in (
       omega (arith, held.0, length-append tokens (preorder g)),
-      rw (drop-append-le (o.at + 1) tokens (preorder g) h) (whole-append (drop (o.at + 1) tokens) g held.1),
-      rw (take-append-le o.at tokens (preorder g) k) held.2,
+      rw (drop-append-le (o.at.count + 1) tokens (preorder g) h) (whole-append (drop (o.at.count + 1) tokens) g held.1),
+      rw (take-append-le o.at.count tokens (preorder g) k) held.2,
     )
 
 pub here_of-append : (tokens : List TokenTree) (outer : List Opening) (g : Forest) → IsHeld tokens outer
@@ -43,15 +43,15 @@ here_of-append tokens [] g held =
     let h : 1 ≤ length tokens = omega (arith, held.0) in
     rw (drop-append-le 1 tokens (preorder g) h) (forest-append (drop 1 tokens) g held.1)
 here_of-append tokens (o ∷ outer) g held =
-    let h : o.at + 1 ≤ length tokens = omega (arith, held.0) in
-    rw (drop-append-le (o.at + 1) tokens (preorder g) h) (forest-append (drop (o.at + 1) tokens) g held.1)
+    let h : o.at.count + 1 ≤ length tokens = omega (arith, held.0) in
+    rw (drop-append-le (o.at.count + 1) tokens (preorder g) h) (forest-append (drop (o.at.count + 1) tokens) g held.1)
 
 pub groups_of-append : (tokens : List TokenTree) (outer : List Opening) (g : Forest) → IsHeld tokens outer
     → groups_of (tokens ++ preorder g) outer ≡ groups_of tokens outer
 groups_of-append tokens [] g held = refl
 groups_of-append tokens (o ∷ outer) g held =
-    let k : o.at ≤ length tokens = omega (arith, held.0) in
-    rw (take-append-le o.at tokens (preorder g) k) refl
+    let k : o.at.count ≤ length tokens = omega (arith, held.0) in
+    rw (take-append-le o.at.count tokens (preorder g) k) refl
 
 -- the tokens with the number of those that follow put into an open group's own
 abbrev pub with_head : List TokenTree → ℕ → Delimiter → List TokenTree
@@ -68,30 +68,30 @@ with_head-split tokens at d below whole =
 
 -- the group that is closed, alone
 abbrev closed_group : List TokenTree → Opening → Delimiter → Forest
-closed_group tokens o d = group d (forest_of (drop (o.at + 1) tokens)) empty
+closed_group tokens o d = group d (forest_of (drop (o.at.count + 1) tokens)) empty
 
 pub IsHeld-closed : (tokens : List TokenTree) (o : Opening) (outer : List Opening) (d : Delimiter) → IsHeld tokens (o ∷ outer)
-    → IsHeld (with_head tokens o.at d) outer
+    → IsHeld (with_head tokens o.at.count d) outer
 IsHeld-closed tokens o outer d held =
-    rw (with_head-split tokens o.at d held.0 held.1) (IsHeld-append (take o.at tokens) outer (closed_group tokens o d) held.2)
+    rw (with_head-split tokens o.at.count d held.0 held.1) (IsHeld-append (take o.at.count tokens) outer (closed_group tokens o d) held.2)
 
 pub here_of-closed : (tokens : List TokenTree) (o : Opening) (outer : List Opening) (d : Delimiter) → IsHeld tokens (o ∷ outer)
-    → here_of (with_head tokens o.at d) outer ≡ joined (here_of (take o.at tokens) outer) (group d (here_of tokens (o ∷ outer)) empty)
+    → here_of (with_head tokens o.at.count d) outer ≡ joined (here_of (take o.at.count tokens) outer) (group d (here_of tokens (o ∷ outer)) empty)
 here_of-closed tokens o outer d held =
-    rw (with_head-split tokens o.at d held.0 held.1) (here_of-append (take o.at tokens) outer (closed_group tokens o d) held.2)
+    rw (with_head-split tokens o.at.count d held.0 held.1) (here_of-append (take o.at.count tokens) outer (closed_group tokens o d) held.2)
 
 pub groups_of-closed : (tokens : List TokenTree) (o : Opening) (outer : List Opening) (d : Delimiter) → IsHeld tokens (o ∷ outer)
-    → groups_of (with_head tokens o.at d) outer ≡ groups_of (take o.at tokens) outer
+    → groups_of (with_head tokens o.at.count d) outer ≡ groups_of (take o.at.count tokens) outer
 groups_of-closed tokens o outer d held =
-    rw (with_head-split tokens o.at d held.0 held.1) (groups_of-append (take o.at tokens) outer (closed_group tokens o d) held.2)
+    rw (with_head-split tokens o.at.count d held.0 held.1) (groups_of-append (take o.at.count tokens) outer (closed_group tokens o d) held.2)
 
 -- with one more group open, whose token comes last
-pub IsHeld-opened : (tokens : List TokenTree) (x : TokenTree) (o : Opening) (os : List Opening) → o.at ≡ length tokens → IsHeld tokens os
+pub IsHeld-opened : (tokens : List TokenTree) (x : TokenTree) (o : Opening) (os : List Opening) → o.at.count ≡ length tokens → IsHeld tokens os
     → IsHeld (tokens ++ x ∷ []) (o ∷ os)
 IsHeld-opened tokens x o os e held =
-    let counts : length (tokens ++ x ∷ []) ≡ o.at + 1 = omega (arith, e, length-append tokens (x ∷ [])) in
-    let before : take o.at (tokens ++ x ∷ []) ≡ tokens = take_at tokens (x ∷ []) o.at (sym e) in
-    let inside : drop (o.at + 1) (tokens ++ x ∷ []) ≡ [] = drop_all (o.at + 1) (tokens ++ x ∷ []) (omega (arith, counts)) in
+    let counts : length (tokens ++ x ∷ []) ≡ o.at.count + 1 = omega (arith, e, length-append tokens (x ∷ [])) in
+    let before : take o.at.count (tokens ++ x ∷ []) ≡ tokens = take_at tokens (x ∷ []) o.at.count (sym e) in
+    let inside : drop (o.at.count + 1) (tokens ++ x ∷ []) ≡ [] = drop_all (o.at.count + 1) (tokens ++ x ∷ []) (omega (arith, counts)) in
     (omega (arith, counts), rw inside refl, rw before held)
 
 -- the opening that is taken off the end is the innermost
@@ -101,4 +101,4 @@ reverse-popped old new o e = ap reverse e ∙ reverse-append new (o ∷ [])
 -- the sorts of the open groups
 pub kinds_of : (tokens : List TokenTree) (os : List Opening) → map (λ (o : Opened). o.kind) (groups_of tokens os) ≡ map (λ (o : Opening). o.kind) os
 kinds_of tokens [] = refl
-kinds_of tokens (o ∷ outer) = ap (λ kinds. o.kind ∷ kinds) (kinds_of (take o.at tokens) outer)
+kinds_of tokens (o ∷ outer) = ap (λ kinds. o.kind ∷ kinds) (kinds_of (take o.at.count tokens) outer)

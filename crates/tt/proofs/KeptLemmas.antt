@@ -7,8 +7,10 @@ use Rattle.tt_data.specs.declared.tree.Subtree.{Subtree}
 use Rattle.tt_data.specs.declared.tree.TokenTree.{TokenTree}
 use Rattle.tt_data.specs.declared.tree.TokenTree.TheVariants as token
 use Rattle.tt_data.specs.Forest.{Forest, empty, leaf, group}
+use Rattle.tt.specs.declared.buffer.ListAround.{ListAround}
+use Rattle.tt.specs.Marks.{IsMarkIn}
 use Rattle.tt.specs.Places.{Around, Place, first_token}
-use Rattle.tt.specs.CursorTokens.{start_in, Stands, IsTreeOf, BeginsListOf}
+use Rattle.tt.specs.CursorTokens.{start_in, Stands, IsTreeOf, BeginsListOf, IsKept}
 use Rattle.tt.proofs.CursorLemmas.{is_tree}
 
 -- a group is in one list
@@ -38,10 +40,16 @@ next_in tokens start at around before (group d inner rest) s stands e =
     let head : at ≡ start_in (a ∷ around) - 1 = omega (arith, stands.at_is, stands.start_is) in
     rw (head, stands.start_is) (is_tree tokens a around inner stands.whole)
 
-pub begins : (tokens : List TokenTree) (start at : ℕ) (p : Place) (s : Subtree) → Stands tokens start at p → Some (token.Subtree s) ≡ first_token p.after
+begins : (tokens : List TokenTree) (start at : ℕ) (p : Place) (s : Subtree) → Stands tokens start at p → Some (token.Subtree s) ≡ first_token p.after
     → BeginsListOf tokens at start
 begins tokens start at p s stands e =
     λ other tree. same tokens at start other (token.Subtree s) (next_in tokens start at p.around p.before p.after s stands e) tree
+
+pub kept : (tokens : List TokenTree) (list : ListAround) (at : ℕ) (p : Place) (s : Subtree) → Stands tokens list.start.count at p
+    → Some (token.Subtree s) ≡ first_token p.after → list.inside.count ≡ at + 1 → IsMarkIn list.start tokens → IsKept tokens list
+kept tokens list at p s stands e past marked =
+    let n : list.inside.count - 1 ≡ at = omega (arith, past) in
+    record { begins = rw n (begins tokens list.start.count at p s stands e); marked = marked }
 
 -- one more of which this holds, in place of another
 module _ {X : Type 0} (P : X → Type 0) where

@@ -82,13 +82,13 @@ last_changed init x [] from held =
       here_is = rw (new, old) both.1;
     }
 last_changed init x (o ∷ outer) from held =
-    let old : drop (o.at + 1) (init ++ x ∷ []) ≡ drop (o.at + 1) init ++ x ∷ [] = drop-append-le (o.at + 1) init (x ∷ []) from in
-    let new : drop (o.at + 1) (init ++ alone_token x ∷ []) ≡ drop (o.at + 1) init ++ alone_token x ∷ [] =
-    drop-append-le (o.at + 1) init (alone_token x ∷ []) from in
-    let le : o.at ≤ length init = omega (arith, from) in
-    let old_front : take o.at (init ++ x ∷ []) ≡ take o.at init = take-append-le o.at init (x ∷ []) le in
-    let new_front : take o.at (init ++ alone_token x ∷ []) ≡ take o.at init = take-append-le o.at init (alone_token x ∷ []) le in
-    let both = list_alone (drop (o.at + 1) init) x (rw old at held.1) in
+    let old : drop (o.at.count + 1) (init ++ x ∷ []) ≡ drop (o.at.count + 1) init ++ x ∷ [] = drop-append-le (o.at.count + 1) init (x ∷ []) from in
+    let new : drop (o.at.count + 1) (init ++ alone_token x ∷ []) ≡ drop (o.at.count + 1) init ++ alone_token x ∷ [] =
+    drop-append-le (o.at.count + 1) init (alone_token x ∷ []) from in
+    let le : o.at.count ≤ length init = omega (arith, from) in
+    let old_front : take o.at.count (init ++ x ∷ []) ≡ take o.at.count init = take-append-le o.at.count init (x ∷ []) le in
+    let new_front : take o.at.count (init ++ alone_token x ∷ []) ≡ take o.at.count init = take-append-le o.at.count init (alone_token x ∷ []) le in
+    let both = list_alone (drop (o.at.count + 1) init) x (rw old at held.1) in
     record {
       held = (omega (arith, length-append init (alone_token x ∷ []), from), rw new both.0, rw new_front (rw old_front at held.2));
       groups_are = rw (new_front, old_front) refl;
@@ -100,10 +100,10 @@ cut_changed : (at : ℕ) (init : List TokenTree) (x y : TokenTree) (os : List Op
 cut_changed at init x y [] from fits cut =
     rw (take-append-le at init (y ∷ []) fits) (rw (take-append-le at init (x ∷ []) fits) at cut)
 cut_changed at init x y (o ∷ outer) from fits cut =
-    let le : o.at ≤ length init = omega (arith, from) in
+    let le : o.at.count ≤ length init = omega (arith, from) in
     elim cut [
       | inl within ↦ inl (within.0, rw (take-append-le at init (y ∷ []) fits) (rw (take-append-le at init (x ∷ []) fits) at within.1))
-      | inr before ↦ inr (before.0, rw (take-append-le o.at init (y ∷ []) le) (rw (take-append-le o.at init (x ∷ []) le) at before.1))
+      | inr before ↦ inr (before.0, rw (take-append-le o.at.count init (y ∷ []) le) (rw (take-append-le o.at.count init (x ∷ []) le) at before.1))
     ]
 
 tree_changed : (last : Option ℕ) (init : List TokenTree) (x y : TokenTree) (os : List Opening) → start_of os ≤ length init

@@ -27,10 +27,10 @@ counted tokens (o ∷ outer) held =
     omega (
       arith,
       held.0,
-      size-whole (drop (o.at + 1) tokens) held.1,
-      length-drop (o.at + 1) tokens,
-      counted (take o.at tokens) outer held.2,
-      length-take o.at tokens,
+      size-whole (drop (o.at.count + 1) tokens) held.1,
+      length-drop (o.at.count + 1) tokens,
+      counted (take o.at.count tokens) outer held.2,
+      length-take o.at.count tokens,
     )
 
 -- whether a call was refused for the number of tokens

@@ -60,37 +60,41 @@ pub start_fits : (tokens : List TokenTree) (os : List Opening) → IsHeld tokens
 start_fits tokens [] held = omega (arith, held.0)
 start_fits tokens (o ∷ outer) held = omega (arith, held.0)
 
+pub held_some : (tokens : List TokenTree) (os : List Opening) → IsHeld tokens os → 0 < length tokens
+held_some tokens [] held = held.0
+held_some tokens (o ∷ outer) held = omega (arith, held.0)
+
 -- what comes before the innermost list: the top's token, and those that its open groups count
 pub start_counts : (tokens : List TokenTree) (os : List Opening) → IsHeld tokens os → start_of os ≡ 1 + count_in (groups_of tokens os)
 start_counts tokens [] held = refl
 start_counts tokens (o ∷ outer) held =
-    omega (arith, held.0, counted (take o.at tokens) outer held.2, length-take o.at tokens)
+    omega (arith, held.0, counted (take o.at.count tokens) outer held.2, length-take o.at.count tokens)
 
 pub length-groups_of : (tokens : List TokenTree) (os : List Opening) → length (groups_of tokens os) ≡ length os
 length-groups_of tokens [] = refl
-length-groups_of tokens (o ∷ outer) = omega (arith, length-groups_of (take o.at tokens) outer)
+length-groups_of tokens (o ∷ outer) = omega (arith, length-groups_of (take o.at.count tokens) outer)
 
 -- the innermost list is the one with all groups open
 pub list_here : (tokens : List TokenTree) (os : List Opening) (depth : ℕ) → depth ≡ length os
     → list_in depth (groups_of tokens os) (here_of tokens os) ≡ Some (groups_of tokens os, here_of tokens os)
 list_here tokens [] depth e = rw (eq-eqb depth 0 e) refl
 list_here tokens (o ∷ outer) depth e =
-    rw (length-groups_of (take o.at tokens) outer, eq-eqb depth (1 + length outer) (omega (arith, e))) refl
+    rw (length-groups_of (take o.at.count tokens) outer, eq-eqb depth (1 + length outer) (omega (arith, e))) refl
 
 -- a list with fewer groups open stands among the tokens before the innermost one
 pub list_outer : (tokens : List TokenTree) (o : Opening) (outer : List Opening) (depth : ℕ) → depth ≤ length outer
     → list_in depth (groups_of tokens (o ∷ outer)) (here_of tokens (o ∷ outer))
-    ≡ list_in depth (groups_of (take o.at tokens) outer) (here_of (take o.at tokens) outer)
+    ≡ list_in depth (groups_of (take o.at.count tokens) outer) (here_of (take o.at.count tokens) outer)
 list_outer tokens o outer depth below =
-    rw (length-groups_of (take o.at tokens) outer, ne_eqb depth (1 + length outer) (λ e. omega (arith, e, below))) refl
+    rw (length-groups_of (take o.at.count tokens) outer, ne_eqb depth (1 + length outer) (λ e. omega (arith, e, below))) refl
 
 -- in no list more groups are open than are open
 pub list_none : (tokens : List TokenTree) (os : List Opening) (depth : ℕ) → length os < depth
     → list_in depth (groups_of tokens os) (here_of tokens os) ≡ None
 list_none tokens [] depth above = rw (ne_eqb depth 0 (λ e. omega (arith, e, above))) refl
 list_none tokens (o ∷ outer) depth above =
-    rw (length-groups_of (take o.at tokens) outer, ne_eqb depth (1 + length outer) (λ e. omega (arith, e, above)))
-    (list_none (take o.at tokens) outer depth (omega (arith, above)))
+    rw (length-groups_of (take o.at.count tokens) outer, ne_eqb depth (1 + length outer) (λ e. omega (arith, e, above)))
+    (list_none (take o.at.count tokens) outer depth (omega (arith, above)))
 
 -- tokens cut where a tree of the innermost list ends are held too: no open group changes, and the list has its first trees
 pub record HeldCut (tokens : List TokenTree) (os : List Opening) (at : ℕ) : Type 0 where
@@ -115,10 +119,10 @@ held_cut tokens [] at held from to whole =
       here_front = ap forest_of rest ∙ sym c.front_is;
     }
 held_cut tokens (o ∷ outer) at held from to whole =
-    let rest : drop (o.at + 1) (take at tokens) ≡ take (at - (o.at + 1)) (drop (o.at + 1) tokens) = drop-take-from (o.at + 1) at tokens from in
-    let before : take o.at (take at tokens) ≡ take o.at tokens = take-take o.at at tokens (omega (arith, from)) in
-    let c : Cut (drop (o.at + 1) tokens) (at - (o.at + 1)) =
-    cut (drop (o.at + 1) tokens) (at - (o.at + 1)) held.1 (omega (arith, to, length-drop (o.at + 1) tokens)) whole in
+    let rest : drop (o.at.count + 1) (take at tokens) ≡ take (at - (o.at.count + 1)) (drop (o.at.count + 1) tokens) = drop-take-from (o.at.count + 1) at tokens from in
+    let before : take o.at.count (take at tokens) ≡ take o.at.count tokens = take-take o.at.count at tokens (omega (arith, from)) in
+    let c : Cut (drop (o.at.count + 1) tokens) (at - (o.at.count + 1)) =
+    cut (drop (o.at.count + 1) tokens) (at - (o.at.count + 1)) held.1 (omega (arith, to, length-drop (o.at.count + 1) tokens)) whole in
     record {
       held = (omega (arith, from, length-take-le at tokens to), rw rest whole, rw before held.2);
       groups_are = rw before refl;
@@ -217,11 +221,11 @@ restored tokens (o ∷ outer) p held some =
           let left : length all - p.depth ≡ 1 + (length outer - p.depth) = omega (arith, less) in
           let kept : List Opening = drop (length outer - p.depth) outer in
           let dropped : drop (length all - p.depth) all ≡ kept = ap (λ n. drop n all) left ∙ dropped_first o outer (length outer - p.depth) in
-          let same : cut_in p (groups_of tokens all) (here_of tokens all) ≡ cut_in p (groups_of (take o.at tokens) outer) (here_of (take o.at tokens) outer) =
+          let same : cut_in p (groups_of tokens all) (here_of tokens all) ≡ cut_in p (groups_of (take o.at.count tokens) outer) (here_of (take o.at.count tokens) outer) =
           ap (option_and_then (λ (l : List Opened × Forest). cut_to p.tokens l.0 l.1)) (list_outer tokens o outer p.depth less) in
-          let r : Restored (take o.at tokens) outer kept p = restored (take o.at tokens) outer p held.2 (rw same at some) in
-          let short : p.tokens + 1 ≤ o.at = omega (arith, r.fits, length-take o.at tokens) in
-          let taken : take (p.tokens + 1) (take o.at tokens) ≡ take (p.tokens + 1) tokens = take-take (p.tokens + 1) o.at tokens short in
+          let r : Restored (take o.at.count tokens) outer kept p = restored (take o.at.count tokens) outer p held.2 (rw same at some) in
+          let short : p.tokens + 1 ≤ o.at.count = omega (arith, r.fits, length-take o.at.count tokens) in
+          let taken : take (p.tokens + 1) (take o.at.count tokens) ≡ take (p.tokens + 1) tokens = take-take (p.tokens + 1) o.at.count tokens short in
           subst P (sym dropped) (record { fits = omega (arith, short, held.0); held = rw taken at r.held; cut_is = same ∙ rw taken at r.cut_is })
       | inr above ↦
           let within : p.depth ≤ length all = stands_within tokens all p some in
@@ -262,7 +266,7 @@ restored_items tokens items p top held some =
 pub fewer_openings : (tokens : List TokenTree) (os : List Opening) → IsHeld tokens os → length os < length tokens
 fewer_openings tokens [] held = held.0
 fewer_openings tokens (o ∷ outer) held =
-    omega (arith, held.0, fewer_openings (take o.at tokens) outer held.2, length-take o.at tokens)
+    omega (arith, held.0, fewer_openings (take o.at.count tokens) outer held.2, length-take o.at.count tokens)
 
 -- the last of some openings is the innermost
 last_first : (xs : List Opening) (d : Opening) → 0 < length xs
@@ -276,7 +280,7 @@ last_first xs d some =
 pub outer_step : (tokens : List TokenTree) (xs : List Opening) (d : Opening) (depth : ℕ) (target : Option (List Opened × Forest))
     → depth < length xs → IsHeld tokens (reverse xs) → length tokens ≤ 2 ^ 32
     → list_in depth (groups_of tokens (reverse xs)) (here_of tokens (reverse xs)) ≡ target
-    → let before = take (slice_index_or xs (length xs - 1) d).at tokens in
+    → let before = take (slice_index_or xs (length xs - 1) d).at.count tokens in
     let outer = reverse (take (length xs - 1) xs) in
     IsHeld before outer × (length before ≤ 2 ^ 32) × (list_in depth (groups_of before outer) (here_of before outer) ≡ target)
 outer_step tokens xs d depth target more held room list =
@@ -287,4 +291,17 @@ outer_step tokens xs d depth target more held room list =
     let fits : length outer ≡ length xs - 1 =
     length-reverse (take (length xs - 1) xs) ∙ length-take-le (length xs - 1) xs (omega arith) in
     let below : depth ≤ length outer = omega (arith, more, fits) in
-    (inside.2, omega (arith, room, length-take o.at tokens), sym (list_outer tokens o outer depth below) ∙ rw e at list)
+    (inside.2, omega (arith, room, length-take o.at.count tokens), sym (list_outer tokens o outer depth below) ∙ rw e at list)
+
+-- the innermost opening is among the tokens
+pub last_fits : (tokens : List TokenTree) (xs : List Opening) (d : Opening) → 0 < length xs → IsHeld tokens (reverse xs)
+    → (slice_index_or xs (length xs - 1) d).at.count ≤ length tokens
+last_fits tokens xs d some held =
+    let inside : IsHeld tokens (slice_index_or xs (length xs - 1) d ∷ reverse (take (length xs - 1) xs)) = rw (last_first xs d some) at held in
+    omega (arith, inside.0)
+
+-- fewer first tokens of a run are its first tokens
+pub fewer_first : (tokens upto : List TokenTree) (k : ℕ) → upto ≡ take (length upto) tokens → k ≤ length upto
+    → take k upto ≡ take (length (take k upto)) tokens
+fewer_first tokens upto k first le =
+    ap (take k) first ∙ take-take k (length upto) tokens le ∙ ap (λ n. take n tokens) (sym (length-take-le k upto le))

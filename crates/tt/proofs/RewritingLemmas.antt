@@ -1,11 +1,10 @@
 -- A rewriting walk, step by step: what remains, and what it has made so far.
-use Rattle.std.proofs.Common.{◌≡◌, ℕ, ◌+◌, ◌*◌, ◌<◌, ◌≤◌, List, [], ◌∷◌, ◌++◌, length, reverse, ap, refl, sym, subst, ◌∙◌, arith, append_assoc, append-nil, Some, None}
+use Rattle.std.proofs.Common.{◌≡◌, ℕ, ◌+◌, ◌≤◌, List, [], ◌∷◌, ◌++◌, length, ap, refl, sym, subst, ◌∙◌, arith, append_assoc, append-nil, Some, None}
 use Rattle.std.specs.List.{All}
 use Rattle.std.specs.Prelude.{Bool, true, false, if◌then◌else◌, is_none, Option, Result, Ok, Err, IfOk, IfErr}
 use Rattle.std.specs.Result.{IsErrAnd}
 use Rattle.tt_data.specs.fault.TtFault.{TtFault}
 use Rattle.std.proofs.lemmas.List.Elements.{All-nil, All-cons, All-append}
-use Rattle.std.proofs.lemmas.List.{reverse-append}
 use Rattle.tt_data.specs.declared.delimiter.Delimiter.{Delimiter}
 use Rattle.tt_data.specs.declared.leaf.Leaf.{Leaf}
 use Rattle.tt_data.specs.declared.span.Span.{Span}
@@ -18,13 +17,12 @@ use Rattle.std.specs.Borrow.{Bor}
 use Rattle.std.specs.Fn.{CalledAt, Mut}
 use Rattle.tt_data.specs.declared.tree.TokenTree.{TokenTree}
 use Rattle.tt.specs.Views.{forest}
-use Rattle.tt.specs.declared.top_subtree.transform.Around.{Around}
 use Rattle.tt.specs.declared.top_subtree.transform.TransformTtAction.{TransformTtAction}
 use Rattle.tt.specs.declared.top_subtree.transform.TransformTtAction.TheVariants.{Keep, ReplaceWith}
 use Rattle.tt.specs.declared.view.TokenTreesView.{TokenTreesView}
 use Rattle.tt.specs.Building.{Building, Opened, closed, closed_in, count_in, count_of}
 use Rattle.tt.specs.Tops.{Top, forest_of_top, only_group}
-use Rattle.tt.specs.Walking.{Standing, LeavesGroup, entered}
+use Rattle.tt.specs.Walking.{Around, Standing, LeavesGroup, entered}
 use Rattle.tt.specs.Rewriting.{Call, IsAnswered, IsRewritten, IsStarted, IsRemoval, with_answer, nothing, leaf_stays, leaf_gives_way, group_stays, group_gives_way}
 
 abbrev pub kept_leaf : Leaf → Call
@@ -291,34 +289,6 @@ module _ (trees : Forest) (top : Delimiter) (calls : List Call) where
   stands_left s t none (a, last, rest, tree) at =
       subst (λ b. IsAt trees top calls t.left t.around b) (sym tree)
       (subst (λ f. IsAt trees top calls f t.around (closed s.tree a.close_span)) (sym rest) (closed_at s.left s.around s.tree a t.around none last at))
-
--- the groups around, the innermost first, where the vector has it last
-pub stacked : (xs ys : List Around) (a : Around) → ys ≡ xs ++ a ∷ [] → reverse ys ≡ a ∷ reverse xs
-stacked xs ys a is = ap reverse is ∙ reverse-append xs (a ∷ [])
-
--- a bound on the steps of the walk
-abbrev pub steps_in : List Around → ℕ
-steps_in [] = 0
-steps_in (a ∷ outer) = 1 + 2 * size a.rest + steps_in outer
-
--- what is left of a walk: each step makes it less
-abbrev pub work_of : Standing → ℕ
-work_of s = 2 * size s.left + steps_in s.around
-
-work_inside : (o : Bool) (tree : Building) (inner rest : Forest) (a : Around) (around : List Around) → a.rest ≡ rest
-    → work_of (if o then record { tree = tree; left = inner; around = a ∷ around } else record { tree = tree; left = rest; around = around })
-    < 2 * (1 + (size inner + size rest)) + steps_in around
-work_inside true tree inner rest a around is = omega (arith, ap size is)
-work_inside false tree inner rest a around is = omega arith
-
-pub work_entered : (c : Call) (head : Subtree) (inner before : Forest) (s : Standing) → before ≡ group head.delimiter inner s.left
-    → work_of (entered c head inner s) < 2 * size before + steps_in s.around
-work_entered c head inner before s first =
-    let less = work_inside (is_none c.put) (with_answer c s.tree) inner s.left (record { close_span = head.delimiter.close_span; rest = s.left }) s.around refl in
-    rw first less
-
-pub work_left : (s t : Standing) → LeavesGroup s t → work_of t < work_of s
-work_left s t (a, last, rest, tree) = omega (arith, ap size rest, ap steps_in last)
 
 -- a fault that is handed on is the one that came
 pub handed : {A B : Type 0} (r : Result A TtFault) (came : TtFault) {fault : TtFault} → IsErrAnd r (λ e. e ≡ came) → r ≡ Err fault

@@ -115,7 +115,7 @@ unclosed_tokens =
     ∷ []
 
 abbrev openings : List Opening
-openings = record { at = 2; kind = Parenthesis; open_span = at 1 } ∷ []
+openings = record { at = record { count = 2 }; kind = Parenthesis; open_span = at 1 } ∷ []
 
 held_groups : groups_of unclosed_tokens openings ≡ unclosed.groups
 held_groups = refl
@@ -179,7 +179,7 @@ begins_third = refl
 leaf_begins_none : begins_invisible (token.Leaf (comma 2)) ≡ false
 leaf_begins_none = refl
 
-moved_after : moved_back 1 (record { at = 2; kind = Brace; open_span = at 1 }) ≡ record { at = 1; kind = Brace; open_span = at 1 }
+moved_after : moved_back 1 (record { at = record { count = 2 }; kind = Brace; open_span = at 1 }) ≡ record { at = record { count = 1 }; kind = Brace; open_span = at 1 }
 moved_after = refl
 
 -- trees and leaves in bulk

@@ -149,11 +149,11 @@ opened_after : (at : ℕ) (o : Opened) (outer : List Opened) (here : Forest) →
 opened_after at o outer here s = inr (omega (arith, settled_fits at outer o.before s), s)
 
 -- the same where its token comes last
-pub IsSettled-opened : (at : ℕ) (tokens : List TokenTree) (x : TokenTree) (o : Opening) (os : List Opening) → o.at ≡ length tokens
+pub IsSettled-opened : (at : ℕ) (tokens : List TokenTree) (x : TokenTree) (o : Opening) (os : List Opening) → o.at.count ≡ length tokens
     → IsSettled at (groups_of tokens os) (here_of tokens os)
     → IsSettled at (groups_of (tokens ++ x ∷ []) (o ∷ os)) (here_of (tokens ++ x ∷ []) (o ∷ os))
 IsSettled-opened at tokens x o os e s =
-    let before : take o.at (tokens ++ x ∷ []) ≡ tokens = take_at tokens (x ∷ []) o.at (sym e) in
+    let before : take o.at.count (tokens ++ x ∷ []) ≡ tokens = take_at tokens (x ∷ []) o.at.count (sym e) in
     let opened : Opened = record { kind = o.kind; open_span = o.open_span; before = here_of tokens os } in
     rw before (opened_after at opened (groups_of tokens os) (here_of (tokens ++ x ∷ []) (o ∷ os)) s)
 
@@ -172,13 +172,13 @@ closed_after at place o outer here g e s =
 
 pub IsSettled-closed : (at : ℕ) (tokens : List TokenTree) (o : Opening) (outer : List Opening) (d : Delimiter) → IsHeld tokens (o ∷ outer)
     → IsSettled at (groups_of tokens (o ∷ outer)) (here_of tokens (o ∷ outer))
-    → IsSettled (min at o.at) (groups_of (with_head tokens o.at d) outer) (here_of (with_head tokens o.at d) outer)
+    → IsSettled (min at o.at.count) (groups_of (with_head tokens o.at.count d) outer) (here_of (with_head tokens o.at.count d) outer)
 IsSettled-closed at tokens o outer d held s =
-    let place : o.at ≡ count_in (groups_of tokens (o ∷ outer)) = omega (arith, start_counts tokens (o ∷ outer) held) in
-    let opened : Opened = record { kind = o.kind; open_span = o.open_span; before = here_of (take o.at tokens) outer } in
+    let place : o.at.count ≡ count_in (groups_of tokens (o ∷ outer)) = omega (arith, start_counts tokens (o ∷ outer) held) in
+    let opened : Opened = record { kind = o.kind; open_span = o.open_span; before = here_of (take o.at.count tokens) outer } in
     let here : Forest = here_of tokens (o ∷ outer) in
     rw (groups_of-closed tokens o outer d held, here_of-closed tokens o outer d held)
-    (closed_after at o.at opened (groups_of (take o.at tokens) outer) here (group d here empty) place s)
+    (closed_after at o.at.count opened (groups_of (take o.at.count tokens) outer) here (group d here empty) place s)
 
 -- with the tree at a later place unwrapped
 pub IsSettled-unwrapped : (at later : ℕ) (groups : List Opened) (here : Forest) → at ≤ later → IsSettled at groups here

@@ -66,22 +66,22 @@ list_stays a q x seen whole all_whole =
     let m : Seam a (x ∷ q) = seam a (x ∷ q) whole all_whole in
     rw (m.front_is, m.back_is, first_stays x q seen) (sym m.all_is)
 
-map-reversed : {A B : Type 0} (f : A → B) (xs : List A) → reverse (map f xs) ≡ map f (reverse xs)
+pub map-reversed : {A B : Type 0} (f : A → B) (xs : List A) → reverse (map f xs) ≡ map f (reverse xs)
 map-reversed f [] = refl
 map-reversed f (x ∷ xs) =
     reverse-append (f x ∷ []) (map f xs) ∙ ap (λ ys. ys ++ f x ∷ []) (map-reversed f xs)
     ∙ sym (map-append f (reverse xs) (x ∷ [])) ∙ ap (map f) (sym (reverse-append (x ∷ []) xs))
 
 -- openings before the place stay
-moved_before : (at : ℕ) (o : Opening) → o.at ≤ at → moved_back at o ≡ o
-moved_before at o le = rw (le-ltb at o.at le) refl
+moved_before : (at : ℕ) (o : Opening) → o.at.count ≤ at → moved_back at o ≡ o
+moved_before at o le = rw (le-ltb at o.at.count le) refl
 
 all_before : (at : ℕ) (tokens : List TokenTree) (os : List Opening) → length tokens ≤ at + 1 → IsHeld tokens os → map (moved_back at) os ≡ os
 all_before at tokens [] short held = refl
 all_before at tokens (o ∷ outer) short held =
     rw (
       moved_before at o (omega (arith, held.0, short)),
-      all_before at (take o.at tokens) outer (omega (arith, held.0, short, length-take o.at tokens)) held.2,
+      all_before at (take o.at.count tokens) outer (omega (arith, held.0, short, length-take o.at.count tokens)) held.2,
     )
     refl
 
@@ -108,28 +108,28 @@ unwrapped_here_top p q s invisible held before =
     }
 
 unwrapped_here : (p q : List TokenTree) (s : Subtree) (o : Opening) (outer : List Opening) → is_invisible s.delimiter.kind ≡ true
-    → IsHeld (p ++ token.Subtree s ∷ q) (o ∷ outer) → o.at < length p → IsHeld p (o ∷ outer) → Unwrapped p q (token.Subtree s) (o ∷ outer)
+    → IsHeld (p ++ token.Subtree s ∷ q) (o ∷ outer) → o.at.count < length p → IsHeld p (o ∷ outer) → Unwrapped p q (token.Subtree s) (o ∷ outer)
 unwrapped_here p q s o outer invisible held within before =
     let x : TokenTree = token.Subtree s in
-    let from : o.at + 1 ≤ length p = omega (arith, within) in
-    let le : o.at ≤ length p = omega (arith, within) in
-    let a : List TokenTree = drop (o.at + 1) p in
-    let rest : drop (o.at + 1) (p ++ x ∷ q) ≡ a ++ x ∷ q = drop-append-le (o.at + 1) p (x ∷ q) from in
-    let less : drop (o.at + 1) (p ++ q) ≡ a ++ q = drop-append-le (o.at + 1) p q from in
-    let old_front : take o.at (p ++ x ∷ q) ≡ take o.at p = take-append-le o.at p (x ∷ q) le in
-    let new_front : take o.at (p ++ q) ≡ take o.at p = take-append-le o.at p q le in
+    let from : o.at.count + 1 ≤ length p = omega (arith, within) in
+    let le : o.at.count ≤ length p = omega (arith, within) in
+    let a : List TokenTree = drop (o.at.count + 1) p in
+    let rest : drop (o.at.count + 1) (p ++ x ∷ q) ≡ a ++ x ∷ q = drop-append-le (o.at.count + 1) p (x ∷ q) from in
+    let less : drop (o.at.count + 1) (p ++ q) ≡ a ++ q = drop-append-le (o.at.count + 1) p q from in
+    let old_front : take o.at.count (p ++ x ∷ q) ≡ take o.at.count p = take-append-le o.at.count p (x ∷ q) le in
+    let new_front : take o.at.count (p ++ q) ≡ take o.at.count p = take-append-le o.at.count p q le in
     let u = list_unwrapped a q s invisible before.1 (rw rest at held.1) in
-    let n : length a ≡ length p - 1 - o.at = omega (arith, length-drop (o.at + 1) p) in
-    let place : count_in (groups_of (p ++ x ∷ q) (o ∷ outer)) ≡ o.at = omega (arith, start_counts (p ++ x ∷ q) (o ∷ outer) held) in
-    let same : nat_lt (length p) o.at ≡ false = le-ltb (length p) o.at le in
+    let n : length a ≡ length p - 1 - o.at.count = omega (arith, length-drop (o.at.count + 1) p) in
+    let place : count_in (groups_of (p ++ x ∷ q) (o ∷ outer)) ≡ o.at.count = omega (arith, start_counts (p ++ x ∷ q) (o ∷ outer) held) in
+    let same : nat_lt (length p) o.at.count ≡ false = le-ltb (length p) o.at.count le in
     let outer_same : map (moved_back (length p)) outer ≡ outer =
-    all_before (length p) (take o.at p) outer (omega (arith, length-take o.at p)) before.2 in
+    all_before (length p) (take o.at.count p) outer (omega (arith, length-take o.at.count p)) before.2 in
     record {
       held =
           rw (same, outer_same)
           (omega (arith, within, length-append p q), rw less u.0, rw new_front before.2);
-      groups_are = rw (same, outer_same, place, lt-ltb o.at (length p) within, new_front, old_front) refl;
-      here_is = rw (same, place, lt-ltb o.at (length p) within, less, rest, ← n) u.1;
+      groups_are = rw (same, outer_same, place, lt-ltb o.at.count (length p) within, new_front, old_front) refl;
+      here_is = rw (same, place, lt-ltb o.at.count (length p) within, less, rest, ← n) u.1;
     }
 
 -- the tokens up to an opening after the place, and those after it
@@ -170,12 +170,12 @@ unwrapped_token p q s (o ∷ outer) invisible held cut =
       | inl within ↦ unwrapped_here p q s o outer invisible held within.0 (rw (take-append_seam p (token.Subtree s ∷ q)) at within.1)
       | inr before ↦
           let x : TokenTree = token.Subtree s in
-          let between : List TokenTree = take (o.at - 1 - length p) q in
-          let w : Around p q x o.at between = around p q x o.at before.0 held.0 in
+          let between : List TokenTree = take (o.at.count - 1 - length p) q in
+          let w : Around p q x o.at.count between = around p q x o.at.count before.0 held.0 in
           let u : Unwrapped p between x outer = unwrapped_token p between s outer invisible (rw w.before at held.2) (rw w.before at before.1) in
-          let place : count_in (groups_of (p ++ x ∷ q) (o ∷ outer)) ≡ o.at = omega (arith, start_counts (p ++ x ∷ q) (o ∷ outer) held) in
-          let past : nat_lt o.at (length p) ≡ false = le-ltb o.at (length p) (omega (arith, before.0)) in
-          let moved : nat_lt (length p) o.at ≡ true = lt-ltb (length p) o.at before.0 in
+          let place : count_in (groups_of (p ++ x ∷ q) (o ∷ outer)) ≡ o.at.count = omega (arith, start_counts (p ++ x ∷ q) (o ∷ outer) held) in
+          let past : nat_lt o.at.count (length p) ≡ false = le-ltb o.at.count (length p) (omega (arith, before.0)) in
+          let moved : nat_lt (length p) o.at.count ≡ true = lt-ltb (length p) o.at.count before.0 in
           let total : length (p ++ q) + 1 ≡ length (p ++ x ∷ q) = omega (arith, length-append p q, length-append p (x ∷ q)) in
           record {
             held = rw moved (omega (arith, held.0, total, before.0), rw w.behind held.1, rw w.before_new u.held);
@@ -197,21 +197,21 @@ stays p q x [] seen held cut =
     let same : unwrapped_after (length a) (forest_of (a ++ x ∷ q)) ≡ forest_of (a ++ x ∷ q) = list_stays a q x seen before.1 (rw rest at held.1) in
     rw (rest, ← n, same) refl
 stays p q x (o ∷ outer) seen held cut =
-    let place : count_in (groups_of (p ++ x ∷ q) (o ∷ outer)) ≡ o.at = omega (arith, start_counts (p ++ x ∷ q) (o ∷ outer) held) in
+    let place : count_in (groups_of (p ++ x ∷ q) (o ∷ outer)) ≡ o.at.count = omega (arith, start_counts (p ++ x ∷ q) (o ∷ outer) held) in
     elim cut [
       | inl within ↦
           let before : IsHeld p (o ∷ outer) = rw (take-append_seam p (x ∷ q)) at within.1 in
-          let from : o.at + 1 ≤ length p = omega (arith, within.0) in
-          let a : List TokenTree = drop (o.at + 1) p in
-          let rest : drop (o.at + 1) (p ++ x ∷ q) ≡ a ++ x ∷ q = drop-append-le (o.at + 1) p (x ∷ q) from in
-          let n : length a ≡ length p - 1 - o.at = omega (arith, length-drop (o.at + 1) p) in
+          let from : o.at.count + 1 ≤ length p = omega (arith, within.0) in
+          let a : List TokenTree = drop (o.at.count + 1) p in
+          let rest : drop (o.at.count + 1) (p ++ x ∷ q) ≡ a ++ x ∷ q = drop-append-le (o.at.count + 1) p (x ∷ q) from in
+          let n : length a ≡ length p - 1 - o.at.count = omega (arith, length-drop (o.at.count + 1) p) in
           let same : unwrapped_after (length a) (forest_of (a ++ x ∷ q)) ≡ forest_of (a ++ x ∷ q) =
           list_stays a q x seen before.1 (rw rest at held.1) in
-          rw (place, lt-ltb o.at (length p) within.0, rest, ← n, same) refl
+          rw (place, lt-ltb o.at.count (length p) within.0, rest, ← n, same) refl
       | inr before ↦
-          let w : Around p q x o.at (take (o.at - 1 - length p) q) = around p q x o.at before.0 held.0 in
-          let same = stays p (take (o.at - 1 - length p) q) x outer seen (rw w.before at held.2) (rw w.before at before.1) in
-          let past : nat_lt o.at (length p) ≡ false = le-ltb o.at (length p) (omega (arith, before.0)) in
+          let w : Around p q x o.at.count (take (o.at.count - 1 - length p) q) = around p q x o.at.count before.0 held.0 in
+          let same = stays p (take (o.at.count - 1 - length p) q) x outer seen (rw w.before at held.2) (rw w.before at before.1) in
+          let past : nat_lt o.at.count (length p) ≡ false = le-ltb o.at.count (length p) (omega (arith, before.0)) in
           rw (place, past, w.before, same) refl
     ]
 

@@ -3,6 +3,8 @@ use Rattle.std.specs.Prelude.{◌≡◌, ℕ, ◌+◌, ◌-◌, ◌<◌, ◌≤�
 use Rattle.tt_data.specs.declared.tree.TokenTree.{TokenTree}
 use Rattle.tt_data.specs.declared.tree.TokenTree.TheVariants as token
 use Rattle.tt_data.specs.Forest.{Forest, empty, leaf, group, joined, size, preorder, forest_of}
+use Rattle.tt.specs.declared.storage.mark.Mark.{Mark}
+use Rattle.tt.specs.Marks.{IsMarkIn}
 use Rattle.tt.specs.Places.{Around, Place}
 use Rattle.tt.specs.declared.buffer.ListAround.{ListAround}
 
@@ -41,6 +43,11 @@ place_in around before (group d inner rest) start at =
 abbrev pub place_of : List TokenTree → ℕ → ℕ → Place
 place_of tokens start at = place_in [] empty (forest_of tokens) start at
 
+-- a cursor's marks, of its list's beginning and of its position, are among the tokens
+pub record CursorMarks (tokens : List TokenTree) (start at : Mark) : Type 0 where
+  pub begins : IsMarkIn start tokens
+  pub stands : IsMarkIn at tokens
+
 -- they do hold a position
 abbrev pub IsPlaced : List TokenTree → ℕ → ℕ → Type 0
 IsPlaced tokens start at = Stands tokens start at (place_of tokens start at)
@@ -61,6 +68,7 @@ pub record IsTreeOf (tokens : List TokenTree) (head start : ℕ) : Type 0 where
 abbrev pub BeginsListOf : List TokenTree → ℕ → ℕ → Type 0
 BeginsListOf tokens head result = (start : ℕ) → IsTreeOf tokens head start → result ≡ start
 
--- the list with the group at this head begins where this says
-abbrev pub IsKept : List TokenTree → ListAround → Type 0
-IsKept tokens list = BeginsListOf tokens list.head list.start
+-- the list with the group whose inside begins here begins at this mark, which is one among the tokens
+pub record IsKept (tokens : List TokenTree) (list : ListAround) : Type 0 where
+  pub begins : BeginsListOf tokens (list.inside.count - 1) list.start.count
+  pub marked : IsMarkIn list.start tokens

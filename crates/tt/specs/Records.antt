@@ -45,6 +45,11 @@ abbrev pub as_head : TokenTree → Option Subtree
 as_head (token.Subtree s) = Some s
 as_head (token.Leaf l) = None
 
+-- how many tokens a token has inside: a head as many as it counts, a leaf none
+abbrev pub inside_of : TokenTree → ℕ
+inside_of (token.Leaf l) = 0
+inside_of (token.Subtree s) = s.len
+
 -- the head of the group that begins at an index, if one does
 abbrev pub head_at : List TokenTree → ℕ → Option Subtree
 head_at tokens at = option_and_then as_head (slice_get tokens at)

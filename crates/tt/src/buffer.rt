@@ -4,14 +4,16 @@
 //! Its contracts see it as a position among trees: those before it, those after it, and the
 //! groups around it.
 ghost use Rattle.arrayvec.specs.ArrayVec.{array_vec_len};
-ghost use Rattle.tt.specs.CursorTokens.{BeginsListOf, IsKept, Reaches};
+ghost use Rattle.tt.specs.CursorTokens.{BeginsListOf, IsKept};
+ghost use Rattle.tt.specs.Marks.{IsMarkIn};
 ghost use Rattle.tt.specs.Places.{two_leaves};
-ghost use Rattle.tt.specs.Records.{items, as_head};
+ghost use Rattle.tt.specs.Records.{items};
 ghost use Rattle.tt.specs.Views.{forest};
 ghost use Rattle.tt_data.specs.declared.tree.TokenTree.{TokenTree};
-ghost use Rattle.std.specs.Prelude.{◌≡◌, ◌≢◌, ⊤, All, IsTrue, ◌↔◌, ◌+◌, ◌<◌, ◌≤◌, ℕ, List, length, [], Some, IsNone};
+ghost use Rattle.std.specs.Prelude.{◌≡◌, ◌≢◌, ⊤, All, IsTrue, ◌↔◌, ◌-◌, ◌<◌, List, [], Some, IsNone};
 
 use crate::storage::Tokens;
+use crate::storage::mark::Mark;
 use crate::view::TokenTreesView;
 use arrayvec::ArrayVec;
 use std::alloc::AllocError;
@@ -28,20 +30,20 @@ use tt_data::{Leaf, Subtree, TokenTree};
 #[derive(Debug, Drop)]
 pub struct Cursor<'a> {
     tokens: Tokens<'a>,
-    // The index at which the innermost list begins: 0 in no group, else just after the group's
-    // head.
-    start: usize,
-    at: usize,
+    // The mark at which the innermost list begins: the first in no group, else that just after the
+    // group's head.
+    start: Mark,
+    at: Mark,
     // Lists around that one, the nearest last.
     kept: ArrayVec<ListAround, KEPT>,
 }
 
-// A list around: the index at which it begins, and that of the head of the group in it that is
-// around too, or that is the innermost one.
+// A list around: the mark at which it begins, and that just after the head of the group in it that
+// is around too, or that is the innermost one.
 #[derive(Clone, Copy, Debug, Default)]
 struct ListAround {
-    start: usize,
-    head: usize,
+    start: Mark,
+    inside: Mark,
 }
 
 // How many lists around its own a cursor remembers at most.
@@ -50,16 +52,18 @@ const KEPT: usize = 16;
 impl<'a> Model for Cursor<'a> {
     ghost use Rattle.std.specs.Prelude.{All};
     ghost use Rattle.tt.specs.Places.{Place, place_code};
-    ghost use Rattle.tt.specs.CursorTokens.{place_of, IsKept, IsPlaced};
+    ghost use Rattle.tt.specs.CursorTokens.{place_of, IsKept, IsPlaced, CursorMarks};
     ghost use Rattle.tt.specs.Records.{items};
 
     ghost Value = { Place };
 
     ghost coded = { place_code };
 
-    ghost view = { λ c. place_of (items c.tokens) c.start c.at };
+    ghost view = { λ c. place_of (items c.tokens) c.start.count c.at.count };
 
-    ghost invariant = { λ c. IsPlaced (items c.tokens) c.start c.at × All (IsKept (items c.tokens)) c.kept.items };
+    ghost invariant = { λ c. IsPlaced (items c.tokens) c.start.count c.at.count
+        × All (IsKept (items c.tokens)) c.kept.items
+        × CursorMarks (items c.tokens) c.start c.at };
 }
 
 impl<'a> Clone for Cursor<'a> {
@@ -89,14 +93,16 @@ fn copied(kept: &ArrayVec<ListAround, KEPT>) -> ArrayVec<ListAround, KEPT>
 }
 
 impl ListAround {
-    // Whether the way from its group's head to `at` is a quarter as long as the list, or longer.
-    fn is_far(self, at: usize) -> bool {
-        self.head.saturating_sub(self.start) / 4 <= at.saturating_sub(self.head)
+    // Whether the way from its group's inside to `at` is a quarter as long as the list up to there,
+    // or longer.
+    fn is_far(self, at: Mark) -> bool {
+        let inside = self.inside.count();
+        inside.saturating_sub(self.start.count()) / 4 <= at.count().saturating_sub(inside)
     }
 }
 
-// Which list is forgotten before the group at `at` is gone into: the first that is far from it.
-fn forgotten(kept: &ArrayVec<ListAround, KEPT>, at: usize) -> usize
+// Which list is forgotten before the group with its inside at `at`: the first that is far from it.
+fn forgotten(kept: &ArrayVec<ListAround, KEPT>, at: Mark) -> usize
     requires { 0 < array_vec_len kept.now }
     ensures { result < array_vec_len kept.now }
 {
@@ -115,59 +121,27 @@ fn keep(kept: &mut ArrayVec<ListAround, KEPT>, list: ListAround)
     ensures { (tokens : List TokenTree) → All (IsKept tokens) kept.old.items → IsKept tokens list → All (IsKept tokens) kept.new.items }
 {
     if kept.is_full() {
-        let index = forgotten(kept, list.head);
+        let index = forgotten(kept, list.inside);
         let _ = kept.remove(index);
     }
     kept.push(list);
 }
 
-// Whether a group whose inside begins at `start` has the token at `head` inside.
-fn reaches(group: Subtree, start: usize, head: usize) -> bool
-    requires { start ≤ head }
-    ensures { IsTrue result ↔ (head < start + group.len) }
-{
-    head - start < group.usize_len()
-}
-
-// Whether `group`, the head just before `start` if there is one, has the token at `head` inside.
-fn has_inside(group: Option<Subtree>, start: usize, head: usize) -> bool
-    requires { start ≤ head }
-    ensures { (t : TokenTree) → as_head t ≡ group → (IsTrue result ↔ Reaches t start head) }
-{
-    match group {
-        None => false,
-        Some(group) => reaches(group, start, head),
-    }
-}
-
-// The index at which the list begins that has the group with its head at `head`.
-fn list_around(tokens: Tokens<'_>, head: usize) -> usize
-    requires { head ≤ length (items tokens) }
-    ensures { BeginsListOf (items tokens.entry) head result }
-{
-    let mut start = head;
-    while start > 0 {
-        if has_inside(tokens.head_at(start - 1), start, head) {
-            return start;
-        }
-        start -= 1;
-    }
-    0
-}
-
-// The answer of `list_around`: that of the last list around, which is no more kept, or else found
-// anew.
-fn next_out(kept: &mut ArrayVec<ListAround, KEPT>, tokens: Tokens<'_>, head: usize) -> usize
-    requires within { head ≤ length (items tokens) }
+// The answer of `Tokens::list_around`: that of the last list around, which is no more kept, or else
+// found anew.
+fn next_out(kept: &mut ArrayVec<ListAround, KEPT>, tokens: Tokens<'_>, inside: Mark) -> Mark
+    requires inside { IsMarkIn inside (items tokens) }
+    requires some { 0 < inside.count }
     requires kept { All (IsKept (items tokens)) kept.old.items }
-    ensures begins { BeginsListOf (items tokens.entry) head result }
+    ensures begins { BeginsListOf (items tokens.entry) (inside.count - 1) result.count }
+    ensures marked { IsMarkIn result (items tokens.entry) }
     ensures kept { All (IsKept (items tokens.entry)) kept.new.items }
 {
     let Some(list) = kept.as_slice().last() else {
-        return list_around(tokens, head);
+        return tokens.list_around(inside);
     };
-    if list.head != head {
-        return list_around(tokens, head);
+    if list.inside.count() != inside.count() {
+        return tokens.list_around(inside);
     }
     let start = list.start;
     let _ = kept.pop();
@@ -193,8 +167,8 @@ impl<'a> Cursor<'a> {
     {
         Cursor {
             tokens: origin.tokens,
-            start: 0,
-            at: 0,
+            start: Mark::start(),
+            at: Mark::start(),
             kept: ArrayVec::new(),
         }
     }
@@ -203,11 +177,12 @@ impl<'a> Cursor<'a> {
     pub(crate) fn after(&self) -> TokenTreesView<'a>
         ensures { forest result ≡ self.now.after }
     {
-        let (_, ahead) = self.tokens.split_at(self.at);
+        let ahead = self.tokens.after(self.at);
         let Some(group) = self.head() else {
             return TokenTreesView { tokens: ahead };
         };
-        let (list, _) = ahead.split_at(group.usize_len() - (self.at - self.start));
+        let count = group.usize_len() - (self.at.count() - self.start.count());
+        let list = ahead.front(count);
         TokenTreesView { tokens: list }
     }
 
@@ -215,7 +190,7 @@ impl<'a> Cursor<'a> {
     fn head(&self) -> Option<Subtree>
         ensures { result ≡ innermost_head self.now }
     {
-        self.tokens.head_at(self.start.checked_sub(1)?)
+        self.tokens.head_before(self.start)
     }
 
     /// Whether it is in no group, after the last tree.
@@ -229,7 +204,7 @@ impl<'a> Cursor<'a> {
     pub fn is_root(&self) -> bool
         ensures { IsTrue result ↔ (self.now.around ≡ []) }
     {
-        self.start == 0
+        self.start.count() == 0
     }
 
     /// The token at the position: a leaf, or the head of a group. `None` at the end of a list.
@@ -250,7 +225,7 @@ impl<'a> Cursor<'a> {
         let Some(group) = self.head() else {
             unreachable!()
         };
-        self.start = next_out(&mut self.kept, self.tokens, self.start - 1);
+        self.start = next_out(&mut self.kept, self.tokens, self.start);
         group
     }
 
@@ -259,15 +234,15 @@ impl<'a> Cursor<'a> {
         requires { self.old.after ≢ empty }
         ensures { self.new ≡ bumped self.old }
     {
-        match self.after().tokens.head_at(0) {
-            None => self.at += 1,
+        match self.after().tokens.first_head() {
+            None => self.at = self.tokens.past_token(self.at),
             Some(_head) => {
+                self.at = self.tokens.past_token(self.at);
                 let list = ListAround {
                     start: self.start,
-                    head: self.at,
+                    inside: self.at,
                 };
                 keep(&mut self.kept, list);
-                self.at += 1;
                 self.start = self.at;
             }
         }
@@ -298,7 +273,7 @@ impl<'a> Cursor<'a> {
         requires { self.now.around ≡ [] }
         ensures { forest result ≡ self.now.before }
     {
-        let (before, _) = self.tokens.split_at(self.at);
+        let before = self.tokens.front(self.at.count());
         TokenTreesView { tokens: before }
     }
 }

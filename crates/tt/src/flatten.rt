@@ -1,37 +1,69 @@
 //! Checks flat lists of tokens: whether one holds a list of trees, and where its trees end.
 ghost use Rattle.std.specs.Prelude.{◌≡◌, ◌↔◌, ◌≤◌, ◌^◌, length, IsTrue};
-ghost use Rattle.tt_data.specs.Forest.{size, front, IsPreorder};
-ghost use Rattle.tt.specs.Records.{items};
+ghost use Rattle.tt_data.specs.Forest.{size, front, forest_of, IsPreorder};
+ghost use Rattle.tt.specs.Records.{inside_of};
 ghost use Rattle.tt.specs.Tops.{IsOneGroup};
 
 use crate::iter::{TtElement, TtIter};
-use crate::storage::Tokens;
+use tt_data::TokenTree;
+
+// How many tokens a token has inside: a head as many as it counts, a leaf none.
+fn inside_of(token: &TokenTree) -> usize
+    ensures { result ≡ inside_of token.now }
+{
+    match token {
+        TokenTree::Leaf(_) => 0,
+        TokenTree::Subtree(head) => head.usize_len(),
+    }
+}
+
+// The answer of `is_tree_end` for the trees of a flat list.
+fn is_end_in(tts: &[TokenTree], count: usize) -> bool
+    requires { IsPreorder tts.now }
+    ensures { IsTrue result ↔ (size (front count (forest_of tts.now)) ≡ count) }
+{
+    let mut rest = tts;
+    let mut left = count;
+    while left > 0 {
+        let Some((first, more)) = rest.split_first() else {
+            return false;
+        };
+        let inside = inside_of(first);
+        if left <= inside {
+            return false;
+        }
+        left -= inside + 1;
+        rest = more.split_at(inside).1;
+    }
+    true
+}
 
 // Whether a flat list holds trees: each group counts the tokens of whole trees after it.
-pub(crate) fn is_flat(tokens: Tokens<'_>) -> bool
-    ensures { IsTrue result ↔ IsPreorder (items tokens.entry) }
+pub(crate) fn is_flat(tts: &[TokenTree]) -> bool
+    ensures { IsTrue result ↔ IsPreorder tts.now }
 {
-    let mut at = tokens.len();
+    let mut at = tts.len();
     while at > 0 {
         at -= 1;
-        if let Some(head) = tokens.head_at(at) {
-            let (_, behind) = tokens.split_at(at + 1);
-            if !is_tree_end(TtIter { tokens: behind }, head.usize_len()) {
-                return false;
-            }
+        let (_, behind) = tts.split_at(at + 1);
+        if !is_end_in(behind, inside_of(&tts[at])) {
+            return false;
         }
     }
     true
 }
 
 // Whether a flat list holds one group.
-pub(crate) fn is_one_group(tokens: Tokens<'_>) -> bool
-    ensures one { IsTrue result ↔ IsOneGroup (items tokens.entry) }
-    ensures room { IsTrue result → length (items tokens.entry) ≤ 2 ^ 32 }
+pub(crate) fn is_one_group(tts: &[TokenTree]) -> bool
+    ensures one { IsTrue result ↔ IsOneGroup tts.now }
+    ensures room { IsTrue result → length tts.now ≤ 2 ^ 32 }
 {
-    match tokens.split_head() {
-        Some((head, inside)) => head.usize_len() == inside.len() && is_flat(inside),
-        None => false,
+    match tts.split_first() {
+        Some((TokenTree::Subtree(head), inside)) => {
+            let counted = head.len as usize;
+            counted == inside.len() && is_flat(inside)
+        }
+        _ => false,
     }
 }
 
@@ -52,18 +84,4 @@ pub(crate) fn is_tree_end(mut trees: TtIter<'_>, count: usize) -> bool
         left -= passed;
     }
     true
-}
-
-// The answer of `is_tree_end`, where a tree is known to end after `known` tokens if there are as
-// many.
-pub(crate) fn is_later_end(trees: TtIter<'_>, known: usize, count: usize) -> bool
-    requires { known ≤ size trees → size (front known trees) ≡ known }
-    ensures { IsTrue result ↔ (size (front count trees.entry) ≡ count) }
-{
-    if known > count || known > trees.tokens.len() {
-        return is_tree_end(trees, count);
-    }
-    let (_, behind) = trees.tokens.split_at(known);
-    let later = TtIter { tokens: behind };
-    is_tree_end(later, count - known)
 }

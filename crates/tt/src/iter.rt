@@ -106,7 +106,7 @@ impl<'a> Iterator for TtIter<'a> {
                 Some(TtElement::Leaf(leaf))
             }
             TokenTree::Subtree(subtree) => {
-                let (inner, rest) = more.split_at(subtree.len as usize);
+                let (inner, rest) = more.split_at(subtree.usize_len());
                 self.tokens = rest;
                 Some(TtElement::Subtree(subtree, TtIter { tokens: inner }))
             }
@@ -137,7 +137,7 @@ impl<'a> TtIter<'a> {
         match first {
             TokenTree::Leaf(leaf) => Some(TtElement::Leaf(leaf)),
             TokenTree::Subtree(subtree) => {
-                let (inner, _) = more.split_at(subtree.len as usize);
+                let inner = more.front(subtree.usize_len());
                 Some(TtElement::Subtree(subtree, TtIter { tokens: inner }))
             }
         }
@@ -189,7 +189,7 @@ impl<'a> TtIter<'a> {
         ensures { forest then.entry ≡ joined (forest result) self.now }
     {
         let count = then.tokens.len() - self.tokens.len();
-        let (passed, _) = then.tokens.split_at(count);
+        let passed = then.tokens.front(count);
         TokenTreesView { tokens: passed }
     }
 }

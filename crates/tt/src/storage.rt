@@ -1,15 +1,21 @@
 //! How flat lists of tokens are stored.
 //!
 //! Only this module depends on how a token is stored. What borrows tokens reads them by value
-//! through `Tokens`, and what owns them adds and removes them through `TokenBuffer`.
-ghost use Rattle.std.specs.Prelude.{◌≡◌, ◌↔◌, ◌<◌, ◌≤◌, ◌^◌, ◌+◌, ◌-◌, ◌∷◌, ◌++◌, [], IsTrue, MatchOption, OnErr, OnOk, length, take, drop, option_map, set, slice_get, slice_index_or};
-ghost use Rattle.tt.specs.Records.{items, alone_token};
+//! through `Tokens`, and what owns them adds and removes them through `TokenBuffer`. A place among
+//! them is a `Mark`, which only this module looks into.
+ghost use Rattle.std.specs.Prelude.{◌≡◌, ◌↔◌, ◌<◌, ◌≤◌, ◌^◌, ◌+◌, ◌-◌, ◌∷◌, ◌++◌, [], true, None, IsSome, IsTrue, MatchOption, OnErr, OnOk, length, take, drop, option_map, set, slice_get, slice_index_or};
+ghost use Rattle.tt.specs.Marks.{mark_of, IsMarkIn, IsHeadIn};
+ghost use Rattle.tt.specs.Records.{items, alone_token, head_at};
 ghost use Rattle.tt.specs.Tops.{has_leaf_at};
 ghost use Rattle.tt_data.specs.declared.tree.TokenTree.{TokenTree};
+ghost use Rattle.tt_data.specs.declared.tree.TokenTree.TheVariants as token;
 ghost use Rattle.tt_data.specs.Spans.{first_span_of};
 
+mod around;
+pub(crate) mod mark;
 pub(crate) mod renaming;
 
+use crate::storage::mark::Mark;
 use crate::storage::renaming::Renaming;
 use std::alloc::{AllocError, Global};
 use std::hash::{Hash, Hasher};
@@ -24,7 +30,7 @@ pub(crate) struct Tokens<'a> {
 
 #[tactic(auto, unfolding(crate::specs::Records::items))]
 impl<'a> Tokens<'a> {
-    ghost use Rattle.tt.specs.Records.{head_at, head_in, leaf_in, punct_in, ident_in, literal_in};
+    ghost use Rattle.tt.specs.Records.{head_in, leaf_in, punct_in, ident_in, literal_in};
     ghost use Rattle.tt_data.specs.Lent.{ident_lent, leaf_lent};
 
     /// No tokens.
@@ -32,13 +38,6 @@ impl<'a> Tokens<'a> {
         ensures { items result ≡ [] }
     {
         Tokens { records: &[] }
-    }
-
-    /// The tokens of a slice.
-    pub(crate) fn from_slice(tts: &'a [TokenTree]) -> Tokens<'a>
-        ensures { items result ≡ tts.now }
-    {
-        Tokens { records: tts }
     }
 
     /// The number of tokens, which is less than 2^63.
@@ -74,8 +73,58 @@ impl<'a> Tokens<'a> {
         (Tokens { records: front }, Tokens { records: back })
     }
 
-    /// The head of the group that begins at this index, if one does.
-    pub(crate) fn head_at(self, at: usize) -> Option<Subtree>
+    /// The first `count` tokens.
+    #[inline]
+    pub(crate) fn front(self, count: usize) -> Tokens<'a>
+        requires { count ≤ length (items self) }
+        ensures { items result ≡ take count (items self.entry) }
+    {
+        self.split_at(count).0
+    }
+
+    /// The tokens after a mark.
+    pub(crate) fn after(self, mark: Mark) -> Tokens<'a>
+        requires { IsMarkIn mark (items self) }
+        ensures { items result ≡ drop mark.count (items self.entry) }
+    {
+        self.split_at(mark.count).1
+    }
+
+    /// The mark after the token right after a mark.
+    #[inline]
+    pub(crate) fn past_token(self, at: Mark) -> Mark
+        requires marked { IsMarkIn at (items self) }
+        requires some { at.count < length (items self) }
+        ensures marked { IsMarkIn result (items self.entry) }
+        ensures count { result.count ≡ at.count + 1 }
+    {
+        // The proof that the count fits needs this.
+        let _len = self.records.len();
+        Mark {
+            count: at.count + 1,
+        }
+    }
+
+    /// The head of the group right before a mark, unless the mark is at the beginning.
+    pub(crate) fn head_before(self, mark: Mark) -> Option<Subtree>
+        requires marked { IsMarkIn mark (items self) }
+        requires head { 0 < mark.count → IsSome (head_at (items self) (mark.count - 1)) }
+        ensures none { mark.count ≡ 0 → result ≡ None }
+        ensures some { 0 < mark.count → result ≡ head_at (items self.entry) (mark.count - 1) }
+    {
+        self.head_at(mark.count.checked_sub(1)?)
+    }
+
+    /// The head of the group that begins with the first token, if one does.
+    #[inline]
+    pub(crate) fn first_head(self) -> Option<Subtree>
+        ensures { result ≡ head_at (items self.entry) 0 }
+    {
+        self.head_at(0)
+    }
+
+    // The head of the group that begins at this index, if one does.
+    fn head_at(self, at: usize) -> Option<Subtree>
         ensures { result ≡ head_at (items self.entry) at }
     {
         match self.records.get(at)? {
@@ -293,20 +342,93 @@ impl TokenBuffer {
         self.records.extend_with_clones(tokens.records)
     }
 
-    /// Replaces the token at this index.
-    pub(crate) fn set(&mut self, at: usize, token: TokenTree)
-        requires { at < length self.old }
-        ensures { self.new ≡ set self.old at token }
+    /// The mark of the present end.
+    #[inline]
+    pub(crate) fn end(&self) -> Mark
+        ensures { result ≡ mark_of self.now }
     {
-        self.records[at] = token;
+        Mark {
+            count: self.records.len(),
+        }
     }
 
-    /// Makes the token at this index `Alone`, if it is a punct.
-    pub(crate) fn set_alone(&mut self, at: usize)
-        requires { at < length self.old }
-        ensures { (t : TokenTree) × (t ≡ slice_index_or self.old at t) × (self.new ≡ set self.old at (alone_token t)) }
+    /// The mark after the first `count` tokens, found from an earlier one.
+    pub(crate) fn mark_after(&self, _from: Mark, count: usize) -> Mark
+        requires from { IsMarkIn _from self.now }
+        requires later { _from.count ≤ count }
+        requires within { count ≤ length self.now }
+        ensures marked { IsMarkIn result self.now }
+        ensures count { result.count ≡ count }
     {
-        set_alone(&mut self.records[at]);
+        Mark { count }
+    }
+
+    /// The mark right after the head of a group, which is right after a mark.
+    pub(crate) fn past_head(&self, at: Mark) -> Mark
+        requires { IsHeadIn at self.now }
+        ensures marked { IsMarkIn result self.now }
+        ensures count { result.count ≡ at.count + 1 }
+    {
+        // The proof that the count fits needs this.
+        let _len = self.records.len();
+        Mark {
+            count: at.count + 1,
+        }
+    }
+
+    /// The head of the group that begins right after a mark, if one does.
+    pub(crate) fn head_at(&self, at: Mark) -> Option<Subtree>
+        requires { IsMarkIn at self.now }
+        ensures { result ≡ head_at self.now at.count }
+    {
+        match self.records.get(at.count)? {
+            TokenTree::Subtree(head) => Some(*head),
+            TokenTree::Leaf(_) => None,
+        }
+    }
+
+    /// Keeps the tokens before a mark.
+    pub(crate) fn cut_back(&mut self, mark: Mark)
+        requires { IsMarkIn mark self.old }
+        ensures { self.new ≡ take mark.count self.old }
+    {
+        self.records.truncate(mark.count);
+    }
+
+    /// Replaces the head of a group, which is right after a mark.
+    pub(crate) fn set_head(&mut self, at: Mark, head: Subtree)
+        requires { IsHeadIn at self.old }
+        ensures { self.new ≡ set self.old at.count (token.Subtree head) }
+    {
+        self.records[at.count] = TokenTree::Subtree(head);
+    }
+
+    /// Removes the head of a group, which is right after a mark.
+    pub(crate) fn remove_head(&mut self, at: Mark)
+        requires { IsHeadIn at self.old }
+        ensures { self.new ≡ take at.count self.old ++ drop (at.count + 1) self.old }
+    {
+        let _ = self.records.remove(at.count);
+    }
+
+    /// Replaces the leaf at this index.
+    pub(crate) fn set_leaf(&mut self, at: usize, leaf: Leaf) -> Result<(), AllocError>
+        requires { has_leaf_at at self.old ≡ true }
+        ensures ok { OnOk result (self.new ≡ set self.old at (token.Leaf leaf)) }
+        ensures err { OnErr result (self.new ≡ self.old) }
+    {
+        self.records[at] = TokenTree::Leaf(leaf);
+        Ok(())
+    }
+
+    /// Makes the last token `Alone`, if it is a punct.
+    pub(crate) fn set_last_alone(&mut self)
+        requires { 0 < length self.old }
+        ensures { (t : TokenTree) × (t ≡ slice_index_or self.old (length self.old - 1) t)
+            × (self.new ≡ set self.old (length self.old - 1) (alone_token t)) }
+    {
+        let last = self.records.len() - 1;
+        set_alone(&mut self.records[last]);
     }
 
     /// Replaces the anchors of each token.
@@ -317,14 +439,6 @@ impl TokenBuffer {
         for token in self.records.iter_mut() {
             renaming.relabel(token);
         }
-    }
-
-    /// Removes the token at this index.
-    pub(crate) fn remove(&mut self, at: usize)
-        requires { at < length self.old }
-        ensures { self.new ≡ take at self.old ++ drop (at + 1) self.old }
-    {
-        let _ = self.records.remove(at);
     }
 
     /// Whether both runs have equal tokens, one by one.
@@ -339,13 +453,6 @@ impl TokenBuffer {
         ensures { state.new ≡ fold H.write state.old (fed.slice ⟦<TokenTree as Hash>⟧.hash_input self.now) }
     {
         self.records.hash(state);
-    }
-
-    /// Keeps the first `count` tokens.
-    pub(crate) fn truncate(&mut self, count: usize)
-        ensures { self.new ≡ take count self.old }
-    {
-        self.records.truncate(count);
     }
 }
 

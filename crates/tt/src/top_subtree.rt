@@ -8,7 +8,8 @@ pub(crate) mod transform;
 
 use crate::flatten::is_one_group;
 use crate::iter::TtIter;
-use crate::storage::{TokenBuffer, Tokens};
+use crate::storage::TokenBuffer;
+use crate::storage::mark::Mark;
 use crate::view::{SubtreeView, TokenTreesView};
 use std::alloc::Global;
 use std::hash::{Hash, Hasher};
@@ -109,7 +110,7 @@ impl TopSubtree {
         ensures err { IfErr result (λ e. (e.0 ≡ tts) × ((e.1 ≡ fault.Memory) ⊎ (e.1 ≡ fault.Malformed))) }
         ensures malformed { IfErr result (λ e. e.1 ≡ fault.Malformed → (t : Top) → tokens_of t ≡ tts.items → ⊥) }
     {
-        if !is_one_group(Tokens::from_slice(tts.as_slice())) {
+        if !is_one_group(tts.as_slice()) {
             return Err((tts, TtFault::Malformed));
         }
         Ok(TopSubtree {
@@ -167,7 +168,7 @@ impl TopSubtree {
     {
         let mut head = self.top_subtree();
         head.delimiter.kind = kind;
-        self.tokens.set(0, TokenTree::Subtree(head));
+        self.tokens.set_head(Mark::start(), head);
     }
 
     /// Gives the group's delimiters other spans. It takes no memory.
@@ -177,7 +178,7 @@ impl TopSubtree {
         let mut head = self.top_subtree();
         head.delimiter.open_span = span.open_span;
         head.delimiter.close_span = span.close_span;
-        self.tokens.set(0, TokenTree::Subtree(head));
+        self.tokens.set_head(Mark::start(), head);
     }
 
     /// Replaces the leaf at index `idx` of the flat list, in which the group's own head is 0.
@@ -193,7 +194,7 @@ impl TopSubtree {
         if !self.tokens.tokens().is_leaf_at(idx) {
             return Err(TtFault::Place);
         }
-        self.tokens.set(idx, TokenTree::Leaf(leaf));
+        self.tokens.set_leaf(idx, leaf)?;
         Ok(())
     }
 
@@ -224,7 +225,7 @@ impl TopSubtree {
     pub fn top_subtree(&self) -> Subtree
         ensures { result ≡ head_of self.now }
     {
-        let Some(head) = self.tokens.tokens().head_at(0) else {
+        let Some(head) = self.tokens.tokens().first_head() else {
             unreachable!()
         };
         head

@@ -64,7 +64,7 @@ impl<'a> TtIter<'a> {
         ensures { result ≡ first_subtree self.now }
     {
         let (head, more) = self.tokens.split_head()?;
-        let (inner, rest) = more.split_at(head.len as usize);
+        let (inner, rest) = more.split_at(head.usize_len());
         Some((head, TtIter { tokens: inner }, TtIter { tokens: rest }))
     }
 

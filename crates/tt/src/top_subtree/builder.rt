@@ -1,17 +1,20 @@
 //! Builders of trees.
-ghost use Rattle.std.specs.Prelude.{◌≡◌, ◌≢◌, ◌↔◌, ◌⊎◌, ◌+◌, ◌<◌, ◌^◌, ◌≤◌, ◌++◌, ◌∷◌, [], reverse, length, take, List, Err, Some, None, option_map, map, IfOk, IfErr, IsOk, IsOkUnless, IsSome, IsTrue, OnOk, OnErr};
+ghost use Rattle.std.specs.Prelude.{◌≡◌, ◌≢◌, ◌↔◌, ◌⊎◌, ◌+◌, ◌<◌, ◌^◌, ◌≤◌, ◌++◌, ◌∷◌, [], reverse, length, take, List, Err, Some, None, option_map, map, IfOk, IfErr, IsOk, IsOkUnless, IsSome, IfSome, IsTrue, MatchOption, OnOk, OnErr};
 ghost use Rattle.tt_data.specs.Forest.{size, front};
-ghost use Rattle.tt.specs.BuilderTokens.{start_of, begins_invisible, moved_back};
+ghost use Rattle.tt.specs.BuilderTokens.{here_of, groups_of, start_of, begins_invisible, moved_back, AreHeads, IsHeld, IsListAt, IsNoListAt, IsSettled};
+ghost use Rattle.tt.specs.Building.{cut_in};
+ghost use Rattle.tt.specs.Marks.{IsMarkIn};
 ghost use Rattle.tt_data.specs.fault.TtFault.TheVariants as fault;
 ghost use Rattle.tt_data.specs.declared.leaf.Leaf.{Leaf};
 ghost use Rattle.tt_data.specs.declared.tree.TokenTree.{TokenTree};
 ghost use Rattle.tt_data.specs.declared.tree.TokenTree.TheVariants as token;
-ghost use Rattle.tt.specs.Records.{as_head};
+ghost use Rattle.tt.specs.Records.{as_head, items};
 ghost use Rattle.std.specs.Iterator.{Drains, Yields, IsFinite};
 
-use crate::flatten::is_later_end;
+use crate::flatten::is_tree_end;
 use crate::iter::TtIter;
-use crate::storage::TokenBuffer;
+use crate::storage::mark::Mark;
+use crate::storage::{TokenBuffer, Tokens};
 use crate::top_subtree::TopSubtree;
 use crate::view::TokenTreesView;
 use std::alloc::Global;
@@ -41,21 +44,23 @@ impl Model for SubtreeBuilderRestorePoint {
     ghost inverse = { λ p. record { tokens = p.tokens; depth = p.depth } };
 }
 
-// A group that is open, and the index of its token.
+// A group that is open, and the mark before its head.
 #[derive(Clone, Copy)]
 struct Opening {
-    at: usize,
+    at: Mark,
     kind: DelimiterKind,
     open_span: Span,
 }
 
 impl Opening {
-    // The opening once the token at index `at` is removed.
-    fn moved_back(self, at: usize) -> Opening
-        ensures { result ≡ moved_back at self }
+    // The opening once the head at `removed` is taken out.
+    fn moved_back(self, removed: Mark) -> Opening
+        ensures { result ≡ moved_back removed.count self }
     {
-        let moved = if at < self.at { self.at - 1 } else { self.at };
-        Opening { at: moved, ..self }
+        Opening {
+            at: self.at.without_head(removed),
+            ..self
+        }
     }
 }
 
@@ -107,17 +112,17 @@ pub struct TopSubtreeBuilder {
     tokens: TokenBuffer,
     // The open groups, the innermost last.
     openings: Vec<Opening>,
-    // The index of the token of the group that was closed last.
-    last_closed: Option<usize>,
-    // An index that no closed group lies across: that of the last point restored, or of the group
+    // The mark before the group that was closed last.
+    last_closed: Option<Mark>,
+    // A mark that no closed group lies across: that of the last point restored, or of the group
     // around it that was closed since. So restoring at growing indices visits each tree once.
-    settled: usize,
+    settled: Mark,
 }
 
 impl Model for TopSubtreeBuilder {
     ghost use Rattle.std.specs.Prelude.{reverse, length, ◌≤◌, ◌^◌, IfSome};
     ghost use Rattle.tt.specs.Building.{Builder, builder_code};
-    ghost use Rattle.tt.specs.BuilderTokens.{here_of, groups_of, IsHeld, IsTreeAt, IsSettled};
+    ghost use Rattle.tt.specs.BuilderTokens.{here_of, groups_of, index_of, IsHeld, IsTreeAt, IsSettled, AreMarks};
 
     ghost Value = { Builder };
 
@@ -129,13 +134,14 @@ impl Model for TopSubtreeBuilder {
         groups = groups_of b.tokens (reverse b.openings.items);
         here = here_of b.tokens (reverse b.openings.items);
       };
-      last_closed = b.last_closed;
+      last_closed = index_of b.last_closed;
     } };
 
     ghost invariant = { λ b. IsHeld b.tokens (reverse b.openings.items) × (length b.tokens ≤ 2 ^ 32)
-        × IsTreeAt b.last_closed b.tokens (reverse b.openings.items)
-        × IsSettled b.settled (groups_of b.tokens (reverse b.openings.items)) (here_of b.tokens (reverse b.openings.items))
-        × IfSome b.last_closed (λ at. b.settled ≤ at) };
+        × IsTreeAt (index_of b.last_closed) b.tokens (reverse b.openings.items)
+        × IsSettled b.settled.count (groups_of b.tokens (reverse b.openings.items)) (here_of b.tokens (reverse b.openings.items))
+        × IfSome b.last_closed (λ at. b.settled.count ≤ at.count)
+        × AreMarks b.tokens (reverse b.openings.items) b.last_closed b.settled };
 }
 
 impl TopSubtreeBuilder {
@@ -143,7 +149,7 @@ impl TopSubtreeBuilder {
     ghost use Rattle.tt.specs.Views.{forest};
     ghost use Rattle.tt.specs.Building.{leaves as leaves_of};
     ghost use Rattle.tt.specs.Tops.{only_group};
-    ghost use Rattle.tt.specs.Building.{pushed, extended, last_alone, opened, closed, count_of, count_in, most_tokens, innermost_group, point_of, list_in, cut_back, unwrapped_at};
+    ghost use Rattle.tt.specs.Building.{pushed, extended, last_alone, opened, closed, count_of, count_in, most_tokens, innermost_group, point_of, cut_back, unwrapped_at};
 
     /// A builder of a tree with the delimiters `top`, with nothing inside.
     ///
@@ -158,12 +164,13 @@ impl TopSubtreeBuilder {
             len: 0,
         });
         tokens.push(first)?;
+        let settled = tokens.end();
         Ok(TopSubtreeBuilder {
             top,
             tokens,
             openings: Vec::new(alloc),
             last_closed: None,
-            settled: 1,
+            settled,
         })
     }
 
@@ -214,11 +221,11 @@ impl TopSubtreeBuilder {
         ensures tokens { result ≡ Err fault.Tokens → (all : I.IntoIter) × (ls : List Leaf) × (rest : I.IntoIter) × I.into_iter_gives leaves all × Yields I.IntoIter.next_gives all ls rest × (most_tokens < count_of self.old.tree + length ls) }
         ensures faults { IfErr result (λ e. (e ≡ fault.Memory) ⊎ (e ≡ fault.Tokens)) }
     {
-        let count = self.tokens.len();
+        let end = self.tokens.end();
         match put_leaves(&mut self.tokens, leaves) {
             Ok(()) => Ok(()),
             Err(fault) => {
-                self.tokens.truncate(count);
+                self.tokens.cut_back(end);
                 Err(fault)
             }
         }
@@ -248,8 +255,7 @@ impl TopSubtreeBuilder {
         requires { self.old.tree.here ≢ empty }
         ensures { self.new ≡ record self.old { tree = record self.old.tree { here = last_alone self.old.tree.here } } }
     {
-        let last = self.tokens.len() - 1;
-        self.tokens.set_alone(last);
+        self.tokens.set_last_alone();
     }
 
     /// Opens a group in the innermost open group. It is now the innermost one, with nothing
@@ -268,7 +274,7 @@ impl TopSubtreeBuilder {
             return Err(TtFault::Tokens);
         }
         let opening = Opening {
-            at: self.tokens.len(),
+            at: self.tokens.end(),
             kind: delimiter_kind,
             open_span,
         };
@@ -328,11 +334,10 @@ impl TopSubtreeBuilder {
             close_span,
             kind: opening.kind,
         };
-        let len = (self.tokens.len() - opening.at - 1) as u32;
-        let head = Subtree { delimiter, len };
-        self.tokens.set(opening.at, TokenTree::Subtree(head));
+        let len = (self.tokens.len() - opening.at.count() - 1) as u32;
+        self.tokens.set_head(opening.at, Subtree { delimiter, len });
         self.last_closed = Some(opening.at);
-        self.settled = self.settled.min(opening.at);
+        self.settled = self.settled.earlier(opening.at);
         Ok(())
     }
 
@@ -345,8 +350,8 @@ impl TopSubtreeBuilder {
         let Some(at) = self.last_closed.take() else {
             return;
         };
-        if is_invisible_head(self.tokens.tokens().head_at(at)) {
-            self.tokens.remove(at);
+        if is_invisible_head(self.tokens.head_at(at)) {
+            self.tokens.remove_head(at);
             move_back(&mut self.openings, at);
         }
     }
@@ -373,48 +378,15 @@ impl TopSubtreeBuilder {
         ensures stale { IsOkUnless result fault.Stale }
         ensures err { OnErr result (self.new ≡ self.old) }
     {
-        if !self.stands(restore_point) {
+        let openings = self.openings.as_slice();
+        let Some(mark) = point_mark(&self.tokens, openings, self.settled, restore_point) else {
             return Err(TtFault::Stale);
-        }
-        self.tokens.truncate(restore_point.tokens as usize + 1);
+        };
+        self.tokens.cut_back(mark);
         self.openings.truncate(restore_point.depth);
         self.last_closed = None;
-        self.settled = self.tokens.len();
+        self.settled = mark;
         Ok(())
-    }
-
-    // How many tokens come before the list in which exactly `depth` groups are open, and an
-    // iterator over that list. The top's token counts among them. `None` if fewer groups are
-    // open.
-    fn list_at(&self, depth: usize) -> Option<(usize, TtIter<'_>)>
-        ensures { result ≡ option_map (λ l. (1 + count_in l.0, l.1)) (list_in depth self.now.tree.groups self.now.tree.here) }
-    {
-        let mut tokens = self.tokens.tokens();
-        let mut openings = self.openings.as_slice();
-        while openings.len() > depth {
-            let last = openings.len() - 1;
-            tokens = tokens.split_at(openings[last].at).0;
-            openings = &openings[..last];
-        }
-        if openings.len() < depth {
-            return None;
-        }
-        let start = list_start(openings);
-        let (_, inside) = tokens.split_at(start);
-        Some((start, TtIter { tokens: inside }))
-    }
-
-    // Whether a restore point is valid.
-    fn stands(&self, point: SubtreeBuilderRestorePoint) -> bool
-        ensures { IsTrue result ↔ IsSome (cut_back point self.now.tree) }
-    {
-        let at = point.tokens as usize + 1;
-        match self.list_at(point.depth) {
-            Some((start, trees)) => {
-                start <= at && is_later_end(trees, self.settled.saturating_sub(start), at - start)
-            }
-            None => false,
-        }
     }
 
     /// The tree, with all that is inside the top.
@@ -441,7 +413,7 @@ impl TopSubtreeBuilder {
             delimiter: top,
             len,
         };
-        tokens.set(0, TokenTree::Subtree(head));
+        tokens.set_head(Mark::start(), head);
         Ok(TopSubtree { tokens })
     }
 
@@ -460,7 +432,8 @@ impl TopSubtreeBuilder {
         if open_groups > 0 {
             return Err((self, TtFault::Place));
         }
-        let (_, tokens) = self.tokens.tokens().split_at(1);
+        let start = self.tokens.past_head(Mark::start());
+        let tokens = self.tokens.tokens().after(start);
         let inside = TokenTreesView { tokens };
         if !inside.is_one_group() {
             return Err((self, TtFault::Malformed));
@@ -472,7 +445,7 @@ impl TopSubtreeBuilder {
             last_closed: _,
             settled: _,
         } = self;
-        tokens.remove(0);
+        tokens.remove_head(Mark::start());
         Ok(TopSubtree { tokens })
     }
 }
@@ -521,22 +494,79 @@ fn is_invisible_head(head: Option<Subtree>) -> bool
     }
 }
 
-// Moves the openings after index `at` one token back.
-fn move_back(openings: &mut Vec<Opening>, at: usize)
-    ensures { openings.new.items ≡ map (moved_back at) openings.old.items }
+// Moves the openings back once the head at `removed` is taken out.
+fn move_back(openings: &mut Vec<Opening>, removed: Mark)
+    ensures { openings.new.items ≡ map (moved_back removed.count) openings.old.items }
 {
     for opening in openings.iter_mut() {
-        *opening = opening.moved_back(at);
+        *opening = opening.moved_back(removed);
     }
 }
 
-// How many tokens come before the trees of the innermost list.
-fn list_start(openings: &[Opening]) -> usize
-    requires { start_of (reverse openings.now) < 2 ^ 64 }
-    ensures { result ≡ start_of (reverse openings.now) }
+// The mark before the trees of the innermost list.
+fn list_start(tokens: &TokenBuffer, openings: &[Opening]) -> Mark
+    requires { AreHeads tokens.now (reverse openings.now) }
+    ensures marked { IsMarkIn result tokens.now }
+    ensures count { result.count ≡ start_of (reverse openings.now) }
 {
     match openings.last() {
-        Some(opening) => opening.at + 1,
-        None => 1,
+        Some(opening) => tokens.past_head(opening.at),
+        None => tokens.past_head(Mark::start()),
     }
+}
+
+// The list in which exactly `depth` groups are open: the mark before its trees, and all tokens up
+// to its end. `None` if fewer groups are open.
+fn list_at<'a>(
+    tokens: &'a TokenBuffer,
+    openings: &[Opening],
+    depth: usize,
+) -> Option<(Mark, Tokens<'a>)>
+    requires held { IsHeld tokens.now (reverse openings.now) }
+    requires heads { AreHeads tokens.now (reverse openings.now) }
+    requires room { length tokens.now ≤ 2 ^ 32 }
+    ensures { MatchOption result (IsNoListAt tokens.now (reverse openings.now) depth)
+        (λ l. IsListAt tokens.now (reverse openings.now) depth l.0 (items l.1)) }
+{
+    let mut upto = tokens.tokens();
+    let mut around = openings;
+    while around.len() > depth {
+        let last = around.len() - 1;
+        upto = upto.front(around[last].at.count());
+        around = &around[..last];
+    }
+    if around.len() < depth {
+        return None;
+    }
+    Some((list_start(tokens, around), upto))
+}
+
+// The mark of a restore point, if the point is valid. No closed group lies across `settled`.
+fn point_mark(
+    tokens: &TokenBuffer,
+    openings: &[Opening],
+    settled: Mark,
+    point: SubtreeBuilderRestorePoint,
+) -> Option<Mark>
+    requires held { IsHeld tokens.now (reverse openings.now) }
+    requires heads { AreHeads tokens.now (reverse openings.now) }
+    requires room { length tokens.now ≤ 2 ^ 32 }
+    requires known { IsMarkIn settled tokens.now }
+    requires settled { IsSettled settled.count (groups_of tokens.now (reverse openings.now)) (here_of tokens.now (reverse openings.now)) }
+    ensures valid { IsSome result ↔ IsSome (cut_in point (groups_of tokens.now (reverse openings.now)) (here_of tokens.now (reverse openings.now))) }
+    ensures mark { IfSome result (λ m. IsMarkIn m tokens.now × (m.count ≡ point.tokens + 1)) }
+{
+    let count = point.tokens as usize + 1;
+    let (start, upto) = list_at(tokens, openings, point.depth)?;
+    let from = start.or_later(settled, count.min(upto.len()));
+    if count < from.count() {
+        return None;
+    }
+    let trees = TtIter {
+        tokens: upto.after(from),
+    };
+    if !is_tree_end(trees, count - from.count()) {
+        return None;
+    }
+    Some(tokens.mark_after(from, count))
 }

@@ -1,20 +1,21 @@
 //! Rewrites trees token by token.
-ghost use Rattle.std.specs.Prelude.{◌≡◌, ◌<◌, ◌⊎◌, List, [], length, true, false, Err, Some, None, is_none, IfOk, IfErr, OnOk, OnErr};
+ghost use Rattle.std.specs.Prelude.{◌≡◌, ◌+◌, ◌*◌, ◌-◌, ◌<◌, ◌≤◌, ◌⊎◌, ◌∷◌, ◌++◌, List, [], length, take, drop, reverse, MatchOption, true, false, Err, Some, None, is_none, IfOk, IfErr, OnOk, OnErr};
 ghost use Rattle.std.specs.List.{FoldsTo};
-ghost use Rattle.tt_data.specs.Forest.{Forest, empty, size};
+ghost use Rattle.tt_data.specs.Forest.{Forest, empty, forest_of, size};
 ghost use Rattle.tt_data.specs.fault.TtFault.TheVariants as fault;
 ghost use Rattle.tt_data.specs.declared.tree.TokenTree.TheVariants as token;
 ghost use Rattle.tt.specs.Building.{count_of, most_tokens};
 ghost use Rattle.tt.specs.Rewriting.{Call, IsAnswered, IsRewritten, IsStarted, LeavesOneGroup, replacement, with_answer};
 ghost use Rattle.tt.specs.Tops.{Top, forest_of_top, only_group};
-ghost use Rattle.tt.specs.Walking.{LeavesGroup, entered, gone_inside, standing};
+ghost use Rattle.tt.specs.Records.{items};
+ghost use Rattle.tt.specs.Views.{forest};
+ghost use Rattle.tt.specs.Walking.{IsNested, LeavesGroup, after_in, behind, entered, standing, work_of};
 
-use crate::iter::{TtElement, TtIter};
+use crate::storage::Tokens;
 use crate::top_subtree::TopSubtree;
 use crate::top_subtree::builder::TopSubtreeBuilder;
 use crate::view::TokenTreesView;
 use std::alloc::{AllocError, Global};
-use std::mem::replace;
 use tt_data::{Delimiter, Leaf, Span, Subtree, TokenTree, TtFault};
 
 /// What becomes of a token that a walk has reached.
@@ -82,7 +83,7 @@ fn transformed<'b, F: FnMut(&TokenTree) -> TransformTtAction<'b>>(
 {
     let head = tt.top_subtree();
     match callback(&TokenTree::Subtree(head)) {
-        TransformTtAction::Keep => rewritten(alloc, head.delimiter, tt.iter(), callback),
+        TransformTtAction::Keep => rewritten(alloc, head.delimiter, tt.token_trees(), callback),
         TransformTtAction::ReplaceWith(trees) => match trees.try_into_subtree() {
             Some(group) => TopSubtree::from_subtree(alloc, group),
             None => Err(TtFault::Malformed),
@@ -90,11 +91,11 @@ fn transformed<'b, F: FnMut(&TokenTree) -> TransformTtAction<'b>>(
     }
 }
 
-// A group that stays: the span of its closing, and an iterator over the trees after it.
-#[derive(Drop)]
-struct Around<'a> {
+// A group that stays: the span of its closing, and how many tokens come after it.
+#[derive(Clone, Copy)]
+struct Kept {
     close_span: Span,
-    rest: TtIter<'a>,
+    after: usize,
 }
 
 // Asks about a leaf, and appends it to the tree, or what replaces it.
@@ -154,64 +155,95 @@ fn put_head<'b, F: FnMut(&TokenTree) -> TransformTtAction<'b>>(
 #[derive(Drop)]
 struct Walk<'a> {
     tree: TopSubtreeBuilder,
-    // The trees left in the innermost group that stays.
-    left: TtIter<'a>,
-    // The groups around that one, the innermost last.
-    outer: Vec<Around<'a>>,
+    // All tokens that are left: of the innermost group that stays, then of the list around it, and
+    // so on.
+    left: Tokens<'a>,
+    // The groups that stay around, the innermost last.
+    outer: Vec<Kept>,
 }
 
-// Goes on with the trees inside a group, and then with those after it.
-fn go_inside<'a>(
-    walk: &mut Walk<'a>,
-    close_span: Span,
-    inside: TtIter<'a>,
-) -> Result<(), AllocError>
-    ensures { OnOk result (standing walk.new ≡ gone_inside close_span inside.entry (standing walk.old)) }
+// How many tokens come after the innermost group.
+fn after_in(outer: &[Kept]) -> usize
+    ensures { result ≡ after_in (reverse outer.now) }
 {
-    let around = Around {
-        close_span,
-        rest: replace(&mut walk.left, inside),
-    };
-    let Ok(()) = walk.outer.push(around) else {
+    match outer.last() {
+        Some(kept) => kept.after,
+        None => 0,
+    }
+}
+
+// The token that comes next in the innermost group, and all tokens after it. `None` at the group's
+// end.
+fn next_token<'a>(left: Tokens<'a>, outer: &[Kept]) -> Option<(TokenTree, Tokens<'a>)>
+    ensures { MatchOption result (length (items left.entry) ≤ after_in (reverse outer.now))
+        (λ p. (items left.entry ≡ p.0 ∷ items p.1) × (after_in (reverse outer.now) ≤ length (items p.1))) }
+{
+    if left.len() <= after_in(outer) {
+        return None;
+    }
+    let (first, more) = left.split_first()?;
+    Some((first, more))
+}
+
+// Goes on with the trees inside a group, whose head was passed, and then with those after it.
+fn go_inside<'a>(walk: &mut Walk<'a>, head: Subtree, more: Tokens<'a>) -> Result<(), AllocError>
+    requires { head.len ≤ length (items more) }
+    ensures tree { walk.new.tree ≡ walk.old.tree }
+    ensures left { OnOk result (items walk.new.left ≡ items more.entry) }
+    ensures outer { OnOk result (walk.new.outer.items ≡ walk.old.outer.items ++ record { close_span = head.delimiter.close_span; after = length (items more.entry) - head.len } ∷ []) }
+{
+    let after = more.len() - head.usize_len();
+    let close_span = head.delimiter.close_span;
+    let Ok(()) = walk.outer.push(Kept { close_span, after }) else {
         return Err(AllocError);
     };
+    walk.left = more;
     Ok(())
 }
 
-// Asks about a group. If it stays, the traversal goes on inside it.
+// Asks about a group. If it stays, the traversal goes on inside it, or else after it.
 fn enter<'a, 'b, F: FnMut(&TokenTree) -> TransformTtAction<'b>>(
     walk: &mut Walk<'a>,
     head: Subtree,
-    inside: TtIter<'a>,
+    more: Tokens<'a>,
     callback: &mut F,
 ) -> Result<(), TtFault>
-    requires { F.IsAlwaysCallable callback.old }
+    requires callable { F.IsAlwaysCallable callback.old }
+    requires nested { IsNested (items walk.old.left) (reverse walk.old.outer.items) }
+    requires first { items walk.old.left ≡ token.Subtree head ∷ items more }
+    requires within { after_in (reverse walk.old.outer.items) ≤ length (items more) }
     ensures callable { F.IsAlwaysCallable callback.new }
+    ensures nested { OnOk result (IsNested (items walk.new.left) (reverse walk.new.outer.items)) }
+    ensures less { OnOk result (work_of walk.new < work_of walk.old) }
     ensures ok { OnOk result ((c : Call) × (c.token ≡ token.Subtree head) × IsAnswered F.FnMut callback.old c callback.new
-        × (standing walk.new ≡ entered c head inside.entry (standing walk.old))) }
+        × (standing walk.new ≡ entered c head (forest_of (take head.len (items more.entry))) (behind head.len (items more.entry) walk.old))) }
     ensures tokens { result ≡ Err fault.Tokens → (c : Call) × (c.token ≡ token.Subtree head) × IsAnswered F.FnMut callback.old c callback.new
         × (most_tokens < count_of (with_answer c walk.old.tree.tree)) }
     ensures faults { IfErr result (λ e. (e ≡ fault.Memory) ⊎ (e ≡ fault.Tokens)) }
 {
     if put_head(&mut walk.tree, head, callback)? {
-        go_inside(walk, head.delimiter.close_span, inside)?;
+        go_inside(walk, head, more)?;
+    } else {
+        walk.left = more.split_at(head.usize_len()).1;
     }
     Ok(())
 }
 
 // Closes the innermost group, at whose end the traversal is, and answers whether there was one.
 fn leave(walk: &mut Walk<'_>) -> bool
-    requires { length walk.old.outer.items ≡ length walk.old.tree.tree.groups }
-    ensures left { result ≡ true → LeavesGroup (standing walk.old) (standing walk.new) }
+    requires groups { length walk.old.outer.items ≡ length walk.old.tree.tree.groups }
+    requires nested { IsNested (items walk.old.left) (reverse walk.old.outer.items) }
+    requires at_end { length (items walk.old.left) ≤ after_in (reverse walk.old.outer.items) }
+    ensures left { result ≡ true → LeavesGroup (standing walk.old) (standing walk.new) × IsNested (items walk.new.left) (reverse walk.new.outer.items)
+        × (work_of walk.new < work_of walk.old) }
     ensures over { result ≡ false → (walk.old.outer.items ≡ []) × (walk.new.tree ≡ walk.old.tree) }
 {
-    let Some(around) = walk.outer.pop() else {
+    let Some(kept) = walk.outer.pop() else {
         return false;
     };
-    let Ok(()) = walk.tree.close(around.close_span) else {
+    let Ok(()) = walk.tree.close(kept.close_span) else {
         unreachable!()
     };
-    walk.left = around.rest;
     true
 }
 
@@ -219,27 +251,30 @@ fn leave(walk: &mut Walk<'_>) -> bool
 fn rewritten<'b, F: FnMut(&TokenTree) -> TransformTtAction<'b>>(
     alloc: Global,
     top: Delimiter,
-    trees: TtIter<'_>,
+    trees: TokenTreesView<'_>,
     mut callback: F,
 ) -> Result<TopSubtree, TtFault>
     requires { F.IsAlwaysCallable callback }
     ensures ok { IfOk result (λ t. (calls : List Call) × (last : F) × FoldsTo (IsAnswered F.FnMut) callback calls last
-        × IsRewritten trees.entry calls t.inner × (t.delimiter ≡ top)) }
+        × IsRewritten (forest trees.entry) calls t.inner × (t.delimiter ≡ top)) }
     ensures tokens { result ≡ Err fault.Tokens → (calls : List Call) × (last : F) × (g : Forest)
-        × FoldsTo (IsAnswered F.FnMut) callback calls last × IsStarted trees.entry calls g × (most_tokens < size g) }
+        × FoldsTo (IsAnswered F.FnMut) callback calls last × IsStarted (forest trees.entry) calls g × (most_tokens < size g) }
     ensures faults { IfErr result (λ e. (e ≡ fault.Memory) ⊎ (e ≡ fault.Tokens)) }
 {
     let mut walk = Walk {
         tree: TopSubtreeBuilder::new(alloc, top)?,
-        left: trees,
+        left: trees.tokens,
         outer: Vec::new(alloc),
     };
     'turns: loop {
-        match walk.left.next() {
-            Some(TtElement::Leaf(leaf)) => put_leaf(&mut walk.tree, leaf, &mut callback)?,
-            Some(TtElement::Subtree(head, inside)) => {
-                enter(&mut walk, head, inside, &mut callback)?;
-            }
+        match next_token(walk.left, walk.outer.as_slice()) {
+            Some((token, behind)) => match token {
+                TokenTree::Leaf(leaf) => {
+                    put_leaf(&mut walk.tree, leaf, &mut callback)?;
+                    walk.left = behind;
+                }
+                TokenTree::Subtree(head) => enter(&mut walk, head, behind, &mut callback)?,
+            },
             None => {
                 if !leave(&mut walk) {
                     break;

@@ -10,11 +10,11 @@ pub returns-in_err-head : goal.returns-in_err-head
 returns-in_err-head c = c.from_residual.ensures ∙ no_head-subtree _ _ c.in_err-head.ensures c.self.view_is
 
 pub split_at-requires : goal.split_at-requires
-split_at-requires c = fits _ _ _ c.self.invariant (head_in-is _ _ _ c.in_ok-head.ensures)
+split_at-requires c = rw c.usize_len.ensures (fits _ _ _ c.self.invariant (head_in-is _ _ _ c.in_ok-head.ensures))
 
 -- the group begins the list, with what it has inside
 ahead : (c : goal.After-rest-1) → Step c.in_ok-head.head (items c.self.inside.tokens) (items c.split_at.result.0) (items c.split_at.result.1)
-ahead c = step _ _ _ _ _ c.self.invariant (head_in-is _ _ _ c.in_ok-head.ensures) c.split_at.ensures.front c.split_at.ensures.back
+ahead c = step _ _ _ _ _ c.self.invariant (head_in-is _ _ _ c.in_ok-head.ensures) (rw c.usize_len.ensures at c.split_at.ensures.front) (rw c.usize_len.ensures at c.split_at.ensures.back)
 
 pub invariant_of-result : goal.invariant_of-result
 invariant_of-result c = (ahead c).inner_whole

@@ -5,13 +5,13 @@ use Rattle.tt.proofs.Steps.{Step, step, fits}
 use Rattle.tt.proofs.iter.TtIterIterator.next.Goals as goal
 
 pub split_at-requires : goal.split_at-requires
-split_at-requires c = fits _ _ _ c.self.invariant (c.in_ok-first.ensures ∙ ap (λ t. t ∷ items c.in_ok-first.more) c.in-Subtree.is)
+split_at-requires c = rw c.usize_len.ensures (fits _ _ _ c.self.invariant (c.in_ok-first.ensures ∙ ap (λ t. t ∷ items c.in_ok-first.more) c.in-Subtree.is))
 
 -- the group was passed, with what it has inside
 taken : (c : goal.After-self-in-Subtree-1) → Step c.in-Subtree.subtree (items c.self.inside.tokens) (items c.split_at.result.0) (items c.split_at.result.1)
 taken c =
     let all = c.in_ok-first.ensures ∙ ap (λ t. t ∷ items c.in_ok-first.more) c.in-Subtree.is in
-    step _ _ _ _ _ c.self.invariant all c.split_at.ensures.front c.split_at.ensures.back
+    step _ _ _ _ _ c.self.invariant all (rw c.usize_len.ensures at c.split_at.ensures.front) (rw c.usize_len.ensures at c.split_at.ensures.back)
 
 pub invariant_of-result : goal.invariant_of-result
 invariant_of-result c = (taken c).inner_whole

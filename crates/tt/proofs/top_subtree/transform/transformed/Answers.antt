@@ -12,7 +12,7 @@ returns-in-Keep-clause-ok g c =
     let asked = asked_kept g.F.FnMut _ _ t _ c.top_subtree-head.ensures (called_at g.F.FnMut c.callback.ensures c.in-Keep.is) in
     followed _ _ c.rewritten.result
     (λ tree (calls, last, made, all, top).
-    let inside = subst (λ f. IsRewritten f calls tree.inner) c.iter.ensures all in
+    let inside = subst (λ f. IsRewritten f calls tree.inner) c.token_trees.ensures all in
     let same = subst (λ d. IsRewritten (forest_of_top t) (kept_group t.delimiter t.inner ∷ calls) (forest_of_top (record { delimiter = d; inner = tree.inner })))
     (sym (top ∙ ap (λ h. h.delimiter) c.top_subtree-head.ensures)) (top_kept t calls tree.inner inside) in
     (kept_group t.delimiter t.inner ∷ calls, last, (c.callback.new.self, asked, made), same))
@@ -33,7 +33,7 @@ returns-in-Keep-clause-tokens g c = λ e.
       last,
       record { delimiter = t.delimiter; inner = f },
       (c.callback.new.self, asked, made),
-      top_begun t calls f (subst (λ h. IsStarted h calls f) c.iter.ensures left),
+      top_begun t calls f (subst (λ h. IsStarted h calls f) c.token_trees.ensures left),
       much,
     )
 

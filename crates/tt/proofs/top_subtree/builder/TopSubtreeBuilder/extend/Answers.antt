@@ -1,6 +1,9 @@
 use Rattle.std.proofs.Common.{◌≡◌, ◌≤◌, ◌++◌, ◌∙◌, ap, sym, refl, arith, reverse, length}
 use Rattle.tt_data.specs.Forest.{preorder}
 use Rattle.tt.specs.Building.{leaves}
+use Rattle.tt.specs.BuilderTokens.{index_of}
+use Rattle.tt.proofs.HeldMarks.{marks_append}
+use Rattle.tt.proofs.MarkLemmas.{first_marked}
 use Rattle.tt.proofs.Closings.{IsTreeAt-append}
 use Rattle.tt.proofs.Held.{IsHeld-append, here_of-append, groups_of-append}
 use Rattle.tt.proofs.Limits.{counted}
@@ -21,10 +24,14 @@ invariant_of-self g c =
     rw (added g c) (
       IsHeld-append tokens (reverse c.self.inside.openings.items) f c.self.invariant.0,
       fits,
-      IsTreeAt-append c.self.inside.last_closed tokens (preorder f) _ c.self.invariant.0 c.self.invariant.2,
-      IsSettled-append c.self.inside.settled tokens _ f c.self.invariant.0 c.self.invariant.3,
+      IsTreeAt-append (index_of c.self.inside.last_closed) tokens (preorder f) _ c.self.invariant.0 c.self.invariant.2,
+      IsSettled-append c.self.inside.settled.count tokens _ f c.self.invariant.0 c.self.invariant.3,
       c.self.invariant.4,
+      marks_append tokens (preorder f) _ _ _ c.self.invariant.5,
     )
+
+pub cut_back-requires : goal.cut_back-requires
+cut_back-requires g c = rw c.end-end.ensures (first_marked c.self.inside.tokens _ c.in-Err.ensures.err)
 
 pub returns-in-Ok-clause-ok : goal.returns-in-Ok-clause-ok
 returns-in-Ok-clause-ok g c =

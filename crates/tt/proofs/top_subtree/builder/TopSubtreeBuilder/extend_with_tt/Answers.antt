@@ -2,6 +2,8 @@ use Rattle.std.proofs.Common.{◌≡◌, ◌≤◌, ◌++◌, ◌∙◌, refl, a
 use Rattle.tt_data.specs.Forest.{forest_of}
 use Rattle.tt.specs.Records.{items}
 use Rattle.tt.specs.Views.{forest}
+use Rattle.tt.specs.BuilderTokens.{index_of}
+use Rattle.tt.proofs.HeldMarks.{marks_append}
 use Rattle.tt.proofs.Closings.{IsTreeAt-append}
 use Rattle.tt.proofs.Held.{IsHeld-append, here_of-append, groups_of-append}
 use Rattle.tt.proofs.Limits.{counted, no_memory_for, room_for, size-whole}
@@ -17,9 +19,9 @@ invariant_of-self-2 c =
     omega (arith, c.if-room-len.false, c.len.ensures, counts, length-append tokens (items c.args.tt.tokens), c.self.invariant.1) in
     let held = rw c.args.tt.whole at (IsHeld-append tokens (reverse c.self.inside.openings.items) (forest_of (items c.args.tt.tokens)) c.self.invariant.0) in
     let settled =
-    rw c.args.tt.whole at (IsSettled-append c.self.inside.settled tokens (reverse c.self.inside.openings.items) (forest_of (items c.args.tt.tokens)) c.self.invariant.0 c.self.invariant.3) in
+    rw c.args.tt.whole at (IsSettled-append c.self.inside.settled.count tokens (reverse c.self.inside.openings.items) (forest_of (items c.args.tt.tokens)) c.self.invariant.0 c.self.invariant.3) in
     rw c.in_ok-extend.ensures.ok
-    (held, fits, IsTreeAt-append c.self.inside.last_closed _ _ _ c.self.invariant.0 c.self.invariant.2, settled, c.self.invariant.4)
+    (held, fits, IsTreeAt-append (index_of c.self.inside.last_closed) _ _ _ c.self.invariant.0 c.self.invariant.2, settled, c.self.invariant.4, marks_append _ _ _ _ _ c.self.invariant.5)
 
 pub returns-clause-ok : goal.returns-clause-ok
 unfolding forest

@@ -1,8 +1,9 @@
 use Rattle.std.proofs.Common.{refl, arith, reverse, length-append}
 use Rattle.tt_data.specs.Forest.{leaf, empty}
 use Rattle.tt_data.specs.declared.tree.TokenTree.{TokenTree}
-use Rattle.tt.specs.BuilderTokens.{IsHeld}
+use Rattle.tt.specs.BuilderTokens.{IsHeld, index_of}
 use Rattle.tt.proofs.Held.{IsHeld-append, here_of-append, groups_of-append}
+use Rattle.tt.proofs.HeldMarks.{marks_append}
 use Rattle.tt.proofs.Closings.{IsTreeAt-append}
 use Rattle.tt.proofs.Limits.{counted, room_left}
 use Rattle.tt.proofs.RewritingLemmas.{handed, handed_back}
@@ -17,9 +18,10 @@ invariant_of-self-2 c =
     rw c.in_ok-put_leaf.ensures.ok (
       IsHeld-append _ _ (leaf c.args.leaf empty) (held c),
       omega (arith, c.in_ok-put_leaf.ensures.room, length-append {A = TokenTree}),
-      IsTreeAt-append c.self.inside.last_closed _ _ _ (held c) c.self.invariant.2,
-      IsSettled-append c.self.inside.settled _ _ (leaf c.args.leaf empty) (held c) c.self.invariant.3,
+      IsTreeAt-append (index_of c.self.inside.last_closed) _ _ _ (held c) c.self.invariant.2,
+      IsSettled-append c.self.inside.settled.count _ _ (leaf c.args.leaf empty) (held c) c.self.invariant.3,
       c.self.invariant.4,
+      marks_append _ _ _ _ _ c.self.invariant.5,
     )
 
 pub returns-clause-ok : goal.returns-clause-ok

@@ -1,6 +1,6 @@
 use Rattle.std.proofs.Common.{◌∙◌}
 use Rattle.tt.proofs.CursorReads.{reach_none, reach_some}
-use Rattle.tt.proofs.buffer.has_inside.Goals as goal
+use Rattle.tt.proofs.storage.around.has_inside.Goals as goal
 
 pub returns-in-None : goal.returns-in-None
 returns-in-None c = λ t e. reach_none t _ _ (e ∙ c.in-None.is)

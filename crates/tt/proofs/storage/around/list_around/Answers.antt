@@ -4,10 +4,10 @@ use Rattle.tt_data.specs.declared.tree.TokenTree.{TokenTree}
 use Rattle.tt.specs.Records.{items}
 use Rattle.tt.proofs.CursorLemmas.{stops, goes_on}
 use Rattle.tt.proofs.RecordLemmas.{ReadAt, read_at}
-use Rattle.tt.proofs.buffer.list_around.Goals as goal
+use Rattle.tt.proofs.storage.around.list_around.Goals as goal
 
-pub returns-then-has_inside : goal.returns-then-has_inside
-returns-then-has_inside c = λ start tree.
+pub returns-then-has_inside-clause-begins : goal.returns-then-has_inside-clause-begins
+returns-then-has_inside-clause-begins c = λ start tree.
     let tokens = items c.args.tokens in
     let at : ℕ = c.loop-start.start - 1 in
     let r : (t : TokenTree) × ReadAt tokens at t = read_at tokens at (omega (arith, c.loop-start-test.true, c.loop-start.invariant.0, c.requires)) in
@@ -25,5 +25,5 @@ loop-start-preserved c = (
       (λ reached. false≢true ((c.if-has_inside.ensures r.0 (sym (c.head_at.ensures ∙ r.1.head))).1 reached)),
 )
 
-pub returns : goal.returns
-returns c = λ start tree. omega (arith, c.loop-start.invariant.1 start tree)
+pub returns-clause-begins : goal.returns-clause-begins
+returns-clause-begins c = λ start tree. omega (arith, c.loop-start.invariant.1 start tree)

@@ -1,7 +1,7 @@
 use Rattle.std.proofs.Common.{◌≤◌, ℕ}
 use Rattle.tt.specs.CursorTokens.{IsTreeOf}
 use Rattle.tt.specs.Records.{items}
-use Rattle.tt.proofs.buffer.list_around.Given as goal
+use Rattle.tt.proofs.storage.around.list_around.Given as goal
 
 -- the list does not begin later than where the search is
 abbrev pub invariant-loop-start : goal.invariant-loop-start
