@@ -1,0 +1,2 @@
+pub mod BlockWalks
+pub mod ResizeWalks
