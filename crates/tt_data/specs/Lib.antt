@@ -13,6 +13,3 @@ pub mod Flat
 pub mod Coded
 -- why a call is refused
 pub use Rattle.symbols.specs.declared.fault
--- what the functions inside, and those of `tt`, promise each other: tokens as bytes
-pub mod Records
-pub mod Packing

@@ -17,6 +17,10 @@ pub record LiteralParts : Type 0 where
 abbrev pub literal_of : List ℕ → List ℕ → LitKind → Span → LiteralParts
 literal_of text suffix kind span = record { text = text; suffix = suffix; kind = kind; span = span }
 
+-- the literal whose suffix is the last n bytes of a text
+abbrev pub literal_in : List ℕ → ℕ → LitKind → Span → LiteralParts
+literal_in all n kind span = literal_of (take (length all - n) all) (drop (length all - n) all) kind span
+
 -- the last n bytes of a text are whole characters
 abbrev pub HasSuffix : List ℕ → ℕ → Type 0
 HasSuffix all n = (n ≤ length all) × IsCharBoundary all (length all - n)

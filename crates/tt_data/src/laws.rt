@@ -1,7 +1,6 @@
 //! Laws of forests, for the proofs of crates above. Calling a law does nothing: its contract is
 //! the statement.
-ghost use Rattle.std.specs.Prelude.{◌≡◌, ◌↔◌, true, ℕ, ◌+◌, ◌*◌, ◌≤◌, List, [], ◌∷◌, ◌++◌, length, map};
-ghost use Rattle.tt_data.specs.Packing.{records, table_after, tokens_in};
+ghost use Rattle.std.specs.Prelude.{◌≡◌, ◌↔◌, true, ℕ, ◌+◌, List, ◌∷◌, ◌++◌, length, map};
 ghost use Rattle.tt_data.specs.Flat.{Parts};
 ghost use Rattle.tt_data.specs.Forest.{Forest, empty, group, joined, size, preorder, front, back, forest_of, head_of, IsPreorder, map_spans, shape};
 ghost use Rattle.tt_data.specs.Spans.{token_with, no_span};
@@ -90,25 +89,6 @@ pub fn spans_mapped()
     ensures flat { (m : Span → Span) (ts : List TokenTree) → forest_of (map (token_with m) ts) ≡ map_spans m (forest_of ts) }
     ensures flat_whole { (m : Span → Span) (ts : List TokenTree) → IsPreorder ts → IsPreorder (map (token_with m) ts) }
     ensures shapes { (m : Span → Span) (f : Forest) → shape (map_spans m f) ≡ shape f }
-{}
-
-/// Records and their table give the tokens back, whatever follows both. Records of two lists, one
-/// after the other, follow each other, and the table goes on. A record has at most 31 bytes. Two
-/// lists of one group each with equal bytes and equal tables are equal.
-pub fn packed_tokens()
-    ensures back { (table others : List (List ℕ)) (ts : List TokenTree) (more : List ℕ) →
-        tokens_in (length ts) (table_after table ts ++ others) (records table ts ++ more) ≡ ts }
-    ensures appended { (table : List (List ℕ)) (a b : List TokenTree) →
-        records table (a ++ b) ≡ records table a ++ records (table_after table a) b }
-    ensures table_appended { (table : List (List ℕ)) (a b : List TokenTree) →
-        table_after table (a ++ b) ≡ table_after (table_after table a) b }
-    ensures table_begins { (table : List (List ℕ)) (ts : List TokenTree) →
-        (more : List (List ℕ)) × (table_after table ts ≡ table ++ more) }
-    ensures size { (table : List (List ℕ)) (ts : List TokenTree) → length (records table ts) ≤ 31 * length ts }
-    ensures same { (s u : Subtree) (a b : List TokenTree) → s.len ≡ length a → u.len ≡ length b →
-        records [] (token.Subtree s ∷ a) ≡ records [] (token.Subtree u ∷ b) →
-        table_after [] (token.Subtree s ∷ a) ≡ table_after [] (token.Subtree u ∷ b) →
-        token.Subtree s ∷ a ≡ token.Subtree u ∷ b }
 {}
 
 /// Two tokens are equal by `==` exactly where they are the same, spans included.

@@ -1,6 +1,7 @@
 //! The leaves of token trees: literals, puncts and identifiers.
 ghost use Rattle.std.specs.Prelude.{◌≡◌, ◌^◌, ◌<◌, ◌-◌, ◌++◌, ◌↔◌, ⊤, [], length, take, drop, IfOk, IsOkUnless, IsTrue, SomeIff};
-ghost use Rattle.tt_data.specs.Literals.{HasSuffix, literal_of};
+ghost use Rattle.std.specs.Str.{IsCharBoundary};
+ghost use Rattle.tt_data.specs.Literals.{HasSuffix, literal_in, literal_of};
 ghost use Rattle.tt_data.specs.Names.{prefix_of, rawness, bare_name, ident_of};
 ghost use Rattle.tt_data.specs.Spans.{span_of};
 ghost use Rattle.symbols.specs.declared.fault.TtFault.TheVariants as fault;
@@ -240,14 +241,9 @@ impl Literal {
         })
     }
 
-    /// The literal whose text and suffix are together this entry of a table, if its last
-    /// `suffix_len` bytes are whole characters.
-    pub(crate) fn from_entry(
-        entry: Symbol,
-        suffix_len: u32,
-        kind: LitKind,
-        span: Span,
-    ) -> Option<Literal>
+    /// The literal whose text and suffix are together this entry of a table, shared. `None` if
+    /// the entry's last `suffix_len` bytes are not whole characters.
+    pub fn from_entry(entry: Symbol, suffix_len: u32, kind: LitKind, span: Span) -> Option<Literal>
         ensures { SomeIff result (HasSuffix entry suffix_len)
             (literal_of (take (length entry - suffix_len) entry) (drop (length entry - suffix_len) entry) kind span) }
     {
@@ -263,9 +259,33 @@ impl Literal {
         })
     }
 
+    /// The text and right after it the suffix: the entry that a table has for this literal.
+    pub fn entry(&self) -> &Symbol
+        ensures { result.now ≡ self.now.text ++ self.now.suffix }
+    {
+        &self.text_and_suffix
+    }
+
+    /// The text and right after it the suffix, the number of bytes of the suffix, the form, and the
+    /// span.
+    #[inline]
+    pub fn into_parts(self) -> (Symbol, u32, LitKind, Span)
+        ensures literal { literal_in result.0 result.1 result.2 result.3 ≡ self }
+        ensures whole { HasSuffix result.0 result.1 }
+    {
+        let Literal {
+            text_and_suffix,
+            suffix_len,
+            kind,
+            span,
+        } = self;
+        (text_and_suffix, suffix_len, kind, span)
+    }
+
     /// The number of bytes of the suffix.
-    pub(crate) fn suffix_len(&self) -> u32
-        ensures { result ≡ length self.now.suffix }
+    pub fn suffix_len(&self) -> u32
+        ensures len { result ≡ length self.now.suffix }
+        ensures whole { IsCharBoundary (self.now.text ++ self.now.suffix) (length self.now.text) }
     {
         self.suffix_len
     }

@@ -9,7 +9,6 @@ mod edition;
 mod fault;
 pub mod laws;
 mod leaf;
-pub mod packed;
 mod span;
 mod symbol;
 mod tree;

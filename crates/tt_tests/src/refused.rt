@@ -1,6 +1,6 @@
 //! Each call that takes memory, made once more if it was refused: for runs in which one allocation
 //! fails. A refused call changes nothing, so the tree is the expected one.
-use crate::packed::are_read_back;
+use crate::packed::{are_checked, are_numbered, are_told, have_sizes};
 use crate::samples::{begun, built, byte_at, punct, shows, tells, tree};
 use crate::states::{number_anchors, rewrite};
 use std::alloc::Global;
@@ -168,10 +168,28 @@ fn rewriting(rt: HostRuntime) -> Result<(), Fail> {
 
 #[test]
 fn packs(rt: HostRuntime) -> Result<(), Fail> {
-    let packed = match are_read_back(rt.alloc()) {
-        Err(TtFault::Memory) => are_read_back(rt.alloc())?,
+    let sized = match have_sizes(rt.alloc()) {
+        Err(TtFault::Memory) => have_sizes(rt.alloc())?,
         answer => answer?,
     };
-    assert!(rt; packed);
+    let told = match are_told(rt.alloc()) {
+        Err(TtFault::Memory) => are_told(rt.alloc())?,
+        answer => answer?,
+    };
+    assert!(rt; sized && told);
+    Ok(())
+}
+
+#[test]
+fn reads_parts(rt: HostRuntime) -> Result<(), Fail> {
+    let checked = match are_checked(rt.alloc()) {
+        Err(TtFault::Memory) => are_checked(rt.alloc())?,
+        answer => answer?,
+    };
+    let numbered = match are_numbered(rt.alloc()) {
+        Err(TtFault::Memory) => are_numbered(rt.alloc())?,
+        answer => answer?,
+    };
+    assert!(rt; checked && numbered);
     Ok(())
 }

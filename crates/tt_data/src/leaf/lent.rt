@@ -59,6 +59,27 @@ impl<'a> IdentRef<'a> {
 #[tactic(auto, unfolding(crate::specs::Lent::literal_lent))]
 impl<'a> LiteralRef<'a> {
     ghost use Rattle.tt_data.specs.Lent.{literal_lent};
+    ghost use Rattle.tt_data.specs.Literals.{HasSuffix, literal_in};
+
+    /// The literal whose text and suffix are together this text. Its last `suffix_len` bytes are
+    /// whole characters.
+    #[inline]
+    pub fn from_parts(
+        entry: &'a Symbol,
+        suffix_len: u32,
+        kind: LitKind,
+        span: Span,
+    ) -> LiteralRef<'a>
+        requires whole { HasSuffix entry.now suffix_len }
+        ensures { literal_lent result ≡ literal_in entry.now suffix_len kind span }
+    {
+        LiteralRef {
+            text_and_suffix: entry,
+            suffix_len,
+            kind,
+            span,
+        }
+    }
 
     /// The text, and the suffix, which may be empty.
     #[inline]

@@ -1,0 +1,6 @@
+pub mod PackingLemmas
+pub mod RecordLemmas
+pub mod NumberLemmas
+pub mod PackedLemmas
+pub mod ReadingLemmas
+mod Rows

@@ -1,0 +1,18 @@
+//! Trees in packed form: a record for each token, and a table that has each text once.
+//!
+//! The records are in preorder: 31 bytes for the head of a group, 18 for a punct or an
+//! identifier, 23 for a literal. A record has the number of its text in the table; texts are
+//! numbered by first use. So two trees are equal exactly where their records and their tables
+//! are. `specs/Records.antt` and `specs/Packing.antt` define both.
+#![tactic(auto)]
+
+pub mod laws;
+mod packing;
+mod reading;
+mod text_index;
+mod text_table;
+mod tree;
+mod unpacking;
+mod writing;
+
+pub use tree::PackedTree;

@@ -1,0 +1,185 @@
+//! Reads the records of tokens.
+ghost use Rattle.std.specs.Prelude.{◌≡◌, [], ◌+◌, ◌-◌, ◌<◌, ◌≤◌, ◌↔◌, IsSome, IfSome, SomeIff, length, drop};
+ghost use Rattle.packed_tree.specs.Records.{BeginsWithToken, Tells, entry_in, first_size, first_token as token_of, form_of, number, of_group, of_ident, of_literal, of_punct, size_of, sort_of, span_in, token_by};
+
+use tt_data::{
+    Delimiter, DelimiterKind, Ident, IdentIsRaw, Leaf, LitKind, Literal, Punct, Spacing, Span,
+    Subtree, Symbol, SyntaxContext, TextRange, TokenTree,
+};
+
+// The bytes from the index `count` on.
+fn from(bytes: &[u8], count: usize) -> &[u8]
+    requires { count ≤ length bytes.now }
+    ensures bytes { result.now ≡ drop count bytes.now }
+    ensures left { length result.now ≡ length bytes.now - count }
+{
+    bytes.split_at(count).1
+}
+
+// The number in the first four bytes.
+fn number_in(bytes: &[u8]) -> u32
+    requires { 4 ≤ length bytes.now }
+    ensures { result ≡ number bytes.now }
+{
+    let [a, b, c, d, ..] = bytes else {
+        unreachable!()
+    };
+    u32::from_le_bytes([*a, *b, *c, *d])
+}
+
+// The span in the first thirteen bytes.
+fn span_in(bytes: &[u8]) -> Span
+    requires { 13 ≤ length bytes.now }
+    ensures { result ≡ span_in bytes.now }
+{
+    let ctx = match bytes[12] {
+        0 => SyntaxContext::Written,
+        _ => SyntaxContext::Made,
+    };
+    Span {
+        range: TextRange {
+            start: number_in(bytes),
+            end: number_in(from(bytes, 4)),
+        },
+        anchor: number_in(from(bytes, 8)),
+        ctx,
+    }
+}
+
+// The bytes of a record with this tag.
+fn size_of(tag: u8) -> usize
+    ensures { result ≡ size_of (sort_of tag) }
+{
+    match tag {
+        0 | 1 | 2 | 3 => 31,
+        4 | 5 | 6 | 7 | 8 => 18,
+        _ => 23,
+    }
+}
+
+// The head of a group, by the bytes after its tag.
+fn head_of(kind: DelimiterKind, body: &[u8]) -> TokenTree
+    requires { 30 ≤ length body.now }
+    ensures { result ≡ token_by (of_group kind) 0 [] body.now }
+{
+    let delimiter = Delimiter {
+        open_span: span_in(body),
+        close_span: span_in(from(body, 13)),
+        kind,
+    };
+    TokenTree::Subtree(Subtree {
+        delimiter,
+        len: number_in(from(body, 26)),
+    })
+}
+
+// A punct, by the bytes after its tag, if its character is one.
+fn punct_of(spacing: Spacing, body: &[u8]) -> Option<TokenTree>
+    requires { 17 ≤ length body.now }
+    ensures { SomeIff result (Tells (of_punct spacing) [] body.now) (token_by (of_punct spacing) 0 [] body.now) }
+{
+    let char = char::from_u32(number_in(from(body, 13)))?;
+    Some(TokenTree::Leaf(Leaf::Punct(Punct {
+        char,
+        spacing,
+        span: span_in(body),
+    })))
+}
+
+// The entry whose number comes after the span, if it is there.
+fn entry_in(table: &[Symbol], body: &[u8]) -> Option<Symbol>
+    requires { 17 ≤ length body.now }
+    ensures { SomeIff result (number (drop 13 body.now) < length table.now) (entry_in table.now body.now) }
+{
+    let Ok(entry) = table.get(number_in(from(body, 13)) as usize)?.clone() else {
+        unreachable!()
+    };
+    Some(entry)
+}
+
+// An identifier, by the bytes after its tag, if its entry is there.
+fn ident_of(is_raw: IdentIsRaw, table: &[Symbol], body: &[u8]) -> Option<TokenTree>
+    requires { 17 ≤ length body.now }
+    ensures { SomeIff result (Tells (of_ident is_raw) table.now body.now) (token_by (of_ident is_raw) 0 table.now body.now) }
+{
+    let sym = entry_in(table, body)?;
+    Some(TokenTree::Leaf(Leaf::Ident(Ident {
+        sym,
+        span: span_in(body),
+        is_raw,
+    })))
+}
+
+// The form of a literal with this tag and so many hashes.
+fn form_of(tag: u8, hashes: u8) -> LitKind
+    ensures { result ≡ form_of tag hashes }
+{
+    match tag {
+        9 => LitKind::Byte,
+        10 => LitKind::Char,
+        11 => LitKind::Integer,
+        12 => LitKind::Float,
+        13 => LitKind::Str,
+        14 => LitKind::StrRaw(hashes),
+        15 => LitKind::ByteStr,
+        16 => LitKind::ByteStrRaw(hashes),
+        17 => LitKind::CStr,
+        18 => LitKind::CStrRaw(hashes),
+        19 => LitKind::StrGuarded(hashes),
+        _ => LitKind::Err(()),
+    }
+}
+
+// A literal, by its tag and the bytes after it, if its entry is there and has the suffix.
+fn literal_of(tag: u8, table: &[Symbol], body: &[u8]) -> Option<TokenTree>
+    requires { 22 ≤ length body.now }
+    ensures { SomeIff result (Tells of_literal table.now body.now) (token_by of_literal tag table.now body.now) }
+{
+    let entry = entry_in(table, body)?;
+    let kind = form_of(tag, body[21]);
+    let literal = Literal::from_entry(entry, number_in(from(body, 17)), kind, span_in(body))?;
+    Some(TokenTree::Leaf(Leaf::Literal(literal)))
+}
+
+// The token of a record that is whole, by its tag and the bytes after it.
+fn token_in(tag: u8, table: &[Symbol], body: &[u8]) -> Option<TokenTree>
+    requires { size_of (sort_of tag) ≤ 1 + length body.now }
+    ensures { SomeIff result (Tells (sort_of tag) table.now body.now) (token_by (sort_of tag) tag table.now body.now) }
+{
+    match tag {
+        0 => Some(head_of(DelimiterKind::Parenthesis, body)),
+        1 => Some(head_of(DelimiterKind::Brace, body)),
+        2 => Some(head_of(DelimiterKind::Bracket, body)),
+        3 => Some(head_of(DelimiterKind::Invisible, body)),
+        4 => punct_of(Spacing::Alone, body),
+        5 => punct_of(Spacing::Joint, body),
+        6 => punct_of(Spacing::JointHidden, body),
+        7 => ident_of(IdentIsRaw::No, table, body),
+        8 => ident_of(IdentIsRaw::Yes, table, body),
+        tag => literal_of(tag, table, body),
+    }
+}
+
+/// The token of the first record, if that is there whole and tells one. Texts are those of
+/// `table`, shared.
+pub(crate) fn first_token(table: &[Symbol], bytes: &[u8]) -> Option<TokenTree>
+    ensures there { IsSome result → BeginsWithToken table.now bytes.now }
+    ensures found { BeginsWithToken table.now bytes.now → IsSome result }
+    ensures token { IfSome result (λ t. t ≡ token_of table.now bytes.now) }
+{
+    let (tag, body) = bytes.split_first()?;
+    if body.len() + 1 < size_of(*tag) {
+        return None;
+    }
+    token_in(*tag, table, body)
+}
+
+/// The bytes after the first record, if that is there whole.
+pub(crate) fn after_first(bytes: &[u8]) -> Option<&[u8]>
+    ensures there { IsSome result ↔ (first_size bytes.now ≤ length bytes.now) }
+    ensures rest { IfSome result (λ rest. rest.now ≡ drop (first_size bytes.now) bytes.now) }
+{
+    let size = size_of(*bytes.first()?);
+    let (_, rest) = bytes.split_at_checked(size)?;
+    Some(rest)
+}
