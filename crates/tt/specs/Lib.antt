@@ -15,6 +15,7 @@ pub mod Relabelling
 pub mod Texts
 pub mod TokenLiterals
 -- what the functions inside the crate promise each other
+pub mod StoredTokens
 pub mod Marks
 pub mod BuilderTokens
 pub mod Anchors

@@ -1,9 +1,10 @@
 //! How flat lists of tokens are stored.
 //!
-//! Only this module depends on how a token is stored. What borrows tokens reads them by value
-//! through `Tokens`, and what owns them adds and removes them through `TokenBuffer`. A place among
-//! them is a `Mark`, which only this module looks into.
-ghost use Rattle.std.specs.Prelude.{◌≡◌, ◌↔◌, ◌<◌, ◌≤◌, ◌^◌, ◌+◌, ◌-◌, ◌∷◌, ◌++◌, [], true, None, IsSome, IsTrue, MatchOption, OnErr, OnOk, length, take, drop, option_map, set, slice_get, slice_index_or};
+//! Only this module depends on how a token is stored: as a `Record` of 32 bytes, where a
+//! `TokenTree` has 48. What borrows tokens reads them by value through `Tokens`, and what owns them
+//! adds and removes them through `TokenBuffer`. A place among them is a `Mark`, which only this
+//! module looks into.
+ghost use Rattle.std.specs.Prelude.{◌≡◌, ◌↔◌, ◌<◌, ◌≤◌, ◌^◌, ◌+◌, ◌-◌, ◌∷◌, ◌++◌, [], true, None, IsSome, IsTrue, IfErr, IfOk, MatchOption, OnErr, OnOk, length, take, drop, option_map, set, slice_get, slice_index_or, vec_len, vec_capacity};
 ghost use Rattle.tt.specs.Marks.{mark_of, IsMarkIn, IsHeadIn};
 ghost use Rattle.tt.specs.Records.{items, alone_token, head_at};
 ghost use Rattle.tt.specs.Tops.{has_leaf_at};
@@ -13,19 +14,21 @@ ghost use Rattle.tt_data.specs.Spans.{first_span_of};
 
 mod around;
 pub(crate) mod mark;
+mod record;
 pub(crate) mod renaming;
 
 use crate::storage::mark::Mark;
+use crate::storage::record::Record;
 use crate::storage::renaming::Renaming;
 use std::alloc::{AllocError, Global};
 use std::hash::{Hash, Hasher};
 use std::marker::Model;
-use tt_data::{Ident, IdentRef, Leaf, LeafRef, LitKind, Punct, Spacing, Span, Subtree, TokenTree};
+use tt_data::{Ident, IdentRef, Leaf, LeafRef, LitKind, Punct, Span, Subtree, TokenTree};
 
 /// A borrowed run of tokens.
 #[derive(Clone, Copy, Debug)]
 pub(crate) struct Tokens<'a> {
-    records: &'a [TokenTree],
+    records: &'a [Record],
 }
 
 #[tactic(auto, unfolding(crate::specs::Records::items))]
@@ -41,6 +44,7 @@ impl<'a> Tokens<'a> {
     }
 
     /// The number of tokens, which is less than 2^63.
+    #[inline(always)]
     pub(crate) fn len(self) -> usize
         ensures len { result ≡ length (items self.entry) }
         ensures fits { result < 2 ^ 63 }
@@ -49,6 +53,7 @@ impl<'a> Tokens<'a> {
     }
 
     /// Whether there are none.
+    #[inline(always)]
     pub(crate) fn is_empty(self) -> bool
         ensures { IsTrue result ↔ (items self.entry ≡ []) }
     {
@@ -56,14 +61,16 @@ impl<'a> Tokens<'a> {
     }
 
     /// The first token, and those after it.
+    #[inline]
     pub(crate) fn split_first(self) -> Option<(TokenTree, Tokens<'a>)>
         ensures { MatchOption result (items self.entry ≡ []) (λ p. items self.entry ≡ p.0 ∷ items p.1) }
     {
         let (first, more) = self.records.split_first()?;
-        Some((same_token(first), Tokens { records: more }))
+        Some((first.token(), Tokens { records: more }))
     }
 
     /// The first `count` tokens, and those after them.
+    #[inline(always)]
     pub(crate) fn split_at(self, count: usize) -> (Tokens<'a>, Tokens<'a>)
         requires { count ≤ length (items self) }
         ensures front { items result.0 ≡ take count (items self.entry) }
@@ -124,13 +131,11 @@ impl<'a> Tokens<'a> {
     }
 
     // The head of the group that begins at this index, if one does.
+    #[inline]
     fn head_at(self, at: usize) -> Option<Subtree>
         ensures { result ≡ head_at (items self.entry) at }
     {
-        match self.records.get(at)? {
-            TokenTree::Subtree(head) => Some(*head),
-            TokenTree::Leaf(_) => None,
-        }
+        self.records.get(at)?.head()
     }
 
     /// Whether a leaf is at this index.
@@ -138,24 +143,28 @@ impl<'a> Tokens<'a> {
         ensures leaf { result ≡ has_leaf_at at (items self.entry) }
         ensures within { IsTrue result → at < length (items self.entry) }
     {
-        matches!(self.records.get(at), Some(TokenTree::Leaf(_)))
+        match self.records.get(at) {
+            Some(record) => record.is_leaf(),
+            None => false,
+        }
     }
 
     /// The first token.
     pub(crate) fn first(self) -> Option<TokenTree>
         ensures { result ≡ slice_get (items self.entry) 0 }
     {
-        Some(same_token(self.records.first()?))
+        Some(self.records.first()?.token())
     }
 
     /// The last token.
     pub(crate) fn last(self) -> Option<TokenTree>
         ensures { result ≡ slice_get (items self.entry) (length (items self.entry) - 1) }
     {
-        Some(same_token(self.records.last()?))
+        Some(self.records.last()?.token())
     }
 
     /// The span of the first token. For a head, that is the span of its opening.
+    #[inline]
     pub(crate) fn first_span(self) -> Option<Span>
         ensures { result ≡ option_map first_span_of (slice_get (items self.entry) 0) }
     {
@@ -163,96 +172,65 @@ impl<'a> Tokens<'a> {
     }
 
     /// The first token if it is the head of a group, and the tokens after it.
+    #[inline(always)]
     pub(crate) fn split_head(self) -> Option<(Subtree, Tokens<'a>)>
         ensures { option_map (λ p. (p.0, items p.1)) result ≡ head_in (items self.entry) }
     {
-        match self.records.split_first()? {
-            (TokenTree::Subtree(head), more) => Some((*head, Tokens { records: more })),
-            _ => None,
-        }
+        let (first, more) = self.records.split_first()?;
+        Some((first.head()?, Tokens { records: more }))
     }
 
     /// The first token if it is a leaf, and the tokens after it.
     pub(crate) fn split_leaf(self) -> Option<(Leaf, Tokens<'a>)>
         ensures { option_map (λ p. (p.0, items p.1)) result ≡ leaf_in (items self.entry) }
     {
-        match self.records.split_first()? {
-            (TokenTree::Leaf(leaf), more) => Some((same_leaf(leaf), Tokens { records: more })),
-            _ => None,
-        }
+        let (leaf, more) = self.lent_leaf()?;
+        Some((leaf.to_leaf(), more))
     }
 
     /// The first token, lent, if it is a leaf, and the tokens after it.
+    #[inline(always)]
     pub(crate) fn lent_leaf(self) -> Option<(LeafRef<'a>, Tokens<'a>)>
         ensures { option_map (λ p. (leaf_lent p.0, items p.1)) result ≡ leaf_in (items self.entry) }
     {
-        match self.records.split_first()? {
-            (TokenTree::Leaf(leaf), more) => Some((leaf.lent(), Tokens { records: more })),
-            _ => None,
-        }
+        let (first, more) = self.records.split_first()?;
+        Some((first.lent_leaf()?, Tokens { records: more }))
     }
 
     /// The first token, lent, if it is an identifier, and the tokens after it.
+    #[inline(always)]
     pub(crate) fn lent_ident(self) -> Option<(IdentRef<'a>, Tokens<'a>)>
         ensures { option_map (λ p. (ident_lent p.0, items p.1)) result ≡ ident_in (items self.entry) }
     {
-        match self.records.split_first()? {
-            (TokenTree::Leaf(Leaf::Ident(ident)), more) => {
-                Some((ident.lent(), Tokens { records: more }))
-            }
-            _ => None,
-        }
+        let (first, more) = self.records.split_first()?;
+        Some((first.lent_ident()?, Tokens { records: more }))
     }
 
     /// The first token if it is a punct, and the tokens after it.
+    #[inline(always)]
     pub(crate) fn split_punct(self) -> Option<(Punct, Tokens<'a>)>
         ensures { option_map (λ p. (p.0, items p.1)) result ≡ punct_in (items self.entry) }
     {
-        match self.records.split_first()? {
-            (TokenTree::Leaf(Leaf::Punct(punct)), more) => {
-                Some((*punct, Tokens { records: more }))
-            }
-            _ => None,
-        }
+        let (first, more) = self.records.split_first()?;
+        Some((first.punct()?, Tokens { records: more }))
     }
 
     /// The first token if it is an identifier, and the tokens after it.
+    #[inline]
     pub(crate) fn split_ident(self) -> Option<(Ident, Tokens<'a>)>
         ensures { option_map (λ p. (p.0, items p.1)) result ≡ ident_in (items self.entry) }
     {
-        match self.records.split_first()? {
-            (TokenTree::Leaf(Leaf::Ident(ident)), more) => {
-                let Ok(ident) = ident.clone() else {
-                    unreachable!()
-                };
-                Some((ident, Tokens { records: more }))
-            }
-            _ => None,
-        }
+        let (ident, more) = self.lent_ident()?;
+        Some((ident.to_ident(), more))
     }
 
     /// The kind of the first token if it is a literal, and the tokens after it.
     pub(crate) fn split_literal(self) -> Option<(LitKind, Tokens<'a>)>
         ensures { option_map (λ p. (p.0, items p.1)) result ≡ literal_in (items self.entry) }
     {
-        match self.records.split_first()? {
-            (TokenTree::Leaf(Leaf::Literal(literal)), more) => {
-                Some((literal.kind(), Tokens { records: more }))
-            }
-            _ => None,
-        }
+        let (first, more) = self.records.split_first()?;
+        Some((first.literal_kind()?, Tokens { records: more }))
     }
-}
-
-// A clone of a token. Its text gets one more owner, so memory is never refused.
-#[inline]
-fn same_token(token: &TokenTree) -> TokenTree
-    ensures { result ≡ token.now }
-{
-    let Ok(token) = token.clone() else {
-        unreachable!()
-    };
-    token
 }
 
 // A clone of a leaf. Its text gets one more owner, so memory is never refused.
@@ -269,7 +247,7 @@ pub(crate) fn same_leaf(leaf: &Leaf) -> Leaf
 /// An owned run of tokens.
 #[derive(Debug, Drop)]
 pub(crate) struct TokenBuffer {
-    records: Vec<TokenTree>,
+    records: Vec<Record>,
 }
 
 impl Model for TokenBuffer {
@@ -299,14 +277,24 @@ impl TokenBuffer {
         }
     }
 
-    /// The tokens of a vector.
-    pub(crate) fn from_vec(tts: Vec<TokenTree>) -> TokenBuffer
-        ensures { result ≡ tts.items }
+    /// The tokens of a vector, which comes back if memory is refused.
+    pub(crate) fn from_vec(
+        alloc: Global,
+        tts: Vec<TokenTree>,
+    ) -> Result<TokenBuffer, (Vec<TokenTree>, AllocError)>
+        ensures ok { IfOk result (λ b. b ≡ tts.items) }
+        ensures err { IfErr result (λ e. e.0 ≡ tts) }
     {
-        TokenBuffer { records: tts }
+        match Vec::with_capacity(alloc, tts.len()) {
+            Ok(room) => Ok(TokenBuffer {
+                records: recorded(room, tts),
+            }),
+            Err(refusal) => Err((tts, refusal)),
+        }
     }
 
     /// The number of tokens.
+    #[inline(always)]
     pub(crate) fn len(&self) -> usize
         ensures { result ≡ length self.now }
     {
@@ -315,6 +303,7 @@ impl TokenBuffer {
 
     /// The tokens, borrowed.
     #[tactic(auto, unfolding(crate::specs::Records::items))]
+    #[inline(always)]
     pub(crate) fn tokens(&self) -> Tokens<'_>
         ensures { items result ≡ self.now }
     {
@@ -329,7 +318,7 @@ impl TokenBuffer {
         ensures ok { OnOk result (self.new ≡ self.old ++ token ∷ []) }
         ensures err { OnErr result (self.new ≡ self.old) }
     {
-        self.records.push(token)?;
+        self.records.push(Record::new(token))?;
         Ok(())
     }
 
@@ -381,10 +370,7 @@ impl TokenBuffer {
         requires { IsMarkIn at self.now }
         ensures { result ≡ head_at self.now at.count }
     {
-        match self.records.get(at.count)? {
-            TokenTree::Subtree(head) => Some(*head),
-            TokenTree::Leaf(_) => None,
-        }
+        self.records.get(at.count)?.head()
     }
 
     /// Keeps the tokens before a mark.
@@ -400,7 +386,7 @@ impl TokenBuffer {
         requires { IsHeadIn at self.old }
         ensures { self.new ≡ set self.old at.count (token.Subtree head) }
     {
-        self.records[at.count] = TokenTree::Subtree(head);
+        self.records[at.count] = Record::from_head(head);
     }
 
     /// Removes the head of a group, which is right after a mark.
@@ -417,7 +403,7 @@ impl TokenBuffer {
         ensures ok { OnOk result (self.new ≡ set self.old at (token.Leaf leaf)) }
         ensures err { OnErr result (self.new ≡ self.old) }
     {
-        self.records[at] = TokenTree::Leaf(leaf);
+        self.records[at] = Record::from_leaf(leaf);
         Ok(())
     }
 
@@ -428,7 +414,7 @@ impl TokenBuffer {
             × (self.new ≡ set self.old (length self.old - 1) (alone_token t)) }
     {
         let last = self.records.len() - 1;
-        set_alone(&mut self.records[last]);
+        self.records[last].set_alone();
     }
 
     /// Replaces the anchors of each token.
@@ -436,8 +422,8 @@ impl TokenBuffer {
         requires { IsAtHand renaming.now }
         ensures { self.new ≡ map (token_with (anchor_with (answer_of renaming.now))) self.old }
     {
-        for token in self.records.iter_mut() {
-            renaming.relabel(token);
+        for record in self.records.iter_mut() {
+            record.relabel(renaming);
         }
     }
 
@@ -456,13 +442,17 @@ impl TokenBuffer {
     }
 }
 
-// Makes a punct `Alone`.
-fn set_alone(token: &mut TokenTree)
-    ensures { token.new ≡ alone_token token.old }
+// The records of these tokens, put where there is room for them.
+fn recorded(room: Vec<Record>, tts: Vec<TokenTree>) -> Vec<Record>
+    requires empty { room.items ≡ [] }
+    requires fits { vec_len tts ≤ vec_capacity room }
+    ensures { result.items ≡ tts.items }
 {
-    if let TokenTree::Leaf(leaf) = token {
-        if let Leaf::Punct(punct) = leaf {
-            punct.spacing = Spacing::Alone;
-        }
+    let mut records = room;
+    for token in tts {
+        let Ok(()) = records.push(Record::new(token)) else {
+            unreachable!()
+        };
     }
+    records
 }

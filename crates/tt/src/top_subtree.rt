@@ -103,7 +103,7 @@ impl TopSubtree {
     /// The list comes back with `Malformed` exactly where it is not that of one group, or with
     /// `Memory`, its one other error. It may take memory from `alloc`.
     pub fn from_serialized(
-        _alloc: Global,
+        alloc: Global,
         tts: Vec<TokenTree>,
     ) -> Result<TopSubtree, (Vec<TokenTree>, TtFault)>
         ensures ok { IfOk result (λ t. tokens_of t ≡ tts.items) }
@@ -113,9 +113,10 @@ impl TopSubtree {
         if !is_one_group(tts.as_slice()) {
             return Err((tts, TtFault::Malformed));
         }
-        Ok(TopSubtree {
-            tokens: TokenBuffer::from_vec(tts),
-        })
+        match TokenBuffer::from_vec(alloc, tts) {
+            Ok(tokens) => Ok(TopSubtree { tokens }),
+            Err((tts, _)) => Err((tts, TtFault::Memory)),
+        }
     }
 
     /// The tree with invisible delimiters, both at `delim_span`, and these leaves inside.

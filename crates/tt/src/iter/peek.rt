@@ -11,6 +11,7 @@ use tt_data::{Delimiter, Ident, IdentRef, Leaf, LeafRef, LitKind, Punct, Subtree
 
 impl<'a> TtIter<'a> {
     /// The punct that comes next, if one does, and the trees after it.
+    #[inline(always)]
     pub fn first_punct(&self) -> Option<(Punct, TtIter<'a>)>
         ensures { result ≡ first_punct self.now }
     {
@@ -27,6 +28,7 @@ impl<'a> TtIter<'a> {
     }
 
     /// The identifier that comes next, lent, and the trees after it. Its text gets no other owner.
+    #[inline(always)]
     pub fn lent_ident(&self) -> Option<(IdentRef<'a>, TtIter<'a>)>
         ensures { option_map (λ p. (ident_lent p.0, p.1)) result ≡ first_ident self.now }
     {
@@ -35,6 +37,7 @@ impl<'a> TtIter<'a> {
     }
 
     /// The leaf that comes next, lent, and the trees after it. Its text gets no other owner.
+    #[inline(always)]
     pub fn lent_leaf(&self) -> Option<(LeafRef<'a>, TtIter<'a>)>
         ensures { option_map (λ p. (leaf_lent p.0, p.1)) result ≡ first_leaf self.now }
     {
@@ -60,6 +63,7 @@ impl<'a> TtIter<'a> {
 
     // The head of the group that comes next, an iterator over the trees inside, and one over
     // those after it.
+    #[inline(always)]
     pub(crate) fn first_subtree(&self) -> Option<(Subtree, TtIter<'a>, TtIter<'a>)>
         ensures { result ≡ first_subtree self.now }
     {
@@ -70,6 +74,7 @@ impl<'a> TtIter<'a> {
 
     /// The delimiters of the group that comes next, if one does, a walk over the trees inside, and
     /// one over the trees after it.
+    #[inline(always)]
     pub fn first_group(&self) -> Option<(Delimiter, TtIter<'a>, TtIter<'a>)>
         ensures { result ≡ first_group self.now }
     {

@@ -178,7 +178,7 @@ impl TopSubtreeBuilder {
     ///
     /// It refuses `Tokens` exactly where `u32::MAX` tokens are below the top; its one other error
     /// is `Memory`.
-    #[inline]
+    #[inline(always)]
     pub fn push(&mut self, leaf: Leaf) -> Result<(), TtFault>
         ensures ok { OnOk result (self.new.tree ≡ pushed self.old.tree leaf) }
         ensures last { self.new.last_closed ≡ self.old.last_closed }

@@ -5,24 +5,24 @@ use Rattle.tt.specs.Relabelling.{anchor_with}
 use Rattle.tt.proofs.RelabellingLemmas.{changed_up_to, changed_all, changed_next, written}
 use Rattle.tt.proofs.storage.TokenBuffer.relabel.Goals as goal
 
-pub loop-token-preserved : goal.loop-token-preserved
-loop-token-preserved c =
+pub loop-record-preserved : goal.loop-record-preserved
+loop-record-preserved c =
     let f = token_with (anchor_with (answer_of c.args.renaming.now)) in
-    let at = c.loop-token.token-index in
-    let before = c.deref_mut-token-items.result.now in
-    ap (set c.loop-token.token-items at) c.relabel.ensures
-    ∙ ap (λ xs. set xs at (f (get_or xs at c.token-item.result))) c.loop-token.invariant
-    ∙ changed_next f at before c.token-item.result c.loop-token-test.true
+    let at = c.loop-record.record-index in
+    let before = c.deref_mut-record-items.result.now in
+    ap (set c.loop-record.record-items at) c.relabel.ensures
+    ∙ ap (λ xs. set xs at (f (get_or xs at c.record-item.result))) c.loop-record.invariant
+    ∙ changed_next f at before c.record-item.result c.loop-record-test.true
     ∙ ap (λ n. changed_up_to f n before) (let next : suc at ≡ at + 1 = omega arith in next)
 
 pub returns : goal.returns
 returns c =
     let f = token_with (anchor_with (answer_of c.args.renaming.now)) in
-    let all = c.loop-token.token-items in
+    let all = c.loop-record.record-items in
     let old = c.self.inside.records.items in
-    let same : length all ≡ length old = c.loop-token.auto.token-items ∙ ap length c.deref_mut-token-items.ensures.value in
-    let len : c.self.inside.records.len ≡ length all = sym c.deref_mut-token-items.ensures.len ∙ sym c.loop-token.auto.token-items in
-    let over : c.loop-token.token-index ≡ length c.deref_mut-token-items.result.now = omega (arith, c.loop-token-test.false, c.loop-token.auto.token-index-end) in
-    ap (λ n. take n (all ++ drop (length all) old)) len ∙ written all old same ∙ c.loop-token.invariant
-    ∙ changed_all f c.loop-token.token-index c.deref_mut-token-items.result.now over
-    ∙ ap (map f) (c.deref_mut-token-items.ensures.value ∙ c.self.view_is)
+    let same : length all ≡ length old = c.loop-record.auto.record-items ∙ ap length c.deref_mut-record-items.ensures.value in
+    let len : c.self.inside.records.len ≡ length all = sym c.deref_mut-record-items.ensures.len ∙ sym c.loop-record.auto.record-items in
+    let over : c.loop-record.record-index ≡ length c.deref_mut-record-items.result.now = omega (arith, c.loop-record-test.false, c.loop-record.auto.record-index-end) in
+    ap (λ n. take n (all ++ drop (length all) old)) len ∙ written all old same ∙ c.loop-record.invariant
+    ∙ changed_all f c.loop-record.record-index c.deref_mut-record-items.result.now over
+    ∙ ap (map f) (c.deref_mut-record-items.ensures.value ∙ c.self.view_is)

@@ -5,6 +5,6 @@ use Rattle.tt.specs.Relabelling.{anchor_with}
 use Rattle.tt.proofs.RelabellingLemmas.{changed_up_to}
 use Rattle.tt.proofs.storage.TokenBuffer.relabel.Given as goal
 
-abbrev pub invariant-loop-token : goal.invariant-loop-token
-invariant-loop-token l =
-    l.token-items ≡ changed_up_to (token_with (anchor_with (answer_of l.renaming))) l.token-index l.initial.token-items
+abbrev pub invariant-loop-record : goal.invariant-loop-record
+invariant-loop-record l =
+    l.record-items ≡ changed_up_to (token_with (anchor_with (answer_of l.renaming))) l.record-index l.initial.record-items
