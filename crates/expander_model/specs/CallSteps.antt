@@ -1,12 +1,20 @@
 -- A call, read from left to right.
 use Rattle.std.specs.Prelude.{Option, Some, None}
 use Rattle.tt_data.specs.Forest.{Forest, group}
+use Rattle.tt_data.specs.declared.leaf.Ident.{Ident}
 use Rattle.expander_model.specs.declared.call.Call.{Call}
 use Rattle.expander_model.specs.Calls.{other, Marked, call, unmarked, is_colons, is_dollar_crate}
 use Rattle.expander_model.specs.Definitions.{or_else}
 use Rattle.small_grammar.specs.Text.{◌>>=◌, ◌>>◌}
 use Rattle.tt.specs.FirstTrees.{first_ident, first_punct, first_group}
 use Rattle.bridge.specs.Text.{is_char, is_visible}
+
+-- a visible group, after a name and its `!`
+abbrev pub group_call : Ident → Forest → Option Call
+group_call name f = do
+  (brackets, argument, rest) ← first_group f
+  is_visible brackets.kind
+  Some (record { name = name; from_group = f; argument = argument; rest = rest })
 
 -- a name, `!` and a visible group
 abbrev pub bare_call : Forest → Option Call
@@ -32,6 +40,15 @@ crate_call f = do
   (name, after_name) ← first_ident f
   is_dollar_crate name
   call_behind_colons after_name
+
+-- the call whose name comes before a list: `!` and a visible group, or after `$crate` a `::` and a call
+abbrev pub call_after : Ident → Forest → Option Call
+call_after name f = or_else
+    (is_dollar_crate name >> call_behind_colons f)
+    (do
+      (bang, after_bang) ← first_punct f
+      is_char "!" bang
+      group_call name after_bang)
 
 -- the call that a list begins with
 abbrev pub call_at : Forest → Option Call

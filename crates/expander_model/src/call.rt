@@ -1,10 +1,11 @@
 //! Finds the call that a list of trees begins with: a name, `!` and a visible group, side by side.
 ghost use Rattle.std.specs.Prelude.{◌≡◌, Option};
 ghost use Rattle.expander_model.specs.Calls.{is_colons};
-ghost use Rattle.expander_model.specs.CallSteps.{bare_call, call_behind_colons, crate_call, call_at};
+ghost use Rattle.expander_model.specs.CallSteps.{bare_call, call_after, call_at, call_behind_colons, group_call};
+ghost use Rattle.tt_data.specs.Lent.{ident_lent};
 
 use tt::TtIter;
-use tt_data::{DelimiterKind, Ident, Punct, Spacing};
+use tt_data::{DelimiterKind, Ident, IdentRef, Punct, Spacing};
 
 /// A call at the beginning of a list of trees.
 #[derive(Drop)]
@@ -24,16 +25,10 @@ fn is_colons(first: Punct, second: Punct) -> bool
     first.char == ':' && second.char == ':' && first.spacing != Spacing::Alone
 }
 
-// A name, `!` and a visible group.
-#[inline(always)]
-fn bare_call<'a>(trees: &TtIter<'a>) -> Option<Call<'a>>
-    ensures { result ≡ bare_call trees.now }
+// A visible group, after a name and its `!`.
+fn group_call<'a>(name: IdentRef<'a>, after_bang: TtIter<'a>) -> Option<Call<'a>>
+    ensures { result ≡ group_call (ident_lent name.entry) after_bang.entry }
 {
-    let (name, after_name) = trees.lent_ident()?;
-    let (bang, after_bang) = after_name.first_punct()?;
-    if bang.char != '!' {
-        return None;
-    }
     let (brackets, argument, rest) = after_bang.first_group()?;
     if brackets.kind == DelimiterKind::Invisible {
         return None;
@@ -44,6 +39,18 @@ fn bare_call<'a>(trees: &TtIter<'a>) -> Option<Call<'a>>
         argument,
         rest,
     })
+}
+
+// A name, `!` and a visible group.
+fn bare_call<'a>(trees: &TtIter<'a>) -> Option<Call<'a>>
+    ensures { result ≡ bare_call trees.now }
+{
+    let (name, after_name) = trees.lent_ident()?;
+    let (bang, after_bang) = after_name.first_punct()?;
+    if bang.char != '!' {
+        return None;
+    }
+    group_call(name, after_bang)
 }
 
 /// What would be a call but for the `::` with which the trees begin.
@@ -60,24 +67,26 @@ pub fn call_behind_colons<'a>(trees: &TtIter<'a>) -> Option<Call<'a>>
     }
 }
 
-// A call after its `$crate ::`.
-fn crate_call<'a>(trees: &TtIter<'a>) -> Option<Call<'a>>
-    ensures { result ≡ crate_call trees.now }
+// The call with this name, before the trees: of a name alone by its `!`, of `$crate` by its `::`.
+#[inline(always)]
+fn call_after<'a>(name: IdentRef<'a>, trees: &TtIter<'a>) -> Option<Call<'a>>
+    ensures { result ≡ call_after (ident_lent name.entry) trees.now }
 {
-    let (name, after_name) = trees.lent_ident()?;
-    if name.sym.as_str() == "$crate" {
-        call_behind_colons(&after_name)
-    } else {
-        None
+    let (mark, after_mark) = trees.first_punct()?;
+    if mark.char == '!' {
+        return group_call(name, after_mark);
     }
+    if mark.char == ':' && name.sym.as_str() == "$crate" {
+        return call_behind_colons(trees);
+    }
+    None
 }
 
 /// The call that the trees begin with, if they do. (The Rust Reference, "Macros": invocation.)
+#[inline(always)]
 pub fn call_at<'a>(trees: &TtIter<'a>) -> Option<Call<'a>>
     ensures { result ≡ call_at trees.now }
 {
-    match crate_call(trees) {
-        Some(call) => Some(call),
-        None => bare_call(trees),
-    }
+    let (name, after_name) = trees.lent_ident()?;
+    call_after(name, &after_name)
 }

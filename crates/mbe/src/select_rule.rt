@@ -28,6 +28,9 @@ use mbe_transcriber::fill;
 use std::alloc::Global;
 use tt::{Delimiter, Span, TokenTreesView, TopSubtree, TopSubtreeBuilder, TtFault};
 
+// How many tokens a result has room for at first.
+const USUAL_TOKENS: usize = 16;
+
 // The tree that a transcriber gives with these bindings. `None` if it has a fault.
 fn filled<M: Fn(Span) -> Span>(
     alloc: Global,
@@ -43,7 +46,7 @@ fn filled<M: Fn(Span) -> Span>(
     ensures tokens { (mark : Span → Span) → IsMarkedBy (M.post marker.now) mark → result ≡ Err Tokens →
         most_tokens < output is_name most_rounds mark (map_of bindings.now) (items_of template.now) }
 {
-    let mut out = TopSubtreeBuilder::new(alloc, top)?;
+    let mut out = TopSubtreeBuilder::with_room(alloc, top, USUAL_TOKENS)?;
     if !fill(&mut out, template, bindings, marker)? {
         return Ok(None);
     }

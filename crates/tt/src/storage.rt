@@ -277,6 +277,14 @@ impl TokenBuffer {
         }
     }
 
+    /// No tokens, with room for so many.
+    pub(crate) fn with_room(alloc: Global, tokens: usize) -> Result<TokenBuffer, AllocError>
+        ensures { IfOk result (λ b. b ≡ []) }
+    {
+        let records = Vec::with_capacity(alloc, tokens)?;
+        Ok(TokenBuffer { records })
+    }
+
     /// The tokens of a vector, which comes back if memory is refused.
     pub(crate) fn from_vec(
         alloc: Global,

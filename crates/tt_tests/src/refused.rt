@@ -3,6 +3,7 @@
 use crate::packed::{are_checked, are_numbered, are_told, have_sizes};
 use crate::samples::{begun, built, byte_at, punct, shows, tells, tree};
 use crate::states::{number_anchors, rewrite};
+use crate::walks::rebuilt;
 use std::alloc::Global;
 use std::test::*;
 use tt::{TokenTreesView, TopSubtree, TopSubtreeBuilder, pretty, token_to_literal};
@@ -34,7 +35,7 @@ fn filled(alloc: Global, trees: TokenTreesView<'_>) -> Result<TopSubtree, TtFaul
 }
 
 fn builds(alloc: Global) -> Result<bool, TtFault> {
-    let row = tree(alloc, "*/")?;
+    let row = rebuilt(alloc, &tree(alloc, "*/")?)?;
     shows(
         alloc,
         &filled(alloc, row.token_trees())?,

@@ -42,7 +42,7 @@ pub fn passed(trees: TokenTreesView<'_>) -> TokenTreesView<'_>
 pub fn rebuilt(alloc: Global, tree: &TopSubtree) -> Result<TopSubtree, TtFault>
     ensures { IfOk result (λ t. t ≡ tree.now) }
 {
-    let mut builder = TopSubtreeBuilder::new(alloc, tree.top_subtree().delimiter)?;
+    let mut builder = TopSubtreeBuilder::with_room(alloc, tree.top_subtree().delimiter, 4)?;
     put(&mut builder, tree.token_trees().iter())?;
     match builder.build() {
         Ok(tree) => Ok(tree),

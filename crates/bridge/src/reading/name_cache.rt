@@ -6,25 +6,27 @@ ghost use Rattle.tt_data.specs.fault.TtFault.TheVariants.{Memory};
 use std::alloc::Global;
 use tt_data::{Symbol, TtFault};
 
-// How many names are cached at most: a power of two.
-const MOST_NAMES: usize = 512;
+// How many slots there are at first, and once as many names were made: powers of two.
+const FEW: usize = 512;
+const MANY: usize = 4096;
 
 /// A cache of names that were read. A name that is read again shares its text and takes no memory.
 #[derive(Drop)]
 pub struct NameCache {
     pub(crate) alloc: Global,
-    // In each slot, the last name of that slot, or the very first name of all. Empty before the
-    // first name.
+    // In each slot, the last name of that slot, or another. Empty before the first name.
     recent: Vec<Symbol>,
+    // How many names were made.
+    made: usize,
 }
 
-// The slot of a name.
-fn slot_of(name: &str) -> usize {
-    let mut slot: usize = name.len();
+// A hash of a name.
+fn hash_of(name: &str) -> usize {
+    let mut hash: usize = name.len();
     for byte in name.as_bytes() {
-        slot = slot.wrapping_mul(31).wrapping_add(*byte as usize);
+        hash = hash.wrapping_mul(31).wrapping_add(*byte as usize);
     }
-    slot % MOST_NAMES
+    hash
 }
 
 impl NameCache {
@@ -33,6 +35,16 @@ impl NameCache {
         NameCache {
             alloc,
             recent: Vec::new(alloc),
+            made: 0,
+        }
+    }
+
+    // The slot of a name with this hash.
+    fn slot(&self, hash: usize) -> usize {
+        if self.recent.len() == MANY {
+            hash % MANY
+        } else {
+            hash % FEW
         }
     }
 
@@ -41,25 +53,31 @@ impl NameCache {
         ensures name { IfOk result (λ s. s ≡ name.now) }
         ensures memory { IsOkUnless result Memory }
     {
-        let slot = slot_of(name);
-        if let Some(known) = self.recent.get(slot) {
+        let hash = hash_of(name);
+        if let Some(known) = self.recent.get(self.slot(hash)) {
             if known.as_str() == name {
                 return Ok(known.clone()?);
             }
         }
         let symbol = Symbol::new(self.alloc, name)?;
-        self.keep(slot, symbol.clone()?)?;
+        self.keep(hash, symbol.clone()?)?;
         Ok(symbol)
     }
 
-    // Stores a name in its slot.
-    fn keep(&mut self, slot: usize, symbol: Symbol) -> Result<(), TtFault>
+    // Stores a name in its slot. There are more slots once there are many names.
+    fn keep(&mut self, hash: usize, symbol: Symbol) -> Result<(), TtFault>
         ensures memory { IsOkUnless result Memory }
     {
+        self.made = self.made.wrapping_add(1);
         if self.recent.is_empty() {
-            self.recent.resize(MOST_NAMES, symbol)?;
-        } else if let Some(other) = self.recent.get_mut(slot) {
-            *other = symbol;
+            self.recent.resize(FEW, symbol)?;
+        } else if self.made == FEW {
+            self.recent.resize(MANY, symbol)?;
+        } else {
+            let slot = self.slot(hash);
+            if let Some(other) = self.recent.get_mut(slot) {
+                *other = symbol;
+            }
         }
         Ok(())
     }

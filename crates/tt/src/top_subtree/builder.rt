@@ -158,7 +158,35 @@ impl TopSubtreeBuilder {
         ensures ok { IfOk result (λ b. b ≡ record { tree = record { top = top; groups = []; here = empty }; last_closed = None }) }
         ensures memory { IsOkUnless result fault.Memory }
     {
-        let mut tokens = TokenBuffer::new(alloc);
+        TopSubtreeBuilder::within(alloc, top, TokenBuffer::new(alloc))
+    }
+
+    /// The same, with room for so many tokens, the top's own among them. A tree keeps the room.
+    ///
+    /// `Memory` is its only error.
+    pub fn with_room(
+        alloc: Global,
+        top: Delimiter,
+        tokens: usize,
+    ) -> Result<TopSubtreeBuilder, TtFault>
+        ensures ok { IfOk result (λ b. b ≡ record { tree = record { top = top; groups = []; here = empty }; last_closed = None }) }
+        ensures memory { IsOkUnless result fault.Memory }
+    {
+        let tokens = TokenBuffer::with_room(alloc, tokens)?;
+        TopSubtreeBuilder::within(alloc, top, tokens)
+    }
+
+    // A builder over a list without tokens.
+    #[inline]
+    fn within(
+        alloc: Global,
+        top: Delimiter,
+        mut tokens: TokenBuffer,
+    ) -> Result<TopSubtreeBuilder, TtFault>
+        requires { tokens ≡ [] }
+        ensures ok { IfOk result (λ b. b ≡ record { tree = record { top = top; groups = []; here = empty }; last_closed = None }) }
+        ensures memory { IsOkUnless result fault.Memory }
+    {
         let first = TokenTree::Subtree(Subtree {
             delimiter: top,
             len: 0,

@@ -16,6 +16,12 @@ returns-in-Some-clause-numbered c = λ given known trees had has.
     numbered_again c.equal_pieces.ensures c.equal_trees.ensures given c.args.old.now known trees had c.args.now.now _ has c.args.tree.value c.requires.top k
     (c.requires.table c.args.tree.value k here) _ c.in_ok-push.ensures.definitions (search rules) c.in_ok-push.ensures.given c.in_ok-push.ensures.table here
 
+pub returns-in-Some-clause-tree : goal.returns-in-Some-clause-tree
+returns-in-Some-clause-tree c =
+    let k : MacroDef = c.in-Some.known.now.value in
+    let same : c.in_ok-known.known.value ≡ k = search rules in
+    ap (λ (x : MacroDef). x.tree) same ∙ c.requires.table c.args.tree.value k (sym c.in-Some.ensures)
+
 pub returns-in-Some-clause-number : goal.returns-in-Some-clause-number
 returns-in-Some-clause-number c =
     let k : MacroDef = c.in-Some.known.now.value in
