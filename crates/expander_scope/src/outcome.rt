@@ -60,7 +60,6 @@ pub struct Outcome {
 }
 
 // An owned copy of an event. It shares the text, takes no memory and is never refused.
-#[inline(always)]
 fn kept_step(step: &TokenEvent<'_>) -> EventKind
     ensures { kind_of result ≡ step_of step.now }
 {
@@ -84,7 +83,6 @@ pub fn lent(kind: &EventKind) -> TokenEvent<'_>
 
 /// Adds one event. `outer` is the span of the name of the outermost call that it comes from, if
 /// any.
-#[inline]
 pub(crate) fn push_own_step(
     steps: &mut Vec<Event>,
     step: &TokenEvent<'_>,

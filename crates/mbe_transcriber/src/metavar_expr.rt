@@ -41,6 +41,7 @@ const RESERVED: [&str; 52] = [
 ];
 
 /// Appends a leaf.
+#[inline(always)]
 pub(crate) fn put_leaf(out: &mut TopSubtreeBuilder, token: Leaf) -> Result<bool, TtFault>
     ensures faults { IfErr result IsWantOfRoom }
     ensures filled { Fills result out.old.tree out.new.tree (Some (leaf token empty)) }
