@@ -8,6 +8,7 @@ use tt_data::{Symbol, TtFault};
 
 // How many slots there are at first, and once as many names were made: powers of two.
 const FEW: usize = 512;
+
 const MANY: usize = 4096;
 
 /// A cache of names that were read. A name that is read again shares its text and takes no memory.
