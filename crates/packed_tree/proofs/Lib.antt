@@ -1,3 +1,6 @@
+pub mod BuilderLemmas
+pub mod DistinctLemmas
+pub mod PlaceLemmas
 pub mod PackingLemmas
 pub mod RecordLemmas
 pub mod NumberLemmas

@@ -68,6 +68,10 @@ known_again x xs n known t = by (same x t) refl where
       there ∙ sym (known_number-push x t xs ∙ rw there refl)
   by false e = sym (known_number-push x t xs ∙ rw (turned_by false x t e) (or_none (known_number t xs)))
 
+-- a text has the number that it has without another last one
+pub known_without : (x t : List ℕ) (xs : List (List ℕ)) → pointwise nat_eq x t ≡ false → known_number t (xs ++ x ∷ []) ≡ known_number t xs
+known_without x t xs e = known_number-push x t xs ∙ rw (turned_by false x t e) (or_none (known_number t xs))
+
 -- the number of a text, by whether it is known
 abbrev number_by : Option ℕ → ℕ → ℕ
 number_by (Some n) count = n

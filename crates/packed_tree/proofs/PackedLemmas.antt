@@ -71,7 +71,7 @@ length-with_text text (s ∷ more) = by (pointwise nat_eq text s) refl (length-w
   by true e behind = rw e (omega arith)
   by false e behind = rw e (omega arith)
 
-length-with_token : (found : Option (List ℕ)) (table : List (List ℕ)) → length (with_token found table) ≤ length table + 1
+pub length-with_token : (found : Option (List ℕ)) (table : List (List ℕ)) → length (with_token found table) ≤ length table + 1
 length-with_token None table = omega arith
 length-with_token (Some text) table = length-with_text text table
 

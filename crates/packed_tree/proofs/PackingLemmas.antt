@@ -47,7 +47,7 @@ abbrev new_texts : Option (List ℕ) → List (List ℕ) → List (List ℕ)
 new_texts None table = []
 new_texts (Some text) table = new_text text table
 
-with_token-append : (found : Option (List ℕ)) (table : List (List ℕ)) → with_token found table ≡ table ++ new_texts found table
+pub with_token-append : (found : Option (List ℕ)) (table : List (List ℕ)) → with_token found table ≡ table ++ new_texts found table
 with_token-append None table = sym (append-nil table)
 with_token-append (Some text) table = with_text-append text table
 

@@ -17,6 +17,7 @@ use Rattle.packed_tree.specs.Records.{BeginsWithToken, first_token, token_bytes,
 use Rattle.packed_tree.specs.Packing.{number_of, records, table_after, tokens_in}
 use Rattle.packed_tree.specs.Packed.{unpacked}
 use Rattle.packed_tree.specs.Numbers.{known_number}
+use Rattle.packed_tree.specs.Places.{inside_in, place_of, texts_in}
 
 abbrev at : ℕ → Span
 at n = record { range = record { start = n; «end» = n + 1 }; anchor = 0; ctx = Written }
@@ -106,6 +107,17 @@ known = refl
 
 unknown : known_number (codes "b") (codes "a" ∷ codes "1u8" ∷ []) ≡ None
 unknown = refl
+
+-- the group's head and the first `a` take 49 bytes and one text
+first_two : place_of (group ∷ name (codes "a") 1 ∷ []) ≡ record { count = 2; bytes = 49; texts = 1 }
+first_two = refl
+
+-- the head tells four tokens inside, and the record of `1u8` two texts
+tokens_inside : inside_in (token_bytes 0 group) ≡ 4
+tokens_inside = refl
+
+texts_told : texts_in (token_bytes 1 one) ≡ 2
+texts_told = refl
 
 -- a guarded string keeps its hashes
 abbrev guarded : TokenTree

@@ -4,3 +4,4 @@ pub mod Packing
 pub mod Packed
 -- what the functions inside promise each other
 pub mod Numbers
+pub mod Places

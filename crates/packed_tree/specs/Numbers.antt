@@ -1,5 +1,5 @@
 -- What the functions inside promise each other: how the number of a text is found.
-use Rattle.std.specs.Prelude.{◌≡◌, ℕ, suc, ◌<◌, ◌≤◌, List, [], ◌∷◌, length, Option, Some, None, option_map, nat_eq, if◌then◌else◌}
+use Rattle.std.specs.Prelude.{◌≡◌, ℕ, suc, ◌<◌, ◌≤◌, ⊤, List, [], ◌∷◌, ◌++◌, length, Option, Some, None, option_map, nat_eq, if◌then◌else◌}
 use Rattle.std.specs.HashMap.{get}
 use Rattle.std.specs.Cmp.Lexicographic.{pointwise}
 use Rattle.packed_tree.specs.declared.text_index.TextIndex.{TextIndex}
@@ -23,6 +23,17 @@ abbrev pub few : ℕ
 few = 16
 
 -- the index of a table is empty while it has few texts, and has all texts once there are more
-pub record IsNumbered (t : TextTable) : Type 0 where
-  pub none : length t.texts.items ≤ few → Indexes t.index []
-  pub all : few < length t.texts.items → Indexes t.index t.texts.items
+pub record IsIndexOf (index : TextIndex) (table : List (List ℕ)) : Type 0 where
+  pub none : length table ≤ few → Indexes index []
+  pub all : few < length table → Indexes index table
+
+abbrev pub IsNumbered : TextTable → Type 0
+IsNumbered t = IsIndexOf t.index t.texts.items
+
+-- each of some texts is new to those before it
+abbrev pub AreNew : List (List ℕ) → List (List ℕ) → Type 0
+AreNew before [] = ⊤
+AreNew before (text ∷ more) = (known_number text before ≡ None) × AreNew (before ++ text ∷ []) more
+
+abbrev pub AreDistinct : List (List ℕ) → Type 0
+AreDistinct table = AreNew [] table

@@ -6,6 +6,7 @@
 //! are. `specs/Records.antt` and `specs/Packing.antt` define both.
 #![tactic(auto)]
 
+mod builder;
 pub mod laws;
 mod packing;
 mod reading;
@@ -15,4 +16,5 @@ mod tree;
 mod unpacking;
 mod writing;
 
+pub use builder::{PackedRestorePoint, PackedTreeBuilder};
 pub use tree::PackedTree;

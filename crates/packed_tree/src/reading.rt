@@ -1,6 +1,7 @@
 //! Reads the records of tokens.
 ghost use Rattle.std.specs.Prelude.{◌≡◌, [], ◌+◌, ◌-◌, ◌<◌, ◌≤◌, ◌↔◌, IsSome, IfSome, SomeIff, length, drop};
 ghost use Rattle.packed_tree.specs.Records.{BeginsWithToken, Tells, entry_in, first_size, first_token as token_of, form_of, number, of_group, of_ident, of_literal, of_punct, size_of, sort_of, span_in, token_by};
+ghost use Rattle.packed_tree.specs.Places.{inside_in, texts_in};
 
 use tt_data::{
     Delimiter, DelimiterKind, Ident, IdentIsRaw, Leaf, LitKind, Literal, Punct, Spacing, Span,
@@ -182,4 +183,39 @@ pub(crate) fn after_first(bytes: &[u8]) -> Option<&[u8]>
     let size = size_of(*bytes.first()?);
     let (_, rest) = bytes.split_at_checked(size)?;
     Some(rest)
+}
+
+/// What a record tells of its place: its bytes, the tokens inside, and how many texts a table has
+/// at least that has its text.
+#[derive(Clone, Copy)]
+pub(crate) struct Extent {
+    pub size: usize,
+    pub inside: usize,
+    pub texts: usize,
+}
+
+/// What the first record, which is there whole, tells of its place.
+pub(crate) fn first_extent(bytes: &[u8]) -> Extent
+    requires { first_size bytes.now ≤ length bytes.now }
+    ensures size { result.size ≡ first_size bytes.now }
+    ensures inside { result.inside ≡ inside_in bytes.now }
+    ensures texts { result.texts ≡ texts_in bytes.now }
+{
+    match bytes[0] {
+        0 | 1 | 2 | 3 => Extent {
+            size: 31,
+            inside: number_in(from(bytes, 27)) as usize,
+            texts: 0,
+        },
+        4 | 5 | 6 => Extent {
+            size: 18,
+            inside: 0,
+            texts: 0,
+        },
+        tag => Extent {
+            size: size_of(tag),
+            inside: 0,
+            texts: number_in(from(bytes, 14)) as usize + 1,
+        },
+    }
 }

@@ -1,7 +1,7 @@
 //! A table of texts, numbered by first use.
-ghost use Rattle.std.specs.Prelude.{◌≡◌, ◌<◌, ◌≤◌, ◌^◌, ◌∷◌, ◌++◌, [], length, IfOk, OnOk};
+ghost use Rattle.std.specs.Prelude.{◌≡◌, ◌-◌, ◌<◌, ◌≤◌, ◌^◌, ◌∷◌, ◌++◌, [], None, length, take, IfOk, OnOk, OnErr};
 ghost use Rattle.packed_tree.specs.Packing.{number_of, with_text};
-ghost use Rattle.packed_tree.specs.Numbers.{IsNumbered};
+ghost use Rattle.packed_tree.specs.Numbers.{AreDistinct, IsIndexOf, IsNumbered, known_number};
 
 use crate::text_index::TextIndex;
 use std::alloc::{AllocError, Global};
@@ -58,39 +58,93 @@ impl TextTable {
         }
     }
 
-    // Appends a text that is not in the table. A refused call leaves no table of use.
+    // Puts the text that comes next into the index, if the table with it is long. `texts` has it
+    // last. A refused call changes nothing.
+    fn index_last(index: &mut TextIndex, texts: &[Symbol], text: Symbol) -> Result<(), AllocError>
+        requires some { 0 < length texts.now }
+        requires last { texts.now ≡ take (length texts.now - 1) texts.now ++ text ∷ [] }
+        requires absent { known_number text (take (length texts.now - 1) texts.now) ≡ None }
+        requires indexed { IsIndexOf index.old (take (length texts.now - 1) texts.now) }
+        requires room { length texts.now ≤ 2 ^ 32 }
+        ensures ok { OnOk result (IsIndexOf index.new texts.now) }
+        ensures err { OnErr result (IsIndexOf index.new (take (length texts.now - 1) texts.now)) }
+    {
+        let number = texts.len() - 1;
+        if number > FEW {
+            return index.insert(text, number as u32);
+        }
+        if number == FEW {
+            return index.insert_all(texts);
+        }
+        Ok(())
+    }
+
+    // Appends a text that is not in the table. A refused call changes nothing. That it is never
+    // inlined decides speed alone.
+    #[inline(never)]
     fn append(&mut self, text: Symbol) -> Result<(), AllocError>
         requires numbered { IsNumbered self.old }
         requires room { length self.old.texts.items < 2 ^ 32 }
         requires absent { number_of text self.old.texts.items ≡ length self.old.texts.items }
         ensures table { OnOk result (self.new.texts.items ≡ self.old.texts.items ++ text ∷ []) }
-        ensures numbered { OnOk result (IsNumbered self.new) }
+        ensures err { OnErr result (self.new.texts.items ≡ self.old.texts.items) }
+        ensures numbered { IsNumbered self.new }
     {
-        let number = self.texts.len();
         self.texts.push(text.clone()?)?;
-        if number > FEW {
-            return self.index.insert(text, number as u32);
+        match TextTable::index_last(&mut self.index, self.texts.as_slice(), text) {
+            Ok(()) => Ok(()),
+            Err(error) => {
+                let _ = self.texts.pop();
+                Err(error)
+            }
         }
-        if number == FEW {
-            return self.index.insert_all(self.texts.as_slice());
-        }
-        Ok(())
     }
 
-    /// The number of a text, which joins the table if it is not there. A refused call leaves no
-    /// table of use.
+    /// The number of a text, which joins the table if it is not there. A refused call changes
+    /// nothing.
     pub fn number(&mut self, text: &Symbol) -> Result<u32, AllocError>
         requires numbered { IsNumbered self.old }
         requires room { length self.old.texts.items < 2 ^ 32 }
         ensures number { IfOk result (λ n. n ≡ number_of text.now self.old.texts.items) }
         ensures table { OnOk result (self.new.texts.items ≡ with_text text.now self.old.texts.items) }
-        ensures numbered { OnOk result (IsNumbered self.new) }
+        ensures err { OnErr result (self.new.texts.items ≡ self.old.texts.items) }
+        ensures numbered { IsNumbered self.new }
     {
         let number = self.number_of(text);
         if number == self.texts.len() {
             self.append(text.clone()?)?;
         }
         Ok(number as u32)
+    }
+
+    /// Keeps the first `len` texts alone, or all if there are fewer. It takes no memory.
+    pub fn cut_back(&mut self, len: usize)
+        requires numbered { IsNumbered self.old }
+        requires distinct { AreDistinct self.old.texts.items }
+        ensures table { self.new.texts.items ≡ take len self.old.texts.items }
+        ensures numbered { IsNumbered self.new }
+    {
+        while self.texts.len() > len {
+            self.forget_last();
+        }
+    }
+
+    // Takes the last text out.
+    fn forget_last(&mut self)
+        requires numbered { IsNumbered self.old }
+        requires distinct { AreDistinct self.old.texts.items }
+        requires some { 0 < length self.old.texts.items }
+        ensures table { self.new.texts.items ≡ take (length self.old.texts.items - 1) self.old.texts.items }
+        ensures numbered { IsNumbered self.new }
+    {
+        let Some(text) = self.texts.pop() else {
+            return;
+        };
+        if self.texts.len() > FEW {
+            self.index.remove(&text);
+        } else if self.texts.len() == FEW {
+            self.index.clear();
+        }
     }
 
     /// The texts, by their numbers.

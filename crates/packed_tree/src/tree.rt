@@ -1,11 +1,11 @@
 //! Whole trees in packed form.
 ghost use Rattle.std.specs.Prelude.{◌≡◌, ◌⊎◌, ◌↔◌, [], IfOk, IfErr, IsOkUnless, IsTrue};
 ghost use Rattle.tt_data.specs.fault.TtFault.TheVariants as fault;
-ghost use Rattle.tt.specs.Tops.{Top, tokens_of};
+ghost use Rattle.tt.specs.Tops.{IsOneGroup, Top, tokens_of, tree_of};
 ghost use Rattle.packed_tree.specs.Packing.{records, table_after};
 ghost use Rattle.packed_tree.specs.Packed.{IsPackedForm};
 
-use crate::packing::packed_parts;
+use crate::packing::{Packing, packed_parts};
 use crate::unpacking::read_tree;
 use byte_buffer::ByteBuffer;
 use std::alloc::Global;
@@ -46,6 +46,15 @@ impl PackedTree {
         Ok(PackedTree { records, table })
     }
 
+    // The tree of tokens that are one group.
+    pub(crate) fn of(tokens: Packing) -> PackedTree
+        requires { IsOneGroup tokens }
+        ensures { result ≡ tree_of tokens }
+    {
+        let (records, table) = tokens.into_parts();
+        PackedTree { records, table }
+    }
+
     /// The records of all tokens, in preorder.
     pub fn bytes(&self) -> &[u8]
         ensures { result.now ≡ records [] (tokens_of self.now) }
@@ -73,8 +82,8 @@ impl PackedTree {
     /// The tree with these bytes and this table. They may come from anywhere: nothing is taken
     /// for granted.
     ///
-    /// The table comes back with `Malformed` exactly where they are not those of a tree, or with
-    /// `Memory`, its one other error.
+    /// Where they are not those of a tree, the table comes back with `Malformed`, or with `Memory`
+    /// if that lacks first. Where they are, `Memory` is its only error.
     pub fn from_parts(
         alloc: Global,
         bytes: &[u8],

@@ -130,8 +130,8 @@ fn literal_bytes(number: u32, literal: &Literal) -> [u8; 23]
     ]
 }
 
-// The record of the head of a group.
-fn head_bytes(head: &Subtree) -> [u8; 31]
+/// The record of the head of a group.
+pub(crate) fn head_bytes(head: &Subtree) -> [u8; 31]
     ensures { result ≡ token_bytes 0 (token.Subtree head.now) }
 {
     let mut record = [0; 31];

@@ -1,10 +1,10 @@
 //! Trees in packed form, and parts that are those of no tree.
 use crate::samples::{begun, built, byte_at, punct, put_all};
-use packed_tree::PackedTree;
+use packed_tree::{PackedTree, PackedTreeBuilder};
 use std::alloc::Global;
 use std::hash::{DefaultHasher, Hash, Hasher};
 use tt::{TopSubtree, TopSubtreeBuilder};
-use tt_data::{Ident, Leaf, LitKind, Literal, Symbol, TtFault};
+use tt_data::{Delimiter, DelimiterKind, Ident, Leaf, LitKind, Literal, Symbol, TtFault};
 
 // The leaf that a character stands for: a name, a literal with a suffix, or a punct.
 fn leaf(alloc: Global, char: char, start: u8) -> Result<Leaf, TtFault> {
@@ -185,5 +185,150 @@ pub(crate) fn are_checked(alloc: Global) -> Result<bool, TtFault> {
             && is_byte_refused(alloc, bytes, 45, 2, &["a", "1u8"])?
             && is_byte_refused(alloc, bytes, 104, 2, &["a", "1u8", "a"])?
             && is_byte_refused(alloc, bytes, 27, 5, &["a", "1u8"])?,
+    )
+}
+
+// A packed tree under construction, with nothing inside.
+fn started(alloc: Global) -> Result<PackedTreeBuilder, TtFault> {
+    PackedTreeBuilder::new(alloc, Delimiter::invisible_spanned(byte_at(0)))
+}
+
+// Appends what a character stands for: a brace opens or closes a group, every other is a leaf.
+fn pack(
+    builder: &mut PackedTreeBuilder,
+    alloc: Global,
+    char: char,
+    start: u8,
+) -> Result<(), TtFault> {
+    match char {
+        '{' => builder.open(DelimiterKind::Brace, byte_at(start)),
+        '}' => builder.close(byte_at(start)),
+        other => builder.push(leaf(alloc, other, start)?),
+    }
+}
+
+// Appends what the characters stand for. A call that is out of memory changes nothing, so it is
+// made once more.
+fn pack_all(
+    builder: &mut PackedTreeBuilder,
+    alloc: Global,
+    text: &str,
+    start: u8,
+) -> Result<(), TtFault> {
+    let mut at = start;
+    for char in text.chars() {
+        match pack(builder, alloc, char, at) {
+            Err(TtFault::Memory) => pack(builder, alloc, char, at)?,
+            answer => answer?,
+        }
+        at = at.wrapping_add(1);
+    }
+    Ok(())
+}
+
+fn finished(builder: PackedTreeBuilder) -> Result<PackedTree, TtFault> {
+    match builder.build() {
+        Ok(packed) => Ok(packed),
+        Err((_, fault)) => Err(fault),
+    }
+}
+
+// The packed tree of a text, built as it comes. Before each character, what `taken_back` stands
+// for is appended and taken back.
+fn packed_of(alloc: Global, text: &str, taken_back: &str) -> Result<PackedTree, TtFault> {
+    let mut builder = started(alloc)?;
+    let mut at = 0u8;
+    for char in text.chars() {
+        let point = builder.restore_point();
+        pack_all(&mut builder, alloc, taken_back, 100)?;
+        builder.restore(point)?;
+        pack_all(&mut builder, alloc, &char.to_string(alloc)?, at)?;
+        at = at.wrapping_add(1);
+    }
+    finished(builder)
+}
+
+// The tree `a1{;a}a`.
+fn mixed(alloc: Global) -> Result<TopSubtree, TtFault> {
+    let mut builder = begun(alloc, "")?;
+    builder.push(leaf(alloc, 'a', 0)?)?;
+    builder.push(leaf(alloc, '1', 1)?)?;
+    builder.open(DelimiterKind::Brace, byte_at(2))?;
+    builder.push(leaf(alloc, ';', 3)?)?;
+    builder.push(leaf(alloc, 'a', 4)?)?;
+    builder.close(byte_at(5))?;
+    builder.push(leaf(alloc, 'a', 6)?)?;
+    built(builder)
+}
+
+// Whether a tree that is built in packed form is the packed form of the tree, be other tokens
+// and other texts taken back on the way or not.
+pub(crate) fn are_built(alloc: Global) -> Result<bool, TtFault> {
+    let tree = mixed(alloc)?;
+    let direct = packed_of(alloc, "a1{;a}a", "")?;
+    let again = packed_of(alloc, "a1{;a}a", "1{+a}{a")?;
+    Ok(
+        direct.bytes().len() == 31 + 18 + 23 + 31 + 18 + 18 + 18
+            && direct == PackedTree::pack(alloc, &tree)?
+            && again.bytes() == direct.bytes()
+            && again.table() == direct.table()
+            && again == direct
+            && hash_of(&again) == hash_of(&direct)
+            && direct.unpack(alloc)? == tree,
+    )
+}
+
+// Appends these names.
+fn pack_names(
+    builder: &mut PackedTreeBuilder,
+    alloc: Global,
+    names: &[&str],
+) -> Result<(), TtFault> {
+    for name in names {
+        builder.push(Leaf::from(Ident::new(alloc, name, byte_at(0))?))?;
+    }
+    Ok(())
+}
+
+// Whether a table that has few texts again, or fewer of many, numbers the next ones as the table
+// of a tree that is built directly.
+pub(crate) fn are_cut_back(alloc: Global) -> Result<bool, TtFault> {
+    let mut builder = started(alloc)?;
+    pack_names(&mut builder, alloc, &NAMES[..10])?;
+    let few = builder.restore_point();
+    pack_names(&mut builder, alloc, &NAMES)?;
+    builder.restore(few)?;
+    pack_names(&mut builder, alloc, &NAMES[10..18])?;
+    let many = builder.restore_point();
+    pack_names(&mut builder, alloc, &["z", "y", "t"])?;
+    builder.restore(many)?;
+    pack_names(&mut builder, alloc, &NAMES[18..])?;
+    pack_names(&mut builder, alloc, &NAMES)?;
+    let packed = finished(builder)?;
+    let tree = names_twice(alloc, &NAMES)?;
+    Ok(packed == PackedTree::pack(alloc, &tree)? && packed.table().len() == 20)
+}
+
+// Whether a close too many, a point in a group that is closed, and a build with an open group
+// are refused.
+pub(crate) fn are_misplaced(alloc: Global) -> Result<bool, TtFault> {
+    let mut builder = started(alloc)?;
+    let closed = builder.close(byte_at(0));
+    builder.open(DelimiterKind::Brace, byte_at(0))?;
+    builder.push(leaf(alloc, 'a', 1)?)?;
+    let inside = builder.restore_point();
+    builder.close(byte_at(2))?;
+    let stale = builder.restore(inside);
+    builder.open(DelimiterKind::Brace, byte_at(3))?;
+    let Err((mut builder, open)) = builder.build() else {
+        return Ok(false);
+    };
+    builder.close(byte_at(4))?;
+    let packed = finished(builder)?;
+    Ok(
+        closed == Err(TtFault::Place)
+            && stale == Err(TtFault::Stale)
+            && open == TtFault::Place
+            && packed.bytes().len() == 31 + 31 + 18 + 31,
     )
 }

@@ -1,6 +1,8 @@
 //! Each call that takes memory, made once more if it was refused: for runs in which one allocation
 //! fails. A refused call changes nothing, so the tree is the expected one.
-use crate::packed::{are_checked, are_numbered, are_told, have_sizes};
+use crate::packed::{
+    are_built, are_checked, are_cut_back, are_misplaced, are_numbered, are_told, have_sizes,
+};
 use crate::samples::{begun, built, byte_at, punct, shows, tells, tree};
 use crate::states::{number_anchors, rewrite};
 use crate::walks::rebuilt;
@@ -192,5 +194,23 @@ fn reads_parts(rt: HostRuntime) -> Result<(), Fail> {
         answer => answer?,
     };
     assert!(rt; checked && numbered);
+    Ok(())
+}
+
+#[test]
+fn packs_as_it_comes(rt: HostRuntime) -> Result<(), Fail> {
+    let built = match are_built(rt.alloc()) {
+        Err(TtFault::Memory) => are_built(rt.alloc())?,
+        answer => answer?,
+    };
+    let cut_back = match are_cut_back(rt.alloc()) {
+        Err(TtFault::Memory) => are_cut_back(rt.alloc())?,
+        answer => answer?,
+    };
+    let misplaced = match are_misplaced(rt.alloc()) {
+        Err(TtFault::Memory) => are_misplaced(rt.alloc())?,
+        answer => answer?,
+    };
+    assert!(rt; built && cut_back && misplaced);
     Ok(())
 }

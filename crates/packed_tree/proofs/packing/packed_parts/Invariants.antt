@@ -8,5 +8,5 @@ abbrev pub invariant-loop-token : goal.invariant-loop-token
 invariant-loop-token l =
     (goal.iterator-loop-token).can_next l.token-iterator
     × (goal.iterator-loop-token).is_finite l.token-iterator
-    × PacksOn (tokens_of l.fn.tree) l.token-iterator l.packing.records l.packing.texts.texts.items
-    × IsNumbered l.packing.texts
+    × PacksOn (tokens_of l.fn.tree) l.token-iterator l.records l.texts.texts.items
+    × IsNumbered l.texts

@@ -4,8 +4,8 @@ use Rattle.std.specs.Cmp.Lexicographic.{pointwise}
 use Rattle.std.specs.Prelude.{is_some}
 use Rattle.packed_tree.specs.Numbers.{number_at}
 use Rattle.packed_tree.proofs.NumberLemmas.{goes_on, stays}
-use Rattle.packed_tree.proofs.text_index.TextIndex.insert_all.Goals as goal
-use Rattle.packed_tree.proofs.text_index.TextIndex.insert_all.Goals.{then-is_none+in_ok-clone+in_ok-insert, else-is_none}
+use Rattle.packed_tree.proofs.text_index.TextIndex.insert_each.Goals as goal
+use Rattle.packed_tree.proofs.text_index.TextIndex.insert_each.Goals.{then-is_none+in_ok-clone+in_ok-insert, else-is_none}
 
 pub loop-at-preserved : goal.loop-at-preserved
 loop-at-preserved c =
@@ -17,7 +17,7 @@ loop-at-preserved c =
           let absent : is_some (number_at c.loop-at.self x) ≡ false = tells ∙ c.is_none.ensures ∙ ap not w.if-is_none.true in
           let copied : w.in_ok-clone.field-0 ≡ x = search rules in
           let put : (t : List ℕ) → number_at w.insert.new.self t ≡ (if pointwise nat_eq x t then Some c.loop-at.at else number_at c.loop-at.self t) =
-          λ t. w.in_ok-insert.ensures t ∙ ap (λ y. if pointwise nat_eq y t then Some c.loop-at.at else number_at c.loop-at.self t) copied in
+          λ t. w.in_ok-insert.ensures.ok t ∙ ap (λ y. if pointwise nat_eq y t then Some c.loop-at.at else number_at c.loop-at.self t) copied in
           let new = goes_on x texts c.loop-at.at (number_at c.loop-at.self) (number_at w.insert.new.self) c.loop-at-test.true c.index-texts-at.is
           c.loop-at.invariant absent put in
           λ t. rw w.self-is (new t)
