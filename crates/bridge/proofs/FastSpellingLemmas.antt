@@ -2,7 +2,7 @@
 -- leaf.
 use Rattle.std.proofs.Common.{◌≡◌, ◌≢◌, ℕ, ◌<◌, ◌^◌, Bool, true, false, ◌&&◌, List, [], ◌∷◌, ◌++◌, length, take, drop, ◌-◌, ◌+◌, subst, refl, sym, ap, ◌∙◌, arith, IsUtf8, if◌then◌else◌, sum_by}
 use Rattle.std.specs.List.{list_all}
-use Rattle.std.specs.Prelude.{codes, Option, Some, None, nat_lt, IfSome}
+use Rattle.std.specs.Prelude.{codes, Option, Some, None, nat_eq, nat_lt, not}
 use Rattle.std.specs.Char.{encode_utf8}
 use Rattle.std.specs.Str.{IsAscii, bytes_eq, chars, is_utf8}
 use Rattle.std.proofs.lemmas.Bool.{and_parts}
@@ -26,6 +26,7 @@ use Rattle.tt_data.specs.Displayed.{displayed_leaf}
 use Rattle.tt_data.specs.Literals.{LiteralParts}
 use Rattle.tt_data.specs.Names.{prefix_of}
 use Rattle.tt_data.specs.Spans.{no_span}
+use Rattle.tt_data.specs.Walk.{Step, at_leaf}
 use Rattle.tt_data.specs.declared.leaf.Ident.{Ident}
 use Rattle.tt_data.specs.declared.leaf.IdentIsRaw.{IdentIsRaw}
 use Rattle.tt_data.specs.declared.leaf.IdentIsRaw.TheVariants as is_raw
@@ -36,7 +37,9 @@ use Rattle.tt_data.specs.declared.leaf.Punct.{Punct}
 use Rattle.tt_data.specs.declared.leaf.Spacing.TheVariants.{Alone}
 use Rattle.tt_data.specs.declared.span.Span.{Span}
 use Rattle.bridge.specs.FastSpellings.{is_mark_char, is_plain_byte}
-use Rattle.bridge.specs.Spelling.{is_one, is_plain_name, is_short_text, is_text_of, leaf_spelling, same_form, same_rawness, spelled_leaf}
+use Rattle.tt.specs.Glued.{is_joint}
+use Rattle.bridge.specs.Spelling.{begins_with_name, is_one, is_plain_name, is_short_text, is_text_of, leaf_spelling, quote_spelling, same_form, same_rawness, spelled_leaf, spelling}
+use Rattle.bridge.specs.Text.{char, is_char}
 use Rattle.bridge.specs.TokenSteps.{mark_leaf, text_steps}
 use Rattle.bridge.proofs.AgainLemmas.{literal_by, punct_alike, same_bytes, stays, that_by}
 use Rattle.bridge.proofs.SpellingLemmas.{one_len, told_of_one}
@@ -74,6 +77,14 @@ mark_spelled p h =
     let alike = that_by (as_leaf.Punct q) (as_leaf.Punct p) (punct_alike q p refl) (text_steps text) in
     spelled_as (as_leaf.Punct p) text refl (encode_ascii p.char (mark_low p.char h))
     (ap (λ b. is_short_text text && (is_one (tokens_of (chars text)) && b)) alike ∙ told)
+
+no_quote : (p : Punct) → is_mark_char p.char ≡ true → is_char "'" p ≡ false
+no_quote p h = (let t = told_of_any (λ x. not (nat_eq x (char "'"))) p.char marks refl h in grind (arith, nat_tests))
+
+pub mark_printed : (p : Punct) (more : List Step) → is_mark_char p.char ≡ true → spelling (at_leaf (as_leaf.Punct p)) more ≡ Some (encode_utf8 p.char)
+mark_printed p more h =
+    ap (λ u. if u then quote_spelling (is_joint p.spacing && begins_with_name more) else leaf_spelling (as_leaf.Punct p)) (no_quote p h)
+    ∙ (mark_spelled p h ∙ ap Some (sym (encode_ascii p.char (mark_low p.char h))))
 
 -- ---- names
 
@@ -114,11 +125,6 @@ dollar_crate_spelled i h = ap (λ u. shown (if u then record i { sym = codes "cr
         → shown (record { sym = codes "crate"; span = i.span; is_raw = r }) ≡ Some (codes "crate")
     by_rawness is_raw.No told = ap (λ u. if u then Some (codes "crate") else None) (crate_told i.span)
     by_rawness is_raw.Yes told = absurd (cc)
-
-pub marked : {T : Type 0} (p : Punct) (o : Option T) (text_in : T → List ℕ) → IfSome o (λ t. text_in t ≡ p.char ∷ []) → IfSome o (λ t. is_mark_char p.char ≡ true)
-    → IfSome o (λ t. leaf_spelling (as_leaf.Punct p) ≡ Some (text_in t))
-marked p None text_in e h = e
-marked p (Some t) text_in e h = mark_spelled p h ∙ ap Some (sym e)
 
 -- ---- numbers
 

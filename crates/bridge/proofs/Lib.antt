@@ -22,6 +22,7 @@ mod PieceLemmas
 mod SpellingLemmas
 mod EdgeLemmas
 mod PrintStepLemmas
+mod PutLemmas
 mod PrintedChunkLemmas
 mod SpanListLemmas
 mod OrderLemmas

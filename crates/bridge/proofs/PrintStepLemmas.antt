@@ -9,9 +9,6 @@ use Rattle.std.proofs.lemmas.Bool.Decides.{nat_tests}
 use Rattle.tt_data.specs.Walk.{Step, at_leaf}
 use Rattle.tt_data.specs.declared.delimiter.DelimiterKind.{DelimiterKind}
 use Rattle.tt_data.specs.declared.delimiter.DelimiterKind.TheVariants.{Parenthesis, Brace, Bracket, Invisible}
-use Rattle.tt_data.specs.declared.leaf.IdentIsRaw.{IdentIsRaw}
-use Rattle.tt_data.specs.declared.leaf.IdentIsRaw.TheVariants as is_raw
-use Rattle.tt_data.specs.declared.leaf.Leaf.{Leaf}
 use Rattle.tt_data.specs.declared.leaf.Leaf.TheVariants as as_leaf
 use Rattle.tt_data.specs.declared.leaf.Punct.{Punct}
 use Rattle.tt_data.specs.declared.leaf.Spacing.{Spacing}
@@ -22,8 +19,7 @@ use Rattle.bridge.specs.Edges.{edge_of, gap_between}
 use Rattle.bridge.specs.PrintStates.{Grows, IsLonger, gap_behind, printed_so_far}
 use Rattle.bridge.specs.Printers.{Continues, PrinterState, Prints, continued, pending, quote_at}
 use Rattle.bridge.specs.Printing.{Print, PrintedToken, depth_after, is_visible_step, left_out_from, printed, spans_of, spelled, step_span, text_from, unspelled, visible}
-use Rattle.bridge.specs.PrintSteps.{is_name_leaf}
-use Rattle.bridge.specs.Spelling.{begins_with_name, close_text, is_spelled, leaf_spelling, open_text, quote_spelling, same_rawness, spelling}
+use Rattle.bridge.specs.Spelling.{begins_with_name, close_text, leaf_spelling, open_text, quote_spelling, spelling}
 use Rattle.tt.specs.Glued.{is_joint}
 use Rattle.bridge.specs.Text.{char, is_char, is_visible}
 use Rattle.bridge.proofs.EdgeLemmas.{IsSpelled, gap_same}
@@ -134,26 +130,6 @@ pub quote_apart : (p : Punct) (more : List Step) → is_char "'" p ≡ true → 
 quote_apart p more e f =
     ap (λ u. if u then quote_spelling (is_joint p.spacing && begins_with_name more) else leaf_spelling (as_leaf.Punct p)) e
     ∙ ap (λ j. quote_spelling (j && begins_with_name more)) f
-
--- ---- whether a name follows
-
-never_named : (r : IdentIsRaw) → (same_rawness r is_raw.No && false) ≡ false
-never_named is_raw.No = refl
-never_named is_raw.Yes = refl
-
-named : (r : IdentIsRaw) → (same_rawness r is_raw.No && true) ≡ same_rawness r is_raw.No
-named is_raw.No = refl
-named is_raw.Yes = refl
-
-pub no_name_follows : (l : Leaf) (more : List Step) → spelling (at_leaf l) more ≡ None → begins_with_name (at_leaf l ∷ more) ≡ false
-no_name_follows (as_leaf.Ident i) more e = ap (λ o. same_rawness i.is_raw is_raw.No && is_spelled o) e ∙ never_named i.is_raw
-no_name_follows (as_leaf.Punct p) more e = refl
-no_name_follows (as_leaf.Literal l) more e = refl
-
-pub name_follows : (l : Leaf) (more : List Step) (text : List ℕ) → spelling (at_leaf l) more ≡ Some text → begins_with_name (at_leaf l ∷ more) ≡ is_name_leaf l
-name_follows (as_leaf.Ident i) more text e = ap (λ o. same_rawness i.is_raw is_raw.No && is_spelled o) e ∙ named i.is_raw
-name_follows (as_leaf.Punct p) more text e = refl
-name_follows (as_leaf.Literal l) more text e = refl
 
 -- ---- visible and invisible steps
 

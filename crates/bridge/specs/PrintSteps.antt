@@ -1,19 +1,10 @@
 -- How the code goes over the events that it prints.
-use Rattle.std.specs.Prelude.{◌≡◌, Bool, false, List, [], ◌∷◌, ◌++◌, Option, Some, None, reverse}
+use Rattle.std.specs.Prelude.{◌≡◌, List, [], ◌∷◌, ◌++◌, Option, Some, None, reverse}
 use Rattle.tt_data.specs.Walk.{Step, closes, walk}
-use Rattle.tt_data.specs.declared.leaf.IdentIsRaw.TheVariants.{No}
-use Rattle.tt_data.specs.declared.leaf.Leaf.{Leaf}
-use Rattle.tt_data.specs.declared.leaf.Leaf.TheVariants as as_leaf
-use Rattle.bridge.specs.Spelling.{same_rawness}
 use Rattle.bridge.specs.declared.printing.event.OpenGroup.{OpenGroup}
 use Rattle.bridge.specs.declared.printing.event.Events.{Events}
 use Rattle.bridge.specs.declared.printing.event.TokenEvent.{TokenEvent}
 use Rattle.bridge.specs.TokenEvents.{step_of}
-
--- the leaf is an identifier that isn't raw
-abbrev pub is_name_leaf : Leaf → Bool
-is_name_leaf (as_leaf.Ident i) = same_rawness i.is_raw No
-is_name_leaf l = false
 
 -- the events after the trees that are left, where these groups are open, the innermost first
 abbrev pub steps_around : List OpenGroup → List Step

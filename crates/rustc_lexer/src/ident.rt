@@ -1,5 +1,5 @@
 //! Lexes identifiers, keywords, and the literals and unknown prefixes that begin with a letter.
-ghost use Rattle.std.specs.Prelude.{◌≡◌, ◌<◌, ◌^◌, ◌==◌, ◌&&◌, ◌||◌, true, codes, slice_index, length, chars};
+ghost use Rattle.std.specs.Prelude.{◌≡◌, ◌<◌, ◌^◌, ◌==◌, ◌&&◌, ◌||◌, true, IsTrue, codes, slice_index, length, chars};
 ghost use Rattle.rustc_lexer.specs.Character.{char_at, begins, is_id_start, is_ident};
 ghost use Rattle.rustc_lexer.specs.Lexeme.{plain_word, marked_word, word, quoted, string, raw_string};
 ghost use Rattle.rustc_lexer.specs.Scanned.{IsRead};
@@ -23,6 +23,14 @@ pub fn is_ident(string: &str) -> bool
         Some((c, after)) => is_id_start(c) && skip_while::<Continue>(after).is_empty(),
         None => false,
     }
+}
+
+/// Whether the text is one identifier of ASCII characters. It is inlined, and calls nothing.
+#[inline(always)]
+pub fn is_ascii_ident(string: &str) -> bool
+    ensures { IsTrue result → is_ident (chars string.now) ≡ true }
+{
+    start_of(first_byte(string)) == b'a' && skip_ascii::<Continue>(string).is_empty()
 }
 
 // The lexeme that begins with a character that may begin an identifier. Most are ASCII, and no

@@ -26,7 +26,7 @@ pub use character::{
     UNICODE_VERSION, is_horizontal_whitespace, is_id_continue, is_id_start, is_whitespace,
 };
 pub use cursor::Cursor;
-pub use ident::is_ident;
+pub use ident::{is_ascii_ident, is_ident};
 pub use lex::tokenize;
 pub use raw_str::{RawStrError, validate_raw_str};
 pub use relex::{Kept, LexedText};

@@ -1,6 +1,7 @@
 //! Classes of characters.
 use rustc_lexer::{
-    UNICODE_VERSION, is_horizontal_whitespace, is_id_continue, is_id_start, is_ident, is_whitespace,
+    UNICODE_VERSION, is_ascii_ident, is_horizontal_whitespace, is_id_continue, is_id_start,
+    is_ident, is_whitespace,
 };
 
 // Whether the character is white space, is white space inside a line, begins an identifier, and
@@ -47,6 +48,10 @@ fn tells_identifiers(rt: HostRuntime) {
     ];
     for (text, want) in cases {
         assert!(rt; is_ident(text) == want, "identifier {text:?}");
+        assert!(rt;
+            is_ascii_ident(text) == (want && text.is_ascii()),
+            "in ASCII {text:?}"
+        );
     }
     assert!(rt; UNICODE_VERSION == (18, 0, 0));
 }

@@ -1,6 +1,6 @@
 //! The fast path of spelling: leaves whose kind and text alone show how they are spelled, so that
 //! nothing is lexed. It decides speed alone.
-ghost use Rattle.std.specs.Prelude.{◌≡◌, ◌↔◌, ◌<◌, ◌^◌, ◌∷◌, [], true, IfSome, IsTrue, Some, codes, length};
+ghost use Rattle.std.specs.Prelude.{◌≡◌, ◌↔◌, ◌<◌, ◌^◌, true, IfSome, IsTrue, Some, codes, length};
 ghost use Rattle.std.specs.List.{list_all};
 ghost use Rattle.bridge.specs.FastSpellings.{is_mark_char, is_plain_byte};
 ghost use Rattle.bridge.specs.Spelling.{is_plain_name, is_text_of, leaf_spelling};
@@ -9,8 +9,8 @@ ghost use Rattle.tt_data.specs.Displayed.{displayed_leaf};
 ghost use Rattle.tt_data.specs.Lent.{ident_lent, leaf_lent, literal_lent};
 ghost use Rattle.tt_data.specs.declared.leaf.Leaf.TheVariants as as_leaf;
 
-use rustc_lexer::{is_ident, laws};
-use tt_data::{IdentRef, LeafRef, LitKind, LiteralRef, Punct};
+use rustc_lexer::{is_ascii_ident, is_ident, laws};
+use tt_data::{IdentRef, LeafRef, LitKind, LiteralRef};
 
 // Whether the text is no longer than a text with tokens may be.
 fn is_short(text: &str) -> bool
@@ -19,41 +19,20 @@ fn is_short(text: &str) -> bool
     text.len() <= u32::MAX as usize
 }
 
-// The text of a character that is a punct in a text. `None` for a quote.
-fn mark_text(char: char) -> Option<&'static str>
-    ensures text { IfSome result (λ t. t.now ≡ char ∷ []) }
-    ensures mark { IfSome result (λ t. is_mark_char char ≡ true) }
-{
-    match char {
-        ';' => Some(";"),
-        ',' => Some(","),
-        '.' => Some("."),
-        '@' => Some("@"),
-        '#' => Some("#"),
-        '~' => Some("~"),
-        '?' => Some("?"),
-        ':' => Some(":"),
-        '$' => Some("$"),
-        '=' => Some("="),
-        '!' => Some("!"),
-        '<' => Some("<"),
-        '>' => Some(">"),
-        '-' => Some("-"),
-        '&' => Some("&"),
-        '|' => Some("|"),
-        '+' => Some("+"),
-        '*' => Some("*"),
-        '/' => Some("/"),
-        '^' => Some("^"),
-        '%' => Some("%"),
-        _ => None,
-    }
-}
+// At the index of each character that is a punct in a text, and no quote, that character; a blank
+// at every other index.
+static MARKS: [u8; 128] = *b"\
+    \x20                               \
+    \x20! #$%&   *+,-./          :;<=>?\
+    @                             ^ \
+    \x20                           | ~ ";
 
-fn punct_text(punct: Punct) -> Option<&'static str>
-    ensures { IfSome result (λ t. leaf_spelling (as_leaf.Punct punct) ≡ Some t.now) }
+/// Whether the character is a punct in a text, and no quote.
+#[inline(always)]
+pub(crate) fn is_mark(char: char) -> bool
+    ensures { IsTrue result → is_mark_char char ≡ true }
 {
-    mark_text(punct.char)
+    char.is_ascii() && MARKS[char as usize] != b' '
 }
 
 // The name, if it is an identifier that is not raw.
@@ -70,6 +49,21 @@ fn name_text<'a>(ident: IdentRef<'a>) -> Option<&'a str>
     }
 }
 
+/// The name, if it is an identifier of ASCII characters that is not raw.
+#[inline(always)]
+pub(crate) fn ascii_name<'a>(ident: IdentRef<'a>) -> Option<&'a str>
+    ensures { IfSome result (λ t. leaf_spelling (as_leaf.Ident (ident_lent ident.entry)) ≡ Some t.now) }
+{
+    laws::token_lengths();
+    laws::one_identifier();
+    let name = ident.sym.as_str();
+    if ident.is_raw.no() && is_short(name) && is_ascii_ident(name) {
+        Some(name)
+    } else {
+        None
+    }
+}
+
 /// Whether the name is `$crate`.
 pub(crate) fn is_dollar_crate(ident: IdentRef<'_>) -> bool
     ensures { result ≡ is_plain_name (codes "$crate") (ident_lent ident.entry) }
@@ -77,8 +71,8 @@ pub(crate) fn is_dollar_crate(ident: IdentRef<'_>) -> bool
     ident.is_raw.no() && ident.sym.as_str() == "$crate"
 }
 
-// The spelling of an identifier that is not raw, or of `$crate`.
-fn ident_text<'a>(ident: IdentRef<'a>) -> Option<&'a str>
+/// The spelling of an identifier that is not raw, or of `$crate`.
+pub(crate) fn ident_text<'a>(ident: IdentRef<'a>) -> Option<&'a str>
     ensures { IfSome result (λ t. leaf_spelling (as_leaf.Ident (ident_lent ident.entry)) ≡ Some t.now) }
 {
     let text = name_text(ident);
@@ -100,8 +94,8 @@ fn has_digits_alone(text: &str) -> bool
     true
 }
 
-// The text of a number that is only digits, without a suffix.
-fn number_text<'a>(literal: LiteralRef<'a>) -> Option<&'a str>
+/// The text of a number that is only digits, without a suffix.
+pub(crate) fn number_text<'a>(literal: LiteralRef<'a>) -> Option<&'a str>
     ensures { IfSome result (λ t. leaf_spelling (as_leaf.Literal (literal_lent literal.entry)) ≡ Some t.now) }
 {
     laws::token_lengths();
@@ -142,15 +136,4 @@ pub(crate) fn is_plain_string(literal: LiteralRef<'_>) -> bool
         return stands_for_itself(text);
     }
     false
-}
-
-/// The spelling of the leaf, if its kind and its text alone show it.
-pub(crate) fn fast_spelling<'a>(leaf: LeafRef<'a>) -> Option<&'a str>
-    ensures { IfSome result (λ t. leaf_spelling (leaf_lent leaf.entry) ≡ Some t.now) }
-{
-    match leaf {
-        LeafRef::Ident(ident) => ident_text(ident),
-        LeafRef::Punct(punct) => punct_text(punct),
-        LeafRef::Literal(literal) => number_text(literal),
-    }
 }

@@ -3,6 +3,7 @@ ghost use Rattle.std.specs.Prelude.{◌≡◌, ◌<◌, ◌^◌, ◌++◌, ◌�
 ghost use Rattle.bridge.specs.PrintStates.{Fits, Grows, PutsAny, state_of};
 ghost use Rattle.bridge.specs.PrintedTrees.{print_in};
 ghost use Rattle.bridge.specs.PrintedRanges.{printed_ranges, read_ranges};
+ghost use Rattle.bridge.specs.TokenEvents.{step_of};
 ghost use Rattle.bridge.specs.Printing.{print_of, printed, visible};
 ghost use Rattle.tt_data.specs.Walk.{Step, walk};
 ghost use Rattle.tt.specs.Views.{forest};
@@ -14,7 +15,8 @@ use crate::printing::event::{TokenEvent, events_of, next_event};
 use crate::printing::relative_spans::Shift;
 use crate::printing::span_list::SpanList;
 use crate::printing::state::{
-    PrintState, empty_state, empty_state_with_room, end, end_with_spans, put_event, save, undo,
+    PrintState, empty_state, empty_state_with_room, end, end_with_spans, put_event, put_next, save,
+    undo,
 };
 use crate::printing::token_ranges::{TokenRanges, token_ranges};
 use std::alloc::{AllocError, Global};
@@ -144,12 +146,11 @@ impl Printer {
         ensures err { OnErr result (self.new ≡ self.old) }
         ensures memory { IsOkUnless result Memory }
     {
-        let alloc = *self.out.left_out.allocator();
-        let before = save(&self.out);
-        match put_event(alloc, &mut self.out, step) {
-            Ok(()) => Ok(()),
-            Err(fault) => Err(undo(&mut self.out, before, fault)),
+        if self.out.waiting.is_none() {
+            let alloc = *self.out.left_out.allocator();
+            return put_next(alloc, &mut self.out, step);
         }
+        put_behind_quote(&mut self.out, step)
     }
 
     /// Whether a chunk can be appended here: no group is open, no quote waits, and the gap after
@@ -247,6 +248,23 @@ impl Printer {
                 Err((Printer { out }, fault))
             }
         }
+    }
+}
+
+// Appends one event. A refused call changes nothing.
+#[inline(never)]
+fn put_behind_quote(out: &mut PrintState, step: &TokenEvent<'_>) -> Result<(), TtFault>
+    requires fits { Fits (state_of out.old) }
+    ensures fits { OnOk result (Fits (state_of out.new)) }
+    ensures puts { OnOk result (PutsAny (state_of out.old) (state_of out.new) (step_of step.now ∷ [])) }
+    ensures err { OnErr result (state_of out.new ≡ state_of out.old) }
+    ensures memory { IsOkUnless result Memory }
+{
+    let alloc = *out.left_out.allocator();
+    let before = save(out);
+    match put_event(alloc, out, step) {
+        Ok(()) => Ok(()),
+        Err(fault) => Err(undo(out, before, fault)),
     }
 }
 

@@ -1,12 +1,12 @@
 //! The state of a printer: what is printed so far, visible token by visible token.
-ghost use Rattle.std.specs.Prelude.{◌≡◌, ◌≤◌, ◌+◌, ◌∷◌, ◌++◌, [], length, List, None, Some, true, false, IfOk, OnErr, OnOk, IsOkUnless, string_bytes, option_map};
+ghost use Rattle.std.specs.Prelude.{◌≡◌, ◌+◌, ◌∷◌, [], encode_utf8, List, None, Some, true, IfOk, OnErr, OnOk, IsOkUnless, string_bytes, option_map};
 ghost use Rattle.std.specs.Str.{IsCharBoundary};
-ghost use Rattle.bridge.specs.Edges.{edge_of};
-ghost use Rattle.bridge.specs.PrintStates.{Fits, Grows, Puts, PutsAny, gap_behind, print_with, printed_so_far, saved_of, state_of};
-ghost use Rattle.bridge.specs.Printers.{Continues, PrinterState, Prints, nothing_put};
-ghost use Rattle.bridge.specs.Printing.{Print, depth_after, is_quote, step_span, visible};
-ghost use Rattle.bridge.specs.PrintSteps.{is_name_leaf};
+ghost use Rattle.bridge.specs.FastSpellings.{is_mark_char};
+ghost use Rattle.bridge.specs.PrintStates.{Fits, Grows, IsReady, PutsAny, PutsNext, Settles, none_behind, print_with, printed_so_far, saved_of, state_of, token_behind, token_text};
+ghost use Rattle.bridge.specs.Printers.{Continues, PrinterState, nothing_put};
+ghost use Rattle.bridge.specs.Printing.{Print, is_visible_step};
 ghost use Rattle.bridge.specs.Spelling.{begins_with_name, close_text, open_text, spelling};
+ghost use Rattle.bridge.specs.declared.printing.spacing.Edge.TheVariants.{Other};
 ghost use Rattle.tt.specs.Glued.{is_joint};
 ghost use Rattle.bridge.specs.Text.{is_char};
 ghost use Rattle.bridge.specs.TokenEvents.{step_of};
@@ -16,10 +16,11 @@ ghost use Rattle.tt_data.specs.declared.leaf.Leaf.TheVariants as as_leaf;
 ghost use Rattle.tt_data.specs.fault.TtFault.TheVariants.{Memory};
 
 use crate::printing::event::TokenEvent;
-use crate::printing::fast_spelling::fast_spelling;
-use crate::printing::spacing::{Edge, Gap, closing_edge, gap_between, leaf_edge};
+use crate::printing::fast_spelling::{ascii_name, ident_text, is_mark, number_text};
+use crate::printing::spacing::{Edge, closing_edge, leaf_edge};
 use crate::printing::span_list::SpanList;
 use crate::printing::spelling::leaf_spelling;
+use crate::printing::token_text::{TokenText, most_bytes, push_gap, push_text};
 use std::alloc::{AllocError, Global};
 use tt_data::{DelimiterKind, LeafRef, Punct, Spacing, Span, TtFault};
 
@@ -38,95 +39,49 @@ pub(crate) struct PrintState {
     pub(crate) waiting: Option<Span>,
 }
 
-fn opening(kind: DelimiterKind) -> Option<&'static str>
-    ensures { option_map (λ b. b.now) result ≡ open_text kind }
+fn opening(kind: DelimiterKind) -> Option<char>
+    ensures { option_map encode_utf8 result ≡ open_text kind }
 {
     match kind {
-        DelimiterKind::Parenthesis => Some("("),
-        DelimiterKind::Brace => Some("{"),
-        DelimiterKind::Bracket => Some("["),
+        DelimiterKind::Parenthesis => Some('('),
+        DelimiterKind::Brace => Some('{'),
+        DelimiterKind::Bracket => Some('['),
         DelimiterKind::Invisible => None,
     }
 }
 
-fn closing(kind: DelimiterKind) -> Option<&'static str>
-    ensures { option_map (λ b. b.now) result ≡ close_text kind }
+fn closing(kind: DelimiterKind) -> Option<char>
+    ensures { option_map encode_utf8 result ≡ close_text kind }
 {
     match kind {
-        DelimiterKind::Parenthesis => Some(")"),
-        DelimiterKind::Brace => Some("}"),
-        DelimiterKind::Bracket => Some("]"),
+        DelimiterKind::Parenthesis => Some(')'),
+        DelimiterKind::Brace => Some('}'),
+        DelimiterKind::Bracket => Some(']'),
         DelimiterKind::Invisible => None,
     }
 }
 
-// Whether it is an identifier that isn't raw.
-fn is_name(leaf: LeafRef<'_>) -> bool
-    ensures { result ≡ is_name_leaf (leaf_lent leaf.entry) }
-{
-    match leaf {
-        LeafRef::Ident(ident) => ident.is_raw.no(),
-        _ => false,
-    }
-}
-
-// Adds the gap between the token printed last and the next one.
+// Prints a token, which leaves as many groups open. A refused call changes nothing.
 #[inline(always)]
-fn push_gap(out: &mut PrintState, next: Edge) -> Result<(), TtFault>
-    ensures text { OnOk result (string_bytes out.new.text ≡ string_bytes out.old.text ++ gap_behind out.old.depth out.old.last next) }
-    ensures tokens { out.new.tokens ≡ out.old.tokens }
-    ensures left_out { out.new.left_out ≡ out.old.left_out }
-    ensures waiting { out.new.waiting ≡ out.old.waiting }
-    ensures grows { Grows (state_of out.old) (state_of out.new) }
+fn add(out: &mut PrintState, edge: Edge, span: Span, text: TokenText<'_>) -> Result<(), TtFault>
+    ensures ok { OnOk result (state_of out.new ≡ token_behind (state_of out.old) edge span (token_text text.entry)) }
+    ensures err { OnErr result (state_of out.new ≡ state_of out.old) }
     ensures memory { IsOkUnless result Memory }
 {
-    if let Some(last) = out.last {
-        match gap_between(out.depth, last, next) {
-            Gap::Nothing => {}
-            Gap::Space => out.text.push(' ')?,
-            Gap::Line => out.text.push('\n')?,
-        }
-    }
-    Ok(())
-}
-
-// Prints a token, after which `depth` groups are open.
-#[inline(always)]
-fn add(
-    out: &mut PrintState,
-    edge: Edge,
-    span: Span,
-    text: &str,
-    depth: usize,
-) -> Result<(), TtFault>
-    requires fits { depth ≤ length out.old.tokens + 1 }
-    ensures fits { OnOk result (Fits (state_of out.new)) }
-    ensures adds { OnOk result ((step : Step) (more : List Step) (all : Print) →
-        edge_of step ≡ edge → step_span step ≡ span → depth_after out.old.depth step ≡ depth → spelling step more ≡ Some text.now →
-        Prints (state_of out.old) (step ∷ more) all → Prints (state_of out.new) more all) }
-    ensures waiting { out.new.waiting ≡ out.old.waiting }
-    ensures depth { OnOk result (out.new.depth ≡ depth) }
-    ensures grows { Grows (state_of out.old) (state_of out.new) }
-    ensures memory { IsOkUnless result Memory }
-{
-    push_gap(out, edge)?;
-    out.text.push_str(text)?;
+    out.text.reserve(most_bytes(text))?;
     if out.tokens.push(span).is_err() {
         return Err(TtFault::Memory);
     }
-    out.depth = depth;
+    push_gap(&mut out.text, out.depth, out.last, edge);
+    push_text(&mut out.text, text);
     out.last = Some(edge);
     Ok(())
 }
 
-// Records that a token is omitted.
+// Records that a token is omitted. A refused call changes nothing.
 fn leave_out(out: &mut PrintState) -> Result<(), TtFault>
-    ensures left { OnOk result ((step : Step) (more : List Step) (all : Print) → spelling step more ≡ None →
-        Prints (state_of out.old) (step ∷ more) all → Prints (state_of out.new) more all) }
-    ensures same { out.new.waiting ≡ out.old.waiting }
-    ensures depth { out.new.depth ≡ out.old.depth }
-    ensures tokens { out.new.tokens ≡ out.old.tokens }
-    ensures grows { Grows (state_of out.old) (state_of out.new) }
+    ensures ok { OnOk result (state_of out.new ≡ none_behind (state_of out.old)) }
+    ensures err { OnErr result (state_of out.new ≡ state_of out.old) }
     ensures memory { IsOkUnless result Memory }
 {
     let Some(place) = out.tokens.len().checked_add(out.left_out.len()) else {
@@ -138,27 +93,25 @@ fn leave_out(out: &mut PrintState) -> Result<(), TtFault>
     }
 }
 
-// Prints the pending quote, if there is one and a name follows; else omits it.
+// Prints the pending quote, if there is one and a name follows; else omits it. A refused call
+// changes nothing.
 fn settle(out: &mut PrintState, is_name: bool) -> Result<(), TtFault>
     requires fits { Fits (state_of out.old) }
-    ensures fits { OnOk result (Fits (state_of out.new)) }
-    ensures settled { OnOk result ((more : List Step) (all : Print) → begins_with_name more ≡ is_name →
-        Continues (state_of out.old) more all → Prints (state_of out.new) more all) }
-    ensures none { OnOk result (out.new.waiting ≡ None) }
-    ensures depth { OnOk result (out.new.depth ≡ out.old.depth) }
-    ensures grows { Grows (state_of out.old) (state_of out.new) }
+    ensures settled { OnOk result (Settles (state_of out.old) (state_of out.new) is_name) }
+    ensures err { OnErr result (state_of out.new ≡ state_of out.old) }
     ensures memory { IsOkUnless result Memory }
 {
     let Some(span) = out.waiting else {
         return Ok(());
     };
-    out.waiting = None;
-    if is_name {
-        let depth = out.depth;
-        add(out, Edge::Mark('\'', true), span, "'", depth)
-    } else {
-        leave_out(out)
+    if !is_name {
+        leave_out(out)?;
+        out.waiting = None;
+        return Ok(());
     }
+    add(out, Edge::Mark('\'', true), span, TokenText::Mark('\''))?;
+    out.waiting = None;
+    Ok(())
 }
 
 fn is_joint(spacing: Spacing) -> bool
@@ -170,13 +123,11 @@ fn is_joint(spacing: Spacing) -> bool
 // Adds a quote: it is pending if it is `Joint`, else it is omitted.
 fn put_quote(out: &mut PrintState, punct: Punct) -> Result<(), TtFault>
     requires quote { is_char "'" punct ≡ true }
-    requires fits { Fits (state_of out.old) }
-    ensures fits { OnOk result (Fits (state_of out.new)) }
-    ensures puts { OnOk result (Puts (state_of out.old) (state_of out.new) (at_leaf (as_leaf.Punct punct))) }
-    ensures grows { Grows (state_of out.old) (state_of out.new) }
+    requires ready { IsReady (state_of out.old) }
+    ensures puts { OnOk result (PutsNext (state_of out.old) (state_of out.new) (at_leaf (as_leaf.Punct punct) ∷ [])) }
+    ensures err { OnErr result (state_of out.new ≡ state_of out.old) }
     ensures memory { IsOkUnless result Memory }
 {
-    settle(out, false)?;
     if is_joint(punct.spacing) {
         out.waiting = Some(punct.span);
         return Ok(());
@@ -184,74 +135,93 @@ fn put_quote(out: &mut PrintState, punct: Punct) -> Result<(), TtFault>
     leave_out(out)
 }
 
+// Adds a punct that is no quote.
+#[inline(never)]
+fn put_mark(out: &mut PrintState, punct: &Punct) -> Result<(), TtFault>
+    requires mark { is_mark_char punct.now.char ≡ true }
+    requires ready { IsReady (state_of out.old) }
+    ensures puts { OnOk result (PutsNext (state_of out.old) (state_of out.new) (at_leaf (as_leaf.Punct punct.now) ∷ [])) }
+    ensures err { OnErr result (state_of out.new ≡ state_of out.old) }
+    ensures memory { IsOkUnless result Memory }
+{
+    let edge = leaf_edge(LeafRef::Punct(*punct));
+    add(out, edge, punct.span, TokenText::Mark(punct.char))
+}
+
+// Prints a name, a number or another text without a punct.
+#[inline(never)]
+fn add_word(out: &mut PrintState, span: &Span, text: &str) -> Result<(), TtFault>
+    ensures ok { OnOk result (state_of out.new ≡ token_behind (state_of out.old) Other span.now text.now) }
+    ensures err { OnErr result (state_of out.new ≡ state_of out.old) }
+    ensures memory { IsOkUnless result Memory }
+{
+    add(out, Edge::Other, *span, TokenText::Word(text))
+}
+
 // Adds a leaf with this spelling, which is no quote.
 #[inline(always)]
 fn put_spelled(out: &mut PrintState, leaf: LeafRef<'_>, text: &str) -> Result<(), TtFault>
     requires spelled { (more : List Step) → spelling (at_leaf (leaf_lent leaf)) more ≡ Some text.now }
-    requires fits { Fits (state_of out.old) }
-    ensures fits { OnOk result (Fits (state_of out.new)) }
-    ensures puts { OnOk result (Puts (state_of out.old) (state_of out.new) (at_leaf (leaf_lent leaf.entry))) }
-    ensures grows { Grows (state_of out.old) (state_of out.new) }
+    requires ready { IsReady (state_of out.old) }
+    ensures puts { OnOk result (PutsNext (state_of out.old) (state_of out.new) (at_leaf (leaf_lent leaf.entry) ∷ [])) }
+    ensures err { OnErr result (state_of out.new ≡ state_of out.old) }
     ensures memory { IsOkUnless result Memory }
 {
-    settle(out, is_name(leaf))?;
-    let depth = out.depth;
-    add(out, leaf_edge(leaf), leaf.span(), text, depth)
+    add(out, leaf_edge(leaf), leaf.span(), TokenText::Word(text))
 }
 
 // Omits a leaf without a spelling, which is no quote.
 fn put_unspelled(out: &mut PrintState, leaf: LeafRef<'_>) -> Result<(), TtFault>
     requires unspelled { (more : List Step) → spelling (at_leaf (leaf_lent leaf)) more ≡ None }
-    requires fits { Fits (state_of out.old) }
-    ensures fits { OnOk result (Fits (state_of out.new)) }
-    ensures puts { OnOk result (Puts (state_of out.old) (state_of out.new) (at_leaf (leaf_lent leaf.entry))) }
-    ensures grows { Grows (state_of out.old) (state_of out.new) }
+    requires ready { IsReady (state_of out.old) }
+    ensures puts { OnOk result (PutsNext (state_of out.old) (state_of out.new) (at_leaf (leaf_lent leaf.entry) ∷ [])) }
+    ensures err { OnErr result (state_of out.new ≡ state_of out.old) }
     ensures memory { IsOkUnless result Memory }
 {
-    settle(out, false)?;
     leave_out(out)
 }
 
-fn put_leaf(alloc: Global, out: &mut PrintState, leaf: LeafRef<'_>) -> Result<(), TtFault>
-    requires fits { Fits (state_of out.old) }
-    ensures fits { OnOk result (Fits (state_of out.new)) }
-    ensures puts { OnOk result (Puts (state_of out.old) (state_of out.new) (at_leaf (leaf_lent leaf.entry))) }
-    ensures grows { Grows (state_of out.old) (state_of out.new) }
+// Adds a leaf: a quote, or one whose text may have to be lexed.
+#[inline(never)]
+fn put_lexed(alloc: Global, out: &mut PrintState, leaf: &LeafRef<'_>) -> Result<(), TtFault>
+    requires ready { IsReady (state_of out.old) }
+    ensures puts { OnOk result (PutsNext (state_of out.old) (state_of out.new) (at_leaf (leaf_lent leaf.now) ∷ [])) }
+    ensures err { OnErr result (state_of out.new ≡ state_of out.old) }
     ensures memory { IsOkUnless result Memory }
 {
     if let LeafRef::Punct(punct) = leaf {
         if punct.char == '\'' {
-            return put_quote(out, punct);
+            return put_quote(out, *punct);
         }
     }
-    if let Some(text) = fast_spelling(leaf) {
-        return put_spelled(out, leaf, text);
-    }
-    match leaf_spelling(alloc, leaf)? {
-        Some(text) => put_spelled(out, leaf, text.as_str()),
-        None => put_unspelled(out, leaf),
+    match leaf_spelling(alloc, *leaf)? {
+        Some(text) => put_spelled(out, *leaf, text.as_str()),
+        None => put_unspelled(out, *leaf),
     }
 }
 
-// Adds a bracket of a visible group.
-fn put_bracket(
-    out: &mut PrintState,
-    edge: Edge,
-    span: Span,
-    text: &'static str,
-    depth: usize,
-) -> Result<(), TtFault>
-    requires depth { depth ≤ out.old.depth + 1 }
-    requires fits { Fits (state_of out.old) }
-    ensures fits { OnOk result (Fits (state_of out.new)) }
-    ensures puts { OnOk result ((step : Step) → edge_of step ≡ edge → step_span step ≡ span → depth_after out.old.depth step ≡ depth →
-        ((more : List Step) → begins_with_name (step ∷ more) ≡ false) → ((more : List Step) → spelling step more ≡ Some text.now) →
-        Puts (state_of out.old) (state_of out.new) step) }
-    ensures grows { Grows (state_of out.old) (state_of out.new) }
+// Adds a leaf. Most are numbers and strings.
+#[inline(never)]
+fn put_other(alloc: Global, out: &mut PrintState, leaf: &LeafRef<'_>) -> Result<(), TtFault>
+    requires ready { IsReady (state_of out.old) }
+    ensures puts { OnOk result (PutsNext (state_of out.old) (state_of out.new) (at_leaf (leaf_lent leaf.now) ∷ [])) }
+    ensures err { OnErr result (state_of out.new ≡ state_of out.old) }
     ensures memory { IsOkUnless result Memory }
 {
-    settle(out, false)?;
-    add(out, edge, span, text, depth)
+    match leaf {
+        LeafRef::Ident(ident) => {
+            if let Some(text) = ident_text(*ident) {
+                return add_word(out, &ident.span, text);
+            }
+        }
+        LeafRef::Literal(literal) => {
+            if let Some(text) = number_text(*literal) {
+                return add_word(out, &literal.span(), text);
+            }
+        }
+        LeafRef::Punct(_) => {}
+    }
+    put_lexed(alloc, out, leaf)
 }
 
 // The depth after one more opening.
@@ -266,33 +236,103 @@ fn deeper(depth: usize) -> Result<usize, TtFault>
 }
 
 // Adds an opening, which is printed if its group is visible.
-fn put_opening(out: &mut PrintState, kind: DelimiterKind, span: Span) -> Result<(), TtFault>
-    requires fits { Fits (state_of out.old) }
-    ensures fits { OnOk result (Fits (state_of out.new)) }
-    ensures puts { OnOk result (PutsAny (state_of out.old) (state_of out.new) (opens kind span ∷ [])) }
-    ensures grows { Grows (state_of out.old) (state_of out.new) }
+#[inline(never)]
+fn put_opening(out: &mut PrintState, kind: DelimiterKind, span: &Span) -> Result<(), TtFault>
+    requires ready { IsReady (state_of out.old) }
+    ensures puts { OnOk result (PutsNext (state_of out.old) (state_of out.new) (opens kind span.now ∷ [])) }
+    ensures err { OnErr result (state_of out.new ≡ state_of out.old) }
     ensures memory { IsOkUnless result Memory }
 {
     let Some(text) = opening(kind) else {
         return Ok(());
     };
     let depth = deeper(out.depth)?;
-    put_bracket(out, Edge::Other, span, text, depth)
+    add(out, Edge::Other, *span, TokenText::Mark(text))?;
+    out.depth = depth;
+    Ok(())
 }
 
 // Adds a closing, which is printed if its group is visible.
-fn put_closing(out: &mut PrintState, kind: DelimiterKind, span: Span) -> Result<(), TtFault>
-    requires fits { Fits (state_of out.old) }
-    ensures fits { OnOk result (Fits (state_of out.new)) }
-    ensures puts { OnOk result (PutsAny (state_of out.old) (state_of out.new) (closes kind span ∷ [])) }
-    ensures grows { Grows (state_of out.old) (state_of out.new) }
+#[inline(never)]
+fn put_closing(out: &mut PrintState, kind: DelimiterKind, span: &Span) -> Result<(), TtFault>
+    requires ready { IsReady (state_of out.old) }
+    ensures puts { OnOk result (PutsNext (state_of out.old) (state_of out.new) (closes kind span.now ∷ [])) }
+    ensures err { OnErr result (state_of out.new ≡ state_of out.old) }
     ensures memory { IsOkUnless result Memory }
 {
     let Some(text) = closing(kind) else {
         return Ok(());
     };
     let depth = out.depth.saturating_sub(1);
-    put_bracket(out, closing_edge(kind), span, text, depth)
+    add(out, closing_edge(kind), *span, TokenText::Mark(text))?;
+    out.depth = depth;
+    Ok(())
+}
+
+/// Adds an event where no quote is pending: a leaf, or a bracket of a group that may be invisible.
+/// A refused call changes nothing.
+///
+/// Puncts and ASCII names, which are most tokens, are told first. That and what is inlined decide
+/// speed alone.
+#[inline(always)]
+pub(crate) fn put_next(
+    alloc: Global,
+    out: &mut PrintState,
+    step: &TokenEvent<'_>,
+) -> Result<(), TtFault>
+    requires ready { IsReady (state_of out.old) }
+    ensures puts { OnOk result (PutsNext (state_of out.old) (state_of out.new) (step_of step.now ∷ [])) }
+    ensures err { OnErr result (state_of out.new ≡ state_of out.old) }
+    ensures memory { IsOkUnless result Memory }
+{
+    match step {
+        TokenEvent::Leaf(leaf) => {
+            match leaf {
+                LeafRef::Punct(punct) => {
+                    if is_mark(punct.char) {
+                        return put_mark(out, punct);
+                    }
+                }
+                LeafRef::Ident(ident) => {
+                    if let Some(name) = ascii_name(*ident) {
+                        return add_word(out, &ident.span, name);
+                    }
+                }
+                LeafRef::Literal(_) => {}
+            }
+            put_other(alloc, out, leaf)
+        }
+        TokenEvent::Opens(kind, span) => put_opening(out, *kind, span),
+        TokenEvent::Closes(kind, span) => put_closing(out, *kind, span),
+    }
+}
+
+// Whether the event is a name that isn't raw and has a spelling.
+fn is_name(alloc: Global, step: &TokenEvent<'_>) -> Result<bool, TtFault>
+    ensures name { IfOk result (λ is. (more : List Step) → begins_with_name (step_of step.now ∷ more) ≡ is) }
+    ensures memory { IsOkUnless result Memory }
+{
+    match step {
+        TokenEvent::Leaf(leaf) => match leaf {
+            LeafRef::Ident(ident) if ident.is_raw.no() => {
+                // Most need not be lexed.
+                Ok(ident_text(*ident).is_some() || leaf_spelling(alloc, *leaf)?.is_some())
+            }
+            _ => Ok(false),
+        },
+        _ => Ok(false),
+    }
+}
+
+// Whether the event is a visible token: all but the ends of invisible groups.
+fn is_visible(step: &TokenEvent<'_>) -> bool
+    ensures { result ≡ is_visible_step (step_of step.now) }
+{
+    match step {
+        TokenEvent::Leaf(_) => true,
+        TokenEvent::Opens(kind, _) | TokenEvent::Closes(kind, _) => *kind
+            != DelimiterKind::Invisible,
+    }
 }
 
 /// Adds an event: a leaf, or a bracket of a group that may be invisible.
@@ -307,11 +347,14 @@ pub(crate) fn put_event(
     ensures grows { Grows (state_of out.old) (state_of out.new) }
     ensures memory { IsOkUnless result Memory }
 {
-    match step {
-        TokenEvent::Leaf(leaf) => put_leaf(alloc, out, *leaf),
-        TokenEvent::Opens(kind, span) => put_opening(out, *kind, *span),
-        TokenEvent::Closes(kind, span) => put_closing(out, *kind, *span),
+    if !is_visible(step) {
+        return Ok(());
     }
+    if out.waiting.is_none() {
+        return put_next(alloc, out, step);
+    }
+    settle(out, is_name(alloc, step)?)?;
+    put_next(alloc, out, step)
 }
 
 /// Ends the text: a pending quote is omitted, and a newline comes last if anything is printed.

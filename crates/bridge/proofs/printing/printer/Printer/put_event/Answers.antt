@@ -1,23 +1,25 @@
 use Rattle.std.proofs.Common.{[], ◌∷◌, ◌++◌, append_assoc, sym, subst}
-use Rattle.std.proofs.lemmas.Str.{IsUtf8-string_bytes}
-use Rattle.bridge.specs.PrintStates.{Fits, state_of}
+use Rattle.bridge.specs.PrintStates.{state_of}
 use Rattle.bridge.specs.Printers.{Continues}
 use Rattle.bridge.specs.Printing.{print_of, visible}
 use Rattle.bridge.specs.TokenEvents.{step_of}
-use Rattle.bridge.proofs.PrintStepLemmas.{cut}
+use Rattle.bridge.proofs.PrintStepLemmas.{carried}
 use Rattle.bridge.proofs.printing.printer.Printer.put_event.Goals as goal
 
-pub undo-requires : goal.undo-requires
-undo-requires c =
-    rw c.save-before.ensures
-    (cut _ _ (IsUtf8-string_bytes c.self.inside.out.text) (IsUtf8-string_bytes c.put_event.new.out.text) c.put_event.ensures.grows.text)
+pub returns-then-is_none-clause-ok : goal.returns-then-is_none-clause-ok
+returns-then-is_none-clause-ok c = carried c.put_next.result _ _
+    (λ next steps has more.
+    let one = step_of c.args.step.now ∷ [] in
+    let before = subst (λ s. Continues s (visible (one ++ more)) (print_of (steps ++ (one ++ more)))) (sym c.self.view_is) (has (one ++ more)) in
+    subst (λ all. Continues (state_of c.put_next.new.out) (visible more) (print_of all)) (sym (append_assoc steps one more))
+    (next.puts more (print_of (steps ++ (one ++ more))) before))
+    c.put_next.ensures.puts
 
-pub invariant_of-self-in-Err : goal.invariant_of-self-in-Err
-invariant_of-self-in-Err c = subst Fits (sym (c.undo.ensures.state (state_of c.self.inside.out) c.save-before.ensures c.put_event.ensures.grows)) c.self.invariant
-
-pub returns-in-Ok-clause-ok : goal.returns-in-Ok-clause-ok
-returns-in-Ok-clause-ok c = λ steps has more.
-    let trees = step_of c.args.step.now ∷ [] in
-    let before = subst (λ s. Continues s (visible (trees ++ more)) (print_of (steps ++ (trees ++ more)))) (sym c.self.view_is) (has (trees ++ more)) in
-    subst (λ all. Continues (state_of c.put_event.new.out) (visible more) (print_of all)) (sym (append_assoc steps trees more))
-    (c.in-Ok.ensures.puts more (print_of (steps ++ (trees ++ more))) before)
+pub returns-clause-ok : goal.returns-clause-ok
+returns-clause-ok c = carried c.put_behind_quote.result _ _
+    (λ puts steps has more.
+    let one = step_of c.args.step.now ∷ [] in
+    let before = subst (λ s. Continues s (visible (one ++ more)) (print_of (steps ++ (one ++ more)))) (sym c.self.view_is) (has (one ++ more)) in
+    subst (λ all. Continues (state_of c.put_behind_quote.new.out) (visible more) (print_of all)) (sym (append_assoc steps one more))
+    (puts more (print_of (steps ++ (one ++ more))) before))
+    c.put_behind_quote.ensures.puts
