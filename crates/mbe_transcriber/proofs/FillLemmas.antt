@@ -1,5 +1,5 @@
 -- What transcribing appends, op by op.
-use Rattle.std.proofs.Common.{◌≡◌, refl, sym, ap, ◌∙◌, ℕ, zero, suc, ◌+◌, ◌-◌, Bool, true, false, List, [], ◌∷◌, ◌++◌, Option, Some, None, option_map, arith}
+use Rattle.std.proofs.Common.{◌≡◌, refl, sym, ap, ◌∙◌, ℕ, zero, suc, ◌+◌, ◌-◌, ◌≤◌, Bool, true, false, List, [], ◌∷◌, ◌++◌, Option, Some, None, option_map, arith}
 use Rattle.std.specs.Borrow.{Bor}
 use Rattle.std.specs.Prelude.{⊤, Result, Ok, Err, OnOk}
 use Rattle.tt_data.specs.fault.TtFault.{TtFault}
@@ -208,6 +208,28 @@ module _ (stands_at : ℕ → Bool) (round_at : ℕ → Option Forest) (output_a
       ap (λ b. elim b [ true ↦ and_then (round_at 0) (output_at 0) (output_from stands_at round_at output_at (size sep) (most - 1) 1) | false ↦ 0 ]) e
   first-out OneOrMore e =
       ap (λ b. elim b [ true ↦ and_then (round_at 0) (output_at 0) (output_from stands_at round_at output_at (size sep) (most - 1) 1) | false ↦ 0 ]) e
+
+-- rounds that stand alike give the same
+module _ (stands_at stands_at' : ℕ → Bool) (round_at : ℕ → Option Forest) where
+  pub same-from : (sep : Forest) (most r : ℕ) → ((k : ℕ) → k ≤ most + r → stands_at k ≡ stands_at' k) →
+      rounds_from stands_at round_at sep most r ≡ rounds_from stands_at' round_at sep most r
+  same-from sep zero r h = ap (λ b. elim b [ true ↦ None | false ↦ Some empty ]) (h r (omega arith))
+  same-from sep (suc most) r h =
+      ap
+      (λ b. elim b [ true ↦ both (λ f rest. joined sep (joined f rest)) (round_at r) (rounds_from stands_at round_at sep most (suc r)) | false ↦ Some empty ])
+      (h r (omega arith))
+      ∙ ap (λ x. elim (stands_at' r) [ true ↦ both (λ f rest. joined sep (joined f rest)) (round_at r) x | false ↦ Some empty ])
+      (same-from sep most (suc r) (λ k l. h k (omega (arith, l))))
+
+  pub same-out : (output_at : ℕ → ℕ) (separator most r : ℕ) → ((k : ℕ) → k ≤ most + r → stands_at k ≡ stands_at' k) →
+      output_from stands_at round_at output_at separator most r ≡ output_from stands_at' round_at output_at separator most r
+  same-out output_at separator zero r h = refl
+  same-out output_at separator (suc most) r h =
+      ap
+      (λ b. elim b [ true ↦ separator + and_then (round_at r) (output_at r) (output_from stands_at round_at output_at separator most (suc r)) | false ↦ 0 ])
+      (h r (omega arith))
+      ∙ ap (λ n. elim (stands_at' r) [ true ↦ separator + and_then (round_at r) (output_at r) n | false ↦ 0 ])
+      (same-out output_at separator most (suc r) (λ k l. h k (omega (arith, l))))
 
 -- an item that holds no others gives what it puts in
 pub plain-gives : (mark : Span → Span) (bound : Map) (ns : List ℕ) (i : Items) → is_plain i ≡ true → plain_gives mark bound ns i ≡ first_gives mark bound ns i

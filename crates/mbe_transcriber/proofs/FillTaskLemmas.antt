@@ -1,7 +1,7 @@
 -- The tasks of transcribing: what one does and leaves to do comes to the same result.
-use Rattle.std.proofs.Common.{◌≡◌, refl, sym, ap, subst, ◌∙◌, ℕ, zero, suc, ◌+◌, ◌-◌, ◌*◌, ◌<◌, ◌≤◌, Bool, true, false, List, [], ◌∷◌, ◌++◌, length, take, reverse, Option, Some, None, option_map, if◌then◌else◌, arith}
+use Rattle.std.proofs.Common.{◌≡◌, refl, sym, ap, subst, ◌∙◌, ℕ, zero, suc, ◌+◌, ◌-◌, ◌*◌, ◌<◌, ◌≤◌, nat_lt, Bool, true, false, not, List, [], ◌∷◌, ◌++◌, length, take, reverse, Option, Some, None, option_map, if◌then◌else◌, arith}
 use Rattle.std.specs.Borrow.{Bor}
-use Rattle.std.specs.Prelude.{OnOk, Result, Ok, Err}
+use Rattle.std.specs.Prelude.{IfSome, MatchOption, OnOk, Result, Ok, Err}
 use Rattle.std.proofs.lemmas.List.{reverse-append}
 use Rattle.std.proofs.lemmas.List.Sums.{sum_by-append}
 use Rattle.std.proofs.Math.Seq.{take-append_seam}
@@ -25,14 +25,14 @@ use Rattle.mbe_rules.proofs.OpsLemmas.{put-Repeat, put-Subtree}
 use Rattle.mbe_matcher.specs.Bindings.{Map}
 use Rattle.mbe_transcriber.specs.Filling.{both, rounds_from, separator_leaves}
 use Rattle.mbe_transcriber.specs.Limits.{most_rounds}
-use Rattle.mbe_transcriber.specs.Given.{Fills, IsBurstBy, is_single, gives, puts_out, first_gives, first_puts_out, group_gives, repetition_gives, repetition_puts_out, stands_in, later_gives, later_puts_out}
+use Rattle.mbe_transcriber.specs.Given.{Fills, IsBurstBy, is_plain, is_single, gives, puts_out, first_gives, first_puts_out, group_gives, repetition_gives, repetition_puts_out, stands_in, later_gives, later_puts_out, HasRounds}
 use Rattle.mbe_transcriber.specs.Output.{and_then, output_from}
 use Rattle.mbe_transcriber.specs.Room.{LacksRoom}
 use Rattle.mbe_transcriber.specs.Tasks.{Outcome, filled_up, faulty, reached, IsFaulty, put_and, close_in, around, items_and, rounds_and, outcome, GoesOn, Steps, IsBurstIn, work_of, tasks_of, tasks_of_all}
 use Rattle.mbe_transcriber.specs.declared.repetition.Iterations.{Iterations}
 use Rattle.mbe_transcriber.specs.declared.transcriber.TranscribeTask.{TranscribeTask}
 use Rattle.mbe_transcriber.specs.declared.transcriber.TranscribeTask.TheVariants.{Items as items_task, Close, Leave, Later}
-use Rattle.mbe_transcriber.proofs.FillLemmas.{IsSized, unmoved, sized-gives, sized-first, sized-from, gives-put, puts-put, when_none, with_later, out_later, no-round, first-round, first-out}
+use Rattle.mbe_transcriber.proofs.FillLemmas.{IsSized, unmoved, sized-gives, sized-first, sized-from, gives-put, puts-put, when_none, with_later, out_later, no-round, first-round, first-out, same-from, same-out}
 use Rattle.tt.proofs.Limits.{count-extended}
 use Rattle.mbe_transcriber.proofs.PuttingLemmas.{extended-more, unsome}
 
@@ -57,6 +57,10 @@ around-last ns n =
 
 put-empty : (n : ℕ) (b : Building) (more : Building → Outcome) → put_and (Some empty) n b more ≡ more b
 put-empty n b more = ap more (unmoved b)
+
+put-same : (x : Option Forest) (n : ℕ) (b : Building) (more less : Building → Outcome) → ((t : Building) → more t ≡ less t) → put_and x n b more ≡ put_and x n b less
+put-same None n b more less h = refl
+put-same (Some f) n b more less h = h (extended b f)
 
 put-both : (x y : Option Forest) (n m : ℕ) (b : Building) (more : Building → Outcome) → IsSized x n →
     put_and (both joined x y) (and_then x n m) b more ≡ put_and x n b (λ t. put_and y m t more)
@@ -106,10 +110,10 @@ close-least [] b s more e h = omega arith
 close-least (o ∷ outer) b s more e h = omega (arith, h (closed b s), count-closed o outer b s e)
 
 module _ (mark : Span → Span) (bound : Map) where
-  pub sized-later : (ns : List ℕ) (body : Items) (sep : Option spec.Separator) (m r : ℕ) →
-      IsSized (later_gives mark bound ns body sep m r) (later_puts_out mark bound ns body sep m r)
-  sized-later ns body sep m r =
-      sized-from (stands_in mark bound ns body) (λ k. gives mark bound (ns ++ (k ∷ [])) body) (λ k. puts_out mark bound (ns ++ (k ∷ [])) body)
+  pub sized-later : (ns : List ℕ) (body : Items) (sep : Option spec.Separator) (n m r : ℕ) →
+      IsSized (later_gives mark bound ns body sep n m r) (later_puts_out mark bound ns body sep n m r)
+  sized-later ns body sep n m r =
+      sized-from (λ k. nat_lt k n) (λ k. gives mark bound (ns ++ (k ∷ [])) body) (λ k. puts_out mark bound (ns ++ (k ∷ [])) body)
       (λ k. sized-gives mark bound (ns ++ (k ∷ [])) body) (separator_leaves sep) m r
 
   pub at-least : (ts : List TranscribeTask) (ns : List ℕ) (b : Building) → count_of b ≤ reached (outcome mark bound ts ns b)
@@ -123,30 +127,25 @@ module _ (mark : Span → Span) (bound : Map) where
   at-least (Leave ∷ ts) ns b = at-least ts (around ns) b
   at-least (Later x ∷ ts) ns b =
       let k =
-      put-least (later_gives mark bound (around ns) (items_of x.body.now) (option_map (λ s. separator_of s.now) x.separator) (most_rounds - x.number) x.number)
-      (later_puts_out mark bound (around ns) (items_of x.body.now) (option_map (λ s. separator_of s.now) x.separator) (most_rounds - x.number) x.number)
+      put-least (later_gives mark bound (around ns) (items_of x.body.now) (option_map (λ s. separator_of s.now) x.separator) x.count (most_rounds - x.number) x.number)
+      (later_puts_out mark bound (around ns) (items_of x.body.now) (option_map (λ s. separator_of s.now) x.separator) x.count (most_rounds - x.number) x.number)
       b (outcome mark bound ts (around ns)) (at-least ts (around ns))
-      (sized-later (around ns) (items_of x.body.now) (option_map (λ s. separator_of s.now) x.separator) (most_rounds - x.number) x.number) in
+      (sized-later (around ns) (items_of x.body.now) (option_map (λ s. separator_of s.now) x.separator) x.count (most_rounds - x.number) x.number) in
       omega (arith, k)
-
-  -- what is refused for its size is so in the end
-  pub bursts-in : (r : Result Bool TtFault) (x : Option Forest) (n : ℕ) (ts : List TranscribeTask) (ns : List ℕ) (b : Building) → IsSized x n →
-      IsBurstBy r b n → IsBurstIn r (put_and x n b (outcome mark bound ts ns))
-  bursts-in r x n ts ns b s h = λ e. let less = h e in let k = put-least x n b (outcome mark bound ts ns) (at-least ts ns) s in omega (arith, less, k)
 
   -- ---- items
 
-  pub items-next : (ns : List ℕ) (o : Op) (xs : List Op) (ops rest : Bor (List Op)) (ts : List TranscribeTask) (b : Building) → ops.now ≡ o ∷ rest.now →
-      outcome mark bound (items_task ops ∷ ts) ns b
-      ≡ put_and (first_gives mark bound ns (put_op o done)) (first_puts_out mark bound ns (put_op o done)) b (outcome mark bound (items_task rest ∷ ts) ns)
-  items-next ns o xs ops rest ts b e =
-      ap (λ l. items_and mark bound ns (items_of l) b (outcome mark bound ts ns)) e
-      ∙ ap (λ x. put_and x (puts_out mark bound ns (put_op o (items_of rest.now))) b (outcome mark bound ts ns)) (gives-put mark bound ns o (items_of rest.now))
+  pub items-first : (ns : List ℕ) (o : Op) (xs rest : List Op) (b : Building) (more : Building → Outcome) → xs ≡ o ∷ rest →
+      items_and mark bound ns (items_of xs) b more
+      ≡ put_and (first_gives mark bound ns (put_op o done)) (first_puts_out mark bound ns (put_op o done)) b (λ t. items_and mark bound ns (items_of rest) t more)
+  items-first ns o xs rest b more e =
+      ap (λ l. items_and mark bound ns (items_of l) b more) e
+      ∙ ap (λ x. put_and x (puts_out mark bound ns (put_op o (items_of rest))) b more) (gives-put mark bound ns o (items_of rest))
       ∙ ap
-      (λ n. put_and (both joined (first_gives mark bound ns (put_op o done)) (gives mark bound ns (items_of rest.now))) n b (outcome mark bound ts ns))
-      (puts-put mark bound ns o (items_of rest.now))
-      ∙ put-both (first_gives mark bound ns (put_op o done)) (gives mark bound ns (items_of rest.now)) (first_puts_out mark bound ns (put_op o done))
-      (puts_out mark bound ns (items_of rest.now)) b (outcome mark bound ts ns) (sized-first mark bound ns (put_op o done))
+      (λ n. put_and (both joined (first_gives mark bound ns (put_op o done)) (gives mark bound ns (items_of rest))) n b more)
+      (puts-put mark bound ns o (items_of rest))
+      ∙ put-both (first_gives mark bound ns (put_op o done)) (gives mark bound ns (items_of rest)) (first_puts_out mark bound ns (put_op o done))
+      (puts_out mark bound ns (items_of rest)) b more (sized-first mark bound ns (put_op o done))
 
   pub no-items : (ns : List ℕ) (ops : Bor (List Op)) (ts : List TranscribeTask) (b : Building) → ops.now ≡ [] →
       outcome mark bound (items_task ops ∷ ts) ns b ≡ outcome mark bound ts ns b
@@ -155,53 +154,53 @@ module _ (mark : Span → Span) (bound : Map) where
 
   -- ---- rounds
 
-  none-later : (ns : List ℕ) (body : Items) (sep : Option spec.Separator) (m r : ℕ) → stands_in mark bound ns body r ≡ false →
-      later_gives mark bound ns body sep m r ≡ Some empty
-  none-later ns body sep zero r e = ap (λ b. elim b [ true ↦ None | false ↦ Some empty ]) e
-  none-later ns body sep (suc m) r e = rw (e, rounds_from) refl
+  none-later : (ns : List ℕ) (body : Items) (sep : Option spec.Separator) (n m r : ℕ) → nat_lt r n ≡ false →
+      later_gives mark bound ns body sep n m r ≡ Some empty
+  none-later ns body sep n zero r e = ap (λ b. elim b [ true ↦ None | false ↦ Some empty ]) e
+  none-later ns body sep n (suc m) r e = rw (e, rounds_from) refl
 
-  over-later : (ns : List ℕ) (body : Items) (sep : Option spec.Separator) (r : ℕ) → stands_in mark bound ns body r ≡ true →
-      later_gives mark bound ns body sep 0 r ≡ None
-  over-later ns body sep r e = ap (λ b. elim b [ true ↦ None | false ↦ Some empty ]) e
+  over-later : (ns : List ℕ) (body : Items) (sep : Option spec.Separator) (n r : ℕ) → nat_lt r n ≡ true →
+      later_gives mark bound ns body sep n 0 r ≡ None
+  over-later ns body sep n r e = ap (λ b. elim b [ true ↦ None | false ↦ Some empty ]) e
 
-  one-later : (ns : List ℕ) (body : Items) (sep : Option spec.Separator) (m r : ℕ) → stands_in mark bound ns body r ≡ true →
-      later_gives mark bound ns body sep (suc m) r
-      ≡ both (λ f rest. joined (separator_leaves sep) (joined f rest)) (gives mark bound (ns ++ (r ∷ [])) body) (later_gives mark bound ns body sep m (suc r))
-  one-later ns body sep m r e = rw (e, rounds_from) refl
+  one-later : (ns : List ℕ) (body : Items) (sep : Option spec.Separator) (n m r : ℕ) → nat_lt r n ≡ true →
+      later_gives mark bound ns body sep n (suc m) r
+      ≡ both (λ f rest. joined (separator_leaves sep) (joined f rest)) (gives mark bound (ns ++ (r ∷ [])) body) (later_gives mark bound ns body sep n m (suc r))
+  one-later ns body sep n m r e = rw (e, rounds_from) refl
 
-  one-out : (ns : List ℕ) (body : Items) (sep : Option spec.Separator) (m r : ℕ) → stands_in mark bound ns body r ≡ true →
-      later_puts_out mark bound ns body sep (suc m) r
+  one-out : (ns : List ℕ) (body : Items) (sep : Option spec.Separator) (n m r : ℕ) → nat_lt r n ≡ true →
+      later_puts_out mark bound ns body sep n (suc m) r
       ≡ size (separator_leaves sep)
-      + and_then (gives mark bound (ns ++ (r ∷ [])) body) (puts_out mark bound (ns ++ (r ∷ [])) body) (later_puts_out mark bound ns body sep m (suc r))
-  one-out ns body sep m r e = rw (e, output_from) refl
+      + and_then (gives mark bound (ns ++ (r ∷ [])) body) (puts_out mark bound (ns ++ (r ∷ [])) body) (later_puts_out mark bound ns body sep n m (suc r))
+  one-out ns body sep n m r e = rw (e, output_from) refl
 
   abbrev later_of : List ℕ → Iterations → ℕ → ℕ → Option Forest
-  later_of ns x = later_gives mark bound ns (items_of x.body.now) (option_map (λ s. separator_of s.now) x.separator)
+  later_of ns x = later_gives mark bound ns (items_of x.body.now) (option_map (λ s. separator_of s.now) x.separator) x.count
 
   abbrev out_of : List ℕ → Iterations → ℕ → ℕ → ℕ
-  out_of ns x = later_puts_out mark bound ns (items_of x.body.now) (option_map (λ s. separator_of s.now) x.separator)
+  out_of ns x = later_puts_out mark bound ns (items_of x.body.now) (option_map (λ s. separator_of s.now) x.separator) x.count
 
   -- no round more stands
-  pub no-more : (ns : List ℕ) (x : Iterations) (b : Building) (more : Building → Outcome) → stands_in mark bound ns (items_of x.body.now) x.number ≡ false →
+  pub no-more : (ns : List ℕ) (x : Iterations) (b : Building) (more : Building → Outcome) → nat_lt x.number x.count ≡ false →
       rounds_and mark bound ns x b more ≡ more b
   no-more ns x b more e =
-      ap (λ o. put_and o (out_of ns x (most_rounds - x.number) x.number) b more) (none-later ns (items_of x.body.now) (option_map (λ s. separator_of s.now) x.separator) (most_rounds - x.number) x.number e)
+      ap (λ o. put_and o (out_of ns x (most_rounds - x.number) x.number) b more) (none-later ns (items_of x.body.now) (option_map (λ s. separator_of s.now) x.separator) x.count (most_rounds - x.number) x.number e)
       ∙ put-empty (out_of ns x (most_rounds - x.number) x.number) b more
 
   -- one more stands than there may be
-  pub too-many : (ns : List ℕ) (x : Iterations) (b : Building) (more : Building → Outcome) → stands_in mark bound ns (items_of x.body.now) x.number ≡ true →
+  pub too-many : (ns : List ℕ) (x : Iterations) (b : Building) (more : Building → Outcome) → nat_lt x.number x.count ≡ true →
       most_rounds ≤ x.number → IsFaulty (rounds_and mark bound ns x b more)
   too-many ns x b more e most =
       let n : most_rounds - x.number ≡ 0 = omega (arith, most) in
       subst (λ o. IsFaulty (put_and o (out_of ns x (most_rounds - x.number) x.number) b more))
-      (sym (ap (λ m. later_of ns x m x.number) n ∙ over-later ns (items_of x.body.now) (option_map (λ s. separator_of s.now) x.separator) x.number e)) tt
+      (sym (ap (λ m. later_of ns x m x.number) n ∙ over-later ns (items_of x.body.now) (option_map (λ s. separator_of s.now) x.separator) x.count x.number e)) tt
 
   -- the rounds after the next one
   abbrev pub after_next : Iterations → Iterations
   after_next x = record x { number = x.number + 1 }
 
   -- one more round stands
-  pub one-more-round : (ts : List TranscribeTask) (ns : List ℕ) (x : Iterations) (b : Building) → stands_in mark bound ns (items_of x.body.now) x.number ≡ true →
+  pub one-more-round : (ts : List TranscribeTask) (ns : List ℕ) (x : Iterations) (b : Building) → nat_lt x.number x.count ≡ true →
       x.number < most_rounds →
       rounds_and mark bound ns x b (outcome mark bound ts ns)
       ≡ outcome mark bound (items_task x.body ∷ Later (after_next x) ∷ ts) (ns ++ (x.number ∷ []))
@@ -214,10 +213,10 @@ module _ (mark : Span → Span) (bound : Map) where
       let n : most_rounds - x.number ≡ suc m = omega (arith, less) in
       let j : suc r ≡ r + 1 = omega arith in
       ap (λ k. put_and (later_of ns x k r) (out_of ns x k r) b (outcome mark bound ts ns)) n
-      ∙ ap (λ o. put_and o (out_of ns x (suc m) r) b (outcome mark bound ts ns)) (one-later ns body s m r e)
+      ∙ ap (λ o. put_and o (out_of ns x (suc m) r) b (outcome mark bound ts ns)) (one-later ns body s x.count m r e)
       ∙ ap
       (λ k. put_and (both (λ f rest. joined (separator_leaves s) (joined f rest)) (gives mark bound (ns ++ (r ∷ [])) body) (later_of ns x m (suc r))) k b (outcome mark bound ts ns))
-      (one-out ns body s m r e)
+      (one-out ns body s x.count m r e)
       ∙ put-round (separator_leaves s) (gives mark bound (ns ++ (r ∷ [])) body) (later_of ns x m (suc r)) (puts_out mark bound (ns ++ (r ∷ [])) body)
       (out_of ns x m (suc r)) b (outcome mark bound ts ns) (sized-gives mark bound (ns ++ (r ∷ [])) body)
       ∙ ap
@@ -230,7 +229,7 @@ module _ (mark : Span → Span) (bound : Map) where
       (sym (around-last ns r))
 
   -- its separator is put in
-  pub round-least : (ts : List TranscribeTask) (ns : List ℕ) (x : Iterations) (b : Building) → stands_in mark bound ns (items_of x.body.now) x.number ≡ true →
+  pub round-least : (ts : List TranscribeTask) (ns : List ℕ) (x : Iterations) (b : Building) → nat_lt x.number x.count ≡ true →
       x.number < most_rounds →
       count_of b + size (separator_leaves (option_map (λ s. separator_of s.now) x.separator)) ≤ reached (rounds_and mark bound ns x b (outcome mark bound ts ns))
   round-least ts ns x b e less =
@@ -255,17 +254,24 @@ module _ (mark : Span → Span) (bound : Map) where
 
   -- one whose first round stands
   pub rounds-begin : (ts : List TranscribeTask) (ns : List ℕ) (x : Iterations) (k : RepeatKind) (b : Building) → x.number ≡ 1 →
-      stands_in mark bound ns (items_of x.body.now) 0 ≡ true →
+      HasRounds mark bound ns (items_of x.body.now) x.count → nat_lt 0 x.count ≡ true →
       put_and (repetition_gives mark bound ns (items_of x.body.now) (option_map (λ s. separator_of s.now) x.separator) k)
       (repetition_puts_out mark bound ns (items_of x.body.now) (option_map (λ s. separator_of s.now) x.separator) k) b (outcome mark bound ts ns)
       ≡ outcome mark bound (items_task x.body ∷ (if is_single k then Leave else Later x) ∷ ts) (ns ++ (0 ∷ [])) b
-  rounds-begin ts ns x k b one e =
+  rounds-begin ts ns x k b one so_many e =
       let body = items_of x.body.now in
       let s = option_map (λ s. separator_of s.now) x.separator in
+      let below : (r : ℕ) → r ≤ most_rounds - 1 + 1 → stands_in mark bound ns body r ≡ nat_lt r x.count = λ r h. sym (so_many r (omega (arith, h))) in
+      let stood : stands_in mark bound ns body 0 ≡ true = sym (so_many 0 (omega arith)) ∙ e in
       let c = first-round (stands_in mark bound ns body) (λ r. gives mark bound (ns ++ (r ∷ [])) body) (λ r. puts_out mark bound (ns ++ (r ∷ [])) body)
-      (separator_leaves s) most_rounds k e in
+      (separator_leaves s) most_rounds k stood
+      ∙ ap (with_later k (gives mark bound (ns ++ (0 ∷ [])) body))
+      (same-from (stands_in mark bound ns body) (λ r. nat_lt r x.count) (λ r. gives mark bound (ns ++ (r ∷ [])) body) (separator_leaves s) (most_rounds - 1) 1 below) in
       let d = first-out (stands_in mark bound ns body) (λ r. gives mark bound (ns ++ (r ∷ [])) body) (λ r. puts_out mark bound (ns ++ (r ∷ [])) body)
-      (separator_leaves s) most_rounds k e in
+      (separator_leaves s) most_rounds k stood
+      ∙ ap (out_later k (gives mark bound (ns ++ (0 ∷ [])) body) (puts_out mark bound (ns ++ (0 ∷ [])) body))
+      (same-out (stands_in mark bound ns body) (λ r. nat_lt r x.count) (λ r. gives mark bound (ns ++ (r ∷ [])) body) (λ r. puts_out mark bound (ns ++ (r ∷ [])) body)
+      (size (separator_leaves s)) (most_rounds - 1) 1 below) in
       ap (λ o. put_and o (repetition_puts_out mark bound ns body s k) b (outcome mark bound ts ns)) c
       ∙ ap (λ n. put_and (with_later k (gives mark bound (ns ++ (0 ∷ [])) body) (later_of ns x (most_rounds - 1) 1)) n b (outcome mark bound ts ns)) d
       ∙ go k
@@ -307,6 +313,68 @@ plain-steps (Ok true) old new None n more h = absurd (cc h)
 plain-steps (Ok true) old new (Some f) n more h = ap more (sym (unsome h))
 plain-steps (Ok false) old new None n more h = tt
 plain-steps (Ok false) old new (Some f) n more h = absurd (cc h)
+
+-- ---- the items that are left
+
+pub led : (mark : Span → Span) (bound : Map) (ts : List TranscribeTask) (ns ms : List ℕ) (ops left : Bor (List Op)) (old new : Building) (o : Option (Bor (List Op))) → ms ≡ ns →
+    o ≡ Some left →
+    MatchOption o (IsFaulty (outcome mark bound (items_task ops ∷ ts) ms old))
+    (λ l. outcome mark bound (items_task ops ∷ ts) ms old ≡ outcome mark bound (items_task l ∷ ts) ms new) →
+    outcome mark bound (items_task ops ∷ ts) ns old ≡ outcome mark bound (items_task left ∷ ts) ns new
+led mark bound ts ns ms ops left old new None same e h = absurd (cc e)
+led mark bound ts ns ms ops left old new (Some l) same e h =
+    subst (λ ks. outcome mark bound (items_task ops ∷ ts) ks old ≡ outcome mark bound (items_task left ∷ ts) ks new) same
+    (subst (λ k. outcome mark bound (items_task ops ∷ ts) ms old ≡ outcome mark bound (items_task k ∷ ts) ms new) (unsome e) h)
+
+pub left-inside : (o : Option (Bor (List Op))) (left : Bor (List Op)) → o ≡ Some left → IfSome o (λ l. is_plain (items_of l.now) ≡ false) → is_plain (items_of left.now) ≡ false
+left-inside None left e h = absurd (cc e)
+left-inside (Some l) left e h = subst (λ k. is_plain (items_of k.now) ≡ false) (unsome e) h
+
+pub left-fewer : (o : Option (Bor (List Op))) (left : Bor (List Op)) (n : ℕ) → o ≡ Some left → IfSome o (λ l. work_of (items_of l.now) ≤ n) → work_of (items_of left.now) ≤ n
+left-fewer None left n e h = absurd (cc e)
+left-fewer (Some l) left n e h = subst (λ k. work_of (items_of k.now) ≤ n) (unsome e) h
+
+-- ---- items that hold no others, before those that are left
+
+pub plain-put : (o : Op) (rest : Items) → is_plain (put_op o rest) ≡ is_plain (put_op o done)
+plain-put (Subtree' shape row d) rest = refl
+plain-put (Repeat' shape row sep k) rest = refl
+plain-put _ rest = refl
+
+pub first-inside : (o : Op) (xs rest : List Op) → xs ≡ o ∷ rest → is_plain (put_op o done) ≡ is_plain (items_of xs)
+first-inside o xs rest e = sym (ap (λ l. is_plain (items_of l)) e ∙ plain-put o (items_of rest))
+
+pub inside-left : (o : Op) (xs rest : List Op) (found : Bool) → xs ≡ o ∷ rest → found ≡ not (is_plain (put_op o done)) → found ≡ true → is_plain (items_of xs) ≡ false
+inside-left o xs rest found e is so = sym (first-inside o xs rest e) ∙ unsaid (is_plain (put_op o done)) (sym is ∙ so)
+  where
+    unsaid : (b : Bool) → not b ≡ true → b ≡ false
+    unsaid true h = sym h
+    unsaid false h = refl
+
+module _ (mark : Span → Span) (bound : Map) (ns : List ℕ) (ts : List TranscribeTask) (o : Op) (xs : List Op) (rest : Bor (List Op)) (is : xs ≡ o ∷ rest.now) (start : Outcome)
+    (old : Building) (e : start ≡ items_and mark bound ns (items_of xs) old (outcome mark bound ts ns)) where
+  lead-steps : (ok : Bool) (new : Building) → Fills (Ok ok) old new (first_gives mark bound ns (put_op o done)) →
+      GoesOn ok start (items_and mark bound ns (items_of rest.now) new (outcome mark bound ts ns))
+  lead-steps ok new h =
+      subst (λ t. GoesOn ok t (items_and mark bound ns (items_of rest.now) new (outcome mark bound ts ns)))
+      (sym (e ∙ items-first mark bound ns o xs rest.now old (outcome mark bound ts ns) is))
+      (plain-steps (Ok ok) old new (first_gives mark bound ns (put_op o done)) (first_puts_out mark bound ns (put_op o done))
+      (λ t. items_and mark bound ns (items_of rest.now) t (outcome mark bound ts ns)) h)
+
+  pub lead-put : (ok : Bool) (new : Building) → Fills (Ok ok) old new (first_gives mark bound ns (put_op o done)) → ok ≡ true →
+      start ≡ items_and mark bound ns (items_of rest.now) new (outcome mark bound ts ns)
+  lead-put ok new h f = subst (λ b. GoesOn b start (items_and mark bound ns (items_of rest.now) new (outcome mark bound ts ns))) f (lead-steps ok new h)
+
+  pub lead-fault : (ok : Bool) (new : Building) → Fills (Ok ok) old new (first_gives mark bound ns (put_op o done)) → ok ≡ false → IsFaulty start
+  lead-fault ok new h f = subst (λ b. GoesOn b start (items_and mark bound ns (items_of rest.now) new (outcome mark bound ts ns))) f (lead-steps ok new h)
+
+  pub lead-bursts : most_tokens < count_of old + first_puts_out mark bound ns (put_op o done) → most_tokens < reached start
+  lead-bursts lacks =
+      let k =
+      put-least (first_gives mark bound ns (put_op o done)) (first_puts_out mark bound ns (put_op o done)) old (outcome mark bound (items_task rest ∷ ts) ns)
+      (at-least mark bound (items_task rest ∷ ts) ns) (sized-first mark bound ns (put_op o done)) in
+      let d = ap reached (e ∙ items-first mark bound ns o xs rest.now old (outcome mark bound ts ns) is) in
+      omega (arith, k, d, lacks)
 
 -- ---- all of a template
 
@@ -387,50 +455,55 @@ module _ (mark : Span → Span) (bound : Map) where
       omega (arith, c, k, full)
 
   -- the first items, with those after them put down before
-  pub items-steps : (ts us : List TranscribeTask) (ns ms : List ℕ) (ops rest : Bor (List Op)) (o : Op) (old : Building) → ops.now ≡ o ∷ rest.now →
-      us ≡ ts ++ (items_task rest ∷ []) → ms ≡ ns →
+  pub items-steps : (ts us : List TranscribeTask) (ns ms : List ℕ) (ops rest : Bor (List Op)) (o : Op) (old : Building) → ops.now ≡ o ∷ rest.now → ms ≡ ns →
+      ((b : Building) → outcome mark bound (items_task rest ∷ reverse ts) ns b ≡ outcome mark bound (reverse us) ms b) →
       outcome mark bound (items_task ops ∷ reverse ts) ns old
       ≡ put_and (first_gives mark bound ms (put_op o done)) (first_puts_out mark bound ms (put_op o done)) old (outcome mark bound (reverse us) ms)
-  items-steps ts us ns ms ops rest o old is e same =
-      items-next mark bound ns o [] ops rest (reverse ts) old is
-      ∙ ap (λ xs. put_and (first_gives mark bound ns (put_op o done)) (first_puts_out mark bound ns (put_op o done)) old (outcome mark bound xs ns))
-      (sym (ap reverse e ∙ on-top ts (items_task rest)))
+  items-steps ts us ns ms ops rest o old is same after =
+      items-first mark bound ns o ops.now rest.now old (outcome mark bound (reverse ts) ns) is
+      ∙ put-same (first_gives mark bound ns (put_op o done)) (first_puts_out mark bound ns (put_op o done)) old _ (outcome mark bound (reverse us) ms) after
       ∙ ap
-      (λ xs. put_and (first_gives mark bound xs (put_op o done)) (first_puts_out mark bound xs (put_op o done)) old (outcome mark bound (reverse us) xs))
+      (λ xs. put_and (first_gives mark bound xs (put_op o done)) (first_puts_out mark bound xs (put_op o done)) old (outcome mark bound (reverse us) ms))
       (sym same)
+
+  -- nothing is put down where none are after them
+  pub rest-none : (ts us : List TranscribeTask) (ns ms : List ℕ) (rest : Bor (List Op)) (b : Building) → rest.now ≡ [] → us ≡ ts → ms ≡ ns →
+      outcome mark bound (items_task rest ∷ reverse ts) ns b ≡ outcome mark bound (reverse us) ms b
+  rest-none ts us ns ms rest b none e same =
+      no-items mark bound ns rest (reverse ts) b none ∙ same-outcome (reverse ts) (reverse us) ns ms b b (ap reverse e) same refl
+
+  pub rest-planned : (ts us : List TranscribeTask) (ns ms : List ℕ) (rest : Bor (List Op)) (b : Building) → us ≡ ts ++ (items_task rest ∷ []) → ms ≡ ns →
+      outcome mark bound (items_task rest ∷ reverse ts) ns b ≡ outcome mark bound (reverse us) ms b
+  rest-planned ts us ns ms rest b e same =
+      same-outcome (items_task rest ∷ reverse ts) (reverse us) ns ms b b (ap reverse e ∙ on-top ts (items_task rest)) same refl
 
   -- the rounds of a repetition are begun
   pub rounds-steps : (ts us vs : List TranscribeTask) (ns ms ks : List ℕ) (x : Iterations) (k : RepeatKind) (t : TranscribeTask) (stood : Bool) (old : Building) → x.number ≡ 1 →
-      stood ≡ stands_in mark bound ns (items_of x.body.now) 0 → stood ≡ true → t ≡ (if is_single k then Leave else Later x) →
+      HasRounds mark bound ns (items_of x.body.now) x.count → stood ≡ nat_lt 0 x.count → stood ≡ true → t ≡ (if is_single k then Leave else Later x) →
       us ≡ ts ++ (t ∷ []) → vs ≡ us ++ (items_task x.body ∷ []) → ms ≡ ns → ks ≡ ms ++ (0 ∷ []) →
       put_and (repetition_gives mark bound ns (items_of x.body.now) (option_map (λ s. separator_of s.now) x.separator) k)
       (repetition_puts_out mark bound ns (items_of x.body.now) (option_map (λ s. separator_of s.now) x.separator) k) old (outcome mark bound (reverse ts) ns)
       ≡ outcome mark bound (reverse vs) ks old
-  rounds-steps ts us vs ns ms ks x k t stood old one is holds first e f same g =
-      rounds-begin mark bound (reverse ts) ns x k old one (sym is ∙ holds)
+  rounds-steps ts us vs ns ms ks x k t stood old one so_many is holds first e f same g =
+      rounds-begin mark bound (reverse ts) ns x k old one so_many (sym is ∙ holds)
       ∙ same-outcome (items_task x.body ∷ (if is_single k then Leave else Later x) ∷ reverse ts) (reverse vs) (ns ++ (0 ∷ [])) ks old old
       (two-on-top ts us vs t (items_task x.body) e f ∙ ap (λ y. items_task x.body ∷ y ∷ reverse ts) first) (g ∙ ap (λ l. l ++ (0 ∷ [])) same) refl
 
-  pub none-steps : (ts : List TranscribeTask) (ns ms : List ℕ) (x : Iterations) (k : RepeatKind) (stood answered : Bool) (old : Building) →
-      stood ≡ stands_in mark bound ns (items_of x.body.now) 0 → stood ≡ false → answered ≡ may_skip k → ms ≡ ns →
+  pub none-steps : (ts : List TranscribeTask) (ns : List ℕ) (x : Iterations) (n : ℕ) (k : RepeatKind) (stood answered : Bool) (old : Building) →
+      HasRounds mark bound ns (items_of x.body.now) n → stood ≡ nat_lt 0 n → stood ≡ false → answered ≡ may_skip k →
       GoesOn answered
       (put_and (repetition_gives mark bound ns (items_of x.body.now) (option_map (λ s. separator_of s.now) x.separator) k)
       (repetition_puts_out mark bound ns (items_of x.body.now) (option_map (λ s. separator_of s.now) x.separator) k) old (outcome mark bound ts ns))
-      (outcome mark bound ts ms old)
-  none-steps ts ns ms x k stood answered old is fails e same =
+      (outcome mark bound ts ns old)
+  none-steps ts ns x n k stood answered old so_many is fails e =
       subst
-      (λ l. GoesOn answered
-      (put_and (repetition_gives mark bound ns (items_of x.body.now) (option_map (λ s. separator_of s.now) x.separator) k)
-      (repetition_puts_out mark bound ns (items_of x.body.now) (option_map (λ s. separator_of s.now) x.separator) k) old (outcome mark bound ts ns))
-      (outcome mark bound ts l old))
-      (sym same)
-      (subst
       (λ a. GoesOn a
       (put_and (repetition_gives mark bound ns (items_of x.body.now) (option_map (λ s. separator_of s.now) x.separator) k)
       (repetition_puts_out mark bound ns (items_of x.body.now) (option_map (λ s. separator_of s.now) x.separator) k) old (outcome mark bound ts ns))
       (outcome mark bound ts ns old))
       (sym e)
-      (no-rounds mark bound ns (items_of x.body.now) (option_map (λ s. separator_of s.now) x.separator) k old (outcome mark bound ts ns) (sym is ∙ fails)))
+      (no-rounds mark bound ns (items_of x.body.now) (option_map (λ s. separator_of s.now) x.separator) k old (outcome mark bound ts ns)
+      (sym (so_many 0 (omega arith)) ∙ sym is ∙ fails))
 
 -- ---- what is said otherwise
 
@@ -442,28 +515,26 @@ pub same-bursts : (r : Result Bool TtFault) (x y : Option Forest) (n m : ℕ) (b
     IsBurstIn r (put_and x n b more) → IsBurstIn r (put_and y m b more)
 same-bursts r x y n m b more e f h = subst (λ k. IsBurstIn r (put_and y k b more)) f (subst (λ o. IsBurstIn r (put_and o n b more)) e h)
 
-pub fewer-still : (r : Result Bool TtFault) (ts us vs : List TranscribeTask) (ops rest : Bor (List Op)) (o : Op) → ops.now ≡ o ∷ rest.now →
-    us ≡ ts ++ (items_task rest ∷ []) → OnOk r (tasks_of_all vs < tasks_of_all us + work_of (put_op o done)) →
-    OnOk r (tasks_of_all vs ≤ tasks_of_all ts + work_of (items_of ops.now))
-fewer-still (Err x) ts us vs ops rest o e f h = tt
-fewer-still (Ok b) ts us vs ops rest o e f h =
-    let a = work-more o ops.now rest.now e in
-    let c = ap tasks_of_all f ∙ one-more ts (items_task rest) in
-    omega (arith, a, c, h)
+pub fewer-still : (r : Result Bool TtFault) (ts us vs : List TranscribeTask) (all left rest : List Op) (o : Op) → left ≡ o ∷ rest →
+    work_of (items_of left) ≤ work_of (items_of all) → tasks_of_all us ≤ tasks_of_all ts + (1 + work_of (items_of rest)) →
+    OnOk r (tasks_of_all vs < tasks_of_all us + work_of (put_op o done)) →
+    OnOk r (tasks_of_all vs ≤ tasks_of_all ts + work_of (items_of all))
+fewer-still (Err x) ts us vs all left rest o e f g h = tt
+fewer-still (Ok b) ts us vs all left rest o e f g h = let a = work-more o left rest e in omega (arith, a, f, g, h)
 
 -- ---- one more round, with its separator put in
 
 module _ (mark : Span → Span) (bound : Map) where
-  pub next-ended : (ts us : List TranscribeTask) (ns ms ks : List ℕ) (x : Iterations) (stood : Bool) (old : Building) → ms ≡ around ns →
-      stood ≡ stands_in mark bound ms (items_of x.body.now) x.number → stood ≡ false → ks ≡ ms → us ≡ ts →
-      outcome mark bound (Later x ∷ reverse ts) ns old ≡ outcome mark bound (reverse us) ks old
-  next-ended ts us ns ms ks x stood old left is fails same e =
+  pub next-ended : (ts us : List TranscribeTask) (ns ms : List ℕ) (x : Iterations) (stood : Bool) (old : Building) → ms ≡ around ns →
+      stood ≡ nat_lt x.number x.count → stood ≡ false → us ≡ ts →
+      outcome mark bound (Later x ∷ reverse ts) ns old ≡ outcome mark bound (reverse us) ms old
+  next-ended ts us ns ms x stood old left is fails e =
       ap (λ l. rounds_and mark bound l x old (outcome mark bound (reverse ts) l)) (sym left)
       ∙ no-more mark bound ms x old (outcome mark bound (reverse ts) ms) (sym is ∙ fails)
-      ∙ same-outcome mark bound (reverse ts) (reverse us) ms ks old old (ap reverse e) same refl
+      ∙ same-outcome mark bound (reverse ts) (reverse us) ms ms old old (ap reverse e) refl refl
 
   pub next-bursts : (ts : List TranscribeTask) (ns ms : List ℕ) (x : Iterations) (stood : Bool) (old : Building) → ms ≡ around ns →
-      stood ≡ stands_in mark bound ms (items_of x.body.now) x.number → stood ≡ true → x.number < most_rounds →
+      stood ≡ nat_lt x.number x.count → stood ≡ true → x.number < most_rounds →
       LacksRoom old (separator_leaves (option_map (λ s. separator_of s.now) x.separator)) →
       most_tokens < reached (outcome mark bound (Later x ∷ ts) ns old)
   next-bursts ts ns ms x stood old left is holds fits lacks =
@@ -472,7 +543,7 @@ module _ (mark : Span → Span) (bound : Map) where
       omega (arith, k, c, lacks)
 
   pub next-steps : (ts us vs : List TranscribeTask) (ns ms ks ls : List ℕ) (x y : Iterations) (stood : Bool) (old mid : Building) → ms ≡ around ns →
-      stood ≡ stands_in mark bound ms (items_of x.body.now) x.number → stood ≡ true → x.number < most_rounds → y ≡ after_next mark bound x →
+      stood ≡ nat_lt x.number x.count → stood ≡ true → x.number < most_rounds → y ≡ after_next mark bound x →
       mid ≡ extended old (separator_leaves (option_map (λ s. separator_of s.now) x.separator)) →
       us ≡ ts ++ (Later y ∷ []) → vs ≡ us ++ (items_task x.body ∷ []) → ks ≡ ms → ls ≡ ks ++ (x.number ∷ []) →
       outcome mark bound (Later x ∷ reverse ts) ns old ≡ outcome mark bound (reverse vs) ls mid

@@ -1,7 +1,6 @@
 -- How an iteration uses the metavariables of its body, one after another.
-use Rattle.std.proofs.Common.{◌≡◌, refl, sym, ap, ◌∙◌, ℕ, zero, suc, ◌<◌, false, ◌&&◌, ◌||◌, not, List, [], ◌∷◌, ◌++◌, map, length, get_or, drop, drop-cons, ◌≤◌, Option, Some, None, option_and_then, arith}
+use Rattle.std.proofs.Common.{◌≡◌, refl, sym, ap, ◌∙◌, ℕ, zero, suc, ◌<◌, Bool, true, false, ◌&&◌, ◌||◌, not, nat_lt, le-ltb, ltb-true, ltb-false, if◌then◌else◌, List, [], ◌∷◌, ◌++◌, map, length, get_or, drop, drop-cons, ◌≤◌, Option, Some, None, option_and_then, arith}
 use Rattle.std.proofs.lemmas.List.{map-append, drop_all}
-use Rattle.std.specs.Prelude.{◌==◌}
 use Rattle.std.specs.List.{list_any}
 use Rattle.std.specs.declared.vec.Vec.{Vec}
 use Rattle.std.specs.declared.alloc.Global.{Global}
@@ -19,7 +18,7 @@ use Rattle.mbe_matcher.specs.Bindings as b
 use Rattle.mbe_matcher.specs.Bound.{standing_for, values_of}
 use Rattle.mbe_matcher.proofs.BoundLemmas.{standing-Rounds}
 use Rattle.mbe_transcriber.specs.Filling.{value_in, use_of_member, Use, unused, has_value, has_none, is_use, is_lack, stands, names, part_names, use_in}
-use Rattle.mbe_transcriber.specs.Uses.{beside, has_it, together, uses_of}
+use Rattle.mbe_transcriber.specs.Uses.{beside, together, use_at, uses_of}
 use Rattle.mbe_matcher.specs.declared.bindings.Binding.{Binding, Rounds}
 
 append-nil : {A : Type 0} (xs : List A) → xs ++ [] ≡ xs
@@ -95,6 +94,11 @@ abbrev pub PartsFrom : List ℕ → Map → List ConcatElement → ℕ → Use �
 PartsFrom ns m ps i u =
     beside u (together (uses_of ns m (part_names (map part_of (drop i ps))))) ≡ together (uses_of ns m (part_names (map part_of ps)))
 
+-- the round of index k is one of so many
+abbrev is_one : ℕ → Option ℕ → Bool
+is_one k None = false
+is_one k (Some n) = nat_lt k n
+
 -- a round stands where all uses together have a value
 use-beside : (u v : Use) → is_use (beside u v) ≡ (is_use u || is_use v)
 use-beside unused v = refl
@@ -118,13 +122,24 @@ any-lack : (us : List Use) → is_lack (together us) ≡ list_any is_lack us
 any-lack [] = refl
 any-lack (u ∷ us) = lack-beside u (together us) ∙ ap (λ b. is_lack u || b) (any-lack us)
 
-has-it : (u : Use) → has_it u ≡ (is_use u && not (is_lack u))
-has-it unused = refl
-has-it has_value = refl
-has-it has_none = refl
+-- a round of a repetition stands by the least of the lengths
+stands-at : (k : ℕ) (o : Option ℕ) (us : List Use) → use_at k o ≡ together us → is_one k o ≡ stands us
+stands-at k o us e =
+    has-it k o ∙ ap (λ x. is_use x && not (is_lack x)) e ∙ ap (λ a. a && not (is_lack (together us))) (any-use us) ∙ ap (λ a. list_any is_use us && not a) (any-lack us)
+  where
+    has-it : (k : ℕ) (o : Option ℕ) → is_one k o ≡ (is_use (use_at k o) && not (is_lack (use_at k o)))
+    has-it k None = refl
+    has-it k (Some n) = go (nat_lt k n)
+      where
+        go : (b : Bool) → b ≡ (is_use (if b then has_value else has_none) && not (is_lack (if b then has_value else has_none)))
+        go true = refl
+        go false = refl
 
-pub stands-by : (us : List Use) (u : Use) → u ≡ together us → has_it u ≡ stands us
-stands-by us u e = has-it u ∙ ap (λ x. is_use x && not (is_lack x)) e ∙ ap (λ a. a && not (is_lack (together us))) (any-use us) ∙ ap (λ a. list_any is_use us && not a) (any-lack us)
+pub stands-below : (k n : ℕ) (o : Option ℕ) (us : List Use) → o ≡ Some n → use_at k o ≡ together us → nat_lt k n ≡ stands us
+stands-below k n o us is e = sym (ap (is_one k) is) ∙ stands-at k o us e
+
+pub stands-never : (k : ℕ) (o : Option ℕ) (us : List Use) → o ≡ None → use_at k o ≡ together us → nat_lt k 0 ≡ stands us
+stands-never k o us is e = le-ltb k 0 (omega arith) ∙ sym (ap (is_one k) is) ∙ stands-at k o us e
 
 text-cut : (ns : List ℕ) (m : Map) (p : ConcatElement) (ps : List ConcatElement) →
     together (uses_of ns m (part_names (map part_of (p ∷ ps)))) ≡ beside (together (uses_of ns m (part_names (map part_of (p ∷ []))))) (together (uses_of ns m (part_names (map part_of ps))))
@@ -200,11 +215,24 @@ value-ended ns i m all h same = itself m ∙ ap (λ xs. option_and_then (value_i
     itself None = refl
     itself (Some y) = refl
 
-pub use-last : (n : ℕ) (x : Binding) (v : Vec Binding Global) (m : Option b.Binding) →
-    x ≡ Rounds v → m ≡ value_at n (values_of v.items) → use_of_member m ≡ use_in (n ∷ []) (Some (standing_for x))
-use-last n x v m is found = rw (is, found) (ap (λ y. use_in (n ∷ []) (Some y)) (sym (standing-Rounds v)))
+-- a list has values for so many rounds as it is long
+value-there : (xs : List Binding) (k : ℕ) → k < length xs → use_of_member (value_at k (values_of xs)) ≡ has_value
+value-there [] k h = absurd (omega arith)
+value-there (x ∷ xs) zero h = refl
+value-there (x ∷ xs) (suc k) h = value-there xs k (omega arith)
 
-pub use-step : (ns : List ℕ) (n : ℕ) (inner : List ℕ) (x : Binding) (v : Vec Binding Global) (m : Option b.Binding) →
-    ns ≡ n ∷ inner → (length inner == 0) ≡ false → x ≡ Rounds v → m ≡ value_at n (values_of v.items) → use_in inner m ≡ use_in ns (Some (standing_for x))
-use-step ns n [] x v m e more is found = absurd (cc more)
-use-step ns n (q ∷ inner) x v m e more is found = rw (e, is, found) (ap (λ y. use_in (n ∷ q ∷ inner) (Some y)) (sym (standing-Rounds v)))
+pub member-use : (xs : List Binding) (k : ℕ) → use_at k (Some (length xs)) ≡ use_of_member (value_at k (values_of xs))
+member-use xs k = go (nat_lt k (length xs)) refl
+  where
+    go : (b : Bool) → nat_lt k (length xs) ≡ b → (if b then has_value else has_none) ≡ use_of_member (value_at k (values_of xs))
+    go true e = sym (value-there xs k (ltb-true k (length xs) e))
+    go false e = sym (ap use_of_member (value-past xs k (ltb-false k (length xs) e)))
+
+pub length-Rounds : (k n : ℕ) (x : Binding) (v : Vec Binding Global) → x ≡ Rounds v → n ≡ length v.items → use_at k (Some n) ≡ use_in (k ∷ []) (Some (standing_for x))
+length-Rounds k n x v is e =
+    ap (λ m. use_at k (Some m)) e ∙ member-use v.items k ∙ sym (ap (λ y. use_in (k ∷ []) (Some (standing_for y))) is ∙ ap (λ y. use_in (k ∷ []) (Some y)) (standing-Rounds v))
+
+pub use-step : (ns : List ℕ) (n k : ℕ) (inner : List ℕ) (x : Binding) (v : Vec Binding Global) (m : Option b.Binding) →
+    ns ≡ n ∷ inner → x ≡ Rounds v → m ≡ value_at n (values_of v.items) → use_in (inner ++ (k ∷ [])) m ≡ use_in (ns ++ (k ∷ [])) (Some (standing_for x))
+use-step ns n k [] x v m e is found = rw (e, is, found) (ap (λ y. use_in (n ∷ k ∷ []) (Some y)) (sym (standing-Rounds v)))
+use-step ns n k (q ∷ inner) x v m e is found = rw (e, is, found) (ap (λ y. use_in (n ∷ q ∷ (inner ++ (k ∷ []))) (Some y)) (sym (standing-Rounds v)))

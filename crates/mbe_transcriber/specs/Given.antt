@@ -1,5 +1,5 @@
 -- How transcription changes a tree under construction, op by op
-use Rattle.std.specs.Prelude.{◌≡◌, ◌<◌, ◌+◌, ℕ, suc, Bool, true, false, List, [], ◌∷◌, ◌++◌, Option, Some, None, option_map, Result, Err, IfOk}
+use Rattle.std.specs.Prelude.{◌≡◌, ◌<◌, ◌≤◌, ◌+◌, ℕ, suc, nat_lt, Bool, true, false, List, [], ◌∷◌, ◌++◌, Option, Some, None, option_map, Result, Err, IfOk}
 use Rattle.tt.specs.Building.{Building, extended, count_of, most_tokens}
 use Rattle.tt_data.specs.Forest.{Forest, empty, group, size}
 use Rattle.tt_data.specs.Spans.{delimiter_with}
@@ -10,7 +10,7 @@ use Rattle.tt_data.specs.fault.TtFault.TheVariants.{Tokens}
 use Rattle.mbe_rules.specs.Items.{Item, dollar, Separator, Items, done, item, group_of, repetition}
 use Rattle.mbe_rules.specs.declared.parser.RepeatKind.{RepeatKind}
 use Rattle.mbe_rules.specs.declared.parser.RepeatKind.TheVariants.{ZeroOrOne}
-use Rattle.mbe_matcher.specs.Bindings.{Binding, Values, value_at, Map}
+use Rattle.mbe_matcher.specs.Bindings.{Values, value_at, Map}
 use Rattle.mbe_transcriber.specs.Filling.{fragment_in, dollar_in, item_in, round_stands, filled_in, rounds_from, rounds_of, separator_leaves}
 use Rattle.mbe_transcriber.specs.Limits.{most_rounds}
 use Rattle.mbe_transcriber.specs.Markers.{is_name}
@@ -69,20 +69,22 @@ module _ (mark : Span → Span) (bound : Map) where
       output_of_rounds (stands_in ns body) (λ r. gives (ns ++ (r ∷ [])) body) (λ r. puts_out (ns ++ (r ∷ [])) body)
       (size (separator_leaves sep)) most_rounds op
 
-  -- what a repetition's iterations from index r on give, and how many tokens they put out
-  abbrev pub later_gives : List ℕ → Items → Option Separator → (most r : ℕ) → Option Forest
-  later_gives ns body sep = rounds_from (stands_in ns body) (λ r. gives (ns ++ (r ∷ [])) body) (separator_leaves sep)
+  -- what a repetition's iterations from index r on give, those below `count`, and how many tokens they put out
+  abbrev pub later_gives : List ℕ → Items → Option Separator → (count most r : ℕ) → Option Forest
+  later_gives ns body sep count = rounds_from (λ r. nat_lt r count) (λ r. gives (ns ++ (r ∷ [])) body) (separator_leaves sep)
 
-  abbrev pub later_puts_out : List ℕ → Items → Option Separator → (most r : ℕ) → ℕ
-  later_puts_out ns body sep =
-      output_from (stands_in ns body) (λ r. gives (ns ++ (r ∷ [])) body) (λ r. puts_out (ns ++ (r ∷ [])) body) (size (separator_leaves sep))
+  abbrev pub later_puts_out : List ℕ → Items → Option Separator → (count most r : ℕ) → ℕ
+  later_puts_out ns body sep count =
+      output_from (λ r. nat_lt r count) (λ r. gives (ns ++ (r ∷ [])) body) (λ r. puts_out (ns ++ (r ∷ [])) body) (size (separator_leaves sep))
 
-  -- for each of these values an iteration takes place and gives it, and no more take place
-  abbrev pub HasValues : List ℕ → Items → Span → Values → Type 0
-  HasValues ns body place vs =
-      ((r : ℕ) (b : Binding) → value_at r vs ≡ Some b →
-      (stands_in ns body r ≡ true) × (gives (ns ++ (r ∷ [])) body ≡ fragment_in is_name most_rounds mark bound place (Some b)))
-      × ((r : ℕ) → value_at r vs ≡ None → stands_in ns body r ≡ false)
+  -- so many iterations take place
+  abbrev pub HasRounds : List ℕ → Items → (count : ℕ) → Type 0
+  HasRounds ns body count = (r : ℕ) → r ≤ most_rounds → nat_lt r count ≡ stands_in ns body r
+
+  -- so many iterations take place, and each gives its value of these
+  abbrev pub HasValues : List ℕ → Items → Span → (count : ℕ) → Values → Type 0
+  HasValues ns body place count vs =
+      HasRounds ns body count × ((r : ℕ) → gives (ns ++ (r ∷ [])) body ≡ fragment_in is_name most_rounds mark bound place (value_at r vs))
 
   -- what a group gives
   abbrev pub group_gives : Delimiter → Option Forest → Option Forest

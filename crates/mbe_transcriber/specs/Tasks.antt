@@ -52,8 +52,8 @@ module _ (mark : Span → Span) (bound : Map) where
   abbrev pub rounds_and : List ℕ → Iterations → Building → (Building → Outcome) → Outcome
   rounds_and ns x =
       put_and
-      (later_gives mark bound ns (items_of x.body.now) (option_map (λ s. separator_of s.now) x.separator) (most_rounds - x.number) x.number)
-      (later_puts_out mark bound ns (items_of x.body.now) (option_map (λ s. separator_of s.now) x.separator) (most_rounds - x.number) x.number)
+      (later_gives mark bound ns (items_of x.body.now) (option_map (λ s. separator_of s.now) x.separator) x.count (most_rounds - x.number) x.number)
+      (later_puts_out mark bound ns (items_of x.body.now) (option_map (λ s. separator_of s.now) x.separator) x.count (most_rounds - x.number) x.number)
 
   -- the outcome of these tasks, the next one first, in these iterations
   abbrev pub outcome : List TranscribeTask → List ℕ → Building → Outcome

@@ -92,6 +92,7 @@ fn put_marked_puncts<M: Fn(Span) -> Span>(
 }
 
 // Transcribes an identifier.
+#[inline(always)]
 fn put_ident<M: Fn(Span) -> Span>(
     out: &mut TopSubtreeBuilder,
     ident: &Ident,

@@ -1,15 +1,17 @@
-//! Decides whether an iteration of a repetition takes place, by the values of the metavariables
-//! in its body.
-ghost use Rattle.std.specs.Prelude.{◌≡◌, true, ◌++◌, ◌∷◌, [], Some, IfOk, OnOk, map, option_map, option_and_then};
+//! Decides how many iterations of a repetition take place, by the values of the metavariables in
+//! its body.
+ghost use Rattle.std.specs.Prelude.{◌≡◌, ◌≤◌, ℕ, true, ◌++◌, ◌∷◌, [], Some, IfOk, map, nat_lt, option_map, option_and_then};
 ghost use Rattle.mbe_rules.specs.Items.{done};
 ghost use Rattle.mbe_rules.specs.Ops.{items_of, part_of, put_op};
 ghost use Rattle.mbe_matcher.specs.Bindings.{binding_of, value_at};
 ghost use Rattle.mbe_matcher.specs.Bound.{map_of, standing_for, values_of};
 ghost use Rattle.mbe_transcriber.specs.Filling.{names, part_names, stands, use_in, value_in};
 ghost use Rattle.mbe_transcriber.specs.Given.{is_plain};
-ghost use Rattle.mbe_transcriber.specs.Uses.{beside, has_it, together, use_of, uses_of};
+ghost use Rattle.mbe_transcriber.specs.Limits.{most_rounds};
+ghost use Rattle.mbe_transcriber.specs.Uses.{beside, together, use_at, uses_of};
 
 use crate::items::PlainItems;
+use crate::repetition::MOST_ROUNDS;
 use mbe_matcher::{Binding, Bindings};
 use mbe_rules::{ConcatElement, Op};
 use std::alloc::AllocError;
@@ -80,135 +82,122 @@ pub(crate) fn value_here<'b, 'a>(
     }
 }
 
-/// How the innermost of some iterations uses a name, or several.
-#[derive(Clone, Copy)]
-pub(crate) enum Use {
-    /// Not at all.
-    Unused,
-    /// With a value.
-    HasValue,
-    /// Without one.
-    HasNone,
-}
+// More iterations than a repetition may have.
+const ALWAYS: usize = MOST_ROUNDS + 1;
 
-impl Use {
-    // Whether an iteration takes place that uses its metavariables so.
-    fn has_value(self) -> bool
-        ensures { result ≡ has_it (use_of self) }
-    {
-        matches!(self, Use::HasValue)
-    }
-
-    // This use and another one, taken together.
-    fn beside(self, other: Use) -> Use
-        ensures { use_of result ≡ beside (use_of self) (use_of other) }
-    {
-        match (self, other) {
-            (Use::HasNone, _) | (_, Use::HasNone) => Use::HasNone,
-            (Use::HasValue, _) | (_, Use::HasValue) => Use::HasValue,
-            _ => Use::Unused,
-        }
-    }
-}
-
-// How the only iteration uses a binding.
-fn use_in_one(binding: &Binding<'_>, number: usize) -> Use
-    ensures { use_of result ≡ use_in (number ∷ []) (Some (standing_for binding.now)) }
+// In how many iterations, from the first on, a binding has a value.
+fn length_of(binding: &Binding<'_>) -> usize
+    ensures { (k : ℕ) → k ≤ most_rounds → use_at k (Some result) ≡ use_in (k ∷ []) (Some (standing_for binding.now)) }
 {
     match binding {
-        Binding::Fragment { .. } => Use::HasValue,
-        Binding::Skipped => Use::HasNone,
-        Binding::Rounds(values) => match member(values, number) {
-            Some(_) => Use::HasValue,
-            None => Use::HasNone,
-        },
+        Binding::Fragment { .. } => ALWAYS,
+        Binding::Skipped => 0,
+        Binding::Rounds(values) => values.len(),
     }
 }
 
-// How the innermost of these iterations uses a binding.
-fn use_in(binding: Option<&Binding<'_>>, rounds: &[usize]) -> Use
-    ensures { use_of result ≡ use_in rounds.now (option_map (λ b. standing_for b.now) binding.entry) }
+// In how many iterations of the innermost repetition a binding has a value, from the first on.
+// `rounds` are the iterations around it. `None` if it does not use the binding.
+fn length_in(binding: Option<&Binding<'_>>, rounds: &[usize]) -> Option<usize>
+    ensures { (k : ℕ) → k ≤ most_rounds → use_at k result ≡ use_in (rounds.now ++ (k ∷ [])) (option_map (λ b. standing_for b.now) binding.entry) }
 {
     let mut here = binding;
     let mut left = rounds;
     loop {
         let Some(binding) = here else {
-            return Use::Unused;
+            return None;
         };
         let Some((number, inner)) = left.split_first() else {
-            return Use::Unused;
+            return Some(length_of(binding));
         };
-        if inner.is_empty() {
-            return use_in_one(binding, *number);
-        }
         let Binding::Rounds(values) = binding else {
-            return Use::Unused;
+            return None;
         };
         here = member(values, *number);
         left = inner;
     }
 }
 
-// How the innermost of these iterations uses this name.
-fn use_of(name: &Symbol, bindings: &Bindings<'_>, rounds: &[usize]) -> Use
-    ensures { use_of result ≡ use_in rounds.now (binding_of name.now (map_of bindings.now)) }
+// The less of two lengths, if there are any.
+fn least(first: Option<usize>, second: Option<usize>) -> Option<usize>
+    ensures { (k : ℕ) → use_at k result ≡ beside (use_at k first) (use_at k second) }
 {
-    use_in(bindings.get(name), rounds)
+    let Some(one) = first else {
+        return second;
+    };
+    let Some(other) = second else {
+        return first;
+    };
+    if other < one { second } else { first }
 }
 
-// How the innermost of these iterations uses the parts of `${concat(..)}`.
-fn use_of_parts(parts: &[ConcatElement], bindings: &Bindings<'_>, rounds: &[usize]) -> Use
-    ensures { use_of result ≡ together (uses_of rounds.now (map_of bindings.now) (part_names (map part_of parts.now))) }
+// In how many iterations of the innermost repetition a name has a value.
+fn length_of_name(name: &Symbol, bindings: &Bindings<'_>, rounds: &[usize]) -> Option<usize>
+    ensures { (k : ℕ) → k ≤ most_rounds → use_at k result ≡ use_in (rounds.now ++ (k ∷ [])) (binding_of name.now (map_of bindings.now)) }
 {
-    let mut all = Use::Unused;
+    length_in(bindings.get(name), rounds)
+}
+
+// In how many iterations of the innermost repetition the parts of `${concat(..)}` have values.
+fn length_of_parts(
+    parts: &[ConcatElement],
+    bindings: &Bindings<'_>,
+    rounds: &[usize],
+) -> Option<usize>
+    ensures { (k : ℕ) → k ≤ most_rounds → use_at k result ≡ together (uses_of (rounds.now ++ (k ∷ [])) (map_of bindings.now) (part_names (map part_of parts.now))) }
+{
+    let mut all = None;
     for part in parts {
         if let ConcatElement::Var(name) = part {
-            all = all.beside(use_of(name, bindings, rounds));
+            all = least(all, length_of_name(name, bindings, rounds));
         }
     }
     all
 }
 
-// How the innermost of these iterations uses the metavariables of an op without ops inside.
-fn use_of_op(op: &Op, bindings: &Bindings<'_>, rounds: &[usize]) -> Use
+// In how many iterations of the innermost repetition the metavariables of an op without ops
+// inside have values.
+fn length_of_op(op: &Op, bindings: &Bindings<'_>, rounds: &[usize]) -> Option<usize>
     requires { is_plain (put_op op.now done) ≡ true }
-    ensures { use_of result ≡ together (uses_of rounds.now (map_of bindings.now) (names (put_op op.now done))) }
+    ensures { (k : ℕ) → k ≤ most_rounds → use_at k result ≡ together (uses_of (rounds.now ++ (k ∷ [])) (map_of bindings.now) (names (put_op op.now done))) }
 {
     match op {
-        Op::Var { name, .. } => use_of(name, bindings, rounds),
-        Op::Count { name, .. } => use_of(name, bindings, rounds),
-        Op::Ignore { name, .. } => use_of(name, bindings, rounds),
-        Op::Concat { elements, .. } => use_of_parts(elements, bindings, rounds),
-        _ => Use::Unused,
+        Op::Var { name, .. } => length_of_name(name, bindings, rounds),
+        Op::Count { name, .. } => length_of_name(name, bindings, rounds),
+        Op::Ignore { name, .. } => length_of_name(name, bindings, rounds),
+        Op::Concat { elements, .. } => length_of_parts(elements, bindings, rounds),
+        _ => None,
     }
 }
 
-// How the innermost of these iterations uses the metavariables of these ops.
-fn use_of_all(ops: &[Op], bindings: &Bindings<'_>, rounds: &[usize]) -> Result<Use, AllocError>
-    ensures { IfOk result (λ u. use_of u ≡ together (uses_of rounds.now (map_of bindings.now) (names (items_of ops.now)))) }
+// In how many iterations of the innermost repetition the metavariables of these ops have values.
+fn length_of_all(
+    ops: &[Op],
+    bindings: &Bindings<'_>,
+    rounds: &[usize],
+) -> Result<Option<usize>, AllocError>
+    ensures { IfOk result (λ n. (k : ℕ) → k ≤ most_rounds → use_at k n ≡ together (uses_of (rounds.now ++ (k ∷ [])) (map_of bindings.now) (names (items_of ops.now)))) }
 {
     let mut walk = PlainItems::new(bindings.allocator(), ops);
-    let mut all = Use::Unused;
+    let mut all = None;
     while let Some(op) = walk.next()? {
-        all = all.beside(use_of_op(op, bindings, rounds));
+        all = least(all, length_of_op(op, bindings, rounds));
     }
     Ok(all)
 }
 
-/// Whether the iteration of this index takes place. `rounds` are the iterations around it, and
-/// are left unchanged.
+/// How many iterations of a repetition take place. `rounds` are the iterations around it. Those
+/// of a repetition without end are counted as more than it may have.
 #[inline(never)]
-pub(crate) fn round_stands(
+pub(crate) fn round_count(
     body: &[Op],
     bindings: &Bindings<'_>,
-    rounds: &mut Vec<usize>,
-    number: usize,
-) -> Result<bool, AllocError>
-    ensures same { OnOk result (rounds.new.items ≡ rounds.old.items) }
-    ensures stands { IfOk result (λ b. b ≡ stands (uses_of (rounds.old.items ++ (number ∷ [])) (map_of bindings.now) (names (items_of body.now)))) }
+    rounds: &[usize],
+) -> Result<usize, AllocError>
+    ensures { IfOk result (λ n. (k : ℕ) → k ≤ most_rounds → nat_lt k n ≡ stands (uses_of (rounds.now ++ (k ∷ [])) (map_of bindings.now) (names (items_of body.now)))) }
 {
-    rounds.push(number)?;
-    let used = use_of_all(body, bindings, rounds)?;
-    let _ = rounds.pop();
-    Ok(used.has_value())
+    match length_of_all(body, bindings, rounds)? {
+        Some(count) => Ok(count),
+        None => Ok(0),
+    }
 }

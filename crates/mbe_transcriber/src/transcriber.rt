@@ -1,25 +1,27 @@
 //! Transcribes with bindings. The tasks that are left are on a stack in memory, so that nesting
 //! is limited by memory alone.
-ghost use Rattle.std.specs.Prelude.{◌≡◌, ◌<◌, ◌≤◌, ◌+◌, ◌*◌, ◌∷◌, ◌++◌, [], suc, reverse, option_map, if◌then◌else◌, Err, IfErr, IfOk, OnOk};
+ghost use Rattle.std.specs.Prelude.{◌≡◌, ◌<◌, ◌≤◌, ◌+◌, ◌*◌, ◌∷◌, ◌++◌, [], List, false, not, suc, reverse, option_map, if◌then◌else◌, Err, IfErr, IfOk, IfSome, MatchOption, OnOk};
 ghost use Rattle.tt_data.specs.declared.span.Span.{Span};
 ghost use Rattle.tt_data.specs.fault.TtFault.TheVariants.{Memory, Tokens};
-ghost use Rattle.mbe_rules.specs.Items.{done, may_skip};
+ghost use Rattle.tt.specs.Building.{Building, most_tokens};
+ghost use Rattle.mbe_rules.specs.Items.{done};
 ghost use Rattle.mbe_rules.specs.Ops.{items_of, put_op, separator_of};
 ghost use Rattle.mbe_matcher.specs.Bindings.{Map};
 ghost use Rattle.mbe_matcher.specs.Bound.{map_of};
 ghost use Rattle.mbe_transcriber.specs.Filling.{filled};
 ghost use Rattle.mbe_transcriber.specs.Limits.{most_rounds};
-ghost use Rattle.mbe_transcriber.specs.Given.{Fills, IsBurstBy, is_single, first_gives, first_puts_out, group_gives, gives, puts_out, repetition_gives, repetition_puts_out};
+ghost use Rattle.mbe_transcriber.specs.Given.{Fills, IsBurstBy, is_plain, is_single, first_gives, first_puts_out, group_gives, gives, puts_out, repetition_gives, repetition_puts_out};
 ghost use Rattle.mbe_transcriber.specs.Markers.{IsMarkedBy, is_name};
 ghost use Rattle.mbe_transcriber.specs.Output.{output};
 ghost use Rattle.mbe_transcriber.specs.Room.{IsWantOfRoom};
-ghost use Rattle.mbe_transcriber.specs.Tasks.{IsBurstIn, Steps, around, outcome, put_and, tasks_of, tasks_of_all, work_of};
+ghost use Rattle.mbe_transcriber.specs.Tasks.{IsBurstIn, IsFaulty, Steps, around, outcome, put_and, reached, tasks_of, tasks_of_all, work_of};
+ghost use Rattle.mbe_transcriber.specs.declared.transcriber.TranscribeTask.{TranscribeTask};
 ghost use Rattle.mbe_transcriber.specs.declared.transcriber.TranscribeTask.TheVariants.{Items, Leave, Later};
 
 use crate::leaf::{marked, put_plain, put_separator};
-use crate::repetition::{Iterations, MOST_ROUNDS};
-use crate::repetition_vars::round_stands;
-use crate::single_var::{lone_values, put_later};
+use crate::repetition::{Iterations, MOST_ROUNDS, is_single, may_be_empty, takes_place};
+use crate::repetition_vars::round_count;
+use crate::single_var::{lone_values, put_values};
 use mbe_matcher::Bindings;
 use mbe_rules::{Op, RepeatKind};
 use std::alloc::{AllocError, Global};
@@ -27,20 +29,6 @@ use tt::{Delimiter, Span, TopSubtreeBuilder, TtFault};
 
 // For how many tasks there is room at first.
 const USUAL_TASKS: usize = 8;
-
-// Whether a repetition may have no iteration.
-fn may_be_empty(kind: RepeatKind) -> bool
-    ensures { result ≡ may_skip kind }
-{
-    kind != RepeatKind::OneOrMore
-}
-
-// Whether a repetition has at most one iteration.
-fn is_single(kind: RepeatKind) -> bool
-    ensures { result ≡ is_single kind }
-{
-    kind == RepeatKind::ZeroOrOne
-}
 
 // A task that is left.
 #[derive(Clone, Copy, Drop)]
@@ -63,6 +51,45 @@ fn after_first<'t>(kind: RepeatKind, later: Iterations<'t>) -> TranscribeTask<'t
         return TranscribeTask::Leave;
     }
     TranscribeTask::Later(later)
+}
+
+// Whether an op has ops inside.
+fn has_ops(op: &Op) -> bool
+    ensures { result ≡ not (is_plain (put_op op.now done)) }
+{
+    matches!(op, Op::Subtree { .. } | Op::Repeat { .. })
+}
+
+// Transcribes ops up to the first with ops inside, and answers those that are left. `Ok(None)` is
+// a fault.
+fn put_leading<'t, M: Fn(Span) -> Span>(
+    out: &mut TopSubtreeBuilder,
+    ops: &'t [Op],
+    bindings: &Bindings<'_>,
+    marker: &M,
+    rounds: &[usize],
+) -> Result<Option<&'t [Op]>, TtFault>
+    requires { M.IsAlwaysCallable marker.now }
+    ensures faults { IfErr result IsWantOfRoom }
+    ensures left { (mark : Span → Span) (ts : List TranscribeTask) → IsMarkedBy (M.post marker.now) mark → IfOk result (λ o.
+        MatchOption o (IsFaulty (outcome mark (map_of bindings.now) (Items ops.entry ∷ ts) rounds.now out.old.tree))
+        (λ l. outcome mark (map_of bindings.now) (Items ops.entry ∷ ts) rounds.now out.old.tree ≡ outcome mark (map_of bindings.now) (Items l ∷ ts) rounds.now out.new.tree)) }
+    ensures inside { IfOk result (λ o. IfSome o (λ l. is_plain (items_of l.now) ≡ false)) }
+    ensures tokens { (mark : Span → Span) (ts : List TranscribeTask) → IsMarkedBy (M.post marker.now) mark → result ≡ Err Tokens →
+        most_tokens < reached (outcome mark (map_of bindings.now) (Items ops.entry ∷ ts) rounds.now out.old.tree) }
+    ensures fewer { IfOk result (λ o. IfSome o (λ l. work_of (items_of l.now) ≤ work_of (items_of ops.now))) }
+{
+    let mut left = ops;
+    while let Some((first, rest)) = left.split_first() {
+        if has_ops(first) {
+            return Ok(Some(left));
+        }
+        if !put_plain(out, first, bindings, marker, rounds)? {
+            return Ok(None);
+        }
+        left = rest;
+    }
+    Ok(Some(left))
 }
 
 // The tasks that are left, the next one last, and the indices of the open iterations, the
@@ -93,6 +120,21 @@ impl<'t> Transcription<'t> {
         let Ok(()) = self.tasks.push(task) else {
             return Err(TtFault::Memory);
         };
+        Ok(())
+    }
+
+    // Plans the ops after one, if there are any.
+    fn plan_rest(&mut self, rest: &'t [Op]) -> Result<(), TtFault>
+        ensures faults { IfErr result (λ e. e ≡ Memory) }
+        ensures left { (mark : Span → Span) (bound : Map) (b : Building) → OnOk result
+            (outcome mark bound (Items rest.entry ∷ reverse self.old.tasks.items) self.old.rounds.items b ≡ outcome mark bound (reverse self.new.tasks.items) self.new.rounds.items b) }
+        ensures rounds { OnOk result (self.new.rounds.items ≡ self.old.rounds.items) }
+        ensures fewer { OnOk result (tasks_of_all self.new.tasks.items ≤ tasks_of_all self.old.tasks.items + (1 + work_of (items_of rest.now))) }
+    {
+        if rest.is_empty() {
+            return Ok(());
+        }
+        self.plan(TranscribeTask::Items(rest))?;
         Ok(())
     }
 
@@ -141,32 +183,44 @@ impl<'t> Transcription<'t> {
         Ok(true)
     }
 
-    // Begins a repetition.
-    fn enter_rounds(
+    // Begins a repetition. `later` are the iterations after the first, which are not counted yet.
+    fn enter_rounds<M: Fn(Span) -> Span>(
         &mut self,
-        out: &TopSubtreeBuilder,
+        out: &mut TopSubtreeBuilder,
         later: Iterations<'t>,
         kind: RepeatKind,
         bindings: &Bindings<'_>,
+        marker: &M,
     ) -> Result<bool, TtFault>
-        requires { later.number ≡ 1 }
-        ensures faults { IfErr result (λ e. e ≡ Memory) }
-        ensures left { (mark : Span → Span) → Steps result
+        requires marker { M.IsAlwaysCallable marker.now }
+        requires number { later.number ≡ 1 }
+        ensures faults { IfErr result IsWantOfRoom }
+        ensures left { (mark : Span → Span) → IsMarkedBy (M.post marker.now) mark → Steps result
             (put_and (repetition_gives mark (map_of bindings.now) self.old.rounds.items (items_of later.entry.body.now) (option_map (λ s. separator_of s.now) later.entry.separator) kind)
             (repetition_puts_out mark (map_of bindings.now) self.old.rounds.items (items_of later.entry.body.now) (option_map (λ s. separator_of s.now) later.entry.separator) kind)
-            out.now.tree (outcome mark (map_of bindings.now) (reverse self.old.tasks.items) self.old.rounds.items))
-            (outcome mark (map_of bindings.now) (reverse self.new.tasks.items) self.new.rounds.items out.now.tree) }
+            out.old.tree (outcome mark (map_of bindings.now) (reverse self.old.tasks.items) self.old.rounds.items))
+            (outcome mark (map_of bindings.now) (reverse self.new.tasks.items) self.new.rounds.items out.new.tree) }
+        ensures tokens { (mark : Span → Span) → IsMarkedBy (M.post marker.now) mark → IsBurstIn result
+            (put_and (repetition_gives mark (map_of bindings.now) self.old.rounds.items (items_of later.entry.body.now) (option_map (λ s. separator_of s.now) later.entry.separator) kind)
+            (repetition_puts_out mark (map_of bindings.now) self.old.rounds.items (items_of later.entry.body.now) (option_map (λ s. separator_of s.now) later.entry.separator) kind)
+            out.old.tree (outcome mark (map_of bindings.now) (reverse self.old.tasks.items) self.old.rounds.items)) }
         ensures fewer { OnOk result (tasks_of_all self.new.tasks.items < tasks_of_all self.old.tasks.items + 65536 * (work_of (items_of later.entry.body.now) + 3)) }
     {
-        if !round_stands(later.body, bindings, &mut self.rounds, 0)? {
+        if let Some((place, values)) = lone_values(later.body, bindings, &self.rounds) {
+            let count = values.len();
+            let later = Iterations { count, ..later };
+            return put_values(out, later, kind, values, marked(marker, place));
+        }
+        let count = round_count(later.body, bindings, &self.rounds)?;
+        if !takes_place(0, count) {
             return Ok(may_be_empty(kind));
         }
-        self.plan(after_first(kind, later))?;
+        self.plan(after_first(kind, Iterations { count, ..later }))?;
         self.begin_round(later.body, 0)?;
         Ok(true)
     }
 
-    // Begins an op.
+    // Begins an op with ops inside.
     fn enter<M: Fn(Span) -> Span>(
         &mut self,
         out: &mut TopSubtreeBuilder,
@@ -174,7 +228,8 @@ impl<'t> Transcription<'t> {
         bindings: &Bindings<'_>,
         marker: &M,
     ) -> Result<bool, TtFault>
-        requires { M.IsAlwaysCallable marker.now }
+        requires marker { M.IsAlwaysCallable marker.now }
+        requires inside { is_plain (put_op op.now done) ≡ false }
         ensures faults { IfErr result IsWantOfRoom }
         ensures left { (mark : Span → Span) → IsMarkedBy (M.post marker.now) mark → Steps result
             (put_and (first_gives mark (map_of bindings.now) self.old.rounds.items (put_op op.now done))
@@ -198,14 +253,15 @@ impl<'t> Transcription<'t> {
                     body: tokens,
                     separator: separator.as_ref(),
                     number: 1,
+                    count: 0,
                 };
-                self.enter_rounds(out, later, *kind, bindings)
+                self.enter_rounds(out, later, *kind, bindings, marker)
             }
-            _ => put_plain(out, op, bindings, marker, &self.rounds),
+            _ => unreachable!(),
         }
     }
 
-    // Transcribes the first of some ops, or begins it.
+    // Transcribes ops up to the first with ops inside, and begins that one.
     fn put_items<M: Fn(Span) -> Span>(
         &mut self,
         out: &mut TopSubtreeBuilder,
@@ -222,10 +278,13 @@ impl<'t> Transcription<'t> {
             (outcome mark (map_of bindings.now) (Items ops.entry ∷ reverse self.old.tasks.items) self.old.rounds.items out.old.tree) }
         ensures fewer { OnOk result (tasks_of_all self.new.tasks.items ≤ tasks_of_all self.old.tasks.items + work_of (items_of ops.now)) }
     {
-        let Some((first, rest)) = ops.split_first() else {
+        let Some(left) = put_leading(out, ops, bindings, marker, &self.rounds)? else {
+            return Ok(false);
+        };
+        let Some((first, rest)) = left.split_first() else {
             return Ok(true);
         };
-        self.plan(TranscribeTask::Items(rest))?;
+        self.plan_rest(rest)?;
         self.enter(out, first, bindings, marker)
     }
 
@@ -247,15 +306,13 @@ impl<'t> Transcription<'t> {
         ensures fewer { OnOk result (tasks_of_all self.new.tasks.items < tasks_of_all self.old.tasks.items + tasks_of (Later left.entry)) }
     {
         self.leave();
-        if let Some((place, values)) = lone_values(left.body, bindings, &self.rounds) {
-            return put_later(out, left, values, marked(marker, place));
-        }
         let Iterations {
             body,
             separator,
             number,
+            count,
         } = left;
-        if !round_stands(body, bindings, &mut self.rounds, number)? {
+        if !takes_place(number, count) {
             return Ok(true);
         }
         if number >= MOST_ROUNDS {
@@ -266,6 +323,7 @@ impl<'t> Transcription<'t> {
             body,
             separator,
             number: number + 1,
+            count,
         }))?;
         self.begin_round(body, number)?;
         Ok(true)

@@ -390,6 +390,7 @@ impl TokenBuffer {
     }
 
     /// Replaces the head of a group, which is right after a mark.
+    #[inline(always)]
     pub(crate) fn set_head(&mut self, at: Mark, head: Subtree)
         requires { IsHeadIn at self.old }
         ensures { self.new ≡ set self.old at.count (token.Subtree head) }

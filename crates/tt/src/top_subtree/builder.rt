@@ -164,6 +164,7 @@ impl TopSubtreeBuilder {
     /// The same, with room for so many tokens, the top's own among them. A tree keeps the room.
     ///
     /// `Memory` is its only error.
+    #[inline(always)]
     pub fn with_room(
         alloc: Global,
         top: Delimiter,
@@ -177,7 +178,7 @@ impl TopSubtreeBuilder {
     }
 
     // A builder over a list without tokens.
-    #[inline]
+    #[inline(always)]
     fn within(
         alloc: Global,
         top: Delimiter,
@@ -347,6 +348,7 @@ impl TopSubtreeBuilder {
     /// Closes the innermost open group, which is now one tree of the group around it.
     ///
     /// It refuses `Place` exactly where no group is open. It takes no memory.
+    #[inline(always)]
     pub fn close(&mut self, close_span: Span) -> Result<(), TtFault>
         ensures ok { OnOk result (self.new.tree ≡ closed self.old.tree close_span) }
         ensures last { OnOk result (self.new.last_closed ≡ Some (count_in self.old.tree.groups)) }
@@ -421,6 +423,7 @@ impl TopSubtreeBuilder {
     ///
     /// Exactly where a group is open, the builder comes back as it was, with `Place`. It takes no
     /// memory.
+    #[inline(always)]
     pub fn build(self) -> Result<TopSubtree, (TopSubtreeBuilder, TtFault)>
         ensures ok { IfOk result (λ t. t ≡ record { delimiter = self.tree.top; inner = self.tree.here }) }
         ensures err { IfErr result (λ e. (e.0 ≡ self) × (e.1 ≡ TtFault.Place)) }

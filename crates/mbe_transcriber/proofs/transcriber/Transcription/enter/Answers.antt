@@ -1,12 +1,10 @@
-use Rattle.std.proofs.Common.{◌<◌, ◌+◌, option_map, reverse, subst, arith}
+use Rattle.std.proofs.Common.{◌<◌, ◌+◌, option_map, subst}
 use Rattle.std.specs.Prelude.{OnOk}
-use Rattle.mbe_rules.specs.Items.{done}
-use Rattle.mbe_rules.specs.Ops.{put_op, separator_of}
+use Rattle.mbe_rules.specs.Ops.{separator_of}
 use Rattle.mbe_matcher.specs.Bound.{map_of}
-use Rattle.mbe_transcriber.specs.Given.{Fills, IsBurstBy, first_gives, first_puts_out}
-use Rattle.mbe_transcriber.specs.Tasks.{outcome, tasks_of_all}
-use Rattle.mbe_transcriber.proofs.FillLemmas.{sub-gives, sub-puts, rep-gives, rep-puts, as-ref, on-ok, sized-first}
-use Rattle.mbe_transcriber.proofs.FillTaskLemmas.{same-steps, same-bursts, plain-steps, bursts-in, sub-work, rep-work, some-work}
+use Rattle.mbe_transcriber.specs.Tasks.{tasks_of_all}
+use Rattle.mbe_transcriber.proofs.FillLemmas.{sub-gives, sub-puts, rep-gives, rep-puts, as-ref}
+use Rattle.mbe_transcriber.proofs.FillTaskLemmas.{same-steps, same-bursts, sub-work, rep-work}
 use Rattle.mbe_transcriber.proofs.transcriber.Transcription.enter.Goals as goal
 
 pub returns-in-Subtree-clause-left : goal.returns-in-Subtree-clause-left
@@ -42,31 +40,21 @@ returns-in-Repeat-clause-left g c = λ mark is.
     (rep-puts mark (map_of c.args.bindings.now) c.args.self.now.rounds.items c.in-Repeat.tokens c.in-Repeat.separator c.in-Repeat.kind c.args.op.now
     c.deref-in-Repeat.result.now (option_map (λ s. separator_of s.now) c.as_ref.result) c.in-Repeat.is c.deref-in-Repeat.ensures.value
     (as-ref c.as_ref.result c.in-Repeat.separator c.as_ref.ensures.value))
-    (c.enter_rounds.ensures.left mark)
+    (c.enter_rounds.ensures.left mark is)
+
+pub returns-in-Repeat-clause-tokens : goal.returns-in-Repeat-clause-tokens
+returns-in-Repeat-clause-tokens g c = λ mark is.
+    same-bursts c.enter_rounds.result _ _ _ _ c.args.out.now.tree _
+    (rep-gives mark (map_of c.args.bindings.now) c.args.self.now.rounds.items c.in-Repeat.tokens c.in-Repeat.separator c.in-Repeat.kind c.args.op.now
+    c.deref-in-Repeat.result.now (option_map (λ s. separator_of s.now) c.as_ref.result) c.in-Repeat.is c.deref-in-Repeat.ensures.value
+    (as-ref c.as_ref.result c.in-Repeat.separator c.as_ref.ensures.value))
+    (rep-puts mark (map_of c.args.bindings.now) c.args.self.now.rounds.items c.in-Repeat.tokens c.in-Repeat.separator c.in-Repeat.kind c.args.op.now
+    c.deref-in-Repeat.result.now (option_map (λ s. separator_of s.now) c.as_ref.result) c.in-Repeat.is c.deref-in-Repeat.ensures.value
+    (as-ref c.as_ref.result c.in-Repeat.separator c.as_ref.ensures.value))
+    (c.enter_rounds.ensures.tokens mark is)
 
 pub returns-in-Repeat-clause-fewer : goal.returns-in-Repeat-clause-fewer
 returns-in-Repeat-clause-fewer g c =
     subst (λ n. OnOk c.enter_rounds.result (tasks_of_all c.enter_rounds.new.self.tasks.items < tasks_of_all c.args.self.now.tasks.items + n))
     (rep-work c.in-Repeat.tokens c.in-Repeat.separator c.in-Repeat.kind c.args.op.now c.deref-in-Repeat.result.now c.in-Repeat.is c.deref-in-Repeat.ensures.value)
     c.enter_rounds.ensures.fewer
-
-pub returns-in_default : goal.returns-in_default
-returns-in_default g c = record {
-  faults = c.put_plain.ensures.faults;
-  left = λ mark is.
-      let bound = map_of c.args.bindings.now in
-      let ns = c.args.self.now.rounds.items in
-      plain-steps c.put_plain.result c.args.out.now.tree c.put_plain.new.out.tree (first_gives mark bound ns (put_op c.args.op.now done))
-      (first_puts_out mark bound ns (put_op c.args.op.now done)) (outcome mark bound (reverse c.args.self.now.tasks.items) ns)
-      (subst (λ l. Fills c.put_plain.result c.args.out.now.tree c.put_plain.new.out.tree (first_gives mark bound l (put_op c.args.op.now done)))
-      c.deref-in_default.ensures.value (c.put_plain.ensures.filled mark is));
-  tokens = λ mark is.
-      let bound = map_of c.args.bindings.now in
-      let ns = c.args.self.now.rounds.items in
-      bursts-in mark bound c.put_plain.result (first_gives mark bound ns (put_op c.args.op.now done))
-      (first_puts_out mark bound ns (put_op c.args.op.now done)) (reverse c.args.self.now.tasks.items) ns c.args.out.now.tree
-      (sized-first mark bound ns (put_op c.args.op.now done))
-      (subst (λ l. IsBurstBy c.put_plain.result c.args.out.now.tree (first_puts_out mark bound l (put_op c.args.op.now done)))
-      c.deref-in_default.ensures.value (c.put_plain.ensures.tokens mark is));
-  fewer = let less = some-work c.args.op.now in on-ok c.put_plain.result (omega (arith, less));
-}

@@ -3,43 +3,28 @@ use Rattle.mbe_matcher.specs.Bound.{map_of}
 use Rattle.mbe_transcriber.specs.declared.transcriber.TranscribeTask.TheVariants.{Later}
 use Rattle.mbe_transcriber.proofs.FillTaskLemmas.{after_next, next-ended, next-bursts, next-steps}
 use Rattle.mbe_transcriber.proofs.PuttingLemmas.{handed}
-use Rattle.mbe_transcriber.proofs.LoneLemmas.{lone-bursts, lone-steps}
 use Rattle.mbe_transcriber.proofs.transcriber.Transcription.next_round.Goals as goal
 
-pub returns-then-not-branch-clause-left : goal.returns-then-not-branch-clause-left
-returns-then-not-branch-clause-left g c = λ mark is.
+pub returns-then-not-takes_place-clause-left : goal.returns-then-not-takes_place-clause-left
+returns-then-not-takes_place-clause-left g c = λ mark is.
     next-ended mark (map_of c.args.bindings.now) c.args.self.now.tasks.items c.leave.new.self.tasks.items c.args.self.now.rounds.items
-    c.leave.new.self.rounds.items c.round_stands.new.rounds.items c.args.left c.in_ok-round_stands.field-0 c.args.out.now.tree c.leave.ensures.rounds
-    c.in_ok-round_stands.ensures.stands c.if-not-branch.true c.in_ok-round_stands.ensures.same c.leave.ensures.tasks
+    c.leave.new.self.rounds.items c.args.left c.takes_place.result c.args.out.now.tree c.leave.ensures.rounds
+    c.takes_place.ensures c.if-not-takes_place.true c.leave.ensures.tasks
 
 pub returns-in_err-put_separator-clause-tokens : goal.returns-in_err-put_separator-clause-tokens
 returns-in_err-put_separator-clause-tokens g c = λ mark is e.
     next-bursts mark (map_of c.args.bindings.now) (reverse c.args.self.now.tasks.items) c.args.self.now.rounds.items c.leave.new.self.rounds.items
-    c.args.left c.in_ok-round_stands.field-0 c.args.out.now.tree c.leave.ensures.rounds c.in_ok-round_stands.ensures.stands c.if-not-branch.false
+    c.args.left c.takes_place.result c.args.out.now.tree c.leave.ensures.rounds c.takes_place.ensures c.if-not-takes_place.false
     (omega (arith, c.if-number-ge-MOST_ROUNDS.false))
     (c.in_err-put_separator.ensures.tokens
-    (handed c.from_residual-in_err-put_separator.result _ c.from_residual-in_err-put_separator.ensures.1 e))
+    (handed c.from_residual.result _ c.from_residual.ensures.1 e))
 
 pub returns-clause-left : goal.returns-clause-left
 returns-clause-left g c = λ mark is.
     next-steps mark (map_of c.args.bindings.now) c.args.self.now.tasks.items c.plan.new.self.tasks.items c.begin_round.new.self.tasks.items
     c.args.self.now.rounds.items c.leave.new.self.rounds.items c.plan.new.self.rounds.items c.begin_round.new.self.rounds.items c.args.left
-    (after_next mark (map_of c.args.bindings.now) c.args.left) c.in_ok-round_stands.field-0 c.args.out.now.tree c.put_separator.new.out.tree c.leave.ensures.rounds
-    c.in_ok-round_stands.ensures.stands c.if-not-branch.false (omega (arith, c.if-number-ge-MOST_ROUNDS.false)) refl c.in_ok-put_separator.ensures.added
+    (after_next mark (map_of c.args.bindings.now) c.args.left) c.takes_place.result c.args.out.now.tree c.put_separator.new.out.tree c.leave.ensures.rounds
+    c.takes_place.ensures c.if-not-takes_place.false (omega (arith, c.if-number-ge-MOST_ROUNDS.false)) refl c.in_ok-put_separator.ensures.added
     (c.in_ok-plan.ensures.tasks
     ∙ ap (λ l. l ++ (Later (after_next mark (map_of c.args.bindings.now) c.args.left) ∷ [])) c.leave.ensures.tasks)
-    c.in_ok-begin_round.ensures.tasks (c.in_ok-plan.ensures.rounds ∙ c.in_ok-round_stands.ensures.same) c.in_ok-begin_round.ensures.rounds
-
-pub returns-in-Some-clause-left : goal.returns-in-Some-clause-left
-returns-in-Some-clause-left g c = λ mark is.
-    lone-steps mark (map_of c.args.bindings.now) c.args.self.now.tasks.items c.leave.new.self.tasks.items c.args.self.now.rounds.items c.leave.new.self.rounds.items
-    c.deref.result.now c.args.left c.in-Some.values.now (mark c.in-Some.place) c.marked.result c.put_later.result c.args.out.now.tree c.put_later.new.out.tree
-    c.leave.ensures.rounds c.leave.ensures.tasks c.deref.ensures.value (c.marked.ensures mark is) (c.in-Some.ensures mark)
-    (λ ns ts all. c.put_later.ensures.left mark (map_of c.args.bindings.now) ns ts all)
-
-pub returns-in-Some-clause-tokens : goal.returns-in-Some-clause-tokens
-returns-in-Some-clause-tokens g c = λ mark is.
-    lone-bursts mark (map_of c.args.bindings.now) (reverse c.args.self.now.tasks.items) c.args.self.now.rounds.items c.leave.new.self.rounds.items
-    c.deref.result.now c.args.left c.in-Some.values.now (mark c.in-Some.place) c.marked.result c.put_later.result c.args.out.now.tree
-    c.leave.ensures.rounds c.deref.ensures.value (c.marked.ensures mark is) (c.in-Some.ensures mark)
-    (λ ns ts all. c.put_later.ensures.tokens mark (map_of c.args.bindings.now) ns ts all)
+    c.in_ok-begin_round.ensures.tasks c.in_ok-plan.ensures.rounds c.in_ok-begin_round.ensures.rounds
