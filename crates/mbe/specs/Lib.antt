@@ -23,6 +23,7 @@ pub use Rattle.mbe_matcher.specs.Positions
 pub use Rattle.mbe_matcher.specs.Places
 pub use Rattle.mbe_matcher.specs.Settled
 pub use Rattle.mbe_matcher.specs.Rounds
+pub use Rattle.mbe_matcher.specs.Ways
 pub use Rattle.mbe_matcher.specs.Going
 pub use Rattle.mbe_matcher.specs.Blocked
 pub use Rattle.mbe_matcher.specs.Collecting

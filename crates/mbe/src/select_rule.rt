@@ -29,7 +29,7 @@ use std::alloc::Global;
 use tt::{Delimiter, Span, TokenTreesView, TopSubtree, TopSubtreeBuilder, TtFault};
 
 // How many tokens a result has room for at first.
-const USUAL_TOKENS: usize = 16;
+const USUAL_TOKENS: usize = 32;
 
 // The tree that a transcriber gives with these bindings. `None` if it has a fault.
 fn filled<M: Fn(Span) -> Span>(

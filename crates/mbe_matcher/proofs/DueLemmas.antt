@@ -15,6 +15,8 @@ use Rattle.mbe_matcher.specs.Settled.{IsTwice, Stands, sorts, IsKept, planned, I
 use Rattle.mbe_matcher.specs.Threads.{Made, Waits, waits, waiting_of, moves_of, contributes, extended, made_of, given, state_of, is_some_taken, is_trees, same_state}
 use Rattle.mbe_matcher.specs.Units as u
 use Rattle.mbe_matcher.specs.Waiting.{ended, prefixed, settled_at, Each}
+use Rattle.mbe_matcher.specs.Ways.{IsWay, LeadsAs}
+use Rattle.mbe_matcher.specs.declared.way.Way.TheVariants as way
 use Rattle.mbe_matcher.specs.declared.step.Choice.{Choice}
 use Rattle.mbe_matcher.specs.declared.same_state.Seen.{Seen}
 use Rattle.mbe_matcher.specs.declared.matcher.SettleTask.{SettleTask}
@@ -102,6 +104,30 @@ module _ (gr : Grammar) (pattern : Items) (p : u.Place) where
         subst (IsKept [] (n.found ++ (waiting_of p w ∷ []))) (sym (waits-push ws w)) (kept-one n.found (waits p ws) (waiting_of p w) n.kept),
         all-covered n.found (waiting_of p w ∷ []) seen n.covered,
         subst (λ x. IsDue gr pattern p (n.found ++ x) (reverse ts) all) i n.due,
+      )
+
+  -- one that no thread waits after is left out
+  pub stops-left : (all : List Waits) (ws : List d.Waiting) (seen : List Seen) (ts : List SettleTask) (t : Thread) → IsWay gr p t way.Stops →
+      Leads gr pattern p all ws seen (ts ++ (GoOn (as_choice t) ∷ [])) → Leads gr pattern p all ws seen ts
+  stops-left all ws seen ts t e h =
+      let n = next all ws seen ts (as_choice t) h in
+      let s = n.sound refl in
+      let i = e (r.room pattern) s.0 in
+      (n.found, n.kept, n.covered, subst (λ x. IsDue gr pattern p x (reverse ts) all) (ap (λ x. n.found ++ x) i ∙ append-nil n.found) n.due)
+
+  -- one that leads to the same takes its turn
+  pub same-way : (all : List Waits) (ws : List d.Waiting) (seen : List Seen) (ts : List SettleTask) (t v : Thread) →
+      LeadsAs gr (moves_of t.moves) (state_of t p) (moves_of v.moves) (state_of v p) →
+      Leads gr pattern p all ws seen (ts ++ (GoOn (as_choice t) ∷ [])) → Leads gr pattern p all ws seen (ts ++ (GoOn (as_choice v) ∷ []))
+  same-way all ws seen ts t v l h =
+      let n = next all ws seen ts (as_choice t) h in
+      let s = n.sound refl in
+      let i = l.0 (r.room pattern) s.0 in (
+        n.found,
+        n.kept,
+        n.covered,
+        subst (λ x. IsDue gr pattern p n.found x all) (sym (on-top ts (GoOn (as_choice v))))
+            ((λ _. (i.0, l.1 pattern s.1)), subst (λ x. IsDue gr pattern p (n.found ++ x) (reverse ts) all) i.1 n.due),
       )
 
   -- a choice leads to a state of the pattern

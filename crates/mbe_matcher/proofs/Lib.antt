@@ -5,6 +5,7 @@ pub mod ReadingLemmas
 pub mod BindingLemmas
 pub mod GatherLemmas
 pub mod GoingLemmas
+pub mod WayLemmas
 pub mod ClashLemmas
 pub mod LoopLemmas
 pub mod PathListLemmas

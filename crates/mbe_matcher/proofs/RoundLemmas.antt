@@ -12,18 +12,15 @@ use Rattle.mbe_rules.specs.Text.{is_char}
 use Rattle.mbe_rules.specs.Trees.{before, past}
 use Rattle.mbe_rules.specs.declared.parser.MetaVarKind.{MetaVarKind}
 use Rattle.mbe_rules.specs.declared.parser.RepeatKind.{RepeatKind}
-use Rattle.mbe_rules.specs.Ops.{items_of}
 use Rattle.mbe_matcher.specs.Fragments.{taken}
 use Rattle.mbe_matcher.specs.Grammar.{Grammar}
 use Rattle.mbe_matcher.specs.Paths.{IsAmong, when}
 use Rattle.mbe_matcher.specs.Readings as r
-use Rattle.mbe_matcher.specs.Rounds.{lone, IsShut, HasLone, WaitsAfter, Follows, goes_on, AreSingle, single, one_more}
-use Rattle.mbe_matcher.specs.Threads.{Waits, contributes, extended, frames_of, moves_of, rounds_of, waiting_of}
+use Rattle.mbe_matcher.specs.Rounds.{lone, IsShut, HasLone, WaitsAfter, AreSingle, single, one_more}
+use Rattle.mbe_matcher.specs.Threads.{contributes, extended, rounds_of}
 use Rattle.mbe_matcher.specs.Units as u
 use Rattle.mbe_matcher.specs.Waiting.{Good, pending, prefixed, settled_at}
-use Rattle.mbe_matcher.specs.declared.matcher.Waiting.TheVariants.{Pending}
-use Rattle.mbe_matcher.specs.declared.position.Consumed.TheVariants.{Fragment as takes_trees}
-use Rattle.mbe_matcher.specs.declared.thread.Thread.{Thread}
+use Rattle.mbe_matcher.specs.Ways.{Follows, goes_on}
 use Rattle.mbe_matcher.proofs.MoveLemmas.{does, fragment-lowers}
 use Rattle.mbe_matcher.proofs.PlaceLemmas.{before-past}
 use Rattle.mbe_matcher.proofs.SettlingLemmas.{settled-goes_on}
@@ -75,20 +72,6 @@ waits-after gr ms items frames n k p (suc i) (d, (s, op, fs, f, rep, shut)) e c 
     (subst (λ y. WaitsAfter gr ms (r.at done y p) (pending made true (r.at done y (r.past_trees (suc i) p)))) (sym f)
     (λ N g. only-round gr ms n k s op fs p i N rep shut e c t g))
 
--- so one thread waits alone
-pub waits-alone : (gr : Grammar) (ms : List r.Move) (items : Items) (frames : List r.Frame) (n : List ℕ) (k : MetaVarKind) (p : u.Place) (count N : ℕ) →
-    HasLone items frames n k → u.is_end p ≡ false → u.same_unit u.closing (u.unit_at p) ≡ false →
-    taken gr k (r.trees_here p) ≡ Some count → (count ≡ 0 → ⊥) → (t : Thread) →
-    items_of t.items.now ≡ items → frames_of t.frames ≡ frames →
-    moves_of t.moves ≡ (ms ++ (r.next_round ∷ [])) ++ (r.fragment_move n k (before count (r.trees_here p)) ∷ []) →
-    Good N (r.at items frames p) →
-    map (prefixed ms) (settled_at gr (r.at items frames p)) ≡ waiting_of p (Pending t (takes_trees count)) ∷ []
-waits-alone gr ms items frames n k p count N h e c t z th ti tf tm g =
-    waits-after gr ms items frames n k p count h e c t z N g
-    ∙ ap (λ x. pending x true (r.at items frames (r.past_trees count p)) ∷ []) (sym tm)
-    ∙ ap (λ x. pending (moves_of th.moves) true (r.at x frames (r.past_trees count p)) ∷ []) (sym ti)
-    ∙ ap (λ x. pending (moves_of th.moves) true (r.at (items_of th.items.now) x (r.past_trees count p)) ∷ []) (sym tf)
-
 no-closing : (p : Punct) (f : Forest) → u.same_unit u.closing (u.punct_unit p f) ≡ false
 no-closing p empty = refl
 no-closing p (group d inner rest) = refl
@@ -109,17 +92,16 @@ not-over (leaf (as_leaf.Ident i) rest) outer h = (refl, refl)
 not-over (leaf (as_leaf.Punct p) rest) outer h = (refl, no-closing p rest)
 
 -- one round more
-pub follows-round : (gr : Grammar) (p q : u.Place) (ws : List Waits) (outer : List Forest) (f : Forest) (next : ℕ) (n : List ℕ) (k : MetaVarKind)
-    (items : Items) (frames : List r.Frame) (ms : List r.Move) →
-    Follows gr p ws q (pending ms true (r.at items frames (u.place f outer)) ∷ []) →
+pub follows-round : (gr : Grammar) (ms : List r.Move) (s : r.State) (outer : List Forest) (f : Forest) (next : ℕ) (n : List ℕ) (k : MetaVarKind)
+    (items : Items) (frames : List r.Frame) (ns : List r.Move) →
+    Follows gr ms s ns (r.at items frames (u.place f outer)) →
     HasLone items frames n k → (f ≡ empty → ⊥) → taken gr k f ≡ Some next → (next ≡ 0 → ⊥) →
-    Follows gr p ws (u.place f outer)
-    (pending (ms ++ (r.next_round ∷ r.fragment_move n k (before next f) ∷ [])) true (r.at items frames (u.place (past next f) outer)) ∷ [])
-follows-round gr p q ws outer f next n k items frames ms h alone left some more =
+    Follows gr ms s (ns ++ (r.next_round ∷ r.fragment_move n k (before next f) ∷ [])) (r.at items frames (u.place (past next f) outer))
+follows-round gr ms s outer f next n k items frames ns h alone left some more =
     let over = not-over f outer left in
-    goes_on h (subst (λ x. WaitsAfter gr ms (r.at items frames (u.place f outer)) (pending x true (r.at items frames (u.place (past next f) outer))))
-    (append_assoc ms (r.next_round ∷ []) (r.fragment_move n k (before next f) ∷ []))
-    (waits-after gr ms items frames n k (u.place f outer) next alone over.0 over.1 some more))
+    goes_on h (subst (λ x. WaitsAfter gr ns (r.at items frames (u.place f outer)) (pending x true (r.at items frames (u.place (past next f) outer))))
+    (append_assoc ns (r.next_round ∷ []) (r.fragment_move n k (before next f) ∷ []))
+    (waits-after gr ns items frames n k (u.place f outer) next alone over.0 over.1 some more))
 
 -- a round of one tree
 one-round : (n : List ℕ) (k : MetaVarKind) (f : Forest) → (f ≡ empty → ⊥) →
@@ -143,18 +125,18 @@ round-last n k ms ts f h =
     ∙ ap (λ l. ms ++ l) (sym (rounds-joined n k ts (before 1 f)))
 
 -- rounds of one tree each
-pub follows-singles : (gr : Grammar) (p q : u.Place) (ws : List Waits) (outer : List Forest) (f : Forest) (n : List ℕ) (k : MetaVarKind)
-    (items : Items) (frames : List r.Frame) (ms : List r.Move) →
-    Follows gr p ws q (pending ms true (r.at items frames (u.place f outer)) ∷ []) →
-    HasLone items frames n k → (ts last rest : Forest) → AreSingle gr k f ts last rest →
-    Follows gr p ws (u.place last outer) (pending (ms ++ rounds_of n k ts) true (r.at items frames (u.place rest outer)) ∷ [])
-follows-singles gr p q ws outer f n k items frames ms h alone _ _ _ (single left some) =
-    subst (λ l. Follows gr p ws (u.place f outer) (pending (ms ++ l) true (r.at items frames (u.place (past 1 f) outer)) ∷ [])) (one-round n k f left)
-    (follows-round gr p q ws outer f 1 n k items frames ms h alone left some (λ z. cc z))
-follows-singles gr p q ws outer f n k items frames ms h alone _ _ _ (one_more {ts} {last} {rest} s left some) =
-    subst (λ l. Follows gr p ws (u.place rest outer) (pending l true (r.at items frames (u.place (past 1 rest) outer)) ∷ [])) (round-last n k ms ts rest left)
-    (follows-round gr p (u.place last outer) ws outer rest 1 n k items frames (ms ++ rounds_of n k ts)
-    (follows-singles gr p q ws outer f n k items frames ms h alone ts last rest s) alone left some (λ z. cc z))
+pub follows-singles : (gr : Grammar) (ms : List r.Move) (s : r.State) (outer : List Forest) (f : Forest) (n : List ℕ) (k : MetaVarKind)
+    (items : Items) (frames : List r.Frame) (ns : List r.Move) →
+    Follows gr ms s ns (r.at items frames (u.place f outer)) →
+    HasLone items frames n k → (ts rest : Forest) → AreSingle gr k f ts rest →
+    Follows gr ms s (ns ++ rounds_of n k ts) (r.at items frames (u.place rest outer))
+follows-singles gr ms s outer f n k items frames ns h alone _ _ (single left some) =
+    subst (λ l. Follows gr ms s (ns ++ l) (r.at items frames (u.place (past 1 f) outer))) (one-round n k f left)
+    (follows-round gr ms s outer f 1 n k items frames ns h alone left some (λ z. cc z))
+follows-singles gr ms s outer f n k items frames ns h alone _ _ (one_more {ts} {rest} x left some) =
+    subst (λ l. Follows gr ms s l (r.at items frames (u.place (past 1 rest) outer))) (round-last n k ns ts rest left)
+    (follows-round gr ms s outer rest 1 n k items frames (ns ++ rounds_of n k ts)
+    (follows-singles gr ms s outer f n k items frames ns h alone ts rest x) alone left some (λ z. cc z))
 
 -- fewer trees are left behind it
 pub round-lowers : (gr : Grammar) (k : MetaVarKind) (n : ℕ) (f g : Forest) → taken gr k f ≡ Some n → (n ≡ 0 → ⊥) → g ≡ past n f →
@@ -162,16 +144,16 @@ pub round-lowers : (gr : Grammar) (k : MetaVarKind) (n : ℕ) (f g : Forest) →
 round-lowers gr k zero f g e z h = absurd (z refl)
 round-lowers gr k (suc i) f g e z h = subst (λ x. u.left (u.place x []) < u.left (u.place f [])) (sym h) (fragment-lowers gr k i f [] e)
 
-pub singles-lower : (gr : Grammar) (k : MetaVarKind) (f ts last rest : Forest) → AreSingle gr k f ts last rest →
+pub singles-lower : (gr : Grammar) (k : MetaVarKind) (f ts rest : Forest) → AreSingle gr k f ts rest →
     u.left (u.place rest []) < u.left (u.place f [])
-singles-lower gr k f _ _ _ (single left some) = round-lowers gr k 1 f (past 1 f) some (λ z. cc z) refl
-singles-lower gr k f _ _ _ (one_more {ts} {last} {rest} s left some) =
-    let a = singles-lower gr k f ts last rest s in
+singles-lower gr k f _ _ (single left some) = round-lowers gr k 1 f (past 1 f) some (λ z. cc z) refl
+singles-lower gr k f _ _ (one_more {ts} {rest} s left some) =
+    let a = singles-lower gr k f ts rest s in
     let b = round-lowers gr k 1 rest (past 1 rest) some (λ z. cc z) refl in
     omega (arith, a, b)
 
 -- and all of them are passed
-pub singles-joined : (gr : Grammar) (k : MetaVarKind) (f ts last rest : Forest) → AreSingle gr k f ts last rest → f ≡ joined ts rest
-singles-joined gr k f _ _ _ (single left some) = before-past 1 f
-singles-joined gr k f _ _ _ (one_more {ts} {last} {rest} s left some) =
-    singles-joined gr k f ts last rest s ∙ ap (joined ts) (before-past 1 rest) ∙ sym (joined_assoc ts (before 1 rest) (past 1 rest))
+pub singles-joined : (gr : Grammar) (k : MetaVarKind) (f ts rest : Forest) → AreSingle gr k f ts rest → f ≡ joined ts rest
+singles-joined gr k f _ _ (single left some) = before-past 1 f
+singles-joined gr k f _ _ (one_more {ts} {rest} s left some) =
+    singles-joined gr k f ts rest s ∙ ap (joined ts) (before-past 1 rest) ∙ sym (joined_assoc ts (before 1 rest) (past 1 rest))

@@ -1,5 +1,5 @@
 -- A turn of the main loop, over the threads of the code.
-use Rattle.std.proofs.Common.{◌≡◌, refl, sym, ap, subst, ◌∙◌, ℕ, ◌≤◌, ◌<◌, Bool, true, false, List, [], ◌∷◌, ◌++◌, map, Some, None, length, get_or, arith}
+use Rattle.std.proofs.Common.{◌≡◌, refl, sym, ap, subst, ◌∙◌, ℕ, ◌<◌, Bool, true, false, List, [], ◌∷◌, ◌++◌, map, Option, Some, None, length, get_or, arith}
 use Rattle.std.specs.List.{flat_map}
 use Rattle.std.proofs.lemmas.List.{append-nil}
 use Rattle.tt_data.specs.Forest.{Forest}
@@ -9,11 +9,11 @@ use Rattle.mbe_matcher.specs.Grammar.{Grammar}
 use Rattle.mbe_matcher.specs.Paths.{only, clash}
 use Rattle.mbe_matcher.specs.Places as q
 use Rattle.mbe_matcher.specs.Readings as r
-use Rattle.mbe_matcher.specs.Rounds.{Follows, stays, goes_on}
 use Rattle.mbe_matcher.specs.Threads as t
 use Rattle.mbe_matcher.specs.Settled.{Leads, IsKept, IsSound, IsSoundAt}
 use Rattle.mbe_matcher.specs.Units as u
-use Rattle.mbe_matcher.specs.Waiting.{ended, pending, prefixed, finished, settled_at, Each, heads, advanced_by, unless, IsFrom}
+use Rattle.mbe_matcher.specs.Ways.{Follows, stays, leads, goes_on, last_waits}
+use Rattle.mbe_matcher.specs.Waiting.{ended, pending, prefixed, finished, settled_at, Each, Good, heads, advanced_by, unless, IsFrom}
 use Rattle.mbe_matcher.specs.declared.position.Consumed.{Consumed}
 use Rattle.mbe_matcher.specs.declared.same_state.Seen.{Seen}
 use Rattle.mbe_matcher.specs.declared.matcher.SettleTask.TheVariants.{GoOn}
@@ -24,6 +24,7 @@ use Rattle.mbe_matcher.proofs.MatchingLemmas.{outcome_at, outcome_later, begun-a
 use Rattle.mbe_matcher.proofs.SoundLemmas.{Sound, AllFrom, AllTo, kept-at, advance-at, from-advanced-at, one_place-at, from-settled-at, over-at, sound-start}
 use Rattle.mbe_matcher.proofs.DueLemmas.{as_choice, more-due, none-yet}
 use Rattle.mbe_matcher.proofs.KeptLemmas.{kept-each}
+use Rattle.mbe_matcher.proofs.WayLemmas.{waits-lower}
 
 abbrev pub P : Type 0
 P = u.Place
@@ -152,51 +153,81 @@ leads-held gr pattern argument p all ws seen (found, kept, covered, due) h =
       here = kept-each (IsFrom (Sound gr pattern) (λ s. u.left (r.place_of s)) r.place_of u.left u.after_unit p) [] all (t.waits p ws) k h.here;
     }
 
--- the first thread is settled
-pub first-held : (gr : Grammar) → (pattern : Items) (argument : Forest) (p : P) (h : Thread) → has_empty_round pattern ≡ false → p ≡ u.place argument [] →
-    t.state_of h p ≡ r.at pattern [] p → t.moves_of h.moves ≡ [] → (ws us : List d.Waiting) (seen xs : List Seen) → us ≡ [] → xs ≡ [] →
-    ((all : List t.Waits) → Leads gr pattern p all us xs (GoOn (as_choice h) ∷ []) → Leads gr pattern p all ws seen []) →
-    Held gr pattern argument p (t.waits p ws)
-first-held gr pattern argument p h e i s m ws us seen xs a b f =
-    let all = [] ++ map (prefixed (t.moves_of h.moves)) (settled_at gr (t.state_of h p)) in
-    let sound : IsSound pattern (t.state_of h p) =
-    subst (IsSound pattern) (sym s) (subst (λ x. IsSound pattern (r.at pattern [] x)) (sym i) (sound-start gr pattern argument e)) in
-    let l = more-due gr pattern p [] [] [] h sound (none-yet gr pattern p) in
-    leads-held gr pattern argument p all ws seen
-    (f all (subst (λ x. Leads gr pattern p all us x (GoOn (as_choice h) ∷ [])) (sym b) (subst (λ x. Leads gr pattern p all x [] (GoOn (as_choice h) ∷ [])) (sym a) l)))
-    (start-held gr pattern argument p e i all (ap (λ x. map (prefixed x) (settled_at gr (t.state_of h p))) m ∙ ap (λ x. map (prefixed []) (settled_at gr x)) s))
+-- ---- a thread that is alone
 
-one-takes : (b : Bool) → false ≡ clash (b ∷ [])
+-- what waits after this state, with the moves that lead to it, leads to the only reading
+pub record HeldAt (gr : Grammar) (pattern : Items) (argument : Forest) (ms : List r.Move) (s : r.State) : Type 0 where
+  pub sound : IsSound pattern s
+  pub held : Held gr pattern argument (r.place_of s) (map (prefixed ms) (settled_at gr s))
+
+-- the first one is
+pub start-at : (gr : Grammar) → (pattern : Items) (argument : Forest) (p : P) → has_empty_round pattern ≡ false → p ≡ u.place argument [] →
+    HeldAt gr pattern argument [] (r.at pattern [] p)
+start-at gr pattern argument p e i = record {
+  sound = subst (λ x. IsSound pattern (r.at pattern [] x)) (sym i) (sound-start gr pattern argument e);
+  held = start-held gr pattern argument p e i (map (prefixed []) (settled_at gr (r.at pattern [] p))) refl;
+}
+
+-- after a turn, the only one that waited is
+pub turn-at : (gr : Grammar) → (pattern : Items) (argument : Forest) (p s : P) (ws : List d.Waiting) (h : Thread) (k : Consumed) → ws ≡ Pending h k ∷ [] →
+    Turn gr pattern argument p s ws → HeldAt gr pattern argument (t.moves_of h.moves) (t.state_of h s)
+turn-at gr pattern argument p s ws h k e n =
+    let m = subst (Turn gr pattern argument p s) e n in
+    record { sound = m.good.0; held = m.held (map (prefixed (t.moves_of h.moves)) (settled_at gr (t.state_of h s))) (sym (append-nil _)) }
+
+one-takes : (b : Bool) → clash (b ∷ []) ≡ false
 one-takes true = refl
 one-takes false = refl
 
--- so does what waits where again and again one path alone waits after another
-pub follows-held : (gr : Grammar) → (pattern : Items) (argument : Forest) (p : P) (ws : List t.Waits) (s : P) (us : List t.Waits) → Follows gr p ws s us →
-    Held gr pattern argument p ws → Held gr pattern argument s us × (u.left s ≤ u.left p)
-follows-held gr pattern argument p ws _ _ stays h = (h, omega arith)
-follows-held gr pattern argument p ws _ _ (goes_on {q = o} {ms} {s = x} {w} f alone) h =
+-- and each that is reached from it
+pub follows-held : (gr : Grammar) → (pattern : Items) (argument : Forest) (ms : List r.Move) (s : r.State) (ns : List r.Move) (x : r.State) → Follows gr ms s ns x →
+    HeldAt gr pattern argument ms s → HeldAt gr pattern argument ns x
+follows-held gr pattern argument ms s _ _ stays h = h
+follows-held gr pattern argument ms s _ _ (leads {ns} {ks} {t = x} {v} f l) h =
+    let i = follows-held gr pattern argument ms s ns x f h in
+    let g = l.0 (r.room pattern) i.sound.0 in
+    record {
+      sound = (g.0, l.1 pattern i.sound.1);
+      held = subst (λ y. Held gr pattern argument y (map (prefixed ks) (settled_at gr v))) (sym l.2)
+          (subst (Held gr pattern argument (r.place_of x)) g.1 i.held);
+    }
+follows-held gr pattern argument ms s _ _ (goes_on {ns} {ks} {t = x} {v} {b} f w) h =
+    let i = follows-held gr pattern argument ms s ns x f h in
     let N = r.room pattern in
-    let one : List t.Waits = pending ms true x ∷ [] in
-    let (i, le) = follows-held gr pattern argument p ws o one f h in
-    let at = one_place-at gr pattern o one i.here refl in
-    let s = r.place_of x in
-    let here : s ≡ at.0 = at.1.0.2 in
-    let a : AllTo gr pattern (u.left o) s one = subst (λ y. AllTo gr pattern (u.left o) y one) (sym here) at.1 in
-    let all : w ∷ [] ≡ flat_map (advanced_by (settled_at gr)) one = sym (alone N a.0.0.0) ∙ sym (append-nil (map (prefixed ms) (settled_at gr x))) in (
-      record {
-        same = ap (outcome_at gr N) all ∙ sym (advance-at gr pattern (u.left o) s one a refl) ∙ i.same;
-        here = subst (AllFrom gr pattern s) (sym all) (from-advanced-at gr pattern (u.left o) s one a);
-      },
-      (let lower = a.0.1 in omega (arith, lower, le)),
-    )
+    let o = r.place_of x in
+    let one : List t.Waits = pending ks b v ∷ [] in
+    let j : Held gr pattern argument o one = subst (Held gr pattern argument o) (w N i.sound.0) i.held in
+    let at = one_place-at gr pattern o one j.here (one-takes b) in
+    let q = r.place_of v in
+    let here : q ≡ at.0 = at.1.0.2 in
+    let a : AllTo gr pattern (u.left o) q one = subst (λ y. AllTo gr pattern (u.left o) y one) (sym here) at.1 in
+    let all : map (prefixed ks) (settled_at gr v) ≡ flat_map (advanced_by (settled_at gr)) one = sym (append-nil (map (prefixed ks) (settled_at gr v))) in
+    record {
+      sound = (waits-lower gr pattern ns ks x v b i.sound w).0;
+      held = record {
+        same = ap (outcome_at gr N) all ∙ sym (advance-at gr pattern (u.left o) q one a (one-takes b)) ∙ j.same;
+        here = subst (AllFrom gr pattern q) (sym all) (from-advanced-at gr pattern (u.left o) q one a);
+      };
+    }
 
--- a turn, and the rounds after it
-pub turned : (gr : Grammar) → (pattern : Items) (argument : Forest) (p s o : P) (ws vs us : List d.Waiting) (seen : List Seen) (k : Consumed) →
-    Held gr pattern argument p (t.waits p ws) → false ≡ clash (flat_map t.takings_of ws) → Some k ≡ t.head_taken ws → s ≡ q.place_after p (Some k) →
-    (Each (IsSoundAt pattern) (t.waits_at s ws) → Leads gr pattern s (flat_map (advanced_by (settled_at gr)) (t.waits_at s ws)) vs seen []) →
-    Follows gr s (t.waits s vs) o (t.waits o us) → Held gr pattern argument o (t.waits o us) × (u.left o < u.left p)
-turned gr pattern argument p s o ws vs us seen k h c e i leads f =
-    let n = turn gr pattern argument p ws k h c e s i in
-    let all = flat_map (advanced_by (settled_at gr)) (t.waits_at s ws) in
-    let (held, le) = follows-held gr pattern argument s (t.waits s vs) o (t.waits o us) f (leads-held gr pattern argument s all vs seen (leads n.good) (n.held all refl)) in
-    (held, (let lower = n.lower in omega (arith, lower, le)))
+-- it is settled
+pub alone-held : (gr : Grammar) → (pattern : Items) (argument : Forest) (p : P) (h : Thread) → HeldAt gr pattern argument (t.moves_of h.moves) (t.state_of h p) →
+    (ws us : List d.Waiting) (seen xs : List Seen) → us ≡ [] → xs ≡ [] →
+    ((all : List t.Waits) → Leads gr pattern p all us xs (GoOn (as_choice h) ∷ []) → Leads gr pattern p all ws seen []) →
+    Held gr pattern argument p (t.waits p ws)
+alone-held gr pattern argument p h i ws us seen xs a b f =
+    let all = [] ++ map (prefixed (t.moves_of h.moves)) (settled_at gr (t.state_of h p)) in
+    let l = more-due gr pattern p [] [] [] h i.sound (none-yet gr pattern p) in
+    leads-held gr pattern argument p all ws seen
+    (f all (subst (λ x. Leads gr pattern p all us x (GoOn (as_choice h) ∷ [])) (sym b) (subst (λ x. Leads gr pattern p all x [] (GoOn (as_choice h) ∷ [])) (sym a) l)))
+    i.held
+
+-- or it is the last
+pub done-held : (gr : Grammar) → (pattern : Items) (argument : Forest) (ns : List r.Move) (x : r.State) (o : Option (List r.Move)) → HeldAt gr pattern argument ns x →
+    ((N : ℕ) → Good N x → map (prefixed ns) (settled_at gr x) ≡ last_waits o) → o ≡ r.the_reading gr pattern argument
+done-held gr pattern argument ns x o i e =
+    go o (subst (Held gr pattern argument (r.place_of x)) (e (r.room pattern) i.sound.0) i.held)
+  where
+    go : (o : Option (List r.Move)) → Held gr pattern argument (r.place_of x) (last_waits o) → o ≡ r.the_reading gr pattern argument
+    go None h = sym (over-at gr pattern [] refl) ∙ h.same
+    go (Some ms) h = sym (over-at gr pattern (ended ms ∷ []) refl) ∙ h.same

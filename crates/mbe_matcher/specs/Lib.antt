@@ -19,6 +19,7 @@ pub mod Settled
 pub mod Numbers
 pub mod SeenStates
 pub mod Rounds
+pub mod Ways
 pub mod Going
 pub mod Blocked
 pub mod Skipping

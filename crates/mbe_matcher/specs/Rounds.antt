@@ -9,10 +9,10 @@ use Rattle.mbe_rules.specs.Trees.{before, past}
 use Rattle.mbe_matcher.specs.Fragments.{taken}
 use Rattle.mbe_matcher.specs.Grammar.{Grammar}
 use Rattle.mbe_matcher.specs.Readings as r
-use Rattle.mbe_matcher.specs.Readings.{Frame, State, in_group, in_round, parted, may_repeat, place_of}
+use Rattle.mbe_matcher.specs.Readings.{Frame, State, in_group, in_round, parted, may_repeat}
 use Rattle.mbe_matcher.specs.Threads.{Waits, frame_of, moves_of, state_of, waiting_of}
 use Rattle.mbe_matcher.specs.Units as u
-use Rattle.mbe_matcher.specs.Waiting.{Good, pending, prefixed, settled_at}
+use Rattle.mbe_matcher.specs.Waiting.{Good, prefixed, settled_at}
 use Rattle.mbe_matcher.specs.declared.matcher.Waiting as d
 use Rattle.mbe_matcher.specs.declared.thread.Frame.TheVariants.{InRound}
 use Rattle.mbe_matcher.specs.declared.thread.Round.{Round}
@@ -46,16 +46,9 @@ WaitsAfter gr ms s w = (N : ℕ) → Good N s → map (prefixed ms) (settled_at 
 abbrev pub WaitsAlone : Grammar → u.Place → Thread → d.Waiting → Type 0
 WaitsAlone gr p t w = WaitsAfter gr (moves_of t.moves) (state_of t p) (waiting_of p w)
 
--- paths that wait, reached from others that wait: any number of times, one path that consumes a
--- fragment was alone, and exactly one waits after it
-pub data Follows (gr : Grammar) (p : u.Place) (ws : List Waits) : u.Place → List Waits → Type 0 where
-  stays : Follows gr p ws p ws
-  goes_on : {q : u.Place} {ms : List r.Move} {s : State} {w : Waits} → Follows gr p ws q (pending ms true s ∷ []) → WaitsAfter gr ms s w →
-      Follows gr p ws (place_of s) (w ∷ [])
-
 -- at the front of a list, these trees are each a fragment, one after another; then come the trees
--- from the last of them on, and those after it
-pub data AreSingle (gr : Grammar) (k : MetaVarKind) (f : Forest) : Forest → Forest → Forest → Type 0 where
-  single : (f ≡ empty → ⊥) → taken gr k f ≡ Some 1 → AreSingle gr k f (before 1 f) f (past 1 f)
-  one_more : {ts last rest : Forest} → AreSingle gr k f ts last rest → (rest ≡ empty → ⊥) → taken gr k rest ≡ Some 1 →
-      AreSingle gr k f (joined ts (before 1 rest)) rest (past 1 rest)
+-- after them
+pub data AreSingle (gr : Grammar) (k : MetaVarKind) (f : Forest) : Forest → Forest → Type 0 where
+  single : (f ≡ empty → ⊥) → taken gr k f ≡ Some 1 → AreSingle gr k f (before 1 f) (past 1 f)
+  one_more : {ts rest : Forest} → AreSingle gr k f ts rest → (rest ≡ empty → ⊥) → taken gr k rest ≡ Some 1 →
+      AreSingle gr k f (joined ts (before 1 rest)) (past 1 rest)

@@ -13,6 +13,7 @@ use Rattle.mbe_matcher.specs.declared.matcher.Waiting as d
 use Rattle.mbe_matcher.specs.declared.same_state.Seen.{Seen}
 use Rattle.mbe_matcher.specs.declared.matcher.SettleTask.{SettleTask}
 use Rattle.mbe_matcher.specs.declared.matcher.SettleTask.TheVariants.{GoOn, Note}
+use Rattle.mbe_matcher.specs.declared.thread.Thread.{Thread}
 
 -- ---- what is kept
 
@@ -72,6 +73,11 @@ module _ (p : u.Place) where
 abbrev pub planned : Option Choice → List SettleTask
 planned None = []
 planned (Some c) = GoOn c ∷ []
+
+-- the task to go on with a thread, if there is one
+abbrev pub going_on : Option Thread → List SettleTask
+going_on None = []
+going_on (Some t) = GoOn (record { thread = t; taken = None }) ∷ []
 
 -- a state of the matcher, in which no repetition iterates without end
 abbrev pub IsSound : Items → r.State → Type 0

@@ -14,6 +14,7 @@ mod same_state;
 mod seen_states;
 mod step;
 mod thread;
+mod way;
 
 pub use bind::bindings_of;
 pub use bindings::{Binding, Bindings, Bound};

@@ -1,17 +1,19 @@
 //! Finds threads and matchers whose next unit cannot match, so that they are pruned before a move
 //! is made. It decides speed alone.
-ghost use Rattle.std.specs.Prelude.{◌≡◌, []};
+ghost use Rattle.std.specs.Prelude.{◌≡◌, List, [], true};
 ghost use Rattle.mbe_rules.specs.Items.{Items};
 ghost use Rattle.mbe_rules.specs.Ops.{items_of, put_op};
 ghost use Rattle.mbe_matcher.specs.Blocked.{is_blocked, is_stuck};
 ghost use Rattle.mbe_matcher.specs.Places.{place_of};
-ghost use Rattle.mbe_matcher.specs.Threads.{state_of};
+ghost use Rattle.mbe_matcher.specs.Readings as r;
+ghost use Rattle.mbe_matcher.specs.Threads.{frames_of, state_of};
 ghost use Rattle.mbe_matcher.specs.Units as u;
+ghost use Rattle.mbe_matcher.specs.Ways.{HasNoMove};
 ghost use Rattle.tt.specs.Views.{forest};
 
 use crate::position::Place;
-use crate::thread::{Frame, Thread};
-use mbe_rules::Op;
+use crate::thread::{Frame, Rung, Thread};
+use mbe_rules::{MetaVarKind, Op};
 use std::alloc::Global;
 use tt::TokenTreesView;
 
@@ -39,6 +41,48 @@ pub(crate) fn is_stuck(thread: &Thread<'_>, place: &Place<'_>) -> bool
         return is_elsewhere(op, place);
     }
     let Some(rung) = thread.frames else {
+        return !place.is_end();
+    };
+    match rung.frame {
+        Frame::InGroup { .. } => !place.is_closing(),
+        _ => false,
+    }
+}
+
+// Whether an op, which is no repetition, consumes something, and it is not here.
+#[inline]
+fn is_absent(op: &Op, place: &Place<'_>) -> bool
+    ensures { result ≡ true → (rest : Items) (fs : List r.Frame) → HasNoMove (r.at (put_op op.now rest) fs (place_of place.now)) }
+{
+    match op {
+        Op::Var {
+            kind: Some(kind),
+            ..
+        } => place.rest.is_empty() && *kind != MetaVarKind::Vis,
+        _ => is_elsewhere(op, place),
+    }
+}
+
+// Whether no move leads on from these ops, since the first one is not here.
+#[inline]
+pub(crate) fn is_over_at(items: &[Op], place: &Place<'_>) -> bool
+    ensures { result ≡ true → (fs : List r.Frame) → HasNoMove (r.at (items_of items.now) fs (place_of place.now)) }
+{
+    match items.split_first() {
+        Some((op, _rest)) => is_absent(op, place),
+        None => false,
+    }
+}
+
+// Whether no move leads on from these ops in these frames, and they are not at the end.
+#[inline]
+pub(crate) fn is_over<'a>(items: &'a [Op], frames: Option<&'a Rung<'a>>, place: &Place<'a>) -> bool
+    ensures { result ≡ true → HasNoMove (r.at (items_of items.now) (frames_of frames.entry) (place_of place.now)) }
+{
+    if !items.is_empty() {
+        return is_over_at(items, place);
+    }
+    let Some(rung) = frames else {
         return !place.is_end();
     };
     match rung.frame {

@@ -1,6 +1,6 @@
 //! The loop of the matching algorithm: all threads that read an argument by a matcher, together,
 //! position by position.
-ghost use Rattle.std.specs.Prelude.{◌≡◌, ◌<◌, ◌≤◌, ◌+◌, List, [], ◌∷◌, ◌++◌, option_map, IfOk, OnOk, Some, None, true, false};
+ghost use Rattle.std.specs.Prelude.{◌≡◌, ◌<◌, ◌≤◌, ◌+◌, List, [], ◌∷◌, ◌++◌, option_map, IfOk, IfSome, OnOk, Some, None, true, false};
 ghost use Rattle.std.specs.List.{flat_map};
 ghost use Rattle.tt.specs.Views.{forest};
 ghost use Rattle.mbe_rules.specs.Items.{Items, has_empty_round};
@@ -9,12 +9,13 @@ ghost use Rattle.mbe_matcher.specs.Grammar.{Grammar};
 ghost use Rattle.mbe_matcher.specs.Paths.{clash, only};
 ghost use Rattle.mbe_matcher.specs.Places.{place_of};
 ghost use Rattle.mbe_matcher.specs.Readings as r;
-ghost use Rattle.mbe_matcher.specs.Rounds.{Follows};
-ghost use Rattle.mbe_matcher.specs.Settled.{Leads, HasEnd, IsGood, IsSoundAt, most_tasks, planned, tasks_of, tasks_of_all};
+ghost use Rattle.mbe_matcher.specs.Settled.{Leads, HasEnd, going_on, IsGood, IsSoundAt, most_tasks, planned, tasks_of, tasks_of_all};
 ghost use Rattle.mbe_matcher.specs.Units as u;
+ghost use Rattle.mbe_matcher.specs.declared.matcher.SettleTask.{SettleTask};
 ghost use Rattle.mbe_matcher.specs.Waiting.{settled_at, advanced_by, empties_at, finished, Each};
 ghost use Rattle.mbe_matcher.specs.Threads.{Waits, moves_of, state_of, waits, waits_at, waiting_at, takings_of, head_taken, is_trees};
 ghost use Rattle.mbe_matcher.specs.declared.matcher.SettleTask.TheVariants.{GoOn};
+ghost use Rattle.mbe_matcher.specs.declared.matcher.Waiting.TheVariants.{Pending};
 
 use crate::lookahead::is_stuck;
 use crate::position::{Consumed, Place};
@@ -22,6 +23,7 @@ use crate::same_state::Seen;
 use crate::seen_states::SeenStates;
 use crate::step::Choice;
 use crate::thread::{Entry, Thread};
+use crate::way::{Alone, Way};
 use bumpalo::Bump;
 use fragment_grammar::FragmentGrammar;
 use mbe_rules::Op;
@@ -53,6 +55,10 @@ pub(crate) struct Settled<'a> {
     pub(crate) seen: SeenStates<'a>,
     pub(crate) tasks: Vec<SettleTask<'a>>,
 }
+
+// How many threads wait at most where those that they lead to need not be noted. It decides speed
+// alone.
+const FEW: usize = 2;
 
 impl Consumed {
     fn is_fragment(&self) -> bool
@@ -275,9 +281,71 @@ impl<'a> Settled<'a> {
         Ok(())
     }
 
-    // Settles a thread. One that clearly leads to one other alone makes no tasks.
+    // Appends the thread that waits after this one, if its way is clear. Answers the one that it
+    // leads to if not.
+    fn take_thread<G: FragmentGrammar>(
+        &mut self,
+        arena: &'a Bump,
+        grammar: &G,
+        thread: Thread<'a>,
+        place: &Place<'a>,
+    ) -> Result<Option<Thread<'a>>, AllocError>
+        requires { IsGood (state_of thread (place_of place.now)) }
+        ensures tasks { OnOk result (self.new.tasks.items ≡ self.old.tasks.items) }
+        ensures seen { OnOk result (self.new.seen ≡ self.old.seen) }
+        ensures open { IfOk result (λ o. IfSome o (λ t. self.new.waiting.items ≡ self.old.waiting.items)) }
+        ensures good { IfOk result (λ o. IfSome o (λ t. IsGood (state_of t (place_of place.now)))) }
+        ensures all { let p = place_of place.now in let gr = G.answer grammar.now in (pattern : Items) (all : List Waits) (ts : List SettleTask) →
+            Leads gr pattern p all self.old.waiting.items self.old.seen (ts ++ going_on (Some thread.entry)) →
+            IfOk result (λ o. Leads gr pattern p all self.new.waiting.items self.old.seen (ts ++ going_on o)) }
+    {
+        match thread.way(arena, grammar, place)? {
+            Way::Waits(w) => {
+                self.waiting.push(w)?;
+                Ok(None)
+            }
+            Way::Stops => Ok(None),
+            Way::Open(thread) => Ok(Some(thread)),
+        }
+    }
+
+    // Appends the thread that waits after a choice, if there is one and its way is clear. Answers
+    // the one that it leads to if not.
     #[inline(always)]
-    fn settle_next<G: FragmentGrammar>(
+    fn take_choice<G: FragmentGrammar>(
+        &mut self,
+        arena: &'a Bump,
+        grammar: &G,
+        choice: Option<Choice<'a>>,
+        place: &Place<'a>,
+    ) -> Result<Option<Thread<'a>>, AllocError>
+        requires { Each (HasEnd (place_of place.now)) (planned choice) }
+        ensures tasks { OnOk result (self.new.tasks.items ≡ self.old.tasks.items) }
+        ensures seen { OnOk result (self.new.seen ≡ self.old.seen) }
+        ensures open { IfOk result (λ o. IfSome o (λ t. self.new.waiting.items ≡ self.old.waiting.items)) }
+        ensures good { IfOk result (λ o. IfSome o (λ t. IsGood (state_of t (place_of place.now)))) }
+        ensures all { let p = place_of place.now in let gr = G.answer grammar.now in (pattern : Items) (all : List Waits) (ts : List SettleTask) →
+            Leads gr pattern p all self.old.waiting.items self.old.seen (ts ++ planned choice.entry) →
+            IfOk result (λ o. Leads gr pattern p all self.new.waiting.items self.old.seen (ts ++ going_on o)) }
+    {
+        let Some(choice) = choice else {
+            return Ok(None);
+        };
+        let thread = choice.thread;
+        match choice.taken {
+            Some(taken) => {
+                self.waiting.push(Waiting::Pending { thread, taken })?;
+                Ok(None)
+            }
+            None => {
+                let open = self.take_thread(arena, grammar, thread, place)?;
+                Ok(open)
+            }
+        }
+    }
+
+    // Settles a thread. If the ways of its choices are clear, there are no tasks.
+    fn settle_open<G: FragmentGrammar>(
         &mut self,
         arena: &'a Bump,
         grammar: &G,
@@ -291,26 +359,54 @@ impl<'a> Settled<'a> {
             Leads gr pattern p all self.old.waiting.items self.old.seen (GoOn (record { thread = thread.entry; taken = None }) ∷ []) →
             OnOk result (Leads gr pattern p all self.new.waiting.items self.new.seen self.new.tasks.items) }
     {
-        let next = thread.alone(arena, grammar, place)?;
-        match next {
-            Some(w) => {
-                self.waiting.push(w)?;
-                Ok(())
-            }
-            None => {
-                self.settle(arena, grammar, thread, place)?;
-                Ok(())
-            }
+        if thread.has_ended(place) {
+            self.settle(arena, grammar, thread, place)?;
+            return Ok(());
         }
+        let (first, second) = thread.choices(arena, grammar, place)?;
+        if let Some(_) = self.take_choice(arena, grammar, first, place)? {
+            self.settle(arena, grammar, thread, place)?;
+            return Ok(());
+        }
+        if let Some(next) = self.take_choice(arena, grammar, second, place)? {
+            self.settle(arena, grammar, next, place)?;
+            return Ok(());
+        }
+        Ok(())
     }
 
-    // Appends the threads that wait after one that waited at the position before.
+    // Settles a thread. If its way is clear, there are no tasks.
+    #[inline(always)]
+    fn settle_clear<G: FragmentGrammar>(
+        &mut self,
+        arena: &'a Bump,
+        grammar: &G,
+        thread: Thread<'a>,
+        place: &Place<'a>,
+    ) -> Result<(), AllocError>
+        requires tasks { self.now.tasks.items ≡ [] }
+        requires good { IsGood (state_of thread (place_of place.now)) }
+        ensures done { OnOk result (self.new.tasks.items ≡ []) }
+        ensures all { let p = place_of place.now in let gr = G.answer grammar.now in (pattern : Items) (all : List Waits) →
+            Leads gr pattern p all self.old.waiting.items self.old.seen (GoOn (record { thread = thread.entry; taken = None }) ∷ []) →
+            OnOk result (Leads gr pattern p all self.new.waiting.items self.new.seen self.new.tasks.items) }
+    {
+        let Some(next) = self.take_thread(arena, grammar, thread, place)? else {
+            return Ok(());
+        };
+        self.settle_open(arena, grammar, next, place)?;
+        Ok(())
+    }
+
+    // Appends the threads that wait after one that waited at the position before, of which there
+    // were `few`.
     #[inline(always)]
     fn advance<G: FragmentGrammar>(
         &mut self,
         arena: &'a Bump,
         grammar: &G,
         w: &Waiting<'a>,
+        few: bool,
         place: &Place<'a>,
     ) -> Result<(), AllocError>
         requires tasks { self.now.tasks.items ≡ [] }
@@ -326,7 +422,11 @@ impl<'a> Settled<'a> {
                 Ok(())
             }
             Waiting::Pending { thread, .. } => {
-                self.settle_next(arena, grammar, *thread, place)?;
+                if few {
+                    self.settle_clear(arena, grammar, *thread, place)?;
+                    return Ok(());
+                }
+                self.settle(arena, grammar, *thread, place)?;
                 Ok(())
             }
         }
@@ -348,37 +448,10 @@ impl<'a> Settled<'a> {
         ensures all { let p = place_of place.now in let gr = G.answer grammar.now in (pattern : Items) → Each (IsSoundAt pattern) (waits_at p waiting.now) →
             OnOk result (Leads gr pattern p (flat_map (advanced_by (settled_at gr)) (waits_at p waiting.now)) self.new.waiting.items self.new.seen []) }
     {
+        let few = waiting.len() <= FEW;
         for w in waiting {
-            self.advance(arena, grammar, w, place)?;
+            self.advance(arena, grammar, w, few, place)?;
         }
-        Ok(())
-    }
-
-    // Goes on with the only thread that waits, iteration by iteration of one metavariable, as
-    // long as another iteration is clearly the only way on.
-    fn go_round<G: FragmentGrammar>(
-        &mut self,
-        arena: &'a Bump,
-        grammar: &G,
-        place: &mut Place<'a>,
-    ) -> Result<(), AllocError>
-        ensures tasks { OnOk result (self.new.tasks.items ≡ self.old.tasks.items) }
-        ensures rounds { OnOk result (Follows (G.answer grammar.now) (place_of place.old) (waits (place_of place.old) self.old.waiting.items)
-            (place_of place.new) (waits (place_of place.new) self.new.waiting.items)) }
-    {
-        if self.waiting.len() != 1 {
-            return Ok(());
-        }
-        let Waiting::Pending {
-            thread,
-            taken: Consumed::Fragment(count),
-        } = self.waiting[0]
-        else {
-            return Ok(());
-        };
-        let (thread, count) = thread.after_rounds(arena, grammar, count, place)?;
-        let taken = Consumed::Fragment(count);
-        self.waiting[0] = Waiting::Pending { thread, taken };
         Ok(())
     }
 
@@ -443,6 +516,22 @@ fn only_ended<'a>(waiting: &[Waiting<'a>]) -> Option<Option<&'a Entry<'a>>>
     }
 }
 
+// The thread that waits, if it is alone and has not ended.
+fn only_thread<'a>(waiting: &[Waiting<'a>]) -> Option<Thread<'a>>
+    ensures { IfSome result (λ t. (k : Consumed) × (waiting.now ≡ Pending t k ∷ [])) }
+{
+    let Some((first, others)) = waiting.split_first() else {
+        return None;
+    };
+    if !others.is_empty() {
+        return None;
+    }
+    match first {
+        Waiting::Ended(_) => None,
+        Waiting::Pending { thread, .. } => Some(*thread),
+    }
+}
+
 /// The moves of the only reading in which a matcher uses up an argument: the last entry of the
 /// log, or `None` in it if there are no moves. (The Rust Reference, "Macros By Example":
 /// metavariables, forwarding a fragment.)
@@ -476,9 +565,13 @@ pub fn match_pattern<'a, G: FragmentGrammar>(
         rest: argument.iter(),
         outer: Vec::new(alloc),
     };
+    let first = match thread.go_alone(arena, grammar, &mut place)? {
+        Alone::Done(reading) => return Ok(reading),
+        Alone::Open(thread) => thread,
+    };
     let mut found = Settled::new(alloc);
     let mut waiting = Vec::new(alloc);
-    found.settle(arena, grammar, thread, &place)?;
+    found.settle_open(arena, grammar, first, &place)?;
     loop {
         if has_clash(&found.waiting) {
             return Ok(None);
@@ -486,9 +579,16 @@ pub fn match_pattern<'a, G: FragmentGrammar>(
         let Some(taken) = first_taken(&found.waiting) else {
             return Ok(only_ended(&found.waiting));
         };
-        place = place.after(taken)?;
+        place.pass(taken)?;
         found.hand_over(&mut waiting);
-        found.advance_all(arena, grammar, &waiting, &place)?;
-        found.go_round(arena, grammar, &mut place)?;
+        let Some(thread) = only_thread(&waiting) else {
+            found.advance_all(arena, grammar, &waiting, &place)?;
+            continue;
+        };
+        let next = match thread.go_alone(arena, grammar, &mut place)? {
+            Alone::Done(reading) => return Ok(reading),
+            Alone::Open(thread) => thread,
+        };
+        found.settle_open(arena, grammar, next, &place)?;
     }
 }

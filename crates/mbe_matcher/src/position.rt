@@ -1,5 +1,5 @@
 //! Positions in an argument: the unit at a position, and the position after a move.
-ghost use Rattle.std.specs.Prelude.{◌≡◌, IfOk, Some, option_map, ◌-◌, []};
+ghost use Rattle.std.specs.Prelude.{◌≡◌, IfOk, OnOk, Some, option_map, ◌-◌, []};
 ghost use Rattle.tt.specs.Views.{forest};
 ghost use Rattle.mbe_rules.specs.Ops.{separator_of};
 ghost use Rattle.mbe_rules.specs.Text.{same_text, is_truth};
@@ -252,35 +252,49 @@ impl<'a> Place<'a> {
         }
     }
 
+    // Moves to the position after a move.
+    #[inline]
+    pub(crate) fn pass(&mut self, taken: Consumed) -> Result<(), AllocError>
+        ensures { OnOk result (place_of self.new ≡ place_after (place_of self.old) (Some taken)) }
+    {
+        match taken {
+            Consumed::Fragment(count) => {
+                self.rest = past(&self.rest, count);
+                Ok(())
+            }
+            Consumed::Unit => self.pass_unit(),
+        }
+    }
+
+    // Moves to the position after the unit here.
+    #[tactic(auto, using(crate::proofs::LentLemmas::past_unit, crate::proofs::LentLemmas::into_group))]
+    fn pass_unit(&mut self) -> Result<(), AllocError>
+        ensures { OnOk result (place_of self.new ≡ u.after_unit (place_of self.old)) }
+    {
+        if let Some((_brackets, inner, more)) = self.rest.first_group() {
+            self.outer.push(more)?;
+            self.rest = inner;
+            return Ok(());
+        }
+        if self.rest.is_empty() {
+            if let Some(rest) = self.outer.pop() {
+                self.rest = rest;
+            }
+            return Ok(());
+        }
+        let count = unit_trees(&self.rest);
+        self.rest = past(&self.rest, count);
+        Ok(())
+    }
+
     /// The position after a move. Out of memory is its only error.
     #[inline]
-    #[tactic(auto, using(crate::proofs::LentLemmas::past_unit, crate::proofs::LentLemmas::into_group))]
     pub fn after(self, taken: Consumed) -> Result<Place<'a>, AllocError>
         ensures { IfOk result (λ p. place_of p ≡ place_after (place_of self.entry) (Some taken)) }
     {
-        let mut outer = self.outer;
-        let mut rest = self.rest;
-        match taken {
-            Consumed::Fragment(count) => {
-                let rest = past(&rest, count);
-                Ok(Place { rest, outer })
-            }
-            Consumed::Unit => {
-                if let Some((_brackets, inner, more)) = rest.first_group() {
-                    outer.push(more)?;
-                    return Ok(Place { rest: inner, outer });
-                }
-                if rest.is_empty() {
-                    return match outer.pop() {
-                        None => Ok(Place { rest, outer }),
-                        Some(rest) => Ok(Place { rest, outer }),
-                    };
-                }
-                let count = unit_trees(&rest);
-                let rest = past(&rest, count);
-                Ok(Place { rest, outer })
-            }
-        }
+        let mut place = self;
+        place.pass(taken)?;
+        Ok(place)
     }
 }
 

@@ -1,27 +1,22 @@
 //! Repetitions of a single metavariable with no other way on: their iterations are consumed in one
 //! loop. This decides speed alone.
-ghost use Rattle.std.specs.Prelude.{◌≡◌, ◌≢◌, true, [], ◌∷◌, ◌++◌, Some, IfOk, IfSome};
+ghost use Rattle.std.specs.Prelude.{◌≡◌, ◌≢◌, true, Some, IfOk, IfSome};
 ghost use Rattle.tt.specs.Views.{forest};
 ghost use Rattle.tt_data.specs.Forest.{empty};
-ghost use Rattle.mbe_rules.specs.Trees.{before};
 ghost use Rattle.mbe_rules.specs.Ops.{items_of};
 ghost use Rattle.mbe_matcher.specs.Fragments.{taken};
 ghost use Rattle.mbe_matcher.specs.Places.{place_of};
-ghost use Rattle.mbe_matcher.specs.Readings as r;
-ghost use Rattle.mbe_matcher.specs.Rounds.{AreSingle, IsLone, IsShut, HasLone, WaitsAlone, Follows};
-ghost use Rattle.mbe_matcher.specs.Threads.{frames_in, frames_of, moves_of, waits};
-ghost use Rattle.mbe_matcher.specs.declared.matcher.Waiting.TheVariants.{Pending};
-ghost use Rattle.mbe_matcher.specs.declared.position.Consumed.TheVariants.{Fragment};
+ghost use Rattle.mbe_matcher.specs.Rounds.{AreSingle, IsLone, IsShut, HasLone};
+ghost use Rattle.mbe_matcher.specs.Threads.{frames_of, moves_of, state_of};
+ghost use Rattle.mbe_matcher.specs.Ways.{Follows};
 
 use crate::fragments::fragment_trees;
-use crate::matcher::Waiting;
-use crate::position::{Consumed, Place, after_first, before, parted, past};
+use crate::position::{Place, after_first, parted};
 use crate::thread::{Frame, Move, Round, Rung, Thread, extended_by_round, extended_by_rounds};
 use bumpalo::Bump;
 use fragment_grammar::FragmentGrammar;
 use mbe_rules::{MetaVarKind, Op, RepeatKind};
 use std::alloc::AllocError;
-use std::mem;
 use symbols::Symbol;
 use tt::{TokenTreesView, TtIter};
 
@@ -103,92 +98,23 @@ fn is_single<G: FragmentGrammar>(grammar: &G, kind: MetaVarKind, trees: &TtIter<
     }
 }
 
-// The trees at the head of a list that are an iteration each, the list from the last of them on,
-// and the list after it.
+// The trees at the head of a list that are an iteration each, and the list after them.
 #[inline(always)]
 fn singles<'a, G: FragmentGrammar>(
     grammar: &G,
     kind: MetaVarKind,
     trees: &TtIter<'a>,
-) -> Option<(TokenTreesView<'a>, TtIter<'a>, TtIter<'a>)>
-    ensures { IfSome result (λ r. AreSingle (G.answer grammar.now) kind trees.now (forest r.0) r.1 r.2) }
+) -> Option<(TokenTreesView<'a>, TtIter<'a>)>
+    ensures { IfSome result (λ r. AreSingle (G.answer grammar.now) kind trees.now (forest r.0) r.1) }
 {
     if !is_single(grammar, kind, trees) {
         return None;
     }
-    let mut last = trees.copied();
     let mut rest = after_first(trees);
     while is_single(grammar, kind, &rest) {
-        let behind = after_first(&rest);
-        last = rest;
-        rest = behind;
+        rest = after_first(&rest);
     }
-    Some((rest.passed_since(trees.remaining()), last, rest))
-}
-
-// A thread that goes on iteration by iteration: how many trees the last iteration takes, and the
-// trees after it.
-#[derive(Drop)]
-struct Going<'a> {
-    thread: Thread<'a>,
-    count: usize,
-    rest: TtIter<'a>,
-}
-
-impl<'a> Going<'a> {
-    ghost use Rattle.std.specs.Prelude.{List, OnOk};
-    ghost use Rattle.mbe_matcher.specs.Going.{Goes, IsFewer, left_in};
-    ghost use Rattle.mbe_matcher.specs.Threads.{Waits};
-    ghost use Rattle.mbe_matcher.specs.Units as u;
-
-    // Passes the next iterations that take a single tree each. `false` if there are none.
-    #[inline(always)]
-    fn pass_singles<G: FragmentGrammar>(
-        &mut self,
-        arena: &'a Bump,
-        grammar: &G,
-        name: &'a Symbol,
-        kind: MetaVarKind,
-        place: &mut Place<'a>,
-    ) -> Result<bool, AllocError>
-        ensures passed { (p : u.Place) (ws : List Waits) → Goes (G.answer grammar.now) name.now kind p ws self.old place.old →
-            OnOk result (Goes (G.answer grammar.now) name.now kind p ws self.new place.new) }
-        ensures fewer { IfOk result (λ some. IsFewer some (left_in self.new) (left_in self.old)) }
-    {
-        let Some((trees, last, rest)) = singles(grammar, kind, &self.rest) else {
-            return Ok(false);
-        };
-        self.thread.moves = extended_by_rounds(arena, self.thread.moves, name, kind, trees)?;
-        self.count = 1;
-        self.rest = rest;
-        place.rest = last;
-        Ok(true)
-    }
-
-    // Passes one iteration. `false` if there is none.
-    #[inline(always)]
-    fn pass_round<G: FragmentGrammar>(
-        &mut self,
-        arena: &'a Bump,
-        grammar: &G,
-        name: &'a Symbol,
-        kind: MetaVarKind,
-        place: &mut Place<'a>,
-    ) -> Result<bool, AllocError>
-        ensures passed { (p : u.Place) (ws : List Waits) → Goes (G.answer grammar.now) name.now kind p ws self.old place.old →
-            OnOk result (Goes (G.answer grammar.now) name.now kind p ws self.new place.new) }
-        ensures fewer { IfOk result (λ some. IsFewer some (left_in self.new) (left_in self.old)) }
-    {
-        let Some(count) = trees_of_round(grammar, kind, &self.rest) else {
-            return Ok(false);
-        };
-        let (trees, behind) = parted(&self.rest, count);
-        let made = Move::Fragment { name, kind, trees };
-        self.thread.moves = extended_by_round(arena, self.thread.moves, made)?;
-        place.rest = mem::replace(&mut self.rest, behind);
-        self.count = count;
-        Ok(true)
-    }
+    Some((rest.passed_since(trees.remaining()), rest))
 }
 
 impl<'a> Thread<'a> {
@@ -213,85 +139,74 @@ impl<'a> Thread<'a> {
         lone_variable(round)
     }
 
-    // The thread after one more iteration, which takes one fragment of `count` trees.
-    #[inline(always)]
-    fn another_round(
-        &self,
-        arena: &'a Bump,
-        name: &'a Symbol,
-        kind: MetaVarKind,
-        count: usize,
-        place: &Place<'a>,
-    ) -> Result<Thread<'a>, AllocError>
-        ensures items { IfOk result (λ t. t.items.now ≡ self.now.items.now) }
-        ensures frames { IfOk result (λ t. frames_in t.frames ≡ frames_in self.now.frames) }
-        ensures moves { IfOk result (λ t. moves_of t.moves ≡ moves_of self.now.moves
-            ++ (r.next_round ∷ r.fragment_move name.now kind (before count (r.trees_here (place_of place.now))) ∷ [])) }
-    {
-        let trees = before(&place.rest, count);
-        let made = Move::Fragment { name, kind, trees };
-        let moves = extended_by_round(arena, self.moves, made)?;
-        Ok(Thread {
-            items: self.items,
-            frames: self.frames,
-            moves,
-        })
-    }
+    ghost use Rattle.std.specs.Prelude.{List, OnOk};
+    ghost use Rattle.mbe_matcher.specs.Going.{Goes, IsFewer, left_in};
+    ghost use Rattle.mbe_matcher.specs.Readings as r;
 
-    // The thread after as many more iterations as are clearly the only way on, and how many trees
-    // the last one takes. `place` moves to where that one begins. This thread's last move takes
-    // `count` trees.
-    pub(crate) fn after_rounds<G: FragmentGrammar>(
-        &self,
+    // Passes the next iterations that take a single tree each. `false` if there are none.
+    #[inline(always)]
+    fn pass_singles<G: FragmentGrammar>(
+        &mut self,
         arena: &'a Bump,
         grammar: &G,
-        count: usize,
+        name: &'a Symbol,
+        kind: MetaVarKind,
         place: &mut Place<'a>,
-    ) -> Result<(Thread<'a>, usize), AllocError>
-        ensures { IfOk result (λ x. Follows (G.answer grammar.now) (place_of place.old) (waits (place_of place.old) (Pending self.now (Fragment count) ∷ []))
-            (place_of place.new) (waits (place_of place.new) (Pending x.0 (Fragment x.1) ∷ []))) }
+    ) -> Result<bool, AllocError>
+        ensures passed { (ms : List r.Move) (s : r.State) → Goes (G.answer grammar.now) name.now kind ms s self.old place.old →
+            OnOk result (Goes (G.answer grammar.now) name.now kind ms s self.new place.new) }
+        ensures fewer { IfOk result (λ some. IsFewer some (left_in place.new) (left_in place.old)) }
+    {
+        let Some((trees, rest)) = singles(grammar, kind, &place.rest) else {
+            return Ok(false);
+        };
+        self.moves = extended_by_rounds(arena, self.moves, name, kind, trees)?;
+        place.rest = rest;
+        Ok(true)
+    }
+
+    // Passes one iteration. `false` if there is none.
+    #[inline(always)]
+    fn pass_round<G: FragmentGrammar>(
+        &mut self,
+        arena: &'a Bump,
+        grammar: &G,
+        name: &'a Symbol,
+        kind: MetaVarKind,
+        place: &mut Place<'a>,
+    ) -> Result<bool, AllocError>
+        ensures passed { (ms : List r.Move) (s : r.State) → Goes (G.answer grammar.now) name.now kind ms s self.old place.old →
+            OnOk result (Goes (G.answer grammar.now) name.now kind ms s self.new place.new) }
+        ensures fewer { IfOk result (λ some. IsFewer some (left_in place.new) (left_in place.old)) }
+    {
+        let Some(count) = trees_of_round(grammar, kind, &place.rest) else {
+            return Ok(false);
+        };
+        let (trees, rest) = parted(&place.rest, count);
+        let made = Move::Fragment { name, kind, trees };
+        self.moves = extended_by_round(arena, self.moves, made)?;
+        place.rest = rest;
+        Ok(true)
+    }
+
+    // Goes on by as many iterations as are clearly the only way on.
+    pub(crate) fn pass_rounds<G: FragmentGrammar>(
+        &mut self,
+        arena: &'a Bump,
+        grammar: &G,
+        place: &mut Place<'a>,
+    ) -> Result<(), AllocError>
+        ensures { OnOk result (Follows (G.answer grammar.now) (moves_of self.old.moves) (state_of self.old (place_of place.old))
+            (moves_of self.new.moves) (state_of self.new (place_of place.new))) }
     {
         let Some((name, kind)) = self.lone_variable() else {
-            return Ok((*self, count));
-        };
-        let mut now = Going {
-            thread: *self,
-            count,
-            rest: past(&place.rest, count),
+            return Ok(());
         };
         let mut more = true;
         while more {
-            let some = now.pass_singles(arena, grammar, name, kind, place)?;
-            more = now.pass_round(arena, grammar, name, kind, place)? || some;
+            let some = self.pass_singles(arena, grammar, name, kind, place)?;
+            more = self.pass_round(arena, grammar, name, kind, place)? || some;
         }
-        Ok((now.thread, now.count))
-    }
-
-    // The only thread that waits after this one, if an iteration of a single metavariable has
-    // ended and no end is here. Not all threads that wait alone are found.
-    #[inline]
-    pub(crate) fn alone<G: FragmentGrammar>(
-        &self,
-        arena: &'a Bump,
-        grammar: &G,
-        place: &Place<'a>,
-    ) -> Result<Option<Waiting<'a>>, AllocError>
-        ensures { IfOk result (λ o. IfSome o (λ w. WaitsAlone (G.answer grammar.now) (place_of place.now) self.now w)) }
-    {
-        let Some((name, kind)) = self.lone_variable() else {
-            return Ok(None);
-        };
-        if place.is_end() || place.is_closing() {
-            return Ok(None);
-        }
-        let Some(count) = fragment_trees(grammar, kind, &place.rest) else {
-            return Ok(None);
-        };
-        if count == 0 {
-            return Ok(None);
-        }
-        let thread = self.another_round(arena, name, kind, count, place)?;
-        let taken = Consumed::Fragment(count);
-        Ok(Some(Waiting::Pending { thread, taken }))
+        Ok(())
     }
 }

@@ -30,13 +30,13 @@ pub type Choices<'a> = (Option<Choice<'a>>, Option<Choice<'a>>);
 
 // A metavariable of a matcher, and its fragment specifier.
 #[derive(Clone, Copy)]
-struct Variable<'a> {
-    name: &'a Symbol,
-    kind: MetaVarKind,
+pub(crate) struct Variable<'a> {
+    pub(crate) name: &'a Symbol,
+    pub(crate) kind: MetaVarKind,
 }
 
 // The separator, borrowed.
-fn borrowed<'a>(separator: &'a Option<Separator>) -> Option<&'a Separator>
+pub(crate) fn borrowed<'a>(separator: &'a Option<Separator>) -> Option<&'a Separator>
     ensures { between_of result ≡ option_map separator_of separator.now }
 {
     match separator {

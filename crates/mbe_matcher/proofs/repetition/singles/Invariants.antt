@@ -5,8 +5,8 @@ use Rattle.mbe_matcher.specs.Units as u
 use Rattle.std.proofs.Common.{[]}
 use Rattle.mbe_matcher.proofs.repetition.singles.Given as goal
 
-abbrev pub invariant-loop-last : goal.invariant-loop-last
-invariant-loop-last g l = (ts : Forest) × AreSingle (g.G.FragmentGrammar.answer l.grammar) l.kind l.trees ts l.last l.rest
+abbrev pub invariant-loop-kind : goal.invariant-loop-kind
+invariant-loop-kind g l = (ts : Forest) × AreSingle (g.G.FragmentGrammar.answer l.grammar) l.kind l.trees ts l.rest
 
-abbrev pub decreases-loop-last : goal.decreases-loop-last
-decreases-loop-last g l = u.left (u.place l.rest [])
+abbrev pub decreases-loop-kind : goal.decreases-loop-kind
+decreases-loop-kind g l = u.left (u.place l.rest [])

@@ -16,20 +16,38 @@ returns-in_ok-push-in-Ended-clause-all g c = λ pattern all sound h.
     (same-leads gr pattern p _ _ c.push.new.self.items s.seen s.seen [] [] c.in_ok-push-in-Ended.ensures.items refl refl
     (more-ended gr pattern p all s.waiting.items s.seen c.in-Ended.moves h))
 
-pub returns-in_ok-settle_next-in-Pending-clause-all : goal.returns-in_ok-settle_next-in-Pending-clause-all
-returns-in_ok-settle_next-in-Pending-clause-all g c = λ pattern all sound h.
+pub returns-in_ok-settle-in-Pending-clause-all : goal.returns-in_ok-settle-in-Pending-clause-all
+returns-in_ok-settle-in-Pending-clause-all g c = λ pattern all sound h.
     let gr = g.G.FragmentGrammar.answer c.args.grammar.now in
     let p = place_of c.args.place.now in
     let s = c.args.self.now in
     let t = c.in-Pending.thread in
     let more = all ++ map (prefixed (moves_of t.moves)) (settled_at gr (state_of t p)) in
-    subst (λ w. Leads gr pattern p (all ++ advanced_by (settled_at gr) (waiting_at p w)) c.settle_next.new.self.waiting.items c.settle_next.new.self.seen [])
+    subst (λ w. Leads gr pattern p (all ++ advanced_by (settled_at gr) (waiting_at p w)) c.settle.new.self.waiting.items c.settle.new.self.seen [])
     (sym c.in-Pending.is)
-    (subst (λ ts. Leads gr pattern p more c.settle_next.new.self.waiting.items c.settle_next.new.self.seen ts) c.in_ok-settle_next-in-Pending.ensures.done
-    (c.in_ok-settle_next-in-Pending.ensures.all pattern more
+    (subst (λ ts. Leads gr pattern p more c.settle.new.self.waiting.items c.settle.new.self.seen ts) c.in_ok-settle-in-Pending.ensures.done
+    (c.in_ok-settle-in-Pending.ensures.all pattern more
     (more-due gr pattern p all s.waiting.items s.seen t (subst (λ w. IsSoundAt pattern (waiting_at p w)) c.in-Pending.is sound) h)))
 
-pub settle_next-requires-clause-good : goal.settle_next-requires-clause-good
-settle_next-requires-clause-good g c =
+pub settle-requires-clause-good : goal.settle-requires-clause-good
+settle-requires-clause-good g c =
+    let sound = subst (λ w. IsSoundAt c.requires.sound.0 (waiting_at (place_of c.args.place.now) w)) c.in-Pending.is c.requires.sound.1 in
+    (room c.requires.sound.0, sound.0)
+
+pub returns-then-few-clause-all : goal.returns-then-few-clause-all
+returns-then-few-clause-all g c = λ pattern all sound h.
+    let gr = g.G.FragmentGrammar.answer c.args.grammar.now in
+    let p = place_of c.args.place.now in
+    let s = c.args.self.now in
+    let t = c.in-Pending.thread in
+    let more = all ++ map (prefixed (moves_of t.moves)) (settled_at gr (state_of t p)) in
+    subst (λ w. Leads gr pattern p (all ++ advanced_by (settled_at gr) (waiting_at p w)) c.settle_clear.new.self.waiting.items c.settle_clear.new.self.seen [])
+    (sym c.in-Pending.is)
+    (subst (λ ts. Leads gr pattern p more c.settle_clear.new.self.waiting.items c.settle_clear.new.self.seen ts) c.in_ok-settle_clear-in-Pending.ensures.done
+    (c.in_ok-settle_clear-in-Pending.ensures.all pattern more
+    (more-due gr pattern p all s.waiting.items s.seen t (subst (λ w. IsSoundAt pattern (waiting_at p w)) c.in-Pending.is sound) h)))
+
+pub settle_clear-requires-clause-good : goal.settle_clear-requires-clause-good
+settle_clear-requires-clause-good g c =
     let sound = subst (λ w. IsSoundAt c.requires.sound.0 (waiting_at (place_of c.args.place.now) w)) c.in-Pending.is c.requires.sound.1 in
     (room c.requires.sound.0, sound.0)
