@@ -11,6 +11,7 @@ pub mod World
 -- what the count of pieces and the laws rest on
 pub mod EqualTrees
 pub mod CallSteps
+pub mod Beginnings
 pub mod Changes
 pub mod OtherPlaces
 pub mod DefinitionTrees

@@ -2,10 +2,12 @@
 ghost use Rattle.std.specs.Prelude.{◌≡◌, Option};
 ghost use Rattle.expander_model.specs.Calls.{is_colons};
 ghost use Rattle.expander_model.specs.CallSteps.{bare_call, call_after, call_at, call_behind_colons, group_call};
-ghost use Rattle.tt_data.specs.Lent.{ident_lent};
+ghost use Rattle.expander_model.specs.Beginnings.{IsBeginning};
+ghost use Rattle.tt_data.specs.Forest.{leaf as leaf_tree};
+ghost use Rattle.tt_data.specs.Lent.{ident_lent, leaf_lent};
 
 use tt::TtIter;
-use tt_data::{DelimiterKind, Ident, IdentRef, Punct, Spacing};
+use tt_data::{DelimiterKind, Ident, IdentRef, LeafRef, Punct, Spacing};
 
 /// A call at the beginning of a list of trees.
 #[derive(Drop)]
@@ -16,6 +18,19 @@ pub struct Call<'a> {
     pub argument: TtIter<'a>,
     /// The trees after it.
     pub rest: TtIter<'a>,
+}
+
+/// What a list of trees begins with, as a search for calls sees it.
+#[derive(Drop)]
+pub enum Beginning<'a> {
+    /// A call.
+    Call(Call<'a>),
+    /// What would be a call but for the `::` before it.
+    BehindColons(Call<'a>),
+    /// A leaf that begins neither, and the trees after it.
+    Leaf(LeafRef<'a>, TtIter<'a>),
+    /// A group, or nothing.
+    Other,
 }
 
 // Whether two puncts are a `::`.
@@ -89,4 +104,33 @@ pub fn call_at<'a>(trees: &TtIter<'a>) -> Option<Call<'a>>
 {
     let (name, after_name) = trees.lent_ident()?;
     call_after(name, &after_name)
+}
+
+// What the trees begin with that have this leaf first, and these trees after it.
+#[inline(always)]
+fn beginning_with<'a>(trees: &TtIter<'a>, leaf: LeafRef<'a>, rest: TtIter<'a>) -> Beginning<'a>
+    requires { trees.now ≡ leaf_tree (leaf_lent leaf) rest }
+    ensures { IsBeginning trees.now result }
+{
+    if let LeafRef::Ident(name) = leaf {
+        return match call_after(name, &rest) {
+            Some(call) => Beginning::Call(call),
+            None => Beginning::Leaf(leaf, rest),
+        };
+    }
+    match call_behind_colons(trees) {
+        Some(call) => Beginning::BehindColons(call),
+        None => Beginning::Leaf(leaf, rest),
+    }
+}
+
+/// What the trees begin with.
+#[inline(always)]
+pub fn beginning_of<'a>(trees: &TtIter<'a>) -> Beginning<'a>
+    ensures { IsBeginning trees.now result }
+{
+    match trees.lent_leaf() {
+        Some((leaf, rest)) => beginning_with(trees, leaf, rest),
+        None => Beginning::Other,
+    }
 }

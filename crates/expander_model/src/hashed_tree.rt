@@ -4,7 +4,7 @@ ghost use Rattle.expander_model.specs.Definitions.{definition_of};
 ghost use Rattle.expander_model.specs.HashedTrees.{tree_hash};
 
 use crate::definition::definition_of;
-use std::hash::{Hash, Hasher};
+use std::hash::{FoldHasher, Hash, Hasher};
 use std::marker::Model;
 use tt::TopSubtree;
 
@@ -31,40 +31,12 @@ impl Model for HashedTree {
     ghost invariant = { λ t. (t.hash ≡ tree_hash t.tree) × (t.is_definition ≡ is_some (definition_of t.tree.inner)) };
 }
 
-// A hasher that takes little time for each write (FNV-1a).
-#[derive(Clone, Copy)]
-struct ByteHasher {
-    state: u64,
-}
-
-impl Hasher for ByteHasher {
-    ghost use Rattle.expander_model.specs.HashedTrees.{written};
-
-    ghost write = { written };
-
-    ghost finish = { λ h. h.state };
-
-    #[inline(always)]
-    fn finish(&self) -> u64 {
-        self.state
-    }
-
-    #[inline(always)]
-    fn write(&mut self, bytes: &[u8]) {
-        for byte in bytes {
-            self.state = (self.state ^ u64::from(*byte)).wrapping_mul(1_099_511_628_211);
-        }
-    }
-}
-
-// The hash of a tree.
+// The hash of a tree, by the fast hasher of the standard library.
 #[tactic(auto, unfolding(crate::specs::HashedTrees::hash_of))]
 fn hash_of(tree: &TopSubtree) -> u64
     ensures { result ≡ tree_hash tree.now }
 {
-    let mut state = ByteHasher {
-        state: 14_695_981_039_346_656_037,
-    };
+    let mut state = FoldHasher::default();
     tree.hash(&mut state);
     state.finish()
 }
