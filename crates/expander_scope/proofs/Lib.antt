@@ -1,6 +1,7 @@
 -- lemmas by subject; the worked examples
 pub mod MarkLemmas
 pub mod OutcomeLemmas
+pub mod SinkLemmas
 pub mod CallLemmas
 pub mod HandedLemmas
 mod DefinitionLemmas

@@ -8,13 +8,14 @@ use Rattle.expander_scope.specs.declared.expand.Expanding.{Expanding}
 use Rattle.expander_model.specs.declared.fault.FaultKind.{FaultKind}
 use Rattle.expander_model.specs.declared.fault.FaultKind.TheVariants.{CannotExpand, BrokenDefinition, RecursionLimit}
 use Rattle.expander_model.specs.Calls.{marked}
-use Rattle.expander_model.specs.Expansion.{World, Outcome, Deeper, followed_by, search_calls, expansion}
+use Rattle.expander_model.specs.Expansion.{World, Outcome, PlacedStep, Deeper, followed_by, search_calls, expansion}
 use Rattle.expander_model.specs.Held.{Numbered, numbered_world}
 use Rattle.expander_model.specs.World.{world}
 use Rattle.mbe.specs.Grammar.{Grammar}
 use Rattle.expander_scope.specs.ScopeTable.{scope_in}
 use Rattle.expander_scope.specs.declared.scope.Scope as table
-use Rattle.expander_scope.specs.Outcomes.{find_of, placed_of}
+use Rattle.expander_scope.specs.Outcomes.{find_of}
+use Rattle.expander_scope.specs.Sinks.{TakesMore}
 
 -- the result of a call of a valid definition with so many levels left, where `given` is what its
 -- first rule that fits transcribes; or the fault
@@ -51,15 +52,23 @@ abbrev pub trees_of : Result Top FaultKind → Result Forest FaultKind
 trees_of (Ok top) = Ok top.inner
 trees_of (Err kind) = Err kind
 
--- an expansion result is appended to the output
-pub record Adds (old new : Expanding) (o : Outcome Numbered) : Type 0 where
-  pub steps : map placed_of new.steps.items ≡ map placed_of old.steps.items ++ o.steps
-  pub faults : new.faults.items ≡ old.faults.items ++ o.faults
-  pub finds : map find_of new.finds.items ≡ map find_of old.finds.items ++ o.finds
+-- `Has` tells which events a sink has taken
+module _ {S : Type 0} (Has : S → List PlacedStep → Type 0) where
+  -- an expansion result is appended to the output
+  pub record Adds (old new : Expanding S) (o : Outcome Numbered) : Type 0 where
+    pub steps : TakesMore Has old.output new.output o.steps
+    pub faults : new.faults.items ≡ old.faults.items ++ o.faults
+    pub finds : map find_of new.finds.items ≡ map find_of old.finds.items ++ o.finds
 
--- the search goes on from `f` to the shorter list `g`, and adds what it gives for the trees passed
-pub record Turn (search : Forest → Outcome Numbered) (old new : Expanding) (f g : Forest) : Type 0 where
-  pub outcome : Outcome Numbered
-  pub is : search f ≡ followed_by outcome (search g)
-  pub adds : Adds old new outcome
-  pub less : size g < size f
+  -- the search goes on from `f` to the shorter list `g`, and adds what it gives for the trees passed
+  pub record Turn (search : Forest → Outcome Numbered) (old new : Expanding S) (f g : Forest) : Type 0 where
+    pub outcome : Outcome Numbered
+    pub is : search f ≡ followed_by outcome (search g)
+    pub adds : Adds old new outcome
+    pub less : size g < size f
+
+  -- a sink has taken an expansion result's events after all earlier ones; its faults and look-ups are these
+  pub record Expands (old : S) (new : Expanding S) (o : Outcome Numbered) : Type 0 where
+    pub steps : TakesMore Has old new.output o.steps
+    pub faults : new.faults.items ≡ o.faults
+    pub finds : map find_of new.finds.items ≡ o.finds

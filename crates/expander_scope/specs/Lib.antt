@@ -8,6 +8,7 @@ pub mod Outcomes
 pub mod Editions
 pub mod OffsetTables
 pub mod ScopeTable
+pub mod Sinks
 pub mod Expanding
 pub mod DefinitionIds
 pub mod Interning

@@ -15,13 +15,15 @@ ghost use Rattle.expander_scope.specs.ScopeTable.{AreRead, expanded_under};
 ghost use Rattle.tt_data.specs.declared.edition.Edition.{Edition};
 ghost use Rattle.tt_data.specs.declared.span.Span.{Span};
 ghost use Rattle.expander_scope.specs.Outcomes.{find_of, numbered_of_known, parts_for, parts_of};
-ghost use Rattle.expander_scope.specs.Expanding.{Adds, Turn, answer, makes_too_many, searched, searched_under, trees_of};
+ghost use Rattle.expander_scope.specs.Expanding.{Adds, Expands, Turn, answer, makes_too_many, searched, searched_under, trees_of};
 ghost use Rattle.expander_model.specs.World.{fit_of, made, world};
 
+use crate::event_sink::{EventSink, take_walk};
 use crate::macro_def::MacroDef;
-use crate::outcome::{Event, NameLookup, Outcome, push_own_step, push_own_walk};
+use crate::outcome::{Event, NameLookup, Outcome};
 use crate::scope::Scope;
-use expander_model::call::{Call, call_at, call_behind_colons};
+use bridge::parts::TokenEvent;
+use expander_model::call::{Beginning, Call, beginning_of, call_at, call_behind_colons};
 use expander_model::fault::FaultKind;
 use expander_model::tree_walk::TreeWalk;
 use mbe::{DeclarativeMacro, FragmentGrammar, MacroCallStyle};
@@ -61,11 +63,14 @@ impl<'a, G> Environment<'a, G> {
     }
 }
 
-/// The expansion so far: events, faults and look-ups, each in order.
+/// An expansion, so far or in all: its output, faults and look-ups, each in order.
 #[derive(Drop)]
-pub(crate) struct Expanding {
-    pub steps: Vec<Event>,
+pub struct Expanding<S> {
+    /// What its events were handed to.
+    pub output: S,
+    /// Each fault, with the span of the name at which it is reported.
     pub faults: Vec<(FaultKind, Span)>,
+    /// The look-ups, in order.
     pub finds: Vec<NameLookup>,
 }
 
@@ -102,19 +107,19 @@ fn push_told(
 }
 
 // Emits the trees before `behind` as they are, and goes on with `behind`.
-fn keep<'a>(
+fn keep<'a, S: EventSink>(
     alloc: Global,
     outer: Option<Span>,
-    out: &mut Expanding,
+    out: &mut Expanding<S>,
     trees: &mut TtIter<'a>,
     behind: TtIter<'a>,
 ) -> Result<(), AllocError>
     requires { (passed : Forest) × (trees.old ≡ joined passed behind) }
     ensures rest { OnOk result (trees.new ≡ behind.entry) }
-    ensures adds { (passed : Forest) → trees.old ≡ joined passed behind.entry → OnOk result (Adds out.old out.new (just outer (walk passed))) }
+    ensures adds { (passed : Forest) → trees.old ≡ joined passed behind.entry → OnOk result (Adds S.has_taken out.old out.new (just outer (walk passed))) }
 {
     let kept = behind.passed_since(trees.remaining()).iter();
-    push_own_walk(alloc, &mut out.steps, &kept, outer)?;
+    take_walk(alloc, &mut out.output, &kept, outer)?;
     *trees = behind;
     Ok(())
 }
@@ -182,16 +187,16 @@ fn answer<G: FragmentGrammar>(
 // A call with a fault is emitted as it is. If the name resolves to nothing, only the tokens before
 // the group are passed, so the search goes on inside the group.
 #[cycle(searching)]
-fn expand_call<'a, G: FragmentGrammar>(
+fn expand_call<'a, G: FragmentGrammar, S: EventSink>(
     env: &Environment<'_, G>,
     outer: Option<Span>,
-    out: &mut Expanding,
+    out: &mut Expanding<S>,
     trees: &mut TtIter<'a>,
     call: Call<'a>,
 ) -> Result<(), TtFault>
     requires call { call_at trees.old ≡ Some call }
     requires read { AreRead env.now.scope.now }
-    ensures turn { OnOk result (Turn (searched_under (G.answer env.now.grammar.now) env.now.scope.now env.now.depth outer)
+    ensures turn { OnOk result (Turn S.has_taken (searched_under (G.answer env.now.grammar.now) env.now.scope.now env.now.depth outer)
         out.old out.new trees.old trees.new) }
     ensures tokens { result ≡ Err TtFault.Tokens →
         (searched_under (G.answer env.now.grammar.now) env.now.scope.now env.now.depth outer trees.old).bursts ≡ true }
@@ -220,28 +225,35 @@ fn expand_call<'a, G: FragmentGrammar>(
 // Searches trees for calls, those in groups included, and expands them. Each event gets `outer`,
 // the span of the name of the outermost call that it comes from, if any.
 #[cycle(searching)]
-fn search<G: FragmentGrammar>(
+fn search<G: FragmentGrammar, S: EventSink>(
     env: &Environment<'_, G>,
     outer: Option<Span>,
-    out: &mut Expanding,
+    out: &mut Expanding<S>,
     trees: &TtIter<'_>,
 ) -> Result<(), TtFault>
     requires { AreRead env.now.scope.now }
-    ensures adds { OnOk result (Adds out.old out.new
+    ensures adds { OnOk result (Adds S.has_taken out.old out.new
         (searched_under (G.answer env.now.grammar.now) env.now.scope.now env.now.depth outer trees.now)) }
     ensures tokens { result ≡ Err TtFault.Tokens →
         (searched_under (G.answer env.now.grammar.now) env.now.scope.now env.now.depth outer trees.now).bursts ≡ true }
 {
     let mut walk = TreeWalk::new(env.alloc, trees);
     'turns: loop {
-        if let Some(call) = call_at(&walk.here) {
-            expand_call(env, outer, out, &mut walk.here, call)?;
-        } else if let Some(call) = call_behind_colons(&walk.here) {
-            keep(env.alloc, outer, out, &mut walk.here, call.from_group)?;
-        } else if let Some(step) = walk.next()? {
-            push_own_step(&mut out.steps, &step, outer)?;
-        } else {
-            return Ok(());
+        match beginning_of(&walk.here) {
+            Beginning::Call(call) => expand_call(env, outer, out, &mut walk.here, call)?,
+            Beginning::BehindColons(call) => {
+                keep(env.alloc, outer, out, &mut walk.here, call.from_group)?;
+            }
+            Beginning::Leaf(leaf, rest) => {
+                walk.here = rest;
+                out.output.take(&TokenEvent::Leaf(leaf), outer)?;
+            }
+            Beginning::Other => {
+                let Some(step) = walk.next()? else {
+                    return Ok(());
+                };
+                out.output.take(&step, outer)?;
+            }
         }
     }
 }
@@ -277,12 +289,38 @@ fn unchanged(alloc: Global) -> Outcome
     }
 }
 
-/// Expands a tree in an environment. A call that fails stays, and its fault is in the result.
+/// Expands a tree in an environment, and hands its events to a sink. A call that fails stays, and
+/// its fault is in the result.
 ///
 /// # Errors
 ///
 /// `Memory`. `Tokens`, only if a rule that is tried for a call puts out more than `u32::MAX`
 /// tokens.
+pub fn expand_into<G: FragmentGrammar, S: EventSink>(
+    env: &Environment<'_, G>,
+    tree: &TopSubtree,
+    sink: S,
+) -> Result<Expanding<S>, TtFault>
+    requires { AreRead env.now.scope.now }
+    ensures expands { IfOk result (λ given. Expands S.has_taken sink given
+        (expanded_under (G.answer env.now.grammar.now) env.now.scope.now env.now.depth tree.now.inner)) }
+    ensures tokens { result ≡ Err TtFault.Tokens →
+        (expanded_under (G.answer env.now.grammar.now) env.now.scope.now env.now.depth tree.now.inner).bursts ≡ true }
+{
+    let mut out = Expanding {
+        output: sink,
+        faults: Vec::new(env.alloc),
+        finds: Vec::new(env.alloc),
+    };
+    search(env, None, &mut out, &tree.iter())?;
+    Ok(out)
+}
+
+/// Expands a tree in an environment into a list of events, as `expand_into` does.
+///
+/// # Errors
+///
+/// As `expand_into`.
 pub fn expand_piece<G: FragmentGrammar>(
     env: &Environment<'_, G>,
     tree: &TopSubtree,
@@ -299,20 +337,14 @@ pub fn expand_piece<G: FragmentGrammar>(
         return Ok(unchanged(alloc));
     }
     let room = tree.token_trees().len().next_power_of_two();
-    let steps = Vec::with_capacity(alloc, room)?;
-    let mut out = Expanding {
-        steps,
-        faults: Vec::new(alloc),
-        finds: Vec::new(alloc),
-    };
-    search(env, None, &mut out, &tree.iter())?;
+    let steps: Vec<Event> = Vec::with_capacity(alloc, room)?;
     let Expanding {
-        steps,
+        output,
         faults,
         finds,
-    } = out;
+    } = expand_into(env, tree, steps)?;
     Ok(Outcome {
-        steps: Some(steps),
+        steps: Some(output),
         faults,
         finds,
     })

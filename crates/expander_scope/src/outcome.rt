@@ -1,17 +1,12 @@
 //! The result of an expansion, with piece-relative spans: events, faults and look-ups.
-ghost use Rattle.std.specs.Prelude.{◌≡◌, ◌∷◌, [], ◌++◌, OnOk, map};
+ghost use Rattle.std.specs.Prelude.{◌≡◌};
 ghost use Rattle.bridge.specs.TokenEvents.{step_of};
-ghost use Rattle.tt_data.specs.Walk.{walk};
-ghost use Rattle.expander_model.specs.Expansion.{placed};
-ghost use Rattle.expander_scope.specs.Outcomes.{kind_of, placed_of};
+ghost use Rattle.expander_scope.specs.Outcomes.{kind_of};
 
 use crate::macro_def::MacroDef;
 use bridge::parts::TokenEvent;
 use expander_model::fault::FaultKind;
-use expander_model::tree_walk::TreeWalk;
-use std::alloc::{AllocError, Global};
 use std::rc::Rc;
-use tt::TtIter;
 use tt_data::{DelimiterKind, Leaf, Span, Symbol};
 
 /// An event of a walk: a leaf, or an opening or closing of a group, which may be invisible.
@@ -59,8 +54,8 @@ pub struct Outcome {
     pub finds: Vec<NameLookup>,
 }
 
-// An owned copy of an event. It shares the text, takes no memory and is never refused.
-fn kept_step(step: &TokenEvent<'_>) -> EventKind
+/// An owned copy of an event. It shares the text, takes no memory and is never refused.
+pub(crate) fn kept_step(step: &TokenEvent<'_>) -> EventKind
     ensures { kind_of result ≡ step_of step.now }
 {
     match step {
@@ -79,34 +74,4 @@ pub fn lent(kind: &EventKind) -> TokenEvent<'_>
         EventKind::Opens(kind, span) => TokenEvent::Opens(*kind, *span),
         EventKind::Closes(kind, span) => TokenEvent::Closes(*kind, *span),
     }
-}
-
-/// Adds one event. `outer` is the span of the name of the outermost call that it comes from, if
-/// any.
-pub(crate) fn push_own_step(
-    steps: &mut Vec<Event>,
-    step: &TokenEvent<'_>,
-    outer: Option<Span>,
-) -> Result<(), AllocError>
-    ensures { OnOk result (map placed_of steps.new.items ≡ map placed_of steps.old.items ++ placed outer (step_of step.now ∷ [])) }
-{
-    let kind = kept_step(step);
-    steps.push(Event { kind, outer })?;
-    Ok(())
-}
-
-/// Adds all events of these trees, each with this `outer`.
-pub(crate) fn push_own_walk(
-    alloc: Global,
-    steps: &mut Vec<Event>,
-    trees: &TtIter<'_>,
-    outer: Option<Span>,
-) -> Result<(), AllocError>
-    ensures { OnOk result (map placed_of steps.new.items ≡ map placed_of steps.old.items ++ placed outer (walk trees.now)) }
-{
-    let mut rest = TreeWalk::new(alloc, trees);
-    while let Some(step) = rest.next()? {
-        push_own_step(steps, &step, outer)?;
-    }
-    Ok(())
 }

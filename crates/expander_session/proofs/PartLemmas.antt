@@ -17,8 +17,8 @@ use Rattle.bridge.specs.Spelling.{spelling}
 use Rattle.expander_model.specs.Changes.{placed_with}
 use Rattle.expander_model.specs.Expansion.{PlacedStep}
 use Rattle.expander_model.specs.Faults.{place, fault_at, is_definition_word, unspellable}
-use Rattle.expander_session.specs.CachedOutputs.{HasPrinted, PrintsOn, EmitsCached, PutsChunk}
-use Rattle.expander_scope.specs.Outcomes.{placed_of}
+use Rattle.expander_session.specs.CachedOutputs.{HasPrinted, EmitsCached, PutsChunk}
+use Rattle.expander_scope.specs.Sinks.{TakesMore}
 use Rattle.expander_session.specs.Emitting.{PutsOut, faults_at, numbers_left_out, told_from, word_places, words_told}
 use Rattle.expander_model.specs.Held.{moved_on}
 use Rattle.expander_session.specs.AbsoluteSpans.{base_at, resolved_by}
@@ -27,7 +27,6 @@ use Rattle.expander_model.specs.Printing.{left_out, spelling_before, steps_of, v
 use Rattle.expander_model.specs.declared.fault.FaultKind.TheVariants.{NestedDefinition}
 use Rattle.expander_session.specs.declared.cached_output.OwnPrint.{OwnPrint}
 use Rattle.expander_session.specs.declared.cached_output.CachedText.{CachedText}
-use Rattle.expander_scope.specs.declared.outcome.Event.{Event}
 use Rattle.expander_session.specs.declared.emitter.Emitter.{Emitter}
 use Rattle.expander_session.specs.declared.emitter.Told.{Told}
 use Rattle.expander_scope.specs.declared.offsets.Offsets.{Offsets}
@@ -46,41 +45,20 @@ mapped_more F xs i d old before after inside pushed h =
 pub mapped_done : {X Y : Type 0} (F : X → Y) (xs : List X) (i : ℕ) (now whole : List Y) → length xs ≤ i → now ++ map F (drop i xs) ≡ whole → now ≡ whole
 mapped_done F xs i now whole past h = sym (append-nil now) ∙ sym (ap (λ l. now ++ l) (at_drop_all (map F) xs i past)) ∙ h
 
+-- no value is both
+not_both : (b : Bool) {A : Type 0} → b ≡ false → b ≡ true → A
+not_both false p q = cc
+not_both true p q = cc
+
 -- one step is printed
-pub prints_step : (old new : OwnPrint) (s : PlacedStep)
+pub prints_step : (old new : OwnPrint) (s : PlacedStep) → new.is_empty ≡ false
     → ((steps : List Step) → HasPut old.printer steps → HasPut new.printer (steps ++ s.step ∷ []))
-    → new.words.items ≡ old.words.items ++ word_places (s ∷ []) → PrintsOn old new (s ∷ [])
-prints_step old new s puts words before has = record {
+    → new.words.items ≡ old.words.items ++ word_places (s ∷ []) → TakesMore HasPrinted old new (s ∷ [])
+prints_step old new s some puts words before has = record {
   printer = subst (HasPut new.printer) (sym (map-append (λ (s : PlacedStep). s.step) before (s ∷ []))) (puts (steps_of before) has.printer);
   words = words ∙ ap (λ l. l ++ word_places (s ∷ [])) has.words ∙ sym (word_places-append before (s ∷ []));
+  none = λ e. not_both new.is_empty some e;
 }
-
--- what was printed, and what is left of the whole
-pub record StillPrints (own : OwnPrint) (whole left : List PlacedStep) : Type 0 where
-  pub done : List PlacedStep
-  pub has : HasPrinted own done
-  pub is : done ++ left ≡ whole
-
-pub still_prints : (old new : OwnPrint) (whole xs left later : List PlacedStep) → StillPrints old whole left → left ≡ xs ++ later → PrintsOn old new xs
-    → StillPrints new whole later
-still_prints old new whole xs left later still is prints = record {
-  done = still.done ++ xs;
-  has = prints still.done still.has;
-  is = append_assoc still.done xs later ∙ ap (λ l. still.done ++ l) (sym is) ∙ still.is;
-}
-
-pub all_printed : (own : OwnPrint) (whole left : List PlacedStep) → StillPrints own whole left → left ≡ [] → HasPrinted own whole
-all_printed own whole left still none =
-    subst (HasPrinted own) (sym (append-nil still.done) ∙ ap (λ l. still.done ++ l) (sym none) ∙ still.is) still.has
-
--- steps that are kept, one by one
-pub kept_left : (own : List Event) (i : ℕ) (s : Event) → i < length own → s ≡ get_or own i s
-    → map placed_of (drop i own) ≡ (placed_of s ∷ []) ++ map placed_of (drop (i + 1) own)
-kept_left own i s inside is =
-    ap (map placed_of) (drop_more own i s inside) ∙ ap (λ (x : Event). placed_of x ∷ map placed_of (drop (i + 1) own)) (sym is)
-
-pub kept_done : (own : List Event) (i : ℕ) → length own ≤ i → map placed_of (drop i own) ≡ []
-kept_done own i past = at_drop_all (map placed_of) own i past
 
 -- ---- the same steps at other places
 

@@ -1,12 +1,13 @@
 -- What a piece prints as a chunk, and how that is emitted.
-use Rattle.std.specs.Prelude.{◌≡◌, ℕ, List, ◌++◌, Bool, true, false, map, option_map}
+use Rattle.std.specs.Prelude.{◌≡◌, ℕ, List, [], Bool, true, false, map, option_map}
 use Rattle.bridge.specs.PrintedChunks.{IsChunkOf, ChunkState}
 use Rattle.bridge.specs.Printers.{HasPut}
 use Rattle.tt_data.specs.Forest.{Forest}
 use Rattle.tt_data.specs.declared.span.Span.{Span}
 use Rattle.expander_model.specs.Changes.{placed_with}
 use Rattle.expander_model.specs.Expansion.{PlacedStep}
-use Rattle.expander_scope.specs.Outcomes.{Parts, steps_for}
+use Rattle.expander_scope.specs.Outcomes.{Parts, find_of, steps_for}
+use Rattle.expander_scope.specs.declared.expand.Expanding.{Expanding}
 use Rattle.expander_session.specs.Emitting.{PutsOut, word_places}
 use Rattle.expander_session.specs.AbsoluteSpans.{resolved_steps}
 use Rattle.expander_session.specs.Memos.{finds_of, tree_of}
@@ -23,10 +24,7 @@ use Rattle.expander_scope.specs.declared.offsets.Offsets.{Offsets}
 pub record HasPrinted (own : OwnPrint) (steps : List PlacedStep) : Type 0 where
   pub printer : HasPut own.printer (steps_of steps)
   pub words : own.words.items ≡ word_places steps
-
--- these events were printed after all earlier ones
-abbrev pub PrintsOn : OwnPrint → OwnPrint → List PlacedStep → Type 0
-PrintsOn old new steps = (before : List PlacedStep) → HasPrinted old before → HasPrinted new (before ++ steps)
+  pub none : own.is_empty ≡ true → steps ≡ []
 
 -- it is what these events print, with the spans at which their definition keywords are reported
 pub record IsCachedText (part : CachedText) (steps : List PlacedStep) : Type 0 where
@@ -37,6 +35,12 @@ pub record IsCachedText (part : CachedText) (steps : List PlacedStep) : Type 0 w
 abbrev pub IsOutputOf : Forest → CachedOutput → List PlacedStep → Type 0
 IsOutputOf tree (held.Part p) steps = IsCachedText p steps
 IsOutputOf tree (held.Steps own) steps = steps_for tree (option_map (λ s. s.items) own) ≡ steps
+
+-- a tree's expansion has these parts of an expansion result, its output as it is cached
+pub record HasParts (tree : Forest) (given : Expanding CachedOutput) (parts : Parts) : Type 0 where
+  pub output : IsOutputOf tree given.output parts.steps
+  pub faults : given.faults.items ≡ parts.faults
+  pub finds : map find_of given.finds.items ≡ parts.finds
 
 -- the memo has these parts of an expansion result
 pub record Holds (q : Memo) (parts : Parts) : Type 0 where

@@ -14,7 +14,7 @@ ghost use Rattle.expander_model.specs.HashedTrees.{own_top, tree_hash};
 ghost use Rattle.expander_model.specs.Definitions.{definition_of};
 ghost use Rattle.expander_model.specs.Held.{IsMet, Met, kept_after, numbered_scope};
 ghost use Rattle.expander_model.specs.DefinitionTrees.{definition_trees};
-ghost use Rattle.expander_session.specs.CachedOutputs.{Holds};
+ghost use Rattle.expander_session.specs.CachedOutputs.{HasParts, Holds};
 ghost use Rattle.expander_session.specs.Layered.{layers};
 ghost use Rattle.expander_session.specs.MemoRefs.{plain_tops};
 ghost use Rattle.expander_model.specs.Meaning.{members_after};
@@ -40,7 +40,7 @@ ghost use Rattle.expander_model.specs.World.{world};
 
 use crate::absolute_spans::{emit_cached, emit_events, put_faults, tell_if_broken};
 use crate::cache::Cache;
-use crate::cached_output::{CachedOutput, output_to_cache};
+use crate::cached_output::{CachedOutput, nothing_printed, output_of};
 use crate::emitter::{Emitter, no_steps, reserve, takes_chunks};
 use crate::memo::{Memo, MemoIndex, find_in_text, find_valid};
 use crate::memo_ref::MemoRef;
@@ -50,7 +50,7 @@ use expander_model::hashed_tree::HashedTree;
 use expander_model::laws;
 use expander_reparse::piece::Piece;
 use expander_scope::definition_ids::{DefinitionIds, number};
-use expander_scope::expand::{Environment, expand_piece};
+use expander_scope::expand::{Environment, Expanding, expand_into, expand_piece};
 use expander_scope::interner::Interner;
 use expander_scope::macro_def::MacroDef;
 use expander_scope::outcome::Outcome;
@@ -59,6 +59,7 @@ use expander_scope::scope::Scope;
 use mbe::FragmentGrammar;
 use std::alloc::{AllocError, Global};
 use std::rc::Rc;
+use tt::TopSubtree;
 use tt_data::{Edition, TtFault};
 
 // A memo with a reference count, so that texts can share it. Out of memory is its only error.
@@ -87,6 +88,64 @@ pub(crate) struct EvaluationContext<'a, G> {
     pub memory: &'a Cache,
 }
 
+// Expands a tree and prints the events as they come. `None` if what was printed is no chunk.
+fn printed_output<G: FragmentGrammar>(
+    env: &Environment<'_, G>,
+    tree: &TopSubtree,
+) -> Result<Option<Expanding<CachedOutput>>, TtFault>
+    requires { AreRead env.now.scope.now }
+    ensures parts { IfOk result (λ o. IfSome o (λ given. HasParts tree.now.inner given (parts_of
+        (expanded_under (G.answer env.now.grammar.now) env.now.scope.now env.now.depth tree.now.inner)))) }
+    ensures tokens { result ≡ Err TtFault.Tokens →
+        (expanded_under (G.answer env.now.grammar.now) env.now.scope.now env.now.depth tree.now.inner).bursts ≡ true }
+{
+    let none = nothing_printed(env.alloc, tree)?;
+    let Expanding {
+        output,
+        faults,
+        finds,
+    } = expand_into(env, tree, none)?;
+    let Some(output) = output_of(env.alloc, output)? else {
+        return Ok(None);
+    };
+    Ok(Some(Expanding {
+        output,
+        faults,
+        finds,
+    }))
+}
+
+// Expands a tree. If `as_part` asks for it and the events print as a chunk, their text is its
+// output, else the events.
+fn output_to_cache<G: FragmentGrammar>(
+    env: &Environment<'_, G>,
+    tree: &TopSubtree,
+    as_part: bool,
+) -> Result<Expanding<CachedOutput>, TtFault>
+    requires { AreRead env.now.scope.now }
+    ensures parts { IfOk result (λ given. HasParts tree.now.inner given (parts_of
+        (expanded_under (G.answer env.now.grammar.now) env.now.scope.now env.now.depth tree.now.inner))) }
+    ensures tokens { result ≡ Err TtFault.Tokens →
+        (expanded_under (G.answer env.now.grammar.now) env.now.scope.now env.now.depth tree.now.inner).bursts ≡ true }
+{
+    if as_part && let Some(given) = printed_output(env, tree)? {
+        return Ok(given);
+    }
+    // Few trees print what is no chunk. Only they are expanded a second time, which gives the same
+    // faults and look-ups.
+    let Outcome {
+        steps,
+        faults,
+        finds,
+    } = expand_piece(env, tree)?;
+    let output = CachedOutput::Steps(steps);
+    Ok(Expanding {
+        output,
+        faults,
+        finds,
+    })
+}
+
 // Expands a tree into a memo. If `as_part` asks for it and the events print as a chunk, their text
 // is cached, else the events.
 fn expanded<G: FragmentGrammar>(
@@ -101,20 +160,18 @@ fn expanded<G: FragmentGrammar>(
     ensures tokens { result ≡ Err TtFault.Tokens →
         (expanded_under (G.answer env.now.grammar.now) env.now.scope.now env.now.depth tree.value.inner).bursts ≡ true }
 {
-    let alloc = env.alloc;
-    let Outcome {
-        steps,
+    let Expanding {
+        output,
         faults,
         finds,
-    } = expand_piece(env, tree.as_ref().tree())?;
-    let output = output_to_cache(alloc, tree.as_ref().tree(), steps, as_part)?;
+    } = output_to_cache(env, tree.as_ref().tree(), as_part)?;
     let plain = Memo {
         tree,
         output,
         faults,
         finds,
     };
-    shared(alloc, plain)
+    shared(env.alloc, plain)
 }
 
 // A memo of a tree that the cache has none for: a valid one of this text, if it is found, or else a
