@@ -3,3 +3,4 @@ mod KnownByteLemmas
 mod LineLemmas
 mod RunLemmas
 mod RunRows
+mod SpotLemmas

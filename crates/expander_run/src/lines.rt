@@ -1,13 +1,14 @@
 //! The lines in which a run reports its faults.
 ghost use Rattle.std.specs.Prelude.{◌≡◌, ◌++◌, ℕ, ◌≤◌, ◌<◌, ◌^◌, length, string_bytes, IfOk, OnOk};
 ghost use Rattle.expander_run.specs.Lines.{column_at, fault_lines, fault_words, line, line_at, line_of, read_fault_words, report, stop_line, stop_words};
-ghost use Rattle.expander_run.specs.Spots.{IsSpot, next_spot};
+ghost use Rattle.expander_run.specs.Spots.{IsSpot};
 
 use crate::stop::Stop;
 use bridge::ReadFaultKind;
 use expander_model::fault::{Fault, FaultKind};
 use expander_scope::refusal::Refusal;
 use expander_session::session::Reply;
+use memchr::memchr;
 use std::alloc::{AllocError, Global};
 
 /// A position in a text: its byte, from 0, and its line and byte column, from 1.
@@ -25,30 +26,31 @@ pub const FIRST: Spot = Spot {
     column: 1,
 };
 
-// The position after one more byte.
-fn next_spot(spot: Spot, byte: u8) -> Spot
-    requires at { spot.at < 2 ^ 32 }
-    requires line { spot.line ≤ 2 ^ 32 }
-    requires column { spot.column ≤ 2 ^ 32 }
-    ensures { result ≡ next_spot spot byte }
+// The position past the next line feed, or that of byte `to` if none comes before it.
+fn past_line(text: &[u8], from: Spot, to: usize) -> Spot
+    requires short { length text.now < 2 ^ 32 }
+    requires from { IsSpot text.now from }
+    requires before { from.at < to }
+    requires inside { to ≤ length text.now }
+    ensures spot { IsSpot text.now result }
+    ensures on { from.at < result.at }
+    ensures up_to { result.at ≤ to }
 {
-    let at = spot.at + 1;
-    if byte == b'\n' {
-        Spot {
-            at,
-            line: spot.line + 1,
+    match memchr(b'\n', &text[from.at..to]) {
+        Some(n) => Spot {
+            at: from.at + n + 1,
+            line: from.line + 1,
             column: 1,
-        }
-    } else {
-        Spot {
-            at,
-            line: spot.line,
-            column: spot.column + 1,
-        }
+        },
+        None => Spot {
+            at: to,
+            line: from.line,
+            column: from.column + (to - from.at),
+        },
     }
 }
 
-// The position of byte `to`, counted on from an earlier position.
+// The position of byte `to`, counted on line by line from an earlier position.
 fn walked(text: &[u8], from: Spot, to: usize) -> Spot
     requires short { length text.now < 2 ^ 32 }
     requires from { IsSpot text.now from }
@@ -59,7 +61,7 @@ fn walked(text: &[u8], from: Spot, to: usize) -> Spot
 {
     let mut spot = from;
     while spot.at < to {
-        spot = next_spot(spot, text[spot.at]);
+        spot = past_line(text, spot, to);
     }
     spot
 }

@@ -1,8 +1,0 @@
-use Rattle.std.proofs.Common.{rules}
-use Rattle.expander_run.proofs.lines.next_spot.Goals as goal
-
-pub returns-then-byte-eq10 : goal.returns-then-byte-eq10
-returns-then-byte-eq10 c = search rules
-
-pub returns-else-byte-eq10 : goal.returns-else-byte-eq10
-returns-else-byte-eq10 c = search rules
