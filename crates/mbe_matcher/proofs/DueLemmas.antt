@@ -21,8 +21,8 @@ use Rattle.mbe_matcher.specs.declared.step.Choice.{Choice}
 use Rattle.mbe_matcher.specs.declared.same_state.Seen.{Seen}
 use Rattle.mbe_matcher.specs.declared.matcher.SettleTask.{SettleTask}
 use Rattle.mbe_matcher.specs.declared.matcher.SettleTask.TheVariants.{GoOn, Note}
-use Rattle.mbe_matcher.specs.declared.matcher.Waiting as d
-use Rattle.mbe_matcher.specs.declared.matcher.Waiting.TheVariants.{Ended, Pending}
+use Rattle.mbe_matcher.specs.declared.step.Waiting as d
+use Rattle.mbe_matcher.specs.declared.step.Waiting.TheVariants.{Ended, Pending}
 use Rattle.mbe_matcher.specs.declared.position.Consumed.{Consumed}
 use Rattle.mbe_matcher.specs.declared.thread.Thread.{Thread}
 use Rattle.mbe_matcher.proofs.BlockedLemmas.{stuck-next}

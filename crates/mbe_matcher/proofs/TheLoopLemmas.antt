@@ -17,8 +17,8 @@ use Rattle.mbe_matcher.specs.Waiting.{ended, pending, prefixed, finished, settle
 use Rattle.mbe_matcher.specs.declared.position.Consumed.{Consumed}
 use Rattle.mbe_matcher.specs.declared.same_state.Seen.{Seen}
 use Rattle.mbe_matcher.specs.declared.matcher.SettleTask.TheVariants.{GoOn}
-use Rattle.mbe_matcher.specs.declared.matcher.Waiting as d
-use Rattle.mbe_matcher.specs.declared.matcher.Waiting.TheVariants.{Ended, Pending}
+use Rattle.mbe_matcher.specs.declared.step.Waiting as d
+use Rattle.mbe_matcher.specs.declared.step.Waiting.TheVariants.{Ended, Pending}
 use Rattle.mbe_matcher.specs.declared.thread.Thread.{Thread}
 use Rattle.mbe_matcher.proofs.MatchingLemmas.{outcome_at, outcome_later, begun-at}
 use Rattle.mbe_matcher.proofs.SoundLemmas.{Sound, AllFrom, AllTo, kept-at, advance-at, from-advanced-at, one_place-at, from-settled-at, over-at, sound-start}

@@ -18,7 +18,7 @@ use Rattle.mbe_matcher.specs.Threads.{Waits, between_of, contributes, extended, 
 use Rattle.mbe_matcher.specs.Units as u
 use Rattle.mbe_matcher.specs.Waiting.{ended, pending, prefixed, settled_at, empties_at, Good}
 use Rattle.mbe_matcher.specs.Ways.{HasNoMove, IsDead, IsOnlyOf, alone, first, second, IsOnly, LeadsAs, Follows, stays, leads, goes_on}
-use Rattle.mbe_matcher.specs.declared.matcher.Waiting.TheVariants.{Ended, Pending}
+use Rattle.mbe_matcher.specs.declared.step.Waiting.TheVariants.{Ended, Pending}
 use Rattle.mbe_matcher.specs.declared.position.Consumed.{Consumed}
 use Rattle.mbe_matcher.specs.declared.position.Consumed.TheVariants.{Unit as takes_unit}
 use Rattle.mbe_matcher.specs.declared.step.Choice.{Choice}

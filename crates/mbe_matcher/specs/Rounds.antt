@@ -13,7 +13,7 @@ use Rattle.mbe_matcher.specs.Readings.{Frame, State, in_group, in_round, parted,
 use Rattle.mbe_matcher.specs.Threads.{Waits, frame_of, moves_of, state_of, waiting_of}
 use Rattle.mbe_matcher.specs.Units as u
 use Rattle.mbe_matcher.specs.Waiting.{Good, prefixed, settled_at}
-use Rattle.mbe_matcher.specs.declared.matcher.Waiting as d
+use Rattle.mbe_matcher.specs.declared.step.Waiting as d
 use Rattle.mbe_matcher.specs.declared.thread.Frame.TheVariants.{InRound}
 use Rattle.mbe_matcher.specs.declared.thread.Round.{Round}
 use Rattle.mbe_matcher.specs.declared.thread.Thread.{Thread}

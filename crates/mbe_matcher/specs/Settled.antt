@@ -9,7 +9,7 @@ use Rattle.mbe_matcher.specs.Threads.{Waits, waits, contributes, made_of, is_som
 use Rattle.mbe_matcher.specs.Units as u
 use Rattle.mbe_matcher.specs.Waiting.{Waiting, ended, pending, settled_at, empties_at, Good, Each}
 use Rattle.mbe_matcher.specs.declared.step.Choice.{Choice}
-use Rattle.mbe_matcher.specs.declared.matcher.Waiting as d
+use Rattle.mbe_matcher.specs.declared.step.Waiting as d
 use Rattle.mbe_matcher.specs.declared.same_state.Seen.{Seen}
 use Rattle.mbe_matcher.specs.declared.matcher.SettleTask.{SettleTask}
 use Rattle.mbe_matcher.specs.declared.matcher.SettleTask.TheVariants.{GoOn, Note}

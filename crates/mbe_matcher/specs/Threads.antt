@@ -26,8 +26,8 @@ use Rattle.mbe_matcher.specs.declared.thread.Move.TheVariants.{Unit as unit, Fra
 use Rattle.mbe_matcher.specs.declared.thread.Round.{Round}
 use Rattle.mbe_matcher.specs.declared.thread.Thread.{Thread}
 use Rattle.mbe_matcher.specs.declared.step.Choice.{Choice}
-use Rattle.mbe_matcher.specs.declared.matcher.Waiting.{Waiting}
-use Rattle.mbe_matcher.specs.declared.matcher.Waiting.TheVariants.{Ended, Pending}
+use Rattle.mbe_matcher.specs.declared.step.Waiting.{Waiting}
+use Rattle.mbe_matcher.specs.declared.step.Waiting.TheVariants.{Ended, Pending}
 
 -- a separator, if there is one
 abbrev pub between_of : Option (Bor Separator) → Option i.Separator

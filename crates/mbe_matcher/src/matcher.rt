@@ -15,13 +15,13 @@ ghost use Rattle.mbe_matcher.specs.declared.matcher.SettleTask.{SettleTask};
 ghost use Rattle.mbe_matcher.specs.Waiting.{settled_at, advanced_by, empties_at, finished, Each};
 ghost use Rattle.mbe_matcher.specs.Threads.{Waits, moves_of, state_of, waits, waits_at, waiting_at, takings_of, head_taken, is_trees};
 ghost use Rattle.mbe_matcher.specs.declared.matcher.SettleTask.TheVariants.{GoOn};
-ghost use Rattle.mbe_matcher.specs.declared.matcher.Waiting.TheVariants.{Pending};
+ghost use Rattle.mbe_matcher.specs.declared.step.Waiting.TheVariants.{Pending};
 
 use crate::lookahead::is_stuck;
 use crate::position::{Consumed, Place};
 use crate::same_state::Seen;
 use crate::seen_states::SeenStates;
-use crate::step::Choice;
+use crate::step::{Choice, Waiting};
 use crate::thread::{Entry, Thread};
 use crate::way::{Alone, Way};
 use bumpalo::Bump;
@@ -30,13 +30,6 @@ use mbe_rules::Op;
 use std::alloc::{AllocError, Global};
 use std::mem;
 use tt::TokenTreesView;
-
-// A thread that waits for the others: at the end, or after a move that consumes something.
-#[derive(Clone, Copy, Drop)]
-pub(crate) enum Waiting<'a> {
-    Ended(Option<&'a Entry<'a>>),
-    Pending { thread: Thread<'a>, taken: Consumed },
-}
 
 // A task that is left at a position.
 #[derive(Clone, Copy, Drop)]

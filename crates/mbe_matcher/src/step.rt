@@ -11,7 +11,7 @@ ghost use Rattle.mbe_matcher.specs.declared.thread.Frame.TheVariants.{InGroup, I
 
 use crate::fragments::fragment_trees;
 use crate::position::{Consumed, Place, before};
-use crate::thread::{Frame, Move, Round, Rung, Thread, inside};
+use crate::thread::{Entry, Frame, Move, Round, Rung, Thread, inside};
 use bumpalo::Bump;
 use fragment_grammar::FragmentGrammar;
 use mbe_rules::{MetaVarKind, Op, RepeatKind, Separator};
@@ -23,6 +23,13 @@ use symbols::Symbol;
 pub struct Choice<'a> {
     pub thread: Thread<'a>,
     pub taken: Option<Consumed>,
+}
+
+/// A thread that waits for the others: at the end, or after a move that consumes something.
+#[derive(Clone, Copy, Drop)]
+pub(crate) enum Waiting<'a> {
+    Ended(Option<&'a Entry<'a>>),
+    Pending { thread: Thread<'a>, taken: Consumed },
 }
 
 /// The next moves of a thread: at most two.

@@ -15,9 +15,8 @@ ghost use Rattle.mbe_matcher.specs.declared.thread.Frame.TheVariants.{InRound, P
 
 use crate::fragments::fragment_trees;
 use crate::lookahead::{is_over, is_over_at};
-use crate::matcher::Waiting;
 use crate::position::{Consumed, Place, before};
-use crate::step::{Choice, Variable, borrowed};
+use crate::step::{Choice, Variable, Waiting, borrowed};
 use crate::thread::{Entry, Frame, Move, Round, Rung, Thread, inside};
 use bumpalo::Bump;
 use fragment_grammar::FragmentGrammar;

@@ -2,7 +2,7 @@ use Rattle.std.proofs.Common.{sym, subst, ◌∙◌, IfSome}
 use Rattle.mbe_matcher.specs.Places.{place_of}
 use Rattle.mbe_matcher.specs.Threads.{moves_of, state_of}
 use Rattle.mbe_matcher.specs.Ways.{IsOnly}
-use Rattle.mbe_matcher.specs.declared.matcher.Waiting.TheVariants.{Ended, Pending}
+use Rattle.mbe_matcher.specs.declared.step.Waiting.TheVariants.{Ended, Pending}
 use Rattle.mbe_matcher.proofs.WayLemmas.{leads-itself, leads-on, leads-alone, ended-alone, no-move-waits, only-waits, only-leads, only-falls}
 use Rattle.mbe_matcher.proofs.thread.Thread.way.Goals as goal
 
