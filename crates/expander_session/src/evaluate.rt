@@ -40,7 +40,7 @@ ghost use Rattle.expander_model.specs.World.{world};
 
 use crate::absolute_spans::{emit_cached, emit_events, put_faults, tell_if_broken};
 use crate::cache::Cache;
-use crate::cached_output::{CachedOutput, nothing_printed, output_of};
+use crate::cached_output::{CachedOutput, KeptPrint, kept_output_of, nothing_printed, output_of};
 use crate::emitter::{Emitter, no_steps, reserve, takes_chunks};
 use crate::memo::{Memo, MemoIndex, find_in_text, find_valid};
 use crate::memo_ref::MemoRef;
@@ -60,7 +60,7 @@ use mbe::FragmentGrammar;
 use std::alloc::{AllocError, Global};
 use std::rc::Rc;
 use tt::TopSubtree;
-use tt_data::{Edition, TtFault};
+use tt_data::{Edition, Leaf, TokenTree, TtFault};
 
 // A memo with a reference count, so that texts can share it. Out of memory is its only error.
 fn shared(alloc: Global, plain: Memo) -> Result<Rc<Memo>, TtFault>
@@ -115,6 +115,45 @@ fn printed_output<G: FragmentGrammar>(
     }))
 }
 
+// Whether a quote is among a tree's tokens. Without one the result prints as a chunk, but for quotes
+// of templates. It decides alone how much time and memory an expansion takes.
+fn has_quote(tree: &TopSubtree) -> bool {
+    for token in tree.token_trees().iter_flat_tokens() {
+        if let TokenTree::Leaf(Leaf::Punct(punct)) = token
+            && punct.char == '\''
+        {
+            return true;
+        }
+    }
+    false
+}
+
+// Expands a tree, prints the events as they come, and keeps them where what was printed is no chunk.
+fn kept_output<G: FragmentGrammar>(
+    env: &Environment<'_, G>,
+    tree: &TopSubtree,
+) -> Result<Expanding<CachedOutput>, TtFault>
+    requires { AreRead env.now.scope.now }
+    ensures parts { IfOk result (λ given. HasParts tree.now.inner given (parts_of
+        (expanded_under (G.answer env.now.grammar.now) env.now.scope.now env.now.depth tree.now.inner))) }
+    ensures tokens { result ≡ Err TtFault.Tokens →
+        (expanded_under (G.answer env.now.grammar.now) env.now.scope.now env.now.depth tree.now.inner).bursts ≡ true }
+{
+    let own = nothing_printed(env.alloc, tree)?;
+    let steps = Vec::new(env.alloc);
+    let Expanding {
+        output,
+        faults,
+        finds,
+    } = expand_into(env, tree, KeptPrint { own, steps })?;
+    let output = kept_output_of(env.alloc, output)?;
+    Ok(Expanding {
+        output,
+        faults,
+        finds,
+    })
+}
+
 // Expands a tree. If `as_part` asks for it and the events print as a chunk, their text is its
 // output, else the events.
 fn output_to_cache<G: FragmentGrammar>(
@@ -128,11 +167,14 @@ fn output_to_cache<G: FragmentGrammar>(
     ensures tokens { result ≡ Err TtFault.Tokens →
         (expanded_under (G.answer env.now.grammar.now) env.now.scope.now env.now.depth tree.now.inner).bursts ≡ true }
 {
+    if as_part && has_quote(tree) {
+        return kept_output(env, tree);
+    }
     if as_part && let Some(given) = printed_output(env, tree)? {
         return Ok(given);
     }
-    // Few trees print what is no chunk. Only they are expanded a second time, which gives the same
-    // faults and look-ups.
+    // Few trees without a quote print what is no chunk. Only they are expanded a second time, which
+    // gives the same faults and look-ups.
     let Outcome {
         steps,
         faults,
