@@ -45,9 +45,11 @@ use crate::emitter::{Emitter, no_steps, reserve, takes_chunks};
 use crate::memo::{Memo, MemoIndex, find_in_text, find_valid};
 use crate::memo_ref::MemoRef;
 use crate::recent_memos::RecentMemos;
+use bridge::parts::TokenEvent;
 use expander_model::fault::Fault;
 use expander_model::hashed_tree::HashedTree;
 use expander_model::laws;
+use expander_model::tree_walk::TreeWalk;
 use expander_reparse::piece::Piece;
 use expander_scope::definition_ids::{DefinitionIds, number};
 use expander_scope::expand::{Environment, Expanding, expand_into, expand_piece};
@@ -60,7 +62,7 @@ use mbe::FragmentGrammar;
 use std::alloc::{AllocError, Global};
 use std::rc::Rc;
 use tt::TopSubtree;
-use tt_data::{Edition, Leaf, TokenTree, TtFault};
+use tt_data::{Edition, LeafRef, TtFault};
 
 // A memo with a reference count, so that texts can share it. Out of memory is its only error.
 fn shared(alloc: Global, plain: Memo) -> Result<Rc<Memo>, TtFault>
@@ -115,17 +117,18 @@ fn printed_output<G: FragmentGrammar>(
     }))
 }
 
-// Whether a quote is among a tree's tokens. Without one the result prints as a chunk, but for quotes
-// of templates. It decides alone how much time and memory an expansion takes.
-fn has_quote(tree: &TopSubtree) -> bool {
-    for token in tree.token_trees().iter_flat_tokens() {
-        if let TokenTree::Leaf(Leaf::Punct(punct)) = token
-            && punct.char == '\''
-        {
-            return true;
+// Whether a tree has a quote and a `!` among its tokens. Without a call that takes a quote the result
+// prints as a chunk, but for quotes of templates. It decides alone how much time an expansion takes.
+fn may_part_quotes(alloc: Global, tree: &TopSubtree) -> Result<bool, AllocError> {
+    let (mut has_quote, mut has_bang) = (false, false);
+    let mut rest = TreeWalk::new(alloc, &tree.iter());
+    while let Some(step) = rest.next()? {
+        if let TokenEvent::Leaf(LeafRef::Punct(punct)) = step {
+            has_quote = has_quote || punct.char == '\'';
+            has_bang = has_bang || punct.char == '!';
         }
     }
-    false
+    Ok(has_quote && has_bang)
 }
 
 // Expands a tree, prints the events as they come, and keeps them where what was printed is no chunk.
@@ -167,14 +170,14 @@ fn output_to_cache<G: FragmentGrammar>(
     ensures tokens { result ≡ Err TtFault.Tokens →
         (expanded_under (G.answer env.now.grammar.now) env.now.scope.now env.now.depth tree.now.inner).bursts ≡ true }
 {
-    if as_part && has_quote(tree) {
+    if as_part && may_part_quotes(env.alloc, tree)? {
         return kept_output(env, tree);
     }
     if as_part && let Some(given) = printed_output(env, tree)? {
         return Ok(given);
     }
-    // Few trees without a quote print what is no chunk. Only they are expanded a second time, which
-    // gives the same faults and look-ups.
+    // Few other trees print what is no chunk. Only they are expanded a second time, which gives the
+    // same faults and look-ups.
     let Outcome {
         steps,
         faults,
