@@ -35,7 +35,7 @@ use tt_data::{Delimiter, Span, Symbol, SyntaxContext, TtFault};
 /// What a tree is expanded in: the grammar, the definitions before it, and how many levels of
 /// calls may be expanded.
 ///
-/// The caller of `expand_piece` makes one for each piece. The search makes another for each
+/// The caller of `expand_into` makes one for each piece. The search makes another for each
 /// result, with a level less.
 #[derive(Drop)]
 pub struct Environment<'a, G> {

@@ -117,8 +117,9 @@ fn printed_output<G: FragmentGrammar>(
     }))
 }
 
-// Whether a tree has a quote and a `!` among its tokens. Without a call that takes a quote the result
-// prints as a chunk, but for quotes of templates. It decides alone how much time an expansion takes.
+// Whether a tree has a quote and a `!` among its tokens: a call may take the quote apart from the
+// name behind it, and then it has no spelling. It decides only how much time an expansion takes, and
+// how often the grammar is asked.
 fn may_part_quotes(alloc: Global, tree: &TopSubtree) -> Result<bool, AllocError> {
     let (mut has_quote, mut has_bang) = (false, false);
     let mut rest = TreeWalk::new(alloc, &tree.iter());
