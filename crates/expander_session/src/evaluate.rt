@@ -118,8 +118,8 @@ fn printed_output<G: FragmentGrammar>(
 }
 
 // Whether a tree has a quote and a `!` among its tokens: a call may take the quote apart from the
-// name behind it, and then it has no spelling. It decides only how much time an expansion takes, and
-// how often the grammar is asked.
+// name behind it, and then it has no spelling. It decides only how much time an expansion takes,
+// and how often the grammar is asked.
 fn may_part_quotes(alloc: Global, tree: &TopSubtree) -> Result<bool, AllocError> {
     let (mut has_quote, mut has_bang) = (false, false);
     let mut rest = TreeWalk::new(alloc, &tree.iter());
@@ -132,7 +132,8 @@ fn may_part_quotes(alloc: Global, tree: &TopSubtree) -> Result<bool, AllocError>
     Ok(has_quote && has_bang)
 }
 
-// Expands a tree, prints the events as they come, and keeps them where what was printed is no chunk.
+// Expands a tree, prints the events as they come, and keeps them where what was printed is no
+// chunk.
 fn kept_output<G: FragmentGrammar>(
     env: &Environment<'_, G>,
     tree: &TopSubtree,
