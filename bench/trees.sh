@@ -4,7 +4,7 @@
 # each list, then over one list of 666,667 groups. Tells also the time of building, and the bytes of a
 # token.
 . "$(dirname "$(readlink -f "${BASH_SOURCE[0]}")")/common.sh"
-build trees bare_box symbols tt_data tt
+build trees bare_box symbols tt_data token_storage tt
 
 # The microseconds of a run in this mode; the least of three.
 run() {

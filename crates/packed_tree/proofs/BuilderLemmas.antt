@@ -9,13 +9,13 @@ use Rattle.tt.specs.declared.top_subtree.builder.Opening.{Opening}
 use Rattle.tt.specs.BuilderTokens.{AreHeads, AreMarks, IsHeld}
 use Rattle.tt.specs.Building.{Point, cut_in}
 use Rattle.tt.specs.BuilderTokens.{here_of, groups_of}
-use Rattle.tt.specs.Records.{head_at}
+use Rattle.token_storage.specs.Records.{head_at}
 use Rattle.tt.specs.Tops.{tree_of}
 use Rattle.tt_data.specs.Forest.{forest_of, head_of}
 use Rattle.tt_data.specs.declared.delimiter.Delimiter.{Delimiter}
-use Rattle.tt.specs.Marks.{IsMarkIn, mark_of}
+use Rattle.token_storage.specs.Marks.{IsMarkIn, mark_of}
 use Rattle.tt.proofs.HeldMarks.{marks_append, marks_begun, marks_closed, marks_opened}
-use Rattle.tt.proofs.MarkLemmas.{end_marked, head_there}
+use Rattle.token_storage.proofs.MarkLemmas.{end_marked, head_there}
 use Rattle.tt.proofs.Points.{Restored, restored}
 use Rattle.packed_tree.specs.Places.{ArePlaced, IsPlaceIn, mark_at, openings_of}
 use Rattle.packed_tree.specs.declared.packing.Place.{Place}

@@ -10,7 +10,7 @@ use Rattle.tt_data.specs.fault.TtFault.{TtFault}
 use Rattle.tt_data.specs.fault.TtFault.TheVariants as fault
 use Rattle.tt_data.specs.Flat.{forest_of-preorder, length-preorder}
 use Rattle.tt_data.specs.Forest.{forest_of, preorder, size}
-use Rattle.tt.specs.Records.{inside_of}
+use Rattle.token_storage.specs.Records.{inside_of}
 use Rattle.tt.specs.Tops.{Top, head_of, tokens_of, tree_of}
 use Rattle.packed_tree.specs.Records.{first_token, text_of}
 use Rattle.packed_tree.specs.Packing.{record_of, records, table_after, tokens_in, with_text, with_token}

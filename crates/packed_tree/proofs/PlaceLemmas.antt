@@ -9,7 +9,7 @@ use Rattle.tt_data.specs.declared.tree.TokenTree.{TokenTree}
 use Rattle.tt_data.specs.declared.tree.TokenTree.TheVariants as token
 use Rattle.tt_data.specs.declared.leaf.Leaf.TheVariants as as_leaf
 use Rattle.tt_data.specs.Forest.{IsPreorder, forest_of, front, size}
-use Rattle.tt.specs.Records.{head_at, inside_of}
+use Rattle.token_storage.specs.Records.{head_at, inside_of}
 use Rattle.tt.proofs.Groups.{Next, next}
 use Rattle.packed_tree.specs.Records.{first_size, text_of, token_bytes}
 use Rattle.packed_tree.specs.Packing.{number_in, number_of, record_of, records, table_after, tokens_in, with_token}

@@ -5,7 +5,7 @@ use Rattle.std.specs.Str.{IsCharBoundary}
 use Rattle.tt_data.specs.declared.leaf.Leaf.TheVariants as as_leaf
 use Rattle.tt_data.specs.declared.tree.TokenTree.{TokenTree}
 use Rattle.tt_data.specs.declared.tree.TokenTree.TheVariants as token
-use Rattle.tt.specs.Records.{inside_of}
+use Rattle.token_storage.specs.Records.{inside_of}
 use Rattle.tt.specs.Tops.{Top, tokens_of, tree_of}
 use Rattle.packed_tree.specs.Records.{first_token}
 use Rattle.packed_tree.specs.Packing.{records, table_after, tokens_in}

@@ -1,7 +1,7 @@
 -- What the functions inside promise each other: where the records of some first tokens end.
 use Rattle.std.specs.Prelude.{◌≡◌, ℕ, suc, ⊤, List, [], ◌∷◌, length, take, drop}
 use Rattle.tt_data.specs.declared.tree.TokenTree.{TokenTree}
-use Rattle.tt.specs.declared.storage.mark.Mark.{Mark}
+use Rattle.token_storage.specs.declared.mark.Mark.{Mark}
 use Rattle.tt.specs.declared.top_subtree.builder.Opening.{Opening}
 use Rattle.packed_tree.specs.Records.{Sort, of_group, of_ident, of_literal, first_byte, number, sort_of}
 use Rattle.packed_tree.specs.Packing.{records, table_after}

@@ -3,7 +3,7 @@ ghost use Rattle.std.specs.Prelude.{◌≡◌, ◌⊎◌, ◌<◌, ◌≤◌, �
 ghost use Rattle.tt_data.specs.Forest.{front, size, forest_of, IsPreorder};
 ghost use Rattle.tt_data.specs.declared.tree.TokenTree.{TokenTree};
 ghost use Rattle.tt_data.specs.declared.tree.TokenTree.TheVariants as token;
-ghost use Rattle.tt.specs.Records.{head_at, inside_of};
+ghost use Rattle.token_storage.specs.Records.{head_at, inside_of};
 ghost use Rattle.packed_tree.specs.Records.{text_of};
 ghost use Rattle.packed_tree.specs.Packing.{number_in, record_of, with_token};
 ghost use Rattle.packed_tree.specs.Packed.{ArePacked, IsPackedForm, IsToken};

@@ -10,7 +10,8 @@ use Rattle.tt_data.specs.Forest.{Forest, empty, leaf, group, joined, size, preor
 use Rattle.tt_data.specs.Flat.{length-preorder, forest_of-preorder, IsPreorder-preorder, take-preorder}
 use Rattle.tt_data.proofs.ForestLemmas.{joined_assoc, size-joined}
 use Rattle.tt.specs.Places.{Around, Place, beginning, first_token, bumped, ended, innermost_head}
-use Rattle.tt.specs.CursorTokens.{whole_in, start_in, Stands, Reaches, IsTreeOf, BeginsListOf, place_of, IsPlaced}
+use Rattle.tt.specs.CursorTokens.{whole_in, start_in, Stands, place_of, IsPlaced}
+use Rattle.token_storage.specs.Lists.{Reaches, IsTreeOf, BeginsListOf}
 use Rattle.tt.proofs.PlaceLemmas.{placed}
 use Rattle.tt.proofs.FrameLemmas.{list_in, pre_in, post_in, framed, length-pre_in, ahead, behind, fits, head_in}
 
@@ -243,26 +244,6 @@ is_head t s (Some r) e same = cc
 pub is_no_leaf : (t : TokenTree) (l : Leaf) (o : Option Subtree) → Some t ≡ option_map token.Subtree o → t ≡ token.Leaf l → ⊥
 is_no_leaf t l None e same = cc
 is_no_leaf t l (Some r) e same = cc
-
--- a search back that finds a group with the token inside is where the list begins
-pub stops : (tokens : List TokenTree) (head at start : ℕ) (t : TokenTree) → IsTreeOf tokens head start → 0 < at → at ≤ head → start ≤ at
-    → t ≡ slice_index_or tokens (at - 1) t → Reaches t at head → at ≡ start
-stops tokens head at start t tree some below near read r =
-    elim (cases_lt start at) [
-      | inl lt ↦ let n : at - 1 + 1 ≡ at = omega (arith, some) in
-          absurd (tree.passed (at - 1) t (omega (arith, lt)) (omega (arith, some, below)) (rw (← read, n) r))
-      | inr ge ↦ omega (arith, ge, near)
-    ]
-
--- and one that finds none is still in the list
-pub goes_on : (tokens : List TokenTree) (head at start : ℕ) (t : TokenTree) → IsTreeOf tokens head start → 0 < at → start ≤ at
-    → t ≡ slice_index_or tokens (at - 1) t → (Reaches t at head → ⊥) → start ≤ at - 1
-goes_on tokens head at start t tree some near read short =
-    elim (cases_lt start at) [
-      | inl lt ↦ omega (arith, lt)
-      | inr ge ↦ let same : start ≡ at = omega (arith, ge, near) in
-          absurd (short (rw (read, ← same) (tree.inside t (omega (arith, same, some)))))
-    ]
 
 -- what a list of tokens shows, once it is known to be that of some trees
 pub shows : (tokens : List TokenTree) (f : Forest) → tokens ≡ preorder f → IsPreorder tokens × (forest_of tokens ≡ f)

@@ -1,27 +1,17 @@
 -- What a cursor reads of its tokens.
-use Rattle.std.proofs.Common.{◌≡◌, ◌↔◌, ℕ, ◌+◌, ◌-◌, ◌<◌, Bool, IsTrue, false, List, [], ◌∷◌, ap, refl, sym, ◌∙◌, arith, Option, Some, None, IsSome, option_map, ◌≢◌, inl, inr}
-use Rattle.std.proofs.lemmas.Bool.{false≢true, cases_lt}
+use Rattle.std.proofs.Common.{◌≡◌, ℕ, ◌-◌, ◌<◌, List, [], ◌∷◌, ap, refl, sym, ◌∙◌, arith, Option, Some, None, IsSome, option_map, ◌≢◌, inl, inr}
+use Rattle.std.proofs.lemmas.Bool.{cases_lt}
 use Rattle.tt_data.specs.Forest.{Forest, empty, leaf, IsPreorder, forest_of}
 use Rattle.tt_data.specs.declared.leaf.Leaf.{Leaf}
 use Rattle.tt_data.specs.declared.tree.Subtree.{Subtree}
 use Rattle.tt_data.specs.declared.tree.TokenTree.{TokenTree}
 use Rattle.tt_data.specs.declared.tree.TokenTree.TheVariants as token
-use Rattle.tt.specs.CursorTokens.{Stands, Reaches, start_in}
+use Rattle.tt.specs.CursorTokens.{Stands, start_in}
 use Rattle.tt.specs.Places.{Around, Place, first_token, innermost_head, two_leaves}
-use Rattle.tt.specs.Records.{as_head, head_at, leaf_in}
-use Rattle.tt.proofs.RecordLemmas.{ReadAt, read_at}
+use Rattle.token_storage.specs.Records.{as_head, head_at, leaf_in}
+use Rattle.token_storage.proofs.ReadLemmas.{ReadAt, read_at}
 use Rattle.tt.proofs.CursorLemmas.{head_read, first_is, root_of}
 use Rattle.tt.proofs.FrameLemmas.{fits}
-
--- a token that is no head has nothing inside
-pub reach_none : (t : TokenTree) (start n : ℕ) → as_head t ≡ None → IsTrue false ↔ Reaches t start n
-reach_none (token.Leaf l) start n e = (λ no. absurd (false≢true no), λ r. absurd r)
-reach_none (token.Subtree s) start n e = cc
-
--- a head has what it counts
-pub reach_some : (t : TokenTree) (s : Subtree) (start n : ℕ) (b : Bool) → as_head t ≡ Some s → IsTrue b ↔ (n < start + s.len) → IsTrue b ↔ Reaches t start n
-reach_some (token.Leaf l) s start n b e test = cc
-reach_some (token.Subtree r) s start n b e test = let same : r ≡ s = cc in rw same test
 
 as_head-is : (t : TokenTree) (o : Option Subtree) → Some t ≡ option_map token.Subtree o → as_head t ≡ o
 as_head-is t None e = absurd cc

@@ -5,15 +5,15 @@ use Rattle.std.proofs.lemmas.List.{length-take, take_all}
 use Rattle.tt_data.specs.declared.tree.Subtree.{Subtree}
 use Rattle.tt_data.specs.declared.tree.TokenTree.{TokenTree}
 use Rattle.tt_data.specs.declared.tree.TokenTree.TheVariants as token
-use Rattle.tt.specs.declared.storage.mark.Mark.{Mark}
+use Rattle.token_storage.specs.declared.mark.Mark.{Mark}
 use Rattle.tt.specs.declared.top_subtree.builder.Opening.{Opening}
 use Rattle.tt.specs.BuilderTokens.{IsHeld, IsCut, AreHeads, AreMarks, begins_invisible, moved_back}
-use Rattle.tt.specs.Marks.{mark_of, IsMarkIn, IsHeadIn}
-use Rattle.tt.specs.Records.{alone_token}
-use Rattle.tt.proofs.MarkLemmas.{IsMarkIn-append, IsMarkIn-take, IsMarkIn-set_head, IsMarkIn-alone, IsMarkIn-before, IsHeadIn-mark, IsHeadIn-append, IsHeadIn-take, IsHeadIn-set_head, IsHeadIn-alone, IsHeadIn-before, IsHeadIn-behind, last_head, head_from, start_marked, end_marked}
+use Rattle.token_storage.specs.Marks.{mark_of, IsMarkIn, IsHeadIn}
+use Rattle.token_storage.specs.Records.{alone_token}
+use Rattle.token_storage.proofs.MarkLemmas.{IsMarkIn-append, IsMarkIn-take, IsMarkIn-set_head, IsMarkIn-alone, IsMarkIn-before, IsHeadIn-mark, IsHeadIn-append, IsHeadIn-take, IsHeadIn-set_head, IsHeadIn-alone, IsHeadIn-before, IsHeadIn-behind, last_head, head_from, start_marked, end_marked}
 use Rattle.tt.specs.Tops.{IsOneGroup}
 use Rattle.tt.proofs.Points.{kept_is}
-use Rattle.tt.proofs.RecordLemmas.{ReadAt}
+use Rattle.token_storage.proofs.ReadLemmas.{ReadAt}
 
 pub top_head : (tokens : List TokenTree) (os : List Opening) → AreHeads tokens os → IsHeadIn (mark_of []) tokens
 top_head tokens [] heads = heads

@@ -8,9 +8,10 @@ use Rattle.tt_data.specs.declared.tree.TokenTree.{TokenTree}
 use Rattle.tt_data.specs.declared.tree.TokenTree.TheVariants as token
 use Rattle.tt_data.specs.Forest.{Forest, empty, leaf, group}
 use Rattle.tt.specs.declared.buffer.ListAround.{ListAround}
-use Rattle.tt.specs.Marks.{IsMarkIn}
+use Rattle.token_storage.specs.Marks.{IsMarkIn}
 use Rattle.tt.specs.Places.{Around, Place, first_token}
-use Rattle.tt.specs.CursorTokens.{start_in, Stands, IsTreeOf, BeginsListOf, IsKept}
+use Rattle.tt.specs.CursorTokens.{start_in, Stands, IsKept}
+use Rattle.token_storage.specs.Lists.{IsTreeOf, BeginsListOf}
 use Rattle.tt.proofs.CursorLemmas.{is_tree}
 
 -- a group is in one list

@@ -11,7 +11,7 @@ use Rattle.tt_data.specs.declared.tree.TokenTree.TheVariants as token
 use Rattle.tt.specs.declared.top_subtree.builder.Opening.{Opening}
 use Rattle.tt.specs.Building.{last_alone}
 use Rattle.tt.specs.BuilderTokens.{start_of, here_of, groups_of, IsHeld, IsCut, IsTreeAt}
-use Rattle.tt.specs.Records.{alone_token}
+use Rattle.token_storage.specs.Records.{alone_token}
 use Rattle.tt.proofs.Points.{here_is}
 
 -- a list of tokens with the last not joined to what follows

@@ -3,12 +3,12 @@ use Rattle.std.proofs.Common.{◌≡◌, ◌↔◌, ◌⊎◌, ℕ, ◌+◌, ◌
 use Rattle.std.proofs.lemmas.List.{length-drop, drop-drop, take_rest}
 use Rattle.tt_data.specs.Forest.{Forest, IsPreorder, forest_of, size, front, back}
 use Rattle.tt_data.specs.declared.tree.TokenTree.{TokenTree}
-use Rattle.tt.specs.declared.storage.mark.Mark.{Mark}
+use Rattle.token_storage.specs.declared.mark.Mark.{Mark}
 use Rattle.tt.specs.declared.top_subtree.builder.Opening.{Opening}
 use Rattle.tt.specs.Building.{Point, Opened, count_in, cut_in}
 use Rattle.tt.specs.BuilderTokens.{start_of, here_of, groups_of, IsHeld, IsSettled, IsListAt, IsNoListAt}
-use Rattle.tt.specs.Marks.{IsMarkIn}
-use Rattle.tt.proofs.MarkLemmas.{IsMarkIn-take}
+use Rattle.token_storage.specs.Marks.{IsMarkIn}
+use Rattle.token_storage.proofs.MarkLemmas.{IsMarkIn-take}
 use Rattle.tt.proofs.Points.{Ends, ends, ends_there, here_is, here_whole, start_counts, start_fits, restored}
 use Rattle.tt.proofs.Settled.{Behind, behind, end_after, settled_in}
 

@@ -1,5 +1,5 @@
 -- What the first of some tokens says about their trees.
-use Rattle.std.proofs.Common.{◌≡◌, ℕ, zero, suc, ◌-◌, ◌<◌, List, [], ◌∷◌, ◌++◌, length, drop, ap, refl, sym, ◌∙◌, arith, true, Option, Some, None, option_map, slice_get, slice_index_or}
+use Rattle.std.proofs.Common.{◌≡◌, ◌-◌, List, [], ◌∷◌, ◌++◌, length, drop, ap, refl, sym, ◌∙◌, true, Option, Some, None, option_map, slice_get}
 use Rattle.std.proofs.lemmas.List.{append-nil}
 use Rattle.tt_data.specs.declared.leaf.Ident.{Ident}
 use Rattle.tt_data.specs.declared.leaf.Leaf.{Leaf}
@@ -15,22 +15,10 @@ use Rattle.tt_data.specs.Spans.{first_span_of}
 use Rattle.tt.specs.Elements.{last_span_of, last_place, first_place}
 use Rattle.tt.specs.FirstTrees.{first_subtree, first_leaf, first_ident, first_literal, first_punct}
 use Rattle.tt.specs.Groups.{group_in, is_one_group}
-use Rattle.tt.specs.Records.{as_head, head_at, head_in, leaf_in, punct_in, ident_in, literal_in}
+use Rattle.token_storage.specs.Records.{as_head, head_in, leaf_in, punct_in, ident_in, literal_in}
 use Rattle.tt.specs.Tops.{only_group}
 use Rattle.tt.proofs.GroupLemmas.{one_is}
 use Rattle.tt.proofs.Limits.{size-whole}
-
--- the token at a place, as it is read there
-pub record ReadAt (tokens : List TokenTree) (i : ℕ) (t : TokenTree) : Type 0 where
-  pub read : t ≡ slice_index_or tokens i t
-  pub head : head_at tokens i ≡ as_head t
-
-pub read_at : (tokens : List TokenTree) (i : ℕ) → i < length tokens → (t : TokenTree) × ReadAt tokens i t
-read_at [] i lt = absurd (omega (arith, lt))
-read_at (x ∷ xs) zero lt = (x, record { read = refl; head = refl })
-read_at (x ∷ xs) (suc i) lt =
-    let r : (t : TokenTree) × ReadAt xs i t = read_at xs i (omega (arith, lt)) in
-    (r.0, record { read = r.1.read; head = r.1.head })
 
 pub head_is : (t : TokenTree) (s : Subtree) → Some s ≡ as_head t → t ≡ token.Subtree s
 head_is (token.Leaf l) s e = cc

@@ -1,9 +1,8 @@
 -- Anchors that are found, asked about and replaced, one after another.
---     changed_up_to      a list of which so many elements are changed
 --     among_, fresh      which anchors are in a list
 --     Tells              what a table has after an anchor is found, or an answer is stored
 --     follows_rule       entries that a rule gives
-use Rattle.std.proofs.Common.{◌≡◌, ℕ, zero, suc, ◌<◌, ◌++◌, List, [], ◌∷◌, map, refl, ap, sym, ◌∙◌, subst, length, set, take, drop, get_or, arith, Bool, true, false, cond, Some, None, ◌||◌, nat_eq, if◌then◌else◌, ⊎_elim}
+use Rattle.std.proofs.Common.{◌≡◌, ℕ, ◌++◌, List, [], ◌∷◌, map, refl, ap, sym, ◌∙◌, subst, arith, Bool, true, false, cond, Some, None, ◌||◌, nat_eq, if◌then◌else◌, ⊎_elim}
 use Rattle.std.proofs.lemmas.Bool.{cases_eq, cases_Bool, eq-eqb, ne_eqb, eqb-true, eqb-false, or_parts, or_left, or_right, or_cases}
 use Rattle.std.proofs.lemmas.Map.Keys.{IsDistinct-head, IsDistinct-push, IsDistinct-tail}
 use Rattle.std.specs.Cmp.{nat_eq_equiv}
@@ -15,40 +14,16 @@ use Rattle.tt_data.specs.declared.tree.TokenTree.{TokenTree}
 use Rattle.tt_data.specs.declared.tree.TokenTree.TheVariants as token
 use Rattle.tt_data.specs.declared.leaf.Leaf.TheVariants as as_leaf
 use Rattle.tt_data.specs.Forest.{Forest, empty, leaf, group, map_spans, preorder}
-use Rattle.tt_data.specs.Spans.{delimiter_with, leaf_with, token_with, span_of}
+use Rattle.tt_data.specs.Spans.{delimiter_with, leaf_with, token_with, span_of, anchor_with}
 use Rattle.tt_data.specs.declared.span.Span.{Span}
 use Rattle.tt_data.specs.declared.leaf.Leaf.{Leaf}
 use Rattle.tt_data.specs.declared.delimiter.Delimiter.{Delimiter}
 use Rattle.tt_data.proofs.ForestLemmas.{forest_of-token_with, map-append, map_spans-map_spans, map_spans-same, preorder-map_spans}
-use Rattle.tt.specs.Anchors.{Tells, answer_in}
-use Rattle.tt.specs.Relabelling.{Answers, AnswersBy, anchor_with, anchors_in, anchors_of, anchors_of_brackets, asked_about, by_first_use, met_after, relabelled, renamed, with_anchor}
+use Rattle.tt.specs.Anchors.{Tells}
+use Rattle.token_storage.specs.Anchors.{answer_in}
+use Rattle.tt.specs.Relabelling.{Answers, AnswersBy, anchors_in, anchors_of, anchors_of_brackets, asked_about, by_first_use, met_after, relabelled, renamed, with_anchor}
 use Rattle.tt.specs.Tops.{Top, IsOneGroup, forest_of_top, tokens_of, tree_of}
 use Rattle.tt.proofs.Separators.{answers_next}
-
--- a list of which so many elements are changed
-abbrev pub changed_up_to : {A : Type 0} → (A → A) → ℕ → List A → List A
-changed_up_to f zero xs = xs
-changed_up_to f (suc n) [] = []
-changed_up_to f (suc n) (x ∷ xs) = f x ∷ changed_up_to f n xs
-
-pub changed_all : {A : Type 0} (f : A → A) (n : ℕ) (xs : List A) → n ≡ length xs → changed_up_to f n xs ≡ map f xs
-changed_all f zero [] e = refl
-changed_all f (suc n) [] e = refl
-changed_all f zero (x ∷ xs) e = absurd (omega (arith, e))
-changed_all f (suc n) (x ∷ xs) e = ap (λ more. f x ∷ more) (changed_all f n xs (omega (arith, e)))
-
-pub changed_next : {A : Type 0} (f : A → A) (n : ℕ) (xs : List A) (d : A) → n < length xs
-    → set (changed_up_to f n xs) n (f (get_or (changed_up_to f n xs) n d)) ≡ changed_up_to f (suc n) xs
-changed_next f zero [] d h = absurd (omega (arith, h))
-changed_next f zero (x ∷ xs) d h = refl
-changed_next f (suc n) [] d h = absurd (omega (arith, h))
-changed_next f (suc n) (x ∷ xs) d h = ap (λ more. f x ∷ more) (changed_next f n xs d (omega (arith, h)))
-
--- a list that is written over another of its length
-pub written : {A : Type 0} (ys xs : List A) → length ys ≡ length xs → take (length ys) (ys ++ drop (length ys) xs) ≡ ys
-written [] xs e = refl
-written (y ∷ ys) [] e = absurd (omega (arith, e))
-written (y ∷ ys) (x ∷ xs) e = ap (λ more. y ∷ more) (written ys xs (omega (arith, e)))
 
 -- which anchors are in a list
 pub among_middle : (xs ys : List ℕ) (a : ℕ) → list_any (nat_eq a) (xs ++ a ∷ ys) ≡ true

@@ -7,7 +7,8 @@ use Rattle.tt_data.proofs.FlatLemmas.{IsPreorder-leaf_before}
 use Rattle.tt_data.specs.declared.leaf.Leaf.{Leaf}
 use Rattle.tt_data.specs.declared.tree.TokenTree.{TokenTree}
 use Rattle.tt_data.specs.declared.tree.TokenTree.TheVariants as token
-use Rattle.tt.specs.Tops.{IsOneGroup, has_leaf_at}
+use Rattle.tt.specs.Tops.{IsOneGroup}
+use Rattle.token_storage.specs.Records.{has_leaf_at}
 use Rattle.tt.proofs.Groups.{contents_whole, head_whole, one_from, one_counts, group_of}
 
 -- one leaf in place of every leaf

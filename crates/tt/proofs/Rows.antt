@@ -16,7 +16,7 @@ use Rattle.tt_data.specs.Walk.{at_leaf, opens, closes}
 use Rattle.tt.specs.declared.top_subtree.builder.Opening.{Opening}
 use Rattle.tt.specs.declared.iter.TtElement.TheVariants as element
 use Rattle.tt.specs.BuilderTokens.{here_of, groups_of, begins_invisible, moved_back}
-use Rattle.tt.specs.Records.{alone_token}
+use Rattle.token_storage.specs.Records.{alone_token, has_leaf_at}
 use Rattle.tt.specs.Building.{Building, pushed, opened, closed, extended, leaves, last_alone, Reached, itself, by_open, innermost_group, count_of, most_tokens, point_of, list_in, cut_back, unwrapped_at}
 use Rattle.tt.specs.Elements.{elements, first_element, first_place, first_alone, after_first, last_place, IsNext}
 use Rattle.tt.specs.FirstTrees.{first_subtree, first_name, first_literal_leaf, is_among, behind_punct}
@@ -27,7 +27,7 @@ use Rattle.tt.specs.Places.{Around, beginning, moved, IsEnd, first_token, innerm
 use Rattle.tt.specs.Relabelling.{anchors_of, by_first_use, relabelled, renamed}
 use Rattle.tt.specs.Rewriting.{IsRewritten, nothing, leaf_stays, leaf_gives_way, group_stays, group_gives_way}
 use Rattle.tt.specs.Texts.{displayed_text, pretty_text}
-use Rattle.tt.specs.Tops.{Top, head_of, only_group, tokens_of, tree_of, has_leaf_at}
+use Rattle.tt.specs.Tops.{Top, head_of, only_group, tokens_of, tree_of}
 
 -- one byte of the text, as it was written
 abbrev at : ℕ → Span

@@ -4,8 +4,8 @@ use Rattle.tt_data.specs.declared.tree.TokenTree.{TokenTree}
 use Rattle.tt_data.specs.declared.tree.TokenTree.TheVariants as token
 use Rattle.tt.specs.declared.top_subtree.builder.Opening.{Opening}
 use Rattle.tt_data.specs.Forest.{Forest, forest_of, IsPreorder, size, front}
-use Rattle.tt.specs.declared.storage.mark.Mark.{Mark}
-use Rattle.tt.specs.Marks.{mark_of, IsMarkIn, IsHeadIn, without_head}
+use Rattle.token_storage.specs.declared.mark.Mark.{Mark}
+use Rattle.token_storage.specs.Marks.{mark_of, IsMarkIn, IsHeadIn, without_head}
 use Rattle.tt.specs.Building.{Opened, count_in, is_invisible, list_in}
 
 -- how many tokens come before the trees of the innermost list; openings come innermost first

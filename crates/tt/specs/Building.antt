@@ -5,14 +5,13 @@ use Rattle.tt_data.specs.declared.delimiter.Delimiter.{Delimiter}
 use Rattle.tt_data.specs.declared.delimiter.DelimiterKind.{DelimiterKind}
 use Rattle.tt_data.specs.declared.delimiter.DelimiterKind.TheVariants.{Invisible}
 use Rattle.tt_data.specs.declared.leaf.Leaf.{Leaf}
-use Rattle.tt_data.specs.declared.leaf.Leaf.TheVariants as as_leaf
-use Rattle.tt_data.specs.declared.leaf.Spacing.TheVariants.{Alone}
 use Rattle.tt_data.specs.declared.span.Span.{Span}
 use Rattle.tt_data.specs.contracts.delimiter.Delimiter as delimiter_row
 use Rattle.tt_data.specs.contracts.delimiter.DelimiterKind as kind_row
 use Rattle.tt_data.specs.contracts.span.Span as span_row
 use Rattle.tt_data.specs.Forest.{Forest, empty, leaf, group, joined, size, front, back}
 use Rattle.tt_data.specs.Coded.{forest_code}
+pub use Rattle.token_storage.specs.Records.{alone}
 
 -- a group that is still open, with the trees before it in its list
 pub record Opened : Type 0 where
@@ -52,11 +51,6 @@ extended b f = record b { here = joined b.here f }
 abbrev pub leaves : List Leaf → Forest
 leaves [] = empty
 leaves (l ∷ more) = leaf l (leaves more)
-
--- a leaf, with spacing `Alone` if it is a punct
-abbrev pub alone : Leaf → Leaf
-alone (as_leaf.Punct p) = as_leaf.Punct (record p { spacing = Alone })
-alone l = l
 
 -- the very last token is `Alone` if it is a punct, be it inside a last group
 abbrev pub last_alone : Forest → Forest

@@ -1,10 +1,11 @@
 -- How a cursor's flat list and two numbers hold its position.
-use Rattle.std.specs.Prelude.{◌≡◌, ℕ, ◌+◌, ◌-◌, ◌<◌, ◌≤◌, List, [], ◌∷◌, slice_index_or, nat_eq, nat_le, if◌then◌else◌}
+use Rattle.std.specs.Prelude.{◌≡◌, ℕ, ◌+◌, ◌-◌, List, [], ◌∷◌, nat_eq, nat_le, if◌then◌else◌}
 use Rattle.tt_data.specs.declared.tree.TokenTree.{TokenTree}
 use Rattle.tt_data.specs.declared.tree.TokenTree.TheVariants as token
 use Rattle.tt_data.specs.Forest.{Forest, empty, leaf, group, joined, size, preorder, forest_of}
-use Rattle.tt.specs.declared.storage.mark.Mark.{Mark}
-use Rattle.tt.specs.Marks.{IsMarkIn}
+use Rattle.token_storage.specs.declared.mark.Mark.{Mark}
+use Rattle.token_storage.specs.Lists.{BeginsListOf}
+use Rattle.token_storage.specs.Marks.{IsMarkIn}
 use Rattle.tt.specs.Places.{Around, Place}
 use Rattle.tt.specs.declared.buffer.ListAround.{ListAround}
 
@@ -51,22 +52,6 @@ pub record CursorMarks (tokens : List TokenTree) (start at : Mark) : Type 0 wher
 -- they do hold a position
 abbrev pub IsPlaced : List TokenTree → ℕ → ℕ → Type 0
 IsPlaced tokens start at = Stands tokens start at (place_of tokens start at)
-
--- a token is the head of a group that begins after so many tokens and ends past so many
-abbrev pub Reaches : TokenTree → ℕ → ℕ → Type 0
-Reaches (token.Leaf l) start n = ⊥
-Reaches (token.Subtree s) start n = n < start + s.len
-
--- the group with its head at `head` is in the list that begins at `start`: no group that begins
--- between the two reaches past the head, and the group that the list is in, if any, does
-pub record IsTreeOf (tokens : List TokenTree) (head start : ℕ) : Type 0 where
-  pub after : start ≤ head
-  pub passed : (k : ℕ) (d : TokenTree) → start ≤ k → k < head → Reaches (slice_index_or tokens k d) (k + 1) head → ⊥
-  pub inside : (d : TokenTree) → 0 < start → Reaches (slice_index_or tokens (start - 1) d) start head
-
--- the list with the group at this index begins there
-abbrev pub BeginsListOf : List TokenTree → ℕ → ℕ → Type 0
-BeginsListOf tokens head result = (start : ℕ) → IsTreeOf tokens head start → result ≡ start
 
 -- the list with the group whose inside begins here begins at this mark, which is one among the tokens
 pub record IsKept (tokens : List TokenTree) (list : ListAround) : Type 0 where

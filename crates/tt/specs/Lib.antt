@@ -1,5 +1,4 @@
 -- what the public contracts use
-pub mod Records
 pub mod Views
 pub mod Elements
 pub mod Savepoints
@@ -14,9 +13,9 @@ pub mod Rewriting
 pub mod Relabelling
 pub mod Texts
 pub mod TokenLiterals
+-- the definitions of `token_storage` that these use
+pub use Rattle.token_storage.specs.Records
 -- what the functions inside the crate promise each other
-pub mod StoredTokens
-pub mod Marks
 pub mod BuilderTokens
 pub mod Anchors
 pub mod CursorTokens

@@ -3,21 +3,16 @@ use Rattle.std.specs.Prelude.{◌≡◌, ℕ, List, [], ◌∷◌, ◌++◌, nat
 use Rattle.std.specs.Fn.{Mut, Called, AlwaysReturns}
 use Rattle.std.specs.List.{list_any}
 use Rattle.tt_data.specs.declared.delimiter.Delimiter.{Delimiter}
-use Rattle.tt_data.specs.declared.span.Span.{Span}
 use Rattle.tt_data.specs.declared.tree.TokenTree.{TokenTree}
 use Rattle.tt_data.specs.declared.tree.TokenTree.TheVariants as token
 use Rattle.tt_data.specs.Forest.{map_spans, preorder}
-use Rattle.tt_data.specs.Spans.{delimiter_with, span_of}
+use Rattle.tt_data.specs.Spans.{anchor_with, delimiter_with, span_of}
 use Rattle.tt.specs.Tops.{Top}
 
 -- what a finite map makes of an anchor: the replacement in its entry; without an entry it stays
 abbrev pub renamed : List (ℕ × ℕ) → ℕ → ℕ
 renamed [] a = a
 renamed (e ∷ more) a = if nat_eq e.0 a then e.1 else renamed more a
-
--- a span with h applied to its anchor
-abbrev pub anchor_with : (ℕ → ℕ) → Span → Span
-anchor_with h s = record { range = s.range; anchor = h s.anchor; ctx = s.ctx }
 
 -- a tree with h applied to the anchor of each span, those of its own brackets too
 abbrev pub relabelled : (ℕ → ℕ) → Top → Top

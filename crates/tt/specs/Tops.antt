@@ -1,6 +1,5 @@
 -- A whole tree: one group.
-use Rattle.std.specs.Prelude.{◌≡◌, ℕ, refl, List, ◌∷◌, Option, Some, None, Bool, true, false}
-use Rattle.std.specs.List.{slice_get}
+use Rattle.std.specs.Prelude.{◌≡◌, refl, List, ◌∷◌, Option, Some, None}
 use Rattle.std.specs.Coded.{Coded, code_by, coded×}
 use Rattle.tt_data.specs.declared.delimiter.Delimiter.{Delimiter}
 use Rattle.tt_data.specs.declared.delimiter.DelimSpan.{DelimSpan}
@@ -38,15 +37,6 @@ tokens_of t = preorder (forest_of_top t)
 abbrev pub only_group : Forest → Option Top
 only_group (group d inner empty) = Some (record { delimiter = d; inner = inner })
 only_group f = None
-
--- whether a token is there, and is a leaf
-abbrev pub is_leaf : Option TokenTree → Bool
-is_leaf (Some (token.Leaf l)) = true
-is_leaf found = false
-
--- whether a leaf is at this index of a flat list
-abbrev pub has_leaf_at : ℕ → List TokenTree → Bool
-has_leaf_at n tokens = is_leaf (slice_get tokens n)
 
 -- the tree that a flat list is: a head, and all others inside; an empty one if it begins otherwise
 abbrev pub tree_of : List TokenTree → Top

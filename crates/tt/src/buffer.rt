@@ -4,20 +4,20 @@
 //! Its contracts see it as a position among trees: those before it, those after it, and the
 //! groups around it.
 ghost use Rattle.arrayvec.specs.ArrayVec.{array_vec_len};
-ghost use Rattle.tt.specs.CursorTokens.{BeginsListOf, IsKept};
-ghost use Rattle.tt.specs.Marks.{IsMarkIn};
+ghost use Rattle.tt.specs.CursorTokens.{IsKept};
+ghost use Rattle.token_storage.specs.Lists.{BeginsListOf};
+ghost use Rattle.token_storage.specs.Marks.{IsMarkIn};
 ghost use Rattle.tt.specs.Places.{two_leaves};
-ghost use Rattle.tt.specs.Records.{items};
+ghost use Rattle.token_storage.specs.Records.{items};
 ghost use Rattle.tt.specs.Views.{forest};
 ghost use Rattle.tt_data.specs.declared.tree.TokenTree.{TokenTree};
 ghost use Rattle.std.specs.Prelude.{◌≡◌, ◌≢◌, ⊤, All, IsTrue, ◌↔◌, ◌-◌, ◌<◌, List, [], Some, IsNone};
 
-use crate::storage::Tokens;
-use crate::storage::mark::Mark;
 use crate::view::TokenTreesView;
 use arrayvec::ArrayVec;
 use std::alloc::AllocError;
 use std::marker::Model;
+use token_storage::{Mark, Tokens};
 use tt_data::{Leaf, Subtree, TokenTree};
 
 /// A position in a list of trees: between two trees of the list, or of a group in it.
@@ -53,7 +53,7 @@ impl<'a> Model for Cursor<'a> {
     ghost use Rattle.std.specs.Prelude.{All};
     ghost use Rattle.tt.specs.Places.{Place, place_code};
     ghost use Rattle.tt.specs.CursorTokens.{place_of, IsKept, IsPlaced, CursorMarks};
-    ghost use Rattle.tt.specs.Records.{items};
+    ghost use Rattle.token_storage.specs.Records.{items};
 
     ghost Value = { Place };
 

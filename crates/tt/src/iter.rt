@@ -9,11 +9,11 @@ pub(crate) mod expect;
 mod peek;
 mod savepoint;
 
-use crate::storage::{Tokens, same_leaf};
 use crate::view::{SubtreeView, TokenTreesView};
 pub use savepoint::TtIterSavepoint;
 use std::alloc::AllocError;
 use std::marker::Model;
+use token_storage::{Tokens, same_leaf};
 use tt_data::{Leaf, Span, Subtree, TokenTree};
 
 /// A walk over a list of trees, group by group as one tree. Contracts see it as the trees that are
@@ -26,7 +26,7 @@ pub struct TtIter<'a> {
 impl<'a> Model for TtIter<'a> {
     ghost use Rattle.tt_data.specs.Coded.{forest_code};
     ghost use Rattle.tt_data.specs.Forest.{Forest, forest_of, IsPreorder};
-    ghost use Rattle.tt.specs.Records.{items};
+    ghost use Rattle.token_storage.specs.Records.{items};
 
     ghost Value = { Forest };
 

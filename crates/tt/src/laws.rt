@@ -11,7 +11,8 @@ ghost use Rattle.tt.specs.Building.{Building, Point, Reached, point_of, cut_back
 ghost use Rattle.tt.specs.Elements.{elements};
 ghost use Rattle.tt.specs.Places.{Place, beginning, IsEnd, moved, steps_before, steps_after, IsStep};
 ghost use Rattle.tt.specs.Splitting.{until_separator, behind_separator, pieces_between};
-ghost use Rattle.tt.specs.Relabelling.{anchor_with, anchors_of, by_first_use, relabelled};
+ghost use Rattle.tt.specs.Relabelling.{anchors_of, by_first_use, relabelled};
+ghost use Rattle.tt_data.specs.Spans.{anchor_with};
 ghost use Rattle.tt.specs.Tops.{Top, tokens_of};
 ghost use Rattle.tt_data.specs.Spans.{token_with};
 ghost use Rattle.tt.specs.declared.iter.TtElement.{TtElement};

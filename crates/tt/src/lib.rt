@@ -14,7 +14,6 @@ pub mod iter;
 pub mod laws;
 mod literals;
 mod split;
-mod storage;
 mod top_subtree;
 mod view;
 

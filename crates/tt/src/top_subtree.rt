@@ -8,12 +8,11 @@ pub(crate) mod transform;
 
 use crate::flatten::is_one_group;
 use crate::iter::TtIter;
-use crate::storage::TokenBuffer;
-use crate::storage::mark::Mark;
 use crate::view::{SubtreeView, TokenTreesView};
 use std::alloc::Global;
 use std::hash::{Hash, Hasher};
 use std::marker::Model;
+use token_storage::{Mark, TokenBuffer};
 use tt_data::{DelimSpan, Delimiter, DelimiterKind, Leaf, Span, Subtree, TokenTree, TtFault};
 
 /// A whole tree: one group, and the trees inside it.
@@ -42,7 +41,8 @@ impl TopSubtree {
     ghost use Rattle.tt_data.specs.declared.delimiter.DelimiterKind.TheVariants.{Invisible};
     ghost use Rattle.tt_data.specs.declared.tree.TokenTree.TheVariants as token;
     ghost use Rattle.tt.specs.Building.{most_tokens, leaves as leaves_of};
-    ghost use Rattle.tt.specs.Tops.{Top, head_of, forest_of_top, tokens_of, no_brackets, has_leaf_at};
+    ghost use Rattle.tt.specs.Tops.{Top, head_of, forest_of_top, tokens_of, no_brackets};
+    ghost use Rattle.token_storage.specs.Records.{has_leaf_at};
     ghost use Rattle.tt.specs.Views.{forest, top_of};
 
     /// The tree with invisible delimiters at the spans of `span`, and nothing inside.

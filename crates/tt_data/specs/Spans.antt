@@ -1,4 +1,5 @@
 -- The spans of tokens, and span maps of tokens.
+use Rattle.std.specs.Prelude.{ℕ}
 use Rattle.tt_data.specs.declared.span.Span.{Span}
 use Rattle.tt_data.specs.declared.span.SyntaxContext.TheVariants.{Written}
 use Rattle.tt_data.specs.declared.delimiter.Delimiter.{Delimiter}
@@ -32,6 +33,10 @@ delimiter_with f d = record { open_span = f d.open_span; close_span = f d.close_
 abbrev pub token_with : (Span → Span) → TokenTree → TokenTree
 token_with f (token.Leaf l) = token.Leaf (leaf_with f l)
 token_with f (token.Subtree s) = token.Subtree (record { delimiter = delimiter_with f s.delimiter; len = s.len })
+
+-- a span with h applied to its anchor
+abbrev pub anchor_with : (ℕ → ℕ) → Span → Span
+anchor_with h s = record { range = s.range; anchor = h s.anchor; ctx = s.ctx }
 
 -- the span that stands for no span
 abbrev pub no_span : Span

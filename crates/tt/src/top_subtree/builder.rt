@@ -3,22 +3,21 @@ ghost use Rattle.std.specs.Prelude.{◌≡◌, ◌≢◌, ◌↔◌, ◌⊎◌, 
 ghost use Rattle.tt_data.specs.Forest.{size, front};
 ghost use Rattle.tt.specs.BuilderTokens.{here_of, groups_of, start_of, begins_invisible, moved_back, AreHeads, IsHeld, IsListAt, IsNoListAt, IsSettled};
 ghost use Rattle.tt.specs.Building.{cut_in};
-ghost use Rattle.tt.specs.Marks.{IsMarkIn};
+ghost use Rattle.token_storage.specs.Marks.{IsMarkIn};
 ghost use Rattle.tt_data.specs.fault.TtFault.TheVariants as fault;
 ghost use Rattle.tt_data.specs.declared.leaf.Leaf.{Leaf};
 ghost use Rattle.tt_data.specs.declared.tree.TokenTree.{TokenTree};
 ghost use Rattle.tt_data.specs.declared.tree.TokenTree.TheVariants as token;
-ghost use Rattle.tt.specs.Records.{as_head, items};
+ghost use Rattle.token_storage.specs.Records.{as_head, items};
 ghost use Rattle.std.specs.Iterator.{Drains, Yields, IsFinite};
 
 use crate::flatten::is_tree_end;
 use crate::iter::TtIter;
-use crate::storage::mark::Mark;
-use crate::storage::{TokenBuffer, Tokens};
 use crate::top_subtree::TopSubtree;
 use crate::view::TokenTreesView;
 use std::alloc::Global;
 use std::marker::Model;
+use token_storage::{Mark, TokenBuffer, Tokens};
 use tt_data::{Delimiter, DelimiterKind, Leaf, Span, Subtree, TokenTree, TtFault};
 
 // The most tokens that a tree may have below its top.

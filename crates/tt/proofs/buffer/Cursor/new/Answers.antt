@@ -1,9 +1,9 @@
 use Rattle.std.proofs.lemmas.List.Elements.{All-nil}
 use Rattle.tt.specs.CursorTokens.{IsKept}
-use Rattle.tt.specs.Records.{items}
+use Rattle.token_storage.specs.Records.{items}
 use Rattle.tt.specs.Views.{forest}
 use Rattle.tt.proofs.CursorLemmas.{at_beginning}
-use Rattle.tt.proofs.MarkLemmas.{start_marked}
+use Rattle.token_storage.proofs.MarkLemmas.{start_marked}
 use Rattle.tt.proofs.PlaceLemmas.{found, placed}
 use Rattle.tt.proofs.buffer.Cursor.new.Goals as goal
 

@@ -1,8 +1,9 @@
 -- The tree is what its tokens hold, and each token has the anchor that the entries give.
 use Rattle.std.proofs.Common.{◌≡◌, ◌∙◌, ℕ, List, ap}
 use Rattle.std.proofs.lemmas.List.{length-map}
-use Rattle.tt.specs.Anchors.{answer_in, answer_of}
-use Rattle.tt.specs.Relabelling.{anchor_with, anchors_of, relabelled, renamed}
+use Rattle.token_storage.specs.Anchors.{answer_in, answer_of}
+use Rattle.tt.specs.Relabelling.{anchors_of, relabelled, renamed}
+use Rattle.tt_data.specs.Spans.{anchor_with}
 use Rattle.tt.specs.Tops.{tree_of}
 use Rattle.tt.proofs.RelabellingLemmas.{IsOneGroup-token_with, agree_everywhere, by_rule, same_relabelled, tree_of-token_with}
 use Rattle.tt.proofs.top_subtree.TopSubtree.change_every_ast_id.Given.{Over}

@@ -1,6 +1,6 @@
 use Rattle.std.proofs.Common.{◌≡◌, ◌∷◌, ◌++◌, [], ◌∙◌, ap, refl, arith, length}
 use Rattle.tt_data.specs.Forest.{head_of}
-use Rattle.tt.specs.Records.{items}
+use Rattle.token_storage.specs.Records.{items}
 use Rattle.tt.specs.Views.{forest}
 use Rattle.tt.proofs.Groups.{grouped}
 use Rattle.tt.proofs.Limits.{size-whole}

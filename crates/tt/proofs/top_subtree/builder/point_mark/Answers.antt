@@ -1,7 +1,7 @@
 use Rattle.std.proofs.Common.{◌+◌, ◌≤◌, refl, arith, reverse, length}
 use Rattle.std.proofs.lemmas.Bool.{false≢true}
 use Rattle.tt.specs.Building.{Point}
-use Rattle.tt.specs.Records.{items}
+use Rattle.token_storage.specs.Records.{items}
 use Rattle.tt.proofs.PointMarks.{from_marked, seen, too_early, valid_fits, valid_where}
 use Rattle.tt.proofs.top_subtree.builder.point_mark.Goals as goal
 

@@ -3,7 +3,7 @@ use Rattle.tt_data.specs.Forest.{preorder}
 use Rattle.tt.specs.Building.{leaves}
 use Rattle.tt.specs.BuilderTokens.{index_of}
 use Rattle.tt.proofs.HeldMarks.{marks_append}
-use Rattle.tt.proofs.MarkLemmas.{first_marked}
+use Rattle.token_storage.proofs.MarkLemmas.{first_marked}
 use Rattle.tt.proofs.Closings.{IsTreeAt-append}
 use Rattle.tt.proofs.Held.{IsHeld-append, here_of-append, groups_of-append}
 use Rattle.tt.proofs.Limits.{counted}

@@ -1,6 +1,6 @@
 use Rattle.std.proofs.Common.{◌≡◌, ◌≤◌, ◌++◌, ◌∙◌, refl, arith, reverse, length, length-append}
 use Rattle.tt_data.specs.Forest.{forest_of}
-use Rattle.tt.specs.Records.{items}
+use Rattle.token_storage.specs.Records.{items}
 use Rattle.tt.specs.Views.{forest}
 use Rattle.tt.specs.BuilderTokens.{index_of}
 use Rattle.tt.proofs.HeldMarks.{marks_append}

@@ -1,5 +1,5 @@
 use Rattle.std.proofs.Common.{refl, reverse, length, set, ◌-◌}
-use Rattle.tt.specs.Records.{alone_token}
+use Rattle.token_storage.specs.Records.{alone_token}
 use Rattle.tt.specs.BuilderTokens.{index_of}
 use Rattle.tt.proofs.HeldMarks.{marks_alone}
 use Rattle.tt.proofs.Points.{held_some}

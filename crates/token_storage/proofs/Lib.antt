@@ -1,0 +1,5 @@
+pub mod ChangedLemmas
+pub mod ListLemmas
+pub mod MarkLemmas
+pub mod ReadLemmas
+pub mod StoredEquality

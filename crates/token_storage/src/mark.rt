@@ -1,0 +1,60 @@
+//! Marks: ends of runs of tokens, at which a run is changed or cut back later.
+ghost use Rattle.std.specs.Prelude.{◌≡◌, ◌⊎◌, ◌≤◌, [], min};
+ghost use Rattle.token_storage.specs.Marks.{mark_of, without_head};
+
+/// Where the first tokens of a run end.
+#[derive(Clone, Copy, Debug, Default)]
+pub struct Mark {
+    pub(super) count: usize,
+}
+
+impl Mark {
+    /// The mark before all tokens.
+    pub fn start() -> Mark
+        ensures { result ≡ mark_of [] }
+    {
+        Mark { count: 0 }
+    }
+
+    /// The number of tokens before it.
+    #[inline]
+    pub fn count(self) -> usize
+        ensures { result ≡ self.count }
+    {
+        self.count
+    }
+
+    /// The one of two marks before which fewer tokens come.
+    pub fn earlier(self, other: Mark) -> Mark
+        ensures one { (result ≡ self) ⊎ (result ≡ other) }
+        ensures count { result.count ≡ min self.count other.count }
+    {
+        if self.count <= other.count {
+            self
+        } else {
+            other
+        }
+    }
+
+    /// `later`, if at most `most` tokens come before it and no fewer than before this one; else
+    /// this one.
+    pub fn or_later(self, later: Mark, most: usize) -> Mark
+        ensures { (result ≡ self) ⊎ ((result ≡ later) × (self.count ≤ later.count) × (later.count ≤ most)) }
+    {
+        if self.count <= later.count && later.count <= most {
+            later
+        } else {
+            self
+        }
+    }
+
+    /// The mark, once the head at `removed` is taken out.
+    pub fn without_head(self, removed: Mark) -> Mark
+        ensures { result ≡ without_head removed.count self }
+    {
+        let before = if removed.count < self.count { 1 } else { 0 };
+        Mark {
+            count: self.count - before,
+        }
+    }
+}
