@@ -31,6 +31,7 @@ impl<'a> Iterator for FlatTokens<'a> {
     ghost remaining = { item_count (λ left. left) };
 
     /// The next token, or `None` at the end.
+    #[inline]
     fn next(&mut self) -> Option<TokenTree> {
         let (first, more) = self.tokens.split_first()?;
         self.tokens = more;
