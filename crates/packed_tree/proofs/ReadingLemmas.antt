@@ -45,7 +45,7 @@ tells-bytes table n (token.Leaf (as_leaf.Ident i)) more is has within = rw (sort
 tells-bytes table n (token.Leaf (as_leaf.Literal l)) more is has within =
     rw (sort-literal l.kind, number-word n [], has, number-word (length l.suffix) []) (within, has_suffix l.text l.suffix is)
 
-begins-record : (table others : List (List ℕ)) (t : TokenTree) (more : List ℕ) → IsToken t
+pub begins-record : (table others : List (List ℕ)) (t : TokenTree) (more : List ℕ) → IsToken t
     → BeginsWithToken (with_token (text_of t) table ++ others) (record_of table t ++ more)
 begins-record table others t more is =
     let n : ℕ = number_in (text_of t) table in

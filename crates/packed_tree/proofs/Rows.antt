@@ -9,13 +9,21 @@ use Rattle.tt_data.specs.declared.leaf.Leaf.TheVariants as as_leaf
 use Rattle.tt_data.specs.declared.leaf.Spacing.TheVariants.{Alone, Joint}
 use Rattle.tt_data.specs.declared.tree.TokenTree.{TokenTree}
 use Rattle.tt_data.specs.declared.tree.TokenTree.TheVariants as token
-use Rattle.tt_data.specs.Forest.{forest_of, head_of}
+use Rattle.tt_data.specs.declared.leaf.lent.LeafRef.TheVariants as lent_leaf
+use Rattle.tt_data.specs.Forest.{empty, forest_of, head_of}
+use Rattle.tt.specs.declared.iter.TtElement.TheVariants as element
 use Rattle.tt.specs.Tops.{Top, tokens_of}
 use Rattle.tt_data.specs.Literals.{literal_of}
+use Rattle.tt_data.specs.Spans.{token_with}
 use Rattle.tt_data.specs.Names.{ident_of}
 use Rattle.packed_tree.specs.Records.{BeginsWithToken, first_token, token_bytes, word}
 use Rattle.packed_tree.specs.Packing.{number_of, records, table_after, tokens_in}
 use Rattle.packed_tree.specs.Packed.{unpacked}
+use Rattle.packed_tree.specs.Lent.{element_lent, token_lent}
+use Rattle.packed_tree.specs.Respanned.{AreRespanned, HaveRespanned}
+use Rattle.packed_tree.specs.Runs.{AreTold, past}
+use Rattle.packed_tree.specs.declared.iter.PackedElement.TheVariants as lent_tree
+use Rattle.packed_tree.specs.declared.lent.PackedToken.TheVariants as lent
 use Rattle.packed_tree.specs.Numbers.{known_number}
 use Rattle.packed_tree.specs.Places.{inside_in, place_of, texts_in}
 
@@ -139,3 +147,35 @@ cut b = omega (arith, b.whole)
 
 nothing : BeginsWithToken [] [] → ⊥
 nothing b = omega (arith, b.whole)
+
+-- a run of five records goes up to the end, and its first two are those of the group's head and the first `a`
+run_of_all : past 5 (records [] flat) ≡ []
+run_of_all = refl
+
+run_of_two : tokens_in 2 (table_after [] flat) (records [] flat) ≡ group ∷ name (codes "a") 1 ∷ []
+run_of_two = refl
+
+-- a record that is cut is no run
+no_run : AreTold 1 [] (4 ∷ 1 ∷ 0 ∷ []) → ⊥
+no_run told = omega (arith, told.0.whole)
+
+-- a head that is lent, as a token and as a tree
+lent_head : token_lent (lent.Head (record { delimiter = brackets; len = 4 })) ≡ group
+lent_head = refl
+
+lent_group : element_lent (lent_tree.Subtree (record { delimiter = brackets; len = 0 }) empty) ≡ element.Subtree (record { delimiter = brackets; len = 0 }) empty
+lent_group = refl
+
+-- a punct that is lent
+lent_punct : token_lent (lent.Leaf (lent_leaf.Punct (record { char = 59; spacing = Alone; span = at 5 }))) ≡ semicolon
+lent_punct = refl
+
+-- the same punct a byte further on differs from it in its span alone
+abbrev later : Span → Span
+later s = record { range = record { start = s.range.start + 1; «end» = s.range.«end» + 1 }; anchor = s.anchor; ctx = s.ctx }
+
+later_are : AreRespanned (semicolon ∷ []) (token_with later semicolon ∷ [])
+later_are = record { map_of = later; are = refl }
+
+later_have : HaveRespanned (token_with later semicolon ∷ []) (records [] (semicolon ∷ []))
+later_have = record { old = semicolon ∷ []; respanned = later_are; bytes_are = refl }

@@ -7,14 +7,22 @@
 #![tactic(auto)]
 
 mod builder;
+mod iter;
 pub mod laws;
+mod lent;
 mod packing;
 mod reading;
+mod relabel;
+mod respan;
 mod text_index;
 mod text_table;
+mod tokens;
 mod tree;
 mod unpacking;
 mod writing;
 
 pub use builder::{PackedRestorePoint, PackedTreeBuilder};
+pub use iter::{PackedElement, PackedIter};
+pub use lent::PackedToken;
+pub use tokens::PackedTokens;
 pub use tree::PackedTree;

@@ -11,6 +11,7 @@ ghost use Rattle.packed_tree.specs.Numbers.{IsNumbered};
 
 use crate::reading::first_extent;
 use crate::text_table::TextTable;
+use crate::tokens::PackedTokens;
 use crate::writing::{append_token, head_bytes};
 use byte_buffer::ByteBuffer;
 use std::alloc::{AllocError, Global};
@@ -281,6 +282,33 @@ impl Packing {
         } = self;
         (records, texts.into_texts())
     }
+}
+
+// The tokens of a packing, and then those of a list.
+fn extended(packing: Packing, tokens: PackedTokens<'_>) -> Result<Packing, AllocError>
+    requires room { length packing + length tokens ≤ 2 ^ 32 }
+    ensures { IfOk result (λ p. p ≡ packing ++ tokens.entry) }
+{
+    let mut packing = packing;
+    for token in tokens {
+        packing.push(token.to_token())?;
+    }
+    Ok(packing)
+}
+
+/// A leaf with the tokens of two lists before and after it.
+pub(crate) fn packed_around(
+    alloc: Global,
+    before: PackedTokens<'_>,
+    leaf: Leaf,
+    after: PackedTokens<'_>,
+) -> Result<Packing, AllocError>
+    requires room { length before + length after < 2 ^ 32 }
+    ensures { IfOk result (λ p. p ≡ before.entry ++ token.Leaf leaf ∷ after.entry) }
+{
+    let mut packing = extended(Packing::new(alloc), before)?;
+    packing.push(TokenTree::Leaf(leaf))?;
+    extended(packing, after)
 }
 
 /// The packed form of a tree: its records and its table.

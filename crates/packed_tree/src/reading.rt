@@ -1,14 +1,18 @@
 //! Reads the records of tokens.
-ghost use Rattle.std.specs.Prelude.{◌≡◌, [], ◌+◌, ◌-◌, ◌<◌, ◌≤◌, ◌↔◌, IsSome, IfSome, SomeIff, length, drop};
-ghost use Rattle.packed_tree.specs.Records.{BeginsWithToken, Tells, entry_in, first_size, first_token as token_of, form_of, number, of_group, of_ident, of_literal, of_punct, size_of, sort_of, span_in, token_by};
+ghost use Rattle.std.specs.Prelude.{◌≡◌, [], ◌+◌, ◌-◌, ◌<◌, ◌≤◌, ◌↔◌, IsSome, IsTrue, IfSome, SomeIff, length, drop, option_map};
+ghost use Rattle.tt_data.specs.Literals.{HasSuffix};
+ghost use Rattle.packed_tree.specs.Lent.{token_lent};
+ghost use Rattle.packed_tree.specs.Records.{BeginsWithToken, Tells, entry_in, first_size, first_token, form_of, number, of_group, of_ident, of_literal, of_punct, size_of, sort_of, span_in, token_by};
 ghost use Rattle.packed_tree.specs.Places.{inside_in, texts_in};
 
+use crate::lent::PackedToken;
 use tt_data::{
-    Delimiter, DelimiterKind, Ident, IdentIsRaw, Leaf, LitKind, Literal, Punct, Spacing, Span,
-    Subtree, Symbol, SyntaxContext, TextRange, TokenTree,
+    Delimiter, DelimiterKind, IdentIsRaw, IdentRef, LeafRef, LitKind, LiteralRef, Punct, Spacing,
+    Span, Subtree, Symbol, SyntaxContext, TextRange,
 };
 
 // The bytes from the index `count` on.
+#[inline(always)]
 fn from(bytes: &[u8], count: usize) -> &[u8]
     requires { count ≤ length bytes.now }
     ensures bytes { result.now ≡ drop count bytes.now }
@@ -18,6 +22,7 @@ fn from(bytes: &[u8], count: usize) -> &[u8]
 }
 
 // The number in the first four bytes.
+#[inline(always)]
 fn number_in(bytes: &[u8]) -> u32
     requires { 4 ≤ length bytes.now }
     ensures { result ≡ number bytes.now }
@@ -29,6 +34,7 @@ fn number_in(bytes: &[u8]) -> u32
 }
 
 // The span in the first thirteen bytes.
+#[inline(always)]
 fn span_in(bytes: &[u8]) -> Span
     requires { 13 ≤ length bytes.now }
     ensures { result ≡ span_in bytes.now }
@@ -48,6 +54,7 @@ fn span_in(bytes: &[u8]) -> Span
 }
 
 // The bytes of a record with this tag.
+#[inline(always)]
 fn size_of(tag: u8) -> usize
     ensures { result ≡ size_of (sort_of tag) }
 {
@@ -59,28 +66,30 @@ fn size_of(tag: u8) -> usize
 }
 
 // The head of a group, by the bytes after its tag.
-fn head_of(kind: DelimiterKind, body: &[u8]) -> TokenTree
+#[inline(always)]
+fn head_of<'a>(kind: DelimiterKind, body: &[u8]) -> PackedToken<'a>
     requires { 30 ≤ length body.now }
-    ensures { result ≡ token_by (of_group kind) 0 [] body.now }
+    ensures { token_lent result ≡ token_by (of_group kind) 0 [] body.now }
 {
     let delimiter = Delimiter {
         open_span: span_in(body),
         close_span: span_in(from(body, 13)),
         kind,
     };
-    TokenTree::Subtree(Subtree {
+    PackedToken::Head(Subtree {
         delimiter,
         len: number_in(from(body, 26)),
     })
 }
 
 // A punct, by the bytes after its tag, if its character is one.
-fn punct_of(spacing: Spacing, body: &[u8]) -> Option<TokenTree>
+#[inline(always)]
+fn punct_of<'a>(spacing: Spacing, body: &[u8]) -> Option<PackedToken<'a>>
     requires { 17 ≤ length body.now }
-    ensures { SomeIff result (Tells (of_punct spacing) [] body.now) (token_by (of_punct spacing) 0 [] body.now) }
+    ensures { SomeIff (option_map token_lent result) (Tells (of_punct spacing) [] body.now) (token_by (of_punct spacing) 0 [] body.now) }
 {
     let char = char::from_u32(number_in(from(body, 13)))?;
-    Some(TokenTree::Leaf(Leaf::Punct(Punct {
+    Some(PackedToken::Leaf(LeafRef::Punct(Punct {
         char,
         spacing,
         span: span_in(body),
@@ -88,23 +97,22 @@ fn punct_of(spacing: Spacing, body: &[u8]) -> Option<TokenTree>
 }
 
 // The entry whose number comes after the span, if it is there.
-fn entry_in(table: &[Symbol], body: &[u8]) -> Option<Symbol>
+#[inline(always)]
+fn entry_in<'a>(table: &'a [Symbol], body: &[u8]) -> Option<&'a Symbol>
     requires { 17 ≤ length body.now }
-    ensures { SomeIff result (number (drop 13 body.now) < length table.now) (entry_in table.now body.now) }
+    ensures { SomeIff (option_map (λ s. s.now) result) (number (drop 13 body.now) < length table.now) (entry_in table.now body.now) }
 {
-    let Ok(entry) = table.get(number_in(from(body, 13)) as usize)?.clone() else {
-        unreachable!()
-    };
-    Some(entry)
+    table.get(number_in(from(body, 13)) as usize)
 }
 
 // An identifier, by the bytes after its tag, if its entry is there.
-fn ident_of(is_raw: IdentIsRaw, table: &[Symbol], body: &[u8]) -> Option<TokenTree>
+#[inline(always)]
+fn ident_of<'a>(is_raw: IdentIsRaw, table: &'a [Symbol], body: &[u8]) -> Option<PackedToken<'a>>
     requires { 17 ≤ length body.now }
-    ensures { SomeIff result (Tells (of_ident is_raw) table.now body.now) (token_by (of_ident is_raw) 0 table.now body.now) }
+    ensures { SomeIff (option_map token_lent result) (Tells (of_ident is_raw) table.now body.now) (token_by (of_ident is_raw) 0 table.now body.now) }
 {
     let sym = entry_in(table, body)?;
-    Some(TokenTree::Leaf(Leaf::Ident(Ident {
+    Some(PackedToken::Leaf(LeafRef::Ident(IdentRef {
         sym,
         span: span_in(body),
         is_raw,
@@ -112,6 +120,7 @@ fn ident_of(is_raw: IdentIsRaw, table: &[Symbol], body: &[u8]) -> Option<TokenTr
 }
 
 // The form of a literal with this tag and so many hashes.
+#[inline(always)]
 fn form_of(tag: u8, hashes: u8) -> LitKind
     ensures { result ≡ form_of tag hashes }
 {
@@ -131,21 +140,39 @@ fn form_of(tag: u8, hashes: u8) -> LitKind
     }
 }
 
+// Whether the last `len` bytes of a text are whole characters.
+#[inline(always)]
+fn has_suffix(text: &Symbol, len: u32) -> bool
+    ensures { IsTrue result ↔ HasSuffix text.now len }
+{
+    let text = text.as_str();
+    match text.len().checked_sub(len as usize) {
+        Some(at) => text.is_char_boundary(at),
+        None => false,
+    }
+}
+
 // A literal, by its tag and the bytes after it, if its entry is there and has the suffix.
-fn literal_of(tag: u8, table: &[Symbol], body: &[u8]) -> Option<TokenTree>
+#[inline(always)]
+fn literal_of<'a>(tag: u8, table: &'a [Symbol], body: &[u8]) -> Option<PackedToken<'a>>
     requires { 22 ≤ length body.now }
-    ensures { SomeIff result (Tells of_literal table.now body.now) (token_by of_literal tag table.now body.now) }
+    ensures { SomeIff (option_map token_lent result) (Tells of_literal table.now body.now) (token_by of_literal tag table.now body.now) }
 {
     let entry = entry_in(table, body)?;
+    let suffix_len = number_in(from(body, 17));
+    if !has_suffix(entry, suffix_len) {
+        return None;
+    }
     let kind = form_of(tag, body[21]);
-    let literal = Literal::from_entry(entry, number_in(from(body, 17)), kind, span_in(body))?;
-    Some(TokenTree::Leaf(Leaf::Literal(literal)))
+    let literal = LiteralRef::from_parts(entry, suffix_len, kind, span_in(body));
+    Some(PackedToken::Leaf(LeafRef::Literal(literal)))
 }
 
 // The token of a record that is whole, by its tag and the bytes after it.
-fn token_in(tag: u8, table: &[Symbol], body: &[u8]) -> Option<TokenTree>
+#[inline(always)]
+fn token_in<'a>(tag: u8, table: &'a [Symbol], body: &[u8]) -> Option<PackedToken<'a>>
     requires { size_of (sort_of tag) ≤ 1 + length body.now }
-    ensures { SomeIff result (Tells (sort_of tag) table.now body.now) (token_by (sort_of tag) tag table.now body.now) }
+    ensures { SomeIff (option_map token_lent result) (Tells (sort_of tag) table.now body.now) (token_by (sort_of tag) tag table.now body.now) }
 {
     match tag {
         0 => Some(head_of(DelimiterKind::Parenthesis, body)),
@@ -161,12 +188,12 @@ fn token_in(tag: u8, table: &[Symbol], body: &[u8]) -> Option<TokenTree>
     }
 }
 
-/// The token of the first record, if that is there whole and tells one. Texts are those of
-/// `table`, shared.
-pub(crate) fn first_token(table: &[Symbol], bytes: &[u8]) -> Option<TokenTree>
+/// The token of the first record, lent, if that is there whole and tells one.
+#[inline(always)]
+pub(crate) fn first_lent<'a>(table: &'a [Symbol], bytes: &[u8]) -> Option<PackedToken<'a>>
     ensures there { IsSome result → BeginsWithToken table.now bytes.now }
     ensures found { BeginsWithToken table.now bytes.now → IsSome result }
-    ensures token { IfSome result (λ t. t ≡ token_of table.now bytes.now) }
+    ensures token { IfSome result (λ t. token_lent t ≡ first_token table.now bytes.now) }
 {
     let (tag, body) = bytes.split_first()?;
     if body.len() + 1 < size_of(*tag) {
@@ -176,6 +203,7 @@ pub(crate) fn first_token(table: &[Symbol], bytes: &[u8]) -> Option<TokenTree>
 }
 
 /// The bytes after the first record, if that is there whole.
+#[inline(always)]
 pub(crate) fn after_first(bytes: &[u8]) -> Option<&[u8]>
     ensures there { IsSome result ↔ (first_size bytes.now ≤ length bytes.now) }
     ensures rest { IfSome result (λ rest. rest.now ≡ drop (first_size bytes.now) bytes.now) }

@@ -1,18 +1,26 @@
 //! Whole trees in packed form.
-ghost use Rattle.std.specs.Prelude.{◌≡◌, ◌⊎◌, ◌↔◌, [], IfOk, IfErr, IsOkUnless, IsTrue};
+ghost use Rattle.std.specs.Prelude.{◌≡◌, ◌⊎◌, ◌↔◌, [], Err, IfOk, IfErr, IsOkUnless, IsTrue, OnOk, OnErr, false, set};
+ghost use Rattle.tt_data.specs.declared.tree.TokenTree.TheVariants as token;
 ghost use Rattle.tt_data.specs.fault.TtFault.TheVariants as fault;
-ghost use Rattle.tt.specs.Tops.{IsOneGroup, Top, tokens_of, tree_of};
+ghost use Rattle.tt_data.specs.Forest.{size};
+ghost use Rattle.token_storage.specs.Records.{has_leaf_at};
+ghost use Rattle.tt.specs.Tops.{IsOneGroup, Top, head_of, tokens_of, tree_of};
 ghost use Rattle.packed_tree.specs.Packing.{records, table_after};
 ghost use Rattle.packed_tree.specs.Packed.{IsPackedForm};
 
-use crate::packing::{Packing, packed_parts};
+use crate::lent::PackedToken;
+use crate::packing::{Packing, packed_around, packed_parts};
+use crate::reading::first_lent;
+use crate::respan::set_spans;
+use crate::tokens::PackedTokens;
 use crate::unpacking::read_tree;
+use crate::writing::head_bytes;
 use byte_buffer::ByteBuffer;
 use std::alloc::Global;
 use std::hash::{Hash, Hasher};
 use std::marker::Model;
 use tt::TopSubtree;
-use tt_data::{Symbol, TtFault};
+use tt_data::{DelimSpan, DelimiterKind, Leaf, Subtree, Symbol, TtFault};
 
 /// A whole tree in packed form: its records, and a table of its texts.
 #[derive(Drop)]
@@ -117,6 +125,86 @@ impl PackedTree {
         records.append(self.records.bytes())?;
         let table = self.table.clone()?;
         Ok(PackedTree { records, table })
+    }
+
+    /// The head of the group: its delimiters, and how many tokens are inside.
+    pub fn top_subtree(&self) -> Subtree
+        ensures { result ≡ head_of self.now }
+    {
+        match first_lent(self.table.as_slice(), self.records.bytes()) {
+            Some(PackedToken::Head(head)) => head,
+            _ => unreachable!(),
+        }
+    }
+
+    /// A walk over all tokens, the group's own head first.
+    pub fn tokens(&self) -> PackedTokens<'_>
+        ensures { result ≡ tokens_of self.now }
+    {
+        let count = self.top_subtree().usize_len() + 1;
+        PackedTokens::of(self.records.bytes(), self.table.as_slice(), count)
+    }
+
+    // Replaces the head of the group, which counts the same tokens inside.
+    fn set_head(&mut self, head: &Subtree)
+        requires { head.now.len ≡ size self.old.inner }
+        ensures { self.new ≡ record self.old { delimiter = head.now.delimiter } }
+    {
+        self.records.patch(0, &head_bytes(head));
+    }
+
+    /// Gives the group another kind of delimiters. It takes no memory.
+    pub fn set_top_subtree_delimiter_kind(&mut self, kind: DelimiterKind)
+        ensures { self.new ≡ record self.old { delimiter = record self.old.delimiter { kind = kind } } }
+    {
+        let mut head = self.top_subtree();
+        head.delimiter.kind = kind;
+        self.set_head(&head);
+    }
+
+    /// Gives the group's delimiters other spans. It takes no memory.
+    pub fn set_top_subtree_delimiter_span(&mut self, span: DelimSpan)
+        ensures { self.new ≡ record self.old { delimiter = record { open_span = span.open_span; close_span = span.close_span; kind = self.old.delimiter.kind } } }
+    {
+        let mut head = self.top_subtree();
+        head.delimiter.open_span = span.open_span;
+        head.delimiter.close_span = span.close_span;
+        self.set_head(&head);
+    }
+
+    /// Replaces the leaf at index `idx` of the flat list, in which the group's own head is 0.
+    ///
+    /// Texts are numbered by first use, so other leaves may get other numbers: all tokens are
+    /// packed again, in new memory and in time in proportion to their number.
+    ///
+    /// It refuses `Place` exactly where no leaf is there; its one other error is `Memory`. A
+    /// refused call changes nothing.
+    pub fn set_token(&mut self, alloc: Global, idx: usize, leaf: Leaf) -> Result<(), TtFault>
+        ensures ok { OnOk result (tokens_of self.new ≡ set (tokens_of self.old) idx (token.Leaf leaf)) }
+        ensures err { OnErr result (self.new ≡ self.old) }
+        ensures place { (result ≡ Err fault.Place) ↔ (has_leaf_at idx (tokens_of self.old) ≡ false) }
+        ensures faults { IfErr result (λ e. (e ≡ fault.Memory) ⊎ (e ≡ fault.Place)) }
+    {
+        // The proof that all tokens can be packed needs this.
+        let _inside = self.top_subtree().len;
+        let Some((before, after)) = self.tokens().around_leaf(idx) else {
+            return Err(TtFault::Place);
+        };
+        let packing = packed_around(alloc, before, leaf, after)?;
+        *self = PackedTree::of(packing);
+        Ok(())
+    }
+}
+
+impl PackedTree {
+    ghost use Rattle.packed_tree.specs.Respanned.{AreRespanned};
+
+    // Gives the tokens the spans of a tree, which differs in spans alone.
+    pub(crate) fn set_spans(&mut self, tree: &TopSubtree)
+        requires { AreRespanned (tokens_of self.old) (tokens_of tree.now) }
+        ensures { self.new ≡ tree.now }
+    {
+        set_spans(&mut self.records, tree.as_token_trees().iter_flat_tokens());
     }
 }
 

@@ -5,7 +5,7 @@ ghost use Rattle.tt_data.specs.fault.TtFault.TheVariants as fault;
 ghost use Rattle.tt.specs.Tops.{Top};
 ghost use Rattle.packed_tree.specs.Packed.{ArePacked, IsPackedForm};
 
-use crate::reading::{after_first, first_token};
+use crate::reading::{after_first, first_lent};
 use std::alloc::Global;
 use tt::TopSubtree;
 use tt_data::{Symbol, TokenTree, TtFault};
@@ -20,13 +20,13 @@ fn read_tokens(alloc: Global, table: &[Symbol], bytes: &[u8]) -> Result<Vec<Toke
     let mut tokens = Vec::new(alloc);
     let mut rest = bytes;
     while !rest.is_empty() {
-        let Some(token) = first_token(table, rest) else {
+        let Some(token) = first_lent(table, rest) else {
             return Err(TtFault::Malformed);
         };
         let Some(more) = after_first(rest) else {
             return Err(TtFault::Malformed);
         };
-        let Ok(()) = tokens.push(token) else {
+        let Ok(()) = tokens.push(token.to_token()) else {
             return Err(TtFault::Memory);
         };
         rest = more;

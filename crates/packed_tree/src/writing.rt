@@ -30,8 +30,8 @@ fn context_byte(ctx: SyntaxContext) -> u8
     }
 }
 
-// The bytes of a span.
-fn span_bytes(span: Span) -> [u8; 13]
+/// The bytes of a span.
+pub(crate) fn span_bytes(span: Span) -> [u8; 13]
     ensures { result ≡ span_bytes span }
 {
     let [a, b, c, d] = word(span.range.start);

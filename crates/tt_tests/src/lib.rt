@@ -14,6 +14,8 @@ mod nesting;
 #[cfg(test)]
 mod packed;
 #[cfg(test)]
+mod packed_use;
+#[cfg(test)]
 mod refused;
 #[cfg(test)]
 mod samples;

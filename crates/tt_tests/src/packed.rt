@@ -7,7 +7,7 @@ use tt::{TopSubtree, TopSubtreeBuilder};
 use tt_data::{Delimiter, DelimiterKind, Ident, Leaf, LitKind, Literal, Symbol, TtFault};
 
 // The leaf that a character stands for: a name, a literal with a suffix, or a punct.
-fn leaf(alloc: Global, char: char, start: u8) -> Result<Leaf, TtFault> {
+pub(crate) fn leaf(alloc: Global, char: char, start: u8) -> Result<Leaf, TtFault> {
     let span = byte_at(start);
     match char {
         'a' => Ok(Leaf::from(Ident::new(alloc, "a", span)?)),
@@ -249,7 +249,7 @@ fn packed_of(alloc: Global, text: &str, taken_back: &str) -> Result<PackedTree, 
 }
 
 // The tree `a1{;a}a`.
-fn mixed(alloc: Global) -> Result<TopSubtree, TtFault> {
+pub(crate) fn mixed(alloc: Global) -> Result<TopSubtree, TtFault> {
     let mut builder = begun(alloc, "")?;
     builder.push(leaf(alloc, 'a', 0)?)?;
     builder.push(leaf(alloc, '1', 1)?)?;

@@ -3,6 +3,7 @@
 use crate::packed::{
     are_built, are_checked, are_cut_back, are_misplaced, are_numbered, are_told, have_sizes,
 };
+use crate::packed_use::{are_enclosed, are_relabelled, are_replaced, are_walked};
 use crate::samples::{begun, built, byte_at, punct, shows, tells, tree};
 use crate::states::{number_anchors, rewrite};
 use crate::walks::rebuilt;
@@ -212,5 +213,27 @@ fn packs_as_it_comes(rt: HostRuntime) -> Result<(), Fail> {
         answer => answer?,
     };
     assert!(rt; built && cut_back && misplaced);
+    Ok(())
+}
+
+#[test]
+fn reads_and_changes_packed_trees(rt: HostRuntime) -> Result<(), Fail> {
+    let walked = match are_walked(rt.alloc()) {
+        Err(TtFault::Memory) => are_walked(rt.alloc())?,
+        answer => answer?,
+    };
+    let enclosed = match are_enclosed(rt.alloc()) {
+        Err(TtFault::Memory) => are_enclosed(rt.alloc())?,
+        answer => answer?,
+    };
+    let replaced = match are_replaced(rt.alloc()) {
+        Err(TtFault::Memory) => are_replaced(rt.alloc())?,
+        answer => answer?,
+    };
+    let relabelled = match are_relabelled(rt.alloc()) {
+        Err(TtFault::Memory) => are_relabelled(rt.alloc())?,
+        answer => answer?,
+    };
+    assert!(rt; walked && enclosed && replaced && relabelled);
     Ok(())
 }

@@ -1,5 +1,5 @@
 -- Record by record: where some tokens are packed here, the next one is read.
-use Rattle.std.proofs.Common.{◌<◌, arith, length, rules}
+use Rattle.std.proofs.Common.{◌∙◌, ◌<◌, arith, length, rules}
 use Rattle.std.proofs.lemmas.Bool.{false≢true}
 use Rattle.std.proofs.lemmas.Grind.{common_steps}
 use Rattle.packed_tree.proofs.ReadingLemmas.{goes_on_with, reads_all, reads_next, reads_none}
@@ -18,8 +18,8 @@ pub loop-rest-preserved : goal.loop-rest-preserved
 loop-rest-preserved c = λ ts packed.
     let some : 0 < length c.loop-rest.rest.now = grind (arith, common_steps) in
     let next = reads_next ts c.loop-rest.tokens.items c.args.bytes.now c.loop-rest.rest.now c.args.table.now packed some (c.loop-rest.invariant ts packed) in
-    goes_on_with ts c.loop-rest.tokens.items c.push.new.self.items c.args.table.now c.loop-rest.rest.now c.in-Some-after_first.more.now c.in-Some.token
-    c.in-Ok.ensures.items c.in-Some.ensures.token c.in-Some-after_first.ensures.rest next
+    goes_on_with ts c.loop-rest.tokens.items c.push.new.self.items c.args.table.now c.loop-rest.rest.now c.in-Some-after_first.more.now c.to_token.result
+    c.in-Ok.ensures.items (c.to_token.ensures ∙ c.in-Some.ensures.token) c.in-Some-after_first.ensures.rest next
 
 pub returns-clause-ok : goal.returns-clause-ok
 returns-clause-ok c = λ ts packed. reads_all ts c.loop-rest.tokens.items c.loop-rest.rest.now (search rules) (c.loop-rest.invariant ts packed)

@@ -1,0 +1,24 @@
+-- A group is split off where its tokens end.
+use Rattle.std.proofs.Common.{ap}
+use Rattle.packed_tree.specs.Lent.{token_lent}
+use Rattle.packed_tree.proofs.IterLemmas.{group_fits, split}
+use Rattle.packed_tree.proofs.iter.PackedIter.first_group.Goals as goal
+
+pub split_at-inner-requires : goal.split_at-inner-requires
+split_at-inner-requires c =
+    group_fits _ _ _ _ _ _ c.self.invariant c.self.view_is c.in_ok-head.ensures (ap token_lent c.in-Head-default.is-0) c.usize_len.ensures
+
+pub invariant_of-result : goal.invariant_of-result
+invariant_of-result c =
+    (split _ _ _ _ _ _ c.self.invariant c.self.view_is c.in_ok-head.ensures (ap token_lent c.in-Head-default.is-0) c.usize_len.ensures _ _
+    c.split_at-inner.ensures.front c.split_at-inner.ensures.back).inner_whole
+
+pub invariant_of-result-in-Head-default : goal.invariant_of-result-in-Head-default
+invariant_of-result-in-Head-default c =
+    (split _ _ _ _ _ _ c.self.invariant c.self.view_is c.in_ok-head.ensures (ap token_lent c.in-Head-default.is-0) c.usize_len.ensures _ _
+    c.split_at-inner.ensures.front c.split_at-inner.ensures.back).rest_whole
+
+pub returns-in-Head-default : goal.returns-in-Head-default
+returns-in-Head-default c =
+    (split _ _ _ _ _ _ c.self.invariant c.self.view_is c.in_ok-head.ensures (ap token_lent c.in-Head-default.is-0) c.usize_len.ensures _ _
+    c.split_at-inner.ensures.front c.split_at-inner.ensures.back).first
