@@ -1,5 +1,5 @@
 -- A turn of the main loop, over the threads of the code.
-use Rattle.std.proofs.Common.{◌≡◌, refl, sym, ap, subst, ◌∙◌, ℕ, ◌<◌, Bool, true, false, List, [], ◌∷◌, ◌++◌, map, Option, Some, None, length, get_or, arith}
+use Rattle.std.proofs.Common.{◌≡◌, refl, sym, ap, subst, ◌∙◌, ℕ, ◌<◌, ◌≤◌, Bool, true, false, List, [], ◌∷◌, ◌++◌, map, Option, Some, None, option_map, length, get_or, arith}
 use Rattle.std.specs.List.{flat_map}
 use Rattle.std.proofs.lemmas.List.{append-nil}
 use Rattle.tt_data.specs.Forest.{Forest}
@@ -12,7 +12,7 @@ use Rattle.mbe_matcher.specs.Readings as r
 use Rattle.mbe_matcher.specs.Threads as t
 use Rattle.mbe_matcher.specs.Settled.{Leads, IsKept, IsSound, IsSoundAt}
 use Rattle.mbe_matcher.specs.Units as u
-use Rattle.mbe_matcher.specs.Ways.{Follows, stays, leads, goes_on, last_waits}
+use Rattle.mbe_matcher.specs.Ways.{Follows, stays, leads, goes_on, last_waits, LeadsAlone}
 use Rattle.mbe_matcher.specs.Waiting.{ended, pending, prefixed, finished, settled_at, Each, Good, heads, advanced_by, unless, IsFrom}
 use Rattle.mbe_matcher.specs.declared.position.Consumed.{Consumed}
 use Rattle.mbe_matcher.specs.declared.same_state.Seen.{Seen}
@@ -20,11 +20,13 @@ use Rattle.mbe_matcher.specs.declared.matcher.SettleTask.TheVariants.{GoOn}
 use Rattle.mbe_matcher.specs.declared.step.Waiting as d
 use Rattle.mbe_matcher.specs.declared.step.Waiting.TheVariants.{Ended, Pending}
 use Rattle.mbe_matcher.specs.declared.thread.Thread.{Thread}
+use Rattle.mbe_matcher.specs.declared.way.Alone.{Alone}
+use Rattle.mbe_matcher.specs.declared.way.Alone.TheVariants.{Done, Open}
 use Rattle.mbe_matcher.proofs.MatchingLemmas.{outcome_at, outcome_later, begun-at}
 use Rattle.mbe_matcher.proofs.SoundLemmas.{Sound, AllFrom, AllTo, kept-at, advance-at, from-advanced-at, one_place-at, from-settled-at, over-at, sound-start}
 use Rattle.mbe_matcher.proofs.DueLemmas.{as_choice, more-due, none-yet}
 use Rattle.mbe_matcher.proofs.KeptLemmas.{kept-each}
-use Rattle.mbe_matcher.proofs.WayLemmas.{waits-lower}
+use Rattle.mbe_matcher.proofs.WayLemmas.{waits-lower, follows-sound}
 
 abbrev pub P : Type 0
 P = u.Place
@@ -231,3 +233,32 @@ done-held gr pattern argument ns x o i e =
     go : (o : Option (List r.Move)) → Held gr pattern argument (r.place_of x) (last_waits o) → o ≡ r.the_reading gr pattern argument
     go None h = sym (over-at gr pattern [] refl) ∙ h.same
     go (Some ms) h = sym (over-at gr pattern (ended ms ∷ []) refl) ∙ h.same
+
+-- ---- what it leads to
+
+-- the first thread of all
+pub begun-held : (gr : Grammar) → (pattern : Items) (argument : Forest) (p : P) (h : Thread) → has_empty_round pattern ≡ false → p ≡ u.place argument [] →
+    t.moves_of h.moves ≡ [] → t.state_of h p ≡ r.at pattern [] p → HeldAt gr pattern argument (t.moves_of h.moves) (t.state_of h p)
+begun-held gr pattern argument p h e i m s = rw (m, s) (start-at gr pattern argument p e i)
+
+-- the reading is known
+pub alone-done : (gr : Grammar) → (pattern : Items) (argument : Forest) (ms : List r.Move) (s : r.State) (p : P) (o : _) → HeldAt gr pattern argument ms s →
+    LeadsAlone gr ms s p (Done o) → option_map t.moves_of o ≡ r.the_reading gr pattern argument
+alone-done gr pattern argument ms s p o h (ns, x, f, e) =
+    done-held gr pattern argument ns x (option_map t.moves_of o) (follows-held gr pattern argument ms s ns x f h) e
+
+-- or the threads that were settled lead to it
+pub alone-settled : (gr : Grammar) → (pattern : Items) (argument : Forest) (ms : List r.Move) (s : r.State) (p : P) (a : Alone) → HeldAt gr pattern argument ms s →
+    LeadsAlone gr ms s p a → ((o : _) → a ≡ Done o → ⊥) → (ws us : List d.Waiting) (seen xs : List Seen) → us ≡ [] → xs ≡ [] →
+    ((all : List t.Waits) (h : Thread) → Leads gr pattern p all us xs (GoOn (as_choice h) ∷ []) → a ≡ Open h → Leads gr pattern p all ws seen []) →
+    Held gr pattern argument p (t.waits p ws)
+alone-settled gr pattern argument ms s p (Done o) h l n ws us seen xs b c f = absurd (n o refl)
+alone-settled gr pattern argument ms s p (Open v) h l n ws us seen xs b c f =
+    alone-held gr pattern argument p v (follows-held gr pattern argument ms s (t.moves_of v.moves) (t.state_of v p) l h)
+    ws us seen xs b c (λ all k. f all v k refl)
+
+-- no more is left of the argument
+pub alone-lower : (gr : Grammar) → (pattern : Items) (ms : List r.Move) (s : r.State) (p : P) (a : Alone) → IsSound pattern s →
+    LeadsAlone gr ms s p a → ((o : _) → a ≡ Done o → ⊥) → u.left p ≤ u.left (r.place_of s)
+alone-lower gr pattern ms s p (Done o) h l n = absurd (n o refl)
+alone-lower gr pattern ms s p (Open v) h l n = (follows-sound gr pattern ms s (t.moves_of v.moves) (t.state_of v p) l h).1

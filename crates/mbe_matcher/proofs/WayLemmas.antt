@@ -3,31 +3,29 @@ use Rattle.std.proofs.Common.{◌≡◌, inl, inr, refl, sym, ap, subst, ◌∙�
 use Rattle.std.specs.List.{flat_map}
 use Rattle.std.proofs.lemmas.List.{append-nil}
 use Rattle.std.specs.Borrow.{Bor}
-use Rattle.mbe_rules.specs.Items.{Items, done, may_skip, variables}
-use Rattle.mbe_rules.specs.Ops.{items_of, separator_of}
-use Rattle.mbe_rules.specs.declared.parser.Op.{Op}
-use Rattle.mbe_rules.specs.declared.parser.Separator.{Separator}
+use Rattle.mbe_rules.specs.Items.{Items, may_skip}
+use Rattle.mbe_rules.specs.Ops.{items_of}
 use Rattle.mbe_matcher.specs.Grammar.{Grammar}
-use Rattle.mbe_matcher.specs.Paths.{IsAmong, when}
+use Rattle.mbe_matcher.specs.Paths.{IsAmong}
 use Rattle.mbe_matcher.specs.Places.{place_after}
 use Rattle.mbe_matcher.specs.Positions.{IsIn}
 use Rattle.mbe_matcher.specs.Readings as r
 use Rattle.mbe_matcher.specs.Rounds.{WaitsAfter, WaitsAlone}
 use Rattle.mbe_matcher.specs.Settled.{IsSound}
-use Rattle.mbe_matcher.specs.Threads.{Waits, between_of, contributes, extended, frame_of, frames_in, frames_of, is_some_taken, is_trees, made_of, moves_of, repetition_of, state_of}
+use Rattle.mbe_matcher.specs.Steps.{may_go_on}
+use Rattle.mbe_matcher.specs.Threads.{Waits, between_of, contributes, extended, frame_of, frames_in, frames_of, given, is_some_taken, is_trees, made_of, moves_of, repetition_of, state_of}
 use Rattle.mbe_matcher.specs.Units as u
 use Rattle.mbe_matcher.specs.Waiting.{ended, pending, prefixed, settled_at, empties_at, Good}
 use Rattle.mbe_matcher.specs.Ways.{HasNoMove, IsDead, IsOnlyOf, alone, first, second, IsOnly, LeadsAs, Follows, stays, leads, goes_on}
 use Rattle.mbe_matcher.specs.declared.step.Waiting.TheVariants.{Ended, Pending}
 use Rattle.mbe_matcher.specs.declared.position.Consumed.{Consumed}
-use Rattle.mbe_matcher.specs.declared.position.Consumed.TheVariants.{Unit as takes_unit}
 use Rattle.mbe_matcher.specs.declared.step.Choice.{Choice}
-use Rattle.mbe_matcher.specs.declared.thread.Frame.TheVariants.{InGroup, InRound, Parted}
+use Rattle.mbe_matcher.specs.declared.thread.Frame.TheVariants.{InRound}
 use Rattle.mbe_matcher.specs.declared.thread.Round.{Round}
 use Rattle.mbe_matcher.specs.declared.thread.Rung.{Rung}
 use Rattle.mbe_matcher.specs.declared.thread.Thread.{Thread}
 use Rattle.mbe_matcher.proofs.MoveLemmas.{does}
-use Rattle.mbe_matcher.proofs.OpsLemmas.{same-made}
+use Rattle.mbe_matcher.proofs.OpsLemmas.{entered, skipped, repetition-next, left, further, round-next}
 use Rattle.mbe_matcher.proofs.PositionLemmas.{stays-in}
 use Rattle.mbe_matcher.proofs.SettlingLemmas.{settled-ended, settled-goes_on}
 use Rattle.mbe_matcher.proofs.SoundLemmas.{AllFrom, from-settled-at}
@@ -153,122 +151,46 @@ follows-sound gr pattern ms s _ _ (goes_on {ns} {ks} {t} {v} {b} f w) h =
 -- ---- the choices of a repetition
 
 -- after an iteration
-round-next : (gr : Grammar) (p : u.Place) (t : Thread) (fs : Option (Bor Rung)) (x : Round) → t.items.now ≡ [] → frames_in t.frames ≡ InRound x ∷ frames_in fs →
-    r.next gr (state_of t p)
-    ≡ r.round_moves (items_of x.body.now) (between_of x.separator) x.kind (items_of x.after.now) (frames_of fs) p ++ ((r.leave, r.at (items_of x.after.now) (frames_of fs) p) ∷ [])
-round-next gr p t fs x over f =
-    ap (λ is. r.next gr (r.at (items_of is) (frames_of t.frames) p)) over
-    ∙ ap (λ y. r.next gr (r.at done (map frame_of y) p)) f
-
--- its separator
-apart-moves : (p : u.Place) (fs : List r.Frame) (x : Round) (sep : Bor Separator) (b : Bool) → x.separator ≡ Some sep → u.is_separator (separator_of sep.now) (u.unit_at p) ≡ b →
-    r.round_moves (items_of x.body.now) (between_of x.separator) x.kind (items_of x.after.now) fs p
-    ≡ when b (r.separator_move, r.at done (frame_of (Parted x) ∷ fs) (u.after_unit p))
-apart-moves p fs x sep b some e =
-    let body = items_of x.body.now in
-    let after = items_of x.after.now in
-    ap (λ s. r.round_moves body (between_of s) x.kind after fs p) some
-    ∙ ap (λ b. when b (r.separator_move, r.at done (r.parted body (Some (separator_of sep.now)) x.kind after ∷ fs) (u.after_unit p))) e
-    ∙ ap (λ s. when b (r.separator_move, r.at done (r.parted body (between_of s) x.kind after ∷ fs) (u.after_unit p))) (sym some)
-
--- or the next iteration
-again-moves : (p : u.Place) (fs : List r.Frame) (x : Round) (b : Bool) → x.separator ≡ None → r.may_repeat x.kind ≡ b →
-    r.round_moves (items_of x.body.now) (between_of x.separator) x.kind (items_of x.after.now) fs p
-    ≡ when b (r.next_round, r.at (items_of x.body.now) (frame_of (InRound x) ∷ fs) p)
-again-moves p fs x b none e =
-    let body = items_of x.body.now in
-    let after = items_of x.after.now in
-    ap (λ s. r.round_moves body (between_of s) x.kind after fs p) none
-    ∙ ap (λ b. when b (r.next_round, r.at body (r.in_round body None x.kind after ∷ fs) p)) e
-    ∙ ap (λ s. when b (r.next_round, r.at body (r.in_round body (between_of s) x.kind after ∷ fs) p)) (sym none)
-
 module _ (gr : Grammar) (p : u.Place) (t : Thread) (fs : Option (Bor Rung)) (x : Round) (over : t.items.now ≡ []) (f : frames_in t.frames ≡ InRound x ∷ frames_in fs) where
-  abbrev left : r.Choice
-  left = (r.leave, r.at (items_of x.after.now) (frames_of fs) p)
+  abbrev l : r.Choice
+  l = left gr p t fs x over f
 
-  abbrev further : List r.Choice
-  further = r.round_moves (items_of x.body.now) (between_of x.separator) x.kind (items_of x.after.now) (frames_of fs) p
+  abbrev d : r.Choice
+  d = further gr p t fs x over f
 
-  -- only one leads on
-  left-only : (c : Choice) → made_of p c ≡ extended (moves_of t.moves) left → further ≡ [] → IsOnly gr p t c
-  left-only c m e = (left, m, subst (IsOnlyOf left) (sym (round-next gr p t fs x over f ∙ ap (λ cs. cs ++ (left ∷ [])) e)) alone)
+  -- it is left
+  pub only-left : (c : Choice) → may_go_on (between_of x.separator) x.kind p ≡ false → made_of p c ≡ extended (moves_of t.moves) l → IsOnly gr p t c
+  only-left c e m = (l, m, subst (IsOnlyOf l) (sym (round-next gr p t fs x over f false e)) alone)
 
-  left-dead : (c : Choice) (e : r.Choice) → made_of p c ≡ extended (moves_of t.moves) left → further ≡ e ∷ [] → IsDead e → IsOnly gr p t c
-  left-dead c e m i h = (left, m, subst (IsOnlyOf left) (sym (round-next gr p t fs x over f ∙ ap (λ cs. cs ++ (left ∷ [])) i)) (second h))
+  pub over-left : (c : Choice) → may_go_on (between_of x.separator) x.kind p ≡ true → IsDead d → made_of p c ≡ extended (moves_of t.moves) l → IsOnly gr p t c
+  over-left c e h m = (l, m, subst (IsOnlyOf l) (sym (round-next gr p t fs x over f true e)) (second h))
 
-  further-only : (c : Choice) (d : r.Choice) → made_of p c ≡ extended (moves_of t.moves) d → further ≡ d ∷ [] → HasNoMove left.1 → IsOnly gr p t c
-  further-only c d m i h = (d, m, subst (IsOnlyOf d) (sym (round-next gr p t fs x over f ∙ ap (λ cs. cs ++ (left ∷ [])) i)) (first (refl, h)))
-
-  -- with a separator
-  pub apart-left : (sep : Bor Separator) (c : Choice) → x.separator ≡ Some sep → u.is_separator (separator_of sep.now) (u.unit_at p) ≡ false →
-      made_of p c ≡ extended (moves_of t.moves) left → IsOnly gr p t c
-  apart-left sep c some e m = left-only c m (apart-moves p (frames_of fs) x sep false some e)
-
-  pub apart-further : (sep : Bor Separator) (a : Thread) → x.separator ≡ Some sep → u.is_separator (separator_of sep.now) (u.unit_at p) ≡ true → HasNoMove left.1 →
-      a.items.now ≡ t.items.now → frames_in a.frames ≡ Parted x ∷ frames_in fs → moves_of a.moves ≡ moves_of t.moves ++ (r.separator_move ∷ []) →
-      IsOnly gr p t (record { thread = a; taken = Some takes_unit })
-  apart-further sep a some e h i j m =
-      further-only (record { thread = a; taken = Some takes_unit }) (r.separator_move, r.at done (frame_of (Parted x) ∷ frames_of fs) (u.after_unit p))
-      (same-made _ (moves_of t.moves ++ (r.separator_move ∷ [])) true false _ done _ (frame_of (Parted x) ∷ frames_of fs) (u.after_unit p)
-      m (ap items_of (i ∙ over)) (ap (map frame_of) j))
-      (apart-moves p (frames_of fs) x sep true some e) h
-
-  -- and without one
-  pub again-left : (c : Choice) → x.separator ≡ None → r.may_repeat x.kind ≡ false → made_of p c ≡ extended (moves_of t.moves) left → IsOnly gr p t c
-  again-left c none e m = left-only c m (again-moves p (frames_of fs) x false none e)
-
-  pub again-over : (c : Choice) → x.separator ≡ None → r.may_repeat x.kind ≡ true → ((hs : List r.Frame) → HasNoMove (r.at (items_of x.body.now) hs p)) →
-      made_of p c ≡ extended (moves_of t.moves) left → IsOnly gr p t c
-  again-over c none e h m =
-      left-dead c (r.next_round, r.at (items_of x.body.now) (frame_of (InRound x) ∷ frames_of fs) p) m
-      (again-moves p (frames_of fs) x true none e) (refl, h (frame_of (InRound x) ∷ frames_of fs))
-
-  pub again-further : (c : Choice) → x.separator ≡ None → r.may_repeat x.kind ≡ true → HasNoMove left.1 →
-      made_of p c ≡ extended (moves_of t.moves) (r.next_round, r.at (items_of x.body.now) (frames_of t.frames) p) → IsOnly gr p t c
-  again-further c none e h m =
-      further-only c (r.next_round, r.at (items_of x.body.now) (frame_of (InRound x) ∷ frames_of fs) p)
-      (m ∙ ap (λ y. extended (moves_of t.moves) (r.next_round, r.at (items_of x.body.now) (map frame_of y) p)) f)
-      (again-moves p (frames_of fs) x true none e) h
+  -- or the repetition goes on
+  pub only-further : (c : Choice) → may_go_on (between_of x.separator) x.kind p ≡ true → HasNoMove l.1 → made_of p c ≡ extended (moves_of t.moves) d → IsOnly gr p t c
+  only-further c e h m = (d, m, subst (IsOnlyOf d) (sym (round-next gr p t fs x over f true e)) (first (refl, h)))
 
 -- before one
 module _ (gr : Grammar) (p : u.Place) (t : Thread) (x : Round) (i : items_of t.items.now ≡ repetition_of x) where
-  abbrev entered : r.Choice
-  entered = (r.enter, r.at (items_of x.body.now) (frame_of (InRound x) ∷ frames_of t.frames) p)
+  abbrev e : r.Choice
+  e = entered gr p t x i
 
-  abbrev skipped : r.Choice
-  skipped = (r.skip (variables (items_of x.body.now)), r.at (items_of x.after.now) (frames_of t.frames) p)
+  abbrev s : r.Choice
+  s = skipped gr p t x i
 
-  repetition-next : (b : Bool) → may_skip x.kind ≡ b → r.next gr (state_of t p) ≡ entered ∷ when b skipped
-  repetition-next b e =
-      ap (λ y. r.next gr (r.at y (frames_of t.frames) p)) i
-      ∙ ap (λ b. entered ∷ when b skipped) e
+  pub enters : (c : Choice) → may_skip x.kind ≡ false → made_of p c ≡ extended (moves_of t.moves) e → IsOnly gr p t c
+  enters c k m = (e, m, subst (IsOnlyOf e) (sym (repetition-next gr p t x i false k)) alone)
 
-  pub enters : (c : Choice) → may_skip x.kind ≡ false → made_of p c ≡ extended (moves_of t.moves) entered → IsOnly gr p t c
-  enters c e m = (entered, m, subst (IsOnlyOf entered) (sym (repetition-next false e)) alone)
-
-  pub enters-over : (c : Choice) → HasNoMove skipped.1 → made_of p c ≡ extended (moves_of t.moves) entered → IsOnly gr p t c
+  pub enters-over : (c : Choice) → HasNoMove s.1 → made_of p c ≡ extended (moves_of t.moves) e → IsOnly gr p t c
   enters-over c h m = go (may_skip x.kind) refl
     where
       go : (b : Bool) → may_skip x.kind ≡ b → IsOnly gr p t c
-      go false e = enters c e m
-      go true e = (entered, m, subst (IsOnlyOf entered) (sym (repetition-next true e)) (first (refl, h)))
+      go false k = enters c k m
+      go true k = (e, m, subst (IsOnlyOf e) (sym (repetition-next gr p t x i true k)) (first (refl, h)))
 
   pub skips : (c : Choice) → may_skip x.kind ≡ true → ((hs : List r.Frame) → HasNoMove (r.at (items_of x.body.now) hs p)) →
-      made_of p c ≡ extended (moves_of t.moves) skipped → IsOnly gr p t c
-  skips c e h m =
-      (skipped, m, subst (IsOnlyOf skipped) (sym (repetition-next true e)) (second (refl, h (frame_of (InRound x) ∷ frames_of t.frames))))
-
--- after a group
-pub group-next : (gr : Grammar) (p : u.Place) (t : Thread) (fs : Option (Bor Rung)) (after : Bor (List Op)) → t.items.now ≡ [] → frames_in t.frames ≡ InGroup after ∷ frames_in fs →
-    r.next gr (state_of t p) ≡ when (u.same_unit u.closing (u.unit_at p)) (r.unit_move, r.at (items_of after.now) (frames_of fs) (u.after_unit p))
-group-next gr p t fs after over f =
-    ap (λ is. r.next gr (r.at (items_of is) (frames_of t.frames) p)) over
-    ∙ ap (λ y. r.next gr (r.at done (map frame_of y) p)) f
-
--- the choices are these, by another name
-pub same-choices : (p : u.Place) (t : Thread) (o : Option Choice) (cs ds : List r.Choice) → cs ≡ ds →
-    IfSome o (λ c. made_of p c ∷ [] ≡ map (extended (moves_of t.moves)) cs) → IfSome o (λ c. made_of p c ∷ [] ≡ map (extended (moves_of t.moves)) ds)
-same-choices p t o cs ds e h = subst (λ xs. IfSome o (λ c. made_of p c ∷ [] ≡ map (extended (moves_of t.moves)) xs)) e h
+      made_of p c ≡ extended (moves_of t.moves) s → IsOnly gr p t c
+  skips c k h m =
+      (s, m, subst (IsOnlyOf s) (sym (repetition-next gr p t x i true k)) (second (refl, h (frame_of (InRound x) ∷ frames_of t.frames))))
 
 -- a thread with one choice has only this
 pub one-only : (gr : Grammar) (p : u.Place) (t : Thread) (c : Choice) → made_of p c ∷ [] ≡ map (extended (moves_of t.moves)) (r.next gr (state_of t p)) → IsOnly gr p t c
@@ -280,7 +202,7 @@ one-only gr p t c e = go (r.next gr (state_of t p)) e
     go (d ∷ []) h = (d, cc, alone)
     go (d ∷ e ∷ cs) h = absurd (cc h)
 
-pub if-only : (gr : Grammar) (p : u.Place) (t : Thread) (o : Option Choice) → IfSome o (λ c. made_of p c ∷ [] ≡ map (extended (moves_of t.moves)) (r.next gr (state_of t p))) →
+pub if-only : (gr : Grammar) (p : u.Place) (t : Thread) (o : Option Choice) → given p o ≡ map (extended (moves_of t.moves)) (r.next gr (state_of t p)) →
     IfSome o (λ c. IsOnly gr p t c)
 if-only gr p t None h = tt
 if-only gr p t (Some c) h = one-only gr p t c h

@@ -16,6 +16,7 @@ pub mod Waiting
 pub mod Positions
 pub mod Places
 pub mod Settled
+pub mod Steps
 pub mod Numbers
 pub mod SeenStates
 pub mod Rounds

@@ -1,9 +1,10 @@
 //! What each fragment specifier accepts: how many trees a metavariable takes at the head of a
 //! list.
 ghost use Rattle.std.specs.Prelude.{◌≡◌, Some, ◌-◌, ◌+◌};
-ghost use Rattle.mbe_matcher.specs.Fragments.{taken, ident_trees, lifetime_trees, unsigned_trees, literal_trees, tree_trees, is_refused, is_refused_2021};
+ghost use Rattle.mbe_matcher.specs.Fragments.{taken, ident_trees, lifetime_trees, unsigned_trees, literal_trees, tree_trees, is_refused, is_refused_2021, unless_refused};
 ghost use Rattle.mbe_matcher.specs.Grammar.{asked, reach};
 ghost use Rattle.mbe_matcher.specs.Places.{left_after};
+ghost use Rattle.fragment_grammar.specs.declared.fragment.PrefixEntryPoint.TheVariants as entry;
 
 use crate::position::quoted;
 use fragment_grammar::{FragmentGrammar, PrefixEntryPoint, steps};
@@ -188,6 +189,21 @@ fn asked<G: FragmentGrammar>(
     Some(count)
 }
 
+// How many trees an expression takes, unless the list is refused.
+#[inline]
+fn expr_trees<G: FragmentGrammar>(
+    grammar: &G,
+    is_refused: bool,
+    trees: &TtIter<'_>,
+) -> Option<usize>
+    ensures { result ≡ unless_refused is_refused (asked (G.answer grammar.now) entry.Expr trees.now) }
+{
+    if is_refused {
+        return None;
+    }
+    asked(grammar, PrefixEntryPoint::Expr, trees)
+}
+
 /// How many trees a metavariable with this fragment specifier takes at the head of a list. `None`
 /// if there is no such fragment.
 #[inline]
@@ -203,18 +219,8 @@ pub(crate) fn fragment_trees<G: FragmentGrammar>(
         MetaVarKind::Tt => tree_trees(trees),
         MetaVarKind::Lifetime => lifetime_trees(trees),
         MetaVarKind::Literal => literal_trees(trees),
-        MetaVarKind::Expr => {
-            if is_refused(trees) {
-                return None;
-            }
-            asked(grammar, PrefixEntryPoint::Expr, trees)
-        }
-        MetaVarKind::Expr2021 => {
-            if is_refused_2021(trees) {
-                return None;
-            }
-            asked(grammar, PrefixEntryPoint::Expr, trees)
-        }
+        MetaVarKind::Expr => expr_trees(grammar, is_refused(trees), trees),
+        MetaVarKind::Expr2021 => expr_trees(grammar, is_refused_2021(trees), trees),
         MetaVarKind::Path => asked(grammar, PrefixEntryPoint::Path, trees),
         MetaVarKind::Ty => asked(grammar, PrefixEntryPoint::Ty, trees),
         MetaVarKind::Pat => asked(grammar, PrefixEntryPoint::PatTop, trees),

@@ -9,13 +9,16 @@ ghost use Rattle.mbe_matcher.specs.Grammar.{Grammar};
 ghost use Rattle.mbe_matcher.specs.Paths.{clash, only};
 ghost use Rattle.mbe_matcher.specs.Places.{place_of};
 ghost use Rattle.mbe_matcher.specs.Readings as r;
-ghost use Rattle.mbe_matcher.specs.Settled.{Leads, HasEnd, going_on, IsGood, IsSoundAt, most_tasks, planned, tasks_of, tasks_of_all};
+ghost use Rattle.mbe_matcher.specs.Settled.{Leads, HasEnd, going_on, IsGood, IsSound, IsSoundAt, most_tasks, planned, tasks_of, tasks_of_all};
 ghost use Rattle.mbe_matcher.specs.Units as u;
 ghost use Rattle.mbe_matcher.specs.declared.matcher.SettleTask.{SettleTask};
 ghost use Rattle.mbe_matcher.specs.Waiting.{settled_at, advanced_by, empties_at, finished, Each};
 ghost use Rattle.mbe_matcher.specs.Threads.{Waits, moves_of, state_of, waits, waits_at, waiting_at, takings_of, head_taken, is_trees};
 ghost use Rattle.mbe_matcher.specs.declared.matcher.SettleTask.TheVariants.{GoOn};
 ghost use Rattle.mbe_matcher.specs.declared.step.Waiting.TheVariants.{Pending};
+ghost use Rattle.mbe_matcher.specs.declared.thread.Thread.{Thread};
+ghost use Rattle.mbe_matcher.specs.declared.way.Alone.TheVariants.{Open};
+ghost use Rattle.mbe_matcher.specs.Ways.{LeadsAlone};
 
 use crate::lookahead::is_stuck;
 use crate::position::{Consumed, Place};
@@ -368,6 +371,33 @@ impl<'a> Settled<'a> {
         Ok(())
     }
 
+    // Settles what a thread leads to that is alone. `place` moves there.
+    #[inline(always)]
+    fn settle_alone<G: FragmentGrammar>(
+        &mut self,
+        arena: &'a Bump,
+        grammar: &G,
+        thread: Thread<'a>,
+        place: &mut Place<'a>,
+    ) -> Result<Alone<'a>, AllocError>
+        requires tasks { self.now.tasks.items ≡ [] }
+        requires sound { (pattern : Items) × IsSound pattern (state_of thread (place_of place.old)) }
+        ensures done { OnOk result (self.new.tasks.items ≡ []) }
+        ensures alone { IfOk result (λ a. LeadsAlone (G.answer grammar.now) (moves_of thread.entry.moves) (state_of thread.entry (place_of place.old)) (place_of place.new) a) }
+        ensures all { let p = place_of place.new in let gr = G.answer grammar.now in (pattern : Items) (all : List Waits) (t : Thread) →
+            Leads gr pattern p all self.old.waiting.items self.old.seen (GoOn (record { thread = t; taken = None }) ∷ []) →
+            IfOk result (λ a. a ≡ Open t → Leads gr pattern p all self.new.waiting.items self.new.seen []) }
+    {
+        let alone = thread.go_alone(arena, grammar, place)?;
+        match alone {
+            Alone::Done(reading) => Ok(Alone::Done(reading)),
+            Alone::Open(next) => {
+                self.settle_open(arena, grammar, next, place)?;
+                Ok(Alone::Open(next))
+            }
+        }
+    }
+
     // Settles a thread. If its way is clear, there are no tasks.
     #[inline(always)]
     fn settle_clear<G: FragmentGrammar>(
@@ -549,22 +579,13 @@ pub fn match_pattern<'a, G: FragmentGrammar>(
     ensures { IfOk result (λ o. option_map moves_of o
         ≡ r.the_reading (G.answer grammar.now) (items_of pattern.now) (forest argument.entry)) }
 {
-    let thread = Thread {
-        items: pattern,
-        frames: None,
-        moves: None,
-    };
-    let mut place = Place {
-        rest: argument.iter(),
-        outer: Vec::new(alloc),
-    };
-    let first = match thread.go_alone(arena, grammar, &mut place)? {
-        Alone::Done(reading) => return Ok(reading),
-        Alone::Open(thread) => thread,
-    };
+    let mut place = Place::start(alloc, argument);
     let mut found = Settled::new(alloc);
+    let first = Thread::start(pattern);
+    if let Alone::Done(reading) = found.settle_alone(arena, grammar, first, &mut place)? {
+        return Ok(reading);
+    }
     let mut waiting = Vec::new(alloc);
-    found.settle_open(arena, grammar, first, &place)?;
     loop {
         if has_clash(&found.waiting) {
             return Ok(None);
@@ -578,10 +599,8 @@ pub fn match_pattern<'a, G: FragmentGrammar>(
             found.advance_all(arena, grammar, &waiting, &place)?;
             continue;
         };
-        let next = match thread.go_alone(arena, grammar, &mut place)? {
-            Alone::Done(reading) => return Ok(reading),
-            Alone::Open(thread) => thread,
-        };
-        found.settle_open(arena, grammar, next, &place)?;
+        if let Alone::Done(reading) = found.settle_alone(arena, grammar, thread, &mut place)? {
+            return Ok(reading);
+        }
     }
 }

@@ -1,26 +1,23 @@
 //! The way of a thread, as long as it is clear: the thread is settled without tasks. It decides
 //! speed alone.
-ghost use Rattle.std.specs.Prelude.{◌≡◌, [], ◌∷◌, ◌++◌, map, false, None, Some, IfOk, IfSome};
-ghost use Rattle.mbe_rules.specs.Items.{Items, may_skip};
+ghost use Rattle.std.specs.Prelude.{◌≡◌, List, [], ◌∷◌, true, IfOk, IfSome};
+ghost use Rattle.mbe_rules.specs.Items.{Items};
 ghost use Rattle.mbe_rules.specs.Ops.{items_of};
 ghost use Rattle.mbe_matcher.specs.Grammar.{Grammar};
-ghost use Rattle.mbe_matcher.specs.Paths.{when};
 ghost use Rattle.mbe_matcher.specs.Places.{place_of};
 ghost use Rattle.mbe_matcher.specs.Readings as r;
 ghost use Rattle.mbe_matcher.specs.Settled.{IsGood, IsSound};
-ghost use Rattle.mbe_matcher.specs.Threads.{state_of, frames_in, frames_of, move_of, moves_of, made_of, extended, repetition_of};
-ghost use Rattle.mbe_matcher.specs.Units as u;
-ghost use Rattle.mbe_matcher.specs.Ways.{IsOnly, IsWay, LeadsAlone};
-ghost use Rattle.mbe_matcher.specs.declared.thread.Frame.TheVariants.{InRound, Parted};
+ghost use Rattle.mbe_matcher.specs.Threads.{state_of, frames_in, moves_of, between_of, repetition_of};
+ghost use Rattle.mbe_matcher.specs.Steps.{further};
+ghost use Rattle.mbe_matcher.specs.Ways.{IsDead, IsOnly, IsWay, LeadsAlone};
+ghost use Rattle.mbe_matcher.specs.declared.thread.Frame.TheVariants.{InRound};
 
-use crate::fragments::fragment_trees;
 use crate::lookahead::{is_over, is_over_at};
-use crate::position::{Consumed, Place, before};
-use crate::step::{Choice, Variable, Waiting, borrowed};
-use crate::thread::{Entry, Frame, Move, Round, Rung, Thread, inside};
+use crate::position::Place;
+use crate::step::{Choice, Waiting, may_go_on, may_skip, round_of};
+use crate::thread::{Entry, Frame, Move, Round, Rung, Thread};
 use bumpalo::Bump;
 use fragment_grammar::FragmentGrammar;
-use mbe_rules::{Op, RepeatKind, Separator};
 use std::alloc::AllocError;
 
 // What a thread leads to at a position.
@@ -43,124 +40,18 @@ pub(crate) enum Alone<'a> {
     Open(Thread<'a>),
 }
 
-// Whether another iteration may follow.
+// Whether a repetition has no separator, and no move leads on from its next iteration here.
 #[inline(always)]
-fn may_repeat(kind: RepeatKind) -> bool
-    ensures { result ≡ r.may_repeat kind }
+fn is_over_again<'a>(round: Round<'a>, place: &Place<'a>) -> bool
+    ensures { result ≡ true → (fs : List r.Frame) → IsDead (further (items_of round.entry.body.now) (between_of round.entry.separator) round.entry.kind (items_of round.entry.after.now) fs (place_of place.now)) }
 {
-    match kind {
-        RepeatKind::ZeroOrOne => false,
-        _ => true,
-    }
-}
-
-// Whether a repetition may have no iteration.
-#[inline(always)]
-fn may_skip(kind: RepeatKind) -> bool
-    ensures { result ≡ may_skip kind }
-{
-    match kind {
-        RepeatKind::OneOrMore => false,
-        _ => true,
+    match round.separator {
+        Some(_) => false,
+        None => is_over_at(round.body, place),
     }
 }
 
 impl<'a> Thread<'a> {
-    // The choice that consumes a unit, if it is here. `items` and `frames` come after it.
-    #[inline(always)]
-    fn only_unit(
-        &self,
-        arena: &'a Bump,
-        is_here: bool,
-        items: &'a [Op],
-        frames: Option<&'a Rung<'a>>,
-    ) -> Result<Option<Choice<'a>>, AllocError>
-        ensures { (p : u.Place) → IfOk result (λ o. IfSome o (λ c. made_of p c ∷ []
-            ≡ map (extended (moves_of self.now.moves)) (when is_here (r.unit_move, r.at (items_of items.now) (frames_of frames.entry) (u.after_unit p))))) }
-    {
-        if !is_here {
-            return Ok(None);
-        }
-        let thread = self.moved(arena, items, frames, Move::Unit)?;
-        Ok(Some(Choice {
-            thread,
-            taken: Some(Consumed::Unit),
-        }))
-    }
-
-    // The choice that opens a group, if it is here.
-    #[inline(always)]
-    fn only_opening(
-        &self,
-        arena: &'a Bump,
-        is_here: bool,
-        inner: &'a [Op],
-        after: &'a [Op],
-    ) -> Result<Option<Choice<'a>>, AllocError>
-        ensures { (p : u.Place) → IfOk result (λ o. IfSome o (λ c. made_of p c ∷ []
-            ≡ map (extended (moves_of self.now.moves)) (when is_here (r.unit_move, r.at (items_of inner.now) (r.in_group (items_of after.now) ∷ frames_of self.now.frames) (u.after_unit p))))) }
-    {
-        if !is_here {
-            return Ok(None);
-        }
-        let frames = inside(arena, self.frames, Frame::InGroup { after })?;
-        let thread = self.moved(arena, inner, frames, Move::Unit)?;
-        Ok(Some(Choice {
-            thread,
-            taken: Some(Consumed::Unit),
-        }))
-    }
-
-    // The choice that consumes a fragment of `count` trees, if there is one here and it has a
-    // tree. `items` are the ops after it.
-    #[inline(always)]
-    fn only_fragment(
-        &self,
-        arena: &'a Bump,
-        variable: Variable<'a>,
-        count: Option<usize>,
-        items: &'a [Op],
-        place: &Place<'a>,
-    ) -> Result<Option<Choice<'a>>, AllocError>
-        ensures { let p = place_of place.now in IfOk result (λ o. IfSome o (λ c. made_of p c ∷ []
-            ≡ map (extended (moves_of self.now.moves)) (r.fragment_moves variable.entry.name.now variable.entry.kind count
-            (items_of items.now) (frames_of self.now.frames) p))) }
-    {
-        let Variable { name, kind } = variable;
-        let Some(count) = count else {
-            return Ok(None);
-        };
-        if count == 0 {
-            return Ok(None);
-        }
-        let trees = before(&place.rest, count);
-        let made = Move::Fragment { name, kind, trees };
-        let thread = self.moved(arena, items, self.frames, made)?;
-        Ok(Some(Choice {
-            thread,
-            taken: Some(Consumed::Fragment(count)),
-        }))
-    }
-
-    // The choice that goes on in these lists, and consumes nothing.
-    #[inline(always)]
-    fn going(
-        &self,
-        arena: &'a Bump,
-        items: &'a [Op],
-        frames: Option<&'a Rung<'a>>,
-        made: Move<'a>,
-    ) -> Result<Choice<'a>, AllocError>
-        ensures { (p : u.Place) → IfOk result (λ c. made_of p c
-            ≡ (moves_of self.now.moves ++ (move_of made.entry ∷ []), false, false, r.at (items_of items.now) (frames_of frames.entry) p)) }
-    {
-        let thread = self.moved(arena, items, frames, made)?;
-        Ok(Choice {
-            thread,
-            taken: None,
-        })
-    }
-
     // The choice that enters or skips this repetition, which comes next, if only one of them
     // leads on.
     #[inline(always)]
@@ -178,47 +69,16 @@ impl<'a> Thread<'a> {
                 return Ok(None);
             }
             let made = Move::Skip { body: round.body };
-            let skipped = self.going(arena, round.after, self.frames, made)?;
+            let skipped = self.choice(arena, round.after, self.frames, made, None)?;
             return Ok(Some(skipped));
         }
-        let inner = inside(arena, self.frames, Frame::InRound(round))?;
-        let entered = self.going(arena, round.body, inner, Move::Enter)?;
+        let entered = self.enter(arena, round)?;
         Ok(Some(entered))
     }
 
-    // The choice after an iteration with a separator after it, if only one leads on.
+    // The choice after an iteration, if only one leads on.
     #[inline(always)]
-    fn only_apart(
-        &self,
-        arena: &'a Bump,
-        round: Round<'a>,
-        between: &'a Separator,
-        around: Option<&'a Rung<'a>>,
-        place: &Place<'a>,
-    ) -> Result<Option<Choice<'a>>, AllocError>
-        requires items { self.now.items.now ≡ [] }
-        requires frames { frames_in self.now.frames ≡ InRound round ∷ frames_in around }
-        requires between { round.separator ≡ Some between }
-        ensures { (g : Grammar) → IfOk result (λ o. IfSome o (λ c. IsOnly g (place_of place.now) self.now c)) }
-    {
-        if !place.is_between(between) {
-            let left = self.going(arena, round.after, around, Move::Leave)?;
-            return Ok(Some(left));
-        }
-        if !is_over(round.after, around, place) {
-            return Ok(None);
-        }
-        let frames = inside(arena, around, Frame::Parted(round))?;
-        let thread = self.moved(arena, self.items, frames, Move::Separator)?;
-        Ok(Some(Choice {
-            thread,
-            taken: Some(Consumed::Unit),
-        }))
-    }
-
-    // The choice after an iteration without a separator, if only one leads on.
-    #[inline(always)]
-    fn only_again(
+    fn only_round(
         &self,
         arena: &'a Bump,
         round: Round<'a>,
@@ -227,82 +87,21 @@ impl<'a> Thread<'a> {
     ) -> Result<Option<Choice<'a>>, AllocError>
         requires items { self.now.items.now ≡ [] }
         requires frames { frames_in self.now.frames ≡ InRound round ∷ frames_in around }
-        requires between { round.separator ≡ None }
         ensures { (g : Grammar) → IfOk result (λ o. IfSome o (λ c. IsOnly g (place_of place.now) self.now c)) }
     {
-        if !may_repeat(round.kind) || is_over_at(round.body, place) {
-            let left = self.going(arena, round.after, around, Move::Leave)?;
+        if !may_go_on(round, place) || is_over_again(round, place) {
+            let left = self.choice(arena, round.after, around, Move::Leave, None)?;
             return Ok(Some(left));
         }
         if !is_over(round.after, around, place) {
             return Ok(None);
         }
-        let again = self.going(arena, round.body, self.frames, Move::NextRound)?;
-        Ok(Some(again))
+        let further = self.further(arena, round, around)?;
+        Ok(Some(further))
     }
 
-    // The only choice at this op, which comes next and is no repetition. `rest` are the ops after
-    // it.
-    #[inline(always)]
-    fn only_at<G: FragmentGrammar>(
-        &self,
-        arena: &'a Bump,
-        grammar: &G,
-        op: &'a Op,
-        rest: &'a [Op],
-        place: &Place<'a>,
-    ) -> Result<Option<Choice<'a>>, AllocError>
-        requires { self.now.items.now ≡ op.now ∷ rest.now }
-        ensures { let p = place_of place.now in IfOk result (λ o. IfSome o (λ c. made_of p c ∷ []
-            ≡ map (extended (moves_of self.now.moves)) (r.next (G.answer grammar.now) (state_of self.now p)))) }
-    {
-        match op {
-            Op::Literal(literal) => {
-                let choice = self.only_unit(arena, place.is_literal(literal), rest, self.frames)?;
-                Ok(choice)
-            }
-            Op::Ident(ident) => {
-                let choice = self.only_unit(arena, place.is_name(&ident.sym), rest, self.frames)?;
-                Ok(choice)
-            }
-            Op::Punct(puncts) => {
-                let choice = self.only_unit(arena, place.is_puncts(puncts), rest, self.frames)?;
-                Ok(choice)
-            }
-            Op::Lifetime(_, ident) => {
-                let choice = self.only_unit(
-                    arena,
-                    place.is_lifetime(&ident.sym),
-                    rest,
-                    self.frames,
-                )?;
-                Ok(choice)
-            }
-            Op::Subtree { tokens, delimiter } => {
-                let choice = self.only_opening(
-                    arena,
-                    place.is_opening(delimiter.kind),
-                    tokens,
-                    rest,
-                )?;
-                Ok(choice)
-            }
-            Op::Var {
-                name,
-                kind: Some(kind),
-                ..
-            } => {
-                let variable = Variable { name, kind: *kind };
-                let count = fragment_trees(grammar, *kind, &place.rest);
-                let choice = self.only_fragment(arena, variable, count, rest, place)?;
-                Ok(choice)
-            }
-            _ => Ok(None),
-        }
-    }
-
-    // The only choice at the end of the ops of this frame, which is no iteration. `around` are
-    // the frames around it.
+    // The choice at the end of the ops of this frame, if only one leads on. `around` are the frames
+    // around it.
     #[inline(always)]
     fn only_after(
         &self,
@@ -313,22 +112,16 @@ impl<'a> Thread<'a> {
     ) -> Result<Option<Choice<'a>>, AllocError>
         requires items { self.now.items.now ≡ [] }
         requires frames { frames_in self.now.frames ≡ frame ∷ frames_in around }
-        ensures { (g : Grammar) → let p = place_of place.now in IfOk result (λ o. IfSome o (λ c. made_of p c ∷ []
-            ≡ map (extended (moves_of self.now.moves)) (r.next g (state_of self.now p)))) }
+        ensures { (g : Grammar) → IfOk result (λ o. IfSome o (λ c. IsOnly g (place_of place.now) self.now c)) }
     {
         match frame {
-            Frame::InGroup { after } => {
-                let choice = self.only_unit(arena, place.is_closing(), after, around)?;
+            Frame::InRound(round) => {
+                let choice = self.only_round(arena, round, around, place)?;
                 Ok(choice)
             }
-            Frame::InRound(_) => Ok(None),
-            Frame::Parted(round) => {
-                if !may_repeat(round.kind) {
-                    return Ok(None);
-                }
-                let frames = inside(arena, around, Frame::InRound(round))?;
-                let again = self.going(arena, round.body, frames, Move::NextRound)?;
-                Ok(Some(again))
+            _ => {
+                let choice = self.choice_after(arena, frame, around, place)?;
+                Ok(choice)
             }
         }
     }
@@ -347,33 +140,16 @@ impl<'a> Thread<'a> {
             let Some(rung) = self.frames else {
                 return Ok(None);
             };
-            let Frame::InRound(round) = rung.frame else {
-                let choice = self.only_after(arena, rung.frame, rung.around, place)?;
-                return Ok(choice);
-            };
-            let choice = match round.separator {
-                Some(between) => self.only_apart(arena, round, between, rung.around, place)?,
-                None => self.only_again(arena, round, rung.around, place)?,
-            };
+            let choice = self.only_after(arena, rung.frame, rung.around, place)?;
             return Ok(choice);
         };
-        match op {
-            Op::Repeat {
-                tokens,
-                separator,
-                kind,
-            } => {
-                let round = Round {
-                    body: tokens,
-                    separator: borrowed(separator),
-                    kind: *kind,
-                    after: rest,
-                };
+        match round_of(op, rest) {
+            Some(round) => {
                 let choice = self.only_repetition(arena, round, place)?;
                 Ok(choice)
             }
-            _ => {
-                let choice = self.only_at(arena, grammar, op, rest, place)?;
+            None => {
+                let choice = self.choice_at(arena, grammar, op, rest, place)?;
                 Ok(choice)
             }
         }

@@ -1,31 +1,19 @@
-use Rattle.std.proofs.Common.{sym, ◌∙◌}
+use Rattle.std.proofs.Common.{sym, ap, ◌∙◌, ◌∷◌, [], map}
 use Rattle.mbe_matcher.specs.Places.{place_of}
-use Rattle.mbe_matcher.specs.Threads.{moves_of}
-use Rattle.mbe_matcher.proofs.OpsLemmas.{round-apart, round-again, repeats}
+use Rattle.mbe_matcher.specs.Threads.{extended, moves_of}
+use Rattle.mbe_matcher.proofs.OpsLemmas.{ap2, round-next}
 use Rattle.mbe_matcher.proofs.thread.Thread.after_round.Goals as goal
 
-pub returns-in_ok-thread-in-Some : goal.returns-in_ok-thread-in-Some
-returns-in_ok-thread-in-Some c gr =
-    let x = c.args.round in
-    let fs = c.args.around in
-    let h = c.requires.frames in
-    let a = c.in_ok-thread in
-    let b = c.in_ok-thread-in-Some in
-    round-apart gr (place_of c.args.place.now) (moves_of c.args.self.now.moves)
-    c.args.self.now.items.now c.args.self.now.frames fs x c.in-Some.between a.thread b.thread c.requires.items h c.in-Some.is
-    (sym c.is_between.ensures ∙ c.if-not-is_between.false)
-    a.ensures.items a.ensures.frames a.ensures.moves
-    b.ensures.items (b.ensures.frames ∙ c.in_ok-frames-in-Some.ensures) b.ensures.moves
+pub returns-then-not-may_go_on : goal.returns-then-not-may_go_on
+returns-then-not-may_go_on c = λ gr.
+    let p = place_of c.args.place.now in
+    let t = c.args.self.now in
+    ap (λ m. m ∷ []) (c.in_ok-left.ensures p)
+    ∙ ap (map (extended (moves_of t.moves))) (sym (round-next gr p t c.args.around c.args.round c.requires.items c.requires.frames _ (sym c.may_go_on.ensures ∙ c.if-not-may_go_on.true)))
 
-pub returns-in_ok-thread-in-None : goal.returns-in_ok-thread-in-None
-returns-in_ok-thread-in-None c gr =
-    let x = c.args.round in
-    let fs = c.args.around in
-    let h = c.requires.frames in
-    let a = c.in_ok-thread in
-    let b = c.in_ok-thread-in-None in
-    round-again gr (place_of c.args.place.now) (moves_of c.args.self.now.moves)
-    c.args.self.now.items.now c.args.self.now.frames fs x a.thread b.thread c.requires.items h c.in-None.is
-    (repeats x.kind (λ e. let h = (rw e at c.if-eq.ensures) in absurd (cc h)))
-    a.ensures.items a.ensures.frames a.ensures.moves
-    b.ensures.items (b.ensures.frames ∙ h) b.ensures.moves
+pub returns : goal.returns
+returns c = λ gr.
+    let p = place_of c.args.place.now in
+    let t = c.args.self.now in
+    ap2 (λ m n. m ∷ n ∷ []) (c.in_ok-further.ensures p) (c.in_ok-left.ensures p)
+    ∙ ap (map (extended (moves_of t.moves))) (sym (round-next gr p t c.args.around c.args.round c.requires.items c.requires.frames _ (sym c.may_go_on.ensures ∙ c.if-not-may_go_on.false)))

@@ -1,20 +1,11 @@
-use Rattle.std.proofs.Common.{sym, ap, ◌∙◌, ◌∷◌}
-use Rattle.mbe_rules.specs.Ops.{items_of}
-use Rattle.mbe_matcher.specs.Paths.{when}
 use Rattle.mbe_matcher.specs.Places.{place_of}
-use Rattle.mbe_matcher.specs.Readings as r
-use Rattle.mbe_matcher.specs.Threads.{frames_in, frames_of}
-use Rattle.mbe_matcher.specs.Units as u
-use Rattle.mbe_matcher.proofs.WayLemmas.{group-next, same-choices}
+use Rattle.mbe_matcher.proofs.OpsLemmas.{no-round}
+use Rattle.mbe_matcher.proofs.WayLemmas.{if-only}
 use Rattle.mbe_matcher.proofs.thread.Thread.only_after.Goals as goal
 
-pub returns-in_ok-choice-in-InGroup : goal.returns-in_ok-choice-in-InGroup
-returns-in_ok-choice-in-InGroup c = λ gr.
-    let p = place_of c.args.place.now in
-    let t = c.args.self.now in
-    let around = c.args.around in
-    let after = c.in-InGroup.after in
-    same-choices p t c.in_ok-choice-in-InGroup.choice _ _
-    (ap (λ b. when b (r.unit_move, r.at (items_of after.now) (frames_of around) (u.after_unit p))) c.is_closing.ensures
-    ∙ sym (group-next gr p t around after c.requires.items (c.requires.frames ∙ ap (λ x. x ∷ frames_in around) c.in-InGroup.is)))
-    (c.in_ok-choice-in-InGroup.ensures p)
+pub choice_after-requires-clause-outside : goal.choice_after-requires-clause-outside
+choice_after-requires-clause-outside c = no-round c.args.frame c.in_default.not-InRound
+
+pub returns-in_ok-choice-in_default : goal.returns-in_ok-choice-in_default
+returns-in_ok-choice-in_default c = λ gr.
+    if-only gr (place_of c.args.place.now) c.args.self.now c.in_ok-choice-in_default.choice (c.in_ok-choice-in_default.ensures gr)

@@ -1,8 +1,5 @@
-use Rattle.std.proofs.Common.{sym, ap, ◌∙◌, map}
-use Rattle.mbe_rules.specs.Ops.{items_of}
+use Rattle.std.proofs.Common.{sym, ◌∙◌}
 use Rattle.mbe_matcher.specs.Places.{place_of}
-use Rattle.mbe_matcher.specs.Readings as r
-use Rattle.mbe_matcher.specs.Threads.{frame_of, moves_of, extended}
 use Rattle.mbe_matcher.proofs.WayLemmas.{enters, enters-over, skips}
 use Rattle.mbe_matcher.proofs.thread.Thread.only_repetition.Goals as goal
 use Rattle.mbe_matcher.proofs.thread.Thread.only_repetition.Goals.{else-may_skip-via-then-may_skip+else-not-is_over, else-may_skip-via-else-may_skip}
@@ -17,8 +14,7 @@ pub returns : goal.returns
 returns c = λ gr.
     let p = place_of c.args.place.now in
     let t = c.args.self.now in
-    let made = c.in_ok-entered.ensures p
-    ∙ ap (λ fs. extended (moves_of t.moves) (r.enter, r.at (items_of c.args.round.body.now) (map frame_of fs) p)) c.in_ok-inner.ensures in
+    let made = c.in_ok-entered.ensures p in
     elim c.else-may_skip.branch [
       | else-may_skip-via-then-may_skip+else-not-is_over w ↦
           enters-over gr p t c.args.round c.requires c.in_ok-entered.entered (w.is_over.ensures w.if-not-is_over.false) made
