@@ -117,19 +117,30 @@ fn printed_output<G: FragmentGrammar>(
     }))
 }
 
-// Whether a tree has a quote and a `!` among its tokens: a call may take the quote apart from the
-// name behind it, and then it has no spelling. It decides only how much time an expansion takes,
-// and how often the grammar is asked.
+// Whether a tree has a quote in a group behind a `!`: a call may take the quote apart from the name
+// behind it, and then it has no spelling. It decides only how much time an expansion takes, and how
+// often the grammar is asked.
 fn may_part_quotes(alloc: Global, tree: &TopSubtree) -> Result<bool, AllocError> {
-    let (mut has_quote, mut has_bang) = (false, false);
+    let mut is_behind_bang = false;
+    // How many groups are open, from one behind a `!` on.
+    let mut depth: usize = 0;
     let mut rest = TreeWalk::new(alloc, &tree.iter());
     while let Some(step) = rest.next()? {
-        if let TokenEvent::Leaf(LeafRef::Punct(punct)) = step {
-            has_quote = has_quote || punct.char == '\'';
-            has_bang = has_bang || punct.char == '!';
+        let mark = match step {
+            TokenEvent::Leaf(LeafRef::Punct(punct)) => punct.char,
+            _ => ' ',
+        };
+        if mark == '\'' && depth > 0 {
+            return Ok(true);
         }
+        match step {
+            TokenEvent::Opens(..) if is_behind_bang || depth > 0 => depth = depth.saturating_add(1),
+            TokenEvent::Closes(..) => depth = depth.saturating_sub(1),
+            _ => {}
+        }
+        is_behind_bang = mark == '!';
     }
-    Ok(has_quote && has_bang)
+    Ok(false)
 }
 
 // Expands a tree, prints the events as they come, and keeps them where what was printed is no
