@@ -5,13 +5,13 @@ top=$(cd "$(dirname "$(readlink -f "${BASH_SOURCE[0]}")")/.." && pwd) || exit 2
 work=$(mktemp -d) || exit 2
 trap 'rm -rf "$work"' EXIT
 
-# The program `bench/FOLDER/main.rt.in`, over these crates and those named behind them in crates.txt,
-# in a workspace of its own: its path is then in `program`.
+# The program `bench/FOLDER/main.rt.in`, over these crates and all that they need, in a workspace of its
+# own: its path is then in `program`.
 build() {
     local folder=$1 name="$1_speed" crate
     shift
     mkdir -p "$work/root/crates/$name/src" || exit 2
-    for crate; do
+    for crate in $("$top/bin/crates" "$@"); do
         mkdir "$work/root/crates/$crate"
         cp -r "$top/crates/$crate"/{src,specs,proofs} "$work/root/crates/$crate" || exit 2
         # what was proved before need not be proved again

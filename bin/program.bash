@@ -18,12 +18,12 @@ help() {
 
 $about
 
-  --quick      run the program now, before any proof, if it is not built yet. This takes about
-               a minute each time. The input and the output may have 1 MiB each
+  --quick      run the program now, before any proof, if it is not built yet. This compiles it
+               anew, for one or two minutes each time. Input and output may have 1 MiB each
   --help, -h   print this
   --version    print the version
 
-The first run without --quick proves and builds the program: about 40 minutes on 4 cores. It
+The first run without --quick proves and builds the program: one to two hours on 4 cores. It
 shows how far it is. After an interruption the next run goes on from there. Later runs start
 at once.
 
@@ -42,6 +42,16 @@ misused() {
     exit 2
 }
 
+# A word for a message. One with bytes that are not printable ASCII is quoted, so that none of them reaches a terminal.
+shown() {
+    local LC_ALL=C
+    if [[ $1 == *[!\ -~]* ]]; then
+        printf '%q' "$1"
+    else
+        printf '%s' "$1"
+    fi
+}
+
 # Reads the arguments: sets `quick`, and opens the file as standard input.
 read_arguments() {
     local file=- files=0
@@ -52,7 +62,7 @@ read_arguments() {
             -h | --help) help && exit 0 ;;
             --version) echo "$command (Filgordd) $version" && exit 0 ;;
             --) shift && break ;;
-            -?*) misused "there is no option $1" ;;
+            -?*) misused "there is no option $(shown "$1")" ;;
             *) file=$1 files=$((files + 1)) ;;
         esac
         shift
@@ -62,10 +72,14 @@ read_arguments() {
     [ "$file" = - ] || open_file "$file"
 }
 
+check_file() {
+    [ -e "$1" ] || fail "there is no file $(shown "$1")"
+    [ ! -d "$1" ] || fail "$(shown "$1") is a folder"
+    [ -r "$1" ] || fail "$(shown "$1") cannot be read"
+}
+
 open_file() {
-    [ -e "$1" ] || fail "there is no file $1"
-    [ ! -d "$1" ] || fail "$1 is a folder"
-    [ -r "$1" ] || fail "$1 cannot be read"
+    check_file "$1"
     exec <"$1" || exit 2
 }
 
@@ -94,16 +108,75 @@ ask_for_help() {
     return 1
 }
 
-# Opens the file that the words name, in whose place they then have standard input. It follows a subcommand, and is
-# neither an option nor the value of one.
-lend_file() {
-    local i
-    for ((i = 1; i < ${#words[@]}; i++)); do
-        case ${words[i - 1]},${words[i]} in
-            --grammar,* | --edition,* | --depth,* | *,-*) ;;
-            *) open_file "${words[i]}" && words[i]=- ;;
+# Refuses words that the program refuses, before anything is compiled or proved for them. Sets `file_at` to the index
+# of the file among `words`, if they name one.
+check_words() {
+    local i=1
+    file_at=
+    case ${words[0]-} in
+        expand | replay | view) ;;
+        '') misused 'there is no command' ;;
+        *) misused "there is no command $(shown "${words[0]}")" ;;
+    esac
+    while [ $i -lt ${#words[@]} ]; do
+        case ${words[i]} in
+            --) check_rest $((i + 1)); return ;;
+            --grammar=* | --edition=* | --depth=*) check_value "${words[i]%%=*}" "${words[i]#*=}" ;;
+            --grammar | --edition | --depth)
+                [ $((i + 1)) -lt ${#words[@]} ] || misused "${words[i]} has no value"
+                check_value "${words[i]}" "${words[i + 1]}"
+                i=$((i + 1))
+                ;;
+            -?*) misused "there is no option $(shown "${words[i]}")" ;;
+            *) take_file $i ;;
         esac
+        i=$((i + 1))
     done
+}
+
+# The words from this index on are no options.
+check_rest() {
+    local i
+    for ((i = $1; i < ${#words[@]}; i++)); do
+        take_file "$i"
+    done
+}
+
+# Takes the word at this index as the file.
+take_file() {
+    [ -z "$file_at" ] || misused 'more than one file'
+    file_at=$1
+    [ "${words[$1]}" = - ] || check_file "${words[$1]}"
+}
+
+# Refuses a value that the option does not take.
+check_value() {
+    case $1=$2 in
+        --grammar=rust | --grammar=small | --edition=2015 | --edition=2018 | --edition=2021 | --edition=2024) return ;;
+        --depth=*) [[ $2 =~ ^\+?0*([0-9]{1,3})$ ]] && [ "${BASH_REMATCH[1]}" -le 255 ] && return ;;
+    esac
+    misused "$1 does not take $(shown "$2")"
+}
+
+# Lends the file that the words name to an unproved run, which sees no other files: as a copy under its name, which the
+# words then have, or as standard input where the toolchain takes no copy of that name.
+lend_file() {
+    local LC_ALL=C file name
+    lent=()
+    [ -n "${file_at-}" ] && [ "${words[file_at]}" != - ] || return 0
+    file=$(readlink -f "${words[file_at]}")
+    name=${words[file_at]##*/}
+    case $name in
+        program | stdin | stdout | stderr | .* | *[!a-zA-Z0-9._+-]* | -*) ;;
+        *)
+            if [ -f "$file" ]; then
+                [ "$(wc -c <"$file")" -le "$limit" ] || fail "the input has more than 1 MiB: leave --quick out"
+                lent=(--data "$name=$file") words[file_at]=$name
+                return
+            fi
+            ;;
+    esac
+    exec <"${words[file_at]}" && words[file_at]=-
 }
 
 # Sets `crates`: these and those that they need, in the order in which the toolchain proves them.
@@ -207,7 +280,7 @@ interrupted() {
 build() {
     local status
     need_rt
-    echo "$command: proving and building the program, about 40 minutes on 4 cores from nothing" >&2
+    echo "$command: proving and building the program, one to two hours on 4 cores from nothing" >&2
     mkdir -p "$crate/out" && touch "$built.next" && : >"$log" || exit 2
     at=0
     # It is run once, on an empty text, whose status is 0.
@@ -229,13 +302,18 @@ build() {
 run_unproved() {
     local last status
     need_rt
+    lend_file
     room=$(mktemp -d) || exit 2
     trap 'rm -rf "$room"' EXIT
     trap 'exit 130' INT TERM HUP
-    echo "$command: unproved run, about a minute; bin/$command without --quick proves the program first" >&2
-    head -c $((limit + 1)) >"$room/in"
+    echo "$command: unproved run, one or two minutes; bin/$command without --quick proves the program first" >&2
+    if [ ${#lent[@]} = 0 ]; then
+        head -c $((limit + 1)) >"$room/in"
+    else
+        : >"$room/in"
+    fi
     [ "$(wc -c <"$room/in")" -le "$limit" ] || fail "the input has more than 1 MiB: leave --quick out"
-    (cd "$crate" && exec rt try -- "${words[@]}" <"$room/in" >"$room/out" 2>"$room/told")
+    (cd "$crate" && exec rt try "${lent[@]}" -- "${words[@]}" <"$room/in" >"$room/out" 2>"$room/told")
     last=$(tail -n 1 "$room/told")
     case $last in
         'run=ended status='*) ;;
@@ -249,8 +327,8 @@ run_unproved() {
     exit "${status%% *}"
 }
 
-# Runs a program with `words`.
-run_program() {
+# Sets where a program is, and what it is made of.
+set_program() {
     program=$1
     crate=$top/crates/$program
     binary=$crate/out/$program
@@ -259,6 +337,10 @@ run_program() {
     # All that the toolchain says while it proves and builds.
     log=$crate/out/log
     list_crates "$program"
+}
+
+# Runs the program with `words`.
+run_program() {
     ulimit -s hard 2>/dev/null
     if ! is_built; then
         [ -z "$quick" ] || run_unproved
@@ -275,7 +357,8 @@ run_on_text() {
     shift 4
     first_words=("${words[@]}")
     read_arguments "$@"
-    run_program "$name"
+    set_program "$name"
+    run_program
 }
 
 # Runs a program that has options of its own, and the command's name: `run_with_words PROGRAM ABOUT STATUSES WORD..`.
@@ -284,12 +367,14 @@ run_with_words() {
     shift 3
     first_words=(expand)
     read_words "$@"
-    crate=$top/crates/$command
-    if ask_for_help; then
-        [ -x "$crate/out/$command" ] || [ -n "$quick" ] || { help && exit 0; }
-        exec </dev/null
-    elif [ -n "$quick" ]; then
-        lend_file
+    set_program "$command"
+    if ! is_built; then
+        if ask_for_help; then
+            [ -n "$quick" ] || { help && exit 0; }
+            exec </dev/null
+        else
+            check_words
+        fi
     fi
-    run_program "$command"
+    run_program
 }

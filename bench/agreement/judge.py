@@ -7,6 +7,7 @@ runs rustc over it with `trace_macros!`, which prints the tokens of each expansi
 it does not matter in which position a call stands, nor whether the names of its expansion are there.
 """
 import glob, json, os, re, subprocess, sys
+from concurrent.futures import ThreadPoolExecutor
 
 FEATURES = ['trace_macros', 'macro_metavar_expr', 'macro_metavar_expr_concat', 'decl_macro', 'rustc_attrs',
             'allow_internal_unstable', 'allow_internal_unsafe', 'macro_attr', 'auto_traits', 'negative_impls',
@@ -63,18 +64,24 @@ def outcome(notes):
     return ['refuses', '']
 
 
+def judge(path, year):
+    source = json.load(open(path))
+    text, places = crate(source)
+    own = os.path.join(os.path.dirname(path), 'crate_' + os.path.basename(path)[:-len('.json')] + '.rs')
+    with open(own, 'w') as f:
+        f.write(text)
+    notes, errors = asked(own, year)
+    os.remove(own)
+    for pair, starts in zip(source['pairs'], places):
+        pair['rustc'] = [outcome(notes.get(at)) for at in starts]
+    with open(path, 'w') as f:
+        json.dump(source, f)
+
+
 def main():
     folder, year = sys.argv[1:3]
-    for path in sorted(glob.glob(os.path.join(folder, '*.json'))):
-        source = json.load(open(path))
-        text, places = crate(source)
-        with open(os.path.join(folder, 'crate.rs'), 'w') as f:
-            f.write(text)
-        notes, errors = asked(os.path.join(folder, 'crate.rs'), year)
-        for pair, starts in zip(source['pairs'], places):
-            pair['rustc'] = [outcome(notes.get(at)) for at in starts]
-        with open(path, 'w') as f:
-            json.dump(source, f)
+    with ThreadPoolExecutor(os.cpu_count()) as pool:
+        list(pool.map(lambda path: judge(path, year), sorted(glob.glob(os.path.join(folder, '*.json')))))
 
 
 if __name__ == '__main__':

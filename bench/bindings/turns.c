@@ -7,7 +7,7 @@
 static size_t tokens, expanded;
 
 static int told(struct expander_session *s) {
-    struct expander_counts counts;
+    struct expander_counts counts = {0, 0, 0, 0};
     if (expander_expand(s) || expander_counts(s, &counts)) return 1;
     tokens = counts.tokens, expanded = counts.expanded;
     return 0;

@@ -7,16 +7,16 @@
 static int show(struct expander_session *s) {
     uint32_t code = expander_expand(s);
     if (code == EXPANDER_UNREAD) {
-        struct expander_fault fault;
+        struct expander_fault fault = {0, {0, 0}};
         expander_reading_fault(s, &fault);
         printf("unread: kind %u at %u to %u\n", fault.kind, fault.range.start, fault.range.end);
         return 0;
     }
     if (code) return printf("refused: %u\n", code), 1;
 
-    struct expander_counts counts;
+    struct expander_counts counts = {0, 0, 0, 0};
     expander_counts(s, &counts);
-    char *printed = malloc(counts.printed);
+    char *printed = calloc(counts.printed, 1);
     struct expander_range *at = calloc(counts.tokens, sizeof *at), *from = calloc(counts.tokens, sizeof *from);
     code = expander_printed(s, printed, counts.printed);
     if (!code) code = expander_token_ranges(s, at, counts.tokens);
@@ -26,7 +26,7 @@ static int show(struct expander_session *s) {
         for (size_t i = 0; i < counts.tokens; i++)
             printf("  %.*s from %u to %u\n", (int)(at[i].end - at[i].start), printed + at[i].start, from[i].start, from[i].end);
         for (size_t i = 0; i < counts.faults; i++) {
-            struct expander_fault fault;
+            struct expander_fault fault = {0, {0, 0}};
             expander_fault(s, i, &fault);
             printf("  fault: kind %u at %u to %u\n", fault.kind, fault.range.start, fault.range.end);
         }

@@ -13,23 +13,42 @@
  * never freed. Closing it again does nothing. The struct may be moved while no call runs, but not
  * used as two copies: a copy of an open session is not known to be one, and closing both frees twice.
  *
- * Lifetimes. No call keeps a pointer that it is passed, and none hands one out: texts are copied in,
- * and answers are copied out into room that the caller provides. An answer stays until the next
- * expander_expand that gives one; edits leave it.
+ * Memory. Each function below says what its pointers are to. In all of them:
+ *   - The memory is there, and initialised, until the call returns: room that is only written to as well,
+ *     with anything, as by calloc. No call keeps a pointer that it is passed, and none hands one out.
+ *   - It is aligned as C aligns its type: bytes anywhere, ranges and faults at 4, sessions, counts and
+ *     lengths at 8.
+ *   - No two pointers of a call overlap, and nobody else writes what they are to during the call, nor
+ *     reads what it writes. No element is read or written beyond the length that is said.
+ *   - A pointer with a length may be NULL if the length is 0. Any other pointer that is NULL is refused.
  *
- * Threads. There is no state but in sessions. Two threads may use two sessions at once. One session is
- * used by one thread, the one that opened it, and by one call at a time. No call may come from a signal
- * handler, or from the forked child of a process with threads.
+ * Answers. Texts are copied in, and answers are copied out into room that the caller provides. An answer
+ * stays until the next expander_expand that gives one; edits leave it.
+ *
+ * Threads. A session is used by one call at a time, on any thread. It may go from one thread to another
+ * if what the second does comes after what the first did, as by a lock, or where a thread starts or is
+ * joined. Two threads may use two sessions at once: no call is passed two of them, they share nothing, and
+ * the library has no variable of its own, not by thread either. No call may come from a signal handler,
+ * or from the forked child of a process with threads.
+ *
+ * Stack. expander_expand takes most, and a thread whose stack is too small ends the process by a signal. No
+ * proof speaks of it. Measured, on unproved builds, it takes
+ *   - 20 KiB, and 800 bytes for each level of calls: 220 KiB for 255;
+ *   - with the grammar of Rust up to 1.2 MiB more, where 1,024 of its rules are in one another, as in the
+ *     pattern `a @ a @ ..`: what is deeper is not taken, and no rule fits the call;
+ *   - with the small grammar 5 to 13 bytes more for each level of a type, so its bound is the text's length.
+ * So 2 MiB are enough with the grammar of Rust, and 4 MiB leave room for other builds. Nothing else that a
+ * text nests takes stack. The other calls took less than 8 KiB.
  *
  * Codes. Each function but expander_close returns one. A call that is refused changes nothing: neither
  * the session, nor its answer, nor what the pointers point to, except for the wanted length of
  * expander_text. No call ends the program, unwinds, reads or writes a file, or starts a thread.
  *
- * Proved. The library is proved, under the caller's part of the bargain, which nothing checks: a
- * pointer that is not NULL points to as many elements as are said, no two pointers of a call overlap,
- * and nobody writes a session's struct. Memory comes from malloc, realloc and free, which have to be
- * one allocator's. The stack is set aside: a type of more than about 12,000 levels of `<` in a fragment
- * may overflow 8 MiB. */
+ * Proved. The library is proved, under the caller's part of the bargain, which nothing checks: what is
+ * said above of memory, and that nobody writes a session's struct. The proofs are of a session that stays
+ * on one thread, and speak neither of the stack nor of freeing; docs/decisions/0043-sessions-may-move.md
+ * says why a session may move. Memory comes from malloc, realloc and free. They have to be one allocator's,
+ * may be called from any thread, and align a block to each power of two up to 16 that divides its size. */
 #ifndef EXPANDER_H
 #define EXPANDER_H
 
@@ -103,8 +122,8 @@ struct expander_counts {
     size_t printed, tokens, faults, expanded;
 };
 
-/* The calls as the library exports them. Here no pointer may be NULL, also if there are no elements.
- * C callers use the functions below, which test that. */
+/* The calls as the library exports them. Here no pointer may be NULL, also if there are no elements: it
+ * is then any that is aligned. C callers use the functions below, which test that. */
 uint32_t expander_raw_open(struct expander_session *, const uint8_t *, size_t, uint32_t, uint8_t, uint32_t);
 void expander_raw_close(struct expander_session *);
 uint32_t expander_raw_text(struct expander_session *, uint8_t *, size_t, size_t *);
@@ -119,7 +138,10 @@ uint32_t expander_raw_reading_fault(struct expander_session *, struct expander_f
 uint32_t expander_raw_origins(struct expander_session *, struct expander_range *, size_t);
 uint32_t expander_raw_token_ranges(struct expander_session *, struct expander_range *, size_t);
 
+/* In all of them `s` is to a session's struct, which is EXPANDER_SESSION_INIT before its first use. */
+
 /* Opens a session over a copy of the text, in place of what the struct holds, which is closed.
+ * `text` is to `len` bytes, which are only read.
  * `edition` is 2015, 2018, 2021 or 2024; `depth` is how many levels of calls are expanded (the program
  * `expand` takes 128); `grammar` is one of the enum above. Nothing is expanded yet. If it is refused, what
  * the struct held stays open.
@@ -135,9 +157,10 @@ static inline void expander_close(struct expander_session *s) {
     if (s) expander_raw_close(s);
 }
 
-/* The text: its length to `*wanted`, and its bytes to the beginning of the room. OK, CLOSED, ROOM, NULL. */
+/* The text: its length to `*wanted`, and its bytes to the beginning of the room. `room` is to `len` bytes,
+ * which may be more than the text has, and `wanted` to a length. OK, CLOSED, ROOM, NULL. */
 static inline uint32_t expander_text(struct expander_session *s, void *room, size_t len, size_t *wanted) {
-    uint8_t none;
+    uint8_t none = 0;
     if (!s || !wanted || (!room && len)) return EXPANDER_NULL;
     return expander_raw_text(s, room ? (uint8_t *)room : &none, len, wanted);
 }
@@ -154,7 +177,8 @@ static inline uint32_t expander_fits(struct expander_session *s, size_t start, s
     return s ? expander_raw_fits(s, start, end, len) : (uint32_t)EXPANDER_NULL;
 }
 
-/* Replaces the bytes from `start` to `end`. OK, CLOSED, RANGE, LENGTH, BOUNDARY, UTF8, MEMORY, NULL. */
+/* Replaces the bytes from `start` to `end`. `replacement` is to `len` bytes, which are only read.
+ * OK, CLOSED, RANGE, LENGTH, BOUNDARY, UTF8, MEMORY, NULL. */
 static inline uint32_t expander_edit(struct expander_session *s, size_t start, size_t end, const void *replacement,
                                      size_t len) {
     if (!s || (!replacement && len)) return EXPANDER_NULL;
@@ -167,40 +191,43 @@ static inline uint32_t expander_expand(struct expander_session *s) {
     return s ? expander_raw_expand(s) : (uint32_t)EXPANDER_NULL;
 }
 
-/* How much the expansion has. OK, CLOSED, NOTHING, NULL. */
+/* How much the expansion has. `into` is to one struct. OK, CLOSED, NOTHING, NULL. */
 static inline uint32_t expander_counts(struct expander_session *s, struct expander_counts *into) {
     return s && into ? expander_raw_counts(s, into) : (uint32_t)EXPANDER_NULL;
 }
 
-/* The printed text: `counts.printed` bytes of UTF-8, without a NUL. OK, CLOSED, NOTHING, ROOM, NULL. */
+/* The printed text: `counts.printed` bytes of UTF-8, without a NUL. `room` is to `len` bytes.
+ * OK, CLOSED, NOTHING, ROOM, NULL. */
 static inline uint32_t expander_printed(struct expander_session *s, void *room, size_t len) {
-    uint8_t none;
+    uint8_t none = 0;
     if (!s || (!room && len)) return EXPANDER_NULL;
     return expander_raw_printed(s, room ? (uint8_t *)room : &none, len);
 }
 
-/* The fault of this index, in order of start, end and kind. OK, CLOSED, NOTHING, INDEX, NULL. */
+/* The fault of this index, in order of start, end and kind. `into` is to one struct.
+ * OK, CLOSED, NOTHING, INDEX, NULL. */
 static inline uint32_t expander_fault(struct expander_session *s, size_t index, struct expander_fault *into) {
     return s && into ? expander_raw_fault(s, index, into) : (uint32_t)EXPANDER_NULL;
 }
 
-/* The reading fault. OK, CLOSED, NOTHING, NULL. */
+/* The reading fault. `into` is to one struct. OK, CLOSED, NOTHING, NULL. */
 static inline uint32_t expander_reading_fault(struct expander_session *s, struct expander_fault *into) {
     return s && into ? expander_raw_reading_fault(s, into) : (uint32_t)EXPANDER_NULL;
 }
 
-/* Where each of the `counts.tokens` printed tokens comes from in the expanded text.
- * OK, CLOSED, NOTHING, ROOM, NULL. */
+/* Where each of the `counts.tokens` printed tokens comes from in the expanded text. `room` is to `len`
+ * structs. OK, CLOSED, NOTHING, ROOM, NULL. */
 static inline uint32_t expander_origins(struct expander_session *s, struct expander_range *room, size_t len) {
-    struct expander_range none;
+    struct expander_range none = {0, 0};
     if (!s || (!room && len)) return EXPANDER_NULL;
     return expander_raw_origins(s, room ? room : &none, len);
 }
 
 /* Where each of them is in the printed text. A lifetime is two tokens, its quote and its name. They are
- * found at each call, without memory. OK, CLOSED, NOTHING, ROOM, LENGTH (of the printed text), NULL. */
+ * found at each call, without memory. `room` is to `len` structs.
+ * OK, CLOSED, NOTHING, ROOM, LENGTH (of the printed text), NULL. */
 static inline uint32_t expander_token_ranges(struct expander_session *s, struct expander_range *room, size_t len) {
-    struct expander_range none;
+    struct expander_range none = {0, 0};
     if (!s || (!room && len)) return EXPANDER_NULL;
     return expander_raw_token_ranges(s, room ? room : &none, len);
 }

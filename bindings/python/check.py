@@ -1,15 +1,32 @@
 """Checks of the module: the row of the README, every code that a text of this size can bring about
-from here, and random edits of one session against fresh sessions: check.py [COUNT]"""
+from here, numbers and texts that no library can take, sessions that are shared, copied and left, and
+random edits of one session against fresh sessions: check.py [COUNT]"""
 
+import copy
 import ctypes
 import doctest
+import functools
+import gc
+import pickle
 import random
+import signal
 import sys
+import threading
+import weakref
 
 import expander
-from expander import Code, Fault, FaultKind, Grammar, Range, ReadFault, ReadFaultKind, Refused, Session, Token, Unread
+from expander import Code, Fault, FaultKind, Grammar, Range, ReadFault, ReadFaultKind
+from expander import Refused, Session, Token, Unread
 
 TEXT = "macro_rules! p { ($a:ident $b:tt) => { $b $a } } p!{ x y }"
+
+
+def raises(error, call, *arguments, **named):
+    try:
+        call(*arguments, **named)
+    except error:
+        return True
+    return False
 
 
 def refusal(call, *arguments):
@@ -25,13 +42,14 @@ def the_row():
         expansion = session.expand()
         assert expansion.printed == "y x\n" and expansion.expanded == 1 and not expansion.faults
         y, x = Token(Range(0, 1), Range(55, 56)), Token(Range(2, 3), Range(53, 54))
-        assert expansion.tokens == (y, x)
+        assert tuple(expansion.tokens) == (y, x)
         session.edit(0, 0, "// a\n")
         expansion = session.expand()
         assert expansion.expanded == 0 and expansion.tokens[1].origin == Range(58, 59)
         session.edit(58, 59, "1")
         fault = Fault(FaultKind.CANNOT_EXPAND, Range(54, 55))
-        assert session.expand().faults == (fault,)
+        faults = session.expand().faults
+        assert list(faults) == [fault] and faults[-1] == fault and len(faults) == 1
 
 
 def grammars():
@@ -53,7 +71,6 @@ def codes():
     assert refusal(session._call, "edit", 0, 0, b"\xff", 1) == Code.UTF8
     assert session.text == "é;"
     session.expand()
-    assert refusal(session._call, "fault", 0, ctypes.byref(expander._Fault())) == Code.INDEX
     assert refusal(session._call, "printed", b"", 0) == Code.ROOM
     assert refusal(session._call, "reading_fault", ctypes.byref(expander._Fault())) == Code.NOTHING
     session.edit(3, 3, "(")
@@ -67,23 +84,209 @@ def codes():
     assert refusal(session.expand) == Code.CLOSED and refusal(session.edit, 0, 0, "") == Code.CLOSED
 
 
+def items():
+    """Tokens are made when they are asked for, and outlive their session."""
+    with Session(TEXT + " é 'a") as session:
+        expansion = session.expand()
+        session.edit(0, 0, "z;")
+        later = session.expand()
+        assert later != expansion and len(later.tokens) == len(expansion.tokens) + 2
+        session.edit(0, 0, "(")
+        assert raises(Unread, session.expand)
+        assert later.tokens is later.tokens and later.printed.startswith("z ;")
+    tokens, printed = expansion.tokens, expansion.printed.encode()
+    words = [printed[token.range.start : token.range.end].decode() for token in tokens]
+    assert words == ["y", "x", "é", "'", "a"] and len(tokens) == 5
+    assert tokens[-1] == tokens[4] == list(tokens)[4] and tokens[1:3] == (tokens[1], tokens[2])
+    assert raises(IndexError, lambda: tokens[5]) and raises(TypeError, lambda: tokens["0"])
+    assert tokens.origins.tolist() == [number for token in tokens for number in token.origin]
+    assert tokens.ranges.tolist() == [number for token in tokens for number in token.range]
+    assert raises(TypeError, lambda: tokens.ranges.__setitem__(0, 1))
+    pickled = pickle.loads(pickle.dumps(expansion))
+    for other in (copy.copy(expansion), copy.deepcopy(expansion), pickled):
+        assert other == expansion and hash(other) == hash(expansion)
+    alone = Session("a 1u8").expand()
+    assert [token.origin for token in alone.tokens] == [(0, 1), (2, 5)] and alone.faults == ()
+    assert alone._session is None
+    nothing = Session("").expand()
+    assert list(nothing.tokens) == nothing.tokens.ranges.tolist() == [] and not nothing.faults
+
+
+def numbers():
+    """No number is cut to what the library takes, and no text is taken for another."""
+    session = Session("abc")
+    for bad in (2**64, 2**64 + 1, 2**1000, -1, -(2**64)):
+        for arguments in ((bad, 0, "x"), (0, bad, "x"), (bad, bad, "x")):
+            assert raises(ValueError, session.edit, *arguments)
+        assert raises(ValueError, session.is_boundary, bad)
+        assert raises(ValueError, session.fits, 0, 0, bad)
+        assert raises(ValueError, session.fits, bad, bad, 0)
+        for name in ("edition", "depth", "grammar"):
+            assert raises(ValueError, Session, "a", **{name: bad})
+    for bad in (True, False, 1.0, "1", None, b"1", [1]):
+        assert raises(TypeError, session.edit, bad, 1, "x")
+        assert raises(TypeError, session.edit, 0, bad, "x")
+        assert raises(TypeError, session.is_boundary, bad)
+        assert raises(TypeError, session.fits, 0, 0, bad)
+        for name in ("edition", "depth", "grammar"):
+            assert raises(TypeError, Session, "a", **{name: bad})
+    for bad in (None, b"x", 1, ["x"]):
+        assert raises(TypeError, Session, bad) and raises(TypeError, session.edit, 0, 0, bad)
+    assert raises(UnicodeEncodeError, Session, "\ud800")
+    assert raises(UnicodeEncodeError, session.edit, 0, 0, "\udfff")
+    assert raises(ValueError, Session, "a", depth=256)
+    assert raises(ValueError, Session, "a", grammar=2**32)
+    assert raises(ValueError, Session, "a", edition=2**32 + 2024)
+    assert refusal(session.edit, 2**64 - 1, 2**64 - 1, "x") == Code.RANGE
+    assert not session.is_boundary(2**64 - 1) and not session.fits(0, 0, 2**64 - 1)
+    assert session.text == "abc"
+
+
+def once():
+    """A session is opened once, is not copied, and is nothing before it is opened."""
+    session = Session("abc")
+    assert raises(RuntimeError, session.__init__, "other") and session.text == "abc"
+    for call in (copy.copy, copy.deepcopy, pickle.dumps, Session.__reduce__):
+        assert raises(TypeError, call, session)
+    assert not hasattr(session, "__dict__") and session.text == "abc"
+    session.close()
+    assert raises(RuntimeError, session.__init__, "other")
+    never = Session.__new__(Session)
+    assert refusal(never.expand) == Code.CLOSED
+    never.__init__("later")
+    assert never.text == "later"
+
+
+def in_threads(*calls):
+    """What these calls raised, each on a thread of its own, all at once."""
+    raised = []
+
+    def run(call):
+        gate.wait()
+        try:
+            call()
+        except BaseException as error:
+            raised.append(error)
+
+    gate = threading.Barrier(len(calls))
+    threads = [threading.Thread(target=run, args=(call,)) for call in calls]
+    for thread in threads:
+        thread.start()
+    for thread in threads:
+        thread.join()
+    return raised
+
+
+def shared():
+    """Threads take turns in one session, and no answer mixes two texts."""
+    session = Session("a ")
+
+    def edits():
+        for _ in range(100):
+            session.edit(0, 0, "a ")
+            expansion = session.expand()
+            count = len(expansion.tokens)
+            assert expansion.printed == "a " * (count - 1) + "a\n"
+            assert expansion.tokens.ranges.tolist()[::2] == list(range(0, 2 * count, 2))
+
+    assert in_threads(*[edits] * 8) == [] and session.text == "a " * 801
+
+
+LONG = TEXT + "\n" + "p!{ x y }\n" * 50_000
+
+
+def meanwhile():
+    """`close` waits for the call of another thread, and is not lost; nor is it by a second `close`."""
+    session = Session(LONG)
+    answers = []
+
+    def expand():
+        begun.set()
+        answers.append(session.expand())
+
+    begun = threading.Event()
+    other = threading.Thread(target=expand)
+    other.start()
+    begun.wait()
+    while other.is_alive() and not session._is_used:
+        pass
+    session.close()
+    assert session._held.held is None
+    other.join()
+    assert [len(expansion.tokens) for expansion in answers] == [100_002]
+    assert refusal(session.expand) == Code.CLOSED
+    session = Session(LONG)
+    edit = functools.partial(session.edit, 0, 0, "a")
+    raised = in_threads(session.expand, session.close, edit, session.close)
+    assert all(isinstance(error, Refused) and error.code == Code.CLOSED for error in raised)
+    assert session._held.held is None
+
+
+def within():
+    """A call within a call of the same thread, as in a signal handler, raises and does not wait."""
+    session, raised = Session(LONG), []
+
+    def handler(*_):
+        raised.append(raises(RuntimeError, session.is_boundary, 0))
+
+    before = signal.signal(signal.SIGALRM, handler)
+    signal.setitimer(signal.ITIMER_REAL, 0.001, 0.001)
+    try:
+        while not any(raised):
+            session.edit(0, 0, "z ")
+            session.expand()
+    finally:
+        signal.setitimer(signal.ITIMER_REAL, 0)
+        signal.signal(signal.SIGALRM, before)
+
+
+def left():
+    """A session that is left is closed on the thread that finds it, one in a cycle by the collector."""
+    gc.collect()
+    closed, close = [], expander._library.expander_raw_close
+
+    def count(held):
+        closed.append(threading.get_ident())
+        close(held)
+
+    class Node:
+        pass
+
+    expander._library.expander_raw_close = count
+    try:
+        for is_cycle in (False, True):
+            node = Node()
+            node.session, node.itself = Session("abc"), node if is_cycle else None
+            gone = weakref.ref(node.session)
+            room = [node]
+            del node
+            assert in_threads(lambda: (room.clear(), gc.collect())) == []
+            assert gone() is None and len(closed) == 1
+            assert closed.pop() != threading.get_ident()
+    finally:
+        expander._library.expander_raw_close = close
+
+
 def answer(session):
     try:
         expansion = session.expand()
     except Unread as unread:
         return unread.fault
-    return expansion.printed, expansion.faults, expansion.tokens
+    return expansion.printed, tuple(expansion.faults), expansion.tokens
 
 
 def random_edits(count):
     parts = ["x", " y", "(", ")", "{", "}", "p!{ x y }", "'a", '"s"', "1.0", ";", "é", "//c\n", "/// d\n", "$", "#"]
     parts += ["macro_rules! q { ($($t:tt)*) => { $($t)* } }\n", "q!{ p!{ a b } }\n", "::", " "]
     chosen = random.Random(41)
-    text = (TEXT + "\n").encode()
-    session = Session(text.decode())
+    text = good = (TEXT + "\n").encode()
+    session, read = Session(text.decode()), 0
     for _ in range(count):
         start = chosen.randint(0, len(text))
         end, part = start + chosen.randint(0, 3), chosen.choice(parts)
+        if text != good and chosen.randrange(4):
+            # most often, back to a text that is read
+            start, end, part = 0, len(text), good.decode()
         if len(text) > 400:
             start, end, part = 0, len(text), TEXT + "\n"
         code = refusal(session.edit, start, end, part)
@@ -96,12 +299,15 @@ def random_edits(count):
             text = text[:start] + part.encode() + text[end:]
         assert session.text.encode() == text
         with Session(text.decode()) as fresh:
-            assert answer(session) == answer(fresh)
+            told = answer(session)
+            assert told == answer(fresh)
+        if not isinstance(told, ReadFault):
+            good, read = text, read + 1
     session.close()
+    assert read >= count // 3
 
 
-the_row()
-grammars()
-codes()
+for check in (the_row, grammars, codes, items, numbers, once, shared, meanwhile, within, left):
+    check()
 random_edits(int(sys.argv[1]) if len(sys.argv) > 1 else 1000)
 sys.exit(doctest.testmod(expander).failed)

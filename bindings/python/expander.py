@@ -6,17 +6,23 @@
 ('y x\\n', 1)
 
 Ranges are of bytes of UTF-8. A range of the text has to begin and end at character boundaries.
-The shared library is libexpander_c.so beside this file, or what EXPANDER_LIBRARY names.
+The shared library is libexpander_c.so beside this file, or what EXPANDER_LIBRARY names:
+docs/BINDINGS.md says how it is made.
 """
 
 from __future__ import annotations
 
 import ctypes
+import operator
 import os
-from dataclasses import dataclass
+import threading
+import weakref
+from array import array
+from collections.abc import Iterator, Sequence
+from contextlib import contextmanager
 from enum import IntEnum
 from types import TracebackType
-from typing import Iterator, NamedTuple
+from typing import Any, NamedTuple, NoReturn, overload
 
 
 class Code(IntEnum):
@@ -101,29 +107,154 @@ class Unread(Exception):
         self.fault = fault
 
 
-@dataclass(frozen=True)
-class Expansion:
-    """What a text was expanded to. `expanded` counts the pieces that were expanded anew."""
+def _range(numbers: array[int], at: int) -> Range:
+    return Range(numbers[at], numbers[at + 1])
 
-    printed: str
-    expanded: int
-    faults: tuple[Fault, ...]
-    tokens: tuple[Token, ...]
+
+class Tokens(Sequence[Token]):
+    """The printed tokens, in order. Each is made when it is asked for.
+
+    `ranges` and `origins` are the same as numbers of 32 bits, for whoever reads many: those of the
+    token `i` start at item `2 * i` and end at item `2 * i + 1`.
+
+    >>> with Session("a + b") as session:
+    ...     tokens = session.expand().tokens
+    >>> tokens[-1], tokens.ranges.tolist()
+    (Token(range=Range(start=4, end=5), origin=Range(start=4, end=5)), [0, 1, 2, 3, 4, 5])
+    """
+
+    __slots__ = ("_count", "_ranges", "_origins")
+
+    def __init__(self, count: int, ranges: array[int], origins: array[int]) -> None:
+        self._count, self._ranges, self._origins = count, ranges, origins
+
+    @property
+    def ranges(self) -> memoryview:
+        """Where the tokens are in the printed text."""
+        return memoryview(self._ranges)[: 2 * self._count].toreadonly()
+
+    @property
+    def origins(self) -> memoryview:
+        """Where the tokens come from in the text."""
+        return memoryview(self._origins)[: 2 * self._count].toreadonly()
+
+    def __len__(self) -> int:
+        return self._count
+
+    def _token(self, index: int) -> Token:
+        return Token(_range(self._ranges, 2 * index), _range(self._origins, 2 * index))
+
+    @overload
+    def __getitem__(self, index: int) -> Token: ...
+    @overload
+    def __getitem__(self, index: slice) -> tuple[Token, ...]: ...
+    def __getitem__(self, index: int | slice) -> Token | tuple[Token, ...]:
+        at = range(self._count)[index]
+        return tuple(map(self._token, at)) if isinstance(at, range) else self._token(at)
+
+    def __iter__(self) -> Iterator[Token]:
+        return map(self._token, range(self._count))
+
+    def __repr__(self) -> str:
+        return f"<{self._count} tokens>"
+
+    def __eq__(self, other: object) -> bool:
+        if not isinstance(other, Tokens):
+            return NotImplemented
+        return self._ranges == other._ranges and self._origins == other._origins
+
+
+class Expansion:
+    """What a text was expanded to.
+
+    Its faults and tokens are taken over from the session when they are first asked for; those of
+    an expansion that is still held, when its session is expanded again or closed. So an expansion
+    stays as it is, and what nobody wants costs nothing. Until all is taken over, it keeps its
+    session.
+    """
+
+    __slots__ = ("_printed", "_expanded", "_parts", "_session", "__weakref__")
+
+    def __init__(self, printed: str, expanded: int, session: Session | None = None) -> None:
+        self._printed, self._expanded = printed, expanded
+        self._parts: dict[str, Any] = {}
+        self._session = session
+
+    def _take(self, *names: str) -> None:
+        """Takes over parts that are not taken yet, in a turn of the session."""
+        if self._session is not None:
+            for name in names:
+                if name not in self._parts:
+                    try:
+                        self._parts[name] = getattr(self._session, f"_{name}")()
+                    except Refused as refused:
+                        self._parts[name] = refused
+            if len(self._parts) == len(_PARTS):
+                self._session = None
+
+    def _part(self, name: str) -> Any:
+        session = self._session
+        if session is not None and name not in self._parts:
+            with session._turn():
+                self._take(name)
+        part = self._parts[name]
+        if isinstance(part, Refused):
+            raise part
+        return part
+
+    @property
+    def printed(self) -> str:
+        """The printed text."""
+        return self._printed
+
+    @property
+    def expanded(self) -> int:
+        """How many pieces were expanded anew."""
+        return self._expanded
+
+    @property
+    def faults(self) -> tuple[Fault, ...]:
+        """The faults, in order of start, end and kind."""
+        return self._part("faults")
+
+    @property
+    def tokens(self) -> Tokens:
+        """The printed tokens, in order. Refused as LENGTH if `printed` has 2**32 bytes or more."""
+        return self._part("tokens")
+
+    def _all(self) -> tuple[str, int, tuple[Fault, ...], Tokens]:
+        return self.printed, self.expanded, self.faults, self.tokens
+
+    def __eq__(self, other: object) -> bool:
+        return self._all() == other._all() if isinstance(other, Expansion) else NotImplemented
+
+    def __hash__(self) -> int:
+        return hash((self.printed, self.expanded))
+
+    def __repr__(self) -> str:
+        return f"Expansion(printed={self.printed!r}, expanded={self.expanded})"
+
+    def __reduce__(self) -> tuple[object, ...]:
+        return _expansion_of, self._all()
+
+
+_PARTS = ("faults", "tokens")
+
+
+def _expansion_of(
+    printed: str, expanded: int, faults: tuple[Fault, ...], tokens: Tokens
+) -> Expansion:
+    expansion = Expansion(printed, expanded)
+    expansion._parts = {"faults": faults, "tokens": tokens}
+    return expansion
 
 
 class _Session(ctypes.Structure):
     _fields_ = [("held", ctypes.c_void_p)]
 
 
-class _Range(ctypes.Structure):
-    _fields_ = [("start", ctypes.c_uint32), ("end", ctypes.c_uint32)]
-
-    def told(self) -> Range:
-        return Range(self.start, self.end)
-
-
 class _Fault(ctypes.Structure):
-    _fields_ = [("kind", ctypes.c_uint32), ("range", _Range)]
+    _fields_ = [(name, ctypes.c_uint32) for name in ("kind", "start", "end")]
 
 
 class _Counts(ctypes.Structure):
@@ -134,7 +265,7 @@ def _load() -> ctypes.CDLL:
     beside = os.path.join(os.path.dirname(os.path.abspath(__file__)), "libexpander_c.so")
     library = ctypes.CDLL(os.environ.get("EXPANDER_LIBRARY", beside))
     session, size, u32 = ctypes.POINTER(_Session), ctypes.c_size_t, ctypes.c_uint32
-    text = ctypes.c_char_p
+    text, numbers = ctypes.c_char_p, ctypes.c_void_p
     for name, arguments in {
         "open": [text, size, u32, ctypes.c_uint8, u32],
         "close": [],
@@ -147,8 +278,8 @@ def _load() -> ctypes.CDLL:
         "printed": [text, size],
         "fault": [size, ctypes.POINTER(_Fault)],
         "reading_fault": [ctypes.POINTER(_Fault)],
-        "origins": [ctypes.POINTER(_Range), size],
-        "token_ranges": [ctypes.POINTER(_Range), size],
+        "origins": [numbers, size],
+        "token_ranges": [numbers, size],
     }.items():
         call = getattr(library, f"expander_raw_{name}")
         call.argtypes = [session, *arguments]
@@ -159,20 +290,69 @@ def _load() -> ctypes.CDLL:
 _library = _load()
 
 
-class Session:
-    """A text that may be edited and expanded, on one thread at a time.
+def _number(name: str, value: int, bits: int) -> int:
+    """A number that the library can take: it reads only so many bits of one."""
+    if isinstance(value, bool):
+        raise TypeError(f"{name} is a bool, and not a number")
+    value = operator.index(value)
+    if not 0 <= value < 1 << bits:
+        raise ValueError(f"{name} is not from 0 to 2**{bits} - 1")
+    return value
 
-    It is closed by `close`, at the end of a `with`, or when it is no longer reachable.
+
+def _size(name: str, value: int) -> int:
+    return _number(name, value, 64)
+
+
+class Session:
+    """A text that may be edited and expanded.
+
+    Threads may share a session. One call of it runs at a time, and that of another thread waits,
+    `close` too. A call that begins within another of its own thread, as in a signal handler, raises
+    RuntimeError. Calls on different sessions run side by side.
+
+    A session is closed by `close`, at the end of a `with`, or when nothing refers to it any more.
+    Then Python may run `__del__` on any thread. That is safe: a call that runs refers to its
+    session, so none does, and the library keeps nothing by thread.
+
+    A session is opened once, and can be neither copied nor pickled.
     """
+
+    __slots__ = ("_held", "_lock", "_is_used", "_is_begun", "_last", "__weakref__")
+
+    def __new__(cls, *arguments: object, **named: object) -> Session:
+        self = super().__new__(cls)
+        self._held, self._lock = _Session(None), threading.RLock()
+        self._is_used = self._is_begun = False
+        self._last: weakref.ref[Expansion] | None = None
+        return self
 
     def __init__(
         self, text: str, edition: int = 2024, depth: int = 128, grammar: int = Grammar.RUST
     ) -> None:
-        self._held = _Session(None)
-        if not 0 <= depth <= 255:
-            raise ValueError("depth is not from 0 to 255")
-        data = text.encode()
-        self._call("open", data, len(data), edition, depth, grammar)
+        data = str.encode(text)
+        edition, depth = _number("edition", edition, 32), _number("depth", depth, 8)
+        grammar = _number("grammar", grammar, 32)
+        with self._turn():
+            if self._is_begun:
+                raise RuntimeError("a session is opened once")
+            self._is_begun = True
+            self._call("open", data, len(data), edition, depth, grammar)
+
+    def __reduce_ex__(self, protocol: object) -> NoReturn:
+        raise TypeError("a session can be neither copied nor pickled: open one over its text")
+
+    @contextmanager
+    def _turn(self) -> Iterator[None]:
+        """One thread's turn, in which no other call is made on this session."""
+        with self._lock:
+            if self._is_used:
+                raise RuntimeError("this thread is in another call of the session")
+            try:
+                self._is_used = True
+                yield
+            finally:
+                self._is_used = False
 
     def _call(self, name: str, *arguments: object) -> None:
         code = getattr(_library, f"expander_raw_{name}")(ctypes.byref(self._held), *arguments)
@@ -181,7 +361,11 @@ class Session:
 
     def close(self) -> None:
         """Closes the session. What it is asked afterwards is refused as CLOSED."""
-        _library.expander_raw_close(ctypes.byref(self._held))
+        with self._turn():
+            try:
+                self._leave()
+            finally:
+                _library.expander_raw_close(ctypes.byref(self._held))
 
     def __enter__(self) -> Session:
         return self
@@ -195,25 +379,30 @@ class Session:
         self.close()
 
     def __del__(self) -> None:
-        if _library is not None and hasattr(self, "_held"):
+        if _library is not None and hasattr(self, "_is_begun"):
             self.close()
 
     @property
     def text(self) -> str:
         """The text."""
         wanted = ctypes.c_size_t()
-        try:
-            self._call("text", b"", 0, ctypes.byref(wanted))
-        except Refused as refused:
-            if refused.code != Code.ROOM:
-                raise
-        room = ctypes.create_string_buffer(wanted.value + 1)
-        self._call("text", room, wanted.value, ctypes.byref(wanted))
-        return room.raw[: wanted.value].decode()
+        with self._turn():
+            try:
+                self._call("text", b"", 0, ctypes.byref(wanted))
+            except Refused as refused:
+                if refused.code != Code.ROOM:
+                    raise
+            return self._copied("text", wanted.value, ctypes.byref(wanted))
+
+    def _copied(self, name: str, length: int, *more: object) -> str:
+        room = ctypes.create_string_buffer(length + 1)
+        self._call(name, room, length, *more)
+        return str(memoryview(room)[:length], "utf-8")
 
     def _tells(self, name: str, *arguments: int) -> bool:
         try:
-            self._call(name, *arguments)
+            with self._turn():
+                self._call(name, *arguments)
         except Refused as refused:
             if refused.code == Code.CLOSED:
                 raise
@@ -222,47 +411,70 @@ class Session:
 
     def is_boundary(self, at: int) -> bool:
         """Whether the offset is a character boundary of the text, its end included."""
-        return self._tells("is_boundary", at)
+        return self._tells("is_boundary", _size("at", at))
 
     def fits(self, start: int, end: int, length: int) -> bool:
         """Whether so many bytes can replace those from `start` to `end`, as far as lengths go."""
-        return self._tells("fits", start, end, length)
+        start, end = _size("start", start), _size("end", end)
+        return self._tells("fits", start, end, _size("length", length))
 
     def edit(self, start: int, end: int, replacement: str) -> None:
         """Replaces the bytes from `start` to `end`."""
-        data = replacement.encode()
-        self._call("edit", start, end, data, len(data))
+        data = str.encode(replacement)
+        start, end = _size("start", start), _size("end", end)
+        with self._turn():
+            self._call("edit", start, end, data, len(data))
 
     def expand(self) -> Expansion:
-        """Expands the text. Raises Unread if it cannot be read, and Refused if there is no answer."""
-        try:
-            self._call("expand")
-        except Refused as refused:
-            if refused.code == Code.UNREAD:
-                raise Unread(self._reading_fault()) from None
-            raise
+        """Expands the text. Raises Unread if it cannot be read, Refused if there is no answer."""
+        with self._turn():
+            self._leave()
+            try:
+                self._call("expand")
+            except Refused as refused:
+                if refused.code == Code.UNREAD:
+                    raise Unread(self._reading_fault()) from None
+                raise
+            counts = self._counts()
+            printed = self._copied("printed", counts.printed)
+            expansion = Expansion(printed, counts.expanded, self)
+            self._last = weakref.ref(expansion)
+            return expansion
+
+    def _leave(self) -> None:
+        """Before the last answer goes: whoever holds it takes over what it has."""
+        last = self._last and self._last()
+        if last is not None:
+            last._take(*_PARTS)
+        self._last = None
+
+    def _counts(self) -> _Counts:
         counts = _Counts()
         self._call("counts", ctypes.byref(counts))
-        room = ctypes.create_string_buffer(counts.printed + 1)
-        self._call("printed", room, counts.printed)
-        printed = room.raw[: counts.printed].decode()
-        return Expansion(printed, counts.expanded, tuple(self._faults(counts)), self._tokens(counts))
+        return counts
 
     def _reading_fault(self) -> ReadFault:
         fault = _Fault()
         self._call("reading_fault", ctypes.byref(fault))
-        return ReadFault(ReadFaultKind(fault.kind), fault.range.told())
+        return ReadFault(ReadFaultKind(fault.kind), Range(fault.start, fault.end))
 
-    def _faults(self, counts: _Counts) -> Iterator[Fault]:
+    def _faults(self) -> tuple[Fault, ...]:
+        return tuple(map(self._fault, range(self._counts().faults)))
+
+    def _fault(self, index: int) -> Fault:
         fault = _Fault()
-        for index in range(counts.faults):
-            self._call("fault", index, ctypes.byref(fault))
-            yield Fault(FaultKind(fault.kind), fault.range.told())
+        self._call("fault", index, ctypes.byref(fault))
+        return Fault(FaultKind(fault.kind), Range(fault.start, fault.end))
 
-    def _tokens(self, counts: _Counts) -> tuple[Token, ...]:
-        ranges = (_Range * (counts.tokens + 1))()
-        origins = (_Range * (counts.tokens + 1))()
-        self._call("token_ranges", ranges, counts.tokens)
-        self._call("origins", origins, counts.tokens)
-        pairs = list(zip(ranges, origins))[: counts.tokens]
-        return tuple(Token(of.told(), origin.told()) for of, origin in pairs)
+    def _tokens(self) -> Tokens:
+        count = self._counts().tokens
+        ranges, origins = (self._filled(name, count) for name in ("token_ranges", "origins"))
+        return Tokens(count, ranges, origins)
+
+    def _filled(self, name: str, count: int) -> array[int]:
+        """So many ranges, as the library writes them."""
+        # Never room for none, which may have no address.
+        room = array("I", [0]) * max(2 * count, 2)
+        address, _ = room.buffer_info()
+        self._call(name, address, count)
+        return room

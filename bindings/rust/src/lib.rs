@@ -21,7 +21,6 @@ pub use error::Error;
 
 use error::checked;
 use std::cell::UnsafeCell;
-use std::marker::PhantomData;
 use std::ops::Range;
 
 const UNREAD: u32 = 1;
@@ -104,19 +103,46 @@ fn range(it: sys::Range) -> Range<usize> {
     it.start as usize..it.end as usize
 }
 
-/// A text that may be edited and expanded. It stays on its thread.
+/// A text that may be edited and expanded. It may move to another thread, and one thread uses it at
+/// a time:
+///
+/// ```
+/// # use filgordd::{Edition, Session};
+/// let mut session = Session::new("a;", Edition::Edition2024, 128)?;
+/// let other = std::thread::spawn(move || session.edit(0..1, "b").map(|()| session.text()));
+/// assert_eq!(other.join().expect("it does not panic")?, "b;");
+/// # Ok::<(), filgordd::Error>(())
+/// ```
 ///
 /// ```compile_fail
-/// fn needs_send(_: impl Send) {}
+/// fn needs_sync(_: impl Sync) {}
 /// # use filgordd::{Edition, Session};
-/// needs_send(Session::new("", Edition::Edition2024, 128));
+/// needs_sync(Session::new("", Edition::Edition2024, 128));
 /// ```
+///
+/// Expanding may take most of the 2 MiB of stack that a thread of `std` has: `bindings/c/expander.h`
+/// says how much, and `std::thread::Builder::stack_size` gives more.
 #[derive(Debug)]
 pub struct Session {
-    // Each call takes what is held out and puts it back, also one that only looks.
+    // Each call takes what is held out and puts it back, also one that only looks. So two threads
+    // may not share a session: the cell, and the pointer in it, keep it from being `Sync`.
     raw: UnsafeCell<sys::Session>,
-    stays: PhantomData<*mut ()>,
 }
+
+// SAFETY: a session moves whole. All that a call on it reads or writes is behind its one pointer, and
+// nothing else refers to that:
+//
+// - The library shares values by counts that are not atomic. Two sessions could share a count only
+//   by a call that is handed both, or by a variable that outlives a call. No export is handed two,
+//   and there is no such variable: all statics are constant tables, and none is by thread, which
+//   `.ci/bindings` looks for in the archive. What shares within a session, as names, pieces, memos
+//   and the last answer do, moves with it.
+// - No call hands out a pointer to what is held: texts are copied in, and answers are copied out.
+// - An `Expansion` asks its session, which it borrows. It is not `Send`, since a session is not
+//   `Sync`, and while it lives its session cannot move. A `Token` or a `Fault` is a copy.
+// - Memory comes from `malloc` and goes by `free`, which any thread may call.
+// - Whoever sends a session has finished its calls, and they come before those of the receiver.
+unsafe impl Send for Session {}
 
 impl Session {
     /// A session over a copy of the text, with the grammar of Rust. `depth` is how many levels of
@@ -143,7 +169,7 @@ impl Session {
     ) -> Result<Session, Error> {
         let held = std::ptr::null_mut();
         let raw = UnsafeCell::new(sys::Session { held });
-        let session = Session { raw, stays: PhantomData };
+        let session = Session { raw };
         let (edition, grammar) = (edition as u32, grammar as u32);
         // SAFETY: the struct holds no session, and the bytes are those of a `&str`.
         checked(unsafe {
@@ -152,8 +178,7 @@ impl Session {
         Ok(session)
     }
 
-    // What all calls are handed. No two run at once: a `Session` stays on its thread, and no call
-    // calls back.
+    // What all calls are handed. No two run at once: a `Session` is not `Sync`, and none calls back.
     fn at(&self) -> *mut sys::Session {
         self.raw.get()
     }

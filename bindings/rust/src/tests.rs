@@ -1,5 +1,5 @@
-//! The row of the README, every code that a text of this size can bring about, and random edits of one
-//! session against fresh sessions.
+//! The row of the README, every code that a text of this size can bring about, sessions on threads, and
+//! random edits of one session against fresh sessions.
 use super::*;
 
 const TEXT: &str = "macro_rules! p { ($a:ident $b:tt) => { $b $a } } p!{ x y }";
@@ -81,6 +81,51 @@ fn codes() {
     }
 }
 
+// Opened here, edited and expanded there, and again here; dropped there.
+#[test]
+fn a_session_moves() {
+    let mut session = open(TEXT);
+    let here = told(&mut session);
+    let there = std::thread::spawn(move || {
+        let told = told(&mut session);
+        session.edit(55..56, "z").expect("it is edited");
+        assert_eq!(read(&mut session).expanded(), 1);
+        (told, session)
+    });
+    let (told_there, mut session) = there.join().expect("it passes");
+    assert_eq!(told_there, here);
+    assert_eq!(read(&mut session).printed(), "z x\n");
+    assert_eq!(read(&mut session).expanded(), 0);
+    std::thread::spawn(move || drop(session)).join().expect("it passes");
+}
+
+#[test]
+fn sessions_side_by_side() {
+    let threads: Vec<_> = (0..8).map(|seed| std::thread::spawn(move || edits(seed, 100))).collect();
+    for thread in threads {
+        thread.join().expect("it passes");
+    }
+}
+
+// Each thread takes the session by a lock, edits it and asks for its answer.
+#[test]
+fn threads_share_by_a_lock() {
+    let session = std::sync::Mutex::new(open("a"));
+    std::thread::scope(|scope| {
+        for _ in 0..8 {
+            scope.spawn(|| {
+                for _ in 0..50 {
+                    let mut session = session.lock().expect("no thread panics");
+                    session.edit(0..0, "a ").expect("it is edited");
+                    let tokens = read(&mut session).tokens().expect("it is short").len();
+                    assert_eq!(tokens, session.text().len().div_ceil(2));
+                }
+            });
+        }
+    });
+    assert_eq!(session.lock().expect("no thread panics").text(), format!("{}a", "a ".repeat(400)));
+}
+
 // Numbers that look random, below a bound.
 struct Numbers(u32);
 
@@ -105,14 +150,24 @@ fn told(session: &mut Session) -> String {
 
 #[test]
 fn a_thousand_edits() {
+    edits(41, 1000);
+}
+
+// Random edits of one session against fresh sessions.
+fn edits(seed: u32, count: usize) {
     let definition = "macro_rules! q { ($($t:tt)*) => { $($t)* } }\n";
     let parts = ["x", " y", "(", ")", "p!{ x y }", "'a", "\"s\"", ";", "é", "//c\n", "/// d\n", "$", "::", definition];
-    let mut numbers = Numbers(41);
+    let mut numbers = Numbers(seed);
     let mut text = format!("{TEXT}\n");
+    let (mut good, mut read) = (text.clone(), 0);
     let mut session = open(&text);
-    for _ in 0..1000 {
+    for _ in 0..count {
         let start = numbers.below(text.len() + 1);
         let (mut range, mut part) = (start..start + numbers.below(4), parts[numbers.below(parts.len())]);
+        if text != good && numbers.below(4) > 0 {
+            // Most often back to a text that is read.
+            (range, part) = (0..text.len(), &good);
+        }
         if text.len() > 400 {
             (range, part) = (0..text.len(), TEXT);
         }
@@ -126,6 +181,11 @@ fn a_thousand_edits() {
             text.replace_range(range, part);
         }
         assert_eq!(session.text(), text);
-        assert_eq!(told(&mut session), told(&mut open(&text)));
+        let told_of_it = told(&mut session);
+        assert_eq!(told_of_it, told(&mut open(&text)));
+        if !told_of_it.contains("Unread") {
+            (good, read) = (text.clone(), read + 1);
+        }
     }
+    assert!(read >= count / 3, "{read} of {count}");
 }

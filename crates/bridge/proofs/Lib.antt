@@ -36,3 +36,4 @@ mod PartLemmas
 mod DocLemmas
 mod ReadSpelledLemmas
 mod LengthLemmas
+mod VisibleCountLemmas

@@ -147,6 +147,56 @@ fn one_by_one(alloc: Global, trees: TokenTreesView<'_>) -> Result<Printed, TtFau
     }
 }
 
+fn finished(printer: Printer) -> Result<Printed, TtFault> {
+    match printer.finish() {
+        Ok(printed) => Ok(printed),
+        Err((_, fault)) => Err(fault),
+    }
+}
+
+// What the first trees of the list print, each appended by itself.
+fn front(alloc: Global, trees: TokenTreesView<'_>, count: usize) -> Result<Printed, TtFault> {
+    let mut printer = Printer::new(alloc);
+    let mut rest = trees.iter();
+    for _ in 0..count {
+        if let Some(first) = rest.next_as_view() {
+            printer.put(first)?;
+        }
+    }
+    finished(printer)
+}
+
+fn are_equal(a: &Printed, b: &Printed) -> bool {
+    a.text.as_str() == b.text.as_str()
+        && a.tokens.as_slice() == b.tokens.as_slice()
+        && a.left_out.as_slice() == b.left_out.as_slice()
+}
+
+// Whether the printer prints what the first trees print on another one.
+fn is_front(
+    alloc: Global,
+    printer: Printer,
+    trees: TokenTreesView<'_>,
+    count: usize,
+) -> Result<bool, TtFault> {
+    Ok(are_equal(&finished(printer)?, &front(alloc, trees, count)?))
+}
+
+// Whether a printer is as if a refused call had not been made. If none is refused, all are made.
+fn is_kept(alloc: Global, trees: TokenTreesView<'_>) -> Result<bool, TtFault> {
+    let mut printer = Printer::new(alloc);
+    let mut rest = trees.iter();
+    for count in 0..trees.len() {
+        let Some(first) = rest.next_as_view() else {
+            return is_front(alloc, printer, trees, count);
+        };
+        if printer.put(first).is_err() {
+            return is_front(alloc, printer, trees, count);
+        }
+    }
+    is_front(alloc, printer, trees, trees.len())
+}
+
 // The event that a character stands for: this leaf if it is no bracket.
 fn step_for(char: char, leaf: &Leaf) -> TokenEvent<'_> {
     let span = Span::default();
@@ -256,5 +306,11 @@ fn prints_in_both_ways(alloc: Global) -> Result<bool, TtFault> {
 #[test]
 fn refused_calls(rt: HostRuntime) -> Result<(), Fail> {
     assert!(rt; prints_in_both_ways(rt.alloc())?);
+    let tree = made(rt.alloc(), "'<a>(?$)//'a?aaaaaaaaaaaaaaaa")?;
+    let is_kept = match is_kept(rt.alloc(), tree.token_trees()) {
+        Err(TtFault::Memory) => is_kept(rt.alloc(), tree.token_trees())?,
+        answer => answer?,
+    };
+    assert!(rt; is_kept);
     Ok(())
 }

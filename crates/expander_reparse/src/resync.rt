@@ -102,8 +102,8 @@ fn seek_far(
 
 /// A cached piece that occurs first in a text with these tokens, and its index.
 ///
-/// The pieces after the one found last are tried, then those after the last leap. If none was
-/// found at the last offset either, all further ahead are tried too.
+/// The pieces after the one found last are tried, then those from where the last leap started. If
+/// none was found at the last offset either, all further ahead are tried too.
 pub(crate) fn seek_cached(
     held: &Segments,
     seeker: &mut Resync,

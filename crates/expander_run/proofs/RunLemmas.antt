@@ -5,9 +5,9 @@ use Rattle.std.specs.Io.KnownBytes.{Appends}
 use Rattle.expander_run.proofs.KnownByteLemmas.{appends_none}
 use Rattle.expander_model.specs.Meaning.{Layers}
 use Rattle.expander_run.specs.Lines.{stop_line}
-use Rattle.expander_run.specs.Runs.{LeavesAt, RunsBy, Tells, is_of_writer, status}
+use Rattle.expander_run.specs.Runs.{LeavesAt, Puts, RunsBy, Tells, is_of_writer, status}
 use Rattle.expander_run.specs.Watch.{Watch}
-use Rattle.expander_run.specs.Steps.{Puts, PutsReply, Replied, StopsEarly}
+use Rattle.expander_run.specs.Steps.{PutsReply, Replied, StopsEarly}
 use Rattle.expander_run.specs.declared.stop.Stop.{Stop}
 use Rattle.expander_run.specs.declared.stop.Stop.TheVariants.{NotUtf8, TooLong, ReadFailed, WriteFailed, Refused}
 use Rattle.expander_session.specs.declared.session.Reply.{Reply}

@@ -1,5 +1,6 @@
 -- What a run reads and writes. (Of this project.)
 use Rattle.std.specs.Prelude.{◌≡◌, ℕ, ◌≤◌, ◌<◌, ◌^◌, Bool, true, false, List, [], ◌∷◌, length, take, Option, Some, None, IfSome, IsUtf8, ⊤}
+use Rattle.std.specs.Io.KnownBytes.{Appends}
 use Rattle.tt_data.specs.declared.edition.Edition.TheVariants.{Edition2024}
 use Rattle.small_grammar.specs.Answer.{answer}
 use Rattle.expander_session.specs.Expanded.{Expanded}
@@ -66,6 +67,11 @@ status_of (Unread fault) = status 1
 abbrev pub IsFlushed : {W : Type 0} → Reply → Watch W → Watch W → Type 0
 IsFlushed (Read e) before writer = writer.flushed ≡ true
 IsFlushed (Unread fault) before writer = writer ≡ before
+
+-- all is written and flushed last, or the first bytes are and the writer failed
+abbrev pub Puts : {W : Type 0} → Option (List ℕ) → Option (List ℕ) → Watch W → List ℕ → Bool → Type 0
+Puts old new writer bytes true = Appends old new bytes × (writer.flushed ≡ true) × (writer.failed ≡ false)
+Puts old new writer bytes false = ((k : ℕ) × Appends old new (take k bytes)) × (writer.failed ≡ true)
 
 -- the report is written whole and flushed last, or its first bytes if that writer failed
 pub record Tells {E : Type 0} (told : List ℕ) (tells : List ℕ → Type 0) (faults : Watch E) : Type 0 where

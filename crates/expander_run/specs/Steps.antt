@@ -33,11 +33,6 @@ pub record StopsEarly (layers : Layers) (stop : Stop) (input : Option (List ℕ)
   pub reader : failed ≡ is_of_reader stop
   pub writer : is_of_writer stop ≡ false
 
--- all is written and flushed last, or the first bytes are and the writer failed
-abbrev pub Puts : {W : Type 0} → Option (List ℕ) → Option (List ℕ) → Watch W → List ℕ → Bool → Type 0
-Puts old new writer bytes true = Appends old new bytes × (writer.flushed ≡ true) × (writer.failed ≡ false)
-Puts old new writer bytes false = ((k : ℕ) × Appends old new (take k bytes)) × (writer.failed ≡ true)
-
 -- the printed text of a reply is written, or its first bytes are and the writer failed
 abbrev pub PutsReply : {W : Type 0} → Option (List ℕ) → Option (List ℕ) → Watch W → Watch W → Reply → Bool → Type 0
 PutsReply old new before writer reply true = Appends old new (printed_of reply) × IsFlushed reply before writer × (writer.failed ≡ false)

@@ -5,9 +5,9 @@ ghost use Rattle.std.specs.Io.KnownBytes.{Appends};
 ghost use Rattle.expander_model.specs.Meaning.{meaning};
 ghost use Rattle.expander_session.specs.Replies.{IsReplyTo, NeedsNumbers};
 ghost use Rattle.expander_run.specs.Lines.{report};
-ghost use Rattle.expander_run.specs.Runs.{IsAllOf, Runs, RunsBy, Tells, layers_of, status, status_of};
+ghost use Rattle.expander_run.specs.Runs.{IsAllOf, Puts, Runs, RunsBy, Tells, layers_of, status, status_of};
 ghost use Rattle.expander_session.specs.TooMany.{NeedsTooMany};
-ghost use Rattle.expander_run.specs.Steps.{Puts, PutsReply, Replied, StopsEarly, StopsReading};
+ghost use Rattle.expander_run.specs.Steps.{PutsReply, Replied, StopsEarly, StopsReading};
 
 use crate::lines::{report, stop_line};
 use crate::options::Options;
@@ -184,8 +184,9 @@ fn read_all<R: Read>(alloc: Global, reader: &mut Watched<R>) -> Result<Vec<u8>, 
     Err(Stop::TooLong)
 }
 
-// Whether all bytes were written and flushed.
-fn put<W: Write>(writer: &mut Watched<W>, bytes: &[u8]) -> bool
+/// Writes and flushes bytes, and says whether all were. After an error nothing more is asked of the
+/// writer, which has then taken the first of them.
+pub fn put<W: Write>(writer: &mut Watched<W>, bytes: &[u8]) -> bool
     requires { writer.old.failed ≡ false }
     ensures { Puts (W.contents writer.old.inner) (W.contents writer.new.inner) writer.new bytes.now result }
 {

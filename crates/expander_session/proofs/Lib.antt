@@ -5,7 +5,7 @@ mod MemoRefLemmas
 pub mod WordLemmas
 pub mod AgreementLemmas
 pub mod FindsLemmas
-mod TreeIndexLemmas
+mod LookupTreeLemmas
 pub mod WorldLemmas
 pub mod TreeLemmas
 pub mod ReadPlaceLemmas
@@ -27,4 +27,4 @@ mod EvaluateLemmas
 mod PassLemmas
 mod PassLoopLemmas
 mod SessionLemmas
-mod CommandLemmas
+pub mod CommandLemmas

@@ -1,11 +1,10 @@
 -- The search for a memo that is valid for a tree.
 use Rattle.std.proofs.Common.{◌≡◌, ◌↔◌, ℕ, ◌<◌, ◌+◌, ◌∙◌, drop, zero, suc, Bool, true, false, List, [], ◌∷◌, length, get_or, map, Option, Some, None, refl, ap, sym, subst, arith, Global}
-use Rattle.std.specs.Prelude.{◌&&◌, IfSome, slice_get}
+use Rattle.std.specs.Prelude.{◌&&◌, ◌||◌, IfSome, slice_get}
 use Rattle.std.specs.List.{list_all, list_any}
 use Rattle.std.specs.Rc.{rc_value}
 use Rattle.std.specs.declared.rc.Rc.{Rc}
 use Rattle.tt.specs.Tops.{Top}
-use Rattle.expander_session.specs.TreeIndexes.{last_place, place_before}
 use Rattle.expander_model.specs.Held.{Numbered}
 use Rattle.expander_scope.specs.Outcomes.{find_of}
 use Rattle.expander_model.specs.HashedTrees.{tree_hash}
@@ -14,13 +13,17 @@ use Rattle.expander_session.specs.Reuse.{agrees, same_number}
 use Rattle.expander_model.specs.EqualTrees.{same_top}
 use Rattle.expander_scope.specs.declared.outcome.NameLookup.{NameLookup}
 use Rattle.expander_session.specs.declared.memo.Memo.{Memo}
-use Rattle.expander_session.proofs.TreeIndexLemmas.{at_found, at_last, at_next, next_below, reach}
 use Rattle.expander_reparse.proofs.ListLemmas.{at_place, in_range, mapped_length, passed_by, stands_at}
 
--- how far a search may go back
-abbrev pub left : Option ℕ → ℕ
-left None = 0
-left (Some i) = suc i
+-- one that passes is one of them
+one_passes : {X : Type 0} (test : X → Bool) (xs : List X) (i : ℕ) (x : X) → slice_get xs i ≡ Some x → test x ≡ true → true ≡ list_any test xs
+one_passes test [] i x e passes = cc
+one_passes test (y ∷ ys) zero x e passes = let same : y ≡ x = cc in sym (ap (λ z. test z || list_any test ys) same ∙ ap (λ b. b || list_any test ys) passes)
+one_passes test (y ∷ ys) (suc i) x e passes = sym (ap (λ b. test y || b) (sym (one_passes test ys i x e passes)) ∙ or_true (test y))
+  where
+    or_true : (a : Bool) → (a || true) ≡ true
+    or_true true = refl
+    or_true false = refl
 
 abbrev pub test : (List ℕ → Option Numbered) → Top → Rc Memo Global → Bool
 test scope tree q = is_match scope tree (rc_value q)
@@ -39,35 +42,10 @@ module _ (equal : (a b : Top) → (same_top a b ≡ true) ↔ (a ≡ b)) where
       first true b e = refl
       first false b e = cc
 
--- where a search from place to place stands
-pub record Searching (scope : List ℕ → Option Numbered) (tree : Top) (held : List (Rc Memo Global)) (at : Option ℕ) : Type 0 where
-  pub any : list_any (test scope tree) held ≡ reach (test scope tree) held at
-  pub here : (i : ℕ) → at ≡ Some i → slice_get (map tree_in held) i ≡ Some tree
-
 module _ (equal : (a b : Top) → (same_top a b ≡ true) ↔ (a ≡ b)) (scope : List ℕ → Option Numbered) (tree : Top) (held : List (Rc Memo Global)) where
-  pub begins : (at : Option ℕ) → at ≡ last_place (map tree_in held) tree → Searching scope tree held at
-  begins at is =
-      let h = at_last (decides equal) tree_in (test scope tree) tree (only equal scope tree) held at is in
-      record { any = h.any; here = h.here }
-
-  module _ (i : ℕ) (q : Rc Memo Global) (searching : Searching scope tree held (Some i)) (stands : slice_get held i ≡ Some q) (fails : test scope tree q ≡ false)
-      (next : Option ℕ) (next_is : next ≡ place_before (map tree_in held) i) where
-    pub goes_back : Searching scope tree held next
-    goes_back =
-        let h = at_next (decides equal) tree_in (test scope tree) tree (only equal scope tree) held i q (record { any = searching.any; here = searching.here }) stands fails next next_is in
-        record { any = h.any; here = h.here }
-
-    pub goes_less : left next < suc i
-    goes_less = less next refl
-      where
-        less : (o : Option ℕ) → next ≡ o → left o < suc i
-        less None e = omega arith
-        less (Some j) e =
-            let h = next_below (decides equal) tree_in (test scope tree) tree (only equal scope tree) held i q (record { any = searching.any; here = searching.here }) stands fails next next_is j e in
-            omega (arith, h)
-
+  -- a valid memo is one of them
   pub any_found : (i : ℕ) (q : Rc Memo Global) → slice_get held i ≡ Some q → test scope tree q ≡ true → true ≡ list_any (test scope tree) held
-  any_found i q stands passes = at_found (decides equal) tree_in (test scope tree) tree (only equal scope tree) held i q stands passes
+  any_found i q stands passes = one_passes (test scope tree) held i q stands passes
 
 -- finds agree as the code holds them
 pub agrees_mapped : (scope : List ℕ → Option Numbered) (fs : List NameLookup) → list_all (λ f. same_number (scope (find_of f).0) (find_of f).1) fs ≡ agrees scope (map find_of fs)

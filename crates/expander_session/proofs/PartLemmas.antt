@@ -181,27 +181,28 @@ module _
         ap (λ l. list_any (nat_eq k) (left_out_from 0 l)) is ∙ not_before bs (map (step_with f) xs ++ ys) 0 k (omega (arith, low, many)) none
 
     pub puts_part : (words : List Span) → words ≡ map f (word_places steps) → ((before : List Step) → HasPut old.printer before → HasPut new.printer (before ++ map (step_with f) (steps_of steps)))
-        → new.count ≡ old.count + length part.tokens → new.told.items ≡ old.told.items
+        → new.told.items ≡ old.told.items
         → new.nested.items ≡ old.nested.items ++ map (fault_at NestedDefinition) words → PutsOut old new (map (placed_with f) steps)
     unfolding moved
-    puts_part words words_are puts counted told nested before has =
-        let longer : new.count ≡ old.count + length (visible moved) = counted ∙ ap (λ n. old.count + n) (part_length part steps is_part ∙ sym as_many) in
+    puts_part words words_are puts told nested before has =
+        let n = length (visible before) in
+        let longer : length (visible (before ++ moved)) ≡ n + length (visible moved) =
+        ap length (visible-append before moved) ∙ length-append (visible before) (visible moved) in
         record {
           printer = subst (HasPut new.printer)
               (ap (λ l. steps_of before ++ l) (sym (steps_with f steps)) ∙ sym (map-append (λ (s : PlacedStep). s.step) before moved))
               (puts (steps_of before) has.printer);
-          count = longer ∙ ap (λ n. n + length (visible moved)) has.count ∙ sym (length-append (visible before) (visible moved)) ∙ ap length (sym (visible-append before moved));
           told = λ more.
               let is : (before ++ moved) ++ more ≡ before ++ (moved ++ more) = append_assoc before moved more in
               let numbers = numbers_left_out (before ++ (moved ++ more)) in
-              let behind : List Told = told_from (old.count + length (visible moved)) (visible more) in
-              ap (λ l. faults_at (l ++ told_from new.count (visible more)) (numbers_left_out ((before ++ moved) ++ more))) told
-              ∙ ap (λ n. faults_at (old.told.items ++ told_from n (visible more)) (numbers_left_out ((before ++ moved) ++ more))) longer
+              let behind : List Told = told_from (n + length (visible moved)) (visible more) in
+              ap (λ l. faults_at (l ++ told_from (length (visible (before ++ moved))) (visible more)) (numbers_left_out ((before ++ moved) ++ more))) told
+              ∙ ap (λ k. faults_at (old.told.items ++ told_from k (visible more)) (numbers_left_out ((before ++ moved) ++ more))) longer
               ∙ ap (λ l. faults_at (old.told.items ++ behind) (numbers_left_out l)) is
-              ∙ sym (skip_behind old.told.items old.count (visible moved) behind numbers
-              (λ k low high. none_told before more k (omega (arith, low, has.count)) (omega (arith, high, has.count))))
+              ∙ sym (skip_behind old.told.items n (visible moved) behind numbers
+              (λ k low high. none_told before more k low high))
               ∙ ap (λ l. faults_at (old.told.items ++ l) numbers)
-              (sym (told_from-append old.count (visible moved) (visible more)) ∙ ap (told_from old.count) (sym (visible-append moved more)))
+              (sym (told_from-append n (visible moved) (visible more)) ∙ ap (told_from n) (sym (visible-append moved more)))
               ∙ has.told (moved ++ more)
               ∙ ap (λ l. unspellable (left_out spelling_before (visible l))) (sym is);
           nested = nested ∙ ap (λ l. l ++ map (fault_at NestedDefinition) words) has.nested

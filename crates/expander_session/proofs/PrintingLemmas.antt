@@ -60,21 +60,23 @@ nothing_told more = told_one_by_one 0 (visible more)
 -- one step is put out
 pub puts_step : (old new : Emitter) (s : PlacedStep)
     → ((steps : List Step) → HasPut old.printer steps → HasPut new.printer (steps ++ s.step ∷ []))
-    → new.count ≡ old.count + length (visible (s ∷ [])) → new.told.items ≡ old.told.items ++ told_from old.count (visible (s ∷ []))
+    → ((before : List PlacedStep) → HasPut old.printer (steps_of before)
+    → new.told.items ≡ old.told.items ++ told_from (length (visible before)) (visible (s ∷ [])))
     → new.nested.items ≡ old.nested.items ++ words_told (s ∷ [])
     → PutsOut old new (s ∷ [])
-puts_step old new s puts count told words before has = record {
+puts_step old new s puts told words before has = record {
   printer = subst (HasPut new.printer) (sym (map-append (λ (s : PlacedStep). s.step) before (s ∷ []))) (puts (steps_of before) has.printer);
-  count = count ∙ ap (λ n. n + length here) has.count ∙ sym (length-append (visible before) here) ∙ ap length (sym (visible-append before (s ∷ [])));
   told = λ more.
       let one : visible (s ∷ more) ≡ here ++ visible more = visible-append (s ∷ []) more in
       let is : (before ++ s ∷ []) ++ more ≡ before ++ (s ∷ more) = append_assoc before (s ∷ []) more in
-      ap (λ l. faults_at (l ++ told_from new.count (visible more)) (numbers_left_out ((before ++ s ∷ []) ++ more))) told
-      ∙ ap (λ n. faults_at ((old.told.items ++ told_from old.count here) ++ told_from n (visible more)) (numbers_left_out ((before ++ s ∷ []) ++ more))) count
+      let count : length (visible (before ++ s ∷ [])) ≡ n + length here =
+      ap length (visible-append before (s ∷ [])) ∙ length-append (visible before) here in
+      ap (λ l. faults_at (l ++ told_from (length (visible (before ++ s ∷ []))) (visible more)) (numbers_left_out ((before ++ s ∷ []) ++ more))) (told before has.printer)
+      ∙ ap (λ k. faults_at ((old.told.items ++ told_from n here) ++ told_from k (visible more)) (numbers_left_out ((before ++ s ∷ []) ++ more))) count
       ∙ ap (λ l. faults_at l (numbers_left_out ((before ++ s ∷ []) ++ more)))
-      (append_assoc old.told.items (told_from old.count here) (told_from (old.count + length here) (visible more))
-      ∙ ap (λ l. old.told.items ++ l) (sym (told_from-append old.count here (visible more)) ∙ ap (told_from old.count) (sym one)))
-      ∙ ap (λ l. faults_at (old.told.items ++ told_from old.count (visible (s ∷ more))) (numbers_left_out l)) is
+      (append_assoc old.told.items (told_from n here) (told_from (n + length here) (visible more))
+      ∙ ap (λ l. old.told.items ++ l) (sym (told_from-append n here (visible more)) ∙ ap (told_from n) (sym one)))
+      ∙ ap (λ l. faults_at (old.told.items ++ told_from n (visible (s ∷ more))) (numbers_left_out l)) is
       ∙ has.told (s ∷ more)
       ∙ ap (λ l. unspellable (left_out spelling_before (visible l))) (sym is);
   nested = words ∙ ap (λ l. l ++ words_told (s ∷ [])) has.nested ∙ sym (words_told-append before (s ∷ []));
@@ -82,6 +84,9 @@ puts_step old new s puts count told words before has = record {
   where
     here : List PlacedStep
     here = visible (s ∷ [])
+
+    n : ℕ
+    n = length (visible before)
 
 -- a visible step, and an invisible one
 pub one_visible : (s : PlacedStep) → is_visible_step s.step ≡ true → visible (s ∷ []) ≡ s ∷ []

@@ -11,7 +11,7 @@ use Rattle.expander_model.specs.Definitions.{Definition}
 use Rattle.expander_model.specs.Expansion.{World, expansion}
 use Rattle.expander_model.specs.Held.{Numbered, numbered_world}
 use Rattle.expander_session.specs.CachedOutputs.{Holds}
-use Rattle.expander_session.specs.MemoRefs.{AreLinked, plain_tops}
+use Rattle.expander_session.specs.MemoRefs.{AreLinked, LeadsTo, plain_tops}
 use Rattle.expander_scope.specs.DefinitionTexts.{inner_of}
 use Rattle.expander_scope.specs.DefinitionIds.{AreNumbers, HaveNumbers, numbered_by}
 use Rattle.expander_scope.specs.Outcomes.{parts_of}
@@ -20,6 +20,8 @@ use Rattle.expander_session.specs.Reuse.{HeldPiece, IsHeld}
 use Rattle.expander_reparse.specs.Segments.{AreSegments, all_in}
 use Rattle.expander_session.specs.declared.cache.Cache as code
 use Rattle.expander_session.specs.declared.memo.Memo.{Memo}
+use Rattle.expander_session.specs.declared.memo_ref.MemoRef.{MemoRef}
+use Rattle.tt.specs.Tops.{Top}
 
 -- a plain piece, as the count sees it
 abbrev pub looked_plain : Memo → Looked
@@ -32,6 +34,10 @@ held_in m = if m.was_read then Some (map (λ q. looked_plain (rc_value q)) m.pla
 -- the trees of the definitions
 abbrev pub trees_of : code.Cache → List Forest
 trees_of m = map (λ k. inner_of (rc_value k)) m.definitions.items
+
+-- the reference, if there is one, leads to the memo or definition that is cached for this tree
+abbrev pub LinksTo : code.Cache → Option MemoRef → Top → Type 0
+LinksTo m link t = LeadsTo (plain_tops m.plains.items) (definition_tops m.definitions.items) link t
 
 module _ (world : World Definition) (depth : ℕ) where
   -- a plain piece with its whole expansion, each name resolved as its memo says

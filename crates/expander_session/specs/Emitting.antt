@@ -39,9 +39,8 @@ words_told steps = map (fault_at NestedDefinition) (word_places steps)
 -- the faults of all tokens that can't be printed are reported
 pub record HasOutput (out : Emitter) (steps : List PlacedStep) : Type 0 where
   pub printer : HasPut out.printer (steps_of steps)
-  pub count : out.count ≡ length (visible steps)
   pub told : (more : List PlacedStep)
-      → faults_at (out.told.items ++ told_from out.count (visible more)) (numbers_left_out (steps ++ more))
+      → faults_at (out.told.items ++ told_from (length (visible steps)) (visible more)) (numbers_left_out (steps ++ more))
       ≡ unspellable (left_out spelling_before (visible (steps ++ more)))
   pub nested : out.nested.items ≡ words_told steps
 

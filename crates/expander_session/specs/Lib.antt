@@ -8,19 +8,19 @@ pub mod Expanded
 pub mod TooMany
 pub mod Replies
 pub mod Answers
+pub mod CommandTurns
 pub mod Laws
 pub mod Agreement
 -- what the functions inside the crate promise each other
 pub mod Reuse
 pub mod TextTurn
-pub mod TreeIndexes
 pub mod AbsoluteSpans
 pub mod Memos
+pub mod LookupTrees
 pub mod MemoRefs
 pub mod Caches
 pub mod Evaluating
 pub mod EvaluatedTexts
 pub mod Emitting
 pub mod Shown
-pub mod CommandTurns
 pub mod CachedOutputs

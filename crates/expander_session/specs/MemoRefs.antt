@@ -1,5 +1,5 @@
 -- Which memo or definition of the cache each piece of a text has.
-use Rattle.std.specs.Prelude.{◌≡◌, ℕ, List, Option, Some, map, slice_get}
+use Rattle.std.specs.Prelude.{◌≡◌, ℕ, IfSome, List, Option, Some, map, slice_get}
 use Rattle.std.specs.Global.{Global}
 use Rattle.std.specs.Rc.{rc_value}
 use Rattle.std.specs.declared.rc.Rc.{Rc}
@@ -18,6 +18,10 @@ plain_tops plains = map (λ (q : Rc Memo Global). tree_of (rc_value q)) plains
 abbrev pub linked : List Top → List Top → MemoRef → Option Top
 linked plains definitions (link.Plain i) = slice_get plains i
 linked plains definitions (link.Definition i) = slice_get definitions i
+
+-- the reference, if there is one, leads to this tree
+abbrev pub LeadsTo : List Top → List Top → Option MemoRef → Top → Type 0
+LeadsTo plains definitions reference t = IfSome reference (λ l. linked plains definitions l ≡ Some t)
 
 -- the references lead to these trees
 abbrev pub LeadTo : List Top → List Top → List MemoRef → List Top → Type 0

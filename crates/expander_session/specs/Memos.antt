@@ -5,14 +5,12 @@ use Rattle.std.specs.Global.{Global}
 use Rattle.std.specs.Rc.{rc_value}
 use Rattle.std.specs.declared.rc.Rc.{Rc}
 use Rattle.tt.specs.Tops.{Top}
-use Rattle.expander_session.specs.TreeIndexes.{AreChained}
 use Rattle.expander_model.specs.Definitions.{definition_of}
 use Rattle.expander_model.specs.Held.{Numbered}
 use Rattle.expander_scope.specs.Outcomes.{find_of}
 use Rattle.expander_model.specs.HashedTrees.{tree_hash}
 use Rattle.expander_session.specs.Reuse.{agrees}
 use Rattle.expander_model.specs.EqualTrees.{same_top}
-use Rattle.expander_session.specs.declared.memo.MemoIndex.{MemoIndex}
 use Rattle.expander_session.specs.declared.memo.Memo.{Memo}
 
 -- the tree of a piece
@@ -31,13 +29,17 @@ finds_of q = map find_of q.finds.items
 abbrev pub is_match : (List ℕ → Option Numbered) → Top → Memo → Bool
 is_match scope tree q = same_top tree (tree_of q) && agrees scope (finds_of q)
 
+-- some memo of these is valid for this tree
+abbrev pub has_match : (List ℕ → Option Numbered) → Top → List (Rc Memo Global) → Bool
+has_match scope tree held = list_any (λ q. is_match scope tree (rc_value q)) held
+
+-- the memo at this index is valid for this tree
+abbrev pub IsValidAt : (List ℕ → Option Numbered) → Top → List (Rc Memo Global) → ℕ → Type 0
+IsValidAt scope tree held i = IfSome (slice_get held i) (λ q. is_match scope tree (rc_value q) ≡ true)
+
 -- these are the hashes of the trees of these memos, in order
 abbrev pub AreHashes : List ℕ → List (Rc Memo Global) → Type 0
 AreHashes hashes held = hashes ≡ map (λ (q : Rc Memo Global). tree_hash (tree_of (rc_value q))) held
-
--- the index, where it was made, is of these memos
-abbrev pub Finds : MemoIndex → List (Rc Memo Global) → Type 0
-Finds lookup held = IfSome lookup.chains (λ c. AreChained c (map (λ q. tree_of (rc_value q)) held))
 
 -- the memo at this index is valid for this tree in this scope, so there is one
 pub record IsMatchAt (scope : List ℕ → Option Numbered) (tree : Top) (held : List (Rc Memo Global)) (i : ℕ) : Type 0 where

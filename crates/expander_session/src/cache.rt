@@ -1,16 +1,17 @@
 //! What a session caches of the last text that was read.
-ghost use Rattle.std.specs.Prelude.{◌≡◌, ℕ, [], All, IfSome, None, Some, is_some, slice_get};
+ghost use Rattle.std.specs.Prelude.{◌≡◌, ℕ, [], All, IfSome, List, None, Some, is_some, slice_get};
 ghost use Rattle.std.specs.Rc.{rc_value};
 ghost use Rattle.tt_data.specs.declared.edition.Edition.{Edition};
 ghost use Rattle.expander_scope.specs.Interning.{AreInTable, definition_tops, known_in};
 ghost use Rattle.expander_model.specs.Definitions.{Definition, definition_of};
 ghost use Rattle.expander_model.specs.Expansion.{World};
-ghost use Rattle.expander_session.specs.MemoRefs.{AreLinked, linked, plain_tops};
-ghost use Rattle.expander_session.specs.Caches.{IsCache, held_in, trees_of};
+ghost use Rattle.expander_session.specs.MemoRefs.{AreLinked, LeadsTo, plain_tops};
+ghost use Rattle.expander_session.specs.Caches.{IsCache, LinksTo, held_in, trees_of};
 ghost use Rattle.expander_reparse.specs.RelativePieces.{tree_at};
 ghost use Rattle.expander_reparse.specs.Reparsing.{IsMet};
 ghost use Rattle.expander_session.specs.Memos.{IsPlain};
 ghost use Rattle.expander_reparse.specs.Segments.{AreSegments, all_in};
+ghost use Rattle.tt.specs.Tops.{Top};
 
 use crate::memo::Memo;
 use crate::memo_ref::MemoRef;
@@ -76,12 +77,14 @@ impl Cache {
         }
     }
 
-    // The reference of a piece that was taken from the cached segments. `None` for one that was
-    // read anew.
-    fn link_of(&self, own: &Piece) -> Option<MemoRef>
-        requires linked { AreLinked (plain_tops self.now.plains.items) (definition_tops self.now.definitions.items) (all_in self.now.sources) self.now.links.items }
+    /// The reference of a piece that was taken from the cached segments. `None` for one that was
+    /// read anew.
+    pub(crate) fn link_of(&self, own: &Piece) -> Option<MemoRef>
+        requires linked { AreLinked (plain_tops self.now.plains.items)
+            (definition_tops self.now.definitions.items)
+            (all_in self.now.sources) self.now.links.items }
         requires met { IsMet self.now.sources own.now.met (tree_at own.now) }
-        ensures { IfSome result (λ link. linked (plain_tops self.now.plains.items) (definition_tops self.now.definitions.items) link ≡ Some (tree_at own.now)) }
+        ensures { LinksTo self.now result (tree_at own.now) }
     {
         let Some(at) = own.met else {
             return None;
@@ -92,35 +95,21 @@ impl Cache {
         Some(link)
     }
 
-    /// The index of a piece's memo, if the piece was taken from the cached segments and is plain.
-    pub(crate) fn plain_at(&self, own: &Piece) -> Option<usize>
-        requires linked { AreLinked (plain_tops self.now.plains.items) (definition_tops self.now.definitions.items) (all_in self.now.sources) self.now.links.items }
-        requires met { IsMet self.now.sources own.now.met (tree_at own.now) }
-        ensures { IfSome result (λ i. slice_get (plain_tops self.now.plains.items) i ≡ Some (tree_at own.now)) }
-    {
-        match self.link_of(own) {
-            Some(MemoRef::Plain(i)) => Some(i),
-            _ => None,
-        }
-    }
-
-    /// The cached definition of a piece, if the piece was taken from the cached segments and is
-    /// one.
-    pub(crate) fn definition_at(&self, own: &Piece) -> Option<&Rc<MacroDef>>
-        requires linked { AreLinked (plain_tops self.now.plains.items) (definition_tops self.now.definitions.items) (all_in self.now.sources) self.now.links.items }
-        requires met { IsMet self.now.sources own.now.met (tree_at own.now) }
+    /// The cached definition that a reference leads to, if it leads to one.
+    pub(crate) fn definition_at(&self, link: Option<MemoRef>) -> Option<&Rc<MacroDef>>
         requires listed { AreInTable self.now.by_tree self.now.definitions.items }
-        ensures { IfSome result (λ k. known_in self.now.by_tree (tree_at own.now) ≡ Some k.now.value) }
+        ensures { (t : Top) → LinksTo self.now link t →
+            IfSome result (λ k. known_in self.now.by_tree t ≡ Some k.now.value) }
     {
-        match self.link_of(own) {
+        match link {
             Some(MemoRef::Definition(i)) => self.definitions.get(i),
             _ => None,
         }
     }
 
-    /// A rough size of the memos and definitions that may come next, in tokens and bytes of names, if
-    /// this piece is the first of a run, and else 0. The memos of a run are looked at together, so the processor waits for
-    /// memory once and not at each. This decides speed alone.
+    /// A rough size of the memos and definitions that may come next, in tokens and bytes of names,
+    /// if this piece is the first of a run, and else 0. The memos of a run are looked at together,
+    /// so the processor waits for memory once and not at each. This decides speed alone.
     pub(crate) fn look_ahead(&self, own: &Piece) -> usize
         requires { AreSegments self.now.sources }
     {
@@ -158,18 +147,28 @@ impl Cache {
         }
     }
 
-    /// Whether a piece is a definition. If it was taken from the cached segments, its tree is not
-    /// looked at.
-    pub fn is_definition(&self, own: &Piece) -> bool
-        requires linked { AreLinked (plain_tops self.now.plains.items) (definition_tops self.now.definitions.items) (all_in self.now.sources) self.now.links.items }
-        requires met { IsMet self.now.sources own.now.met (tree_at own.now) }
+    /// Whether a piece with this reference is a definition. If it has one, its tree is not looked
+    /// at.
+    pub(crate) fn is_definition(&self, own: &Piece, link: Option<MemoRef>) -> bool
+        requires link { LinksTo self.now link (tree_at own.now) }
         requires plain { All (λ q. IsPlain (rc_value q)) self.now.plains.items }
         ensures { result ≡ is_some (definition_of (tree_at own.now).inner) }
     {
-        match self.link_of(own) {
+        match link {
             Some(MemoRef::Plain(_)) => false,
             Some(MemoRef::Definition(_)) => true,
             None => own.tree.get().as_ref().is_definition(),
         }
+    }
+}
+
+/// The index of the memo that a reference leads to, if it leads to one.
+pub(crate) fn plain_at(link: Option<MemoRef>) -> Option<usize>
+    ensures { (plains definitions : List Top) (t : Top) → LeadsTo plains definitions link t →
+        IfSome result (λ i. slice_get plains i ≡ Some t) }
+{
+    match link {
+        Some(MemoRef::Plain(i)) => Some(i),
+        _ => None,
     }
 }

@@ -64,8 +64,8 @@ pub fn replay<G: FragmentGrammar + Drop>(
     Ok(answers)
 }
 
-// The answer to one command.
-fn answer_to<G: FragmentGrammar + Drop>(session: &mut Session<G>, command: &Command) -> Answer
+/// The answer to one command.
+pub fn answer_to<G: FragmentGrammar + Drop>(session: &mut Session<G>, command: &Command) -> Answer
     ensures turn { Turn (layers_of G.answer session.old) session.old session.new command.now result }
     ensures few { session.old.given < 2 ^ 32 → session.new.given < 2 ^ 32 }
 {

@@ -1,5 +1,5 @@
 //! Prints events as they come, and keeps the ranges at which their faults are reported.
-ghost use Rattle.std.specs.Prelude.{◌≡◌, ◌+◌, ◌∷◌, [], ◌++◌, List, true, IfOk, OnOk, map};
+ghost use Rattle.std.specs.Prelude.{◌≡◌, ◌∷◌, [], ◌++◌, List, true, IfOk, OnOk, length, map};
 ghost use Rattle.bridge.specs.RelativeSpans.{shifted};
 ghost use Rattle.bridge.specs.PrintedTrees.{lazy_print_in};
 ghost use Rattle.bridge.specs.Printing.{is_visible_step, print_of};
@@ -8,7 +8,8 @@ ghost use Rattle.expander_model.specs.Expansion.{PlacedStep, placed};
 ghost use Rattle.expander_model.specs.Faults.{fault_at};
 ghost use Rattle.expander_session.specs.CachedOutputs.{PutsChunk};
 ghost use Rattle.expander_session.specs.Emitting.{HasOutput, PutsOut, faults_at, faults_in, told_from, words_told};
-ghost use Rattle.expander_model.specs.Printing.{steps_of};
+ghost use Rattle.expander_model.specs.Printing.{steps_of, visible};
+ghost use Rattle.bridge.specs.Printers.{HasPut};
 ghost use Rattle.expander_model.specs.declared.fault.FaultKind.TheVariants as as_kind;
 
 use bridge::parts::{LazyPrinted, PrintedChunk, Shift, TokenEvent};
@@ -29,8 +30,6 @@ struct Told {
 #[derive(Drop)]
 pub(crate) struct Emitter {
     printer: Printer,
-    // How many visible tokens were emitted, those that cannot be printed included.
-    count: usize,
     // The ranges for faults of the tokens that came one by one. All tokens of a chunk can be
     // printed.
     told: Vec<Told>,
@@ -45,7 +44,6 @@ pub(crate) fn no_steps(alloc: Global, bytes: usize, parts: usize) -> Result<Emit
     let printer = Printer::with_room(alloc, bytes, parts)?;
     Ok(Emitter {
         printer,
-        count: 0,
         told: Vec::new(alloc),
         nested: Vec::new(alloc),
     })
@@ -95,18 +93,16 @@ fn push_place(
     outer: Option<Span>,
 ) -> Result<(), AllocError>
     requires { is_visible_step (step_of step.now) ≡ true }
-    ensures count { OnOk result (steps.new.count ≡ steps.old.count + 1) }
-    ensures told { OnOk result (steps.new.told.items ≡ steps.old.told.items ++ told_from steps.old.count (placed outer (step_of step.now ∷ []))) }
+    ensures told { (before : List PlacedStep) → HasPut steps.old.printer (steps_of before) →
+        OnOk result
+        (steps.new.told.items ≡ steps.old.told.items
+        ++ told_from (length (visible before)) (placed outer (step_of step.now ∷ []))) }
     ensures nested { OnOk result (steps.new.nested.items ≡ steps.old.nested.items ++ words_told (placed outer (step_of step.now ∷ []))) }
     ensures printer { steps.new.printer ≡ steps.old.printer }
 {
-    let Some(count) = steps.count.checked_add(1) else {
-        return Err(AllocError);
-    };
     let range = place(step, outer).range;
-    let number = steps.count;
+    let number = steps.printer.count();
     steps.told.push(Told { number, range })?;
-    steps.count = count;
     if is_definition_word(step) {
         let kind = FaultKind::NestedDefinition;
         steps.nested.push(Fault { kind, range })?;
@@ -142,12 +138,8 @@ pub(crate) fn emit_chunk(
 {
     laws::chunks_are_printed_whole();
     laws::spelling_depends_on_shapes_alone();
-    let Some(count) = steps.count.checked_add(part.spans().len()) else {
-        return Err(AllocError);
-    };
     match steps.printer.put_chunk(part, spans) {
         Ok(true) => {
-            steps.count = count;
             tell_words(&mut steps.nested, words)?;
             Ok(true)
         }
@@ -168,12 +160,8 @@ pub(crate) fn emit_chunk_at(
 {
     laws::chunks_are_printed_whole();
     laws::spelling_depends_on_shapes_alone();
-    let Some(count) = steps.count.checked_add(part.spans().len()) else {
-        return Err(AllocError);
-    };
     match steps.printer.put_chunk_at(part, shift) {
         Ok(true) => {
-            steps.count = count;
             tell_words(&mut steps.nested, words)?;
             Ok(true)
         }

@@ -30,7 +30,8 @@ ghost use Rattle.expander_reparse.specs.RelativePieces.{IsOwn, IsOwnPiece, piece
 ghost use Rattle.expander_reparse.specs.Reparsing.{AreMet, IsMet as IsMetIn};
 ghost use Rattle.expander_model.specs.Pieces.{first_start, relative};
 ghost use Rattle.expander_session.specs.AbsoluteSpans.{resolved_faults, resolved_steps};
-ghost use Rattle.expander_session.specs.Memos.{Finds, tree_of};
+ghost use Rattle.expander_session.specs.LookupTrees.{IndexesMemos};
+ghost use Rattle.expander_session.specs.Memos.{tree_of};
 ghost use Rattle.expander_session.specs.Reuse.{matches};
 ghost use Rattle.expander_session.specs.Evaluating.{AreLinks, CanDefine, Grows, IsEvaluated, MakesTooMany, NeedsMore, Evaluates};
 ghost use Rattle.expander_session.specs.TooMany.{bursts};
@@ -39,10 +40,11 @@ ghost use Rattle.tt.specs.Tops.{Top};
 ghost use Rattle.expander_model.specs.World.{world};
 
 use crate::absolute_spans::{emit_cached, emit_events, put_faults, tell_if_broken};
-use crate::cache::Cache;
+use crate::cache::{Cache, plain_at};
 use crate::cached_output::{CachedOutput, KeptPrint, kept_output_of, nothing_printed, output_of};
 use crate::emitter::{Emitter, no_steps, reserve, takes_chunks};
-use crate::memo::{Memo, MemoIndex, find_in_text, find_valid};
+use crate::memo::Memo;
+use crate::memo_index::{MemoIndex, find_in_text, find_valid};
 use crate::memo_ref::MemoRef;
 use crate::recent_memos::RecentMemos;
 use bridge::parts::TokenEvent;
@@ -277,12 +279,12 @@ pub(crate) fn evaluate_tree<G: FragmentGrammar>(
     taken: &Evaluated,
 ) -> Result<(Rc<Memo>, Option<usize>, u64), TtFault>
     requires read { AreRead env.now.scope.now }
-    requires lookup { Finds lookup.old memory.now.plains.items }
+    requires lookup { IndexesMemos lookup.old memory.now.plains.items }
     requires link { IfSome link (λ i. slice_get (plain_tops memory.now.plains.items) i ≡ Some tree.now.value) }
     requires top { tree.now.value.delimiter ≡ text_top }
     requires right { IsCache (world (G.answer env.now.grammar.now) env.now.scope.now.edition)
         env.now.depth env.now.scope.now.edition memory.now }
-    ensures lookup { OnOk result (Finds lookup.new memory.now.plains.items) }
+    ensures lookup { OnOk result (IndexesMemos lookup.new memory.now.plains.items) }
     ensures tree { IfOk result (λ r. tree_of r.0.value ≡ tree.now.value) }
     ensures hash { IfOk result (λ r. r.2 ≡ tree_hash tree.now.value) }
     ensures holds { (given : ℕ) (numbers : Forest → Option ℕ) (before : List Met) → AreNumbers given numbers →
@@ -403,7 +405,8 @@ fn nothing_yet(
     ensures none { IfOk result (λ now. HasMet now.scope []) }
     ensures edition { IfOk result (λ now. now.scope.edition ≡ edition) }
     ensures read { IfOk result (λ now. AreRead now.scope) }
-    ensures lookup { IfOk result (λ now. (held : List (Rc Memo GhostGlobal)) → Finds now.lookup held) }
+    ensures lookup { IfOk result (λ now.
+        (held : List (Rc Memo GhostGlobal)) → IndexesMemos now.lookup held) }
 {
     let scope = Scope::with_room(alloc, edition, room.definitions)?;
     let taken = nothing_evaluated(alloc, memory, room)?;
@@ -581,7 +584,8 @@ fn hold(
 fn count(now: &mut Evaluation, at: Option<usize>)
     requires { now.old.taken.expanded + 1 < 2 ^ 64 }
     ensures scope { now.new.scope ≡ now.old.scope }
-    ensures lookup { (held : List (Rc Memo GhostGlobal)) → Finds now.old.lookup held → Finds now.new.lookup held }
+    ensures lookup { (held : List (Rc Memo GhostGlobal)) →
+        IndexesMemos now.old.lookup held → IndexesMemos now.new.lookup held }
     ensures taken { now.new.taken ≡ record now.old.taken { expanded = now.old.taken.expanded + (if is_some at then 0 else 1) } }
 {
     match at {
@@ -602,7 +606,7 @@ fn evaluate_plain<G: FragmentGrammar>(
     requires plain { is_some (definition_of tree.now.value.inner) ≡ false }
     requires top { tree.now.value.delimiter ≡ text_top }
     requires read { AreRead now.old.scope }
-    requires lookup { Finds now.old.lookup context.now.memory.now.plains.items }
+    requires lookup { IndexesMemos now.old.lookup context.now.memory.now.plains.items }
     requires link { IfSome link (λ i. slice_get (plain_tops context.now.memory.now.plains.items) i ≡ Some tree.now.value) }
     requires right { IsCache (world (G.answer context.now.grammar.now) now.old.scope.edition)
         context.now.depth now.old.scope.edition context.now.memory.now }
@@ -614,7 +618,7 @@ fn evaluate_plain<G: FragmentGrammar>(
         OnOk result (AreLinks now.new.taken (trees ++ tree.now.value ∷ [])) }
     ensures numbers { OnOk result (now.new.taken.numbers ≡ now.old.taken.numbers) }
     ensures edition { OnOk result (now.new.scope.edition ≡ now.old.scope.edition) }
-    ensures lookup { OnOk result (Finds now.new.lookup context.now.memory.now.plains.items) }
+    ensures lookup { OnOk result (IndexesMemos now.new.lookup context.now.memory.now.plains.items) }
     ensures expanded { OnOk result (now.new.taken.expanded ≤ now.old.taken.expanded + 1) }
     ensures tokens { result ≡ Err TtFault.Tokens → (expanded_under (G.answer context.now.grammar.now) now.old.scope
         context.now.depth tree.now.value.inner).bursts ≡ true }
@@ -652,7 +656,7 @@ fn evaluate_piece<G: FragmentGrammar>(
     requires can { CanDefine context.now.memory.now now.old }
     requires places { LooksAtNoPlace (world (G.answer context.now.grammar.now) now.old.scope.edition) }
     requires room { now.old.taken.expanded + 1 < 2 ^ 64 }
-    requires lookup { Finds now.old.lookup context.now.memory.now.plains.items }
+    requires lookup { IndexesMemos now.old.lookup context.now.memory.now.plains.items }
     requires own { IsOwn (piece_at own.now) own.now }
     requires met { IsMetIn context.now.memory.now.sources own.now.met (tree_at own.now) }
     ensures taken { OnOk result (Evaluates (G.answer context.now.grammar.now) now.old.scope.edition
@@ -661,7 +665,7 @@ fn evaluate_piece<G: FragmentGrammar>(
         OnOk result (AreLinks now.new.taken (trees ++ tree_at own.now ∷ [])) }
     ensures grows { OnOk result (Grows now.old.taken now.new.taken) }
     ensures edition { OnOk result (now.new.scope.edition ≡ now.old.scope.edition) }
-    ensures lookup { OnOk result (Finds now.new.lookup context.now.memory.now.plains.items) }
+    ensures lookup { OnOk result (IndexesMemos now.new.lookup context.now.memory.now.plains.items) }
     ensures expanded { OnOk result (now.new.taken.expanded ≤ now.old.taken.expanded + 1) }
     ensures tokens { result ≡ Err Refusal.Tokens →
         MakesTooMany (G.answer context.now.grammar.now) now.old.scope.edition context.now.depth (piece_at own.now) now.old }
@@ -672,12 +676,12 @@ fn evaluate_piece<G: FragmentGrammar>(
     let EvaluationContext { alloc, memory, .. } = *context;
     reserve(&mut now.taken.steps, memory.look_ahead(own))?;
     let tree = own.tree.get();
-    if memory.is_definition(own) {
-        let held = memory.definition_at(own);
+    let link = memory.link_of(own);
+    if memory.is_definition(own, link) {
+        let held = memory.definition_at(link);
         return evaluate_definition(alloc, memory, now, own.start, tree.clone()?, held);
     }
-    let link = memory.plain_at(own);
-    evaluate_plain(context, now, own.start, tree, link)?;
+    evaluate_plain(context, now, own.start, tree, plain_at(link))?;
     Ok(())
 }
 

@@ -1,6 +1,7 @@
 //! Other numbers of levels than the stored run of scripts has, and the origins of printed tokens.
 use crate::rows::row_of;
-use expander::{Edition, FaultKind, Options, Reply, Session, SmallGrammar};
+use crate::scripts::roomy;
+use expander::{Edition, FaultKind, Options, Reply, Session, SmallGrammar, Watched};
 use replay_script::answer_script;
 use std::alloc::Global;
 use std::test::Fail;
@@ -34,8 +35,10 @@ fn told(alloc: Global, depth: u8, text: &str) -> Result<String, Fail> {
         edition: Edition::Edition2024,
         depth,
     };
-    let replayed = answer_script(alloc, script.as_str(), options)?;
-    Ok(row_of(alloc, replayed.told.as_str())?)
+    let mut writer = Watched::new(roomy(alloc));
+    answer_script(alloc, &mut script.as_bytes(), &mut writer, options);
+    let told = String::from_utf8(writer.into_inner().got)?;
+    Ok(row_of(alloc, told.as_str())?)
 }
 
 #[test]

@@ -1,10 +1,13 @@
 //! Sessions, lists of commands and runs, for runs of the tests in which one request for memory is
 //! refused. A refused call changes nothing, and gives the same when it is made again.
 use crate::fakes::{whole, wide};
+use crate::scripts::OPTIONS;
+use any_grammar::AnyGrammar;
 use expander::{
-    Answer, Command, Edition, Expansion, Refusal, Reply, Session, SmallGrammar, Status, TextRange,
-    Watched, replay, run,
+    Answer, Command, Edition, Expansion, Options, Refusal, Reply, Session, SmallGrammar, Status,
+    TextRange, Watched, replay, run, run_with,
 };
+use replay_script::{Answered, End, answer_script};
 use std::alloc::{AllocError, Global};
 use std::test::Fail;
 
@@ -185,24 +188,43 @@ fn refused_commands(rt: HostRuntime) -> Result<(), Fail> {
     Ok(())
 }
 
-// Whether a run writes all, or if it was refused only why. It may be the writer's own memory that
-// is refused.
-fn is_run(alloc: Global) -> Option<bool> {
+// The grammar of Rust in edition 2021.
+fn rust_2021() -> Options<AnyGrammar> {
+    let edition = Edition::Edition2021;
+    Options {
+        grammar: AnyGrammar::Rust(edition),
+        edition,
+        depth: 128,
+    }
+}
+
+// What a run that is refused says: the writer's own memory may be refused.
+fn cause(is_cut: bool) -> &'static [u8] {
+    if is_cut {
+        b"write failed\n".as_slice()
+    } else {
+        b"out of memory\n".as_slice()
+    }
+}
+
+// Whether a run writes all, or if it was refused only why: by the small grammar, or that of Rust.
+// Where the writer did not fail, it is then as one of which nothing was asked.
+fn is_run(alloc: Global, is_rust: bool) -> Option<bool> {
     let mut reader = Watched::new(whole(b"let x = y ;\n"));
     let mut writer = Watched::new(wide(alloc));
     let mut faults = Watched::new(wide(alloc));
-    let status = run(alloc, &mut reader, &mut writer, &mut faults, 128);
+    let status = if is_rust {
+        run_with(alloc, &mut reader, &mut writer, &mut faults, rust_2021())
+    } else {
+        run(alloc, &mut reader, &mut writer, &mut faults, 128)
+    };
     let failed = reader.failed() || faults.failed();
     let is_cut = writer.failed();
     let (writer, faults) = (writer.into_inner(), faults.into_inner());
     let (got, told) = (writer.got.as_slice(), faults.got.as_slice());
     let is_whole = status == Status(0) && got == b"let x = y ;\n".as_slice() && told.is_empty();
-    let why = if is_cut {
-        b"write failed\n".as_slice()
-    } else {
-        b"out of memory\n".as_slice()
-    };
-    let is_refused = status == Status(1) && (is_cut || got.is_empty()) && told == why;
+    let is_unasked = got.is_empty() && writer.flushes == 0 && !writer.asked_again;
+    let is_refused = status == Status(1) && (is_cut || is_unasked) && told == cause(is_cut);
     if failed || !(is_whole || is_refused) {
         return None;
     }
@@ -211,8 +233,57 @@ fn is_run(alloc: Global) -> Option<bool> {
 
 #[test]
 fn refused_runs(rt: HostRuntime) -> Result<(), Fail> {
-    let first = is_run(rt.alloc());
+    for is_rust in [false, true] {
+        let first = is_run(rt.alloc(), is_rust);
+        assert!(rt; first.is_some());
+        assert!(rt; first == Some(true) || is_run(rt.alloc(), is_rust) == Some(true));
+    }
+    Ok(())
+}
+
+const SCRIPT: &[u8] = b"edit 0 0 a;\nexpand\nedit 2 2 b;\nexpand\n";
+
+// What is written for the script; and what for it if one of its commands is refused: the answers to
+// a script without that command, and its refusal.
+const ANSWERS: [&str; 5] = [
+    "edited\nprinted 4\na ;\nexpanded 1\nedited\nprinted 8\na ;\nb ;\nexpanded 1\n",
+    "refused Memory\nprinted 0\nexpanded 0\nbad edit\nprinted 0\nexpanded 0\n",
+    "edited\nrefused Memory\nedited\nprinted 8\na ;\nb ;\nexpanded 2\n",
+    "edited\nprinted 4\na ;\nexpanded 1\nrefused Memory\nprinted 4\na ;\nexpanded 0\n",
+    "edited\nprinted 4\na ;\nexpanded 1\nedited\nrefused Memory\n",
+];
+
+// The bytes of the answers to so many lines.
+const SIZES: [usize; 5] = [0, 7, 32, 39, 68];
+
+// Whether memory ran out after so many lines and bytes: for the next line, or for its answer.
+fn is_end(lines: usize, bytes: usize) -> bool {
+    let sizes = SIZES.as_slice();
+    sizes.get(lines) == Some(&bytes) || (lines > 0 && sizes.get(lines - 1) == Some(&bytes))
+}
+
+// Whether a script is answered, or if it was refused what is said of that. It may be the writer's
+// own memory that is refused.
+fn is_answered_script(alloc: Global) -> Option<bool> {
+    let mut reader = SCRIPT;
+    let mut writer = Watched::new(wide(alloc));
+    let Answered { lines, end } = answer_script(alloc, &mut reader, &mut writer, OPTIONS);
+    let got = writer.into_inner().got;
+    let got = std::str::from_utf8(got.as_slice()).ok()?;
+    let is_front = ANSWERS[0].as_bytes().starts_with(got.as_bytes());
+    match end {
+        End::Whole if lines == 4 && got == ANSWERS[0] => Some(true),
+        End::Whole if lines == 4 && ANSWERS.as_slice().contains(&got) => Some(false),
+        End::Memory if is_front && is_end(lines, got.len()) => Some(false),
+        End::WriteFailed if is_front => Some(false),
+        _ => None,
+    }
+}
+
+#[test]
+fn refused_scripts(rt: HostRuntime) -> Result<(), Fail> {
+    let first = is_answered_script(rt.alloc());
     assert!(rt; first.is_some());
-    assert!(rt; first == Some(true) || is_run(rt.alloc()) == Some(true));
+    assert!(rt; first == Some(true) || is_answered_script(rt.alloc()) == Some(true));
     Ok(())
 }

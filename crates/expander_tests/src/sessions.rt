@@ -9,7 +9,7 @@ use test_grammars::{Counting, OneStep};
 
 // A text, an edit, the text printed afterwards, the faults with their ranges, and how often the
 // grammar is called before and after the edit: once for each fragment, except for those in pieces
-// that the text had before.
+// that the text had before. In the last rows more calls have one tree than are searched one by one.
 const ROWS: &str = r"
 macro_rules! t { ($x:ty $y:ident) => { $x z } } t!{'a} ¦ 0 0  ¦ z ¦ Unspellable 48 49 ¦ 1
 macro_rules! t { ($x:path $y:ident) => { $x z } } t!{'a} ¦ 0 0  ¦ 'z ¦ ¦ 1
@@ -19,6 +19,8 @@ macro_rules! t { ($x:expr) => { $x } } t!{1} t!{2} ¦ 0 0   ¦ 1 2 ¦ ¦ 2
 macro_rules! t { ($x:expr) => { $x } } t!{1} t!{2} ¦ 48 49 3 ¦ 1 3 ¦ ¦ 3
 macro_rules! t { ($x:expr) => { $x } } t!{1} t!{2} ¦ 50 50 t!{4} ¦ 1 2 4 ¦ ¦ 3
 macro_rules! s { ($($y:tt)*) => { x +$($y)* } } macro_rules! t { ($x:expr) => { $x } } s!{}t!{1} ¦ 0 0   ¦ x + 1 ¦ ¦ 1
+macro_rules! t { ($x:expr) => { $x } } t!{1} t!{1} t!{1} t!{1} t!{1} t!{1} macro_rules! t { ($x:expr) => { $x + $x } } t!{1} ¦ 32 34 $x + $x ¦ 1 + 1 1 + 1 1 + 1 1 + 1 1 + 1 1 + 1 1 + 1 ¦ ¦ 7
+macro_rules! t { ($x:expr) => { $x } } t!{1} t!{1} t!{1} t!{1} t!{1} t!{1} macro_rules! t { ($x:expr) => { $x + $x } } t!{1} ¦ 32 34 - ¦ - - - - - - 1 + 1 ¦ ¦ 13
 ";
 
 // The edit that words describe.

@@ -5,6 +5,7 @@ use Rattle.expander_run.specs.Lines.{fault_words, line_of, read_fault_words}
 use Rattle.expander_session.specs.Expanded.{Expanded}
 use Rattle.expander_session.specs.declared.session.Reply.{Reply}
 use Rattle.expander_session.specs.declared.session.Reply.TheVariants.{Read, Unread}
+use Rattle.expansion_page.specs.declared.frame.TheConstants.{COUNTS, EXPANSION, FAULTS, FOOT, HEAD, HEADING, SOURCE, UNREAD}
 use Rattle.html_code.specs.PageParts.{IsPage}
 use Rattle.html_code.specs.declared.page.Frame.{Frame}
 use Rattle.html_code.specs.declared.page.Printed.{Printed}
@@ -40,12 +41,29 @@ ShowsReply (Read e) None = 2 ^ 32 ≤ length e.printed
 ShowsReply (Unread f) None = Unit {0}
 ShowsReply (Unread f) (Some printed) = ⊥
 
--- the page of a reply to a text, in a frame
-pub record IsReplyPage (frame : Frame) (title text : List ℕ) (reply : Reply) (html : List ℕ) : Type 0 where
+-- the frame of each page: constants of this crate, so nothing of a title or a text is in it
+pub record IsFrame (frame : Frame) : Type 0 where
+  pub head : frame.head.now ≡ HEAD.now
+  pub heading : frame.heading.now ≡ HEADING.now
+  pub counts : frame.counts.now ≡ COUNTS.now
+  pub source : frame.source.now ≡ SOURCE.now
+  pub expansion : frame.expansion.now ≡ EXPANSION.now
+  pub unread : frame.unread.now ≡ UNREAD.now
+  pub faults : frame.faults.now ≡ FAULTS.now
+  pub foot : frame.foot.now ≡ FOOT.now
+
+-- the page that shows this, in that frame
+pub record IsFramed (page : Shown) (html : List ℕ) : Type 0 where
+  pub frame : Frame
+  pub is_frame : IsFrame frame
+  pub is_page : IsPage frame page html
+
+-- the page of a reply to a text
+pub record IsReplyPage (title text : List ℕ) (reply : Reply) (html : List ℕ) : Type 0 where
   pub page : Shown
   pub has_title : page.title.now ≡ title
   pub has_text : page.text.now ≡ text
   pub has_starts : map (λ m. m.start) page.faults.now ≡ fault_starts reply
   pub has_lines : map (λ m. m.told.now) page.faults.now ≡ fault_lines text reply
   pub has_printed : ShowsReply reply page.printed
-  pub is_page : IsPage frame page html
+  pub is_framed : IsFramed page html

@@ -1,16 +1,15 @@
 //! The page of a reply to a text.
 ghost use Rattle.std.specs.Prelude.{◌≡◌, ◌<◌, ◌^◌, IfOk, length, string_bytes};
 ghost use Rattle.expander_session.specs.declared.session.Reply.TheVariants.{Read, Unread};
-ghost use Rattle.expansion_page.specs.Pages.{IsReplyPage, ShowsReply, origin_starts};
+ghost use Rattle.expansion_page.specs.Pages.{IsFramed, IsReplyPage, ShowsReply, origin_starts};
 ghost use Rattle.html_code.specs.PageParts.{IsShort};
-ghost use Rattle.html_code.specs.declared.page.Frame.{Frame};
 
-use crate::frame::FRAME;
+use crate::frame::frame;
 use crate::told::{lines_of, lone_mark, marks_of, origins_of};
 use bridge::ReadFault;
 use expander_run::lines::{FIRST, push_line, read_fault_words, spot_of};
 use expander_session::session::{Expansion, Reply};
-use html_code::page::{Frame, Printed, Shown};
+use html_code::page::{Printed, Shown};
 use std::alloc::{AllocError, Global};
 
 // What was printed, if it can be shown.
@@ -30,16 +29,27 @@ fn printed_of<'a>(expansion: &'a Expansion, origins: &'a [u32]) -> Option<Printe
     })
 }
 
+// The page that shows this.
+fn framed(alloc: Global, shown: &Shown<'_>) -> Result<String, AllocError>
+    requires text { length shown.now.text.now < 2 ^ 32 }
+    requires printed { IsShort shown.now.printed }
+    ensures { IfOk result (λ html. IsFramed shown.now (string_bytes html)) }
+{
+    let frame = frame();
+    let html = html_code::page::page(alloc, &frame, shown)?;
+    Ok(html)
+}
+
 // The page of an expansion.
 fn page_of_expansion<'a>(
     alloc: Global,
-    frame: &Frame<'_>,
     title: &'a str,
     text: &'a str,
     expansion: &Expansion,
 ) -> Result<String, AllocError>
     requires { length text.now < 2 ^ 32 }
-    ensures { IfOk result (λ html. IsReplyPage frame.now title.now text.now (Read expansion.now) (string_bytes html)) }
+    ensures { IfOk result (λ html.
+        IsReplyPage title.now text.now (Read expansion.now) (string_bytes html)) }
 {
     let lines = lines_of(alloc, text, expansion.faults())?;
     let marks = marks_of(alloc, expansion.faults(), lines.as_slice())?;
@@ -52,20 +62,20 @@ fn page_of_expansion<'a>(
         faults,
         printed,
     };
-    let html = html_code::page::page(alloc, frame, &shown)?;
+    let html = framed(alloc, &shown)?;
     Ok(html)
 }
 
 // The page of a text that cannot be read.
 fn page_of_fault<'a>(
     alloc: Global,
-    frame: &Frame<'_>,
     title: &'a str,
     text: &'a str,
     fault: ReadFault,
 ) -> Result<String, AllocError>
     requires { length text.now < 2 ^ 32 }
-    ensures { IfOk result (λ html. IsReplyPage frame.now title.now text.now (Unread fault) (string_bytes html)) }
+    ensures { IfOk result (λ html.
+        IsReplyPage title.now text.now (Unread fault) (string_bytes html)) }
 {
     let start = fault.range.start;
     let spot = spot_of(text.as_bytes(), FIRST, start);
@@ -80,25 +90,8 @@ fn page_of_fault<'a>(
         faults,
         printed,
     };
-    let html = html_code::page::page(alloc, frame, &shown)?;
+    let html = framed(alloc, &shown)?;
     Ok(html)
-}
-
-// The page of a reply in this frame.
-fn framed_page<'a>(
-    alloc: Global,
-    frame: &Frame<'_>,
-    title: &'a str,
-    text: &'a str,
-    reply: &Reply,
-) -> Result<String, AllocError>
-    requires { length text.now < 2 ^ 32 }
-    ensures { IfOk result (λ html. IsReplyPage frame.now title.now text.now reply.now (string_bytes html)) }
-{
-    match reply {
-        Reply::Read(expansion) => page_of_expansion(alloc, frame, title, text, expansion),
-        Reply::Unread(fault) => page_of_fault(alloc, frame, title, text, *fault),
-    }
 }
 
 /// The page of a reply to a text of at most `u32::MAX` bytes, with this title, such as the file's
@@ -106,10 +99,14 @@ fn framed_page<'a>(
 ///
 /// It has the text with its faults, beside it the expansion with each token's origin, and below a
 /// link to each fault. Of a text that cannot be read it has the reading fault alone, and of an
-/// expansion that prints more than `u32::MAX` bytes the text and the faults.
+/// expansion that prints more than `u32::MAX` bytes the text and the faults. All else on it is a
+/// constant of this crate.
 pub fn page(alloc: Global, title: &str, text: &str, reply: &Reply) -> Result<String, AllocError>
     requires { length text.now < 2 ^ 32 }
-    ensures { IfOk result (λ html. (frame : Frame) × IsReplyPage frame title.now text.now reply.now (string_bytes html)) }
+    ensures { IfOk result (λ html. IsReplyPage title.now text.now reply.now (string_bytes html)) }
 {
-    framed_page(alloc, &FRAME, title, text, reply)
+    match reply {
+        Reply::Read(expansion) => page_of_expansion(alloc, title, text, expansion),
+        Reply::Unread(fault) => page_of_fault(alloc, title, text, *fault),
+    }
 }

@@ -1,8 +1,6 @@
 -- Which words choose which options. (Of this project.)
-use Rattle.std.specs.Prelude.{◌≡◌, ℕ, List, Some, codes}
+use Rattle.std.specs.Prelude.{◌≡◌, ℕ, List, codes}
 use Rattle.std.specs.Str.Parse.{IsNumeral, digits_value, without_leading_plus}
-use Rattle.clap.specs.Words.{first_value}
-use Rattle.clap.specs.declared.parser.matches.Found.{Found}
 use Rattle.tt_data.specs.declared.edition.Edition.{Edition}
 use Rattle.tt_data.specs.declared.edition.Edition.TheVariants.{Edition2015, Edition2018, Edition2021, Edition2024}
 use Rattle.any_grammar.specs.declared.chosen.AnyGrammar.{AnyGrammar}
@@ -39,13 +37,3 @@ pub record Chosen (grammar edition depth : List ℕ) (options : Options AnyGramm
   pub by_grammar : IsGrammar grammar options.edition options.grammar
   pub by_edition : edition ≡ edition_name options.edition
   pub by_depth : IsDepth depth options.depth
-
--- the values of a subcommand's options choose these
-pub record Asks (found : Found) (options : Options AnyGrammar) : Type 0 where
-  pub grammar : List ℕ
-  pub edition : List ℕ
-  pub depth : List ℕ
-  pub has_grammar : first_value found (codes "grammar") ≡ Some grammar
-  pub has_edition : first_value found (codes "edition") ≡ Some edition
-  pub has_depth : first_value found (codes "depth") ≡ Some depth
-  pub chosen : Chosen grammar edition depth options

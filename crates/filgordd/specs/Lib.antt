@@ -1,2 +1,5 @@
--- what the functions inside a program promise each other: which words choose which options
+-- what the functions inside a program promise each other
 pub mod Choices
+pub mod Commands
+pub mod Shown
+pub mod Sources

@@ -1,4 +1,10 @@
 //! The options that the program has, as a command of `clap`.
+ghost use Rattle.std.specs.Prelude.{◌≡◌, IfOk, codes, false};
+ghost use Rattle.clap.specs.Words.{app_of, rule_of, shape_of};
+ghost use Rattle.clap.specs.declared.builder.command.Command.TheViews.{out-Command as fields_of};
+ghost use Rattle.clap.specs.declared.builder.value_parser.ValueParser.{ValueParser};
+ghost use Rattle.filgordd.specs.Commands.{IsProgram, IsSubcommand, file_rule, option_rule};
+
 use clap::{Arg, Command, value_parser};
 use std::alloc::{AllocError, Global};
 
@@ -13,7 +19,11 @@ static GRAMMARS: [&str; 2] = ["rust", "small"];
 
 static EDITIONS: [&str; 4] = ["2015", "2018", "2021", "2024"];
 
-fn grammar<'a>(alloc: Global) -> Arg<'a> {
+fn grammar<'a>(alloc: Global) -> Arg<'a>
+    ensures rule { (p : ValueParser)
+        × (rule_of result ≡ option_rule (codes "grammar") (codes "rust") p) }
+    ensures own { result.global ≡ false }
+{
     Arg::new(alloc, "grammar")
         .long("grammar")
         .value_name("NAME")
@@ -22,7 +32,11 @@ fn grammar<'a>(alloc: Global) -> Arg<'a> {
         .help("The grammar of fragments: that of Rust, or the small one")
 }
 
-fn edition<'a>(alloc: Global) -> Arg<'a> {
+fn edition<'a>(alloc: Global) -> Arg<'a>
+    ensures rule { (p : ValueParser)
+        × (rule_of result ≡ option_rule (codes "edition") (codes "2024") p) }
+    ensures own { result.global ≡ false }
+{
     Arg::new(alloc, "edition")
         .long("edition")
         .value_name("YEAR")
@@ -31,7 +45,11 @@ fn edition<'a>(alloc: Global) -> Arg<'a> {
         .help("The edition of Rust")
 }
 
-fn depth<'a>(alloc: Global) -> Arg<'a> {
+fn depth<'a>(alloc: Global) -> Arg<'a>
+    ensures rule { (p : ValueParser)
+        × (rule_of result ≡ option_rule (codes "depth") (codes "128") p) }
+    ensures own { result.global ≡ false }
+{
     Arg::new(alloc, "depth")
         .long("depth")
         .value_name("N")
@@ -40,14 +58,20 @@ fn depth<'a>(alloc: Global) -> Arg<'a> {
         .help("How many levels of calls are expanded, 0 to 255")
 }
 
-fn file<'a>(alloc: Global) -> Arg<'a> {
+fn file<'a>(alloc: Global) -> Arg<'a>
+    ensures rule { rule_of result ≡ file_rule }
+    ensures own { result.global ≡ false }
+{
     Arg::new(alloc, "file")
         .value_name("FILE")
         .help("The text; without it, or for -, standard input")
 }
 
 // A subcommand on a text, with the options that each has.
-fn subcommand<'a>(alloc: Global, name: &'a str, about: &'a str) -> Result<Command<'a>, AllocError> {
+fn subcommand<'a>(alloc: Global, name: &'a str, about: &'a str) -> Result<Command<'a>, AllocError>
+    ensures shape { IfOk result (λ c. IsSubcommand name.now (shape_of c)) }
+    ensures own { IfOk result (λ c. (fields_of c).has_globals ≡ false) }
+{
     Command::new(alloc, name)
         .about(about)
         .arg(grammar(alloc))?
@@ -57,7 +81,9 @@ fn subcommand<'a>(alloc: Global, name: &'a str, about: &'a str) -> Result<Comman
 }
 
 /// The program's command. Its subcommands are the names of [`Action`](crate::job::Action).
-pub(crate) fn program<'a>(alloc: Global) -> Result<Command<'a>, AllocError> {
+pub(crate) fn program<'a>(alloc: Global) -> Result<Command<'a>, AllocError>
+    ensures { IfOk result (λ c. IsProgram (app_of c)) }
+{
     let expand = "Prints the expansion of a text, and reports its faults";
     let replay = "Answers a script of edits and expansions";
     let view = "Prints an HTML page of a text, its expansion and its faults";

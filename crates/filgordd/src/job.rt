@@ -19,7 +19,8 @@ pub(crate) enum Action {
 
 /// What is done by the subcommand of a name, if there is one.
 pub(crate) fn action_of(name: &str) -> Option<Action>
-    ensures { MatchOption result ((a : Action) → name.now ≢ action_name a) (λ a. name.now ≡ action_name a) }
+    ensures { MatchOption result ((a : Action) → name.now ≢ action_name a)
+        (λ a. name.now ≡ action_name a) }
 {
     match name {
         "expand" => Some(Action::Expand),
@@ -40,7 +41,8 @@ pub(crate) struct Job<'a> {
 
 // The edition of a name, if it is one's.
 fn edition_of(name: &str) -> Option<Edition>
-    ensures { MatchOption result ((e : Edition) → name.now ≢ edition_name e) (λ e. name.now ≡ edition_name e) }
+    ensures { MatchOption result ((e : Edition) → name.now ≢ edition_name e)
+        (λ e. name.now ≡ edition_name e) }
 {
     match name {
         "2015" => Some(Edition::Edition2015),

@@ -5,6 +5,8 @@
 mod command;
 mod job;
 mod request;
+mod shown;
+mod source;
 #[cfg(test)]
 mod tests;
 mod view;
@@ -15,13 +17,22 @@ use crate::work::{misused, perform};
 use std::process::ExitCode;
 use std::{env, io};
 
-fn main(rt: HostRuntime) -> io::Result<ExitCode> {
-    let words: Vec<String> = match env::args(&rt) {
+// Why the arguments cannot be read.
+fn unread(rt: &HostRuntime, error: &io::Error) -> io::Result<ExitCode> {
+    if error.kind() == io::ErrorKind::InvalidData {
+        let why = "one is not UTF-8; a file of such a name can be standard input";
+        return misused(rt, "the arguments", &why);
+    }
+    misused(rt, "the arguments", error)
+}
+
+fn answer_words(rt: &HostRuntime) -> io::Result<ExitCode> {
+    let words: Vec<String> = match env::args(rt) {
         Ok(words) => words.collect(rt.alloc())?,
-        Err(error) => return misused(&rt, "the arguments", &error),
+        Err(error) => return unread(rt, &error),
     };
     match request_of(rt.alloc(), words.as_slice())? {
-        Request::Work(job) => perform(&rt, &job),
+        Request::Work(job) => perform(rt, &job),
         Request::Show(text) => {
             print!(rt; "{text}")?;
             Ok(ExitCode::SUCCESS)
@@ -29,6 +40,16 @@ fn main(rt: HostRuntime) -> io::Result<ExitCode> {
         Request::Misuse(message) => {
             eprintln!(rt; "filgordd: {message}")?;
             Ok(ExitCode::from(2))
+        }
+    }
+}
+
+fn main(rt: HostRuntime) -> ExitCode {
+    match answer_words(&rt) {
+        Ok(status) => status,
+        Err(error) => {
+            let _ = eprintln!(&rt; "filgordd: {error}");
+            ExitCode::FAILURE
         }
     }
 }

@@ -1,10 +1,11 @@
 //! The words that the program is called with, read as a request.
-ghost use Rattle.std.specs.Prelude.{◌≡◌, IfSome, Some};
-ghost use Rattle.clap.specs.Words.{found_of, subcommand_name_of};
-ghost use Rattle.filgordd.specs.Choices.{Asks, action_name};
+ghost use Rattle.std.specs.Prelude.{◌≡◌, IfOk, IfSome, List, map, option_map, string_bytes, ℕ};
+ghost use Rattle.clap.specs.Words.{found_of, rows_of, subcommand_rows_of};
+ghost use Rattle.filgordd.specs.Commands.{AsksBy, AsksFor, IsAsked, IsFile};
 
 use crate::command::program;
 use crate::job::{Action, Job, action_of, options_of};
+use crate::shown::push_shown;
 use clap::error::ErrorKind;
 use clap::{ArgMatches, Error};
 use std::alloc::{AllocError, Global};
@@ -20,11 +21,21 @@ pub(crate) enum Request<'a> {
     Misuse(String),
 }
 
+// The file that a word names; `-` names none.
+fn file_of(word: Option<&str>) -> Option<&str>
+    ensures { IsFile (option_map (λ s. s.now) word.entry) (option_map (λ s. s.now) result) }
+{
+    match word {
+        Some("-") => None,
+        _ => word,
+    }
+}
+
 // What the words of a subcommand ask for. `None` where one of them is missing or unknown, which
 // the command has refused before.
 fn job_of<'a>(action: Action, matches: &ArgMatches<'a>) -> Option<Job<'a>>
     ensures action { IfSome result (λ job. job.action ≡ action) }
-    ensures options { IfSome result (λ job. Asks (found_of matches.now) job.options) }
+    ensures options { IfSome result (AsksBy (rows_of (found_of matches.now))) }
 {
     let grammar = matches.get_str("grammar")?;
     let edition = matches.get_str("edition")?;
@@ -32,19 +43,19 @@ fn job_of<'a>(action: Action, matches: &ArgMatches<'a>) -> Option<Job<'a>>
     Some(Job {
         action,
         options: options_of(grammar, edition, depth)?,
-        file: matches.get_str("file").filter(|it| *it != "-"),
+        file: file_of(matches.get_str("file")),
     })
 }
 
 // What the words ask for, by their subcommand.
 fn job_in<'a>(matches: &ArgMatches<'a>) -> Option<Job<'a>>
-    ensures { IfSome result (λ job. subcommand_name_of matches.now ≡ Some (action_name job.action)) }
+    ensures { IfSome result (AsksFor (subcommand_rows_of matches.now)) }
 {
     let (name, inner) = matches.subcommand()?;
     job_of(action_of(name)?, inner)
 }
 
-/// The first paragraph of a text, as one line.
+/// The first paragraph of a text, as one line, with nothing in it that steers a terminal.
 pub(crate) fn one_line(alloc: Global, text: &str) -> Result<String, AllocError> {
     let mut line = String::new(alloc);
     for part in text.lines() {
@@ -54,13 +65,15 @@ pub(crate) fn one_line(alloc: Global, text: &str) -> Result<String, AllocError> 
         if !line.is_empty() {
             line.push(' ')?;
         }
-        line.push_str(part.trim())?;
+        push_shown(&mut line, part.trim())?;
     }
     Ok(line)
 }
 
 // What is answered where the words name no work: help, the version, or why they are wrong.
-fn told<'a>(alloc: Global, error: &Error) -> Result<Request<'a>, AllocError> {
+fn told<'a>(alloc: Global, error: &Error) -> Result<Request<'a>, AllocError>
+    ensures { (words : List (List ℕ)) → IfOk result (IsAsked words) }
+{
     if error.kind() == ErrorKind::OutOfMemory {
         return Err(AllocError);
     }
@@ -76,10 +89,9 @@ fn told<'a>(alloc: Global, error: &Error) -> Result<Request<'a>, AllocError> {
 }
 
 /// What the words ask for; the first of them is the program's name.
-pub(crate) fn request_of<'a>(
-    alloc: Global,
-    words: &'a [String],
-) -> Result<Request<'a>, AllocError> {
+pub(crate) fn request_of<'a>(alloc: Global, words: &'a [String]) -> Result<Request<'a>, AllocError>
+    ensures { IfOk result (IsAsked (map string_bytes words.now)) }
+{
     match program(alloc)?.try_get_matches_from(words) {
         Ok(matches) => match job_in(&matches) {
             Some(job) => Ok(Request::Work(job)),

@@ -1,5 +1,6 @@
-//! What words ask for.
+//! What words ask for, and what of a file is no code.
 use crate::request::request_of;
+use crate::source::blank_front;
 use std::alloc::Global;
 use std::test::Fail;
 
@@ -24,6 +25,17 @@ explode ¦ Misuse("unrecognized subcommand 'explode'")
 --version ¦ Show("filgordd 0.1.0\n")
 "#;
 
+// A file, and the text that is read as code. `§` is a byte order mark, `⏎` a line feed.
+const FILES: &str = r#"
+§a ¦ ___a
+a§ ¦ a§
+#!/bin/sh -e⏎a ¦ ____________⏎a
+§#!sh⏎#!b ¦ _______⏎#!b
+#![a]⏎b ¦ #![a]⏎b
+#! // c⏎[a] ¦ #! // c⏎[a]
+#!⏎a ¦ __⏎a
+"#;
+
 // The request of these words, written as an example.
 fn asked(alloc: Global, words: &str) -> Result<String, Fail> {
     let mut all = vec![in alloc; String::from_str(alloc, "filgordd")?]?;
@@ -42,5 +54,32 @@ fn requests(rt: HostRuntime) -> Result<(), Fail> {
             assert!(rt; got.as_str() == want, "{row}: {got}");
         }
     }
+    Ok(())
+}
+
+#[test]
+fn files(rt: HostRuntime) -> Result<(), Fail> {
+    let alloc = rt.alloc();
+    for row in FILES.lines() {
+        if let Some((file, want)) = row.split_once(" ¦ ") {
+            let file = file.replace(alloc, "§", "\u{feff}")?;
+            let mut file = file.replace(alloc, "⏎", "\n")?.into_bytes();
+            let want = want.replace(alloc, "§", "\u{feff}")?;
+            let want = want.replace(alloc, "⏎", "\n")?;
+            blank_front(file.as_mut_slice());
+            let got = String::from_utf8(file)?.replace(alloc, " ", "_")?;
+            let want = want.replace(alloc, " ", "_")?;
+            assert!(rt; got.as_str() == want.as_str(), "{row}: {got}");
+        }
+    }
+    Ok(())
+}
+
+// A character of a word that would steer a terminal is shown by its number.
+#[test]
+fn steering(rt: HostRuntime) -> Result<(), Fail> {
+    let got = asked(rt.alloc(), "expl\u{1b}[31mode\u{202e}")?;
+    let want = r#"Misuse("unrecognized subcommand 'expl\\u{1b}[31mode\\u{202e}'")"#;
+    assert!(rt; got.as_str() == want, "{got}");
     Ok(())
 }

@@ -1,13 +1,13 @@
 -- Escaped texts give their texts back.
-use Rattle.std.proofs.Common.{◌≡◌, ℕ, ◌+◌, ◌/◌, ◌%◌, List, [], ◌∷◌, ◌++◌, Bool, true, false, refl, sym, ap, ◌∙◌, append_assoc, arith}
+use Rattle.std.proofs.Common.{◌≡◌, ℕ, ◌+◌, ◌/◌, ◌%◌, ◌<◌, List, [], ◌∷◌, ◌++◌, Bool, true, false, ltb-true, refl, sym, ap, ◌∙◌, append_assoc, arith}
 use Rattle.std.proofs.lemmas.Bool.Decides.{nat_tests}
 use Rattle.std.proofs.lemmas.Str.{encodes-append, encodes-chars, encodes_same}
-use Rattle.std.specs.Prelude.{chars, encode_utf8_all, IsUtf8}
+use Rattle.std.specs.Prelude.{chars, encode_utf8_all, nat_lt, IsUtf8}
 use Rattle.std.proofs.lemmas.List.Concat.{flat_map-append}
 use Rattle.std.proofs.lemmas.List.{append-nil}
 use Rattle.std.specs.List.{flat_map}
-use Rattle.html_code.proofs.SafeLemmas.{form, form_of}
-use Rattle.html_code.specs.Escaping.{escape_of, escaped, hex_digit, is_hidden, is_markup}
+use Rattle.html_code.proofs.SafeLemmas.{bracket_is_hidden, digits_as, form, form_of, hidden_is_small}
+use Rattle.html_code.specs.Escaping.{escape_of, escaped, four_digits, hex_digit, hex_digits, is_hidden, is_markup}
 
 hex_same : (m n : ℕ) → hex_digit m ≡ hex_digit n → m ≡ n
 hex_same m n h = grind (arith, nat_tests)
@@ -25,6 +25,42 @@ marks_apart : (r t : List ℕ) → 38 ∷ r ≡ 0x27e6 ∷ t → ⊥
 unfolding head_of
 marks_apart r t same = let e : 38 ≡ 0x27e6 = ap head_of same in omega (arith, e)
 
+four_same : (c d : ℕ) (r t : List ℕ) → c < 65536 → d < 65536 → four_digits c ++ r ≡ four_digits d ++ t → (c ≡ d) × (r ≡ t)
+four_same c d r t small low same =
+    let d3 : hex_digit (c / 16 / 16 / 16) ≡ hex_digit (d / 16 / 16 / 16) = cc in
+    let d2 : hex_digit (c / 16 / 16 % 16) ≡ hex_digit (d / 16 / 16 % 16) = cc in
+    let d1 : hex_digit (c / 16 % 16) ≡ hex_digit (d / 16 % 16) = cc in
+    let d0 : hex_digit (c % 16) ≡ hex_digit (d % 16) = cc in
+    let rest : r ≡ t = cc in
+    let e3 = hex_same (c / 16 / 16 / 16) (d / 16 / 16 / 16) d3 in
+    let e2 = hex_same (c / 16 / 16 % 16) (d / 16 / 16 % 16) d2 in
+    let e1 = hex_same (c / 16 % 16) (d / 16 % 16) d1 in
+    let e0 = hex_same (c % 16) (d % 16) d0 in
+    (from_digits c d e3 e2 e1 e0, rest)
+
+-- no digit is the bracket that ends a mark
+hex_is_low : (n : ℕ) → n < 16 → hex_digit n ≡ 0x27e7 → ⊥
+hex_is_low n small same = grind (arith, nat_tests)
+
+digits_same : (c d : ℕ) (few less : Bool) (r t : List ℕ) → nat_lt c 65536 ≡ few → nat_lt d 65536 ≡ less → c < 1048576 → d < 1048576
+    → digits_as c few ++ 0x27e7 ∷ r ≡ digits_as d less ++ 0x27e7 ∷ t → (c ≡ d) × (r ≡ t)
+digits_same c d true true r t is so small low same =
+    let both = four_same c d (0x27e7 ∷ r) (0x27e7 ∷ t) (ltb-true c 65536 is) (ltb-true d 65536 so) same in
+    let rest : r ≡ t = let e = both.1 in cc in
+    (both.0, rest)
+digits_same c d true false r t is so small low same =
+    let e : 0x27e7 ≡ hex_digit (d % 65536 % 16) = cc in absurd (hex_is_low (d % 65536 % 16) (omega arith) (sym e))
+digits_same c d false true r t is so small low same =
+    let e : hex_digit (c % 65536 % 16) ≡ 0x27e7 = cc in absurd (hex_is_low (c % 65536 % 16) (omega arith) e)
+digits_same c d false false r t is so small low same =
+    let first : hex_digit (c / 65536) ≡ hex_digit (d / 65536) = cc in
+    let others : four_digits (c % 65536) ++ 0x27e7 ∷ r ≡ four_digits (d % 65536) ++ 0x27e7 ∷ t = cc in
+    let high = hex_same (c / 65536) (d / 65536) first in
+    let both = four_same (c % 65536) (d % 65536) (0x27e7 ∷ r) (0x27e7 ∷ t) (omega arith) (omega arith) others in
+    let rest : r ≡ t = let e = both.1 in cc in
+    let lower = both.0 in
+    (omega (arith, high, lower), rest)
+
 -- two characters that are shown alike are equal, and so is what follows
 forms_same : (c d : ℕ) (m h n i : Bool) (r t : List ℕ) → is_markup c ≡ m → is_hidden c ≡ h → is_markup d ≡ n → is_hidden d ≡ i
     → form c m h ++ r ≡ form d n i ++ t → (c ≡ d) × (r ≡ t)
@@ -39,25 +75,19 @@ forms_same c d true h false false r t a b e f same =
     let no : true ≡ false = ap is_markup is ∙ e in cc
 forms_same c d false true true i r t a b e f same = absurd (marks_apart _ _ (sym same))
 forms_same c d false true false true r t a b e f same =
-    let d3 : hex_digit (c / 16 / 16 / 16) ≡ hex_digit (d / 16 / 16 / 16) = cc in
-    let d2 : hex_digit (c / 16 / 16 % 16) ≡ hex_digit (d / 16 / 16 % 16) = cc in
-    let d1 : hex_digit (c / 16 % 16) ≡ hex_digit (d / 16 % 16) = cc in
-    let d0 : hex_digit (c % 16) ≡ hex_digit (d % 16) = cc in
-    let rest : r ≡ t = cc in
-    let e3 = hex_same (c / 16 / 16 / 16) (d / 16 / 16 / 16) d3 in
-    let e2 = hex_same (c / 16 / 16 % 16) (d / 16 / 16 % 16) d2 in
-    let e1 = hex_same (c / 16 % 16) (d / 16 % 16) d1 in
-    let e0 = hex_same (c % 16) (d % 16) d0 in
-    (from_digits c d e3 e2 e1 e0, rest)
+    let digits : hex_digits c ++ 0x27e7 ∷ r ≡ hex_digits d ++ 0x27e7 ∷ t =
+    sym (append_assoc (hex_digits c) (0x27e7 ∷ []) r) ∙ (let e : (hex_digits c ++ 0x27e7 ∷ []) ++ r ≡ (hex_digits d ++ 0x27e7 ∷ []) ++ t = cc in e)
+    ∙ append_assoc (hex_digits d) (0x27e7 ∷ []) t in
+    digits_same c d (nat_lt c 65536) (nat_lt d 65536) r t refl refl (hidden_is_small c b) (hidden_is_small d f) digits
 forms_same c d false true false false r t a b e f same =
     let is : 0x27e6 ≡ d = cc in
-    let no : true ≡ false = ap is_hidden is ∙ f in cc
+    let no : true ≡ false = sym bracket_is_hidden ∙ ap is_hidden is ∙ f in cc
 forms_same c d false false true i r t a b e f same =
     let is : 38 ≡ c = cc in
     let no : true ≡ false = ap is_markup is ∙ a in cc
 forms_same c d false false false true r t a b e f same =
     let is : 0x27e6 ≡ c = cc in
-    let no : true ≡ false = ap is_hidden is ∙ b in cc
+    let no : true ≡ false = sym bracket_is_hidden ∙ ap is_hidden is ∙ b in cc
 forms_same c d false false false false r t a b e f same = let is : c ≡ d = cc in let rest : r ≡ t = cc in (is, rest)
 
 one_same : (c d : ℕ) (r t : List ℕ) → escape_of c ++ r ≡ escape_of d ++ t → (c ≡ d) × (r ≡ t)

@@ -1,14 +1,15 @@
 -- The parts of an expansion token by token, and the text that they show.
-use Rattle.std.proofs.Common.{◌≡◌, ℕ, ◌+◌, List, [], ◌∷◌, ◌++◌, true, false, take, drop, refl, sym, ap, ◌∙◌, append_assoc}
+use Rattle.std.proofs.Common.{◌≡◌, ℕ, ◌+◌, List, [], ◌∷◌, ◌++◌, Bool, Option, true, false, take, drop, refl, sym, ap, ◌∙◌, append_assoc}
 use Rattle.std.proofs.lemmas.List.{drop-drop, append-nil}
-use Rattle.std.specs.Prelude.{chars, codes, if◌then◌else◌}
+use Rattle.std.specs.Prelude.{chars, if◌then◌else◌}
 use Rattle.rustc_lexer.specs.Lexing.{tokens_of}
 use Rattle.rustc_lexer.specs.declared.token.Token.{Token}
 use Rattle.rustc_lexer.specs.declared.token.TokenKind.{TokenKind}
-use Rattle.html_code.specs.Parts.{Part, html_of, text_of, tag, shown}
-use Rattle.html_code.specs.ExpansionParts.{AddsWord, Place, expansion_from, expansion_parts, first_gap, fold_end, gap_tag, is_white, number_here, origin_tag, other_gaps, place_after, word_parts, words_from, words_of}
+use Rattle.html_code.specs.Parts.{Part, html_of, text_of, tag}
+use Rattle.html_code.specs.ExpansionParts.{AddsWord, Place, beginning, expansion_from, expansion_parts, first_gap, fold_end, gap_tag, is_behind, is_white, number_here, origin_attribute, other_gaps, place_after, word_parts, words_from, words_of}
+use Rattle.html_code.specs.Tokens.{token_part}
 use Rattle.html_code.specs.declared.layout.Gap.{Gap}
-use Rattle.html_code.proofs.SourceLemmas.{one_more, text_append}
+use Rattle.html_code.proofs.SourceLemmas.{one_more, text_append, text_of_one, text_of_token}
 
 module _ (fold : List ℕ) where
   -- with some gaps for what came so far, what came and what is to come are all
@@ -24,13 +25,14 @@ module _ (fold : List ℕ) where
       so_far.0 ++ adds.gap ∷ [],
       λ others.
           let here : List Part = word_parts fold adds.gap from t.kind (take t.len (drop start text)) in
-          let next : Place = place_after fold adds.gap from t.kind in
+          let next : Place = place_after fold adds.gap from t.kind (take t.len (drop start text)) in
           let after : List Part = expansion_from fold others next (drop (start + t.len) text) more in
           let so : old ++ html_of (here ++ after) ≡ all (so_far.0 ++ adds.gap ∷ others) =
           sym (ap (λ (ts : List Token). old ++ html_of (expansion_from fold (adds.gap ∷ others) from (drop start text) ts)) is
           ∙ ap (λ (r : List ℕ). old ++ html_of (here ++ expansion_from fold others next r more)) (drop-drop t.len start text))
           ∙ so_far.1 (adds.gap ∷ others) in
-          ap (λ (p : Place). new ++ html_of (expansion_from fold others p (drop stop text) more)) adds.place
+          ap (λ (p : Place). new ++ html_of (expansion_from fold others p (drop stop text) more))
+          (adds.place ∙ ap (λ (w : List ℕ). place_after fold adds.gap from t.kind w) of_word)
           ∙ ap (λ n. new ++ html_of (expansion_from fold others next (drop n text) more)) of_stop
           ∙ one_more old new (all (so_far.0 ++ adds.gap ∷ others)) here after so
           (adds.html ∙ ap (λ (w : List ℕ). old ++ html_of (word_parts fold adds.gap from t.kind w)) of_word)
@@ -49,32 +51,37 @@ module _ (fold : List ℕ) where
 
   -- with what begins the first fold
   pub whole : (old begun new numbers printed : List ℕ) → begun ≡ old ++ fold
-      → ((gaps : List Gap) × (new ≡ begun ++ html_of (expansion_from fold gaps (record { in_summary = true; last = 0; numbers = numbers }) printed (tokens_of (chars printed)))))
+      → ((gaps : List Gap) × (new ≡ begun ++ html_of (expansion_from fold gaps (beginning numbers) printed (tokens_of (chars printed)))))
       → (gaps : List Gap) × (new ≡ old ++ html_of (expansion_parts fold gaps numbers printed))
   whole old begun new numbers printed is all = (
     all.0,
-    let body : List ℕ = html_of (expansion_from fold all.0 (record { in_summary = true; last = 0; numbers = numbers }) printed (tokens_of (chars printed))) in
+    let body : List ℕ = html_of (expansion_from fold all.0 (beginning numbers) printed (tokens_of (chars printed))) in
         all.1 ∙ ap (λ (xs : List ℕ). xs ++ body) is ∙ append_assoc old fold body,
   )
 
   text_of_word : (gap : Gap) (place : Place) (kind : TokenKind) (word : List ℕ)
       → text_of (word_parts fold gap place kind word) ≡ (if is_white kind then [] else word)
   text_of_word gap place kind word =
-      let parts : List Part =
-      tag (gap_tag fold gap place.in_summary) ∷ tag (origin_tag (number_here place.numbers) place.last) ∷ shown word ∷ tag (codes "</i>") ∷ [] in
-      elim (is_white kind) as (λ b. text_of (if b then [] else parts) ≡ (if b then [] else word)) [ true ↦ refl | false ↦ append-nil word ]
+      let behind : Bool = is_behind gap place.behind in
+      let attributes : Option (List ℕ) = origin_attribute (number_here place.numbers) place.last in
+      let parts : List Part = tag (gap_tag fold gap place.in_summary) ∷ token_part behind attributes word ∷ [] in
+      elim (is_white kind) as (λ b. text_of (if b then [] else parts) ≡ (if b then [] else word)) [
+        | true ↦ refl
+        | false ↦ text_of_one (token_part behind attributes word) word (text_of_token behind attributes word)
+      ]
 
   pub text_from : (gaps : List Gap) (place : Place) (rest : List ℕ) (ts : List Token)
       → text_of (expansion_from fold gaps place rest ts) ≡ words_from rest ts
   text_from gaps place rest [] = refl
   text_from gaps place rest (t ∷ ts) =
       let here : List Part = word_parts fold (first_gap fold gaps) place t.kind (take t.len rest) in
-      let after : List Part = expansion_from fold (other_gaps fold gaps) (place_after fold (first_gap fold gaps) place t.kind) (drop t.len rest) ts in
+      let next : Place = place_after fold (first_gap fold gaps) place t.kind (take t.len rest) in
+      let after : List Part = expansion_from fold (other_gaps fold gaps) next (drop t.len rest) ts in
       text_append here after
       ∙ ap (λ (xs : List ℕ). xs ++ text_of after) (text_of_word (first_gap fold gaps) place t.kind (take t.len rest))
       ∙ ap (λ (xs : List ℕ). (if is_white t.kind then [] else take t.len rest) ++ xs)
-      (text_from (other_gaps fold gaps) (place_after fold (first_gap fold gaps) place t.kind) (drop t.len rest) ts)
+      (text_from (other_gaps fold gaps) next (drop t.len rest) ts)
 
 pub text_is_words : (fold : List ℕ) (gaps : List Gap) (numbers printed : List ℕ) → text_of (expansion_parts fold gaps numbers printed) ≡ words_of printed
 text_is_words fold gaps numbers printed =
-    text_from fold gaps (record { in_summary = true; last = 0; numbers = numbers }) printed (tokens_of (chars printed))
+    text_from fold gaps (beginning numbers) printed (tokens_of (chars printed))

@@ -1,12 +1,20 @@
 -- No character of an escaped text is unsafe.
-use Rattle.std.proofs.Common.{◌≡◌, ℕ, ◌+◌, ◌/◌, ◌%◌, ◌<◌, List, [], ◌∷◌, Bool, true, false, refl, sym, ap, subst, ◌∙◌, arith}
+use Rattle.std.proofs.Common.{◌≡◌, ℕ, ◌+◌, ◌/◌, ◌%◌, ◌<◌, ◌≤◌, List, [], ◌∷◌, ◌++◌, Bool, true, false, leb-true, ltb-true, refl, sym, ap, subst, ◌∙◌, arith}
 use Rattle.std.proofs.lemmas.Bool.Decides.{nat_tests}
 use Rattle.std.proofs.lemmas.Str.{encodes-append, NoCharPasses-append, NoCharPasses-nil}
-use Rattle.std.specs.Prelude.{◌||◌, ◌==◌, ◌⊎◌, chars, encode_utf8_all, if◌then◌else◌}
+use Rattle.std.specs.Bool.{beq}
+use Rattle.std.proofs.lemmas.Bool.{and_parts}
+use Rattle.std.specs.Prelude.{◌&&◌, ◌||◌, ◌==◌, ◌⊎◌, nat_le, nat_lt, chars, encode_utf8_all, if◌then◌else◌}
 use Rattle.std.proofs.Common.{inl, inr}
-use Rattle.std.specs.List.{flat_map}
+use Rattle.std.specs.List.{flat_map, list_all}
 use Rattle.std.specs.Str.{NoCharPasses, NonePass}
-use Rattle.html_code.specs.Escaping.{escape_of, escaped, hex_digit, is_control, is_format, is_hidden, is_markup, is_special, is_unsafe, mark_of, reference_of}
+use Rattle.ucd_derived.proofs.BinaryLemmas.{is_default_ignorable_code_point_stepped}
+use Rattle.ucd_derived.proofs.Computing.{ucd_derived}
+use Rattle.ucd_derived.specs.Binary.{is_default_ignorable_code_point}
+use Rattle.ucd_derived.specs.DefaultIgnorableCodePointRanges.{default_ignorable_code_point_ranges}
+use Rattle.ucd_table.proofs.Facts.{Stepped-below, same_from_beq}
+use Rattle.ucd_table.specs.Rows.{Range, in_ranges}
+use Rattle.html_code.specs.Escaping.{escape_of, escaped, four_digits, hex_digit, is_annotation, is_control, is_hidden, is_invisible, is_markup, is_separator, is_unsafe, mark_of, reference_of}
 
 -- ---- tests that are joined by `||`
 
@@ -22,13 +30,21 @@ neither : (a b : Bool) → a ≡ false → b ≡ false → (a || b) ≡ false
 neither true b h k = h
 neither false b h k = k
 
+pub either : (a b : Bool) → (a || b) ≡ true → (a ≡ true) ⊎ (b ≡ true)
+either true b h = inl refl
+either false b h = inr h
+
+only_first : (a b d : Bool) → b ≡ false → d ≡ false → (a || b || d) ≡ a
+only_first true b d h k = refl
+only_first false b d h k = neither b d h k
+
 -- ---- what is shown as it is
 
 is_unsafe_from : (c : ℕ) → (c == 60) ≡ false → (c == 62) ≡ false → (c == 34) ≡ false → (c == 39) ≡ false
-    → is_control c ≡ false → is_format c ≡ false → is_special c ≡ false → is_unsafe c ≡ false
-is_unsafe_from c a b d e f g h =
-    neither _ (is_special c) (neither _ (is_format c) (neither _ (is_control c)
-    (neither _ (c == 39) (neither _ (c == 34) (neither (c == 60) (c == 62) a b) d) e) f) g) h
+    → is_control c ≡ false → is_invisible c ≡ false → is_unsafe c ≡ false
+is_unsafe_from c a b d e f g =
+    neither _ (is_invisible c) (neither _ (is_control c)
+    (neither _ (c == 39) (neither _ (c == 34) (neither (c == 60) (c == 62) a b) d) e) f) g
 
 itself : (c : ℕ) → is_markup c ≡ false → is_hidden c ≡ false → is_unsafe c ≡ false
 itself c m h =
@@ -36,23 +52,52 @@ itself c m h =
     let m4 = or_left (c == 38 || c == 60 || c == 62 || c == 34) (c == 39) m5 in
     let m3 = or_left (c == 38 || c == 60 || c == 62) (c == 34) m4 in
     let m2 = or_left (c == 38 || c == 60) (c == 62) m3 in
-    let h3 = or_left (is_control c || is_format c || is_special c) (c == 0x27e6) h in
-    let h2 = or_left (is_control c || is_format c) (is_special c) h3 in
+    let h2 = or_left (is_control c || is_invisible c) (c == 0x27e6) h in
     is_unsafe_from c (or_right (c == 38) (c == 60) m2) (or_right (c == 38 || c == 60) (c == 62) m3)
     (or_right (c == 38 || c == 60 || c == 62) (c == 34) m4) (or_right (c == 38 || c == 60 || c == 62 || c == 34) (c == 39) m5)
-    (or_left (is_control c) (is_format c) h2) (or_right (is_control c) (is_format c) h2)
-    (or_right (is_control c || is_format c) (is_special c) h3)
+    (or_left (is_control c) (is_invisible c) h2) (or_right (is_control c) (is_invisible c) h2)
+
+-- ---- what Unicode says of them
+
+-- no character of ASCII is ignorable
+pub ascii_is_shown : (c : ℕ) → c < 128 → is_default_ignorable_code_point c ≡ false
+unfolding ucd_derived
+ascii_is_shown c small =
+    same_from_beq _ _ (Stepped-below is_default_ignorable_code_point is_default_ignorable_code_point_stepped (λ x v. beq v false) 128 refl c small)
+
+ranges_below : (bound : ℕ) (rs : List Range) (c : ℕ) → list_all (λ r. nat_lt r.1 bound) rs ≡ true → in_ranges rs c ≡ true → c < bound
+unfolding in_ranges
+ranges_below bound [] c low h = absurd (cc)
+ranges_below bound (r ∷ rs) c low h =
+    let parts = and_parts (nat_lt r.1 bound) (list_all (λ (x : Range). nat_lt x.1 bound) rs) low in
+    elim (either (nat_le r.0 c && nat_le c r.1) (in_ranges rs c) h) [
+      | inl w ↦
+          let last : c ≤ r.1 = leb-true c r.1 (and_parts (nat_le r.0 c) (nat_le c r.1) w).1 in
+          let end : r.1 < bound = ltb-true r.1 bound parts.0 in
+          omega arith
+      | inr w ↦ ranges_below bound rs c parts.1 w
+    ]
+
+ignorable_is_small : (c : ℕ) → is_default_ignorable_code_point c ≡ true → c < 1048576
+unfolding is_default_ignorable_code_point default_ignorable_code_point_ranges
+ignorable_is_small c h = ranges_below 1048576 default_ignorable_code_point_ranges c refl h
 
 -- ---- digits
 
 no_control : (c : ℕ) → 42 < c → c < 127 → is_control c ≡ false
 no_control c a b = grind (arith, nat_tests)
 
-no_format : (c : ℕ) → c < 127 → is_format c ≡ false
-no_format c b = grind (arith, nat_tests)
+no_invisible : (c : ℕ) → c < 128 → is_invisible c ≡ false
+no_invisible c b =
+    let separator : is_separator c ≡ false = grind (arith, nat_tests) in
+    let annotation : is_annotation c ≡ false = grind (arith, nat_tests) in
+    neither _ (is_annotation c) (neither (is_default_ignorable_code_point c) (is_separator c) (ascii_is_shown c b) separator) annotation
 
-no_special : (c : ℕ) → c < 127 → is_special c ≡ false
-no_special c b = grind (arith, nat_tests)
+-- of ASCII only controls are hidden
+pub ascii_hidden : (c : ℕ) → c < 128 → is_control c ≡ is_hidden c
+ascii_hidden c b =
+    let bracket : (c == 0x27e6) ≡ false = grind (arith, nat_tests) in
+    sym (only_first (is_control c) (is_invisible c) (c == 0x27e6) (no_invisible c b) bracket)
 
 apart : (c k : ℕ) → (c ≡ k → ⊥) → (c == k) ≡ false
 apart c k h = grind (arith, nat_tests)
@@ -60,7 +105,7 @@ apart c k h = grind (arith, nat_tests)
 letter : (c : ℕ) → 42 < c → c < 127 → (c ≡ 60 → ⊥) → (c ≡ 62 → ⊥) → is_unsafe c ≡ false
 letter c a b d e =
     is_unsafe_from c (apart c 60 d) (apart c 62 e) (apart c 34 (λ i. absurd (omega arith))) (apart c 39 (λ i. absurd (omega arith)))
-    (no_control c a b) (no_format c b) (no_special c b)
+    (no_control c a b) (no_invisible c (omega arith))
 
 decimal_is_safe : (n : ℕ) → n < 10 → is_unsafe (48 + n) ≡ false
 decimal_is_safe n small =
@@ -81,31 +126,38 @@ hex_is_safe n small =
 markup_is_small : (c : ℕ) → is_markup c ≡ true → c < 100
 markup_is_small c h = grind (arith, nat_tests)
 
-control_is_small : (c : ℕ) → is_control c ≡ true → c < 65536
+control_is_small : (c : ℕ) → is_control c ≡ true → c < 1048576
 control_is_small c h = grind (arith, nat_tests)
 
-format_is_small : (c : ℕ) → is_format c ≡ true → c < 65536
-format_is_small c h = grind (arith, nat_tests)
+separator_is_small : (c : ℕ) → is_separator c ≡ true → c < 1048576
+separator_is_small c h = grind (arith, nat_tests)
 
-special_is_small : (c : ℕ) → is_special c ≡ true → c < 65536
-special_is_small c h = grind (arith, nat_tests)
+annotation_is_small : (c : ℕ) → is_annotation c ≡ true → c < 1048576
+annotation_is_small c h = grind (arith, nat_tests)
 
-one_of : (a b d e : Bool) → (a || b || d || e) ≡ true → (a ≡ true) ⊎ ((b ≡ true) ⊎ ((d ≡ true) ⊎ (e ≡ true)))
-one_of true b d e h = inl refl
-one_of false true d e h = inr (inl refl)
-one_of false false true e h = inr (inr (inl refl))
-one_of false false false e h = inr (inr (inr h))
-
-bracket_is_small : (c : ℕ) → (c == 0x27e6) ≡ true → c < 65536
+bracket_is_small : (c : ℕ) → (c == 0x27e6) ≡ true → c < 1048576
 bracket_is_small c h = grind (arith, nat_tests)
 
-pub hidden_is_small : (c : ℕ) → is_hidden c ≡ true → c < 65536
+invisible_is_small : (c : ℕ) → is_invisible c ≡ true → c < 1048576
+invisible_is_small c h =
+    elim (either (is_default_ignorable_code_point c || is_separator c) (is_annotation c) h) [
+      | inl w ↦
+          elim (either (is_default_ignorable_code_point c) (is_separator c) w) [
+            | inl v ↦ ignorable_is_small c v
+            | inr v ↦ separator_is_small c v
+          ]
+      | inr w ↦ annotation_is_small c w
+    ]
+
+pub hidden_is_small : (c : ℕ) → is_hidden c ≡ true → c < 1048576
 hidden_is_small c h =
-    elim (one_of (is_control c) (is_format c) (is_special c) (c == 0x27e6) h) [
-      | inl w ↦ control_is_small c w
-      | inr (inl w) ↦ format_is_small c w
-      | inr (inr (inl w)) ↦ special_is_small c w
-      | inr (inr (inr w)) ↦ bracket_is_small c w
+    elim (either (is_control c || is_invisible c) (c == 0x27e6) h) [
+      | inl w ↦
+          elim (either (is_control c) (is_invisible c) w) [
+            | inl v ↦ control_is_small c v
+            | inr v ↦ invisible_is_small c v
+          ]
+      | inr w ↦ bracket_is_small c w
     ]
 
 -- what a character is shown by, where it is known what it is
@@ -114,28 +166,64 @@ form c true h = reference_of c
 form c false true = mark_of c
 form c false false = c ∷ []
 
+-- what a reference and a mark have beside their digits
+ampersand : is_unsafe 38 ≡ false
+unfolding ucd_derived
+ampersand = refl
+
+number_sign : is_unsafe 35 ≡ false
+unfolding ucd_derived
+number_sign = refl
+
+semicolon : is_unsafe 59 ≡ false
+unfolding ucd_derived
+semicolon = refl
+
+letter_u : is_unsafe 85 ≡ false
+unfolding ucd_derived
+letter_u = refl
+
+plus_sign : is_unsafe 43 ≡ false
+unfolding ucd_derived
+plus_sign = refl
+
+opening_is_safe : is_unsafe 0x27e6 ≡ false
+unfolding ucd_derived
+opening_is_safe = refl
+
+closing_is_safe : is_unsafe 0x27e7 ≡ false
+unfolding ucd_derived
+closing_is_safe = refl
+
+four_are_safe : (n : ℕ) (more : List ℕ) → n < 65536 → NonePass is_unsafe more → NonePass is_unsafe (four_digits n ++ more)
+four_are_safe n more small safe = (
+  hex_is_safe (n / 16 / 16 / 16) (omega arith),
+  (
+    hex_is_safe (n / 16 / 16 % 16) (omega arith),
+    (hex_is_safe (n / 16 % 16) (omega arith), (hex_is_safe (n % 16) (omega arith), safe)),
+  ),
+)
+
+-- digits as they are where it is known how many
+abbrev pub digits_as : ℕ → Bool → List ℕ
+digits_as n few = if few then four_digits n else hex_digit (n / 65536) ∷ four_digits (n % 65536)
+
+digits_are_safe : (n : ℕ) (few : Bool) (more : List ℕ) → nat_lt n 65536 ≡ few → n < 1048576 → NonePass is_unsafe more
+    → NonePass is_unsafe (digits_as n few ++ more)
+digits_are_safe n true more is small safe = four_are_safe n more (ltb-true n 65536 is) safe
+digits_are_safe n false more is small safe = (hex_is_safe (n / 65536) (omega arith), four_are_safe (n % 65536) more (omega arith) safe)
+
 form_is_safe : (c : ℕ) (m h : Bool) → is_markup c ≡ m → is_hidden c ≡ h → NonePass is_unsafe (form c m h)
 form_is_safe c true h a b =
     let small : c < 100 = markup_is_small c a in
-    (refl, (refl, (decimal_is_safe (c / 10) (omega arith), (decimal_is_safe (c % 10) (omega arith), (refl, tt)))))
+    (ampersand, (number_sign, (decimal_is_safe (c / 10) (omega arith), (decimal_is_safe (c % 10) (omega arith), (semicolon, tt)))))
 form_is_safe c false true a b =
-    let small : c < 65536 = hidden_is_small c b in (
-      refl,
-      (
-        refl,
-        (
-          refl,
-          (
-            hex_is_safe (c / 16 / 16 / 16) (omega arith),
-            (
-              hex_is_safe (c / 16 / 16 % 16) (omega arith),
-              (hex_is_safe (c / 16 % 16) (omega arith), (hex_is_safe (c % 16) (omega arith), (refl, tt))),
-            ),
-          ),
-        ),
-      ),
-    )
+    (opening_is_safe, (letter_u, (plus_sign, digits_are_safe c (nat_lt c 65536) (0x27e7 ∷ []) refl (hidden_is_small c b) (closing_is_safe, tt))))
 form_is_safe c false false a b = (itself c a b, tt)
+
+pub bracket_is_hidden : is_hidden 0x27e6 ≡ true
+unfolding ucd_derived
+bracket_is_hidden = refl
 
 pub form_of : (c : ℕ) → escape_of c ≡ form c (is_markup c) (is_hidden c)
 form_of c =
@@ -157,3 +245,7 @@ all_are_safe (c ∷ cs) =
 
 pub escaped_is_safe : (text : List ℕ) → NoCharPasses is_unsafe (escaped text)
 escaped_is_safe text = all_are_safe (chars text)
+
+-- a character that is no markup and not hidden is shown as it is
+pub plain_form : (c : ℕ) → is_markup c ≡ false → is_hidden c ≡ false → escape_of c ≡ c ∷ []
+plain_form c m h = form_of c ∙ ap (λ b. form c b (is_hidden c)) m ∙ ap (λ b. form c false b) h

@@ -1,6 +1,7 @@
 -- A text as HTML that shows it. (The HTML Standard, "Character references".)
 use Rattle.std.specs.Prelude.{ℕ, ◌+◌, ◌-◌, ◌/◌, ◌%◌, List, [], ◌∷◌, ◌++◌, Bool, not, ◌&&◌, ◌||◌, ◌==◌, nat_lt, if◌then◌else◌, chars, encode_utf8_all}
 use Rattle.std.specs.List.{flat_map}
+use Rattle.ucd_derived.specs.Binary.{is_default_ignorable_code_point}
 
 -- a number of this range
 abbrev pub is_within : ℕ → ℕ → ℕ → Bool
@@ -14,19 +15,22 @@ is_markup c = c == 38 || c == 60 || c == 62 || c == 34 || c == 39 || c == 13
 abbrev pub is_control : ℕ → Bool
 is_control c = (nat_lt c 0x20 && not (c == 9) && not (c == 10)) || is_within 0x7f 0x9f c
 
--- what shows nothing, or changes the order of others, or ends a line. (Unicode: soft hyphen, marks and
--- embeddings of direction, zero-width and invisible characters, line and paragraph separators.)
-abbrev pub is_format : ℕ → Bool
-is_format c =
-    c == 0xad || c == 0x61c || is_within 0x200b 0x200f c || is_within 0x2028 0x202e c || is_within 0x2060 0x206f c
+-- the line and the paragraph separator, which end a line. (Unicode: `Zl` and `Zp`)
+abbrev pub is_separator : ℕ → Bool
+is_separator c = is_within 0x2028 0x2029 c
 
--- variation selectors, the byte order mark, and the specials up to interlinear annotation
-abbrev pub is_special : ℕ → Bool
-is_special c = is_within 0xfe00 0xfe0f c || c == 0xfeff || is_within 0xfff0 0xfffb c
+-- interlinear annotation, which stands for no character of the text. (Unicode, "Specials")
+abbrev pub is_annotation : ℕ → Bool
+is_annotation c = is_within 0xfff9 0xfffb c
+
+-- what shows nothing by itself, or changes the order of what is beside it. Unicode's `Bidi_Control` is a part of
+-- `Default_Ignorable_Code_Point`.
+abbrev pub is_invisible : ℕ → Bool
+is_invisible c = is_default_ignorable_code_point c || is_separator c || is_annotation c
 
 -- what is shown by a mark; the bracket U+27E6 too, since a mark begins with it
 abbrev pub is_hidden : ℕ → Bool
-is_hidden c = is_control c || is_format c || is_special c || c == 0x27e6
+is_hidden c = is_control c || is_invisible c || c == 0x27e6
 
 -- a character of two decimal digits by its number, as `&#38;`
 abbrev pub reference_of : ℕ → List ℕ
@@ -37,8 +41,12 @@ abbrev pub hex_digit : ℕ → ℕ
 hex_digit n = if nat_lt n 10 then 48 + n else 65 + (n - 10)
 
 -- a number below 65,536 in four of them
+abbrev pub four_digits : ℕ → List ℕ
+four_digits n = hex_digit (n / 16 / 16 / 16) ∷ hex_digit (n / 16 / 16 % 16) ∷ hex_digit (n / 16 % 16) ∷ hex_digit (n % 16) ∷ []
+
+-- a number below 1,048,576 in four of them, or in five if it needs as many
 abbrev pub hex_digits : ℕ → List ℕ
-hex_digits n = hex_digit (n / 16 / 16 / 16) ∷ hex_digit (n / 16 / 16 % 16) ∷ hex_digit (n / 16 % 16) ∷ hex_digit (n % 16) ∷ []
+hex_digits n = if nat_lt n 65536 then four_digits n else hex_digit (n / 65536) ∷ four_digits (n % 65536)
 
 -- a character by its number between the brackets U+27E6 and U+27E7, as `⟦U+202E⟧`
 abbrev pub mark_of : ℕ → List ℕ
@@ -54,4 +62,4 @@ escaped text = encode_utf8_all (flat_map escape_of (chars text))
 
 -- a character that ends or begins a tag, an attribute or its value, or that would be hidden
 abbrev pub is_unsafe : ℕ → Bool
-is_unsafe c = c == 60 || c == 62 || c == 34 || c == 39 || is_control c || is_format c || is_special c
+is_unsafe c = c == 60 || c == 62 || c == 34 || c == 39 || is_control c || is_invisible c

@@ -1,13 +1,14 @@
 -- An expansion on a page: its tokens with the numbers of their origins. What is between two tokens is white
 -- space and the ends of folds.
-use Rattle.std.specs.Prelude.{◌≡◌, ℕ, zero, suc, ◌-◌, List, [], ◌∷◌, ◌++◌, Bool, true, false, ◌&&◌, codes, decimal, nat_eq, nat_lt, min, if◌then◌else◌, take, drop, chars}
+use Rattle.std.specs.Prelude.{◌≡◌, ℕ, zero, suc, ◌-◌, List, [], ◌∷◌, ◌++◌, Bool, true, false, Option, Some, None, ◌&&◌, codes, decimal, nat_eq, nat_lt, min, if◌then◌else◌, take, drop, chars}
 use Rattle.rustc_lexer.specs.Lexing.{tokens_of}
 use Rattle.rustc_lexer.specs.declared.token.Token.{Token}
 use Rattle.rustc_lexer.specs.declared.token.TokenKind.{TokenKind}
 use Rattle.rustc_lexer.specs.declared.token.TokenKind.TheVariants.{Whitespace, Lifetime}
-use Rattle.html_code.specs.Parts.{Part, tag, shown, html_of}
+use Rattle.html_code.specs.Parts.{Part, tag, html_of}
+use Rattle.html_code.specs.Tokens.{token_part, ends_word}
 use Rattle.html_code.specs.declared.layout.Gap.{Gap}
-use Rattle.html_code.specs.declared.layout.Gap.TheVariants.{Nothing, Blank, Line, Top}
+use Rattle.html_code.specs.declared.layout.Gap.TheVariants.{Nothing, Blank, Line, Cut, Top}
 
 -- ---- what is between two tokens
 
@@ -15,17 +16,18 @@ abbrev pub blanks : ℕ → List ℕ
 blanks zero = []
 blanks (suc n) = codes "    " ++ blanks n
 
--- the end of a line, or of the first line of a fold; the next line is in so many blocks, of which at most 32 are shown
-abbrev pub line_end : Bool → ℕ → List ℕ
-line_end in_summary blocks = (if in_summary then codes "</summary>" else codes "\n") ++ blanks (min blocks 32)
+-- the end of a line, or of the first line of a fold; the next line is in so many blocks of code, of which at most 32 are shown
+abbrev pub line_end : List ℕ → Bool → ℕ → List ℕ
+line_end end in_summary blocks = (if in_summary then codes "</summary><div>" else end) ++ blanks (min blocks 32)
 
 abbrev pub fold_end : Bool → List ℕ
-fold_end in_summary = if in_summary then codes "</summary></details>" else codes "</details>"
+fold_end in_summary = if in_summary then codes "</summary></details>" else codes "</div></details>"
 
 abbrev pub gap_tag : List ℕ → Gap → Bool → List ℕ
 gap_tag fold Nothing in_summary = []
 gap_tag fold Blank in_summary = codes " "
-gap_tag fold (Line blocks) in_summary = line_end in_summary blocks
+gap_tag fold (Line blocks) in_summary = line_end (codes "\n") in_summary blocks
+gap_tag fold (Cut blocks) in_summary = line_end (codes "\n</div><div>") in_summary blocks
 gap_tag fold Top in_summary = fold_end in_summary ++ fold
 
 -- whether the line behind a gap is the first of its fold
@@ -33,7 +35,13 @@ abbrev pub is_in_summary : Gap → Bool → Bool
 is_in_summary Nothing in_summary = in_summary
 is_in_summary Blank in_summary = in_summary
 is_in_summary (Line blocks) in_summary = false
+is_in_summary (Cut blocks) in_summary = false
 is_in_summary Top in_summary = true
+
+-- whether a word that is shown as it is ends behind a gap
+abbrev pub is_behind : Gap → Bool → Bool
+is_behind Nothing behind = behind
+is_behind _ behind = false
 
 -- ---- tokens
 
@@ -51,32 +59,39 @@ abbrev pub number_here : List ℕ → ℕ
 number_here [] = 0
 number_here (n ∷ ns) = n
 
--- the tag of a token by its origin's number and that of the token before
-abbrev pub origin_tag : (number last : ℕ) → List ℕ
-origin_tag number last =
-    if nat_lt 0 number && nat_eq (number - 1) last then codes "<i>" else codes "<i o=" ++ (decimal number ++ codes ">")
+-- the attribute of a token by its origin's number and that of the token before
+abbrev pub origin_attribute : (number last : ℕ) → Option (List ℕ)
+origin_attribute number last =
+    if nat_lt 0 number && nat_eq (number - 1) last then None else Some (codes " o=" ++ decimal number)
 
--- how far an expansion is: the last origin's number, the numbers to come, and whether the line is the first of its fold
+-- how far an expansion is: the last origin's number, the numbers to come, whether the line is the first of its fold, and
+-- whether a word that is shown as it is ends here
 pub record Place : Type 0 where
   pub in_summary : Bool
   pub last : ℕ
   pub numbers : List ℕ
+  pub behind : Bool
+
+-- where an expansion begins
+abbrev pub beginning : List ℕ → Place
+beginning numbers = record { in_summary = true; last = 0; numbers = numbers; behind = false }
 
 module _ (fold : List ℕ) where
   -- the parts of a token behind a gap
   abbrev pub word_parts : Gap → Place → TokenKind → List ℕ → List Part
   word_parts gap place kind word =
       if is_white kind then []
-      else tag (gap_tag fold gap place.in_summary) ∷ tag (origin_tag (number_here place.numbers) place.last) ∷ shown word
-      ∷ tag (codes "</i>") ∷ []
+      else tag (gap_tag fold gap place.in_summary)
+      ∷ token_part (is_behind gap place.behind) (origin_attribute (number_here place.numbers) place.last) word ∷ []
 
-  abbrev pub place_after : Gap → Place → TokenKind → Place
-  place_after gap place kind =
+  abbrev pub place_after : Gap → Place → TokenKind → List ℕ → Place
+  place_after gap place kind word =
       if is_white kind then place
       else record {
         in_summary = is_in_summary gap place.in_summary;
         last = number_here place.numbers;
         numbers = drop (printed_tokens_in kind) place.numbers;
+        behind = ends_word (is_behind gap place.behind) (origin_attribute (number_here place.numbers) place.last) word;
       }
 
   abbrev pub first_gap : List Gap → Gap
@@ -92,18 +107,18 @@ module _ (fold : List ℕ) where
   expansion_from gaps place rest [] = tag (fold_end place.in_summary) ∷ []
   expansion_from gaps place rest (t ∷ ts) =
       word_parts (first_gap gaps) place t.kind (take t.len rest)
-      ++ expansion_from (other_gaps gaps) (place_after (first_gap gaps) place t.kind) (drop t.len rest) ts
+      ++ expansion_from (other_gaps gaps) (place_after (first_gap gaps) place t.kind (take t.len rest)) (drop t.len rest) ts
 
   -- the parts of a printed text with these gaps, and these numbers of its tokens' origins
   abbrev pub expansion_parts : List Gap → (numbers printed : List ℕ) → List Part
   expansion_parts gaps numbers printed =
-      tag fold ∷ expansion_from gaps (record { in_summary = true; last = 0; numbers = numbers }) printed (tokens_of (chars printed))
+      tag fold ∷ expansion_from gaps (beginning numbers) printed (tokens_of (chars printed))
 
   -- a token is added behind some gap
   pub record AddsWord (old new : List ℕ) (from to : Place) (kind : TokenKind) (word : List ℕ) : Type 0 where
     pub gap : Gap
     pub html : new ≡ old ++ html_of (word_parts gap from kind word)
-    pub place : to ≡ place_after gap from kind
+    pub place : to ≡ place_after gap from kind word
 
 -- the text of the tokens of a printed text, without the white space between them
 abbrev pub words_from : List ℕ → List Token → List ℕ

@@ -1,6 +1,7 @@
 -- what the public contracts rest on
 pub mod Escaping
 pub mod Parts
+pub mod Tokens
 pub mod SourceParts
 pub mod ExpansionParts
 pub mod Numbers

@@ -1,6 +1,6 @@
 -- A page in parts.
 use Rattle.std.specs.Prelude.{◌≡◌, ℕ, ◌<◌, ◌^◌, List, [], ◌∷◌, ◌++◌, Option, Some, None, codes, decimal, nat_lt, if◌then◌else◌, drop, length, map}
-use Rattle.html_code.specs.Parts.{Part, tag, shown, html_of}
+use Rattle.html_code.specs.Parts.{Part, tag, shown, isolated, html_of}
 use Rattle.html_code.specs.ExpansionParts.{expansion_parts, number_here}
 use Rattle.html_code.specs.Numbers.{AreNumbers}
 use Rattle.html_code.specs.SourceParts.{source_parts, token_starts}
@@ -15,7 +15,7 @@ link_tag number = codes "<li><a href=#s" ++ (decimal number ++ codes ">")
 
 -- a link to the token of a number, which says what the fault is
 abbrev pub fault_part : ℕ → List ℕ → List Part
-fault_part number told = tag (link_tag number) ∷ shown told ∷ tag (codes "</a>") ∷ []
+fault_part number told = tag (link_tag number) ∷ isolated [] told ∷ tag (codes "</a>") ∷ []
 
 abbrev pub fault_parts : List ℕ → List Mark → List Part
 fault_parts numbers [] = []
@@ -45,7 +45,7 @@ pub record AddsLinks (old new starts : List ℕ) (faults : List Mark) : Type 0 w
 module _ (frame : Frame) where
   -- the title twice: of the page, and as its heading
   abbrev pub head_parts : List ℕ → List Part
-  head_parts title = tag frame.head.now ∷ shown title ∷ tag frame.heading.now ∷ shown title ∷ tag frame.counts.now ∷ []
+  head_parts title = tag frame.head.now ∷ shown title ∷ tag frame.heading.now ∷ isolated [] title ∷ tag frame.counts.now ∷ []
 
   -- what was printed is added: some white space between its tokens, and the numbers of their origins
   abbrev pub AddsPrinted : (old new starts : List ℕ) → Option Printed → Type 0
@@ -56,12 +56,13 @@ module _ (frame : Frame) where
 
   -- a page: its bytes up to the expansion, up to the links, and all
   pub record IsPage (page : Shown) (html : List ℕ) : Type 0 where
+    pub cuts : List (Option ℕ)
     pub shown : List ℕ
     pub linked : List ℕ
     pub is_shown :
         AddsPrinted
         (html_of (head_parts page.title.now) ++ counts_of (length page.text.now) (length page.faults.now) page.printed
-        ++ frame.source.now ++ html_of (source_parts page.faults.now page.text.now) ++ frame.expansion.now)
+        ++ frame.source.now ++ html_of (source_parts cuts page.faults.now page.text.now) ++ frame.expansion.now)
         shown (token_starts page.text.now) page.printed
     pub is_linked : AddsLinks (shown ++ frame.faults.now) linked (token_starts page.text.now) page.faults.now
     pub is_all : html ≡ linked ++ frame.foot.now

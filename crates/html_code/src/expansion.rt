@@ -1,13 +1,14 @@
 //! An expansion on a page: its tokens with the numbers of their origins, laid out as code.
-ghost use Rattle.std.specs.Prelude.{◌≡◌, ◌+◌, ◌-◌, ◌*◌, ◌++◌, ◌<◌, ◌≤◌, ◌^◌, List, codes, drop, length, string_bytes, OnOk, option_copied, slice_get};
-ghost use Rattle.html_code.specs.ExpansionParts.{AddsWord, expansion_parts, fold_end, gap_tag, is_in_summary, is_white, line_end, number_here, origin_tag, printed_tokens_in};
-ghost use Rattle.html_code.specs.Parts.{html_of};
+ghost use Rattle.std.specs.Prelude.{◌≡◌, ◌+◌, ◌-◌, ◌*◌, ◌++◌, ◌<◌, ◌≤◌, ◌^◌, List, codes, drop, decimal, length, string_bytes, IfOk, OnOk, option_copied, slice_get};
+ghost use Rattle.html_code.specs.ExpansionParts.{AddsWord, expansion_parts, fold_end, gap_tag, is_behind, is_in_summary, is_white, line_end, number_here, origin_attribute, printed_tokens_in};
+ghost use Rattle.html_code.specs.Parts.{Adds, html_of, html_of_part, isolated};
+ghost use Rattle.html_code.specs.Tokens.{ends_word, token_part};
 ghost use Rattle.html_code.specs.Places.{place_of};
 ghost use Rattle.html_code.specs.declared.layout.Gap.{Gap};
 
-use crate::escape::push_escaped;
 use crate::layout::{Gap, Layout};
 use crate::sort::sort_of;
+use crate::token::{push_content, push_token};
 use crate::word::word_at;
 use rustc_lexer::{FrontmatterAllowed, TokenKind, laws, tokenize};
 use std::alloc::{AllocError, Global};
@@ -25,15 +26,22 @@ pub(crate) struct Progress<'a> {
     last: usize,
     // Whether the line is the first of its fold.
     in_summary: bool,
+    // Whether a word that is shown as it is ends here.
+    behind: bool,
     // Whether white space came last.
     apart: bool,
 }
 
-// Adds the end of a line, and the indentation of one in so many blocks.
-fn push_line_end(page: &mut String, in_summary: bool, blocks: usize) -> Result<(), AllocError>
-    ensures { OnOk result (string_bytes page.new ≡ string_bytes page.old ++ line_end in_summary blocks) }
+// Adds the end of a line, and the indentation of one in so many blocks of code.
+fn push_line_end(
+    page: &mut String,
+    end: &str,
+    in_summary: bool,
+    blocks: usize,
+) -> Result<(), AllocError>
+    ensures { Adds result page.old page.new (line_end end.now in_summary blocks) }
 {
-    page.push_str(if in_summary { "</summary>" } else { "\n" })?;
+    page.push_str(if in_summary { "</summary><div>" } else { end })?;
     for _ in 0..blocks.min(LEVELS) {
         page.push_str("    ")?;
     }
@@ -42,23 +50,24 @@ fn push_line_end(page: &mut String, in_summary: bool, blocks: usize) -> Result<(
 
 // Adds the end of a fold.
 fn push_fold_end(page: &mut String, in_summary: bool) -> Result<(), AllocError>
-    ensures { OnOk result (string_bytes page.new ≡ string_bytes page.old ++ fold_end in_summary) }
+    ensures { Adds result page.old page.new (fold_end in_summary) }
 {
     if in_summary {
         page.push_str("</summary></details>")
     } else {
-        page.push_str("</details>")
+        page.push_str("</div></details>")
     }
 }
 
 // Adds what is between two tokens.
 fn push_gap(page: &mut String, gap: Gap, in_summary: bool, fold: &str) -> Result<(), AllocError>
-    ensures { OnOk result (string_bytes page.new ≡ string_bytes page.old ++ gap_tag fold.now gap in_summary) }
+    ensures { Adds result page.old page.new (gap_tag fold.now gap in_summary) }
 {
     match gap {
         Gap::Nothing => Ok(()),
         Gap::Blank => page.push_str(" "),
-        Gap::Line(blocks) => push_line_end(page, in_summary, blocks),
+        Gap::Line(blocks) => push_line_end(page, "\n", in_summary, blocks),
+        Gap::Cut(blocks) => push_line_end(page, "\n</div><div>", in_summary, blocks),
         Gap::Top => {
             push_fold_end(page, in_summary)?;
             page.push_str(fold)
@@ -73,19 +82,58 @@ fn is_in_summary(gap: Gap, in_summary: bool) -> bool
     match gap {
         Gap::Nothing => in_summary,
         Gap::Blank => in_summary,
-        Gap::Line(_) => false,
+        Gap::Line(_) | Gap::Cut(_) => false,
         Gap::Top => true,
     }
 }
 
-// Adds the tag of a token whose origin has this number; `last` is that of the token before.
-fn push_origin_tag(page: &mut String, number: usize, last: usize) -> Result<(), AllocError>
-    ensures { OnOk result (string_bytes page.new ≡ string_bytes page.old ++ origin_tag number last) }
+// Whether a word that is shown as it is ends behind this gap.
+fn is_behind(gap: Gap, behind: bool) -> bool
+    ensures { result ≡ is_behind gap behind }
+{
+    match gap {
+        Gap::Nothing => behind,
+        _ => false,
+    }
+}
+
+// Adds the number of an origin as an attribute.
+fn push_origin(page: &mut String, number: usize) -> Result<(), AllocError>
+    ensures { Adds result page.old page.new (codes " o=" ++ decimal number) }
+{
+    write!(page, " o={number}")
+}
+
+// Adds a token with its origin's number as an attribute.
+fn push_numbered(page: &mut String, number: usize, text: &str) -> Result<(), AllocError>
+    ensures { Adds result page.old page.new
+        (html_of_part (isolated (codes " o=" ++ decimal number) text.now)) }
+{
+    page.push_str("<bdi")?;
+    push_origin(page, number)?;
+    push_content(page, text)?;
+    Ok(())
+}
+
+// Adds a token whose origin has this number, and gives whether a word that is shown as it is ends
+// behind it. `last` is the number of the token before.
+fn push_printed(
+    page: &mut String,
+    behind: bool,
+    number: usize,
+    last: usize,
+    text: &str,
+) -> Result<bool, AllocError>
+    ensures html { Adds result page.old page.new
+        (html_of_part (token_part behind (origin_attribute number last) text.now)) }
+    ensures behind { IfOk result
+        (λ ends. ends ≡ ends_word behind (origin_attribute number last) text.now) }
 {
     if number > 0 && number - 1 == last {
-        page.push_str("<i>")
+        push_token(page, behind, text)
     } else {
-        write!(page, "<i o={number}>")
+        push_numbered(page, number, text)?;
+        Ok(false)
     }
 }
 
@@ -153,9 +201,8 @@ fn push_word(
         .next(sort_of(kind, word, next), progress.apart)?;
     let number = number_here(progress.numbers);
     push_gap(page, gap, progress.in_summary, fold)?;
-    push_origin_tag(page, number, progress.last)?;
-    push_escaped(page, word)?;
-    page.push_str("</i>")?;
+    let behind = is_behind(gap, progress.behind);
+    progress.behind = push_printed(page, behind, number, progress.last, word)?;
     progress.in_summary = is_in_summary(gap, progress.in_summary);
     progress.numbers = numbers_after(progress.numbers, printed_tokens_in(kind));
     progress.last = number;
@@ -166,8 +213,9 @@ fn push_word(
 /// Adds a printed text of at most `u32::MAX` bytes, whose tokens have origins of these numbers.
 /// `fold` begins each item.
 ///
-/// Each token is an `<i>` with its origin's number as `o=12`, unless that is one more than the
-/// number of the token before. A lifetime is one such token, with the number of its quote.
+/// A token's origin has the number that follows that of the token before, or else the token is a
+/// `<bdi>` with the number as `o=12`. Otherwise it stands as in `push_source`. A lifetime is one
+/// such token, with the number of its quote.
 pub(crate) fn push_expansion(
     alloc: Global,
     page: &mut String,
@@ -176,8 +224,8 @@ pub(crate) fn push_expansion(
     fold: &str,
 ) -> Result<(), AllocError>
     requires { length printed.now < 2 ^ 32 }
-    ensures { OnOk result ((gaps : List Gap) ×
-        (string_bytes page.new ≡ string_bytes page.old ++ html_of (expansion_parts fold.now gaps numbers.now printed.now))) }
+    ensures { OnOk result ((gaps : List Gap) × (string_bytes page.new ≡ string_bytes page.old
+        ++ html_of (expansion_parts fold.now gaps numbers.now printed.now))) }
 {
     laws::tokens_begin();
     laws::next_token();
@@ -187,6 +235,7 @@ pub(crate) fn push_expansion(
         numbers,
         last: 0,
         in_summary: true,
+        behind: false,
         apart: true,
     };
     page.push_str(fold)?;

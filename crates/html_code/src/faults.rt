@@ -1,11 +1,11 @@
 //! The faults of a text on a page, as links.
 ghost use Rattle.std.specs.Prelude.{◌≡◌, ◌++◌, IfOk, OnOk, map, string_bytes};
 ghost use Rattle.html_code.specs.PageParts.{fault_part, fault_parts, link_tag};
-ghost use Rattle.html_code.specs.Parts.{html_of};
+ghost use Rattle.html_code.specs.Parts.{Adds, html_of};
 
-use crate::escape::push_escaped;
 use crate::expansion::{number_here, numbers_after};
 use crate::source::Mark;
+use crate::token::push_isolated;
 use std::alloc::{AllocError, Global};
 
 /// Where each fault begins.
@@ -17,17 +17,17 @@ pub(crate) fn fault_starts(alloc: Global, faults: &[Mark<'_>]) -> Result<Vec<u32
 
 // Adds the tag of a link to the token of this number.
 fn push_link_tag(page: &mut String, number: usize) -> Result<(), AllocError>
-    ensures { OnOk result (string_bytes page.new ≡ string_bytes page.old ++ link_tag number) }
+    ensures { Adds result page.old page.new (link_tag number) }
 {
     write!(page, "<li><a href=#s{number}>")
 }
 
 // Adds a link to the token of this number.
 fn push_fault(page: &mut String, number: usize, told: &str) -> Result<(), AllocError>
-    ensures { OnOk result (string_bytes page.new ≡ string_bytes page.old ++ html_of (fault_part number told.now)) }
+    ensures { Adds result page.old page.new (html_of (fault_part number told.now)) }
 {
     push_link_tag(page, number)?;
-    push_escaped(page, told)?;
+    push_isolated(page, told)?;
     page.push_str("</a>")?;
     Ok(())
 }
@@ -38,7 +38,7 @@ pub(crate) fn push_faults(
     numbers: &[usize],
     faults: &[Mark<'_>],
 ) -> Result<(), AllocError>
-    ensures { OnOk result (string_bytes page.new ≡ string_bytes page.old ++ html_of (fault_parts numbers.now faults.now)) }
+    ensures { Adds result page.old page.new (html_of (fault_parts numbers.now faults.now)) }
 {
     let mut left = numbers;
     for fault in faults {

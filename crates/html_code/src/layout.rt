@@ -10,6 +10,8 @@ pub(crate) enum Gap {
     Blank,
     /// A line end; the next line is in so many blocks.
     Line(usize),
+    /// A line end that ends a block of the page, too.
+    Cut(usize),
     /// A line end outside all groups.
     Top,
 }
@@ -34,7 +36,12 @@ pub(crate) struct Layout {
     // How many lists of generic arguments are open.
     angles: usize,
     before: Sort,
+    // How many lines the block of the page has.
+    lines: usize,
 }
+
+// How many lines a block of the page has.
+const BLOCK: usize = 64;
 
 // Whether an operand ends with this token.
 fn ends_operand(sort: Sort) -> bool {
@@ -86,6 +93,7 @@ impl Layout {
             blocks: 0,
             angles: 0,
             before: Sort::Start,
+            lines: 0,
         }
     }
 
@@ -163,12 +171,31 @@ impl Layout {
         }
     }
 
+    // The same gap, which is a cut where the block of the page has enough lines.
+    fn cut(&mut self, gap: Gap) -> Gap {
+        match gap {
+            Gap::Line(blocks) if self.lines >= BLOCK => {
+                self.lines = 0;
+                Gap::Cut(blocks)
+            }
+            Gap::Line(_) => {
+                self.lines = self.lines.saturating_add(1);
+                gap
+            }
+            Gap::Top => {
+                self.lines = 0;
+                gap
+            }
+            _ => gap,
+        }
+    }
+
     /// The gap before the next token, which is `apart` from the one before it or not.
     pub(crate) fn next(&mut self, sort: Sort, apart: bool) -> Result<Gap, AllocError> {
         let sort = self.resolved(sort, apart);
         let gap = if apart { self.gap(sort) } else { Gap::Nothing };
         self.enter(sort)?;
         self.before = sort;
-        Ok(gap)
+        Ok(self.cut(gap))
     }
 }

@@ -10,6 +10,7 @@ mod number;
 pub mod page;
 mod sort;
 mod source;
+mod token;
 mod word;
 
 pub use escape::push_escaped;

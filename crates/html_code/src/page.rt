@@ -1,13 +1,14 @@
 //! A page: a text, its expansion, and its faults.
 ghost use Rattle.std.specs.Prelude.{◌≡◌, ◌++◌, ◌<◌, ◌^◌, IfOk, OnOk, length, string_bytes};
 ghost use Rattle.html_code.specs.PageParts.{AddsLinks, AddsPrinted, IsPage, IsShort, counts_of, fold_of, head_parts};
-ghost use Rattle.html_code.specs.Parts.{html_of};
+ghost use Rattle.html_code.specs.Parts.{Adds, html_of};
 
 use crate::escape::push_escaped;
 use crate::expansion::push_expansion;
 use crate::faults::{fault_starts, push_faults};
 use crate::number::numbers_of;
 use crate::source::{Mark, push_source};
+use crate::token::push_isolated;
 use std::alloc::{AllocError, Global};
 
 /// What is the same on every page: HTML up to the title, from there up to the heading, and so on.
@@ -56,12 +57,12 @@ fn fold_of(tokens: usize) -> &'static str
 
 // Adds what comes before the counts.
 fn push_head(html: &mut String, frame: &Frame<'_>, title: &str) -> Result<(), AllocError>
-    ensures { OnOk result (string_bytes html.new ≡ string_bytes html.old ++ html_of (head_parts frame.now title.now)) }
+    ensures { Adds result html.old html.new (html_of (head_parts frame.now title.now)) }
 {
     html.push_str(frame.head)?;
     push_escaped(html, title)?;
     html.push_str(frame.heading)?;
-    push_escaped(html, title)?;
+    push_isolated(html, title)?;
     html.push_str(frame.counts)
 }
 
@@ -72,7 +73,7 @@ fn push_counts(
     faults: usize,
     printed: Option<Printed<'_>>,
 ) -> Result<(), AllocError>
-    ensures { OnOk result (string_bytes html.new ≡ string_bytes html.old ++ counts_of bytes faults printed.entry) }
+    ensures { Adds result html.old html.new (counts_of bytes faults printed.entry) }
 {
     match printed {
         None => write!(html, "bytes: {bytes}, not read"),
@@ -95,7 +96,8 @@ fn push_printed(
     printed: Option<Printed<'_>>,
 ) -> Result<(), AllocError>
     requires { IsShort printed }
-    ensures { OnOk result (AddsPrinted frame.now (string_bytes html.old) (string_bytes html.new) starts.now printed.entry) }
+    ensures { OnOk result (AddsPrinted frame.now (string_bytes html.old) (string_bytes html.new)
+        starts.now printed.entry) }
 {
     match printed {
         None => html.push_str(frame.unread),
@@ -114,7 +116,8 @@ fn push_links(
     starts: &[u32],
     faults: &[Mark<'_>],
 ) -> Result<(), AllocError>
-    ensures { OnOk result (AddsLinks (string_bytes html.old) (string_bytes html.new) starts.now faults.now) }
+    ensures { OnOk result (AddsLinks (string_bytes html.old) (string_bytes html.new)
+        starts.now faults.now) }
 {
     let places = fault_starts(alloc, faults)?;
     let numbers = numbers_of(alloc, starts, places.as_slice())?;

@@ -11,6 +11,7 @@ ghost use Rattle.mbe_matcher.specs.Bound.{map_of};
 ghost use Rattle.mbe_matcher.specs.Threads.{move_of, moves_of, rounds_of, steps_of};
 
 use crate::bindings::{Binding, Bindings, Bound, put_value};
+use crate::count::Count;
 use crate::position::parted;
 use crate::thread::{Entry, IterationStart, Move};
 use mbe_rules::{MetaVarKind, Op};
@@ -76,7 +77,7 @@ fn skip<'a>(alloc: Global, here: &mut Bindings<'a>, ops: &'a [Op]) -> Result<(),
 #[derive(Drop)]
 struct Open<'a> {
     around: Bindings<'a>,
-    rounds: usize,
+    rounds: Count,
 }
 
 // The bindings of the present iteration, and the open repetitions, the innermost last.
@@ -100,12 +101,8 @@ impl<'a> Open<'a> {
         ensures bound { OnOk result (open_of self.new ≡ (bind_round self.old.rounds (map_of round.old) (map_of self.old.around), suc self.old.rounds)) }
         ensures left { OnOk result (map_of round.new ≡ []) }
     {
-        self.around.bind_round(self.rounds, round)?;
-        let Some(rounds) = self.rounds.checked_add(1) else {
-            return Err(AllocError);
-        };
-        self.rounds = rounds;
-        Ok(())
+        self.around.bind_round(&self.rounds, round)?;
+        self.rounds.add_one()
     }
 
     // Ends an iteration, and makes `first` the only binding of the next one.
@@ -114,12 +111,8 @@ impl<'a> Open<'a> {
         ensures bound { OnOk result (open_of self.new ≡ (bind_round self.old.rounds (map_of round.old) (map_of self.old.around), suc self.old.rounds)) }
         ensures first { OnOk result (map_of round.new ≡ entry_of first.entry ∷ []) }
     {
-        self.around.bind_round_before(self.rounds, round, first)?;
-        let Some(rounds) = self.rounds.checked_add(1) else {
-            return Err(AllocError);
-        };
-        self.rounds = rounds;
-        Ok(())
+        self.around.bind_round_before(&self.rounds, round, first)?;
+        self.rounds.add_one()
     }
 
     // Ends an iteration for each of these trees, which is the metavariable's fragment in the next
@@ -158,10 +151,11 @@ impl<'a> Open<'a> {
         ensures { (os : List (spec.Map × ℕ)) → OnOk result ((map_of round.new, open_of self.new ∷ os)
             ≡ after_all (rounds_of name.now kind trees.now) (map_of round.old, open_of self.old ∷ os)) }
     {
+        let alloc = self.around.allocator();
         let mut run = Run {
             values: self.around.take_values(name),
             last: round.replace_alone(Binding::Skipped),
-            number: self.rounds,
+            number: mem::replace(&mut self.rounds, Count::zero(alloc)),
         };
         run.pass(kind, trees)?;
         let Run {
@@ -199,7 +193,7 @@ impl<'a> Open<'a> {
 struct Run<'a> {
     values: Vec<Binding<'a>>,
     last: Binding<'a>,
-    number: usize,
+    number: Count,
 }
 
 impl<'a> Run<'a> {
@@ -215,11 +209,8 @@ impl<'a> Run<'a> {
             let (tree, behind) = parted(&rest, 1);
             let next = Binding::Fragment { kind, trees: tree };
             let ended = mem::replace(&mut self.last, next);
-            put_value(&mut self.values, self.number, ended)?;
-            let Some(number) = self.number.checked_add(1) else {
-                return Err(AllocError);
-            };
-            self.number = number;
+            put_value(&mut self.values, &self.number, ended)?;
+            self.number.add_one()?;
             rest = behind;
         }
         Ok(())
@@ -245,7 +236,8 @@ impl<'a> Collected<'a> {
         ensures { OnOk result (collected_of self.new ≡ after r.enter (collected_of self.old)) }
     {
         let around = mem::replace(&mut self.here, Bindings::new(alloc));
-        self.opens.push(Open { around, rounds: 0 })?;
+        let rounds = Count::zero(alloc);
+        self.opens.push(Open { around, rounds })?;
         Ok(())
     }
 
@@ -291,7 +283,7 @@ impl<'a> Collected<'a> {
             return Ok(());
         };
         let Open { mut around, rounds } = open;
-        around.bind_round(rounds, &mut self.here)?;
+        around.bind_round(&rounds, &mut self.here)?;
         self.here = around;
         Ok(())
     }

@@ -8,6 +8,7 @@ ghost use Rattle.mbe_matcher.specs.Bound.{standing_for, values_of};
 ghost use Rattle.mbe_matcher.specs.Counts.{count_of, count_values};
 ghost use Rattle.mbe_matcher.specs.declared.bindings.Binding.{size-Binding};
 
+use crate::count::Count;
 use crate::same::is_same;
 use mbe_rules::MetaVarKind;
 use std::alloc::{AllocError, Global};
@@ -62,8 +63,9 @@ impl<'a> Binding<'a> {
 
     // The binding after an iteration. One that is no list stays as it is.
     #[inline(always)]
-    fn with_round(self, round: usize, value: Binding<'a>) -> Result<Binding<'a>, AllocError>
-        ensures { IfOk result (λ b. standing_for b ≡ with_round round (standing_for value.entry) (Some (standing_for self.entry))) }
+    fn with_round(self, round: &Count, value: Binding<'a>) -> Result<Binding<'a>, AllocError>
+        ensures { IfOk result (λ b. standing_for b
+            ≡ with_round round.now (standing_for value.entry) (Some (standing_for self.entry))) }
     {
         match self {
             Binding::Rounds(mut values) => {
@@ -124,11 +126,12 @@ pub struct Bindings<'a> {
 
 // Appends empty lists for the iterations before this one that have no value.
 #[inline(always)]
-fn fill_up<'a>(values: &mut Vec<Binding<'a>>, round: usize) -> Result<(), AllocError>
-    ensures filled { OnOk result (round ≤ length values.new.items) }
-    ensures same { OnOk result ((b : spec.Binding) → value_put round b (values_of values.new.items) ≡ value_put round b (values_of values.old.items)) }
+fn fill_up<'a>(values: &mut Vec<Binding<'a>>, round: &Count) -> Result<(), AllocError>
+    ensures filled { OnOk result (round.now ≤ length values.new.items) }
+    ensures same { OnOk result ((b : spec.Binding) →
+        value_put round.now b (values_of values.new.items) ≡ value_put round.now b (values_of values.old.items)) }
 {
-    while values.len() < round {
+    while round.is_above(values.len()) {
         let none = Vec::new(*values.allocator());
         values.push(Binding::Rounds(none))?;
     }
@@ -139,10 +142,11 @@ fn fill_up<'a>(values: &mut Vec<Binding<'a>>, round: usize) -> Result<(), AllocE
 #[inline(always)]
 pub(crate) fn put_value<'a>(
     values: &mut Vec<Binding<'a>>,
-    round: usize,
+    round: &Count,
     value: Binding<'a>,
 ) -> Result<(), AllocError>
-    ensures { OnOk result (values_of values.new.items ≡ value_put round (standing_for value.entry) (values_of values.old.items)) }
+    ensures { OnOk result (values_of values.new.items
+        ≡ value_put round.now (standing_for value.entry) (values_of values.old.items)) }
 {
     fill_up(values, round)?;
     values.push(value)?;
@@ -150,8 +154,9 @@ pub(crate) fn put_value<'a>(
 }
 
 // The binding after an iteration, if there was none before.
-fn first_of<'a>(alloc: Global, round: usize, value: Binding<'a>) -> Result<Binding<'a>, AllocError>
-    ensures { IfOk result (λ b. standing_for b ≡ with_round round (standing_for value.entry) None) }
+fn first_of<'a>(alloc: Global, round: &Count, value: Binding<'a>) -> Result<Binding<'a>, AllocError>
+    ensures { IfOk result (λ b. standing_for b
+        ≡ with_round round.now (standing_for value.entry) None) }
 {
     let binding = Binding::Rounds(Vec::new(alloc)).with_round(round, value)?;
     Ok(binding)
@@ -160,9 +165,11 @@ fn first_of<'a>(alloc: Global, round: usize, value: Binding<'a>) -> Result<Bindi
 impl<'a> Bound<'a> {
     // Adds the value of an iteration.
     #[inline(always)]
-    fn add_round(&mut self, round: usize, value: Binding<'a>) -> Result<(), AllocError>
+    fn add_round(&mut self, round: &Count, value: Binding<'a>) -> Result<(), AllocError>
         ensures name { OnOk result (self.new.name.now ≡ self.old.name.now) }
-        ensures binding { OnOk result (standing_for self.new.binding ≡ with_round round (standing_for value.entry) (Some (standing_for self.old.binding))) }
+        ensures binding { OnOk result (standing_for self.new.binding
+            ≡ with_round round.now (standing_for value.entry)
+            (Some (standing_for self.old.binding))) }
     {
         let before = mem::replace(&mut self.binding, Binding::Skipped);
         self.binding = before.with_round(round, value)?;
@@ -276,12 +283,12 @@ impl<'a> Bindings<'a> {
     #[inline(always)]
     fn bind_in_round(
         &mut self,
-        round: usize,
+        round: &Count,
         name: &'a Symbol,
         value: Binding<'a>,
     ) -> Result<(), AllocError>
         ensures { OnOk result (map_of self.new
-            ≡ bind name.now (with_round round (standing_for value.entry) (binding_of name.now (map_of self.old))) (map_of self.old)) }
+            ≡ bind name.now (with_round round.now (standing_for value.entry) (binding_of name.now (map_of self.old))) (map_of self.old)) }
     {
         match self.position(name) {
             Some(i) => {
@@ -301,10 +308,11 @@ impl<'a> Bindings<'a> {
     #[inline]
     pub(crate) fn bind_round(
         &mut self,
-        number: usize,
+        number: &Count,
         round: &mut Bindings<'a>,
     ) -> Result<(), AllocError>
-        ensures bound { OnOk result (map_of self.new ≡ bind_round number (map_of round.old) (map_of self.old)) }
+        ensures bound { OnOk result (map_of self.new
+            ≡ bind_round number.now (map_of round.old) (map_of self.old)) }
         ensures left { OnOk result (map_of round.new ≡ []) }
     {
         round.bound.reverse();
@@ -319,11 +327,12 @@ impl<'a> Bindings<'a> {
     #[inline(always)]
     pub(crate) fn bind_round_before(
         &mut self,
-        number: usize,
+        number: &Count,
         round: &mut Bindings<'a>,
         next: Bound<'a>,
     ) -> Result<(), AllocError>
-        ensures bound { OnOk result (map_of self.new ≡ bind_round number (map_of round.old) (map_of self.old)) }
+        ensures bound { OnOk result (map_of self.new
+            ≡ bind_round number.now (map_of round.old) (map_of self.old)) }
         ensures left { OnOk result (map_of round.new ≡ entry_of next.entry ∷ []) }
     {
         if round.bound.len() == 1 {

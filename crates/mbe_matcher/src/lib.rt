@@ -3,6 +3,7 @@
 
 mod bind;
 mod bindings;
+mod count;
 mod fragment;
 mod fragments;
 mod lookahead;

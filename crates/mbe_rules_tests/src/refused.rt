@@ -52,6 +52,17 @@ fn parsed(alloc: Global, is_word: bool, body: &TopSubtree) -> Result<Rules, TtFa
     }
 }
 
+// The rules of a body that is parsed twice. At least one of the two has no refused call, and they
+// have to be equal.
+fn same_twice(alloc: Global, is_word: bool, body: &TopSubtree) -> Result<Rules, Fail> {
+    let first = parsed(alloc, is_word, body)?;
+    if first == parsed(alloc, is_word, body)? {
+        Ok(first)
+    } else {
+        Err(Fail::new("a refused call changes the rules"))
+    }
+}
+
 // Whether copies of the rules are equal to them. Each refused call is made once more.
 fn have_copies(alloc: Global, rules: &Rules) -> Result<bool, AllocError> {
     for rule in &rules.list {
@@ -87,12 +98,13 @@ fn refused_rules(rt: HostRuntime) -> Result<(), Fail> {
     for row in ROWS.lines() {
         if let Some((rules, want)) = row.split_once(" ¦ ") {
             let body = tree(alloc, rules)?;
-            let got = copied(alloc, &parsed(alloc, false, &body)?)?;
+            let parsed = same_twice(alloc, false, &body)?;
+            let got = copied(alloc, &parsed)?;
             assert!(rt; got.as_str().trim_end() == want, "{rules}: {got}");
         }
     }
     let body = tree(alloc, "(a) => {b}, (c) => {d}; (e) => {f}")?;
-    let got = copied(alloc, &parsed(alloc, true, &body)?)?;
+    let got = copied(alloc, &same_twice(alloc, true, &body)?)?;
     assert!(rt; got.as_str() == "3 ", "{got}");
     Ok(())
 }

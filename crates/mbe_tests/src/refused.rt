@@ -9,7 +9,7 @@ use small_grammar::SmallGrammar;
 use std::alloc::Global;
 use std::test::Fail;
 use test_grammars::OneStep;
-use tt::{DelimSpan, TopSubtree, TtFault};
+use tt::{DelimSpan, Delimiter, TopSubtree, TtFault};
 
 // Rules, an argument, and the result: the index of the rule, the error with its range, and the
 // tree.
@@ -77,6 +77,36 @@ fn given(
     }
 }
 
+// The rule that fits, and what it gives inside these delimiters. A refused call is made once more.
+fn fit(
+    alloc: Global,
+    found: &DeclarativeMacro,
+    argument: &TopSubtree,
+    top: Delimiter,
+) -> Result<Option<(u32, TopSubtree)>, TtFault> {
+    if found.err().is_some() {
+        return Ok(None);
+    }
+    let view = argument.token_trees();
+    let style = MacroCallStyle::FnLike;
+    match found.fit(alloc, &SmallGrammar, view, &made, style, top) {
+        Err(TtFault::Memory) => found.fit(alloc, &SmallGrammar, view, &made, style, top),
+        answer => answer,
+    }
+}
+
+// Whether this is the result of a call whose rule fits.
+fn is_given(
+    fit: &Option<(u32, TopSubtree)>,
+    answer: &ExpandResult<(TopSubtree, MatchedArmIndex)>,
+) -> bool {
+    match (fit, &answer.err) {
+        (Some((rule, tree)), None) => { answer.value.1 == Some(*rule) && *tree == answer.value.0 }
+        (None, Some(_)) => true,
+        _ => false,
+    }
+}
+
 // A result, written as an example.
 fn shown(
     alloc: Global,
@@ -98,7 +128,13 @@ fn refused_calls(rt: HostRuntime) -> Result<(), Fail> {
             if let Some((argument, want)) = call.split_once(" ¦ ") {
                 let found = parsed(alloc, None, &tree(alloc, rules)?)?;
                 let copy = copied(alloc, &found)?;
-                let answer = given(alloc, &copy, &tree(alloc, argument)?)?;
+                let argument = tree(alloc, argument)?;
+                let answer = given(alloc, &copy, &argument)?;
+                let top = answer.value.0.top_subtree().delimiter;
+                assert!(rt;
+                    is_given(&fit(alloc, &copy, &argument, top)?, &answer),
+                    "{row}"
+                );
                 let got = match shown(alloc, &answer) {
                     Err(TtFault::Memory) => shown(alloc, &answer)?,
                     got => got?,

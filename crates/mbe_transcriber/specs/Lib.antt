@@ -3,8 +3,9 @@ pub mod Filling
 pub mod Limits
 pub mod Markers
 pub mod Output
--- what the functions inside the crate promise each other, and the crate above
+-- when a call is refused
 pub mod Room
+-- what the functions inside the crate promise each other, and the crate above
 pub mod Putting
 pub mod Uses
 pub mod Given

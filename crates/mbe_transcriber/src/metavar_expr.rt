@@ -1,5 +1,5 @@
 //! Transcribes metavariables and metavariable expressions, `${..}`.
-ghost use Rattle.std.specs.Prelude.{◌≡◌, ◌++◌, ◌∷◌, [], true, false, reverse, map, Some, None, Ok, Err, IfOk, IfErr, OnOk, option_map, option_and_then, string_bytes};
+ghost use Rattle.std.specs.Prelude.{◌≡◌, ◌+◌, length, ◌++◌, ◌∷◌, [], true, false, reverse, map, Some, None, Ok, Err, IfOk, IfErr, OnOk, option_map, option_and_then, string_bytes};
 ghost use Rattle.tt.specs.Building.{extended};
 ghost use Rattle.tt.specs.Views.{forest};
 ghost use Rattle.tt_data.specs.Forest.{empty, leaf, size};
@@ -25,6 +25,7 @@ use mbe_matcher::{Binding, Bindings};
 use mbe_rules::{ConcatElement, MetaVarKind};
 use rustc_lexer::is_ident;
 use std::alloc::{AllocError, Global};
+use std::slice::from_ref;
 use symbols::Symbol;
 use tt::{
     Ident, IdentIsRaw, Leaf, LitKind, Literal, Punct, Spacing, Span, TokenTreesView,
@@ -133,10 +134,11 @@ struct Left<'b, 'a> {
     depth: usize,
 }
 
-// What a binding counts for: a number, or what the values inside it do.
+// What a binding counts for: nothing, these values, or what the values inside it do.
 #[derive(Clone, Copy)]
 enum Amount<'b, 'a> {
-    Number(usize),
+    Nothing,
+    Values(&'b [Binding<'a>]),
     Inside(Left<'b, 'a>),
 }
 
@@ -146,27 +148,41 @@ fn counted<'b, 'a>(binding: &'b Binding<'a>, depth: usize) -> Amount<'b, 'a>
     ensures fewer { IsFewer (count_of (standing_for binding.now)) result }
 {
     match binding {
-        Binding::Fragment { .. } => Amount::Number(1),
-        Binding::Skipped => Amount::Number(0),
+        Binding::Fragment { .. } => Amount::Values(from_ref(binding)),
+        Binding::Skipped => Amount::Nothing,
         Binding::Rounds(values) => match depth.checked_sub(1) {
-            None => Amount::Number(values.len()),
+            None => Amount::Values(values),
             Some(depth) => Amount::Inside(Left { values, depth }),
         },
     }
 }
 
-// The number of these values. The lists around the present one are in memory, so that nesting
-// takes no call stack.
-fn count_left(alloc: Global, left: Left<'_, '_>) -> Result<usize, AllocError>
-    ensures { IfOk result (λ n. n ≡ left_sum left.entry) }
+// Adds references to these values.
+fn add_all<'b, 'a>(
+    found: &mut Vec<&'b Binding<'a>>,
+    values: &'b [Binding<'a>],
+) -> Result<(), AllocError>
+    ensures { OnOk result (length found.new.items ≡ length found.old.items + length values.now) }
+{
+    found.reserve(values.len())?;
+    for value in values {
+        found.push(value)?;
+    }
+    Ok(())
+}
+
+// The values that these count for. They are listed, so that memory bounds their number. The lists
+// around the present one are in memory, so that nesting takes no call stack.
+fn values_in<'b, 'a>(alloc: Global, left: Left<'b, 'a>) -> Result<Vec<&'b Binding<'a>>, AllocError>
+    ensures { IfOk result (λ found. length found.items ≡ left_sum left.entry) }
 {
     let mut around = Vec::new(alloc);
     let mut list = left;
-    let mut count: usize = 0;
+    let mut found = Vec::new(alloc);
     loop {
         let Some((value, values)) = list.values.split_first() else {
             let Some(outer) = around.pop() else {
-                return Ok(count);
+                return Ok(found);
             };
             list = outer;
             continue;
@@ -178,10 +194,8 @@ fn count_left(alloc: Global, left: Left<'_, '_>) -> Result<usize, AllocError>
                 around.push(list)?;
                 list = inner;
             }
-            Amount::Number(more) => match count.checked_add(more) {
-                Some(sum) => count = sum,
-                None => return Err(AllocError),
-            },
+            Amount::Values(more) => add_all(&mut found, more)?,
+            Amount::Nothing => {}
         }
     }
 }
@@ -191,8 +205,9 @@ fn count_in(alloc: Global, binding: &Binding<'_>, depth: usize) -> Result<usize,
     ensures { IfOk result (λ n. n ≡ count_in depth (standing_for binding.now)) }
 {
     match counted(binding, depth) {
-        Amount::Number(count) => Ok(count),
-        Amount::Inside(left) => count_left(alloc, left),
+        Amount::Nothing => Ok(0),
+        Amount::Values(values) => Ok(values.len()),
+        Amount::Inside(left) => Ok(values_in(alloc, left)?.len()),
     }
 }
 

@@ -1,3 +1,4 @@
+mod EditLemmas
 mod LineLemmas
 mod ScriptLemmas
 mod WordLemmas

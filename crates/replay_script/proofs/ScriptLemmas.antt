@@ -1,83 +1,274 @@
--- Lines that are read one after another.
-use Rattle.std.proofs.Common.{◌≡◌, ◌≢◌, ℕ, Bool, true, false, List, [], ◌∷◌, ◌++◌, refl, sym, ap, ◌∙◌, subst, arith, length, get_or, drop}
-use Rattle.std.specs.Prelude.{Option, Some, None, Result, Ok, Err, IfOk, IsUtf8, ◌==◌, codes, string_bytes}
-use Rattle.std.proofs.lemmas.Bool.{eqb-true, false≢true}
-use Rattle.std.proofs.lemmas.Str.{IsUtf8-string_bytes}
+-- Lines that are read and answered one after another.
+use Rattle.std.proofs.Common.{◌≡◌, ◌≢◌, ℕ, ◌+◌, Bool, true, false, List, [], ◌∷◌, ◌++◌, refl, sym, ap, ◌∙◌, subst, arith, length, length-append, append_assoc, append-nil, take, Option, Some, None}
+use Rattle.std.proofs.Math.Seq.{take-append-add}
+use Rattle.std.proofs.lemmas.List.Concat.{flat_map-append}
+use Rattle.std.specs.Io.KnownBytes.{Appends, Consumes, IsAtEnd}
+use Rattle.std.specs.Prelude.{Err, IfSome, codes, if◌then◌else◌, zero, suc}
+use Rattle.tt_data.specs.declared.edition.Edition.{Edition}
+use Rattle.mbe.specs.Grammar.{Grammar}
+use Rattle.expander_session.specs.Layered.{layers}
+use Rattle.expander_session.specs.State.{State, layers_of}
+use Rattle.expander_session.specs.declared.commands.Answer.{Answer}
 use Rattle.expander_session.specs.declared.commands.Command.{Command}
-use Rattle.expander_session.specs.declared.commands.Command.TheVariants.{Edit, Expand}
-use Rattle.replay_script.specs.Replays.{IsLeft}
-use Rattle.replay_script.specs.Scripts.{AreReadAs, AreSaid, HasLine, IsBad, IsNumber, IsReadAs, IsReadAsEdit, Lacks, Says, SaysEdit, SaysNothing, unescaped}
-use Rattle.replay_script.proofs.WordLemmas.{cut_same, number_lacks, without_mark}
+use Rattle.expander_session.proofs.CommandLemmas.{Stands, stands_last, stands_next}
+use Rattle.replay_script.specs.LineTurns.{Answering, AnswersLine, ReadsLine}
+use Rattle.replay_script.specs.Replays.{Answers, HasCount, HasEnd, HasHead, IsReplayed, IsWritten, asking}
+use Rattle.replay_script.specs.Scripts.{AreSaid, HasLine, Lacks, Says}
+use Rattle.replay_script.specs.Told.{all_told, answer_told}
+use Rattle.replay_script.specs.declared.script.Answered.{Answered}
+use Rattle.replay_script.specs.declared.script.End.{End}
+use Rattle.replay_script.specs.declared.script.End.TheVariants.{Whole, Wrong, ReadFailed, WriteFailed, Memory, TooLong}
+use Rattle.replay_script.proofs.WordLemmas.{cut_same}
 
--- one line more says one command more
-pub said_more : (text : List ℕ) (commands : List Command) (rest line more : List ℕ) (command : Command) → AreSaid text commands rest
-    → HasLine rest line more → Says line command → AreSaid text (commands ++ command ∷ []) more
-said_more text [] rest line more command said is says = (line, more, record { is = said ∙ is.is; one = is.one }, says, refl)
-said_more text (first ∷ commands) rest line more command (l, m, e, s, said) is says = (l, m, e, s, said_more m commands rest line more command said is says)
+-- ---- bytes that are known
 
--- a line that says nothing is bad
-pub bad_first : (rest line more : List ℕ) → HasLine rest line more → SaysNothing line → IsBad rest
-bad_first rest line more has nothing = record {
-  some = λ e. absurd (nonempty line (sym has.is ∙ e));
-  bad = λ l m h. subst SaysNothing (cut_same 10 line more l m (sym has.is ∙ h.is) has.one h.one).0 nothing;
-}
-  where
-    nonempty : (l : List ℕ) → l ++ 10 ∷ more ≡ [] → ⊥
-    nonempty [] e = cc
-    nonempty (b ∷ l) e = cc
+pub consumes_none : (a : Option (List ℕ)) → Consumes a a []
+consumes_none None = tt
+consumes_none (Some xs) = refl
 
-nil_of : (bs : List ℕ) → length bs ≡ 0 → bs ≡ []
-nil_of [] e = refl
-nil_of (x ∷ xs) e = absurd (omega (arith, e))
+pub consumes_more : (a b c : Option (List ℕ)) (xs ys : List ℕ) → Consumes a b xs → Consumes b c ys → Consumes a c (xs ++ ys)
+consumes_more None b c xs ys p q = tt
+consumes_more (Some ds) None c xs ys p q = absurd p
+consumes_more (Some ds) (Some bs) None xs ys p q = absurd q
+consumes_more (Some ds) (Some bs) (Some cs) xs ys p q = p ∙ ap (λ (zs : List ℕ). xs ++ zs) q ∙ sym (append_assoc xs ys cs)
 
--- and so is something without a line feed
-pub last_left : (rest : List ℕ) (is_whole : Bool) → is_whole ≡ (length rest == 0) → Lacks 10 rest → IsLeft is_whole rest
-last_left rest true is lacks = nil_of rest (eqb-true (length rest) 0 (sym is))
-last_left rest false is lacks = record {
-  some = λ e. false≢true (is ∙ ap (λ (bs : List ℕ). length bs == 0) e);
-  bad = λ l m h. absurd (without_mark 10 rest l m lacks h.is);
-}
+pub appends_none : (a : Option (List ℕ)) → Appends a a []
+appends_none None = tt
+appends_none (Some xs) = sym (append-nil xs)
 
--- the words of an edit
-pub edit_parts : (line first rest second last : List ℕ) → line ≡ first ++ 32 ∷ rest → Lacks 32 first → rest ≡ second ++ 32 ∷ last → Lacks 32 second
-    → (m n : ℕ) (t : List ℕ) → SaysEdit line m n t → IsNumber first m × IsNumber second n × (unescaped last ≡ Some t)
-edit_parts line first rest second last is one is_rest two m n t says =
-    let a = cut_same 32 first rest says.first (says.second ++ 32 ∷ says.last) (sym is ∙ says.is) one (number_lacks says.first m says.from) in
-    let b = cut_same 32 second last says.second says.last (sym is_rest ∙ a.1) two (number_lacks says.second n says.to) in
-    (subst (λ w. IsNumber w m) (sym a.0) says.from, subst (λ w. IsNumber w n) (sym b.0) says.to, ap unescaped b.1 ∙ says.text)
+pub appends_more : (a b c : Option (List ℕ)) (xs ys : List ℕ) → Appends a b xs → Appends b c ys → Appends a c (xs ++ ys)
+appends_more None b c xs ys p q = tt
+appends_more (Some ds) None c xs ys p q = absurd p
+appends_more (Some ds) (Some bs) None xs ys p q = absurd q
+appends_more (Some ds) (Some bs) (Some cs) xs ys p q = q ∙ ap (λ (zs : List ℕ). zs ++ ys) p ∙ append_assoc ds xs ys
 
--- no space, one space, words that are no numbers, and a replacement that is none
-pub no_space : (line : List ℕ) → Lacks 32 line → IsReadAsEdit line None
-no_space line lacks (Edit m n r) says = without_mark 32 line says.first (says.second ++ 32 ∷ says.last) lacks says.is
-no_space line lacks Expand says = says
+-- at the end all was read
+all_read : (had mid : Option (List ℕ)) (bytes : List ℕ) → Consumes had mid bytes → IsAtEnd mid → IfSome had (λ all. all ≡ bytes)
+all_read None mid bytes read e = tt
+all_read (Some xs) None bytes read e = absurd read
+all_read (Some xs) (Some ys) bytes read e = read ∙ ap (λ (t : List ℕ). bytes ++ t) e ∙ append-nil bytes
 
-pub one_space : (line first rest : List ℕ) → line ≡ first ++ 32 ∷ rest → Lacks 32 first → Lacks 32 rest → IsReadAsEdit line None
-one_space line first rest is one lacks (Edit m n r) says =
-    let a = cut_same 32 first rest says.first (says.second ++ 32 ∷ says.last) (sym is ∙ says.is) one (number_lacks says.first m says.from) in
-    without_mark 32 rest says.second says.last lacks a.1
-one_space line first rest is one lacks Expand says = says
+-- ---- lines
 
--- words that are no numbers
-pub no_numbers : (line first rest second last : List ℕ) → line ≡ first ++ 32 ∷ rest → Lacks 32 first → rest ≡ second ++ 32 ∷ last → Lacks 32 second
-    → AreReadAs first second None → IsReadAsEdit line None
-no_numbers line first rest second last is one is_rest two none (Edit m n r) says =
-    let k = edit_parts line first rest second last is one is_rest two m n (string_bytes r) says in none m n k.0 k.1
-no_numbers line first rest second last is one is_rest two none Expand says = says
+-- a line behind others says one command more
+pub said_more : (text : List ℕ) (commands : List Command) (bytes line : List ℕ) (command : Command) → AreSaid text commands []
+    → HasLine bytes line [] → Says line command → AreSaid (text ++ bytes) (commands ++ command ∷ []) []
+said_more text [] bytes line command said is says =
+    (line, [], record { is = ap (λ (t : List ℕ). t ++ bytes) said ∙ is.is; one = is.one; utf8 = is.utf8; plain = is.plain }, says, refl)
+said_more text (first ∷ commands) bytes line command (l, m, e, s, said) is says = (
+  l,
+  m ++ bytes,
+  record { is = ap (λ (t : List ℕ). t ++ bytes) e.is ∙ append_assoc l (10 ∷ m) bytes; one = e.one; utf8 = e.utf8; plain = e.plain },
+  s,
+  said_more m commands bytes line command said is says,
+)
 
--- no replacement
-pub no_replacement : (line first rest second last : List ℕ) → line ≡ first ++ 32 ∷ rest → Lacks 32 first → rest ≡ second ++ 32 ∷ last → Lacks 32 second
-    → ((bytes : List ℕ) → IsUtf8 bytes → unescaped last ≢ Some bytes) → IsReadAsEdit line None
-no_replacement line first rest second last is one is_rest two none (Edit m n r) says =
-    none (string_bytes r) (IsUtf8-string_bytes r) (edit_parts line first rest second last is one is_rest two m n (string_bytes r) says).2
-no_replacement line first rest second last is one is_rest two none Expand says = says
+-- what lines say of origins: nothing is read yet, or they begin with the line that asks for them, or with another
+abbrev pub Begun : ℕ → Bool → List ℕ → List ℕ → List Command → List Answer → Type 0
+Begun zero origins script lines commands answers = (origins ≡ false) × (script ≡ []) × (lines ≡ []) × (commands ≡ []) × (answers ≡ [])
+Begun (suc n) true script lines commands answers = script ≡ asking ++ lines
+Begun (suc n) false script lines commands answers =
+    (script ≡ lines) × ((first : List ℕ) × (more : List ℕ) × (script ≡ first ++ 10 ∷ more) × Lacks 10 first × (first ≢ codes "origins"))
 
--- a line that begins with `edit ` is read as what is behind
-pub read_behind : {E : Type 0} (line rest : List ℕ) (r : Result (Option Command) E) → line ≡ codes "edit " ++ rest → IfOk r (IsReadAsEdit rest) → IfOk r (IsReadAs line)
-read_behind line rest (Err e) is read = tt
-read_behind line rest (Ok (Some (Edit m n r))) is says = (rest, is, says)
-read_behind line rest (Ok (Some Expand)) is says = absurd says
-read_behind line rest (Ok None) is nothing = λ command says. go command says
-  where
-    go : (command : Command) → Says line command → ⊥
-    go (Edit m n r) says = nothing (Edit m n r) (subst (λ l. SaysEdit l m n (string_bytes r)) (sym (ap (drop 5) (sym is ∙ says.1))) says.2)
-    go Expand says = let e : 100 ≡ 120 = ap (λ bs. get_or bs 1 0) (sym is ∙ says) in omega (arith, e)
+word_lacks : Lacks 10 (codes "origins")
+word_lacks zero inside e = omega (arith, e)
+word_lacks (suc zero) inside e = omega (arith, e)
+word_lacks (suc (suc zero)) inside e = omega (arith, e)
+word_lacks (suc (suc (suc zero))) inside e = omega (arith, e)
+word_lacks (suc (suc (suc (suc zero)))) inside e = omega (arith, e)
+word_lacks (suc (suc (suc (suc (suc zero))))) inside e = omega (arith, e)
+word_lacks (suc (suc (suc (suc (suc (suc zero)))))) inside e = omega (arith, e)
+word_lacks (suc (suc (suc (suc (suc (suc (suc i))))))) inside e = omega (arith, inside)
+
+-- lines that begin with another do not begin with that one
+other_head : (script first more : List ℕ) → script ≡ first ++ 10 ∷ more → Lacks 10 first → first ≢ codes "origins"
+    → (rest : List ℕ) → script ≢ asking ++ rest
+other_head script first more is one other rest same =
+    other (cut_same 10 first more (codes "origins") rest (sym is ∙ same) one word_lacks).0
+
+no_head : (rest : List ℕ) → [] ≡ asking ++ rest → ⊥
+no_head rest e = cc
+
+pub head_of : (n : ℕ) (origins : Bool) (script lines : List ℕ) (commands : List Command) (answers : List Answer)
+    → Begun n origins script lines commands answers → HasHead script origins lines
+head_of zero true script lines commands answers b = absurd (cc b.0)
+head_of zero false script lines commands answers b = (b.1 ∙ sym b.2, λ rest same. no_head rest (sym b.1 ∙ same))
+head_of (suc n) true script lines commands answers b = b
+head_of (suc n) false script lines commands answers b = (b.0, other_head script b.1.0 b.1.1 b.1.2 b.1.3 b.1.4)
+
+begun_more : (n : ℕ) (origins : Bool) (script lines bytes line : List ℕ) (commands : List Command) (answers : List Answer) (c : Command) (a : Answer)
+    → Begun n origins script lines commands answers → HasLine bytes line [] → (n ≡ 0 → bytes ≢ asking)
+    → Begun (suc n) origins (script ++ bytes) (lines ++ bytes) (commands ++ c ∷ []) (answers ++ a ∷ [])
+begun_more zero true script lines bytes line commands answers c a b is other = absurd (cc b.0)
+begun_more zero false script lines bytes line commands answers c a b is other = (
+  ap (λ (t : List ℕ). t ++ bytes) (b.1 ∙ sym b.2),
+  (
+    line,
+    [],
+    ap (λ (t : List ℕ). t ++ bytes) b.1 ∙ is.is,
+    is.one,
+    λ same. other refl (is.is ∙ ap (λ (t : List ℕ). t ++ 10 ∷ []) same),
+  ),
+)
+begun_more (suc n) true script lines bytes line commands answers c a b is other = ap (λ (t : List ℕ). t ++ bytes) b ∙ append_assoc asking lines bytes
+begun_more (suc n) false script lines bytes line commands answers c a b is other = (
+  ap (λ (t : List ℕ). t ++ bytes) b.0,
+  (b.1.0, b.1.1 ++ bytes, ap (λ (t : List ℕ). t ++ bytes) b.1.2 ∙ append_assoc b.1.0 (10 ∷ b.1.1) bytes, b.1.3, b.1.4),
+)
+
+add_one : (n : ℕ) → suc n ≡ n + 1
+add_one n = omega arith
+
+-- ---- where a script stands
+
+module _ {G : Type 0} (answer_of : G → Grammar) (grammar : G) (edition : Edition) (depth : ℕ) where
+  -- after these many lines: what was read, the answers, and the session that goes on
+  pub record Far (s : State G) (had now : Option (List ℕ)) (count : ℕ) (origins : Bool) (told : List ℕ) : Type 0 where
+    pub script : List ℕ
+    pub lines : List ℕ
+    pub commands : List Command
+    pub answers : List Answer
+    pub read : Consumes had now script
+    pub begun : Begun count origins script lines commands answers
+    pub said : AreSaid lines commands []
+    pub stands : (rest : List Command) → Stands answer_of s [] grammar edition depth (commands ++ rest) rest answers
+    pub is_told : told ≡ all_told origins answers
+    pub counted : count ≡ length commands + (if origins then 1 else 0)
+
+  pub far_first : (s : State G) (had : Option (List ℕ)) → ((rest : List Command) → Stands answer_of s [] grammar edition depth rest rest []) → Far s had had 0 false []
+  far_first s had stands = record {
+    script = [];
+    lines = [];
+    commands = [];
+    answers = [];
+    read = consumes_none had;
+    begun = (refl, refl, refl, refl, refl);
+    said = refl;
+    stands = stands;
+    is_told = refl;
+    counted = refl;
+  }
+
+  -- the first line asks for origins
+  pub far_origins : (s : State G) (had mid now : Option (List ℕ)) (n : ℕ) (origins : Bool) (told bytes : List ℕ) → Far s had mid n origins told → n ≡ 0
+      → Consumes mid now bytes → bytes ≡ asking → Far s had now (n + 1) true told
+  far_origins s had mid now zero origins told bytes far first read is = record {
+    script = asking;
+    lines = [];
+    commands = [];
+    answers = [];
+    read = subst (Consumes had now) (ap (λ (t : List ℕ). t ++ bytes) far.begun.1 ∙ is) (consumes_more had mid now far.script bytes far.read read);
+    begun = sym (append-nil asking);
+    said = refl;
+    stands = λ rest. subst (λ (cs : List Command). Stands answer_of s [] grammar edition depth (cs ++ rest) rest []) far.begun.3
+        (subst (λ (xs : List Answer). Stands answer_of s [] grammar edition depth (far.commands ++ rest) rest xs) far.begun.4 (far.stands rest));
+    is_told = far.is_told ∙ ap (all_told origins) far.begun.4;
+    counted = refl;
+  }
+  far_origins s had mid now (suc n) origins told bytes far first read is = absurd (omega (arith, first))
+
+  -- a line is answered
+  pub far_line : (old new : State G) (had mid now : Option (List ℕ)) (n : ℕ) (origins : Bool) (told more bytes : List ℕ) → Far old had mid n origins told
+      → Consumes mid now bytes → Answering (layers_of answer_of old) old new bytes origins more → (n ≡ 0 → bytes ≢ asking)
+      → Far new had now (n + 1) origins (told ++ more)
+  far_line old new had mid now n origins told more bytes far read line other = record {
+    script = far.script ++ bytes;
+    lines = far.lines ++ bytes;
+    commands = far.commands ++ line.command ∷ [];
+    answers = far.answers ++ line.answer ∷ [];
+    read = consumes_more had mid now far.script bytes far.read read;
+    begun = subst (λ (k : ℕ). Begun k origins (far.script ++ bytes) (far.lines ++ bytes) (far.commands ++ line.command ∷ []) (far.answers ++ line.answer ∷ []))
+        (add_one n)
+        (begun_more n origins far.script far.lines bytes line.line far.commands far.answers line.command line.answer far.begun line.is_line other);
+    said = said_more far.lines far.commands bytes line.line line.command far.said line.is_line line.says;
+    stands = λ rest. stands_next answer_of old new [] grammar edition depth ((far.commands ++ line.command ∷ []) ++ rest) (line.command ∷ rest) rest line.command line.answer
+        far.answers (far.answers ++ line.answer ∷ []) refl refl line.turn line.few
+        (subst (λ (cs : List Command). Stands answer_of old [] grammar edition depth cs (line.command ∷ rest) far.answers)
+        (sym (append_assoc far.commands (line.command ∷ []) rest)) (far.stands (line.command ∷ rest)));
+    is_told = ap (λ (t : List ℕ). t ++ more) far.is_told ∙ ap (λ (t : List ℕ). all_told origins far.answers ++ t) (line.is_told ∙ sym (append-nil (answer_told origins line.answer)))
+        ∙ sym (flat_map-append (answer_told origins) far.answers (line.answer ∷ []));
+    counted = omega (arith, far.counted, length-append far.commands (line.command ∷ []));
+  }
+
+  -- the lines so far are a script by themselves
+  far_replayed : (s : State G) (had now : Option (List ℕ)) (n : ℕ) (origins : Bool) (told : List ℕ) (far : Far s had now n origins told)
+      → IsReplayed (layers (answer_of grammar) edition) depth far.script n told
+  far_replayed s had now n origins told far = record {
+    origins = origins;
+    lines = far.lines;
+    head = head_of n origins far.script far.lines far.commands far.answers far.begun;
+    commands = far.commands;
+    said = far.said;
+    all = (
+      far.answers,
+      stands_last answer_of s [] grammar edition depth far.commands [] far.answers refl
+          (subst (λ (cs : List Command). Stands answer_of s [] grammar edition depth cs [] far.answers) (append-nil far.commands) (far.stands [])),
+      far.is_told,
+    );
+    counted = far.counted;
+  }
+
+  -- a script ends
+  pub far_ends : (s : State G) (had mid left old new : Option (List ℕ)) (n : ℕ) (origins : Bool) (told next : List ℕ) (result : Answered) (far : Far s had mid n origins told)
+      → Consumes mid left next → IsWritten result.«end» (Appends old new) told → HasEnd result.«end» had far.script next → HasCount result.«end» result.lines n
+      → Answers (layers (answer_of grammar) edition) depth had left (Appends old new) result
+  far_ends s had mid left old new n origins told next result far read written ends count = record {
+    script = far.script;
+    next = next;
+    count = n;
+    told = told;
+    read = consumes_more had mid left far.script next far.read read;
+    replayed = far_replayed s had mid n origins told far;
+    written = written;
+    ends = ends;
+    lines = count;
+  }
+
+  -- the next line was not read
+  pub not_read : (s : State G) (had mid left old new : Option (List ℕ)) (n : ℕ) (origins : Bool) (told bytes : List ℕ) (why : End) → Far s had mid n origins told
+      → Appends old new told → Consumes mid left bytes → ReadsLine mid bytes (Err why)
+      → Answers (layers (answer_of grammar) edition) depth had left (Appends old new) (record { lines = n; «end» = why })
+  not_read s had mid left old new n origins told bytes Whole far written read h =
+      far_ends s had mid left old new n origins told bytes _ far read written (h.0, all_read had mid far.script far.read h.1) refl
+  not_read s had mid left old new n origins told bytes ReadFailed far written read h = far_ends s had mid left old new n origins told bytes _ far read written tt tt
+  not_read s had mid left old new n origins told bytes Memory far written read h = far_ends s had mid left old new n origins told bytes _ far read written tt tt
+  not_read s had mid left old new n origins told bytes WriteFailed far written read h = absurd h
+  not_read s had mid left old new n origins told bytes TooLong far written read h = absurd h
+  not_read s had mid left old new n origins told bytes (Wrong wrong) far written read h = absurd h
+
+  -- the next line was not answered
+  pub not_answered : (s after : State G) (had mid left old now new : Option (List ℕ)) (n : ℕ) (origins : Bool) (told bytes : List ℕ) (why : End) → Far s had mid n origins told
+      → Appends old now told → Consumes mid left bytes → (n ≡ 0 → bytes ≢ asking) → AnswersLine (layers_of answer_of s) s after bytes origins (Appends now new) (Err why)
+      → Answers (layers (answer_of grammar) edition) depth had left (Appends old new) (record { lines = n + 1; «end» = why })
+  not_answered s after had mid left old now new n origins told bytes (Wrong wrong) far written read other h =
+      far_ends s had mid left old new n origins told bytes _ far read (subst (Appends old new) (append-nil told) (appends_more old now new told [] written h.1)) h.0 refl
+  not_answered s after had mid left old now new n origins told bytes Memory far written read other h =
+      far_ends s had mid left old new n origins told bytes _ far read (subst (Appends old new) (append-nil told) (appends_more old now new told [] written h)) tt tt
+  not_answered s after had mid left old now new n origins told bytes WriteFailed far written read other h =
+      far_ends after had left left old new (n + 1) origins (told ++ h.0) [] _ (far_line s after had mid left n origins told h.0 bytes far read h.1 other) (consumes_none left)
+      (length told + h.2.0, subst (Appends old new) (sym (take-append-add told h.0 h.2.0)) (appends_more old now new told (take h.2.0 h.0) written h.2.1)) tt tt
+  not_answered s after had mid left old now new n origins told bytes Whole far written read other h = absurd h
+  not_answered s after had mid left old now new n origins told bytes ReadFailed far written read other h = absurd h
+  not_answered s after had mid left old now new n origins told bytes TooLong far written read other h = absurd h
+
+  -- without a session nothing is read
+  pub nothing_read : (had old : Option (List ℕ)) → Answers (layers (answer_of grammar) edition) depth had had (Appends old old) (record { lines = 0; «end» = Memory })
+  nothing_read had old = record {
+    script = [];
+    next = [];
+    count = 0;
+    told = [];
+    read = consumes_none had;
+    replayed = record {
+      origins = false;
+      lines = [];
+      head = (refl, no_head);
+      commands = [];
+      said = refl;
+      all = ([], tt, refl);
+      counted = refl;
+    };
+    written = appends_none old;
+    ends = tt;
+    lines = tt;
+  }

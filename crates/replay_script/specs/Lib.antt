@@ -1,3 +1,5 @@
 pub mod Scripts
 pub mod Told
 pub mod Replays
+-- what the functions inside the crate promise each other
+pub mod LineTurns

@@ -1,20 +1,15 @@
--- The answers to a script, as text, and its first bad line. (Of this project.)
-use Rattle.std.specs.Prelude.{◌≡◌, ◌≢◌, ℕ, ◌+◌, Bool, true, false, List, [], ◌++◌, length, Option, Some, None, codes, if◌then◌else◌}
-use Rattle.expander.specs.Answers.{AreAnswers}
+-- The answers to a script, line by line, and how it ends. (Of this project.)
+use Rattle.std.specs.Prelude.{◌≡◌, ◌≢◌, ℕ, ◌+◌, Bool, true, false, List, [], ◌++◌, length, take, Option, IfSome, codes, if◌then◌else◌, ⊤}
+use Rattle.std.specs.Io.KnownBytes.{Consumes}
 use Rattle.expander_model.specs.Meaning.{Layers}
+use Rattle.expander_session.specs.Answers.{AreAnswers}
 use Rattle.expander_session.specs.declared.commands.Answer.{Answer}
 use Rattle.expander_session.specs.declared.commands.Command.{Command}
-use Rattle.replay_script.specs.Scripts.{AreSaid, IsBad}
+use Rattle.replay_script.specs.Scripts.{AreSaid, IsWrongLine}
 use Rattle.replay_script.specs.Told.{all_told}
-
--- if the script is whole nothing is left, else a bad line
-abbrev pub IsLeft : Bool → List ℕ → Type 0
-IsLeft true rest = rest ≡ []
-IsLeft false rest = IsBad rest
-
--- a text's first lines ask for these commands, and nothing or a bad line is left
-abbrev pub HasCommands : List ℕ → List Command → Bool → Type 0
-HasCommands text commands is_whole = (rest : List ℕ) × AreSaid text commands rest × IsLeft is_whole rest
+use Rattle.replay_script.specs.declared.script.Answered.{Answered}
+use Rattle.replay_script.specs.declared.script.End.{End}
+use Rattle.replay_script.specs.declared.script.End.TheVariants.{Whole, Wrong, WriteFailed}
 
 -- the line that asks for origins
 abbrev pub asking : List ℕ
@@ -25,23 +20,51 @@ abbrev pub HasHead : List ℕ → Bool → List ℕ → Type 0
 HasHead text true lines = text ≡ asking ++ lines
 HasHead text false lines = (text ≡ lines) × ((rest : List ℕ) → text ≢ asking ++ rest)
 
--- the number of the first bad line, where not all of a script is read
-abbrev pub bad_line : Bool → Bool → List Command → Option ℕ
-bad_line true origins commands = None
-bad_line false origins commands = Some (length commands + (if origins then 2 else 1))
-
 -- the text of the answers to these commands, each at its turn, over an empty text at first
 abbrev pub AreTold : Layers → List Command → ℕ → Bool → List ℕ → Type 0
 AreTold layers commands depth origins told =
-    (answers : List Answer) × AreAnswers layers depth [] [] commands answers × (told ≡ all_told origins answers)
+    (answers : List Answer) × AreAnswers layers depth [] [] commands answers
+    × (told ≡ all_told origins answers)
 
--- the text of the answers to a script: to its lines up to the first bad one
-pub record IsReplayed (layers : Layers) (text : List ℕ) (depth : ℕ) (told : List ℕ) (bad : Option ℕ) : Type 0 where
+-- a script of this many lines, each a command but for the line that asks for origins, and the text
+-- of the answers
+pub record IsReplayed (layers : Layers) (depth : ℕ) (script : List ℕ) (count : ℕ)
+    (told : List ℕ) : Type 0 where
   pub origins : Bool
   pub lines : List ℕ
-  pub head : HasHead text origins lines
+  pub head : HasHead script origins lines
   pub commands : List Command
-  pub is_whole : Bool
-  pub said : HasCommands lines commands is_whole
+  pub said : AreSaid lines commands []
   pub all : AreTold layers commands depth origins told
-  pub bad_is : bad ≡ bad_line is_whole origins commands
+  pub counted : count ≡ length commands + (if origins then 1 else 0)
+
+-- what was written: the answers, or the first bytes of them if the writer failed
+abbrev pub IsWritten : End → (List ℕ → Type 0) → List ℕ → Type 0
+IsWritten WriteFailed writes told = (k : ℕ) × writes (take k told)
+IsWritten _ writes told = writes told
+
+-- why no line follows: the script is all that the reader had, or what was read next is wrong
+abbrev pub HasEnd : End → Option (List ℕ) → List ℕ → List ℕ → Type 0
+HasEnd Whole had script next = (next ≡ []) × IfSome had (λ bytes. bytes ≡ script)
+HasEnd (Wrong wrong) had script next = IsWrongLine next wrong
+HasEnd _ had script next = ⊤
+
+-- how many lines were read: all that were answered, and a wrong one
+abbrev pub HasCount : End → ℕ → ℕ → Type 0
+HasCount Whole lines count = lines ≡ count
+HasCount (Wrong wrong) lines count = lines ≡ count + 1
+HasCount _ lines count = ⊤
+
+-- a script is read from what a reader had left, and answered line by line: the lines that were
+-- answered are a script by themselves, and what was read next is no part of it
+pub record Answers (layers : Layers) (depth : ℕ) (had left : Option (List ℕ))
+    (writes : List ℕ → Type 0) (result : Answered) : Type 0 where
+  pub script : List ℕ
+  pub next : List ℕ
+  pub count : ℕ
+  pub told : List ℕ
+  pub read : Consumes had left (script ++ next)
+  pub replayed : IsReplayed layers depth script count told
+  pub written : IsWritten result.«end» writes told
+  pub ends : HasEnd result.«end» had script next
+  pub lines : HasCount result.«end» result.lines count

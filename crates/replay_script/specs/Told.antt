@@ -12,6 +12,8 @@ use Rattle.expander_model.specs.declared.fault.FaultKind.TheVariants.{CannotExpa
 use Rattle.expander_scope.specs.declared.refusal.Refusal.{Refusal}
 use Rattle.expander_scope.specs.declared.refusal.Refusal.TheVariants.{Memory, Tokens, Numbers}
 use Rattle.expander_session.specs.declared.session.Reply.TheVariants.{Read, Unread}
+use Rattle.replay_script.specs.declared.line.Wrong.{Wrong}
+use Rattle.replay_script.specs.declared.line.Wrong.TheVariants as fault
 
 abbrev pub kind_name : FaultKind → List ℕ
 kind_name CannotExpand = codes "CannotExpand"
@@ -29,6 +31,17 @@ abbrev pub refusal_name : Refusal → List ℕ
 refusal_name Memory = codes "Memory"
 refusal_name Tokens = codes "Tokens"
 refusal_name Numbers = codes "Numbers"
+
+-- the words for what is wrong with a line
+abbrev pub wrong_words : Wrong → List ℕ
+wrong_words fault.LineFeed = codes "no line feed ends it"
+wrong_words fault.Utf8 = codes "it is not UTF-8"
+wrong_words fault.CarriageReturn = codes "it has a carriage return, which a replacement writes \\r"
+wrong_words fault.Command = codes "it is neither `expand` nor `edit START END REPLACEMENT`"
+wrong_words fault.Start = codes "no number and a space come after `edit`"
+wrong_words fault.End = codes "no number and a space come after START"
+wrong_words fault.Replacement =
+    codes "in REPLACEMENT, n, r or a backslash comes after each backslash"
 
 -- a line with a word, a name and a range
 abbrev pub place_line : List ℕ → List ℕ → TextRange → List ℕ

@@ -1,7 +1,7 @@
 //! Scripts: lines that edit and expand a text, and the answers to them as text.
 //!
-//! A script is read line by line, and each line ends with a line feed. The text is empty at
-//! first. A line is one of these:
+//! A script is read line by line. A line is UTF-8, without a carriage return, and ends with a line
+//! feed. The text is empty at first. A line is one of these:
 //!
 //! - `origins`, as the first line alone: the origins of printed tokens are written too.
 //! - `edit START END REPLACEMENT`: the replacement replaces the bytes from START to END of the
@@ -10,10 +10,11 @@
 //!   carriage return and `\\` a backslash. No other backslash is allowed.
 //! - `expand`: the text is expanded.
 //!
-//! Any other line is bad, an empty one too, and so is a last line without a line feed. The lines
-//! before a bad line are answered, and nothing after it is read.
+//! Any other line is wrong, an empty one too, and so is a last line without a line feed. The lines
+//! before a wrong line are answered, and nothing after it is read.
 //!
-//! Each line but `origins` is answered in turn:
+//! Each line but `origins` is answered in turn, and the answer is written and flushed before the
+//! next line is read:
 //!
 //! - An edit by `edited`; by `bad edit`, if an offset is no character boundary or past the end,
 //!   START is greater than END, or the text would have more than `u32::MAX` bytes; or by `refused
@@ -33,4 +34,6 @@ mod line;
 mod script;
 mod tell;
 
-pub use script::{Replayed, answer_script};
+pub use line::Wrong;
+pub use script::{Answered, End, answer_script};
+pub use tell::wrong_words;

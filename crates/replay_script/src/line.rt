@@ -1,22 +1,43 @@
 //! Reads a line of a script as a command.
-ghost use Rattle.std.specs.Prelude.{◌≡◌, ◌≢◌, ◌<◌, ◌++◌, ◌∷◌, IfOk, IfSome, IsUtf8, List, MatchOption, None, Some, length, option_map, string_bytes, ℕ};
-ghost use Rattle.replay_script.specs.Scripts.{AreReadAs, IsNumber, IsReadAs, IsReadAsEdit, Lacks, escape_of, is_backslash, left_of, unescaped};
+ghost use Rattle.std.specs.Prelude.{◌≡◌, ◌≢◌, ◌<◌, ◌++◌, ◌∷◌, [], IfOk, IfSome, IsUtf8, List, MatchOption, None, Some, length, option_map, string_bytes, ℕ};
+ghost use Rattle.std.specs.Io.{StopsAt};
+ghost use Rattle.replay_script.specs.Scripts.{IsLineReadAs, IsNumber, IsReadAs, IsReadAsEdit, Lacks, LacksNumber, escape_of, is_backslash, left_of, unescaped};
 
 use expander::Command;
 use std::alloc::{AllocError, Global};
 
+/// What is wrong with a line.
+#[derive(Clone, Copy, PartialEq, Eq, Debug)]
+pub enum Wrong {
+    /// No line feed ends it.
+    LineFeed,
+    /// It is not UTF-8.
+    Utf8,
+    /// It has a carriage return.
+    CarriageReturn,
+    /// It is not `expand`, and does not begin with `edit` and a space.
+    Command,
+    /// No number and a space come after `edit`.
+    Start,
+    /// No number and a space come after START.
+    End,
+    /// A backslash comes before no `n`, `r` or backslash.
+    Replacement,
+}
+
 /// The text before the first such character, and the text after it.
-pub(crate) fn cut_at(text: &str, mark: char) -> Option<(&str, &str)>
+fn cut_at(text: &str, mark: char) -> Option<(&str, &str)>
     requires { mark < 128 }
-    ensures cut { MatchOption result (Lacks mark text.now) (λ parts. (text.now ≡ parts.0.now ++ mark ∷ parts.1.now) × Lacks mark parts.0.now) }
-    ensures shorter { IfSome result (λ parts. length parts.1.now < length text.now) }
+    ensures { MatchOption result (Lacks mark text.now)
+        (λ parts. (text.now ≡ parts.0.now ++ mark ∷ parts.1.now) × Lacks mark parts.0.now) }
 {
     text.split_once(mark)
 }
 
 /// The text after `front`, if the text begins with it.
-pub(crate) fn behind<'a>(text: &'a str, front: &str) -> Option<&'a str>
-    ensures { MatchOption result ((rest : List ℕ) → text.now ≢ front.now ++ rest) (λ rest. text.now ≡ front.now ++ rest.now) }
+fn behind<'a>(text: &'a str, front: &str) -> Option<&'a str>
+    ensures { MatchOption result ((rest : List ℕ) → text.now ≢ front.now ++ rest)
+        (λ rest. text.now ≡ front.now ++ rest.now) }
 {
     text.strip_prefix(front)
 }
@@ -43,8 +64,10 @@ fn is_backslash(byte: u8) -> bool
 // begins an escape. `is_escape` says that one came before it. `None` if the byte is not allowed
 // here.
 fn take_byte(bytes: &mut Vec<u8>, is_escape: bool, byte: u8) -> Result<Option<bool>, AllocError>
-    ensures { IfOk result (λ taken. MatchOption taken ((rest : List ℕ) → left_of is_escape bytes.old.items (byte ∷ rest) ≡ None)
-        (λ next. (rest : List ℕ) → left_of is_escape bytes.old.items (byte ∷ rest) ≡ left_of next bytes.new.items rest)) }
+    ensures { IfOk result (λ taken. MatchOption taken
+        ((rest : List ℕ) → left_of is_escape bytes.old.items (byte ∷ rest) ≡ None)
+        (λ next. (rest : List ℕ) → left_of is_escape bytes.old.items (byte ∷ rest)
+        ≡ left_of next bytes.new.items rest)) }
 {
     if is_escape {
         let Some(meant) = escape_of(byte) else {
@@ -80,7 +103,8 @@ fn unescaped(alloc: Global, text: &str) -> Result<Option<Vec<u8>>, AllocError>
 
 // The text that a replacement means, or `None` if it has a wrong escape or is no UTF-8.
 fn replacement_of(alloc: Global, text: &str) -> Result<Option<String>, AllocError>
-    ensures { IfOk result (λ replacement. MatchOption replacement ((bytes : List ℕ) → IsUtf8 bytes → unescaped text.now ≢ Some bytes)
+    ensures { IfOk result (λ replacement. MatchOption replacement
+        ((bytes : List ℕ) → IsUtf8 bytes → unescaped text.now ≢ Some bytes)
         (λ r. unescaped text.now ≡ Some (string_bytes r))) }
 {
     match unescaped(alloc, text)? {
@@ -96,47 +120,74 @@ fn number_of(word: &str) -> Option<usize>
     word.parse::<usize>().ok()
 }
 
-// The numbers that two words are, or `None` if one of them is none.
-fn numbers_of(first: &str, second: &str) -> Option<(usize, usize)>
-    ensures { AreReadAs first.now second.now result }
+// The number that a text begins with, and the text after the space that ends it.
+fn number_before(text: &str) -> Option<(usize, &str)>
+    ensures { MatchOption result (LacksNumber text.now)
+        (λ r. (word : List ℕ) × (text.now ≡ word ++ 32 ∷ r.1.now) × IsNumber word r.0) }
 {
-    let first = number_of(first)?;
-    let second = number_of(second)?;
-    Some((first, second))
+    let Some((word, rest)) = cut_at(text, ' ') else {
+        return None;
+    };
+    match number_of(word) {
+        Some(number) => Some((number, rest)),
+        None => None,
+    }
 }
 
-// The edit that a line asks for, without its first word, or `None`.
-fn edit_of(alloc: Global, line: &str) -> Result<Option<Command>, AllocError>
+// The edit that a line asks for, without its first word, or what is wrong with it.
+fn edit_of(alloc: Global, line: &str) -> Result<Result<Command, Wrong>, AllocError>
     ensures { IfOk result (IsReadAsEdit line.now) }
 {
-    let Some((first, rest)) = cut_at(line, ' ') else {
-        return Ok(None);
+    let Some((start, rest)) = number_before(line) else {
+        return Ok(Err(Wrong::Start));
     };
-    let Some((second, last)) = cut_at(rest, ' ') else {
-        return Ok(None);
-    };
-    let Some((start, end)) = numbers_of(first, second) else {
-        return Ok(None);
+    let Some((end, last)) = number_before(rest) else {
+        return Ok(Err(Wrong::End));
     };
     match replacement_of(alloc, last)? {
-        Some(replacement) => Ok(Some(Command::Edit {
+        Some(replacement) => Ok(Ok(Command::Edit {
             start,
             end,
             replacement,
         })),
-        None => Ok(None),
+        None => Ok(Err(Wrong::Replacement)),
     }
 }
 
-/// The command that a line asks for, or `None`.
-pub(crate) fn command_of(alloc: Global, line: &str) -> Result<Option<Command>, AllocError>
+// The command that a line asks for, or what is wrong with it.
+fn command_of(alloc: Global, line: &str) -> Result<Result<Command, Wrong>, AllocError>
     ensures { IfOk result (IsReadAs line.now) }
 {
     if line == "expand" {
-        return Ok(Some(Command::Expand));
+        return Ok(Ok(Command::Expand));
     }
     match behind(line, "edit ") {
         Some(rest) => edit_of(alloc, rest),
-        None => Ok(None),
+        None => Ok(Err(Wrong::Command)),
     }
+}
+
+/// The command that these bytes of a script ask for, which stop at a line feed if they have one,
+/// or what is wrong with them.
+pub(crate) fn line_command(
+    alloc: Global,
+    bytes: &[u8],
+) -> Result<Result<Command, Wrong>, AllocError>
+    requires some { bytes.now ≢ [] }
+    requires stops { StopsAt bytes.now 10 }
+    ensures { IfOk result (IsLineReadAs bytes.now) }
+{
+    let Some((last, line)) = bytes.split_last() else {
+        return Ok(Err(Wrong::LineFeed));
+    };
+    if *last != b'\n' {
+        return Ok(Err(Wrong::LineFeed));
+    }
+    let Ok(line) = std::str::from_utf8(line) else {
+        return Ok(Err(Wrong::Utf8));
+    };
+    if cut_at(line, '\r').is_some() {
+        return Ok(Err(Wrong::CarriageReturn));
+    }
+    command_of(alloc, line)
 }

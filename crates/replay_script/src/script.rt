@@ -1,92 +1,173 @@
-//! Answers a script: its commands, up to the first bad line.
-ghost use Rattle.std.specs.Prelude.{◌≡◌, IfOk, string_bytes};
-ghost use Rattle.expander.specs.Runs.{layers_of};
-ghost use Rattle.replay_script.specs.Replays.{AreTold, HasCommands, HasHead, IsReplayed, bad_line};
+//! Answers a script line by line, and keeps nothing of a line that was answered.
+ghost use Rattle.std.specs.Prelude.{◌≡◌, ◌<◌, ◌^◌, ◌↔◌, IfOk, IsTrue, OnOk, false, string_bytes};
+ghost use Rattle.std.specs.Io.KnownBytes.{Appends, Consumes};
+ghost use Rattle.expander_session.specs.CommandTurns.{Turn};
+ghost use Rattle.expander_session.specs.State.{layers_of as session_layers};
+ghost use Rattle.expander_session.specs.declared.commands.Answer.{Answer as AnswerOf};
+ghost use Rattle.expander_run.specs.Runs.{layers_of};
+ghost use Rattle.replay_script.specs.LineTurns.{AnswersLine, IsNext, ReadsLine};
+ghost use Rattle.replay_script.specs.Replays.{Answers, asking};
+ghost use Rattle.replay_script.specs.Told.{answer_told};
 
-use crate::line::{behind, command_of, cut_at};
-use crate::tell::push_answers;
-use expander::{Command, Options, replay};
+use crate::line::{Wrong, line_command};
+use crate::tell::push_answer;
+use expander::{Command, Options, Session, Watched};
+use expander_run::program::put;
+use expander_session::commands::answer_to;
 use fragment_grammar::FragmentGrammar;
 use std::alloc::{AllocError, Global};
+use std::io;
+use std::io::{BufRead, Write};
 
-/// The answers to a script as text, and the number, from 1, of its first bad line, if there is
-/// one.
-#[derive(Drop)]
-pub struct Replayed {
-    pub told: String,
-    pub bad: Option<usize>,
+/// Why answering ends.
+#[derive(Clone, Copy, PartialEq, Eq, Debug)]
+pub enum End {
+    /// The script has no further line.
+    Whole,
+    /// The next line is wrong.
+    Wrong(Wrong),
+    /// The next line could not be read.
+    ReadFailed,
+    /// An answer could not be written.
+    WriteFailed,
+    /// The next line or its answer found no memory.
+    Memory,
+    /// There are more lines than numbers for them.
+    TooLong,
 }
 
-// The commands of lines up to the first bad one, and whether there was no bad one.
-fn commands_in(alloc: Global, text: &str) -> Result<(Vec<Command>, bool), AllocError>
-    ensures { IfOk result (λ r. HasCommands text.now r.0.items r.1) }
+/// How many lines of a script were read, and why no more were.
+#[derive(Clone, Copy, PartialEq, Eq, Debug)]
+pub struct Answered {
+    pub lines: usize,
+    pub end: End,
+}
+
+// Whether this line, after so many others, asks for origins.
+fn asks_for_origins(lines: usize, line: &[u8]) -> bool
+    ensures { IsTrue result ↔ ((lines ≡ 0) × (line.now ≡ asking)) }
 {
-    let mut commands = Vec::new(alloc);
-    let mut rest = text;
-    while let Some((line, more)) = cut_at(rest, '\n') {
-        match command_of(alloc, line)? {
-            Some(command) => commands.push(command)?,
-            None => return Ok((commands, false)),
+    lines == 0 && line == b"origins\n".as_slice()
+}
+
+// Reads the next line in the place of what these bytes were. `Whole` if there is none.
+fn next_line<R: BufRead>(reader: &mut R, bytes: &mut Vec<u8>) -> Result<(), End>
+    ensures read { Consumes (R.remaining reader.old) (R.remaining reader.new) bytes.new.items }
+    ensures line { ReadsLine (R.remaining reader.old) bytes.new.items result }
+{
+    bytes.clear();
+    match reader.read_until(b'\n', bytes) {
+        Ok(0) => Err(End::Whole),
+        Ok(_) => Ok(()),
+        Err(error) => {
+            if error.kind() == io::ErrorKind::OutOfMemory {
+                Err(End::Memory)
+            } else {
+                Err(End::ReadFailed)
+            }
         }
-        rest = more;
-    }
-    Ok((commands, rest.is_empty()))
-}
-
-// Whether a script asks for origins, and the lines after that.
-fn head_of(text: &str) -> (bool, &str)
-    ensures { HasHead text.now result.0 result.1.now }
-{
-    match behind(text, "origins\n") {
-        Some(rest) => (true, rest),
-        None => (false, text),
     }
 }
 
-// The number of the first bad line, which comes after these commands. `None` if there is none.
-fn bad_line(is_whole: bool, origins: bool, commands: &[Command]) -> Option<usize>
-    ensures { result ≡ bad_line is_whole origins commands.now }
-{
-    if is_whole {
-        return None;
-    }
-    let first = if origins { 2 } else { 1 };
-    Some(commands.len() + first)
-}
-
-// The answers to these commands, as text.
+// The answer to a command, as text.
 fn told_of<G: FragmentGrammar + Drop>(
     alloc: Global,
-    commands: &[Command],
-    options: Options<G>,
+    session: &mut Session<G>,
+    command: &Command,
     origins: bool,
 ) -> Result<String, AllocError>
-    ensures { IfOk result (λ told. AreTold (layers_of G.answer options) commands.now options.depth origins (string_bytes told)) }
+    ensures { IfOk result (λ told. (answer : AnswerOf)
+        × Turn (session_layers G.answer session.old) session.old session.new command.now answer
+        × (session.old.given < 2 ^ 32 → session.new.given < 2 ^ 32)
+        × (string_bytes told ≡ answer_told origins answer)) }
+{
+    let answer = answer_to(session, command);
+    let mut told = String::new(alloc);
+    push_answer(&mut told, &answer, origins)?;
+    Ok(told)
+}
+
+// Answers a line.
+fn answer_line<G: FragmentGrammar + Drop, W: Write>(
+    alloc: Global,
+    session: &mut Session<G>,
+    writer: &mut Watched<W>,
+    bytes: &[u8],
+    origins: bool,
+) -> Result<(), End>
+    requires next { IsNext bytes.now }
+    requires fresh { writer.old.failed ≡ false }
+    ensures line { AnswersLine (session_layers G.answer session.old) session.old session.new
+        bytes.now origins
+        (Appends (W.contents writer.old.inner) (W.contents writer.new.inner)) result }
+    ensures fresh { OnOk result (writer.new.failed ≡ false) }
+{
+    let command = match line_command(alloc, bytes) {
+        Ok(Ok(command)) => command,
+        Ok(Err(wrong)) => return Err(End::Wrong(wrong)),
+        Err(AllocError) => return Err(End::Memory),
+    };
+    match told_of(alloc, session, &command, origins) {
+        Ok(told) => {
+            if put(writer, told.as_bytes()) {
+                Ok(())
+            } else {
+                Err(End::WriteFailed)
+            }
+        }
+        Err(AllocError) => Err(End::Memory),
+    }
+}
+
+/// Answers the lines of a script, up to its end or its first wrong line, by a grammar, an edition
+/// and a number of levels. The answer to a line is written and flushed before the next line is
+/// read. The forms of lines and answers are at the head of this crate. The writer has not failed
+/// before.
+pub fn answer_script<G: FragmentGrammar + Drop, R: BufRead, W: Write>(
+    alloc: Global,
+    reader: &mut R,
+    writer: &mut Watched<W>,
+    options: Options<G>,
+) -> Answered
+    requires { writer.old.failed ≡ false }
+    ensures { Answers (layers_of G.answer options) options.depth
+        (R.remaining reader.old) (R.remaining reader.new)
+        (Appends (W.contents writer.old.inner) (W.contents writer.new.inner)) result }
 {
     let Options {
         grammar,
         edition,
         depth,
     } = options;
-    let answers = replay(alloc, "", grammar, edition, depth, commands)?;
-    let mut told = String::new(alloc);
-    push_answers(&mut told, answers.as_slice(), origins)?;
-    Ok(told)
-}
-
-/// Answers the commands of a script, up to its first bad line, by a grammar, an edition and a
-/// number of levels. The forms of lines and answers are at the head of this crate. Its only error
-/// is out of memory.
-pub fn answer_script<G: FragmentGrammar + Drop>(
-    alloc: Global,
-    text: &str,
-    options: Options<G>,
-) -> Result<Replayed, AllocError>
-    ensures { IfOk result (λ r. IsReplayed (layers_of G.answer options) text.now options.depth (string_bytes r.told) r.bad) }
-{
-    let (origins, lines) = head_of(text);
-    let (commands, is_whole) = commands_in(alloc, lines)?;
-    let told = told_of(alloc, commands.as_slice(), options, origins)?;
-    let bad = bad_line(is_whole, origins, commands.as_slice());
-    Ok(Replayed { told, bad })
+    let mut session = match Session::new(alloc, "", grammar, edition, depth) {
+        Ok(session) => session,
+        Err(AllocError) => {
+            return Answered {
+                lines: 0,
+                end: End::Memory,
+            };
+        }
+    };
+    let mut bytes = Vec::new(alloc);
+    let mut origins = false;
+    let mut lines = 0;
+    while lines < usize::MAX {
+        if let Err(end) = next_line(reader, &mut bytes) {
+            return Answered { lines, end };
+        }
+        let line = bytes.as_slice();
+        if asks_for_origins(lines, line) {
+            origins = true;
+        } else if let Err(end) = answer_line(alloc, &mut session, writer, line, origins) {
+            return Answered {
+                lines: lines + 1,
+                end,
+            };
+        }
+        lines += 1;
+    }
+    Answered {
+        lines,
+        end: End::TooLong,
+    }
 }

@@ -1,8 +1,9 @@
 //! Writes answers as text.
 ghost use Rattle.std.specs.Prelude.{◌≡◌, ◌<◌, ◌++◌, OnOk, get_or, length, string_bytes};
 ghost use Rattle.tt_data.specs.declared.span.TextRange.{TextRange};
-ghost use Rattle.replay_script.specs.Told.{all_told, answer_told, expansion_told, fault_lines, kind_name, origin_line, origin_lines, place_line, read_kind_name, refusal_name};
+ghost use Rattle.replay_script.specs.Told.{answer_told, expansion_told, fault_lines, kind_name, origin_line, origin_lines, place_line, read_kind_name, refusal_name, wrong_words};
 
+use crate::line::Wrong;
 use expander::{
     Answer, Expansion, Fault, FaultKind, ReadFault, ReadFaultKind, Refusal, Reply, TextRange,
 };
@@ -40,9 +41,25 @@ fn refusal_name(refusal: Refusal) -> &'static str
     }
 }
 
+/// The words for what is wrong with a line.
+pub fn wrong_words(wrong: Wrong) -> &'static str
+    ensures { result.now ≡ wrong_words wrong }
+{
+    match wrong {
+        Wrong::LineFeed => "no line feed ends it",
+        Wrong::Utf8 => "it is not UTF-8",
+        Wrong::CarriageReturn => "it has a carriage return, which a replacement writes \\r",
+        Wrong::Command => "it is neither `expand` nor `edit START END REPLACEMENT`",
+        Wrong::Start => "no number and a space come after `edit`",
+        Wrong::End => "no number and a space come after START",
+        Wrong::Replacement => "in REPLACEMENT, n, r or a backslash comes after each backslash",
+    }
+}
+
 // Adds a line with a word, a name and a range.
 fn push_place(told: &mut String, what: &str, name: &str, place: TextRange) -> Result<(), AllocError>
-    ensures { OnOk result (string_bytes told.new ≡ string_bytes told.old ++ place_line what.now name.now place) }
+    ensures { OnOk result (string_bytes told.new
+        ≡ string_bytes told.old ++ place_line what.now name.now place) }
 {
     let TextRange { start, end } = place;
     writeln!(told, "{what} {name} {start} {end}")
@@ -50,7 +67,8 @@ fn push_place(told: &mut String, what: &str, name: &str, place: TextRange) -> Re
 
 // Adds a line for each fault.
 fn push_faults(told: &mut String, faults: &[Fault]) -> Result<(), AllocError>
-    ensures { OnOk result (string_bytes told.new ≡ string_bytes told.old ++ fault_lines faults.now) }
+    ensures { OnOk result (string_bytes told.new
+        ≡ string_bytes told.old ++ fault_lines faults.now) }
 {
     for fault in faults {
         push_place(told, "fault", kind_name(fault.kind), fault.range)?;
@@ -69,7 +87,8 @@ fn push_origin(told: &mut String, place: TextRange) -> Result<(), AllocError>
 // Adds the line of a printed token's origin.
 fn push_origin_of(told: &mut String, found: &Expansion, i: usize) -> Result<(), AllocError>
     requires { i < length found.now.origins }
-    ensures { (d : TextRange) → OnOk result (string_bytes told.new ≡ string_bytes told.old ++ origin_line (get_or found.now.origins i d)) }
+    ensures { (d : TextRange) → OnOk result (string_bytes told.new
+        ≡ string_bytes told.old ++ origin_line (get_or found.now.origins i d)) }
 {
     match found.origin(i) {
         Some(place) => push_origin(told, place),
@@ -79,7 +98,8 @@ fn push_origin_of(told: &mut String, found: &Expansion, i: usize) -> Result<(), 
 
 // Adds a line for each origin.
 fn push_origins(told: &mut String, found: &Expansion) -> Result<(), AllocError>
-    ensures { OnOk result (string_bytes told.new ≡ string_bytes told.old ++ origin_lines found.now.origins) }
+    ensures { OnOk result (string_bytes told.new
+        ≡ string_bytes told.old ++ origin_lines found.now.origins) }
 {
     for i in 0..found.tokens() {
         push_origin_of(told, found, i)?;
@@ -89,7 +109,8 @@ fn push_origins(told: &mut String, found: &Expansion) -> Result<(), AllocError>
 
 // Adds the lines of an expansion.
 fn push_expansion(told: &mut String, found: &Expansion, origins: bool) -> Result<(), AllocError>
-    ensures { OnOk result (string_bytes told.new ≡ string_bytes told.old ++ expansion_told origins found.now) }
+    ensures { OnOk result (string_bytes told.new
+        ≡ string_bytes told.old ++ expansion_told origins found.now) }
 {
     let printed = found.printed();
     let len = printed.len();
@@ -105,8 +126,13 @@ fn push_expansion(told: &mut String, found: &Expansion, origins: bool) -> Result
 }
 
 /// Adds the lines of an answer.
-fn push_answer(told: &mut String, answer: &Answer, origins: bool) -> Result<(), AllocError>
-    ensures { OnOk result (string_bytes told.new ≡ string_bytes told.old ++ answer_told origins answer.now) }
+pub(crate) fn push_answer(
+    told: &mut String,
+    answer: &Answer,
+    origins: bool,
+) -> Result<(), AllocError>
+    ensures { OnOk result (string_bytes told.new
+        ≡ string_bytes told.old ++ answer_told origins answer.now) }
 {
     match answer {
         Answer::Edited => told.push_str("edited\n"),
@@ -120,18 +146,4 @@ fn push_answer(told: &mut String, answer: &Answer, origins: bool) -> Result<(), 
             writeln!(told, "refused {name}")
         }
     }
-}
-
-/// Adds the lines of answers, in order.
-pub(crate) fn push_answers(
-    told: &mut String,
-    answers: &[Answer],
-    origins: bool,
-) -> Result<(), AllocError>
-    ensures { OnOk result (string_bytes told.new ≡ string_bytes told.old ++ all_told origins answers.now) }
-{
-    for answer in answers {
-        push_answer(told, answer, origins)?;
-    }
-    Ok(())
 }

@@ -6,10 +6,10 @@ use Rattle.std.proofs.lemmas.Str.{chars_past_char, chars-nil, encode_ascii, enco
 use Rattle.std.proofs.lemmas.List.{nil_from_length}
 use Rattle.rustc_lexer.specs.Character.{ascii_part, char_at}
 
-ascii_cons : (b : ℕ) (bs : List ℕ) → IsUtf8 (b ∷ bs) → b < 128 → chars (b ∷ bs) ≡ b ∷ chars bs
+pub ascii_cons : (b : ℕ) (bs : List ℕ) → IsUtf8 (b ∷ bs) → b < 128 → chars (b ∷ bs) ≡ b ∷ chars bs
 ascii_cons b bs u l = chars_past_char (b ∷ bs) bs b u (rw (encode_ascii b l) refl)
 
-ascii_rest : (b : ℕ) (bs : List ℕ) → IsUtf8 (b ∷ bs) → b < 128 → IsUtf8 bs
+pub ascii_rest : (b : ℕ) (bs : List ℕ) → IsUtf8 (b ∷ bs) → b < 128 → IsUtf8 bs
 ascii_rest b bs u l = IsUtf8-past_char (b ∷ bs) bs b u (rw (encode_ascii b l) refl)
 
 -- ---- the first byte

@@ -2,6 +2,7 @@ pub mod TestLemmas
 mod RunLemmas
 mod RunStartLemmas
 mod AsciiLemmas
+mod AsciiIdentLemmas
 mod PositiveLemmas
 mod TokenLemmas
 mod CutLemmas

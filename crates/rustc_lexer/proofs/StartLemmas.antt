@@ -9,7 +9,7 @@ use Rattle.rustc_lexer.proofs.FrontRowLemmas.{by_letter, by_sign, by_white, hash
 use Rattle.rustc_lexer.proofs.WordLemmas.{either_left, either_right}
 
 -- the answers of the tests give what the byte tells
-abbrev told : Bool → Bool → Bool → Bool → ℕ
+abbrev pub told : Bool → Bool → Bool → Bool → ℕ
 told ascii white start more =
     if not ascii then 0x3f else if white then 0x20 else if start then 0x61 else if more then 0x3f else 0x2e
 

@@ -1,5 +1,6 @@
 //! Lexes identifiers, keywords, and the literals and unknown prefixes that begin with a letter.
-ghost use Rattle.std.specs.Prelude.{◌≡◌, ◌<◌, ◌^◌, ◌==◌, ◌&&◌, ◌||◌, true, IsTrue, codes, slice_index, length, chars};
+ghost use Rattle.std.specs.Prelude.{◌≡◌, ◌<◌, ◌^◌, ◌==◌, ◌&&◌, ◌||◌, true, codes, slice_index, length, chars};
+ghost use Rattle.rustc_lexer.specs.Ascii.{are_ascii};
 ghost use Rattle.rustc_lexer.specs.Character.{char_at, begins, is_id_start, is_ident};
 ghost use Rattle.rustc_lexer.specs.Lexeme.{plain_word, marked_word, word, quoted, string, raw_string};
 ghost use Rattle.rustc_lexer.specs.Scanned.{IsRead};
@@ -28,7 +29,7 @@ pub fn is_ident(string: &str) -> bool
 /// Whether the text is one identifier of ASCII characters. It is inlined, and calls nothing.
 #[inline(always)]
 pub fn is_ascii_ident(string: &str) -> bool
-    ensures { IsTrue result → is_ident (chars string.now) ≡ true }
+    ensures { result ≡ (is_ident (chars string.now) && are_ascii string.now) }
 {
     start_of(first_byte(string)) == b'a' && skip_ascii::<Continue>(string).is_empty()
 }

@@ -270,6 +270,7 @@ pub fn skip_while<'a, T: CharTest>(text: &'a str) -> &'a str
 pub fn skip_ascii<'a, T: CharTest>(text: &'a str) -> &'a str
     ensures on { drop (prefix_len T.passes (chars result.now)) (chars result.now) ≡ drop (prefix_len T.passes (chars text.now)) (chars text.now) }
     ensures stops { char_at (chars result.now) 0 < 128 → chars result.now ≡ drop (prefix_len T.passes (chars text.now)) (chars text.now) }
+    ensures bytes { result.now ≡ drop (prefix_len (ascii_part T.passes) text.now) text.now }
 {
     &text[ascii_run::<T>(text)..]
 }

@@ -1,10 +1,12 @@
 //! Use of the tree layer from a crate above it, by public calls alone: walks with contracts of
-//! their own, and the tests of `symbols`, `tt_data`, `tt` and `packed_tree`.
+//! their own, and the tests of `byte_buffer`, `symbols`, `tt_data`, `tt` and `packed_tree`.
 //!
 //! A clause holds for all arguments, so tests are few: each public call with enough memory,
 //! closures with a state, what `{:?}` prints, deep nesting, and refused requests for memory.
 #![tactic(auto)]
 
+#[cfg(test)]
+mod byte_buffers;
 #[cfg(test)]
 mod calls;
 #[cfg(test)]

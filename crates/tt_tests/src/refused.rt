@@ -1,5 +1,6 @@
 //! Each call that takes memory, made once more if it was refused: for runs in which one allocation
 //! fails. A refused call changes nothing, so the tree is the expected one.
+use crate::byte_buffers::are_kept_whole;
 use crate::packed::{
     are_built, are_checked, are_cut_back, are_misplaced, are_numbered, are_told, have_sizes,
 };
@@ -25,25 +26,32 @@ fn extend(
     }
 }
 
-// `+{-}`, the trees, two leaves and the trees.
-fn filled(alloc: Global, trees: TokenTreesView<'_>) -> Result<TopSubtree, TtFault> {
+// `+{-}`, and what the first of three calls append: the trees, two leaves and the trees.
+fn filled(alloc: Global, trees: TokenTreesView<'_>, calls: u8) -> Result<TopSubtree, TtFault> {
     let mut builder = begun(alloc, "+{-}")?;
-    for call in 0..3 {
-        match extend(&mut builder, call, trees) {
-            Err(TtFault::Memory) => extend(&mut builder, call, trees)?,
-            answer => answer?,
-        }
+    for call in 0..calls {
+        extend(&mut builder, call, trees)?;
     }
     built(builder)
 }
 
+// Whether a builder, after all three calls or a refused one, builds what the calls before that
+// build on another one.
+fn are_kept(alloc: Global, trees: TokenTreesView<'_>) -> Result<bool, TtFault> {
+    let mut builder = begun(alloc, "+{-}")?;
+    for call in 0..3 {
+        match extend(&mut builder, call, trees) {
+            Err(TtFault::Memory) => return Ok(built(builder)? == filled(alloc, trees, call)?),
+            answer => answer?,
+        }
+    }
+    Ok(built(builder)? == filled(alloc, trees, 3)?)
+}
+
 fn builds(alloc: Global) -> Result<bool, TtFault> {
     let row = rebuilt(alloc, &tree(alloc, "*/")?)?;
-    shows(
-        alloc,
-        &filled(alloc, row.token_trees())?,
-        "+ {-} * / , ; * /",
-    )
+    let whole = filled(alloc, row.token_trees(), 3)?;
+    Ok(are_kept(alloc, row.token_trees())? && shows(alloc, &whole, "+ {-} * / , ; * /")?)
 }
 
 #[test]
@@ -129,35 +137,64 @@ fn makers(rt: HostRuntime) -> Result<(), Fail> {
     Ok(())
 }
 
-// Rewrites the tree, and sets a token of it. Out of memory, it does so once more, if the tree is
-// as before.
-fn changed(alloc: Global, tree: &mut TopSubtree, before: &TopSubtree) -> Result<(), TtFault> {
+// Rewrites the tree. Out of memory, it does so once more, and answers whether the tree was as
+// before.
+fn rewritten(alloc: Global, tree: &mut TopSubtree, before: &TopSubtree) -> Result<bool, TtFault> {
     match rewrite(alloc, tree, before.token_trees()) {
-        Err(TtFault::Memory) if *tree == *before => rewrite(alloc, tree, before.token_trees())?,
-        answer => answer?,
-    }
-    match tree.set_token(alloc, 2, punct('?', 3)) {
-        Err(TtFault::Memory) => tree.set_token(alloc, 2, punct('?', 3)),
-        answer => answer,
+        Err(TtFault::Memory) => {
+            let is_kept = *tree == *before;
+            rewrite(alloc, tree, before.token_trees())?;
+            Ok(is_kept)
+        }
+        answer => answer.map(|()| true),
     }
 }
 
-// Numbers the anchors of the tree. Out of memory, it does so once more, if none was asked about
-// and the tree is as before.
-fn numbered(alloc: Global, tree: &mut TopSubtree, before: &TopSubtree) -> Result<(), TtFault> {
+// A literal that has its text in memory of its own.
+fn number(alloc: Global) -> Result<Leaf, TtFault> {
+    let literal = Literal::new(alloc, "123456789", byte_at(3), LitKind::Integer, "u64")?;
+    Ok(Leaf::Literal(literal))
+}
+
+// Sets the second leaf. Out of memory, it does so once more, and answers whether the tree was as
+// before.
+fn set(alloc: Global, tree: &mut TopSubtree, before: &TopSubtree) -> Result<bool, TtFault> {
+    match tree.set_token(alloc, 3, number(alloc)?) {
+        Err(TtFault::Memory) => {
+            let is_kept = *tree == *before;
+            tree.set_token(alloc, 3, number(alloc)?)?;
+            Ok(is_kept)
+        }
+        answer => answer.map(|()| true),
+    }
+}
+
+// Numbers the anchors of the tree. Out of memory, it does so once more, and answers whether none
+// was asked about and the tree was as before.
+fn numbered(alloc: Global, tree: &mut TopSubtree, before: &TopSubtree) -> Result<bool, TtFault> {
     match number_anchors(alloc, tree) {
-        (0, Err(TtFault::Memory)) if *tree == *before => number_anchors(alloc, tree).1,
-        (_, answer) => answer,
+        (asked, Err(TtFault::Memory)) => {
+            let is_kept = asked == 0 && *tree == *before;
+            number_anchors(alloc, tree).1?;
+            Ok(is_kept)
+        }
+        (_, answer) => answer.map(|()| true),
     }
 }
 
 fn changes(alloc: Global) -> Result<bool, TtFault> {
     let before = tree(alloc, "+{-}")?;
+    let mut moved = tree(alloc, "+{-}")?;
     let mut other = tree(alloc, "+{-}")?;
     let mut tree = tree(alloc, "+{-}")?;
-    changed(alloc, &mut tree, &before)?;
-    numbered(alloc, &mut other, &before)?;
-    Ok(shows(alloc, &tree, "{? {-}}")? && other.top_subtree().delimiter.close_span.anchor == 1)
+    Ok(
+        rewritten(alloc, &mut moved, &before)?
+            && shows(alloc, &moved, "{+ {-}}")?
+            && set(alloc, &mut tree, &before)?
+            && shows(alloc, &tree, "+ {123456789u64}")?
+            && numbered(alloc, &mut other, &before)?
+            && other.top_subtree().delimiter.close_span.anchor == 1,
+    )
 }
 
 #[test]
@@ -235,5 +272,11 @@ fn reads_and_changes_packed_trees(rt: HostRuntime) -> Result<(), Fail> {
         answer => answer?,
     };
     assert!(rt; walked && enclosed && replaced && relabelled);
+    Ok(())
+}
+
+#[test]
+fn byte_buffers(rt: HostRuntime) -> Result<(), Fail> {
+    assert!(rt; are_kept_whole(rt.alloc())?);
     Ok(())
 }

@@ -126,6 +126,17 @@ impl Printer {
         self.out.text.reserve(bytes)
     }
 
+    /// How many visible tokens were appended, those without a spelling included.
+    pub fn count(&self) -> usize
+        ensures { (steps : List Step) → HasPut self.now steps → result ≡ length (visible steps) }
+    {
+        let settled = self.out.tokens.len() + self.out.left_out.len();
+        match self.out.waiting {
+            Some(_) => settled + 1,
+            None => settled,
+        }
+    }
+
     /// Appends these trees. A quote that is last waits for the next call.
     pub fn put(&mut self, view: TokenTreesView<'_>) -> Result<(), TtFault>
         ensures ok { OnOk result ((steps : List Step) → HasPut self.old steps → HasPut self.new (steps ++ walk (forest view.entry))) }

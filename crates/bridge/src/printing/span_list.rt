@@ -9,7 +9,7 @@ ghost use Rattle.bridge.specs.SpanLists.{AreSpanRuns, AreRuns, AreSameRuns, IsRu
 use crate::printing::relative_spans::{RelativeSpans, Shift, shifted};
 use std::alloc::{AllocError, Global};
 use std::marker::Model;
-use std::mem::replace;
+use std::mem::{replace, size_of, size_of_val};
 use std::rc::Rc;
 use tt_data::Span;
 
@@ -82,11 +82,12 @@ impl SpanList {
         })
     }
 
-    /// The number of spans.
+    /// The number of spans, which is far less than an index can count to.
     pub fn len(&self) -> usize
-        ensures { result ≡ length self.now }
+        ensures len { result ≡ length self.now }
+        ensures fits { result < 2 ^ 63 }
     {
-        self.inner.shared + self.inner.own.len()
+        self.inner.shared + count(self.inner.own.as_slice())
     }
 
     /// The span of this index, from 0, if there is one.
@@ -157,6 +158,14 @@ impl SpanList {
             },
         })
     }
+}
+
+// The number of spans. Each takes more than a byte, so it is far less than an index can count to.
+fn count(spans: &[Span]) -> usize
+    ensures count { result ≡ length spans.now }
+    ensures few { result < 2 ^ 62 }
+{
+    size_of_val(spans) / size_of::<Span>()
 }
 
 // The index after `count` spans that follow `shared` others. `None` if it is too large.
@@ -322,7 +331,7 @@ fn copied(alloc: Global, inner: &SpanRuns) -> Result<Vec<Span>, AllocError>
     let mut spans = Vec::with_capacity(alloc, count)?;
     for i in 0..count {
         let Some(span) = place_at(inner, i) else {
-            return Err(AllocError);
+            unreachable!()
         };
         spans.push(span)?;
     }

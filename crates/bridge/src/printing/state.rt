@@ -84,9 +84,7 @@ fn leave_out(out: &mut PrintState) -> Result<(), TtFault>
     ensures err { OnErr result (state_of out.new ≡ state_of out.old) }
     ensures memory { IsOkUnless result Memory }
 {
-    let Some(place) = out.tokens.len().checked_add(out.left_out.len()) else {
-        return Err(TtFault::Memory);
-    };
+    let place = out.tokens.len() + out.left_out.len();
     match out.left_out.push(place) {
         Ok(()) => Ok(()),
         Err(_) => Err(TtFault::Memory),
@@ -224,17 +222,6 @@ fn put_other(alloc: Global, out: &mut PrintState, leaf: &LeafRef<'_>) -> Result<
     put_lexed(alloc, out, leaf)
 }
 
-// The depth after one more opening.
-fn deeper(depth: usize) -> Result<usize, TtFault>
-    ensures more { IfOk result (λ more. more ≡ depth + 1) }
-    ensures memory { IsOkUnless result Memory }
-{
-    match depth.checked_add(1) {
-        Some(more) => Ok(more),
-        None => Err(TtFault::Memory),
-    }
-}
-
 // Adds an opening, which is printed if its group is visible.
 #[inline(never)]
 fn put_opening(out: &mut PrintState, kind: DelimiterKind, span: &Span) -> Result<(), TtFault>
@@ -246,7 +233,8 @@ fn put_opening(out: &mut PrintState, kind: DelimiterKind, span: &Span) -> Result
     let Some(text) = opening(kind) else {
         return Ok(());
     };
-    let depth = deeper(out.depth)?;
+    // Each open group printed a token, so the minimum is the depth, and one more fits.
+    let depth = out.depth.min(out.tokens.len()) + 1;
     add(out, Edge::Other, *span, TokenText::Mark(text))?;
     out.depth = depth;
     Ok(())

@@ -6,17 +6,18 @@ ghost use Rattle.tt_data.specs.fault.TtFault.TheVariants.{Memory};
 use std::alloc::Global;
 use tt_data::{Symbol, TtFault};
 
-// How many slots there are at first, and once as many names were made: powers of two.
-const FEW: usize = 512;
+// How many slots there are at first, and at most: powers of two. A text with few names asks for
+// few.
+const FEW: usize = 16;
 
-const MANY: usize = 4096;
+const MOST: usize = 4096;
 
 /// A cache of names that were read. A name that is read again shares its text and takes no memory.
 #[derive(Drop)]
 pub struct NameCache {
     pub(crate) alloc: Global,
-    // In each slot, the last name of that slot, or another. Empty before the first name.
-    recent: Vec<Symbol>,
+    // In each slot, the last name of that slot since there are so many slots.
+    recent: Vec<Option<Symbol>>,
     // How many names were made.
     made: usize,
 }
@@ -40,13 +41,9 @@ impl NameCache {
         }
     }
 
-    // The slot of a name with this hash.
+    // The slot of a name with this hash, where there are slots: their number is a power of two.
     fn slot(&self, hash: usize) -> usize {
-        if self.recent.len() == MANY {
-            hash % MANY
-        } else {
-            hash % FEW
-        }
+        hash & self.recent.len().wrapping_sub(1)
     }
 
     /// The name as a symbol. `Memory` is the only error.
@@ -55,7 +52,7 @@ impl NameCache {
         ensures memory { IsOkUnless result Memory }
     {
         let hash = hash_of(name);
-        if let Some(known) = self.recent.get(self.slot(hash)) {
+        if let Some(Some(known)) = self.recent.get(self.slot(hash)) {
             if known.as_str() == name {
                 return Ok(known.clone()?);
             }
@@ -65,20 +62,18 @@ impl NameCache {
         Ok(symbol)
     }
 
-    // Stores a name in its slot. There are more slots once there are many names.
+    // Stores a name in its slot. There are four times the slots once as many names were made.
     fn keep(&mut self, hash: usize, symbol: Symbol) -> Result<(), TtFault>
         ensures memory { IsOkUnless result Memory }
     {
-        self.made = self.made.wrapping_add(1);
-        if self.recent.is_empty() {
-            self.recent.resize(FEW, symbol)?;
-        } else if self.made == FEW {
-            self.recent.resize(MANY, symbol)?;
-        } else {
-            let slot = self.slot(hash);
-            if let Some(other) = self.recent.get_mut(slot) {
-                *other = symbol;
-            }
+        let slots = self.recent.len();
+        if slots <= self.made && slots < MOST {
+            self.recent.resize((4 * slots).max(FEW), None)?;
+        }
+        self.made = self.made.saturating_add(1);
+        let slot = self.slot(hash);
+        if let Some(other) = self.recent.get_mut(slot) {
+            *other = Some(symbol);
         }
         Ok(())
     }

@@ -1,7 +1,6 @@
-use Rattle.std.proofs.Common.{◌≡◌, List, ◌+◌, ap, length, refl, true, ◌∙◌}
+use Rattle.std.proofs.Common.{◌≡◌, refl, true}
 use Rattle.std.specs.Prelude.{map}
 use Rattle.bridge.specs.RelativeSpans.{shifted}
-use Rattle.tt_data.specs.declared.span.Span.{Span}
 use Rattle.bridge.specs.PrintedChunks as printer
 use Rattle.expander_model.specs.Printing.{steps_of}
 use Rattle.expander_session.proofs.PartLemmas.{puts_part}
@@ -10,7 +9,5 @@ use Rattle.expander_session.proofs.emitter.emit_chunk_at.Goals as goal
 pub returns-in_ok-tell_words-in-Ok-true : goal.returns-in_ok-tell_words-in-Ok-true
 returns-in_ok-tell_words-in-Ok-true c = λ steps f is_part at words.
     let puts : printer.PutsChunk c.args.steps.now.printer c.put_chunk_at.new.self c.args.part.now (map (shifted c.args.shift) c.args.part.now.tokens) true = rw c.in-Ok-true.field-0-test at c.in-Ok-true.ensures.puts in
-    let counted : c.in-Some.count ≡ c.args.steps.now.count + length c.args.part.now.tokens =
-    c.in-Some.ensures.1 ∙ ap (λ (l : List Span). c.args.steps.now.count + length l) c.spans.ensures in
     puts_part c.spelling_depends_on_shapes_alone.ensures.places c.chunks_are_printed_whole.ensures c.args.steps.now _ c.args.part.now steps f is_part c.args.words.now words
-    (λ before has. puts before (steps_of steps) f is_part at has) counted refl c.in_ok-tell_words-in-Ok-true.ensures
+    (λ before has. puts before (steps_of steps) f is_part at has) refl c.in_ok-tell_words-in-Ok-true.ensures

@@ -2,10 +2,10 @@ use Rattle.std.proofs.Common.{◌≡◌, ◌∙◌, Option, None, Some, false, a
 use Rattle.std.specs.Prelude.{IfSome, is_some, slice_get}
 use Rattle.tt.specs.Tops.{Top}
 use Rattle.expander_session.specs.MemoRefs.{plain_tops}
-use Rattle.expander_scope.specs.Interning.{numbers_in}
+use Rattle.expander_scope.specs.Interning.{definition_tops, numbers_in}
 use Rattle.expander_model.specs.HashedTrees.{own_top}
 use Rattle.expander_model.specs.Definitions.{Definition, definition_of}
-use Rattle.expander_reparse.specs.RelativePieces.{piece_at}
+use Rattle.expander_reparse.specs.RelativePieces.{piece_at, tree_at}
 use Rattle.expander_model.specs.Pieces.{relative}
 use Rattle.expander_model.specs.World.{world}
 use Rattle.expander_session.proofs.ScopePieceLemmas.{all_plain}
@@ -23,14 +23,8 @@ returns-then-is_definition-clause-taken g c =
     rw c.reserve.ensures at
     (c.evaluate_definition.ensures.taken A c.args.context.now.depth (piece_at c.args.own.now) c.requires.places c.requires.right.have c.requires.own.start tree_is)
 
-pub plain_at-link-requires-clause-linked : goal.plain_at-link-requires-clause-linked
-plain_at-link-requires-clause-linked g c = c.requires.right.linked
-
-pub definition_at-held-requires-clause-linked : goal.definition_at-held-requires-clause-linked
-definition_at-held-requires-clause-linked g c = c.requires.right.linked
-
-pub is_definition-requires-clause-linked : goal.is_definition-requires-clause-linked
-is_definition-requires-clause-linked g c = c.requires.right.linked
+pub link_of-link-requires-clause-linked : goal.link_of-link-requires-clause-linked
+link_of-link-requires-clause-linked g c = c.requires.right.linked
 
 pub is_definition-requires-clause-plain : goal.is_definition-requires-clause-plain
 is_definition-requires-clause-plain g c =
@@ -38,7 +32,8 @@ is_definition-requires-clause-plain g c =
 
 pub evaluate_plain-requires-clause-link : goal.evaluate_plain-requires-clause-link
 evaluate_plain-requires-clause-link g c =
-    subst (λ (t : Top). IfSome c.plain_at-link.result (λ i. slice_get (plain_tops c.args.context.now.memory.now.plains.items) i ≡ Some t)) (sym c.get-tree.ensures) c.plain_at-link.ensures
+    subst (λ (t : Top). IfSome c.plain_at.result (λ i. slice_get (plain_tops c.args.context.now.memory.now.plains.items) i ≡ Some t)) (sym c.get-tree.ensures)
+    (c.plain_at.ensures (plain_tops c.args.context.now.memory.now.plains.items) (definition_tops c.args.context.now.memory.now.definitions.items) (tree_at c.args.own.now) c.link_of-link.ensures)
 
 no_definition : (o : Option Definition) → is_some o ≡ false → o ≡ None
 no_definition None e = refl

@@ -10,7 +10,8 @@ use Rattle.expander_scope.specs.ScopeTable.{scope_in}
 use Rattle.expander_session.specs.CachedOutputs.{Holds}
 use Rattle.expander_scope.specs.Outcomes.{parts_of}
 use Rattle.expander_session.specs.MemoRefs.{plain_tops}
-use Rattle.expander_session.specs.Memos.{AreHashes, Finds, is_match}
+use Rattle.expander_session.specs.LookupTrees.{IndexesMemos}
+use Rattle.expander_session.specs.Memos.{AreHashes, is_match}
 use Rattle.expander_model.specs.World.{world}
 use Rattle.expander_session.specs.declared.memo.Memo.{Memo}
 use Rattle.expander_reparse.proofs.ListLemmas.{stands_at}
@@ -51,7 +52,7 @@ returns-in_ok-plain-in-None-clause-counted g c =
     c.args.tree.now.value c.args.memory.now.plains.items c.requires.top c.requires.right.right
 
 pub find_valid-requires-clause-table : goal.find_valid-requires-clause-table
-find_valid-requires-clause-table g c = subst (Finds c.args.lookup.now) (sym c.as_slice-held.ensures.value) c.requires.lookup
+find_valid-requires-clause-table g c = subst (IndexesMemos c.args.lookup.now) (sym c.as_slice-held.ensures.value) c.requires.lookup
 
 pub find_valid-requires-clause-link : goal.find_valid-requires-clause-link
 find_valid-requires-clause-link g c =

@@ -1,9 +1,9 @@
 -- Token by token: what it adds behind some gap, and where the next one begins.
-use Rattle.std.proofs.Common.{◌≤◌, ◌+◌, ◌++◌, ℕ, List, true, drop, length, refl, string_bytes, arith}
+use Rattle.std.proofs.Common.{◌≤◌, ◌+◌, ◌++◌, ℕ, List, drop, length, refl, string_bytes, arith}
 use Rattle.std.specs.Prelude.{chars}
 use Rattle.rustc_lexer.specs.Lexing.{tokens_of}
 use Rattle.rustc_lexer.specs.Remaining.{tokens_left}
-use Rattle.html_code.specs.ExpansionParts.{Place, expansion_from}
+use Rattle.html_code.specs.ExpansionParts.{Place, beginning, expansion_from}
 use Rattle.html_code.specs.Parts.{html_of}
 use Rattle.html_code.specs.declared.layout.Gap.{Gap}
 use Rattle.html_code.proofs.ExpansionLemmas.{ends, whole, word_more}
@@ -22,7 +22,7 @@ word_at-word-requires-clause-here c =
 
 pub loop-token-preserved : goal.loop-token-preserved
 loop-token-preserved c =
-    let begin : Place = record { in_summary = true; last = 0; numbers = c.args.numbers.now } in
+    let begin : Place = beginning c.args.numbers.now in
     let all : List Gap → List ℕ =
     λ gaps. string_bytes c.push_str.new.self ++ html_of (expansion_from c.args.fold.now gaps begin c.args.printed.now (tokens_of (chars c.args.printed.now))) in
     record {
@@ -36,7 +36,7 @@ loop-token-preserved c =
 
 pub returns : goal.returns
 returns c =
-    let begin : Place = record { in_summary = true; last = 0; numbers = c.args.numbers.now } in
+    let begin : Place = beginning c.args.numbers.now in
     let all : List Gap → List ℕ =
     λ gaps. string_bytes c.push_str.new.self ++ html_of (expansion_from c.args.fold.now gaps begin c.args.printed.now (tokens_of (chars c.args.printed.now))) in
     whole c.args.fold.now (string_bytes c.args.page.now) (string_bytes c.push_str.new.self) (string_bytes c.push_fold_end.new.page)

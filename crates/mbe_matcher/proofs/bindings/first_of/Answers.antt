@@ -8,4 +8,4 @@ use Rattle.mbe_matcher.proofs.bindings.first_of.Goals as goal
 pub returns : goal.returns
 returns c =
     c.in_ok-binding.ensures
-    ∙ ap (λ b. with_round c.args.round (standing_for c.args.value) (Some b)) (standing-Rounds c.new.result ∙ ap (λ xs. rounds (values_of xs)) c.new.ensures.items)
+    ∙ ap (λ b. with_round c.args.round.now (standing_for c.args.value) (Some b)) (standing-Rounds c.new.result ∙ ap (λ xs. rounds (values_of xs)) c.new.ensures.items)

@@ -1,4 +1,4 @@
-use Rattle.replay_script.proofs.ScriptLemmas.{read_behind}
+use Rattle.replay_script.proofs.EditLemmas.{read_behind}
 use Rattle.replay_script.proofs.line.command_of.Goals as goal
 
 pub returns-in-Some : goal.returns-in-Some

@@ -19,7 +19,9 @@ returns c = λ os.
     let around = map_of c.args.self.now.around in
     let m = map_of c.take_values.new.self in
     let end = c.pass.new.self in
-    let ran = c.in_ok-pass.ensures ∙ ap (λ x. run_through k f (vs, x, start)) (c.replace_alone.ensures.old n b e) in
+    let ran =
+    c.in_ok-pass.ensures ∙ ap (λ x. run_through k f (vs, x, c.replace.result)) (c.replace_alone.ensures.old n b e)
+    ∙ ap (λ m. run_through k f (vs, b, m)) c.replace.ensures.value in
     let last = c.replace_alone-2.ensures.new n _ (c.replace_alone.ensures.new n b e) in
     let bound = c.in_ok-bind.ensures ∙ ap (λ x. bind n x m) (standing-Rounds end.values) in
     let same = c.take_values.ensures.others (rounds vs) ∙ bound-same n (rounds vs) around c.take_values.ensures.values in

@@ -9,4 +9,4 @@ use Rattle.mbe_matcher.proofs.bindings.Binding.with_round.Goals as goal
 pub returns-in-Rounds : goal.returns-in-Rounds
 returns-in-Rounds c =
     standing-Rounds c.put_value.new.values ∙ ap rounds c.in_ok-put_value-in-Rounds.ensures
-    ∙ sym (ap (λ b. with_round c.args.round (standing_for c.args.value) (Some b)) (ap standing_for c.in-Rounds.is ∙ standing-Rounds c.in-Rounds.values))
+    ∙ sym (ap (λ b. with_round c.args.round.now (standing_for c.args.value) (Some b)) (ap standing_for c.in-Rounds.is ∙ standing-Rounds c.in-Rounds.values))

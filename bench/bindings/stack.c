@@ -1,0 +1,78 @@
+/* How much call stack a text takes: stack GRAMMAR EDITION DEPTH <TEXT. Opens it, expands it, asks all of the answer and
+ * closes it, each on a thread with a stack of its own. Prints for each call how many
+ * bytes of it were written, and the code that expanding answered. */
+#define _GNU_SOURCE
+#include "expander.h"
+#include <pthread.h>
+#include <stdio.h>
+#include <stdlib.h>
+#include <string.h>
+#include <sys/mman.h>
+
+#define STACK ((size_t)1 << 30)
+
+static struct expander_session session = EXPANDER_SESSION_INIT;
+static char *text;
+static size_t len;
+static uint32_t grammar, edition, code;
+static uint8_t depth;
+
+static void *nothing(void *unused) {
+    return unused;
+}
+static void *opened(void *unused) {
+    code = expander_open(&session, text, len, edition, depth, grammar);
+    return unused;
+}
+static void *edited(void *unused) {
+    expander_edit(&session, 0, 0, " ", 1);
+    return unused;
+}
+static void *expanded(void *unused) {
+    code = expander_expand(&session);
+    return unused;
+}
+static void *asked(void *unused) {
+    struct expander_counts counts = {0, 0, 0, 0};
+    if (expander_counts(&session, &counts)) return unused;
+    void *room = calloc(counts.printed + counts.tokens + counts.faults + 1, sizeof(struct expander_fault));
+    expander_printed(&session, room, counts.printed);
+    expander_token_ranges(&session, room, counts.tokens);
+    expander_origins(&session, room, counts.tokens);
+    for (size_t i = 0; i < counts.faults; i++) expander_fault(&session, i, room);
+    free(room);
+    return unused;
+}
+static void *closed(void *unused) {
+    expander_close(&session);
+    return unused;
+}
+
+/* The bytes of its stack that a thread writes, from the deepest one up. A page that was never written reads as
+ * zeros, so none has to be painted. */
+static size_t used(void *(*call)(void *)) {
+    char *stack = mmap(NULL, STACK, PROT_READ | PROT_WRITE, MAP_PRIVATE | MAP_ANONYMOUS | MAP_NORESERVE, -1, 0);
+    pthread_attr_t attributes;
+    pthread_t thread;
+    if (stack == MAP_FAILED || pthread_attr_init(&attributes) || pthread_attr_setstack(&attributes, stack, STACK) ||
+        pthread_create(&thread, &attributes, call, NULL) || pthread_join(thread, NULL))
+        perror("a thread"), exit(2);
+    size_t lowest = 0;
+    unsigned char there;
+    while (lowest < STACK && (mincore(stack + lowest, 4096, &there), !(there & 1))) lowest += 4096;
+    while (lowest < STACK && !stack[lowest]) lowest++;
+    munmap(stack, STACK);
+    return STACK - lowest;
+}
+
+int main(int argc, char **argv) {
+    if (argc != 4) return 2;
+    grammar = (uint32_t)atoi(argv[1]), edition = (uint32_t)atoi(argv[2]), depth = (uint8_t)atoi(argv[3]);
+    size_t room = 1 << 16, n;
+    for (text = malloc(room); (n = fread(text + len, 1, room - len, stdin)); len += n)
+        if (room - len == n) text = realloc(text, room *= 2);
+    size_t none = used(nothing), open = used(opened) - none, edit = used(edited) - none;
+    size_t expand = used(expanded) - none, again = code, ask = used(asked) - none, close = used(closed) - none;
+    printf("open %zu edit %zu expand %zu ask %zu close %zu code %zu\n", open, edit, expand, ask, close, again);
+    return 0;
+}

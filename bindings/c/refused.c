@@ -1,0 +1,173 @@
+/* Want of memory: each request that a script of calls makes is refused in turn, once it alone and once with all
+ * that follow. After each call the session is compared with one that had no refusal. If the call answered MEMORY,
+ * that is a session on which it was not made, and the call is made again; then the rest of the script follows on
+ * both. No block may be left when they are closed. Link with
+ * -Wl,--wrap=malloc,--wrap=realloc,--wrap=free. */
+#include "expander.h"
+#include <stdbool.h>
+#include <stdio.h>
+#include <stdlib.h>
+#include <string.h>
+
+/* ---- memory */
+
+/* The requests that are left before one is refused, below 0 none; and whether all that follow are refused too. */
+static long left = -1;
+static bool and_all_more, was_refused;
+/* The blocks that are not freed, and the requests that were made. */
+static long blocks, requests;
+
+static bool refused(void) {
+    requests++;
+    if (left < 0 || left-- > 0) return false;
+    if (and_all_more) left = 0;
+    return was_refused = true;
+}
+
+void *__real_malloc(size_t);
+void *__real_realloc(void *, size_t);
+void __real_free(void *);
+void *__wrap_malloc(size_t n) {
+    void *at = refused() ? NULL : __real_malloc(n);
+    return blocks += at != NULL, at;
+}
+void *__wrap_realloc(void *p, size_t n) {
+    void *at = refused() ? NULL : __real_realloc(p, n);
+    return blocks += at && !p, at;
+}
+void __wrap_free(void *p) {
+    blocks -= p != NULL;
+    __real_free(p);
+}
+
+/* ---- the script */
+
+enum call { OPEN, EDIT, EXPAND };
+struct step {
+    enum call call;
+    size_t start, end;
+    const char *text;
+};
+
+#define MACROS "macro_rules! p { ($a:ident $b:tt) => { $b $a } }\nmacro q($($e:expr),*) { [$($e),*] }\n"
+static const struct step script[] = {
+    {OPEN, 0, 0, MACROS "p!{ x y }\nq!(1 + 2, f(3), |x| { x });\nfn f() { p!(a 'b); }\n"},
+    {EXPAND, 0, 0, ""},
+    {EXPAND, 0, 0, ""},
+    {EDIT, 91, 92, "(z)"},                    /* an argument */
+    {EXPAND, 0, 0, ""},
+    {EDIT, 0, 0, "// in front\n/// and a doc\n"},
+    {EXPAND, 0, 0, ""},
+    {EDIT, 39, 40, "renamed"},                /* the first definition's name */
+    {EXPAND, 0, 0, ""},
+    {EDIT, 0, 0, "("},                        /* a text that cannot be read */
+    {EXPAND, 0, 0, ""},
+    {EDIT, 0, 1, ""},
+    {EXPAND, 0, 0, ""},
+    {OPEN, 0, 0, "macro_rules! t { ($($t:tt)*) => { $($t $t)* } }\nt!{ t!{ a \"b\" } 'c' }\nt!(t!(t!(d)));\n"},
+    {EXPAND, 0, 0, ""},
+    {EDIT, 16, 16, " broken"},
+    {EXPAND, 0, 0, ""},
+    {OPEN, 0, 0, ""},
+    {EXPAND, 0, 0, ""},
+};
+#define STEPS (sizeof script / sizeof *script)
+
+static uint32_t make(struct expander_session *s, const struct step *it) {
+    size_t len = strlen(it->text);
+    switch (it->call) {
+    case OPEN: return expander_open(s, it->text, len, 2024, 128, EXPANDER_GRAMMAR_RUST);
+    case EDIT: return expander_edit(s, it->start, it->end, it->text, len);
+    default: return expander_expand(s);
+    }
+}
+
+/* ---- comparing */
+
+static int failures;
+
+static void fail(const char *what, size_t step, long request) {
+    printf("%s: step %zu, request %ld, %s\n", what, step, request, and_all_more ? "all that follow" : "it alone");
+    failures++;
+}
+
+/* All that is told of a session: its text, its last answer, and what each of these calls answers. */
+struct told {
+    size_t len;
+    _Alignas(8) uint8_t bytes[1 << 15];
+};
+
+static void *room(struct told *to, size_t n) {
+    void *at = to->bytes + to->len;
+    to->len += (n + 7) / 8 * 8;
+    if (to->len > sizeof to->bytes) printf("there is no room\n"), exit(2);
+    return at;
+}
+
+static void note(struct told *to, uint32_t code) {
+    memcpy(room(to, sizeof code), &code, sizeof code);
+}
+
+static void tell(struct expander_session *s, struct told *to) {
+    struct expander_counts counts = {0, 0, 0, 0};
+    size_t wanted = 0;
+    memset(to, 0, sizeof *to);
+    expander_text(s, NULL, 0, &wanted);
+    note(to, expander_text(s, room(to, wanted), wanted, &wanted));
+    note(to, expander_reading_fault(s, room(to, sizeof(struct expander_fault))));
+    note(to, expander_counts(s, &counts));
+    memcpy(room(to, sizeof counts), &counts, sizeof counts);
+    note(to, expander_printed(s, room(to, counts.printed), counts.printed));
+    note(to, expander_token_ranges(s, room(to, counts.tokens * sizeof(struct expander_range)), counts.tokens));
+    note(to, expander_origins(s, room(to, counts.tokens * sizeof(struct expander_range)), counts.tokens));
+    for (size_t i = 0; i < counts.faults; i++) note(to, expander_fault(s, i, room(to, sizeof(struct expander_fault))));
+}
+
+/* Whether the same is told of both, which takes no memory. */
+static bool alike(struct expander_session *one, struct expander_session *other) {
+    static struct told is, wanted;
+    long before = requests;
+    tell(one, &is), tell(other, &wanted);
+    return requests == before && is.len == wanted.len && !memcmp(is.bytes, wanted.bytes, is.len);
+}
+
+/* ---- refusing */
+
+/* Makes the script with a request refused in one step. Whether that step made so many requests. */
+static bool refuse(size_t step, long request) {
+    struct expander_session s = EXPANDER_SESSION_INIT, other = EXPANDER_SESSION_INIT;
+    bool met = false;
+    for (size_t i = 0; i < STEPS; i++) {
+        if (i == step) {
+            left = request, was_refused = false;
+            uint32_t code = make(&s, &script[i]);
+            left = -1, met = was_refused;
+            if (code == EXPANDER_MEMORY) {
+                if (!met) fail("MEMORY, and nothing was refused", i, request);
+                if (!alike(&s, &other)) fail("the refused call changed something", i, request);
+            } else {
+                if (code != make(&other, &script[i])) fail("another code", i, request);
+                if (!alike(&s, &other)) fail("another answer", i, request);
+                continue;
+            }
+        }
+        if (make(&s, &script[i]) != make(&other, &script[i])) fail("another code afterwards", i, request);
+        if (!alike(&s, &other)) fail("another answer afterwards", i, request);
+    }
+    long before = requests;
+    expander_close(&s), expander_close(&other);
+    if (requests != before) fail("closing asked for memory", step, request);
+    if (blocks) fail("blocks are left", step, request), blocks = 0;
+    return met;
+}
+
+int main(void) {
+    long runs = 0;
+    for (int more = 0; more < 2; more++) {
+        and_all_more = more;
+        for (size_t step = 0; step < STEPS; step++)
+            for (long request = 0; refuse(step, request); request++) runs++;
+    }
+    printf("%zu calls, %ld refusals, %d failures\n", STEPS, runs, failures);
+    return failures != 0 || runs < 100;
+}

@@ -1,0 +1,5 @@
+//! Tests of the page of a reply.
+#![tactic(auto)]
+
+#[cfg(test)]
+mod refused;

@@ -1,0 +1,56 @@
+-- The words of a command line, as clap gives them.
+use Rattle.std.proofs.Common.{◌≡◌, List, [], ◌∷◌, Option, Some, None, true, sym, ap, ◌∙◌, subst, codes}
+use Rattle.std.specs.Prelude.{IfSome, option_map}
+use Rattle.clap.proofs.WalkLemmas.{first_value-rows}
+use Rattle.clap.specs.Matches.{first_value}
+use Rattle.clap.specs.Simple.{App, Shape, is_simple, new_shape}
+use Rattle.clap.specs.Walk.{Row, Text, first_of, rows_of}
+use Rattle.clap.specs.declared.builder.value_parser.ValueParser.{ValueParser}
+use Rattle.clap.specs.declared.parser.matches.Found.{Found}
+use Rattle.filgordd.specs.Choices.{action_name}
+use Rattle.filgordd.specs.Commands.{AsksBy, AsksFor, IsFile, IsProgram, file_rule, option_rule, program_shape}
+use Rattle.filgordd.specs.declared.job.Action.{Action}
+use Rattle.filgordd.specs.declared.job.Job.{Job}
+
+-- the value that was got of an id is the first of its row
+pub value_is : {B : Type 0} (now : B → Text) (f : Found) (id : Text) (got : Option B) (x : B) → option_map now got ≡ first_value f id → got ≡ Some x
+    → first_of id (rows_of f) ≡ Some (now x)
+value_is now f id got x is was = sym (first_value-rows f id) ∙ sym is ∙ ap (option_map now) was
+
+pub file_is : {B : Type 0} (now : B → Text) (f : Found) (id : Text) (got : Option B) (file : Option Text) → option_map now got ≡ first_value f id
+    → IsFile (option_map now got) file → IsFile (first_of id (rows_of f)) file
+file_is now f id got file is h = subst (λ (word : Option Text). IsFile word file) (is ∙ first_value-rows f id) h
+
+-- a name and rows that were got apart stand together
+pub together : {B : Type 0} (o : Option B) (name_of : B → Text) (rows : B → List Row) (n : Text) (r : List Row) → option_map name_of o ≡ Some n
+    → option_map (λ (p : Text × List Row). p.1) (option_map {U = Text × List Row} (λ b. (name_of b, rows b)) o) ≡ Some r → option_map {U = Text × List Row} (λ b. (name_of b, rows b)) o ≡ Some (n, r)
+together None name_of rows n r e f = absurd (cc e)
+together (Some b) name_of rows n r e f =
+    let same : name_of b ≡ n = cc e in
+    let more : rows b ≡ r = cc f in
+    ap (λ (m : Text). Some (m, rows b)) same ∙ ap (λ (s : List Row). Some (n, s)) more
+
+-- a job by a subcommand and its values
+pub asks_for : (o : Option (Text × List Row)) (name : Text) (rows : List Row) (action : Action) (job : Option Job) → o ≡ Some (name, rows)
+    → name ≡ action_name action → IfSome job (λ j. j.action ≡ action) → IfSome job (AsksBy rows) → IfSome job (AsksFor o)
+asks_for o name rows action None is named by asks = tt
+asks_for o name rows action (Some j) is named by asks = rw is (named ∙ sym (ap action_name by), asks)
+
+-- a subcommand with these tests of its values
+abbrev subcommand_of_name : Text → ValueParser → ValueParser → ValueParser → Shape
+subcommand_of_name name grammar edition depth = record (new_shape name) {
+  rules = option_rule (codes "grammar") (codes "rust") grammar
+      ∷ option_rule (codes "edition") (codes "2024") edition
+      ∷ option_rule (codes "depth") (codes "128") depth ∷ file_rule ∷ [];
+}
+
+-- the program is one of which clap says the matches
+pub is_simple_program : (app : App) → IsProgram app → is_simple app ≡ true
+is_simple_program app p =
+    let expand : Shape = subcommand_of_name (codes "expand") p.is_expand.grammar p.is_expand.edition p.is_expand.depth in
+    let replay : Shape = subcommand_of_name (codes "replay") p.is_replay.grammar p.is_replay.edition p.is_replay.depth in
+    let of_three : Shape → Shape → Shape → App = λ a b c. record { top = program_shape; subs = a ∷ b ∷ c ∷ [] } in
+    ap is_simple (p.app_is
+    ∙ ap (λ (s : Shape). of_three s p.replay p.view) p.is_expand.shape_is
+    ∙ ap (λ (s : Shape). of_three expand s p.view) p.is_replay.shape_is
+    ∙ ap (λ (s : Shape). of_three expand replay s) p.is_view.shape_is)

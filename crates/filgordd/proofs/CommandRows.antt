@@ -1,0 +1,45 @@
+-- Words, and the subcommand and values that they give: worked examples.
+use Rattle.std.proofs.Common.{◌≡◌, List, [], ◌∷◌, Option, Some, None, codes, refl}
+use Rattle.std.specs.Prelude.{option_map}
+use Rattle.clap.proofs.OnLiterals.{clap_on_literals}
+use Rattle.clap.specs.Simple.{App, Shape, new_shape, subcommand_of}
+use Rattle.clap.specs.Walk.{Text, first_of}
+use Rattle.clap.specs.declared.builder.value_parser.ValueParser.{ValueParser}
+use Rattle.filgordd.specs.Commands.{file_rule, option_rule, program_shape}
+
+module _ (grammar edition depth : ValueParser) where
+  abbrev named : Text → Shape
+  named name = record (new_shape name) {
+    rules = option_rule (codes "grammar") (codes "rust") grammar
+        ∷ option_rule (codes "edition") (codes "2024") edition
+        ∷ option_rule (codes "depth") (codes "128") depth ∷ file_rule ∷ [];
+  }
+
+  abbrev program : App
+  program = record {
+    top = program_shape;
+    subs = named (codes "expand") ∷ named (codes "replay") ∷ named (codes "view") ∷ [];
+  }
+
+  -- the subcommand, the three values and the file
+  abbrev got : List Text → Option (List (Option Text))
+  got words = option_map (λ p. Some p.0 ∷ first_of (codes "grammar") p.1 ∷ first_of (codes "edition") p.1
+      ∷ first_of (codes "depth") p.1 ∷ first_of (codes "file") p.1 ∷ []) (subcommand_of program words)
+
+  -- `filgordd replay --grammar small s`
+  a_script : got (codes "filgordd" ∷ codes "replay" ∷ codes "--grammar" ∷ codes "small" ∷ codes "s" ∷ [])
+      ≡ Some (Some (codes "replay") ∷ Some (codes "small") ∷ Some (codes "2024") ∷ Some (codes "128") ∷ Some (codes "s") ∷ [])
+  unfolding clap_on_literals
+  a_script = refl
+
+  -- `filgordd expand --edition=2015 --depth 0`
+  no_file : got (codes "filgordd" ∷ codes "expand" ∷ codes "--edition=2015" ∷ codes "--depth" ∷ codes "0" ∷ [])
+      ≡ Some (Some (codes "expand") ∷ Some (codes "rust") ∷ Some (codes "2015") ∷ Some (codes "0") ∷ None ∷ [])
+  unfolding clap_on_literals
+  no_file = refl
+
+  -- `filgordd view -- --depth`
+  after_dashes : got (codes "filgordd" ∷ codes "view" ∷ codes "--" ∷ codes "--depth" ∷ [])
+      ≡ Some (Some (codes "view") ∷ Some (codes "rust") ∷ Some (codes "2024") ∷ Some (codes "128") ∷ Some (codes "--depth") ∷ [])
+  unfolding clap_on_literals
+  after_dashes = refl

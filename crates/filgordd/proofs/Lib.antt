@@ -1,0 +1,4 @@
+mod CommandLemmas
+mod CommandRows
+mod ShownLemmas
+mod SourceLemmas

@@ -1,0 +1,78 @@
+-- The command line of the program, as `clap` reads it. (Of this project.)
+use Rattle.std.specs.Prelude.{◌≡◌, ◌≢◌, List, [], ◌∷◌, codes, Option, Some, None, option_map, true, false, ⊤}
+use Rattle.clap.specs.Simple.{App, Shape, new_rule, new_shape, subcommand_of}
+use Rattle.clap.specs.Walk.{Row, Rule, Text, first_of}
+use Rattle.clap.specs.declared.builder.value_parser.ValueParser.{ValueParser}
+use Rattle.filgordd.specs.Choices.{Chosen, action_name}
+use Rattle.filgordd.specs.declared.job.Job.{Job}
+use Rattle.filgordd.specs.declared.request.Request.{Request}
+use Rattle.filgordd.specs.declared.request.Request.TheVariants.{Work}
+
+-- an option with a value: it is named so, and has this value where it is not used
+abbrev pub option_rule : Text → Text → ValueParser → Rule
+option_rule name default parser = record (new_rule name) {
+  long = Some name;
+  value_names = 1;
+  defaults = default ∷ [];
+  parser = Some parser;
+}
+
+-- the file, which has no name on the command line
+abbrev pub file_rule : Rule
+file_rule = record (new_rule (codes "file")) { value_names = 1 }
+
+-- a subcommand with this name, whatever tests the values of its options
+pub record IsSubcommand (name : Text) (shape : Shape) : Type 0 where
+  pub grammar : ValueParser
+  pub edition : ValueParser
+  pub depth : ValueParser
+  pub shape_is : shape ≡ record (new_shape name) {
+    rules = option_rule (codes "grammar") (codes "rust") grammar
+        ∷ option_rule (codes "edition") (codes "2024") edition
+        ∷ option_rule (codes "depth") (codes "128") depth ∷ file_rule ∷ [];
+  }
+
+-- the program: one of its three subcommands has to be named
+abbrev pub program_shape : Shape
+program_shape = record (new_shape (codes "filgordd")) {
+  is_leaf = false;
+  disable_help_subcommand = true;
+  has_version = true;
+  subcommand_required = true;
+}
+
+pub record IsProgram (app : App) : Type 0 where
+  pub expand : Shape
+  pub replay : Shape
+  pub view : Shape
+  pub is_expand : IsSubcommand (codes "expand") expand
+  pub is_replay : IsSubcommand (codes "replay") replay
+  pub is_view : IsSubcommand (codes "view") view
+  pub app_is : app ≡ record { top = program_shape; subs = expand ∷ replay ∷ view ∷ [] }
+
+-- a file's name is the word for it, but `-` names none
+pub record IsFile (word file : Option Text) : Type 0 where
+  pub lone : word ≡ Some (codes "-") → file ≡ None
+  pub other : word ≢ Some (codes "-") → file ≡ word
+
+-- what the values of a subcommand's options choose
+pub record AsksBy (rows : List Row) (job : Job) : Type 0 where
+  pub grammar : Text
+  pub edition : Text
+  pub depth : Text
+  pub has_grammar : first_of (codes "grammar") rows ≡ Some grammar
+  pub has_edition : first_of (codes "edition") rows ≡ Some edition
+  pub has_depth : first_of (codes "depth") rows ≡ Some depth
+  pub chosen : Chosen grammar edition depth job.options
+  pub has_file : IsFile (first_of (codes "file") rows) (option_map (λ s. s.now) job.file)
+
+-- the subcommand that was named, and its values, ask for this job
+abbrev pub AsksFor : Option (Text × List Row) → Job → Type 0
+AsksFor None job = ⊥
+AsksFor (Some (name, rows)) job = (name ≡ action_name job.action) × AsksBy rows job
+
+-- words that ask for work ask for that of their subcommand and its values, as `clap` gives them of
+-- the words
+abbrev pub IsAsked : List Text → Request → Type 0
+IsAsked words (Work job) = (app : App) × IsProgram app × AsksFor (subcommand_of app words) job
+IsAsked words _ = ⊤
