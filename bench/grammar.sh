@@ -1,10 +1,10 @@
 #!/bin/bash
-# Times the small grammar's answers, in processor time, on the trees of 100 KB and of 1 MB: an
+# Times the answers of both grammars, in processor time, on the trees of 100 KB and of 1.6 MB: an
 # expression, a type whose arguments have arguments, a pattern with many alternatives, and casts whose
 # types go on with arguments that break off, so that they are read again as operands. Ten million bytes
 # are asked about in all; the time to build the trees is taken off.
 . "$(dirname "$(readlink -f "${BASH_SOURCE[0]}")")/common.sh"
-build grammar bare_box symbols tt_data token_storage tt fragment_grammar small_grammar
+build grammar bare_box symbols tt_data token_storage tt fragment_grammar small_grammar rust_grammar
 
 # The milliseconds of processor time of a run in this mode; the least of three.
 run() {
@@ -17,12 +17,15 @@ run() {
     echo "$least"
 }
 
-for shape in 'e an expression' 't a type' 'p a pattern' 'f casts that break off'; do
-    for size in 's 100 KB' 'l 1 MB'; do
-        build=$(run "n${shape%% *}${size%% *}") || exit 2
-        all=$(run "a${shape%% *}${size%% *}") || exit 2
-        read -r steps <"$work/out"
-        awk -v what="${shape#* }, ${size#* }" -v n="$steps" -v t="$(( all - build ))" \
-            'BEGIN { printf "%s: %d steps, %.1f million steps/s\n", what, n, n / t / 1000 }'
+for grammar in 's the small grammar' 'r that of Rust'; do
+    for shape in 'e an expression' 't a type' 'p a pattern' 'f casts that break off'; do
+        for size in 's 100 KB' 'l 1.6 MB'; do
+            words=${shape%% *}${size%% *}${grammar%% *}
+            build=$(run "n$words") || exit 2
+            all=$(run "a$words") || exit 2
+            read -r steps <"$work/out"
+            awk -v what="${grammar#* }, ${shape#* }, ${size#* }" -v n="$steps" -v t="$(( all - build ))" \
+                'BEGIN { printf "%s: %d steps, %.1f million steps/s\n", what, n, n / t / 1000 }'
+        done
     done
 done
