@@ -275,11 +275,11 @@ cut_runs inner list cut i k d are below same before behind is at =
 
 -- ---- shared spans
 
-pub in_text : (shift : Shift) (reach anchor : ℕ) (s : Span) → shift.start + reach < 2 ^ 32 → shift.base + reach < 2 ^ 32
+pub in_text : (shift : Shift) (reach anchor : ℕ) (s : Span) → shift.own.start + reach < 2 ^ 32 → shift.other.start + reach < 2 ^ 32
     → is_within reach anchor s ≡ true → is_in_text shift s ≡ true
 in_text shift reach anchor s first second h = go (nat_eq s.anchor 0)
   where
-    go : (t : Bool) → (ltb ((if t then shift.start else shift.base) + s.range.start) (2 ^ 32) && ltb ((if t then shift.start else shift.base) + s.range.«end») (2 ^ 32)) ≡ true
+    go : (t : Bool) → (ltb ((if t then shift.own else shift.other).start + s.range.start) (2 ^ 32) && ltb ((if t then shift.own else shift.other).start + s.range.«end») (2 ^ 32)) ≡ true
     go true = grind (arith, nat_tests)
     go false = grind (arith, nat_tests)
 

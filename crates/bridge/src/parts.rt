@@ -4,7 +4,7 @@
 pub use crate::printing::chunk::PrintedChunk;
 pub use crate::printing::event::TokenEvent;
 pub use crate::printing::printer::LazyPrinted;
-pub use crate::printing::relative_spans::{RelativeSpans, Shift};
+pub use crate::printing::relative_spans::{Place, RelativeSpans, Shift};
 pub use crate::printing::span_list::SpanList;
 pub use crate::reading::name_cache::NameCache;
 pub use crate::reading::{begins_with_mark, read_part};

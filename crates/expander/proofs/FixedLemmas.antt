@@ -29,7 +29,8 @@ use Rattle.expander_model.specs.Faults.{comes_before, fault_at, in_order, is_def
 use Rattle.expander.specs.FixedPoint.{IsFixedPoint, PrintsItself}
 use Rattle.expander_session.specs.Laws.{AreAllPlain, HasNoWord}
 use Rattle.expander_session.specs.Layered.{layers}
-use Rattle.expander_model.specs.Meaning.{Layers, ReadMeaning, faults_of, meaning_from, meaning_of, member_faults, members, output_of}
+use Rattle.expander_model.specs.Definitions.{Definition}
+use Rattle.expander_model.specs.Meaning.{Layers, Member, ReadMeaning, faults_of, meaning_from, meaning_of, meaning_over, member_faults, members, members_in, output_of}
 use Rattle.expander_session.specs.Emitting.{tokens_in}
 use Rattle.expander_model.specs.Pieces.{pieces, separated}
 use Rattle.expander_model.specs.Printing.{PrintedToken, bare, left_out, spelling_before, steps_of, text_of, unspelled, visible}
@@ -226,19 +227,22 @@ module _ (laws : ReadingLaws) (given : List PlacedStep) (walked : AreWalked give
   pub fixed_output : IsFixedPoint (text_of (tokens_in given))
   fixed_output = subst IsFixedPoint (sym (ap bare_printing.text_of tokens_are)) (fixed_point printed_text (laws.again walked.trees).forest printed_of)
 
-module _ (laws : ReadingLaws) (grammar : Grammar) (edition : Edition) (depth : ℕ) where
-  abbrev all_of : Forest → List PlacedStep
-  all_of f = flat_map output_of (members (layers grammar edition) depth f)
+module _ (laws : ReadingLaws) (grammar : Grammar) (edition : Edition) (depth : ℕ) (initial : List Definition) where
+  abbrev members_of : Forest → List Member
+  members_of f = members_in (layers grammar edition) depth initial f
 
-  fixed_members : (f : Forest) → faults_of (layers grammar edition) (members (layers grammar edition) depth f) ≡ [] → IsFixedPoint (text_of (tokens_in (all_of f)))
+  abbrev all_of : Forest → List PlacedStep
+  all_of f = flat_map output_of (members_of f)
+
+  fixed_members : (f : Forest) → faults_of (layers grammar edition) (members_of f) ≡ [] → IsFixedPoint (text_of (tokens_in (all_of f)))
   fixed_members f e =
-      let told : List Fault = flat_map (member_faults (layers grammar edition)) (members (layers grammar edition) depth f) in
+      let told : List Fault = flat_map (member_faults (layers grammar edition)) (members_of f) in
       let none = nothing_parted told _ (nothing_in_order _ e) in
       let first = nothing_parted (nested (tokens_in (all_of f))) _ none.1 in
-      fixed_output laws (all_of f) (walked_members (layers grammar edition) depth [] (pieces f)) first.0
+      fixed_output laws (all_of f) (walked_members (layers grammar edition) depth initial (pieces f)) first.0
 
-  pub fixed_meaning : (r : Result Forest ReadFault) (m : ReadMeaning) → meaning_from (layers grammar edition) depth r ≡ Ok m → m.faults ≡ [] → IsFixedPoint m.text
+  pub fixed_meaning : (r : Result Forest ReadFault) (m : ReadMeaning) → meaning_over (layers grammar edition) depth initial r ≡ Ok m → m.faults ≡ [] → IsFixedPoint m.text
   fixed_meaning (Err fault) m is e = cc
   fixed_meaning (Ok f) m is e =
-      let same : meaning_of (layers grammar edition) (members (layers grammar edition) depth f) ≡ m = cc in
+      let same : meaning_of (layers grammar edition) (members_of f) ≡ m = cc in
       subst (λ (n : ReadMeaning). IsFixedPoint n.text) same (fixed_members f (ap (λ (n : ReadMeaning). n.faults) same ∙ e))

@@ -8,8 +8,9 @@ use Rattle.expander_session.specs.Count.{Looked}
 use Rattle.expander_session.specs.Expanded.{Expanded}
 use Rattle.expander.specs.FixedPoint.{IsFixedPoint, PrintsItself, RepliesWith}
 use Rattle.expander_session.specs.Layered.{layers}
-use Rattle.expander_model.specs.Meaning.{ReadMeaning, meaning}
-use Rattle.expander_session.specs.Replies.{IsMeant, IsReplyTo}
+use Rattle.expander_model.specs.Definitions.{Definition}
+use Rattle.expander_model.specs.Meaning.{ReadMeaning, meaning, meaning_in}
+use Rattle.expander_session.specs.Replies.{IsMeant, IsReplyIn, IsReplyTo}
 use Rattle.mbe.specs.Grammar.{Grammar}
 use Rattle.tt_data.specs.declared.edition.Edition.{Edition}
 
@@ -26,12 +27,12 @@ printed_fixed (Err fault) e earlier fixed h none text is = absurd h
 printed_fixed (Ok m) e earlier fixed h none text is =
     subst IsFixedPoint (sym h.printed ∙ is) (fixed m refl (sym h.faults ∙ none))
 
-pub fixed_reply : ((grammar : Grammar) (edition : Edition) (depth : ℕ) (text : List ℕ) (m : ReadMeaning) →
-    meaning (layers grammar edition) depth text ≡ Ok m → m.faults ≡ [] → IsFixedPoint m.text)
-    → (grammar : Grammar) (edition : Edition) (depth : ℕ) (text : List ℕ) (earlier : Option (List Looked)) (e : Expanded)
-    → IsReplyTo (layers grammar edition) depth text earlier (Read e) → e.faults ≡ []
+pub fixed_reply : ((grammar : Grammar) (edition : Edition) (depth : ℕ) (initial : List Definition) (text : List ℕ) (m : ReadMeaning) →
+    meaning_in (layers grammar edition) depth initial text ≡ Ok m → m.faults ≡ [] → IsFixedPoint m.text)
+    → (grammar : Grammar) (edition : Edition) (depth : ℕ) (initial : List Definition) (text : List ℕ) (earlier : Option (List Looked)) (e : Expanded)
+    → IsReplyIn (layers grammar edition) depth initial text earlier (Read e) → e.faults ≡ []
     → (others : Grammar) (later : Edition) (levels : ℕ) (held : Option (List Looked)) (reply : Reply) → IsReplyTo (layers others later) levels e.printed held reply → RepliesWith e.printed reply
-fixed_reply fixed grammar edition depth text earlier e h none others later levels held reply answers =
+fixed_reply fixed grammar edition depth initial text earlier e h none others later levels held reply answers =
     let point : IsFixedPoint e.printed =
-    printed_fixed (meaning (layers grammar edition) depth text) e earlier (fixed grammar edition depth text) h none e.printed refl in
+    printed_fixed (meaning_in (layers grammar edition) depth initial text) e earlier (fixed grammar edition depth initial text) h none e.printed refl in
     replied e.printed (meaning (layers others later) levels e.printed) reply held (point.again others later levels) answers

@@ -3,7 +3,8 @@ use Rattle.std.proofs.Common.{◌≡◌, ℕ, ◌+◌, Bool, true, false, List, 
 use Rattle.std.specs.Prelude.{All, IsUtf8, Ok, Result, filter, filter_map, not, ◌||◌}
 use Rattle.std.specs.List.{list_any}
 use Rattle.std.proofs.lemmas.Bool.{and_from}
-use Rattle.std.proofs.lemmas.List.Elements.{All-cons, All-head, All-nil, All-tail, filter-append}
+use Rattle.std.proofs.lemmas.List.Elements.{All-cons, All-head, All-nil, All-tail, All-weaker, filter-append}
+use Rattle.bridge.specs.RelativeSpans.{moved_to}
 use Rattle.bridge.specs.TokenSteps.{text_reading}
 use Rattle.bridge.specs.declared.reading.outcome.ReadFault.{ReadFault}
 use Rattle.mbe.specs.Grammar.{Grammar}
@@ -15,11 +16,11 @@ use Rattle.expander_session.specs.Count.{Looked, expanded_count, found_piece, is
 use Rattle.expander_model.specs.Definitions.{Definition, definition_of, nearest}
 use Rattle.expander_session.specs.Expanded.{Expanded}
 use Rattle.expander_model.specs.Expansion.{World, Outcome, expansion}
-use Rattle.expander_model.specs.Held.{HasNumber, IsNumbered, Known, Met, Numbered, StandFromFirst, Tells, kept_after, kept_of, met_of, moved_on, nearest_met, numbered_scope, numbered_world, present_definition, resolve, resolve_definition, with_met}
+use Rattle.expander_model.specs.Held.{HasNumber, IsNumbered, Known, Met, Numbered, StandFromFirst, Stands, Tells, first_place, kept_after, kept_of, mets_after, nearest_met, numbered_scope, numbered_world, present_definition, resolve, resolve_definition}
 use Rattle.expander_model.specs.DefinitionTrees.{definition_trees}
-use Rattle.expander_session.specs.Laws.{FindsAsBefore, IsFoundAgain, definitions_after}
+use Rattle.expander_session.specs.Laws.{FindsAsBefore, IsFoundAgain}
 use Rattle.expander_session.specs.Layered.{layers}
-use Rattle.expander_model.specs.Meaning.{Layers, meaning_from, member, members, members_after, with_definition}
+use Rattle.expander_model.specs.Meaning.{Layers, definitions_after, meaning_from, member, members, members_after}
 use Rattle.expander_scope.specs.Numbers.{Numbering, number_of, tree_of, with_trees}
 use Rattle.expander_model.specs.OtherPlaces.{definition_with}
 use Rattle.expander_model.specs.Pieces.{first_start, pieces, relative}
@@ -29,15 +30,15 @@ use Rattle.expander_session.specs.TextTurn.{StandsInText, held_of}
 use Rattle.expander_model.specs.World.{world}
 use Rattle.expander_session.specs.declared.session.Reply.TheVariants.{Read}
 use Rattle.expander_session.proofs.FindsLemmas.{expansion_found}
-use Rattle.expander_scope.proofs.HeldLemmas.{definition_there, members_present, present_scope, resolved_expansion}
+use Rattle.expander_scope.proofs.HeldLemmas.{definition_there, definitions_present, members_present, present_scope, resolved_expansion}
 use Rattle.expander_session.proofs.NumberLemmas.{all_known, tells_apart, with_trees_are}
-use Rattle.expander_model.proofs.PlaceLemmas.{resolved_piece}
+use Rattle.expander_model.proofs.PlaceLemmas.{all_stand, own_stands, resolved_piece}
 use Rattle.expander_session.proofs.ReadPlaceLemmas.{pieces_stand}
 use Rattle.expander_session.proofs.ReuseLemmas.{fresh_is_held, match_is_same, met_scope, number_by_tree, same_found-same}
 use Rattle.expander.proofs.SelfMatchLemmas.{AllMatch, none_counts}
 use Rattle.expander.proofs.SharedPieceLemmas.{all_front, any_front, looked_more}
 use Rattle.expander_session.proofs.TextPlaceLemmas.{all_numbered, tells}
-use Rattle.expander_session.proofs.TextTurnLemmas.{IsPiece, are_pieces, found_seen, kept_are, looked_are_held, met_there, mets}
+use Rattle.expander_session.proofs.TextTurnLemmas.{IsPiece, are_pieces, found_seen, kept_are, looked_are_held, mets, mets_stand}
 use Rattle.expander_session.proofs.WholeTurnLemmas.{TurnLaws}
 use Rattle.expander_session.proofs.WorldLemmas.{world_at_other_places}
 
@@ -71,25 +72,6 @@ counts_more earlier one two =
 
 -- ---- the definitions before a piece
 
-module _ (w : World Definition) (depth : ℕ) (number : Forest → ℕ) where
-  -- the definitions met once these pieces follow those before
-  abbrev pub mets_after : List Met → List Forest → List Met
-  mets_after before [] = before
-  mets_after before (p ∷ ps) = mets_after (with_met w depth number p (definition_of (relative p)) before) ps
-
-  definitions_present : (before : List Met) (ps : List Forest) → All StandFromFirst ps
-      → definitions_after (map present_definition before) ps ≡ map present_definition (mets_after before ps)
-  definitions_present before [] h = refl
-  definitions_present before (p ∷ ps) h =
-      ap (λ (o : Option Definition). definitions_after (with_definition o (map present_definition before)) ps) (definition_there p (All-head StandFromFirst p ps h))
-      ∙ go (definition_of (relative p)) (λ now. definitions_present now ps (All-tail StandFromFirst p ps h))
-    where
-      go : (o : Option Definition) → ((now : List Met) → definitions_after (map present_definition now) ps ≡ map present_definition (mets_after now ps))
-          → definitions_after (with_definition (option_map (definition_with (moved_on (first_start p))) o) (map present_definition before)) ps
-          ≡ map present_definition (mets_after (with_met w depth number p o before) ps)
-      go None later = later before
-      go (Some d) later = later (met_of w depth number p d ∷ before)
-
 module _ (laws : TurnLaws) (grammar : Grammar) (edition : Edition) (depth : ℕ) (number : Forest → ℕ) (table : Forest → ℕ → Type 0) (tell : Tells table) where
   abbrev here : Layers
   here = layers grammar edition
@@ -97,20 +79,11 @@ module _ (laws : TurnLaws) (grammar : Grammar) (edition : Edition) (depth : ℕ)
   abbrev w : World Definition
   w = world grammar edition
 
-  mets_stand : (before : List Met) → All (StandsInText table) before → (ps : List Forest) → All (IsPiece table number) ps
-      → All (StandsInText table) (mets_after w depth number before ps)
-  mets_stand before h [] g = h
-  mets_stand before h (p ∷ ps) g =
-      go (definition_of (relative p)) refl (λ now are. mets_stand now are ps (All-tail (IsPiece table number) p ps g))
-    where
-      go : (o : Option Definition) → definition_of (relative p) ≡ o
-          → ((now : List Met) → All (StandsInText table) now → All (StandsInText table) (mets_after w depth number now ps))
-          → All (StandsInText table) (mets_after w depth number (with_met w depth number p o before) ps)
-      go None e later = later before h
-      go (Some d) e later =
-          let m : Met = met_of w depth number p d in
-          later (m ∷ before)
-          (All-cons (StandsInText table) m before (met_there laws.equal w depth table number p d (All-head (IsPiece table number) p ps g) e) h)
+  definitions_stand : (ps : List Forest) → All (IsPiece table number) ps → All (StandsInText table) (mets_after w depth number [] ps)
+  definitions_stand ps are =
+      mets_stand laws.equal w depth table number [] (All-nil (StandsInText table)) ps
+      (All-weaker (IsPiece table number) Stands (λ p is. own_stands p is.from) ps are)
+      (All-weaker (IsPiece table number) (HasNumber table number) (λ p is. is.numbered) ps are)
 
   -- ---- one piece
 
@@ -130,7 +103,7 @@ module _ (laws : TurnLaws) (grammar : Grammar) (edition : Edition) (depth : ℕ)
   none_looked : (before : List Definition) (p : Forest) (d : Definition) → StandFromFirst p → definition_of (relative p) ≡ Some d
       → looked_of (members_after here depth before (p ∷ [])) ≡ []
   none_looked before p d from e =
-      ap (λ (o : Option Definition). looked_of (member here depth before p o ∷ [])) (definition_there p from ∙ ap (option_map (definition_with (moved_on (first_start p)))) e)
+      ap (λ (o : Option Definition). looked_of (member here depth before p o ∷ [])) (definition_there p (own_stands p from) ∙ ap (option_map (definition_with (moved_to (first_place p)))) e)
 
   module _ (before now : List Met) (met : All (StandsInText table) before) (met_now : All (StandsInText table) now) where
     abbrev piece_in : Numbered → Forest
@@ -209,11 +182,11 @@ module _ (laws : TurnLaws) (grammar : Grammar) (edition : Edition) (depth : ℕ)
       let now : List Met = mets_after w depth number [] twos in
       subst (λ (ds : List Definition). FindsAsBefore (nearest (definitions_after [] twos)) (expansion w (nearest ds) depth None p).finds
       → AllMatch (looked_of (members_after here depth ds (p ∷ []))) (looked_of (members_after here depth (definitions_after [] twos) (q ∷ []))))
-      (sym (definitions_present w depth number [] ones stand))
+      (sym (definitions_present w depth number [] ones (all_stand ones stand)))
       (subst (λ (ds : List Definition). FindsAsBefore (nearest ds) (expansion w (nearest (map present_definition before)) depth None p).finds
       → AllMatch (looked_of (members_after here depth (map present_definition before) (p ∷ []))) (looked_of (members_after here depth ds (q ∷ []))))
-      (sym (definitions_present w depth number [] twos stand_too))
-      (matched_met before now (mets_stand [] (All-nil (StandsInText table)) ones are) (mets_stand [] (All-nil (StandsInText table)) twos are_too) p q one two same))
+      (sym (definitions_present w depth number [] twos (all_stand twos stand_too)))
+      (matched_met before now (definitions_stand ones are) (definitions_stand twos are_too) p q one two same))
 
 -- ---- a piece of a text
 

@@ -1,6 +1,7 @@
 -- lemmas by subject; the worked examples
 mod Rows
 mod TextRows
+mod PreludeRows
 mod MacroRows
 mod PieceEndLemmas
 mod SharedPieceLemmas

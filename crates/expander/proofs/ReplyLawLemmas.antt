@@ -14,9 +14,9 @@ use Rattle.expander_model.specs.EqualTrees.{same_forest}
 use Rattle.expander_session.specs.Expanded.{Expanded}
 use Rattle.expander_session.specs.Laws.{ExpandsNothing, HasNoWord}
 use Rattle.expander_session.specs.Layered.{layers}
-use Rattle.expander_model.specs.Meaning.{ReadMeaning, meaning}
-use Rattle.expander_session.specs.Replies.{IsMeant, IsReplyTo, Replies, looked_in}
-use Rattle.expander_session.specs.State.{State, layers_of}
+use Rattle.expander_model.specs.Meaning.{ReadMeaning, meaning, meaning_in}
+use Rattle.expander_session.specs.Replies.{IsMeant, IsReplyTo, Replies, looked_in, meaning_of_state}
+use Rattle.expander_session.specs.State.{State, definitions_of, layers_of}
 use Rattle.expander_session.specs.declared.session.Reply.{Reply}
 use Rattle.expander_session.specs.declared.session.Reply.TheVariants.{Read, Unread}
 use Rattle.expander.proofs.SelfMatchLemmas.{AllMatch, no_new_piece}
@@ -88,9 +88,9 @@ module _ (equal : (f g : Forest) → (same_forest f g ≡ true) ↔ (f ≡ g)) w
   pub second_reply : {G : Type 0} → (answer : G → Grammar) (old new newer : State G) (e : Expanded) (reply : Reply)
       → Replies (layers_of answer old) old new (Read e) → Replies (layers_of answer new) new newer reply → ShowTheSame (Read e) reply × ExpandsNothing reply
   second_reply answer old new newer e reply h k =
-      let meant : Result ReadMeaning ReadFault = meaning (layers_of answer old) old.depth old.text in
-      let same : meaning (layers_of answer new) new.depth new.text ≡ meant =
-      λ i. meaning (layers (answer (h.1.grammar i)) (h.1.edition i)) (h.1.depth i) (h.1.text i) in
+      let meant : Result ReadMeaning ReadFault = meaning_of_state (layers_of answer old) old in
+      let same : meaning_of_state (layers_of answer new) new ≡ meant =
+      λ i. meaning_in (layers (answer (h.1.grammar i)) (h.1.edition i)) (h.1.depth i) (definitions_of (h.1.prelude i)) (h.1.text i) in
       again meant old.held e reply h.0
       (subst (λ (o : Option (List Looked)). IsMeant meant o reply) h.1.held
       (subst (λ (r : Result ReadMeaning ReadFault). IsMeant r new.held reply) same k.0))

@@ -13,9 +13,9 @@ use Rattle.expander_model.specs.Definitions.{Definition, definition_of}
 use Rattle.expander_model.specs.Expansion.{World, expansion}
 use Rattle.expander_model.specs.Held.{HasNumber, IsMet, Known, Met, Numbered, StandFromFirst, Tells, kept_after, kept_of, met_of, nearest_met, numbered_of, numbered_scope, numbered_world, with_met}
 use Rattle.expander_model.specs.DefinitionTrees.{definition_trees}
-use Rattle.expander_session.specs.Laws.{ExpandsNothing, definitions_after}
+use Rattle.expander_session.specs.Laws.{ExpandsNothing}
 use Rattle.expander_session.specs.Layered.{layers}
-use Rattle.expander_model.specs.Meaning.{Layers, Member, member, members, members_after, meaning_from, with_definition}
+use Rattle.expander_model.specs.Meaning.{Layers, Member, definitions_after, member, members, members_after, meaning_from, with_definition}
 use Rattle.expander_scope.specs.Numbers.{Numbering, number_of, tree_of, with_trees}
 use Rattle.expander_model.specs.Pieces.{pieces, relative}
 use Rattle.expander_session.specs.Replies.{IsMeant, IsReplyTo}

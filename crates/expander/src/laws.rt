@@ -14,9 +14,9 @@ ghost use Rattle.expander_model.specs.Faults.{comes_before, in_order};
 ghost use Rattle.expander.specs.FixedPoint.{IsFixedPoint, RepliesWith};
 ghost use Rattle.expander_model.specs.Held.{IsMet, Known, Met, TellsApart, kept_after, numbered_scope, numbered_world, present};
 ghost use Rattle.expander_model.specs.DefinitionTrees.{definition_trees, trees_in};
-ghost use Rattle.expander_session.specs.Laws.{AreAllPlain, ExpandsNothing, Fails, FindsAsBefore, HasNoWord, IsEnded, IsParted, definitions_after, why_failed};
+ghost use Rattle.expander_session.specs.Laws.{AreAllPlain, ExpandsNothing, Fails, FindsAsBefore, HasNoWord, IsEnded, IsParted, why_failed};
 ghost use Rattle.expander_session.specs.Layered.{layers};
-ghost use Rattle.expander_model.specs.Meaning.{Layers, ReadMeaning, faults_of, meaning, member_faults, members, members_after, output, output_of};
+ghost use Rattle.expander_model.specs.Meaning.{Layers, ReadMeaning, definitions_after, faults_of, meaning, meaning_in, member_faults, members, members_after, output, output_of};
 ghost use Rattle.expander_scope.specs.Numbers.{AreEntries, Numbering, number_in, number_of, tree_of, with_trees};
 ghost use Rattle.expander_scope.specs.NewNumbers.{needed};
 ghost use Rattle.expander_model.specs.OtherPlaces.{CommutesWithMarker, definition_with};
@@ -25,7 +25,7 @@ ghost use Rattle.expander.specs.PieceTrees.{own_tree};
 ghost use Rattle.expander.specs.SessionCalls.{IsAfter, SessionCall};
 ghost use Rattle.expander_model.specs.Pieces.{cut, pieces, put_together, relative, separated};
 ghost use Rattle.expander_model.specs.Printing.{left_out};
-ghost use Rattle.expander_session.specs.Replies.{HasCause, IsReplyTo, NeedsNumbers, Replies, definitions_in};
+ghost use Rattle.expander_session.specs.Replies.{HasCause, IsReplyIn, IsReplyTo, NeedsNumbers, Replies, definitions_in};
 ghost use Rattle.expander_session.specs.Reuse.{HeldPiece, IsHeld, looked_at, looked_held, matches};
 ghost use Rattle.expander_session.specs.State.{State, layers_of};
 ghost use Rattle.expander_session.specs.TextTurn.{InEntries, IsNext, IsTurn, held_of, is_unmatched, kept_entries, numbering_of, taken_after};
@@ -190,22 +190,24 @@ pub fn no_fault_without_definition_keywords()
     bridge::laws::short_leaves_are_printed();
 }
 
-/// Faultless output is a fixed point. If a text means an expansion without a fault, the printed
-/// text is read, has no definition, and means just the same bytes, without a fault, under every
-/// grammar, edition and number of levels.
+/// Faultless output is a fixed point. If a text means an expansion without a fault, after whatever
+/// definitions of other texts, the printed text is read, has no definition, and by itself means
+/// just the same bytes, without a fault, under every grammar, edition and number of levels.
 pub fn faultless_output_is_a_fixed_point()
-    ensures { (grammar : Grammar) (edition : Edition) (depth : ℕ) (text : List ℕ) (m : ReadMeaning) →
-        meaning (layers grammar edition) depth text ≡ Ok m → m.faults ≡ [] → IsFixedPoint m.text }
+    ensures { (grammar : Grammar) (edition : Edition) (depth : ℕ) (initial : List Definition) (text : List ℕ) (m : ReadMeaning) →
+        meaning_in (layers grammar edition) depth initial text ≡ Ok m → m.faults ≡ [] → IsFixedPoint m.text }
 {
     bridge::laws::reading_is_a_relation();
     bridge::laws::printed_text_reads_back();
 }
 
-/// So it is for replies. Any reply to what a reply without faults printed, of a session with any
-/// grammar, edition, number of levels and cache, prints the same bytes without a fault.
+/// So it is for replies. Any reply to what a reply without faults printed, of a session without a
+/// prelude, with any grammar, edition, number of levels and cache, prints the same bytes without a
+/// fault. (With a prelude it need not: what a call printed may be a call together with what follows
+/// it, once both are read again.)
 pub fn faultless_replies_are_fixed_points()
-    ensures { (grammar : Grammar) (edition : Edition) (depth : ℕ) (text : List ℕ) (earlier : Option (List Looked)) (e : Expanded) →
-        IsReplyTo (layers grammar edition) depth text earlier (Read e) → e.faults ≡ [] →
+    ensures { (grammar : Grammar) (edition : Edition) (depth : ℕ) (initial : List Definition) (text : List ℕ) (earlier : Option (List Looked)) (e : Expanded) →
+        IsReplyIn (layers grammar edition) depth initial text earlier (Read e) → e.faults ≡ [] →
         (others : Grammar) (later : Edition) (levels : ℕ) (held : Option (List Looked)) (reply : Reply) →
         IsReplyTo (layers others later) levels e.printed held reply → RepliesWith e.printed reply }
 {
@@ -484,10 +486,10 @@ fn ids_tell_trees_apart()
     equal_pieces();
 }
 
-/// A session that has given no id yet, as a new one, over a text of fewer than 2^32 bytes, never
-/// refuses with `Numbers`.
+/// A session that has given no id yet, as a new one, over a prelude and a text that have fewer than
+/// 2^32 definitions and bytes together, never refuses with `Numbers`.
 pub fn a_first_reply_lacks_no_ids<G: FragmentGrammar>()
-    ensures { (s : State G) → IsUtf8 s.text → length s.text < 2 ^ 32 → s.given ≡ 0 → s.trees ≡ [] →
+    ensures { (s : State G) → IsUtf8 s.text → length s.prelude + length s.text < 2 ^ 32 → s.given ≡ 0 → s.trees ≡ [] →
         HasCause (layers_of G.answer s) s Numbers → ⊥ }
 {
     definitions_are_no_more_than_bytes();
@@ -533,10 +535,11 @@ pub fn the_text_alone_decides()
 {}
 
 /// So it is for the calls of sessions. If two sessions answer by equal layers with as many levels,
-/// and have one text after any edits and replies, their replies show the same.
+/// after the same prelude, and have one text after any edits and replies, their replies show the
+/// same.
 pub fn one_text_of_two_sessions_decides<G: FragmentGrammar>()
     ensures { (one two first second after behind : State G) (calls others : List SessionCall) (reply other : Reply) →
-        layers_of G.answer one ≡ layers_of G.answer two → one.depth ≡ two.depth →
+        layers_of G.answer one ≡ layers_of G.answer two → one.depth ≡ two.depth → one.prelude ≡ two.prelude →
         IsAfter G.answer one calls first → IsAfter G.answer two others second → first.text ≡ second.text →
         Replies (layers_of G.answer first) first after reply → Replies (layers_of G.answer second) second behind other → ShowTheSame reply other }
 {}

@@ -41,6 +41,7 @@ pub record IsNew (bytes : List ℕ) (year levels number : ℕ) (live : Live) : T
   pub grammar : grammar_of number live.session.edition ≡ Some live.session.grammar
   pub text : live.session.text ≡ bytes
   pub depth : live.session.depth ≡ levels
+  pub prelude : live.session.prelude ≡ []
   pub held : live.session.held ≡ None
   pub trees : live.session.trees ≡ []
   pub given : live.session.given ≡ 0

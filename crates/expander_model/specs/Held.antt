@@ -1,5 +1,7 @@
--- A text's pieces with piece-relative spans, and how these become spans of the text.
-use Rattle.std.specs.Prelude.{◌≡◌, ℕ, ◌+◌, ◌≤◌, zero, suc, All, Contains, List, [], ◌∷◌, Option, Some, None, option_map, find, if◌then◌else◌, nat_eq}
+-- Pieces with piece-relative spans, and how these become spans of their texts.
+use Rattle.std.specs.Prelude.{◌≡◌, ℕ, ◌≤◌, zero, suc, All, Contains, List, [], ◌∷◌, Option, Some, None, option_map, find, if◌then◌else◌, nat_eq}
+use Rattle.bridge.specs.RelativeSpans.{moved_to, own_place}
+use Rattle.bridge.specs.declared.printing.relative_spans.Place.{Place}
 use Rattle.tt_data.specs.Forest.{Forest, leaf, group, empty, map_spans}
 use Rattle.tt_data.specs.Spans.{span_of}
 use Rattle.tt_data.specs.declared.span.Span.{Span}
@@ -18,33 +20,51 @@ AllSpans P empty = Unit {0}
 AllSpans P (leaf l rest) = P (span_of l) × AllSpans P rest
 AllSpans P (group d inner rest) = P d.open_span × P d.close_span × AllSpans P inner × AllSpans P rest
 
--- a span written in the text itself, no part of which is before n
-pub record IsFrom (n : ℕ) (s : Span) : Type 0 where
-  pub starts : n ≤ s.range.start
-  pub ends : n ≤ s.range.«end»
-  pub anchor : s.anchor ≡ 0
+-- a span written in the text of this place, no part of which is before it
+pub record IsFrom (p : Place) (s : Span) : Type 0 where
+  pub starts : p.start ≤ s.range.start
+  pub ends : p.start ≤ s.range.«end»
+  pub anchor : s.anchor ≡ p.text
   pub ctx : s.ctx ≡ Written
 
--- trees written in the text itself, none of whose spans begins before the first token's
+-- trees written in the text of this number, none of whose spans begins before the first token's
+abbrev pub StandFrom : ℕ → Forest → Type 0
+StandFrom t p = AllSpans (IsFrom (record { text = t; start = first_start p })) p
+
+-- the text that a piece's first token is written in
+abbrev pub first_text : Forest → ℕ
+first_text empty = 0
+first_text (leaf l rest) = (span_of l).anchor
+first_text (group d inner rest) = d.open_span.anchor
+
+-- the place of a piece's first token
+abbrev pub first_place : Forest → Place
+first_place p = record { text = first_text p; start = first_start p }
+
+-- trees written in one text, none of whose spans begins before the first token's
+abbrev pub Stands : Forest → Type 0
+Stands p = StandFrom (first_text p) p
+
+-- such trees of the text that is expanded
 abbrev pub StandFromFirst : Forest → Type 0
-StandFromFirst p = AllSpans (IsFrom (first_start p)) p
+StandFromFirst p = StandFrom 0 p
 
 -- the tokens of a definition with this id have it as anchor
 abbrev pub anchored : ℕ → Span → Span
 anchored n s = record s { anchor = n }
 
--- a span counted from n, as a span of the text
+-- a span counted from n, as a span of the text that is expanded
 abbrev pub moved_on : ℕ → Span → Span
-moved_on n s = record { range = record { start = n + s.range.start; «end» = n + s.range.«end» }; anchor = 0; ctx = s.ctx }
+moved_on n = moved_to (own_place n)
 
 -- a definition with piece-relative spans, and the id of its tree
 pub record Numbered : Type 0 where
   pub number : ℕ
   pub definition : Definition
 
--- a definition of the text: where it starts, and what it is
+-- a definition in scope: the place where it starts, and what it is
 pub record Met : Type 0 where
-  pub start : ℕ
+  pub place : Place
   pub numbered : Numbered
 
 -- a definition whose tokens have its id as anchor
@@ -63,7 +83,7 @@ numbered_world world = record {
 abbrev pub nearest_met : List Met → List ℕ → Option Met
 nearest_met before name = find (λ (m : Met). same_text m.numbered.definition.name.sym name) before
 
--- a definition with its id, without its start
+-- a definition with its id, without its place
 abbrev pub numbered_of : Met → Numbered
 numbered_of m = m.numbered
 
@@ -72,22 +92,22 @@ abbrev pub numbered_scope : List Met → List ℕ → Option Numbered
 numbered_scope before name = option_map numbered_of (nearest_met before name)
 
 -- where the nearest definition of an id starts
-abbrev pub start_of : List Met → ℕ → ℕ
-start_of [] n = 0
-start_of (m ∷ before) n = if nat_eq m.numbered.number n then m.start else start_of before n
+abbrev pub place_of : List Met → ℕ → Place
+place_of [] n = own_place 0
+place_of (m ∷ before) n = if nat_eq m.numbered.number n then m.place else place_of before n
 
--- the offset that an anchor stands for: 0 is the piece itself, another the nearest definition's
-abbrev pub base_of : ℕ → List Met → ℕ → ℕ
-base_of start before zero = start
-base_of start before (suc n) = start_of before (suc n)
+-- the place that an anchor stands for: 0 is the piece itself, another the nearest definition's
+abbrev pub base_of : ℕ → List Met → ℕ → Place
+base_of start before zero = own_place start
+base_of start before (suc n) = place_of before (suc n)
 
--- a span of a piece as a span of the text
+-- a span of a piece as a span of its text
 abbrev pub resolve : ℕ → List Met → Span → Span
-resolve start before s = moved_on (base_of start before s.anchor) s
+resolve start before s = moved_to (base_of start before s.anchor) s
 
--- a definition of the text, with its spans in the text
+-- a definition in scope, with its spans in its text
 abbrev pub present_definition : Met → Definition
-present_definition m = definition_with (moved_on m.start) m.numbered.definition
+present_definition m = definition_with (moved_to m.place) m.numbered.definition
 
 -- a definition with its id, at the spans of the nearest one with that id
 abbrev pub resolve_definition : ℕ → List Met → Numbered → Definition
@@ -105,14 +125,19 @@ present (kept start before tree outcome) =
 present (met m) = defining (present_definition m)
 
 module _ (world : World Definition) (depth : ℕ) (number_of : Forest → ℕ) where
-  -- a piece that is this definition, with its start and id
+  -- a piece that is this definition, with its place and id
   abbrev pub met_of : Forest → Definition → Met
-  met_of piece d = record { start = first_start piece; numbered = record { number = number_of (relative piece); definition = d } }
+  met_of piece d = record { place = first_place piece; numbered = record { number = number_of (relative piece); definition = d } }
 
   -- the definitions so far with that of one more piece, if it is one
   abbrev pub with_met : Forest → Option Definition → List Met → List Met
   with_met piece None before = before
   with_met piece (Some d) before = met_of piece d ∷ before
+
+  -- the definitions once these pieces follow those before
+  abbrev pub mets_after : List Met → List Forest → List Met
+  mets_after before [] = before
+  mets_after before (p ∷ ps) = mets_after (with_met p (definition_of (relative p)) before) ps
 
   -- a piece in the scope of the definitions before it
   abbrev pub kept_of : List Met → Forest → Option Definition → Kept
@@ -139,7 +164,7 @@ pub record IsNumbered (table : Forest → ℕ → Type 0) (d : Numbered) : Type 
   pub entry : table tree d.number
   pub definition : definition_of tree ≡ Some d.definition
 
--- a definition of the text has the id of its tree
+-- a definition in scope has the id of its tree
 abbrev pub IsMet : (Forest → ℕ → Type 0) → Met → Type 0
 IsMet table m = IsNumbered table m.numbered
 

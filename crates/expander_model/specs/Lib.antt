@@ -20,3 +20,4 @@ pub mod Held
 pub mod HashedTrees
 pub mod Splitting
 pub mod WalkSteps
+pub mod Sources

@@ -1,4 +1,5 @@
--- The meaning of a text: its reading fault, or its printed text and faults. (Of this project.)
+-- The meaning of a text: its reading fault, or its printed text and faults; by itself, or after
+-- definitions of other texts. (Of this project.)
 use Rattle.std.specs.Prelude.{ℕ, List, [], ◌∷◌, ◌++◌, Option, Some, None, Result, Ok, Err, map, flat_map, if◌then◌else◌}
 use Rattle.tt_data.specs.Forest.{Forest}
 use Rattle.tt_data.specs.Walk.{Step}
@@ -33,6 +34,11 @@ pub record ReadMeaning : Type 0 where
 abbrev pub with_definition : Option Definition → List Definition → List Definition
 with_definition None before = before
 with_definition (Some d) before = d ∷ before
+
+-- the definitions in scope once these pieces follow those before, the nearest first
+abbrev pub definitions_after : List Definition → List Forest → List Definition
+definitions_after before [] = before
+definitions_after before (p ∷ ps) = definitions_after (with_definition (definition_of p) before) ps
 
 -- a plain piece's output; a definition has none
 abbrev pub output_of : Member → List PlacedStep
@@ -73,14 +79,26 @@ module _ (layers : Layers) (depth : ℕ) where
       let d : Option Definition = definition_of p in
       member before p d ∷ members_after (with_definition d before) ps
 
-  -- the pieces of a forest in order, each in the scope of those before it
-  abbrev pub members : Forest → List Member
-  members f = members_after [] (pieces f)
+  -- the pieces of a forest in order, each in the scope of those before it, and of these
+  -- definitions, which come before all of them and are given nearest first
+  abbrev pub members_in : List Definition → Forest → List Member
+  members_in initial f = members_after initial (pieces f)
 
-  -- the meaning of a text: it depends on no session, no edit and no earlier text
+  abbrev pub members : Forest → List Member
+  members f = members_in [] f
+
+  abbrev pub meaning_over : List Definition → Result Forest ReadFault → Result ReadMeaning ReadFault
+  meaning_over initial (Err fault) = Err fault
+  meaning_over initial (Ok f) = Ok (meaning_of layers (members_in initial f))
+
+  -- the meaning of a text after these definitions of other texts: it depends on no session, no
+  -- edit and no earlier text
+  abbrev pub meaning_in : List Definition → List ℕ → Result ReadMeaning ReadFault
+  meaning_in initial text = meaning_over initial (layers.read text)
+
+  -- the same without any
   abbrev pub meaning_from : Result Forest ReadFault → Result ReadMeaning ReadFault
-  meaning_from (Err fault) = Err fault
-  meaning_from (Ok f) = Ok (meaning_of layers (members f))
+  meaning_from read = meaning_over [] read
 
   abbrev pub meaning : List ℕ → Result ReadMeaning ReadFault
-  meaning text = meaning_from (layers.read text)
+  meaning text = meaning_in [] text

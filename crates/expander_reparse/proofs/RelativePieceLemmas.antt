@@ -3,6 +3,7 @@ use Rattle.std.proofs.Common.{◌≡◌, ℕ, suc, ◌+◌, ◌<◌, ◌≤◌, 
 use Rattle.std.specs.Prelude.{All}
 use Rattle.std.proofs.lemmas.List.{at_drop_all, drop_more, map-append}
 use Rattle.std.proofs.lemmas.List.Elements.{All-cons, All-head, All-nil, All-tail}
+use Rattle.bridge.specs.RelativeSpans.{own_place}
 use Rattle.tt.specs.Tops.{Top}
 use Rattle.tt_data.specs.Forest.{Forest, map_spans}
 use Rattle.expander_model.specs.Held.{StandFromFirst, moved_on}
@@ -22,7 +23,7 @@ back : (p : Forest) (o : Piece) → IsOwn p o → StandFromFirst p → piece_at 
 back p o is stands =
     ap (λ (t : Top). map_spans (moved_on o.start) t.inner) is.tree
     ∙ ap (λ (n : ℕ). map_spans (moved_on n) (relative p)) is.start
-    ∙ piece_and_back (first_start p) p stands
+    ∙ piece_and_back (own_place (first_start p)) p stands
 
 stands_here : (p : Forest) (o : Piece) → IsOwn p o → StandFromFirst p → IsOwnPiece o
 stands_here p o is stands =

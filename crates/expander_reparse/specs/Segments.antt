@@ -8,13 +8,12 @@ use Rattle.bridge.specs.Reading.{PlacedToken, placed_from, step}
 use Rattle.bridge.specs.TokenSteps.{steps_of}
 use Rattle.rustc_lexer.specs.Lexing.{tokens_of}
 use Rattle.rustc_lexer.specs.declared.token.Token.{Token}
-use Rattle.tt_data.specs.Forest.{Forest, joined, map_spans}
+use Rattle.tt_data.specs.Forest.{Forest, joined}
 use Rattle.tt_data.specs.Walk.{walk}
-use Rattle.tt_data.specs.declared.span.Span.{Span}
 use Rattle.tt.specs.Tops.{Top}
 use Rattle.bridge.specs.Parts.{begins_with_mark, starts_with_mark}
 use Rattle.expander_reparse.specs.RelativePieces.{own_of}
-use Rattle.expander_model.specs.Pieces.{cut, pieces}
+use Rattle.expander_model.specs.Pieces.{pieces}
 use Rattle.expander_reparse.specs.declared.segment.Lookahead.{Lookahead}
 use Rattle.expander_reparse.specs.declared.segment.TokenRun.{TokenRun}
 use Rattle.expander_reparse.specs.declared.segment.CachedSegment.{CachedSegment}

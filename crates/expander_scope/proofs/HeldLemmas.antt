@@ -3,19 +3,20 @@ use Rattle.std.proofs.Common.{◌≡◌, ℕ, suc, Bool, true, false, cond, List
 use Rattle.std.specs.Prelude.{All}
 use Rattle.std.proofs.lemmas.Bool.Decides.{Decides-eqb}
 use Rattle.std.proofs.lemmas.List.Elements.{All-cons, All-head, All-tail}
+use Rattle.bridge.specs.RelativeSpans.{moved_to}
 use Rattle.tt_data.specs.Forest.{Forest, map_spans}
 use Rattle.tt_data.specs.declared.span.Span.{Span}
 use Rattle.expander_model.specs.Changes.{outcome_with, Changes, ScopeChange}
 use Rattle.expander_model.specs.Definitions.{Definition, definition_of, nearest}
 use Rattle.expander_model.specs.Expansion.{World, Outcome, expansion}
-use Rattle.expander_model.specs.Held.{Numbered, Met, anchored, anchored_definition, moved_on, numbered_world, nearest_met, numbered_of, numbered_scope, start_of, resolve, present_definition, resolve_definition, present, met_of, with_met, kept_of, kept_after, Tells, IsNumbered, IsMet, HasNumber, StandFromFirst}
-use Rattle.expander_model.specs.Meaning.{Layers, Member, plain, defining, member, with_definition, members_after}
+use Rattle.expander_model.specs.Held.{Numbered, Met, Stands, anchored, anchored_definition, first_place, mets_after, numbered_world, nearest_met, numbered_of, numbered_scope, place_of, resolve, present_definition, resolve_definition, present, met_of, with_met, kept_of, kept_after, Tells, IsNumbered, IsMet, HasNumber, StandFromFirst}
+use Rattle.expander_model.specs.Meaning.{Layers, Member, plain, defining, definitions_after, member, with_definition, members_after}
 use Rattle.expander_model.specs.OtherPlaces.{LooksAtNoPlace, definition_with}
 use Rattle.expander_model.specs.Pieces.{first_start, relative}
 use Rattle.small_grammar.specs.Text.{same_text}
 use Rattle.expander_scope.proofs.ChangeLemmas.{expansion-with}
 use Rattle.expander_scope.proofs.DefinitionPlaceLemmas.{definition_with-with, definition_of-with}
-use Rattle.expander_model.proofs.PlaceLemmas.{piece_and_back, resolved_piece}
+use Rattle.expander_model.proofs.PlaceLemmas.{own_stands, piece_and_back, resolved_piece}
 
 nat_eq-same : (n : ℕ) → nat_eq n n ≡ true
 nat_eq-same n = (Decides-eqb n n).1 refl
@@ -47,14 +48,14 @@ found_is P (k ∷ before) name m h e = go (found_is P before name m (All-tail P 
     go later false named e = later e
 
 -- the nearest definition of a name is the nearest of its number
-start_found : (table : Forest → ℕ → Type 0) → Tells table → (before : List Met) (name : List ℕ) (m : Met)
-    → All (IsMet table) before → nearest_met before name ≡ Some m → start_of before m.numbered.number ≡ m.start
-start_found table tells [] name m h e = cc
-start_found table tells (k ∷ before) name m h e =
-    go (start_found table tells before name m (All-tail (IsMet table) k before h)) (same_text k.numbered.definition.name.sym name) refl e
+place_found : (table : Forest → ℕ → Type 0) → Tells table → (before : List Met) (name : List ℕ) (m : Met)
+    → All (IsMet table) before → nearest_met before name ≡ Some m → place_of before m.numbered.number ≡ m.place
+place_found table tells [] name m h e = cc
+place_found table tells (k ∷ before) name m h e =
+    go (place_found table tells before name m (All-tail (IsMet table) k before h)) (same_text k.numbered.definition.name.sym name) refl e
   where
-    apart : (nearest_met before name ≡ Some m → start_of before m.numbered.number ≡ m.start) → same_text k.numbered.definition.name.sym name ≡ false → nearest_met before name ≡ Some m
-        → (b : Bool) → nat_eq k.numbered.number m.numbered.number ≡ b → cond b k.start (start_of before m.numbered.number) ≡ m.start
+    apart : (nearest_met before name ≡ Some m → place_of before m.numbered.number ≡ m.place) → same_text k.numbered.definition.name.sym name ≡ false → nearest_met before name ≡ Some m
+        → (b : Bool) → nat_eq k.numbered.number m.numbered.number ≡ b → cond b k.place (place_of before m.numbered.number) ≡ m.place
     apart rest named e true equal =
         let found : IsFound (IsMet table) name m = found_is (IsMet table) before name m (All-tail (IsMet table) k before h) e in
         let definitions : k.numbered.definition ≡ m.numbered.definition = same_definition table tells k.numbered m.numbered (All-head (IsMet table) k before h) found.is_so ((Decides-eqb _ _).0 equal) in
@@ -62,11 +63,11 @@ start_found table tells (k ∷ before) name m h e =
         cc
     apart rest named e false other = rest e
 
-    go : (nearest_met before name ≡ Some m → start_of before m.numbered.number ≡ m.start) → (t : Bool) → same_text k.numbered.definition.name.sym name ≡ t
-        → cond t (Some k) (nearest_met before name) ≡ Some m → start_of (k ∷ before) m.numbered.number ≡ m.start
+    go : (nearest_met before name ≡ Some m → place_of before m.numbered.number ≡ m.place) → (t : Bool) → same_text k.numbered.definition.name.sym name ≡ t
+        → cond t (Some k) (nearest_met before name) ≡ Some m → place_of (k ∷ before) m.numbered.number ≡ m.place
     go rest true named e =
         let same : k ≡ m = some_is k m e in
-        subst (λ (x : Met). start_of (k ∷ before) x.numbered.number ≡ x.start) same (ap (λ (b : Bool). cond b k.start (start_of before k.numbered.number)) (nat_eq-same k.numbered.number))
+        subst (λ (x : Met). place_of (k ∷ before) x.numbered.number ≡ x.place) same (ap (λ (b : Bool). cond b k.place (place_of before k.numbered.number)) (nat_eq-same k.numbered.number))
     go rest false named e = apart rest named e (nat_eq k.numbered.number m.numbered.number) refl
 
 -- a met definition in the text is what its number stands for
@@ -77,8 +78,8 @@ resolved_definition table tells start before name m h e =
     let one : (n : ℕ) × (m.numbered.number ≡ suc n) = tells.positive is_met.tree m.numbered.number is_met.entry in
     let number : m.numbered.number ≡ suc one.0 = one.1 in
     let change : Span → Span = λ s. resolve start before (anchored m.numbered.number s) in
-    let place : moved_on m.start ≡ change =
-    ap moved_on (sym (start_found table tells before name m h e) ∙ ap (start_of before) number)
+    let place : moved_to m.place ≡ change =
+    ap moved_to (sym (place_found table tells before name m h e) ∙ ap (place_of before) number)
     ∙ ap (λ (n : ℕ). λ (s : Span). resolve start before (anchored n s)) (sym number) in
     ap (λ (f : Span → Span). definition_with f m.numbered.definition) place
     ∙ sym (definition_with-with (resolve start before) (anchored m.numbered.number) m.numbered.definition)
@@ -118,8 +119,25 @@ resolved_expansion world law table tells start before h depth tree =
     expansion-with (resolve start before) (resolve_definition start before) (numbered_world world) world (present_world world law start before)
     (numbered_scope before) (nearest (map present_definition before)) (present_scope table tells start before h) depth None tree
 
-pub definition_there : (p : Forest) → StandFromFirst p → definition_of p ≡ option_map (definition_with (moved_on (first_start p))) (definition_of (relative p))
-definition_there p h = ap definition_of (sym (piece_and_back (first_start p) p h)) ∙ definition_of-with (moved_on (first_start p)) (relative p)
+-- a definition of any text, by its piece-relative tree
+pub definition_there : (p : Forest) → Stands p → definition_of p ≡ option_map (definition_with (moved_to (first_place p))) (definition_of (relative p))
+definition_there p h = ap definition_of (sym (piece_and_back (first_place p) p h)) ∙ definition_of-with (moved_to (first_place p)) (relative p)
+
+-- the definitions in scope are those of the pieces with piece-relative spans, taken to their texts
+pub definitions_present : (world : World Definition) (depth : ℕ) (number_of : Forest → ℕ) (before : List Met) (ps : List Forest) → All Stands ps
+    → definitions_after (map present_definition before) ps ≡ map present_definition (mets_after world depth number_of before ps)
+definitions_present world depth number_of before [] h = refl
+definitions_present world depth number_of before (p ∷ ps) h =
+    ap (λ (o : Option Definition). definitions_after (with_definition o (map present_definition before)) ps)
+    (definition_there p (All-head Stands p ps h))
+    ∙ go (definition_of (relative p)) (λ now. definitions_present world depth number_of now ps (All-tail Stands p ps h))
+  where
+    go : (o : Option Definition)
+        → ((now : List Met) → definitions_after (map present_definition now) ps ≡ map present_definition (mets_after world depth number_of now ps))
+        → definitions_after (with_definition (option_map (definition_with (moved_to (first_place p))) o) (map present_definition before)) ps
+        ≡ map present_definition (mets_after world depth number_of (with_met world depth number_of p o before) ps)
+    go None later = later before
+    go (Some d) later = later (met_of world depth number_of p d ∷ before)
 
 -- the members of a text are its pieces in places of their own, taken to the text
 pub members_present : (layers : Layers) → LooksAtNoPlace layers.world → (table : Forest → ℕ → Type 0) → Tells table → (number_of : Forest → ℕ) (depth : ℕ)
@@ -129,7 +147,7 @@ members_present layers law table tells number_of depth before h [] g n = refl
 members_present layers law table tells number_of depth before h (p ∷ ps) g n =
     let from : StandFromFirst p = All-head StandFromFirst p ps g in
     ap (λ (o : Option Definition). member layers depth (map present_definition before) p o ∷ members_after layers depth (with_definition o (map present_definition before)) ps)
-    (definition_there p from)
+    (definition_there p (own_stands p from))
     ∙ go from (All-head (HasNumber table number_of) p ps n)
     (λ now are. members_present layers law table tells number_of depth now are ps (All-tail StandFromFirst p ps g) (All-tail (HasNumber table number_of) p ps n))
     (definition_of (relative p)) refl
@@ -137,13 +155,13 @@ members_present layers law table tells number_of depth before h (p ∷ ps) g n =
     go : StandFromFirst p → HasNumber table number_of p → ((now : List Met) → All (IsMet table) now
         → members_after layers depth (map present_definition now) ps ≡ map present (kept_after layers.world depth number_of now ps))
         → (o : Option Definition) → definition_of (relative p) ≡ o
-        → member layers depth (map present_definition before) p (option_map (definition_with (moved_on (first_start p))) o)
-        ∷ members_after layers depth (with_definition (option_map (definition_with (moved_on (first_start p))) o) (map present_definition before)) ps
+        → member layers depth (map present_definition before) p (option_map (definition_with (moved_to (first_place p))) o)
+        ∷ members_after layers depth (with_definition (option_map (definition_with (moved_to (first_place p))) o) (map present_definition before)) ps
         ≡ map present (kept_of layers.world depth number_of before p o ∷ kept_after layers.world depth number_of (with_met layers.world depth number_of p o before) ps)
     go from numbered later (Some d) e =
         let here : IsMet table (met_of layers.world depth number_of p d) =
         record { tree = relative p; entry = numbered d e; definition = e } in
-        ap (λ (ms : List Member). defining (definition_with (moved_on (first_start p)) d) ∷ ms)
+        ap (λ (ms : List Member). defining (definition_with (moved_to (first_place p)) d) ∷ ms)
         (later (met_of layers.world depth number_of p d ∷ before) (All-cons (IsMet table) (met_of layers.world depth number_of p d) before here h))
     go from numbered later None e =
         let there : map_spans (resolve (first_start p) before) (relative p) ≡ p = resolved_piece (first_start p) before p from in

@@ -3,7 +3,8 @@ use Rattle.std.proofs.Common.{◌≡◌, ℕ, ◌<◌, zero, suc, List, [], ◌�
 use Rattle.std.proofs.Math.Path.{fun_ext}
 use Rattle.std.proofs.lemmas.List.Elements.{All-head, All-tail}
 use Rattle.std.specs.Prelude.{All, IfSome, OnErr, OnOk, Result, Ok, Err, Option, Some, None, option_map, option_and_then, slice_get}
-use Rattle.expander_model.specs.Held.{Met, Numbered, numbered_of, numbered_scope, nearest_met, start_of}
+use Rattle.expander_model.specs.Held.{Met, Numbered, numbered_of, numbered_scope, nearest_met, place_of}
+use Rattle.bridge.specs.declared.printing.relative_spans.Place.{Place}
 use Rattle.small_grammar.specs.Text.{same_text}
 
 get_at : {X : Type 0} (xs : List X) (x : X) → slice_get (xs ++ x ∷ []) (length xs) ≡ Some x
@@ -49,22 +50,23 @@ module _ {X : Type 0} (view : X → Numbered) where
   scope_none xs names none = fun_ext (λ name. none_at view xs (names name) (none name))
 
   -- one more definition: it stands at the end of the table, and its name gets its index
-  pub scope_more : (xs ys : List X) (x : X) (n start : ℕ) (name : List ℕ) (names later : List ℕ → Option ℕ) (before : List Met)
+  pub scope_more : (xs ys : List X) (x : X) (n : ℕ) (place : Place) (name : List ℕ) (names later : List ℕ → Option ℕ) (before : List Met)
       → ((other : List ℕ) (i : ℕ) → names other ≡ Some i → i < length xs) → n ≡ length xs → ys ≡ xs ++ x ∷ []
       → ((other : List ℕ) → later other ≡ (if same_text name other then Some n else names other)) → name ≡ (view x).definition.name.sym
       → (λ other. found_at view xs (names other)) ≡ numbered_scope before
-      → (λ other. found_at view ys (later other)) ≡ numbered_scope (record { start = start; numbered = view x } ∷ before)
-  scope_more xs ys x n start name names later before within counted items named is finds =
+      → (λ other. found_at view ys (later other)) ≡ numbered_scope (record { place = place; numbered = view x } ∷ before)
+  scope_more xs ys x n place name names later before within counted items named is finds =
       fun_ext (λ other.
       rw (named other, items, counted) (more_at view xs x (names other) (same_text name other) (within other))
       ∙ ap (λ (w : List ℕ). if same_text w other then Some (view x) else found_at view xs (names other)) is
       ∙ ap (λ (f : List ℕ → Option Numbered). if same_text (view x).definition.name.sym other then Some (view x) else f other) finds
-      ∙ sym (nearest_first (record { start = start; numbered = view x }) before other))
+      ∙ sym (nearest_first (record { place = place; numbered = view x }) before other))
 
 -- where definitions start, with one more
-pub start_more : (m : Met) (before : List Met) (starts later : ℕ → ℕ) → ((n : ℕ) → later n ≡ (if nat_eq m.numbered.number n then m.start else starts n))
-    → ((n : ℕ) → starts n ≡ start_of before n) → (n : ℕ) → later n ≡ start_of (m ∷ before) n
-start_more m before starts later is h n = is n ∙ ap (λ (s : ℕ). if nat_eq m.numbered.number n then m.start else s) (h n)
+pub place_more : (m : Met) (before : List Met) (places later : ℕ → Place)
+    → ((n : ℕ) → later n ≡ (if nat_eq m.numbered.number n then m.place else places n))
+    → ((n : ℕ) → places n ≡ place_of before n) → (n : ℕ) → later n ≡ place_of (m ∷ before) n
+place_more m before places later is h n = is n ∙ ap (λ (p : Place). if nat_eq m.numbered.number n then m.place else p) (h n)
 
 -- one more element of which something is so
 pub all_more : {X : Type 0} (P : X → Type 0) (xs ys : List X) (x : X) → ys ≡ xs ++ x ∷ [] → ((i : ℕ) → IfSome (slice_get xs i) P) → P x → (i : ℕ) → IfSome (slice_get ys i) P

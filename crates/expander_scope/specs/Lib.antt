@@ -14,3 +14,4 @@ pub mod DefinitionIds
 pub mod Interning
 pub mod DefinitionTexts
 pub mod NameTables
+pub mod Imports

@@ -5,10 +5,10 @@ use Rattle.mbe.specs.Grammar.{Grammar}
 use Rattle.tt_data.specs.Forest.{Forest}
 use Rattle.expander_scope.specs.Editions.{IsRead}
 use Rattle.expander_model.specs.Expansion.{Outcome, expansion}
-use Rattle.expander_model.specs.Held.{Met, Numbered, numbered_scope, numbered_world, start_of}
+use Rattle.expander_model.specs.Held.{Met, Numbered, numbered_scope, numbered_world, place_of}
 use Rattle.expander_scope.specs.NameTables.{index_of}
 use Rattle.expander_scope.specs.Outcomes.{numbered_of_known}
-use Rattle.expander_scope.specs.OffsetTables.{start_at}
+use Rattle.expander_scope.specs.OffsetTables.{place_at}
 use Rattle.expander_model.specs.World.{world}
 use Rattle.expander_scope.specs.declared.scope.Scope as table
 
@@ -27,4 +27,4 @@ expanded_under grammar s depth tree = expansion (numbered_world (world grammar s
 -- these definitions are in scope, given nearest first
 pub record HasMet (s : table.Scope) (before : List Met) : Type 0 where
   pub finds : scope_in s ≡ numbered_scope before
-  pub starts : (n : ℕ) → start_at s.starts n ≡ start_of before n
+  pub starts : (n : ℕ) → place_at s.starts n ≡ place_of before n

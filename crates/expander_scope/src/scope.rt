@@ -5,6 +5,7 @@ ghost use Rattle.expander_scope.specs.NameTables.{IsWithin};
 use crate::macro_def::MacroDef;
 use crate::name_table::NameTable;
 use crate::offsets::Offsets;
+use bridge::parts::Place;
 use std::alloc::{AllocError, Global};
 use std::rc::Rc;
 use tt_data::{Edition, Symbol};
@@ -45,12 +46,12 @@ impl Scope {
         })
     }
 
-    /// Adds a definition that starts at `start`. From now on its name resolves to it.
-    pub fn define(&mut self, start: u32, known: Rc<MacroDef>) -> Result<(), AllocError>
+    /// Adds a definition that starts at `place`. From now on its name resolves to it.
+    pub fn define(&mut self, place: Place, known: Rc<MacroDef>) -> Result<(), AllocError>
         requires rules { IsRead self.old.edition known.value }
         requires read { AreRead self.old }
-        ensures met { (before : List Met) → HasMet self.old before →
-            OnOk result (HasMet self.new (record { start = start; numbered = numbered_of_known known.value } ∷ before)) }
+        ensures met { (before : List Met) → HasMet self.old before → OnOk result (HasMet self.new
+            (record { place = place; numbered = numbered_of_known known.value } ∷ before)) }
         ensures edition { OnOk result (self.new.edition ≡ self.old.edition) }
         ensures read { OnOk result (AreRead self.new) }
     {
@@ -58,7 +59,7 @@ impl Scope {
             unreachable!()
         };
         let number = known.as_ref().number;
-        self.starts.insert(number, start)?;
+        self.starts.insert(number, place)?;
         let index = self.known.len();
         self.known.push(known)?;
         self.names.insert(name, index)

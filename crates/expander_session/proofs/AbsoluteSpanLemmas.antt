@@ -8,6 +8,8 @@ use Rattle.std.specs.Prelude.{Bool, is_some, map}
 use Rattle.mbe.specs.Grammar.{Grammar}
 use Rattle.mbe.specs.Macros.{rules_of}
 use Rattle.mbe_rules.specs.Items.{Rules}
+use Rattle.bridge.specs.RelativeSpans.{moved_to, own_place}
+use Rattle.bridge.specs.declared.printing.relative_spans.Place.{Place}
 use Rattle.tt_data.specs.Forest.{Forest}
 use Rattle.tt_data.specs.declared.edition.Edition.{Edition}
 use Rattle.tt_data.specs.declared.span.TextRange.{TextRange}
@@ -17,14 +19,14 @@ use Rattle.expander_model.specs.Definitions.{Definition}
 use Rattle.expander_scope.specs.Editions.{IsRead}
 use Rattle.expander_model.specs.Expansion.{Outcome, PlacedStep}
 use Rattle.expander_model.specs.Faults.{fault_at}
-use Rattle.expander_model.specs.Held.{Met, Numbered, anchored, base_of, kept, met, moved_on, present, resolve, start_of}
+use Rattle.expander_model.specs.Held.{Met, Numbered, anchored, base_of, kept, met, place_of, present, resolve}
 use Rattle.expander_session.specs.Layered.{layers}
 use Rattle.expander_model.specs.Meaning.{Layers, member_faults, output_of}
 use Rattle.expander_model.specs.OtherPlaces.{LooksAtNoPlace, definition_with}
 use Rattle.expander_session.specs.Emitting.{PutsOut}
 use Rattle.expander_scope.specs.Outcomes.{numbered_of_known, placed_of}
 use Rattle.expander_session.specs.AbsoluteSpans.{base_at, range_from, resolved_by, resolved_faults, resolved_steps, told_if_broken}
-use Rattle.expander_scope.specs.OffsetTables.{start_at}
+use Rattle.expander_scope.specs.OffsetTables.{place_at}
 use Rattle.expander_model.specs.declared.fault.Fault.{Fault}
 use Rattle.expander_model.specs.World.{rules_in, world}
 use Rattle.expander_model.specs.declared.fault.FaultKind.{FaultKind}
@@ -36,12 +38,12 @@ use Rattle.expander_scope.specs.declared.offsets.Offsets.{Offsets}
 use Rattle.expander_session.proofs.PrintingLemmas.{StillPuts}
 
 -- by the table of starts places are what they are by the definitions met
-pub resolved_is : (start : ℕ) (starts : Offsets) (before : List Met) → ((n : ℕ) → start_at starts n ≡ start_of before n) → resolved_by start starts ≡ resolve start before
-resolved_is start starts before h = fun_ext (λ s. ap (λ (n : ℕ). moved_on n s) (base s.anchor))
+pub resolved_is : (start : ℕ) (starts : Offsets) (before : List Met) → ((n : ℕ) → place_at starts n ≡ place_of before n) → resolved_by start starts ≡ resolve start before
+resolved_is start starts before h = fun_ext (λ s. ap (λ (p : Place). moved_to p s) (base s.anchor))
   where
     base : (a : ℕ) → base_at start starts a ≡ base_of start before a
     base zero = refl
-    base (suc n) = let no : nat_eq (suc n) 0 ≡ false = grind (arith, nat_tests) in ap (λ b. if b then start else start_at starts (suc n)) no ∙ h (suc n)
+    base (suc n) = let no : nat_eq (suc n) 0 ≡ false = grind (arith, nat_tests) in ap (λ (b : Bool). if b then own_place start else place_at starts (suc n)) no ∙ h (suc n)
 
 -- steps one by one
 pub own_left : (start : ℕ) (starts : Offsets) (own : List Event) (i : ℕ) (s : Event) → i < length own → s ≡ get_or own i s
@@ -81,7 +83,7 @@ own_done start starts own i old now whole past still =
 -- ---- pieces of the text
 
 -- a plain piece in places of its own puts out what the piece of the text gives
-module _ (layers : Layers) (start : ℕ) (starts : Offsets) (before : List Met) (h : (n : ℕ) → start_at starts n ≡ start_of before n) (tree : Forest) (o : Outcome Numbered) where
+module _ (layers : Layers) (start : ℕ) (starts : Offsets) (before : List Met) (h : (n : ℕ) → place_at starts n ≡ place_of before n) (tree : Forest) (o : Outcome Numbered) where
   pub kept_steps : resolved_steps start starts o.steps ≡ output_of (present (kept start before tree o))
   kept_steps = ap (λ (f : Span → Span). map (placed_with f) o.steps) (resolved_is start starts before h)
 
@@ -91,11 +93,11 @@ module _ (layers : Layers) (start : ℕ) (starts : Offsets) (before : List Met) 
       ∙ sym (map-map (λ x. fault_at x.0 x.1) (fault_with (resolve start before)) o.faults)
 
 -- a definition in places of its own tells what that of the text does
-pub met_faults : (grammar : Grammar) (edition : Edition) → LooksAtNoPlace (world grammar edition) → (start : ℕ) (k : MacroDef) → IsRead edition k
-    → told_if_broken start k ≡ member_faults (layers grammar edition) (present (met (record { start = start; numbered = numbered_of_known k })))
-met_faults grammar edition law start k read =
+pub met_faults : (grammar : Grammar) (edition : Edition) → LooksAtNoPlace (world grammar edition) → (place : Place) (k : MacroDef) → IsRead edition k
+    → told_if_broken place.start k ≡ member_faults (layers grammar edition) (present (met (record { place = place; numbered = numbered_of_known k })))
+met_faults grammar edition law place k read =
     let d : Definition = (numbered_of_known k).definition in
-    let broken : is_some (rules_of k.rules).err ≡ is_some (rules_in edition (definition_with (moved_on start) d)).err =
-    ap (λ (r : Rules). is_some r.err) read ∙ law.broken (anchored k.number) d ∙ sym (law.broken (moved_on start) d) in
-    ap (λ (b : Bool). if b then record { kind = BrokenDefinition; range = range_from start k.place } ∷ [] else []) broken
-    ∙ ap (λ (r : TextRange). if is_some (rules_in edition (definition_with (moved_on start) d)).err then record { kind = BrokenDefinition; range = range_from start r } ∷ [] else []) k.placed
+    let broken : is_some (rules_of k.rules).err ≡ is_some (rules_in edition (definition_with (moved_to place) d)).err =
+    ap (λ (r : Rules). is_some r.err) read ∙ law.broken (anchored k.number) d ∙ sym (law.broken (moved_to place) d) in
+    ap (λ (b : Bool). if b then record { kind = BrokenDefinition; range = range_from place.start k.place } ∷ [] else []) broken
+    ∙ ap (λ (r : TextRange). if is_some (rules_in edition (definition_with (moved_to place) d)).err then record { kind = BrokenDefinition; range = range_from place.start r } ∷ [] else []) k.placed

@@ -1,5 +1,5 @@
 -- A turn of a session is an answer, and answers one after another are those to all commands.
-use Rattle.std.proofs.Common.{◌≡◌, ℕ, ◌<◌, ◌^◌, List, [], ◌∷◌, ◌++◌, Option, None, refl, ap, sym, subst, ◌∙◌, append_assoc, append-nil, arith}
+use Rattle.std.proofs.Common.{◌≡◌, ℕ, ◌<◌, ◌^◌, List, [], ◌∷◌, ◌++◌, Option, None, Some, refl, ap, sym, subst, ◌∙◌, append_assoc, append-nil, arith}
 use Rattle.std.specs.Prelude.{Result}
 use Rattle.bridge.specs.declared.reading.outcome.ReadFault.{ReadFault}
 use Rattle.tt_data.specs.Forest.{Forest}
@@ -9,9 +9,10 @@ use Rattle.expander_session.specs.Answers.{AreAnswers, IsAnswer, given, last_loo
 use Rattle.expander_session.specs.CommandTurns.{Turn}
 use Rattle.expander_session.specs.Count.{Looked}
 use Rattle.expander_session.specs.Layered.{layers}
-use Rattle.expander_model.specs.Meaning.{Layers, ReadMeaning, meaning}
-use Rattle.expander_session.specs.Replies.{HasCause, IsReplyTo, Replies, given_after}
-use Rattle.expander_session.specs.State.{State, layers_of}
+use Rattle.expander_model.specs.Meaning.{Layers, ReadMeaning, meaning, meaning_in}
+use Rattle.expander_session.specs.Replies.{HasCause, IsReplyIn, IsReplyTo, NeedsNumbers, NeedsNumbersIn, Replies, all_definitions, given_after, given_in, looked_in}
+use Rattle.expander_session.specs.State.{State, definitions_of, layers_of}
+use Rattle.expander_session.specs.TooMany.{NeedsTooManyIn}
 use Rattle.expander_scope.specs.declared.refusal.Refusal.{Refusal}
 use Rattle.expander_scope.specs.declared.refusal.Refusal.TheVariants.{Memory, Tokens, Numbers}
 use Rattle.expander_session.specs.declared.session.Reply.{Reply}
@@ -28,6 +29,7 @@ given_same m n e a b same r = ap (λ (k : ℕ). given_after k a r) e ∙ ap (λ 
 
 -- what a session remembers of the texts that were read
 pub record Remembers {G : Type 0} (layers : Layers) (depth : ℕ) (s : State G) (reads : List (List ℕ)) : Type 0 where
+  pub prelude : s.prelude ≡ []
   pub held : s.held ≡ last_looked layers depth reads
   pub trees : s.trees ≡ last_trees layers depth reads
   pub given_is : s.given ≡ given layers depth reads
@@ -48,6 +50,7 @@ pub record Goes {G : Type 0} (layers : Layers) (depth : ℕ) (old new : State G)
 -- what a turn leaves that reads no text
 pub record Leaves {G : Type 0} (old new : State G) (text_now : List ℕ) : Type 0 where
   pub text : new.text ≡ text_now
+  pub prelude : new.prelude ≡ old.prelude
   pub held : new.held ≡ old.held
   pub trees : new.trees ≡ old.trees
   pub given_is : new.given ≡ old.given
@@ -56,6 +59,7 @@ pub record Leaves {G : Type 0} (old new : State G) (text_now : List ℕ) : Type 
 leaves : {G : Type 0} → (old new : State G) (text : List ℕ) → new ≡ record old { text = text } → Leaves old new text
 leaves old new text e = record {
   text = ap (λ s. s.text) e;
+  prelude = ap (λ s. s.prelude) e;
   held = ap (λ s. s.held) e;
   trees = ap (λ s. s.trees) e;
   given_is = ap (λ s. s.given) e;
@@ -65,6 +69,7 @@ leaves old new text e = record {
 still : {G : Type 0} → (layers : Layers) (depth : ℕ) (old new : State G) (text : List ℕ) (reads : List (List ℕ)) → Remembers layers depth old reads
     → Leaves old new text → Remembers layers depth new reads
 still layers depth old new text reads r l = record {
+  prelude = l.prelude ∙ r.prelude;
   held = l.held ∙ r.held;
   trees = l.trees ∙ r.trees;
   given_is = l.given_is ∙ r.given_is;
@@ -82,30 +87,47 @@ goes_on layers old new reads command answer r answers text e is same =
       is_set = l.is_set;
     }
 
+-- what a session's text means after these pieces
+abbrev meaning_after : {G : Type 0} → Layers → State G → List Forest → Result ReadMeaning ReadFault
+meaning_after layers s ps = meaning_in layers s.depth (definitions_of ps) s.text
+
+-- without a prelude a reply is to the text by itself
+replied_alone : {G : Type 0} → (layers : Layers) (old : State G) (reads : List (List ℕ)) → Remembers layers old.depth old reads → (reply : Reply)
+    → IsReplyIn layers old.depth (definitions_of old.prelude) old.text old.held reply
+    → IsReplyTo layers old.depth old.text (last_looked layers old.depth reads) reply
+replied_alone layers old reads r reply h =
+    subst (λ (ps : List Forest). IsReplyIn layers old.depth (definitions_of ps) old.text (last_looked layers old.depth reads) reply) r.prelude
+    (subst (λ (earlier : Option (List Looked)). IsReplyIn layers old.depth (definitions_of old.prelude) old.text earlier reply) r.held h)
+
 goes_reply : {G : Type 0} → (layers : Layers) (old new : State G) (reads : List (List ℕ)) → Remembers layers old.depth old reads
     → (reply : Reply) → Replies layers old new reply → Goes layers old.depth old new reads Expand (Replied reply)
 goes_reply layers old new reads r (Read e) h = record {
-  answers = subst (λ (earlier : Option (List Looked)). IsReplyTo layers old.depth old.text earlier (Read e)) r.held h.0;
+  answers = replied_alone layers old reads r (Read e) h.0;
   text = h.1.text;
   remembers = record {
-    held = h.1.held;
-    trees = h.1.trees;
+    prelude = h.1.prelude ∙ r.prelude;
+    held = h.1.held ∙ ap (λ (ps : List Forest). Some (looked_in (meaning_after layers old ps))) r.prelude;
+    trees = h.1.trees ∙ ap (λ (ps : List Forest). all_definitions ps (meaning_after layers old ps)) r.prelude;
     given_is = h.1.given
+        ∙ ap (λ (ps : List Forest). given_in old.given old.trees ps (meaning_after layers old ps)) r.prelude
         ∙ given_same old.given (given layers old.depth reads) r.given_is old.trees (last_trees layers old.depth reads) r.trees (meaning layers old.depth old.text);
   };
   is_set = record { grammar_is = h.1.grammar; edition_is = h.1.edition; depth_is = h.1.depth };
 }
 goes_reply layers old new reads r (Unread fault) h =
     goes_on layers old new reads Expand (Replied (Unread fault)) r
-    (subst (λ (earlier : Option (List Looked)). IsReplyTo layers old.depth old.text earlier (Unread fault)) r.held h.0) old.text h.1 refl refl
+    (replied_alone layers old reads r (Unread fault) h.0) old.text h.1 refl refl
 
 refused_is : {G : Type 0} → (layers : Layers) (old : State G) (reads : List (List ℕ)) → Remembers layers old.depth old reads → (refusal : Refusal)
     → HasCause layers old refusal → IsAnswer layers old.depth old.text reads Expand (Refused refusal)
 refused_is layers old reads r Memory h = tt
-refused_is layers old reads r Tokens h = h
+refused_is layers old reads r Tokens h =
+    subst (λ (ps : List Forest). NeedsTooManyIn layers old.depth (definitions_of ps) old.text) r.prelude h
 refused_is layers old reads r Numbers h =
     let m : Result ReadMeaning ReadFault = meaning layers old.depth old.text in
-    rw (sym (given_same old.given (given layers old.depth reads) r.given_is old.trees (last_trees layers old.depth reads) r.trees m)) h
+    let alone : NeedsNumbers old.given old.trees m =
+    subst (λ (ps : List Forest). NeedsNumbersIn old.given old.trees ps (meaning_after layers old ps)) r.prelude h in
+    rw (sym (given_same old.given (given layers old.depth reads) r.given_is old.trees (last_trees layers old.depth reads) r.trees m)) alone
 
 pub goes : {G : Type 0} → (layers : Layers) (old new : State G) (reads : List (List ℕ)) (command : Command) (answer : Answer) → Remembers layers old.depth old reads
     → Turn layers old new command answer → Goes layers old.depth old new reads command answer
@@ -157,7 +179,7 @@ pub record Stands {G : Type 0} (answer_of : G → Grammar) (s : State G) (text :
 
 pub occurs_first : {G : Type 0} → (answer_of : G → Grammar) (s : State G) (text : List ℕ) (grammar : G) (edition : Edition) (depth : ℕ)
     (commands rest : List Command) (answers : List Answer)
-    → s ≡ record { text = text; grammar = grammar; edition = edition; depth = depth; held = None; trees = []; given = 0 } → rest ≡ commands → answers ≡ []
+    → s ≡ record { text = text; grammar = grammar; edition = edition; depth = depth; prelude = []; held = None; trees = []; given = 0 } → rest ≡ commands → answers ≡ []
     → Stands answer_of s text grammar edition depth commands rest answers
 occurs_first answer_of s text grammar edition depth commands rest answers is all none =
     let L : Layers = layers (answer_of grammar) edition in
@@ -167,6 +189,7 @@ occurs_first answer_of s text grammar edition depth commands rest answers is all
       run = record {
         reads = [];
         remembers = record {
+          prelude = ap (λ s. s.prelude) is;
           held = ap (λ s. s.held) is;
           trees = ap (λ s. s.trees) is;
           given_is = ap (λ s. s.given) is;

@@ -1,7 +1,7 @@
 -- A text has at most as many definitions as bytes: each begins with a definition keyword, and no
 -- token is read as two.
-use Rattle.std.proofs.Common.{◌≡◌, ℕ, zero, suc, ◌+◌, ◌≤◌, ◌<◌, ◌^◌, List, [], ◌∷◌, ◌++◌, length, drop, take, map, refl, ap, subst, ◌∙◌, arith, Bool, true, false, if◌then◌else◌, sum_by, IsUtf8}
-use Rattle.std.specs.Prelude.{All, Option, Some, None, Result, Ok, Err, ◌&&◌, chars, is_none, not}
+use Rattle.std.proofs.Common.{◌≡◌, ℕ, zero, suc, ◌+◌, ◌≤◌, ◌<◌, ◌^◌, List, [], ◌∷◌, ◌++◌, length, length-append, drop, take, map, refl, ap, subst, ◌∙◌, arith, Bool, true, false, if◌then◌else◌, sum_by, IsUtf8}
+use Rattle.std.specs.Prelude.{All, Option, Some, None, Result, Ok, Err, ◌&&◌, chars, is_none, is_some, not}
 use Rattle.std.specs.List.{list_all, list_any}
 use Rattle.std.proofs.lemmas.List.Elements.{All-head, All-tail}
 use Rattle.std.proofs.lemmas.List.Sums.{sum_by-cons}
@@ -23,13 +23,13 @@ use Rattle.tt_data.specs.declared.leaf.LitKind.{LitKind}
 use Rattle.expander_model.specs.EqualTrees.{same_forest}
 use Rattle.expander_model.specs.Definitions.{Definition, definition_of}
 use Rattle.expander_model.specs.Faults.{is_definition_word}
-use Rattle.expander_model.specs.DefinitionTrees.{trees_in}
+use Rattle.expander_model.specs.DefinitionTrees.{definition_trees, trees_in}
 use Rattle.expander_session.specs.Layered.{layers}
-use Rattle.expander_model.specs.Meaning.{Layers, meaning, meaning_from, member, members, members_after, with_definition}
+use Rattle.expander_model.specs.Meaning.{Layers, ReadMeaning, meaning, meaning_in, meaning_over, member, members_after, members_in, with_definition}
 use Rattle.expander_scope.specs.NewNumbers.{needed}
-use Rattle.expander_model.specs.Pieces.{pieces, put_together, separated}
-use Rattle.expander_session.specs.Replies.{HasCause, NeedsNumbers, definitions_in}
-use Rattle.expander_session.specs.State.{State, layers_of}
+use Rattle.expander_model.specs.Pieces.{pieces, put_together, relative, separated}
+use Rattle.expander_session.specs.Replies.{HasCause, NeedsNumbers, definitions_in, meaning_of_state}
+use Rattle.expander_session.specs.State.{State, definitions_of, layers_of}
 use Rattle.expander_scope.specs.declared.refusal.Refusal.TheVariants.{Numbers}
 use Rattle.expander_model.proofs.SplittingLemmas.{put_together-cut}
 use Rattle.expander_session.proofs.WordLemmas.{quiet_alone, quiet_piece}
@@ -107,10 +107,10 @@ words-separated (group d inner rest) =
       words-separated rest,
     )
 
-few_definitions : (l : Layers) (depth : ℕ) (f : Forest) → length (trees_in (members l depth f)) ≤ words (walk f)
-few_definitions l depth f =
-    subst (λ n. length (trees_in (members l depth f)) ≤ n)
-    (ap (λ g. words (walk g)) (put_together-cut (separated f)) ∙ words-separated f) (few_members l depth [] (pieces f))
+few_definitions : (l : Layers) (depth : ℕ) (initial : List Definition) (f : Forest) → length (trees_in (members_in l depth initial f)) ≤ words (walk f)
+few_definitions l depth initial f =
+    subst (λ n. length (trees_in (members_in l depth initial f)) ≤ n)
+    (ap (λ g. words (walk g)) (put_together-cut (separated f)) ∙ words-separated f) (few_members l depth initial (pieces f))
 
 -- ---- a token is read as at most one such word
 
@@ -190,8 +190,8 @@ pub record TokenLaws : Type 0 where
   pub positive : (text : List ℕ) → IsUtf8 text → All (λ (t : Token). 1 ≤ t.len) (tokens_of (chars text))
   pub whole : (text : List ℕ) → IsUtf8 text → sum_by (λ (t : Token). t.len) (tokens_of (chars text)) ≡ length text
 
-module _ (laws : TokenLaws) (grammar : Grammar) (edition : Edition) (depth : ℕ) (text : List ℕ) (utf8 : IsUtf8 text) where
-  few_read : (r : Result Forest ReadFault) → text_reading text ≡ r → length (definitions_in (meaning_from (layers grammar edition) depth r)) ≤ length text
+module _ (laws : TokenLaws) (grammar : Grammar) (edition : Edition) (depth : ℕ) (initial : List Definition) (text : List ℕ) (utf8 : IsUtf8 text) where
+  few_read : (r : Result Forest ReadFault) → text_reading text ≡ r → length (definitions_in (meaning_over (layers grammar edition) depth initial r)) ≤ length text
   few_read (Err fault) is = omega arith
   few_read (Ok f) is =
       let ts : List Token = tokens_of (chars text) in
@@ -199,27 +199,48 @@ module _ (laws : TokenLaws) (grammar : Grammar) (edition : Edition) (depth : ℕ
       omega (
         arith,
         read,
-        few_definitions (layers grammar edition) depth f,
+        few_definitions (layers grammar edition) depth initial f,
         few_words 0 text ts,
         few_tokens ts (laws.positive text utf8),
         laws.whole text utf8,
       )
 
   -- a text has at most as many definitions as bytes
-  pub definitions_in_bytes : length (definitions_in (meaning (layers grammar edition) depth text)) ≤ length text
+  pub definitions_in_bytes : length (definitions_in (meaning_in (layers grammar edition) depth initial text)) ≤ length text
   definitions_in_bytes = few_read (text_reading text) refl
 
-  -- so there are numbers for all of them where none was given before
-  pub numbers_suffice : length text < 2 ^ 32 → NeedsNumbers 0 [] (meaning (layers grammar edition) depth text) → ⊥
-  numbers_suffice short many =
-      omega (arith, short, many, definitions_in_bytes, few_needed [] (definitions_in (meaning (layers grammar edition) depth text)))
+-- so there are numbers for all of them where none was given before
+pub numbers_suffice : TokenLaws → (grammar : Grammar) (edition : Edition) (depth : ℕ) (text : List ℕ) → IsUtf8 text → length text < 2 ^ 32
+    → NeedsNumbers 0 [] (meaning (layers grammar edition) depth text) → ⊥
+numbers_suffice laws grammar edition depth text utf8 short many =
+    let all : List Forest = definitions_in (meaning (layers grammar edition) depth text) in
+    omega (arith, short, many, definitions_in_bytes laws grammar edition depth [] text utf8, few_needed [] all)
+
+few_trees : (ps : List Forest) → length (definition_trees ps) ≤ length ps
+few_trees [] = omega arith
+few_trees (p ∷ ps) =
+    or_shorter (is_some (definition_of (relative p))) (relative p) (definition_trees ps) (length ps) (few_trees ps)
+  where
+    or_shorter : (b : Bool) (t : Forest) (ts : List Forest) (n : ℕ) → length ts ≤ n → length (if b then t ∷ ts else ts) ≤ suc n
+    or_shorter true t ts n h = omega (arith, h)
+    or_shorter false t ts n h = omega (arith, h)
 
 -- nor does a session lack any that gave none before
-pub first_has_numbers : ((grammar : Grammar) (edition : Edition) (depth : ℕ) (text : List ℕ) → IsUtf8 text → length text < 2 ^ 32
-    → NeedsNumbers 0 [] (meaning (layers grammar edition) depth text) → ⊥)
-    → {G : Type 0} (answer : G → Grammar) (s : State G) → IsUtf8 s.text → length s.text < 2 ^ 32 → s.given ≡ 0 → s.trees ≡ []
+pub first_has_numbers : ((grammar : Grammar) (edition : Edition) (depth : ℕ) (initial : List Definition) (text : List ℕ) → IsUtf8 text
+    → length (definitions_in (meaning_in (layers grammar edition) depth initial text)) ≤ length text)
+    → {G : Type 0} (answer : G → Grammar) (s : State G) → IsUtf8 s.text → length s.prelude + length s.text < 2 ^ 32 → s.given ≡ 0 → s.trees ≡ []
     → HasCause (layers_of answer s) s Numbers → ⊥
-first_has_numbers suffice answer s utf8 short none no_trees many =
-    suffice (answer s.grammar) s.edition s.depth s.text utf8 short
-    (subst (λ (trees : List Forest). NeedsNumbers 0 trees (meaning (layers_of answer s) s.depth s.text)) no_trees
-    (subst (λ (n : ℕ). NeedsNumbers n s.trees (meaning (layers_of answer s) s.depth s.text)) none many))
+first_has_numbers few answer s utf8 short none no_trees many =
+    let m : Result ReadMeaning ReadFault = meaning_of_state (layers_of answer s) s in
+    let all : List Forest = definition_trees s.prelude ++ definitions_in m in
+    let need : 2 ^ 32 ≤ 0 + needed [] all =
+    subst (λ (trees : List Forest). 2 ^ 32 ≤ 0 + needed trees all) no_trees (subst (λ (n : ℕ). 2 ^ 32 ≤ n + needed s.trees all) none many) in
+    omega (
+      arith,
+      short,
+      need,
+      few_needed [] all,
+      length-append (definition_trees s.prelude) (definitions_in m),
+      few_trees s.prelude,
+      few (answer s.grammar) s.edition s.depth (definitions_of s.prelude) s.text utf8,
+    )

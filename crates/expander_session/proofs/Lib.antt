@@ -25,6 +25,7 @@ mod MemoLemmas
 mod CacheLemmas
 mod EvaluateLemmas
 mod PassLemmas
+mod ImportLemmas
 mod PassLoopLemmas
 mod SessionLemmas
 pub mod CommandLemmas

@@ -1,6 +1,6 @@
 -- The index of memos by their look-ups: one more branch, one more memo, and the search.
 -- Cited by the answers of `lookup_tree`.
-use Rattle.std.proofs.Common.{rules, not, ◌≡◌, ◌↔◌, ◌≢◌, ℕ, ◌<◌, ◌≤◌, ◌+◌, ◌-◌, ◌∙◌, zero, suc, Bool, true, false, cond, List, [], ◌∷◌, drop, length, Option, Some, None, refl, ap, sym, subst, arith, nat_eq, Global, get_or, map, inl, inr}
+use Rattle.std.proofs.Common.{rules, not, ◌≡◌, ◌↔◌, ℕ, ◌<◌, ◌+◌, ◌∙◌, zero, suc, Bool, true, false, cond, List, [], ◌∷◌, drop, length, Option, Some, None, refl, ap, sym, subst, arith, nat_eq, Global, get_or, map, inl, inr}
 use Rattle.std.specs.Prelude.{◌||◌, Result, Ok, Err, OnOk, ◌&&◌, ◌⊎◌, slice_get}
 use Rattle.std.proofs.lemmas.Bool.{and_parts, eq-eqb, eqb-true}
 use Rattle.std.specs.List.{list_any}

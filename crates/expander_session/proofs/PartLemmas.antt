@@ -7,7 +7,8 @@ use Rattle.std.proofs.lemmas.List.{at_drop_all, drop_more, length-map, map-appen
 use Rattle.tt_data.specs.Walk.{Step, at_leaf, opens, closes, step_with}
 use Rattle.tt_data.specs.declared.leaf.Leaf.TheVariants as as_leaf
 use Rattle.tt_data.specs.declared.span.Span.{Span}
-use Rattle.bridge.specs.RelativeSpans.{is_anchored, shifted}
+use Rattle.bridge.specs.RelativeSpans.{is_anchored, moved_to, own_place, shifted}
+use Rattle.bridge.specs.declared.printing.relative_spans.Place.{Place}
 use Rattle.bridge.specs.declared.printing.relative_spans.Shift.{Shift}
 use Rattle.bridge.specs.PrintedChunks.{IsChunkOf, ChunkState}
 use Rattle.bridge.specs.Printers.{HasPut}
@@ -20,9 +21,8 @@ use Rattle.expander_model.specs.Faults.{place, fault_at, is_definition_word, uns
 use Rattle.expander_session.specs.CachedOutputs.{HasPrinted, EmitsCached, PutsChunk}
 use Rattle.expander_scope.specs.Sinks.{TakesMore}
 use Rattle.expander_session.specs.Emitting.{PutsOut, faults_at, numbers_left_out, told_from, word_places, words_told}
-use Rattle.expander_model.specs.Held.{moved_on}
 use Rattle.expander_session.specs.AbsoluteSpans.{base_at, resolved_by}
-use Rattle.expander_scope.specs.OffsetTables.{start_at}
+use Rattle.expander_scope.specs.OffsetTables.{place_at}
 use Rattle.expander_model.specs.Printing.{left_out, spelling_before, steps_of, visible}
 use Rattle.expander_model.specs.declared.fault.FaultKind.TheVariants.{NestedDefinition}
 use Rattle.expander_session.specs.declared.cached_output.OwnPrint.{OwnPrint}
@@ -224,18 +224,22 @@ held_puts start starts old new p spans words (Err e) is are puts = puts
 
 -- at the start of the piece, and where its only other anchor counts from
 abbrev pub shift_at : ℕ → Offsets → ℕ → Shift
-shift_at start starts a = record { start = start; base = base_at start starts a }
+shift_at start starts a = record { own = own_place start; other = base_at start starts a }
 
 shifted_is : (start : ℕ) (starts : Offsets) (a : ℕ) (s : Span) → is_anchored a s ≡ true → shifted (shift_at start starts a) s ≡ resolved_by start starts s
 shifted_is start starts a s h =
-    ap (λ n. moved_on n s) (go (nat_eq s.anchor 0) refl h)
+    ap (λ (p : Place). moved_to p s) (go (nat_eq s.anchor 0) refl h)
   where
+    own : Place
+    own = own_place start
+
     go : (t : Bool) → nat_eq s.anchor 0 ≡ t → (t || nat_eq s.anchor a) ≡ true
-        → (if t then start else (if nat_eq a 0 then start else start_at starts a)) ≡ (if t then start else start_at starts s.anchor)
+        → (if t then own else (if nat_eq a 0 then own else place_at starts a)) ≡ (if t then own else place_at starts s.anchor)
     go true is h = refl
     go false is h =
         let same : s.anchor ≡ a = grind (arith, nat_tests) in
-        ap (λ n. if nat_eq n 0 then start else start_at starts n) (sym same) ∙ ap (λ (t : Bool). if t then start else start_at starts s.anchor) is
+        ap (λ (n : ℕ). if nat_eq n 0 then own else place_at starts n) (sym same)
+        ∙ ap (λ (t : Bool). if t then own else place_at starts s.anchor) is
 
 pub all_shifted : (start : ℕ) (starts : Offsets) (a : ℕ) (spans : List Span) → list_all (is_anchored a) spans ≡ true
     → map (shifted (shift_at start starts a)) spans ≡ map (resolved_by start starts) spans

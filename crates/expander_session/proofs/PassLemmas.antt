@@ -17,7 +17,7 @@ use Rattle.expander_model.specs.EqualTrees.{same_forest}
 use Rattle.expander_model.specs.Definitions.{Definition, definition_of, or_else}
 use Rattle.expander_scope.specs.Editions.{IsRead}
 use Rattle.expander_model.specs.Expansion.{Outcome, World, expansion}
-use Rattle.expander_model.specs.Held.{IsMet, Kept, Met, Numbered, kept, kept_of, met, met_of, numbered_scope, numbered_world, present, with_met}
+use Rattle.expander_model.specs.Held.{IsMet, Kept, Met, Numbered, first_place, kept, kept_of, met, met_of, numbered_scope, numbered_world, present, with_met}
 use Rattle.expander_model.specs.DefinitionTrees.{definition_trees}
 use Rattle.expander_session.specs.CachedOutputs.{Holds}
 use Rattle.expander_scope.specs.MacroDefs.{definition_in}
@@ -286,19 +286,19 @@ module _ (grammar : Grammar) (edition : Edition) (depth : ℕ) (old : Cache) (pi
           none_of (Some d) e = cc
 
   -- a definition, numbered and met
-  module _ (law : LooksAtNoPlace W) (k : MacroDef) (tree_is : k.tree ≡ own_top r) (definition : is_some (definition_of r) ≡ true)
-      (number_is : numbers_in next.taken.numbers.by_tree r ≡ Some k.number) (grows : Grows now.taken next.taken) (read : IsRead edition k)
+  module _ (k : MacroDef) (tree_is : k.tree ≡ own_top r) (definition : is_some (definition_of r) ≡ true)
+      (number_is : numbers_in next.taken.numbers.by_tree r ≡ Some k.number) (grows : Grows now.taken next.taken)
       (table_read : AllRead edition next.taken.numbers.by_tree) (scope_read : AreRead next.scope) (edition_is : next.scope.edition ≡ edition)
       (plains_are : next.taken.plains ≡ now.taken.plains) (hashes_are : next.taken.hashes ≡ now.taken.hashes) (steps_are : next.taken.steps ≡ now.taken.steps)
-      (expanded_are : next.taken.expanded ≡ now.taken.expanded) (faults : next.taken.faults.items ≡ now.taken.faults.items ++ told_if_broken start k) where
+      (expanded_are : next.taken.expanded ≡ now.taken.expanded) where
     module _ (before : List Met) (trees : List Forest) (done : List Kept) (has : Has before trees done now)
         (numbered : HasNumbered old.given old.by_tree (trees_of old) (trees ++ r ∷ []) next.taken.numbers)
-        (defined : HasMet next.scope (record { start = start; numbered = numbered_of_known k } ∷ before)) where
+        (defined : HasMet next.scope (record { place = first_place piece; numbered = numbered_of_known k } ∷ before)) where
       abbrev numbers : Forest → Option ℕ
       numbers = numbers_in next.taken.numbers.by_tree
 
       abbrev m : Met
-      m = record { start = start; numbered = numbered_of_known k }
+      m = record { place = first_place piece; numbered = numbered_of_known k }
 
       definition_there : definition_of r ≡ Some (numbered_of_known k).definition
       definition_there = go (definition_of r) refl definition ∙ ap (λ (t : Top). Some (definition_in t.inner)) (sym tree_is)
@@ -310,8 +310,12 @@ module _ (grammar : Grammar) (edition : Edition) (depth : ℕ) (old : Cache) (pi
       met_now : IsMet (numbered_by numbers) m
       met_now = record { tree = r; entry = number_is; definition = definition_there }
 
-      one_met : Has (m ∷ before) (trees ++ r ∷ []) (done ++ met m ∷ []) next
-      one_met = record {
+      same : met_of W depth (number_by numbers) piece (numbered_of_known k).definition ≡ m
+      same = ap (λ (o : Option ℕ). record { place = first_place piece; numbered = record { number = unwrap_or o 0; definition = (numbered_of_known k).definition } }) number_is
+
+      -- it is in scope, and nothing else is evaluated
+      one_met : next.taken.faults ≡ now.taken.faults → Has (m ∷ before) (trees ++ r ∷ []) done next
+      one_met faults = record {
         met = defined;
         known = All-cons (IsMet (numbered_by numbers)) m before met_now
             (known_grows (numbers_in now.taken.numbers.by_tree) numbers grows before has.known);
@@ -320,33 +324,60 @@ module _ (grammar : Grammar) (edition : Edition) (depth : ℕ) (old : Cache) (pi
         taken = record {
           numbers = numbered;
           table_read = table_read;
-          plains = ap (λ ps. map (λ q. piece_of W depth (rc_value q)) ps.items) plains_are ∙ has.taken.plains
-              ∙ sym (append-nil (filter_map held_of done)) ∙ sym (filter_map_more held_of done (met m));
+          plains = ap (λ ps. map (λ q. piece_of W depth (rc_value q)) ps.items) plains_are ∙ has.taken.plains;
           right = subst (λ ps. All (λ q. IsRight W depth numbers (rc_value q)) ps.items) (sym plains_are)
               (right_grows W depth (numbers_in now.taken.numbers.by_tree) numbers grows now.taken.plains.items has.taken.right);
           hashes = ap (λ hs. hs.items) hashes_are ∙ has.taken.hashes ∙ ap (λ ps. map (λ (x : Rc Memo Global). tree_hash (tree_of (rc_value x))) ps.items) (sym plains_are);
-          steps = subst (λ s. HasOutput s (flat_map output_of (map present (done ++ met m ∷ [])))) (sym steps_are)
-              (subst (HasOutput now.taken.steps) (sym (append-nil (flat_map output_of (map present done))) ∙ sym (flat_present output_of done (met m))) has.taken.steps);
-          faults = faults ∙ ap (λ l. l ++ told_if_broken start k) has.taken.faults
-              ∙ ap (λ l. flat_map (member_faults L) (map present done) ++ l) (met_faults grammar edition law start k read)
-              ∙ sym (flat_present (member_faults L) done (met m));
-          expanded = expanded_are ∙ has.taken.expanded ∙ none_more (length (filter (is_unmatched held) done)) ∙ sym (counted_more (is_unmatched held) done (met m));
+          steps = subst (λ s. HasOutput s (flat_map output_of (map present done))) (sym steps_are) has.taken.steps;
+          faults = ap (λ fs. fs.items) faults ∙ has.taken.faults;
+          expanded = expanded_are ∙ has.taken.expanded;
         };
       }
-        where
-          none_more : (n : ℕ) → n ≡ n + 0
-          none_more n = omega arith
 
-      -- as the laws have it
-      pub one_definition : Has (with_met W depth (number_by numbers) piece (definition_of r) before) (trees ++ definition_trees (piece ∷ []))
-          (done ++ kept_of W depth (number_by numbers) before piece (definition_of r) ∷ []) next
-      one_definition =
-          let same : met_of W depth (number_by numbers) piece (numbered_of_known k).definition ≡ m =
-          ap (λ (o : Option ℕ). record { start = start; numbered = record { number = unwrap_or o 0; definition = (numbered_of_known k).definition } }) number_is in
+      -- as the laws have it, for a definition of a prelude
+      pub one_import : next.taken.faults ≡ now.taken.faults
+          → Has (with_met W depth (number_by numbers) piece (definition_of r) before) (trees ++ definition_trees (piece ∷ [])) done next
+      one_import faults =
           subst (λ (o : Option Definition).
-          Has (with_met W depth (number_by numbers) piece o before) (trees ++ cond (is_some o) (r ∷ []) [])
-          (done ++ kept_of W depth (number_by numbers) before piece o ∷ []) next) (sym definition_there)
-          (subst (λ (x : Met). Has (x ∷ before) (trees ++ r ∷ []) (done ++ met x ∷ []) next) (sym same) one_met)
+          Has (with_met W depth (number_by numbers) piece o before) (trees ++ cond (is_some o) (r ∷ []) []) done next) (sym definition_there)
+          (subst (λ (x : Met). Has (x ∷ before) (trees ++ r ∷ []) done next) (sym same) (one_met faults))
+
+      module _ (law : LooksAtNoPlace W) (read : IsRead edition k) (faults : next.taken.faults.items ≡ now.taken.faults.items ++ told_if_broken start k) where
+        one_defined : Has (m ∷ before) (trees ++ r ∷ []) (done ++ met m ∷ []) next
+        one_defined = record {
+          met = defined;
+          known = All-cons (IsMet (numbered_by numbers)) m before met_now
+              (known_grows (numbers_in now.taken.numbers.by_tree) numbers grows before has.known);
+          read = scope_read;
+          edition_is = edition_is;
+          taken = record {
+            numbers = numbered;
+            table_read = table_read;
+            plains = ap (λ ps. map (λ q. piece_of W depth (rc_value q)) ps.items) plains_are ∙ has.taken.plains
+                ∙ sym (append-nil (filter_map held_of done)) ∙ sym (filter_map_more held_of done (met m));
+            right = subst (λ ps. All (λ q. IsRight W depth numbers (rc_value q)) ps.items) (sym plains_are)
+                (right_grows W depth (numbers_in now.taken.numbers.by_tree) numbers grows now.taken.plains.items has.taken.right);
+            hashes = ap (λ hs. hs.items) hashes_are ∙ has.taken.hashes ∙ ap (λ ps. map (λ (x : Rc Memo Global). tree_hash (tree_of (rc_value x))) ps.items) (sym plains_are);
+            steps = subst (λ s. HasOutput s (flat_map output_of (map present (done ++ met m ∷ [])))) (sym steps_are)
+                (subst (HasOutput now.taken.steps) (sym (append-nil (flat_map output_of (map present done))) ∙ sym (flat_present output_of done (met m))) has.taken.steps);
+            faults = faults ∙ ap (λ l. l ++ told_if_broken start k) has.taken.faults
+                ∙ ap (λ l. flat_map (member_faults L) (map present done) ++ l) (met_faults grammar edition law (first_place piece) k read)
+                ∙ sym (flat_present (member_faults L) done (met m));
+            expanded = expanded_are ∙ has.taken.expanded ∙ none_more (length (filter (is_unmatched held) done)) ∙ sym (counted_more (is_unmatched held) done (met m));
+          };
+        }
+          where
+            none_more : (n : ℕ) → n ≡ n + 0
+            none_more n = omega arith
+
+        -- as the laws have it, for a definition of the text
+        pub one_definition : Has (with_met W depth (number_by numbers) piece (definition_of r) before) (trees ++ definition_trees (piece ∷ []))
+            (done ++ kept_of W depth (number_by numbers) before piece (definition_of r) ∷ []) next
+        one_definition =
+            subst (λ (o : Option Definition).
+            Has (with_met W depth (number_by numbers) piece o before) (trees ++ cond (is_some o) (r ∷ []) [])
+            (done ++ kept_of W depth (number_by numbers) before piece o ∷ []) next) (sym definition_there)
+            (subst (λ (x : Met). Has (x ∷ before) (trees ++ r ∷ []) (done ++ met x ∷ []) next) (sym same) one_defined)
 
 -- no piece so far
 pub none_taken : (grammar : Grammar) (edition : Edition) (depth : ℕ) (old : Cache) → IsCache (world grammar edition) depth edition old → (now : Evaluated)

@@ -1,9 +1,10 @@
 -- The pieces of a text, evaluated one after another.
-use Rattle.std.proofs.Common.{◌≡◌, ◌↔◌, ℕ, ◌+◌, ◌≤◌, ◌^◌, Bool, true, false, cond, List, [], ◌∷◌, ◌++◌, append_assoc, append-nil, map, Option, Some, None, option_map, refl, ap, sym, subst, ◌∙◌}
-use Rattle.std.specs.Prelude.{◌||◌, All, is_some, unwrap_or}
+use Rattle.std.proofs.Common.{◌≡◌, ◌↔◌, ℕ, ◌+◌, ◌≤◌, ◌^◌, Bool, true, false, List, [], ◌∷◌, ◌++◌, append_assoc, append-nil, map, Option, Some, None, option_map, refl, ap, sym, subst, ◌∙◌}
+use Rattle.std.specs.Prelude.{◌||◌, All}
 use Rattle.std.specs.List.{list_any}
 use Rattle.std.proofs.lemmas.List.{map-append}
 use Rattle.std.proofs.lemmas.List.Elements.{All-head, All-nil, All-tail}
+use Rattle.bridge.specs.RelativeSpans.{moved_to}
 use Rattle.mbe.specs.Grammar.{Grammar}
 use Rattle.tt_data.specs.Forest.{Forest, map_spans}
 use Rattle.tt_data.specs.declared.edition.Edition.{Edition}
@@ -11,30 +12,28 @@ use Rattle.expander_scope.specs.Interning.{AllRead, numbers_in}
 use Rattle.expander_model.specs.EqualTrees.{same_forest}
 use Rattle.expander_model.specs.Definitions.{Definition, definition_of, nearest}
 use Rattle.expander_model.specs.Expansion.{Outcome, World, expansion}
-use Rattle.expander_model.specs.Held.{IsMet, Kept, Met, Numbered, StandFromFirst, Tells, kept_after, kept_of, met, met_of, moved_on, numbered_world, present, present_definition, resolve, with_met}
+use Rattle.expander_model.specs.Held.{IsMet, Kept, Met, Numbered, StandFromFirst, Stands, Tells, first_place, kept_after, kept_of, met, mets_after, numbered_world, present, present_definition, resolve, with_met}
 use Rattle.expander_model.specs.DefinitionTrees.{definition_trees}
 use Rattle.expander_session.specs.Layered.{layers}
-use Rattle.expander_model.specs.Meaning.{Layers, Member, member, members_after, plain, with_definition}
+use Rattle.expander_model.specs.Meaning.{Layers, Member, definitions_after, member, members_after, plain, with_definition}
 use Rattle.expander_session.specs.Caches.{IsCache, trees_of}
 use Rattle.expander_scope.specs.ScopeTable.{AreRead, HasMet}
 use Rattle.expander_scope.specs.DefinitionIds.{number_by, numbered_by}
 use Rattle.expander_scope.specs.NewNumbers.{needed}
 use Rattle.expander_model.specs.OtherPlaces.{LooksAtNoPlace, definition_with}
 use Rattle.expander_model.specs.Pieces.{first_start, relative}
-use Rattle.expander_session.specs.Evaluating.{CanDefine, Grows, HasTaken, IsEvaluated, MakesTooMany, NeedsMore, Evaluates}
+use Rattle.expander_session.specs.Evaluating.{CanDefine, Evaluates, Grows, HasImported, HasTaken, IsEvaluated, MakesTooMany, NeedsMore}
+use Rattle.expander_session.specs.EvaluatedTexts.{kept_in}
 use Rattle.expander_session.specs.TooMany.{bursts}
 use Rattle.expander_model.specs.World.{world}
 use Rattle.expander_session.specs.declared.cache.Cache.{Cache}
 use Rattle.expander_session.specs.declared.evaluate.Evaluation.{Evaluation}
-use Rattle.expander_scope.proofs.DefinitionPlaceLemmas.{definition_of-with, definition_piece}
-use Rattle.expander_scope.proofs.HeldLemmas.{resolved_expansion}
+use Rattle.expander_scope.proofs.HeldLemmas.{definition_there, definitions_present, resolved_expansion}
 use Rattle.expander_scope.proofs.DefinitionIdLemmas.{numbers_now}
+use Rattle.expander_session.proofs.ImportLemmas.{mets_stay, same_number, trees_next}
 use Rattle.expander_session.proofs.PassLemmas.{MoreNumbers}
-use Rattle.expander_model.proofs.PlaceLemmas.{piece_and_back, resolved_piece}
+use Rattle.expander_model.proofs.PlaceLemmas.{own_stands, resolved_piece}
 use Rattle.expander_session.proofs.EvaluatedLemmas.{numbers_tell}
-
-definition_there : (p : Forest) → StandFromFirst p → definition_of p ≡ option_map (definition_with (moved_on (first_start p))) (definition_of (relative p))
-definition_there p h = ap definition_of (sym (piece_and_back (first_start p) p h)) ∙ definition_of-with (moved_on (first_start p)) (relative p)
 
 any_in : {X : Type 0} (p : X → Bool) (xs : List X) (y : X) (ys : List X) → p y ≡ true → list_any p (xs ++ y ∷ ys) ≡ true
 any_in p [] y ys e = ap (λ (b : Bool). b || list_any p ys) e
@@ -44,7 +43,7 @@ any_in p (x ∷ xs) y ys e = ap (λ (b : Bool). p x || b) (any_in p xs y ys e) �
     go true = refl
     go false = refl
 
-module _ (grammar : Grammar) (edition : Edition) (depth : ℕ) (old : Cache) (text : List Forest) where
+module _ (grammar : Grammar) (edition : Edition) (depth : ℕ) (old : Cache) (prelude text : List Forest) where
   abbrev W : World Definition
   W = world grammar edition
 
@@ -59,25 +58,40 @@ module _ (grammar : Grammar) (edition : Edition) (depth : ℕ) (old : Cache) (te
     pub has : HasTaken W edition depth old L before trees done now
     pub stand : All StandFromFirst rest
     pub kept_are : (final : Forest → Option ℕ) → MoreNumbers (numbers_in now.taken.numbers.by_tree) final
-        → kept_after W depth (number_by final) [] text ≡ done ++ kept_after W depth (number_by final) before rest
-    pub trees_are : definition_trees text ≡ trees ++ definition_trees rest
-    pub members_are : members_after L depth [] text ≡ map present done ++ members_after L depth (map present_definition before) rest
+        → kept_in grammar edition depth final prelude text ≡ done ++ kept_after W depth (number_by final) before rest
+    pub trees_are : definition_trees prelude ++ definition_trees text ≡ trees ++ definition_trees rest
+    pub members_are : members_after L depth (definitions_after [] prelude) text
+        ≡ map present done ++ members_after L depth (map present_definition before) rest
 
-  pub left_begins : All StandFromFirst text → (now : Evaluation) → HasMet now.scope [] → AreRead now.scope → now.scope.edition ≡ edition → IsEvaluated W edition depth old L [] [] now.taken → Left text now
-  left_begins stand now has_met read edition_is taken = record {
-    before = [];
-    trees = [];
-    done = [];
-    has = record { met = has_met; known = All-nil (IsMet (numbered_by (numbers_in now.taken.numbers.by_tree))); read = read; edition_is = edition_is; taken = taken };
-    stand = stand;
-    kept_are = λ final more. refl;
-    trees_are = refl;
-    members_are = refl;
+  -- nothing is in scope, and nothing is evaluated
+  pub none_imported : (now : Evaluation) → HasMet now.scope [] → AreRead now.scope → now.scope.edition ≡ edition
+      → IsEvaluated W edition depth old L [] [] now.taken → HasImported grammar edition depth old [] now
+  none_imported now has_met read edition_is taken = record {
+    met = has_met;
+    known = All-nil (IsMet (numbered_by (numbers_in now.taken.numbers.by_tree)));
+    read = read;
+    edition_is = edition_is;
+    taken = taken;
   }
 
-  pub left_done : (now : Evaluation) → Left [] now → IsEvaluated W edition depth old L (definition_trees text) (kept_after W depth (number_by (numbers_in now.taken.numbers.by_tree)) [] text) now.taken
+  -- the prelude is in scope
+  pub left_begins : All Stands prelude → All StandFromFirst text → (now : Evaluation) → HasImported grammar edition depth old prelude now → Left text now
+  left_begins stands stand now has =
+      let N : Forest → Option ℕ = numbers_in now.taken.numbers.by_tree in record {
+        before = mets_after W depth (number_by N) [] prelude;
+        trees = definition_trees prelude;
+        done = [];
+        has = has;
+        stand = stand;
+        kept_are = λ final more. ap (λ (ms : List Met). kept_after W depth (number_by final) ms text) (mets_stay W depth N final more [] prelude has.known);
+        trees_are = refl;
+        members_are = ap (λ (ds : List Definition). members_after L depth ds text) (definitions_present W depth (number_by N) [] prelude stands);
+      }
+
+  pub left_done : (now : Evaluation) → Left [] now → IsEvaluated W edition depth old L (definition_trees prelude ++ definition_trees text)
+      (kept_in grammar edition depth (numbers_in now.taken.numbers.by_tree) prelude text) now.taken
   left_done now l =
-      subst (λ ts. IsEvaluated W edition depth old L ts (kept_after W depth (number_by (numbers_in now.taken.numbers.by_tree)) [] text) now.taken)
+      subst (λ ts. IsEvaluated W edition depth old L ts (kept_in grammar edition depth (numbers_in now.taken.numbers.by_tree) prelude text) now.taken)
       (sym (append-nil l.trees) ∙ sym l.trees_are)
       (subst (λ ks. IsEvaluated W edition depth old L l.trees ks now.taken)
       (sym (append-nil l.done) ∙ sym (l.kept_are (numbers_in now.taken.numbers.by_tree) (λ t n e. e))) l.has.taken)
@@ -95,16 +109,13 @@ module _ (grammar : Grammar) (edition : Edition) (depth : ℕ) (old : Cache) (te
     abbrev r : Forest
     r = relative piece
 
-    trees_next : definition_trees text ≡ (l.trees ++ definition_trees (piece ∷ [])) ++ definition_trees rest
-    trees_next = l.trees_are ∙ ap (λ ts. l.trees ++ ts) (go (is_some (definition_of r))) ∙ sym (append_assoc l.trees (definition_trees (piece ∷ [])) (definition_trees rest))
-      where
-        go : (b : Bool) → cond b (r ∷ definition_trees rest) (definition_trees rest) ≡ cond b (r ∷ []) [] ++ definition_trees rest
-        go true = refl
-        go false = refl
+    trees_left : definition_trees prelude ++ definition_trees text ≡ (l.trees ++ definition_trees (piece ∷ [])) ++ definition_trees rest
+    trees_left = trees_next (definition_trees prelude ++ definition_trees text) l.trees piece rest l.trees_are
 
     -- too few numbers
-    pub left_needs : 2 ^ 32 ≤ old.given + needed (trees_of old) (l.trees ++ definition_trees (piece ∷ [])) → NeedsMore old text
-    left_needs many = record { front = l.trees ++ definition_trees (piece ∷ []); more = definition_trees rest; are = trees_next; many = many }
+    pub left_needs : 2 ^ 32 ≤ old.given + needed (trees_of old) (l.trees ++ definition_trees (piece ∷ []))
+        → NeedsMore old (definition_trees prelude ++ definition_trees text)
+    left_needs many = record { front = l.trees ++ definition_trees (piece ∷ []); more = definition_trees rest; are = trees_left; many = many }
 
     module _ (equal : (f g : Forest) → (same_forest f g ≡ true) ↔ (f ≡ g)) (law : LooksAtNoPlace W) where
       abbrev numbers : Forest → Option ℕ
@@ -121,12 +132,12 @@ module _ (grammar : Grammar) (edition : Edition) (depth : ℕ) (old : Cache) (te
           ≡ present (kept_of W depth number_of l.before piece (definition_of r)) ∷ members_after L depth (map present_definition (with_met W depth number_of piece (definition_of r) l.before)) rest
       member_is number_of =
           ap (λ (o : Option Definition). member L depth (map present_definition l.before) piece o ∷ members_after L depth (with_definition o (map present_definition l.before)) rest)
-          (definition_there piece from)
+          (definition_there piece (own_stands piece from))
           ∙ go (definition_of r)
         where
           go : (o : Option Definition)
-              → member L depth (map present_definition l.before) piece (option_map (definition_with (moved_on (first_start piece))) o)
-              ∷ members_after L depth (with_definition (option_map (definition_with (moved_on (first_start piece))) o) (map present_definition l.before)) rest
+              → member L depth (map present_definition l.before) piece (option_map (definition_with (moved_to (first_place piece))) o)
+              ∷ members_after L depth (with_definition (option_map (definition_with (moved_to (first_place piece))) o) (map present_definition l.before)) rest
               ≡ present (kept_of W depth number_of l.before piece o) ∷ members_after L depth (map present_definition (with_met W depth number_of piece o l.before)) rest
           go (Some d) = refl
           go None =
@@ -138,7 +149,7 @@ module _ (grammar : Grammar) (edition : Edition) (depth : ℕ) (old : Cache) (te
               (resolved_expansion W law (numbered_by numbers) tell (first_start piece) l.before l.has.known depth r)
 
       -- too many tokens
-      pub left_bursts : MakesTooMany grammar edition depth piece now → list_any bursts (members_after L depth [] text) ≡ true
+      pub left_bursts : MakesTooMany grammar edition depth piece now → list_any bursts (members_after L depth (definitions_after [] prelude) text) ≡ true
       left_bursts many =
           let number_of : Forest → ℕ = number_by numbers in
           let k : Kept = kept_of W depth number_of l.before piece (definition_of r) in
@@ -167,12 +178,9 @@ module _ (grammar : Grammar) (edition : Edition) (depth : ℕ) (old : Cache) (te
                 ≡ kept_of W depth (number_by N) l.before piece o ∷ kept_after W depth (number_by final) (with_met W depth (number_by N) piece o l.before) rest
             go None e h = refl
             go (Some d) e h =
-                let m : Met = met_of W depth (number_by N) piece d in
-                let here : IsMet (numbered_by N) m = All-head (IsMet (numbered_by N)) m l.before h in
-                let tree_is : here.tree ≡ r = sym (definition_piece here.tree d here.definition) ∙ definition_piece r d e in
-                let number_is : number_by final r ≡ number_by N r = ap (λ (o : Option ℕ). unwrap_or o 0) (more r (number_by N r) (ap N (sym tree_is) ∙ here.entry)) in
-                ap (λ (n : ℕ). met (record { start = first_start piece; numbered = record { number = n; definition = d } })
-                ∷ kept_after W depth (number_by final) (record { start = first_start piece; numbered = record { number = n; definition = d } } ∷ l.before) rest) number_is
+                ap (λ (n : ℕ). met (record { place = first_place piece; numbered = record { number = n; definition = d } })
+                ∷ kept_after W depth (number_by final) (record { place = first_place piece; numbered = record { number = n; definition = d } } ∷ l.before) rest)
+                (same_number W depth N final more l.before piece d e h)
 
         pub left_more : Left rest next
         left_more = record {
@@ -184,7 +192,7 @@ module _ (grammar : Grammar) (edition : Edition) (depth : ℕ) (old : Cache) (te
           kept_are = λ final more.
               l.kept_are final (λ t n e. more t n (grows t n e)) ∙ ap (λ ks. l.done ++ ks) (kept_next final more)
               ∙ sym (append_assoc l.done (k ∷ []) (kept_after W depth (number_by final) (with_met W depth (number_by N) piece (definition_of r) l.before) rest));
-          trees_are = trees_next;
+          trees_are = trees_left;
           members_are =
               let later : List Member = members_after L depth (map present_definition (with_met W depth (number_by N) piece (definition_of r) l.before)) rest in
               l.members_are ∙ ap (λ ms. map present l.done ++ ms) (member_is (number_by N))

@@ -10,6 +10,7 @@ use Rattle.tt_data.specs.declared.leaf.Leaf.{Leaf}
 use Rattle.tt_data.specs.declared.leaf.Leaf.TheVariants as as_leaf
 use Rattle.tt_data.specs.declared.span.Span.{Span}
 use Rattle.tt_data.specs.declared.tree.TokenTree.TheVariants as token
+use Rattle.bridge.specs.RelativeSpans.{own_place}
 use Rattle.bridge.specs.Order.{AreFrom, AreWritten, FollowOneAnother, IsWritten}
 use Rattle.bridge.specs.Pieces as bare_pieces
 use Rattle.bridge.specs.Pieces.{StandsBehindFirst, StandsFrom}
@@ -111,10 +112,10 @@ token_spans n (group d inner rest) h =
       token_spans n rest (back_all (StandsFrom n) (preorder inner) (preorder rest) others),
     )
 
-both_here : (n : ℕ) (s : Span) → bare_pieces.IsFrom n s → IsWritten s → IsFrom n s
+both_here : (n : ℕ) (s : Span) → bare_pieces.IsFrom n s → IsWritten s → IsFrom (own_place n) s
 both_here n s a b = record { starts = a.0; ends = a.1; anchor = b.0; ctx = b.1 }
 
-both_spans : (n : ℕ) (f : Forest) → AllSpans (bare_pieces.IsFrom n) f → AllSpans IsWritten f → AllSpans (IsFrom n) f
+both_spans : (n : ℕ) (f : Forest) → AllSpans (bare_pieces.IsFrom n) f → AllSpans IsWritten f → AllSpans (IsFrom (own_place n)) f
 both_spans n empty h k = tt
 both_spans n (leaf l rest) h k = (both_here n (span_of l) h.0 k.0, both_spans n rest h.1 k.1)
 both_spans n (group d inner rest) h k =

@@ -14,13 +14,13 @@ use Rattle.expander_model.specs.EqualTrees.{same_forest}
 use Rattle.expander_session.specs.Expanded.{Expanded}
 use Rattle.expander_model.specs.Expansion.{PlacedStep}
 use Rattle.expander_model.specs.Faults.{in_order}
-use Rattle.expander_model.specs.Held.{Kept, kept_after, present}
+use Rattle.expander_model.specs.Held.{Kept, Stands, present}
 use Rattle.expander_model.specs.DefinitionTrees.{definition_trees}
 use Rattle.expander_session.specs.Layered.{layers}
 use Rattle.expander_session.specs.MemoRefs.{AreLinked, plain_tops}
-use Rattle.expander_model.specs.Meaning.{Layers, Member, meaning_of, members, members_after, output_of}
+use Rattle.expander_model.specs.Meaning.{Layers, Member, meaning_of, members_after, members_in, output_of}
 use Rattle.expander_session.specs.Caches.{IsCache, held_in, looked_plain, piece_of, trees_of}
-use Rattle.expander_scope.specs.DefinitionIds.{HaveNumbers, number_by, numbered_by}
+use Rattle.expander_scope.specs.DefinitionIds.{HaveNumbers, numbered_by}
 use Rattle.expander_scope.specs.NewNumbers.{needed}
 use Rattle.expander_session.specs.Emitting.{HasOutput, faults_in}
 use Rattle.expander_reparse.specs.RelativePieces.{IsOwnPiece, piece_at}
@@ -29,12 +29,12 @@ use Rattle.expander_reparse.specs.ParsedTexts.{IsReadInPieces}
 use Rattle.expander_session.specs.Replies.{HasCause, Replies}
 use Rattle.expander_session.specs.Reuse.{HeldPiece, IsHeld, looked_held}
 use Rattle.expander_session.specs.Shown.{ShowsMeaning, ShowsOutput}
-use Rattle.expander_session.specs.State.{State, layers_of}
+use Rattle.expander_session.specs.State.{State, definitions_of, layers_of}
 use Rattle.expander_reparse.specs.Segments.{AreSegments, all_in}
-use Rattle.expander_session.specs.EvaluatedTexts.{EvaluatesText}
+use Rattle.expander_session.specs.EvaluatedTexts.{EvaluatesText, kept_in}
 use Rattle.expander_session.specs.Evaluating.{IsEvaluated, NeedsMore}
 use Rattle.expander_session.specs.TextTurn.{is_unmatched}
-use Rattle.expander_session.specs.TooMany.{HasTooMany, bursts}
+use Rattle.expander_session.specs.TooMany.{HasTooManyIn, bursts}
 use Rattle.expander_model.specs.World.{world}
 use Rattle.expander_model.specs.declared.fault.Fault.{Fault}
 use Rattle.expander_session.specs.declared.cache.Cache as code
@@ -68,16 +68,19 @@ memory_of now sources = record {
   links = now.links;
 }
 
-module _ (equal : (f g : Forest) → (same_forest f g ≡ true) ↔ (f ≡ g)) (grammar : Grammar) (edition : Edition) (depth : ℕ) (old : code.Cache) (ps : List Forest) where
+module _ (equal : (f g : Forest) → (same_forest f g ≡ true) ↔ (f ≡ g)) (grammar : Grammar) (edition : Edition) (depth : ℕ) (old : code.Cache) (prelude ps : List Forest) where
+  abbrev trees : List Forest
+  trees = definition_trees prelude ++ definition_trees ps
+
   abbrev news : Evaluated → List Kept
-  news now = kept_after (world grammar edition) depth (number_by (numbers_in now.numbers.by_tree)) [] ps
+  news now = kept_in grammar edition depth (numbers_in now.numbers.by_tree) prelude ps
 
   -- it is held rightly
-  taken_right : (now : Evaluated) → IsEvaluated (world grammar edition) edition depth old (layers grammar edition) (definition_trees ps) (news now) now
+  taken_right : (now : Evaluated) → IsEvaluated (world grammar edition) edition depth old (layers grammar edition) trees (news now) now
       → (sources : Segments) → AreSegments sources → AreLinked (plain_tops now.plains.items) (definition_tops now.numbers.definitions.items) (all_in sources) now.links.items → IsCache (world grammar edition) depth edition (memory_of now sources)
   taken_right now t sources are links = record {
     unread = λ e. absurd (cc e);
-    numbers = numbers_now equal old.given (numbers_in old.by_tree) (trees_of old) (definition_trees ps) now.numbers.given (numbers_in now.numbers.by_tree) t.numbers.numbers;
+    numbers = numbers_now equal old.given (numbers_in old.by_tree) (trees_of old) trees now.numbers.given (numbers_in now.numbers.by_tree) t.numbers.numbers;
     have = subst (HaveNumbers (numbers_in now.numbers.by_tree)) (sym t.numbers.trees_are) t.numbers.numbers.have;
     table = t.numbers.table;
     listed = t.numbers.listed;
@@ -88,9 +91,9 @@ module _ (equal : (f g : Forest) → (same_forest f g ≡ true) ↔ (f ≡ g)) (
     linked = links;
   }
 
-  pub takes_text : (now : Evaluated) (e : Expanded) → IsEvaluated (world grammar edition) edition depth old (layers grammar edition) (definition_trees ps) (news now) now
+  pub takes_text : (now : Evaluated) (e : Expanded) → IsEvaluated (world grammar edition) edition depth old (layers grammar edition) trees (news now) now
       → ((steps : List PlacedStep) → HasOutput now.steps steps → ShowsOutput now.faults.items now.expanded steps e)
-      → (sources : Segments) → AreSegments sources → AreLinked (plain_tops now.plains.items) (definition_tops now.numbers.definitions.items) (all_in sources) now.links.items → EvaluatesText grammar edition depth old ps e (memory_of now sources)
+      → (sources : Segments) → AreSegments sources → AreLinked (plain_tops now.plains.items) (definition_tops now.numbers.definitions.items) (all_in sources) now.links.items → EvaluatesText grammar edition depth old prelude ps e (memory_of now sources)
   takes_text now e t shown sources are links =
       let shows : ShowsOutput now.faults.items now.expanded (flat_map output_of (map present (news now))) e = shown (flat_map output_of (map present (news now))) t.steps in
       record {
@@ -110,21 +113,30 @@ module _ (equal : (f g : Forest) → (same_forest f g ≡ true) ↔ (f ≡ g)) (
 
 -- ---- the reply
 
-shows_text : (L : Layers) (depth : ℕ) (f : Forest) (ms : List Member) → members L depth f ≡ ms → (count other : ℕ) → count ≡ other → (e : Expanded)
-    → ShowsMeaning (meaning_of L ms) count e → ShowsText L depth f other e
-shows_text L depth f ms same count other counts e shows =
-    let back : ShowsMeaning (meaning_of L (members L depth f)) count e = subst (λ (xs : List Member). ShowsMeaning (meaning_of L xs) count e) (sym same) shows in
+shows_text : (L : Layers) (all ms : List Member) → all ≡ ms → (count other : ℕ) → count ≡ other → (e : Expanded)
+    → ShowsMeaning (meaning_of L ms) count e → ShowsText L all other e
+shows_text L all ms same count other counts e shows =
+    let back : ShowsMeaning (meaning_of L all) count e = subst (λ (xs : List Member). ShowsMeaning (meaning_of L xs) count e) (sym same) shows in
     record { printed = back.printed; faults = back.faults; origins = back.origins; ranges = back.ranges; expanded = back.expanded ∙ counts }
 
 -- a session that holds this
-abbrev pub session_with : {G : Type 0} → List ℕ → G → Edition → ℕ → code.Cache → State G
-session_with text grammar edition depth m =
-    record { text = text; grammar = grammar; edition = edition; depth = depth; held = held_in m; trees = trees_of m; given = m.given }
+abbrev pub session_with : {G : Type 0} → List ℕ → G → Edition → ℕ → List Forest → code.Cache → State G
+session_with text grammar edition depth prelude m = record {
+  text = text;
+  grammar = grammar;
+  edition = edition;
+  depth = depth;
+  prelude = prelude;
+  held = held_in m;
+  trees = trees_of m;
+  given = m.given;
+}
 
-module _ (laws : TurnLaws) {G : Type 0} (given : G) (grammar : Grammar) (edition : Edition) (depth : ℕ) (text : List ℕ) (f : Forest) (is_text : IsUtf8 text) (read : text_reading text ≡ Ok f)
+module _ (laws : TurnLaws) {G : Type 0} (given : G) (grammar : Grammar) (edition : Edition) (depth : ℕ) (prelude : List Forest) (stands : All Stands prelude)
+    (text : List ℕ) (f : Forest) (is_text : IsUtf8 text) (read : text_reading text ≡ Ok f)
     (old : code.Cache) (right : IsCache (world grammar edition) depth edition old) where
   abbrev before : State G
-  before = session_with text given edition depth old
+  before = session_with text given edition depth prelude old
 
   abbrev held_pieces : code.Cache → List HeldPiece
   held_pieces m = map (λ q. piece_of (world grammar edition) depth (rc_value q)) m.plains.items
@@ -148,22 +160,23 @@ module _ (laws : TurnLaws) {G : Type 0} (given : G) (grammar : Grammar) (edition
     right = All-nil (IsHeld (world grammar edition) depth (numbered_by (numbers_in old.by_tree)));
   }
 
-  pub replies_read : (e : Expanded) (m : code.Cache) → EvaluatesText grammar edition depth old (pieces f) e m
-      → Replies (layers grammar edition) before (session_with text given edition depth m) (Read e)
+  pub replies_read : (e : Expanded) (m : code.Cache) → EvaluatesText grammar edition depth old prelude (pieces f) e m
+      → Replies (layers grammar edition) before (session_with text given edition depth prelude m) (Read e)
   replies_read e m takes = go old.was_read refl
     where
-      go : (b : Bool) → old.was_read ≡ b → Replies (layers grammar edition) before (session_with text given edition depth m) (Read e)
+      go : (b : Bool) → old.was_read ≡ b → Replies (layers grammar edition) before (session_with text given edition depth prelude m) (Read e)
       go b is =
           let h : Had grammar edition before (numbers_in old.by_tree) (hold b) = had b is in
-          let news : List Kept = kept_after (world grammar edition) depth (number_by (numbers_in m.by_tree)) [] (pieces f) in
-          let same : members (layers grammar edition) depth f ≡ map present news =
-          taken_members laws grammar edition depth text f is_text read old.given (numbers_in old.by_tree) (trees_of old) m.given (numbers_in m.by_tree) takes.numbers (unwrap_or (hold b) []) h.right in
-          taken_reply grammar edition before f read laws is_text (numbers_in old.by_tree) m.given (numbers_in m.by_tree) takes.numbers (hold b) h
-          (session_with text given edition depth m) e
-          (shows_text (layers grammar edition) depth f (map present news) same
+          let news : List Kept = kept_in grammar edition depth (numbers_in m.by_tree) prelude (pieces f) in
+          let all : List Member = members_in (layers grammar edition) depth (definitions_of prelude) f in
+          let same : all ≡ map present news =
+          taken_members laws grammar edition depth prelude stands text f is_text read old.given (numbers_in old.by_tree) (trees_of old) m.given (numbers_in m.by_tree) takes.numbers (unwrap_or (hold b) []) h.right in
+          taken_reply grammar edition before f read laws stands is_text (numbers_in old.by_tree) m.given (numbers_in m.by_tree) takes.numbers (hold b) h
+          (session_with text given edition depth prelude m) e
+          (shows_text (layers grammar edition) all (map present news) same
           (length (filter (is_unmatched (held_pieces old)) news)) (length (filter (is_unmatched (unwrap_or (hold b) [])) news))
           (ap (λ qs. length (filter (is_unmatched qs) news)) (sym (none_held b is))) e takes.shows)
-          (record { text = refl; grammar = refl; edition = refl; depth = refl })
+          (record { text = refl; grammar = refl; edition = refl; depth = refl; prelude = refl })
           (ap (λ b. if b then Some (map (λ q. looked_plain (rc_value q)) m.plains.items) else None) takes.was_read
           ∙ ap Some (sym (all_looked (world grammar edition) depth (numbers_in m.by_tree) m.plains.items takes.right.right))
           ∙ ap (λ qs. Some (map looked_held qs)) takes.plains)
@@ -174,13 +187,13 @@ module _ (laws : TurnLaws) {G : Type 0} (given : G) (grammar : Grammar) (edition
 -- the pieces are refused
 pub pieces_cause : {G : Type 0} → ((a b : Forest) → (same_forest a b ≡ true) ↔ (a ≡ b)) → (grammar : Grammar) (edition : Edition) (s : State G) (m : code.Cache) (f : Forest)
     → text_reading s.text ≡ Ok f → s.trees ≡ trees_of m → s.given ≡ m.given → (why : Refusal)
-    → (why ≡ refusal.Tokens → list_any bursts (members_after (layers grammar edition) s.depth [] (pieces f)) ≡ true)
-    → (why ≡ refusal.Numbers → NeedsMore m (pieces f)) → HasCause (layers grammar edition) s why
+    → (why ≡ refusal.Tokens → list_any bursts (members_after (layers grammar edition) s.depth (definitions_of s.prelude) (pieces f)) ≡ true)
+    → (why ≡ refusal.Numbers → NeedsMore m (definition_trees s.prelude ++ definition_trees (pieces f))) → HasCause (layers grammar edition) s why
 pieces_cause equal grammar edition s m f read trees gives refusal.Memory tokens numbers = tt
 pieces_cause equal grammar edition s m f read trees gives refusal.Tokens tokens numbers =
-    inr (subst (HasTooMany (layers grammar edition) s.depth) (sym read) (tokens refl))
+    inr (subst (HasTooManyIn (layers grammar edition) s.depth (definitions_of s.prelude)) (sym read) (tokens refl))
 pieces_cause equal grammar edition s m f read trees gives refusal.Numbers tokens numbers =
-    let more : NeedsMore m (pieces f) = numbers refl in
+    let more : NeedsMore m (definition_trees s.prelude ++ definition_trees (pieces f)) = numbers refl in
     too_many_numbers grammar edition s f read equal more.front more.more more.are
     (subst (λ (n : ℕ). 2 ^ 32 ≤ n + needed s.trees more.front) (sym gives)
     (subst (λ (ts : List Forest). 2 ^ 32 ≤ m.given + needed ts more.front) (sym trees) more.many))
@@ -198,22 +211,23 @@ module _ (text : List ℕ) (own : Vec Piece Global) (sources : Segments) (is_rea
     pub list_are : All IsOwnPiece list
     list_are = subst (All IsOwnPiece) (sym same) own_is.1
 
-    pub replies_in_pieces : TurnLaws → {G : Type 0} → (answer : G → Grammar) (s : State G) (here : List ℕ) (grammar : G) (edition : Edition) (depth : ℕ) (old : code.Cache)
-        → session_with here grammar edition depth old ≡ s → text ≡ here → IsCache (world (answer grammar) edition) depth edition old
-        → (e : Expanded) (m : code.Cache) → EvaluatesText (answer grammar) edition depth old (map piece_at list) e m
-        → Replies (layers_of answer s) s (session_with here grammar edition depth m) (Read e)
-    replies_in_pieces laws {G} answer s here grammar edition depth old is shown right e m takes =
-        subst (λ (z : State G). Replies (layers_of answer z) z (session_with here grammar edition depth m) (Read e)) is
-        (subst (λ (bytes : List ℕ). Replies (layers (answer grammar) edition) (session_with bytes grammar edition depth old) (session_with bytes grammar edition depth m) (Read e)) shown
-        (replies_read laws grammar (answer grammar) edition depth text is_read.0 is_text is_read.1 old right e m
-        (subst (λ (ps : List Forest). EvaluatesText (answer grammar) edition depth old ps e m) are_pieces takes)))
+    pub replies_in_pieces : TurnLaws → {G : Type 0} → (answer : G → Grammar) (s : State G) (here : List ℕ) (grammar : G) (edition : Edition) (depth : ℕ)
+        (prelude : List Forest) → All Stands prelude → (old : code.Cache)
+        → session_with here grammar edition depth prelude old ≡ s → text ≡ here → IsCache (world (answer grammar) edition) depth edition old
+        → (e : Expanded) (m : code.Cache) → EvaluatesText (answer grammar) edition depth old prelude (map piece_at list) e m
+        → Replies (layers_of answer s) s (session_with here grammar edition depth prelude m) (Read e)
+    replies_in_pieces laws {G} answer s here grammar edition depth prelude stands old is shown right e m takes =
+        subst (λ (z : State G). Replies (layers_of answer z) z (session_with here grammar edition depth prelude m) (Read e)) is
+        (subst (λ (bytes : List ℕ). Replies (layers (answer grammar) edition) (session_with bytes grammar edition depth prelude old) (session_with bytes grammar edition depth prelude m) (Read e)) shown
+        (replies_read laws grammar (answer grammar) edition depth prelude stands text is_read.0 is_text is_read.1 old right e m
+        (subst (λ (ps : List Forest). EvaluatesText (answer grammar) edition depth old prelude ps e m) are_pieces takes)))
 
     pub cause_in_pieces : ((a b : Forest) → (same_forest a b ≡ true) ↔ (a ≡ b)) → {G : Type 0} → (answer : G → Grammar) (s : State G) (here : List ℕ) (grammar : G) (edition : Edition) (depth : ℕ)
-        (m : code.Cache) → session_with here grammar edition depth m ≡ s → text ≡ here → (why : Refusal)
-        → (why ≡ refusal.Tokens → list_any bursts (members_after (layers (answer grammar) edition) depth [] (map piece_at list)) ≡ true)
-        → (why ≡ refusal.Numbers → NeedsMore m (map piece_at list)) → HasCause (layers_of answer s) s why
-    cause_in_pieces equal {G} answer s here grammar edition depth m is shown why tokens numbers =
+        (prelude : List Forest) (m : code.Cache) → session_with here grammar edition depth prelude m ≡ s → text ≡ here → (why : Refusal)
+        → (why ≡ refusal.Tokens → list_any bursts (members_after (layers (answer grammar) edition) depth (definitions_of prelude) (map piece_at list)) ≡ true)
+        → (why ≡ refusal.Numbers → NeedsMore m (definition_trees prelude ++ definition_trees (map piece_at list))) → HasCause (layers_of answer s) s why
+    cause_in_pieces equal {G} answer s here grammar edition depth prelude m is shown why tokens numbers =
         subst (λ (z : State G). HasCause (layers_of answer z) z why) is
-        (pieces_cause equal (answer grammar) edition (session_with here grammar edition depth m) m is_read.0 (subst (λ (bytes : List ℕ). text_reading bytes ≡ Ok is_read.0) shown is_read.1) refl refl why
-        (λ e. subst (λ (ps : List Forest). list_any bursts (members_after (layers (answer grammar) edition) depth [] ps) ≡ true) are_pieces (tokens e))
-        (λ e. subst (λ (ps : List Forest). NeedsMore m ps) are_pieces (numbers e)))
+        (pieces_cause equal (answer grammar) edition (session_with here grammar edition depth prelude m) m is_read.0 (subst (λ (bytes : List ℕ). text_reading bytes ≡ Ok is_read.0) shown is_read.1) refl refl why
+        (λ e. subst (λ (ps : List Forest). list_any bursts (members_after (layers (answer grammar) edition) depth (definitions_of prelude) ps) ≡ true) are_pieces (tokens e))
+        (λ e. subst (λ (ps : List Forest). NeedsMore m (definition_trees prelude ++ definition_trees ps)) are_pieces (numbers e)))

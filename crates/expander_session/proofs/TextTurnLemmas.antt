@@ -3,6 +3,8 @@ use Rattle.std.proofs.Common.{◌≡◌, ◌↔◌, ℕ, suc, Bool, true, false,
 use Rattle.std.specs.Prelude.{All, not, filter, filter_map}
 use Rattle.std.specs.List.{list_any, cons_option}
 use Rattle.std.proofs.lemmas.List.Elements.{All-cons, All-head, All-nil, All-tail}
+use Rattle.bridge.specs.RelativeSpans.{moved_to}
+use Rattle.bridge.specs.declared.printing.relative_spans.Place.{Place}
 use Rattle.tt_data.specs.Forest.{Forest, map_spans}
 use Rattle.expander_session.specs.Agreement.{FoundIn}
 use Rattle.expander_model.specs.Changes.{find_with}
@@ -10,14 +12,14 @@ use Rattle.expander_session.specs.Count.{Looked, expanded_count, found_piece, is
 use Rattle.expander_model.specs.EqualTrees.{same_forest}
 use Rattle.expander_model.specs.Definitions.{Definition, definition_of}
 use Rattle.expander_model.specs.Expansion.{World, Outcome}
-use Rattle.expander_model.specs.Held.{HasNumber, IsMet, Kept, Met, Numbered, StandFromFirst, Tells, kept, kept_after, kept_of, met, met_of, moved_on, nearest_met, numbered_of, numbered_scope, numbered_world, present, resolve, resolve_definition, with_met}
+use Rattle.expander_model.specs.Held.{HasNumber, IsMet, Kept, Met, Numbered, StandFromFirst, Stands, Tells, kept, kept_after, kept_of, met, met_of, mets_after, nearest_met, numbered_of, numbered_scope, numbered_world, present, resolve, resolve_definition, with_met}
 use Rattle.expander_model.specs.Pieces.{first_start, relative}
 use Rattle.expander_session.specs.Reuse.{HeldPiece, IsHeld, looked_at, looked_held, matches}
 use Rattle.expander_session.specs.TextTurn.{IsKept, IsPlain, StandsInText, held_of, is_unmatched, taken_after, taken_of}
 use Rattle.expander_scope.proofs.DefinitionPlaceLemmas.{definition_piece}
 use Rattle.expander_session.proofs.FindsLemmas.{expansion_found}
 use Rattle.expander_scope.proofs.HeldLemmas.{found_is, resolved_definition}
-use Rattle.expander_model.proofs.PlaceLemmas.{piece_and_back, resolved_piece}
+use Rattle.expander_model.proofs.PlaceLemmas.{own_stands, piece_and_back, resolved_piece}
 use Rattle.expander_session.proofs.ReuseLemmas.{fresh_is_held, matches_are_same, met_scope, reuse_is, seen}
 
 -- a piece of a text: no token is before its first; and where it is a definition, its tree has its number
@@ -41,14 +43,33 @@ module _ (equal : (f g : Forest) → (same_forest f g ≡ true) ↔ (f ≡ g)) w
   -- ---- what is held decides nothing but where an outcome comes from
 
   pub met_there : (world : World Definition) (depth : ℕ) (table : Forest → ℕ → Type 0) (number_of : Forest → ℕ) (p : Forest) (d : Definition)
-      → IsPiece table number_of p → definition_of (relative p) ≡ Some d → StandsInText table (met_of world depth number_of p d)
-  met_there world depth table number_of p d h e = record {
-    numbered = record { tree = relative p; entry = h.numbered d e; definition = e };
+      → Stands p → HasNumber table number_of p → definition_of (relative p) ≡ Some d → StandsInText table (met_of world depth number_of p d)
+  met_there world depth table number_of p d stands numbered e = record {
+    numbered = record { tree = relative p; entry = numbered d e; definition = e };
     piece = p;
-    from = h.from;
+    from = stands;
     start = refl;
     tree = refl;
   }
+
+  -- definitions stand in their texts, whichever these are
+  pub mets_stand : (world : World Definition) (depth : ℕ) (table : Forest → ℕ → Type 0) (number_of : Forest → ℕ) (before : List Met)
+      → All (StandsInText table) before → (ps : List Forest) → All Stands ps → All (HasNumber table number_of) ps
+      → All (StandsInText table) (mets_after world depth number_of before ps)
+  mets_stand world depth table number_of before h [] s n = h
+  mets_stand world depth table number_of before h (p ∷ ps) s n =
+      go (definition_of (relative p)) refl
+      (λ now are. mets_stand world depth table number_of now are ps (All-tail Stands p ps s) (All-tail (HasNumber table number_of) p ps n))
+    where
+      go : (o : Option Definition) → definition_of (relative p) ≡ o
+          → ((now : List Met) → All (StandsInText table) now → All (StandsInText table) (mets_after world depth number_of now ps))
+          → All (StandsInText table) (mets_after world depth number_of (with_met world depth number_of p o before) ps)
+      go None e later = later before h
+      go (Some d) e later =
+          let m : Met = met_of world depth number_of p d in
+          later (m ∷ before)
+          (All-cons (StandsInText table) m before
+          (met_there world depth table number_of p d (All-head Stands p ps s) (All-head (HasNumber table number_of) p ps n) e) h)
 
   pub taken_is : (world : World Definition) (depth : ℕ) (table : Forest → ℕ → Type 0) → Tells table → (number_of : Forest → ℕ)
       → (held : List HeldPiece) → All (IsHeld world depth table) held → (before : List Met) → All (StandsInText table) before → (ps : List Forest) → All (IsPiece table number_of) ps
@@ -64,7 +85,7 @@ module _ (equal : (f g : Forest) → (same_forest f g ≡ true) ↔ (f ≡ g)) w
       go here later (Some d) e =
           ap (λ (ks : List Kept). met (met_of world depth number_of p d) ∷ ks)
           (later (met_of world depth number_of p d ∷ before)
-          (All-cons (StandsInText table) (met_of world depth number_of p d) before (met_there world depth table number_of p d here e) h))
+          (All-cons (StandsInText table) (met_of world depth number_of p d) before (met_there world depth table number_of p d (own_stands p here.from) here.numbered e) h))
       go here later None e =
           ap (λ (o : Outcome Numbered). kept (first_start p) before (relative p) o ∷ taken_after world depth number_of held before ps)
           (reuse_is equal world depth table tells (numbered_scope before) (met_scope equal table before (mets table before h)) (relative p) held all)
@@ -83,7 +104,7 @@ module _ (equal : (f g : Forest) → (same_forest f g ≡ true) ↔ (f ≡ g)) w
           → All (IsKept world depth table) (kept_of world depth number_of before p o ∷ kept_after world depth number_of (with_met world depth number_of p o before) ps)
       go piece later (Some d) e =
           let m : Met = met_of world depth number_of p d in
-          let here = met_there world depth table number_of p d piece e in
+          let here = met_there world depth table number_of p d (own_stands p piece.from) piece.numbered e in
           All-cons (IsKept world depth table) (met m) (kept_after world depth number_of (m ∷ before) ps) here
           (later (m ∷ before) (All-cons (StandsInText table) m before here h))
       go piece later None e =
@@ -111,10 +132,10 @@ module _ (equal : (f g : Forest) → (same_forest f g ≡ true) ↔ (f ≡ g)) w
   found_seen table tells start before h name (Some m) e =
       let is_met : StandsInText table m = (found_is (StandsInText table) before name m h e).is_so in
       let piece : m.numbered.definition.piece ≡ relative is_met.piece = definition_piece is_met.numbered.tree m.numbered.definition is_met.numbered.definition ∙ is_met.tree in
-      let there : map_spans (moved_on m.start) m.numbered.definition.piece ≡ is_met.piece =
-      ap (λ (n : ℕ). map_spans (moved_on n) m.numbered.definition.piece) is_met.start
-      ∙ ap (map_spans (moved_on (first_start is_met.piece))) piece
-      ∙ piece_and_back (first_start is_met.piece) is_met.piece is_met.from in
+      let first : Place = record { text = m.place.text; start = first_start is_met.piece } in
+      let there : map_spans (moved_to m.place) m.numbered.definition.piece ≡ is_met.piece =
+      ap (λ (n : ℕ). map_spans (moved_to (record { text = m.place.text; start = n })) m.numbered.definition.piece) is_met.start
+      ∙ ap (map_spans (moved_to first)) piece ∙ piece_and_back first is_met.piece is_met.from in
       ap (λ (d : Definition). Some (relative d.piece)) (sym (resolved_definition table tells start before name m (mets table before h) e))
       ∙ ap (λ (p : Forest). Some (relative p)) there ∙ ap Some (sym piece)
 

@@ -8,7 +8,7 @@ use Rattle.tt_data.specs.declared.edition.Edition.{Edition}
 use Rattle.expander_scope.specs.Interning.{AllRead, IsTable, definition_tops, numbers_in}
 use Rattle.expander_model.specs.Definitions.{Definition, definition_of}
 use Rattle.expander_model.specs.Expansion.{World, expansion}
-use Rattle.expander_model.specs.Held.{IsMet, Kept, Met, kept_of, numbered_world, present, with_met}
+use Rattle.expander_model.specs.Held.{IsMet, Kept, Met, kept_of, mets_after, numbered_world, present, with_met}
 use Rattle.expander_model.specs.DefinitionTrees.{definition_trees}
 use Rattle.expander_session.specs.Layered.{layers}
 use Rattle.expander_session.specs.MemoRefs.{LeadTo, plain_tops}
@@ -27,11 +27,11 @@ use Rattle.expander_model.specs.World.{world}
 use Rattle.expander_session.specs.declared.evaluate.Evaluated.{Evaluated}
 use Rattle.expander_session.specs.declared.evaluate.Evaluation.{Evaluation}
 
--- the first definitions of these pieces need more ids than there are
-pub record NeedsMore (old : Cache) (ps : List Forest) : Type 0 where
+-- the first of these definitions need more ids than there are
+pub record NeedsMore (old : Cache) (trees : List Forest) : Type 0 where
   pub front : List Forest
   pub more : List Forest
-  pub are : definition_trees ps ≡ front ++ more
+  pub are : trees ≡ front ++ more
   pub many : 2 ^ 32 ≤ old.given + needed (trees_of old) front
 
 -- trees that have an id keep it
@@ -69,6 +69,21 @@ module _ (world : World Definition) (edition : Edition) (depth : ℕ) (old : Cac
     pub read : AreRead now.scope
     pub edition_is : now.scope.edition ≡ edition
     pub taken : IsEvaluated trees done now.taken
+
+-- one more definition of a prelude is in scope
+abbrev pub Imports : Grammar → Edition → ℕ → Cache → Forest → Evaluation → Evaluation → Type 0
+Imports grammar edition depth old piece now next =
+    (before : List Met) (trees : List Forest) (done : List Kept) → HasTaken (world grammar edition) edition depth old (layers grammar edition) before trees done now
+    → HasTaken (world grammar edition) edition depth old (layers grammar edition)
+    (with_met (world grammar edition) depth (number_by (numbers_in next.taken.numbers.by_tree)) piece (definition_of (relative piece)) before)
+    (trees ++ definition_trees (piece ∷ [])) done next
+
+-- a prelude is in scope, and no piece of the text is evaluated
+abbrev pub HasImported : Grammar → Edition → ℕ → Cache → List Forest → Evaluation → Type 0
+HasImported grammar edition depth old prelude now =
+    HasTaken (world grammar edition) edition depth old (layers grammar edition)
+    (mets_after (world grammar edition) depth (number_by (numbers_in now.taken.numbers.by_tree)) [] prelude)
+    (definition_trees prelude) [] now
 
 -- one more piece is evaluated
 abbrev pub Evaluates : Grammar → Edition → ℕ → Cache → Forest → Evaluation → Evaluation → Type 0

@@ -1,5 +1,5 @@
 -- Definitions that the laws use.
-use Rattle.std.specs.Prelude.{◌≡◌, ◌≢◌, ◌⊎◌, ℕ, zero, suc, Bool, true, false, not, All, Option, None, List, [], ◌∷◌, is_none}
+use Rattle.std.specs.Prelude.{◌≡◌, ◌≢◌, ◌⊎◌, ℕ, zero, suc, Bool, true, false, not, All, Option, None, List, is_none}
 use Rattle.std.specs.List.{list_all}
 use Rattle.bridge.specs.Text.{is_punct}
 use Rattle.tt_data.specs.Forest.{Forest, empty, leaf, group, joined}
@@ -8,7 +8,6 @@ use Rattle.expander_session.specs.Count.{found_piece}
 use Rattle.expander_model.specs.CallSteps.{call_at, call_behind_colons}
 use Rattle.expander_model.specs.Definitions.{Definition, definition_of}
 use Rattle.expander_model.specs.Faults.{is_definition_word}
-use Rattle.expander_model.specs.Meaning.{with_definition}
 use Rattle.expander_model.specs.Pieces.{ends_piece}
 use Rattle.expander_model.specs.declared.fault.FaultKind.{FaultKind}
 use Rattle.expander_model.specs.declared.fault.FaultKind.TheVariants.{CannotExpand, BrokenDefinition, RecursionLimit}
@@ -57,11 +56,6 @@ HasNoWord f = list_all (λ s. not (is_definition_word s)) (walk f) ≡ true
 abbrev pub ExpandsNothing : Reply → Type 0
 ExpandsNothing (Read e) = e.expanded ≡ 0
 ExpandsNothing (Unread fault) = ⊥
-
--- the definitions in scope once these pieces follow those before, the nearest first
-abbrev pub definitions_after : List Definition → List Forest → List Definition
-definitions_after before [] = before
-definitions_after before (p ∷ ps) = definitions_after (with_definition (definition_of p) before) ps
 
 -- a name that was looked up finds an equal definition in this scope, or still none; equal by
 -- piece-relative spans

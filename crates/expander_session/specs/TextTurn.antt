@@ -5,7 +5,7 @@ use Rattle.bridge.specs.TokenSteps.{text_reading}
 use Rattle.tt_data.specs.Forest.{Forest}
 use Rattle.expander_model.specs.Definitions.{Definition, definition_of}
 use Rattle.expander_model.specs.Expansion.{Outcome, World, expansion}
-use Rattle.expander_model.specs.Held.{IsMet, Kept, Known, Met, Numbered, StandFromFirst, TellsApart, kept, met, met_of, numbered_scope, numbered_world, with_met}
+use Rattle.expander_model.specs.Held.{IsMet, Kept, Known, Met, Numbered, StandFrom, StandFromFirst, TellsApart, kept, met, met_of, numbered_scope, numbered_world, with_met}
 use Rattle.expander_model.specs.DefinitionTrees.{definition_trees}
 use Rattle.expander_model.specs.EqualTrees.{same_forest}
 use Rattle.expander_scope.specs.Numbers.{AreEntries, Entry, Numbering, number_of, tree_of, with_trees}
@@ -38,12 +38,12 @@ abbrev pub held_of : Kept → Option HeldPiece
 held_of (kept start before tree outcome) = Some (record { tree = tree; outcome = outcome })
 held_of (met m) = None
 
--- a definition of the text that is in scope, with the piece that it is
+-- a definition that is in scope, with the piece that it is of its text
 pub record StandsInText (table : Forest → ℕ → Type 0) (m : Met) : Type 0 where
   pub numbered : IsMet table m
   pub piece : Forest
-  pub from : StandFromFirst piece
-  pub start : m.start ≡ first_start piece
+  pub from : StandFrom m.place.text piece
+  pub start : m.place.start ≡ first_start piece
   pub tree : numbered.tree ≡ relative piece
 
 -- a plain piece of a text: where it starts, the definitions before it, and its expansion

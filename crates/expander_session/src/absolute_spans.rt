@@ -1,15 +1,15 @@
-//! Emits a piece's cached output, with its piece-relative spans turned into spans of the text.
+//! Emits a piece's cached output, with its piece-relative spans turned into spans of their texts.
 //!
 //! `evaluate` calls it for each piece. `start` is where the piece starts in the text, and
 //! `starts` is where the definitions start.
 ghost use Rattle.std.specs.Prelude.{◌≡◌, ◌∷◌, [], ◌++◌, IfOk, IfSome, None, OnOk, option_map, map};
+ghost use Rattle.bridge.specs.RelativeSpans.{moved_to};
 ghost use Rattle.bridge.specs.TokenEvents.{step_of};
 ghost use Rattle.tt_data.specs.Lent.{leaf_lent};
 ghost use Rattle.tt_data.specs.Spans.{leaf_with, span_of};
 ghost use Rattle.tt_data.specs.Walk.{at_leaf, step_with, walk};
 ghost use Rattle.tt_data.specs.declared.span.Span.{Span};
 ghost use Rattle.expander_model.specs.Expansion.{placed};
-ghost use Rattle.expander_model.specs.Held.{moved_on};
 ghost use Rattle.expander_session.specs.CachedOutputs.{EmitsCached};
 ghost use Rattle.expander_session.specs.Emitting.{PutsOut};
 ghost use Rattle.expander_scope.specs.Outcomes.{placed_of, steps_for};
@@ -17,7 +17,7 @@ ghost use Rattle.expander_session.specs.AbsoluteSpans.{base_at, range_from, reso
 
 use crate::cached_output::CachedText;
 use crate::emitter::{Emitter, emit_chunk, emit_chunk_at, push_step};
-use bridge::parts::{Shift, TokenEvent};
+use bridge::parts::{Place, Shift, TokenEvent};
 use expander_model::fault::{Fault, FaultKind};
 use expander_model::tree_walk::TreeWalk;
 use expander_scope::macro_def::MacroDef;
@@ -27,18 +27,18 @@ use std::alloc::{AllocError, Global};
 use tt::TopSubtree;
 use tt_data::{IdentRef, LeafRef, Punct, Span, TextRange};
 
-// The offset that spans with this anchor count from.
-fn base_at(start: u32, starts: &Offsets, anchor: u32) -> u32
+// The place that spans with this anchor count from.
+fn base_at(start: u32, starts: &Offsets, anchor: u32) -> Place
     ensures { result ≡ base_at start starts.now anchor }
 {
     if anchor == 0 {
-        start
+        Place { text: 0, start }
     } else {
         starts.get(anchor)
     }
 }
 
-// A range counted from `base`, as a range of the text. `None` if it exceeds `u32::MAX`, which
+// A range counted from `base`, as a range of its text. `None` if it exceeds `u32::MAX`, which
 // happens in no text.
 fn range_from(base: u32, range: TextRange) -> Option<TextRange>
     ensures { IfSome result (λ r. r ≡ range_from base range) }
@@ -48,19 +48,19 @@ fn range_from(base: u32, range: TextRange) -> Option<TextRange>
     Some(TextRange { start, end })
 }
 
-// A span counted from `base`, as a span of the text. `None` if it exceeds `u32::MAX`, which
+// A span counted from `base`, as a span of its text. `None` if it exceeds `u32::MAX`, which
 // happens in no text.
-fn resolved_from(base: u32, span: Span) -> Option<Span>
-    ensures { IfSome result (λ s. s ≡ moved_on base span) }
+fn resolved_from(base: Place, span: Span) -> Option<Span>
+    ensures { IfSome result (λ s. s ≡ moved_to base span) }
 {
     Some(Span {
-        range: range_from(base, span.range)?,
-        anchor: 0,
+        range: range_from(base.start, span.range)?,
+        anchor: base.text,
         ctx: span.ctx,
     })
 }
 
-// A piece-relative span as a span of the text. `None` if it exceeds `u32::MAX`, which happens in
+// A piece-relative span as a span of its text. `None` if it exceeds `u32::MAX`, which happens in
 // no text.
 fn resolved(start: u32, starts: &Offsets, span: Span) -> Option<Span>
     ensures { IfSome result (λ s. s ≡ resolved_by start starts.now span) }
@@ -68,7 +68,7 @@ fn resolved(start: u32, starts: &Offsets, span: Span) -> Option<Span>
     resolved_from(base_at(start, starts, span.anchor), span)
 }
 
-// The span of the outermost call as a span of the text, or `Some(None)` if there is no call.
+// The span of the outermost call as a span of its text, or `Some(None)` if there is no call.
 fn resolved_outer(start: u32, starts: &Offsets, outer: Option<Span>) -> Option<Option<Span>>
     ensures { IfSome result (λ o. o ≡ option_map (resolved_by start starts.now) outer) }
 {
@@ -194,11 +194,11 @@ pub(crate) fn emit_events(
     }
 }
 
-// The offset that the spans of one anchor count from.
+// The place that the spans of one anchor count from.
 #[derive(Clone, Copy)]
 struct Base {
     anchor: u32,
-    place: u32,
+    place: Place,
 }
 
 // The base of this anchor. It is looked up only if the anchor differs from that of `last`.
@@ -214,7 +214,7 @@ fn base_behind(last: Base, start: u32, starts: &Offsets, anchor: u32) -> Base
     Base { anchor, place }
 }
 
-// Piece-relative spans as spans of the text.
+// Piece-relative spans as spans of their texts.
 fn resolved_all(
     alloc: Global,
     start: u32,
@@ -226,7 +226,7 @@ fn resolved_all(
     let mut all = Vec::with_capacity(alloc, own.len())?;
     let mut base = Base {
         anchor: 0,
-        place: start,
+        place: Place { text: 0, start },
     };
     for span in own {
         base = base_behind(base, start, starts, span.anchor);
@@ -253,8 +253,9 @@ fn emit_shifted(
     let Some(anchor) = part.printed.relative_spans().anchor() else {
         return Ok(false);
     };
-    let base = base_at(start, starts, anchor);
-    emit_chunk_at(steps, &part.printed, Shift { start, base }, words)
+    let own = Place { text: 0, start };
+    let other = base_at(start, starts, anchor);
+    emit_chunk_at(steps, &part.printed, Shift { own, other }, words)
 }
 
 // Appends a cached chunk, computing each of its spans. `false`, with nothing emitted, if the

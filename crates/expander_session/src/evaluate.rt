@@ -12,7 +12,11 @@ ghost use Rattle.tt_data.specs.fault.TtFault.TheVariants as as_fault;
 ghost use Rattle.expander_scope.specs.Interning.{known_in, numbers_in};
 ghost use Rattle.expander_model.specs.HashedTrees.{own_top, tree_hash};
 ghost use Rattle.expander_model.specs.Definitions.{definition_of};
-ghost use Rattle.expander_model.specs.Held.{IsMet, Met, kept_after, numbered_scope};
+ghost use Rattle.expander_model.specs.Held.{IsMet, Met, Stands, first_place, numbered_scope};
+ghost use Rattle.bridge.specs.RelativeSpans.{own_place};
+ghost use Rattle.expander_scope.specs.Imports.{IsImport, import_piece};
+ghost use Rattle.expander_session.specs.EvaluatedTexts.{kept_in};
+ghost use Rattle.expander_session.specs.State.{definitions_of};
 ghost use Rattle.expander_model.specs.DefinitionTrees.{definition_trees};
 ghost use Rattle.expander_session.specs.CachedOutputs.{HasParts, Holds};
 ghost use Rattle.expander_session.specs.Layered.{layers};
@@ -33,7 +37,7 @@ ghost use Rattle.expander_session.specs.AbsoluteSpans.{resolved_faults, resolved
 ghost use Rattle.expander_session.specs.LookupTrees.{IndexesMemos};
 ghost use Rattle.expander_session.specs.Memos.{tree_of};
 ghost use Rattle.expander_session.specs.Reuse.{matches};
-ghost use Rattle.expander_session.specs.Evaluating.{AreLinks, CanDefine, Grows, IsEvaluated, MakesTooMany, NeedsMore, Evaluates};
+ghost use Rattle.expander_session.specs.Evaluating.{AreLinks, CanDefine, Evaluates, Grows, HasImported, Imports, IsEvaluated, MakesTooMany, NeedsMore};
 ghost use Rattle.expander_session.specs.TooMany.{bursts};
 ghost use Rattle.expander_session.specs.declared.memo_ref.MemoRef.TheVariants as as_link;
 ghost use Rattle.tt.specs.Tops.{Top};
@@ -47,7 +51,7 @@ use crate::memo::Memo;
 use crate::memo_index::{MemoIndex, find_in_text, find_valid};
 use crate::memo_ref::MemoRef;
 use crate::recent_memos::RecentMemos;
-use bridge::parts::TokenEvent;
+use bridge::parts::{Place, TokenEvent};
 use expander_model::fault::Fault;
 use expander_model::hashed_tree::HashedTree;
 use expander_model::laws;
@@ -58,6 +62,7 @@ use expander_scope::expand::{Environment, Expanding, expand_into, expand_piece};
 use expander_scope::interner::Interner;
 use expander_scope::macro_def::MacroDef;
 use expander_scope::outcome::Outcome;
+use expander_scope::prelude::{Import, Prelude};
 use expander_scope::refusal::Refusal;
 use expander_scope::scope::Scope;
 use mbe::FragmentGrammar;
@@ -90,6 +95,8 @@ pub(crate) struct EvaluationContext<'a, G> {
     pub depth: u8,
     /// What is cached of the last text. The new text changes none of it.
     pub memory: &'a Cache,
+    /// The definitions of other texts that come before the first piece.
+    pub prelude: &'a Prelude,
 }
 
 // Expands a tree and prints the events as they come. `None` if what was printed is no chunk.
@@ -439,20 +446,26 @@ fn evaluate_definition(
     requires top { tree.value.delimiter ≡ text_top }
     requires held { IfSome held (λ k. known_in memory.now.by_tree tree.value ≡ Some k.now.value) }
     requires can { CanDefine memory.now now.old }
-    ensures taken { (grammar : Grammar) (depth : ℕ) (piece : Forest) → LooksAtNoPlace (world grammar now.old.scope.edition) → HaveNumbers (numbers_in memory.now.by_tree) (trees_of memory.now) →
-        start ≡ first_start piece → tree.value ≡ own_top (relative piece) → OnOk result (Evaluates grammar now.old.scope.edition depth memory.now piece now.old now.new) }
-    ensures links { (trees : List Top) → AreLinks now.old.taken trees → OnOk result (AreLinks now.new.taken (trees ++ tree.value ∷ [])) }
+    ensures taken { (grammar : Grammar) (depth : ℕ) (piece : Forest) →
+        LooksAtNoPlace (world grammar now.old.scope.edition) →
+        HaveNumbers (numbers_in memory.now.by_tree) (trees_of memory.now) →
+        own_place start ≡ first_place piece → tree.value ≡ own_top (relative piece) →
+        OnOk result (Evaluates grammar now.old.scope.edition depth memory.now piece now.old now.new) }
+    ensures links { (trees : List Top) → AreLinks now.old.taken trees →
+        OnOk result (AreLinks now.new.taken (trees ++ tree.value ∷ [])) }
     ensures grows { OnOk result (Grows now.old.taken now.new.taken) }
     ensures edition { OnOk result (now.new.scope.edition ≡ now.old.scope.edition) }
     ensures lookup { OnOk result (now.new.lookup ≡ now.old.lookup) }
     ensures expanded { OnOk result (now.new.taken.expanded ≡ now.old.taken.expanded) }
-    ensures cause { (trees : List Forest) → HaveNumbers (numbers_in memory.now.by_tree) (trees_of memory.now) →
-        HasNumbered memory.now.given memory.now.by_tree (trees_of memory.now) trees now.old.taken.numbers →
-        result ≡ Err Refusal.Numbers → 2 ^ 32 ≤ memory.now.given + needed (trees_of memory.now) (trees ++ tree.value.inner ∷ []) }
+    ensures cause { (trees : List Forest) →
+        HaveNumbers (numbers_in memory.now.by_tree) (trees_of memory.now) →
+        HasNumbered memory.now.given memory.now.by_tree (trees_of memory.now) trees
+        now.old.taken.numbers → result ≡ Err Refusal.Numbers →
+        2 ^ 32 ≤ memory.now.given + needed (trees_of memory.now) (trees ++ tree.value.inner ∷ []) }
     ensures tokens { result ≢ Err Refusal.Tokens }
 {
     let edition = now.scope.edition;
-    let place = now.taken.numbers.definitions.len();
+    let index = now.taken.numbers.definitions.len();
     let known = number(
         alloc,
         edition,
@@ -462,8 +475,66 @@ fn evaluate_definition(
         held,
     )?;
     tell_if_broken(&mut now.taken.faults, start, known.as_ref())?;
-    now.scope.define(start, known)?;
-    add_link(&mut now.taken.links, MemoRef::Definition(place))?;
+    now.scope.define(Place { text: 0, start }, known)?;
+    add_link(&mut now.taken.links, MemoRef::Definition(index))?;
+    Ok(())
+}
+
+// Gives a definition of another text its id, and adds it to the scope. If it is invalid, that is no
+// fault of the text that is expanded.
+fn evaluate_import(
+    alloc: Global,
+    memory: &Cache,
+    now: &mut Evaluation,
+    import: &Import,
+) -> Result<(), Refusal>
+    requires import { IsImport import.now }
+    requires have { HaveNumbers (numbers_in memory.now.by_tree) (trees_of memory.now) }
+    requires can { CanDefine memory.now now.old }
+    ensures taken { (grammar : Grammar) (depth : ℕ) → OnOk result (Imports grammar
+        now.old.scope.edition depth memory.now (import_piece import.now) now.old now.new) }
+    ensures links { AreLinks now.old.taken [] → OnOk result (AreLinks now.new.taken []) }
+    ensures grows { OnOk result (Grows now.old.taken now.new.taken) }
+    ensures edition { OnOk result (now.new.scope.edition ≡ now.old.scope.edition) }
+    ensures lookup { OnOk result (now.new.lookup ≡ now.old.lookup) }
+    ensures expanded { OnOk result (now.new.taken.expanded ≡ now.old.taken.expanded) }
+    ensures cause { (trees : List Forest) → HasNumbered memory.now.given memory.now.by_tree
+        (trees_of memory.now) trees now.old.taken.numbers → result ≡ Err Refusal.Numbers →
+        2 ^ 32 ≤ memory.now.given + needed (trees_of memory.now)
+        (trees ++ definition_trees (import_piece import.now ∷ [])) }
+    ensures tokens { result ≢ Err Refusal.Tokens }
+{
+    let edition = now.scope.edition;
+    let tree = import.tree.clone()?;
+    let numbers = &mut now.taken.numbers;
+    let known = number(alloc, edition, &memory.by_tree, numbers, tree, None)?;
+    now.scope.define(import.place, known)?;
+    Ok(())
+}
+
+// Adds the definitions of the prelude to a scope that has none, in order.
+fn evaluate_imports<G: FragmentGrammar>(
+    context: &EvaluationContext<'_, G>,
+    edition: Edition,
+    now: &mut Evaluation,
+) -> Result<(), Refusal>
+    requires right { IsCache (world (G.answer context.now.grammar.now) edition)
+        context.now.depth edition context.now.memory.now }
+    requires none { HasImported (G.answer context.now.grammar.now) edition context.now.depth
+        context.now.memory.now [] now.old }
+    ensures taken { OnOk result (HasImported (G.answer context.now.grammar.now) edition
+        context.now.depth context.now.memory.now context.now.prelude.now now.new) }
+    ensures stands { OnOk result (All Stands context.now.prelude.now) }
+    ensures links { AreLinks now.old.taken [] → OnOk result (AreLinks now.new.taken []) }
+    ensures lookup { OnOk result (now.new.lookup ≡ now.old.lookup) }
+    ensures expanded { OnOk result (now.new.taken.expanded ≡ now.old.taken.expanded) }
+    ensures cause { result ≡ Err Refusal.Numbers →
+        NeedsMore context.now.memory.now (definition_trees context.now.prelude.now) }
+    ensures tokens { result ≢ Err Refusal.Tokens }
+{
+    for import in context.prelude.imports() {
+        evaluate_import(context.alloc, context.memory, now, import)?;
+    }
     Ok(())
 }
 
@@ -685,8 +756,9 @@ fn evaluate_piece<G: FragmentGrammar>(
     Ok(())
 }
 
-/// Evaluates the pieces of a text of `bytes` bytes in order, each in the scope of the definitions
-/// before it. A plain piece is expanded only if the cache has no valid memo for it.
+/// Evaluates the pieces of a text of `bytes` bytes in order, each in the scope of the prelude and
+/// of the definitions before it. A plain piece is expanded only if the cache has no valid memo for
+/// it.
 ///
 /// # Errors
 ///
@@ -702,14 +774,19 @@ pub(crate) fn evaluate_pieces<G: FragmentGrammar>(
         context.now.depth edition context.now.memory.now }
     requires own { All IsOwnPiece pieces.now }
     requires met { AreMet context.now.memory.now.sources pieces.now }
-    ensures taken { let w = world (G.answer context.now.grammar.now) edition in let trees = map piece_at pieces.now in
-        IfOk result (λ now. IsEvaluated w edition context.now.depth context.now.memory.now
-        (layers (G.answer context.now.grammar.now) edition) (definition_trees trees)
-        (kept_after w context.now.depth (number_by (numbers_in now.numbers.by_tree)) [] trees) now) }
+    ensures taken { let grammar = G.answer context.now.grammar.now in
+        let depth = context.now.depth in let prelude = context.now.prelude.now in
+        let trees = map piece_at pieces.now in
+        IfOk result (λ now. IsEvaluated (world grammar edition) edition depth context.now.memory.now
+        (layers grammar edition) (definition_trees prelude ++ definition_trees trees)
+        (kept_in grammar edition depth (numbers_in now.numbers.by_tree) prelude trees) now) }
+    ensures stands { IfOk result (λ now. All Stands context.now.prelude.now) }
     ensures links { IfOk result (λ now. AreLinks now (map tree_at pieces.now)) }
     ensures tokens { result ≡ Err Refusal.Tokens → list_any bursts (members_after
-        (layers (G.answer context.now.grammar.now) edition) context.now.depth [] (map piece_at pieces.now)) ≡ true }
-    ensures numbers { result ≡ Err Refusal.Numbers → NeedsMore context.now.memory.now (map piece_at pieces.now) }
+        (layers (G.answer context.now.grammar.now) edition) context.now.depth
+        (definitions_of context.now.prelude.now) (map piece_at pieces.now)) ≡ true }
+    ensures numbers { result ≡ Err Refusal.Numbers → NeedsMore context.now.memory.now
+        (definition_trees context.now.prelude.now ++ definition_trees (map piece_at pieces.now)) }
 {
     mbe_rules::laws::rules_at_other_places();
     mbe::laws::fit_at_other_places();
@@ -722,6 +799,7 @@ pub(crate) fn evaluate_pieces<G: FragmentGrammar>(
         bytes,
     };
     let mut now = nothing_yet(context.alloc, edition, context.memory, room)?;
+    evaluate_imports(context, edition, &mut now)?;
     for own in pieces {
         evaluate_piece(context, &mut now, own)?;
     }

@@ -1,16 +1,18 @@
 //! A session: a text that is edited and expanded, with a cache of the last text that was read.
-ghost use Rattle.std.specs.Prelude.{◌≡◌, ◌+◌, ◌-◌, ◌<◌, ◌≤◌, ◌^◌, ◌↔◌, All, Err, List, [], length, IfOk, IfErr, OnOk, OnErr, IsTrue, IsCharBoundary, None, map, slice_get, true};
+ghost use Rattle.std.specs.Prelude.{◌≡◌, ◌+◌, ◌-◌, ◌<◌, ◌≤◌, ◌^◌, ◌↔◌, ◌++◌, All, Err, List, [], length, IfOk, IfErr, OnOk, OnErr, IsTrue, IsCharBoundary, None, map, slice_get, true};
 ghost use Rattle.std.specs.List.{list_any};
 ghost use Rattle.rustc_lexer.specs.Edit.{edited};
 ghost use Rattle.bridge.specs.PrintedRanges.{read_ranges};
 ghost use Rattle.expander_model.specs.Expansion.{PlacedStep};
+ghost use Rattle.expander_model.specs.Held.{Stands};
 ghost use Rattle.expander_session.specs.Layered.{layers};
 ghost use Rattle.expander_model.specs.Meaning.{members_after};
 ghost use Rattle.expander_session.specs.Caches.{IsCache};
 ghost use Rattle.expander_session.specs.Emitting.{HasOutput};
 ghost use Rattle.expander_reparse.specs.RelativePieces.{IsOwnPiece, piece_at};
 ghost use Rattle.expander_reparse.specs.Reparsing.{AreMet, AreTheirs};
-ghost use Rattle.expander_session.specs.State.{State, layers_of};
+ghost use Rattle.expander_session.specs.State.{State, definitions_of, layers_of};
+ghost use Rattle.expander_model.specs.DefinitionTrees.{definition_trees};
 ghost use Rattle.expander_session.specs.Replies.{HasCause, Replies};
 ghost use Rattle.expander_session.specs.Shown.{ShowsOutput};
 ghost use Rattle.expander_reparse.specs.Segments.{AreSegments};
@@ -30,6 +32,7 @@ use expander_model::laws;
 use expander_reparse::parse::{Parsed, read_pieces};
 use expander_reparse::piece::Piece;
 use expander_reparse::segment::Segments;
+use expander_scope::prelude::Prelude;
 use expander_scope::refusal::Refusal;
 use fragment_grammar::FragmentGrammar;
 use rustc_lexer::LexedText;
@@ -151,6 +154,8 @@ pub struct Session<G: FragmentGrammar> {
     grammar: G,
     edition: Edition,
     depth: u8,
+    // The definitions of other texts that the text is expanded after.
+    prelude: Prelude,
     // What is cached of the last text that was read.
     memory: Cache,
 }
@@ -165,7 +170,16 @@ impl<G: FragmentGrammar> Model for Session<G> {
 
     ghost coded = { state_code G.code };
 
-    ghost view = { λ s. record { text = s.text; grammar = s.grammar; edition = s.edition; depth = s.depth; held = held_in s.memory; trees = trees_of s.memory; given = s.memory.given } };
+    ghost view = { λ s. record {
+      text = s.text;
+      grammar = s.grammar;
+      edition = s.edition;
+      depth = s.depth;
+      prelude = s.prelude;
+      held = held_in s.memory;
+      trees = trees_of s.memory;
+      given = s.memory.given;
+    } };
 
     ghost invariant = { λ s. (length s.text < 2 ^ 32) × IsCache (world (G.answer s.grammar) s.edition) s.depth s.edition s.memory × (s.memory.given < 2 ^ 32) };
 }
@@ -188,6 +202,7 @@ impl<G: FragmentGrammar + Drop> Session<G> {
           grammar = grammar;
           edition = edition;
           depth = depth;
+          prelude = [];
           held = None;
           trees = [];
           given = 0;
@@ -200,6 +215,7 @@ impl<G: FragmentGrammar + Drop> Session<G> {
             grammar,
             edition,
             depth,
+            prelude: Prelude::new(alloc),
             memory: Cache::new(alloc),
         })
     }
@@ -276,6 +292,7 @@ impl<G: FragmentGrammar + Drop> Session<G> {
             grammar: &self.grammar,
             depth: self.depth,
             memory: &self.memory,
+            prelude: &self.prelude,
         };
         let (pieces, bytes) = (pieces.as_slice(), text.len());
         let (expansion, memory) = expand_pieces(&context, self.edition, pieces, sources, bytes)?;
@@ -284,8 +301,8 @@ impl<G: FragmentGrammar + Drop> Session<G> {
     }
 }
 
-// The expansion of a text of `bytes` bytes with these pieces, by the cache of the last text, and
-// the new cache. `sources` is what the pieces were read from.
+// The expansion of a text of `bytes` bytes with these pieces after the prelude, by the cache of the
+// last text, and the new cache. `sources` is what the pieces were read from.
 fn expand_pieces<G: FragmentGrammar>(
     context: &EvaluationContext<'_, G>,
     edition: Edition,
@@ -300,10 +317,14 @@ fn expand_pieces<G: FragmentGrammar>(
     requires theirs { AreTheirs sources pieces.now }
     requires met { AreMet context.now.memory.now.sources pieces.now }
     ensures taken { IfOk result (λ r. EvaluatesText (G.answer context.now.grammar.now) edition
-        context.now.depth context.now.memory.now (map piece_at pieces.now) r.0 r.1) }
+        context.now.depth context.now.memory.now context.now.prelude.now (map piece_at pieces.now)
+        r.0 r.1) }
+    ensures stands { IfOk result (λ r. All Stands context.now.prelude.now) }
     ensures tokens { result ≡ Err Refusal.Tokens → list_any bursts (members_after
-        (layers (G.answer context.now.grammar.now) edition) context.now.depth [] (map piece_at pieces.now)) ≡ true }
-    ensures numbers { result ≡ Err Refusal.Numbers → NeedsMore context.now.memory.now (map piece_at pieces.now) }
+        (layers (G.answer context.now.grammar.now) edition) context.now.depth
+        (definitions_of context.now.prelude.now) (map piece_at pieces.now)) ≡ true }
+    ensures numbers { result ≡ Err Refusal.Numbers → NeedsMore context.now.memory.now
+        (definition_trees context.now.prelude.now ++ definition_trees (map piece_at pieces.now)) }
 {
     laws::equal_pieces();
     let Evaluated {

@@ -6,12 +6,21 @@ ghost use Rattle.bridge.specs.RelativeSpans.{is_anchored, is_in_text, is_within,
 use std::marker::Model;
 use tt_data::{Span, TextRange};
 
-/// The offsets by which the ranges of a piece are shifted: those of its own tokens, and those with
+/// A place in a text.
+#[derive(Clone, Copy, PartialEq, Eq, Debug)]
+pub struct Place {
+    /// The text: 0 is the one that is expanded, and others are those that define macros for it.
+    pub text: u32,
+    /// The offset in the text, in bytes.
+    pub start: u32,
+}
+
+/// The places that the spans of a piece count from: those of its own tokens, and those with
 /// another anchor than 0.
 #[derive(Clone, Copy)]
 pub struct Shift {
-    pub start: u32,
-    pub base: u32,
+    pub own: Place,
+    pub other: Place,
 }
 
 // A bound on all ranges, and the only anchor besides 0.
@@ -82,10 +91,10 @@ impl RelativeSpans {
 
 // Whether ranges that end at `reach` or before still fit when they are shifted.
 fn has_room(shift: Shift, reach: u32) -> bool
-    ensures { result ≡ true → (shift.start + reach < 2 ^ 32) × (shift.base + reach < 2 ^ 32) }
+    ensures { result ≡ true → (shift.own.start + reach < 2 ^ 32) × (shift.other.start + reach < 2 ^ 32) }
 {
     let room = u32::MAX - reach;
-    shift.start <= room && shift.base <= room
+    shift.own.start <= room && shift.other.start <= room
 }
 
 fn is_within(bounds: Bounds, span: &Span) -> bool
@@ -138,15 +147,15 @@ pub(crate) fn shifted(shift: Shift, span: Span) -> Span
     ensures { result ≡ shifted shift span }
 {
     let from = if span.anchor == 0 {
-        shift.start
+        shift.own
     } else {
-        shift.base
+        shift.other
     };
-    let start = from + span.range.start;
-    let end = from + span.range.end;
+    let start = from.start + span.range.start;
+    let end = from.start + span.range.end;
     Span {
         range: TextRange { start, end },
-        anchor: 0,
+        anchor: from.text,
         ctx: span.ctx,
     }
 }

@@ -1,4 +1,4 @@
-use Rattle.std.proofs.Common.{◌≡◌, refl, true}
+use Rattle.std.proofs.Common.{refl, true}
 use Rattle.bridge.specs.PrintedChunks as printer
 use Rattle.expander_model.specs.Printing.{steps_of}
 use Rattle.expander_session.proofs.PartLemmas.{puts_part}

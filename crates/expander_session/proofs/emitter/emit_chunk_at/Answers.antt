@@ -1,4 +1,4 @@
-use Rattle.std.proofs.Common.{◌≡◌, refl, true}
+use Rattle.std.proofs.Common.{refl, true}
 use Rattle.std.specs.Prelude.{map}
 use Rattle.bridge.specs.RelativeSpans.{shifted}
 use Rattle.bridge.specs.PrintedChunks as printer

@@ -1,5 +1,6 @@
 use Rattle.std.proofs.Common.{◌≡◌, ◌∙◌, ℕ, ap, arith, length, refl, sym, subst, rules, ◌++◌, [], ◌∷◌}
 use Rattle.std.specs.Prelude.{is_some}
+use Rattle.bridge.specs.declared.printing.relative_spans.Place.{Place}
 use Rattle.tt.specs.Tops.{Top}
 use Rattle.expander_scope.specs.Interning.{definition_tops, numbers_in}
 use Rattle.expander_model.specs.Definitions.{definition_of}
@@ -26,24 +27,24 @@ returns-clause-taken c = λ grammar depth piece law have start_is tree_is before
     let k : MacroDef = c.in_ok-known.known.value in
     let same : c.as_ref.result.now ≡ k = search rules in
     let ed = c.args.now.now.scope.edition in
-    one_definition grammar ed depth c.args.memory.now piece c.args.now.now _ law k (c.in_ok-known.ensures.tree ∙ tree_is)
+    one_definition grammar ed depth c.args.memory.now piece c.args.now.now _ k (c.in_ok-known.ensures.tree ∙ tree_is)
     (ap (λ (t : Top). is_some (definition_of t.inner)) (sym tree_is) ∙ c.requires.definition)
     (ap (λ (t : Top). numbers_in c.number.new.now.by_tree t.inner) (sym tree_is) ∙ c.in_ok-known.ensures.number)
     c.in_ok-known.ensures.grows
-    (c.in_ok-known.ensures.read c.requires.can.old_read c.requires.can.table_read)
     (c.in_ok-known.ensures.table_read c.requires.can.old_read c.requires.can.table_read)
     c.in_ok-define.ensures.read c.in_ok-define.ensures.edition refl refl refl refl
-    (c.in_ok-tell_if_broken.ensures ∙ ap (λ n. c.args.now.now.taken.faults.items ++ told_if_broken n c.as_ref.result.now) start_is
-    ∙ ap (λ (x : MacroDef). c.args.now.now.taken.faults.items ++ told_if_broken (first_start piece) x) same)
     before trees done has
     (subst (λ (t : Top). HasNumbered c.args.memory.now.given c.args.memory.now.by_tree (trees_of c.args.memory.now) (trees ++ t.inner ∷ []) c.number.new.now) tree_is
     (c.in_ok-known.ensures.numbered c.args.memory.now.given (trees_of c.args.memory.now) trees have has.taken.numbers))
-    (subst (λ n. HasMet c.define.new.self (record { start = n; numbered = numbered_of_known k } ∷ before)) start_is (c.in_ok-define.ensures.met before has.met))
+    (subst (λ (p : Place). HasMet c.define.new.self (record { place = p; numbered = numbered_of_known k } ∷ before)) start_is (c.in_ok-define.ensures.met before has.met))
+    law (c.in_ok-known.ensures.read c.requires.can.old_read c.requires.can.table_read)
+    (c.in_ok-tell_if_broken.ensures ∙ ap (λ (p : Place). c.args.now.now.taken.faults.items ++ told_if_broken p.start c.as_ref.result.now) start_is
+    ∙ ap (λ (x : MacroDef). c.args.now.now.taken.faults.items ++ told_if_broken (first_start piece) x) same)
 
 pub returns-clause-links : goal.returns-clause-links
 returns-clause-links c = λ trees h.
-    let place : c.len-place.result ≡ length c.args.now.now.taken.numbers.definitions.items = omega arith in
+    let index : c.len-index.result ≡ length c.args.now.now.taken.numbers.definitions.items = omega arith in
     definition_more c.args.now.now.taken.numbers.definitions.items c.number.new.now.definitions.items (plain_tops c.args.now.now.taken.plains.items)
     c.args.now.now.taken.links.items c.add_link.new.links.items trees c.args.tree.value
     (c.in_ok-known.ensures.listed ∙ ap (λ (t : Top). definition_tops c.args.now.now.taken.numbers.definitions.items ++ t ∷ []) c.in_ok-known.ensures.tree)
-    (c.in_ok-add_link.ensures ∙ ap (λ (n : ℕ). c.args.now.now.taken.links.items ++ link.Definition n ∷ []) place) h
+    (c.in_ok-add_link.ensures ∙ ap (λ (n : ℕ). c.args.now.now.taken.links.items ++ link.Definition n ∷ []) index) h

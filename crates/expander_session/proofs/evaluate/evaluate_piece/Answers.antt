@@ -8,6 +8,7 @@ use Rattle.expander_model.specs.Definitions.{Definition, definition_of}
 use Rattle.expander_reparse.specs.RelativePieces.{piece_at, tree_at}
 use Rattle.expander_model.specs.Pieces.{relative}
 use Rattle.expander_model.specs.World.{world}
+use Rattle.expander_model.proofs.PlaceLemmas.{own_first}
 use Rattle.expander_session.proofs.ScopePieceLemmas.{all_plain}
 use Rattle.expander_session.proofs.evaluate.evaluate_piece.Goals as goal
 
@@ -21,7 +22,8 @@ returns-then-is_definition-clause-taken g c =
     let A = g.G.FragmentGrammar.answer c.args.context.now.grammar.now in
     let tree_is : c.in_ok-clone.field-0.value ≡ own_top (relative (piece_at c.args.own.now)) = search rules in
     rw c.reserve.ensures at
-    (c.evaluate_definition.ensures.taken A c.args.context.now.depth (piece_at c.args.own.now) c.requires.places c.requires.right.have c.requires.own.start tree_is)
+    (c.evaluate_definition.ensures.taken A c.args.context.now.depth (piece_at c.args.own.now) c.requires.places c.requires.right.have
+    (own_first c.args.own.now.start (tree_at c.args.own.now).inner c.requires.own.start) tree_is)
 
 pub link_of-link-requires-clause-linked : goal.link_of-link-requires-clause-linked
 link_of-link-requires-clause-linked g c = c.requires.right.linked

@@ -1,4 +1,4 @@
-use Rattle.std.proofs.Common.{◌≡◌, ◌∙◌, Option, Some, ap, drop, rules, subst, sym, Global}
+use Rattle.std.proofs.Common.{◌≡◌, ◌∙◌, Some, ap, rules, subst, sym, Global}
 use Rattle.std.specs.Prelude.{slice_get}
 use Rattle.std.specs.Rc.{rc_value}
 use Rattle.std.specs.declared.rc.Rc.{Rc}

@@ -1,7 +1,5 @@
-use Rattle.std.proofs.Common.{◌≡◌, ◌<◌, ◌+◌, [], ◌∙◌, ℕ, Option, Some, None, true, false, ap, drop, length, map, refl, rules, subst, sym, Bor, Global}
-use Rattle.std.specs.Prelude.{OnOk, option_map, slice_get}
-use Rattle.std.specs.Rc.{rc_value}
-use Rattle.std.specs.declared.rc.Rc.{Rc}
+use Rattle.std.proofs.Common.{◌≡◌, ◌<◌, ◌+◌, ◌∙◌, Some, None, ap, drop, length, rules, subst, sym, Bor}
+use Rattle.std.specs.Prelude.{option_map, slice_get}
 use Rattle.expander_reparse.proofs.ListLemmas.{stands_at}
 use Rattle.expander_scope.specs.Outcomes.{find_of}
 use Rattle.expander_scope.specs.declared.outcome.NameLookup.{NameLookup}

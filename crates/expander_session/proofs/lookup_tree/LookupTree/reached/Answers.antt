@@ -1,4 +1,4 @@
-use Rattle.std.proofs.Common.{◌≡◌, ◌∙◌, ◌<◌, Some, None, ap, arith, sym, Bor}
+use Rattle.std.proofs.Common.{◌≡◌, ◌∙◌, ◌<◌, Some, ap, arith, sym, Bor}
 use Rattle.std.specs.Prelude.{option_map, slice_get}
 use Rattle.expander_scope.specs.Outcomes.{find_of}
 use Rattle.expander_scope.specs.ScopeTable.{scope_in}

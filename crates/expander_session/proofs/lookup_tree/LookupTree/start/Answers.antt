@@ -1,6 +1,6 @@
 use Rattle.std.specs.Rc.{rc_with_value}
-use Rattle.expander_session.specs.LookupTrees.{branch_of, first_of}
-use Rattle.expander_session.proofs.LookupTreeLemmas.{extends_same, start_here, start_keeps}
+use Rattle.expander_session.specs.LookupTrees.{first_of}
+use Rattle.expander_session.proofs.LookupTreeLemmas.{start_here, start_keeps}
 use Rattle.expander_session.proofs.lookup_tree.LookupTree.start.Goals as goal
 
 pub returns-clause-first : goal.returns-clause-first
