@@ -1,27 +1,22 @@
 //! Chunks of printed text, appended to one another.
-use bridge::parts::{LazyPrinted, PrintedChunk, Shift, TokenEvent};
-use bridge::{Printer, Read, read};
-use rustc_lexer::LexedText;
+use crate::rows::tree;
+use bridge::Printer;
+use bridge::parts::{LazyPrinted, Place, PrintedChunk, Shift, SpanList, TokenEvent};
+use std::alloc::Global;
 use std::test::Fail;
 use tt_data::{Leaf, Punct, Spacing, Span, TtFault};
 
 // A printer with the trees of a text appended.
-fn printer_of(rt: &HostRuntime, text: &str) -> Result<Printer, Fail> {
-    if text.len() >= 1000 {
-        return Err(Fail::new("a text is long"));
-    }
-    let held = LexedText::new(rt.alloc(), text)?;
-    let Read::Tree(tree) = read(rt.alloc(), held.text(), held.tokens())? else {
-        return Err(Fail::new("a text is not read"));
-    };
-    let mut printer = Printer::new(rt.alloc());
+fn printer_of(alloc: Global, text: &str) -> Result<Printer, Fail> {
+    let tree = tree(alloc, text)?;
+    let mut printer = Printer::new(alloc);
     printer.put(tree.token_trees())?;
     Ok(printer)
 }
 
 // The chunk that the trees of a text print.
-fn chunk_of(rt: &HostRuntime, text: &str) -> Result<PrintedChunk, Fail> {
-    match printer_of(rt, text)?.into_chunk()? {
+fn chunk_of(alloc: Global, text: &str) -> Result<PrintedChunk, Fail> {
+    match printer_of(alloc, text)?.into_chunk()? {
         Some(chunk) => Ok(chunk),
         None => Err(Fail::new("what is printed of a text is no chunk")),
     }
@@ -35,39 +30,33 @@ fn put(printer: &mut Printer, chunk: &PrintedChunk) -> Result<bool, TtFault> {
     }
 }
 
-// Appends the chunk of a text: how many tokens it has, whether it was appended, and whether
-// another can follow.
-fn put_text(
-    rt: &HostRuntime,
-    printer: &mut Printer,
-    text: &str,
-) -> Result<(usize, bool, bool), Fail> {
-    let part = chunk_of(rt, text)?;
-    let is_put = put(printer, &part)?;
-    Ok((part.spans().len(), is_put, printer.takes_chunks()))
+// Appends the chunk of a text: whether it was appended, and whether another can follow.
+fn put_text(alloc: Global, printer: &mut Printer, text: &str) -> Result<(bool, bool), Fail> {
+    let is_put = put(printer, &chunk_of(alloc, text)?)?;
+    Ok((is_put, printer.takes_chunks()))
 }
 
-// What chunks print, with the number of tokens.
-fn printed_of(rt: &HostRuntime, texts: &str) -> Result<(String, usize), Fail> {
-    let mut printer = Printer::with_token_room(rt.alloc(), 24, 8)?;
-    for text in texts.split('|') {
-        let (_tokens, is_put, is_free) = put_text(rt, &mut printer, text)?;
-        if !is_put || !is_free {
+// Appends the chunks of texts.
+fn put_texts(alloc: Global, printer: &mut Printer, texts: &[&str]) -> Result<(), Fail> {
+    for text in texts {
+        if put_text(alloc, printer, text)? != (true, true) {
             return Err(Fail::new(text));
         }
     }
+    Ok(())
+}
+
+// A space comes after a name.
+#[test]
+fn puts_parts_behind_one_another(rt: HostRuntime) -> Result<(), Fail> {
+    let mut printer = Printer::with_token_room(rt.alloc(), 24, 8)?;
+    put_texts(rt.alloc(), &mut printer, &["a;", "f {b;}", "c", "a;"])?;
     let Ok(printed) = printer.finish() else {
         return Err(Fail::new("no memory"));
     };
-    Ok((printed.text, printed.tokens.len()))
-}
-
-#[test]
-fn puts_parts_behind_one_another(rt: HostRuntime) -> Result<(), Fail> {
-    // A space comes after a name.
-    let (text, tokens) = printed_of(&rt, "a;|f {b;}|c|a;")?;
+    let text = printed.text.as_str();
     assert!(rt;
-        text.as_str() == "a ;\nf { b ; }\nc a ;\n" && tokens == 10,
+        text == "a ;\nf { b ; }\nc a ;\n" && printed.tokens.len() == 10,
         "{text}"
     );
     Ok(())
@@ -85,36 +74,36 @@ fn put_joined(printer: &mut Printer, char: char) -> Result<(), TtFault> {
     printer.put_event(&TokenEvent::Leaf(punct.lent()))
 }
 
-#[test]
-fn no_chunk_is_appended_after_a_joined_punct(rt: HostRuntime) -> Result<(), Fail> {
-    let mut printer = printer_of(&rt, "a")?;
-    put_joined(&mut printer, '<')?;
-    assert!(rt; !printer.takes_chunks());
-    assert!(rt; put_text(&rt, &mut printer, "b;")? == (2, false, false));
-    assert!(rt; printer.into_chunk()?.is_some());
-    Ok(())
+// Appends a text and a joined punct, after which no chunk is appended. Whether this is a chunk.
+fn ends_chunk(alloc: Global, text: &str, last: char) -> Result<bool, Fail> {
+    let mut printer = printer_of(alloc, text)?;
+    put_joined(&mut printer, last)?;
+    if put_text(alloc, &mut printer, "b;")? != (false, false) {
+        return Err(Fail::new("a chunk is appended"));
+    }
+    Ok(printer.into_chunk()?.is_some())
 }
 
 // A quote that waits at the end, and nothing at all, are no chunks.
 #[test]
-fn a_quote_at_the_end_is_no_chunk(rt: HostRuntime) -> Result<(), Fail> {
-    let mut printer = printer_of(&rt, "a;")?;
-    put_joined(&mut printer, '\'')?;
-    assert!(rt; put_text(&rt, &mut printer, "b;")? == (2, false, false));
-    assert!(rt; printer.into_chunk()?.is_none());
-    assert!(rt; printer_of(&rt, "")?.into_chunk()?.is_none());
+fn what_ends_as_a_chunk(rt: HostRuntime) -> Result<(), Fail> {
+    assert!(rt; ends_chunk(rt.alloc(), "a", '<')? && !ends_chunk(rt.alloc(), "a;", '\'')?);
+    assert!(rt; printer_of(rt.alloc(), "")?.into_chunk()?.is_none());
     Ok(())
 }
 
 // Appends a chunk twice with a shift, and once with a shift past the end of any text.
 fn put_at(printer: &mut Printer, part: &PrintedChunk) -> Result<(bool, bool, bool), TtFault> {
     let shift = Shift {
-        start: 10,
-        base: 20,
+        own: Place { text: 0, start: 10 },
+        other: Place { text: 1, start: 20 },
     };
     let far = Shift {
-        start: u32::MAX,
-        base: 0,
+        own: Place {
+            text: 0,
+            start: u32::MAX,
+        },
+        other: Place { text: 1, start: 0 },
     };
     let first = printer.put_chunk_at(part, shift)?;
     let second = printer.put_chunk_at(part, shift)?;
@@ -122,12 +111,11 @@ fn put_at(printer: &mut Printer, part: &PrintedChunk) -> Result<(bool, bool, boo
 }
 
 // What two shifted chunks print.
-fn placed(rt: &HostRuntime) -> Result<LazyPrinted, Fail> {
-    let part = chunk_of(rt, "a;")?;
-    let mut printer = printer_of(rt, "b;")?;
-    if part.relative_spans().anchor() != Some(0)
-        || put_at(&mut printer, &part)? != (true, true, false)
-    {
+fn placed(alloc: Global) -> Result<LazyPrinted, Fail> {
+    let part = chunk_of(alloc, "a;")?;
+    let mut printer = printer_of(alloc, "b;")?;
+    let is_at_0 = part.relative_spans().anchor() == Some(0);
+    if !is_at_0 || put_at(&mut printer, &part)? != (true, true, false) {
         return Err(Fail::new("a part is put where it has no place"));
     }
     match printer.finish_lazy() {
@@ -136,17 +124,19 @@ fn placed(rt: &HostRuntime) -> Result<LazyPrinted, Fail> {
     }
 }
 
+// Whether a copy of the six spans has the fourth where it was put, and the first three are taken.
+fn are_spans(alloc: Global, tokens: &mut SpanList) -> Result<bool, TtFault> {
+    let copy = tokens.try_clone(alloc)?;
+    tokens.truncate(3);
+    let spans = tokens.take_spans()?;
+    let start = copy.get(3).map_or(0, |span| span.range.start);
+    Ok(copy.len() == 6 && start == 11 && spans.as_slice().last().copied() == copy.get(2))
+}
+
 #[test]
 fn chunks_stand_where_they_are_put(rt: HostRuntime) -> Result<(), Fail> {
-    let placed = placed(&rt)?;
+    let mut placed = placed(rt.alloc())?;
     assert!(rt; placed.text.as_str() == "b ;\na ;\na ;\n");
-    let mut tokens = placed.tokens;
-    let copy = tokens.try_clone(rt.alloc())?;
-    tokens.truncate(3);
-    let third = tokens.get(2);
-    let spans = tokens.take_spans()?;
-    assert!(rt; spans.len() == 3 && spans.as_slice().last().copied() == third);
-    assert!(rt; copy.len() == 6 && copy.get(2) == third && copy.get(6).is_none());
-    assert!(rt; copy.get(3).map_or(0, |span| span.range.start) == 11);
+    assert!(rt; are_spans(rt.alloc(), &mut placed.tokens)?);
     Ok(())
 }

@@ -1,10 +1,8 @@
 //! Trees, and the texts that they print.
-use crate::rows::text_of;
+use crate::rows::tree;
 use bridge::parts::TokenEvent;
-use bridge::{Printed, Printer, Read, print, read};
-use rustc_lexer::LexedText;
+use bridge::{Printed, Printer, print};
 use std::alloc::Global;
-use std::fmt::Write;
 use std::test::Fail;
 use tt::{TokenTreesView, TopSubtree, TopSubtreeBuilder};
 use tt_data::{
@@ -12,52 +10,44 @@ use tt_data::{
     Symbol, TtFault,
 };
 
-// The text, the number of tokens, and the numbers of the omitted ones.
-fn shown(rt: &HostRuntime, printed: &Printed) -> Result<String, Fail> {
-    let mut got = String::from_str(rt.alloc(), printed.text.as_str())?;
-    write!(got, "{} {:?}", printed.tokens.len(), printed.left_out)?;
-    Ok(got)
+// Fails with what a printed form is if it is not the expected one: the text, the number of tokens,
+// and the numbers of the omitted ones.
+fn expect(alloc: Global, printed: &Printed, want: &str) -> Result<(), Fail> {
+    let text = printed.text.as_str();
+    let got = format!(in alloc; "{text}{} {:?}", printed.tokens.len(), printed.left_out)?;
+    if got.as_str() == want {
+        return Ok(());
+    }
+    Err(Fail::new(got.as_str()))
 }
 
-// The printed form of a text's trees.
-fn printed_of(rt: &HostRuntime, text: &str) -> Result<Printed, Fail> {
-    if text.len() >= 1000 {
-        return Err(Fail::new("a text is long"));
-    }
-    let held = LexedText::new(rt.alloc(), text)?;
-    let Read::Tree(tree) = read(rt.alloc(), held.text(), held.tokens())? else {
-        return Err(Fail::new("a text is not read"));
-    };
-    Ok(print(rt.alloc(), tree.token_trees())?)
+// Whether the trees of a text print this one.
+fn prints(alloc: Global, text: &str, want: &str) -> Result<bool, Fail> {
+    let tree = tree(alloc, text)?;
+    Ok(print(alloc, tree.token_trees())?.text.as_str() == want)
 }
 
 // A text, and what its trees print.
-const TEXTS: &str = r#"
- ¦ 
-x+/*c*/=y ¦ x + = y⏎
-x+=1 ¦ x += 1⏎
-fn f<'a>(x: &'a T) {} ¦ fn f < 'a > ( x : & 'a T ) { }⏎
-/// a "b"⏎struct S;⏎ ¦ # [ doc = " a \"b\"" ] struct S ;⏎
-//! a⏎x ¦ # ! [ doc = " a" ] x⏎
-/** b */s ¦ # [ doc = " b " ] s⏎
-0x 1e r#fn b'x' ¦ 0x 1e r#fn b'x'⏎
-{a;b};c ¦ { a ; b }⏎;⏎c⏎
-"#;
+const TEXTS: [(&str, &str); 9] = [
+    ("", ""),
+    ("x+/*c*/=y", "x + = y\n"),
+    ("x+=1", "x += 1\n"),
+    ("fn f<'a>(x: &'a T) {}", "fn f < 'a > ( x : & 'a T ) { }\n"),
+    (
+        "/// a \"b\"\nstruct S;\n",
+        "# [ doc = \" a \\\"b\\\"\" ] struct S ;\n",
+    ),
+    ("//! a\nx", "# ! [ doc = \" a\" ] x\n"),
+    ("/** b */s", "# [ doc = \" b \" ] s\n"),
+    ("0x 1e r#fn b'x'", "0x 1e r#fn b'x'\n"),
+    ("{a;b};c", "{ a ; b }\n;\nc\n"),
+];
 
 #[test]
 fn prints_texts(rt: HostRuntime) -> Result<(), Fail> {
-    for row in TEXTS.lines() {
-        if let Some((text, want)) = row.split_once(" ¦ ") {
-            let got = printed_of(&rt, text_of(rt.alloc(), text)?.as_str())?;
-            let want = text_of(rt.alloc(), want)?;
-            assert!(rt; got.text.as_str() == want.as_str(), "{row}: {:?}", got.text);
-            let again = printed_of(&rt, got.text.as_str())?;
-            assert!(rt;
-                again.text.as_str() == want.as_str(),
-                "{row}: {:?}",
-                again.text
-            );
-        }
+    for (text, want) in &TEXTS {
+        assert!(rt; prints(rt.alloc(), text, want)?, "{text}");
+        assert!(rt; prints(rt.alloc(), want, want)?, "{want}");
     }
     Ok(())
 }
@@ -137,20 +127,21 @@ fn one_by_one(alloc: Global, trees: TokenTreesView<'_>) -> Result<Printed, TtFau
         };
         put(&mut printer, first)?;
     }
-    let printer = match printer.finish() {
-        Ok(printed) => return Ok(printed),
-        Err((printer, _)) => printer,
-    };
-    match printer.finish() {
-        Ok(printed) => Ok(printed),
-        Err((_, fault)) => Err(fault),
-    }
+    finished_again(printer)
 }
 
 fn finished(printer: Printer) -> Result<Printed, TtFault> {
     match printer.finish() {
         Ok(printed) => Ok(printed),
         Err((_, fault)) => Err(fault),
+    }
+}
+
+// The same. A refused call gives the printer back, so it is made once more.
+fn finished_again(printer: Printer) -> Result<Printed, TtFault> {
+    match printer.finish() {
+        Ok(printed) => Ok(printed),
+        Err((printer, _)) => finished(printer),
     }
 }
 
@@ -219,52 +210,49 @@ fn step_by_step(alloc: Global, text: &str) -> Result<Printed, TtFault> {
             printer.put_event(&step)?;
         }
     }
-    match printer.finish() {
-        Ok(printed) => Ok(printed),
-        Err((_, fault)) => Err(fault),
-    }
+    finished(printer)
 }
 
 // Characters, and what the trees that they stand for print, with the number of tokens and the
 // numbers of the omitted ones.
-const TREES: &str = r#"
-'a ¦ 'a⏎2 []
-'r ¦ r#r⏎1 [0]
-'<a> ¦ 'a⏎2 []
-'(a) ¦ ( a )⏎3 [0]
-''a. ¦ 'a⏎2 [0, 3]
-. ¦ 0 [0]
-?"a ¦ a⏎1 [0, 1]
-$::a ¦ crate :: a⏎4 []
-// ¦ / /⏎2 []
-##a ¦ ## a⏎3 []
-/*## ¦ / *##⏎4 []
-a<+>= ¦ a +=⏎3 []
-<<>> ¦ 0 []
-a?a' ¦ a a⏎2 [1, 3]
-\a ¦ a⏎1 [0]
-"#;
+const TREES: [(&str, &str); 15] = [
+    ("'a", "'a\n2 []"),
+    ("'r", "r#r\n1 [0]"),
+    ("'<a>", "'a\n2 []"),
+    ("'(a)", "( a )\n3 [0]"),
+    ("''a.", "'a\n2 [0, 3]"),
+    (".", "0 [0]"),
+    ("?\"a", "a\n1 [0, 1]"),
+    ("$::a", "crate :: a\n4 []"),
+    ("//", "/ /\n2 []"),
+    ("##a", "## a\n3 []"),
+    ("/*##", "/ *##\n4 []"),
+    ("a<+>=", "a +=\n3 []"),
+    ("<<>>", "0 []"),
+    ("a?a'", "a a\n2 [1, 3]"),
+    ("\\a", "a\n1 [0]"),
+];
+
+fn expect_whole(alloc: Global, trees: TokenTreesView<'_>, want: &str) -> Result<(), Fail> {
+    expect(alloc, &print(alloc, trees)?, want)
+}
+
+fn expect_parts(alloc: Global, trees: TokenTreesView<'_>, want: &str) -> Result<(), Fail> {
+    expect(alloc, &one_by_one(alloc, trees)?, want)
+}
+
+// Prints a tree as a whole, in parts and in steps.
+fn expect_thrice(alloc: Global, text: &str, want: &str) -> Result<(), Fail> {
+    let tree = tree_of(alloc, text)?;
+    expect_whole(alloc, tree.token_trees(), want)?;
+    expect_parts(alloc, tree.token_trees(), want)?;
+    expect(alloc, &step_by_step(alloc, text)?, want)
+}
 
 #[test]
 fn prints_trees(rt: HostRuntime) -> Result<(), Fail> {
-    let alloc = rt.alloc();
-    for row in TREES.lines() {
-        if let Some((text, want)) = row.split_once(" ¦ ") {
-            let want = text_of(alloc, want)?;
-            let tree = tree_of(alloc, text)?;
-            let whole = shown(&rt, &print(alloc, tree.token_trees())?)?;
-            let parts = shown(&rt, &one_by_one(alloc, tree.token_trees())?)?;
-            let steps = shown(&rt, &step_by_step(alloc, text)?)?;
-            assert!(rt; whole.as_str() == want.as_str(), "{row}: {whole:?}");
-            assert!(rt;
-                parts.as_str() == want.as_str(),
-                "{row} in parts: {parts:?}"
-            );
-            assert!(rt;
-                steps.as_str() == want.as_str(),
-                "{row} in steps: {steps:?}"
-            );
-        }
+    for (text, want) in &TREES {
+        expect_thrice(rt.alloc(), text, want)?;
     }
     Ok(())
 }
@@ -295,22 +283,23 @@ fn is_printed(printed: &Printed, text: &str) -> bool {
 // For runs in which one request for memory is refused.
 fn prints_in_both_ways(alloc: Global) -> Result<bool, TtFault> {
     let tree = made(alloc, "'<a>(?$)//'")?;
-    let is_whole = is_printed(
-        &printed_whole(alloc, tree.token_trees())?,
-        "'a ( crate ) / /\n",
-    );
-    let parts = one_by_one(alloc, tree.token_trees())?;
-    Ok(is_whole && is_printed(&parts, "'a ( crate ) / /\n"))
+    let want = "'a ( crate ) / /\n";
+    let is_whole = is_printed(&printed_whole(alloc, tree.token_trees())?, want);
+    Ok(is_whole && is_printed(&one_by_one(alloc, tree.token_trees())?, want))
+}
+
+// Whether a printer of a longer text is kept. What it is compared with is made once more if it is
+// refused.
+fn is_kept_long(alloc: Global) -> Result<bool, TtFault> {
+    let tree = made(alloc, "'<a>(?$)//'a?aaaaaaaaaaaaaaaa")?;
+    match is_kept(alloc, tree.token_trees()) {
+        Err(TtFault::Memory) => is_kept(alloc, tree.token_trees()),
+        answer => answer,
+    }
 }
 
 #[test]
 fn refused_calls(rt: HostRuntime) -> Result<(), Fail> {
-    assert!(rt; prints_in_both_ways(rt.alloc())?);
-    let tree = made(rt.alloc(), "'<a>(?$)//'a?aaaaaaaaaaaaaaaa")?;
-    let is_kept = match is_kept(rt.alloc(), tree.token_trees()) {
-        Err(TtFault::Memory) => is_kept(rt.alloc(), tree.token_trees())?,
-        answer => answer?,
-    };
-    assert!(rt; is_kept);
+    assert!(rt; prints_in_both_ways(rt.alloc())? && is_kept_long(rt.alloc())?);
     Ok(())
 }

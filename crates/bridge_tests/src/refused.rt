@@ -1,60 +1,36 @@
 //! A text that is read, and its piece: for runs in which one request for memory is refused.
-use crate::pieces::stands_behind_first;
-use bridge::{Read, piece, read};
-use rustc_lexer::LexedText;
+use crate::pieces::piece_of;
+use crate::rows::tree;
 use std::alloc::Global;
 use std::test::Fail;
-use tt::{TokenTreesView, TopSubtree, TtFault};
+use tt::TopSubtree;
 
-// The trees of a text, or its reading fault. Each refused call is made once more.
-fn read_once_more(alloc: Global, text: &str) -> Result<TopSubtree, Fail> {
-    if text.len() >= 1000 {
-        return Err(Fail::new("a text is long"));
-    }
-    let held = match LexedText::new(alloc, text) {
-        Ok(held) => held,
-        Err(_) => LexedText::new(alloc, text)?,
+const TEXT: &str = "  x /// d\n 'a+={1u8, \"é\", r#fn, b'y'};";
+
+const SHOWN: &str = "x # [doc = \" d\"] 'a += {1u8 , \"é\" , r#fn , b'y'} ;";
+
+// Whether a tree of the text is shown, and its first token begins at this offset.
+fn is_shown(alloc: Global, tree: &TopSubtree, start: u32) -> Result<bool, Fail> {
+    let shown = match format!(in alloc; "{tree}") {
+        Ok(shown) => shown,
+        Err(_) => format!(in alloc; "{tree}")?,
     };
-    let answer = match read(alloc, held.text(), held.tokens()) {
-        Err(TtFault::Memory) => read(alloc, held.text(), held.tokens())?,
-        answer => answer?,
+    let is_first = match tree.token_trees().first_span() {
+        Some(span) => span.range.start == start,
+        None => false,
     };
-    match answer {
-        Read::Tree(tree) => Ok(tree),
-        Read::Fault(_fault) => Err(Fail::new("a text is not read")),
-    }
+    Ok(is_first && shown.as_str() == SHOWN)
 }
 
-// The piece of trees. A refused call is made once more.
-fn piece_once_more(alloc: Global, view: TokenTreesView<'_>) -> Result<TopSubtree, Fail> {
-    if !stands_behind_first(view) {
-        return Err(Fail::new("a token stands before the first"));
-    }
-    match piece(alloc, view) {
-        Err(TtFault::Memory) => Ok(piece(alloc, view)?),
-        answer => Ok(answer?),
-    }
-}
-
-// The offset at which the first of them begins.
-fn first_byte(tree: &TopSubtree) -> Option<u32> {
-    Some(tree.token_trees().first_span()?.range.start)
+// Whether the text and its piece are read.
+fn are_read(alloc: Global) -> Result<bool, Fail> {
+    let tree = tree(alloc, TEXT)?;
+    let is_read = is_shown(alloc, &tree, 2)?;
+    Ok(is_read && is_shown(alloc, &piece_of(alloc, tree.token_trees())?, 0)?)
 }
 
 #[test]
 fn refused_readings(rt: HostRuntime) -> Result<(), Fail> {
-    let alloc = rt.alloc();
-    let tree = read_once_more(alloc, "  x /// d\n 'a+={1u8, \"é\", r#fn, b'y'};")?;
-    let piece = piece_once_more(alloc, tree.token_trees())?;
-    let shown = match format!(in alloc; "{tree}|{piece}") {
-        Ok(shown) => shown,
-        Err(_) => format!(in alloc; "{tree}|{piece}")?,
-    };
-    let want = "x # [doc = \" d\"] 'a += {1u8 , \"é\" , r#fn , b'y'} ;";
-    assert!(rt;
-        shown.as_str().split_once('|') == Some((want, want)),
-        "{shown}"
-    );
-    assert!(rt; first_byte(&tree) == Some(2) && first_byte(&piece) == Some(0));
+    assert!(rt; are_read(rt.alloc())?);
     Ok(())
 }

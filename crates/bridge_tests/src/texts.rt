@@ -3,35 +3,32 @@ ghost use Rattle.rustc_lexer.specs.Lexing.{tokens_of};
 ghost use Rattle.rustc_lexer.specs.TokensAt.{AreTokensFrom};
 ghost use Rattle.std.specs.Prelude.{◌≡◌, ◌<◌, ◌^◌, IfSome, chars, length};
 
-use crate::rows::text_of;
+use crate::rows::lexed;
 use bridge::parts::{NameCache, begins_with_mark, read_part};
 use bridge::{Read, read};
 use rustc_lexer::{LexedText, Token, laws};
-use std::fmt::Write;
+use std::alloc::{AllocError, Global};
 use std::test::Fail;
+use tt::TtFault;
 
 // The trees as they are displayed, or the reading fault.
-fn displayed(rt: &HostRuntime, answer: Read) -> Result<String, Fail> {
-    let mut got = String::new(rt.alloc());
+fn displayed(alloc: Global, answer: Read) -> Result<String, Fail> {
     match answer {
-        Read::Tree(tree) => write!(got, "{tree}")?,
-        Read::Fault(fault) => write!(
-            got,
-            "{:?} {}..{}",
-            fault.kind, fault.range.start, fault.range.end
-        )?,
+        Read::Tree(tree) => Ok(format!(in alloc; "{tree}")?),
+        Read::Fault(fault) => {
+            let range = fault.range;
+            Ok(format!(in alloc; "{:?} {}..{}", fault.kind, range.start, range.end)?)
+        }
     }
-    Ok(got)
 }
 
 // The trees of a text, or its reading fault.
-fn shown(rt: &HostRuntime, text: &str) -> Result<String, Fail> {
+fn shown(alloc: Global, text: &str) -> Result<String, Fail> {
     if text.len() >= 1000 {
         return Err(Fail::new("a text is long"));
     }
-    let held = LexedText::new(rt.alloc(), text)?;
-    let answer = read(rt.alloc(), held.text(), held.tokens())?;
-    displayed(rt, answer)
+    let held = lexed(alloc, text)?;
+    displayed(alloc, read(alloc, held.text(), held.tokens())?)
 }
 
 // The tokens after the first ones, and the offset at which they start.
@@ -56,137 +53,124 @@ fn after_first<'a>(text: &str, tokens: &'a [Token], before: usize) -> Option<(u3
     Some((start, rest))
 }
 
-// The trees or fault of `count` tokens after the first `before`, and whether these begin with a
-// punct.
-fn part_shown(
-    rt: &HostRuntime,
-    text: &str,
-    before: usize,
-    count: usize,
-) -> Result<(String, bool), Fail> {
+// The answer for `count` tokens after the first `before`, if these begin with a punct or not, as
+// is expected.
+fn part(
+    alloc: Global,
+    held: &LexedText,
+    places: (usize, usize, bool),
+) -> Result<Option<Read>, TtFault>
+    requires { length held.now < 2 ^ 32 }
+{
+    let (before, count, is_mark) = places;
+    let Some((start, rest)) = after_first(held.text(), held.tokens(), before) else {
+        return Ok(None);
+    };
+    if rest.len() < count || begins_with_mark(rest) != is_mark {
+        return Ok(None);
+    }
+    let mut names = NameCache::new(alloc);
+    Ok(Some(read_part(&mut names, held.text(), start, rest, count)?))
+}
+
+// The same, written as an example.
+fn part_shown(alloc: Global, text: &str, places: (usize, usize, bool)) -> Result<String, Fail> {
     if text.len() >= 1000 {
         return Err(Fail::new("a text is long"));
     }
-    let held = LexedText::new(rt.alloc(), text)?;
-    let Some((start, rest)) = after_first(held.text(), held.tokens(), before) else {
-        return Err(Fail::new("a text is short"));
-    };
-    if rest.len() < count {
-        return Err(Fail::new("a text is short"));
+    match part(alloc, &lexed(alloc, text)?, places)? {
+        Some(answer) => displayed(alloc, answer),
+        None => Err(Fail::new("a text is short, or begins otherwise")),
     }
-    let mut names = NameCache::new(rt.alloc());
-    let answer = read_part(&mut names, held.text(), start, rest, count)?;
-    Ok((displayed(rt, answer)?, begins_with_mark(rest)))
 }
 
-// A text, how many tokens come before a part and how many it has, the part's trees or fault, and
-// whether it begins with a punct.
-const PARTS: &str = r#"
-a;b+=c ¦ 2 2 ¦ b + ¦ false
-a;b+=c ¦ 3 2 ¦ += ¦ true
-a; (b) c ¦ 3 3 ¦ (b) ¦ false
-a; ## b ¦ 3 1 ¦ # ¦ true
-a; #"b c ¦ 3 1 ¦ BadToken 0..5 ¦ false
-a;b{c ¦ 2 2 ¦ GroupLeftOpen 1..2 ¦ false
-a ¦ 1 0 ¦  ¦ false
-"#;
+// A text, how many tokens come before a part, how many it has and whether it begins with a punct,
+// and the part's trees or fault.
+const PARTS: [(&str, (usize, usize, bool), &str); 7] = [
+    ("a;b+=c", (2, 2, false), "b +"),
+    ("a;b+=c", (3, 2, true), "+="),
+    ("a; (b) c", (3, 3, false), "(b)"),
+    ("a; ## b", (3, 1, true), "#"),
+    ("a; #\"b c", (3, 1, false), "BadToken 0..5"),
+    ("a;b{c", (2, 2, false), "GroupLeftOpen 1..2"),
+    ("a", (1, 0, false), ""),
+];
 
 #[test]
 fn reads_parts(rt: HostRuntime) -> Result<(), Fail> {
-    for row in PARTS.lines() {
-        if let Some((text, rest)) = row.split_once(" ¦ ") {
-            if let Some((numbers, want)) = rest.split_once(" ¦ ") {
-                let (before, count) = numbers.split_once(' ').unwrap_or(("0", "0"));
-                let (before, count) = (before.parse::<usize>()?, count.parse::<usize>()?);
-                let (got, is_mark) = part_shown(&rt, text, before, count)?;
-                let got = format!(in rt.alloc(); "{got} ¦ {is_mark:?}")?;
-                assert!(rt; got.as_str() == want, "{row}: {got}");
-            }
-        }
+    for (text, places, want) in &PARTS {
+        let got = part_shown(rt.alloc(), text, *places)?;
+        assert!(rt; got.as_str() == *want, "{text}: {got}");
     }
     Ok(())
 }
 
 // A text, and its trees or reading fault.
-const TEXTS: &str = r###"
- ¦ 
-x+/*c*/=y ¦ x + = y
-a>>=b;c{d}e..=f ¦ a >>= b ; c {d} e ..= f
-fn f<'a>(x: &'a T) {} ¦ fn f < 'a > (x : & 'a T) {}
-/// a "b"␍⏎s; ¦ # [doc = " a \"b\""] s ;
-//! a\⏎x ¦ # ! [doc = " a\\"] x
-/** b */s ¦ # [doc = " b "] s
-0x 1e r#fn b'x' ¦ 0x 1e r#fn b'x'
-1u8 'a' c"b" br##""#"##s ¦ 1u8 'a' c"b" br##""#"##s
-fn f( { ¦ GroupLeftOpen 6..7
-(] ¦ CloserDoesNotFit 1..2
-a) ¦ CloserDoesNotFit 1..2
-a ## b ¦ a ## b
-### x #"a"# ¦ ### x #"a"#
-let s = #"x"#; ¦ let s = #"x"# ;
-##"a"#"## ¦ BadToken 0..6
-"abc ¦ BadToken 0..4
-( b'x ¦ BadToken 2..5
-/* /* */ ¦ BadToken 0..8
-'1 ¦ BadToken 0..2
-'r#a ¦ BadToken 0..4
-a#b ¦ BadToken 0..1
-'a#b ¦ BadToken 0..2
-k#a ¦ BadToken 0..3
-⌖a ¦ BadToken 0..3
-#"a"# ¦ #"a"#
-##""##x ¦ ##""##x
-#"a\"b"# ¦ #"a\"b"#
-#"a"## ¦ #"a"# #
-#"a" b ¦ BadToken 0..4
-##"a"#x ¦ BadToken 0..6
-a #"b ¦ BadToken 2..5
-a ␀ ¦ BadToken 2..3
-a \ ¦ BadToken 2..3
-"###;
+const TEXTS: [(&str, &str); 34] = [
+    ("", ""),
+    ("x+/*c*/=y", "x + = y"),
+    ("a>>=b;c{d}e..=f", "a >>= b ; c {d} e ..= f"),
+    ("fn f<'a>(x: &'a T) {}", "fn f < 'a > (x : & 'a T) {}"),
+    ("/// a \"b\"\r\ns;", "# [doc = \" a \\\"b\\\"\"] s ;"),
+    ("//! a\\\nx", "# ! [doc = \" a\\\\\"] x"),
+    ("/** b */s", "# [doc = \" b \"] s"),
+    ("0x 1e r#fn b'x'", "0x 1e r#fn b'x'"),
+    (
+        "1u8 'a' c\"b\" br##\"\"#\"##s",
+        "1u8 'a' c\"b\" br##\"\"#\"##s",
+    ),
+    ("fn f( {", "GroupLeftOpen 6..7"),
+    ("(]", "CloserDoesNotFit 1..2"),
+    ("a)", "CloserDoesNotFit 1..2"),
+    ("a ## b", "a ## b"),
+    ("### x #\"a\"#", "### x #\"a\"#"),
+    ("let s = #\"x\"#;", "let s = #\"x\"# ;"),
+    ("##\"a\"#\"##", "BadToken 0..6"),
+    ("\"abc", "BadToken 0..4"),
+    ("( b'x", "BadToken 2..5"),
+    ("/* /* */", "BadToken 0..8"),
+    ("'1", "BadToken 0..2"),
+    ("'r#a", "BadToken 0..4"),
+    ("a#b", "BadToken 0..1"),
+    ("'a#b", "BadToken 0..2"),
+    ("k#a", "BadToken 0..3"),
+    ("\u{feff}a", "BadToken 0..3"),
+    ("#\"a\"#", "#\"a\"#"),
+    ("##\"\"##x", "##\"\"##x"),
+    ("#\"a\\\"b\"#", "#\"a\\\"b\"#"),
+    ("#\"a\"##", "#\"a\"# #"),
+    ("#\"a\" b", "BadToken 0..4"),
+    ("##\"a\"#x", "BadToken 0..6"),
+    ("a #\"b", "BadToken 2..5"),
+    ("a \0", "BadToken 2..3"),
+    ("a \\", "BadToken 2..3"),
+];
 
 #[test]
 fn reads_texts(rt: HostRuntime) -> Result<(), Fail> {
-    for row in TEXTS.lines() {
-        if let Some((text, want)) = row.split_once(" ¦ ") {
-            let text = text_of(rt.alloc(), text)?;
-            let got = shown(&rt, text.as_str())?;
-            assert!(rt; got.as_str() == want, "{row}: {got}");
-        }
+    for (text, want) in &TEXTS {
+        let got = shown(rt.alloc(), text)?;
+        assert!(rt; got.as_str() == *want, "{text}: {got}");
     }
     Ok(())
 }
 
 // An empty string after these letters, between this many hashes.
-fn empty_string(rt: &HostRuntime, letters: &str, hashes: usize) -> Result<String, Fail> {
-    let mut text = String::from_str(rt.alloc(), letters)?;
-    for _ in 0..hashes {
-        text.push_str("#")?;
-    }
-    text.push_str("\"\"")?;
-    for _ in 0..hashes {
-        text.push_str("#")?;
-    }
-    Ok(text)
+fn empty_string(alloc: Global, letters: &str, hashes: usize) -> Result<String, AllocError> {
+    let hashes = "#".repeat(alloc, hashes)?;
+    format!(in alloc; "{letters}{hashes}\"\"{hashes}")
 }
 
-// The letters of a string, and its reading fault with one hash too many.
-const TOO_MANY: &str = "
-r ¦ BadToken 0..515
- ¦ BadToken 0..514
-";
+// Whether such a string is read with 255 hashes, and has this reading fault with one too many.
+fn has_a_limit(alloc: Global, letters: &str, fault: &str) -> Result<bool, Fail> {
+    let most = empty_string(alloc, letters, 255)?;
+    let is_read = shown(alloc, &most)?.as_str() == most.as_str();
+    Ok(is_read && shown(alloc, &empty_string(alloc, letters, 256)?)?.as_str() == fault)
+}
 
 #[test]
 fn reads_many_hashes(rt: HostRuntime) -> Result<(), Fail> {
-    for row in TOO_MANY.lines() {
-        if let Some((letters, want)) = row.split_once(" ¦ ") {
-            let most = empty_string(&rt, letters, 255)?;
-            let got = shown(&rt, most.as_str())?;
-            assert!(rt; got.as_str() == most.as_str(), "it is read as {got:?}");
-            let more = empty_string(&rt, letters, 256)?;
-            let got = shown(&rt, more.as_str())?;
-            assert!(rt; got.as_str() == want, "it is read as {got:?}");
-        }
-    }
+    assert!(rt; has_a_limit(rt.alloc(), "r", "BadToken 0..515")?);
+    assert!(rt; has_a_limit(rt.alloc(), "", "BadToken 0..514")?);
     Ok(())
 }

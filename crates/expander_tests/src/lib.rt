@@ -12,13 +12,15 @@ mod fakes;
 #[cfg(test)]
 mod levels;
 #[cfg(test)]
+mod opened;
+#[cfg(test)]
 mod options;
+#[cfg(test)]
+mod pages;
 #[cfg(test)]
 mod printed_again;
 #[cfg(test)]
 mod refused;
-#[cfg(test)]
-mod rows;
 #[cfg(test)]
 mod runs;
 #[cfg(test)]

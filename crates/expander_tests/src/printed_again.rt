@@ -1,7 +1,7 @@
 //! The output of texts without faults is a fixed point: here with a grammar that is not Rust's,
 //! and without any level of calls.
-use crate::rows::text_of;
-use expander::{Edition, Reply, Session};
+use crate::opened::found;
+use expander::{Edition, Session};
 use std::alloc::Global;
 use std::test::Fail;
 use test_grammars::OneStep;
@@ -104,16 +104,14 @@ fn prints_itself(alloc: Global, text: &str) -> Result<bool, Fail> {
         return Err(Fail::new("a text is long"));
     }
     let mut session = Session::new(alloc, text, OneStep, Edition::Edition2021, 0)?;
-    match session.expansion()? {
-        Reply::Read(found) => Ok(found.printed() == text && found.faults().is_empty()),
-        Reply::Unread(_fault) => Ok(false),
-    }
+    let found = found(&mut session)?;
+    Ok(found.printed() == text && found.faults().is_empty())
 }
 
 #[test]
 fn prints_the_same(rt: HostRuntime) -> Result<(), Fail> {
     for row in ROWS.lines() {
-        let text = text_of(rt.alloc(), row)?;
+        let text = row.replace(rt.alloc(), "⏎", "\n")?;
         assert!(rt; prints_itself(rt.alloc(), text.as_str())?, "{row}");
     }
     Ok(())

@@ -1,6 +1,7 @@
 //! Sessions, lists of commands and runs, for runs of the tests in which one request for memory is
 //! refused. A refused call changes nothing, and gives the same when it is made again.
 use crate::fakes::{whole, wide};
+use crate::opened::{found, opened};
 use crate::scripts::OPTIONS;
 use any_grammar::AnyGrammar;
 use expander::{
@@ -53,18 +54,6 @@ fn prints(row: &Row, found: &Expansion, printed: &str, expanded: usize) -> bool 
         && found.origin(0) == first
 }
 
-// The expansion of the session's text. A refused call is made once more.
-fn found(session: &mut Session<SmallGrammar>) -> Result<Expansion, Fail> {
-    let reply = match session.expansion() {
-        Ok(reply) => reply,
-        Err(_refusal) => session.expansion()?,
-    };
-    match reply {
-        Reply::Read(found) => Ok(found),
-        Reply::Unread(_fault) => Err(Fail::new("the text is not read")),
-    }
-}
-
 // Makes the edit. If it is refused, it is made once more, if the text is as before.
 fn edit(text: &str, session: &mut Session<SmallGrammar>) -> Result<(), Fail> {
     for _ in 0..2 {
@@ -77,35 +66,42 @@ fn edit(text: &str, session: &mut Session<SmallGrammar>) -> Result<(), Fail> {
     Err(Fail::new("no edit"))
 }
 
-// Whether a session gives what the example says, before the edit, after it and once more.
-fn is_answered(alloc: Global, row: &Row) -> Result<bool, Fail> {
-    if row.text.len() >= 1000 {
-        return Err(Fail::new("a text is long"));
-    }
-    let edition = Edition::Edition2024;
-    let mut session = match Session::new(alloc, row.text, SmallGrammar, edition, 128) {
-        Ok(session) => session,
-        Err(_) => Session::new(alloc, row.text, SmallGrammar, edition, 128)?,
-    };
-    let first = found(&mut session)?;
-    edit(row.text, &mut session)?;
-    let second = found(&mut session)?;
-    let copy = match second.try_clone(alloc) {
+// Whether the session's expansion is as expected.
+fn is_old(session: &mut Session<SmallGrammar>, row: &Row) -> Result<bool, Fail> {
+    Ok(prints(row, &found(session)?, row.old, row.pieces))
+}
+
+fn is_same(session: &mut Session<SmallGrammar>, row: &Row) -> Result<bool, Fail> {
+    Ok(prints(row, &found(session)?, row.new, 0))
+}
+
+// The same after the edit, and of a copy. If that is refused, it is made once more.
+fn is_new(alloc: Global, session: &mut Session<SmallGrammar>, row: &Row) -> Result<bool, Fail> {
+    let found = found(session)?;
+    let copy = match found.try_clone(alloc) {
         Ok(copy) => copy,
-        Err(_) => second.try_clone(alloc)?,
+        Err(_) => found.try_clone(alloc)?,
     };
-    Ok(
-        prints(row, &first, row.old, row.pieces)
-            && prints(row, &second, row.new, row.changed)
-            && prints(row, &copy, row.new, row.changed)
-            && prints(row, &found(&mut session)?, row.new, 0),
-    )
+    let is_new = prints(row, &found, row.new, row.changed);
+    Ok(is_new && prints(row, &copy, row.new, row.changed))
+}
+
+// Whether a session gives what the example says, before the edit, after it and once more.
+fn is_answered(
+    alloc: Global,
+    session: &mut Session<SmallGrammar>,
+    row: &Row,
+) -> Result<bool, Fail> {
+    let is_old = is_old(session, row)?;
+    edit(row.text, session)?;
+    Ok(is_old && is_new(alloc, session, row)? && is_same(session, row)?)
 }
 
 #[test]
 fn refused_sessions(rt: HostRuntime) -> Result<(), Fail> {
     for row in &ROWS {
-        assert!(rt; is_answered(rt.alloc(), row)?, "{}", row.text);
+        let mut session = opened(rt.alloc(), row.text, 128)?;
+        assert!(rt; is_answered(rt.alloc(), &mut session, row)?, "{}", row.text);
     }
     Ok(())
 }
@@ -168,22 +164,32 @@ fn refusals(row: &Row, answers: &[Answer]) -> Option<u8> {
     }
 }
 
+fn count_refused(alloc: Global, row: &Row, commands: &[Command]) -> Result<Option<u8>, Fail> {
+    let answers = answered(alloc, row, commands)?;
+    Ok(refusals(row, answers.as_slice()))
+}
+
 // A list goes on after a command that is refused. It has all answers when it is run again.
+fn is_listed(alloc: Global, row: &Row, commands: &[Command]) -> Result<bool, Fail> {
+    match count_refused(alloc, row, commands)? {
+        Some(0) => Ok(true),
+        Some(_) => Ok(count_refused(alloc, row, commands)? == Some(0)),
+        None => Ok(false),
+    }
+}
+
 #[test]
 fn refused_commands(rt: HostRuntime) -> Result<(), Fail> {
-    let alloc = rt.alloc();
-    let commands = match commands(alloc) {
+    let commands = match commands(rt.alloc()) {
         Ok(commands) => commands,
-        Err(_) => commands(alloc)?,
+        Err(_) => commands(rt.alloc())?,
     };
     for row in &ROWS {
-        let answers = answered(alloc, row, commands.as_slice())?;
-        let refused = refusals(row, answers.as_slice());
-        assert!(rt; refused.is_some(), "{}", row.text);
-        if refused != Some(0) {
-            let again = answered(alloc, row, commands.as_slice())?;
-            assert!(rt; refusals(row, again.as_slice()) == Some(0), "{}", row.text);
-        }
+        assert!(rt;
+            is_listed(rt.alloc(), row, commands.as_slice())?,
+            "{}",
+            row.text
+        );
     }
     Ok(())
 }

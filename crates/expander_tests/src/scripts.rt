@@ -1,30 +1,43 @@
 //! Scripts, line by line: what is written, how many lines are read, and how a script ends.
 use crate::fakes::{Narrow, whole, wide};
-use crate::rows::{row_of, text_of};
 use expander::{Edition, Options, SmallGrammar, Watched};
-use replay_script::{Answered, answer_script};
+use replay_script::{Answered, End, answer_script};
 use std::alloc::Global;
 use std::io::BufReader;
 use std::test::Fail;
 
-// A script, what is written, the number of lines and the end. `⏎` is the end of a line, and `␍` a
-// carriage return before it.
-const ROWS: &str = r#"
- ¦  ¦ 0 Whole
-origins⏎ ¦  ¦ 1 Whole
-origins ¦  ¦ 1 Wrong(LineFeed)
-edit 0 0 a⏎expand⏎ ¦ edited⏎printed 2⏎a⏎expanded 1⏎ ¦ 2 Whole
-origins⏎edit 0 0 a⏎expand⏎edit 0 x b⏎expand⏎ ¦ edited⏎printed 2⏎a⏎expanded 1⏎origin 0 1⏎ ¦ 4 Wrong(End)
-expand⏎origins⏎ ¦ printed 0⏎expanded 0⏎ ¦ 2 Wrong(Command)
-edit 0 0 a␍⏎expand⏎ ¦  ¦ 1 Wrong(CarriageReturn)
-expand␍⏎ ¦  ¦ 1 Wrong(CarriageReturn)
-edit 0 0 b\q⏎ ¦  ¦ 1 Wrong(Replacement)
-edit -1 0 b⏎ ¦  ¦ 1 Wrong(Start)
-edit 0 18446744073709551616 b⏎ ¦  ¦ 1 Wrong(End)
-edit 0 0⏎ ¦  ¦ 1 Wrong(End)
-edit⏎ ¦  ¦ 1 Wrong(Command)
-⏎ ¦  ¦ 1 Wrong(Command)
-"#;
+// A script, what is written, the number of lines and the end.
+const ROWS: [(&str, &str, usize, &str); 14] = [
+    ("", "", 0, "Whole"),
+    ("origins\n", "", 1, "Whole"),
+    ("origins", "", 1, "Wrong(LineFeed)"),
+    (
+        "edit 0 0 a\nexpand\n",
+        "edited\nprinted 2\na\nexpanded 1\n",
+        2,
+        "Whole",
+    ),
+    (
+        "origins\nedit 0 0 a\nexpand\nedit 0 x b\nexpand\n",
+        "edited\nprinted 2\na\nexpanded 1\norigin 0 1\n",
+        4,
+        "Wrong(End)",
+    ),
+    (
+        "expand\norigins\n",
+        "printed 0\nexpanded 0\n",
+        2,
+        "Wrong(Command)",
+    ),
+    ("edit 0 0 a\r\nexpand\n", "", 1, "Wrong(CarriageReturn)"),
+    ("expand\r\n", "", 1, "Wrong(CarriageReturn)"),
+    ("edit 0 0 b\\q\n", "", 1, "Wrong(Replacement)"),
+    ("edit -1 0 b\n", "", 1, "Wrong(Start)"),
+    ("edit 0 18446744073709551616 b\n", "", 1, "Wrong(End)"),
+    ("edit 0 0\n", "", 1, "Wrong(End)"),
+    ("edit\n", "", 1, "Wrong(Command)"),
+    ("\n", "", 1, "Wrong(Command)"),
+];
 
 pub(crate) const OPTIONS: Options<SmallGrammar> = Options {
     grammar: SmallGrammar,
@@ -39,24 +52,26 @@ pub(crate) fn roomy(alloc: Global) -> Narrow {
     narrow
 }
 
-// The results of a script, written as an example.
-fn answered(alloc: Global, script: &str) -> Result<String, Fail> {
+// What is written for a script, the number of lines and the end.
+fn answered(alloc: Global, script: &str) -> Result<(String, Answered), Fail> {
     let mut reader = BufReader::new(alloc, whole(script.as_bytes()))?;
     let mut writer = Watched::new(roomy(alloc));
-    let Answered { lines, end } = answer_script(alloc, &mut reader, &mut writer, OPTIONS);
-    let told = String::from_utf8(writer.into_inner().got)?;
-    let told = row_of(alloc, told.as_str())?;
-    Ok(format!(in alloc; "{told} ¦ {lines} {end:?}")?)
+    let answered = answer_script(alloc, &mut reader, &mut writer, OPTIONS);
+    Ok((String::from_utf8(writer.into_inner().got)?, answered))
+}
+
+// Whether that is what is expected.
+fn is_answered(alloc: Global, row: &(&str, &str, usize, &str)) -> Result<bool, Fail> {
+    let (script, want, lines, end) = *row;
+    let (told, answered) = answered(alloc, script)?;
+    let is_told = told.as_str() == want && answered.lines == lines;
+    Ok(is_told && format!(in alloc; "{:?}", answered.end)?.as_str() == end)
 }
 
 #[test]
 fn scripts(rt: HostRuntime) -> Result<(), Fail> {
-    for row in ROWS.lines() {
-        if let Some((script, want)) = row.split_once(" ¦ ") {
-            let script = text_of(rt.alloc(), script)?.replace(rt.alloc(), "␍", "\r")?;
-            let got = answered(rt.alloc(), script.as_str())?;
-            assert!(rt; got.as_str() == want, "{row}: {got}");
-        }
+    for row in &ROWS {
+        assert!(rt; is_answered(rt.alloc(), row)?, "{}", row.0);
     }
     Ok(())
 }
@@ -70,8 +85,7 @@ fn a_writer_that_fails(rt: HostRuntime) -> Result<(), Fail> {
     let mut writer = Watched::new(narrow);
     let answered = answer_script(rt.alloc(), &mut reader, &mut writer, OPTIONS);
     let writer = writer.into_inner();
-    assert!(rt; format!(in rt.alloc(); "{:?}", answered.end)?.as_str() == "WriteFailed");
+    assert!(rt; matches!(answered.end, End::WriteFailed) && reader == b"expand\n".as_slice());
     assert!(rt; writer.got.as_slice() == b"edited\npr".as_slice() && !writer.asked_again);
-    assert!(rt; reader == b"expand\n".as_slice());
     Ok(())
 }

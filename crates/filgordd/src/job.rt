@@ -7,7 +7,7 @@ use any_grammar::AnyGrammar;
 use expander::{Edition, Options};
 
 /// What is done with a text.
-#[derive(Clone, Copy, PartialEq, Eq, Debug)]
+#[derive(Clone, Copy, PartialEq, Eq)]
 pub(crate) enum Action {
     /// Its macros are expanded.
     Expand,
@@ -31,7 +31,7 @@ pub(crate) fn action_of(name: &str) -> Option<Action>
 }
 
 /// A text, what is done with it, and by which grammar, edition and number of levels.
-#[derive(Drop, Debug)]
+#[derive(Drop)]
 pub(crate) struct Job<'a> {
     pub(crate) action: Action,
     pub(crate) options: Options<AnyGrammar>,

@@ -7,8 +7,6 @@ mod job;
 mod request;
 mod shown;
 mod source;
-#[cfg(test)]
-mod tests;
 mod view;
 mod work;
 

@@ -11,7 +11,7 @@ use clap::{ArgMatches, Error};
 use std::alloc::{AllocError, Global};
 
 /// What the words ask for.
-#[derive(Drop, Debug)]
+#[derive(Drop)]
 pub(crate) enum Request<'a> {
     /// Work on a text.
     Work(Job<'a>),

@@ -31,51 +31,72 @@ fn shows_fault(alloc: Global, error: ParseError, text: &str) -> Result<bool, TtF
     Ok(error.clone()? == error && tells(alloc, &error, "")? && shows(alloc, error, text)?)
 }
 
+fn are_parse_errors(alloc: Global) -> Result<bool, TtFault> {
+    let text = Symbol::new(alloc, "x")?;
+    let empty = "empty token tree in repetition";
+    Ok(
+        shows_fault(alloc, ParseError::UnexpectedToken(text.clone()?), "x")?
+            && shows_fault(alloc, ParseError::Expected(text), "x")?
+            && shows_fault(alloc, ParseError::InvalidRepeat, "invalid repeat")?
+            && shows_fault(alloc, ParseError::RepetitionEmptyTokenTree, empty)?,
+    )
+}
+
+fn are_expand_errors(alloc: Global) -> Result<bool, TtFault> {
+    let text = Symbol::new(alloc, "x")?;
+    let error = ExpandErrorKind::BindingError(text.clone()?);
+    let unresolved = ExpandErrorKind::UnresolvedBinding(text);
+    Ok(
+        shows(alloc, error, "x")?
+            && shows(alloc, unresolved, "could not find binding x")?
+            && shows(alloc, ExpandErrorKind::LeftoverTokens, "leftover tokens")?
+            && shows(alloc, ExpandErrorKind::LimitExceeded, "Expand exceed limit")?,
+    )
+}
+
+fn are_other_errors(alloc: Global) -> Result<bool, TtFault> {
+    let no_rule = "no rule matches input tokens";
+    Ok(
+        shows(alloc, ExpandErrorKind::NoMatchingRule, no_rule)?
+            && shows(
+                alloc,
+                ExpandErrorKind::UnexpectedToken,
+                "unexpected token in input",
+            )?
+            && shows(alloc, CountError::OutOfBounds, "${count} out of bounds")?
+            && shows(alloc, CountError::Misplaced, "${count} misplaced")?,
+    )
+}
+
 #[test]
 fn are_displayed(rt: HostRuntime) -> Result<(), Fail> {
-    let alloc = rt.alloc();
-    let text = Symbol::new(alloc, "x")?;
-    assert!(rt; shows_fault(alloc, ParseError::UnexpectedToken(text.clone()?), "x")?);
-    assert!(rt; shows_fault(alloc, ParseError::Expected(text.clone()?), "x")?);
-    assert!(rt; shows_fault(alloc, ParseError::InvalidRepeat, "invalid repeat")?);
-    let empty = "empty token tree in repetition";
-    assert!(rt; shows_fault(alloc, ParseError::RepetitionEmptyTokenTree, empty)?);
-    assert!(rt; shows(alloc, ExpandErrorKind::BindingError(text.clone()?), "x")?);
-    let unresolved = ExpandErrorKind::UnresolvedBinding(text);
-    assert!(rt; shows(alloc, unresolved, "could not find binding x")?);
-    let text = format!(in alloc;
-        "{}, {}, {}, {}, {}, {}",
-        ExpandErrorKind::LeftoverTokens,
-        ExpandErrorKind::LimitExceeded,
-        ExpandErrorKind::NoMatchingRule,
-        ExpandErrorKind::UnexpectedToken,
-        CountError::OutOfBounds,
-        CountError::Misplaced,
-    )?;
-    assert!(rt;
-        text.as_str()
-            == "leftover tokens, Expand exceed limit, no rule matches input tokens, unexpected token in input, ${count} out of bounds, ${count} misplaced"
-    );
+    assert!(rt; are_parse_errors(rt.alloc())?);
+    assert!(rt; are_expand_errors(rt.alloc())? && are_other_errors(rt.alloc())?);
     Ok(())
+}
+
+const PLACE: Span = Span {
+    range: TextRange { start: 1, end: 2 },
+    anchor: 3,
+    ctx: SyntaxContext::Made,
+};
+
+// Whether an error with the same place is another one.
+fn is_no_limit(alloc: Global, error: &ExpandError) -> Result<bool, TtFault> {
+    let other = ExpandError::new(alloc, PLACE, ExpandErrorKind::LimitExceeded)?;
+    Ok(other != *error && hash_of(&other) != hash_of(error))
 }
 
 // An error with a span: its parts, a clone of it, and another error.
 fn with_place(alloc: Global) -> Result<bool, TtFault> {
-    let span = Span {
-        range: TextRange { start: 1, end: 2 },
-        anchor: 3,
-        ctx: SyntaxContext::Made,
-    };
-    let error = ExpandError::new(alloc, span, ExpandErrorKind::LeftoverTokens)?;
+    let error = ExpandError::new(alloc, PLACE, ExpandErrorKind::LeftoverTokens)?;
     let clone = error.clone()?;
-    let other = ExpandError::new(alloc, span, ExpandErrorKind::LimitExceeded)?;
     Ok(
-        error.span() == span
+        error.span() == PLACE
             && *error.kind() == ExpandErrorKind::LeftoverTokens
             && clone == error
-            && other != error
             && hash_of(&clone) == hash_of(&error)
-            && hash_of(&other) != hash_of(&error)
+            && is_no_limit(alloc, &error)?
             && tells(alloc, &error, "LeftoverTokens")?
             && shows(alloc, clone, "leftover tokens")?,
     )

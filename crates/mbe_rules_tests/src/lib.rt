@@ -13,4 +13,6 @@ mod refused;
 #[cfg(test)]
 mod styles;
 #[cfg(test)]
+mod trees;
+#[cfg(test)]
 mod value_results;

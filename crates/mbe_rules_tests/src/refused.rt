@@ -1,42 +1,28 @@
 //! Definitions that are parsed and copied, and errors: for runs in which one request for memory is
 //! refused.
-use crate::parsing::{at_2024, told};
-use bridge::{Read, read};
+use crate::parsing::{at_2024, has};
+use crate::trees::tree;
 use mbe_rules::{
     ExpandError, ExpandErrorKind, Rules, ValueResult, parse_macro_rules, parse_macro2,
 };
-use rustc_lexer::LexedText;
 use std::alloc::{AllocError, Global};
 use std::test::Fail;
 use symbols::{Symbol, TtFault};
 use tt::TopSubtree;
 use tt_data::Span;
 
-// A definition, how many rules it has, and the fault.
-const ROWS: &str = "
-unsafe attr(a r#b) ({$x:expr} 'q 1.5 += $($y:ident $z:vis),* $(a)+) => { $x ${count($y)} $( ${concat(a, $y)} ${index()} ${ignore($z)} $y )* 'q $$ ${len()} }; ¦ 1
-(a) => {b} (c) => {d} ¦ 1 expected `;`
-($($($v:vis),+)*) => {} ¦ 1 empty round
-";
-
-// The trees of a text. Each refused call is made once more.
-fn tree(alloc: Global, text: &str) -> Result<TopSubtree, Fail> {
-    if text.len() >= 1000 {
-        return Err(Fail::new("a text is long"));
-    }
-    let held = match LexedText::new(alloc, text) {
-        Ok(held) => held,
-        Err(_) => LexedText::new(alloc, text)?,
-    };
-    let answer = match read(alloc, held.text(), held.tokens()) {
-        Err(TtFault::Memory) => read(alloc, held.text(), held.tokens())?,
-        answer => answer?,
-    };
-    match answer {
-        Read::Tree(tree) => Ok(tree),
-        Read::Fault(_fault) => Err(Fail::new("a text is not read")),
-    }
-}
+// A definition, whether it is by the word `macro`, how many rules it has, and the fault.
+const ROWS: [(&str, bool, usize, &str); 4] = [
+    (
+        "unsafe attr(a r#b) ({$x:expr} 'q 1.5 += $($y:ident $z:vis),* $(a)+) => { $x ${count($y)} $( ${concat(a, $y)} ${index()} ${ignore($z)} $y )* 'q $$ ${len()} };",
+        false,
+        1,
+        "",
+    ),
+    ("(a) => {b} (c) => {d}", false, 1, "expected `;`"),
+    ("($($($v:vis),+)*) => {}", false, 1, "empty round"),
+    ("(a) => {b}, (c) => {d}; (e) => {f}", true, 3, ""),
+];
 
 // The rules of a body, by `macro_rules!` or by `macro`. A refused call is made once more.
 fn parsed(alloc: Global, is_word: bool, body: &TopSubtree) -> Result<Rules, TtFault> {
@@ -77,35 +63,32 @@ fn have_copies(alloc: Global, rules: &Rules) -> Result<bool, AllocError> {
     Ok(true)
 }
 
-// The number of rules of an equal copy, and its fault. Each refused call is made once more.
-fn copied(alloc: Global, rules: &Rules) -> Result<String, Fail> {
-    let copy = match rules.try_clone(alloc) {
-        Ok(copy) => copy,
-        Err(_) => rules.try_clone(alloc)?,
-    };
-    if copy != *rules || !have_copies(alloc, rules)? {
-        return Err(Fail::new("a copy differs"));
+// An equal copy. A refused call is made once more.
+fn copied(alloc: Global, rules: &Rules) -> Result<Rules, AllocError> {
+    match rules.try_clone(alloc) {
+        Ok(copy) => Ok(copy),
+        Err(_) => rules.try_clone(alloc),
     }
-    match told(alloc, &copy) {
-        Ok(told) => Ok(told),
-        Err(_) => Ok(told(alloc, rules)?),
+}
+
+// The copy of the rules of a definition. All copies have to be equal to them.
+fn copy_of(alloc: Global, text: &str, is_word: bool) -> Result<Rules, Fail> {
+    let rules = same_twice(alloc, is_word, &tree(alloc, text)?)?;
+    let copy = copied(alloc, &rules)?;
+    if copy == rules && have_copies(alloc, &rules)? {
+        return Ok(copy);
     }
+    Err(Fail::new("a copy differs"))
 }
 
 #[test]
 fn refused_rules(rt: HostRuntime) -> Result<(), Fail> {
-    let alloc = rt.alloc();
-    for row in ROWS.lines() {
-        if let Some((rules, want)) = row.split_once(" ¦ ") {
-            let body = tree(alloc, rules)?;
-            let parsed = same_twice(alloc, false, &body)?;
-            let got = copied(alloc, &parsed)?;
-            assert!(rt; got.as_str().trim_end() == want, "{rules}: {got}");
-        }
+    for (text, is_word, count, fault) in &ROWS {
+        assert!(rt;
+            has(&copy_of(rt.alloc(), text, *is_word)?, *count, fault),
+            "{text}"
+        );
     }
-    let body = tree(alloc, "(a) => {b}, (c) => {d}; (e) => {f}")?;
-    let got = copied(alloc, &same_twice(alloc, true, &body)?)?;
-    assert!(rt; got.as_str() == "3 ", "{got}");
     Ok(())
 }
 

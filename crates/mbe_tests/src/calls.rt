@@ -6,7 +6,6 @@ use crate::texts::answered;
 use mbe::FragmentGrammar;
 use small_grammar::SmallGrammar;
 use std::alloc::Global;
-use std::fmt::Write;
 use std::test::Fail;
 use test_grammars::{AllSteps, Faults, OneStep};
 use tt::Edition;
@@ -174,28 +173,40 @@ const WITH_FAULTS: &str = r#"
 ($a:block) => { ${concat(a, $a)} } ¦ 1 ¦ none: expected Block (0..1, 0) a
 "#;
 
-// Fails with the lines that have another result.
+// The rules, the argument and the result of a line.
+fn parts(line: &str) -> Option<(&str, &str, &str)> {
+    let (rules, call) = line.split_once('¦')?;
+    let (argument, want) = call.split_once('¦')?;
+    Some((rules.trim(), argument.trim(), want.trim()))
+}
+
+// Fails with the result of a call if that is not the expected one.
+fn expect<G: FragmentGrammar>(
+    alloc: Global,
+    grammar: &G,
+    edition: Edition,
+    row: (&str, &str, &str),
+) -> Result<(), Fail> {
+    let (rules, argument, want) = row;
+    let got = answered(alloc, grammar, edition, rules, argument)?;
+    if is_wanted(got.as_str().trim(), want) {
+        return Ok(());
+    }
+    Err(Fail::new(format!(in alloc; "{rules} on {argument}: {got}")?.as_str()))
+}
+
 fn run<G: FragmentGrammar>(
     alloc: Global,
     grammar: &G,
     edition: Edition,
     lines: &str,
 ) -> Result<(), Fail> {
-    let mut wrong = String::new(alloc);
     for line in lines.lines() {
-        if let Some((rules, call)) = line.split_once('¦') {
-            if let Some((argument, want)) = call.split_once('¦') {
-                let got = answered(alloc, grammar, edition, rules.trim(), argument.trim())?;
-                if !is_wanted(got.as_str().trim(), want.trim()) {
-                    write!(wrong, "{rules} on {argument}: {got}\n")?;
-                }
-            }
+        if let Some(row) = parts(line) {
+            expect(alloc, grammar, edition, row)?;
         }
     }
-    if wrong.is_empty() {
-        return Ok(());
-    }
-    Err(Fail::new(wrong.as_str()))
+    Ok(())
 }
 
 // Whether a result is the expected one. `none` expects any result of a call that no rule fits.

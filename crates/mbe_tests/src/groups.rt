@@ -1,31 +1,10 @@
 //! Arguments that no text gives, or that are deeply nested.
-use crate::texts::{at_2024, call_site, made, trees};
-use mbe::{DeclarativeMacro, DelimiterKind, MacroCallStyle, ValueResult};
+use crate::texts::{Answer, call_site, defined, given, told, tree};
+use mbe::{DeclarativeMacro, DelimiterKind, MacroCallStyle};
 use small_grammar::SmallGrammar;
-use std::alloc::Global;
+use std::alloc::{AllocError, Global};
 use std::test::Fail;
-use tt::{Delimiter, Ident, Leaf, TopSubtree, TopSubtreeBuilder};
-
-// The index of the rule that fits an argument, if one does, and the tree that it gives.
-fn given(
-    alloc: Global,
-    rules: &str,
-    argument: &TopSubtree,
-) -> Result<(Option<u32>, TopSubtree), Fail> {
-    let body = trees(alloc, rules)?;
-    let found = DeclarativeMacro::parse_macro_rules(alloc, &body, at_2024)?;
-    if found.err().is_some() {
-        return Err(Fail::new("the definition is broken"));
-    }
-    let style = MacroCallStyle::FnLike;
-    let answer = found.expand(alloc, &SmallGrammar, argument, &made, style, call_site())?;
-    let ValueResult { value, err } = answer;
-    let (tree, rule) = value;
-    if err.is_some() {
-        return Ok((None, tree));
-    }
-    Ok((rule, tree))
-}
+use tt::{Delimiter, Edition, Ident, Leaf, TopSubtree, TopSubtreeBuilder};
 
 // The name `a` in an invisible group.
 fn hidden_name(alloc: Global) -> Result<TopSubtree, Fail> {
@@ -39,55 +18,61 @@ fn hidden_name(alloc: Global) -> Result<TopSubtree, Fail> {
     }
 }
 
+// What a rule for any token gives for that name.
+fn hidden_told(alloc: Global) -> Result<String, Fail> {
+    let rules = defined(
+        alloc,
+        "(a) => {1}; ($t:tt) => { $t $t }",
+        Edition::Edition2024,
+    )?;
+    told(alloc, &SmallGrammar, &rules, &hidden_name(alloc)?)
+}
+
 #[test]
 fn invisible(rt: HostRuntime) -> Result<(), Fail> {
-    let argument = hidden_name(rt.alloc())?;
-    let (rule, tree) = given(rt.alloc(), "(a) => {1}; ($t:tt) => { $t $t }", &argument)?;
-    let shown = format!(in rt.alloc(); "{}", tree.token_trees())?;
-    assert!(rt; rule == Some(1) && shown.as_str() == "a a", "{shown}");
+    assert!(rt; hidden_told(rt.alloc())?.as_str() == "1 a a⏎");
     Ok(())
 }
 
-// A text inside `depth` groups.
-fn nested(alloc: Global, depth: usize, text: &str) -> Result<String, Fail> {
-    let mut all = String::new(alloc);
-    for _ in 0..depth {
-        all.push('(')?;
-    }
-    all.push_str(text)?;
-    for _ in 0..depth {
-        all.push(')')?;
-    }
-    Ok(all)
+const DEPTH: usize = 20_000;
+
+// A text inside many groups.
+fn nested(alloc: Global, text: &str) -> Result<String, AllocError> {
+    let begun = "(".repeat(alloc, DEPTH)?;
+    let ended = ")".repeat(alloc, DEPTH)?;
+    format!(in alloc; "{begun}{text}{ended}")
 }
 
 // A rule for nested groups.
-fn deep_rule(alloc: Global, depth: usize) -> Result<String, Fail> {
-    let pattern = nested(alloc, depth, "$x:tt")?;
-    let template = nested(alloc, depth, "$x")?;
-    Ok(format!(in alloc; "({pattern}) => {{{template}}}")?)
+fn deep_rule(alloc: Global) -> Result<String, AllocError> {
+    let pattern = nested(alloc, "$x:tt")?;
+    let template = nested(alloc, "$x")?;
+    format!(in alloc; "({pattern}) => {{{template}}}")
 }
 
-// The index of the rule that fits a text inside `depth` groups, if one does, and how many tokens
-// it gives.
+// The index of the rule that fits, if one does, and how many tokens it gives.
+fn counted(answer: &Answer) -> (Option<u32>, usize) {
+    let (tree, rule) = &answer.value;
+    let rule = if answer.err.is_some() { None } else { *rule };
+    (rule, tree.token_trees().len())
+}
+
+// The same for a text inside these groups.
 fn given_deep(
     alloc: Global,
-    rules: &str,
-    depth: usize,
+    found: &DeclarativeMacro,
     text: &str,
 ) -> Result<(Option<u32>, usize), Fail> {
-    let argument = trees(alloc, nested(alloc, depth, text)?.as_str())?;
-    let (rule, tree) = given(alloc, rules, &argument)?;
-    Ok((rule, tree.token_trees().len()))
+    let argument = tree(alloc, &nested(alloc, text)?)?;
+    let style = MacroCallStyle::FnLike;
+    Ok(counted(&given(alloc, &SmallGrammar, found, &argument, style)?))
 }
 
 #[test]
 fn nested_deep(rt: HostRuntime) -> Result<(), Fail> {
-    let depth = 20_000;
-    let rules = deep_rule(rt.alloc(), depth)?;
-    let (rule, len) = given_deep(rt.alloc(), rules.as_str(), depth, "a")?;
-    assert!(rt; rule == Some(0) && len == depth + 1);
-    let (rule, len) = given_deep(rt.alloc(), rules.as_str(), depth, "a b")?;
-    assert!(rt; rule.is_none() && len >= depth);
+    let rules = defined(rt.alloc(), &deep_rule(rt.alloc())?, Edition::Edition2024)?;
+    assert!(rt; given_deep(rt.alloc(), &rules, "a")? == (Some(0), DEPTH + 1));
+    let (rule, len) = given_deep(rt.alloc(), &rules, "a b")?;
+    assert!(rt; rule.is_none() && len >= DEPTH);
     Ok(())
 }

@@ -4,54 +4,47 @@ use rustc_lexer::{
     is_ident, is_whitespace,
 };
 
-// Whether the character is white space, is white space inside a line, begins an identifier, and
-// continues one.
-fn classes(c: char) -> (bool, bool, bool, bool) {
-    (
-        is_whitespace(c),
-        is_horizontal_whitespace(c),
-        is_id_start(c),
-        is_id_continue(c),
-    )
+// Characters that are white space, that are white space inside a line, that begin an identifier,
+// and that continue one.
+const CHARACTERS: &str = " \t\n\u{85}\u{a0}_z7é\u{301}#";
+
+const WHITE: &str = " \t\n\u{85}";
+
+const HORIZONTAL: &str = " \t";
+
+const STARTS: &str = "_zé";
+
+const CONTINUES: &str = "_z7é\u{301}";
+
+// Whether the character is in each class exactly where it stands in the class's list.
+fn is_classed(c: char) -> bool {
+    is_whitespace(c) == WHITE.contains(c)
+        && is_horizontal_whitespace(c) == HORIZONTAL.contains(c)
+        && is_id_start(c) == STARTS.contains(c)
+        && is_id_continue(c) == CONTINUES.contains(c)
 }
 
 #[test]
 fn tells_characters_apart(rt: HostRuntime) {
-    let cases = [
-        (' ', (true, true, false, false)),
-        ('\t', (true, true, false, false)),
-        ('\n', (true, false, false, false)),
-        ('\u{85}', (true, false, false, false)),
-        ('\u{a0}', (false, false, false, false)),
-        ('_', (false, false, true, true)),
-        ('z', (false, false, true, true)),
-        ('7', (false, false, false, true)),
-        ('é', (false, false, true, true)),
-        ('\u{301}', (false, false, false, true)),
-        ('#', (false, false, false, false)),
-    ];
-    for (c, want) in cases {
-        assert!(rt; classes(c) == want, "classes of {c:?}");
+    for c in CHARACTERS.chars() {
+        assert!(rt; is_classed(c), "classes of {c:?}");
     }
 }
 
+const IDENTIFIERS: [&str; 3] = ["a", "_", "fn1é"];
+
+const OTHERS: [&str; 4] = ["", "1a", "a b", "r#a"];
+
 #[test]
 fn tells_identifiers(rt: HostRuntime) {
-    let cases = [
-        ("a", true),
-        ("_", true),
-        ("fn1é", true),
-        ("", false),
-        ("1a", false),
-        ("a b", false),
-        ("r#a", false),
-    ];
-    for (text, want) in cases {
-        assert!(rt; is_ident(text) == want, "identifier {text:?}");
+    for text in IDENTIFIERS {
         assert!(rt;
-            is_ascii_ident(text) == (want && text.is_ascii()),
-            "in ASCII {text:?}"
+            is_ident(text) && is_ascii_ident(text) == text.is_ascii(),
+            "{text:?}"
         );
+    }
+    for text in OTHERS {
+        assert!(rt; !is_ident(text) && !is_ascii_ident(text), "{text:?}");
     }
     assert!(rt; UNICODE_VERSION == (18, 0, 0));
 }

@@ -1,5 +1,5 @@
 //! The calls of a cursor.
-use rustc_lexer::{Base, Cursor, FrontmatterAllowed, GuardedStr, LiteralKind, Token, TokenKind};
+use rustc_lexer::{Base, Cursor, FrontmatterAllowed, LiteralKind, Token, TokenKind};
 
 const END: Token = Token {
     kind: TokenKind::Eof,
@@ -18,36 +18,38 @@ fn a_cursor_shows_what_is_left(rt: HostRuntime) {
     );
 }
 
-// A string after this many hashes, and the length of its token.
-fn guarded(n_hashes: u32, terminated: bool, token_len: u32) -> Option<GuardedStr> {
-    Some(GuardedStr {
-        n_hashes,
-        terminated,
-        token_len,
-    })
+// A text, the number of hashes, whether the string ends, and the length of its token, if there is
+// a string, and the rest.
+type Row = (&'static str, Option<(u32, bool, u32)>, &'static str);
+
+const ROWS: [Row; 8] = [
+    ("#\"a\"#;", Some((1, true, 5)), ";"),
+    ("##\"a\"#;", Some((2, true, 6)), ";"),
+    ("#\"a\"##", Some((1, true, 5)), "#"),
+    ("#\"\"x;", Some((1, true, 4)), ";"),
+    ("\"é\"", Some((0, true, 4)), ""),
+    ("##\"a", Some((2, false, 4)), ""),
+    ("##a", None, "a"),
+    ("", None, ""),
+];
+
+fn is_read(row: &Row) -> bool {
+    let (text, want, left) = *row;
+    if text.len() >= 100 {
+        return false;
+    }
+    let mut cursor = Cursor::new(text, FrontmatterAllowed::No);
+    let string = match cursor.guarded_double_quoted_string() {
+        Some(it) => Some((it.n_hashes, it.terminated, it.token_len)),
+        None => None,
+    };
+    string == want && cursor.as_str() == left
 }
 
 #[test]
 fn reads_guarded_strings(rt: HostRuntime) {
-    // The text, the string that is read, and the rest.
-    let cases = [
-        ("#\"a\"#;", guarded(1, true, 5), ";"),
-        ("##\"a\"#;", guarded(2, true, 6), ";"),
-        ("#\"a\"##", guarded(1, true, 5), "#"),
-        ("#\"\"x;", guarded(1, true, 4), ";"),
-        ("\"é\"", guarded(0, true, 4), ""),
-        ("##\"a", guarded(2, false, 4), ""),
-        ("##a", None, "a"),
-        ("", None, ""),
-    ];
-    for (text, want, left) in cases {
-        assert!(rt; text.len() < 100);
-        let mut cursor = Cursor::new(text, FrontmatterAllowed::No);
-        let got = cursor.guarded_double_quoted_string();
-        assert!(rt;
-            got == want && cursor.as_str() == left,
-            "guarded string of {text:?}"
-        );
+    for row in &ROWS {
+        assert!(rt; is_read(row), "guarded string of {:?}", row.0);
     }
 }
 

@@ -1,20 +1,32 @@
-//! Edits of a text that keeps its tokens, against lexing from scratch.
-use rustc_lexer::{Kept, LexedText, Token, TokenKind};
+//! Edits of a text that keeps its tokens, against lexing from scratch. Each call that takes memory
+//! is made once more if it is refused: a refused call changes nothing.
+use rustc_lexer::{Kept, LexedText};
 use std::alloc::{AllocError, Global};
 use std::test::Fail;
 
-// A text with its tokens, lexed from scratch. Refused if the text is long.
-fn lexed(rt: &HostRuntime, text: &str) -> Result<LexedText, Fail> {
+// A text with its tokens, lexed from scratch. It is not made if the text is long.
+fn lexed(alloc: Global, text: &str) -> Result<LexedText, Fail> {
     if text.len() >= 200_000 {
         return Err(Fail::new("a text is long"));
     }
-    Ok(LexedText::new(rt.alloc(), text)?)
+    match LexedText::new(alloc, text) {
+        Ok(held) => Ok(held),
+        Err(_) => Ok(LexedText::new(alloc, text)?),
+    }
 }
 
-// What an edit keeps, or `None` if it does not fit. Refused if the tokens afterwards are not those
-// of the text.
+// Fails if the tokens are not those of the text.
+fn expect_tokens(alloc: Global, held: &LexedText) -> Result<(), Fail> {
+    if held.tokens() == lexed(alloc, held.text())?.tokens() {
+        return Ok(());
+    }
+    Err(Fail::new("the tokens are not those of the text"))
+}
+
+// What an edit keeps, or `None` if it does not fit. Fails if the tokens are then not those of the
+// text.
 fn edited(
-    rt: &HostRuntime,
+    alloc: Global,
     held: &mut LexedText,
     start: usize,
     end: usize,
@@ -24,35 +36,80 @@ fn edited(
     if !inside || !held.fits(start, end, word.len()) {
         return Ok(None);
     }
-    let kept = held.edit(start, end, word)?;
-    if held.tokens() != lexed(rt, held.text())?.tokens() {
-        return Err(Fail::new("the tokens are not those of the text"));
-    }
+    let kept = match held.edit(start, end, word) {
+        Ok(kept) => kept,
+        Err(_) => {
+            expect_tokens(alloc, held)?;
+            held.edit(start, end, word)?
+        }
+    };
+    expect_tokens(alloc, held)?;
     Ok(Some(kept))
 }
 
-fn kept(front: usize, lexed: usize, back: usize) -> Option<Kept> {
-    Some(Kept { front, lexed, back })
+// A text, the edited range, the replacement, the edited text, and how many tokens are kept before,
+// lexed again, and kept after.
+type Row = (
+    &'static str,
+    (usize, usize),
+    &'static str,
+    &'static str,
+    Option<(usize, usize, usize)>,
+);
+
+const ROWS: [Row; 9] = [
+    ("r ;", (1, 1), "\"a\"", "r\"a\" ;", Some((0, 1, 2))),
+    ("a; b", (4, 4), " c", "a; b c", Some((2, 4, 0))),
+    ("a; b c", (5, 6), "d;e", "a; b d;e", Some((3, 5, 0))),
+    ("a; /* b */ c", (8, 10), "", "a; /* b  c", Some((3, 1, 0))),
+    ("é😀 x; y", (2, 6), "ü", "éü x; y", Some((0, 1, 5))),
+    (
+        ";### x",
+        (4, 4),
+        "\"a\"###",
+        ";###\"a\"### x",
+        Some((1, 1, 2)),
+    ),
+    (";##\"a\"## x", (3, 4), "", ";##a\"## x", Some((1, 4, 0))),
+    ("é", (1, 1), "a", "é", None),
+    ("ab", (2, 1), "", "ab", None),
+];
+
+fn is_edited(alloc: Global, row: &Row) -> Result<bool, Fail> {
+    let (text, (start, end), word, then, want) = *row;
+    let mut held = lexed(alloc, text)?;
+    let kept = match edited(alloc, &mut held, start, end, word)? {
+        Some(kept) => Some((kept.front, kept.lexed, kept.back)),
+        None => None,
+    };
+    Ok(kept == want && held.text() == then)
 }
 
 #[test]
-fn edits_keep_tokens(rt: HostRuntime) -> Result<(), Fail> {
-    // The text, the edited range, the replacement, the edited text, and the tokens that are kept
-    // before, lexed again, and kept after.
-    let cases = [
-        ("r ;", 1, 1, "\"a\"", "r\"a\" ;", kept(0, 1, 2)),
-        ("a; b", 4, 4, " c", "a; b c", kept(2, 4, 0)),
-        ("a; /* b */ c", 8, 10, "", "a; /* b  c", kept(3, 1, 0)),
-        ("é😀 x; y", 2, 6, "ü", "éü x; y", kept(0, 1, 5)),
-        (";### x", 4, 4, "\"a\"###", ";###\"a\"### x", kept(1, 1, 2)),
-        (";##\"a\"## x", 3, 4, "", ";##a\"## x", kept(1, 4, 0)),
-        ("é", 1, 1, "a", "é", None),
-        ("ab", 2, 1, "", "ab", None),
-    ];
-    for (text, start, end, word, then, want) in cases {
-        let mut held = lexed(&rt, text)?;
-        let got = edited(&rt, &mut held, start, end, word)?;
-        assert!(rt; got == want && held.text() == then, "edit of {text:?}");
+fn refused_edits(rt: HostRuntime) -> Result<(), Fail> {
+    for row in &ROWS {
+        assert!(rt; is_edited(rt.alloc(), row)?, "edit of {}", row.0);
+    }
+    Ok(())
+}
+
+// Makes an edit, and takes the replacement out again.
+fn edit_and_back(
+    alloc: Global,
+    text: &str,
+    start: usize,
+    end: usize,
+    word: &str,
+) -> Result<(), Fail> {
+    let mut held = lexed(alloc, text)?;
+    if edited(alloc, &mut held, start, end, word)?.is_some() {
+        edited(
+            alloc,
+            &mut held,
+            start,
+            start.saturating_add(word.len()),
+            "",
+        )?;
     }
     Ok(())
 }
@@ -64,142 +121,63 @@ fn edits_at_each_place_of_a_run(rt: HostRuntime) -> Result<(), Fail> {
     for word in ["", "\"", "#", "x", "\"#", "\"\"##"] {
         for start in 0..text.len() {
             for len in 0..4usize {
-                let mut held = lexed(&rt, text)?;
-                let end = start.saturating_add(len);
-                if edited(&rt, &mut held, start, end, word)?.is_some() {
-                    edited(&rt, &mut held, start, start.saturating_add(word.len()), "")?;
-                }
+                edit_and_back(rt.alloc(), text, start, start.saturating_add(len), word)?;
             }
         }
     }
     Ok(())
 }
 
-#[test]
-fn tells_boundaries_and_what_fits(rt: HostRuntime) -> Result<(), Fail> {
-    let held = LexedText::new(rt.alloc(), "aé")?;
-    for (at, want) in [(0, true), (1, true), (2, false), (3, true), (4, false)] {
-        assert!(rt; held.is_boundary(at) == want, "boundary {at}");
-    }
-    let cases = [
-        (0, 3, 0, true),
-        (3, 3, 0xffff_fffc, true),
-        (3, 3, 0xffff_fffd, false),
-        (0, 3, 0xffff_ffff, true),
-        (0, 3, 0x1_0000_0000, false),
-        (0, 4, 0, false),
-        (2, 1, 0, false),
-    ];
-    for (start, end, len, want) in cases {
-        assert!(rt;
-            held.fits(start, end, len) == want,
-            "fits {start}..{end} {len}"
-        );
-    }
-    Ok(())
-}
-
-const IDENT: Token = Token {
-    kind: TokenKind::Ident,
-    len: 1,
-};
-
-const WHITE: Token = Token {
-    kind: TokenKind::Whitespace,
-    len: 1,
-};
-
-const SEMI: Token = Token {
-    kind: TokenKind::Semi,
-    len: 1,
-};
-
-// A refused call leaves the text and its tokens as they were, and then the same call succeeds. For
-// runs in which one allocation fails.
-#[test]
-fn refused_edits_change_nothing(rt: HostRuntime) -> Result<(), Fail> {
-    let mut held = match LexedText::new(rt.alloc(), "a; b c") {
-        Ok(held) => held,
-        Err(_) => LexedText::new(rt.alloc(), "a; b c")?,
-    };
-    assert!(rt; held.is_boundary(5) && held.is_boundary(6) && held.fits(5, 6, 3));
-    let kept = match held.edit(5, 6, "d;e") {
-        Ok(kept) => kept,
-        Err(_) => {
-            let same = held.tokens() == [IDENT, SEMI, WHITE, IDENT, WHITE, IDENT].as_slice();
-            assert!(rt; same && held.text() == "a; b c");
-            held.edit(5, 6, "d;e")?
-        }
-    };
-    let want = Kept {
-        front: 3,
-        lexed: 5,
-        back: 0,
-    };
-    let tokens = [IDENT, SEMI, WHITE, IDENT, WHITE, IDENT, SEMI, IDENT];
-    assert!(rt; kept == want && held.text() == "a; b d;e" && held.tokens() == tokens.as_slice());
-    Ok(())
-}
-
 // A text that is long enough for checkpoints.
 fn long_text(alloc: Global) -> Result<String, AllocError> {
-    let mut text = String::new(alloc);
-    for _ in 0..700 {
-        text.push_str("fn f(x: &str) { g!(x + 1) } // é\n")?;
+    "fn f(x: &str) { g!(x + 1) } // é\n".repeat(alloc, 700)
+}
+
+// Makes edits of a long text here and there.
+fn edit_all_over(alloc: Global, held: &mut LexedText) -> Result<(), Fail> {
+    let mut start = 1usize;
+    for word in ["", " ", "x", "/*", "*/", "a b c"] {
+        for len in 0..5usize {
+            start = start.wrapping_mul(1_103_515_245).wrapping_add(12_345) % 20_000;
+            edited(alloc, held, start, start.saturating_add(len), word)?;
+        }
     }
-    Ok(text)
+    Ok(())
+}
+
+// Whether a text can be replaced by a short one, and this one edited. Without most of its text, it
+// drops its checkpoints.
+fn is_cut_down(alloc: Global, held: &mut LexedText) -> Result<bool, Fail> {
+    let len = held.text().len();
+    let all = edited(alloc, held, 0, len, ";")?.is_some();
+    let one = edited(alloc, held, 1, 1, "a")?.is_some();
+    Ok(len >= 9_000 && all && one && held.text() == ";a")
 }
 
 #[test]
 fn edits_all_over_a_long_text(rt: HostRuntime) -> Result<(), Fail> {
-    let mut held = lexed(&rt, &long_text(rt.alloc())?)?;
-    let words = ["", " ", "x", "/*", "*/", "a b c"];
-    let mut seed = 1u32;
-    for k in 0..30u32 {
-        seed = seed.wrapping_mul(1_103_515_245).wrapping_add(12_345);
-        let start = (seed >> 12) as usize % held.text().len().max(1);
-        let end = start.saturating_add(k as usize % 3);
-        edited(&rt, &mut held, start, end, words[k as usize % 6])?;
-    }
-    // Without most of its text, it drops its checkpoints.
-    let len = held.text().len();
-    let all = edited(&rt, &mut held, 0, len, ";")?;
-    let one = edited(&rt, &mut held, 1, 1, "a")?;
-    assert!(rt;
-        len >= 9_000 && all == kept(0, 1, 0) && one == kept(0, 2, 0) && held.text() == ";a"
-    );
+    let mut held = lexed(rt.alloc(), &long_text(rt.alloc())?)?;
+    edit_all_over(rt.alloc(), &mut held)?;
+    assert!(rt; is_cut_down(rt.alloc(), &mut held)?);
     Ok(())
 }
 
-// The tokens of a text. A refused call is made once more.
-fn lexed_again(alloc: Global, text: &str) -> Result<LexedText, Fail> {
-    if text.len() >= 200_000 {
-        return Err(Fail::new("a text is long"));
-    }
-    match LexedText::new(alloc, text) {
-        Ok(held) => Ok(held),
-        Err(_) => Ok(LexedText::new(alloc, text)?),
+// Whether an edit in the middle of a long text lexes few tokens again.
+fn is_near(alloc: Global, text: &str) -> Result<bool, Fail> {
+    let mut held = lexed(alloc, text)?;
+    let at = (text.len() / 2).saturating_sub(5);
+    match edited(alloc, &mut held, at, at, "/*")? {
+        Some(kept) => Ok(kept.front >= 1000 && kept.lexed <= 20),
+        None => Ok(false),
     }
 }
 
 #[test]
 fn refused_edits_of_a_long_text(rt: HostRuntime) -> Result<(), Fail> {
-    let alloc = rt.alloc();
-    let text = match long_text(alloc) {
+    let text = match long_text(rt.alloc()) {
         Ok(text) => text,
-        Err(_) => long_text(alloc)?,
+        Err(_) => long_text(rt.alloc())?,
     };
-    let mut held = lexed_again(alloc, text.as_str())?;
-    let at = (text.len() / 2).saturating_sub(5);
-    assert!(rt; held.is_boundary(at) && held.fits(at, at, 2));
-    let kept = match held.edit(at, at, "/*") {
-        Ok(kept) => kept,
-        Err(_) => {
-            assert!(rt; held.text() == text.as_str());
-            held.edit(at, at, "/*")?
-        }
-    };
-    let fresh = lexed_again(alloc, held.text())?;
-    assert!(rt; held.tokens() == fresh.tokens() && kept.front >= 1000 && kept.lexed <= 20);
+    assert!(rt; is_near(rt.alloc(), text.as_str())?);
     Ok(())
 }

@@ -3,117 +3,125 @@ use rustc_lexer::{Base, GuardedStr, LiteralKind, RawStrError, Token, TokenKind};
 use std::cmp::Ordering;
 use std::test::Fail;
 
-#[test]
-fn bases_ascend_by_their_numbers(rt: HostRuntime) {
-    let bases = [Base::Binary, Base::Octal, Base::Decimal, Base::Hexadecimal];
-    let numbers = [2, 8, 10, 16];
-    for (base, number) in bases.iter().zip(numbers) {
-        assert!(rt; *base as u32 == number, "number of {base:?}");
+// Whether each value is less than the next one.
+fn ascend<T: Ord>(values: &[T]) -> bool {
+    for (low, high) in values.iter().zip(values.iter().skip(1)) {
+        if low.cmp(high) != Ordering::Less || low >= high {
+            return false;
+        }
     }
-    for (low, high) in bases.iter().zip(bases[1..].iter()) {
-        assert!(rt; low < high && low.cmp(high) == Ordering::Less, "{low:?}");
-    }
+    true
 }
 
-#[test]
-fn kinds_of_literals_ascend(rt: HostRuntime) {
-    use LiteralKind as Kind;
-    let kinds = [
-        Kind::Int {
-            base: Base::Binary,
-            empty_int: true,
-        },
-        Kind::Int {
-            base: Base::Octal,
-            empty_int: false,
-        },
-        Kind::Int {
-            base: Base::Octal,
-            empty_int: true,
-        },
-        Kind::Float {
-            base: Base::Binary,
-            empty_exponent: true,
-        },
-        Kind::Float {
-            base: Base::Decimal,
-            empty_exponent: false,
-        },
-        Kind::Float {
-            base: Base::Decimal,
-            empty_exponent: true,
-        },
-        Kind::Char { terminated: false },
-        Kind::Char { terminated: true },
-        Kind::Byte { terminated: false },
-        Kind::Byte { terminated: true },
-        Kind::Str { terminated: false },
-        Kind::Str { terminated: true },
-        Kind::ByteStr { terminated: false },
-        Kind::ByteStr { terminated: true },
-        Kind::CStr { terminated: false },
-        Kind::CStr { terminated: true },
-        Kind::RawStr { n_hashes: None },
-        Kind::RawStr { n_hashes: Some(0) },
-        Kind::RawStr { n_hashes: Some(1) },
-        Kind::RawByteStr { n_hashes: None },
-        Kind::RawByteStr { n_hashes: Some(0) },
-        Kind::RawCStr { n_hashes: None },
-        Kind::RawCStr { n_hashes: Some(0) },
-        Kind::GuardedStr { n_hashes: None },
-        Kind::GuardedStr { n_hashes: Some(1) },
-        Kind::GuardedStr { n_hashes: Some(2) },
-    ];
-    for (low, high) in kinds.iter().zip(kinds[1..].iter()) {
-        assert!(rt; low < high && low.cmp(high) == Ordering::Less, "{low:?}");
-    }
-}
+const BASES: [Base; 4] = [Base::Binary, Base::Octal, Base::Decimal, Base::Hexadecimal];
 
-fn unended(expected: u32, found: u32, possible_terminator_offset: Option<u32>) -> RawStrError {
+const KINDS: [LiteralKind; 26] = [
+    LiteralKind::Int {
+        base: Base::Binary,
+        empty_int: true,
+    },
+    LiteralKind::Int {
+        base: Base::Octal,
+        empty_int: false,
+    },
+    LiteralKind::Int {
+        base: Base::Octal,
+        empty_int: true,
+    },
+    LiteralKind::Float {
+        base: Base::Binary,
+        empty_exponent: true,
+    },
+    LiteralKind::Float {
+        base: Base::Decimal,
+        empty_exponent: false,
+    },
+    LiteralKind::Float {
+        base: Base::Decimal,
+        empty_exponent: true,
+    },
+    LiteralKind::Char { terminated: false },
+    LiteralKind::Char { terminated: true },
+    LiteralKind::Byte { terminated: false },
+    LiteralKind::Byte { terminated: true },
+    LiteralKind::Str { terminated: false },
+    LiteralKind::Str { terminated: true },
+    LiteralKind::ByteStr { terminated: false },
+    LiteralKind::ByteStr { terminated: true },
+    LiteralKind::CStr { terminated: false },
+    LiteralKind::CStr { terminated: true },
+    LiteralKind::RawStr { n_hashes: None },
+    LiteralKind::RawStr { n_hashes: Some(0) },
+    LiteralKind::RawStr { n_hashes: Some(1) },
+    LiteralKind::RawByteStr { n_hashes: None },
+    LiteralKind::RawByteStr { n_hashes: Some(0) },
+    LiteralKind::RawCStr { n_hashes: None },
+    LiteralKind::RawCStr { n_hashes: Some(0) },
+    LiteralKind::GuardedStr { n_hashes: None },
+    LiteralKind::GuardedStr { n_hashes: Some(1) },
+    LiteralKind::GuardedStr { n_hashes: Some(2) },
+];
+
+const ERRORS: [RawStrError; 9] = [
+    RawStrError::InvalidStarter { bad_char: 'y' },
+    RawStrError::InvalidStarter { bad_char: 'z' },
     RawStrError::NoTerminator {
-        expected,
-        found,
-        possible_terminator_offset,
-    }
-}
+        expected: 0,
+        found: 2,
+        possible_terminator_offset: None,
+    },
+    RawStrError::NoTerminator {
+        expected: 1,
+        found: 0,
+        possible_terminator_offset: Some(5),
+    },
+    RawStrError::NoTerminator {
+        expected: 1,
+        found: 1,
+        possible_terminator_offset: None,
+    },
+    RawStrError::NoTerminator {
+        expected: 1,
+        found: 1,
+        possible_terminator_offset: Some(0),
+    },
+    RawStrError::NoTerminator {
+        expected: 1,
+        found: 1,
+        possible_terminator_offset: Some(1),
+    },
+    RawStrError::TooManyDelimiters { found: 0 },
+    RawStrError::TooManyDelimiters { found: 1 },
+];
 
-#[test]
-fn errors_ascend(rt: HostRuntime) {
-    let errors = [
-        RawStrError::InvalidStarter { bad_char: 'y' },
-        RawStrError::InvalidStarter { bad_char: 'z' },
-        unended(0, 2, None),
-        unended(1, 0, Some(5)),
-        unended(1, 1, None),
-        unended(1, 1, Some(0)),
-        unended(1, 1, Some(1)),
-        RawStrError::TooManyDelimiters { found: 0 },
-        RawStrError::TooManyDelimiters { found: 1 },
-    ];
-    for (low, high) in errors.iter().zip(errors[1..].iter()) {
-        assert!(rt; low < high && low.cmp(high) == Ordering::Less, "{low:?}");
-    }
-}
-
-fn guarded(n_hashes: u32, terminated: bool, token_len: u32) -> GuardedStr {
+const STRINGS: [GuardedStr; 4] = [
     GuardedStr {
-        n_hashes,
-        terminated,
-        token_len,
-    }
-}
+        n_hashes: 0,
+        terminated: true,
+        token_len: 9,
+    },
+    GuardedStr {
+        n_hashes: 1,
+        terminated: false,
+        token_len: 8,
+    },
+    GuardedStr {
+        n_hashes: 1,
+        terminated: true,
+        token_len: 6,
+    },
+    GuardedStr {
+        n_hashes: 1,
+        terminated: true,
+        token_len: 7,
+    },
+];
 
 #[test]
-fn guarded_strings_ascend(rt: HostRuntime) {
-    let strings = [
-        guarded(0, true, 9),
-        guarded(1, false, 8),
-        guarded(1, true, 6),
-        guarded(1, true, 7),
-    ];
-    for (low, high) in strings.iter().zip(strings[1..].iter()) {
-        assert!(rt; low < high && low.cmp(high) == Ordering::Less, "{low:?}");
-    }
+fn values_ascend(rt: HostRuntime) {
+    assert!(rt; ascend(&BASES) && ascend(&KINDS) && ascend(&ERRORS) && ascend(&STRINGS));
+    assert!(rt; Base::Binary as u32 == 2 && Base::Octal as u32 == 8);
+    assert!(rt; Base::Decimal as u32 == 10 && Base::Hexadecimal as u32 == 16);
 }
 
 #[test]
@@ -123,10 +131,10 @@ fn prints_tokens_and_errors(rt: HostRuntime) -> Result<(), Fail> {
         len: 2,
     };
     let error = RawStrError::TooManyDelimiters { found: 256 };
-    let printed = format!(in rt.alloc(); "{token:?} {error:?} {:?}", guarded(1, true, 5))?;
+    let printed = format!(in rt.alloc(); "{token:?} {error:?} {:?}", STRINGS[2])?;
     assert!(rt;
         printed.as_str()
-            == "Token { kind: Ident, len: 2 } TooManyDelimiters { found: 256 } GuardedStr { n_hashes: 1, terminated: true, token_len: 5 }"
+            == "Token { kind: Ident, len: 2 } TooManyDelimiters { found: 256 } GuardedStr { n_hashes: 1, terminated: true, token_len: 6 }"
     );
     Ok(())
 }

@@ -1,5 +1,6 @@
 //! Faults of raw strings.
 use rustc_lexer::{Cursor, FrontmatterAllowed, RawStrError, validate_raw_str};
+use std::alloc::Global;
 use std::test::Fail;
 
 // The fault of a raw string after a prefix of one letter. `None` if the text is long or does not
@@ -11,52 +12,54 @@ fn answer(text: &str) -> Option<Result<(), RawStrError>> {
     Some(validate_raw_str(text, 1))
 }
 
-fn unended(expected: u32, found: u32, offset: Option<u32>) -> Result<(), RawStrError> {
-    Err(RawStrError::NoTerminator {
-        expected,
-        found,
-        possible_terminator_offset: offset,
-    })
-}
-
-fn begun_by(bad_char: char) -> Result<(), RawStrError> {
-    Err(RawStrError::InvalidStarter { bad_char })
-}
+const ROWS: [(&str, Result<(), RawStrError>); 7] = [
+    ("r\"a\"", Ok(())),
+    ("r#\"a\"\"##", Ok(())),
+    ("r##", Err(RawStrError::InvalidStarter { bad_char: '\0' })),
+    ("r#é\"", Err(RawStrError::InvalidStarter { bad_char: 'é' })),
+    (
+        "r#\"a\"",
+        Err(RawStrError::NoTerminator {
+            expected: 1,
+            found: 0,
+            possible_terminator_offset: None,
+        }),
+    ),
+    (
+        "r##\"é\"#",
+        Err(RawStrError::NoTerminator {
+            expected: 2,
+            found: 1,
+            possible_terminator_offset: Some(7),
+        }),
+    ),
+    (
+        "r###\"a\"#b\"##c\"##",
+        Err(RawStrError::NoTerminator {
+            expected: 3,
+            found: 2,
+            possible_terminator_offset: Some(10),
+        }),
+    ),
+];
 
 #[test]
 fn tells_what_is_wrong_with_a_raw_string(rt: HostRuntime) {
-    let cases = [
-        ("r\"a\"", Ok(())),
-        ("r#\"a\"\"##", Ok(())),
-        ("r##", begun_by('\0')),
-        ("r#é\"", begun_by('é')),
-        ("r#\"a\"", unended(1, 0, None)),
-        ("r##\"é\"#", unended(2, 1, Some(7))),
-        ("r###\"a\"#b\"##c\"##", unended(3, 2, Some(10))),
-    ];
-    for (text, want) in cases {
-        assert!(rt; answer(text) == Some(want), "raw string {text:?}");
+    for (text, want) in &ROWS {
+        assert!(rt; answer(text) == Some(*want), "raw string {text:?}");
     }
 }
 
 // A raw string with n hashes.
-fn with_hashes(rt: &HostRuntime, n: usize) -> Result<String, Fail> {
-    let mut text = String::from_str(rt.alloc(), "r")?;
-    for _ in 0..n {
-        text.push('#')?;
-    }
-    text.push_str("\"\"")?;
-    for _ in 0..n {
-        text.push('#')?;
-    }
-    Ok(text)
+fn with_hashes(alloc: Global, n: usize) -> Result<String, Fail> {
+    let hashes = "#".repeat(alloc, n)?;
+    Ok(format!(in alloc; "r{hashes}\"\"{hashes}")?)
 }
 
 #[test]
 fn takes_no_more_than_255_hashes(rt: HostRuntime) -> Result<(), Fail> {
-    let most = with_hashes(&rt, 255)?;
-    let more = with_hashes(&rt, 256)?;
     let too_many = Err(RawStrError::TooManyDelimiters { found: 256 });
-    assert!(rt; answer(&most) == Some(Ok(())) && answer(&more) == Some(too_many));
+    assert!(rt; answer(&with_hashes(rt.alloc(), 255)?) == Some(Ok(())));
+    assert!(rt; answer(&with_hashes(rt.alloc(), 256)?) == Some(too_many));
     Ok(())
 }

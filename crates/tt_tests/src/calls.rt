@@ -121,38 +121,57 @@ fn in_other_brackets(alloc: Global, mut tree: TopSubtree) -> Result<bool, TtFaul
     )
 }
 
+// Calls on the tree `+{-[]}`.
+fn tree_calls(tree: &TopSubtree) -> bool {
+    list_calls(tree.token_trees())
+        && walk_calls(tree.iter()) == Some(true)
+        && group_calls(tree.view())
+        && cursor_calls(tree.token_trees())
+}
+
 #[test]
 fn of_trees(rt: HostRuntime) -> Result<(), Fail> {
     let tree = tree(rt.alloc(), "+{-[]}")?;
-    assert!(rt; data_calls());
-    assert!(rt; list_calls(tree.token_trees()));
-    assert!(rt; walk_calls(tree.iter()) == Some(true));
-    assert!(rt; group_calls(tree.view()));
-    assert!(rt; cursor_calls(tree.token_trees()));
-    assert!(rt; rebuilt(rt.alloc(), &tree)? == tree);
+    assert!(rt; data_calls() && tree_calls(&tree) && rebuilt(rt.alloc(), &tree)? == tree);
     assert!(rt; in_other_brackets(rt.alloc(), tree)?);
     Ok(())
+}
+
+fn restores(alloc: Global) -> Result<bool, TtFault> {
+    Ok(goes_back(alloc, "+", "{-}", "+")? && goes_back(alloc, "+{", "}", "+ {}")?)
+}
+
+fn removes(alloc: Global) -> Result<bool, TtFault> {
+    Ok(without_invisible(alloc, "+<,>", "+ ,")? && without_invisible(alloc, "+{,}", "+ {,}")?)
 }
 
 #[test]
 fn of_builders(rt: HostRuntime) -> Result<(), Fail> {
     assert!(rt; builder_calls(&begun(rt.alloc(), "{[")?));
-    assert!(rt; goes_back(rt.alloc(), "+", "{-}", "+")?);
-    assert!(rt; goes_back(rt.alloc(), "+{", "}", "+ {}")?);
-    assert!(rt; without_invisible(rt.alloc(), "+<,>", "+ ,")?);
-    assert!(rt; without_invisible(rt.alloc(), "+{,}", "+ {,}")?);
-    assert!(rt; only_group(rt.alloc())?);
+    assert!(rt; restores(rt.alloc())? && removes(rt.alloc())? && only_group(rt.alloc())?);
     Ok(())
 }
 
 // What `{:?}` prints of a tree, and of what borrows it. No clause says it.
+fn tell_views(alloc: Global, tree: &TopSubtree) -> Result<bool, TtFault> {
+    Ok(
+        tells(alloc, tree, "'+'")?
+            && tells(alloc, &tree.view(), "'+'")?
+            && tells(alloc, &tree.token_trees(), "'+'")?,
+    )
+}
+
+fn tell_places(alloc: Global, tree: &TopSubtree) -> Result<bool, TtFault> {
+    Ok(
+        tells(alloc, &tree.iter(), "'+'")?
+            && tells(alloc, &tree.token_trees().cursor(), "'+'")?
+            && tells(alloc, &tree.iter().peek(), "'+'")?,
+    )
+}
+
 #[test]
 fn tell_what_is_inside(rt: HostRuntime) -> Result<(), Fail> {
-    let alloc = rt.alloc();
-    let tree = tree(alloc, "+")?;
-    assert!(rt; tells(alloc, &tree, "'+'")? && tells(alloc, &tree.view(), "'+'")?);
-    assert!(rt; tells(alloc, &tree.token_trees(), "'+'")? && tells(alloc, &tree.iter(), "'+'")?);
-    assert!(rt; tells(alloc, &tree.iter().peek(), "'+'")?);
-    assert!(rt; tells(alloc, &tree.token_trees().cursor(), "'+'")?);
+    let tree = tree(rt.alloc(), "+")?;
+    assert!(rt; tell_views(rt.alloc(), &tree)? && tell_places(rt.alloc(), &tree)?);
     Ok(())
 }

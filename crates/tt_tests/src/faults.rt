@@ -91,15 +91,17 @@ fn hidden(alloc: Global) -> Result<TopSubtree, TtFault> {
     built(builder)
 }
 
+// A punct that is `JointHidden` is shown beside what follows, but not prettily.
+fn hides(alloc: Global) -> Result<bool, TtFault> {
+    let tree = hidden(alloc)?;
+    let prettily = pretty(alloc, tree.token_trees())?;
+    Ok(prettily.as_str() == "a + b" && shows(alloc, &tree, "a +b")?)
+}
+
 #[test]
 fn are_told(rt: HostRuntime) -> Result<(), Fail> {
     let alloc = rt.alloc();
-    assert!(rt; lists(alloc)?);
-    assert!(rt; is_stale(alloc)?);
-    assert!(rt; places(alloc)?);
-    assert!(rt; keeps_its_top(alloc)?);
-    let tree = hidden(alloc)?;
-    assert!(rt; shows(alloc, &tree, "a +b")?);
-    assert!(rt; pretty(alloc, tree.token_trees())?.as_str() == "a + b");
+    assert!(rt; lists(alloc)? && is_stale(alloc)? && places(alloc)?);
+    assert!(rt; keeps_its_top(alloc)? && hides(alloc)?);
     Ok(())
 }

@@ -20,14 +20,18 @@ fn nested(alloc: Global) -> Result<TopSubtree, TtFault> {
     built(builder)
 }
 
+// Whether this is the text of the tree.
+fn is_deep(text: &str) -> bool {
+    text.len() == 2 * DEPTH + 1 && text.starts_with("{{{{") && text.ends_with("}}}}")
+}
+
+fn are_deep(alloc: Global, tree: &TopSubtree) -> Result<bool, TtFault> {
+    let is_shown = is_deep(format!(in alloc; "{tree}")?.as_str());
+    Ok(is_shown && is_deep(pretty(alloc, tree.token_trees())?.as_str()))
+}
+
 #[test]
 fn displays_groups_a_hundred_thousand_deep(rt: HostRuntime) -> Result<(), Fail> {
-    let tree = nested(rt.alloc())?;
-    let shown = format!(in rt.alloc(); "{tree}")?;
-    let prettily = pretty(rt.alloc(), tree.token_trees())?;
-    assert!(rt; shown.len() == 2 * DEPTH + 1);
-    assert!(rt; shown.as_str().starts_with("{{{{"));
-    assert!(rt; shown.as_str().ends_with("}}}}"));
-    assert!(rt; prettily.as_str() == shown.as_str());
+    assert!(rt; are_deep(rt.alloc(), &nested(rt.alloc())?)?);
     Ok(())
 }

@@ -1,5 +1,5 @@
 //! Packed trees read and changed in place, beside the same calls on trees.
-use crate::packed::{leaf, mixed};
+use crate::packed::{is_of, leaf, mixed};
 use crate::samples::byte_at;
 use crate::states::number_anchors;
 use packed_tree::{PackedElement, PackedIter, PackedTokens, PackedTree};
@@ -91,7 +91,7 @@ pub(crate) fn are_walked(alloc: Global) -> Result<bool, TtFault> {
         are_same_trees(packed.iter(), tree.iter())
             && are_same_elements(packed.iter(), tree.iter())
             && are_same_tokens(&packed, &tree)
-            && packed.top_subtree() == tree.top_subtree(),
+            && is_of(alloc, &packed, &tree)?,
     )
 }
 
@@ -99,17 +99,13 @@ pub(crate) fn are_walked(alloc: Global) -> Result<bool, TtFault> {
 pub(crate) fn are_enclosed(alloc: Global) -> Result<bool, TtFault> {
     let mut tree = mixed(alloc)?;
     let mut packed = PackedTree::pack(alloc, &tree)?;
-    let span = DelimSpan::from_pair(byte_at(7), byte_at(9));
     tree.set_top_subtree_delimiter_kind(DelimiterKind::Bracket);
     packed.set_top_subtree_delimiter_kind(DelimiterKind::Bracket);
-    let kind_set = packed == PackedTree::pack(alloc, &tree)?;
+    let kind_set = is_of(alloc, &packed, &tree)?;
+    let span = DelimSpan::from_pair(byte_at(7), byte_at(9));
     tree.set_top_subtree_delimiter_span(span);
     packed.set_top_subtree_delimiter_span(span);
-    Ok(
-        kind_set
-            && packed == PackedTree::pack(alloc, &tree)?
-            && packed.top_subtree() == tree.top_subtree(),
-    )
+    Ok(kind_set && is_of(alloc, &packed, &tree)?)
 }
 
 // Sets a leaf of both. A call that is out of memory changes nothing, so it is made once more.
@@ -129,7 +125,7 @@ fn are_set(
         answer => answer,
     };
     let expected = tree.set_token(alloc, idx, leaf(alloc, char, 8)?);
-    Ok(answer == expected && *packed == PackedTree::pack(alloc, tree)?)
+    Ok(answer == expected && is_of(alloc, packed, tree)?)
 }
 
 // Whether leaves that bring, take and move the first use of a text make the packed form of the
@@ -163,16 +159,22 @@ fn number_packed(alloc: Global, packed: &mut PackedTree) -> (u32, Result<(), TtF
     (asked, answer)
 }
 
-// Whether numbered anchors make the packed form of the tree with those. A call that is out of
-// memory asks about none and changes nothing, so it is made once more.
+// Numbers the anchors of a packed tree. A call that is out of memory asks about none and changes
+// nothing, so it is made once more. Whether the tree is then another one.
+fn is_changed(alloc: Global, packed: &mut PackedTree) -> Result<bool, TtFault> {
+    let before = packed.try_clone(alloc)?;
+    match number_packed(alloc, packed) {
+        (0, Err(TtFault::Memory)) if *packed == before => number_packed(alloc, packed).1?,
+        (_, answer) => answer?,
+    }
+    Ok(*packed != before)
+}
+
+// Whether numbered anchors make the packed form of the tree with those.
 pub(crate) fn are_relabelled(alloc: Global) -> Result<bool, TtFault> {
     let mut tree = mixed(alloc)?;
     let mut packed = PackedTree::pack(alloc, &tree)?;
-    let before = packed.try_clone(alloc)?;
-    match number_packed(alloc, &mut packed) {
-        (0, Err(TtFault::Memory)) if packed == before => number_packed(alloc, &mut packed).1?,
-        (_, answer) => answer?,
-    }
+    let is_changed = is_changed(alloc, &mut packed)?;
     number_anchors(alloc, &mut tree).1?;
-    Ok(packed != before && packed == PackedTree::pack(alloc, &tree)?)
+    Ok(is_changed && is_of(alloc, &packed, &tree)?)
 }

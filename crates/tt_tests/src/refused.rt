@@ -35,33 +35,36 @@ fn filled(alloc: Global, trees: TokenTreesView<'_>, calls: u8) -> Result<TopSubt
     built(builder)
 }
 
+// Whether a builder builds what the first of three calls append.
+fn is_filled(
+    alloc: Global,
+    builder: TopSubtreeBuilder,
+    trees: TokenTreesView<'_>,
+    calls: u8,
+) -> Result<bool, TtFault> {
+    Ok(built(builder)? == filled(alloc, trees, calls)?)
+}
+
 // Whether a builder, after all three calls or a refused one, builds what the calls before that
 // build on another one.
 fn are_kept(alloc: Global, trees: TokenTreesView<'_>) -> Result<bool, TtFault> {
     let mut builder = begun(alloc, "+{-}")?;
     for call in 0..3 {
         match extend(&mut builder, call, trees) {
-            Err(TtFault::Memory) => return Ok(built(builder)? == filled(alloc, trees, call)?),
+            Err(TtFault::Memory) => return is_filled(alloc, builder, trees, call),
             answer => answer?,
         }
     }
-    Ok(built(builder)? == filled(alloc, trees, 3)?)
+    is_filled(alloc, builder, trees, 3)
+}
+
+fn is_whole(alloc: Global, trees: TokenTreesView<'_>) -> Result<bool, TtFault> {
+    shows(alloc, &filled(alloc, trees, 3)?, "+ {-} * / , ; * /")
 }
 
 fn builds(alloc: Global) -> Result<bool, TtFault> {
     let row = rebuilt(alloc, &tree(alloc, "*/")?)?;
-    let whole = filled(alloc, row.token_trees(), 3)?;
-    Ok(are_kept(alloc, row.token_trees())? && shows(alloc, &whole, "+ {-} * / , ; * /")?)
-}
-
-#[test]
-fn builders(rt: HostRuntime) -> Result<(), Fail> {
-    let built = match builds(rt.alloc()) {
-        Err(TtFault::Memory) => builds(rt.alloc())?,
-        answer => answer?,
-    };
-    assert!(rt; built);
-    Ok(())
+    Ok(are_kept(alloc, row.token_trees())? && is_whole(alloc, row.token_trees())?)
 }
 
 // The tree made from the tokens of a tree. A refused call hands them back.
@@ -93,48 +96,39 @@ fn copies(alloc: Global, tree: &TopSubtree) -> Result<bool, TtFault> {
     )
 }
 
+// The copies are made once more if one is refused.
 fn makes(alloc: Global) -> Result<bool, TtFault> {
     let tree = tree(alloc, "+{-}")?;
-    let bare = TopSubtree::empty(alloc, DelimSpan::from_single(byte_at(0)))?;
     let copied = match copies(alloc, &tree) {
         Err(TtFault::Memory) => copies(alloc, &tree)?,
         answer => answer?,
     };
-    Ok(
-        copied
-            && TopSubtree::invisible_from_leaves(alloc, byte_at(0), [])? == bare
-            && pretty(alloc, tree.token_trees())?.as_str() == "+ {-}",
-    )
+    Ok(copied && pretty(alloc, tree.token_trees())?.as_str() == "+ {-}")
+}
+
+fn empties(alloc: Global) -> Result<bool, TtFault> {
+    let bare = TopSubtree::empty(alloc, DelimSpan::from_single(byte_at(0)))?;
+    Ok(TopSubtree::invisible_from_leaves(alloc, byte_at(0), [])? == bare)
 }
 
 fn names(alloc: Global) -> Result<bool, TtFault> {
     let name = Ident::new(alloc, "r#fn", byte_at(0))?;
-    let number = Literal::new_no_suffix(alloc, "1", byte_at(0), LitKind::Integer)?;
-    let text = Literal::new(alloc, "\"#", byte_at(0), LitKind::StrRaw(2), "é")?;
-    let short = token_to_literal(alloc, "1u8", byte_at(0), LitKind::Integer, 1)?;
     Ok(
-        text.text_and_suffix() == ("\"#", "é")
-            && short.text_and_suffix() == ("1", "u8")
-            && Symbol::new(alloc, "fn")?.as_str() == name.sym.as_str()
+        Symbol::new(alloc, "fn")?.as_str() == name.sym.as_str()
             && tells(alloc, &name.sym.clone()?, "\"fn\"")?
-            && shows(alloc, &Leaf::from(name), "r#fn")?
-            && shows(alloc, &number, "1")?
-            && shows(alloc, &text, "r##\"\"#\"##é")?,
+            && shows(alloc, &Leaf::from(name), "r#fn")?,
     )
 }
 
-#[test]
-fn makers(rt: HostRuntime) -> Result<(), Fail> {
-    let made = match makes(rt.alloc()) {
-        Err(TtFault::Memory) => makes(rt.alloc())?,
-        answer => answer?,
-    };
-    let named = match names(rt.alloc()) {
-        Err(TtFault::Memory) => names(rt.alloc())?,
-        answer => answer?,
-    };
-    assert!(rt; made && named);
-    Ok(())
+fn numbers(alloc: Global) -> Result<bool, TtFault> {
+    let number = Literal::new_no_suffix(alloc, "1", byte_at(0), LitKind::Integer)?;
+    let short = token_to_literal(alloc, "1u8", byte_at(0), LitKind::Integer, 1)?;
+    Ok(short.text_and_suffix() == ("1", "u8") && shows(alloc, &number, "1")?)
+}
+
+fn texts(alloc: Global) -> Result<bool, TtFault> {
+    let text = Literal::new(alloc, "\"#", byte_at(0), LitKind::StrRaw(2), "é")?;
+    Ok(text.text_and_suffix() == ("\"#", "é") && shows(alloc, &text, "r##\"\"#\"##é")?)
 }
 
 // Rewrites the tree. Out of memory, it does so once more, and answers whether the tree was as
@@ -182,96 +176,74 @@ fn numbered(alloc: Global, tree: &mut TopSubtree, before: &TopSubtree) -> Result
     }
 }
 
+fn is_rewritten(alloc: Global, before: &TopSubtree) -> Result<bool, TtFault> {
+    let mut moved = tree(alloc, "+{-}")?;
+    Ok(rewritten(alloc, &mut moved, before)? && shows(alloc, &moved, "{+ {-}}")?)
+}
+
+fn is_set(alloc: Global, before: &TopSubtree) -> Result<bool, TtFault> {
+    let mut tree = tree(alloc, "+{-}")?;
+    Ok(set(alloc, &mut tree, before)? && shows(alloc, &tree, "+ {123456789u64}")?)
+}
+
+fn is_numbered(alloc: Global, before: &TopSubtree) -> Result<bool, TtFault> {
+    let mut tree = tree(alloc, "+{-}")?;
+    let is_right = numbered(alloc, &mut tree, before)?;
+    Ok(is_right && tree.top_subtree().delimiter.close_span.anchor == 1)
+}
+
 fn changes(alloc: Global) -> Result<bool, TtFault> {
     let before = tree(alloc, "+{-}")?;
-    let mut moved = tree(alloc, "+{-}")?;
-    let mut other = tree(alloc, "+{-}")?;
-    let mut tree = tree(alloc, "+{-}")?;
-    Ok(
-        rewritten(alloc, &mut moved, &before)?
-            && shows(alloc, &moved, "{+ {-}}")?
-            && set(alloc, &mut tree, &before)?
-            && shows(alloc, &tree, "+ {123456789u64}")?
-            && numbered(alloc, &mut other, &before)?
-            && other.top_subtree().delimiter.close_span.anchor == 1,
-    )
+    Ok(is_rewritten(alloc, &before)? && is_set(alloc, &before)? && is_numbered(alloc, &before)?)
+}
+
+// The parts, by their numbers.
+fn is_right(alloc: Global, part: u8) -> Result<bool, TtFault> {
+    match part {
+        0 => builds(alloc),
+        1 => makes(alloc),
+        2 => empties(alloc),
+        3 => names(alloc),
+        4 => numbers(alloc),
+        5 => texts(alloc),
+        6 => changes(alloc),
+        7 => have_sizes(alloc),
+        8 => are_told(alloc),
+        9 => are_checked(alloc),
+        10 => are_numbered(alloc),
+        11 => are_built(alloc),
+        12 => are_cut_back(alloc),
+        13 => are_misplaced(alloc),
+        14 => are_walked(alloc),
+        15 => are_enclosed(alloc),
+        16 => are_replaced(alloc),
+        _ => are_relabelled(alloc),
+    }
+}
+
+// Whether the parts from one number to another are right. One that is refused is made once more.
+fn are_right(alloc: Global, from: u8, to: u8) -> Result<bool, TtFault> {
+    for part in from..=to {
+        let answer = match is_right(alloc, part) {
+            Err(TtFault::Memory) => is_right(alloc, part)?,
+            answer => answer?,
+        };
+        if !answer {
+            return Ok(false);
+        }
+    }
+    Ok(true)
 }
 
 #[test]
-fn rewriting(rt: HostRuntime) -> Result<(), Fail> {
-    let changed = match changes(rt.alloc()) {
-        Err(TtFault::Memory) => changes(rt.alloc())?,
-        answer => answer?,
-    };
-    assert!(rt; changed);
+fn trees(rt: HostRuntime) -> Result<(), Fail> {
+    assert!(rt; are_right(rt.alloc(), 0, 6)?);
     Ok(())
 }
 
 #[test]
-fn packs(rt: HostRuntime) -> Result<(), Fail> {
-    let sized = match have_sizes(rt.alloc()) {
-        Err(TtFault::Memory) => have_sizes(rt.alloc())?,
-        answer => answer?,
-    };
-    let told = match are_told(rt.alloc()) {
-        Err(TtFault::Memory) => are_told(rt.alloc())?,
-        answer => answer?,
-    };
-    assert!(rt; sized && told);
-    Ok(())
-}
-
-#[test]
-fn reads_parts(rt: HostRuntime) -> Result<(), Fail> {
-    let checked = match are_checked(rt.alloc()) {
-        Err(TtFault::Memory) => are_checked(rt.alloc())?,
-        answer => answer?,
-    };
-    let numbered = match are_numbered(rt.alloc()) {
-        Err(TtFault::Memory) => are_numbered(rt.alloc())?,
-        answer => answer?,
-    };
-    assert!(rt; checked && numbered);
-    Ok(())
-}
-
-#[test]
-fn packs_as_it_comes(rt: HostRuntime) -> Result<(), Fail> {
-    let built = match are_built(rt.alloc()) {
-        Err(TtFault::Memory) => are_built(rt.alloc())?,
-        answer => answer?,
-    };
-    let cut_back = match are_cut_back(rt.alloc()) {
-        Err(TtFault::Memory) => are_cut_back(rt.alloc())?,
-        answer => answer?,
-    };
-    let misplaced = match are_misplaced(rt.alloc()) {
-        Err(TtFault::Memory) => are_misplaced(rt.alloc())?,
-        answer => answer?,
-    };
-    assert!(rt; built && cut_back && misplaced);
-    Ok(())
-}
-
-#[test]
-fn reads_and_changes_packed_trees(rt: HostRuntime) -> Result<(), Fail> {
-    let walked = match are_walked(rt.alloc()) {
-        Err(TtFault::Memory) => are_walked(rt.alloc())?,
-        answer => answer?,
-    };
-    let enclosed = match are_enclosed(rt.alloc()) {
-        Err(TtFault::Memory) => are_enclosed(rt.alloc())?,
-        answer => answer?,
-    };
-    let replaced = match are_replaced(rt.alloc()) {
-        Err(TtFault::Memory) => are_replaced(rt.alloc())?,
-        answer => answer?,
-    };
-    let relabelled = match are_relabelled(rt.alloc()) {
-        Err(TtFault::Memory) => are_relabelled(rt.alloc())?,
-        answer => answer?,
-    };
-    assert!(rt; walked && enclosed && replaced && relabelled);
+fn packed_trees(rt: HostRuntime) -> Result<(), Fail> {
+    assert!(rt; are_right(rt.alloc(), 7, 17)?);
     Ok(())
 }
 

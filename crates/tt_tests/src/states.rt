@@ -79,14 +79,23 @@ fn lengths(trees: TokenTreesView<'_>) -> Option<(usize, usize)> {
     }
 }
 
+// The same for the trees of a text.
+fn lengths_of(alloc: Global, text: &str) -> Result<Option<(usize, usize)>, TtFault> {
+    Ok(lengths(tree(alloc, text)?.token_trees()))
+}
+
+// Whether a tree has the second token replaced by the trees of a text, and the fourth removed.
+fn is_rewritten(alloc: Global) -> Result<bool, TtFault> {
+    let mut changed = tree(alloc, "{-[]}+/")?;
+    let row = tree(alloc, ",,")?;
+    rewrite(alloc, &mut changed, row.token_trees())?;
+    shows(alloc, &changed, "+ , ,")
+}
+
 #[test]
 fn ask_once(rt: HostRuntime) -> Result<(), Fail> {
     let alloc = rt.alloc();
-    let mut tree = tree(alloc, "{-[]}+/")?;
-    assert!(rt; lengths(tree.token_trees()) == Some((3, 1)));
-    let row = crate::samples::tree(alloc, ",,")?;
-    rewrite(alloc, &mut tree, row.token_trees())?;
-    assert!(rt; shows(alloc, &tree, "+ , ,")?);
-    assert!(rt; numbered(alloc)? == (2, Some((1, 2, 1))));
+    assert!(rt; lengths_of(alloc, "{-[]}+/")? == Some((3, 1)));
+    assert!(rt; is_rewritten(alloc)? && numbered(alloc)? == (2, Some((1, 2, 1))));
     Ok(())
 }

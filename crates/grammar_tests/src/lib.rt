@@ -1,4 +1,4 @@
-//! What a caller can prove of any grammar, and tests of the small grammar.
+//! What a caller can prove of any grammar, and tests of the small grammar and that of Rust.
 //!
 //! `behind_prefix` shows that the laws of a grammar suffice for a crate above: it goes as far as
 //! the grammar says, without a check of how much remains.
@@ -10,7 +10,11 @@ ghost use Rattle.tt.specs.Views.{forest};
 ghost use Rattle.tt_data.specs.Forest.{shape};
 
 #[cfg(test)]
-mod tests;
+mod rust;
+#[cfg(test)]
+mod small;
+#[cfg(test)]
+mod trees;
 
 use fragment_grammar::{FragmentGrammar, PrefixEntryPoint};
 use tt::laws::walk_of_a_cursor;

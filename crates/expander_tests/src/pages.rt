@@ -1,6 +1,7 @@
 //! Pages, for runs of the tests in which one request for memory is refused. A refused call changes
 //! nothing, and gives the same when it is made again.
-use expander::{Edition, Reply, Session, SmallGrammar};
+use crate::opened::{opened, reply_of};
+use expander::Reply;
 use expansion_page::page;
 use std::alloc::Global;
 use std::test::Fail;
@@ -26,22 +27,6 @@ const ROWS: [Row; 3] = [
     },
 ];
 
-// The reply to a text. A refused call is made once more.
-fn replied(alloc: Global, text: &str) -> Result<Reply, Fail> {
-    if text.len() >= 1000 {
-        return Err(Fail::new("a text is long"));
-    }
-    let edition = Edition::Edition2024;
-    let mut session = match Session::new(alloc, text, SmallGrammar, edition, 128) {
-        Ok(session) => session,
-        Err(_) => Session::new(alloc, text, SmallGrammar, edition, 128)?,
-    };
-    match session.expansion() {
-        Ok(reply) => Ok(reply),
-        Err(_refusal) => Ok(session.expansion()?),
-    }
-}
-
 // The page of a reply. If it is refused, it is made once more.
 fn page_of(alloc: Global, text: &str, reply: &Reply) -> Result<String, Fail> {
     if text.len() >= 1000 {
@@ -53,16 +38,21 @@ fn page_of(alloc: Global, text: &str, reply: &Reply) -> Result<String, Fail> {
     }
 }
 
-// Whether two pages of a text are equal and show what they have to, and the title is escaped.
+fn reply_to(alloc: Global, text: &str) -> Result<Reply, Fail> {
+    reply_of(&mut opened(alloc, text, 128)?)
+}
+
+// Whether a page shows what it has to, and the title is escaped.
+fn is_page(row: &Row, html: &str) -> bool {
+    html.contains(row.shows) && html.contains("<title>a&#60;b: expansion</title>")
+}
+
+// Whether two pages of a text are equal and so.
 fn is_shown(alloc: Global, row: &Row) -> Result<bool, Fail> {
-    let reply = replied(alloc, row.text)?;
+    let reply = reply_to(alloc, row.text)?;
     let first = page_of(alloc, row.text, &reply)?;
-    let second = page_of(alloc, row.text, &reply)?;
-    Ok(
-        first.as_str() == second.as_str()
-            && first.contains(row.shows)
-            && first.contains("<title>a&#60;b: expansion</title>"),
-    )
+    let is_same = page_of(alloc, row.text, &reply)?.as_str() == first.as_str();
+    Ok(is_same && is_page(row, first.as_str()))
 }
 
 #[test]

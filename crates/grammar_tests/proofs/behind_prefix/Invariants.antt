@@ -2,7 +2,7 @@ use Rattle.std.proofs.Common.{◌≡◌, ◌+◌, ◌≤◌, length}
 use Rattle.tt.specs.Places.{steps_before, steps_after}
 use Rattle.tt.specs.Views.{forest}
 use Rattle.tt_data.specs.Forest.{shape}
-use Rattle.small_grammar_tests.proofs.behind_prefix.Given as goal
+use Rattle.grammar_tests.proofs.behind_prefix.Given as goal
 
 abbrev pub invariant-loop-left : goal.invariant-loop-left
 invariant-loop-left g l =

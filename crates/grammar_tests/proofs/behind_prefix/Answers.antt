@@ -1,7 +1,7 @@
 use Rattle.std.proofs.Common.{sym, subst}
 use Rattle.tt.specs.Places.{Place, IsStep}
-use Rattle.small_grammar_tests.proofs.CallerLemmas.{not_at_end, one_further}
-use Rattle.small_grammar_tests.proofs.behind_prefix.Goals as goal
+use Rattle.grammar_tests.proofs.CallerLemmas.{not_at_end, one_further}
+use Rattle.grammar_tests.proofs.behind_prefix.Goals as goal
 
 pub loop-left-preserved : goal.loop-left-preserved
 loop-left-preserved g c =

@@ -1,5 +1,0 @@
-//! Tests of the grammar of Rust.
-#![tactic(auto)]
-
-#[cfg(test)]
-mod tests;
