@@ -2,7 +2,7 @@
 -- leaf.
 use Rattle.std.proofs.Common.{◌≡◌, ◌≢◌, ℕ, ◌<◌, ◌^◌, Bool, true, false, ◌&&◌, List, [], ◌∷◌, ◌++◌, length, take, drop, ◌-◌, ◌+◌, subst, refl, sym, ap, ◌∙◌, arith, IsUtf8, if◌then◌else◌, sum_by}
 use Rattle.std.specs.List.{list_all}
-use Rattle.std.specs.Prelude.{codes, Option, Some, None, nat_eq, nat_lt, not}
+use Rattle.std.specs.Prelude.{codes, Option, Some, None, nat_eq, nat_lt, not, unwrap_or}
 use Rattle.std.specs.Char.{encode_utf8}
 use Rattle.std.specs.Str.{IsAscii, bytes_eq, chars, is_utf8}
 use Rattle.std.proofs.lemmas.Bool.{and_parts}
@@ -28,20 +28,19 @@ use Rattle.tt_data.specs.Names.{prefix_of}
 use Rattle.tt_data.specs.Spans.{no_span}
 use Rattle.tt_data.specs.Walk.{Step, at_leaf}
 use Rattle.tt_data.specs.declared.leaf.Ident.{Ident}
-use Rattle.tt_data.specs.declared.leaf.IdentIsRaw.{IdentIsRaw}
 use Rattle.tt_data.specs.declared.leaf.IdentIsRaw.TheVariants as is_raw
 use Rattle.tt_data.specs.declared.leaf.Leaf.{Leaf}
 use Rattle.tt_data.specs.declared.leaf.Leaf.TheVariants as as_leaf
 use Rattle.tt_data.specs.declared.leaf.LitKind.TheVariants as form
 use Rattle.tt_data.specs.declared.leaf.Punct.{Punct}
 use Rattle.tt_data.specs.declared.leaf.Spacing.TheVariants.{Alone}
-use Rattle.tt_data.specs.declared.span.Span.{Span}
 use Rattle.bridge.specs.FastSpellings.{is_mark_char, is_plain_byte}
 use Rattle.tt.specs.Glued.{is_joint}
-use Rattle.bridge.specs.Spelling.{begins_with_name, is_one, is_plain_name, is_short_text, is_text_of, leaf_spelling, quote_spelling, same_form, same_rawness, spelled_leaf, spelling}
+use Rattle.bridge.specs.Spelling.{begins_with_name, is_one, is_short_text, is_text_of, leaf_spelling, own_spelling, quote_spelling, root_name, same_form, same_rawness, spelled_leaf, spelling}
 use Rattle.bridge.specs.Text.{char, is_char}
 use Rattle.bridge.specs.TokenSteps.{mark_leaf, text_steps}
-use Rattle.bridge.proofs.AgainLemmas.{literal_by, punct_alike, same_bytes, stays, that_by}
+use Rattle.bridge.proofs.AgainLemmas.{literal_by, punct_alike, that_by}
+use Rattle.bridge.proofs.RootLemmas.{ident_stays, named, stays}
 use Rattle.bridge.proofs.SpellingLemmas.{one_len, told_of_one}
 use Rattle.rustc_lexer.proofs.TestLemmas.{told_of_any}
 
@@ -88,43 +87,24 @@ mark_printed p more h =
 
 -- ---- names
 
-dollar_no_ident : is_ident (chars (codes "$crate")) ≡ false
-unfolding chars is_utf8 encode_utf8 is_xid_start is_xid_continue in_ranges xid_start_ranges xid_continue_ranges
-dollar_no_ident = refl
-
-no_dollar : (i : Ident) → is_ident (chars i.sym) ≡ true → is_plain_name (codes "$crate") i ≡ false
-no_dollar i h = by_test (bytes_eq i.sym (codes "$crate")) refl i.is_raw
-  where
-    by_test : (u : Bool) → bytes_eq i.sym (codes "$crate") ≡ u → (r : IdentIsRaw) → (same_rawness r is_raw.No && u) ≡ false
-    by_test u e is_raw.Yes = refl
-    by_test false e is_raw.No = refl
-    by_test true e is_raw.No = absurd (let no : false ≡ true = sym dollar_no_ident ∙ (ap (λ t. is_ident (chars t)) (sym (same_bytes i.sym (codes "$crate") e)) ∙ h) in cc)
-
 pub name_spelled : (i : Ident) → i.is_raw ≡ is_raw.No → IsUtf8 i.sym → length i.sym < 2 ^ 32 → is_ident (chars i.sym) ≡ true
     → sum_by (λ (t : Token). t.len) (tokens_of (chars i.sym)) ≡ length i.sym
     → tokens_of (chars i.sym) ≡ record { kind = kind.Ident; len = utf8_len (chars i.sym) } ∷ []
     → leaf_spelling (as_leaf.Ident i) ≡ Some i.sym
 name_spelled i raw u short is sum one =
-    spelled_as (as_leaf.Ident i) i.sym (stays i (no_dollar i is)) (ap (λ r. prefix_of r ++ i.sym) raw)
+    spelled_as (as_leaf.Ident i) i.sym (stays i (ident_stays i is)) (ap (λ r. prefix_of r ++ i.sym) raw)
     (sym (told_of_one i.sym _ (as_leaf.Ident i) true u short sum one
     (λ p more same. sym (ap (λ r. same_rawness r is_raw.No && bytes_eq i.sym p.text) raw ∙ (ap (bytes_eq i.sym) same ∙ same_text i.sym)))))
 
--- `$crate` is spelled `crate`
-crate_told : (span : Span) → is_text_of (as_leaf.Ident (record { sym = codes "crate"; span = span; is_raw = is_raw.No })) (codes "crate") ≡ true
-unfolding chars is_utf8 encode_utf8 is_xid_start is_xid_continue in_ranges xid_start_ranges xid_continue_ranges
-crate_told span = refl
-
-abbrev shown : Ident → Option (List ℕ)
-shown i =
-    if is_text_of (as_leaf.Ident i) (displayed_leaf (as_leaf.Ident i)) then Some (displayed_leaf (as_leaf.Ident i)) else None
-
-pub dollar_crate_spelled : (i : Ident) → is_plain_name (codes "$crate") i ≡ true → leaf_spelling (as_leaf.Ident i) ≡ Some (codes "crate")
-dollar_crate_spelled i h = ap (λ u. shown (if u then record i { sym = codes "crate" } else i)) h ∙ by_rawness i.is_raw h
-  where
-    by_rawness : (r : IdentIsRaw) → (same_rawness r is_raw.No && bytes_eq i.sym (codes "$crate")) ≡ true
-        → shown (record { sym = codes "crate"; span = i.span; is_raw = r }) ≡ Some (codes "crate")
-    by_rawness is_raw.No told = ap (λ u. if u then Some (codes "crate") else None) (crate_told i.span)
-    by_rawness is_raw.Yes told = absurd (cc)
+-- the root of a crate is spelled as the crate's name, if that is an identifier
+pub root_spelled : (i : Ident) (name : List ℕ) → Some name ≡ root_name i → IsUtf8 name → length name < 2 ^ 32 → is_ident (chars name) ≡ true
+    → sum_by (λ (t : Token). t.len) (tokens_of (chars name)) ≡ length name
+    → tokens_of (chars name) ≡ record { kind = kind.Ident; len = utf8_len (chars name) } ∷ []
+    → leaf_spelling (as_leaf.Ident i) ≡ Some name
+root_spelled i name h u short is sum one =
+    let j : Ident = record i { sym = name } in
+    ap (λ (o : Option (List ℕ)). own_spelling (as_leaf.Ident (record i { sym = unwrap_or o i.sym }))) (sym h)
+    ∙ ap own_spelling (sym (stays j (ident_stays j is))) ∙ name_spelled j (named i name (sym h)).plain u short is sum one
 
 -- ---- numbers
 

@@ -1,7 +1,6 @@
 -- Trees that are printed whole have short leaves, with each `;` of the list `Alone` or not.
-use Rattle.std.proofs.Common.{◌≡◌, ℕ, ◌+◌, ◌<◌, ◌≤◌, ◌^◌, Bool, true, false, List, [], ◌∷◌, ◌++◌, length, length-append, refl, ap, subst, arith, if◌then◌else◌}
-use Rattle.std.specs.Prelude.{codes, nat_lt, Some, None}
-use Rattle.std.specs.Str.{bytes_eq}
+use Rattle.std.proofs.Common.{◌≡◌, ℕ, ◌+◌, ◌<◌, ◌^◌, Bool, true, false, List, [], ◌∷◌, ◌++◌, length, refl, sym, subst, arith, if◌then◌else◌}
+use Rattle.std.specs.Prelude.{nat_lt, Option, Some, None}
 use Rattle.std.proofs.lemmas.Bool.{and_parts}
 use Rattle.std.proofs.lemmas.Bool.Decides.{nat_tests}
 use Rattle.tt.specs.Building.{alone}
@@ -10,16 +9,14 @@ use Rattle.tt_data.specs.Forest.{Forest, empty, leaf, group}
 use Rattle.tt_data.specs.Names.{prefix_of}
 use Rattle.tt_data.specs.Walk.{Step, at_leaf, opens, closes, walk}
 use Rattle.tt_data.specs.declared.leaf.Ident.{Ident}
-use Rattle.tt_data.specs.declared.leaf.IdentIsRaw.{IdentIsRaw}
-use Rattle.tt_data.specs.declared.leaf.IdentIsRaw.TheVariants as is_raw
 use Rattle.tt_data.specs.declared.leaf.Leaf.{Leaf}
 use Rattle.tt_data.specs.declared.leaf.Leaf.TheVariants as as_leaf
 use Rattle.bridge.specs.Lengths.{AreShort, IsShort}
 use Rattle.bridge.specs.Pieces.{separated}
 use Rattle.bridge.specs.Printing.{left_out_from, print_of, unspelled, visible}
-use Rattle.bridge.specs.Spelling.{is_plain_name, is_short_text, is_text_of, leaf_spelling, same_rawness, spelled_leaf, spelling}
+use Rattle.bridge.specs.Spelling.{is_short_text, is_text_of, leaf_spelling, root_name, spelled_leaf, spelling}
 use Rattle.bridge.specs.Text.{is_punct, is_visible}
-use Rattle.bridge.proofs.AgainLemmas.{same_bytes, stays}
+use Rattle.bridge.proofs.RootLemmas.{IsRootName, named, stays}
 use Rattle.bridge.proofs.ReadSpelledLemmas.{AreFit}
 
 -- ---- a leaf that has a spelling is short
@@ -42,22 +39,14 @@ spelled_text l n e = go (is_text_of (spelled_leaf l) (displayed_leaf (spelled_le
     go true k h = short_text (spelled_leaf l) (displayed_leaf (spelled_leaf l)) k
     go false k h = absurd (cc h)
 
-short_prefix : (r : IdentIsRaw) → length (prefix_of r) ≤ 2
-short_prefix is_raw.No = omega arith
-short_prefix is_raw.Yes = omega arith
-
 short_name : (i : Ident) (n : ℕ) → unspelled n (leaf_spelling (as_leaf.Ident i)) ≡ [] → length (displayed_leaf (as_leaf.Ident i)) < 2 ^ 32
-short_name i n e = go (is_plain_name (codes "$crate") i) refl
+short_name i n e = go (root_name i) refl
   where
-    go : (b : Bool) → is_plain_name (codes "$crate") i ≡ b → length (displayed_leaf (as_leaf.Ident i)) < 2 ^ 32
-    go false k = subst (λ l. length (displayed_leaf l) < 2 ^ 32) (stays i k) (spelled_text (as_leaf.Ident i) n e)
-    go true k =
-        let parts = and_parts (same_rawness i.is_raw is_raw.No) (bytes_eq i.sym (codes "$crate")) k in
-        let six : length i.sym ≡ 6 = ap length (same_bytes i.sym (codes "$crate") parts.1) in
-        let few = short_prefix i.is_raw in
-        let both = length-append (prefix_of i.is_raw) i.sym in
-        let at_most : length (prefix_of i.is_raw ++ i.sym) ≤ 8 = omega (arith, six, few, both) in
-        omega (arith, at_most)
+    go : (o : Option (List ℕ)) → root_name i ≡ o → length (displayed_leaf (as_leaf.Ident i)) < 2 ^ 32
+    go None k = subst (λ l. length (displayed_leaf l) < 2 ^ 32) (stays i k) (spelled_text (as_leaf.Ident i) n e)
+    go (Some name) k =
+        let root : IsRootName i name = named i name k in
+        subst (λ r. length (prefix_of r ++ i.sym) < 2 ^ 32) (sym root.plain) root.short
 
 short_leaf : (l : Leaf) (more : List Step) (n : ℕ) → unspelled n (spelling (at_leaf l) more) ≡ [] → IsShort l
 short_leaf (as_leaf.Punct p) more n e = tt

@@ -14,6 +14,7 @@ mod SpelledLemmas
 mod HashLemmas
 mod BackLemmas
 mod ForestBackLemmas
+mod RootLemmas
 mod AgainLemmas
 mod AloneLemmas
 mod SpanLemmas

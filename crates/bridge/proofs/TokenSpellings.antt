@@ -1,9 +1,8 @@
 -- A token of a text that is read as one leaf: its text, taken alone, spells the leaf.
-use Rattle.std.proofs.Common.{◌≡◌, ℕ, ◌+◌, ◌-◌, ◌<◌, ◌≤◌, ◌^◌, Bool, true, false, ◌&&◌, List, [], ◌∷◌, ◌++◌, length, take, drop, subst, refl, sym, ap, ◌∙◌, arith, append_assoc, IsUtf8, sum_by, is_some}
+use Rattle.std.proofs.Common.{◌≡◌, ℕ, ◌+◌, ◌-◌, ◌<◌, ◌≤◌, ◌^◌, true, false, ◌&&◌, List, [], ◌∷◌, ◌++◌, length, take, drop, subst, refl, sym, ap, ◌∙◌, arith, append_assoc, IsUtf8, sum_by, is_some}
 use Rattle.std.specs.List.{slice_range}
-use Rattle.std.specs.Prelude.{codes, nat_eq, Some, None, IsSome}
-use Rattle.std.specs.Char.{encode_utf8}
-use Rattle.std.specs.Str.{IsCharBoundary, bytes_eq, chars, is_utf8}
+use Rattle.std.specs.Prelude.{codes, nat_eq, Option, Some, None, IsSome}
+use Rattle.std.specs.Str.{IsCharBoundary, bytes_eq, chars}
 use Rattle.std.proofs.lemmas.Bool.Decides.{nat_tests}
 use Rattle.std.proofs.lemmas.List.{drop_at, length-append, length-drop, length-take-le, take_at}
 use Rattle.std.proofs.lemmas.Str.{IsUtf8-drop}
@@ -27,7 +26,6 @@ use Rattle.tt.specs.TokenLiterals.{IsLiteralToken, form_begin, form_end, inside_
 use Rattle.tt_data.specs.Displayed.{displayed_leaf}
 use Rattle.tt_data.specs.Walk.{at_leaf}
 use Rattle.tt_data.specs.declared.leaf.Ident.{Ident}
-use Rattle.tt_data.specs.declared.leaf.IdentIsRaw.{IdentIsRaw}
 use Rattle.tt_data.specs.declared.leaf.IdentIsRaw.TheVariants as is_raw
 use Rattle.tt_data.specs.declared.leaf.Leaf.{Leaf}
 use Rattle.tt_data.specs.declared.leaf.Leaf.TheVariants as as_leaf
@@ -40,10 +38,11 @@ use Rattle.bridge.specs.FastSpellings.{is_mark_char}
 use Rattle.bridge.specs.Lengths.{IsShort}
 use Rattle.bridge.specs.ReadSteps.{MayCut}
 use Rattle.bridge.specs.Reading.{PlacedToken, range_of, step, written_at}
-use Rattle.bridge.specs.Spelling.{is_plain_name, is_that_leaf, leaf_spelling, same_form, same_rawness}
+use Rattle.bridge.specs.Spelling.{is_that_leaf, leaf_spelling, root_name, same_form}
+use Rattle.bridge.proofs.RootLemmas.{IsDollar, dollar_chars, named, stays}
 use Rattle.bridge.specs.TokenSteps.{literal_form, literal_class, name_leaf, class_of, spacing_before, steps_of_class}
 use Rattle.bridge.proofs.BackLemmas.{chars_one}
-use Rattle.bridge.proofs.AgainLemmas.{literal_by, same_bytes, stays}
+use Rattle.bridge.proofs.AgainLemmas.{literal_by}
 use Rattle.bridge.proofs.CutLemmas.{boundary_in, may_cut}
 use Rattle.bridge.proofs.FastSpellingLemmas.{mark_spelled, name_spelled, same_text, spelled_as}
 use Rattle.bridge.proofs.SpellingLemmas.{told_of_one}
@@ -149,19 +148,20 @@ record OneToken (s : List ℕ) (t : Token) : Type 0 where
   sum : sum_by (λ (x : Token). x.len) (tokens_of (chars s)) ≡ length s
   one : tokens_of (chars s) ≡ t ∷ []
 
-two_tokens : length (tokens_of (chars (codes "$crate"))) ≡ 2
-unfolding chars is_utf8 encode_utf8 is_xid_start is_xid_continue in_ranges xid_start_ranges xid_continue_ranges
-two_tokens = refl
+two_tokens : (cs : List ℕ) → length (tokens_of (36 ∷ 99 ∷ cs)) ≡ 1 → ⊥
+unfolding is_xid_start is_xid_continue in_ranges xid_start_ranges xid_continue_ranges
+two_tokens cs n = absurd (omega (arith, n))
 
--- a name that is one token is not `$crate`
-no_dollar : (s : List ℕ) (t : Token) (i : Ident) → i.sym ≡ s → tokens_of (chars s) ≡ t ∷ [] → is_plain_name (codes "$crate") i ≡ false
-no_dollar s t i is one = by_test (bytes_eq i.sym (codes "$crate")) refl i.is_raw
+-- a name that is one token stands for no root
+no_dollar : (s : List ℕ) (t : Token) (i : Ident) → i.sym ≡ s → tokens_of (chars s) ≡ t ∷ [] → root_name i ≡ None
+no_dollar s t i is one = go (root_name i) refl
   where
-    by_test : (u : Bool) → bytes_eq i.sym (codes "$crate") ≡ u → (r : IdentIsRaw) → (same_rawness r is_raw.No && u) ≡ false
-    by_test u e is_raw.Yes = refl
-    by_test false e is_raw.No = refl
-    by_test true e is_raw.No =
-        (let n : 2 ≡ 1 = sym two_tokens ∙ ap (λ x. length (tokens_of (chars x))) (sym (same_bytes i.sym (codes "$crate") e) ∙ is) ∙ ap length one in absurd (omega (arith, n)))
+    go : (o : Option (List ℕ)) → root_name i ≡ o → o ≡ None
+    go None h = refl
+    go (Some name) h =
+        let d : IsDollar i.sym = (named i name h).dollar in
+        let same : 36 ∷ 99 ∷ chars d.rest ≡ chars s = sym (dollar_chars d.rest) ∙ ap chars (sym d.is ∙ is) in
+        absurd (two_tokens (chars d.rest) (ap (λ cs. length (tokens_of cs)) same ∙ ap length one))
 
 name_is : (s : List ℕ) (t : Token) (span : Span) → OneToken s t → class_of t.kind ≡ Name is_raw.No →
     leaf_spelling (as_leaf.Ident (record { sym = s; span = span; is_raw = is_raw.No })) ≡ Some s

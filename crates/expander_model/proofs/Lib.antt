@@ -8,3 +8,6 @@ pub mod SortLemmas
 mod RelativeSpanLemmas
 mod SamePieceLemmas
 pub mod PlaceLemmas
+pub mod DefinitionPlaceLemmas
+pub mod EditionLemmas
+mod CallAfterLemmas

@@ -1,9 +1,9 @@
 -- A call, read from left to right.
-use Rattle.std.specs.Prelude.{Option, Some, None}
+use Rattle.std.specs.Prelude.{ℕ, List, Option, Some, None}
 use Rattle.tt_data.specs.Forest.{Forest, group}
 use Rattle.tt_data.specs.declared.leaf.Ident.{Ident}
 use Rattle.expander_model.specs.declared.call.Call.{Call}
-use Rattle.expander_model.specs.Calls.{other, Marked, call, unmarked, is_colons, is_dollar_crate}
+use Rattle.expander_model.specs.Calls.{other, Marked, call, unmarked, is_colons, is_foreign, is_root, key_behind}
 use Rattle.expander_model.specs.Definitions.{or_else}
 use Rattle.small_grammar.specs.Text.{◌>>=◌, ◌>>◌}
 use Rattle.tt.specs.FirstTrees.{first_ident, first_punct, first_group}
@@ -34,17 +34,18 @@ call_behind_colons f = do
   is_colons first second
   bare_call after_colons
 
--- a call with its `$crate ::`
+-- a call with its `$crate ::`, or the root of another crate and `::`
 abbrev pub crate_call : Forest → Option Call
 crate_call f = do
   (name, after_name) ← first_ident f
-  is_dollar_crate name
+  is_root name
   call_behind_colons after_name
 
--- the call whose name comes before a list: `!` and a visible group, or after `$crate` a `::` and a call
+-- the call whose name comes before a list: `!` and a visible group, or after the root of a crate a
+-- `::` and a call
 abbrev pub call_after : Ident → Forest → Option Call
 call_after name f = or_else
-    (is_dollar_crate name >> call_behind_colons f)
+    (is_root name >> call_behind_colons f)
     (do
       (bang, after_bang) ← first_punct f
       is_char "!" bang
@@ -53,6 +54,22 @@ call_after name f = or_else
 -- the call that a list begins with
 abbrev pub call_at : Forest → Option Call
 call_at f = or_else (crate_call f) (bare_call f)
+
+-- the root of another crate, before the `::` of the call that a list begins with
+abbrev pub foreign_root : Forest → Option Ident
+foreign_root f = do
+  (root, after_root) ← first_ident f
+  is_foreign root
+  behind ← call_behind_colons after_root
+  Some root
+
+abbrev pub key_with : Option Ident → Ident → List ℕ
+key_with None name = name.sym
+key_with (Some root) name = key_behind root name
+
+-- what the call that a list begins with is looked up by
+abbrev pub key_at : Forest → Call → List ℕ
+key_at f c = key_with (foreign_root f) c.name
 
 -- the call that a list begins with, by its marks
 abbrev pub first_call : Marked → Option Call

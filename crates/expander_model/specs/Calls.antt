@@ -1,5 +1,6 @@
 -- The calls of a list of trees: a name, `!` and a visible group. (The Rust Reference, "Macros".)
-use Rattle.std.specs.Prelude.{Bool, ◌&&◌, not, codes, if◌then◌else◌}
+use Rattle.std.specs.Prelude.{ℕ, List, Bool, ◌&&◌, ◌||◌, ◌++◌, not, codes, nat_eq, if◌then◌else◌}
+use Rattle.std.specs.List.{starts_with}
 use Rattle.tt_data.specs.Forest.{Forest, empty, leaf, group}
 use Rattle.tt_data.specs.declared.delimiter.Delimiter.{Delimiter}
 use Rattle.tt_data.specs.declared.leaf.Ident.{Ident}
@@ -7,11 +8,13 @@ use Rattle.tt_data.specs.declared.leaf.Leaf.{Leaf}
 use Rattle.tt_data.specs.declared.leaf.Leaf.TheVariants as as_leaf
 use Rattle.tt_data.specs.declared.leaf.Punct.{Punct}
 use Rattle.tt.specs.Glued.{is_alone}
+use Rattle.bridge.specs.Spelling.{root_mark}
 use Rattle.bridge.specs.Text.{is_visible, is_char}
 use Rattle.small_grammar.specs.Text.{same_text}
 
--- what comes before a name that `!` and a visible group follow: nothing that counts; `$crate ::`,
--- which belongs to the call; or another `::`, after which there is no call
+-- what comes before a name that `!` and a visible group follow: nothing that counts; `$crate ::` or
+-- the root of another crate and `::`, which belong to the call; or another `::`, after which there
+-- is no call
 pub data Path : Type 0 where
   bare : Path
   from_crate : Ident → Punct → Punct → Path
@@ -28,8 +31,13 @@ pub data Marked : Type 0 where
 abbrev pub is_colons : Punct → Punct → Bool
 is_colons first second = is_char ":" first && (is_char ":" second && not (is_alone first.spacing))
 
-abbrev pub is_dollar_crate : Ident → Bool
-is_dollar_crate name = same_text name.sym (codes "$crate")
+-- an identifier that stands for the root of another crate, as `$crate:std`
+abbrev pub is_foreign : Ident → Bool
+is_foreign name = starts_with nat_eq name.sym root_mark
+
+-- an identifier that stands for the root of a crate
+abbrev pub is_root : Ident → Bool
+is_root name = same_text name.sym (codes "$crate") || is_foreign name
 
 abbrev pub is_bang_group : Punct → Delimiter → Bool
 is_bang_group bang brackets = is_char "!" bang && is_visible brackets.kind
@@ -43,7 +51,7 @@ mark_leaf (as_leaf.Punct first) (token (as_leaf.Punct second) (call bare name ba
     if is_colons first second then call (other first second) name bang brackets argument rest
     else token (as_leaf.Punct first) (token (as_leaf.Punct second) (call bare name bang brackets argument rest))
 mark_leaf (as_leaf.Ident crate) (call (other first second) name bang brackets argument rest) =
-    if is_dollar_crate crate then call (from_crate crate first second) name bang brackets argument rest
+    if is_root crate then call (from_crate crate first second) name bang brackets argument rest
     else token (as_leaf.Ident crate) (call (other first second) name bang brackets argument rest)
 mark_leaf front rest = token front rest
 
@@ -52,6 +60,15 @@ abbrev pub marked : Forest → Marked
 marked empty = none
 marked (leaf l rest) = mark_leaf l (marked rest)
 marked (group d inner rest) = inside d (marked inner) (marked rest)
+
+-- what a name is looked up by behind the root of another crate: `$crate:std::print`
+abbrev pub key_behind : Ident → Ident → List ℕ
+key_behind root name = root.sym ++ (codes "::" ++ name.sym)
+
+-- what a call is looked up by: its name, or behind the root of another crate the name with the root
+abbrev pub key_of : Path → Ident → List ℕ
+key_of (from_crate root first second) name = if is_foreign root then key_behind root name else name.sym
+key_of _ name = name.sym
 
 -- a path's tokens before a forest
 abbrev pub in_front : Path → Forest → Forest

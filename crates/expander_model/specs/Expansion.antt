@@ -9,7 +9,7 @@ use Rattle.tt_data.specs.declared.leaf.Punct.{Punct}
 use Rattle.tt_data.specs.declared.span.Span.{Span}
 use Rattle.expander_model.specs.declared.fault.FaultKind.{FaultKind}
 use Rattle.expander_model.specs.declared.fault.FaultKind.TheVariants.{CannotExpand, BrokenDefinition, RecursionLimit}
-use Rattle.expander_model.specs.Calls.{Path, other, Marked, none, token, inside, call, marked, unmarked, in_front}
+use Rattle.expander_model.specs.Calls.{Path, other, Marked, none, token, inside, call, marked, unmarked, in_front, key_of}
 
 -- an event of the output, with the span of the name of the outermost call that gave it, or none
 pub record PlacedStep : Type 0 where
@@ -98,8 +98,8 @@ looked_up world (Some d) deeper outer site kept = unbroken world d (world.broken
 -- a call by what comes before its name: after another `::` it is none
 abbrev pub at_call : {D : Type 0} → World D → (List ℕ → Option D) → Deeper D → Option Span → Path → Ident → CallSite → Outcome D → Outcome D
 at_call world scope deeper outer (other first second) name site kept = kept
-at_call world scope deeper outer _ name site kept =
-    found name.sym (scope name.sym) (looked_up world (scope name.sym) deeper outer site kept)
+at_call world scope deeper outer path name site kept =
+    found (key_of path name) (scope (key_of path name)) (looked_up world (scope (key_of path name)) deeper outer site kept)
 
 -- a call's tokens before its group
 abbrev pub before_group : Path → Ident → Punct → Forest

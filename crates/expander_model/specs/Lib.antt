@@ -7,6 +7,7 @@ pub mod Printing
 pub mod Faults
 pub mod Meaning
 -- what the meaning of a text is built on
+pub mod EditionMarks
 pub mod World
 -- what the count of pieces and the laws rest on
 pub mod EqualTrees
@@ -20,4 +21,3 @@ pub mod Held
 pub mod HashedTrees
 pub mod Splitting
 pub mod WalkSteps
-pub mod Sources

@@ -12,12 +12,17 @@ use Rattle.mbe.specs.Fit.{fit}
 use Rattle.mbe.specs.Grammar.{Grammar}
 use Rattle.mbe.specs.Markers.{is_name}
 use Rattle.expander_model.specs.Definitions.{Definition}
+use Rattle.expander_model.specs.EditionMarks.{edition_in}
 use Rattle.expander_model.specs.Expansion.{World}
 
 -- the rules of a definition, all of whose identifiers are of this edition, with its first fault
-abbrev pub rules_in : Edition → Definition → Rules
-rules_in edition d =
+abbrev pub rules_by : Edition → Definition → Rules
+rules_by edition d =
     if d.is_macro then macro_of (λ context. edition) d.arguments d.body else macro_rules_of (λ context. edition) d.body
+
+-- the same in the edition of the definition's mark, or else in this one
+abbrev pub rules_in : Edition → Definition → Rules
+rules_in edition d = rules_by (edition_in edition d.piece) d
 
 -- the span of a transcriber's token in a call's result: its own, with the context `Made`
 abbrev pub made : Span → Span

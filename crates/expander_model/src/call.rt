@@ -1,13 +1,15 @@
 //! Finds the call that a list of trees begins with: a name, `!` and a visible group, side by side.
-ghost use Rattle.std.specs.Prelude.{◌≡◌, Option};
-ghost use Rattle.expander_model.specs.Calls.{is_colons};
-ghost use Rattle.expander_model.specs.CallSteps.{bare_call, call_after, call_at, call_behind_colons, group_call};
+ghost use Rattle.std.specs.Prelude.{◌≡◌, ◌++◌, Option, IfOk, IsOkUnless, codes, option_map};
+ghost use Rattle.expander_model.specs.Calls.{is_colons, is_foreign, is_root};
+ghost use Rattle.expander_model.specs.CallSteps.{bare_call, call_after, call_at, call_behind_colons, foreign_root, group_call, key_at};
 ghost use Rattle.expander_model.specs.Beginnings.{IsBeginning};
 ghost use Rattle.tt_data.specs.Forest.{leaf as leaf_tree};
 ghost use Rattle.tt_data.specs.Lent.{ident_lent, leaf_lent};
+ghost use Rattle.tt_data.specs.fault.TtFault.TheVariants.{Memory};
 
+use std::alloc::Global;
 use tt::TtIter;
-use tt_data::{DelimiterKind, Ident, IdentRef, LeafRef, Punct, Spacing};
+use tt_data::{DelimiterKind, Ident, IdentRef, LeafRef, Punct, Spacing, Symbol, TtFault};
 
 /// A call at the beginning of a list of trees.
 #[derive(Drop)]
@@ -82,7 +84,21 @@ pub fn call_behind_colons<'a>(trees: &TtIter<'a>) -> Option<Call<'a>>
     }
 }
 
-// The call with this name, before the trees: of a name alone by its `!`, of `$crate` by its `::`.
+// Whether the identifier stands for the root of another crate.
+fn is_foreign(name: IdentRef<'_>) -> bool
+    ensures { result ≡ is_foreign (ident_lent name.entry) }
+{
+    name.sym.as_str().starts_with("$crate:")
+}
+
+// Whether the identifier stands for the root of a crate.
+fn is_root(name: IdentRef<'_>) -> bool
+    ensures { result ≡ is_root (ident_lent name.entry) }
+{
+    name.sym.as_str() == "$crate" || is_foreign(name)
+}
+
+// The call with this name, before the trees: of a name alone by its `!`, of a root by its `::`.
 #[inline(always)]
 fn call_after<'a>(name: IdentRef<'a>, trees: &TtIter<'a>) -> Option<Call<'a>>
     ensures { result ≡ call_after (ident_lent name.entry) trees.now }
@@ -91,7 +107,7 @@ fn call_after<'a>(name: IdentRef<'a>, trees: &TtIter<'a>) -> Option<Call<'a>>
     if mark.char == '!' {
         return group_call(name, after_mark);
     }
-    if mark.char == ':' && name.sym.as_str() == "$crate" {
+    if mark.char == ':' && is_root(name) {
         return call_behind_colons(trees);
     }
     None
@@ -104,6 +120,42 @@ pub fn call_at<'a>(trees: &TtIter<'a>) -> Option<Call<'a>>
 {
     let (name, after_name) = trees.lent_ident()?;
     call_after(name, &after_name)
+}
+
+// The root of another crate, before the `::` of the call that the trees begin with.
+fn foreign_root<'a>(trees: &TtIter<'a>) -> Option<IdentRef<'a>>
+    ensures { option_map (λ r. ident_lent r) result ≡ foreign_root trees.now }
+{
+    let (root, after_root) = trees.lent_ident()?;
+    if !is_foreign(root) {
+        return None;
+    }
+    let _call = call_behind_colons(&after_root)?;
+    Some(root)
+}
+
+// The name behind the root of another crate.
+fn key_behind(alloc: Global, root: &str, name: &str) -> Result<Symbol, TtFault>
+    ensures key { IfOk result (λ key. key ≡ root.now ++ (codes "::" ++ name.now)) }
+    ensures memory { IsOkUnless result Memory }
+{
+    let mut key = String::from_str(alloc, root)?;
+    key.push_str("::")?;
+    key.push_str(name)?;
+    Symbol::new(alloc, key.as_str())
+}
+
+/// What this call, with which the trees begin, is looked up by: its name, or behind the root of
+/// another crate that root, `::` and its name. Out of memory is its only error.
+pub fn key_at(alloc: Global, trees: &TtIter<'_>, call: &Call<'_>) -> Result<Symbol, TtFault>
+    ensures key { IfOk result (λ key. key ≡ key_at trees.now call.now) }
+    ensures memory { IsOkUnless result Memory }
+{
+    let name = &call.name.sym;
+    match foreign_root(trees) {
+        Some(root) => key_behind(alloc, root.sym.as_str(), name.as_str()),
+        None => Ok(name.clone()?),
+    }
 }
 
 // What the trees begin with that have this leaf first, and these trees after it.

@@ -46,8 +46,8 @@ fn after_attribute<'a>(trees: &TtIter<'a>) -> Option<TtIter<'a>>
     }
 }
 
-// What follows the outer attributes at the beginning.
-fn after_attributes<'a>(piece: &TtIter<'a>) -> TtIter<'a>
+/// What follows the outer attributes at the beginning.
+pub fn after_attributes<'a>(piece: &TtIter<'a>) -> TtIter<'a>
     ensures { result ≡ after_attributes piece.now }
 {
     let mut rest = piece.copied();
@@ -69,8 +69,8 @@ fn after_parenthesis<'a>(trees: &TtIter<'a>) -> Option<TtIter<'a>>
     }
 }
 
-// What follows this word, which isn't raw, at the beginning.
-fn after_word<'a>(trees: &TtIter<'a>, word: &str) -> Option<TtIter<'a>>
+/// What follows this word, which isn't raw, at the beginning.
+pub fn after_word<'a>(trees: &TtIter<'a>, word: &str) -> Option<TtIter<'a>>
     ensures { result ≡ after_word word.now trees.now }
 {
     let (name, rest) = trees.lent_ident()?;
@@ -81,8 +81,8 @@ fn after_word<'a>(trees: &TtIter<'a>, word: &str) -> Option<TtIter<'a>>
     }
 }
 
-// What follows a `pub`, with its parenthesis group, at the beginning.
-fn after_pub<'a>(trees: &TtIter<'a>) -> Option<TtIter<'a>>
+/// What follows a `pub`, with its parenthesis group, at the beginning.
+pub fn after_pub<'a>(trees: &TtIter<'a>) -> Option<TtIter<'a>>
     ensures { result ≡ after_pub trees.now }
 {
     let rest = after_word(trees, "pub")?;

@@ -5,6 +5,7 @@
 pub mod boundary;
 pub mod call;
 pub mod definition;
+pub mod edition_mark;
 pub mod fault;
 pub mod hashed_tree;
 pub mod laws;

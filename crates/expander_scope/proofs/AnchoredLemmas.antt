@@ -6,7 +6,7 @@ use Rattle.expander_model.specs.Definitions.{Definition, definition_of}
 use Rattle.expander_model.specs.Held.{anchored, anchored_definition}
 use Rattle.expander_scope.specs.MacroDefs.{numbered_in}
 use Rattle.expander_model.specs.OtherPlaces.{definition_with}
-use Rattle.expander_scope.proofs.DefinitionPlaceLemmas.{definition_of-with}
+use Rattle.expander_model.proofs.DefinitionPlaceLemmas.{definition_of-with}
 use Rattle.expander_scope.proofs.HeldLemmas.{some_is}
 
 module _ (n : ℕ) (tree : Forest) where

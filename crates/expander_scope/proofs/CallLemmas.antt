@@ -10,7 +10,7 @@ use Rattle.tt_data.specs.declared.leaf.Leaf.TheVariants as as_leaf
 use Rattle.tt_data.specs.declared.leaf.Punct.{Punct}
 use Rattle.expander_model.specs.declared.call.Call.{Call}
 use Rattle.expander_model.specs.CallSteps.{bare_call, call_behind_colons, crate_call}
-use Rattle.expander_model.specs.Calls.{bare, from_crate, other, Marked, token, inside, call, is_colons, is_dollar_crate, is_bang_group, mark_leaf, marked}
+use Rattle.expander_model.specs.Calls.{bare, from_crate, other, Marked, token, inside, call, is_colons, is_root, is_bang_group, mark_leaf, marked}
 use Rattle.small_grammar.specs.Text.{◌>>◌}
 use Rattle.bridge.specs.Text.{is_char, is_visible}
 
@@ -86,13 +86,14 @@ pub record IsOfCrate (f : Forest) (c : Call) : Type 0 where
   pub crate : Ident
   pub after : Forest
   pub is : f ≡ leaf (as_leaf.Ident crate) after
-  pub test : is_dollar_crate crate ≡ true
+  pub test : is_root crate ≡ true
+  pub found : call_behind_colons after ≡ Some c
   pub call : IsBehind after c
 
 pub is_of_crate : (f : Forest) (c : Call) → crate_call f ≡ Some c → IsOfCrate f c
 is_of_crate (leaf (as_leaf.Ident i) g) c e =
-    let test = passed (is_dollar_crate i) (call_behind_colons g) c e in
-    record { crate = i; after = g; is = refl; test = test.0; call = is_behind g c test.1 }
+    let test = passed (is_root i) (call_behind_colons g) c e in
+    record { crate = i; after = g; is = refl; test = test.0; found = test.1; call = is_behind g c test.1 }
 is_of_crate (leaf (as_leaf.Punct i) r) c e = cc
 is_of_crate (leaf (as_leaf.Literal i) r) c e = cc
 is_of_crate (group d a r) c e = cc
@@ -139,7 +140,7 @@ colon_first : Punct → Marked → Bool
 colon_first p (token (as_leaf.Punct q) (call bare name bang b a r)) = is_colons p q
 colon_first p _ = false
 
-mark_ident : (i : Ident) (m : Marked) → bang_first m ≡ false → (other_first m && is_dollar_crate i) ≡ false → mark_leaf (as_leaf.Ident i) m ≡ token (as_leaf.Ident i) m
+mark_ident : (i : Ident) (m : Marked) → bang_first m ≡ false → (other_first m && is_root i) ≡ false → mark_leaf (as_leaf.Ident i) m ≡ token (as_leaf.Ident i) m
 unfolding bang_first other_first
 mark_ident i (token (as_leaf.Punct bang) (inside b a r)) e d = rw e refl
 mark_ident i (call (other p q) name bang b a r) e d = rw d refl
@@ -155,7 +156,7 @@ unfolding bang_first
 bang_ident i (token (as_leaf.Punct bang) (inside b a r)) =
     elim (is_bang_group bang b) as (λ t. bang_first (if t then call bare i bang b a r else token (as_leaf.Ident i) (token (as_leaf.Punct bang) (inside b a r))) ≡ false) [ true ↦ refl | false ↦ refl ]
 bang_ident i (call (other p q) name bang b a r) =
-    elim (is_dollar_crate i) as (λ t. bang_first (if t then call (from_crate i p q) name bang b a r else token (as_leaf.Ident i) (call (other p q) name bang b a r)) ≡ false) [ true ↦ refl | false ↦ refl ]
+    elim (is_root i) as (λ t. bang_first (if t then call (from_crate i p q) name bang b a r else token (as_leaf.Ident i) (call (other p q) name bang b a r)) ≡ false) [ true ↦ refl | false ↦ refl ]
 bang_ident i m = refl
 
 -- marks that do not begin with a group
@@ -168,7 +169,7 @@ unfolding is_no_group
 no_group (as_leaf.Ident i) (token (as_leaf.Punct bang) (inside b a r)) =
     elim (is_bang_group bang b) as (λ t. is_no_group (if t then call bare i bang b a r else token (as_leaf.Ident i) (token (as_leaf.Punct bang) (inside b a r))) ≡ true) [ true ↦ refl | false ↦ refl ]
 no_group (as_leaf.Ident i) (call (other p q) name bang b a r) =
-    elim (is_dollar_crate i) as (λ t. is_no_group (if t then call (from_crate i p q) name bang b a r else token (as_leaf.Ident i) (call (other p q) name bang b a r)) ≡ true) [ true ↦ refl | false ↦ refl ]
+    elim (is_root i) as (λ t. is_no_group (if t then call (from_crate i p q) name bang b a r else token (as_leaf.Ident i) (call (other p q) name bang b a r)) ≡ true) [ true ↦ refl | false ↦ refl ]
 no_group (as_leaf.Punct p) (token (as_leaf.Punct q) (call bare name bang b a r)) =
     elim (is_colons p q) as (λ t. is_no_group (if t then call (other p q) name bang b a r else token (as_leaf.Punct p) (token (as_leaf.Punct q) (call bare name bang b a r))) ≡ true) [ true ↦ refl | false ↦ refl ]
 no_group l m = refl
@@ -195,7 +196,7 @@ bare_ident : (i : Ident) (m : Marked) → bang_first m ≡ false → bare_first 
 unfolding bang_first bare_first
 bare_ident i (token (as_leaf.Punct bang) (inside b a r)) e = rw e refl
 bare_ident i (call (other p q) name bang b a r) e =
-    elim (is_dollar_crate i) as (λ t. bare_first (if t then call (from_crate i p q) name bang b a r else token (as_leaf.Ident i) (call (other p q) name bang b a r)) ≡ false) [ true ↦ refl | false ↦ refl ]
+    elim (is_root i) as (λ t. bare_first (if t then call (from_crate i p q) name bang b a r else token (as_leaf.Ident i) (call (other p q) name bang b a r)) ≡ false) [ true ↦ refl | false ↦ refl ]
 bare_ident i m e = refl
 
 bare_punct : (p : Punct) (m : Marked) → bare_first (mark_leaf (as_leaf.Punct p) m) ≡ false
@@ -227,7 +228,7 @@ unfolding colon_first
 colon_ident p i (token (as_leaf.Punct bang) (inside b a r)) =
     elim (is_bang_group bang b) as (λ t. colon_first p (if t then call bare i bang b a r else token (as_leaf.Ident i) (token (as_leaf.Punct bang) (inside b a r))) ≡ false) [ true ↦ refl | false ↦ refl ]
 colon_ident p i (call (other s q) name bang b a r) =
-    elim (is_dollar_crate i) as (λ t. colon_first p (if t then call (from_crate i s q) name bang b a r else token (as_leaf.Ident i) (call (other s q) name bang b a r)) ≡ false) [ true ↦ refl | false ↦ refl ]
+    elim (is_root i) as (λ t. colon_first p (if t then call (from_crate i s q) name bang b a r else token (as_leaf.Ident i) (call (other s q) name bang b a r)) ≡ false) [ true ↦ refl | false ↦ refl ]
 colon_ident p i m = refl
 
 and_none : (t : Bool) (o : Option Call) (b : Bool) → (t >> o) ≡ None → (o ≡ None → b ≡ false) → (t && b) ≡ false
@@ -248,7 +249,7 @@ unfolding other_first
 other_ident i (token (as_leaf.Punct bang) (inside b a r)) =
     elim (is_bang_group bang b) as (λ t. other_first (if t then call bare i bang b a r else token (as_leaf.Ident i) (token (as_leaf.Punct bang) (inside b a r))) ≡ false) [ true ↦ refl | false ↦ refl ]
 other_ident i (call (other s q) name bang b a r) =
-    elim (is_dollar_crate i) as (λ t. other_first (if t then call (from_crate i s q) name bang b a r else token (as_leaf.Ident i) (call (other s q) name bang b a r)) ≡ false) [ true ↦ refl | false ↦ refl ]
+    elim (is_root i) as (λ t. other_first (if t then call (from_crate i s q) name bang b a r else token (as_leaf.Ident i) (call (other s q) name bang b a r)) ≡ false) [ true ↦ refl | false ↦ refl ]
 other_ident i m = refl
 
 other_none : (f : Forest) → call_behind_colons f ≡ None → other_first (marked f) ≡ false
@@ -268,6 +269,6 @@ and_swapped false o false e h = refl
 pub no_call : (l : Leaf) (rest : Forest) → crate_call (leaf l rest) ≡ None → bare_call (leaf l rest) ≡ None → call_behind_colons (leaf l rest) ≡ None
     → marked (leaf l rest) ≡ token l (marked rest)
 no_call (as_leaf.Ident i) rest e d h =
-    mark_ident i (marked rest) (bang_none i rest d) (and_swapped (is_dollar_crate i) (call_behind_colons rest) _ e (other_none rest))
+    mark_ident i (marked rest) (bang_none i rest d) (and_swapped (is_root i) (call_behind_colons rest) _ e (other_none rest))
 no_call (as_leaf.Punct p) rest e d h = mark_punct p (marked rest) (colon_none p rest h)
 no_call (as_leaf.Literal p) rest e d h = refl

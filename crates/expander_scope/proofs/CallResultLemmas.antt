@@ -13,7 +13,7 @@ use Rattle.expander_model.specs.declared.fault.FaultKind.{FaultKind}
 use Rattle.expander_model.specs.declared.fault.FaultKind.TheVariants.{CannotExpand, BrokenDefinition, RecursionLimit}
 use Rattle.bridge.specs.declared.printing.event.TokenEvent.{TokenEvent}
 use Rattle.expander_model.specs.declared.tree_walk.TreeWalk.{TreeWalk}
-use Rattle.expander_model.specs.CallSteps.{call_at, call_behind_colons}
+use Rattle.expander_model.specs.CallSteps.{call_at, call_behind_colons, key_at}
 use Rattle.expander_model.specs.Expansion.{World, Outcome, CallSite, PlacedStep, placed, just, followed_by, bursting, found, stays, unbroken, fitted, expansion}
 use Rattle.bridge.specs.TokenEvents.{step_of}
 use Rattle.expander_model.specs.WalkSteps.{groups_of, GoesOn}
@@ -123,10 +123,10 @@ module _ {S : Type 0} (Has : S → List PlacedStep → Type 0) where
 
   module _ (world : World Numbered) (scope : List ℕ → Option Numbered) (depth : ℕ) (outer : Option Span) (old new : Expanding S) (f : Forest) (c : Call) where
     -- the call is kept up to its group
-    pub unknown_turn : call_at f ≡ Some c → scope c.name.sym ≡ None → (w : Forest) → f ≡ joined w c.from_group
-        → Adds Has old new (found c.name.sym None (just outer (walk w))) → Turn Has (searched world scope depth outer) old new f c.from_group
+    pub unknown_turn : call_at f ≡ Some c → scope (key_at f c) ≡ None → (w : Forest) → f ≡ joined w c.from_group
+        → Adds Has old new (found (key_at f c) None (just outer (walk w))) → Turn Has (searched world scope depth outer) old new f c.from_group
     unknown_turn e nothing w passed adds = record {
-      outcome = found c.name.sym None (just outer (walk w));
+      outcome = found (key_at f c) None (just outer (walk w));
       is = unknown_search world scope (deeper_at world scope depth) outer f c e nothing w passed;
       adds = adds;
       less = call_smaller f c e;
@@ -141,29 +141,29 @@ module _ {S : Type 0} (Has : S → List PlacedStep → Type 0) where
       less = colons_smaller f c e;
     }
 
-    module _ (d : Numbered) (e : call_at f ≡ Some c) (finds : scope c.name.sym ≡ Some d) (w : Forest) (passed : f ≡ joined w c.rest) where
+    module _ (d : Numbered) (e : call_at f ≡ Some c) (finds : scope (key_at f c) ≡ Some d) (w : Forest) (passed : f ≡ joined w c.rest) where
       abbrev site : CallSite
       site = record { at = c.name.span; whole = w; argument = c.argument }
 
-      known_turn : (o : Outcome Numbered) → (b : Bool) → of_call world scope d outer site (world.broken d) depth ≡ bursting b o → Adds Has old new (found c.name.sym (Some d) o)
+      known_turn : (o : Outcome Numbered) → (b : Bool) → of_call world scope d outer site (world.broken d) depth ≡ bursting b o → Adds Has old new (found (key_at f c) (Some d) o)
           → Turn Has (searched world scope depth outer) old new f c.rest
       known_turn o b is adds = record {
-        outcome = found c.name.sym (Some d) (bursting b o);
+        outcome = found (key_at f c) (Some d) (bursting b o);
         is = known_search world scope (deeper_at world scope depth) outer f c d e finds w passed
-            ∙ ap (λ x. followed_by (found c.name.sym (Some d) x) (searched world scope depth outer c.rest)) is;
+            ∙ ap (λ x. followed_by (found (key_at f c) (Some d) x) (searched world scope depth outer c.rest)) is;
         adds = record { steps = adds.steps; faults = adds.faults; finds = adds.finds };
         less = rest_smaller f c e;
       }
 
       -- the call stays for a fault
-      pub stays_turn : (kind : FaultKind) → answer world d depth c.argument ≡ Err kind → Adds Has old new (found c.name.sym (Some d) (stays kind outer site))
+      pub stays_turn : (kind : FaultKind) → answer world d depth c.argument ≡ Err kind → Adds Has old new (found (key_at f c) (Some d) (stays kind outer site))
           → Turn Has (searched world scope depth outer) old new f c.rest
       stays_turn kind says adds =
           let is = stays_is world scope d outer site depth kind says in
           known_turn (stays kind outer site) is.0 is.1 adds
 
       -- the result's own expansion comes in its place
-      pub comes_turn : (g : Forest) → answer world d depth c.argument ≡ Ok g → Adds Has old new (found c.name.sym (Some d) (searched world scope (depth - 1) (Some (unwrap_or outer c.name.span)) g))
+      pub comes_turn : (g : Forest) → answer world d depth c.argument ≡ Ok g → Adds Has old new (found (key_at f c) (Some d) (searched world scope (depth - 1) (Some (unwrap_or outer c.name.span)) g))
           → Turn Has (searched world scope depth outer) old new f c.rest
       comes_turn g says adds =
           known_turn (searched world scope (depth - 1) (Some (unwrap_or outer c.name.span)) g) (world.bursts d c.argument) (comes_is world scope d outer site depth g says).1 adds

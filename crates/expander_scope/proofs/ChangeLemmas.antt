@@ -13,7 +13,7 @@ use Rattle.tt_data.specs.declared.leaf.Punct.{Punct}
 use Rattle.tt_data.specs.declared.span.Span.{Span}
 use Rattle.expander_model.specs.declared.fault.FaultKind.{FaultKind}
 use Rattle.expander_model.specs.declared.fault.FaultKind.TheVariants.{CannotExpand, BrokenDefinition, RecursionLimit}
-use Rattle.expander_model.specs.Calls.{Path, bare, from_crate, other, Marked, none, token, inside, call, mark_leaf, marked, unmarked, in_front, is_bang_group, is_colons, is_dollar_crate}
+use Rattle.expander_model.specs.Calls.{Path, bare, from_crate, other, Marked, none, token, inside, call, mark_leaf, marked, unmarked, in_front, is_bang_group, is_colons, is_root, key_of}
 use Rattle.expander_model.specs.Expansion.{PlacedStep, World, Outcome, Deeper, CallSite, placed, just, followed_by, grouped, found, stays, fitted, bursting, at_level, unbroken, looked_up, at_call, before_group, whole_call, search_calls, expansion}
 use Rattle.expander_model.specs.Changes.{placed_with, outcome_with, Changes, ScopeChange}
 
@@ -42,7 +42,7 @@ cond_map g false x y = refl
 mark_leaf-with : (f : Span → Span) (l : Leaf) (m : Marked) → mark_leaf (leaf_with f l) (marked_with f m) ≡ marked_with f (mark_leaf l m)
 mark_leaf-with f (as_leaf.Ident name) (token (as_leaf.Punct bang) (inside d a rest)) = cond_map (marked_with f) (is_bang_group bang d) _ _
 mark_leaf-with f (as_leaf.Punct first) (token (as_leaf.Punct second) (call bare name bang d a rest)) = cond_map (marked_with f) (is_colons first second) _ _
-mark_leaf-with f (as_leaf.Ident k) (call (other c e) name bang d a rest) = cond_map (marked_with f) (is_dollar_crate k) _ _
+mark_leaf-with f (as_leaf.Ident k) (call (other c e) name bang d a rest) = cond_map (marked_with f) (is_root k) _ _
 mark_leaf-with f _ _ = refl
 
 marked-with : (f : Span → Span) (g : Forest) → marked (map_spans f g) ≡ marked_with f (marked g)
@@ -141,20 +141,20 @@ module _ {D E : Type 0} (f : Span → Span) (h : D → E) where
         ap (λ (b : Bool). unbroken v (h d) b two (option_map f outer) (site_with site)) (c.broken d) ∙ unbroken-with d (w.broken d) one two same outer site
 
     module _ (scope : List ℕ → Option D) (changed : List ℕ → Option E) (finds : ScopeChange h scope changed) where
-      found-with : (name : Ident) (one : Deeper D) (two : Deeper E) → DeeperChange one two → (outer : Option Span) (site : CallSite)
+      found-with : (key : List ℕ) (one : Deeper D) (two : Deeper E) → DeeperChange one two → (outer : Option Span) (site : CallSite)
           → (kept : Outcome D) (kept' : Outcome E) → kept' ≡ outcome_with f h kept
-          → found name.sym (changed name.sym) (looked_up v (changed name.sym) two (option_map f outer) (site_with site) kept')
-          ≡ outcome_with f h (found name.sym (scope name.sym) (looked_up w (scope name.sym) one outer site kept))
-      found-with name one two same outer site kept kept' e =
-          ap (λ (r : Option E). found name.sym r (looked_up v r two (option_map f outer) (site_with site) kept')) (finds name.sym)
-          ∙ ap (found name.sym (option_map h (scope name.sym))) (looked_up-with (scope name.sym) one two same outer site kept kept' e)
+          → found key (changed key) (looked_up v (changed key) two (option_map f outer) (site_with site) kept')
+          ≡ outcome_with f h (found key (scope key) (looked_up w (scope key) one outer site kept))
+      found-with key one two same outer site kept kept' e =
+          ap (λ (r : Option E). found key r (looked_up v r two (option_map f outer) (site_with site) kept')) (finds key)
+          ∙ ap (found key (option_map h (scope key))) (looked_up-with (scope key) one two same outer site kept kept' e)
 
       call-with : (path : Path) (name : Ident) (one : Deeper D) (two : Deeper E) → DeeperChange one two → (outer : Option Span) (site : CallSite)
           → (kept : Outcome D) (kept' : Outcome E) → kept' ≡ outcome_with f h kept
           → at_call v changed two (option_map f outer) (path_with f path) (ident_with f name) (site_with site) kept'
           ≡ outcome_with f h (at_call w scope one outer path name site kept)
-      call-with bare name one two same outer site kept kept' e = found-with name one two same outer site kept kept' e
-      call-with (from_crate k a b) name one two same outer site kept kept' e = found-with name one two same outer site kept kept' e
+      call-with bare name one two same outer site kept kept' e = found-with name.sym one two same outer site kept kept' e
+      call-with (from_crate k a b) name one two same outer site kept kept' e = found-with (key_of (from_crate k a b) name) one two same outer site kept kept' e
       call-with (other a b) name one two same outer site kept kept' e = e
 
       search-with : (one : Deeper D) (two : Deeper E) → DeeperChange one two → (outer : Option Span) (m : Marked)

@@ -15,7 +15,7 @@ use Rattle.expander_model.specs.OtherPlaces.{LooksAtNoPlace, definition_with}
 use Rattle.expander_model.specs.Pieces.{first_start, relative}
 use Rattle.small_grammar.specs.Text.{same_text}
 use Rattle.expander_scope.proofs.ChangeLemmas.{expansion-with}
-use Rattle.expander_scope.proofs.DefinitionPlaceLemmas.{definition_with-with, definition_of-with}
+use Rattle.expander_model.proofs.DefinitionPlaceLemmas.{definition_with-with, definition_of-with}
 use Rattle.expander_model.proofs.PlaceLemmas.{own_stands, piece_and_back, resolved_piece}
 
 nat_eq-same : (n : ℕ) → nat_eq n n ≡ true

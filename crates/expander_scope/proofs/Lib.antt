@@ -7,7 +7,6 @@ pub mod HandedLemmas
 mod DefinitionLemmas
 pub mod TurnLemmas
 pub mod ChangeLemmas
-pub mod DefinitionPlaceLemmas
 pub mod HeldLemmas
 pub mod DefinitionIdLemmas
 pub mod DefinitionTextLemmas

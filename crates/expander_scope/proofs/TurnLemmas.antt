@@ -1,5 +1,5 @@
 -- What one turn of the search for calls adds to the output.
-use Rattle.std.proofs.Common.{◌≡◌, ℕ, ◌<◌, List, [], ◌∷◌, refl, sym, ap, ◌∙◌, arith, Bool, true, false, inl, inr}
+use Rattle.std.proofs.Common.{◌≡◌, ℕ, ◌<◌, List, [], ◌∷◌, refl, sym, ap, ◌∙◌, arith, Bool, true, false, inl, inr, if◌then◌else◌}
 use Rattle.std.specs.Prelude.{Option, Some, None, ◌⊎◌}
 use Rattle.tt_data.proofs.ForestLemmas.{size-joined}
 use Rattle.tt.proofs.Steps.{joined-left}
@@ -12,8 +12,9 @@ use Rattle.tt_data.specs.declared.leaf.Leaf.TheVariants as as_leaf
 use Rattle.tt_data.specs.declared.leaf.Punct.{Punct}
 use Rattle.tt_data.specs.declared.span.Span.{Span}
 use Rattle.expander_model.specs.declared.call.Call.{Call}
-use Rattle.expander_model.specs.CallSteps.{bare_call, call_behind_colons, crate_call, call_at}
-use Rattle.expander_model.specs.Calls.{Path, bare, from_crate, other, call, marked}
+use Rattle.expander_model.specs.CallSteps.{bare_call, call_behind_colons, crate_call, call_at, foreign_root, key_at, key_with}
+use Rattle.expander_model.specs.Calls.{Path, bare, from_crate, other, call, is_foreign, key_behind, key_of, marked}
+use Rattle.small_grammar.specs.Text.{◌>>=◌, ◌>>◌}
 use Rattle.expander_model.specs.Definitions.{or_else}
 use Rattle.expander_model.specs.Expansion.{World, Outcome, Deeper, CallSite, just, followed_by, grouped, found, looked_up, unbroken, at_call, before_group, whole_call, search_calls}
 use Rattle.expander_scope.proofs.CallLemmas.{IsBare, IsBehind, IsOfCrate, is_bare, is_behind, is_of_crate, marked_bare, marked_behind, marked_of_crate, no_call}
@@ -36,6 +37,28 @@ pub record IsCall (f : Forest) (c : Call) (open_path : Bool) : Type 0 where
   pub opening : f ≡ joined (before_group path c.name bang) c.from_group
   pub group_is : c.from_group ≡ group brackets c.argument c.rest
   pub is_so : is_open path ≡ open_path
+  pub key : open_path ≡ true → key_of path c.name ≡ key_at f c
+
+-- what it is looked up by
+
+test_none : {X : Type 0} (b : Bool) → ◌≡◌ {A = Option X} (b >> None) None
+test_none true = refl
+test_none false = refl
+
+bare_key : (f : Forest) (c : Call) → IsBare f c → c.name.sym ≡ key_at f c
+bare_key f c b =
+    sym (ap (λ (o : Option Ident). key_with o c.name) (ap foreign_root b.is ∙ test_none (is_foreign c.name)))
+
+crate_key : (f : Forest) (c : Call) (b : IsOfCrate f c)
+    → key_of (from_crate b.crate b.call.first b.call.second) c.name ≡ key_at f c
+crate_key f c b =
+    by_test (is_foreign b.crate)
+    ∙ ap (λ (o : Option Call). key_with (is_foreign b.crate >> (o >>= (λ x. Some b.crate))) c.name) (sym b.found)
+    ∙ ap (λ (g : Forest). key_with (foreign_root g) c.name) (sym b.is)
+  where
+    by_test : (t : Bool) → (if t then key_behind b.crate c.name else c.name.sym) ≡ key_with (t >> Some b.crate) c.name
+    by_test true = refl
+    by_test false = refl
 
 bare_is_call : (f : Forest) (c : Call) → IsBare f c → IsCall f c true
 bare_is_call f c b = record {
@@ -47,6 +70,7 @@ bare_is_call f c b = record {
   opening = b.is ∙ ap (λ g. leaf (as_leaf.Ident c.name) (leaf (as_leaf.Punct b.bang) g)) (sym b.group_is);
   group_is = b.group_is;
   is_so = refl;
+  key = λ e. bare_key f c b;
 }
 
 behind_is_call : (f : Forest) (c : Call) → IsBehind f c → IsCall f c false
@@ -62,6 +86,7 @@ behind_is_call f c b =
       opening = b.is ∙ ap colons (b.call.is ∙ ap (λ g. leaf (as_leaf.Ident c.name) (leaf (as_leaf.Punct b.call.bang) g)) (sym b.call.group_is));
       group_is = b.call.group_is;
       is_so = refl;
+      key = λ e. absurd (cc);
     }
 
 crate_is_call : (f : Forest) (c : Call) → IsOfCrate f c → IsCall f c true
@@ -77,6 +102,7 @@ crate_is_call f c b =
       opening = is ∙ ap path (b.call.call.is ∙ ap (λ g. leaf (as_leaf.Ident c.name) (leaf (as_leaf.Punct b.call.call.bang) g)) (sym b.call.call.group_is));
       group_is = b.call.call.group_is;
       is_so = refl;
+      key = λ e. crate_key f c b;
     }
 
 first_or : (a b : Option Call) (c : Call) → or_else a b ≡ Some c → (a ≡ Some c) ⊎ (b ≡ Some c)
@@ -155,7 +181,8 @@ module _ {D : Type 0} (world : World D) (scope : List ℕ → Option D) (deeper 
       followed_assoc front (grouped outer k.brackets (search c.argument)) (search c.rest) ∙ ap (λ g. followed_by front (search g)) (sym k.group_is)
 
   found_call : (path : Path) (name : Ident) (site : CallSite) (o : Outcome D) → is_open path ≡ true
-      → at_call world scope deeper outer path name site o ≡ found name.sym (scope name.sym) (looked_up world (scope name.sym) deeper outer site o)
+      → at_call world scope deeper outer path name site o
+      ≡ found (key_of path name) (scope (key_of path name)) (looked_up world (scope (key_of path name)) deeper outer site o)
   found_call bare name site o e = refl
   found_call (from_crate crate p q) name site o e = refl
   found_call (other p q) name site o e = cc
@@ -165,16 +192,23 @@ module _ {D : Type 0} (world : World D) (scope : List ℕ → Option D) (deeper 
   other_call (from_crate crate p q) name site o e = cc
   other_call (other p q) name site o e = refl
 
+  found_at : (f : Forest) (c : Call) (k : IsCall f c true) (o : Outcome D)
+      → at_call world scope deeper outer k.path c.name (site_of f c true k) o
+      ≡ found (key_at f c) (scope (key_at f c)) (looked_up world (scope (key_at f c)) deeper outer (site_of f c true k) o)
+  found_at f c k o =
+      found_call k.path c.name (site_of f c true k) o k.is_so
+      ∙ ap (λ (name : List ℕ). found name (scope name) (looked_up world (scope name) deeper outer (site_of f c true k) o)) (k.key refl)
+
   -- a call whose name finds nothing is kept, up to its group
-  pub unknown_search : (f : Forest) (c : Call) → call_at f ≡ Some c → scope c.name.sym ≡ None → (w : Forest) → f ≡ joined w c.from_group
-      → search f ≡ followed_by (found c.name.sym None (just outer (walk w))) (search c.from_group)
+  pub unknown_search : (f : Forest) (c : Call) → call_at f ≡ Some c → scope (key_at f c) ≡ None → (w : Forest) → f ≡ joined w c.from_group
+      → search f ≡ followed_by (found (key_at f c) None (just outer (walk w))) (search c.from_group)
   unknown_search f c e nothing w passed =
       let k : IsCall f c true = call_is_call f c e in
       call_search f c true k
-      ∙ ap (λ o. followed_by o (search c.rest)) (found_call k.path c.name (site_of f c true k) (kept_call f c true k) k.is_so
-      ∙ ap (λ d. found c.name.sym d (looked_up world d deeper outer (site_of f c true k) (kept_call f c true k))) nothing)
-      ∙ ap (found c.name.sym None) (kept_search f c true k)
-      ∙ ap (λ v. followed_by (found c.name.sym None (just outer (walk v))) (search c.from_group)) (joined-left _ w c.from_group (sym k.opening ∙ passed))
+      ∙ ap (λ o. followed_by o (search c.rest)) (found_at f c k (kept_call f c true k)
+      ∙ ap (λ d. found (key_at f c) d (looked_up world d deeper outer (site_of f c true k) (kept_call f c true k))) nothing)
+      ∙ ap (found (key_at f c) None) (kept_search f c true k)
+      ∙ ap (λ v. followed_by (found (key_at f c) None (just outer (walk v))) (search c.from_group)) (joined-left _ w c.from_group (sym k.opening ∙ passed))
 
   -- so is what would be a call but for the `::` before it
   pub colons_search : (f : Forest) (c : Call) → call_behind_colons f ≡ Some c → (w : Forest) → f ≡ joined w c.from_group
@@ -187,17 +221,17 @@ module _ {D : Type 0} (world : World D) (scope : List ℕ → Option D) (deeper 
       ∙ ap (λ v. followed_by (just outer (walk v)) (search c.from_group)) (joined-left _ w c.from_group (sym k.opening ∙ passed))
 
   -- a call whose name finds a definition: the definition says what comes of it
-  pub known_search : (f : Forest) (c : Call) (d : D) → call_at f ≡ Some c → scope c.name.sym ≡ Some d → (w : Forest) → f ≡ joined w c.rest
+  pub known_search : (f : Forest) (c : Call) (d : D) → call_at f ≡ Some c → scope (key_at f c) ≡ Some d → (w : Forest) → f ≡ joined w c.rest
       → search f ≡ followed_by
-      (found c.name.sym (Some d) (unbroken world d (world.broken d) deeper outer (record { at = c.name.span; whole = w; argument = c.argument })))
+      (found (key_at f c) (Some d) (unbroken world d (world.broken d) deeper outer (record { at = c.name.span; whole = w; argument = c.argument })))
       (search c.rest)
   known_search f c d e finds w passed =
       let k : IsCall f c true = call_is_call f c e in
       call_search f c true k
-      ∙ ap (λ o. followed_by o (search c.rest)) (found_call k.path c.name (site_of f c true k) (kept_call f c true k) k.is_so
-      ∙ ap (λ x. found c.name.sym x (looked_up world x deeper outer (site_of f c true k) (kept_call f c true k))) finds)
+      ∙ ap (λ o. followed_by o (search c.rest)) (found_at f c k (kept_call f c true k)
+      ∙ ap (λ x. found (key_at f c) x (looked_up world x deeper outer (site_of f c true k) (kept_call f c true k))) finds)
       ∙ ap (λ v. followed_by
-      (found c.name.sym (Some d) (unbroken world d (world.broken d) deeper outer (record { at = c.name.span; whole = v; argument = c.argument })))
+      (found (key_at f c) (Some d) (unbroken world d (world.broken d) deeper outer (record { at = c.name.span; whole = v; argument = c.argument })))
       (search c.rest)) (joined-left _ w c.rest (sym k.whole ∙ passed))
 
   -- a leaf with which no call begins, nor a `::` with one

@@ -14,4 +14,3 @@ pub mod DefinitionIds
 pub mod Interning
 pub mod DefinitionTexts
 pub mod NameTables
-pub mod Imports

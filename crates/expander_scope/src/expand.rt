@@ -23,7 +23,7 @@ use crate::macro_def::MacroDef;
 use crate::outcome::{Event, NameLookup, Outcome};
 use crate::scope::Scope;
 use bridge::parts::TokenEvent;
-use expander_model::call::{Beginning, Call, beginning_of, call_at, call_behind_colons};
+use expander_model::call::{Beginning, Call, beginning_of, call_at, call_behind_colons, key_at};
 use expander_model::fault::FaultKind;
 use expander_model::tree_walk::TreeWalk;
 use mbe::{DeclarativeMacro, FragmentGrammar, MacroCallStyle};
@@ -77,15 +77,12 @@ pub struct Expanding<S> {
 // Adds a look-up: a name, and the definition that it resolves to, if any.
 fn push_find(
     finds: &mut Vec<NameLookup>,
-    name: &Symbol,
+    name: Symbol,
     known: Option<&Rc<MacroDef>>,
 ) -> Result<(), AllocError>
     ensures { OnOk result (map find_of finds.new.items
-        ≡ map find_of finds.old.items ++ (name.now, option_map (λ k. numbered_of_known k.now.value) known.entry) ∷ []) }
+        ≡ map find_of finds.old.items ++ (name, option_map (λ k. numbered_of_known k.now.value) known.entry) ∷ []) }
 {
-    let Ok(name) = name.clone() else {
-        unreachable!()
-    };
     let known = match known {
         None => None,
         Some(known) => Some(known.clone()?),
@@ -201,12 +198,13 @@ fn expand_call<'a, G: FragmentGrammar, S: EventSink>(
     ensures tokens { result ≡ Err TtFault.Tokens →
         (searched_under (G.answer env.now.grammar.now) env.now.scope.now env.now.depth outer trees.old).bursts ≡ true }
 {
-    let Some(known) = env.scope.find(&call.name.sym) else {
-        push_find(&mut out.finds, &call.name.sym, None)?;
+    let key = key_at(env.alloc, trees, &call)?;
+    let Some(known) = env.scope.find(&key) else {
+        push_find(&mut out.finds, key, None)?;
         keep(env.alloc, outer, out, trees, call.from_group)?;
         return Ok(());
     };
-    push_find(&mut out.finds, &call.name.sym, Some(known))?;
+    push_find(&mut out.finds, key, Some(known))?;
     let at = outer.unwrap_or(call.name.span);
     match answer(env, known.as_ref(), &call.argument, at)? {
         Ok(result) => {

@@ -10,7 +10,6 @@ pub mod macro_def;
 mod name_table;
 pub mod offsets;
 pub mod outcome;
-pub mod prelude;
 pub mod refusal;
 mod rules;
 pub mod scope;

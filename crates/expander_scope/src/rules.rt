@@ -2,9 +2,10 @@
 ghost use Rattle.std.specs.Prelude.{◌≡◌, IfOk, IsOkUnless};
 ghost use Rattle.tt_data.specs.fault.TtFault.TheVariants.{Memory};
 ghost use Rattle.mbe.specs.Macros.{rules_of};
-ghost use Rattle.expander_model.specs.World.{rules_in};
+ghost use Rattle.expander_model.specs.World.{rules_by, rules_in};
 
 use expander_model::definition::Definition;
+use expander_model::edition_mark::edition_in;
 use mbe::DeclarativeMacro;
 use std::alloc::Global;
 use tt::{TopSubtree, TtIter};
@@ -23,13 +24,13 @@ fn tree_of(alloc: Global, trees: &TtIter<'_>, place: Span) -> Result<TopSubtree,
     }
 }
 
-/// The rules parsed from a definition, all of whose identifiers have this edition.
-pub(crate) fn rules_in(
+// The rules parsed from a definition, all of whose identifiers have this edition.
+fn rules_by(
     alloc: Global,
     edition: Edition,
     definition: &Definition<'_>,
 ) -> Result<DeclarativeMacro, TtFault>
-    ensures rules { IfOk result (λ m. rules_of m ≡ rules_in edition definition.now) }
+    ensures rules { IfOk result (λ m. rules_of m ≡ rules_by edition definition.now) }
     ensures memory { IsOkUnless result Memory }
 {
     let place = definition.name.span;
@@ -47,4 +48,17 @@ pub(crate) fn rules_in(
             DeclarativeMacro::parse_macro2(alloc, Some(&arguments), &body, words)
         }
     }
+}
+
+/// The rules parsed from a definition, all of whose identifiers have the edition of its mark, or
+/// else this one. Out of memory is its only error.
+pub(crate) fn rules_in(
+    alloc: Global,
+    edition: Edition,
+    definition: &Definition<'_>,
+) -> Result<DeclarativeMacro, TtFault>
+    ensures rules { IfOk result (λ m. rules_of m ≡ rules_in edition definition.now) }
+    ensures memory { IsOkUnless result Memory }
+{
+    rules_by(alloc, edition_in(edition, &definition.piece), definition)
 }

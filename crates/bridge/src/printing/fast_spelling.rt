@@ -1,9 +1,9 @@
 //! The fast path of spelling: leaves whose kind and text alone show how they are spelled, so that
 //! nothing is lexed. It decides speed alone.
-ghost use Rattle.std.specs.Prelude.{◌≡◌, ◌↔◌, ◌<◌, ◌^◌, true, IfSome, IsTrue, Some, codes, length};
+ghost use Rattle.std.specs.Prelude.{◌≡◌, ◌↔◌, ◌<◌, ◌^◌, true, IfSome, IsTrue, Some, length, option_map};
 ghost use Rattle.std.specs.List.{list_all};
 ghost use Rattle.bridge.specs.FastSpellings.{is_mark_char, is_plain_byte};
-ghost use Rattle.bridge.specs.Spelling.{is_plain_name, is_text_of, leaf_spelling};
+ghost use Rattle.bridge.specs.Spelling.{behind_mark, is_root_text, is_text_of, leaf_spelling, root_name};
 ghost use Rattle.rustc_lexer.specs.Character.{is_digit};
 ghost use Rattle.tt_data.specs.Displayed.{displayed_leaf};
 ghost use Rattle.tt_data.specs.Lent.{ident_lent, leaf_lent, literal_lent};
@@ -64,22 +64,63 @@ pub(crate) fn ascii_name<'a>(ident: IdentRef<'a>) -> Option<&'a str>
     }
 }
 
-/// Whether the name is `$crate`.
-pub(crate) fn is_dollar_crate(ident: IdentRef<'_>) -> bool
-    ensures { result ≡ is_plain_name (codes "$crate") (ident_lent ident.entry) }
+// Whether a crate's root may be spelled so: the name is neither a root nor a keyword of definitions.
+fn is_root_text(name: &str) -> bool
+    ensures { result ≡ is_root_text name.now }
 {
-    ident.is_raw.no() && ident.sym.as_str() == "$crate"
+    !name.starts_with("$") && name != "macro_rules" && name != "macro"
 }
 
-/// The spelling of an identifier that is not raw, or of `$crate`.
+// The name behind the mark of roots.
+fn behind_mark(sym: &str) -> Option<&str>
+    ensures { option_map (λ t. t.now) result ≡ behind_mark sym.now }
+{
+    let name = sym.strip_prefix("$crate:")?;
+    if is_short(sym) && is_root_text(name) {
+        Some(name)
+    } else {
+        None
+    }
+}
+
+/// The name of the crate whose root the identifier stands for: `crate` of `$crate`, and `std` of
+/// `$crate:std`.
+pub(crate) fn root_name<'a>(ident: IdentRef<'a>) -> Option<&'a str>
+    ensures { option_map (λ t. t.now) result ≡ root_name (ident_lent ident.entry) }
+{
+    if ident.is_raw.yes() {
+        return None;
+    }
+    let name = ident.sym.as_str();
+    if name == "$crate" {
+        return Some("crate");
+    }
+    behind_mark(name)
+}
+
+// The name of the crate whose root the identifier stands for, if that is an identifier.
+fn root_text<'a>(ident: IdentRef<'a>) -> Option<&'a str>
+    ensures { IfSome result (λ t. leaf_spelling (as_leaf.Ident (ident_lent ident.entry)) ≡ Some t.now) }
+{
+    laws::token_lengths();
+    laws::one_identifier();
+    let name = root_name(ident)?;
+    if is_short(name) && is_ident(name) {
+        Some(name)
+    } else {
+        None
+    }
+}
+
+/// The spelling of an identifier that is not raw: its name, or that of the crate whose root it
+/// stands for.
 pub(crate) fn ident_text<'a>(ident: IdentRef<'a>) -> Option<&'a str>
     ensures { IfSome result (λ t. leaf_spelling (as_leaf.Ident (ident_lent ident.entry)) ≡ Some t.now) }
 {
-    let text = name_text(ident);
-    if text.is_none() && is_dollar_crate(ident) {
-        return Some("crate");
+    match name_text(ident) {
+        Some(name) => Some(name),
+        None => root_text(ident),
     }
-    text
 }
 
 // Whether the text has only digits.

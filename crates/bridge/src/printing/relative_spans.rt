@@ -7,7 +7,7 @@ use std::marker::Model;
 use tt_data::{Span, TextRange};
 
 /// A place in a text.
-#[derive(Clone, Copy, PartialEq, Eq, Debug)]
+#[derive(Clone, Copy)]
 pub struct Place {
     /// The text: 0 is the one that is expanded, and others are those that define macros for it.
     pub text: u32,

@@ -2,7 +2,7 @@
 ghost use Rattle.std.specs.Prelude.{◌≡◌, ◌<◌, ◌^◌, List, [], ◌∷◌, Some, None, chars, length, IfOk, IsOkUnless, option_map, string_bytes, if◌then◌else◌};
 ghost use Rattle.bridge.specs.ReadSteps.{MayCut};
 ghost use Rattle.bridge.specs.Reading.{PlacedToken};
-ghost use Rattle.bridge.specs.Spelling.{is_text_of, is_that_leaf, leaf_spelling, same_form, same_leaf, same_rawness};
+ghost use Rattle.bridge.specs.Spelling.{is_text_of, is_that_leaf, leaf_spelling, own_spelling, same_form, same_leaf, same_rawness};
 ghost use Rattle.bridge.specs.TokenSteps.{steps_of_class};
 ghost use Rattle.rustc_lexer.specs.Lexing.{tokens_of};
 ghost use Rattle.tt.specs.TokenLiterals.{IsLiteralToken, literal_in};
@@ -10,16 +10,17 @@ ghost use Rattle.tt_data.specs.Displayed.{displayed_leaf};
 ghost use Rattle.tt_data.specs.Lent.{leaf_lent, literal_lent};
 ghost use Rattle.tt_data.specs.fault.TtFault.TheVariants.{Memory};
 ghost use Rattle.tt_data.specs.declared.leaf.Leaf.TheVariants as as_leaf;
+ghost use Rattle.tt_data.specs.declared.leaf.IdentIsRaw.TheVariants as raw;
 ghost use Rattle.tt_data.specs.declared.span.Span.{Span};
 ghost use Rattle.std.specs.Str.{IsCharBoundary};
 
-use crate::printing::fast_spelling::{is_dollar_crate, is_plain_string};
+use crate::printing::fast_spelling::{is_plain_string, root_name};
 use crate::reading::classify::{TokenClass, class_of};
 use crate::reading::leaf::name_in;
 use rustc_lexer::{FrontmatterAllowed, Token, tokenize};
 use std::alloc::Global;
 use tt::literal_parts;
-use tt_data::{IdentIsRaw, LeafRef, LitKind, LiteralRef, TtFault};
+use tt_data::{Ident, IdentIsRaw, Leaf, LeafRef, LitKind, LiteralRef, Span, Symbol, TtFault};
 
 // Whether two literals are of one form. What is no literal has no form.
 fn are_of_one_form(first: LitKind, second: LitKind) -> bool
@@ -127,7 +128,7 @@ const MOST_TEXTS: usize = 64;
 // The displayed text of the leaf, if it is one token that is read as the leaf.
 fn own_text(alloc: Global, leaf: LeafRef<'_>) -> Result<Option<String>, TtFault>
     ensures some { IfOk result (λ o. option_map string_bytes o ≡
-        (if is_text_of (leaf_lent leaf.entry) (displayed_leaf (leaf_lent leaf.entry)) then Some (displayed_leaf (leaf_lent leaf.entry)) else None)) }
+        own_spelling (leaf_lent leaf.entry)) }
     ensures memory { IsOkUnless result Memory }
 {
     let mut text = String::with_capacity(alloc, MOST_TEXTS)?;
@@ -139,16 +140,30 @@ fn own_text(alloc: Global, leaf: LeafRef<'_>) -> Result<Option<String>, TtFault>
     }
 }
 
-/// The spelling of the leaf, if it has one. `$crate` is spelled `crate`. Its only error is out of
-/// memory.
+// The spelling of an identifier that isn't raw and has this name, which is not that of a root.
+fn name_spelling(alloc: Global, name: &str, span: Span) -> Result<Option<String>, TtFault>
+    ensures spelling { IfOk result (λ o. option_map string_bytes o ≡
+        own_spelling (as_leaf.Ident (record { sym = name.now; span = span; is_raw = raw.No }))) }
+    ensures memory { IsOkUnless result Memory }
+{
+    let leaf = Leaf::Ident(Ident {
+        sym: Symbol::new(alloc, name)?,
+        span,
+        is_raw: IdentIsRaw::No,
+    });
+    own_text(alloc, leaf.lent())
+}
+
+/// The spelling of the leaf, if it has one. What stands for the root of a crate is spelled as the
+/// crate's name: `$crate` as `crate`, `$crate:std` as `std`. Its only error is out of memory.
 pub(crate) fn leaf_spelling(alloc: Global, leaf: LeafRef<'_>) -> Result<Option<String>, TtFault>
     ensures spelling { IfOk result (λ o. option_map string_bytes o ≡ leaf_spelling (leaf_lent leaf.entry)) }
     ensures memory { IsOkUnless result Memory }
 {
-    match leaf {
-        LeafRef::Ident(ident) if is_dollar_crate(ident) => {
-            Ok(Some(String::from_str(alloc, "crate")?))
+    if let LeafRef::Ident(ident) = leaf {
+        if let Some(name) = root_name(ident) {
+            return name_spelling(alloc, name, ident.span);
         }
-        _ => own_text(alloc, leaf),
     }
+    own_text(alloc, leaf)
 }

@@ -1,7 +1,7 @@
-use Rattle.std.proofs.Common.{◌≡◌, ◌-◌, ◌∷◌, [], refl, sym}
+use Rattle.std.proofs.Common.{◌≡◌, ◌-◌, ◌∷◌, ◌∙◌, [], ap, refl, sym}
 use Rattle.std.specs.Prelude.{Some, None, Ok, Err}
 use Rattle.std.proofs.lemmas.Result.{on_ok_weaker}
-use Rattle.expander_model.specs.CallSteps.{call_behind_colons}
+use Rattle.expander_model.specs.CallSteps.{call_behind_colons, key_at}
 use Rattle.expander_model.specs.Expansion.{just}
 use Rattle.bridge.specs.TokenEvents.{step_of}
 use Rattle.bridge.specs.declared.printing.event.TokenEvent.TheVariants as as_step
@@ -25,14 +25,14 @@ pub expand_call-returns-in_default-clause-turn : goal.expand_call-returns-in_def
 expand_call-returns-in_default-clause-turn g t c =
     let (w, opened) = call_opened c.args.trees.now c.args.call c.requires.call in
     rw c.in_ok-keep.ensures.rest
-    (unknown_turn g.S.EventSink.has_taken (numbered_world (world (g.G.FragmentGrammar.answer c.args.env.now.grammar.now) c.args.env.now.scope.now.edition)) (scope_in c.args.env.now.scope.now) c.args.env.now.depth c.args.outer c.args.out.now _ c.args.trees.now c.args.call c.requires.call (sym c.in_default.ensures.found) w opened
-    (adds_found g.S.EventSink.has_taken c.args.out.now (record c.args.out.now { finds = c.push_find.new.finds }) c.keep.new.out c.args.call.name.sym None (just c.args.outer (walk w)) refl refl c.in_ok-push_find.ensures (c.in_ok-keep.ensures.adds w opened)))
+    (unknown_turn g.S.EventSink.has_taken (numbered_world (world (g.G.FragmentGrammar.answer c.args.env.now.grammar.now) c.args.env.now.scope.now.edition)) (scope_in c.args.env.now.scope.now) c.args.env.now.depth c.args.outer c.args.out.now _ c.args.trees.now c.args.call c.requires.call (ap (scope_in c.args.env.now.scope.now) (sym c.in_ok-key.ensures.key) ∙ sym c.in_default.ensures.found) w opened
+    (adds_found g.S.EventSink.has_taken c.args.out.now (record c.args.out.now { finds = c.push_find.new.finds }) c.keep.new.out (key_at c.args.trees.now c.args.call) None (just c.args.outer (walk w)) refl refl (rw c.in_ok-key.ensures.key at c.in_ok-push_find.ensures) (c.in_ok-keep.ensures.adds w opened)))
 
 pub expand_call-returns-in_err-result-clause-tokens : goal.expand_call-returns-in_err-result-clause-tokens
 expand_call-returns-in_err-result-clause-tokens g t c = λ e.
     let (w, passed) = call_passed c.args.trees.now c.args.call c.requires.call in
     answer_bursts g.S.EventSink.has_taken (numbered_world (world (g.G.FragmentGrammar.answer c.args.env.now.grammar.now) c.args.env.now.scope.now.edition)) (scope_in c.args.env.now.scope.now) c.args.env.now.depth c.args.outer c.args.out.now c.args.out.now c.args.trees.now c.args.call
-    (numbered_of_known c.in-Some.known.now.value) c.requires.call (sym c.in-Some.ensures.found) w passed
+    (numbered_of_known c.in-Some.known.now.value) c.requires.call (ap (scope_in c.args.env.now.scope.now) (sym c.in_ok-key.ensures.key) ∙ sym c.in-Some.ensures.found) w passed
     ((rw c.as_ref.ensures at c.in_err-result.ensures.tokens) c.args.env.now.scope.now.edition c.in-Some.ensures.rules (handed c.from_residual-in_err-result.result _ c.from_residual-in_err-result.ensures.1 e))
 
 pub expand_call-returns-in-Ok-clause-turn : goal.expand_call-returns-in-Ok-clause-turn
@@ -42,8 +42,8 @@ expand_call-returns-in-Ok-clause-turn g t c =
     let mid = record c.args.out.now { finds = c.push_find-2.new.finds } in
     on_ok_weaker c.search.result (λ (adds : Adds g.S.EventSink.has_taken mid c.search.new.out (searched (numbered_world (world (g.G.FragmentGrammar.answer c.args.env.now.grammar.now) c.args.env.now.scope.now.edition)) (scope_in c.args.env.now.scope.now) (c.args.env.now.depth - 1) (Some c.unwrap_or-at.result) c.iter-inside.result)).
     comes_turn g.S.EventSink.has_taken (numbered_world (world (g.G.FragmentGrammar.answer c.args.env.now.grammar.now) c.args.env.now.scope.now.edition)) (scope_in c.args.env.now.scope.now) c.args.env.now.depth c.args.outer c.args.out.now c.search.new.out c.args.trees.now c.args.call
-    (numbered_of_known c.in-Some.known.now.value) c.requires.call (sym c.in-Some.ensures.found) w passed c.in-Ok.result.inner says
-    (adds_found g.S.EventSink.has_taken c.args.out.now mid c.search.new.out c.args.call.name.sym (Some (numbered_of_known c.in-Some.known.now.value)) _ refl refl c.in_ok-push_find-2.ensures
+    (numbered_of_known c.in-Some.known.now.value) c.requires.call (ap (scope_in c.args.env.now.scope.now) (sym c.in_ok-key.ensures.key) ∙ sym c.in-Some.ensures.found) w passed c.in-Ok.result.inner says
+    (adds_found g.S.EventSink.has_taken c.args.out.now mid c.search.new.out (key_at c.args.trees.now c.args.call) (Some (numbered_of_known c.in-Some.known.now.value)) _ refl refl (rw c.in_ok-key.ensures.key at c.in_ok-push_find-2.ensures)
     (rw (c.unwrap_or-at.ensures, c.iter-inside.ensures, c.token_trees.ensures) at adds)))
     (rw c.deeper.ensures at c.search.ensures.adds)
 
@@ -58,8 +58,8 @@ expand_call-returns-clause-turn g t c =
     let told = record mid { faults = c.push_told.new.faults } in
     rw c.in_ok-keep-in-Err.ensures.rest
     (stays_turn g.S.EventSink.has_taken (numbered_world (world (g.G.FragmentGrammar.answer c.args.env.now.grammar.now) c.args.env.now.scope.now.edition)) (scope_in c.args.env.now.scope.now) c.args.env.now.depth c.args.outer c.args.out.now _ c.args.trees.now c.args.call
-    (numbered_of_known c.in-Some.known.now.value) c.requires.call (sym c.in-Some.ensures.found) w passed c.in-Err.kind says
-    (adds_found g.S.EventSink.has_taken c.args.out.now mid c.keep-in-Err.new.out c.args.call.name.sym (Some (numbered_of_known c.in-Some.known.now.value)) _ refl refl c.in_ok-push_find-2.ensures
+    (numbered_of_known c.in-Some.known.now.value) c.requires.call (ap (scope_in c.args.env.now.scope.now) (sym c.in_ok-key.ensures.key) ∙ sym c.in-Some.ensures.found) w passed c.in-Err.kind says
+    (adds_found g.S.EventSink.has_taken c.args.out.now mid c.keep-in-Err.new.out (key_at c.args.trees.now c.args.call) (Some (numbered_of_known c.in-Some.known.now.value)) _ refl refl (rw c.in_ok-key.ensures.key at c.in_ok-push_find-2.ensures)
     (adds_stays g.S.EventSink.has_taken mid told c.keep-in-Err.new.out c.in-Err.kind c.args.outer (record { at = c.args.call.name.span; whole = w; argument = c.args.call.argument }) refl
     (rw c.unwrap_or-at.ensures at c.in_ok-push_told-in-Err.ensures) refl (c.in_ok-keep-in-Err.ensures.adds w passed))))
 
@@ -96,7 +96,7 @@ expand_call-returns-in-Ok-clause-tokens g t c = λ e.
     let (w, passed) = call_passed c.args.trees.now c.args.call c.requires.call in
     let says : answer (numbered_world (world (g.G.FragmentGrammar.answer c.args.env.now.grammar.now) c.args.env.now.scope.now.edition)) (numbered_of_known c.in-Some.known.now.value) c.args.env.now.depth c.args.call.argument ≡ Ok c.in-Ok.result.inner = sym ((rw (c.as_ref.ensures, c.in-Ok.is) at c.in_ok-result.ensures.given) c.args.env.now.scope.now.edition c.in-Some.ensures.rules) in
     result_bursts g.S.EventSink.has_taken (numbered_world (world (g.G.FragmentGrammar.answer c.args.env.now.grammar.now) c.args.env.now.scope.now.edition)) (scope_in c.args.env.now.scope.now) c.args.env.now.depth c.args.outer c.args.out.now c.args.out.now c.args.trees.now c.args.call
-    (numbered_of_known c.in-Some.known.now.value) c.requires.call (sym c.in-Some.ensures.found) w passed c.in-Ok.result.inner says
+    (numbered_of_known c.in-Some.known.now.value) c.requires.call (ap (scope_in c.args.env.now.scope.now) (sym c.in_ok-key.ensures.key) ∙ sym c.in-Some.ensures.found) w passed c.in-Ok.result.inner says
     (rw (c.unwrap_or-at.ensures, c.iter-inside.ensures, c.token_trees.ensures, c.deeper.ensures) at (c.search.ensures.tokens e))
 
 pub search-turns-smaller : goal.search-turns-smaller

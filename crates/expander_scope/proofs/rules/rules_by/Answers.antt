@@ -3,7 +3,7 @@ use Rattle.std.specs.Prelude.{Option, Some}
 use Rattle.std.proofs.lemmas.Result.{IfOk-weaker}
 use Rattle.tt_data.specs.Forest.{Forest}
 use Rattle.expander_scope.proofs.DefinitionLemmas.{rules_of_macro}
-use Rattle.expander_scope.proofs.rules.rules_in.Goals as goal
+use Rattle.expander_scope.proofs.rules.rules_by.Goals as goal
 
 pub returns-clause-rules : goal.returns-clause-rules
 returns-clause-rules c =

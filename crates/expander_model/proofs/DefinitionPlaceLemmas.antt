@@ -30,12 +30,12 @@ definition_with-with f g d = λ i. record {
     twice (Some x) = ap Some (map_spans-map_spans f g x)
 
 module _ (f : Span → Span) where
-  is_empty-with : (g : Forest) → is_empty (map_spans f g) ≡ is_empty g
+  pub is_empty-with : (g : Forest) → is_empty (map_spans f g) ≡ is_empty g
   is_empty-with empty = refl
   is_empty-with (leaf l rest) = refl
   is_empty-with (group d a rest) = refl
 
-  after_attributes-with : (g : Forest) → after_attributes (map_spans f g) ≡ map_spans f (after_attributes g)
+  pub after_attributes-with : (g : Forest) → after_attributes (map_spans f g) ≡ map_spans f (after_attributes g)
   after_attributes-with empty = refl
   after_attributes-with (group d a rest) = refl
   after_attributes-with (leaf (as_leaf.Ident i) rest) = refl
@@ -50,33 +50,33 @@ module _ (f : Span → Span) where
       go true e = e
       go false e = refl
 
-  test-with : {X Y : Type 0} (m : X → Y) (b : Bool) (x : Option X) (y : Option Y) → y ≡ option_map m x → (b >> y) ≡ option_map m (b >> x)
+  pub test-with : {X Y : Type 0} (m : X → Y) (b : Bool) (x : Option X) (y : Option Y) → y ≡ option_map m x → (b >> y) ≡ option_map m (b >> x)
   test-with m true x y e = e
   test-with m false x y e = refl
 
-  after_parenthesis-with : (g : Forest) → after_parenthesis (map_spans f g) ≡ option_map (map_spans f) (after_parenthesis g)
+  pub after_parenthesis-with : (g : Forest) → after_parenthesis (map_spans f g) ≡ option_map (map_spans f) (after_parenthesis g)
   after_parenthesis-with empty = refl
   after_parenthesis-with (leaf l rest) = refl
   after_parenthesis-with (group d a rest) = test-with (map_spans f) (same_kind d.kind Parenthesis) (Some rest) _ refl
 
-  unwrap_or-with : (o : Option Forest) (g : Forest) → unwrap_or (option_map (map_spans f) o) (map_spans f g) ≡ map_spans f (unwrap_or o g)
+  pub unwrap_or-with : (o : Option Forest) (g : Forest) → unwrap_or (option_map (map_spans f) o) (map_spans f g) ≡ map_spans f (unwrap_or o g)
   unwrap_or-with None g = refl
   unwrap_or-with (Some x) g = refl
 
   -- a reading goes on behind what was read
-  then-with : {X Y : Type 0} (m : X → Y) (k : Forest → Option X) (k' : Forest → Option Y) → ((g : Forest) → k' (map_spans f g) ≡ option_map m (k g))
+  pub then-with : {X Y : Type 0} (m : X → Y) (k : Forest → Option X) (k' : Forest → Option Y) → ((g : Forest) → k' (map_spans f g) ≡ option_map m (k g))
       → (o : Option Forest) → (option_map (map_spans f) o >>= k') ≡ option_map m (o >>= k)
   then-with m k k' same None = refl
   then-with m k k' same (Some g) = same g
 
-  after_word-with : (word : List ℕ) (g : Forest) → after_word word (map_spans f g) ≡ option_map (map_spans f) (after_word word g)
+  pub after_word-with : (word : List ℕ) (g : Forest) → after_word word (map_spans f g) ≡ option_map (map_spans f) (after_word word g)
   after_word-with word empty = refl
   after_word-with word (group d a rest) = refl
   after_word-with word (leaf (as_leaf.Punct p) rest) = refl
   after_word-with word (leaf (as_leaf.Literal p) rest) = refl
   after_word-with word (leaf (as_leaf.Ident w) rest) = test-with (map_spans f) (has_text word w) (Some rest) _ refl
 
-  after_pub-with : (g : Forest) → after_pub (map_spans f g) ≡ option_map (map_spans f) (after_pub g)
+  pub after_pub-with : (g : Forest) → after_pub (map_spans f g) ≡ option_map (map_spans f) (after_pub g)
   after_pub-with g =
       ap (λ (o : Option Forest). o >>= (λ r. Some (unwrap_or (after_parenthesis r) r))) (after_word-with (codes "pub") g)
       ∙ then-with (map_spans f) (λ r. Some (unwrap_or (after_parenthesis r) r)) (λ r. Some (unwrap_or (after_parenthesis r) r))
