@@ -89,11 +89,23 @@ read_words() {
     while [ $# != 0 ]; do
         case $1 in
             --quick) quick=yes ;;
+            --std) find_library && words+=("--std=$library") ;;
             --) words+=("$@") && return ;;
             *) words+=("$1") ;;
         esac
         shift
     done
+}
+
+# Finds the source of the installed library, beside rustc or where Debian has it: sets `library`.
+find_library() {
+    local beside folder
+    beside=$(rustc --print sysroot 2>/dev/null)
+    while IFS= read -r folder; do
+        library=$folder
+        [ ! -f "$library/core/src/macros/mod.rs" ] || return 0
+    done < <(echo "${beside:-/usr}/lib/rustlib/src/rust/library" && printf '%s\n' /usr/src/rustc-*/library | sort -rV)
+    fail "the source of the library is not installed: 'rustup component add rust-src' does that, or on Debian the package rust-src"
 }
 
 # Whether the words ask for help or the version, which takes no text.
@@ -121,8 +133,8 @@ check_words() {
     while [ $i -lt ${#words[@]} ]; do
         case ${words[i]} in
             --) check_rest $((i + 1)); return ;;
-            --grammar=* | --edition=* | --depth=*) check_value "${words[i]%%=*}" "${words[i]#*=}" ;;
-            --grammar | --edition | --depth)
+            --grammar=* | --edition=* | --depth=* | --std=* | --with=*) check_value "${words[i]%%=*}" "${words[i]#*=}" ;;
+            --grammar | --edition | --depth | --with)
                 [ $((i + 1)) -lt ${#words[@]} ] || misused "${words[i]} has no value"
                 check_value "${words[i]}" "${words[i + 1]}"
                 i=$((i + 1))
@@ -149,34 +161,83 @@ take_file() {
     [ "${words[$1]}" = - ] || check_file "${words[$1]}"
 }
 
-# Refuses a value that the option does not take.
+# Refuses a value that the option does not take, and an option that the command does not.
 check_value() {
+    case ${words[0]}$1 in replay--std | replay--with) misused "replay has no option $1" ;; esac
     case $1=$2 in
+        --std=*) check_library "$2" && return ;;
+        --with=*) check_other "$2" && return ;;
         --grammar=rust | --grammar=small | --edition=2015 | --edition=2018 | --edition=2021 | --edition=2024) return ;;
         --depth=*) [[ $2 =~ ^\+?0*([0-9]{1,3})$ ]] && [ "${BASH_REMATCH[1]}" -le 255 ] && return ;;
     esac
     misused "$1 does not take $(shown "$2")"
 }
 
-# Lends the file that the words name to an unproved run, which sees no other files: as a copy under its name, which the
-# words then have, or as standard input where the toolchain takes no copy of that name.
-lend_file() {
-    local LC_ALL=C file name
-    lent=()
+# A folder of the library, which an unproved run cannot be lent.
+check_library() {
+    [ -d "$1" ] || fail "there is no folder $(shown "$1")"
+    [ -z "$quick" ] || fail '--std takes the built program: leave --quick out'
+}
+
+# The file of definitions of `FILE` or `ROOT@EDITION=FILE`.
+other_file() {
+    local front=${1%%=*}
+    if [[ $1 == *=* && $front == *@* ]]; then
+        printf '%s' "${1#*=}"
+    else
+        printf '%s' "$1"
+    fi
+}
+
+# A file of definitions, which may stand behind the crate that they are of.
+check_other() {
+    local file front=${1%%=*}
+    file=$(other_file "$1")
+    if [ "$file" != "$1" ]; then
+        case ${front#*@} in 2015 | 2018 | 2021 | 2024) ;; *) misused "there is no edition $(shown "${front#*@}")" ;; esac
+    fi
+    check_file "$file"
+}
+
+# Lends a file to an unproved run, which sees no other files, as a copy under its name, which is then in `name`; fails
+# where the toolchain takes no copy of that name.
+lend_copy() {
+    local file
+    file=$(readlink -f "$1")
+    name=${1##*/}
+    case $name in program | stdin | stdout | stderr | .* | *[!a-zA-Z0-9._+-]* | -*) return 1 ;; esac
+    [ -f "$file" ] || return 1
+    [[ " ${lent[*]-} " != *" $name="* ]] || return 1
+    [ "$(wc -c <"$file")" -le "$limit" ] || fail "$(shown "$1") has more than 1 MiB: leave --quick out"
+    lent+=(--data "$name=$file")
+}
+
+# Lends the files of definitions that the words name.
+lend_others() {
+    local i value file name
+    for i in "${!words[@]}"; do
+        case ${words[i]} in
+            --) return ;;
+            --with=*) value=${words[i]#--with=} ;;
+            *) [ "$i" != 0 ] && [ "${words[i - 1]}" = --with ] || continue; value=${words[i]} ;;
+        esac
+        file=$(other_file "$value")
+        lend_copy "$file" || fail "$(shown "$file") cannot be lent to an unproved run: leave --quick out"
+        words[i]=${words[i]%"$file"}$name
+    done
+}
+
+# Lends the files that the words name. The text is standard input where it cannot be lent by its name; else sets `text_lent`.
+lend_files() {
+    local LC_ALL=C name
+    lent=() text_lent=
+    lend_others
     [ -n "${file_at-}" ] && [ "${words[file_at]}" != - ] || return 0
-    file=$(readlink -f "${words[file_at]}")
-    name=${words[file_at]##*/}
-    case $name in
-        program | stdin | stdout | stderr | .* | *[!a-zA-Z0-9._+-]* | -*) ;;
-        *)
-            if [ -f "$file" ]; then
-                [ "$(wc -c <"$file")" -le "$limit" ] || fail "the input has more than 1 MiB: leave --quick out"
-                lent=(--data "$name=$file") words[file_at]=$name
-                return
-            fi
-            ;;
-    esac
-    exec <"${words[file_at]}" && words[file_at]=-
+    if lend_copy "${words[file_at]}"; then
+        words[file_at]=$name text_lent=yes
+    else
+        exec <"${words[file_at]}" && words[file_at]=-
+    fi
 }
 
 # Sets `crates`: these and those that they need, in the order in which the toolchain proves them.
@@ -302,15 +363,15 @@ build() {
 run_unproved() {
     local last status
     need_rt
-    lend_file
+    lend_files
     room=$(mktemp -d) || exit 2
     trap 'rm -rf "$room"' EXIT
     trap 'exit 130' INT TERM HUP
     echo "$command: unproved run, one or two minutes; bin/$command without --quick proves the program first" >&2
-    if [ ${#lent[@]} = 0 ]; then
-        head -c $((limit + 1)) >"$room/in"
-    else
+    if [ -n "$text_lent" ]; then
         : >"$room/in"
+    else
+        head -c $((limit + 1)) >"$room/in"
     fi
     [ "$(wc -c <"$room/in")" -le "$limit" ] || fail "the input has more than 1 MiB: leave --quick out"
     (cd "$crate" && exec rt try "${lent[@]}" -- "${words[@]}" <"$room/in" >"$room/out" 2>"$room/told")

@@ -159,6 +159,83 @@ static void codes(void) {
     if (zeros != MAP_FAILED) munmap(zeros, huge);
 }
 
+static uint32_t read_source(struct expander_session *s, uint32_t number, const char *root, const char *text,
+                            struct expander_source_told *into) {
+    return expander_source(s, number, root, strlen(root), 2021, text, strlen(text), into);
+}
+
+/* Definitions of two sources, of which one is of another crate. */
+static void sources(void) {
+    struct expander_session s = EXPANDER_SESSION_INIT;
+    struct expander_source_told told = {7, {9, {0, 0}}};
+    struct expander_counts counts = {0, 0, 0, 0};
+    struct expander_pick both[] = {{1, EXPANDER_ALL}, {2, 0}}, one = {1, 1};
+    uint32_t texts[8] = {9, 9, 9, 9, 9, 9, 9, 9};
+    char room[64] = "";
+    const char *std = "macro_rules! a { ($x:tt) => { $crate::b!($x) } } mod m { macro_rules! c { () => {} } } "
+                      "#[rustc_builtin_macro] macro_rules! e { () => {} } macro_rules! b { ($x:tt) => { $crate::f $x } }";
+    SAME(expander_source(&s, 1, NULL, 0, 0, NULL, 0, &told), EXPANDER_CLOSED);
+    SAME(expander_prelude(&s, NULL, 0), EXPANDER_CLOSED);
+    SAME(expander_sources(&s, texts, 8), EXPANDER_CLOSED);
+    SAME(open_text(&s, "a!(1); d!(2); e!();"), EXPANDER_OK);
+    SAME(expander_sources(&s, texts, 8), EXPANDER_NOTHING);
+    SAME(read_source(&s, 0, "std", "", &told), EXPANDER_SOURCE);
+    SAME(read_source(&s, 1, "crate", "", &told), EXPANDER_ROOT);
+    SAME(read_source(&s, 1, "\xff", "", &told), EXPANDER_UTF8);
+    SAME(expander_source(&s, 1, "std", 3, 2020, "", 0, &told), EXPANDER_EDITION);
+    SAME(expander_source(&s, 1, "std", 3, 2021, "\xff", 1, &told), EXPANDER_UTF8);
+    SAME(expander_source(&s, 1, "std", 3, 2021, "", 0, NULL), EXPANDER_NULL);
+    SAME(expander_source(&s, 1, NULL, 3, 2021, "", 0, &told), EXPANDER_NULL);
+    SAME(told.definitions, 7), SAME(told.fault.kind, 9);
+    SAME(read_source(&s, 1, "std", std, &told), EXPANDER_OK);
+    SAME(told.definitions, 4);
+    SAME(read_source(&s, 1, "std", "a (", &told), EXPANDER_UNREAD);
+    SAME(told.fault.kind, EXPANDER_GROUP_LEFT_OPEN), SAME(told.fault.range.start, 2), SAME(told.definitions, 4);
+    SAME(read_source(&s, 2, "", "macro_rules! d { ($x:tt) => { $x + } }", &told), EXPANDER_OK);
+    SAME(told.definitions, 1);
+    SAME(expander_prelude(&s, both, 2), EXPANDER_OK);
+    both[0].source = 3;
+    SAME(expander_prelude(&s, both, 2), EXPANDER_SOURCE);
+    both[0].source = 1, both[1].index = 1;
+    SAME(expander_prelude(&s, both, 2), EXPANDER_INDEX);
+    SAME(expander_prelude(&s, NULL, 2), EXPANDER_NULL);
+    SAME(expander_expand(&s), EXPANDER_OK);
+    SAME(expander_counts(&s, &counts), EXPANDER_OK);
+    const char *printed = "std :: f 1 ; 2 + ; e ! ( ) ;\n";
+    SAME(counts.printed, strlen(printed));
+    SAME(expander_printed(&s, room, sizeof room), EXPANDER_OK);
+    SAME(memcmp(room, printed, strlen(printed)), 0);
+    SAME(counts.tokens, 14);
+    SAME(expander_sources(&s, texts, 8), EXPANDER_ROOM);
+    SAME(texts[0], 9);
+    uint32_t all[14];
+    struct expander_range where[14];
+    memset(all, 0, sizeof all), memset(where, 0, sizeof where);
+    SAME(expander_sources(&s, all, 14), EXPANDER_OK);
+    SAME(expander_origins(&s, where, 14), EXPANDER_OK);
+    const uint32_t wanted[14] = {1, 1, 1, 1, 0, 0, 0, 2, 0, 0, 0, 0, 0, 0};
+    for (int i = 0; i < 14; i++) SAME(all[i], wanted[i]);
+    SAME(memcmp(std + where[3].start, "f", 1), 0);
+    SAME(where[4].start, 3), SAME(where[4].end, 4);
+    SAME(expander_sources(&s, NULL, 14), EXPANDER_NULL);
+
+    /* A source in the place of another changes nothing until the next prelude. */
+    SAME(read_source(&s, 1, "std", "macro_rules! a { ($x:tt) => { 7 } } macro_rules! e { () => {} }", &told), EXPANDER_OK);
+    SAME(told.definitions, 2);
+    SAME(expander_expand(&s), EXPANDER_OK);
+    SAME(expander_counts(&s, &counts), EXPANDER_OK);
+    SAME(counts.expanded, 0);
+    SAME(expander_prelude(&s, &one, 1), EXPANDER_OK);
+    SAME(expander_expand(&s), EXPANDER_OK);
+    SAME(expander_counts(&s, &counts), EXPANDER_OK);
+    SAME(counts.expanded, 3);
+    SAME(expander_prelude(&s, NULL, 0), EXPANDER_OK);
+    SAME(expander_expand(&s), EXPANDER_OK);
+    SAME(expander_counts(&s, &counts), EXPANDER_OK);
+    SAME(counts.tokens, 17);
+    expander_close(&s);
+}
+
 static uint32_t seed = 41;
 static uint32_t below(uint32_t n) {
     seed = seed * 1664525 + 1013904223;
@@ -236,6 +313,7 @@ int main(int argc, char **argv) {
     the_row();
     grammars();
     codes();
+    sources();
     random_edits(argc > 1 ? atoi(argv[1]) : 1000);
     if (failures) printf("%d failures\n", failures);
     return failures != 0;

@@ -16,8 +16,8 @@
  * Memory. Each function below says what its pointers are to. In all of them:
  *   - The memory is there, and initialised, until the call returns: room that is only written to as well,
  *     with anything, as by calloc. No call keeps a pointer that it is passed, and none hands one out.
- *   - It is aligned as C aligns its type: bytes anywhere, ranges and faults at 4, sessions, counts and
- *     lengths at 8.
+ *   - It is aligned as C aligns its type: bytes anywhere, numbers, ranges, faults and picks at 4, sessions,
+ *     counts, lengths and what is told of a source at 8.
  *   - No two pointers of a call overlap, and nobody else writes what they are to during the call, nor
  *     reads what it writes. No element is read or written beyond the length that is said.
  *   - A pointer with a length may be NULL if the length is 0. Any other pointer that is NULL is refused.
@@ -39,6 +39,11 @@
  *   - with the small grammar 5 to 13 bytes more for each level of a type, so its bound is the text's length.
  * So 2 MiB are enough with the grammar of Rust, and 4 MiB leave room for other builds. Nothing else that a
  * text nests takes stack. The other calls took less than 8 KiB.
+ *
+ * Sources. A text may use definitions of other texts. A source is a text that was read for its definitions,
+ * those of its inline modules too; it belongs to the session, and has a number from 1 on. The definitions
+ * that a text is expanded after are its prelude, which is empty at first: expander_prelude picks them out of
+ * the sources of the session. Its own definitions come after them, so they are nearer.
  *
  * Codes. Each function but expander_close returns one. A call that is refused changes nothing: neither
  * the session, nor its answer, nor what the pointers point to, except for the wanted length of
@@ -81,7 +86,9 @@ enum expander_code {
     EXPANDER_NOTHING = 12, /* the last answer is not of this kind, or there is none */
     EXPANDER_INDEX = 13,   /* there is nothing of this index */
     EXPANDER_ROOM = 14,    /* there is not enough room; nothing was written to it */
-    EXPANDER_NULL = 15     /* a pointer is NULL, and not to be */
+    EXPANDER_NULL = 15,    /* a pointer is NULL, and not to be */
+    EXPANDER_ROOT = 16,    /* the word cannot stand for a crate */
+    EXPANDER_SOURCE = 17   /* there is no source of this number, or, of number 0, there can be none */
 };
 
 /* What fragments such as `$e:expr` take. The grammar of Rust, in the edition of the session, knows all
@@ -122,6 +129,21 @@ struct expander_counts {
     size_t printed, tokens, faults, expanded;
 };
 
+/* What a text is read as: how many definitions the source has, or, if it cannot be read, the fault, which is
+ * of enum expander_reading_fault_kind, and the bytes of that text. */
+struct expander_source_told {
+    size_t definitions;
+    struct expander_fault fault;
+};
+
+/* A definition of a source, by the source's number and the definition's index there. The index EXPANDER_ALL
+ * stands for all definitions of the source that are in no inline module and have no attribute
+ * `rustc_builtin_macro`, in order. */
+struct expander_pick {
+    uint32_t source, index;
+};
+#define EXPANDER_ALL UINT32_MAX
+
 /* The calls as the library exports them. Here no pointer may be NULL, also if there are no elements: it
  * is then any that is aligned. C callers use the functions below, which test that. */
 uint32_t expander_raw_open(struct expander_session *, const uint8_t *, size_t, uint32_t, uint8_t, uint32_t);
@@ -137,6 +159,10 @@ uint32_t expander_raw_fault(struct expander_session *, size_t, struct expander_f
 uint32_t expander_raw_reading_fault(struct expander_session *, struct expander_fault *);
 uint32_t expander_raw_origins(struct expander_session *, struct expander_range *, size_t);
 uint32_t expander_raw_token_ranges(struct expander_session *, struct expander_range *, size_t);
+uint32_t expander_raw_source(struct expander_session *, uint32_t, const uint8_t *, size_t, uint32_t, const uint8_t *,
+                             size_t, struct expander_source_told *);
+uint32_t expander_raw_prelude(struct expander_session *, const struct expander_pick *, size_t);
+uint32_t expander_raw_sources(struct expander_session *, uint32_t *, size_t);
 
 /* In all of them `s` is to a session's struct, which is EXPANDER_SESSION_INIT before its first use. */
 
@@ -215,8 +241,9 @@ static inline uint32_t expander_reading_fault(struct expander_session *s, struct
     return s && into ? expander_raw_reading_fault(s, into) : (uint32_t)EXPANDER_NULL;
 }
 
-/* Where each of the `counts.tokens` printed tokens comes from in the expanded text. `room` is to `len`
- * structs. OK, CLOSED, NOTHING, ROOM, NULL. */
+/* Where each of the `counts.tokens` printed tokens comes from: bytes of the expanded text, or of the source
+ * that expander_sources names, as only a prelude can bring about. `room` is to `len` structs.
+ * OK, CLOSED, NOTHING, ROOM, NULL. */
 static inline uint32_t expander_origins(struct expander_session *s, struct expander_range *room, size_t len) {
     struct expander_range none = {0, 0};
     if (!s || (!room && len)) return EXPANDER_NULL;
@@ -230,6 +257,42 @@ static inline uint32_t expander_token_ranges(struct expander_session *s, struct 
     struct expander_range none = {0, 0};
     if (!s || (!room && len)) return EXPANDER_NULL;
     return expander_raw_token_ranges(s, room ? room : &none, len);
+}
+
+/* Reads a text of `len` bytes as the source of this number, from 1 on, in place of the one that has it. The
+ * prelude stays as it is, of the old source too. Without a root the text belongs to the crate of the session's
+ * text, and `edition` is not looked at. Else it belongs to another crate: `$crate` in its definitions is
+ * printed as `root`, of `root_len` bytes of UTF-8, such as `std`, and they are of that edition. `into` is to
+ * one struct, in which how many definitions the source has is written, or, if the text cannot be read, the
+ * fault; then the old source stays.
+ * OK, UNREAD; and if the text is not read CLOSED, SOURCE, ROOT, EDITION, LENGTH, UTF8, MEMORY, TOKENS, NULL. */
+static inline uint32_t expander_source(struct expander_session *s, uint32_t number, const void *root, size_t root_len,
+                                       uint32_t edition, const void *text, size_t len,
+                                       struct expander_source_told *into) {
+    const uint8_t *none = (const uint8_t *)"";
+    if (!s || !into || (!root && root_len) || (!text && len)) return EXPANDER_NULL;
+    return expander_raw_source(s, number, root ? (const uint8_t *)root : none, root_len, edition,
+                               text ? (const uint8_t *)text : none, len, into);
+}
+
+/* From the next expansion on the text is expanded after these definitions, in order, the nearest last. Besides,
+ * every definition of each source of another crate is seen behind the crate's root, as by `$crate::name` in
+ * another of its definitions, unless it has the attribute `rustc_builtin_macro`. Nothing that was expanded is
+ * lost: only pieces of which a look-up now gives another definition are expanded anew. `picks` is to `n`
+ * structs, which are only read; with none only what is seen behind roots is left.
+ * OK, CLOSED, SOURCE, INDEX, MEMORY, TOKENS (of a definition, with its `$crate`), NULL. */
+static inline uint32_t expander_prelude(struct expander_session *s, const struct expander_pick *picks, size_t n) {
+    struct expander_pick none = {0, 0};
+    if (!s || (!picks && n)) return EXPANDER_NULL;
+    return expander_raw_prelude(s, picks ? picks : &none, n);
+}
+
+/* Which text each of the `counts.tokens` printed tokens comes from: 0 for the expanded text, or the number of a
+ * source. `room` is to `len` numbers. OK, CLOSED, NOTHING, ROOM, NULL. */
+static inline uint32_t expander_sources(struct expander_session *s, uint32_t *room, size_t len) {
+    uint32_t none = 0;
+    if (!s || (!room && len)) return EXPANDER_NULL;
+    return expander_raw_sources(s, room ? room : &none, len);
 }
 
 #ifdef __cplusplus

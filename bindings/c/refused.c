@@ -42,7 +42,8 @@ void __wrap_free(void *p) {
 
 /* ---- the script */
 
-enum call { OPEN, EDIT, EXPAND };
+/* SOURCE reads a source of number `start`, of the crate `std` if `end` is not 0; PRELUDE picks all of that number. */
+enum call { OPEN, EDIT, EXPAND, SOURCE, PRELUDE };
 struct step {
     enum call call;
     size_t start, end;
@@ -70,14 +71,27 @@ static const struct step script[] = {
     {EXPAND, 0, 0, ""},
     {OPEN, 0, 0, ""},
     {EXPAND, 0, 0, ""},
+    {OPEN, 0, 0, "v!(1); w!(2);"},
+    {SOURCE, 1, 1, "macro_rules! v { ($x:tt) => { $crate::u!($x) } } mod m { macro_rules! u { ($x:tt) => { $crate $x } } }"},
+    {SOURCE, 2, 0, "macro w($x:tt) { $x \"w\" }"},
+    {PRELUDE, 1, 0, ""},
+    {EXPAND, 0, 0, ""},
+    {SOURCE, 1, 1, "macro_rules! v { () => { ( } }"},
+    {SOURCE, 2, 1, "macro_rules! w { ($x:tt) => { [$x] } }"},
+    {PRELUDE, 2, 0, ""},
+    {EXPAND, 0, 0, ""},
 };
 #define STEPS (sizeof script / sizeof *script)
 
 static uint32_t make(struct expander_session *s, const struct step *it) {
     size_t len = strlen(it->text);
+    struct expander_source_told told = {0, {0, {0, 0}}};
+    struct expander_pick all = {(uint32_t)it->start, EXPANDER_ALL};
     switch (it->call) {
     case OPEN: return expander_open(s, it->text, len, 2024, 128, EXPANDER_GRAMMAR_RUST);
     case EDIT: return expander_edit(s, it->start, it->end, it->text, len);
+    case SOURCE: return expander_source(s, all.source, "std", it->end ? 3 : 0, 2018, it->text, len, &told);
+    case PRELUDE: return expander_prelude(s, &all, 1);
     default: return expander_expand(s);
     }
 }
@@ -120,6 +134,7 @@ static void tell(struct expander_session *s, struct told *to) {
     note(to, expander_printed(s, room(to, counts.printed), counts.printed));
     note(to, expander_token_ranges(s, room(to, counts.tokens * sizeof(struct expander_range)), counts.tokens));
     note(to, expander_origins(s, room(to, counts.tokens * sizeof(struct expander_range)), counts.tokens));
+    note(to, expander_sources(s, room(to, counts.tokens * sizeof(uint32_t)), counts.tokens));
     for (size_t i = 0; i < counts.faults; i++) note(to, expander_fault(s, i, room(to, sizeof(struct expander_fault))));
 }
 

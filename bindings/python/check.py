@@ -84,6 +84,41 @@ def codes():
     assert refusal(session.expand) == Code.CLOSED and refusal(session.edit, 0, 0, "") == Code.CLOSED
 
 
+SOURCE = "macro_rules! a { ($x:tt) => { $crate::b!($x) } } mod m { macro_rules! c { () => {} } } "
+SOURCE += "#[rustc_builtin_macro] macro_rules! e { () => {} } macro_rules! b { ($x:tt) => { $crate::f $x } }"
+
+
+def sources():
+    """Definitions of two sources, of which one is of another crate."""
+    session = Session("a!(1); d!(2); e!();")
+    assert refusal(session.source, 0, SOURCE, "std") == Code.SOURCE
+    assert [refusal(session.source, 1, SOURCE, root) for root in ("crate", "")] == [Code.ROOT] * 2
+    assert refusal(session.source, 1, SOURCE, "std", 2020) == Code.EDITION
+    assert session.source(1, SOURCE, root="std", edition=2021) == 4
+    try:
+        session.source(1, "a (", "std")
+        raise AssertionError("it is read")
+    except Unread as unread:
+        assert unread.fault == ReadFault(ReadFaultKind.GROUP_LEFT_OPEN, Range(2, 3))
+    assert session.source(2, "macro_rules! d { ($x:tt) => { $x + } }") == 1
+    assert refusal(session.prelude, [3]) == Code.SOURCE
+    assert refusal(session.prelude, [1, (2, 1)]) == Code.INDEX
+    assert raises(ValueError, session.prelude, [2**32]) and raises(TypeError, session.prelude, [True])
+    assert raises(ValueError, session.source, -1, "") and raises(TypeError, session.source, 1, b"")
+    session.prelude([1, (2, 0)])
+    expansion = session.expand()
+    assert expansion.printed == "std :: f 1 ; 2 + ; e ! ( ) ;\n"
+    assert expansion.sources.tolist() == [1, 1, 1, 1, 0, 0, 0, 2, 0, 0, 0, 0, 0, 0]
+    origins = [token.origin for token, source in zip(expansion.tokens, expansion.sources) if source == 1]
+    assert [SOURCE[origin.start : origin.end] for origin in origins] == ["$", ":", ":", "f"]
+    assert pickle.loads(pickle.dumps(expansion)) == expansion
+    session.prelude([])
+    later = session.expand()
+    assert later.expanded == 2 and set(later.sources) == {0} and later != expansion
+    session.close()
+    assert refusal(session.source, 1, "") == refusal(session.prelude, []) == Code.CLOSED
+
+
 def items():
     """Tokens are made when they are asked for, and outlive their session."""
     with Session(TEXT + " é 'a") as session:
@@ -307,7 +342,7 @@ def random_edits(count):
     assert read >= count // 3
 
 
-for check in (the_row, grammars, codes, items, numbers, once, shared, meanwhile, within, left):
+for check in (the_row, grammars, codes, sources, items, numbers, once, shared, meanwhile, within, left):
     check()
 random_edits(int(sys.argv[1]) if len(sys.argv) > 1 else 1000)
 sys.exit(doctest.testmod(expander).failed)

@@ -18,7 +18,7 @@ import os
 import threading
 import weakref
 from array import array
-from collections.abc import Iterator, Sequence
+from collections.abc import Iterable, Iterator, Sequence
 from contextlib import contextmanager
 from enum import IntEnum
 from types import TracebackType
@@ -42,6 +42,8 @@ class Code(IntEnum):
     NOTHING = 12
     INDEX = 13
     ROOM = 14
+    ROOT = 16
+    SOURCE = 17
 
 
 class Grammar(IntEnum):
@@ -75,7 +77,10 @@ class Range(NamedTuple):
 
 
 class Token(NamedTuple):
-    """A printed token: its bytes in the printed text, and those of the text that it comes from."""
+    """A printed token: its bytes in the printed text, and those of the text that it comes from.
+
+    That is the session's text, or the source that `Expansion.sources` tells.
+    """
 
     range: Range
     origin: Range
@@ -115,7 +120,8 @@ class Tokens(Sequence[Token]):
     """The printed tokens, in order. Each is made when it is asked for.
 
     `ranges` and `origins` are the same as numbers of 32 bits, for whoever reads many: those of the
-    token `i` start at item `2 * i` and end at item `2 * i + 1`.
+    token `i` start at item `2 * i` and end at item `2 * i + 1`. `sources` has one number for each
+    token.
 
     >>> with Session("a + b") as session:
     ...     tokens = session.expand().tokens
@@ -123,10 +129,13 @@ class Tokens(Sequence[Token]):
     (Token(range=Range(start=4, end=5), origin=Range(start=4, end=5)), [0, 1, 2, 3, 4, 5])
     """
 
-    __slots__ = ("_count", "_ranges", "_origins")
+    __slots__ = ("_count", "_ranges", "_origins", "_sources")
 
-    def __init__(self, count: int, ranges: array[int], origins: array[int]) -> None:
-        self._count, self._ranges, self._origins = count, ranges, origins
+    def __init__(
+        self, count: int, ranges: array[int], origins: array[int], sources: array[int]
+    ) -> None:
+        self._count, self._ranges = count, ranges
+        self._origins, self._sources = origins, sources
 
     @property
     def ranges(self) -> memoryview:
@@ -135,8 +144,13 @@ class Tokens(Sequence[Token]):
 
     @property
     def origins(self) -> memoryview:
-        """Where the tokens come from in the text."""
+        """Where the tokens come from in the text, or in the source that `sources` tells."""
         return memoryview(self._origins)[: 2 * self._count].toreadonly()
+
+    @property
+    def sources(self) -> memoryview:
+        """Which text the tokens come from: 0 for the session's text, or the number of a source."""
+        return memoryview(self._sources)[: self._count].toreadonly()
 
     def __len__(self) -> int:
         return self._count
@@ -161,7 +175,10 @@ class Tokens(Sequence[Token]):
     def __eq__(self, other: object) -> bool:
         if not isinstance(other, Tokens):
             return NotImplemented
-        return self._ranges == other._ranges and self._origins == other._origins
+        return self._all() == other._all()
+
+    def _all(self) -> tuple[array[int], array[int], array[int]]:
+        return self._ranges, self._origins, self._sources
 
 
 class Expansion:
@@ -222,6 +239,11 @@ class Expansion:
         """The printed tokens, in order. Refused as LENGTH if `printed` has 2**32 bytes or more."""
         return self._part("tokens")
 
+    @property
+    def sources(self) -> memoryview:
+        """Which text each printed token comes from: 0 for the session's, or a source's number."""
+        return self.tokens.sources
+
     def _all(self) -> tuple[str, int, tuple[Fault, ...], Tokens]:
         return self.printed, self.expanded, self.faults, self.tokens
 
@@ -257,6 +279,10 @@ class _Fault(ctypes.Structure):
     _fields_ = [(name, ctypes.c_uint32) for name in ("kind", "start", "end")]
 
 
+class _SourceTold(ctypes.Structure):
+    _fields_ = [("definitions", ctypes.c_size_t), ("fault", _Fault)]
+
+
 class _Counts(ctypes.Structure):
     _fields_ = [(name, ctypes.c_size_t) for name in ("printed", "tokens", "faults", "expanded")]
 
@@ -280,6 +306,9 @@ def _load() -> ctypes.CDLL:
         "reading_fault": [ctypes.POINTER(_Fault)],
         "origins": [numbers, size],
         "token_ranges": [numbers, size],
+        "source": [u32, text, size, u32, text, size, ctypes.POINTER(_SourceTold)],
+        "prelude": [numbers, size],
+        "sources": [numbers, size],
     }.items():
         call = getattr(library, f"expander_raw_{name}")
         call.argtypes = [session, *arguments]
@@ -288,6 +317,14 @@ def _load() -> ctypes.CDLL:
 
 
 _library = _load()
+
+
+# The index that stands for all definitions of a source.
+_ALL = 2**32 - 1
+
+
+def _read_fault(fault: _Fault) -> ReadFault:
+    return ReadFault(ReadFaultKind(fault.kind), Range(fault.start, fault.end))
 
 
 def _number(name: str, value: int, bits: int) -> int:
@@ -425,6 +462,57 @@ class Session:
         with self._turn():
             self._call("edit", start, end, data, len(data))
 
+    def source(
+        self, number: int, text: str, root: str | None = None, edition: int = 2024
+    ) -> int:
+        """Reads a text for its definitions, and tells how many it has.
+
+        It is the source of this number, from 1 on, of this session, in place of the one that has
+        it. Without a root its definitions are of the crate of the session's text. Else they are of
+        another crate, in that edition, and their `$crate` is printed as the root, such as `std`.
+        The prelude stays as it is. Raises Unread if the text cannot be read.
+
+        >>> with Session("f(two!())") as session:
+        ...     _ = session.source(1, "macro_rules! two { () => { $crate::TWO } }", root="std")
+        ...     session.prelude([1])
+        ...     expansion = session.expand()
+        >>> expansion.printed, expansion.sources.tolist()
+        ('f ( std :: TWO )\\n', [0, 0, 1, 1, 1, 1, 0])
+        """
+        data, told = str.encode(text), _SourceTold()
+        home = str.encode("" if root is None else root)
+        number, edition = _number("number", number, 32), _number("edition", edition, 32)
+        if root is not None and not home:
+            raise Refused(Code.ROOT)
+        with self._turn():
+            place = number, home, len(home), edition, data, len(data)
+            try:
+                self._call("source", *place, ctypes.byref(told))
+            except Refused as refused:
+                if refused.code == Code.UNREAD:
+                    raise Unread(_read_fault(told.fault)) from None
+                raise
+        return told.definitions
+
+    def prelude(self, picks: Iterable[int | tuple[int, int]]) -> None:
+        """Has the text expanded after these definitions, from the next `expand` on.
+
+        A pick is the number of a source and the index of a definition there, or the number alone:
+        then it is all definitions of the source that are in no inline module and have no attribute
+        `rustc_builtin_macro`. The nearest is the last, and those of the text are nearer. Besides,
+        those of each source of another crate are seen behind its root, as by `$crate::name` in
+        another of them.
+        """
+        pairs = [pick if isinstance(pick, tuple) else (pick, _ALL) for pick in picks]
+        room = array("I")
+        for source, index in pairs:
+            room.extend((_number("source", source, 32), _number("index", index, 32)))
+        # Never room for none, which may have no address.
+        room.extend((0, 0))
+        address, _ = room.buffer_info()
+        with self._turn():
+            self._call("prelude", address, len(pairs))
+
     def expand(self) -> Expansion:
         """Expands the text. Raises Unread if it cannot be read, Refused if there is no answer."""
         with self._turn():
@@ -456,7 +544,7 @@ class Session:
     def _reading_fault(self) -> ReadFault:
         fault = _Fault()
         self._call("reading_fault", ctypes.byref(fault))
-        return ReadFault(ReadFaultKind(fault.kind), Range(fault.start, fault.end))
+        return _read_fault(fault)
 
     def _faults(self) -> tuple[Fault, ...]:
         return tuple(map(self._fault, range(self._counts().faults)))
@@ -468,13 +556,13 @@ class Session:
 
     def _tokens(self) -> Tokens:
         count = self._counts().tokens
-        ranges, origins = (self._filled(name, count) for name in ("token_ranges", "origins"))
-        return Tokens(count, ranges, origins)
+        ranges, origins = (self._filled(name, count, 2) for name in ("token_ranges", "origins"))
+        return Tokens(count, ranges, origins, self._filled("sources", count, 1))
 
-    def _filled(self, name: str, count: int) -> array[int]:
-        """So many ranges, as the library writes them."""
+    def _filled(self, name: str, count: int, width: int) -> array[int]:
+        """What the library writes of so many tokens, of each so many numbers."""
         # Never room for none, which may have no address.
-        room = array("I", [0]) * max(2 * count, 2)
+        room = array("I", [0]) * (width * max(count, 1))
         address, _ = room.buffer_info()
         self._call(name, address, count)
         return room

@@ -17,6 +17,12 @@ pub enum Error {
     Boundary,
     /// The bytes are not all in the text, or end before they start.
     Range,
+    /// A source has no definition of this index.
+    Index,
+    /// The word cannot stand for a crate.
+    Root,
+    /// There is no source of this number, or, of number 0, there can be none.
+    Source,
 }
 
 impl fmt::Display for Error {
@@ -28,6 +34,9 @@ impl fmt::Display for Error {
             Error::Length => "the text is too long",
             Error::Boundary => "an offset is within a character",
             Error::Range => "the range is not in the text",
+            Error::Index => "a source has no definition of this index",
+            Error::Root => "the word cannot stand for a crate",
+            Error::Source => "there is no source of this number",
         })
     }
 }
@@ -44,6 +53,9 @@ pub(crate) fn checked(code: u32) -> Result<(), Error> {
         7 => Error::Length,
         10 => Error::Boundary,
         11 => Error::Range,
+        13 => Error::Index,
+        16 => Error::Root,
+        17 => Error::Source,
         _ => unreachable!("code {code}"),
     })
 }

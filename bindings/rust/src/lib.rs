@@ -86,8 +86,43 @@ pub struct ReadFault {
 pub struct Token {
     /// Its bytes in the printed text.
     pub range: Range<usize>,
-    /// The bytes of the text that it comes from.
+    /// The bytes of the text that it comes from: of the session's text, or of the source that
+    /// `Expansion::sources` tells.
     pub origin: Range<usize>,
+}
+
+/// Another crate: the word that its `$crate` is printed as, and the edition of its definitions.
+#[derive(Clone, Copy, Debug, PartialEq, Eq, Hash)]
+pub struct Home<'a> {
+    pub root: &'a str,
+    pub edition: Edition,
+}
+
+/// What a text is read as, for its definitions.
+#[derive(Clone, Debug, PartialEq, Eq, Hash)]
+pub enum Source {
+    /// How many definitions it has.
+    Read(usize),
+    /// Why it cannot be read.
+    Unread(ReadFault),
+}
+
+/// Definitions of a source, by the source's number.
+#[derive(Clone, Copy, Debug, PartialEq, Eq, Hash)]
+pub enum Pick {
+    /// The definition of an index.
+    One(u32, u32),
+    /// All that are in no inline module and have no attribute `rustc_builtin_macro`.
+    All(u32),
+}
+
+impl Pick {
+    fn raw(self) -> sys::Pick {
+        match self {
+            Pick::One(source, index) => sys::Pick { source, index },
+            Pick::All(source) => sys::Pick { source, index: u32::MAX },
+        }
+    }
 }
 
 /// What a text gives.
@@ -101,6 +136,15 @@ pub enum Reply<'s> {
 
 fn range(it: sys::Range) -> Range<usize> {
     it.start as usize..it.end as usize
+}
+
+fn read_fault(fault: sys::Fault) -> ReadFault {
+    let kind = match fault.kind {
+        0 => ReadFaultKind::BadToken,
+        1 => ReadFaultKind::CloserDoesNotFit,
+        _ => ReadFaultKind::GroupLeftOpen,
+    };
+    ReadFault { kind, range: range(fault.range) }
 }
 
 /// A text that may be edited and expanded. It may move to another thread, and one thread uses it at
@@ -135,8 +179,8 @@ pub struct Session {
 // - The library shares values by counts that are not atomic. Two sessions could share a count only
 //   by a call that is handed both, or by a variable that outlives a call. No export is handed two,
 //   and there is no such variable: all statics are constant tables, and none is by thread, which
-//   `.ci/bindings` looks for in the archive. What shares within a session, as names, pieces, memos
-//   and the last answer do, moves with it.
+//   `.ci/bindings` looks for in the archive. What shares within a session, as names, pieces, memos,
+//   sources, the prelude and the last answer do, moves with it.
 // - No call hands out a pointer to what is held: texts are copied in, and answers are copied out.
 // - An `Expansion` asks its session, which it borrows. It is not `Send`, since a session is not
 //   `Sync`, and while it lives its session cannot move. A `Token` or a `Fault` is a copy.
@@ -245,12 +289,48 @@ impl Session {
         let mut fault = sys::Fault::default();
         // SAFETY: there is room for a fault.
         unsafe { sys::expander_raw_reading_fault(self.at(), &mut fault) };
-        let kind = match fault.kind {
-            0 => ReadFaultKind::BadToken,
-            1 => ReadFaultKind::CloserDoesNotFit,
-            _ => ReadFaultKind::GroupLeftOpen,
-        };
-        ReadFault { kind, range: range(fault.range) }
+        read_fault(fault)
+    }
+
+    /// Reads a text as the source of this number, from 1 on, in place of the one that has it. It
+    /// belongs to this session. Without a home its definitions are of the crate of the session's text.
+    /// The prelude stays as it is, and the old source too if the text cannot be read.
+    ///
+    /// ```
+    /// # use filgordd::{Edition, Home, Pick, ReadFaultKind, Reply, Session, Source};
+    /// let mut session = Session::new("f(two!())", Edition::Edition2024, 128)?;
+    /// let std = Home { root: "std", edition: Edition::Edition2021 };
+    /// let text = "macro_rules! two { () => { $crate::id!(2) } } macro_rules! id { ($x:expr) => { $x } }";
+    /// assert_eq!(session.source(1, Some(std), text)?, Source::Read(2));
+    /// session.prelude(&[Pick::One(1, 0)])?;
+    /// let Reply::Read(expansion) = session.expand()? else { panic!("it is read") };
+    /// assert_eq!(expansion.printed(), "f ( 2 )\n");
+    /// assert_eq!(expansion.sources(), [0, 0, 1, 0]);
+    /// # Ok::<(), filgordd::Error>(())
+    /// ```
+    pub fn source(&mut self, number: u32, home: Option<Home<'_>>, text: &str) -> Result<Source, Error> {
+        let (root, edition) = home.map_or(("", 0), |it| (it.root, it.edition as u32));
+        if home.is_some() && root.is_empty() {
+            return Err(Error::Root);
+        }
+        let mut told = sys::SourceTold::default();
+        let (at, len) = (text.as_ptr(), text.len());
+        // SAFETY: the bytes are those of `&str`s, and there is room for what is told.
+        match unsafe {
+            sys::expander_raw_source(self.at(), number, root.as_ptr(), root.len(), edition, at, len, &mut told)
+        } {
+            UNREAD => Ok(Source::Unread(read_fault(told.fault))),
+            code => checked(code).map(|()| Source::Read(told.definitions)),
+        }
+    }
+
+    /// From the next expansion on the text is expanded after these definitions, in order, the nearest
+    /// last; its own are nearer. Besides, those of each source of another crate are seen behind its
+    /// root, as by `$crate::name` in another of them.
+    pub fn prelude(&mut self, picks: &[Pick]) -> Result<(), Error> {
+        let picks: Vec<sys::Pick> = picks.iter().map(|it| it.raw()).collect();
+        // SAFETY: there are as many picks as are said.
+        checked(unsafe { sys::expander_raw_prelude(self.at(), picks.as_ptr(), picks.len()) })
     }
 }
 
@@ -331,6 +411,15 @@ impl<'s> Expansion<'s> {
         checked(unsafe { sys::expander_raw_origins(at, origins.as_mut_ptr(), count) })?;
         let token = |(of, from)| Token { range: range(of), origin: range(from) };
         Ok(ranges.into_iter().zip(origins).map(token))
+    }
+
+    /// Which text each printed token comes from: 0 for the session's text, or the number of a source.
+    pub fn sources(&self) -> Vec<u32> {
+        let mut numbers = vec![0; self.counts.tokens];
+        let at = self.session.at();
+        // SAFETY: there is room for as many numbers as are said.
+        unsafe { sys::expander_raw_sources(at, numbers.as_mut_ptr(), numbers.len()) };
+        numbers
     }
 }
 

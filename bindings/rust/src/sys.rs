@@ -28,6 +28,20 @@ pub struct Counts {
     pub expanded: usize,
 }
 
+#[repr(C)]
+#[derive(Clone, Copy, Debug, Default)]
+pub struct SourceTold {
+    pub definitions: usize,
+    pub fault: Fault,
+}
+
+#[repr(C)]
+#[derive(Clone, Copy, Debug)]
+pub struct Pick {
+    pub source: u32,
+    pub index: u32,
+}
+
 unsafe extern "C" {
     pub fn expander_raw_open(
         s: *mut Session,
@@ -55,4 +69,16 @@ unsafe extern "C" {
     pub fn expander_raw_reading_fault(s: *mut Session, into: *mut Fault) -> u32;
     pub fn expander_raw_origins(s: *mut Session, room: *mut Range, len: usize) -> u32;
     pub fn expander_raw_token_ranges(s: *mut Session, room: *mut Range, len: usize) -> u32;
+    pub fn expander_raw_source(
+        s: *mut Session,
+        number: u32,
+        root: *const u8,
+        root_len: usize,
+        edition: u32,
+        text: *const u8,
+        len: usize,
+        into: *mut SourceTold,
+    ) -> u32;
+    pub fn expander_raw_prelude(s: *mut Session, picks: *const Pick, len: usize) -> u32;
+    pub fn expander_raw_sources(s: *mut Session, room: *mut u32, len: usize) -> u32;
 }

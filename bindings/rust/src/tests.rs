@@ -57,6 +57,35 @@ fn refusals() {
 }
 
 #[test]
+fn sources() {
+    let mut session = open("a!(1); d!(2); e!();");
+    let std = Home { root: "std", edition: Edition::Edition2021 };
+    let text = "macro_rules! a { ($x:tt) => { $crate::b!($x) } } mod m { macro_rules! c { () => {} } } \
+        #[rustc_builtin_macro] macro_rules! e { () => {} } macro_rules! b { ($x:tt) => { $crate::f $x } }";
+    assert_eq!(session.source(0, Some(std), text), Err(Error::Source));
+    assert_eq!(session.source(1, Some(Home { root: "crate", ..std }), text), Err(Error::Root));
+    assert_eq!(session.source(1, Some(Home { root: "", ..std }), text), Err(Error::Root));
+    assert_eq!(session.source(1, Some(std), text), Ok(Source::Read(4)));
+    let fault = ReadFault { kind: ReadFaultKind::GroupLeftOpen, range: 2..3 };
+    assert_eq!(session.source(1, Some(std), "a ("), Ok(Source::Unread(fault)));
+    assert_eq!(session.source(2, None, "macro_rules! d { ($x:tt) => { $x + } }"), Ok(Source::Read(1)));
+    assert_eq!(session.prelude(&[Pick::All(3)]), Err(Error::Source));
+    assert_eq!(session.prelude(&[Pick::All(1), Pick::One(2, 1)]), Err(Error::Index));
+    assert_eq!(session.prelude(&[Pick::All(1), Pick::One(2, 0)]), Ok(()));
+    let mut session = std::thread::spawn(move || session).join().expect("it passes");
+    let expansion = read(&mut session);
+    assert_eq!(expansion.printed(), "std :: f 1 ; 2 + ; e ! ( ) ;\n");
+    assert_eq!(expansion.sources(), [1, 1, 1, 1, 0, 0, 0, 2, 0, 0, 0, 0, 0, 0]);
+    let origins: Vec<&str> = (expansion.tokens().expect("it is short").zip(expansion.sources()))
+        .filter_map(|(token, source)| if source == 1 { text.get(token.origin) } else { None })
+        .collect();
+    assert_eq!(origins, ["$", ":", ":", "f"]);
+    session.prelude(&[]).expect("there is memory");
+    assert_eq!(read(&mut session).expanded(), 2);
+    assert_eq!(read(&mut session).sources(), [0; 17]);
+}
+
+#[test]
 fn codes() {
     let (mut fault, mut counts) = (sys::Fault::default(), sys::Counts::default());
     let session = open("a;");

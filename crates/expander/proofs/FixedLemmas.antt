@@ -1,6 +1,7 @@
 -- Output without faults is a fixed point: expanding it again prints the same text.
 use Rattle.std.proofs.Common.{◌≡◌, ℕ, ◌+◌, List, [], ◌∷◌, ◌++◌, refl, ap, ◌∙◌, sym, subst, Bool, true, false, if◌then◌else◌}
-use Rattle.std.specs.Prelude.{Option, Some, None, Result, Ok, Err, not, ◌&&◌, codes, filter, flat_map, map}
+use Rattle.std.specs.Prelude.{Option, Some, None, Result, Ok, Err, not, ◌&&◌, ◌||◌, codes, filter, flat_map, map, unwrap_or}
+use Rattle.small_grammar.specs.Text.{is_raw_name}
 use Rattle.std.specs.List.{list_all}
 use Rattle.std.specs.Str.{bytes_eq}
 use Rattle.std.proofs.lemmas.Slice.Eq.{bytes_eq-Decides}
@@ -20,7 +21,8 @@ use Rattle.bridge.specs.Printing as bare_printing
 use Rattle.bridge.specs.Printing.{depth_after, left_out_from, print_of}
 use Rattle.bridge.specs.Reading.{IsReading, TextStep, reading}
 use Rattle.bridge.specs.ReadsBack.{AreReadAs, IsReadAs, PrintsAgain, ReadsBack}
-use Rattle.bridge.specs.Spelling.{is_plain_name, same_leaf, same_rawness, spelled_leaf}
+use Rattle.bridge.specs.Spelling.{root_name, same_leaf, same_rawness, spelled_leaf}
+use Rattle.expander.proofs.RootWordLemmas.{root_word}
 use Rattle.bridge.specs.TokenSteps.{text_reading, text_steps}
 use Rattle.expander_model.specs.declared.fault.Fault.{Fault}
 use Rattle.expander_model.specs.declared.fault.FaultKind.TheVariants.{NestedDefinition}
@@ -81,9 +83,16 @@ same_raw is_raw.Yes is_raw.Yes e = refl
 same_raw is_raw.No is_raw.Yes e = cc
 same_raw is_raw.Yes is_raw.No e = cc
 
-quiet_crate : (i : Ident) (raw : IdentIsRaw) → is_quiet (at_leaf (as_leaf.Ident (record i { sym = codes "crate"; is_raw = raw }))) ≡ true
-quiet_crate i is_raw.No = refl
-quiet_crate i is_raw.Yes = refl
+-- a name that the root of a crate is spelled as is no keyword of definitions
+quiet_root : (i : Ident) (name : List ℕ) → root_name i ≡ Some name → is_quiet (at_leaf (as_leaf.Ident (record i { sym = name }))) ≡ true
+quiet_root i name h =
+    by_words (not (is_raw_name i)) (bytes_eq name (codes "macro_rules")) (bytes_eq name (codes "macro")) (root_word i name h)
+  where
+    by_words : (p q r : Bool) → (q || r) ≡ false → not ((p && q) || (p && r)) ≡ true
+    by_words p true r e = absurd (cc)
+    by_words p false true e = absurd (cc)
+    by_words true false false e = refl
+    by_words false false false e = refl
 
 -- the word of a name hangs on its text and its rawness
 same_word : (i j : Ident) → (same_rawness i.is_raw j.is_raw && bytes_eq i.sym j.sym) ≡ true
@@ -95,15 +104,15 @@ same_word i j e =
     sym (ap (λ (r : IdentIsRaw). is_definition_word (at_leaf (as_leaf.Ident (record i { is_raw = r })))) raw
     ∙ ap (λ (t : List ℕ). is_definition_word (at_leaf (as_leaf.Ident (record i { sym = t; is_raw = j.is_raw })))) text)
 
-quiet_name : (i j : Ident) (b : Bool) → is_quiet (at_leaf (as_leaf.Ident i)) ≡ true
-    → same_leaf (as_leaf.Ident (if b then record i { sym = codes "crate" } else i)) (as_leaf.Ident j) ≡ true
+quiet_name : (i j : Ident) (o : Option (List ℕ)) → root_name i ≡ o → is_quiet (at_leaf (as_leaf.Ident i)) ≡ true
+    → same_leaf (as_leaf.Ident (record i { sym = unwrap_or o i.sym })) (as_leaf.Ident j) ≡ true
     → is_quiet (at_leaf (as_leaf.Ident j)) ≡ true
-quiet_name i j true quiet e = ap not (same_word (record i { sym = codes "crate" }) j e) ∙ quiet_crate i i.is_raw
-quiet_name i j false quiet e = ap not (same_word i j e) ∙ quiet
+quiet_name i j (Some name) h quiet e = ap not (same_word (record i { sym = name }) j e) ∙ quiet_root i name h
+quiet_name i j None h quiet e = ap not (same_word i j e) ∙ quiet
 
 quiet_leaf : (l : Leaf) (j : Ident) → is_quiet (at_leaf l) ≡ true → same_leaf (spelled_leaf l) (as_leaf.Ident j) ≡ true
     → is_quiet (at_leaf (as_leaf.Ident j)) ≡ true
-quiet_leaf (as_leaf.Ident i) j quiet e = quiet_name i j (is_plain_name (codes "$crate") i) quiet e
+quiet_leaf (as_leaf.Ident i) j quiet e = quiet_name i j (root_name i) refl quiet e
 quiet_leaf (as_leaf.Punct p) j quiet e = cc
 quiet_leaf (as_leaf.Literal l) j quiet e = cc
 

@@ -8,7 +8,7 @@ use Rattle.tt_data.specs.Walk.{Step, at_leaf, opens, closes, walk}
 use Rattle.tt_data.specs.declared.delimiter.Delimiter.{Delimiter}
 use Rattle.tt_data.specs.declared.leaf.Ident.{Ident}
 use Rattle.tt_data.specs.declared.span.Span.{Span}
-use Rattle.expander_model.specs.Calls.{Path, bare, from_crate, other, Marked, none, token, inside, call, marked, unmarked}
+use Rattle.expander_model.specs.Calls.{Path, bare, from_crate, other, Marked, none, token, inside, call, key_of, marked, unmarked}
 use Rattle.expander_model.specs.Definitions.{Definition, definition_of, nearest}
 use Rattle.expander_model.specs.Expansion.{PlacedStep, World, Outcome, Deeper, CallSite, placed, just, followed_by, grouped, fitted, at_level, unbroken, looked_up, at_call, before_group, whole_call, search_calls, expansion}
 use Rattle.expander_model.specs.Meaning.{Layers, member, members_after, output_of, with_definition}
@@ -72,7 +72,7 @@ module _ {D : Type 0} (world : World D) (scope : List ℕ → Option D) where
   walked_call : (deeper : Deeper D) → AreDeeperWalked deeper → (outer : Option Span) (path : Path) (name : Ident) (site : CallSite) (kept : Outcome D)
       → AreWalked kept.steps → AreWalked (at_call world scope deeper outer path name site kept).steps
   walked_call deeper all outer bare name site kept w = walked_looked_up (scope name.sym) deeper all outer site kept w
-  walked_call deeper all outer (from_crate k c e) name site kept w = walked_looked_up (scope name.sym) deeper all outer site kept w
+  walked_call deeper all outer (from_crate k c e) name site kept w = walked_looked_up (scope (key_of (from_crate k c e) name)) deeper all outer site kept w
   walked_call deeper all outer (other c e) name site kept w = w
 
   walked_search : (deeper : Deeper D) → AreDeeperWalked deeper → (outer : Option Span) (m : Marked) → AreWalked (search_calls world scope deeper outer m).steps

@@ -2,6 +2,7 @@
 mod Rows
 mod TextRows
 mod PreludeRows
+mod HomeRows
 mod MacroRows
 mod PieceEndLemmas
 mod SharedPieceLemmas
@@ -17,7 +18,9 @@ mod SearchLemmas
 mod PartedLemmas
 mod PartedListLemmas
 mod ForestLemmas
+mod OwnTokenLemmas
 mod QuietLemmas
+mod RootWordLemmas
 mod FixedLemmas
 mod FixedReplyLemmas
 mod QuietReadLemmas

@@ -1,5 +1,5 @@
 -- The search of two lists side by side, where no call crosses their border.
-use Rattle.std.proofs.Common.{◌≡◌, ℕ, zero, suc, ◌≤◌, ◌<◌, List, [], ◌∷◌, ◌++◌, refl, sym, ap, ◌∙◌, arith, Bool, true, false, inl, inr}
+use Rattle.std.proofs.Common.{◌≡◌, ℕ, zero, suc, ◌≤◌, ◌<◌, List, [], ◌∷◌, ◌++◌, refl, sym, ap, ◌∙◌, arith, Bool, true, false, ◌&&◌, inl, inr}
 use Rattle.std.specs.Prelude.{Option, Some, None, ◌⊎◌, unwrap_or}
 use Rattle.tt_data.specs.Forest.{Forest, empty, leaf, group, joined, size}
 use Rattle.tt_data.specs.Walk.{at_leaf, walk}
@@ -11,14 +11,34 @@ use Rattle.tt_data.specs.declared.span.Span.{Span}
 use Rattle.expander_model.specs.declared.call.Call.{Call}
 use Rattle.expander_model.specs.declared.fault.FaultKind.{FaultKind}
 use Rattle.expander_model.specs.declared.fault.FaultKind.TheVariants.{CannotExpand}
-use Rattle.expander_model.specs.CallSteps.{bare_call, call_behind_colons, crate_call, call_at}
+use Rattle.expander_model.specs.CallSteps.{bare_call, call_behind_colons, crate_call, call_at, key_at}
 use Rattle.expander_model.specs.Calls.{Path, bare, from_crate, other, call, marked}
 use Rattle.expander_model.specs.Definitions.{or_else}
+use Rattle.bridge.specs.Text.{is_char, is_visible}
+use Rattle.small_grammar.specs.Text.{◌>>◌}
 use Rattle.expander_model.specs.Expansion.{World, Outcome, Deeper, CallSite, placed, just, followed_by, found, grouped, fitted, unbroken, search_calls, expansion}
 use Rattle.expander_session.specs.Laws.{Fails, IsParted, why_failed}
 use Rattle.expander_scope.proofs.CallLemmas.{IsBare, IsBehind, IsOfCrate, is_bare, is_behind, is_of_crate, marked_bare, marked_behind, marked_of_crate}
 use Rattle.expander_scope.proofs.OutcomeLemmas.{followed_assoc}
 use Rattle.expander_scope.proofs.TurnLemmas.{call_passed, colons_is_call, colons_opened, colons_smaller, known_search, leaf_search, rest_smaller}
+
+-- ---- a call that stands there is found
+
+bare_found : (f : Forest) (c : Call) → IsBare f c → bare_call f ≡ Some c
+bare_found f c b =
+    ap bare_call b.is
+    ∙ go (record { name = c.name; from_group = group b.brackets c.argument c.rest; argument = c.argument; rest = c.rest })
+    (is_char "!" b.bang) (is_visible b.brackets.kind) b.test
+    ∙ ap (λ (g : Forest). Some (record { name = c.name; from_group = g; argument = c.argument; rest = c.rest })) (sym b.group_is)
+  where
+    go : (x : Call) (p q : Bool) → (p && q) ≡ true → (p >> (q >> Some x)) ≡ Some x
+    go x true true e = refl
+    go x true false e = absurd (cc)
+    go x false q e = absurd (cc)
+
+behind_found : (f : Forest) (c : Call) → IsBehind f c → call_behind_colons f ≡ Some c
+behind_found f c b =
+    ap call_behind_colons b.is ∙ ap (λ (t : Bool). t >> bare_call b.after) b.colons ∙ bare_found b.after c b.call
 
 -- ---- a call with more behind it
 
@@ -52,6 +72,7 @@ module _ (more : Forest) where
     after = joined b.after more;
     is = ap (λ g. joined g more) b.is;
     test = b.test;
+    found = behind_found (joined b.after more) (with_more c) (behind_more b.after c b.call);
     call = behind_more b.after c b.call;
   }
 
@@ -217,7 +238,7 @@ module _ {D : Type 0} (world : World D) (d : D) (outer : Option Span) (site : Ca
       record { steps = s.steps; faults = s.faults; finds = s.finds }
 
 module _ {D : Type 0} (world : World D) (scope : List ℕ → Option D) (outer : Option Span) (front passed : Forest) (c : Call) (d : D)
-    (e : call_at (joined passed c.rest) ≡ Some c) (finds : scope c.name.sym ≡ Some d) where
+    (e : call_at (joined passed c.rest) ≡ Some c) (finds : scope (key_at (joined passed c.rest) c) ≡ Some d) where
   abbrev site : CallSite
   site = record { at = c.name.span; whole = passed; argument = c.argument }
 
@@ -225,7 +246,7 @@ module _ {D : Type 0} (world : World D) (scope : List ℕ → Option D) (outer :
   record IsFailed (depth : ℕ) : Type 0 where
     kept : Outcome D
     stays : Stays (why_failed (world.broken d) depth) outer site kept
-    is : expansion world scope depth outer (joined passed c.rest) ≡ followed_by (found c.name.sym (Some d) kept) (expansion world scope depth outer c.rest)
+    is : expansion world scope depth outer (joined passed c.rest) ≡ followed_by (found (key_at (joined passed c.rest) c) (Some d) kept) (expansion world scope depth outer c.rest)
 
   failed : (depth : ℕ) → Fails (world.broken d) depth (world.fit d c.argument) → IsFailed depth
   failed zero fails = record {
@@ -243,7 +264,7 @@ module _ {D : Type 0} (world : World D) (scope : List ℕ → Option D) (outer :
     abbrev expanded : Forest → Outcome D
     expanded f = expansion world scope depth outer f
 
-    in_place : expanded (joined front (joined passed c.rest)) ≡ followed_by (expanded front) (followed_by (found c.name.sym (Some d) (failed depth fails).kept) (expanded c.rest))
+    in_place : expanded (joined front (joined passed c.rest)) ≡ followed_by (expanded front) (followed_by (found (key_at (joined passed c.rest) c) (Some d) (failed depth fails).kept) (expanded c.rest))
     in_place = parted_expansion world scope depth outer front (joined passed c.rest) p ∙ ap (followed_by (expanded front)) (failed depth fails).is
 
     pub failed_steps : (expanded (joined front (joined passed c.rest))).steps ≡ (expanded front).steps ++ (placed outer (walk passed) ++ (expanded c.rest).steps)
@@ -253,7 +274,7 @@ module _ {D : Type 0} (world : World D) (scope : List ℕ → Option D) (outer :
         ≡ (expanded front).faults ++ (why_failed (world.broken d) depth, unwrap_or outer c.name.span) ∷ (expanded c.rest).faults
     failed_faults = ap (λ (o : Outcome D). o.faults) in_place ∙ ap (λ xs. (expanded front).faults ++ (xs ++ (expanded c.rest).faults)) (failed depth fails).stays.faults
 
-    pub failed_finds : (expanded (joined front (joined passed c.rest))).finds ≡ (expanded front).finds ++ (c.name.sym, Some d) ∷ (expanded c.rest).finds
+    pub failed_finds : (expanded (joined front (joined passed c.rest))).finds ≡ (expanded front).finds ++ (key_at (joined passed c.rest) c, Some d) ∷ (expanded c.rest).finds
     failed_finds =
         ap (λ (o : Outcome D). o.finds) in_place
-        ∙ ap (λ xs. (expanded front).finds ++ (c.name.sym, Some d) ∷ (xs ++ (expanded c.rest).finds)) (failed depth fails).stays.finds
+        ∙ ap (λ xs. (expanded front).finds ++ (key_at (joined passed c.rest) c, Some d) ∷ (xs ++ (expanded c.rest).finds)) (failed depth fails).stays.finds

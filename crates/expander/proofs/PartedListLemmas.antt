@@ -9,7 +9,7 @@ use Rattle.tt_data.specs.declared.leaf.Leaf.TheVariants as as_leaf
 use Rattle.tt_data.specs.declared.leaf.Punct.{Punct}
 use Rattle.expander_model.specs.declared.call.Call.{Call}
 use Rattle.expander_model.specs.CallSteps.{bare_call, call_behind_colons, crate_call, call_at}
-use Rattle.expander_model.specs.Calls.{is_colons, is_dollar_crate}
+use Rattle.expander_model.specs.Calls.{is_colons, is_root}
 use Rattle.expander_model.specs.Definitions.{or_else}
 use Rattle.expander_session.specs.Laws.{IsParted}
 use Rattle.small_grammar.specs.Text.{◌>>◌}
@@ -78,7 +78,7 @@ module _ (d : Delimiter) (inside rest : Forest) where
 
   group_crate : (f : Forest) → crate_call (to_group f) ≡ None → crate_call (joined (to_group f) rest) ≡ None
   group_crate (leaf (as_leaf.Ident i) f) e =
-      behind_test (is_dollar_crate i) (call_behind_colons (to_group f)) (call_behind_colons (joined (to_group f) rest)) (group_colons f) e
+      behind_test (is_root i) (call_behind_colons (to_group f)) (call_behind_colons (joined (to_group f) rest)) (group_colons f) e
   group_crate (leaf (as_leaf.Punct i) f) e = refl
   group_crate (leaf (as_leaf.Literal i) f) e = refl
   group_crate (group k a f) e = refl
@@ -148,7 +148,7 @@ module _ (i : Ident) (rest : Forest) where
 
   name_crate : (f : Forest) → f ≢ empty → EndsWithoutColons f → crate_call f ≡ None → crate_call (to_name f) ≡ None
   name_crate (leaf (as_leaf.Ident j) f) some h e =
-      behind_test (is_dollar_crate j) (call_behind_colons f) (call_behind_colons (to_name f))
+      behind_test (is_root j) (call_behind_colons f) (call_behind_colons (to_name f))
       (name_colons f (without_behind (leaf (as_leaf.Ident j) f) (leaf (as_leaf.Ident j) empty) f refl h)) e
   name_crate (leaf (as_leaf.Punct j) f) some h e = refl
   name_crate (leaf (as_leaf.Literal j) f) some h e = refl

@@ -13,7 +13,7 @@ use Rattle.tt_data.specs.declared.leaf.Punct.{Punct}
 use Rattle.tt_data.specs.declared.span.Span.{Span}
 use Rattle.expander_model.specs.declared.call.Call.{Call}
 use Rattle.expander_model.specs.Definitions.{Definition}
-use Rattle.expander_model.specs.CallSteps.{call_at}
+use Rattle.expander_model.specs.CallSteps.{call_at, key_at}
 use Rattle.expander_model.specs.Calls.{Path, bare, from_crate, other, Marked, none, token, inside, call, marked, unmarked, in_front}
 use Rattle.expander_model.specs.Definitions.{definition_of}
 use Rattle.expander_model.specs.Expansion.{World, Outcome, Deeper, CallSite, placed, just, followed_by, grouped, fitted, unbroken, at_call, before_group, search_calls, expansion}
@@ -44,7 +44,7 @@ module _ {D : Type 0} (world : World D) (d : D) (outer : Option Span) (site : Ca
   at_a_level false n deeper (inr (inr e)) = unfit deeper (world.fit d site.argument) e
 
 module _ {D : Type 0} (world : World D) (scope : List ℕ → Option D) (outer : Option Span) (f passed : Forest) (c : Call) (d : D)
-    (e : call_at f ≡ Some c) (finds : scope c.name.sym ≡ Some d) (is : f ≡ joined passed c.rest) where
+    (e : call_at f ≡ Some c) (finds : scope (key_at f c) ≡ Some d) (is : f ≡ joined passed c.rest) where
   failed : (deeper : Deeper D) → (unbroken world d (world.broken d) deeper outer (record { at = c.name.span; whole = passed; argument = c.argument })).steps ≡ placed outer (walk passed)
       → (search_calls world scope deeper outer (marked f)).steps ≡ placed outer (walk passed) ++ (search_calls world scope deeper outer (marked c.rest)).steps
   failed deeper stays =

@@ -27,7 +27,7 @@ use Rattle.expander_model.specs.Definitions.{Definition, definition_of}
 use Rattle.expander_model.specs.Meaning.{Layers, member, members, members_after, with_definition}
 use Rattle.expander_model.specs.Pieces.{cut, cut_from, ends_piece, is_pound_bang, pieces, put_together, relative, separated}
 use Rattle.expander_model.proofs.ApartLemmas.{separated-joined}
-use Rattle.expander_scope.proofs.DefinitionPlaceLemmas.{definition_piece}
+use Rattle.expander_model.proofs.DefinitionPlaceLemmas.{definition_piece}
 use Rattle.expander.proofs.TokenFormLemmas.{Form, blank, by_form, closing, doc, form_steps, is_mark_form, mark, name, neither, opening, quoted_name, value}
 
 -- ---- the last tree of a list

@@ -4,12 +4,12 @@ ghost use Rattle.std.specs.List.Sorted.{IsPermutation, IsSortedBy};
 ghost use Rattle.expander_session.specs.Agreement.{FoundIn, scope_of};
 ghost use Rattle.expander_session.specs.Answers.{AreAnswers, ShowTheSame, last_text};
 ghost use Rattle.expander_model.specs.Calls.{is_colons, marked, unmarked};
-ghost use Rattle.expander_model.specs.CallSteps.{call_at, first_call};
+ghost use Rattle.expander_model.specs.CallSteps.{call_at, first_call, key_at};
 ghost use Rattle.expander_model.specs.Changes.{outcome_with};
 ghost use Rattle.expander_session.specs.Count.{Looked, expanded_count, finds_within, is_same, looked_of};
 ghost use Rattle.expander_model.specs.EqualTrees.{same_forest};
 ghost use Rattle.expander_model.specs.Expansion.{World, expansion, followed_by, grouped, placed};
-ghost use Rattle.expander_session.specs.Expanded.{Expanded};
+ghost use Rattle.expander_session.specs.Expanded.{Expanded, origin_text};
 ghost use Rattle.expander_model.specs.Faults.{comes_before, in_order};
 ghost use Rattle.expander.specs.FixedPoint.{IsFixedPoint, RepliesWith};
 ghost use Rattle.expander_model.specs.Held.{IsMet, Known, Met, TellsApart, kept_after, numbered_scope, numbered_world, present};
@@ -107,7 +107,7 @@ pub fn pieces_are_those_of_the_bridge()
 /// follows.
 pub fn a_failed_call_stays()
     ensures { (world : World Definition) (scope : List ℕ → Option Definition) (depth : ℕ) (outer : Option Span) (f passed : Forest) (c : Call) (d : Definition) →
-        call_at f ≡ Some c → scope c.name.sym ≡ Some d → Fails (world.broken d) depth (world.fit d c.argument) → f ≡ joined passed c.rest →
+        call_at f ≡ Some c → scope (key_at f c) ≡ Some d → Fails (world.broken d) depth (world.fit d c.argument) → f ≡ joined passed c.rest →
         (expansion world scope depth outer f).steps ≡ placed outer (walk passed) ++ (expansion world scope depth outer c.rest).steps }
 {}
 
@@ -137,18 +137,18 @@ pub fn expansions_part_by_part()
 /// own is looked up: `finds`.
 pub fn a_failed_call_stays_anywhere()
     ensures steps { (world : World Definition) (scope : List ℕ → Option Definition) (depth : ℕ) (outer : Option Span) (front passed : Forest) (c : Call) (d : Definition) →
-        call_at (joined passed c.rest) ≡ Some c → scope c.name.sym ≡ Some d → Fails (world.broken d) depth (world.fit d c.argument) → IsParted front (joined passed c.rest) →
+        call_at (joined passed c.rest) ≡ Some c → scope (key_at (joined passed c.rest) c) ≡ Some d → Fails (world.broken d) depth (world.fit d c.argument) → IsParted front (joined passed c.rest) →
         (expansion world scope depth outer (joined front (joined passed c.rest))).steps
         ≡ (expansion world scope depth outer front).steps ++ (placed outer (walk passed) ++ (expansion world scope depth outer c.rest).steps) }
     ensures faults { (world : World Definition) (scope : List ℕ → Option Definition) (depth : ℕ) (outer : Option Span) (front passed : Forest) (c : Call) (d : Definition) →
-        call_at (joined passed c.rest) ≡ Some c → scope c.name.sym ≡ Some d → Fails (world.broken d) depth (world.fit d c.argument) → IsParted front (joined passed c.rest) →
+        call_at (joined passed c.rest) ≡ Some c → scope (key_at (joined passed c.rest) c) ≡ Some d → Fails (world.broken d) depth (world.fit d c.argument) → IsParted front (joined passed c.rest) →
         (expansion world scope depth outer (joined front (joined passed c.rest))).faults
         ≡ (expansion world scope depth outer front).faults
         ++ (why_failed (world.broken d) depth, unwrap_or outer c.name.span) ∷ (expansion world scope depth outer c.rest).faults }
     ensures finds { (world : World Definition) (scope : List ℕ → Option Definition) (depth : ℕ) (outer : Option Span) (front passed : Forest) (c : Call) (d : Definition) →
-        call_at (joined passed c.rest) ≡ Some c → scope c.name.sym ≡ Some d → Fails (world.broken d) depth (world.fit d c.argument) → IsParted front (joined passed c.rest) →
+        call_at (joined passed c.rest) ≡ Some c → scope (key_at (joined passed c.rest) c) ≡ Some d → Fails (world.broken d) depth (world.fit d c.argument) → IsParted front (joined passed c.rest) →
         (expansion world scope depth outer (joined front (joined passed c.rest))).finds
-        ≡ (expansion world scope depth outer front).finds ++ (c.name.sym, Some d) ∷ (expansion world scope depth outer c.rest).finds }
+        ≡ (expansion world scope depth outer front).finds ++ (key_at (joined passed c.rest) c, Some d) ∷ (expansion world scope depth outer c.rest).finds }
 {}
 
 /// If no piece is a definition, the output is the walk of the pieces, and no fault comes of
@@ -188,6 +188,22 @@ pub fn no_fault_without_definition_keywords()
     bridge::laws::reading_is_a_relation();
     bridge::laws::read_texts_are_printed_whole();
     bridge::laws::short_leaves_are_printed();
+}
+
+/// Without definitions of other texts each printed token comes from the text itself, so the
+/// origin of each is in it.
+pub fn printed_tokens_are_the_texts_own()
+    ensures { (grammar : Grammar) (edition : Edition) (depth : ℕ) (text : List ℕ) (m : ReadMeaning) →
+        IsUtf8 text → meaning (layers grammar edition) depth text ≡ Ok m →
+        All (λ n. n ≡ 0) (map origin_text m.tokens) }
+{
+    equal_pieces();
+    mbe_rules::laws::rules_at_other_places();
+    mbe::laws::fit_at_other_places();
+    mbe::laws::bursts_at_other_places();
+    bridge::laws::reading_is_a_relation();
+    bridge::laws::tokens_follow_one_another();
+    bridge::laws::tokens_are_written();
 }
 
 /// Faultless output is a fixed point. If a text means an expansion without a fault, after whatever

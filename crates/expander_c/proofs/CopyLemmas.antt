@@ -20,6 +20,33 @@ next_range ranges i r more is =
 pub next_rest : (ranges : List TextRange) (i : ℕ) (r : TextRange) (more : List TextRange) → drop i ranges ≡ r ∷ more → drop (i + 1) ranges ≡ more
 next_rest ranges i r more is = sym (drop-drop 1 i ranges) ∙ ap (drop 1) is
 
+module _ {A : Type 0} (room : List A) (i : ℕ) (x : A) where
+  -- one more of a list
+  pub same_more : (xs : List A) → slice_get xs i ≡ Some x → i < length room → take i room ≡ take i xs
+      → take (i + 1) (set room i x) ≡ take (i + 1) xs
+  same_more xs at within so_far =
+      take_more_set room i x within
+      ∙ ap (λ (ys : List A). ys ++ x ∷ []) so_far
+      ∙ sym (take_more xs i x (slice_get_within xs i x at) ∙ ap (λ (y : A). take i xs ++ y ∷ []) (get_or_from_slice_get xs i x x at))
+
+  -- what is behind stays
+  pub left_behind : (old : List A) → drop i room ≡ drop i old → drop (i + 1) (set room i x) ≡ drop (i + 1) old
+  left_behind old so_far =
+      let later : i < i + 1 = omega arith in
+      drop-set-lt (i + 1) room i x later ∙ drop_more_same room old i so_far
+
+  pub as_many : (n : ℕ) → n ≤ length room → n ≤ length (set room i x)
+  as_many n enough = rw (length-set room i x) enough
+
+-- at the end the room begins with the first of the list
+pub all_same : {A : Type 0} (xs room old : List A) (i n : ℕ) → i ≡ n → take i room ≡ take i xs → drop i room ≡ drop i old
+    → room ≡ take n xs ++ drop n old
+all_same {A} xs room old i n is copied left =
+    sym (take-append-drop i room)
+    ∙ ap (λ (ys : List A). ys ++ drop i room) copied
+    ∙ ap (λ (ys : List A). take i xs ++ ys) left
+    ∙ ap (λ k. take k xs ++ drop k old) is
+
 module _ (ranges : List TextRange) (room : List ByteRange) (i : ℕ) (r : TextRange) (x : ByteRange) (at : slice_get ranges i ≡ Some r) (is : x ≡ byte_range r) where
   pub copied_more : i < length room → take i room ≡ map byte_range (take i ranges)
       → take (i + 1) (set room i x) ≡ map byte_range (take (i + 1) ranges)
@@ -34,12 +61,10 @@ module _ (ranges : List TextRange) (room : List ByteRange) (i : ℕ) (r : TextRa
       ∙ ap (map byte_range) (sym next)
 
   pub left_less : (old : List ByteRange) → drop i room ≡ drop i old → drop (i + 1) (set room i x) ≡ drop (i + 1) old
-  left_less old so_far =
-      let later : i < i + 1 = omega arith in
-      drop-set-lt (i + 1) room i x later ∙ drop_more_same room old i so_far
+  left_less old so_far = left_behind room i x old so_far
 
   pub as_long : (n : ℕ) → n ≤ length room → n ≤ length (set room i x)
-  as_long n enough = rw (length-set room i x) enough
+  as_long n enough = as_many room i x n enough
 
 -- at the end of the ranges all of them are copied
 pub copied_all : (ranges : List TextRange) (room old : List ByteRange) (i : ℕ) → drop i ranges ≡ [] → i ≤ length ranges

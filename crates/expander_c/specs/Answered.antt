@@ -1,5 +1,5 @@
 -- What calls tell of the last answer, as C sees it.
-use Rattle.std.specs.Prelude.{◌≡◌, ℕ, ◌<◌, ◌≤◌, ◌^◌, ◌++◌, List, length, drop, map, slice_get, Option, Some, None}
+use Rattle.std.specs.Prelude.{◌≡◌, ℕ, ◌<◌, ◌≤◌, ◌^◌, ◌++◌, List, length, drop, map, slice_get, take, Option, Some, None}
 use Rattle.tt_data.specs.declared.span.TextRange.{TextRange}
 use Rattle.bridge.specs.PrintedRanges.{read_ranges}
 use Rattle.bridge.specs.declared.reading.outcome.ReadFault.{ReadFault}
@@ -82,6 +82,13 @@ PrintedTold e = Copied e.printed
 -- the origins are copied
 abbrev pub OriginsTold : Expanded → List ByteRange → List ByteRange → Code → Type 0
 OriginsTold e = Copied (map byte_range e.origins)
+
+-- the number of the text that each printed token comes from is copied, if there is enough room
+abbrev pub SourcesTold : Expanded → List ℕ → List ℕ → Code → Type 0
+SourcesTold e old new code.Done =
+    (length e.origins ≤ length old) × (new ≡ take (length e.origins) e.texts ++ drop (length e.origins) old)
+SourcesTold e old new code.Room = (length old < length e.origins) × (new ≡ old)
+SourcesTold e old new _ = ⊥
 
 -- the ranges of the printed tokens are copied, unless the printed text is too long for them
 abbrev pub TokenRangesTold : Expanded → List ByteRange → List ByteRange → Code → Type 0

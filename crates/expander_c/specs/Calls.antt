@@ -1,21 +1,33 @@
 -- What the calls do to a session and its last answer, and what their codes mean.
-use Rattle.std.specs.Prelude.{◌≡◌, ℕ, ◌+◌, ◌-◌, ◌<◌, ◌≤◌, ◌^◌, List, [], length, Bool, Option, Some, None, IsUtf8, IsCharBoundary, ⊤, true, false, nat_eq, if◌then◌else◌}
+use Rattle.std.specs.Prelude.{◌≡◌, ℕ, ◌+◌, ◌-◌, ◌<◌, ◌≤◌, ◌^◌, List, [], length, Bool, Option, Some, None, IsUtf8, IsCharBoundary, ⊤, ◌⊎◌, true, false, nat_eq, if◌then◌else◌}
 use Rattle.rustc_lexer.specs.Edit.{edited}
 use Rattle.any_grammar.specs.Answer.{answer}
 use Rattle.any_grammar.specs.declared.chosen.AnyGrammar.{AnyGrammar}
 use Rattle.any_grammar.specs.declared.chosen.AnyGrammar.TheVariants.{Small, Rust}
 use Rattle.tt_data.specs.declared.edition.Edition.{Edition}
 use Rattle.tt_data.specs.declared.edition.Edition.TheVariants.{Edition2015, Edition2018, Edition2021, Edition2024}
+use Rattle.bridge.specs.ReadText.{HasTooMany}
+use Rattle.bridge.specs.TokenSteps.{text_steps}
+use Rattle.bridge.specs.declared.reading.outcome.ReadFault.{ReadFault}
 use Rattle.expander_model.specs.Meaning.{Layers}
+use Rattle.expander_sources.specs.Homes.{Home, home_named}
+use Rattle.expander_sources.specs.SourceReads.{IsSourceOf}
+use Rattle.expander_sources.specs.Sources.{Source}
+use Rattle.expander_sources.specs.declared.source.SourceRead.{SourceRead}
+use Rattle.expander_sources.specs.declared.source.SourceRead.TheVariants as read
 use Rattle.expander_scope.specs.declared.refusal.Refusal.TheVariants as why
 use Rattle.expander_session.specs.Layered.{layers}
 use Rattle.expander_session.specs.Replies.{HasCause, Replies}
 use Rattle.expander_session.specs.declared.session.Reply.TheVariants as reply
+use Rattle.expander_c.specs.Answered.{told_unread}
+use Rattle.expander_c.specs.Sources.{IsWhyNot, picks_code, prelude_of, with_source}
+use Rattle.expander_c.specs.declared.answers.SourceTold.{SourceTold}
 use Rattle.expander_c.specs.declared.code.Code.{Code}
 use Rattle.expander_c.specs.declared.code.Code.TheVariants as code
 use Rattle.expander_c.specs.declared.live.Answer.{Answer}
 use Rattle.expander_c.specs.declared.live.Answer.TheVariants as last
 use Rattle.expander_c.specs.declared.live.Live.{Live}
+use Rattle.expander_c.specs.declared.sources.Pick.{Pick}
 
 -- ---- opening
 
@@ -46,6 +58,7 @@ pub record IsNew (bytes : List ℕ) (year levels number : ℕ) (live : Live) : T
   pub trees : live.session.trees ≡ []
   pub given : live.session.given ≡ 0
   pub answer : live.answer ≡ last.Nothing
+  pub sources : live.sources ≡ []
 
 -- why bytes are no text
 abbrev pub NoText : List ℕ → Code → Type 0
@@ -121,11 +134,52 @@ abbrev pub is_read : Answer → Bool
 is_read (last.Read e) = true
 is_read _ = false
 
--- an expansion: the session's reply, or why there is none, and then nothing changed
+-- an expansion: the session's reply, while its sources stay, or why there is none, and then nothing changed
 abbrev pub ExpandTold : Live → Live → Code → Type 0
-ExpandTold old new code.Done = Answers old new new.answer × (is_read new.answer ≡ true)
-ExpandTold old new code.Unread = Answers old new new.answer × (is_read new.answer ≡ false)
+ExpandTold old new code.Done = Answers old new new.answer × (is_read new.answer ≡ true) × (new.sources ≡ old.sources)
+ExpandTold old new code.Unread = Answers old new new.answer × (is_read new.answer ≡ false) × (new.sources ≡ old.sources)
 ExpandTold old new code.Memory = new ≡ old
 ExpandTold old new code.Tokens = HasCause (layers_of old) old.session why.Tokens × (new ≡ old)
 ExpandTold old new code.Numbers = HasCause (layers_of old) old.session why.Numbers × (new ≡ old)
 ExpandTold old new _ = ⊥
+
+-- ---- sources
+
+-- the crate with this root and edition; without a root that of the session's text
+abbrev pub IsHome : List ℕ → ℕ → Option Home → Type 0
+IsHome root year None = root ≡ []
+IsHome root year (Some h) = (edition : Edition) × (edition_of year ≡ Some edition) × (home_named root edition ≡ Some h)
+
+-- why there is none
+abbrev pub NoHome : List ℕ → ℕ → Code → Type 0
+NoHome root year code.Edition = edition_of year ≡ None
+NoHome root year code.Root = (edition : Edition) × (home_named root edition ≡ None)
+NoHome root year code.Memory = ⊤
+NoHome root year c = NoText root c
+
+-- what a text of such a crate is read as
+abbrev pub IsSource : ℕ → List ℕ → ℕ → List ℕ → SourceRead → Type 0
+IsSource number root year text r = (home : Option Home) × IsHome root year home × IsSourceOf number home text r
+
+-- why it is not read
+abbrev pub NoSource : ℕ → List ℕ → ℕ → List ℕ → Code → Type 0
+NoSource number root year text code.Source = number ≡ 0
+NoSource number root year text code.Tokens = HasTooMany (text_steps text)
+NoSource number root year text c = NoHome root year c ⊎ NoText text c
+
+-- a source was added, and how many definitions it has is written; or why its text cannot be read is; or why neither, and then
+-- nothing changed
+abbrev pub SourceAdded : ℕ → List ℕ → ℕ → List ℕ → SourceTold → SourceTold → Live → Live → Code → Type 0
+SourceAdded number root year text told_old told old new code.Done =
+    (s : Source) × IsSource number root year text (read.Read s) × (new ≡ record old { sources = with_source s old.sources })
+    × (told ≡ record told_old { definitions = length s.items })
+SourceAdded number root year text told_old told old new code.Unread =
+    (f : ReadFault) × IsSource number root year text (read.Unread f) × (new ≡ old) × (told ≡ record told_old { fault = told_unread f })
+SourceAdded number root year text told_old told old new c = NoSource number root year text c × (new ≡ old) × (told ≡ told_old)
+
+-- the text is expanded after these definitions from now on; or why not, and then nothing changed
+abbrev pub PreludeTold : List Pick → Live → Live → Code → Type 0
+PreludeTold picks old new code.Done =
+    (picks_code old.sources picks ≡ code.Done)
+    × (new ≡ record old { session = record old.session { prelude = prelude_of old.sources picks } })
+PreludeTold picks old new c = IsWhyNot (picks_code old.sources picks) c × (new ≡ old)

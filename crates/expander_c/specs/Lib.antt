@@ -1,4 +1,5 @@
 pub mod Codes
+pub mod Sources
 pub mod Calls
 pub mod Answered
 pub mod Tellings

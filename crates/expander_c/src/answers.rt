@@ -20,6 +20,14 @@ pub struct ToldFault {
     pub range: ByteRange,
 }
 
+/// What a text is read as: how many definitions the source has, or why it cannot be read.
+#[repr(C)]
+#[derive(Clone, Copy, Debug, PartialEq, Eq)]
+pub struct SourceTold {
+    pub definitions: usize,
+    pub fault: ToldFault,
+}
+
 /// How much an expansion has.
 #[repr(C)]
 #[derive(Clone, Copy, Debug, PartialEq, Eq)]

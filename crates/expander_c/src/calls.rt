@@ -1,15 +1,16 @@
 //! The calls on what a handle holds: it is taken out, asked, and put back.
 ghost use Rattle.std.specs.Prelude.{◌≡◌, None, ⊤};
-ghost use Rattle.expander_c.specs.Answered.{CountsTold, FaultTold, OfExpansion, OriginsTold, PrintedTold, ReadingFaultTold, TokenRangesTold};
-ghost use Rattle.expander_c.specs.Calls.{BoundaryTold, EditTold, ExpandTold, FitTold};
+ghost use Rattle.expander_c.specs.Answered.{CountsTold, FaultTold, OfExpansion, OriginsTold, PrintedTold, ReadingFaultTold, SourcesTold, TokenRangesTold};
+ghost use Rattle.expander_c.specs.Calls.{BoundaryTold, EditTold, ExpandTold, FitTold, PreludeTold, SourceAdded};
 ghost use Rattle.expander_c.specs.Tellings.{Looks, Opened, TextTold, Told};
 
-use crate::answers::{ByteRange, Counts, ToldFault};
+use crate::answers::{ByteRange, Counts, SourceTold, ToldFault};
 use crate::code::Code;
 use crate::handle::Handle;
 use crate::last;
-use crate::live::Live;
+use crate::live::{Given, Live};
 use crate::room::copy_text;
+use crate::sources::Pick;
 use std::alloc::Global;
 
 /// Opens a session over a copy of the text, in place of what the handle holds, which is freed.
@@ -170,6 +171,51 @@ pub(crate) fn token_ranges(alloc: Global, handle: &mut Handle, room: &mut [ByteR
         return Code::Closed;
     };
     let code = last::ranges(&live.as_ref().answer, room);
+    handle.put(alloc, live);
+    code
+}
+
+/// Reads a text as a source, and keeps it in place of the one of its number.
+pub(crate) fn source(
+    alloc: Global,
+    handle: &mut Handle,
+    given: &Given<'_>,
+    into: &mut SourceTold,
+) -> Code
+    ensures { Told (into.new ≡ into.old) (SourceAdded given.now.number given.now.root.now
+        given.now.edition given.now.text.now into.old into.new) handle.old.held handle.new.held
+        result }
+{
+    let Some(mut live) = handle.take(alloc) else {
+        return Code::Closed;
+    };
+    let code = live.as_mut().source(alloc, given, into);
+    handle.put(alloc, live);
+    code
+}
+
+/// Has the text expanded after these definitions, from the next expansion on.
+pub(crate) fn prelude(alloc: Global, handle: &mut Handle, picks: &[Pick]) -> Code
+    ensures { Told ⊤ (PreludeTold picks.now) handle.old.held handle.new.held result }
+{
+    let Some(mut live) = handle.take(alloc) else {
+        return Code::Closed;
+    };
+    let code = live.as_mut().prelude(alloc, picks);
+    handle.put(alloc, live);
+    code
+}
+
+/// The number of the text that each printed token comes from, copied to the beginning of the room.
+pub(crate) fn sources(alloc: Global, handle: &mut Handle, room: &mut [u32]) -> Code
+    ensures { Looks (room.new ≡ room.old)
+        (λ live. OfExpansion SourcesTold room.old room.new live.answer) handle.old.held
+        handle.new.held result }
+{
+    let Some(live) = handle.take(alloc) else {
+        return Code::Closed;
+    };
+    let code = last::sources(&live.as_ref().answer, room);
     handle.put(alloc, live);
     code
 }

@@ -37,6 +37,10 @@ pub enum Code {
     Index,
     /// There is not enough room.
     Room,
+    /// The word cannot stand for a crate.
+    Root,
+    /// There is no source of this number, or there can be none.
+    Source,
 }
 
 impl Code {
@@ -60,6 +64,9 @@ impl Code {
             Code::Nothing => 12,
             Code::Index => 13,
             Code::Room => 14,
+            // 15 is that of a null pointer, which the header alone answers.
+            Code::Root => 16,
+            Code::Source => 17,
         }
     }
 }

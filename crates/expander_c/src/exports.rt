@@ -1,12 +1,14 @@
 //! What C calls. Each answers a code by its number.
 ghost use Rattle.std.specs.Prelude.{◌≡◌, None, ⊤};
-ghost use Rattle.expander_c.specs.Answered.{CountsTold, FaultTold, OfExpansion, OriginsTold, PrintedTold, ReadingFaultTold, TokenRangesTold};
-ghost use Rattle.expander_c.specs.Calls.{BoundaryTold, EditTold, ExpandTold, FitTold};
+ghost use Rattle.expander_c.specs.Answered.{CountsTold, FaultTold, OfExpansion, OriginsTold, PrintedTold, ReadingFaultTold, SourcesTold, TokenRangesTold};
+ghost use Rattle.expander_c.specs.Calls.{BoundaryTold, EditTold, ExpandTold, FitTold, PreludeTold, SourceAdded};
 ghost use Rattle.expander_c.specs.Tellings.{Looks, Opened, Tells, TextTold, Told};
 
-use crate::answers::{ByteRange, Counts, ToldFault};
+use crate::answers::{ByteRange, Counts, SourceTold, ToldFault};
 use crate::calls;
 use crate::handle::Handle;
+use crate::live::Given;
+use crate::sources::Pick;
 use std::alloc::Global;
 
 /// Opens a session over a copy of the text, in place of what the handle holds, which is freed.
@@ -154,4 +156,45 @@ pub extern "C" fn expander_raw_token_ranges(
     ensures { Tells (Looks (room.new ≡ room.old) (λ live. OfExpansion TokenRangesTold room.old room.new live.answer) handle.old.held handle.new.held) result }
 {
     calls::token_ranges(alloc, handle, room).number()
+}
+
+/// Reads a text as a source, and keeps it in place of the one of its number. The prelude stays.
+#[unsafe(no_mangle)]
+pub extern "C" fn expander_raw_source(
+    alloc: Global,
+    handle: &mut Handle,
+    number: u32,
+    root: &[u8],
+    edition: u32,
+    text: &[u8],
+    into: &mut SourceTold,
+) -> u32
+    ensures { Tells (Told (into.new ≡ into.old) (SourceAdded number root.now edition text.now
+        into.old into.new) handle.old.held handle.new.held) result }
+{
+    let given = Given {
+        number,
+        root,
+        edition,
+        text,
+    };
+    calls::source(alloc, handle, &given, into).number()
+}
+
+/// Has the text expanded after these definitions, from the next expansion on.
+#[unsafe(no_mangle)]
+pub extern "C" fn expander_raw_prelude(alloc: Global, handle: &mut Handle, picks: &[Pick]) -> u32
+    ensures { Tells (Told ⊤ (PreludeTold picks.now) handle.old.held handle.new.held) result }
+{
+    calls::prelude(alloc, handle, picks).number()
+}
+
+/// The number of the text that each printed token comes from, copied to the beginning of the room.
+#[unsafe(no_mangle)]
+pub extern "C" fn expander_raw_sources(alloc: Global, handle: &mut Handle, room: &mut [u32]) -> u32
+    ensures { Tells (Looks (room.new ≡ room.old)
+        (λ live. OfExpansion SourcesTold room.old room.new live.answer) handle.old.held
+        handle.new.held) result }
+{
+    calls::sources(alloc, handle, room).number()
 }

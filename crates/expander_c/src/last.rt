@@ -1,11 +1,11 @@
 //! What is told of the last answer, written to where the caller says.
 ghost use Rattle.std.specs.Prelude.{◌≡◌};
-ghost use Rattle.expander_c.specs.Answered.{CountsTold, FaultTold, OfExpansion, OriginsTold, PrintedTold, ReadingFaultTold, TokenRangesTold};
+ghost use Rattle.expander_c.specs.Answered.{CountsTold, FaultTold, OfExpansion, OriginsTold, PrintedTold, ReadingFaultTold, SourcesTold, TokenRangesTold};
 
 use crate::answers::{ByteRange, Counts, ToldFault, counted, told, told_unread};
 use crate::code::Code;
 use crate::live::Answer;
-use crate::room::{copy_origins, copy_text, copy_token_ranges};
+use crate::room::{copy_origins, copy_sources, copy_text, copy_token_ranges};
 
 /// How much the expansion has.
 pub(crate) fn counts(answer: &Answer, into: &mut Counts) -> Code
@@ -73,4 +73,14 @@ pub(crate) fn ranges(answer: &Answer, room: &mut [ByteRange]) -> Code
         return Code::Nothing;
     };
     copy_token_ranges(expansion, room)
+}
+
+/// The number of the text that each printed token comes from, copied to the beginning of the room.
+pub(crate) fn sources(answer: &Answer, room: &mut [u32]) -> Code
+    ensures { OfExpansion SourcesTold room.old room.new answer.now result }
+{
+    let Answer::Read(expansion) = answer else {
+        return Code::Nothing;
+    };
+    copy_sources(expansion, room)
 }

@@ -12,3 +12,4 @@ mod handle;
 mod last;
 mod live;
 mod room;
+mod sources;

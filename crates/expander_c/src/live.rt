@@ -1,11 +1,14 @@
 //! A session with its last answer: what a handle of C's holds.
 ghost use Rattle.std.specs.Prelude.{◌≡◌, ◌<◌, ◌^◌, length, IfOk, IfErr, IsUtf8, MatchResult};
-ghost use Rattle.expander_c.specs.Calls.{BoundaryTold, CannotOpen, EditTold, ExpandTold, FitTold, IsNew, NoText, edition_of, grammar_of};
+ghost use Rattle.expander_c.specs.Calls.{BoundaryTold, CannotOpen, EditTold, ExpandTold, FitTold, IsHome, IsNew, IsSource, NoHome, NoSource, NoText, PreludeTold, SourceAdded, edition_of, grammar_of};
 
+use crate::answers::{SourceTold, told_unread};
 use crate::code::{Code, refused};
+use crate::sources::{Pick, Sources};
 use any_grammar::AnyGrammar;
-use expander::{Edition, Expansion, ReadFault, Reply, Session};
-use std::alloc::Global;
+use expander::{Edition, Expansion, Home, ReadFault, Reply, Session, Source, SourceRead};
+use std::alloc::{AllocError, Global};
+use tt_data::TtFault;
 
 /// The last answer of a session.
 #[derive(Drop)]
@@ -18,11 +21,22 @@ pub enum Answer {
     Unread(ReadFault),
 }
 
-/// A session, and its last answer.
+/// A session, its last answer, and the sources that its prelude may be picked out of.
 #[derive(Drop)]
 pub struct Live {
     pub session: Session<AnyGrammar>,
     pub answer: Answer,
+    pub sources: Sources,
+}
+
+/// A text that is to be a source, as C hands it over: its number, the root and the edition of the
+/// crate that it belongs to, and its bytes. Without a root it is of the crate of the session's text.
+#[derive(Clone, Copy)]
+pub(crate) struct Given<'a> {
+    pub number: u32,
+    pub root: &'a [u8],
+    pub edition: u32,
+    pub text: &'a [u8],
 }
 
 // The edition of a year.
@@ -63,6 +77,44 @@ fn text_in(bytes: &[u8]) -> Result<&str, Code>
     }
 }
 
+// The home with this root and edition. None without a root.
+fn home_of(alloc: Global, root: &[u8], edition: u32) -> Result<Option<Home>, Code>
+    ensures home { IfOk result (IsHome root.now edition) }
+    ensures no_home { IfErr result (NoHome root.now edition) }
+{
+    if root.is_empty() {
+        return Ok(None);
+    }
+    let Some(edition) = edition_of(edition) else {
+        return Err(Code::Edition);
+    };
+    let root = text_in(root)?;
+    match Home::new(alloc, root, edition) {
+        Ok(Some(home)) => Ok(Some(home)),
+        Ok(None) => Err(Code::Root),
+        Err(_) => Err(Code::Memory),
+    }
+}
+
+// What a text is read as.
+fn read_source(alloc: Global, given: &Given<'_>) -> Result<SourceRead, Code>
+    ensures read { IfOk result
+        (IsSource given.now.number given.now.root.now given.now.edition given.now.text.now) }
+    ensures why { IfErr result
+        (NoSource given.now.number given.now.root.now given.now.edition given.now.text.now) }
+{
+    if given.number == 0 {
+        return Err(Code::Source);
+    }
+    let home = home_of(alloc, given.root, given.edition)?;
+    let text = text_in(given.text)?;
+    match Source::new(alloc, text, given.number, home) {
+        Ok(read) => Ok(read),
+        Err(TtFault::Tokens) => Err(Code::Tokens),
+        Err(_) => Err(Code::Memory),
+    }
+}
+
 impl Live {
     /// A session over a copy of the text. Nothing is expanded yet.
     pub(crate) fn new(
@@ -86,6 +138,7 @@ impl Live {
             Ok(session) => Ok(Live {
                 session,
                 answer: Answer::Nothing,
+                sources: Sources::new(alloc),
             }),
             Err(_) => Err(Code::Memory),
         }
@@ -151,6 +204,42 @@ impl Live {
                 Code::Unread
             }
             Err(refusal) => refused(refusal),
+        }
+    }
+
+    /// Reads a text as a source, and keeps it in place of the one of its number. The prelude stays.
+    pub(crate) fn source(&mut self, alloc: Global, given: &Given<'_>, into: &mut SourceTold) -> Code
+        ensures { SourceAdded given.now.number given.now.root.now given.now.edition
+            given.now.text.now into.old into.new self.old self.new result }
+    {
+        let source = match read_source(alloc, given) {
+            Ok(SourceRead::Read(source)) => source,
+            Ok(SourceRead::Unread(fault)) => {
+                into.fault = told_unread(fault);
+                return Code::Unread;
+            }
+            Err(code) => return code,
+        };
+        let definitions = source.len();
+        match self.sources.put(source) {
+            Ok(()) => {
+                into.definitions = definitions;
+                Code::Done
+            }
+            Err(AllocError) => Code::Memory,
+        }
+    }
+
+    /// Has the text expanded after these definitions, from the next expansion on.
+    pub(crate) fn prelude(&mut self, alloc: Global, picks: &[Pick]) -> Code
+        ensures { PreludeTold picks.now self.old self.new result }
+    {
+        match self.sources.prelude(alloc, picks) {
+            Ok(prelude) => {
+                self.session.set_prelude(prelude);
+                Code::Done
+            }
+            Err(code) => code,
         }
     }
 }

@@ -1,6 +1,6 @@
 //! What is told of the last answer, written to where the caller says.
 ghost use Rattle.std.specs.Prelude.{◌≡◌, ◌≤◌, ◌++◌, length, drop, map, take};
-ghost use Rattle.expander_c.specs.Answered.{Copied, OriginsTold, TokenRangesTold};
+ghost use Rattle.expander_c.specs.Answered.{Copied, OriginsTold, SourcesTold, TokenRangesTold};
 
 use crate::answers::{ByteRange, byte_range};
 use crate::code::Code;
@@ -47,10 +47,30 @@ pub(crate) fn copy_origins(expansion: &Expansion, room: &mut [ByteRange]) -> Cod
     }
     let mut i = 0;
     while i < tokens {
-        let Some(range) = expansion.origin(i) else {
+        let Some(origin) = expansion.source(i) else {
             unreachable!("a printed token has an origin");
         };
-        room[i] = byte_range(range);
+        room[i] = byte_range(origin.range);
+        i += 1;
+    }
+    Code::Done
+}
+
+/// Copies the number of the text that each printed token comes from to the beginning of the room, if
+/// there is enough.
+pub(crate) fn copy_sources(expansion: &Expansion, room: &mut [u32]) -> Code
+    ensures { SourcesTold expansion.now room.old room.new result }
+{
+    let tokens = expansion.tokens();
+    if room.len() < tokens {
+        return Code::Room;
+    }
+    let mut i = 0;
+    while i < tokens {
+        let Some(origin) = expansion.source(i) else {
+            unreachable!("a printed token has an origin");
+        };
+        room[i] = origin.text;
         i += 1;
     }
     Code::Done

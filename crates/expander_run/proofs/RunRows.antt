@@ -10,7 +10,7 @@ use Rattle.expander_run.specs.Runs.{IsFlushed, Refuses, Runs, status, status_by}
 use Rattle.expander_run.specs.declared.program.Status.{Status}
 use Rattle.expander_run.specs.declared.stop.Stop.{Stop}
 use Rattle.expander_run.specs.declared.stop.Stop.TheVariants.{ReadFailed}
-use Rattle.expander_model.specs.Calls.{Path, bare, from_crate, other, Marked, none, token, inside, call, marked}
+use Rattle.expander_model.specs.Calls.{Path, bare, from_crate, other, Marked, none, token, inside, call, key_of, marked}
 use Rattle.expander_model.specs.Definitions.{Definition, definition_of, nearest}
 use Rattle.expander_model.specs.Expansion.{World, Outcome, CallSite, unbroken, looked_up, at_call, search_calls}
 use Rattle.expander_session.specs.Replies.{NeedsNumbers}
@@ -46,9 +46,9 @@ with_faults : (fault : Fault) (faults : List Fault) → status_by (fault ∷ fau
 with_faults fault faults = refl
 
 -- a run that stops never has status 0
-never_0 : {R W E : Type 0} (layers : Layers) (stop : Stop) (input : Option (List ℕ)) (depth : ℕ) (writes tells : List ℕ → Type 0)
-    (reader : Watch R) (before writer : Watch W) (faults : Watch E) → Refuses layers stop input depth writes tells reader before writer faults (status 0) → ⊥
-never_0 layers stop input depth writes tells reader before writer faults h = omega (arith, ap (λ (s : Status). s.0) h.status)
+never_0 : {R W E : Type 0} (layers : Layers) (prelude : List Forest) (stop : Stop) (input : Option (List ℕ)) (depth : ℕ) (writes tells : List ℕ → Type 0)
+    (reader : Watch R) (before writer : Watch W) (faults : Watch E) → Refuses layers prelude stop input depth writes tells reader before writer faults (status 0) → ⊥
+never_0 layers prelude stop input depth writes tells reader before writer faults h = omega (arith, ap (λ (s : Status). s.0) h.status)
 
 -- a reader that failed in mid-stream: nothing is written, and that is told
 read_failed : (depth : ℕ) → Runs {R = ℕ} {W = ℕ} {E = ℕ} (Some ReadFailed) (Some (120 ∷ 121 ∷ [])) depth (λ bytes. bytes ≡ [])
@@ -127,7 +127,7 @@ module _ (world : World Definition) (scope : List ℕ → Option Definition) (ou
   called : (path : Path) (name : Ident) (site : CallSite) (kept : Outcome Definition) → kept.bursts ≡ false
       → (at_call world scope None outer path name site kept).bursts ≡ false
   called bare name site kept e = looked (scope name.sym) site kept e
-  called (from_crate crate p q) name site kept e = looked (scope name.sym) site kept e
+  called (from_crate crate p q) name site kept e = looked (scope (key_of (from_crate crate p q) name)) site kept e
   called (other p q) name site kept e = e
 
   searched_quietly : (m : Marked) → (search_calls world scope None outer m).bursts ≡ false

@@ -1,14 +1,16 @@
 -- What a run reads and writes. (Of this project.)
 use Rattle.std.specs.Prelude.{◌≡◌, ℕ, ◌≤◌, ◌<◌, ◌^◌, Bool, true, false, List, [], ◌∷◌, length, take, Option, Some, None, IfSome, IsUtf8, ⊤}
 use Rattle.std.specs.Io.KnownBytes.{Appends}
+use Rattle.tt_data.specs.Forest.{Forest}
 use Rattle.tt_data.specs.declared.edition.Edition.TheVariants.{Edition2024}
 use Rattle.small_grammar.specs.Answer.{answer}
 use Rattle.expander_session.specs.Expanded.{Expanded}
 use Rattle.expander_session.specs.Layered.{layers}
 use Rattle.expander_run.specs.Lines.{report, stop_line}
-use Rattle.expander_model.specs.Meaning.{Layers}
-use Rattle.expander_session.specs.Replies.{IsReplyTo}
-use Rattle.expander_session.specs.TooMany.{NeedsTooMany}
+use Rattle.expander_model.specs.Meaning.{Layers, meaning_in}
+use Rattle.expander_session.specs.Replies.{IsReplyIn, NeedsNumbersIn}
+use Rattle.expander_session.specs.State.{definitions_of}
+use Rattle.expander_session.specs.TooMany.{NeedsTooManyIn}
 use Rattle.expander_run.specs.Watch.{Watch}
 use Rattle.expander_model.specs.declared.fault.Fault.{Fault}
 use Rattle.expander_scope.specs.declared.refusal.Refusal.TheVariants.{Memory, Tokens, Numbers}
@@ -90,39 +92,45 @@ abbrev pub is_of_writer : Stop → Bool
 is_of_writer WriteFailed = true
 is_of_writer _ = false
 
--- what makes a run stop: its reader and writers know whether they failed; ids never run out,
--- since its session is new and its text has fewer definitions than there are ids
-abbrev pub Stops : Layers → Stop → Option (List ℕ) → ℕ → Type 0
-Stops layers NotUtf8 input depth = (bytes : List ℕ) × IsNoText input bytes
-Stops layers TooLong input depth = IfSome input (λ bytes. 2 ^ 32 ≤ length bytes)
-Stops layers ReadFailed input depth = ⊤
-Stops layers WriteFailed input depth = ⊤
-Stops layers (Refused Memory) input depth = ⊤
-Stops layers (Refused Tokens) input depth = (text : List ℕ) × IsInput input text × NeedsTooMany layers depth text
-Stops layers (Refused Numbers) input depth = ⊥
+-- a text needs more ids than there are: only definitions of other texts bring it about, since a
+-- text has fewer definitions than there are ids, and the session of a run is new
+abbrev pub NeedsIds : Layers → List Forest → ℕ → List ℕ → Type 0
+NeedsIds layers [] depth text = ⊥
+NeedsIds layers (p ∷ ps) depth text = NeedsNumbersIn 0 [] (p ∷ ps) (meaning_in layers depth (definitions_of (p ∷ ps)) text)
+
+-- what makes a run after these definitions of other texts stop: its reader and writers know whether
+-- they failed
+abbrev pub StopsAfter : Layers → List Forest → Stop → Option (List ℕ) → ℕ → Type 0
+StopsAfter layers prelude NotUtf8 input depth = (bytes : List ℕ) × IsNoText input bytes
+StopsAfter layers prelude TooLong input depth = IfSome input (λ bytes. 2 ^ 32 ≤ length bytes)
+StopsAfter layers prelude ReadFailed input depth = ⊤
+StopsAfter layers prelude WriteFailed input depth = ⊤
+StopsAfter layers prelude (Refused Memory) input depth = ⊤
+StopsAfter layers prelude (Refused Tokens) input depth = (text : List ℕ) × IsInput input text × NeedsTooManyIn layers depth (definitions_of prelude) text
+StopsAfter layers prelude (Refused Numbers) input depth = (text : List ℕ) × IsInput input text × NeedsIds layers prelude depth text
 
 -- a writer that failed has taken the first bytes of the text to be printed
-pub record BreaksOff (layers : Layers) (input : Option (List ℕ)) (depth : ℕ) (writes : List ℕ → Type 0) : Type 0 where
+pub record BreaksOff (layers : Layers) (prelude : List Forest) (input : Option (List ℕ)) (depth : ℕ) (writes : List ℕ → Type 0) : Type 0 where
   pub text : List ℕ
   pub is_input : IsInput input text
   pub expansion : Expanded
-  pub is_reply : IsReplyTo layers depth text None (Read expansion)
+  pub is_reply : IsReplyIn layers depth (definitions_of prelude) text None (Read expansion)
   pub taken : ℕ
   pub written : writes (take taken expansion.printed)
 
 -- what a run that stops has written: nothing, unless the writer failed
-abbrev pub LeavesAt : Layers → Stop → Option (List ℕ) → ℕ → (List ℕ → Type 0) → Type 0
-LeavesAt layers WriteFailed input depth writes = BreaksOff layers input depth writes
-LeavesAt layers _ input depth writes = writes []
+abbrev pub LeavesAt : Layers → List Forest → Stop → Option (List ℕ) → ℕ → (List ℕ → Type 0) → Type 0
+LeavesAt layers prelude WriteFailed input depth writes = BreaksOff layers prelude input depth writes
+LeavesAt layers prelude _ input depth writes = writes []
 
 -- a run that answers: it writes the printed text and the report, and has the reply's status;
 -- `before` is the writer as it was handed in
-pub record Finishes {R W E : Type 0} (layers : Layers) (input : Option (List ℕ)) (depth : ℕ) (writes tells : List ℕ → Type 0)
+pub record Finishes {R W E : Type 0} (layers : Layers) (prelude : List Forest) (input : Option (List ℕ)) (depth : ℕ) (writes tells : List ℕ → Type 0)
     (reader : Watch R) (before writer : Watch W) (faults : Watch E) (result : Status) : Type 0 where
   pub text : List ℕ
   pub is_input : IsInput input text
   pub reply : Reply
-  pub is_reply : IsReplyTo layers depth text None reply
+  pub is_reply : IsReplyIn layers depth (definitions_of prelude) text None reply
   pub written : writes (printed_of reply)
   pub flushed : IsFlushed reply before writer
   pub told : Tells (report text reply) tells faults
@@ -132,20 +140,25 @@ pub record Finishes {R W E : Type 0} (layers : Layers) (input : Option (List ℕ
 
 -- a run that stops: it has a cause, which it reports, and its status is 1; unless the writer
 -- failed, nothing was asked of it
-pub record Refuses {R W E : Type 0} (layers : Layers) (stop : Stop) (input : Option (List ℕ)) (depth : ℕ) (writes tells : List ℕ → Type 0)
+pub record Refuses {R W E : Type 0} (layers : Layers) (prelude : List Forest) (stop : Stop) (input : Option (List ℕ)) (depth : ℕ) (writes tells : List ℕ → Type 0)
     (reader : Watch R) (before writer : Watch W) (faults : Watch E) (result : Status) : Type 0 where
-  pub cause : Stops layers stop input depth
-  pub left : LeavesAt layers stop input depth writes
+  pub cause : StopsAfter layers prelude stop input depth
+  pub left : LeavesAt layers prelude stop input depth writes
   pub told : Tells (stop_line stop) tells faults
   pub status : result ≡ status 1
   pub of_reader : reader.failed ≡ is_of_reader stop
   pub of_writer : writer.failed ≡ is_of_writer stop
   pub unasked : is_of_writer stop ≡ false → writer ≡ before
 
--- a run over what its reader had left, with what its writers took: it answers or it stops
+-- a run after these definitions, over what its reader had left, with what its writers took: it
+-- answers or it stops
+abbrev pub RunsAfter : {R W E : Type 0} → Layers → List Forest → Option Stop → Option (List ℕ) → ℕ → (writes tells : List ℕ → Type 0) → Watch R → Watch W → Watch W → Watch E → Status → Type 0
+RunsAfter layers prelude None input depth writes tells reader before writer faults result = Finishes layers prelude input depth writes tells reader before writer faults result
+RunsAfter layers prelude (Some stop) input depth writes tells reader before writer faults result = Refuses layers prelude stop input depth writes tells reader before writer faults result
+
+-- a run without definitions of other texts
 abbrev pub RunsBy : {R W E : Type 0} → Layers → Option Stop → Option (List ℕ) → ℕ → (writes tells : List ℕ → Type 0) → Watch R → Watch W → Watch W → Watch E → Status → Type 0
-RunsBy layers None input depth writes tells reader before writer faults result = Finishes layers input depth writes tells reader before writer faults result
-RunsBy layers (Some stop) input depth writes tells reader before writer faults result = Refuses layers stop input depth writes tells reader before writer faults result
+RunsBy layers stop input depth writes tells reader before writer faults result = RunsAfter layers [] stop input depth writes tells reader before writer faults result
 
 -- a run of `run`
 abbrev pub Runs : {R W E : Type 0} → Option Stop → Option (List ℕ) → ℕ → (writes tells : List ℕ → Type 0) → Watch R → Watch W → Watch W → Watch E → Status → Type 0

@@ -3,8 +3,10 @@ use Rattle.std.specs.Prelude.{◌≡◌, ℕ, ◌≤◌, ◌^◌, Bool, true, fa
 use Rattle.std.specs.Io.KnownBytes.{Appends}
 use Rattle.expander_model.specs.Meaning.{Layers}
 use Rattle.expander_run.specs.Lines.{report}
-use Rattle.expander_session.specs.Replies.{IsReplyTo}
-use Rattle.expander_run.specs.Runs.{IsFlushed, IsInput, Stops, is_of_reader, is_of_writer, printed_of}
+use Rattle.expander_session.specs.Replies.{IsReplyIn}
+use Rattle.expander_session.specs.State.{definitions_of}
+use Rattle.tt_data.specs.Forest.{Forest}
+use Rattle.expander_run.specs.Runs.{IsFlushed, IsInput, StopsAfter, is_of_reader, is_of_writer, printed_of}
 use Rattle.expander_run.specs.Watch.{Watch}
 use Rattle.expander_scope.specs.declared.refusal.Refusal.TheVariants.{Memory}
 use Rattle.expander_session.specs.Expanded.{Expanded}
@@ -20,16 +22,16 @@ StopsReading ReadFailed input failed = failed ≡ true
 StopsReading (Refused Memory) input failed = failed ≡ false
 StopsReading _ input failed = ⊥
 
--- a reply to the whole input, and its report
-pub record Replied (layers : Layers) (input : Option (List ℕ)) (depth : ℕ) (reply : Reply) (told : List ℕ) : Type 0 where
+-- a reply to the whole input after these definitions, and its report
+pub record Replied (layers : Layers) (prelude : List Forest) (input : Option (List ℕ)) (depth : ℕ) (reply : Reply) (told : List ℕ) : Type 0 where
   pub text : List ℕ
   pub is_input : IsInput input text
-  pub is_reply : IsReplyTo layers depth text None reply
+  pub is_reply : IsReplyIn layers depth (definitions_of prelude) text None reply
   pub is_told : told ≡ report text reply
 
 -- why there is no reply, and whether the reader failed
-pub record StopsEarly (layers : Layers) (stop : Stop) (input : Option (List ℕ)) (depth : ℕ) (failed : Bool) : Type 0 where
-  pub cause : Stops layers stop input depth
+pub record StopsEarly (layers : Layers) (prelude : List Forest) (stop : Stop) (input : Option (List ℕ)) (depth : ℕ) (failed : Bool) : Type 0 where
+  pub cause : StopsAfter layers prelude stop input depth
   pub reader : failed ≡ is_of_reader stop
   pub writer : is_of_writer stop ≡ false
 

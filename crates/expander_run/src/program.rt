@@ -2,11 +2,12 @@
 //! faults.
 ghost use Rattle.std.specs.Prelude.{◌≡◌, ℕ, Err, [], ◌^◌, ◌<◌, false, List, length, take, Option, None, IfOk, IfErr, string_bytes};
 ghost use Rattle.std.specs.Io.KnownBytes.{Appends};
-ghost use Rattle.expander_model.specs.Meaning.{meaning};
-ghost use Rattle.expander_session.specs.Replies.{IsReplyTo, NeedsNumbers};
+ghost use Rattle.expander_model.specs.Meaning.{meaning_in};
+ghost use Rattle.expander_session.specs.Replies.{IsReplyIn, NeedsNumbersIn};
+ghost use Rattle.expander_session.specs.State.{definitions_of};
 ghost use Rattle.expander_run.specs.Lines.{report};
-ghost use Rattle.expander_run.specs.Runs.{IsAllOf, Puts, Runs, RunsBy, Tells, layers_of, status, status_of};
-ghost use Rattle.expander_session.specs.TooMany.{NeedsTooMany};
+ghost use Rattle.expander_run.specs.Runs.{IsAllOf, NeedsIds, Puts, Runs, RunsAfter, RunsBy, Tells, layers_of, status, status_of};
+ghost use Rattle.expander_session.specs.TooMany.{NeedsTooManyIn};
 ghost use Rattle.expander_run.specs.Steps.{PutsReply, Replied, StopsEarly, StopsReading};
 
 use crate::lines::{report, stop_line};
@@ -14,9 +15,9 @@ use crate::options::Options;
 use crate::stop::Stop;
 use crate::watched::Watched;
 use expander_scope::refusal::Refusal;
-use expander_session::commands::{Answer, Command, replay};
 use expander_session::laws;
-use expander_session::session::Reply;
+use expander_session::session::{Reply, Session};
+use expander_sources::prelude::Prelude;
 use fragment_grammar::FragmentGrammar;
 use small_grammar::SmallGrammar;
 use std::alloc::Global;
@@ -83,7 +84,31 @@ pub fn run_with<G: FragmentGrammar + Drop, R: Read, W: Write, E: Write>(
         (Appends (E.contents faults.old.inner) (E.contents faults.new.inner)) reader.new writer.old writer.new faults.new result }
     ensures untold { result ≡ status 0 → faults.new ≡ faults.old }
 {
-    match answer_input(alloc, reader, options) {
+    run_after(alloc, reader, writer, faults, options, Prelude::new(alloc))
+}
+
+/// Runs as [`run_with`] does, and expands the text after these definitions of other texts: its own
+/// come after them, so they are nearer.
+///
+/// Only with definitions of other texts can there be more of them than ids: then the run stops, and
+/// reports `too many definitions`.
+pub fn run_after<G: FragmentGrammar + Drop, R: Read, W: Write, E: Write>(
+    alloc: Global,
+    reader: &mut Watched<R>,
+    writer: &mut Watched<W>,
+    faults: &mut Watched<E>,
+    options: Options<G>,
+    prelude: Prelude,
+) -> Status
+    requires reader_fresh { reader.old.failed ≡ false }
+    requires writer_fresh { writer.old.failed ≡ false }
+    requires faults_fresh { faults.old.failed ≡ false }
+    ensures runs { (stop : Option Stop) × RunsAfter (layers_of G.answer options) prelude stop (R.remaining reader.old.inner) options.depth
+        (Appends (W.contents writer.old.inner) (W.contents writer.new.inner))
+        (Appends (E.contents faults.old.inner) (E.contents faults.new.inner)) reader.new writer.old writer.new faults.new result }
+    ensures untold { result ≡ status 0 → faults.new ≡ faults.old }
+{
+    match answer_input(alloc, reader, options, prelude) {
         Ok((reply, told)) => {
             if put_reply(writer, &reply) {
                 tell(faults, told.as_str());
@@ -100,45 +125,44 @@ pub fn run_with<G: FragmentGrammar + Drop, R: Read, W: Write, E: Write>(
     }
 }
 
-// The session's reply to the whole input, and its report.
+// The session's reply to the whole input after these definitions, and its report.
 fn answer_input<G: FragmentGrammar + Drop, R: Read>(
     alloc: Global,
     reader: &mut Watched<R>,
     options: Options<G>,
+    prelude: Prelude,
 ) -> Result<(Reply, String), Stop>
     requires { reader.old.failed ≡ false }
-    ensures replied { IfOk result (λ answer. Replied (layers_of G.answer options) (R.remaining reader.old.inner) options.depth answer.0 (string_bytes answer.1)) }
+    ensures replied { IfOk result (λ answer. Replied (layers_of G.answer options) prelude (R.remaining reader.old.inner) options.depth answer.0 (string_bytes answer.1)) }
     ensures read { IfOk result (λ answer. reader.new.failed ≡ false) }
-    ensures stopped { IfErr result (λ stop. StopsEarly (layers_of G.answer options) stop (R.remaining reader.old.inner) options.depth reader.new.failed) }
+    ensures stopped { IfErr result (λ stop. StopsEarly (layers_of G.answer options) prelude stop (R.remaining reader.old.inner) options.depth reader.new.failed) }
 {
     let bytes = read_all(alloc, reader)?;
     let text = std::str::from_utf8(bytes.as_slice()).map_err(|_| Stop::NotUtf8)?;
-    answer(alloc, text, options).map_err(Stop::Refused)
+    answer(alloc, text, options, prelude).map_err(Stop::Refused)
 }
 
-// The reply of a new session over this text to its one command: to expand it.
+// The reply of a new session over this text after these definitions.
 fn expanded<G: FragmentGrammar + Drop>(
     alloc: Global,
     text: &str,
     options: Options<G>,
+    prelude: Prelude,
 ) -> Result<Reply, Refusal>
     requires { length text.now < 2 ^ 32 }
-    ensures reply { IfOk result (IsReplyTo (layers_of G.answer options) options.depth text.now None) }
-    ensures tokens { result ≡ Err Refusal.Tokens → NeedsTooMany (layers_of G.answer options) options.depth text.now }
-    ensures numbers { result ≡ Err Refusal.Numbers → NeedsNumbers 0 [] (meaning (layers_of G.answer options) options.depth text.now) }
+    ensures reply { IfOk result (IsReplyIn (layers_of G.answer options) options.depth (definitions_of prelude) text.now None) }
+    ensures tokens { result ≡ Err Refusal.Tokens → NeedsTooManyIn (layers_of G.answer options) options.depth (definitions_of prelude) text.now }
+    ensures numbers { result ≡ Err Refusal.Numbers
+        → NeedsNumbersIn 0 [] prelude (meaning_in (layers_of G.answer options) options.depth (definitions_of prelude) text.now) }
 {
-    let commands = [Command::Expand];
     let Options {
         grammar,
         edition,
         depth,
     } = options;
-    let mut answers = replay(alloc, text, grammar, edition, depth, &commands)?;
-    match answers.pop() {
-        Some(Answer::Reply(reply)) => Ok(reply),
-        Some(Answer::Refused(refusal)) => Err(refusal),
-        _ => unreachable!("a command has an answer"),
-    }
+    let mut session = Session::new(alloc, text, grammar, edition, depth)?;
+    session.set_prelude(prelude);
+    session.expansion()
 }
 
 // The reply of a session over this text, and its report. The report is made before anything is
@@ -147,15 +171,16 @@ fn answer<G: FragmentGrammar + Drop>(
     alloc: Global,
     text: &str,
     options: Options<G>,
+    prelude: Prelude,
 ) -> Result<(Reply, String), Refusal>
     requires { length text.now < 2 ^ 32 }
-    ensures reply { IfOk result (λ answer. IsReplyTo (layers_of G.answer options) options.depth text.now None answer.0) }
+    ensures reply { IfOk result (λ answer. IsReplyIn (layers_of G.answer options) options.depth (definitions_of prelude) text.now None answer.0) }
     ensures told { IfOk result (λ answer. string_bytes answer.1 ≡ report text.now answer.0) }
-    ensures tokens { result ≡ Err Refusal.Tokens → NeedsTooMany (layers_of G.answer options) options.depth text.now }
-    ensures numbers { result ≡ Err Refusal.Numbers → ⊥ }
+    ensures tokens { result ≡ Err Refusal.Tokens → NeedsTooManyIn (layers_of G.answer options) options.depth (definitions_of prelude) text.now }
+    ensures numbers { result ≡ Err Refusal.Numbers → NeedsIds (layers_of G.answer options) prelude options.depth text.now }
 {
     laws::definitions_are_no_more_than_bytes();
-    let reply = expanded(alloc, text, options)?;
+    let reply = expanded(alloc, text, options, prelude)?;
     let told = report(alloc, text, &reply)?;
     Ok((reply, told))
 }

@@ -13,6 +13,6 @@ pub(crate) enum Stop {
     ReadFailed,
     /// The writer failed.
     WriteFailed,
-    /// There was no memory left, or there are too many tokens.
+    /// There was no memory left, or there are too many tokens or definitions.
     Refused(Refusal),
 }

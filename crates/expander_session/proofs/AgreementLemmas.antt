@@ -4,7 +4,7 @@ use Rattle.tt_data.specs.Forest.{Forest}
 use Rattle.tt_data.specs.Walk.{at_leaf, walk}
 use Rattle.tt_data.specs.declared.leaf.Ident.{Ident}
 use Rattle.tt_data.specs.declared.span.Span.{Span}
-use Rattle.expander_model.specs.Calls.{Path, bare, from_crate, other, Marked, none, token, inside, call, marked, unmarked}
+use Rattle.expander_model.specs.Calls.{Path, bare, from_crate, other, Marked, none, token, inside, call, key_of, marked, unmarked}
 use Rattle.expander_model.specs.Expansion.{World, Outcome, Deeper, CallSite, just, followed_by, grouped, found, fitted, bursting, at_level, unbroken, looked_up, at_call, before_group, whole_call, search_calls, expansion}
 use Rattle.expander_session.specs.Agreement.{FoundIn}
 
@@ -51,20 +51,21 @@ same_looked_up world scope None one two same outer site kept kept' stays h = sta
 same_looked_up world scope (Some d) one two same outer site kept kept' stays h = same_unbroken world scope d (world.broken d) one two same outer site h
 
 same_found : {D : Type 0} → (world : World D) (scope other_scope : List ℕ → Option D) (one two : Deeper D) → SameDeeper other_scope one two
-    → (outer : Option Span) (name : Ident) (site : CallSite) (kept kept' : Outcome D) → (FoundIn other_scope kept.finds → kept' ≡ kept)
-    → FoundIn other_scope (found name.sym (scope name.sym) (looked_up world (scope name.sym) one outer site kept)).finds
-    → found name.sym (other_scope name.sym) (looked_up world (other_scope name.sym) two outer site kept')
-    ≡ found name.sym (scope name.sym) (looked_up world (scope name.sym) one outer site kept)
-same_found world scope other_scope one two same outer name site kept kept' stays h =
-    ap (λ d. found name.sym d (looked_up world d two outer site kept')) h.0
-    ∙ ap (found name.sym (scope name.sym)) (same_looked_up world other_scope (scope name.sym) one two same outer site kept kept' stays h.1)
+    → (outer : Option Span) (key : List ℕ) (site : CallSite) (kept kept' : Outcome D) → (FoundIn other_scope kept.finds → kept' ≡ kept)
+    → FoundIn other_scope (found key (scope key) (looked_up world (scope key) one outer site kept)).finds
+    → found key (other_scope key) (looked_up world (other_scope key) two outer site kept')
+    ≡ found key (scope key) (looked_up world (scope key) one outer site kept)
+same_found world scope other_scope one two same outer key site kept kept' stays h =
+    ap (λ d. found key d (looked_up world d two outer site kept')) h.0
+    ∙ ap (found key (scope key)) (same_looked_up world other_scope (scope key) one two same outer site kept kept' stays h.1)
 
 same_call : {D : Type 0} → (world : World D) (scope other_scope : List ℕ → Option D) (one two : Deeper D) → SameDeeper other_scope one two
     → (outer : Option Span) (path : Path) (name : Ident) (site : CallSite) (kept kept' : Outcome D) → (FoundIn other_scope kept.finds → kept' ≡ kept)
     → FoundIn other_scope (at_call world scope one outer path name site kept).finds
     → at_call world other_scope two outer path name site kept' ≡ at_call world scope one outer path name site kept
-same_call world scope other_scope one two same outer bare name site kept kept' stays h = same_found world scope other_scope one two same outer name site kept kept' stays h
-same_call world scope other_scope one two same outer (from_crate k c e) name site kept kept' stays h = same_found world scope other_scope one two same outer name site kept kept' stays h
+same_call world scope other_scope one two same outer bare name site kept kept' stays h = same_found world scope other_scope one two same outer name.sym site kept kept' stays h
+same_call world scope other_scope one two same outer (from_crate k c e) name site kept kept' stays h =
+    same_found world scope other_scope one two same outer (key_of (from_crate k c e) name) site kept kept' stays h
 same_call world scope other_scope one two same outer (other c e) name site kept kept' stays h = stays h
 
 same_search : {D : Type 0} → (world : World D) (scope other_scope : List ℕ → Option D) (one two : Deeper D) → SameDeeper other_scope one two

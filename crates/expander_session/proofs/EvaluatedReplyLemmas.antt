@@ -10,7 +10,7 @@ use Rattle.tt_data.specs.declared.edition.Edition.{Edition}
 use Rattle.expander_session.specs.Count.{Looked, expanded_count, looked_of}
 use Rattle.expander_model.specs.EqualTrees.{same_forest}
 use Rattle.expander_session.specs.EvaluatedTexts.{kept_in}
-use Rattle.expander_session.specs.Expanded.{Expanded, origin_of}
+use Rattle.expander_session.specs.Expanded.{Expanded, origin_of, origin_text}
 use Rattle.expander_model.specs.Held.{Kept, Stands}
 use Rattle.expander_model.specs.DefinitionTrees.{definition_trees}
 use Rattle.expander_session.specs.Layered.{layers}
@@ -45,6 +45,7 @@ pub record ShowsText (layers : Layers) (ms : List Member) (count : ℕ) (e : Exp
   pub printed : e.printed ≡ (meaning_of layers ms).text
   pub faults : e.faults ≡ (meaning_of layers ms).faults
   pub origins : e.origins ≡ map origin_of (meaning_of layers ms).tokens
+  pub texts : e.texts ≡ map origin_text (meaning_of layers ms).tokens
   pub ranges : read_ranges e.printed ≡ printed_ranges (map bare (meaning_of layers ms).tokens)
   pub expanded : e.expanded ≡ count
 
@@ -96,6 +97,7 @@ module _ {G : Type 0} (grammar : Grammar) (edition : Edition) (s : State G) (f :
             printed = shows.printed;
             faults = shows.faults;
             origins = shows.origins;
+            texts = shows.texts;
             ranges = shows.ranges;
             expanded = shows.expanded
                 ∙ sym (taken_count laws grammar edition s.depth s.prelude stands s.text f is_text read s.given old s.trees given now are (unwrap_or held []) had.right)

@@ -5,7 +5,7 @@ use Rattle.tt_data.specs.Forest.{Forest}
 use Rattle.tt_data.specs.Walk.{walk}
 use Rattle.tt_data.specs.declared.leaf.Ident.{Ident}
 use Rattle.tt_data.specs.declared.span.Span.{Span}
-use Rattle.expander_model.specs.Calls.{Path, bare, from_crate, other, Marked, none, token, inside, call, marked, unmarked}
+use Rattle.expander_model.specs.Calls.{Path, bare, from_crate, other, Marked, none, token, inside, call, key_of, marked, unmarked}
 use Rattle.expander_model.specs.Expansion.{World, Outcome, Deeper, CallSite, just, followed_by, grouped, fitted, at_level, unbroken, looked_up, at_call, before_group, whole_call, search_calls, expansion}
 use Rattle.small_grammar.specs.Text.{same_text}
 use Rattle.expander_session.specs.Agreement.{FoundIn, scope_of}
@@ -42,7 +42,8 @@ looked_up_found world scope (Some d) deeper all outer site kept h = unbroken_fou
 call_found : {D : Type 0} → (world : World D) (scope : List ℕ → Option D) (deeper : Deeper D) → DeeperFound scope deeper
     → (outer : Option Span) (path : Path) (name : Ident) (site : CallSite) (kept : Outcome D) → FoundIn scope kept.finds → FoundIn scope (at_call world scope deeper outer path name site kept).finds
 call_found world scope deeper all outer bare name site kept h = (refl, looked_up_found world scope (scope name.sym) deeper all outer site kept h)
-call_found world scope deeper all outer (from_crate k c e) name site kept h = (refl, looked_up_found world scope (scope name.sym) deeper all outer site kept h)
+call_found world scope deeper all outer (from_crate k c e) name site kept h =
+    (refl, looked_up_found world scope (scope (key_of (from_crate k c e) name)) deeper all outer site kept h)
 call_found world scope deeper all outer (other c e) name site kept h = h
 
 search_found : {D : Type 0} → (world : World D) (scope : List ℕ → Option D) (deeper : Deeper D) → DeeperFound scope deeper

@@ -22,7 +22,7 @@ use Rattle.expander_session.specs.MemoRefs.{LeadTo}
 use Rattle.expander_session.specs.declared.memo_ref.MemoRef.{MemoRef}
 use Rattle.expander_session.specs.declared.cache.Cache.{Cache}
 use Rattle.expander_session.specs.declared.evaluate.Evaluation.{Evaluation}
-use Rattle.expander_scope.proofs.DefinitionPlaceLemmas.{definition_piece}
+use Rattle.expander_model.proofs.DefinitionPlaceLemmas.{definition_piece}
 use Rattle.expander_session.proofs.PassLemmas.{MoreNumbers}
 
 -- the tree of a definition

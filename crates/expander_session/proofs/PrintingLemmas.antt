@@ -24,7 +24,7 @@ use Rattle.bridge.specs.Printing.{is_visible_step, left_out_from, print_of}
 use Rattle.bridge.specs.Spelling.{leaf_spelling, spelling}
 use Rattle.expander_model.specs.declared.fault.FaultKind.TheVariants.{NestedDefinition}
 use Rattle.expander_session.specs.declared.emitter.Emitter.{Emitter}
-use Rattle.expander_session.specs.Expanded.{origin_of}
+use Rattle.expander_session.specs.Expanded.{origin_of, origin_text}
 use Rattle.expander_model.specs.Expansion.{PlacedStep}
 use Rattle.expander_model.specs.Faults.{place, fault_at, is_definition_word, nested, unspellable}
 use Rattle.expander_session.specs.Emitting.{HasOutput, PutsOut, faults_at, faults_in, numbers_left_out, told_from, tokens_in, word_places, words_told}
@@ -154,6 +154,13 @@ origins_are xs =
     map-map (λ (s : Span). s.range) (λ (a : bare_printing.PrintedToken). bare_printing.step_span a.step) (bare_printing.printed (bare_printing.visible (steps_of xs)))
     ∙ ap (map place) (sym (tokens_bare xs))
     ∙ map-map place bare (tokens_in xs)
+
+pub texts_are : (xs : List PlacedStep) → map (λ (s : Span). s.anchor) (print_of (steps_of xs)).tokens ≡ map origin_text (tokens_in xs)
+texts_are xs =
+    let text : bare_printing.PrintedToken → ℕ = λ a. (bare_printing.step_span a.step).anchor in
+    map-map (λ (s : Span). s.anchor) (λ (a : bare_printing.PrintedToken). bare_printing.step_span a.step) (bare_printing.printed (bare_printing.visible (steps_of xs)))
+    ∙ ap (map text) (sym (tokens_bare xs))
+    ∙ map-map text bare (tokens_in xs)
 
 -- ---- the words that begin a definition are always printed
 

@@ -16,7 +16,7 @@ use Rattle.expander_model.specs.Held.{IsMet, IsNumbered, Met, Numbered, Tells, n
 use Rattle.expander_session.specs.Reuse.{FoundIs, HeldPiece, IsHeld, agrees, looked_at, looked_held, matches, reused_outcome, same_number}
 use Rattle.small_grammar.specs.Text.{same_text}
 use Rattle.expander_session.proofs.AgreementLemmas.{same_expansion}
-use Rattle.expander_scope.proofs.DefinitionPlaceLemmas.{definition_piece}
+use Rattle.expander_model.proofs.DefinitionPlaceLemmas.{definition_piece}
 use Rattle.expander_session.proofs.FindsLemmas.{expansion_by_finds, expansion_found}
 use Rattle.expander_scope.proofs.HeldLemmas.{found_is, same_definition}
 

@@ -106,6 +106,7 @@ module _ (equal : (f g : Forest) → (same_forest f g ≡ true) ↔ (f ≡ g)) (
           printed = shows.printed;
           faults = shows.faults ∙ ap (λ (fs : List Fault). in_order (fs ++ faults_in (flat_map output_of (map present (news now))))) t.faults;
           origins = shows.origins;
+          texts = shows.texts;
           ranges = shows.ranges;
           expanded = shows.expanded ∙ t.expanded;
         };
@@ -117,7 +118,7 @@ shows_text : (L : Layers) (all ms : List Member) → all ≡ ms → (count other
     → ShowsMeaning (meaning_of L ms) count e → ShowsText L all other e
 shows_text L all ms same count other counts e shows =
     let back : ShowsMeaning (meaning_of L all) count e = subst (λ (xs : List Member). ShowsMeaning (meaning_of L xs) count e) (sym same) shows in
-    record { printed = back.printed; faults = back.faults; origins = back.origins; ranges = back.ranges; expanded = back.expanded ∙ counts }
+    record { printed = back.printed; faults = back.faults; origins = back.origins; texts = back.texts; ranges = back.ranges; expanded = back.expanded ∙ counts }
 
 -- a session that holds this
 abbrev pub session_with : {G : Type 0} → List ℕ → G → Edition → ℕ → List Forest → code.Cache → State G

@@ -16,7 +16,7 @@ use Rattle.expander_model.specs.Held.{HasNumber, IsMet, Kept, Met, Numbered, Sta
 use Rattle.expander_model.specs.Pieces.{first_start, relative}
 use Rattle.expander_session.specs.Reuse.{HeldPiece, IsHeld, looked_at, looked_held, matches}
 use Rattle.expander_session.specs.TextTurn.{IsKept, IsPlain, StandsInText, held_of, is_unmatched, taken_after, taken_of}
-use Rattle.expander_scope.proofs.DefinitionPlaceLemmas.{definition_piece}
+use Rattle.expander_model.proofs.DefinitionPlaceLemmas.{definition_piece}
 use Rattle.expander_session.proofs.FindsLemmas.{expansion_found}
 use Rattle.expander_scope.proofs.HeldLemmas.{found_is, resolved_definition}
 use Rattle.expander_model.proofs.PlaceLemmas.{own_stands, piece_and_back, resolved_piece}

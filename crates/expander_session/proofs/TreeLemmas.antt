@@ -7,7 +7,7 @@ use Rattle.expander_model.specs.DefinitionTrees.{definition_trees, trees_in}
 use Rattle.expander_model.specs.Meaning.{Layers, member, members_after, with_definition}
 use Rattle.expander_model.specs.OtherPlaces.{definition_with}
 use Rattle.expander_model.specs.Pieces.{first_start, moved_back, relative}
-use Rattle.expander_scope.proofs.DefinitionPlaceLemmas.{definition_of-with, definition_piece}
+use Rattle.expander_model.proofs.DefinitionPlaceLemmas.{definition_of-with, definition_piece}
 
 some_mapped : {X Y : Type 0} → (f : X → Y) (o : Option X) → is_some (option_map f o) ≡ is_some o
 some_mapped f None = refl

@@ -19,7 +19,9 @@ use Rattle.expander_model.specs.Changes.{outcome_with}
 use Rattle.expander_model.specs.Definitions.{Definition}
 use Rattle.expander_model.specs.Expansion.{expansion}
 use Rattle.expander_model.specs.OtherPlaces.{CommutesWithMarker, LooksAtNoPlace, definition_with}
-use Rattle.expander_model.specs.World.{fit_of, made, rules_in, world}
+use Rattle.expander_model.specs.EditionMarks.{edition_in}
+use Rattle.expander_model.specs.World.{fit_of, made, rules_by, rules_in, world}
+use Rattle.expander_model.proofs.EditionLemmas.{edition_moved}
 
 -- what the layer below says of rules, of fits and of what they put out
 pub record RuleLaws : Type 0 where
@@ -35,13 +37,18 @@ pub record RuleLaws : Type 0 where
       → made_by.bursts is_identifier grammar mark (map (rule_with f) list) style (map_spans f argument) ≡ made_by.bursts is_identifier grammar mark list style argument
 
 module _ (laws : RuleLaws) (grammar : Grammar) (edition : Edition) (f : Span → Span) where
-  rules_there : (d : Definition) → rules_in edition (definition_with f d) ≡ rules_with f (rules_in edition d)
-  rules_there d = go d.is_macro
+  rules_by_there : (own : Edition) (d : Definition) → rules_by own (definition_with f d) ≡ rules_with f (rules_by own d)
+  rules_by_there own d = go d.is_macro
     where
-      go : (b : Bool) → (if b then macro_of (λ context. edition) (option_map (map_spans f) d.arguments) (map_spans f d.body) else macro_rules_of (λ context. edition) (map_spans f d.body))
-          ≡ rules_with f (if b then macro_of (λ context. edition) d.arguments d.body else macro_rules_of (λ context. edition) d.body)
-      go true = laws.macros f (λ context. edition) (λ s. refl) d.arguments d.body
-      go false = laws.rules f (λ context. edition) (λ s. refl) d.body
+      go : (b : Bool) → (if b then macro_of (λ context. own) (option_map (map_spans f) d.arguments) (map_spans f d.body) else macro_rules_of (λ context. own) (map_spans f d.body))
+          ≡ rules_with f (if b then macro_of (λ context. own) d.arguments d.body else macro_rules_of (λ context. own) d.body)
+      go true = laws.macros f (λ context. own) (λ s. refl) d.arguments d.body
+      go false = laws.rules f (λ context. own) (λ s. refl) d.body
+
+  rules_there : (d : Definition) → rules_in edition (definition_with f d) ≡ rules_with f (rules_in edition d)
+  rules_there d =
+      ap (λ (own : Edition). rules_by own (definition_with f d)) (edition_moved f edition d.piece)
+      ∙ rules_by_there (edition_in edition d.piece) d
 
   forest_there : (o : Option (ℕ × Forest)) → option_map (λ r. r.1) (fit_with f o) ≡ option_map (map_spans f) (option_map (λ r. r.1) o)
   forest_there None = refl

@@ -8,7 +8,7 @@ use Rattle.expander_scope.specs.declared.refusal.Refusal.TheVariants.{Memory, To
 use Rattle.expander_session.specs.declared.session.Reply.{Reply}
 use Rattle.expander_session.specs.declared.session.Reply.TheVariants.{Read, Unread}
 use Rattle.expander_session.specs.Count.{Looked, expanded_count, looked_of}
-use Rattle.expander_session.specs.Expanded.{Expanded, origin_of}
+use Rattle.expander_session.specs.Expanded.{Expanded, origin_of, origin_text}
 use Rattle.expander_model.specs.DefinitionTrees.{definition_trees, trees_in}
 use Rattle.expander_model.specs.Definitions.{Definition}
 use Rattle.expander_model.specs.Meaning.{Layers, ReadMeaning, meaning_in}
@@ -18,12 +18,13 @@ use Rattle.expander_session.specs.State.{State, definitions_of}
 use Rattle.expander_session.specs.TooMany.{NeedsTooManyIn}
 
 -- an expansion is what the text means: its printed text, its faults in order, the origins of its
--- tokens and where each of them is in the printed text, and how many of its plain pieces have no
--- match among the earlier ones
+-- tokens with their texts, where each token is in the printed text, and how many of its plain
+-- pieces have no match among the earlier ones
 pub record IsExpansionOf (m : ReadMeaning) (earlier : Option (List Looked)) (e : Expanded) : Type 0 where
   pub printed : e.printed ≡ m.text
   pub faults : e.faults ≡ m.faults
   pub origins : e.origins ≡ map origin_of m.tokens
+  pub texts : e.texts ≡ map origin_text m.tokens
   pub ranges : read_ranges e.printed ≡ printed_ranges (map bare m.tokens)
   pub expanded : e.expanded ≡ expanded_count earlier (looked_of m.members)
 

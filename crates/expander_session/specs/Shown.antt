@@ -2,7 +2,7 @@
 use Rattle.std.specs.Prelude.{◌≡◌, ℕ, List, ◌++◌, map}
 use Rattle.bridge.specs.PrintedRanges.{printed_ranges, read_ranges}
 use Rattle.expander_model.specs.declared.fault.Fault.{Fault}
-use Rattle.expander_session.specs.Expanded.{Expanded, origin_of}
+use Rattle.expander_session.specs.Expanded.{Expanded, origin_of, origin_text}
 use Rattle.expander_model.specs.Expansion.{PlacedStep}
 use Rattle.expander_model.specs.Faults.{in_order}
 use Rattle.expander_model.specs.Meaning.{ReadMeaning}
@@ -14,6 +14,7 @@ pub record ShowsOutput (told : List Fault) (count : ℕ) (steps : List PlacedSte
   pub printed : e.printed ≡ text_of (tokens_in steps)
   pub faults : e.faults ≡ in_order (told ++ faults_in steps)
   pub origins : e.origins ≡ map origin_of (tokens_in steps)
+  pub texts : e.texts ≡ map origin_text (tokens_in steps)
   pub ranges : read_ranges e.printed ≡ printed_ranges (map bare (tokens_in steps))
   pub expanded : e.expanded ≡ count
 
@@ -22,5 +23,6 @@ pub record ShowsMeaning (m : ReadMeaning) (count : ℕ) (e : Expanded) : Type 0 
   pub printed : e.printed ≡ m.text
   pub faults : e.faults ≡ m.faults
   pub origins : e.origins ≡ map origin_of m.tokens
+  pub texts : e.texts ≡ map origin_text m.tokens
   pub ranges : read_ranges e.printed ≡ printed_ranges (map bare m.tokens)
   pub expanded : e.expanded ≡ count

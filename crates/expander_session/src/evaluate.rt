@@ -1,6 +1,6 @@
 //! Evaluates the pieces of a text in order: adds definitions to the scope, takes the memos of
 //! plain pieces from the cache or expands the pieces, and emits the output.
-ghost use Rattle.std.specs.Prelude.{◌≡◌, ◌≢◌, ℕ, ◌+◌, ◌<◌, ◌≤◌, ◌^◌, [], ◌∷◌, ◌++◌, All, List, IfOk, IfSome, IsOkUnless, OnOk, None, Err, Option, Some, false, if◌then◌else◌, is_some, length, map, slice_get, true};
+ghost use Rattle.std.specs.Prelude.{◌≡◌, ◌≢◌, ℕ, ◌+◌, ◌<◌, ◌≤◌, ◌^◌, [], ◌∷◌, ◌++◌, All, List, IfOk, IfSome, OnOk, None, Err, Option, Some, false, if◌then◌else◌, is_some, length, map, slice_get, true};
 ghost use Rattle.std.specs.Global.{Global as GhostGlobal};
 ghost use Rattle.std.specs.List.{list_any};
 ghost use Rattle.std.specs.Rc.{rc_value};
@@ -8,17 +8,16 @@ ghost use Rattle.bridge.specs.ReadText.{text_top};
 ghost use Rattle.mbe.specs.Grammar.{Grammar};
 ghost use Rattle.tt_data.specs.Forest.{Forest};
 ghost use Rattle.tt_data.specs.declared.edition.Edition.{Edition};
-ghost use Rattle.tt_data.specs.fault.TtFault.TheVariants as as_fault;
 ghost use Rattle.expander_scope.specs.Interning.{known_in, numbers_in};
 ghost use Rattle.expander_model.specs.HashedTrees.{own_top, tree_hash};
 ghost use Rattle.expander_model.specs.Definitions.{definition_of};
 ghost use Rattle.expander_model.specs.Held.{IsMet, Met, Stands, first_place, numbered_scope};
 ghost use Rattle.bridge.specs.RelativeSpans.{own_place};
-ghost use Rattle.expander_scope.specs.Imports.{IsImport, import_piece};
+ghost use Rattle.expander_sources.specs.Imports.{IsImport, import_piece};
 ghost use Rattle.expander_session.specs.EvaluatedTexts.{kept_in};
 ghost use Rattle.expander_session.specs.State.{definitions_of};
 ghost use Rattle.expander_model.specs.DefinitionTrees.{definition_trees};
-ghost use Rattle.expander_session.specs.CachedOutputs.{HasParts, Holds};
+ghost use Rattle.expander_session.specs.CachedOutputs.{Holds};
 ghost use Rattle.expander_session.specs.Layered.{layers};
 ghost use Rattle.expander_session.specs.MemoRefs.{plain_tops};
 ghost use Rattle.expander_model.specs.Meaning.{members_after};
@@ -45,42 +44,29 @@ ghost use Rattle.expander_model.specs.World.{world};
 
 use crate::absolute_spans::{emit_cached, emit_events, put_faults, tell_if_broken};
 use crate::cache::{Cache, plain_at};
-use crate::cached_output::{CachedOutput, KeptPrint, kept_output_of, nothing_printed, output_of};
+use crate::cached_output::CachedOutput;
 use crate::emitter::{Emitter, no_steps, reserve, takes_chunks};
 use crate::memo::Memo;
 use crate::memo_index::{MemoIndex, find_in_text, find_valid};
 use crate::memo_ref::MemoRef;
+use crate::new_memo::{expanded, shared};
 use crate::recent_memos::RecentMemos;
-use bridge::parts::{Place, TokenEvent};
+use bridge::parts::Place;
 use expander_model::fault::Fault;
 use expander_model::hashed_tree::HashedTree;
 use expander_model::laws;
-use expander_model::tree_walk::TreeWalk;
 use expander_reparse::piece::Piece;
 use expander_scope::definition_ids::{DefinitionIds, number};
-use expander_scope::expand::{Environment, Expanding, expand_into, expand_piece};
+use expander_scope::expand::{Environment, expand_piece};
 use expander_scope::interner::Interner;
 use expander_scope::macro_def::MacroDef;
-use expander_scope::outcome::Outcome;
-use expander_scope::prelude::{Import, Prelude};
 use expander_scope::refusal::Refusal;
 use expander_scope::scope::Scope;
+use expander_sources::prelude::{Import, Prelude};
 use mbe::FragmentGrammar;
 use std::alloc::{AllocError, Global};
 use std::rc::Rc;
-use tt::TopSubtree;
-use tt_data::{Edition, LeafRef, TtFault};
-
-// A memo with a reference count, so that texts can share it. Out of memory is its only error.
-fn shared(alloc: Global, plain: Memo) -> Result<Rc<Memo>, TtFault>
-    ensures same { IfOk result (λ q. q.value ≡ plain) }
-    ensures memory { IsOkUnless result as_fault.Memory }
-{
-    match Rc::new(alloc, plain) {
-        Ok(plain) => Ok(plain),
-        Err(_) => Err(TtFault::Memory),
-    }
-}
+use tt_data::{Edition, TtFault};
 
 /// What the pieces of a text are evaluated by: the grammar, how many levels of calls may be
 /// expanded, and the cache of the last text that was read.
@@ -97,148 +83,6 @@ pub(crate) struct EvaluationContext<'a, G> {
     pub memory: &'a Cache,
     /// The definitions of other texts that come before the first piece.
     pub prelude: &'a Prelude,
-}
-
-// Expands a tree and prints the events as they come. `None` if what was printed is no chunk.
-fn printed_output<G: FragmentGrammar>(
-    env: &Environment<'_, G>,
-    tree: &TopSubtree,
-) -> Result<Option<Expanding<CachedOutput>>, TtFault>
-    requires { AreRead env.now.scope.now }
-    ensures parts { IfOk result (λ o. IfSome o (λ given. HasParts tree.now.inner given (parts_of
-        (expanded_under (G.answer env.now.grammar.now) env.now.scope.now env.now.depth tree.now.inner)))) }
-    ensures tokens { result ≡ Err TtFault.Tokens →
-        (expanded_under (G.answer env.now.grammar.now) env.now.scope.now env.now.depth tree.now.inner).bursts ≡ true }
-{
-    let none = nothing_printed(env.alloc, tree)?;
-    let Expanding {
-        output,
-        faults,
-        finds,
-    } = expand_into(env, tree, none)?;
-    let Some(output) = output_of(env.alloc, output)? else {
-        return Ok(None);
-    };
-    Ok(Some(Expanding {
-        output,
-        faults,
-        finds,
-    }))
-}
-
-// Whether a tree has a quote in a group behind a `!`: a call may take the quote apart from the name
-// behind it, and then it has no spelling. It decides only how much time an expansion takes, and how
-// often the grammar is asked.
-fn may_part_quotes(alloc: Global, tree: &TopSubtree) -> Result<bool, AllocError> {
-    let mut is_behind_bang = false;
-    // How many groups are open, from one behind a `!` on.
-    let mut depth: usize = 0;
-    let mut rest = TreeWalk::new(alloc, &tree.iter());
-    while let Some(step) = rest.next()? {
-        let mark = match step {
-            TokenEvent::Leaf(LeafRef::Punct(punct)) => punct.char,
-            _ => ' ',
-        };
-        if mark == '\'' && depth > 0 {
-            return Ok(true);
-        }
-        match step {
-            TokenEvent::Opens(..) if is_behind_bang || depth > 0 => depth = depth.saturating_add(1),
-            TokenEvent::Closes(..) => depth = depth.saturating_sub(1),
-            _ => {}
-        }
-        is_behind_bang = mark == '!';
-    }
-    Ok(false)
-}
-
-// Expands a tree, prints the events as they come, and keeps them where what was printed is no
-// chunk.
-fn kept_output<G: FragmentGrammar>(
-    env: &Environment<'_, G>,
-    tree: &TopSubtree,
-) -> Result<Expanding<CachedOutput>, TtFault>
-    requires { AreRead env.now.scope.now }
-    ensures parts { IfOk result (λ given. HasParts tree.now.inner given (parts_of
-        (expanded_under (G.answer env.now.grammar.now) env.now.scope.now env.now.depth tree.now.inner))) }
-    ensures tokens { result ≡ Err TtFault.Tokens →
-        (expanded_under (G.answer env.now.grammar.now) env.now.scope.now env.now.depth tree.now.inner).bursts ≡ true }
-{
-    let own = nothing_printed(env.alloc, tree)?;
-    let steps = Vec::new(env.alloc);
-    let Expanding {
-        output,
-        faults,
-        finds,
-    } = expand_into(env, tree, KeptPrint { own, steps })?;
-    let output = kept_output_of(env.alloc, output)?;
-    Ok(Expanding {
-        output,
-        faults,
-        finds,
-    })
-}
-
-// Expands a tree. If `as_part` asks for it and the events print as a chunk, their text is its
-// output, else the events.
-fn output_to_cache<G: FragmentGrammar>(
-    env: &Environment<'_, G>,
-    tree: &TopSubtree,
-    as_part: bool,
-) -> Result<Expanding<CachedOutput>, TtFault>
-    requires { AreRead env.now.scope.now }
-    ensures parts { IfOk result (λ given. HasParts tree.now.inner given (parts_of
-        (expanded_under (G.answer env.now.grammar.now) env.now.scope.now env.now.depth tree.now.inner))) }
-    ensures tokens { result ≡ Err TtFault.Tokens →
-        (expanded_under (G.answer env.now.grammar.now) env.now.scope.now env.now.depth tree.now.inner).bursts ≡ true }
-{
-    if as_part && may_part_quotes(env.alloc, tree)? {
-        return kept_output(env, tree);
-    }
-    if as_part && let Some(given) = printed_output(env, tree)? {
-        return Ok(given);
-    }
-    // Few other trees print what is no chunk. Only they are expanded a second time, which gives the
-    // same faults and look-ups.
-    let Outcome {
-        steps,
-        faults,
-        finds,
-    } = expand_piece(env, tree)?;
-    let output = CachedOutput::Steps(steps);
-    Ok(Expanding {
-        output,
-        faults,
-        finds,
-    })
-}
-
-// Expands a tree into a memo. If `as_part` asks for it and the events print as a chunk, their text
-// is cached, else the events.
-fn expanded<G: FragmentGrammar>(
-    env: &Environment<'_, G>,
-    tree: Rc<HashedTree>,
-    as_part: bool,
-) -> Result<Rc<Memo>, TtFault>
-    requires { AreRead env.now.scope.now }
-    ensures tree { IfOk result (λ q. tree_of q.value ≡ tree.value) }
-    ensures holds { IfOk result (λ q. Holds q.value (parts_of
-        (expanded_under (G.answer env.now.grammar.now) env.now.scope.now env.now.depth tree.value.inner))) }
-    ensures tokens { result ≡ Err TtFault.Tokens →
-        (expanded_under (G.answer env.now.grammar.now) env.now.scope.now env.now.depth tree.value.inner).bursts ≡ true }
-{
-    let Expanding {
-        output,
-        faults,
-        finds,
-    } = output_to_cache(env, tree.as_ref().tree(), as_part)?;
-    let plain = Memo {
-        tree,
-        output,
-        faults,
-        finds,
-    };
-    shared(env.alloc, plain)
 }
 
 // A memo of a tree that the cache has none for: a valid one of this text, if it is found, or else a

@@ -13,5 +13,6 @@ mod lookup_tree;
 mod memo;
 mod memo_index;
 mod memo_ref;
+mod new_memo;
 mod recent_memos;
 pub mod session;

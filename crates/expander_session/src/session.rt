@@ -1,7 +1,10 @@
 //! A session: a text that is edited and expanded, with a cache of the last text that was read.
-ghost use Rattle.std.specs.Prelude.{◌≡◌, ◌+◌, ◌-◌, ◌<◌, ◌≤◌, ◌^◌, ◌↔◌, ◌++◌, All, Err, List, [], length, IfOk, IfErr, OnOk, OnErr, IsTrue, IsCharBoundary, None, map, slice_get, true};
+ghost use Rattle.std.specs.Prelude.{◌≡◌, ◌≢◌, ◌+◌, ◌-◌, ◌<◌, ◌≤◌, ◌^◌, ◌↔◌, ◌++◌, All, Err, List, [], length, IfOk, IfErr, OnOk, OnErr, IsTrue, IsCharBoundary, IsSome, None, Some, map, option_map, slice_get, true};
 ghost use Rattle.std.specs.List.{list_any};
 ghost use Rattle.rustc_lexer.specs.Edit.{edited};
+ghost use Rattle.bridge.specs.ReadText.{HasTooMany};
+ghost use Rattle.bridge.specs.TokenSteps.{text_steps};
+ghost use Rattle.expander_sources.specs.SourceReads.{IsSourceOf};
 ghost use Rattle.bridge.specs.PrintedRanges.{read_ranges};
 ghost use Rattle.expander_model.specs.Expansion.{PlacedStep};
 ghost use Rattle.expander_model.specs.Held.{Stands};
@@ -32,13 +35,24 @@ use expander_model::laws;
 use expander_reparse::parse::{Parsed, read_pieces};
 use expander_reparse::piece::Piece;
 use expander_reparse::segment::Segments;
-use expander_scope::prelude::Prelude;
 use expander_scope::refusal::Refusal;
+use expander_sources::home::Home;
+use expander_sources::prelude::Prelude;
+use expander_sources::source::{SourceRead, read_source};
 use fragment_grammar::FragmentGrammar;
 use rustc_lexer::LexedText;
 use std::alloc::{AllocError, Global};
 use std::marker::Model;
 use tt_data::{Edition, TextRange, TtFault};
+
+/// Where a printed token comes from.
+#[derive(Clone, Copy)]
+pub struct Origin {
+    /// The text: 0 is the text that is expanded, and others are sources.
+    pub text: u32,
+    /// The bytes of that text.
+    pub range: TextRange,
+}
 
 /// The expansion of a text: the printed text, the origins of its tokens, and the faults.
 #[derive(Drop)]
@@ -56,7 +70,7 @@ impl Model for Expansion {
 
     ghost Value = { Expanded };
 
-    ghost view = { λ e. record { printed = string_bytes e.printed; faults = e.faults.items; origins = map (λ s. s.range) e.origins; expanded = e.expanded } };
+    ghost view = { λ e. record { printed = string_bytes e.printed; faults = e.faults.items; origins = map (λ s. s.range) e.origins; texts = map (λ s. s.anchor) e.origins; expanded = e.expanded } };
 
     ghost invariant = { λ e. length (read_ranges (string_bytes e.printed)) ≡ length e.origins };
 }
@@ -91,20 +105,34 @@ impl Expansion {
         self.origins.len()
     }
 
-    /// The origin of the printed token of this index, from 0 and below `tokens()`: the bytes of
-    /// the present text that its span names.
+    /// The origin of the printed token of this index, from 0 and below `tokens()`, in the text that
+    /// is expanded: the bytes that its span names. `None` if it comes from a source, as it can only
+    /// with a prelude: then `source` answers.
     ///
     /// A token that was written in the text, in a call's argument too, comes from there, through
     /// however many calls it was carried. A token of a transcriber comes from the transcriber, and
     /// what a `$` gives by itself from this `$`. A doc comment's tokens come from the comment.
     pub fn origin(&self, i: usize) -> Option<TextRange>
         requires { i < length self.now.origins }
-        ensures { result ≡ slice_get self.now.origins i }
+        ensures own { slice_get self.now.texts i ≡ Some 0 → result ≡ slice_get self.now.origins i }
+        ensures other { slice_get self.now.texts i ≢ Some 0 → result ≡ None }
     {
-        match self.origins.get(i) {
-            Some(span) => Some(span.range),
-            None => None,
-        }
+        let Origin { text, range } = self.source(i)?;
+        if text == 0 { Some(range) } else { None }
+    }
+
+    /// The text and the bytes that the printed token of this index comes from. It always answers.
+    pub fn source(&self, i: usize) -> Option<Origin>
+        requires { i < length self.now.origins }
+        ensures text { option_map (λ o. o.text) result ≡ slice_get self.now.texts i }
+        ensures range { option_map (λ o. o.range) result ≡ slice_get self.now.origins i }
+        ensures some { IsSome result }
+    {
+        let span = self.origins.get(i)?;
+        Some(Origin {
+            text: span.anchor,
+            range: span.range,
+        })
     }
 
     /// Where the printed tokens are in the printed text, of at most `u32::MAX` bytes, in order. The
@@ -218,6 +246,32 @@ impl<G: FragmentGrammar + Drop> Session<G> {
             prelude: Prelude::new(alloc),
             memory: Cache::new(alloc),
         })
+    }
+
+    /// From the next expansion on the text is expanded after these definitions. Its own come
+    /// after them, so they are nearer. Nothing that is cached is lost: only pieces of which a
+    /// look-up then resolves to another definition are expanded anew.
+    pub fn set_prelude(&mut self, prelude: Prelude)
+        ensures { self.new ≡ record self.old { prelude = prelude } }
+    {
+        self.prelude = prelude;
+    }
+
+    /// The source that the present text is: its definitions, for other texts. It has this number,
+    /// from 1 on, and this home: `None` if the other texts are of the same crate. It is read over
+    /// the cache, and changes nothing.
+    ///
+    /// # Errors
+    ///
+    /// `Memory`. `Tokens`, only if what is read of the text has more than `u32::MAX` tokens, which
+    /// doc comments alone can bring about.
+    pub fn source(&self, number: u32, home: Option<Home>) -> Result<SourceRead, TtFault>
+        requires { 1 ≤ number }
+        ensures read { IfOk result (IsSourceOf number home self.now.text) }
+        ensures many { result ≡ Err TtFault.Tokens → HasTooMany (text_steps self.now.text) }
+    {
+        let (text, tokens) = (self.text.text(), self.text.tokens());
+        read_source(self.alloc, text, tokens, &self.memory.sources, number, home)
     }
 
     /// The text.

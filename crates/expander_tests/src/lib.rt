@@ -18,6 +18,8 @@ mod options;
 #[cfg(test)]
 mod pages;
 #[cfg(test)]
+mod preludes;
+#[cfg(test)]
 mod printed_again;
 #[cfg(test)]
 mod refused;

@@ -1,8 +1,9 @@
 //! Pages, for runs of the tests in which one request for memory is refused. A refused call changes
 //! nothing, and gives the same when it is made again.
 use crate::opened::{opened, reply_of};
+use crate::preludes::{prelude_of, source_of};
 use expander::Reply;
-use expansion_page::page;
+use expansion_page::{page, page_with_names};
 use std::alloc::Global;
 use std::test::Fail;
 
@@ -59,6 +60,39 @@ fn is_shown(alloc: Global, row: &Row) -> Result<bool, Fail> {
 fn refused_pages(rt: HostRuntime) -> Result<(), Fail> {
     for row in &ROWS {
         assert!(rt; is_shown(rt.alloc(), row)?, "{}", row.text);
+    }
+    Ok(())
+}
+
+// The reply to `m!(a);` after a definition of another text.
+fn reply_after(alloc: Global) -> Result<Reply, Fail> {
+    let mut session = opened(alloc, "m!(a);", 128)?;
+    let source = source_of(alloc, "macro_rules! m { ($x:tt) => { $x b } }", None)?;
+    session.set_prelude(prelude_of(alloc, &source)?);
+    reply_of(&mut session)
+}
+
+// A token of another text has no link, and a title that says which text, and which bytes.
+#[test]
+fn tokens_of_other_texts(rt: HostRuntime) -> Result<(), Fail> {
+    let alloc = rt.alloc();
+    let reply = reply_after(alloc)?;
+    let numbered = page(alloc, "t", "m!(a);", &reply)?;
+    let mut names = Vec::new(alloc);
+    names.push(String::from_str(alloc, "d<e.rs")?)?;
+    let named = page_with_names(alloc, "t", "m!(a);", names.as_slice(), &reply)?;
+    let rows = [
+        (
+            &numbered,
+            "<bdi o=4>a</bdi> <bdi o=0 title=\"source 1, bytes 33 to 34\">b</bdi>",
+        ),
+        (
+            &named,
+            "<bdi o=4>a</bdi> <bdi o=0 title=\"d&#60;e.rs, bytes 33 to 34\">b</bdi>",
+        ),
+    ];
+    for (html, shows) in rows {
+        assert!(rt; html.contains(shows), "{shows}");
     }
     Ok(())
 }

@@ -1,12 +1,13 @@
 -- Lists that are made one by one.
 use Rattle.std.proofs.Common.{◌≡◌, ℕ, ◌+◌, ◌<◌, List, [], ◌∷◌, ◌++◌, drop, get_or, length, refl, sym, ap, ◌∙◌, append_assoc}
 use Rattle.std.proofs.lemmas.List.{drop_more, map-append, length-map}
-use Rattle.std.proofs.lemmas.Option.{unwrap_or-slice_get}
-use Rattle.std.specs.Prelude.{map, slice_get, unwrap_or, Option}
+use Rattle.std.proofs.lemmas.Option.{get_or_from_slice_get, slice_get_within}
+use Rattle.std.specs.Prelude.{map, slice_get, Some}
 use Rattle.tt_data.specs.declared.span.TextRange.{TextRange}
 use Rattle.expander_model.specs.declared.fault.Fault.{Fault}
 use Rattle.expander_run.specs.Lines.{column_at, fault_words, line, line_at}
-use Rattle.expansion_page.specs.Pages.{fault_line}
+use Rattle.expansion_page.specs.Pages.{fault_line, shown_origin, shown_origins}
+use Rattle.html_code.specs.declared.origin.Origin.{Origin}
 
 -- one more of what is made of each, and what is to come, is all
 pub one_more : {A B : Type 0} (F : A → B) (done new : List B) (xs : List A) (i : ℕ) (x : A) (y : B) → i < length xs
@@ -40,10 +41,21 @@ lines_more text bytes what got old l c done new faults i d inside so_far empty a
     one_more (fault_line text) done new faults i d got inside so_far
     (line_is text bytes what got old l c (get_or faults i d) empty are of_line of_column of_what told) added
 
+-- what is left of a list begins with the item of this index
+begins_with : {A : Type 0} (xs : List A) (i : ℕ) (x : A) → slice_get xs i ≡ Some x → drop i xs ≡ x ∷ drop (i + 1) xs
+begins_with {A} xs i x at =
+    drop_more xs i x (slice_get_within xs i x at)
+    ∙ ap (λ (y : A). y ∷ drop (i + 1) xs) (get_or_from_slice_get xs i x x at)
+
 -- one origin of all
-pub origins_more : (done new : List ℕ) (xs : List TextRange) (i : ℕ) (d r : TextRange) (o : Option TextRange) → i < length xs
-    → done ++ map (λ (a : TextRange). a.start) (drop i xs) ≡ map (λ (a : TextRange). a.start) xs → o ≡ slice_get xs i → r ≡ unwrap_or o d
-    → new ≡ done ++ r.start ∷ [] → new ++ map (λ (a : TextRange). a.start) (drop (i + 1) xs) ≡ map (λ (a : TextRange). a.start) xs
-origins_more done new xs i d r o inside so_far of_o of_r added =
-    let same : r ≡ get_or xs i d = of_r ∙ ap (λ (p : Option TextRange). unwrap_or p d) of_o ∙ unwrap_or-slice_get xs i d in
-    one_more (λ (a : TextRange). a.start) done new xs i d r.start inside so_far (ap (λ (a : TextRange). a.start) same) added
+pub origins_more : (done new : List Origin) (ranges : List TextRange) (texts : List ℕ) (i : ℕ) (r : TextRange) (t : ℕ) (o : Origin)
+    → slice_get ranges i ≡ Some r → slice_get texts i ≡ Some t
+    → done ++ shown_origins (drop i ranges) (drop i texts) ≡ shown_origins ranges texts → o ≡ shown_origin t r → new ≡ done ++ o ∷ []
+    → new ++ shown_origins (drop (i + 1) ranges) (drop (i + 1) texts) ≡ shown_origins ranges texts
+origins_more done new ranges texts i r t o at text_at so_far is added =
+    let rest : List Origin = shown_origins (drop (i + 1) ranges) (drop (i + 1) texts) in
+    ap (λ (os : List Origin). os ++ rest) (added ∙ ap (λ (p : Origin). done ++ p ∷ []) is)
+    ∙ append_assoc done (shown_origin t r ∷ []) rest
+    ∙ sym (ap (λ (rs : List TextRange). done ++ shown_origins rs (drop i texts)) (begins_with ranges i r at)
+    ∙ ap (λ (ts : List ℕ). done ++ shown_origins (r ∷ drop (i + 1) ranges) ts) (begins_with texts i t text_at))
+    ∙ so_far

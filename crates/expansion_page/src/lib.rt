@@ -5,4 +5,4 @@ mod frame;
 mod reply_page;
 mod told;
 
-pub use reply_page::page;
+pub use reply_page::{page, page_with_names};

@@ -1,7 +1,7 @@
 //! The page of a reply to a text.
-ghost use Rattle.std.specs.Prelude.{◌≡◌, ◌<◌, ◌^◌, IfOk, length, string_bytes};
+ghost use Rattle.std.specs.Prelude.{◌≡◌, ◌<◌, ◌^◌, ℕ, List, [], IfOk, length, map, string_bytes};
 ghost use Rattle.expander_session.specs.declared.session.Reply.TheVariants.{Read, Unread};
-ghost use Rattle.expansion_page.specs.Pages.{IsFramed, IsReplyPage, ShowsReply, origin_starts};
+ghost use Rattle.expansion_page.specs.Pages.{IsFramed, IsNamedReplyPage, IsReplyPage, ShowsReply, shown_origins};
 ghost use Rattle.html_code.specs.PageParts.{IsShort};
 
 use crate::frame::frame;
@@ -9,13 +9,18 @@ use crate::told::{lines_of, lone_mark, marks_of, origins_of};
 use bridge::ReadFault;
 use expander_run::lines::{FIRST, push_line, read_fault_words, spot_of};
 use expander_session::session::{Expansion, Reply};
+use html_code::Origin;
 use html_code::page::{Printed, Shown};
 use std::alloc::{AllocError, Global};
 
 // What was printed, if it can be shown.
-fn printed_of<'a>(expansion: &'a Expansion, origins: &'a [u32]) -> Option<Printed<'a>>
-    requires { origins.now ≡ origin_starts expansion.now }
-    ensures shows { ShowsReply (Read expansion.now) result }
+fn printed_of<'a>(
+    expansion: &'a Expansion,
+    origins: &'a [Origin],
+    names: &'a [String],
+) -> Option<Printed<'a>>
+    requires { origins.now ≡ shown_origins expansion.now.origins expansion.now.texts }
+    ensures shows { ShowsReply (map string_bytes names.now) (Read expansion.now) result }
     ensures short { IsShort result }
 {
     let (text, expanded) = (expansion.printed(), expansion.expanded());
@@ -25,6 +30,7 @@ fn printed_of<'a>(expansion: &'a Expansion, origins: &'a [u32]) -> Option<Printe
     Some(Printed {
         text,
         origins,
+        names,
         expanded,
     })
 }
@@ -45,17 +51,18 @@ fn page_of_expansion<'a>(
     alloc: Global,
     title: &'a str,
     text: &'a str,
+    names: &'a [String],
     expansion: &Expansion,
 ) -> Result<String, AllocError>
     requires { length text.now < 2 ^ 32 }
-    ensures { IfOk result (λ html.
-        IsReplyPage title.now text.now (Read expansion.now) (string_bytes html)) }
+    ensures { IfOk result (λ html. IsNamedReplyPage (map string_bytes names.now) title.now text.now
+        (Read expansion.now) (string_bytes html)) }
 {
     let lines = lines_of(alloc, text, expansion.faults())?;
     let marks = marks_of(alloc, expansion.faults(), lines.as_slice())?;
     let origins = origins_of(alloc, expansion)?;
     let faults = marks.as_slice();
-    let printed = printed_of(expansion, origins.as_slice());
+    let printed = printed_of(expansion, origins.as_slice(), names);
     let shown = Shown {
         title,
         text,
@@ -74,8 +81,8 @@ fn page_of_fault<'a>(
     fault: ReadFault,
 ) -> Result<String, AllocError>
     requires { length text.now < 2 ^ 32 }
-    ensures { IfOk result (λ html.
-        IsReplyPage title.now text.now (Unread fault) (string_bytes html)) }
+    ensures { IfOk result (λ html. (names : List (List ℕ)) →
+        IsNamedReplyPage names title.now text.now (Unread fault) (string_bytes html)) }
 {
     let start = fault.range.start;
     let spot = spot_of(text.as_bytes(), FIRST, start);
@@ -98,15 +105,32 @@ fn page_of_fault<'a>(
 /// name. Refused if there is no memory for it.
 ///
 /// It has the text with its faults, beside it the expansion with each token's origin, and below a
-/// link to each fault. Of a text that cannot be read it has the reading fault alone, and of an
-/// expansion that prints more than `u32::MAX` bytes the text and the faults. All else on it is a
-/// constant of this crate.
+/// link to each fault. A token of another text has no link: its title says which source it comes
+/// from, by its number, and which bytes. Of a text that cannot be read it has the reading fault
+/// alone, and of an expansion that prints more than `u32::MAX` bytes the text and the faults. All
+/// else on it is a constant of this crate.
 pub fn page(alloc: Global, title: &str, text: &str, reply: &Reply) -> Result<String, AllocError>
     requires { length text.now < 2 ^ 32 }
     ensures { IfOk result (λ html. IsReplyPage title.now text.now reply.now (string_bytes html)) }
 {
+    page_with_names(alloc, title, text, &[], reply)
+}
+
+/// The same page, where the sources have these names, in order of their numbers, from 1: a token of
+/// another text says the name of its source.
+pub fn page_with_names(
+    alloc: Global,
+    title: &str,
+    text: &str,
+    names: &[String],
+    reply: &Reply,
+) -> Result<String, AllocError>
+    requires { length text.now < 2 ^ 32 }
+    ensures { IfOk result (λ html. IsNamedReplyPage (map string_bytes names.now) title.now text.now
+        reply.now (string_bytes html)) }
+{
     match reply {
-        Reply::Read(expansion) => page_of_expansion(alloc, title, text, expansion),
+        Reply::Read(expansion) => page_of_expansion(alloc, title, text, names, expansion),
         Reply::Unread(fault) => page_of_fault(alloc, title, text, *fault),
     }
 }

@@ -1,11 +1,11 @@
 //! What a page tells of an expansion.
 ghost use Rattle.std.specs.Prelude.{◌≡◌, ◌<◌, ◌^◌, [], ◌∷◌, IfOk, length, map, string_bytes};
-ghost use Rattle.expansion_page.specs.Pages.{fault_line, origin_starts};
+ghost use Rattle.expansion_page.specs.Pages.{fault_line, shown_origin, shown_origins};
 
 use expander_model::fault::Fault;
 use expander_run::lines::{FIRST, fault_words, push_line, spot_of};
 use expander_session::session::Expansion;
-use html_code::Mark;
+use html_code::{Mark, Origin};
 use std::alloc::{AllocError, Global};
 use tt_data::TextRange;
 
@@ -63,17 +63,29 @@ pub(crate) fn lone_mark<'a>(
     Ok(marks)
 }
 
-// The origin of a token that is not there.
-const NOWHERE: TextRange = TextRange { start: 0, end: 0 };
+// Where a printed token comes from, as a page shows it.
+fn shown_origin(text: u32, range: TextRange) -> Origin
+    ensures { result ≡ shown_origin text range }
+{
+    let TextRange { start, end } = range;
+    if text == 0 {
+        Origin::Own(start)
+    } else {
+        Origin::Other { text, start, end }
+    }
+}
 
-/// Where each printed token's origin begins.
-pub(crate) fn origins_of(alloc: Global, expansion: &Expansion) -> Result<Vec<u32>, AllocError>
-    ensures { IfOk result (λ origins. origins.items ≡ origin_starts expansion.now) }
+/// Where each printed token comes from, as a page shows it.
+pub(crate) fn origins_of(alloc: Global, expansion: &Expansion) -> Result<Vec<Origin>, AllocError>
+    ensures { IfOk result (λ origins. origins.items
+        ≡ shown_origins expansion.now.origins expansion.now.texts) }
 {
     let mut origins = Vec::new(alloc);
     for i in 0..expansion.tokens() {
-        let origin = expansion.origin(i).unwrap_or(NOWHERE);
-        origins.push(origin.start)?;
+        let Some(origin) = expansion.source(i) else {
+            unreachable!("a printed token has an origin");
+        };
+        origins.push(shown_origin(origin.text, origin.range))?;
     }
     Ok(origins)
 }

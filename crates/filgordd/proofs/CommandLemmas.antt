@@ -1,14 +1,14 @@
 -- The words of a command line, as clap gives them.
 use Rattle.std.proofs.Common.{◌≡◌, List, [], ◌∷◌, Option, Some, None, true, sym, ap, ◌∙◌, subst, codes}
-use Rattle.std.specs.Prelude.{IfSome, option_map}
-use Rattle.clap.proofs.WalkLemmas.{first_value-rows}
-use Rattle.clap.specs.Matches.{first_value}
+use Rattle.std.specs.Prelude.{IfOk, IfSome, Result, Ok, Err, option_map, unwrap_or}
+use Rattle.clap.proofs.WalkLemmas.{first_value-rows, raw_values-rows}
+use Rattle.clap.specs.Matches.{first_value, matched_of, raw_values}
 use Rattle.clap.specs.Simple.{App, Shape, is_simple, new_shape}
-use Rattle.clap.specs.Walk.{Row, Text, first_of, rows_of}
+use Rattle.clap.specs.Walk.{Row, Text, all_of, first_of, rows_of}
 use Rattle.clap.specs.declared.builder.value_parser.ValueParser.{ValueParser}
 use Rattle.clap.specs.declared.parser.matches.Found.{Found}
 use Rattle.filgordd.specs.Choices.{action_name}
-use Rattle.filgordd.specs.Commands.{AsksBy, AsksFor, IsFile, IsProgram, file_rule, option_rule, program_shape}
+use Rattle.filgordd.specs.Commands.{AsksBy, AsksFor, IsFile, IsProgram, file_rule, on_text, option_rule, program_shape}
 use Rattle.filgordd.specs.declared.job.Action.{Action}
 use Rattle.filgordd.specs.declared.job.Job.{Job}
 
@@ -20,6 +20,18 @@ value_is now f id got x is was = sym (first_value-rows f id) ∙ sym is ∙ ap (
 pub file_is : {B : Type 0} (now : B → Text) (f : Found) (id : Text) (got : Option B) (file : Option Text) → option_map now got ≡ first_value f id
     → IsFile (option_map now got) file → IsFile (first_of id (rows_of f)) file
 file_is now f id got file is h = subst (λ (word : Option Text). IsFile word file) (is ∙ first_value-rows f id) h
+
+-- what was got of an id, if anything, is the first of its row
+pub option_is : {B : Type 0} (now : B → Text) (f : Found) (id : Text) (got : Option B) → option_map now got ≡ first_value f id
+    → first_of id (rows_of f) ≡ option_map now got
+option_is now f id got is = sym (first_value-rows f id) ∙ sym is
+
+-- the values that were got of an id are all of its row
+pub values_are : {B : Type 0} (now : B → List Text) (f : Found) (id : Text) (got : Option B) (values : List Text)
+    → option_map now got ≡ option_map raw_values (matched_of f id) → unwrap_or (option_map now got) [] ≡ values
+    → unwrap_or (all_of id (rows_of f)) [] ≡ values
+values_are now f id got values is same =
+    ap (λ (o : Option (List Text)). unwrap_or o []) (sym (raw_values-rows f id) ∙ sym is) ∙ same
 
 -- a name and rows that were got apart stand together
 pub together : {B : Type 0} (o : Option B) (name_of : B → Text) (rows : B → List Row) (n : Text) (r : List Row) → option_map name_of o ≡ Some n
@@ -36,6 +48,12 @@ pub asks_for : (o : Option (Text × List Row)) (name : Text) (rows : List Row) (
 asks_for o name rows action None is named by asks = tt
 asks_for o name rows action (Some j) is named by asks = rw is (named ∙ sym (ap action_name by), asks)
 
+-- the same where the job is made in memory
+pub makes_asked : {E : Type 0} (o : Option (Text × List Row)) (name : Text) (rows : List Row) (action : Action) (job : Result (Option Job) E) → o ≡ Some (name, rows)
+    → name ≡ action_name action → IfOk job (λ m. IfSome m (λ j. j.action ≡ action)) → IfOk job (λ m. IfSome m (AsksBy rows)) → IfOk job (λ m. IfSome m (AsksFor o))
+makes_asked o name rows action (Err e) is named by asks = tt
+makes_asked o name rows action (Ok m) is named by asks = asks_for o name rows action m is named by asks
+
 -- a subcommand with these tests of its values
 abbrev subcommand_of_name : Text → ValueParser → ValueParser → ValueParser → Shape
 subcommand_of_name name grammar edition depth = record (new_shape name) {
@@ -47,10 +65,11 @@ subcommand_of_name name grammar edition depth = record (new_shape name) {
 -- the program is one of which clap says the matches
 pub is_simple_program : (app : App) → IsProgram app → is_simple app ≡ true
 is_simple_program app p =
-    let expand : Shape = subcommand_of_name (codes "expand") p.is_expand.grammar p.is_expand.edition p.is_expand.depth in
+    let base : Shape =
+    subcommand_of_name (codes "expand") p.is_expand.is_base.grammar p.is_expand.is_base.edition p.is_expand.is_base.depth in
     let replay : Shape = subcommand_of_name (codes "replay") p.is_replay.grammar p.is_replay.edition p.is_replay.depth in
     let of_three : Shape → Shape → Shape → App = λ a b c. record { top = program_shape; subs = a ∷ b ∷ c ∷ [] } in
     ap is_simple (p.app_is
-    ∙ ap (λ (s : Shape). of_three s p.replay p.view) p.is_expand.shape_is
-    ∙ ap (λ (s : Shape). of_three expand s p.view) p.is_replay.shape_is
-    ∙ ap (λ (s : Shape). of_three expand replay s) p.is_view.shape_is)
+    ∙ ap (λ (s : Shape). of_three s p.replay p.view) (p.is_expand.shape_is ∙ ap on_text p.is_expand.is_base.shape_is)
+    ∙ ap (λ (s : Shape). of_three (on_text base) s p.view) p.is_replay.shape_is
+    ∙ ap (λ (s : Shape). of_three (on_text base) replay s) (p.is_view.shape_is ∙ ap on_text p.is_view.is_base.shape_is))

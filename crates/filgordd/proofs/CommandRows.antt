@@ -3,9 +3,9 @@ use Rattle.std.proofs.Common.{◌≡◌, List, [], ◌∷◌, Option, Some, None
 use Rattle.std.specs.Prelude.{option_map}
 use Rattle.clap.proofs.OnLiterals.{clap_on_literals}
 use Rattle.clap.specs.Simple.{App, Shape, new_shape, subcommand_of}
-use Rattle.clap.specs.Walk.{Text, first_of}
+use Rattle.clap.specs.Walk.{Text, all_of, first_of}
 use Rattle.clap.specs.declared.builder.value_parser.ValueParser.{ValueParser}
-use Rattle.filgordd.specs.Commands.{file_rule, option_rule, program_shape}
+use Rattle.filgordd.specs.Commands.{file_rule, on_text, option_rule, program_shape}
 
 module _ (grammar edition depth : ValueParser) where
   abbrev named : Text → Shape
@@ -18,7 +18,7 @@ module _ (grammar edition depth : ValueParser) where
   abbrev program : App
   program = record {
     top = program_shape;
-    subs = named (codes "expand") ∷ named (codes "replay") ∷ named (codes "view") ∷ [];
+    subs = on_text (named (codes "expand")) ∷ named (codes "replay") ∷ on_text (named (codes "view")) ∷ [];
   }
 
   -- the subcommand, the three values and the file
@@ -43,3 +43,15 @@ module _ (grammar edition depth : ValueParser) where
       ≡ Some (Some (codes "view") ∷ Some (codes "rust") ∷ Some (codes "2024") ∷ Some (codes "128") ∷ Some (codes "--depth") ∷ [])
   unfolding clap_on_literals
   after_dashes = refl
+
+  -- the folder of libraries, the other files, and the file
+  abbrev others : List Text → Option (Option Text × (Option (List Text) × Option Text))
+  others words = option_map {U = Option Text × (Option (List Text) × Option Text)}
+      (λ p. (first_of (codes "std") p.1, (all_of (codes "with") p.1, first_of (codes "file") p.1))) (subcommand_of program words)
+
+  -- `filgordd expand --with a --std=d --with b@2021=c t`
+  other_files : others (codes "filgordd" ∷ codes "expand" ∷ codes "--with" ∷ codes "a" ∷ codes "--std=d" ∷ codes "--with"
+      ∷ codes "b@2021=c" ∷ codes "t" ∷ [])
+      ≡ Some (Some (codes "d"), (Some (codes "a" ∷ codes "b@2021=c" ∷ []), Some (codes "t")))
+  unfolding clap_on_literals
+  other_files = refl

@@ -1,8 +1,11 @@
 -- The command line of the program, as `clap` reads it. (Of this project.)
-use Rattle.std.specs.Prelude.{◌≡◌, ◌≢◌, List, [], ◌∷◌, codes, Option, Some, None, option_map, true, false, ⊤}
+use Rattle.std.specs.Prelude.{◌≡◌, ◌≢◌, List, [], ◌∷◌, ◌++◌, codes, map, Option, Some, None, option_map, true, false, unwrap_or, ⊤}
 use Rattle.clap.specs.Simple.{App, Shape, new_rule, new_shape, subcommand_of}
-use Rattle.clap.specs.Walk.{Row, Rule, Text, first_of}
+use Rattle.any_grammar.specs.declared.chosen.AnyGrammar.{AnyGrammar}
+use Rattle.clap.specs.Walk.{Row, Rule, Text, all_of, first_of}
+use Rattle.clap.specs.declared.builder.action.ArgAction.TheVariants.{Append}
 use Rattle.clap.specs.declared.builder.value_parser.ValueParser.{ValueParser}
+use Rattle.expander_run.specs.declared.options.Options.{Options}
 use Rattle.filgordd.specs.Choices.{Chosen, action_name}
 use Rattle.filgordd.specs.declared.job.Job.{Job}
 use Rattle.filgordd.specs.declared.request.Request.{Request}
@@ -15,6 +18,18 @@ option_rule name default parser = record (new_rule name) {
   value_names = 1;
   defaults = default ∷ [];
   parser = Some parser;
+}
+
+-- the folder of the libraries: an option with no value where it is not used
+abbrev pub library_rule : Rule
+library_rule = record (new_rule (codes "std")) { long = Some (codes "std"); value_names = 1 }
+
+-- the other files: an option that may be used any number of times
+abbrev pub with_rule : Rule
+with_rule = record (new_rule (codes "with")) {
+  long = Some (codes "with");
+  value_names = 1;
+  action = Some Append;
 }
 
 -- the file, which has no name on the command line
@@ -32,6 +47,19 @@ pub record IsSubcommand (name : Text) (shape : Shape) : Type 0 where
         ∷ option_rule (codes "depth") (codes "128") depth ∷ file_rule ∷ [];
   }
 
+-- a command with one more rule
+abbrev pub with_more : Rule → Shape → Shape
+with_more rule s = record s { rules = s.rules ++ rule ∷ [] }
+
+-- a subcommand on a text, which takes definitions of other texts too
+abbrev pub on_text : Shape → Shape
+on_text s = with_more with_rule (with_more library_rule s)
+
+pub record IsTextSubcommand (name : Text) (shape : Shape) : Type 0 where
+  pub base : Shape
+  pub is_base : IsSubcommand name base
+  pub shape_is : shape ≡ on_text base
+
 -- the program: one of its three subcommands has to be named
 abbrev pub program_shape : Shape
 program_shape = record (new_shape (codes "filgordd")) {
@@ -45,9 +73,9 @@ pub record IsProgram (app : App) : Type 0 where
   pub expand : Shape
   pub replay : Shape
   pub view : Shape
-  pub is_expand : IsSubcommand (codes "expand") expand
+  pub is_expand : IsTextSubcommand (codes "expand") expand
   pub is_replay : IsSubcommand (codes "replay") replay
-  pub is_view : IsSubcommand (codes "view") view
+  pub is_view : IsTextSubcommand (codes "view") view
   pub app_is : app ≡ record { top = program_shape; subs = expand ∷ replay ∷ view ∷ [] }
 
 -- a file's name is the word for it, but `-` names none
@@ -56,14 +84,21 @@ pub record IsFile (word file : Option Text) : Type 0 where
   pub other : word ≢ Some (codes "-") → file ≡ word
 
 -- what the values of a subcommand's options choose
-pub record AsksBy (rows : List Row) (job : Job) : Type 0 where
+pub record ChosenBy (rows : List Row) (options : Options AnyGrammar) : Type 0 where
   pub grammar : Text
   pub edition : Text
   pub depth : Text
   pub has_grammar : first_of (codes "grammar") rows ≡ Some grammar
   pub has_edition : first_of (codes "edition") rows ≡ Some edition
   pub has_depth : first_of (codes "depth") rows ≡ Some depth
-  pub chosen : Chosen grammar edition depth job.options
+  pub chosen : Chosen grammar edition depth options
+
+-- what they ask for: a job with these options, and, each as its word names it, a folder of
+-- libraries, other files in order, and a text
+pub record AsksBy (rows : List Row) (job : Job) : Type 0 where
+  pub options : ChosenBy rows job.options
+  pub has_library : first_of (codes "std") rows ≡ option_map (λ s. s.now) job.library
+  pub has_with : unwrap_or (all_of (codes "with") rows) [] ≡ map (λ s. s.now) job.with.items
   pub has_file : IsFile (first_of (codes "file") rows) (option_map (λ s. s.now) job.file)
 
 -- the subcommand that was named, and its values, ask for this job

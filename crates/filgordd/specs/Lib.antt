@@ -3,3 +3,5 @@ pub mod Choices
 pub mod Commands
 pub mod Shown
 pub mod Sources
+pub mod Others
+pub mod Picking

@@ -3,13 +3,13 @@ ghost use Rattle.std.specs.Prelude.{◌≡◌, IfOk, codes, false};
 ghost use Rattle.clap.specs.Words.{app_of, rule_of, shape_of};
 ghost use Rattle.clap.specs.declared.builder.command.Command.TheViews.{out-Command as fields_of};
 ghost use Rattle.clap.specs.declared.builder.value_parser.ValueParser.{ValueParser};
-ghost use Rattle.filgordd.specs.Commands.{IsProgram, IsSubcommand, file_rule, option_rule};
+ghost use Rattle.filgordd.specs.Commands.{IsProgram, IsSubcommand, IsTextSubcommand, file_rule, library_rule, option_rule, with_rule};
 
-use clap::{Arg, Command, value_parser};
+use clap::{Arg, ArgAction, Command, value_parser};
 use std::alloc::{AllocError, Global};
 
 const ABOUT: &str =
-    "Expands the declarative macros of Rust, macro_rules! and macro, that one text defines";
+    "Expands the declarative macros of Rust, macro_rules! and macro, that a text has or is given";
 
 const STATUSES: &str =
     "Status: 0 without a fault, 1 with one or where the program stops, 2 for wrong arguments \
@@ -58,6 +58,26 @@ fn depth<'a>(alloc: Global) -> Arg<'a>
         .help("How many levels of calls are expanded, 0 to 255")
 }
 
+fn library<'a>(alloc: Global) -> Arg<'a>
+    ensures rule { rule_of result ≡ library_rule }
+    ensures own { result.global ≡ false }
+{
+    Arg::new(alloc, "std").long("std").value_name("DIR").help(
+        "The folder library of rust-src, for the macros of core, alloc and std",
+    )
+}
+
+fn with<'a>(alloc: Global) -> Arg<'a>
+    ensures rule { rule_of result ≡ with_rule }
+    ensures own { result.global ≡ false }
+{
+    Arg::new(alloc, "with")
+        .long("with")
+        .value_name("[ROOT@EDITION=]FILE")
+        .action(ArgAction::Append)
+        .help("A file whose macros the text may call, of this crate or of another; may be repeated")
+}
+
 fn file<'a>(alloc: Global) -> Arg<'a>
     ensures rule { rule_of result ≡ file_rule }
     ensures own { result.global ≡ false }
@@ -67,7 +87,7 @@ fn file<'a>(alloc: Global) -> Arg<'a>
         .help("The text; without it, or for -, standard input")
 }
 
-// A subcommand on a text, with the options that each has.
+// A subcommand with the options that each has.
 fn subcommand<'a>(alloc: Global, name: &'a str, about: &'a str) -> Result<Command<'a>, AllocError>
     ensures shape { IfOk result (λ c. IsSubcommand name.now (shape_of c)) }
     ensures own { IfOk result (λ c. (fields_of c).has_globals ≡ false) }
@@ -78,6 +98,20 @@ fn subcommand<'a>(alloc: Global, name: &'a str, about: &'a str) -> Result<Comman
         .arg(edition(alloc))?
         .arg(depth(alloc))?
         .arg(file(alloc))
+}
+
+// A subcommand on a text that may call the macros of other texts.
+fn text_subcommand<'a>(
+    alloc: Global,
+    name: &'a str,
+    about: &'a str,
+) -> Result<Command<'a>, AllocError>
+    ensures shape { IfOk result (λ c. IsTextSubcommand name.now (shape_of c)) }
+    ensures own { IfOk result (λ c. (fields_of c).has_globals ≡ false) }
+{
+    subcommand(alloc, name, about)?
+        .arg(library(alloc))?
+        .arg(with(alloc))
 }
 
 /// The program's command. Its subcommands are the names of [`Action`](crate::job::Action).
@@ -94,7 +128,7 @@ pub(crate) fn program<'a>(alloc: Global) -> Result<Command<'a>, AllocError>
         .after_help(STATUSES)
         .subcommand_required(true)
         .disable_help_subcommand(true)
-        .subcommand(subcommand(alloc, "expand", expand)?)?
+        .subcommand(text_subcommand(alloc, "expand", expand)?)?
         .subcommand(subcommand(alloc, "replay", replay)?)?
-        .subcommand(subcommand(alloc, "view", view)?)
+        .subcommand(text_subcommand(alloc, "view", view)?)
 }

@@ -30,17 +30,22 @@ pub(crate) fn action_of(name: &str) -> Option<Action>
     }
 }
 
-/// A text, what is done with it, and by which grammar, edition and number of levels.
+/// A text, what is done with it, by which grammar, edition and number of levels, and after which
+/// definitions of other texts.
 #[derive(Drop)]
 pub(crate) struct Job<'a> {
     pub(crate) action: Action,
     pub(crate) options: Options<AnyGrammar>,
+    /// The folder of the libraries whose definitions come first.
+    pub(crate) library: Option<&'a str>,
+    /// The words for the other files, in order.
+    pub(crate) with: Vec<&'a str>,
     /// The path of the text's file; without one it is standard input.
     pub(crate) file: Option<&'a str>,
 }
 
-// The edition of a name, if it is one's.
-fn edition_of(name: &str) -> Option<Edition>
+/// The edition of a name, if it is one's.
+pub(crate) fn edition_of(name: &str) -> Option<Edition>
     ensures { MatchOption result ((e : Edition) → name.now ≢ edition_name e)
         (λ e. name.now ≡ edition_name e) }
 {

@@ -4,6 +4,10 @@
 
 mod command;
 mod job;
+mod library;
+mod load;
+mod other;
+mod picks;
 mod request;
 mod shown;
 mod source;

@@ -1,13 +1,15 @@
 //! The words that the program is called with, read as a request.
-ghost use Rattle.std.specs.Prelude.{◌≡◌, IfOk, IfSome, List, map, option_map, string_bytes, ℕ};
-ghost use Rattle.clap.specs.Words.{found_of, rows_of, subcommand_rows_of};
-ghost use Rattle.filgordd.specs.Commands.{AsksBy, AsksFor, IsAsked, IsFile};
+ghost use Rattle.std.specs.Prelude.{◌≡◌, IfOk, IfSome, List, [], codes, map, option_map, string_bytes, unwrap_or, ℕ};
+ghost use Rattle.clap.specs.Words.{all_of, found_of, rows_of, subcommand_rows_of};
+ghost use Rattle.filgordd.specs.Commands.{AsksBy, AsksFor, ChosenBy, IsAsked, IsFile};
 
 use crate::command::program;
 use crate::job::{Action, Job, action_of, options_of};
 use crate::shown::push_shown;
+use any_grammar::AnyGrammar;
 use clap::error::ErrorKind;
 use clap::{ArgMatches, Error};
+use expander::Options;
 use std::alloc::{AllocError, Global};
 
 /// What the words ask for.
@@ -31,28 +33,61 @@ fn file_of(word: Option<&str>) -> Option<&str>
     }
 }
 
-// What the words of a subcommand ask for. `None` where one of them is missing or unknown, which
-// the command has refused before.
-fn job_of<'a>(action: Action, matches: &ArgMatches<'a>) -> Option<Job<'a>>
-    ensures action { IfSome result (λ job. job.action ≡ action) }
-    ensures options { IfSome result (AsksBy (rows_of (found_of matches.now))) }
+// What the words of a subcommand choose. `None` where one of them is missing or unknown, which the
+// command has refused before.
+fn options_in(matches: &ArgMatches<'_>) -> Option<Options<AnyGrammar>>
+    ensures { IfSome result (ChosenBy (rows_of (found_of matches.now))) }
 {
     let grammar = matches.get_str("grammar")?;
     let edition = matches.get_str("edition")?;
     let depth = matches.get_str("depth")?;
-    Some(Job {
+    options_of(grammar, edition, depth)
+}
+
+// The words for other files, in order.
+fn with_words<'a>(alloc: Global, matches: &ArgMatches<'a>) -> Result<Vec<&'a str>, AllocError>
+    ensures { IfOk result (λ words.
+        unwrap_or (all_of (codes "with") (rows_of (found_of matches.now))) []
+        ≡ map (λ s. s.now) words.items) }
+{
+    match matches.get_strs("with") {
+        Some(words) => Vec::from_slice(alloc, words),
+        None => Ok(Vec::new(alloc)),
+    }
+}
+
+// What the words of a subcommand ask for, where they choose options.
+fn job_of<'a>(
+    alloc: Global,
+    action: Action,
+    matches: &ArgMatches<'a>,
+) -> Result<Option<Job<'a>>, AllocError>
+    ensures action { IfOk result (λ o. IfSome o (λ job. job.action ≡ action)) }
+    ensures words { IfOk result (λ o. IfSome o (AsksBy (rows_of (found_of matches.now)))) }
+{
+    let Some(options) = options_in(matches) else {
+        return Ok(None);
+    };
+    Ok(Some(Job {
         action,
-        options: options_of(grammar, edition, depth)?,
+        options,
+        library: matches.get_str("std"),
+        with: with_words(alloc, matches)?,
         file: file_of(matches.get_str("file")),
-    })
+    }))
 }
 
 // What the words ask for, by their subcommand.
-fn job_in<'a>(matches: &ArgMatches<'a>) -> Option<Job<'a>>
-    ensures { IfSome result (AsksFor (subcommand_rows_of matches.now)) }
+fn job_in<'a>(alloc: Global, matches: &ArgMatches<'a>) -> Result<Option<Job<'a>>, AllocError>
+    ensures { IfOk result (λ o. IfSome o (AsksFor (subcommand_rows_of matches.now))) }
 {
-    let (name, inner) = matches.subcommand()?;
-    job_of(action_of(name)?, inner)
+    let Some((name, inner)) = matches.subcommand() else {
+        return Ok(None);
+    };
+    match action_of(name) {
+        Some(action) => job_of(alloc, action, inner),
+        None => Ok(None),
+    }
 }
 
 /// The first paragraph of a text, as one line, with nothing in it that steers a terminal.
@@ -93,7 +128,7 @@ pub(crate) fn request_of<'a>(alloc: Global, words: &'a [String]) -> Result<Reque
     ensures { IfOk result (IsAsked (map string_bytes words.now)) }
 {
     match program(alloc)?.try_get_matches_from(words) {
-        Ok(matches) => match job_in(&matches) {
+        Ok(matches) => match job_in(alloc, &matches)? {
             Some(job) => Ok(Request::Work(job)),
             None => Ok(Request::Misuse(String::from_str(alloc, "wrong arguments")?)),
         },

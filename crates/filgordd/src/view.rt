@@ -2,19 +2,26 @@
 ghost use Rattle.std.specs.Prelude.{◌<◌, ◌^◌, length, None, IfOk};
 ghost use Rattle.any_grammar.specs.Answer.{answer};
 ghost use Rattle.expander_run.specs.Runs.{layers_of};
-ghost use Rattle.expander_session.specs.Replies.{IsReplyTo};
+ghost use Rattle.expander_session.specs.Replies.{IsReplyIn};
+ghost use Rattle.expander_session.specs.State.{definitions_of};
 
 use any_grammar::AnyGrammar;
-use expander::{Options, Refusal, Reply, Session};
+use expander::{Options, Prelude, Refusal, Reply, Session};
 use expansion_page::page;
 use std::alloc::{AllocError, Global};
 use std::io;
 use std::process::ExitCode;
 
-// The reply of a new session over a text.
-fn reply_of(alloc: Global, options: Options<AnyGrammar>, text: &str) -> Result<Reply, Refusal>
+// The reply of a new session over a text after these definitions.
+fn reply_of(
+    alloc: Global,
+    options: Options<AnyGrammar>,
+    prelude: Prelude,
+    text: &str,
+) -> Result<Reply, Refusal>
     requires { length text.now < 2 ^ 32 }
-    ensures { IfOk result (IsReplyTo (layers_of answer options) options.depth text.now None) }
+    ensures { IfOk result (IsReplyIn (layers_of answer options) options.depth
+        (definitions_of prelude) text.now None) }
 {
     let mut session = match Session::new(
         alloc,
@@ -26,6 +33,7 @@ fn reply_of(alloc: Global, options: Options<AnyGrammar>, text: &str) -> Result<R
         Ok(session) => session,
         Err(AllocError) => return Err(Refusal::Memory),
     };
+    session.set_prelude(prelude);
     session.expansion()
 }
 
@@ -41,17 +49,19 @@ fn stopped(rt: &HostRuntime, why: &str) -> io::Result<ExitCode> {
     Ok(ExitCode::FAILURE)
 }
 
-/// Prints the page of a text, with this title. The status is 0 if the text has no fault, else 1.
+/// Prints the page of a text after these definitions, with this title. The status is 0 if the text
+/// has no fault, else 1.
 pub(crate) fn view(
     rt: &HostRuntime,
     options: Options<AnyGrammar>,
+    prelude: Prelude,
     title: &str,
     text: &str,
 ) -> io::Result<ExitCode> {
     if text.len() > 0xffff_ffff {
         return stopped(rt, "input is too long");
     }
-    match reply_of(rt.alloc(), options, text) {
+    match reply_of(rt.alloc(), options, prelude, text) {
         Ok(reply) => {
             let html = page(rt.alloc(), title, text, &reply)?;
             print!(rt; "{html}")?;
@@ -62,6 +72,7 @@ pub(crate) fn view(
             })
         }
         Err(Refusal::Memory) => stopped(rt, "out of memory"),
-        Err(_) => stopped(rt, "too many tokens"),
+        Err(Refusal::Tokens) => stopped(rt, "too many tokens"),
+        Err(Refusal::Numbers) => stopped(rt, "too many definitions"),
     }
 }

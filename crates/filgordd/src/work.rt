@@ -1,13 +1,15 @@
 //! Does what the program is asked for.
 
 use crate::job::{Action, Job};
+use crate::load::{Ended, prelude_of};
 use crate::request::one_line;
 use crate::shown::push_shown;
 use crate::source::blank_front;
 use crate::view::view;
 use any_grammar::AnyGrammar;
-use expander::{Options, Status, Watched, run_with};
+use expander::{Options, Prelude, Status, Watched, run_after};
 use replay_script::{Answered, End, answer_script, wrong_words};
+use std::alloc::Global;
 use std::fmt::Display;
 use std::fs::{File, OpenFile};
 use std::io::{BufReader, Read};
@@ -17,15 +19,26 @@ use std::{fs, io};
 // One more byte than a text may have: of a longer input no more is read.
 const MOST: u64 = 0x1_0000_0000;
 
-/// Reports what is wrong with a word of the command line, or the file that it names. The status is
-/// 2.
-pub(crate) fn misused(rt: &HostRuntime, what: &str, why: &impl Display) -> io::Result<ExitCode> {
+// Reports what is wrong with a word of the command line, or the file that it names.
+fn report(rt: &HostRuntime, what: &str, why: &impl Display) -> io::Result<()> {
     let mut line = String::new(rt.alloc());
     push_shown(&mut line, what)?;
     let text = format!(in rt.alloc(); "{why}")?;
     let why = one_line(rt.alloc(), text.as_str())?;
-    eprintln!(rt; "filgordd: {line}: {why}")?;
+    eprintln!(rt; "filgordd: {line}: {why}")
+}
+
+/// Reports what is wrong with a word of the command line, or why the file that it names cannot be
+/// opened. The status is 2.
+pub(crate) fn misused(rt: &HostRuntime, what: &str, why: &impl Display) -> io::Result<ExitCode> {
+    report(rt, what, why)?;
     Ok(ExitCode::from(2))
+}
+
+/// Reports what is wrong with a file that was opened. The status is 1.
+pub(crate) fn refused(rt: &HostRuntime, path: &str, why: &str) -> io::Result<ExitCode> {
+    report(rt, path, &why)?;
+    Ok(ExitCode::FAILURE)
 }
 
 fn stopped(rt: &HostRuntime, why: &str) -> io::Result<ExitCode> {
@@ -33,8 +46,8 @@ fn stopped(rt: &HostRuntime, why: &str) -> io::Result<ExitCode> {
     Ok(ExitCode::FAILURE)
 }
 
-// A file that is no folder, to be read.
-fn opened(rt: &HostRuntime, path: &str) -> io::Result<File> {
+/// A file that is no folder, to be read.
+pub(crate) fn opened(rt: &HostRuntime, path: &str) -> io::Result<File> {
     let file = fs::open(rt, path)?;
     if file.metadata()?.is_dir() {
         return Err(io::Error::from(io::ErrorKind::IsADirectory));
@@ -42,12 +55,40 @@ fn opened(rt: &HostRuntime, path: &str) -> io::Result<File> {
     Ok(file)
 }
 
-// Expands a text, as the crate `expander` says of `run_with`.
-fn expand(rt: &HostRuntime, options: Options<AnyGrammar>, text: &[u8]) -> ExitCode {
+/// Reads to the end, or says why that failed. Of a text that is too long no more is read.
+pub(crate) fn read_whole<R: Read + Drop>(
+    alloc: Global,
+    reader: R,
+) -> Result<Vec<u8>, &'static str> {
+    let mut text = Vec::new(alloc);
+    match reader.take(MOST).read_to_end(&mut text) {
+        Ok(_) => Ok(text),
+        Err(error) => match error.kind() {
+            io::ErrorKind::OutOfMemory => Err("out of memory"),
+            _ => Err("read failed"),
+        },
+    }
+}
+
+// Expands a text, as the crate `expander` says of `run_after`.
+fn expand(
+    rt: &HostRuntime,
+    options: Options<AnyGrammar>,
+    prelude: Prelude,
+    text: &[u8],
+) -> ExitCode {
     let mut reader = Watched::new(text);
     let mut writer = Watched::new(rt.stdout());
     let mut faults = Watched::new(rt.stderr());
-    let Status(status) = run_with(rt.alloc(), &mut reader, &mut writer, &mut faults, options);
+    let alloc = rt.alloc();
+    let Status(status) = run_after(
+        alloc,
+        &mut reader,
+        &mut writer,
+        &mut faults,
+        options,
+        prelude,
+    );
     ExitCode::from(status)
 }
 
@@ -55,11 +96,12 @@ fn expand(rt: &HostRuntime, options: Options<AnyGrammar>, text: &[u8]) -> ExitCo
 fn show(
     rt: &HostRuntime,
     options: Options<AnyGrammar>,
+    prelude: Prelude,
     name: &str,
     text: &[u8],
 ) -> io::Result<ExitCode> {
     match std::str::from_utf8(text) {
-        Ok(text) => view(rt, options, name, text),
+        Ok(text) => view(rt, options, prelude, name, text),
         Err(_) => stopped(rt, "input is not UTF-8"),
     }
 }
@@ -87,10 +129,16 @@ fn replay<R: Read + Drop>(
 }
 
 // Does a job on a whole text, in which what is no code is blank. `name` is its file's.
-fn answer(rt: &HostRuntime, job: &Job<'_>, name: &str, text: &[u8]) -> io::Result<ExitCode> {
+fn answer(
+    rt: &HostRuntime,
+    job: &Job<'_>,
+    prelude: Prelude,
+    name: &str,
+    text: &[u8],
+) -> io::Result<ExitCode> {
     match job.action {
-        Action::View => show(rt, job.options, name, text),
-        _ => Ok(expand(rt, job.options, text)),
+        Action::View => show(rt, job.options, prelude, name, text),
+        _ => Ok(expand(rt, job.options, prelude, text)),
     }
 }
 
@@ -98,32 +146,38 @@ fn answer(rt: &HostRuntime, job: &Job<'_>, name: &str, text: &[u8]) -> io::Resul
 fn work_on<R: Read + Drop>(
     rt: &HostRuntime,
     job: &Job<'_>,
+    prelude: Prelude,
     name: &str,
     reader: R,
 ) -> io::Result<ExitCode> {
     if job.action == Action::Replay {
         return replay(rt, job.options, reader);
     }
-    let mut text = Vec::new(rt.alloc());
-    match reader.take(MOST).read_to_end(&mut text) {
-        Ok(_) => {
+    match read_whole(rt.alloc(), reader) {
+        Ok(mut text) => {
             blank_front(text.as_mut_slice());
-            answer(rt, job, name, text.as_slice())
+            answer(rt, job, prelude, name, text.as_slice())
         }
-        Err(error) => match error.kind() {
-            io::ErrorKind::OutOfMemory => stopped(rt, "out of memory"),
-            _ => stopped(rt, "read failed"),
+        Err(why) => stopped(rt, why),
+    }
+}
+
+// Does a job on its text after these definitions.
+fn work(rt: &HostRuntime, job: &Job<'_>, prelude: Prelude) -> io::Result<ExitCode> {
+    match job.file {
+        None => work_on(rt, job, prelude, "standard input", rt.stdin()),
+        Some(path) => match opened(rt, path) {
+            Ok(file) => work_on(rt, job, prelude, path, file),
+            Err(error) => misused(rt, path, &error),
         },
     }
 }
 
-/// Does a job. The status is 2 where its file cannot be opened.
+/// Does a job. The status is 2 where one of its files cannot be opened.
 pub(crate) fn perform(rt: &HostRuntime, job: &Job<'_>) -> io::Result<ExitCode> {
-    match job.file {
-        None => work_on(rt, job, "standard input", rt.stdin()),
-        Some(path) => match opened(rt, path) {
-            Ok(file) => work_on(rt, job, path, file),
-            Err(error) => misused(rt, path, &error),
-        },
+    match prelude_of(rt, job) {
+        Ok(prelude) => work(rt, job, prelude),
+        Err(Ended::Status(status)) => Ok(status),
+        Err(Ended::Failed(error)) => Err(error),
     }
 }

@@ -7,11 +7,12 @@ use Rattle.std.specs.Prelude.{◌&&◌, not, chars, codes, if◌then◌else◌}
 use Rattle.rustc_lexer.specs.Lexing.{tokens_of}
 use Rattle.rustc_lexer.specs.declared.token.Token.{Token}
 use Rattle.rustc_lexer.specs.declared.token.TokenKind.{TokenKind}
-use Rattle.html_code.specs.ExpansionParts.{Place, beginning, expansion_from, expansion_parts, first_gap, fold_end, gap_tag, is_behind, is_white, number_here, origin_attribute, other_gaps, place_after, word_parts}
+use Rattle.html_code.specs.ExpansionParts.{Place, attributes_at, beginning, expansion_from, expansion_parts, first_gap, fold_end, gap_tag, is_behind, is_white, other_gaps, place_after, word_parts}
 use Rattle.html_code.specs.Parts.{Part, tag, shown, isolated}
 use Rattle.html_code.specs.SourceParts.{Point, attributes_of, blank_parts, class_of, count_after, first_cut, parts_of, point_after, source_from, source_parts}
 use Rattle.html_code.specs.Tokens.{IsIsolated, blank_part, comment_part, is_bare, is_plain, is_plain_byte, is_sign, is_sign_byte, is_word, is_word_byte, token_part}
 use Rattle.html_code.specs.declared.layout.Gap.{Gap}
+use Rattle.html_code.specs.declared.origin.Origin.{Origin}
 use Rattle.html_code.specs.declared.source.Class.{Class}
 use Rattle.html_code.specs.declared.source.Class.TheVariants.{Blank, Comment, Code}
 use Rattle.html_code.specs.declared.source.Mark.{Mark}
@@ -87,25 +88,27 @@ source_is cuts at count start rest (t ∷ ts) =
 pub sources_are : (cuts : List (Option ℕ)) (faults : List Mark) (text : List ℕ) → All IsIsolated (source_parts cuts faults text)
 sources_are cuts faults text = source_is cuts (record { faults = faults; behind = false }) 0 0 text (tokens_of (chars text))
 
-module _ (fold : List ℕ) where
-  word_is : (gap : Gap) (place : Place) (kind : TokenKind) (word : List ℕ) → All IsIsolated (word_parts fold gap place kind word)
+module _ (fold : List ℕ) (names : List (List ℕ)) where
+  word_is : (gap : Gap) (place : Place) (kind : TokenKind) (word : List ℕ) → All IsIsolated (word_parts fold names gap place kind word)
   word_is gap place kind word =
-      let token : Part = token_part (is_behind gap place.behind) (origin_attribute (number_here place.numbers) place.last) word in
+      let token : Part = token_part (is_behind gap place.behind) (attributes_at names place) word in
       elim (is_white kind) as (λ b. All IsIsolated (if b then [] else tag (gap_tag fold gap place.in_summary) ∷ token ∷ [])) [
         | true ↦ none_are
         | false ↦
             All-cons IsIsolated (tag (gap_tag fold gap place.in_summary)) (token ∷ []) tt
-            (one_is token (token_is (is_behind gap place.behind) (origin_attribute (number_here place.numbers) place.last) word))
+            (one_is token (token_is (is_behind gap place.behind) (attributes_at names place) word))
       ]
 
-  expansion_is : (gaps : List Gap) (place : Place) (rest : List ℕ) (ts : List Token) → All IsIsolated (expansion_from fold gaps place rest ts)
+  expansion_is : (gaps : List Gap) (place : Place) (rest : List ℕ) (ts : List Token) → All IsIsolated (expansion_from fold names gaps place rest ts)
   expansion_is gaps place rest [] = one_is (tag (fold_end place.in_summary)) tt
   expansion_is gaps place rest (t ∷ ts) =
-      let next : Place = place_after fold (first_gap fold gaps) place t.kind (take t.len rest) in
-      All-append IsIsolated (word_parts fold (first_gap fold gaps) place t.kind (take t.len rest))
-      (expansion_from fold (other_gaps fold gaps) next (drop t.len rest) ts)
-      (word_is (first_gap fold gaps) place t.kind (take t.len rest)) (expansion_is (other_gaps fold gaps) next (drop t.len rest) ts)
+      let next : Place = place_after fold names (first_gap fold names gaps) place t.kind (take t.len rest) in
+      All-append IsIsolated (word_parts fold names (first_gap fold names gaps) place t.kind (take t.len rest))
+      (expansion_from fold names (other_gaps fold names gaps) next (drop t.len rest) ts)
+      (word_is (first_gap fold names gaps) place t.kind (take t.len rest)) (expansion_is (other_gaps fold names gaps) next (drop t.len rest) ts)
 
-pub expansions_are : (fold : List ℕ) (gaps : List Gap) (numbers printed : List ℕ) → All IsIsolated (expansion_parts fold gaps numbers printed)
-expansions_are fold gaps numbers printed =
-    All-cons IsIsolated (tag fold) (expansion_from fold gaps (beginning numbers) printed (tokens_of (chars printed))) tt (expansion_is fold gaps (beginning numbers) printed (tokens_of (chars printed)))
+pub expansions_are : (fold : List ℕ) (names : List (List ℕ)) (gaps : List Gap) (numbers : List ℕ) (origins : List Origin) (printed : List ℕ)
+    → All IsIsolated (expansion_parts fold names gaps numbers origins printed)
+expansions_are fold names gaps numbers origins printed =
+    let rest : List Part = expansion_from fold names gaps (beginning numbers origins) printed (tokens_of (chars printed)) in
+    All-cons IsIsolated (tag fold) rest tt (expansion_is fold names gaps (beginning numbers origins) printed (tokens_of (chars printed)))

@@ -5,10 +5,13 @@ use Rattle.rustc_lexer.specs.Lexing.{tokens_of}
 use Rattle.rustc_lexer.specs.declared.token.Token.{Token}
 use Rattle.rustc_lexer.specs.declared.token.TokenKind.{TokenKind}
 use Rattle.rustc_lexer.specs.declared.token.TokenKind.TheVariants.{Whitespace, Lifetime}
+use Rattle.html_code.specs.Origins.{title_of}
 use Rattle.html_code.specs.Parts.{Part, tag, html_of}
 use Rattle.html_code.specs.Tokens.{token_part, ends_word}
 use Rattle.html_code.specs.declared.layout.Gap.{Gap}
 use Rattle.html_code.specs.declared.layout.Gap.TheVariants.{Nothing, Blank, Line, Cut, Top}
+use Rattle.html_code.specs.declared.origin.Origin.{Origin}
+use Rattle.html_code.specs.declared.origin.Origin.TheVariants.{Own}
 
 -- ---- what is between two tokens
 
@@ -59,30 +62,40 @@ abbrev pub number_here : List ℕ → ℕ
 number_here [] = 0
 number_here (n ∷ ns) = n
 
--- the attribute of a token by its origin's number and that of the token before
-abbrev pub origin_attribute : (number last : ℕ) → Option (List ℕ)
-origin_attribute number last =
-    if nat_lt 0 number && nat_eq (number - 1) last then None else Some (codes " o=" ++ decimal number)
+-- the first of the origins, or the beginning of the text
+abbrev pub origin_here : List Origin → Origin
+origin_here [] = Own 0
+origin_here (o ∷ os) = o
 
--- how far an expansion is: the last origin's number, the numbers to come, whether the line is the first of its fold, and
--- whether a word that is shown as it is ends here
+-- the attributes of a token by its origin's number, that of the token before, and the title of its origin
+abbrev pub origin_attributes : (number last : ℕ) → List ℕ → Option (List ℕ)
+origin_attributes number last title =
+    if nat_lt 0 number && nat_eq (number - 1) last then None else Some (codes " o=" ++ (decimal number ++ title))
+
+-- how far an expansion is: the last origin's number, the numbers and origins to come, whether the line is the first of its
+-- fold, and whether a word that is shown as it is ends here
 pub record Place : Type 0 where
   pub in_summary : Bool
   pub last : ℕ
   pub numbers : List ℕ
+  pub origins : List Origin
   pub behind : Bool
 
 -- where an expansion begins
-abbrev pub beginning : List ℕ → Place
-beginning numbers = record { in_summary = true; last = 0; numbers = numbers; behind = false }
+abbrev pub beginning : List ℕ → List Origin → Place
+beginning numbers origins = record { in_summary = true; last = 0; numbers = numbers; origins = origins; behind = false }
 
-module _ (fold : List ℕ) where
+-- the attributes of the token at a place, where the other texts have these names
+abbrev pub attributes_at : List (List ℕ) → Place → Option (List ℕ)
+attributes_at names place = origin_attributes (number_here place.numbers) place.last (title_of names (origin_here place.origins))
+
+module _ (fold : List ℕ) (names : List (List ℕ)) where
   -- the parts of a token behind a gap
   abbrev pub word_parts : Gap → Place → TokenKind → List ℕ → List Part
   word_parts gap place kind word =
       if is_white kind then []
       else tag (gap_tag fold gap place.in_summary)
-      ∷ token_part (is_behind gap place.behind) (origin_attribute (number_here place.numbers) place.last) word ∷ []
+      ∷ token_part (is_behind gap place.behind) (attributes_at names place) word ∷ []
 
   abbrev pub place_after : Gap → Place → TokenKind → List ℕ → Place
   place_after gap place kind word =
@@ -91,7 +104,8 @@ module _ (fold : List ℕ) where
         in_summary = is_in_summary gap place.in_summary;
         last = number_here place.numbers;
         numbers = drop (printed_tokens_in kind) place.numbers;
-        behind = ends_word (is_behind gap place.behind) (origin_attribute (number_here place.numbers) place.last) word;
+        origins = drop (printed_tokens_in kind) place.origins;
+        behind = ends_word (is_behind gap place.behind) (attributes_at names place) word;
       }
 
   abbrev pub first_gap : List Gap → Gap
@@ -109,10 +123,10 @@ module _ (fold : List ℕ) where
       word_parts (first_gap gaps) place t.kind (take t.len rest)
       ++ expansion_from (other_gaps gaps) (place_after (first_gap gaps) place t.kind (take t.len rest)) (drop t.len rest) ts
 
-  -- the parts of a printed text with these gaps, and these numbers of its tokens' origins
-  abbrev pub expansion_parts : List Gap → (numbers printed : List ℕ) → List Part
-  expansion_parts gaps numbers printed =
-      tag fold ∷ expansion_from gaps (beginning numbers) printed (tokens_of (chars printed))
+  -- the parts of a printed text with these gaps, and these origins of its tokens, of these numbers
+  abbrev pub expansion_parts : List Gap → (numbers : List ℕ) → List Origin → (printed : List ℕ) → List Part
+  expansion_parts gaps numbers origins printed =
+      tag fold ∷ expansion_from gaps (beginning numbers origins) printed (tokens_of (chars printed))
 
   -- a token is added behind some gap
   pub record AddsWord (old new : List ℕ) (from to : Place) (kind : TokenKind) (word : List ℕ) : Type 0 where

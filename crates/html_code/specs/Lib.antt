@@ -3,6 +3,7 @@ pub mod Escaping
 pub mod Parts
 pub mod Tokens
 pub mod SourceParts
+pub mod Origins
 pub mod ExpansionParts
 pub mod Numbers
 pub mod PageParts

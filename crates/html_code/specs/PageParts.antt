@@ -1,8 +1,9 @@
 -- A page in parts.
-use Rattle.std.specs.Prelude.{◌≡◌, ℕ, ◌<◌, ◌^◌, List, [], ◌∷◌, ◌++◌, Option, Some, None, codes, decimal, nat_lt, if◌then◌else◌, drop, length, map}
+use Rattle.std.specs.Prelude.{◌≡◌, ℕ, ◌<◌, ◌^◌, List, [], ◌∷◌, ◌++◌, Option, Some, None, codes, decimal, nat_lt, if◌then◌else◌, drop, length, map, string_bytes}
 use Rattle.html_code.specs.Parts.{Part, tag, shown, isolated, html_of}
 use Rattle.html_code.specs.ExpansionParts.{expansion_parts, number_here}
 use Rattle.html_code.specs.Numbers.{AreNumbers}
+use Rattle.html_code.specs.Origins.{AreOriginNumbers}
 use Rattle.html_code.specs.SourceParts.{source_parts, token_starts}
 use Rattle.html_code.specs.declared.layout.Gap.{Gap}
 use Rattle.html_code.specs.declared.page.Frame.{Frame}
@@ -51,8 +52,9 @@ module _ (frame : Frame) where
   abbrev pub AddsPrinted : (old new starts : List ℕ) → Option Printed → Type 0
   AddsPrinted old new starts None = new ≡ old ++ frame.unread.now
   AddsPrinted old new starts (Some printed) =
-      (numbers : List ℕ) × AreNumbers starts printed.origins.now numbers × (gaps : List Gap)
-      × (new ≡ old ++ html_of (expansion_parts (fold_of (length printed.origins.now)) gaps numbers printed.text.now))
+      (numbers : List ℕ) × AreOriginNumbers starts printed.origins.now numbers × (gaps : List Gap)
+      × (new ≡ old ++ html_of (expansion_parts (fold_of (length printed.origins.now)) (map string_bytes printed.names.now)
+      gaps numbers printed.origins.now printed.text.now))
 
   -- a page: its bytes up to the expansion, up to the links, and all
   pub record IsPage (page : Shown) (html : List ℕ) : Type 0 where

@@ -1,12 +1,14 @@
 //! An expansion on a page: its tokens with the numbers of their origins, laid out as code.
-ghost use Rattle.std.specs.Prelude.{◌≡◌, ◌+◌, ◌-◌, ◌*◌, ◌++◌, ◌<◌, ◌≤◌, ◌^◌, List, codes, drop, decimal, length, string_bytes, IfOk, OnOk, option_copied, slice_get};
-ghost use Rattle.html_code.specs.ExpansionParts.{AddsWord, expansion_parts, fold_end, gap_tag, is_behind, is_in_summary, is_white, line_end, number_here, origin_attribute, printed_tokens_in};
+ghost use Rattle.std.specs.Prelude.{◌≡◌, ◌+◌, ◌-◌, ◌*◌, ◌++◌, ◌<◌, ◌≤◌, ◌^◌, List, codes, drop, decimal, length, map, string_bytes, IfOk, OnOk, option_copied, slice_get};
+ghost use Rattle.html_code.specs.ExpansionParts.{AddsWord, attributes_at, expansion_parts, fold_end, gap_tag, is_behind, is_in_summary, is_white, line_end, number_here, origin_here, printed_tokens_in};
+ghost use Rattle.html_code.specs.Origins.{title_of};
 ghost use Rattle.html_code.specs.Parts.{Adds, html_of, html_of_part, isolated};
 ghost use Rattle.html_code.specs.Tokens.{ends_word, token_part};
 ghost use Rattle.html_code.specs.Places.{place_of};
 ghost use Rattle.html_code.specs.declared.layout.Gap.{Gap};
 
 use crate::layout::{Gap, Layout};
+use crate::origin::{Origin, push_title};
 use crate::sort::sort_of;
 use crate::token::{push_content, push_token};
 use crate::word::word_at;
@@ -16,12 +18,22 @@ use std::alloc::{AllocError, Global};
 // How many levels of blocks are indented.
 const LEVELS: usize = 32;
 
+/// What is the same for all tokens: what begins each item, and the names of the other texts, in
+/// order of their numbers, from 1.
+#[derive(Clone, Copy)]
+pub(crate) struct Setting<'a> {
+    pub fold: &'a str,
+    pub names: &'a [String],
+}
+
 /// How far an expansion is on the page.
 #[derive(Drop)]
 pub(crate) struct Progress<'a> {
     layout: Layout,
     // The numbers of the origins of the tokens to come.
     numbers: &'a [usize],
+    // These origins.
+    origins: &'a [Origin],
     // The number of the last token's origin.
     last: usize,
     // Whether the line is the first of its fold.
@@ -98,41 +110,49 @@ fn is_behind(gap: Gap, behind: bool) -> bool
 }
 
 // Adds the number of an origin as an attribute.
-fn push_origin(page: &mut String, number: usize) -> Result<(), AllocError>
+fn push_number(page: &mut String, number: usize) -> Result<(), AllocError>
     ensures { Adds result page.old page.new (codes " o=" ++ decimal number) }
 {
     write!(page, " o={number}")
 }
 
-// Adds a token with its origin's number as an attribute.
-fn push_numbered(page: &mut String, number: usize, text: &str) -> Result<(), AllocError>
-    ensures { Adds result page.old page.new
-        (html_of_part (isolated (codes " o=" ++ decimal number) text.now)) }
+// Adds a token with its origin's number and title as attributes.
+fn push_numbered(
+    page: &mut String,
+    number: usize,
+    origin: Origin,
+    names: &[String],
+    text: &str,
+) -> Result<(), AllocError>
+    ensures { Adds result page.old page.new (html_of_part (isolated
+        (codes " o=" ++ (decimal number ++ title_of (map string_bytes names.now) origin))
+        text.now)) }
 {
     page.push_str("<bdi")?;
-    push_origin(page, number)?;
+    push_number(page, number)?;
+    push_title(page, origin, names)?;
     push_content(page, text)?;
     Ok(())
 }
 
-// Adds a token whose origin has this number, and gives whether a word that is shown as it is ends
-// behind it. `last` is the number of the token before.
+// Adds the next token, and gives whether a word that is shown as it is ends behind it.
 fn push_printed(
     page: &mut String,
+    progress: &Progress<'_>,
     behind: bool,
-    number: usize,
-    last: usize,
+    names: &[String],
     text: &str,
 ) -> Result<bool, AllocError>
-    ensures html { Adds result page.old page.new
-        (html_of_part (token_part behind (origin_attribute number last) text.now)) }
-    ensures behind { IfOk result
-        (λ ends. ends ≡ ends_word behind (origin_attribute number last) text.now) }
+    ensures html { Adds result page.old page.new (html_of_part (token_part behind
+        (attributes_at (map string_bytes names.now) (place_of progress.now)) text.now)) }
+    ensures behind { IfOk result (λ ends. ends ≡ ends_word behind
+        (attributes_at (map string_bytes names.now) (place_of progress.now)) text.now) }
 {
-    if number > 0 && number - 1 == last {
+    let number = number_here(progress.numbers);
+    if number > 0 && number - 1 == progress.last {
         push_token(page, behind, text)
     } else {
-        push_numbered(page, number, text)?;
+        push_numbered(page, number, origin_here(progress.origins), names, text)?;
         Ok(false)
     }
 }
@@ -159,14 +179,24 @@ pub(crate) fn number_here(numbers: &[usize]) -> usize
     }
 }
 
-/// The numbers behind the first `count`.
-pub(crate) fn numbers_after(numbers: &[usize], count: usize) -> &[usize]
-    ensures { result.now ≡ drop count numbers.now }
+// The first origin, or the beginning of the text where there is none.
+fn origin_here(origins: &[Origin]) -> Origin
+    ensures { result ≡ origin_here origins.now }
 {
-    if count < numbers.len() {
-        &numbers[count..]
+    match origins.split_first() {
+        Some((first, _)) => *first,
+        None => Origin::Own(0),
+    }
+}
+
+/// The items behind the first `count`.
+pub(crate) fn items_after<T>(items: &[T], count: usize) -> &[T]
+    ensures { result.now ≡ drop count items.now }
+{
+    if count < items.len() {
+        &items[count..]
     } else {
-        &numbers[numbers.len()..]
+        &items[items.len()..]
     }
 }
 
@@ -184,13 +214,14 @@ fn is_white(kind: TokenKind) -> bool
 fn push_word(
     page: &mut String,
     progress: &mut Progress<'_>,
-    fold: &str,
+    setting: &Setting<'_>,
     kind: TokenKind,
     word: &str,
     next: Option<u8>,
 ) -> Result<(), AllocError>
-    ensures { OnOk result (AddsWord fold.now (string_bytes page.old) (string_bytes page.new)
-        (place_of progress.old) (place_of progress.new) kind word.now) }
+    ensures { OnOk result (AddsWord setting.now.fold.now (map string_bytes setting.now.names.now)
+        (string_bytes page.old) (string_bytes page.new) (place_of progress.old)
+        (place_of progress.new) kind word.now) }
 {
     if is_white(kind) {
         progress.apart = true;
@@ -199,33 +230,37 @@ fn push_word(
     let gap = progress
         .layout
         .next(sort_of(kind, word, next), progress.apart)?;
-    let number = number_here(progress.numbers);
-    push_gap(page, gap, progress.in_summary, fold)?;
+    let (number, count) = (number_here(progress.numbers), printed_tokens_in(kind));
+    push_gap(page, gap, progress.in_summary, setting.fold)?;
     let behind = is_behind(gap, progress.behind);
-    progress.behind = push_printed(page, behind, number, progress.last, word)?;
+    progress.behind = push_printed(page, progress, behind, setting.names, word)?;
     progress.in_summary = is_in_summary(gap, progress.in_summary);
-    progress.numbers = numbers_after(progress.numbers, printed_tokens_in(kind));
+    progress.numbers = items_after(progress.numbers, count);
+    progress.origins = items_after(progress.origins, count);
     progress.last = number;
     progress.apart = false;
     Ok(())
 }
 
-/// Adds a printed text of at most `u32::MAX` bytes, whose tokens have origins of these numbers.
-/// `fold` begins each item.
+/// Adds a printed text of at most `u32::MAX` bytes, whose tokens have these origins, of these
+/// numbers.
 ///
 /// A token's origin has the number that follows that of the token before, or else the token is a
-/// `<bdi>` with the number as `o=12`. Otherwise it stands as in `push_source`. A lifetime is one
-/// such token, with the number of its quote.
+/// `<bdi>` with the number as `o=12`, and of one from another text, whose number is 0, with a title
+/// that says which. Otherwise it stands as in `push_source`. A lifetime is one such token, with the
+/// origin of its quote.
 pub(crate) fn push_expansion(
     alloc: Global,
     page: &mut String,
     printed: &str,
     numbers: &[usize],
-    fold: &str,
+    origins: &[Origin],
+    setting: &Setting<'_>,
 ) -> Result<(), AllocError>
     requires { length printed.now < 2 ^ 32 }
     ensures { OnOk result ((gaps : List Gap) × (string_bytes page.new ≡ string_bytes page.old
-        ++ html_of (expansion_parts fold.now gaps numbers.now printed.now))) }
+        ++ html_of (expansion_parts setting.now.fold.now (map string_bytes setting.now.names.now)
+        gaps numbers.now origins.now printed.now))) }
 {
     laws::tokens_begin();
     laws::next_token();
@@ -233,18 +268,19 @@ pub(crate) fn push_expansion(
     let mut progress = Progress {
         layout: Layout::new(alloc),
         numbers,
+        origins,
         last: 0,
         in_summary: true,
         behind: false,
         apart: true,
     };
-    page.push_str(fold)?;
+    page.push_str(setting.fold)?;
     let mut start: u32 = 0;
     for token in tokenize(printed, FrontmatterAllowed::No) {
         let end = start + token.len;
         let word = word_at(printed, start, token);
         let next = printed.as_bytes().get(end as usize).copied();
-        push_word(page, &mut progress, fold, token.kind, word, next)?;
+        push_word(page, &mut progress, setting, token.kind, word, next)?;
         start = end;
     }
     push_fold_end(page, progress.in_summary)?;

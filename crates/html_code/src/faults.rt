@@ -3,7 +3,7 @@ ghost use Rattle.std.specs.Prelude.{◌≡◌, ◌++◌, IfOk, OnOk, map, string
 ghost use Rattle.html_code.specs.PageParts.{fault_part, fault_parts, link_tag};
 ghost use Rattle.html_code.specs.Parts.{Adds, html_of};
 
-use crate::expansion::{number_here, numbers_after};
+use crate::expansion::{items_after, number_here};
 use crate::source::Mark;
 use crate::token::push_isolated;
 use std::alloc::{AllocError, Global};
@@ -43,7 +43,7 @@ pub(crate) fn push_faults(
     let mut left = numbers;
     for fault in faults {
         push_fault(page, number_here(left), fault.told)?;
-        left = numbers_after(left, 1);
+        left = items_after(left, 1);
     }
     Ok(())
 }

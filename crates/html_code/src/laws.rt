@@ -7,6 +7,7 @@ ghost use Rattle.html_code.specs.Parts.{text_of};
 ghost use Rattle.html_code.specs.SourceParts.{source_parts};
 ghost use Rattle.html_code.specs.Tokens.{IsIsolated};
 ghost use Rattle.html_code.specs.declared.layout.Gap.{Gap};
+ghost use Rattle.html_code.specs.declared.origin.Origin.{Origin};
 ghost use Rattle.html_code.specs.declared.source.Mark.{Mark};
 
 /// An escaped text can neither open nor close a tag, nor end an attribute's value. It has no
@@ -27,8 +28,9 @@ pub fn escaping_loses_nothing()
 pub fn other_texts_are_isolated()
     ensures text { (cuts : List (Option ℕ)) (faults : List Mark) (text : List ℕ) →
         All IsIsolated (source_parts cuts faults text) }
-    ensures printed { (fold : List ℕ) (gaps : List Gap) (numbers printed : List ℕ) →
-        All IsIsolated (expansion_parts fold gaps numbers printed) }
+    ensures printed { (fold : List ℕ) (names : List (List ℕ)) (gaps : List Gap) (numbers : List ℕ)
+        (origins : List Origin) (printed : List ℕ) →
+        All IsIsolated (expansion_parts fold names gaps numbers origins printed) }
 {}
 
 /// The parts of a text show just the text: nothing is left out, added or moved, whatever the faults.
@@ -42,6 +44,7 @@ pub fn sources_are_whole()
 /// The parts of an expansion show the tokens of the printed text in order, whatever is between them
 /// and wherever they come from.
 pub fn expansions_show_their_tokens()
-    ensures { (fold : List ℕ) (gaps : List Gap) (numbers printed : List ℕ) →
-        text_of (expansion_parts fold gaps numbers printed) ≡ words_of printed }
+    ensures { (fold : List ℕ) (names : List (List ℕ)) (gaps : List Gap) (numbers : List ℕ)
+        (origins : List Origin) (printed : List ℕ) →
+        text_of (expansion_parts fold names gaps numbers origins printed) ≡ words_of printed }
 {}

@@ -7,6 +7,7 @@ mod faults;
 pub mod laws;
 mod layout;
 mod number;
+mod origin;
 pub mod page;
 mod sort;
 mod source;
@@ -14,4 +15,5 @@ mod token;
 mod word;
 
 pub use escape::push_escaped;
+pub use origin::Origin;
 pub use source::{Mark, push_source};

@@ -4,9 +4,10 @@ ghost use Rattle.html_code.specs.PageParts.{AddsLinks, AddsPrinted, IsPage, IsSh
 ghost use Rattle.html_code.specs.Parts.{Adds, html_of};
 
 use crate::escape::push_escaped;
-use crate::expansion::push_expansion;
+use crate::expansion::{Setting, push_expansion};
 use crate::faults::{fault_starts, push_faults};
 use crate::number::numbers_of;
+use crate::origin::{Origin, origin_numbers};
 use crate::source::{Mark, push_source};
 use crate::token::push_isolated;
 use std::alloc::{AllocError, Global};
@@ -25,12 +26,14 @@ pub struct Frame<'a> {
     pub foot: &'a str,
 }
 
-/// What was printed of a text: the printed text, the offset at which each printed token's origin
-/// begins in the text, and how many pieces were expanded anew.
+/// What was printed of a text: the printed text, where each printed token comes from, what other
+/// texts are called, in order of their numbers, from 1, and how many pieces were expanded anew. A
+/// text without a name is told by its number.
 #[derive(Clone, Copy)]
 pub struct Printed<'a> {
     pub text: &'a str,
-    pub origins: &'a [u32],
+    pub origins: &'a [Origin],
+    pub names: &'a [String],
     pub expanded: usize,
 }
 
@@ -102,9 +105,16 @@ fn push_printed(
     match printed {
         None => html.push_str(frame.unread),
         Some(printed) => {
-            let numbers = numbers_of(alloc, starts, printed.origins)?;
-            let fold = fold_of(printed.origins.len());
-            push_expansion(alloc, html, printed.text, numbers.as_slice(), fold)
+            let Printed {
+                text,
+                origins,
+                names,
+                ..
+            } = printed;
+            let numbers = origin_numbers(alloc, starts, origins)?;
+            let fold = fold_of(origins.len());
+            let setting = Setting { fold, names };
+            push_expansion(alloc, html, text, numbers.as_slice(), origins, &setting)
         }
     }
 }

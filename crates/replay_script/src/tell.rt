@@ -90,8 +90,8 @@ fn push_origin_of(told: &mut String, found: &Expansion, i: usize) -> Result<(), 
     ensures { (d : TextRange) → OnOk result (string_bytes told.new
         ≡ string_bytes told.old ++ origin_line (get_or found.now.origins i d)) }
 {
-    match found.origin(i) {
-        Some(place) => push_origin(told, place),
+    match found.source(i) {
+        Some(origin) => push_origin(told, origin.range),
         None => Ok(()),
     }
 }

@@ -1,4 +1,4 @@
-use Rattle.expander_scope.proofs.DefinitionPlaceLemmas.{definition_of-with}
+use Rattle.expander_model.proofs.DefinitionPlaceLemmas.{definition_of-with}
 use Rattle.expander_session.proofs.WorldLemmas.{RuleLaws, expansion_there}
 use Rattle.expander.proofs.laws.expansions_at_other_spans.Goals as goal
 

@@ -6,7 +6,7 @@ use Rattle.expander_model.specs.DefinitionTrees.{definition_trees}
 use Rattle.expander_model.specs.HashedTrees.{own_top}
 use Rattle.expander_model.specs.Pieces.{relative}
 use Rattle.expander_scope.specs.DefinitionTexts.{HasNumbered}
-use Rattle.expander_scope.specs.Imports.{import_piece}
+use Rattle.expander_sources.specs.Imports.{import_piece}
 use Rattle.expander_scope.specs.Interning.{definition_tops, numbers_in}
 use Rattle.expander_scope.specs.NewNumbers.{needed}
 use Rattle.expander_scope.specs.Outcomes.{numbered_of_known}

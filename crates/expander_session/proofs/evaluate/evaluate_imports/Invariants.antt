@@ -1,5 +1,5 @@
 use Rattle.std.proofs.Common.{◌≡◌, [], take}
-use Rattle.expander_scope.specs.Imports.{import_pieces}
+use Rattle.expander_sources.specs.Imports.{import_pieces}
 use Rattle.expander_session.specs.Evaluating.{AreLinks, HasImported}
 use Rattle.expander_session.proofs.evaluate.evaluate_imports.Given as goal
 

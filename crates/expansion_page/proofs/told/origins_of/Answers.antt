@@ -1,9 +1,9 @@
-use Rattle.std.proofs.Common.{◌<◌, length, arith}
+use Rattle.std.proofs.Common.{sym}
 use Rattle.expansion_page.proofs.ToldLemmas.{origins_more}
 use Rattle.expansion_page.proofs.told.origins_of.Goals as goal
 
 pub loop-i-preserved : goal.loop-i-preserved
 loop-i-preserved c =
-    let within : c.loop-i.i < length c.args.expansion.now.origins = omega (arith, c.tokens-i-end.ensures) in
-    origins_more c.loop-i.origins.items c.push.new.self.items c.args.expansion.now.origins c.loop-i.i _ _ _ within c.loop-i.invariant
-    c.origin.ensures c.unwrap_or-origin.ensures c.in_ok-push.ensures.items
+    origins_more c.loop-i.origins.items c.push.new.self.items c.args.expansion.now.origins c.args.expansion.now.texts c.loop-i.i
+    c.in-Some.origin.range c.in-Some.origin.text c.shown_origin.result (sym c.in-Some.ensures.range) (sym c.in-Some.ensures.text)
+    c.loop-i.invariant c.shown_origin.ensures c.in_ok-push.ensures.items

@@ -1,0 +1,21 @@
+use Rattle.expander_session.proofs.ReadPlaceLemmas.{OrderLaws}
+use Rattle.expander_session.proofs.WorldLemmas.{RuleLaws}
+use Rattle.expander.proofs.OwnTokenLemmas.{tokens_own}
+use Rattle.expander.proofs.laws.printed_tokens_are_the_texts_own.Goals as goal
+
+pub returns : goal.returns
+returns c =
+    let rules : RuleLaws = record {
+      rules = c.rules_at_other_places.ensures.macro_rules;
+      macros = c.rules_at_other_places.ensures.macros;
+      fits = c.fit_at_other_places.ensures.rules;
+      bursts = c.bursts_at_other_places.ensures.rules;
+    } in
+    let order : OrderLaws = record {
+      walk_read = c.reading_is_a_relation.ensures.walk;
+      text = c.tokens_follow_one_another.ensures.text;
+      part = c.tokens_follow_one_another.ensures.part;
+      piece = c.tokens_follow_one_another.ensures.piece;
+      written = c.tokens_are_written.ensures;
+    } in
+    tokens_own rules order c.equal_pieces.ensures

@@ -1,0 +1,15 @@
+-- lemmas by subject; the worked examples
+mod HomeLemmas
+mod SpanLemmas
+mod OrderLemmas
+mod RootingLemmas
+mod PartLemmas
+mod PickLemmas
+mod AddingLemmas
+mod ImportPlaceLemmas
+mod ImportLemmas
+mod ItemLemmas
+mod SourceLemmas
+mod PushLemmas
+mod PreludeLemmas
+mod Rows

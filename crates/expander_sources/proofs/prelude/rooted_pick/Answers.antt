@@ -1,0 +1,29 @@
+use Rattle.std.proofs.Common.{◌∙◌, ap, sym}
+use Rattle.std.specs.Prelude.{codes}
+use Rattle.bridge.specs.RelativeSpans.{moved_to}
+use Rattle.std.specs.Rc.{rc_value}
+use Rattle.tt.specs.Tops.{Top}
+use Rattle.expander_sources.specs.Imports.{import_piece}
+use Rattle.expander_sources.specs.Picks.{home_piece, rooted_pick}
+use Rattle.expander_sources.specs.Sources.{has_attribute}
+use Rattle.expander_sources.proofs.ImportLemmas.{pick_builtin, pick_other}
+use Rattle.expander_sources.proofs.PartLemmas.{has_attribute-with}
+use Rattle.expander_sources.proofs.prelude.rooted_pick.Goals as goal
+
+pub returns-then-has_attribute-clause-piece : goal.returns-then-has_attribute-clause-piece
+returns-then-has_attribute-clause-piece c =
+    pick_builtin c.args.root.now.root c.args.home.now c.item.inside.modules.items (import_piece c.item.inside.import) c.item.inside.name c.item.invariant.named
+    (has_attribute-with (moved_to c.item.inside.import.place) (codes "rustc_builtin_macro") (rc_value c.item.inside.import.tree).inner
+    ∙ ap (has_attribute (codes "rustc_builtin_macro")) (sym (c.iter-tree.ensures ∙ ap (λ (t : Top). t.inner) (c.tree.ensures ∙ c.as_ref.ensures)))
+    ∙ sym c.has_attribute.ensures ∙ c.if-has_attribute.true)
+    ∙ ap (rooted_pick c.args.root.now.root c.args.home.now) c.item.view_is
+
+pub returns-clause-piece : goal.returns-clause-piece
+returns-clause-piece c =
+    pick_other c.args.root.now.root c.args.home.now c.item.inside.modules.items (import_piece c.item.inside.import) c.item.inside.name c.item.invariant.named
+    (has_attribute-with (moved_to c.item.inside.import.place) (codes "rustc_builtin_macro") (rc_value c.item.inside.import.tree).inner
+    ∙ ap (has_attribute (codes "rustc_builtin_macro")) (sym (c.iter-tree.ensures ∙ ap (λ (t : Top). t.inner) (c.tree.ensures ∙ c.as_ref.ensures)))
+    ∙ sym c.has_attribute.ensures ∙ c.if-has_attribute.false)
+    (import_piece c.in_ok-home_import.field-0)
+    (λ d e. c.in_ok-home_import.ensures.piece d e ∙ ap (λ (k : _). home_piece c.args.home.now k d) c.in_ok-key.ensures.key)
+    ∙ ap (rooted_pick c.args.root.now.root c.args.home.now) c.item.view_is

@@ -1,0 +1,220 @@
+//! Reads the texts whose definitions a text is expanded after.
+ghost use Rattle.std.specs.Prelude.{◌≡◌, ◌≤◌, ◌<◌, ◌+◌, ◌^◌, length, IfOk};
+
+use crate::job::Job;
+use crate::library::{CRATES, FILES, edition_in};
+use crate::other::{Other, other_of};
+use crate::picks::{push_file, push_library};
+use crate::source::blank_front;
+use crate::work::{misused, opened, read_whole, refused};
+use expander::{Edition, Home, Prelude, ReadFault, Source, SourceRead};
+use expander_run::lines::{FIRST, push_line, read_fault_words, spot_of};
+use std::alloc::{AllocError, AllocFailed, Global};
+use std::process::ExitCode;
+use std::{fs, io};
+use tt_data::TtFault;
+
+/// Why the program ends before it reads its text.
+#[derive(Drop)]
+pub(crate) enum Ended {
+    /// What is wrong was reported, and this is the status.
+    Status(ExitCode),
+    /// It could not be reported, or there is no memory.
+    Failed(io::Error),
+}
+
+impl From<io::Error> for Ended {
+    fn from(error: io::Error) -> Ended {
+        Ended::Failed(error)
+    }
+}
+
+impl From<AllocError> for Ended {
+    fn from(error: AllocError) -> Ended {
+        Ended::Failed(io::Error::from(error))
+    }
+}
+
+impl<T: Drop> From<AllocFailed<T>> for Ended {
+    fn from(error: AllocFailed<T>) -> Ended {
+        Ended::from(AllocError::from(error))
+    }
+}
+
+// The end where a word or the file that it names is wrong.
+fn misuse<T>(rt: &HostRuntime, what: &str, why: &str) -> Result<T, Ended> {
+    Err(Ended::Status(misused(rt, what, &why)?))
+}
+
+// The end where a file that was opened is no text whose definitions can be had.
+fn refusal<T>(rt: &HostRuntime, path: &str, why: &str) -> Result<T, Ended> {
+    Err(Ended::Status(refused(rt, path, why)?))
+}
+
+// What a file is refused for: many tokens, or else memory.
+fn fault_words(fault: TtFault) -> &'static str {
+    match fault {
+        TtFault::Tokens => "too many tokens",
+        _ => "out of memory",
+    }
+}
+
+// The bytes of a file, in which what is no code is blank.
+fn bytes_of(rt: &HostRuntime, path: &str) -> Result<Vec<u8>, Ended> {
+    let file = match opened(rt, path) {
+        Ok(file) => file,
+        Err(error) => return Err(Ended::Status(misused(rt, path, &error)?)),
+    };
+    match read_whole(rt.alloc(), file) {
+        Ok(mut bytes) => {
+            blank_front(bytes.as_mut_slice());
+            Ok(bytes)
+        }
+        Err(why) => refusal(rt, path, why),
+    }
+}
+
+// The line that reports a reading fault.
+fn fault_line(alloc: Global, text: &str, fault: &ReadFault) -> Result<String, AllocError>
+    requires { length text.now < 2 ^ 32 }
+{
+    let mut line = String::new(alloc);
+    let spot = spot_of(text.as_bytes(), FIRST, fault.range.start);
+    push_line(&mut line, spot, read_fault_words(fault.kind))?;
+    Ok(line)
+}
+
+// The source with this number that a file's text is.
+fn text_source(
+    rt: &HostRuntime,
+    number: u32,
+    home: Option<Home>,
+    path: &str,
+    text: &str,
+) -> Result<Source, Ended>
+    requires { 1 ≤ number }
+{
+    if text.len() > u32::MAX as usize {
+        return refusal(rt, path, "input is too long");
+    }
+    match Source::new(rt.alloc(), text, number, home) {
+        Ok(SourceRead::Read(source)) => Ok(source),
+        Ok(SourceRead::Unread(fault)) => {
+            let line = fault_line(rt.alloc(), text, &fault)?;
+            refusal(rt, path, line.as_str())
+        }
+        Err(fault) => refusal(rt, path, fault_words(fault)),
+    }
+}
+
+// The source with this number that a file is.
+fn file_source(
+    rt: &HostRuntime,
+    number: u32,
+    home: Option<Home>,
+    path: &str,
+) -> Result<Source, Ended>
+    requires { 1 ≤ number }
+{
+    let bytes = bytes_of(rt, path)?;
+    match std::str::from_utf8(bytes.as_slice()) {
+        Ok(text) => text_source(rt, number, home, path, text),
+        Err(_) => refusal(rt, path, "input is not UTF-8"),
+    }
+}
+
+// The edition of a crate of the library: 2024 where its manifest names none.
+fn crate_edition(rt: &HostRuntime, folder: &str, name: &str) -> Result<Edition, Ended> {
+    let path = format!(in rt.alloc(); "{folder}/{name}/Cargo.toml")?;
+    match fs::read_to_string(rt, path.as_str()) {
+        Ok(manifest) => Ok(edition_in(manifest.as_str()).unwrap_or(Edition::Edition2024)),
+        Err(_) => Ok(Edition::Edition2024),
+    }
+}
+
+// The home of a crate of the library.
+fn crate_home(rt: &HostRuntime, folder: &str, name: &str) -> Result<Home, Ended> {
+    let edition = crate_edition(rt, folder, name)?;
+    match Home::new(rt.alloc(), name, edition)? {
+        Some(home) => Ok(home),
+        None => misuse(rt, name, "no name of a crate"),
+    }
+}
+
+// The homes of the crates of the library.
+fn crate_homes(rt: &HostRuntime, folder: &str) -> Result<Vec<Home>, Ended> {
+    let mut homes = Vec::new(rt.alloc());
+    for name in &CRATES {
+        homes.push(crate_home(rt, folder, name)?)?;
+    }
+    Ok(homes)
+}
+
+// The crate of a file of the library, among these.
+fn home_of(alloc: Global, homes: &[Home], file: &str) -> Result<Option<Home>, AllocError> {
+    for home in homes {
+        if file.starts_with(home.root()) {
+            return Ok(Some(home.try_clone(alloc)?));
+        }
+    }
+    Ok(None)
+}
+
+// Adds the definitions of the library in this folder. Its sources have the numbers from 1 on.
+fn load_library(rt: &HostRuntime, prelude: &mut Prelude, folder: &str) -> Result<(), Ended> {
+    let homes = crate_homes(rt, folder)?;
+    let mut sources = Vec::new(rt.alloc());
+    for i in 0..FILES.len() {
+        let file = FILES[i];
+        let path = format!(in rt.alloc(); "{folder}/{file}")?;
+        let home = home_of(rt.alloc(), homes.as_slice(), file)?;
+        let number = i as u32 + 1;
+        sources.push(file_source(rt, number, home, path.as_str())?)?;
+    }
+    match push_library(rt.alloc(), prelude, sources.as_slice(), homes.as_slice()) {
+        Ok(()) => Ok(()),
+        Err(fault) => refusal(rt, folder, fault_words(fault)),
+    }
+}
+
+// Adds the definitions of the file that a word names, as the source with this number.
+fn load_file(rt: &HostRuntime, prelude: &mut Prelude, number: u32, word: &str) -> Result<(), Ended>
+    requires { 1 ≤ number }
+{
+    let (home, path) = match other_of(rt.alloc(), word)? {
+        Other::File(home, path) => (home, path),
+        Other::BadRoot(root) => return misuse(rt, word, "this root is no name of a crate"),
+        Other::BadEdition(year) => return misuse(rt, word, "there is no such edition"),
+    };
+    let source = file_source(rt, number, home, path)?;
+    match push_file(rt.alloc(), prelude, &source) {
+        Ok(()) => Ok(()),
+        Err(fault) => refusal(rt, path, fault_words(fault)),
+    }
+}
+
+// The number of the next source.
+fn after(number: u32) -> Result<u32, AllocError>
+    ensures { IfOk result (λ n. n ≡ number + 1) }
+{
+    match number.checked_add(1) {
+        Some(next) => Ok(next),
+        None => Err(AllocError),
+    }
+}
+
+/// The definitions that a job's text is expanded after. Sources are numbered in this order: the
+/// library's files, and then the other files in the order of their words.
+pub(crate) fn prelude_of(rt: &HostRuntime, job: &Job<'_>) -> Result<Prelude, Ended> {
+    let mut prelude = Prelude::new(rt.alloc());
+    let mut last = 0;
+    if let Some(folder) = job.library {
+        load_library(rt, &mut prelude, folder)?;
+        last = FILES.len() as u32;
+    }
+    for word in &job.with {
+        last = after(last)?;
+        load_file(rt, &mut prelude, last, word)?;
+    }
+    Ok(prelude)
+}
