@@ -1,0 +1,82 @@
+"""Asks rustc about calls, by bench/agreement/judge.py, and compares.
+
+    beside_rustc.py cut OUT LIBRARY                writes OUT/std for judge.py from OUT/std_calls.json
+    beside_rustc.py std OUT LIBRARY PROGRAM YEAR   prints for how many of these the program gives the same tokens
+    beside_rustc.py stays OUT                      prints how many of the calls in OUT/stays rustc expands
+
+Those where it is otherwise are added to OUT/differs. LIBRARY is the folder of std's sources: both sides have the
+definitions of its text. Each call is expanded by one level, by itself. The normal form is that of
+bench/agreement/compare.py, and `$crate` is the word that the program prints for it.
+"""
+import json, os, sys
+from collections import Counter
+from glob import glob
+from ask import Prelude, expand, has_options, std_picks
+from compare import verdict
+from count import write_pairs
+from cut import spread
+
+MOST_LETTERS = 2000
+SAYS = {'no rule matches this call': 'CannotExpand', 'broken macro definition': 'BrokenDefinition'}
+
+
+def cut(out, library):
+    known, pairs = json.load(open(os.path.join(out, 'std_calls.json'))), []
+    for name, definition in std_picks(library).items():
+        calls = [c for c in known.get(name, []) if '$' not in c and '\0' not in c and len(c) <= MOST_LETTERS]
+        # a reserved word since edition 2018
+        if calls and name != 'try':
+            pairs.append({'macro': name, 'definition': definition.text(), 'calls': spread(calls)})
+    write_pairs(os.path.join(out, 'std'), pairs)
+
+
+def pairs_of(out, part):
+    for path in sorted(glob(os.path.join(out, part, '*.json'))):
+        for pair in json.load(open(path))['pairs']:
+            for call, rustc in zip(pair['calls'], pair['rustc']):
+                yield pair['macro'], pair['definition'], call, rustc
+
+
+def ours_of(program, library, call, year):
+    """The kinds of faults, and what is printed of a call by one level."""
+    printed, said = expand(program, call, year, Prelude(library), '--depth', '1')
+    if printed is None:
+        return ['unread'], ''
+    return [SAYS.get(line.rpartition(': ')[2], '') for line in said.splitlines()], printed
+
+
+def std(out, library, program, year):
+    picks, counts, others = std_picks(library), Counter(), []
+    for name, definition, call, rustc in pairs_of(out, 'std'):
+        root = 'crate'
+        if has_options(program):
+            root = os.path.relpath(picks[name].source.path, library).split(os.sep)[0]
+        ours = ours_of(program, library, call, year)
+        if rustc and rustc[0] == 'gives':
+            rustc = ['gives', rustc[1].replace('$crate', root)]
+        v = verdict(definition, rustc, ours)
+        counts[v] += 1
+        if not v.startswith('same'):
+            others.append('%s: %s\n    rustc: %s\n    ours:  %s %s' % (v, call, rustc, *ours))
+    same = sum(n for v, n in counts.items() if v.startswith('same'))
+    print('%d of %d calls of std\'s macros have the tokens that rustc gives' % (same, sum(counts.values())))
+    for v, n in sorted(counts.items()):
+        print('    %6d %s' % (n, v))
+    add(out, others)
+
+
+def add(out, lines):
+    with open(os.path.join(out, 'differs'), 'a') as f:
+        f.writelines(line + '\n' for line in lines)
+
+
+def stays(out):
+    found = list(pairs_of(out, 'stays'))
+    taken = [call for _, _, call, rustc in found if rustc and rustc[0] == 'gives']
+    print('rustc expands %d of %d different calls that are in sight and stay' % (len(taken), len(found)))
+    add(out, ['rustc expands: ' + call for call in taken])
+
+
+if __name__ == '__main__':
+    sys.setrecursionlimit(100000)
+    {'cut': cut, 'std': std, 'stays': stays}[sys.argv[1]](*sys.argv[2:])
