@@ -14,7 +14,7 @@ mod SpelledLemmas
 mod HashLemmas
 mod BackLemmas
 mod ForestBackLemmas
-mod RootLemmas
+pub mod RootLemmas
 mod AgainLemmas
 mod AloneLemmas
 mod SpanLemmas

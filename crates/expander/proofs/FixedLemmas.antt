@@ -22,7 +22,7 @@ use Rattle.bridge.specs.Printing.{depth_after, left_out_from, print_of}
 use Rattle.bridge.specs.Reading.{IsReading, TextStep, reading}
 use Rattle.bridge.specs.ReadsBack.{AreReadAs, IsReadAs, PrintsAgain, ReadsBack}
 use Rattle.bridge.specs.Spelling.{root_name, same_leaf, same_rawness, spelled_leaf}
-use Rattle.expander.proofs.RootWordLemmas.{root_word}
+use Rattle.bridge.proofs.RootLemmas.{named}
 use Rattle.bridge.specs.TokenSteps.{text_reading, text_steps}
 use Rattle.expander_model.specs.declared.fault.Fault.{Fault}
 use Rattle.expander_model.specs.declared.fault.FaultKind.TheVariants.{NestedDefinition}
@@ -86,7 +86,7 @@ same_raw is_raw.Yes is_raw.No e = cc
 -- a name that the root of a crate is spelled as is no keyword of definitions
 quiet_root : (i : Ident) (name : List ℕ) → root_name i ≡ Some name → is_quiet (at_leaf (as_leaf.Ident (record i { sym = name }))) ≡ true
 quiet_root i name h =
-    by_words (not (is_raw_name i)) (bytes_eq name (codes "macro_rules")) (bytes_eq name (codes "macro")) (root_word i name h)
+    by_words (not (is_raw_name i)) (bytes_eq name (codes "macro_rules")) (bytes_eq name (codes "macro")) (named i name h).word
   where
     by_words : (p q r : Bool) → (q || r) ≡ false → not ((p && q) || (p && r)) ≡ true
     by_words p true r e = absurd (cc)

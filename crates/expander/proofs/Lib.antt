@@ -20,7 +20,6 @@ mod PartedListLemmas
 mod ForestLemmas
 mod OwnTokenLemmas
 mod QuietLemmas
-mod RootWordLemmas
 mod FixedLemmas
 mod FixedReplyLemmas
 mod QuietReadLemmas
