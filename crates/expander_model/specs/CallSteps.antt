@@ -65,7 +65,7 @@ foreign_root f = do
 
 abbrev pub key_with : Option Ident → Ident → List ℕ
 key_with None name = name.sym
-key_with (Some root) name = key_behind root name
+key_with (Some root) name = key_behind root.sym name.sym
 
 -- what the call that a list begins with is looked up by
 abbrev pub key_at : Forest → Call → List ℕ

@@ -62,12 +62,12 @@ marked (leaf l rest) = mark_leaf l (marked rest)
 marked (group d inner rest) = inside d (marked inner) (marked rest)
 
 -- what a name is looked up by behind the root of another crate: `$crate:std::print`
-abbrev pub key_behind : Ident → Ident → List ℕ
-key_behind root name = root.sym ++ (codes "::" ++ name.sym)
+abbrev pub key_behind : List ℕ → List ℕ → List ℕ
+key_behind root name = root ++ (codes "::" ++ name)
 
 -- what a call is looked up by: its name, or behind the root of another crate the name with the root
 abbrev pub key_of : Path → Ident → List ℕ
-key_of (from_crate root first second) name = if is_foreign root then key_behind root name else name.sym
+key_of (from_crate root first second) name = if is_foreign root then key_behind root.sym name.sym else name.sym
 key_of _ name = name.sym
 
 -- a path's tokens before a forest

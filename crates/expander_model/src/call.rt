@@ -1,6 +1,6 @@
 //! Finds the call that a list of trees begins with: a name, `!` and a visible group, side by side.
 ghost use Rattle.std.specs.Prelude.{◌≡◌, ◌++◌, Option, IfOk, IsOkUnless, codes, option_map};
-ghost use Rattle.expander_model.specs.Calls.{is_colons, is_foreign, is_root};
+ghost use Rattle.expander_model.specs.Calls.{is_colons, is_foreign, is_root, key_behind};
 ghost use Rattle.expander_model.specs.CallSteps.{bare_call, call_after, call_at, call_behind_colons, foreign_root, group_call, key_at};
 ghost use Rattle.expander_model.specs.Beginnings.{IsBeginning};
 ghost use Rattle.tt_data.specs.Forest.{leaf as leaf_tree};
@@ -134,9 +134,10 @@ fn foreign_root<'a>(trees: &TtIter<'a>) -> Option<IdentRef<'a>>
     Some(root)
 }
 
-// The name behind the root of another crate.
-fn key_behind(alloc: Global, root: &str, name: &str) -> Result<Symbol, TtFault>
-    ensures key { IfOk result (λ key. key ≡ root.now ++ (codes "::" ++ name.now)) }
+/// What a name is looked up by behind the root of another crate: the text of the root's identifier,
+/// `::` and the name. Out of memory is its only error.
+pub fn key_behind(alloc: Global, root: &str, name: &str) -> Result<Symbol, TtFault>
+    ensures key { IfOk result (λ key. key ≡ key_behind root.now name.now) }
     ensures memory { IsOkUnless result Memory }
 {
     let mut key = String::from_str(alloc, root)?;

@@ -56,7 +56,7 @@ crate_key f c b =
     ∙ ap (λ (o : Option Call). key_with (is_foreign b.crate >> (o >>= (λ x. Some b.crate))) c.name) (sym b.found)
     ∙ ap (λ (g : Forest). key_with (foreign_root g) c.name) (sym b.is)
   where
-    by_test : (t : Bool) → (if t then key_behind b.crate c.name else c.name.sym) ≡ key_with (t >> Some b.crate) c.name
+    by_test : (t : Bool) → (if t then key_behind b.crate.sym c.name.sym else c.name.sym) ≡ key_with (t >> Some b.crate) c.name
     by_test true = refl
     by_test false = refl
 

@@ -9,18 +9,19 @@ use Rattle.tt.specs.Tops.{Top}
 use Rattle.tt_data.specs.Forest.{Forest, empty, map_spans}
 use Rattle.tt_data.specs.declared.span.Span.{Span}
 use Rattle.tt_data.specs.declared.span.TextRange.{TextRange}
+use Rattle.expander_model.specs.Calls.{key_behind}
 use Rattle.expander_model.specs.Definitions.{Definition, definition_of}
 use Rattle.expander_model.specs.HashedTrees.{own_top}
 use Rattle.expander_model.specs.Held.{Stands, first_place}
 use Rattle.expander_model.specs.OtherPlaces.{definition_with}
 use Rattle.expander_model.specs.Pieces.{first_start, moved_back, relative}
 use Rattle.expander_model.proofs.DefinitionPlaceLemmas.{definition_of-with}
-use Rattle.expander_sources.specs.Homes.{Home, key_behind}
+use Rattle.expander_sources.specs.Homes.{Home, root_of}
 use Rattle.expander_sources.specs.Imports.{IsImport, import_piece}
 use Rattle.expander_sources.specs.Picks.{home_piece, named_piece, picked, rooted_pick}
 use Rattle.expander_sources.specs.SourceItems.{AreOrdered, IsSourceItem}
 use Rattle.expander_sources.specs.Sources.{end_behind, has_attribute, name_of, own_items}
-use Rattle.expander_sources.specs.declared.prelude.Import.{Import}
+use Rattle.expander_sources.specs.declared.import.Import.{Import}
 use Rattle.expander_sources.proofs.ImportPlaceLemmas.{end_with, home_first, home_is_definition, home_moved, home_stands, home_there, home_tree, inner_first, inner_is, inner_stands, inner_tree, some_same}
 use Rattle.expander_sources.proofs.PickLemmas.{definition_trees}
 
@@ -146,23 +147,23 @@ module _ (root : List ℕ) (h : Home) (modules : List (List ℕ)) (piece : Fores
   pub pick_builtin : has_attribute (codes "rustc_builtin_macro") piece ≡ true → None ≡ rooted_pick root h (record { modules = modules; piece = piece })
   pick_builtin has = go (definition_of piece) (has_attribute (codes "rustc_builtin_macro") piece) has
     where
-      go : (o : Option Definition) (b : Bool) → b ≡ true → None ≡ (o >>= (λ d. not b >> Some (home_piece h (key_behind root d.name.sym) d)))
+      go : (o : Option Definition) (b : Bool) → b ≡ true → None ≡ (o >>= (λ d. not b >> Some (home_piece h (key_behind (root_of root) d.name.sym) d)))
       go None b e = refl
       go (Some d) true e = refl
       go (Some d) false e = cc
 
   pub pick_other : has_attribute (codes "rustc_builtin_macro") piece ≡ false → (made : Forest)
-      → ((d : Definition) → definition_of piece ≡ Some d → made ≡ home_piece h (key_behind root name) d)
+      → ((d : Definition) → definition_of piece ≡ Some d → made ≡ home_piece h (key_behind (root_of root) name) d)
       → Some made ≡ rooted_pick root h (record { modules = modules; piece = piece })
   pick_other has made is = go (definition_of piece) refl named (has_attribute (codes "rustc_builtin_macro") piece) has
     where
       go : (o : Option Definition) → definition_of piece ≡ o → option_map (λ d. d.name.sym) o ≡ Some name → (b : Bool) → b ≡ false
-          → Some made ≡ (o >>= (λ d. not b >> Some (home_piece h (key_behind root d.name.sym) d)))
+          → Some made ≡ (o >>= (λ d. not b >> Some (home_piece h (key_behind (root_of root) d.name.sym) d)))
       go None e n b k = cc
       go (Some d) e n true k = cc
       go (Some d) e n false k =
           let same : d.name.sym ≡ name = ap (λ (o : Option (List ℕ)). unwrap_or o name) n in
-          ap Some (is d e ∙ ap (λ (t : List ℕ). home_piece h (key_behind root t) d) (sym same))
+          ap Some (is d e ∙ ap (λ (t : List ℕ). home_piece h (key_behind (root_of root) t) d) (sym same))
 
   pub pick_named : (made : Forest) → ((d : Definition) → definition_of piece ≡ Some d → made ≡ home_piece h name d) → made ≡ picked (Some h) piece
   pick_named made is = go (definition_of piece) refl named

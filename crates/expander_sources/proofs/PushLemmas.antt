@@ -9,7 +9,7 @@ use Rattle.expander_reparse.specs.RelativePieces.{piece_at, tree_at}
 use Rattle.expander_reparse.specs.declared.piece.Piece.{Piece}
 use Rattle.expander_sources.specs.Imports.{import_piece, import_pieces}
 use Rattle.expander_sources.specs.Sources.{inner_items, items_of, module_of, most_modules, of_text}
-use Rattle.expander_sources.specs.declared.prelude.Import.{Import}
+use Rattle.expander_sources.specs.declared.import.Import.{Import}
 use Rattle.expander_sources.proofs.ImportLemmas.{own_absent}
 use Rattle.expander_sources.proofs.ItemLemmas.{no_module}
 use Rattle.tt_data.proofs.ForestLemmas.{map_spans-map_spans}

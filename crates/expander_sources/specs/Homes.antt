@@ -31,7 +31,3 @@ is_root_word word = is_ident (chars word) && (not (is_among reserved word) && (n
 -- the home with this root, if the word can be one
 abbrev pub home_named : List ℕ → Edition → Option Home
 home_named word edition = if is_root_word word then Some (record { root = word; edition = edition }) else None
-
--- what a definition with this name is looked up by behind the root of a crate
-abbrev pub key_behind : List ℕ → List ℕ → List ℕ
-key_behind word name = root_of word ++ (codes "::" ++ name)

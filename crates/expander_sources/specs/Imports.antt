@@ -7,7 +7,7 @@ use Rattle.expander_model.specs.Definitions.{definition_of}
 use Rattle.expander_model.specs.HashedTrees.{own_top}
 use Rattle.expander_model.specs.Held.{Stands, first_place}
 use Rattle.expander_model.specs.Pieces.{relative}
-use Rattle.expander_sources.specs.declared.prelude.Import.{Import}
+use Rattle.expander_sources.specs.declared.import.Import.{Import}
 
 -- the piece of its text that an import is
 abbrev pub import_piece : Import → Forest

@@ -13,9 +13,10 @@ use Rattle.tt_data.specs.declared.leaf.Leaf.{Leaf}
 use Rattle.tt_data.specs.declared.leaf.Leaf.TheVariants as as_leaf
 use Rattle.tt_data.specs.declared.leaf.Spacing.TheVariants.{Alone}
 use Rattle.tt_data.specs.declared.span.Span.{Span}
+use Rattle.expander_model.specs.Calls.{key_behind}
 use Rattle.expander_model.specs.Definitions.{Definition, definition_of}
 use Rattle.expander_model.specs.EditionMarks.{edition_word}
-use Rattle.expander_sources.specs.Homes.{Home, key_behind, root_of}
+use Rattle.expander_sources.specs.Homes.{Home, root_of}
 use Rattle.expander_sources.specs.Rooting.{rooted}
 use Rattle.expander_sources.specs.Sources.{Item, has_attribute}
 
@@ -91,7 +92,7 @@ abbrev pub rooted_pick : List ℕ → Home → Item → Option Forest
 rooted_pick root h item = do
   d ← definition_of item.piece
   not (has_attribute (codes "rustc_builtin_macro") item.piece)
-  Some (home_piece h (key_behind root d.name.sym) d)
+  Some (home_piece h (key_behind (root_of root) d.name.sym) d)
 
 -- the definitions of a source that are seen behind a root: none of the crate of the text that is
 -- expanded, which has no root of its own

@@ -11,7 +11,7 @@ use Rattle.expander_reparse.specs.RelativePieces.{IsOwnPiece, piece_at}
 use Rattle.expander_reparse.specs.declared.piece.Piece.{Piece}
 use Rattle.expander_sources.specs.Imports.{IsImport, import_piece}
 use Rattle.expander_sources.specs.Sources.{name_of, name_range_of, range_of}
-use Rattle.expander_sources.specs.declared.prelude.Import.{Import}
+use Rattle.expander_sources.specs.declared.import.Import.{Import}
 
 -- a name and ranges are those of a definition's piece
 pub record IsSourceItem (import : Import) (name : List ℕ) (name_range range : TextRange) : Type 0 where

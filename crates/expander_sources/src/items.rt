@@ -10,8 +10,8 @@ ghost use Rattle.expander_sources.specs.Imports.{IsImport, import_piece};
 ghost use Rattle.expander_sources.specs.SourceItems.{AreOrdered, IsSourcePiece};
 ghost use Rattle.expander_sources.specs.Sources.{end_behind, inner_items, items_of, most_modules, of_text, own_items};
 
+use crate::import::Import;
 use crate::inline_module::module_of;
-use crate::prelude::Import;
 use bridge::parts::Place;
 use expander_model::definition::definition_of;
 use expander_model::hashed_tree::HashedTree;

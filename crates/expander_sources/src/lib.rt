@@ -3,6 +3,7 @@
 #![tactic(auto)]
 
 pub mod home;
+pub mod import;
 mod inline_module;
 mod items;
 pub mod prelude;

@@ -3,32 +3,23 @@ ghost use Rattle.std.specs.Prelude.{◌≡◌, ◌<◌, ◌++◌, ◌∷◌, All
 ghost use Rattle.tt_data.specs.fault.TtFault.TheVariants as fault;
 ghost use Rattle.expander_model.specs.Definitions.{Definition, definition_of};
 ghost use Rattle.expander_sources.specs.Builds.{IsBuildFault};
-ghost use Rattle.expander_sources.specs.Homes.{key_behind};
 ghost use Rattle.expander_sources.specs.Imports.{IsImport, import_piece, import_pieces};
 ghost use Rattle.expander_sources.specs.Picks.{home_piece, picked, rooted_pick, rooted_picks};
 ghost use Rattle.expander_sources.specs.Sources.{item_at};
 
 use crate::home::Home;
+use crate::import::Import;
 use crate::inline_module::has_attribute;
 use crate::items::SourceItem;
 use crate::rooting::home_tree;
 use crate::source::Source;
-use bridge::parts::Place;
+use expander_model::call::key_behind;
 use expander_model::definition::definition_of;
 use expander_model::hashed_tree::HashedTree;
 use std::alloc::{AllocError, Global};
 use std::marker::Model;
 use std::rc::Rc;
 use tt_data::{Symbol, TtFault};
-
-/// A definition of another text: where its piece starts, and its tree.
-#[derive(Drop)]
-pub struct Import {
-    /// Where the piece starts in its text.
-    pub place: Place,
-    /// The piece, with piece-relative spans whose anchor is the number of its text.
-    pub tree: Rc<HashedTree>,
-}
 
 /// Definitions of other texts, in order: a later one of the same name is nearer.
 #[derive(Drop)]
@@ -98,17 +89,6 @@ fn picked(alloc: Global, home: Option<&Home>, item: &SourceItem) -> Result<Impor
     }
 }
 
-// What a definition is looked up by behind a root.
-fn key_behind(alloc: Global, root: &Home, name: &Symbol) -> Result<Symbol, TtFault>
-    ensures key { IfOk result (λ key. key ≡ key_behind root.now.root name.now) }
-    ensures memory { IsOkUnless result fault.Memory }
-{
-    let mut key = root.mark(alloc)?;
-    key.push_str("::")?;
-    key.push_str(name.as_str())?;
-    Symbol::new(alloc, key.as_str())
-}
-
 // A definition of a source of this home, seen behind a root. `None` if the compiler has it built
 // in.
 fn rooted_pick(
@@ -126,7 +106,8 @@ fn rooted_pick(
     if has_attribute(&tree, "rustc_builtin_macro") {
         return Ok(None);
     }
-    let key = key_behind(alloc, root, &item.name)?;
+    let mark = root.mark(alloc)?;
+    let key = key_behind(alloc, mark.as_str(), item.name.as_str())?;
     Ok(Some(home_import(alloc, home, key, &item.import)?))
 }
 

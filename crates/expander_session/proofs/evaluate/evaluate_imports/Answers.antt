@@ -8,7 +8,7 @@ use Rattle.expander_model.specs.Held.{Stands}
 use Rattle.expander_reparse.proofs.ListLemmas.{mapped_more}
 use Rattle.expander_scope.proofs.HandedLemmas.{handed}
 use Rattle.expander_sources.specs.Imports.{IsImport, import_piece, import_pieces}
-use Rattle.expander_sources.specs.declared.prelude.Import.{Import}
+use Rattle.expander_sources.specs.declared.import.Import.{Import}
 use Rattle.expander_session.specs.Evaluating.{HasImported, Imports, NeedsMore}
 use Rattle.expander_session.proofs.ImportLemmas.{imports_need, one_more, split_at}
 use Rattle.expander_session.proofs.evaluate.evaluate_imports.Goals as goal
