@@ -82,21 +82,28 @@ pub fn calls_are_found_from_the_left()
 pub fn pieces_are_the_list()
     ensures whole { (f : Forest) → put_together (cut f) ≡ f }
     ensures each { (f : Forest) → All (λ p. cut p ≡ p ∷ []) (cut f) }
-    ensures ended { (f p q : Forest) (front behind : List Forest) → cut f ≡ front ++ p ∷ q ∷ behind → IsEnded p }
-    ensures within { (f : Forest) → All (λ p. (front behind : Forest) → p ≡ joined front behind → IsEnded front → behind ≡ empty) (cut f) }
+    ensures ended { (f p q : Forest) (front behind : List Forest) → cut f ≡ front ++ p ∷ q
+        ∷ behind → IsEnded p }
+    ensures within { (f : Forest) →
+        All (λ p. (front behind : Forest) → p ≡ joined front behind → IsEnded front → behind
+        ≡ empty) (cut f) }
     ensures only { (ps : List Forest) → All (λ p. p ≢ empty) ps →
         ((front behind : List Forest) (p q : Forest) → ps ≡ front ++ p ∷ q ∷ behind → IsEnded p) →
-        All (λ p. (front behind : Forest) → p ≡ joined front behind → IsEnded front → behind ≡ empty) ps → cut (put_together ps) ≡ ps }
+        All (λ p. (front behind : Forest) → p ≡ joined front behind → IsEnded front → behind
+        ≡ empty) ps → cut (put_together ps) ≡ ps }
 {}
 
 /// A session has the trees that `bridge::piece` makes. The list that a text is read as is cut into
 /// parts, and each may be cut out as a piece: `may`. Its trees are then the text's pieces, spans
 /// piece-relative: `trees`. So are those of its plain pieces and definitions: `members`.
 pub fn pieces_are_those_of_the_bridge()
-    ensures may { (text : List ℕ) (f : Forest) → IsUtf8 text → text_reading text ≡ Ok f → All StandsBehindFirst (cut f) }
+    ensures may { (text : List ℕ) (f : Forest) → IsUtf8 text → text_reading text ≡ Ok f →
+        All StandsBehindFirst (cut f) }
     ensures trees { (text : List ℕ) (f : Forest) → text_reading text ≡ Ok f →
-        map piece_of (cut f) ≡ map (λ p. record { delimiter = text_top; inner = relative p }) (pieces f) }
-    ensures members { (layers : Layers) (depth : ℕ) (text : List ℕ) (f : Forest) → text_reading text ≡ Ok f →
+        map piece_of (cut f) ≡ map (λ p. record { delimiter = text_top; inner = relative p })
+        (pieces f) }
+    ensures members { (layers : Layers) (depth : ℕ) (text : List ℕ) (f : Forest) →
+        text_reading text ≡ Ok f →
         map own_tree (members layers depth f) ≡ map (λ p. (piece_of p).inner) (cut f) }
 {
     bridge::laws::reading_is_a_relation();
@@ -106,29 +113,42 @@ pub fn pieces_are_those_of_the_bridge()
 /// A call that fails keeps its tokens, its argument unexpanded, before the expansion of what
 /// follows.
 pub fn a_failed_call_stays()
-    ensures { (world : World Definition) (scope : List ℕ → Option Definition) (depth : ℕ) (outer : Option Span) (f passed : Forest) (c : Call) (d : Definition) →
-        call_at f ≡ Some c → scope (key_at f c) ≡ Some d → Fails (world.broken d) depth (world.fit d c.argument) → f ≡ joined passed c.rest →
-        (expansion world scope depth outer f).steps ≡ placed outer (walk passed) ++ (expansion world scope depth outer c.rest).steps }
+    ensures { (world : World Definition) (scope : List ℕ →
+        Option Definition) (depth : ℕ) (outer : Option Span) (f passed : Forest) (c : Call)
+        (d : Definition) →
+        call_at f ≡ Some c → scope (key_at f c) ≡ Some d →
+        Fails (world.broken d) depth (world.fit d c.argument) → f ≡ joined passed c.rest →
+        (expansion world scope depth outer f).steps ≡ placed outer (walk passed)
+        ++ (expansion world scope depth outer c.rest).steps }
 {}
 
 /// A list is parted at no call after a group, whatever follows: `groups`; and before a call, if no
 /// `::` is there: `calls`.
 pub fn where_lists_are_parted()
-    ensures groups { (front : Forest) (d : Delimiter) (inner rest : Forest) → IsParted (joined front (group d inner empty)) rest }
+    ensures groups { (front : Forest) (d : Delimiter) (inner rest : Forest) →
+        IsParted (joined front (group d inner empty)) rest }
     ensures calls { (front rest : Forest) (c : Call) → call_at rest ≡ Some c →
-        ((f : Forest) (p q : Punct) → front ≡ joined f (leaf (as_leaf.Punct p) (leaf (as_leaf.Punct q) empty)) → is_colons p q ≡ false) → IsParted front rest }
+        ((f : Forest) (p q : Punct) → front
+        ≡ joined f (leaf (as_leaf.Punct p) (leaf (as_leaf.Punct q) empty)) → is_colons p q ≡ false)
+        → IsParted front rest }
 {}
 
 /// A list that is parted at no call is expanded part by part: events, faults and look-ups of the
 /// front are followed by those of the rest: `lists`. A group at the front is expanded inside its
 /// delimiters: `groups`.
 pub fn expansions_part_by_part()
-    ensures lists { (world : World Definition) (scope : List ℕ → Option Definition) (depth : ℕ) (outer : Option Span) (front rest : Forest) →
+    ensures lists { (world : World Definition) (scope : List ℕ →
+        Option Definition) (depth : ℕ) (outer : Option Span) (front rest : Forest) →
         IsParted front rest →
-        expansion world scope depth outer (joined front rest) ≡ followed_by (expansion world scope depth outer front) (expansion world scope depth outer rest) }
-    ensures groups { (world : World Definition) (scope : List ℕ → Option Definition) (depth : ℕ) (outer : Option Span) (d : Delimiter) (inner rest : Forest) →
+        expansion world scope depth outer (joined front rest)
+        ≡ followed_by (expansion world scope depth outer front)
+        (expansion world scope depth outer rest) }
+    ensures groups { (world : World Definition) (scope : List ℕ →
+        Option Definition) (depth : ℕ) (outer : Option Span) (d : Delimiter)
+        (inner rest : Forest) →
         expansion world scope depth outer (group d inner rest)
-        ≡ followed_by (grouped outer d (expansion world scope depth outer inner)) (expansion world scope depth outer rest) }
+        ≡ followed_by (grouped outer d (expansion world scope depth outer inner))
+        (expansion world scope depth outer rest) }
 {}
 
 /// A call that fails keeps its tokens wherever it is in a list, between the expansions of what is
@@ -136,19 +156,35 @@ pub fn expansions_part_by_part()
 /// that of the outermost call that was expanded around it: `faults`. Of the names in it only its
 /// own is looked up: `finds`.
 pub fn a_failed_call_stays_anywhere()
-    ensures steps { (world : World Definition) (scope : List ℕ → Option Definition) (depth : ℕ) (outer : Option Span) (front passed : Forest) (c : Call) (d : Definition) →
-        call_at (joined passed c.rest) ≡ Some c → scope (key_at (joined passed c.rest) c) ≡ Some d → Fails (world.broken d) depth (world.fit d c.argument) → IsParted front (joined passed c.rest) →
+    ensures steps { (world : World Definition) (scope : List ℕ →
+        Option Definition) (depth : ℕ) (outer : Option Span) (front passed : Forest) (c : Call)
+        (d : Definition) →
+        call_at (joined passed c.rest) ≡ Some c → scope (key_at (joined passed c.rest) c)
+        ≡ Some d → Fails (world.broken d) depth (world.fit d c.argument) →
+        IsParted front (joined passed c.rest) →
         (expansion world scope depth outer (joined front (joined passed c.rest))).steps
-        ≡ (expansion world scope depth outer front).steps ++ (placed outer (walk passed) ++ (expansion world scope depth outer c.rest).steps) }
-    ensures faults { (world : World Definition) (scope : List ℕ → Option Definition) (depth : ℕ) (outer : Option Span) (front passed : Forest) (c : Call) (d : Definition) →
-        call_at (joined passed c.rest) ≡ Some c → scope (key_at (joined passed c.rest) c) ≡ Some d → Fails (world.broken d) depth (world.fit d c.argument) → IsParted front (joined passed c.rest) →
+        ≡ (expansion world scope depth outer front).steps
+        ++ (placed outer (walk passed) ++ (expansion world scope depth outer c.rest).steps) }
+    ensures faults { (world : World Definition) (scope : List ℕ →
+        Option Definition) (depth : ℕ) (outer : Option Span) (front passed : Forest) (c : Call)
+        (d : Definition) →
+        call_at (joined passed c.rest) ≡ Some c → scope (key_at (joined passed c.rest) c)
+        ≡ Some d → Fails (world.broken d) depth (world.fit d c.argument) →
+        IsParted front (joined passed c.rest) →
         (expansion world scope depth outer (joined front (joined passed c.rest))).faults
         ≡ (expansion world scope depth outer front).faults
-        ++ (why_failed (world.broken d) depth, unwrap_or outer c.name.span) ∷ (expansion world scope depth outer c.rest).faults }
-    ensures finds { (world : World Definition) (scope : List ℕ → Option Definition) (depth : ℕ) (outer : Option Span) (front passed : Forest) (c : Call) (d : Definition) →
-        call_at (joined passed c.rest) ≡ Some c → scope (key_at (joined passed c.rest) c) ≡ Some d → Fails (world.broken d) depth (world.fit d c.argument) → IsParted front (joined passed c.rest) →
+        ++ (why_failed (world.broken d) depth, unwrap_or outer c.name.span)
+        ∷ (expansion world scope depth outer c.rest).faults }
+    ensures finds { (world : World Definition) (scope : List ℕ →
+        Option Definition) (depth : ℕ) (outer : Option Span) (front passed : Forest) (c : Call)
+        (d : Definition) →
+        call_at (joined passed c.rest) ≡ Some c → scope (key_at (joined passed c.rest) c)
+        ≡ Some d → Fails (world.broken d) depth (world.fit d c.argument) →
+        IsParted front (joined passed c.rest) →
         (expansion world scope depth outer (joined front (joined passed c.rest))).finds
-        ≡ (expansion world scope depth outer front).finds ++ (key_at (joined passed c.rest) c, Some d) ∷ (expansion world scope depth outer c.rest).finds }
+        ≡ (expansion world scope depth outer front).finds
+        ++ (key_at (joined passed c.rest) c, Some d)
+        ∷ (expansion world scope depth outer c.rest).finds }
 {}
 
 /// If no piece is a definition, the output is the walk of the pieces, and no fault comes of
@@ -169,7 +205,8 @@ pub fn definitions_begin_with_their_keywords()
 /// spelling.
 pub fn quiet_texts_have_no_fault()
     ensures { (layers : Layers) (depth : ℕ) (f : Forest) → HasNoWord f →
-        left_out layers.spelling (output (members layers depth f)) ≡ [] → faults_of layers (members layers depth f) ≡ [] }
+        left_out layers.spelling (output (members layers depth f)) ≡ [] →
+        faults_of layers (members layers depth f) ≡ [] }
 {}
 
 /// A text of fewer than 2^31 bytes that was read has no fault if it has no definition keyword:
@@ -178,12 +215,18 @@ pub fn quiet_texts_have_no_fault()
 /// name and literal is displayed in fewer than 2^32 bytes: `exact`. (A longer one is in no text, so
 /// it cannot be printed. The escapes of a doc comment could make one of a shorter text.)
 pub fn no_fault_without_definition_keywords()
-    ensures short { (grammar : Grammar) (edition : Edition) (depth : ℕ) (text : List ℕ) (f : Forest) (m : ReadMeaning) →
-        IsUtf8 text → length text < 2 ^ 31 → text_reading text ≡ Ok f → HasNoWord f → meaning (layers grammar edition) depth text ≡ Ok m → m.faults ≡ [] }
-    ensures escaped_text { (grammar : Grammar) (edition : Edition) (depth : ℕ) (text : List ℕ) (f : Forest) (m : ReadMeaning) →
-        IsUtf8 text → length (escaped text) < 2 ^ 32 → text_reading text ≡ Ok f → HasNoWord f → meaning (layers grammar edition) depth text ≡ Ok m → m.faults ≡ [] }
-    ensures exact { (grammar : Grammar) (edition : Edition) (depth : ℕ) (text : List ℕ) (f : Forest) (m : ReadMeaning) →
-        IsUtf8 text → text_reading text ≡ Ok f → HasNoWord f → meaning (layers grammar edition) depth text ≡ Ok m → (m.faults ≡ []) ↔ AreShort (walk f) }
+    ensures short { (grammar : Grammar) (edition : Edition) (depth : ℕ) (text : List ℕ)
+        (f : Forest) (m : ReadMeaning) →
+        IsUtf8 text → length text < 2 ^ 31 → text_reading text ≡ Ok f → HasNoWord f →
+        meaning (layers grammar edition) depth text ≡ Ok m → m.faults ≡ [] }
+    ensures escaped_text { (grammar : Grammar) (edition : Edition) (depth : ℕ) (text : List ℕ)
+        (f : Forest) (m : ReadMeaning) →
+        IsUtf8 text → length (escaped text) < 2 ^ 32 → text_reading text ≡ Ok f → HasNoWord f →
+        meaning (layers grammar edition) depth text ≡ Ok m → m.faults ≡ [] }
+    ensures exact { (grammar : Grammar) (edition : Edition) (depth : ℕ) (text : List ℕ)
+        (f : Forest) (m : ReadMeaning) →
+        IsUtf8 text → text_reading text ≡ Ok f → HasNoWord f →
+        meaning (layers grammar edition) depth text ≡ Ok m → (m.faults ≡ []) ↔ AreShort (walk f) }
 {
     bridge::laws::reading_is_a_relation();
     bridge::laws::read_texts_are_printed_whole();
@@ -193,7 +236,8 @@ pub fn no_fault_without_definition_keywords()
 /// Without definitions of other texts each printed token comes from the text itself, so the
 /// origin of each is in it.
 pub fn printed_tokens_are_the_texts_own()
-    ensures { (grammar : Grammar) (edition : Edition) (depth : ℕ) (text : List ℕ) (m : ReadMeaning) →
+    ensures { (grammar : Grammar) (edition : Edition) (depth : ℕ) (text : List ℕ)
+        (m : ReadMeaning) →
         IsUtf8 text → meaning (layers grammar edition) depth text ≡ Ok m →
         All (λ n. n ≡ 0) (map origin_text m.tokens) }
 {
@@ -210,8 +254,10 @@ pub fn printed_tokens_are_the_texts_own()
 /// definitions of other texts, the printed text is read, has no definition, and by itself means
 /// just the same bytes, without a fault, under every grammar, edition and number of levels.
 pub fn faultless_output_is_a_fixed_point()
-    ensures { (grammar : Grammar) (edition : Edition) (depth : ℕ) (initial : List Definition) (text : List ℕ) (m : ReadMeaning) →
-        meaning_in (layers grammar edition) depth initial text ≡ Ok m → m.faults ≡ [] → IsFixedPoint m.text }
+    ensures { (grammar : Grammar) (edition : Edition) (depth : ℕ) (initial : List Definition)
+        (text : List ℕ) (m : ReadMeaning) →
+        meaning_in (layers grammar edition) depth initial text ≡ Ok m → m.faults ≡ [] →
+        IsFixedPoint m.text }
 {
     bridge::laws::reading_is_a_relation();
     bridge::laws::printed_text_reads_back();
@@ -222,9 +268,11 @@ pub fn faultless_output_is_a_fixed_point()
 /// fault. (With a prelude it need not: what a call printed may be a call together with what follows
 /// it, once both are read again.)
 pub fn faultless_replies_are_fixed_points()
-    ensures { (grammar : Grammar) (edition : Edition) (depth : ℕ) (initial : List Definition) (text : List ℕ) (earlier : Option (List Looked)) (e : Expanded) →
+    ensures { (grammar : Grammar) (edition : Edition) (depth : ℕ) (initial : List Definition)
+        (text : List ℕ) (earlier : Option (List Looked)) (e : Expanded) →
         IsReplyIn (layers grammar edition) depth initial text earlier (Read e) → e.faults ≡ [] →
-        (others : Grammar) (later : Edition) (levels : ℕ) (held : Option (List Looked)) (reply : Reply) →
+        (others : Grammar) (later : Edition) (levels : ℕ) (held : Option (List Looked))
+        (reply : Reply) →
         IsReplyTo (layers others later) levels e.printed held reply → RepliesWith e.printed reply }
 {
     faultless_output_is_a_fixed_point();
@@ -234,23 +282,32 @@ pub fn faultless_replies_are_fixed_points()
 /// look-ups are the same under another scope in which each finds the same. Look-ups are what the
 /// scope finds, so the result is the same under the scope made of them.
 pub fn expansions_depend_on_lookups_alone()
-    ensures agreed { (world : World Definition) (scope others : List ℕ → Option Definition) (depth : ℕ) (outer : Option Span) (f : Forest) →
-        FoundIn others (expansion world scope depth outer f).finds → expansion world others depth outer f ≡ expansion world scope depth outer f }
-    ensures found { (world : World Definition) (scope : List ℕ → Option Definition) (depth : ℕ) (outer : Option Span) (f : Forest) →
+    ensures agreed { (world : World Definition) (scope others : List ℕ →
+        Option Definition) (depth : ℕ) (outer : Option Span) (f : Forest) →
+        FoundIn others (expansion world scope depth outer f).finds →
+        expansion world others depth outer f ≡ expansion world scope depth outer f }
+    ensures found { (world : World Definition) (scope : List ℕ →
+        Option Definition) (depth : ℕ) (outer : Option Span) (f : Forest) →
         FoundIn scope (expansion world scope depth outer f).finds }
-    ensures kept { (world : World Definition) (scope : List ℕ → Option Definition) (depth : ℕ) (outer : Option Span) (f : Forest) →
-        expansion world (scope_of (expansion world scope depth outer f).finds) depth outer f ≡ expansion world scope depth outer f }
+    ensures kept { (world : World Definition) (scope : List ℕ →
+        Option Definition) (depth : ℕ) (outer : Option Span) (f : Forest) →
+        expansion world (scope_of (expansion world scope depth outer f).finds) depth outer f
+        ≡ expansion world scope depth outer f }
 {}
 
 /// Under a span map that commutes with the marker of templates, a definition stays one, and an
 /// expansion gives the same events, faults and look-ups with mapped spans, and too many tokens
 /// exactly where it did.
 pub fn expansions_at_other_spans()
-    ensures definitions { (f : Span → Span) (piece : Forest) → definition_of (map_spans f piece) ≡ option_map (definition_with f) (definition_of piece) }
-    ensures expansions { (grammar : Grammar) (edition : Edition) (f : Span → Span) → CommutesWithMarker f →
+    ensures definitions { (f : Span → Span) (piece : Forest) → definition_of (map_spans f piece)
+        ≡ option_map (definition_with f) (definition_of piece) }
+    ensures expansions { (grammar : Grammar) (edition : Edition) (f : Span → Span) →
+        CommutesWithMarker f →
         (scope : List ℕ → Option Definition) (depth : ℕ) (outer : Option Span) (g : Forest) →
-        expansion (world grammar edition) (λ name. option_map (definition_with f) (scope name)) depth (option_map f outer) (map_spans f g)
-        ≡ outcome_with f (definition_with f) (expansion (world grammar edition) scope depth outer g) }
+        expansion (world grammar edition) (λ name. option_map (definition_with f) (scope name))
+        depth (option_map f outer) (map_spans f g)
+        ≡ outcome_with f (definition_with f)
+        (expansion (world grammar edition) scope depth outer g) }
 {
     mbe_rules::laws::rules_at_other_places();
     mbe::laws::fit_at_other_places();
@@ -261,9 +318,12 @@ pub fn expansions_at_other_spans()
 /// definitions with ids, and then shifted to the text. Equal definitions have one id, and
 /// different ones different ids.
 fn pieces_at_relative_spans()
-    ensures { (grammar : Grammar) (edition : Edition) (depth : ℕ) (text : List ℕ) (f : Forest) (number_of : Forest → ℕ) →
-        IsUtf8 text → text_reading text ≡ Ok f → TellsApart number_of (definition_trees (pieces f)) →
-        members (layers grammar edition) depth f ≡ map present (kept_after (world grammar edition) depth number_of [] (pieces f)) }
+    ensures { (grammar : Grammar) (edition : Edition) (depth : ℕ) (text : List ℕ) (f : Forest)
+        (number_of : Forest → ℕ) →
+        IsUtf8 text → text_reading text ≡ Ok f →
+        TellsApart number_of (definition_trees (pieces f)) →
+        members (layers grammar edition) depth f
+        ≡ map present (kept_after (world grammar edition) depth number_of [] (pieces f)) }
 {
     mbe_rules::laws::rules_at_other_places();
     mbe::laws::fit_at_other_places();
@@ -276,13 +336,20 @@ fn pieces_at_relative_spans()
 /// A valid memo has the result that a new expansion has: `outcome`. It is valid exactly where the
 /// count sees an equal piece: `counted`. A new expansion may be kept as a memo: `fresh`.
 fn valid_memos_are_new_expansions()
-    ensures outcome { (world : World Definition) (depth : ℕ) (number_of : Forest → ℕ) (trees : List Forest) (before : List Met) (tree : Forest) (q : HeldPiece) →
-        TellsApart number_of trees → All (IsMet (Known number_of trees)) before → IsHeld world depth (Known number_of trees) q →
-        matches (numbered_scope before) tree q ≡ true → q.outcome ≡ expansion (numbered_world world) (numbered_scope before) depth None tree }
-    ensures counted { (world : World Definition) (depth : ℕ) (number_of : Forest → ℕ) (trees : List Forest) (before : List Met) (tree : Forest) (q : HeldPiece) →
-        TellsApart number_of trees → All (IsMet (Known number_of trees)) before → IsHeld world depth (Known number_of trees) q →
-        is_same (looked_at tree (expansion (numbered_world world) (numbered_scope before) depth None tree)) (looked_held q) ≡ matches (numbered_scope before) tree q }
-    ensures fresh { (world : World Definition) (depth : ℕ) (number_of : Forest → ℕ) (trees : List Forest) (before : List Met) (tree : Forest) →
+    ensures outcome { (world : World Definition) (depth : ℕ) (number_of : Forest →
+        ℕ) (trees : List Forest) (before : List Met) (tree : Forest) (q : HeldPiece) →
+        TellsApart number_of trees → All (IsMet (Known number_of trees)) before →
+        IsHeld world depth (Known number_of trees) q →
+        matches (numbered_scope before) tree q ≡ true → q.outcome
+        ≡ expansion (numbered_world world) (numbered_scope before) depth None tree }
+    ensures counted { (world : World Definition) (depth : ℕ) (number_of : Forest →
+        ℕ) (trees : List Forest) (before : List Met) (tree : Forest) (q : HeldPiece) →
+        TellsApart number_of trees → All (IsMet (Known number_of trees)) before →
+        IsHeld world depth (Known number_of trees) q →
+        is_same (looked_at tree (expansion (numbered_world world) (numbered_scope before) depth
+        None tree)) (looked_held q) ≡ matches (numbered_scope before) tree q }
+    ensures fresh { (world : World Definition) (depth : ℕ) (number_of : Forest →
+        ℕ) (trees : List Forest) (before : List Met) (tree : Forest) →
         All (IsMet (Known number_of trees)) before →
         IsHeld world depth (Known number_of trees) (record { tree = tree; outcome = expansion (numbered_world world) (numbered_scope before) depth None tree }) }
 {
@@ -293,20 +360,27 @@ fn valid_memos_are_new_expansions()
 /// `taken`. The count is that of plain pieces without a valid memo: `counted`. The cache after it
 /// is right, and is what the next count sees: `held`, `looked`.
 fn a_text_over_its_cache()
-    ensures taken { (grammar : Grammar) (edition : Edition) (depth : ℕ) (text : List ℕ) (f : Forest) (number_of : Forest → ℕ) (trees : List Forest) (held : List HeldPiece) →
+    ensures taken { (grammar : Grammar) (edition : Edition) (depth : ℕ) (text : List ℕ)
+        (f : Forest) (number_of : Forest → ℕ) (trees : List Forest) (held : List HeldPiece) →
         IsTurn (world grammar edition) depth text f number_of trees held →
-        members (layers grammar edition) depth f ≡ map present (taken_after (world grammar edition) depth number_of held [] (pieces f)) }
-    ensures counted { (grammar : Grammar) (edition : Edition) (depth : ℕ) (text : List ℕ) (f : Forest) (number_of : Forest → ℕ) (trees : List Forest) (held : List HeldPiece) →
+        members (layers grammar edition) depth f
+        ≡ map present (taken_after (world grammar edition) depth number_of held [] (pieces f)) }
+    ensures counted { (grammar : Grammar) (edition : Edition) (depth : ℕ) (text : List ℕ)
+        (f : Forest) (number_of : Forest → ℕ) (trees : List Forest) (held : List HeldPiece) →
         IsTurn (world grammar edition) depth text f number_of trees held →
         expanded_count (Some (map looked_held held)) (looked_of (members (layers grammar edition) depth f))
-        ≡ length (filter (is_unmatched held) (taken_after (world grammar edition) depth number_of held [] (pieces f))) }
-    ensures held { (grammar : Grammar) (edition : Edition) (depth : ℕ) (text : List ℕ) (f : Forest) (number_of : Forest → ℕ) (trees : List Forest) (held : List HeldPiece) →
+        ≡ length (filter (is_unmatched held)
+        (taken_after (world grammar edition) depth number_of held [] (pieces f))) }
+    ensures held { (grammar : Grammar) (edition : Edition) (depth : ℕ) (text : List ℕ) (f : Forest)
+        (number_of : Forest → ℕ) (trees : List Forest) (held : List HeldPiece) →
         IsTurn (world grammar edition) depth text f number_of trees held →
         All (IsHeld (world grammar edition) depth (Known number_of trees)) (filter_map held_of (taken_after (world grammar edition) depth number_of held [] (pieces f))) }
-    ensures looked { (grammar : Grammar) (edition : Edition) (depth : ℕ) (text : List ℕ) (f : Forest) (number_of : Forest → ℕ) (trees : List Forest) (held : List HeldPiece) →
+    ensures looked { (grammar : Grammar) (edition : Edition) (depth : ℕ) (text : List ℕ)
+        (f : Forest) (number_of : Forest → ℕ) (trees : List Forest) (held : List HeldPiece) →
         IsTurn (world grammar edition) depth text f number_of trees held →
         looked_of (members (layers grammar edition) depth f)
-        ≡ map looked_held (filter_map held_of (taken_after (world grammar edition) depth number_of held [] (pieces f))) }
+        ≡ map looked_held (filter_map held_of
+        (taken_after (world grammar edition) depth number_of held [] (pieces f))) }
 {
     mbe_rules::laws::rules_at_other_places();
     mbe::laws::fit_at_other_places();
@@ -327,7 +401,8 @@ pub fn a_text_matches_itself()
 /// A second reply without an edit before it shows the same as the first, and its count is 0.
 pub fn a_second_reply_expands_nothing<G: FragmentGrammar>()
     ensures { (old new newer : State G) (e : Expanded) (reply : Reply) →
-        Replies (layers_of G.answer old) old new (Read e) → Replies (layers_of G.answer new) new newer reply →
+        Replies (layers_of G.answer old) old new (Read e) →
+        Replies (layers_of G.answer new) new newer reply →
         ShowTheSame (Read e) reply × ExpandsNothing reply }
 {
     equal_pieces();
@@ -349,28 +424,46 @@ pub fn equal_lookups_are_cache_hits()
 /// precede the piece: `piece`. So the cache misses are those before it and after it: `others`, and
 /// `replied` for a session that last read the earlier text.
 pub fn unchanged_lookups_are_cache_hits()
-    ensures piece { (grammar : Grammar) (edition : Edition) (depth : ℕ) (text other : List ℕ) (f g p q : Forest) (ones twos more_ones more_twos : List Forest) →
+    ensures piece { (grammar : Grammar) (edition : Edition) (depth : ℕ) (text other : List ℕ)
+        (f g p q : Forest) (ones twos more_ones more_twos : List Forest) →
         IsUtf8 text → IsUtf8 other → text_reading text ≡ Ok f → text_reading other ≡ Ok g →
-        pieces f ≡ ones ++ p ∷ more_ones → pieces g ≡ twos ++ q ∷ more_twos → relative p ≡ relative q →
-        FindsAsBefore (nearest (definitions_after [] twos)) (expansion (world grammar edition) (nearest (definitions_after [] ones)) depth None p).finds →
+        pieces f ≡ ones ++ p ∷ more_ones → pieces g ≡ twos ++ q ∷ more_twos → relative p
+        ≡ relative q →
+        FindsAsBefore (nearest (definitions_after [] twos))
+        (expansion (world grammar edition) (nearest (definitions_after [] ones)) depth
+        None p).finds →
         expanded_count (Some (looked_of (members (layers grammar edition) depth f)))
-        (looked_of (members_after (layers grammar edition) depth (definitions_after [] twos) (q ∷ []))) ≡ 0 }
-    ensures others { (grammar : Grammar) (edition : Edition) (depth : ℕ) (text other : List ℕ) (f g p q : Forest) (ones twos more_ones more_twos : List Forest) →
+        (looked_of (members_after (layers grammar edition) depth (definitions_after [] twos) (q
+        ∷ []))) ≡ 0 }
+    ensures others { (grammar : Grammar) (edition : Edition) (depth : ℕ) (text other : List ℕ)
+        (f g p q : Forest) (ones twos more_ones more_twos : List Forest) →
         IsUtf8 text → IsUtf8 other → text_reading text ≡ Ok f → text_reading other ≡ Ok g →
-        pieces f ≡ ones ++ p ∷ more_ones → pieces g ≡ twos ++ q ∷ more_twos → relative p ≡ relative q →
-        FindsAsBefore (nearest (definitions_after [] twos)) (expansion (world grammar edition) (nearest (definitions_after [] ones)) depth None p).finds →
+        pieces f ≡ ones ++ p ∷ more_ones → pieces g ≡ twos ++ q ∷ more_twos → relative p
+        ≡ relative q →
+        FindsAsBefore (nearest (definitions_after [] twos))
+        (expansion (world grammar edition) (nearest (definitions_after [] ones)) depth
+        None p).finds →
         expanded_count (Some (looked_of (members (layers grammar edition) depth f))) (looked_of (members (layers grammar edition) depth g))
-        ≡ expanded_count (Some (looked_of (members (layers grammar edition) depth f))) (looked_of (members_after (layers grammar edition) depth [] twos))
+        ≡ expanded_count (Some (looked_of (members (layers grammar edition) depth f)))
+        (looked_of (members_after (layers grammar edition) depth [] twos))
         + expanded_count (Some (looked_of (members (layers grammar edition) depth f)))
-        (looked_of (members_after (layers grammar edition) depth (definitions_after [] (twos ++ q ∷ [])) more_twos)) }
-    ensures replied { (grammar : Grammar) (edition : Edition) (depth : ℕ) (text other : List ℕ) (f g p q : Forest) (ones twos more_ones more_twos : List Forest) (e : Expanded) →
+        (looked_of (members_after (layers grammar edition) depth
+        (definitions_after [] (twos ++ q ∷ [])) more_twos)) }
+    ensures replied { (grammar : Grammar) (edition : Edition) (depth : ℕ) (text other : List ℕ)
+        (f g p q : Forest) (ones twos more_ones more_twos : List Forest) (e : Expanded) →
         IsUtf8 text → IsUtf8 other → text_reading text ≡ Ok f → text_reading other ≡ Ok g →
-        pieces f ≡ ones ++ p ∷ more_ones → pieces g ≡ twos ++ q ∷ more_twos → relative p ≡ relative q →
-        FindsAsBefore (nearest (definitions_after [] twos)) (expansion (world grammar edition) (nearest (definitions_after [] ones)) depth None p).finds →
-        IsReplyTo (layers grammar edition) depth other (Some (looked_of (members (layers grammar edition) depth f))) (Read e) →
-        e.expanded ≡ expanded_count (Some (looked_of (members (layers grammar edition) depth f))) (looked_of (members_after (layers grammar edition) depth [] twos))
+        pieces f ≡ ones ++ p ∷ more_ones → pieces g ≡ twos ++ q ∷ more_twos → relative p
+        ≡ relative q →
+        FindsAsBefore (nearest (definitions_after [] twos))
+        (expansion (world grammar edition) (nearest (definitions_after [] ones)) depth
+        None p).finds →
+        IsReplyTo (layers grammar edition) depth other
+        (Some (looked_of (members (layers grammar edition) depth f))) (Read e) →
+        e.expanded ≡ expanded_count (Some (looked_of (members (layers grammar edition) depth f)))
+        (looked_of (members_after (layers grammar edition) depth [] twos))
         + expanded_count (Some (looked_of (members (layers grammar edition) depth f)))
-        (looked_of (members_after (layers grammar edition) depth (definitions_after [] (twos ++ q ∷ [])) more_twos)) }
+        (looked_of (members_after (layers grammar edition) depth
+        (definitions_after [] (twos ++ q ∷ [])) more_twos)) }
 {
     mbe_rules::laws::rules_at_other_places();
     mbe::laws::fit_at_other_places();
@@ -385,13 +478,18 @@ pub fn unchanged_lookups_are_cache_hits()
 /// added, changed or removed, these are no cache misses: `front`. All cache misses are after them:
 /// `behind`.
 pub fn pieces_before_a_change_are_cache_hits()
-    ensures front { (grammar : Grammar) (edition : Edition) (depth : ℕ) (text other : List ℕ) (f g : Forest) (ones twos more_ones more_twos : List Forest) →
+    ensures front { (grammar : Grammar) (edition : Edition) (depth : ℕ) (text other : List ℕ)
+        (f g : Forest) (ones twos more_ones more_twos : List Forest) →
         IsUtf8 text → IsUtf8 other → text_reading text ≡ Ok f → text_reading other ≡ Ok g →
-        pieces f ≡ ones ++ more_ones → pieces g ≡ twos ++ more_twos → map relative ones ≡ map relative twos →
-        expanded_count (Some (looked_of (members (layers grammar edition) depth f))) (looked_of (members_after (layers grammar edition) depth [] twos)) ≡ 0 }
-    ensures behind { (grammar : Grammar) (edition : Edition) (depth : ℕ) (text other : List ℕ) (f g : Forest) (ones twos more_ones more_twos : List Forest) →
+        pieces f ≡ ones ++ more_ones → pieces g ≡ twos ++ more_twos → map relative ones
+        ≡ map relative twos →
+        expanded_count (Some (looked_of (members (layers grammar edition) depth f)))
+        (looked_of (members_after (layers grammar edition) depth [] twos)) ≡ 0 }
+    ensures behind { (grammar : Grammar) (edition : Edition) (depth : ℕ) (text other : List ℕ)
+        (f g : Forest) (ones twos more_ones more_twos : List Forest) →
         IsUtf8 text → IsUtf8 other → text_reading text ≡ Ok f → text_reading other ≡ Ok g →
-        pieces f ≡ ones ++ more_ones → pieces g ≡ twos ++ more_twos → map relative ones ≡ map relative twos →
+        pieces f ≡ ones ++ more_ones → pieces g ≡ twos ++ more_twos → map relative ones
+        ≡ map relative twos →
         expanded_count (Some (looked_of (members (layers grammar edition) depth f))) (looked_of (members (layers grammar edition) depth g))
         ≡ expanded_count (Some (looked_of (members (layers grammar edition) depth f)))
         (looked_of (members_after (layers grammar edition) depth (definitions_after [] twos) more_twos)) }
@@ -409,12 +507,19 @@ pub fn pieces_before_a_change_are_cache_hits()
 /// comments between them, none is a cache miss: `counted`. A session that last read the one
 /// expands nothing for the other: `replied`.
 pub fn equal_pieces_are_cache_hits()
-    ensures counted { (grammar : Grammar) (edition : Edition) (depth : ℕ) (text other : List ℕ) (f g : Forest) →
-        IsUtf8 text → IsUtf8 other → text_reading text ≡ Ok f → text_reading other ≡ Ok g → map relative (pieces f) ≡ map relative (pieces g) →
-        expanded_count (Some (looked_of (members (layers grammar edition) depth f))) (looked_of (members (layers grammar edition) depth g)) ≡ 0 }
-    ensures replied { (grammar : Grammar) (edition : Edition) (depth : ℕ) (text other : List ℕ) (f g : Forest) (reply : Reply) →
-        IsUtf8 text → IsUtf8 other → text_reading text ≡ Ok f → text_reading other ≡ Ok g → map relative (pieces f) ≡ map relative (pieces g) →
-        IsReplyTo (layers grammar edition) depth other (Some (looked_of (members (layers grammar edition) depth f))) reply → ExpandsNothing reply }
+    ensures counted { (grammar : Grammar) (edition : Edition) (depth : ℕ) (text other : List ℕ)
+        (f g : Forest) →
+        IsUtf8 text → IsUtf8 other → text_reading text ≡ Ok f → text_reading other ≡ Ok g →
+        map relative (pieces f) ≡ map relative (pieces g) →
+        expanded_count (Some (looked_of (members (layers grammar edition) depth f)))
+        (looked_of (members (layers grammar edition) depth g)) ≡ 0 }
+    ensures replied { (grammar : Grammar) (edition : Edition) (depth : ℕ) (text other : List ℕ)
+        (f g : Forest) (reply : Reply) →
+        IsUtf8 text → IsUtf8 other → text_reading text ≡ Ok f → text_reading other ≡ Ok g →
+        map relative (pieces f) ≡ map relative (pieces g) →
+        IsReplyTo (layers grammar edition) depth other
+        (Some (looked_of (members (layers grammar edition) depth f))) reply →
+        ExpandsNothing reply }
 {
     mbe_rules::laws::rules_at_other_places();
     mbe::laws::fit_at_other_places();
@@ -430,18 +535,25 @@ pub fn equal_pieces_are_cache_hits()
 /// the pieces are the same: `same`. Then none is a cache miss: `counted`, `replied`.
 pub fn pieces_depend_on_tokens_alone()
     ensures read { (text : List ℕ) (f : Forest) → IsUtf8 text → text_reading text ≡ Ok f →
-        All (λ p. (k : Forest) × (reading (steps_of (written_in text p)) ≡ Ok k) × (relative p ≡ separated k)) (pieces f) }
+        All (λ p. (k : Forest) × (reading (steps_of (written_in text p)) ≡ Ok k)
+        × (relative p ≡ separated k)) (pieces f) }
     ensures same { (text other : List ℕ) (f g : Forest) →
         IsUtf8 text → IsUtf8 other → text_reading text ≡ Ok f → text_reading other ≡ Ok g →
-        map (written_in text) (pieces f) ≡ map (written_in other) (pieces g) → map relative (pieces f) ≡ map relative (pieces g) }
-    ensures counted { (grammar : Grammar) (edition : Edition) (depth : ℕ) (text other : List ℕ) (f g : Forest) →
+        map (written_in text) (pieces f) ≡ map (written_in other) (pieces g) →
+        map relative (pieces f) ≡ map relative (pieces g) }
+    ensures counted { (grammar : Grammar) (edition : Edition) (depth : ℕ) (text other : List ℕ)
+        (f g : Forest) →
         IsUtf8 text → IsUtf8 other → text_reading text ≡ Ok f → text_reading other ≡ Ok g →
         map (written_in text) (pieces f) ≡ map (written_in other) (pieces g) →
-        expanded_count (Some (looked_of (members (layers grammar edition) depth f))) (looked_of (members (layers grammar edition) depth g)) ≡ 0 }
-    ensures replied { (grammar : Grammar) (edition : Edition) (depth : ℕ) (text other : List ℕ) (f g : Forest) (reply : Reply) →
+        expanded_count (Some (looked_of (members (layers grammar edition) depth f)))
+        (looked_of (members (layers grammar edition) depth g)) ≡ 0 }
+    ensures replied { (grammar : Grammar) (edition : Edition) (depth : ℕ) (text other : List ℕ)
+        (f g : Forest) (reply : Reply) →
         IsUtf8 text → IsUtf8 other → text_reading text ≡ Ok f → text_reading other ≡ Ok g →
         map (written_in text) (pieces f) ≡ map (written_in other) (pieces g) →
-        IsReplyTo (layers grammar edition) depth other (Some (looked_of (members (layers grammar edition) depth f))) reply → ExpandsNothing reply }
+        IsReplyTo (layers grammar edition) depth other
+        (Some (looked_of (members (layers grammar edition) depth f))) reply →
+        ExpandsNothing reply }
 {
     bridge::laws::reading_is_a_relation();
     rustc_lexer::laws::token_lengths();
@@ -453,15 +565,25 @@ pub fn pieces_depend_on_tokens_alone()
 /// other text whose tokens spell the same pieces so is read too, and has the same pieces, spans
 /// piece-relative: `read`. None is a cache miss: `counted`, `replied`.
 pub fn trivia_between_pieces_is_free()
-    ensures own { (text : List ℕ) (f : Forest) → IsUtf8 text → text_reading text ≡ Ok f → AreWords (map (written_in text) (pieces f)) (placed_tokens text) }
-    ensures read { (text other : List ℕ) (f : Forest) → IsUtf8 text → text_reading text ≡ Ok f → AreWords (map (written_in text) (pieces f)) (placed_tokens other) →
-        (g : Forest) × (text_reading other ≡ Ok g) × (map relative (pieces f) ≡ map relative (pieces g)) }
-    ensures counted { (grammar : Grammar) (edition : Edition) (depth : ℕ) (text other : List ℕ) (f g : Forest) →
-        IsUtf8 text → IsUtf8 other → text_reading text ≡ Ok f → text_reading other ≡ Ok g → AreWords (map (written_in text) (pieces f)) (placed_tokens other) →
-        expanded_count (Some (looked_of (members (layers grammar edition) depth f))) (looked_of (members (layers grammar edition) depth g)) ≡ 0 }
-    ensures replied { (grammar : Grammar) (edition : Edition) (depth : ℕ) (text other : List ℕ) (f : Forest) (reply : Reply) →
-        IsUtf8 text → IsUtf8 other → text_reading text ≡ Ok f → AreWords (map (written_in text) (pieces f)) (placed_tokens other) →
-        IsReplyTo (layers grammar edition) depth other (Some (looked_of (members (layers grammar edition) depth f))) reply → ExpandsNothing reply }
+    ensures own { (text : List ℕ) (f : Forest) → IsUtf8 text → text_reading text ≡ Ok f →
+        AreWords (map (written_in text) (pieces f)) (placed_tokens text) }
+    ensures read { (text other : List ℕ) (f : Forest) → IsUtf8 text → text_reading text ≡ Ok f →
+        AreWords (map (written_in text) (pieces f)) (placed_tokens other) →
+        (g : Forest) × (text_reading other ≡ Ok g)
+        × (map relative (pieces f) ≡ map relative (pieces g)) }
+    ensures counted { (grammar : Grammar) (edition : Edition) (depth : ℕ) (text other : List ℕ)
+        (f g : Forest) →
+        IsUtf8 text → IsUtf8 other → text_reading text ≡ Ok f → text_reading other ≡ Ok g →
+        AreWords (map (written_in text) (pieces f)) (placed_tokens other) →
+        expanded_count (Some (looked_of (members (layers grammar edition) depth f)))
+        (looked_of (members (layers grammar edition) depth g)) ≡ 0 }
+    ensures replied { (grammar : Grammar) (edition : Edition) (depth : ℕ) (text other : List ℕ)
+        (f : Forest) (reply : Reply) →
+        IsUtf8 text → IsUtf8 other → text_reading text ≡ Ok f →
+        AreWords (map (written_in text) (pieces f)) (placed_tokens other) →
+        IsReplyTo (layers grammar edition) depth other
+        (Some (looked_of (members (layers grammar edition) depth f))) reply →
+        ExpandsNothing reply }
 {
     bridge::laws::reading_is_a_relation();
     bridge::laws::parts_of_a_text();
@@ -474,10 +596,12 @@ pub fn trivia_between_pieces_is_free()
 /// `short`. So it is for a text of fewer than 2^32 bytes once each `"` and `\` of it is escaped:
 /// `escaped_text`.
 pub fn replies_without_definition_keywords_have_no_fault()
-    ensures short { (grammar : Grammar) (edition : Edition) (depth : ℕ) (text : List ℕ) (f : Forest) (earlier : Option (List Looked)) (e : Expanded) →
+    ensures short { (grammar : Grammar) (edition : Edition) (depth : ℕ) (text : List ℕ)
+        (f : Forest) (earlier : Option (List Looked)) (e : Expanded) →
         IsUtf8 text → length text < 2 ^ 31 → text_reading text ≡ Ok f → HasNoWord f →
         IsReplyTo (layers grammar edition) depth text earlier (Read e) → e.faults ≡ [] }
-    ensures escaped_text { (grammar : Grammar) (edition : Edition) (depth : ℕ) (text : List ℕ) (f : Forest) (earlier : Option (List Looked)) (e : Expanded) →
+    ensures escaped_text { (grammar : Grammar) (edition : Edition) (depth : ℕ) (text : List ℕ)
+        (f : Forest) (earlier : Option (List Looked)) (e : Expanded) →
         IsUtf8 text → length (escaped text) < 2 ^ 32 → text_reading text ≡ Ok f → HasNoWord f →
         IsReplyTo (layers grammar edition) depth text earlier (Read e) → e.faults ≡ [] }
 {
@@ -486,18 +610,24 @@ pub fn replies_without_definition_keywords_have_no_fault()
 
 /// The definitions among a text's members, spans piece-relative, are those among its pieces.
 pub fn definitions_are_pieces()
-    ensures { (layers : Layers) (depth : ℕ) (f : Forest) → trees_in (members layers depth f) ≡ definition_trees (pieces f) }
+    ensures { (layers : Layers) (depth : ℕ) (f : Forest) → trees_in (members layers depth f)
+        ≡ definition_trees (pieces f) }
 {}
 
 /// Ids that are given in turn tell trees apart: each entry has its own: `apart`, `entries`. Trees
 /// that get ids are among the entries, those that had one keep it, and as many new ones are given
 /// as are needed: `known`, `kept`, `given`.
 fn ids_tell_trees_apart()
-    ensures apart { (n : Numbering) → AreEntries n.given n.entries → TellsApart (number_of n.entries) (map tree_of n.entries) }
-    ensures entries { (n : Numbering) (trees : List Forest) → AreEntries n.given n.entries → AreEntries (with_trees n trees).given (with_trees n trees).entries }
-    ensures known { (n : Numbering) (trees : List Forest) → All (Contains (map tree_of (with_trees n trees).entries)) trees }
-    ensures kept { (n : Numbering) (trees : List Forest) (t : Forest) (k : ℕ) → number_in n.entries t ≡ Some k → number_in (with_trees n trees).entries t ≡ Some k }
-    ensures given { (n : Numbering) (trees : List Forest) → (with_trees n trees).given ≡ n.given + needed (map tree_of n.entries) trees }
+    ensures apart { (n : Numbering) → AreEntries n.given n.entries →
+        TellsApart (number_of n.entries) (map tree_of n.entries) }
+    ensures entries { (n : Numbering) (trees : List Forest) → AreEntries n.given n.entries →
+        AreEntries (with_trees n trees).given (with_trees n trees).entries }
+    ensures known { (n : Numbering) (trees : List Forest) →
+        All (Contains (map tree_of (with_trees n trees).entries)) trees }
+    ensures kept { (n : Numbering) (trees : List Forest) (t : Forest) (k : ℕ) →
+        number_in n.entries t ≡ Some k → number_in (with_trees n trees).entries t ≡ Some k }
+    ensures given { (n : Numbering) (trees : List Forest) → (with_trees n trees).given
+        ≡ n.given + needed (map tree_of n.entries) trees }
 {
     equal_pieces();
 }
@@ -505,7 +635,8 @@ fn ids_tell_trees_apart()
 /// A session that has given no id yet, as a new one, over a prelude and a text that have fewer than
 /// 2^32 definitions and bytes together, never refuses with `Numbers`.
 pub fn a_first_reply_lacks_no_ids<G: FragmentGrammar>()
-    ensures { (s : State G) → IsUtf8 s.text → length s.prelude + length s.text < 2 ^ 32 → s.given ≡ 0 → s.trees ≡ [] →
+    ensures { (s : State G) → IsUtf8 s.text → length s.prelude + length s.text < 2 ^ 32 → s.given
+        ≡ 0 → s.trees ≡ [] →
         HasCause (layers_of G.answer s) s Numbers → ⊥ }
 {
     definitions_are_no_more_than_bytes();
@@ -514,15 +645,19 @@ pub fn a_first_reply_lacks_no_ids<G: FragmentGrammar>()
 /// The cache stays right from one text that was read to the next, with the ids of the present
 /// text's definitions: `turn`, `held`, `entries`.
 fn caches_stay_valid()
-    ensures turn { (grammar : Grammar) (edition : Edition) (depth : ℕ) (n : Numbering) (held : List HeldPiece) (text : List ℕ) (f : Forest) →
+    ensures turn { (grammar : Grammar) (edition : Edition) (depth : ℕ) (n : Numbering)
+        (held : List HeldPiece) (text : List ℕ) (f : Forest) →
         IsNext (world grammar edition) depth n held text f →
         IsTurn (world grammar edition) depth text f (number_of (numbering_of n f).entries) (map tree_of (numbering_of n f).entries) held }
-    ensures held { (grammar : Grammar) (edition : Edition) (depth : ℕ) (n : Numbering) (held : List HeldPiece) (text : List ℕ) (f : Forest) →
+    ensures held { (grammar : Grammar) (edition : Edition) (depth : ℕ) (n : Numbering)
+        (held : List HeldPiece) (text : List ℕ) (f : Forest) →
         IsNext (world grammar edition) depth n held text f →
         All (IsHeld (world grammar edition) depth (InEntries (kept_entries n f)))
         (filter_map held_of (taken_after (world grammar edition) depth (number_of (numbering_of n f).entries) held [] (pieces f))) }
-    ensures entries { (grammar : Grammar) (edition : Edition) (depth : ℕ) (n : Numbering) (held : List HeldPiece) (text : List ℕ) (f : Forest) →
-        IsNext (world grammar edition) depth n held text f → AreEntries (numbering_of n f).given (kept_entries n f) }
+    ensures entries { (grammar : Grammar) (edition : Edition) (depth : ℕ) (n : Numbering)
+        (held : List HeldPiece) (text : List ℕ) (f : Forest) →
+        IsNext (world grammar edition) depth n held text f →
+        AreEntries (numbering_of n f).given (kept_entries n f) }
 {
     mbe_rules::laws::rules_at_other_places();
     mbe::laws::fit_at_other_places();
@@ -544,7 +679,8 @@ pub fn faults_are_put_in_order()
 /// and both sessions then expand it and reply, the replies show the same printed text, faults and
 /// origins, or the same reading fault.
 pub fn the_text_alone_decides()
-    ensures { (layers : Layers) (depth : ℕ) (one two : List ℕ) (ones twos : List Command) (first second : List Answer) (reply other : Reply) →
+    ensures { (layers : Layers) (depth : ℕ) (one two : List ℕ) (ones twos : List Command)
+        (first second : List Answer) (reply other : Reply) →
         AreAnswers layers depth one [] (ones ++ Expand ∷ []) (first ++ Replied reply ∷ []) →
         AreAnswers layers depth two [] (twos ++ Expand ∷ []) (second ++ Replied other ∷ []) →
         last_text one ones first ≡ last_text two twos second → ShowTheSame reply other }
@@ -554,10 +690,14 @@ pub fn the_text_alone_decides()
 /// after the same prelude, and have one text after any edits and replies, their replies show the
 /// same.
 pub fn one_text_of_two_sessions_decides<G: FragmentGrammar>()
-    ensures { (one two first second after behind : State G) (calls others : List SessionCall) (reply other : Reply) →
-        layers_of G.answer one ≡ layers_of G.answer two → one.depth ≡ two.depth → one.prelude ≡ two.prelude →
-        IsAfter G.answer one calls first → IsAfter G.answer two others second → first.text ≡ second.text →
-        Replies (layers_of G.answer first) first after reply → Replies (layers_of G.answer second) second behind other → ShowTheSame reply other }
+    ensures { (one two first second after behind : State G) (calls others : List SessionCall)
+        (reply other : Reply) →
+        layers_of G.answer one ≡ layers_of G.answer two → one.depth ≡ two.depth → one.prelude
+        ≡ two.prelude →
+        IsAfter G.answer one calls first → IsAfter G.answer two others second → first.text
+        ≡ second.text →
+        Replies (layers_of G.answer first) first after reply →
+        Replies (layers_of G.answer second) second behind other → ShowTheSame reply other }
 {}
 
 /// Two answers are equal by `==` exactly where they are the same, ranges included.

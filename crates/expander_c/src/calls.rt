@@ -37,7 +37,9 @@ pub(crate) fn open(
 
 /// The length of the text, and the text itself, copied to the beginning of the room.
 pub(crate) fn text(alloc: Global, handle: &mut Handle, room: &mut [u8], len: &mut usize) -> Code
-    ensures { Looks ((room.new ≡ room.old) × (len.new ≡ len.old)) (TextTold room.old room.new len.new) handle.old.held handle.new.held result }
+    ensures { Looks ((room.new ≡ room.old)
+        × (len.new ≡ len.old)) (TextTold room.old room.new len.new) handle.old.held
+        handle.new.held result }
 {
     let Some(live) = handle.take(alloc) else {
         return Code::Closed;
@@ -51,7 +53,8 @@ pub(crate) fn text(alloc: Global, handle: &mut Handle, room: &mut [u8], len: &mu
 
 /// Whether the offset is a character boundary of the text.
 pub(crate) fn is_boundary(alloc: Global, handle: &mut Handle, at: usize) -> Code
-    ensures { Looks ⊤ (λ live. BoundaryTold live.session.text at) handle.old.held handle.new.held result }
+    ensures { Looks ⊤ (λ live. BoundaryTold live.session.text at) handle.old.held
+        handle.new.held result }
 {
     let Some(live) = handle.take(alloc) else {
         return Code::Closed;
@@ -63,7 +66,8 @@ pub(crate) fn is_boundary(alloc: Global, handle: &mut Handle, at: usize) -> Code
 
 /// Whether `len` bytes can replace those from `start` to `end`.
 pub(crate) fn fits(alloc: Global, handle: &mut Handle, start: usize, end: usize, len: usize) -> Code
-    ensures { Looks ⊤ (λ live. FitTold live.session.text start «end» len) handle.old.held handle.new.held result }
+    ensures { Looks ⊤ (λ live. FitTold live.session.text start «end» len) handle.old.held
+        handle.new.held result }
 {
     let Some(live) = handle.take(alloc) else {
         return Code::Closed;
@@ -105,7 +109,9 @@ pub(crate) fn expand(alloc: Global, handle: &mut Handle) -> Code
 
 /// How much the expansion has.
 pub(crate) fn counts(alloc: Global, handle: &mut Handle, into: &mut Counts) -> Code
-    ensures { Looks (into.new ≡ into.old) (λ live. OfExpansion CountsTold into.old into.new live.answer) handle.old.held handle.new.held result }
+    ensures { Looks (into.new ≡ into.old) (λ live.
+        OfExpansion CountsTold into.old into.new live.answer) handle.old.held
+        handle.new.held result }
 {
     let Some(live) = handle.take(alloc) else {
         return Code::Closed;
@@ -117,7 +123,9 @@ pub(crate) fn counts(alloc: Global, handle: &mut Handle, into: &mut Counts) -> C
 
 /// The printed text, copied to the beginning of the room.
 pub(crate) fn printed(alloc: Global, handle: &mut Handle, room: &mut [u8]) -> Code
-    ensures { Looks (room.new ≡ room.old) (λ live. OfExpansion PrintedTold room.old room.new live.answer) handle.old.held handle.new.held result }
+    ensures { Looks (room.new ≡ room.old) (λ live.
+        OfExpansion PrintedTold room.old room.new live.answer) handle.old.held
+        handle.new.held result }
 {
     let Some(live) = handle.take(alloc) else {
         return Code::Closed;
@@ -129,7 +137,9 @@ pub(crate) fn printed(alloc: Global, handle: &mut Handle, room: &mut [u8]) -> Co
 
 /// The fault of this index.
 pub(crate) fn fault(alloc: Global, handle: &mut Handle, index: usize, into: &mut ToldFault) -> Code
-    ensures { Looks (into.new ≡ into.old) (λ live. OfExpansion (FaultTold index) into.old into.new live.answer) handle.old.held handle.new.held result }
+    ensures { Looks (into.new ≡ into.old) (λ live.
+        OfExpansion (FaultTold index) into.old into.new live.answer) handle.old.held
+        handle.new.held result }
 {
     let Some(live) = handle.take(alloc) else {
         return Code::Closed;
@@ -141,7 +151,8 @@ pub(crate) fn fault(alloc: Global, handle: &mut Handle, index: usize, into: &mut
 
 /// The reading fault.
 pub(crate) fn reading_fault(alloc: Global, handle: &mut Handle, into: &mut ToldFault) -> Code
-    ensures { Looks (into.new ≡ into.old) (λ live. ReadingFaultTold into.old into.new live.answer) handle.old.held handle.new.held result }
+    ensures { Looks (into.new ≡ into.old) (λ live. ReadingFaultTold into.old into.new live.answer)
+        handle.old.held handle.new.held result }
 {
     let Some(live) = handle.take(alloc) else {
         return Code::Closed;
@@ -153,7 +164,9 @@ pub(crate) fn reading_fault(alloc: Global, handle: &mut Handle, into: &mut ToldF
 
 /// Where the printed tokens come from in the text, copied to the beginning of the room.
 pub(crate) fn origins(alloc: Global, handle: &mut Handle, room: &mut [ByteRange]) -> Code
-    ensures { Looks (room.new ≡ room.old) (λ live. OfExpansion OriginsTold room.old room.new live.answer) handle.old.held handle.new.held result }
+    ensures { Looks (room.new ≡ room.old) (λ live.
+        OfExpansion OriginsTold room.old room.new live.answer) handle.old.held
+        handle.new.held result }
 {
     let Some(live) = handle.take(alloc) else {
         return Code::Closed;
@@ -165,7 +178,9 @@ pub(crate) fn origins(alloc: Global, handle: &mut Handle, room: &mut [ByteRange]
 
 /// Where the printed tokens are in the printed text, copied to the beginning of the room.
 pub(crate) fn token_ranges(alloc: Global, handle: &mut Handle, room: &mut [ByteRange]) -> Code
-    ensures { Looks (room.new ≡ room.old) (λ live. OfExpansion TokenRangesTold room.old room.new live.answer) handle.old.held handle.new.held result }
+    ensures { Looks (room.new ≡ room.old) (λ live.
+        OfExpansion TokenRangesTold room.old room.new live.answer) handle.old.held
+        handle.new.held result }
 {
     let Some(live) = handle.take(alloc) else {
         return Code::Closed;

@@ -44,7 +44,9 @@ pub extern "C" fn expander_raw_text(
     room: &mut [u8],
     len: &mut usize,
 ) -> u32
-    ensures { Tells (Looks ((room.new ≡ room.old) × (len.new ≡ len.old)) (TextTold room.old room.new len.new) handle.old.held handle.new.held) result }
+    ensures { Tells (Looks ((room.new ≡ room.old)
+        × (len.new ≡ len.old)) (TextTold room.old room.new len.new) handle.old.held
+        handle.new.held) result }
 {
     calls::text(alloc, handle, room, len).number()
 }
@@ -52,7 +54,8 @@ pub extern "C" fn expander_raw_text(
 /// Whether the offset is a character boundary of the text.
 #[unsafe(no_mangle)]
 pub extern "C" fn expander_raw_is_boundary(alloc: Global, handle: &mut Handle, at: usize) -> u32
-    ensures { Tells (Looks ⊤ (λ live. BoundaryTold live.session.text at) handle.old.held handle.new.held) result }
+    ensures { Tells (Looks ⊤ (λ live. BoundaryTold live.session.text at) handle.old.held
+        handle.new.held) result }
 {
     calls::is_boundary(alloc, handle, at).number()
 }
@@ -66,7 +69,8 @@ pub extern "C" fn expander_raw_fits(
     end: usize,
     len: usize,
 ) -> u32
-    ensures { Tells (Looks ⊤ (λ live. FitTold live.session.text start «end» len) handle.old.held handle.new.held) result }
+    ensures { Tells (Looks ⊤ (λ live. FitTold live.session.text start «end» len) handle.old.held
+        handle.new.held) result }
 {
     calls::fits(alloc, handle, start, end, len).number()
 }
@@ -80,7 +84,8 @@ pub extern "C" fn expander_raw_edit(
     end: usize,
     replacement: &[u8],
 ) -> u32
-    ensures { Tells (Told ⊤ (EditTold start «end» replacement.now) handle.old.held handle.new.held) result }
+    ensures { Tells (Told ⊤ (EditTold start «end» replacement.now) handle.old.held
+        handle.new.held) result }
 {
     calls::edit(alloc, handle, start, end, replacement).number()
 }
@@ -96,7 +101,9 @@ pub extern "C" fn expander_raw_expand(alloc: Global, handle: &mut Handle) -> u32
 /// How much the expansion has.
 #[unsafe(no_mangle)]
 pub extern "C" fn expander_raw_counts(alloc: Global, handle: &mut Handle, into: &mut Counts) -> u32
-    ensures { Tells (Looks (into.new ≡ into.old) (λ live. OfExpansion CountsTold into.old into.new live.answer) handle.old.held handle.new.held) result }
+    ensures { Tells (Looks (into.new ≡ into.old) (λ live.
+        OfExpansion CountsTold into.old into.new live.answer) handle.old.held
+        handle.new.held) result }
 {
     calls::counts(alloc, handle, into).number()
 }
@@ -104,7 +111,9 @@ pub extern "C" fn expander_raw_counts(alloc: Global, handle: &mut Handle, into: 
 /// The printed text, copied to the beginning of the room.
 #[unsafe(no_mangle)]
 pub extern "C" fn expander_raw_printed(alloc: Global, handle: &mut Handle, room: &mut [u8]) -> u32
-    ensures { Tells (Looks (room.new ≡ room.old) (λ live. OfExpansion PrintedTold room.old room.new live.answer) handle.old.held handle.new.held) result }
+    ensures { Tells (Looks (room.new ≡ room.old) (λ live.
+        OfExpansion PrintedTold room.old room.new live.answer) handle.old.held
+        handle.new.held) result }
 {
     calls::printed(alloc, handle, room).number()
 }
@@ -117,7 +126,9 @@ pub extern "C" fn expander_raw_fault(
     index: usize,
     into: &mut ToldFault,
 ) -> u32
-    ensures { Tells (Looks (into.new ≡ into.old) (λ live. OfExpansion (FaultTold index) into.old into.new live.answer) handle.old.held handle.new.held) result }
+    ensures { Tells (Looks (into.new ≡ into.old) (λ live.
+        OfExpansion (FaultTold index) into.old into.new live.answer) handle.old.held
+        handle.new.held) result }
 {
     calls::fault(alloc, handle, index, into).number()
 }
@@ -129,7 +140,8 @@ pub extern "C" fn expander_raw_reading_fault(
     handle: &mut Handle,
     into: &mut ToldFault,
 ) -> u32
-    ensures { Tells (Looks (into.new ≡ into.old) (λ live. ReadingFaultTold into.old into.new live.answer) handle.old.held handle.new.held) result }
+    ensures { Tells (Looks (into.new ≡ into.old) (λ live.
+        ReadingFaultTold into.old into.new live.answer) handle.old.held handle.new.held) result }
 {
     calls::reading_fault(alloc, handle, into).number()
 }
@@ -141,7 +153,9 @@ pub extern "C" fn expander_raw_origins(
     handle: &mut Handle,
     room: &mut [ByteRange],
 ) -> u32
-    ensures { Tells (Looks (room.new ≡ room.old) (λ live. OfExpansion OriginsTold room.old room.new live.answer) handle.old.held handle.new.held) result }
+    ensures { Tells (Looks (room.new ≡ room.old) (λ live.
+        OfExpansion OriginsTold room.old room.new live.answer) handle.old.held
+        handle.new.held) result }
 {
     calls::origins(alloc, handle, room).number()
 }
@@ -153,7 +167,9 @@ pub extern "C" fn expander_raw_token_ranges(
     handle: &mut Handle,
     room: &mut [ByteRange],
 ) -> u32
-    ensures { Tells (Looks (room.new ≡ room.old) (λ live. OfExpansion TokenRangesTold room.old room.new live.answer) handle.old.held handle.new.held) result }
+    ensures { Tells (Looks (room.new ≡ room.old) (λ live.
+        OfExpansion TokenRangesTold room.old room.new live.answer) handle.old.held
+        handle.new.held) result }
 {
     calls::token_ranges(alloc, handle, room).number()
 }

@@ -27,7 +27,14 @@ impl<'a> Model for Definition<'a> {
 
     ghost coded = { definition_code };
 
-    ghost view = { λ d. record { name = d.name; arguments = d.arguments; body = d.body; is_macro = d.is_macro; piece = d.piece } };
+    ghost view = { λ d. record {
+      name = d.name;
+      arguments = d.arguments;
+      body = d.body;
+      is_macro =
+          d.is_macro;
+      piece = d.piece;
+    } };
 }
 
 // What follows an outer attribute, if the list begins with one.

@@ -28,7 +28,8 @@ impl Model for HashedTree {
 
     ghost view = { λ t. t.tree };
 
-    ghost invariant = { λ t. (t.hash ≡ tree_hash t.tree) × (t.is_definition ≡ is_some (definition_of t.tree.inner)) };
+    ghost invariant = { λ t. (t.hash ≡ tree_hash t.tree)
+        × (t.is_definition ≡ is_some (definition_of t.tree.inner)) };
 }
 
 // The hash of a tree, by the fast hasher of the standard library.
@@ -104,7 +105,8 @@ impl Hash for HashedTree {
 
     ghost hash_input = { λ t. fed.u64 (tree_hash t) };
 
-    ghost respects_eq = { λ a b e. ap (λ writes. fed.u64 (hash_of writes)) (tree_laws.respects_eq-law a b e) };
+    ghost respects_eq = { λ a b e. ap (λ writes.
+        fed.u64 (hash_of writes)) (tree_laws.respects_eq-law a b e) };
 
     /// Feeds the hash that was computed once.
     fn hash<H: Hasher>(&self, state: &mut H) {

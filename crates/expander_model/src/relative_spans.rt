@@ -87,7 +87,9 @@ fn tokens_from(
     len: u32,
     piece: &TtIter<'_>,
 ) -> Result<Vec<TokenTree>, AllocError>
-    ensures { IfOk result (λ tokens. tokens.items ≡ token.Subtree (record { delimiter = text_top; len = len }) ∷ map (token_with (moved_back from)) (preorder piece.now)) }
+    ensures { IfOk result (λ tokens. tokens.items
+        ≡ token.Subtree (record { delimiter = text_top; len = len })
+        ∷ map (token_with (moved_back from)) (preorder piece.now)) }
 {
     let rest = piece.remaining();
     let mut tokens = Vec::with_capacity(alloc, rest.len().saturating_add(1))?;
@@ -102,7 +104,8 @@ fn tokens_from(
 /// A piece as a tree with piece-relative spans. It is a part of a tree, so it has no more tokens
 /// than a tree may have.
 pub fn own_tree(alloc: Global, piece: &TtIter<'_>) -> Result<TopSubtree, TtFault>
-    ensures tree { IfOk result (λ t. t ≡ record { delimiter = text_top; inner = relative piece.now }) }
+    ensures tree { IfOk result (λ t. t
+        ≡ record { delimiter = text_top; inner = relative piece.now }) }
     ensures memory { IsOkUnless result fault.Memory }
 {
     let Ok(len) = u32::try_from(piece.remaining().len()) else {

@@ -78,7 +78,8 @@ pub(crate) struct Put {
 
 // Each `;` of the tree's top list, with spacing `Alone`.
 fn ends_alone(alloc: Global, tree: &TopSubtree) -> Result<Vec<Put>, AllocError>
-    ensures { IfOk result (λ puts. put_all puts.items (tokens_of tree.now) ≡ tokens_of (record tree.now { inner = separated tree.now.inner })) }
+    ensures { IfOk result (λ puts. put_all puts.items (tokens_of tree.now)
+        ≡ tokens_of (record tree.now { inner = separated tree.now.inner })) }
 {
     let mut puts = Vec::new(alloc);
     let mut rest = tree.token_trees().iter();

@@ -60,7 +60,12 @@ impl<'a> TreeWalk<'a> {
     fn enter(&mut self, brackets: Delimiter, inside: TtIter<'a>) -> Result<(), AllocError>
         ensures here { OnOk result (self.new.here ≡ inside.entry) }
         ensures groups { OnOk result (groups_of self.new
-            ≡ record { kind = brackets.kind; close_span = brackets.close_span; behind = self.old.here } ∷ groups_of self.old) }
+            ≡ record {
+              kind = brackets.kind;
+              close_span = brackets.close_span;
+              behind =
+                  self.old.here;
+            } ∷ groups_of self.old) }
     {
         let behind = replace(&mut self.here, inside);
         self.around.push(Around {

@@ -84,7 +84,9 @@ fn read_piece(
     requires small { length text.now < 2 ^ 32 }
     requires tokens { AreTokensFrom text.now at tokens.now }
     requires within { count ≤ length tokens.now }
-    ensures read { IfOk result (λ tree. IfSome tree (λ p. IsReadPiece (part_steps 0 count (drop at text.now) tokens.now) p.0 p.1)) }
+    ensures read { IfOk result (λ tree.
+        IfSome tree (λ p. IsReadPiece (part_steps 0 count (drop at text.now) tokens.now)
+        p.0 p.1)) }
     ensures memory { IsOkUnless result fault.Memory }
 {
     let mut tree = match read_part(names, text, at, tokens, count) {
@@ -113,7 +115,8 @@ fn source_of(
     after: &[Token],
     tree: TopSubtree,
 ) -> Result<Rc<CachedPiece>, AllocError>
-    ensures { (behind : List ℕ) → chars_ahead ahead ≡ take 2 (chars behind) → IfOk result (λ q. KeepsCached bytes behind count after.now tree (rc_value q)) }
+    ensures { (behind : List ℕ) → chars_ahead ahead ≡ take 2 (chars behind) →
+        IfOk result (λ q. KeepsCached bytes behind count after.now tree (rc_value q)) }
 {
     let mark = begins_with_mark(after);
     let tree = match Rc::new(alloc, HashedTree::new(tree)) {
@@ -145,7 +148,8 @@ fn read_source(
     requires small { length text.now < 2 ^ 32 }
     requires tokens { AreTokensFrom text.now at tokens.now }
     requires words { HoldsText context.now.words text.now }
-    ensures found { IfOk result (λ found. IfSome found (λ q. IsCachedHere (drop at text.now) tokens.now (rc_value q))) }
+    ensures found { IfOk result (λ found.
+        IfSome found (λ q. IsCachedHere (drop at text.now) tokens.now (rc_value q))) }
     ensures memory { IsOkUnless result fault.Memory }
 {
     bridge::laws::parts_of_a_text();
@@ -283,8 +287,10 @@ fn pass_one(
     requires passing { IsReparse context.now.held.now text.now at left.now now.old }
     ensures passing { IfOk result (λ size. IfSome size
         (λ n. IsReparse context.now.held.now text.now (at + n.0) (drop n.1 left.now) now.new)) }
-    ensures shorter { IfOk result (λ size. IfSome size (λ n. length (drop n.1 left.now) < length left.now)) }
-    ensures none { IfOk result (λ size. size ≡ None → IsReparse context.now.held.now text.now at left.now now.new) }
+    ensures shorter { IfOk result (λ size.
+        IfSome size (λ n. length (drop n.1 left.now) < length left.now)) }
+    ensures none { IfOk result (λ size. size ≡ None →
+        IsReparse context.now.held.now text.now at left.now now.new) }
     ensures kept { OnOk result (AreRight recent.new.pieces.items) }
     ensures memory { IsOkUnless result fault.Memory }
 {
@@ -323,8 +329,10 @@ fn pass_next(
     requires passing { IsReparse context.now.held.now text.now at left.now now.old }
     ensures passing { IfOk result (λ size. IfSome size
         (λ n. IsReparse context.now.held.now text.now (at + n.0) (drop n.1 left.now) now.new)) }
-    ensures shorter { IfOk result (λ size. IfSome size (λ n. length (drop n.1 left.now) < length left.now)) }
-    ensures none { IfOk result (λ size. size ≡ None → IsReparse context.now.held.now text.now at left.now now.new) }
+    ensures shorter { IfOk result (λ size.
+        IfSome size (λ n. length (drop n.1 left.now) < length left.now)) }
+    ensures none { IfOk result (λ size. size ≡ None →
+        IsReparse context.now.held.now text.now at left.now now.new) }
     ensures kept { OnOk result (AreRight recent.new.pieces.items) }
     ensures memory { IsOkUnless result fault.Memory }
 {
@@ -348,9 +356,11 @@ fn with_last(
     requires small { length text.now < 2 ^ 32 }
     requires words { HoldsText context.now.words text.now }
     requires passing { (held : Segments) × IsReparse held text.now at left.now now }
-    ensures read { IfOk result (λ read. IfSome read (λ p. IsReadInPieces text.now (Pieces p.0 p.1))) }
+    ensures read { IfOk result (λ read.
+        IfSome read (λ p. IsReadInPieces text.now (Pieces p.0 p.1))) }
     ensures theirs { IfOk result (λ read. IfSome read (λ p. AreTheirs p.1 p.0.items)) }
-    ensures met { (held : Segments) → AreMet held now.own.items → IfOk result (λ read. IfSome read (λ p. AreMet held p.0.items)) }
+    ensures met { (held : Segments) → AreMet held now.own.items →
+        IfOk result (λ read. IfSome read (λ p. AreMet held p.0.items)) }
     ensures memory { IsOkUnless result fault.Memory }
 {
     bridge::laws::parts_of_a_text();
@@ -385,7 +395,8 @@ pub(crate) fn read_by_pieces(
     requires small { length text.now < 2 ^ 32 }
     requires tokens { tokens.now ≡ tokens_of (chars text.now) }
     requires right { AreSegments held.now }
-    ensures read { IfOk result (λ read. IfSome read (λ p. IsReadInPieces text.now (Pieces p.0 p.1))) }
+    ensures read { IfOk result (λ read.
+        IfSome read (λ p. IsReadInPieces text.now (Pieces p.0 p.1))) }
     ensures theirs { IfOk result (λ read. IfSome read (λ p. AreTheirs p.1 p.0.items)) }
     ensures met { IfOk result (λ read. IfSome read (λ p. AreMet held.now p.0.items)) }
     ensures memory { IsOkUnless result fault.Memory }

@@ -82,8 +82,10 @@ fn seek_far(
     tokens: &[Token],
 ) -> Result<Option<(usize, Rc<CachedPiece>)>, TtFault>
     requires { AreSegments held.now }
-    ensures found { IfOk result (λ found. IfSome found (λ p. IsCachedHere text.now tokens.now (rc_value p.1))) }
-    ensures number { IfOk result (λ found. IfSome found (λ p. IsHeldAt held.now p.0 (rc_value p.1))) }
+    ensures found { IfOk result (λ found.
+        IfSome found (λ p. IsCachedHere text.now tokens.now (rc_value p.1))) }
+    ensures number { IfOk result (λ found.
+        IfSome found (λ p. IsHeldAt held.now p.0 (rc_value p.1))) }
     ensures memory { IsOkUnless result fault.Memory }
 {
     let from = seeker.next.saturating_add(TRIED);
@@ -111,8 +113,10 @@ pub(crate) fn seek_cached(
     tokens: &[Token],
 ) -> Result<Option<(usize, Rc<CachedPiece>)>, TtFault>
     requires { AreSegments held.now }
-    ensures found { IfOk result (λ found. IfSome found (λ p. IsCachedHere text.now tokens.now (rc_value p.1))) }
-    ensures number { IfOk result (λ found. IfSome found (λ p. IsHeldAt held.now p.0 (rc_value p.1))) }
+    ensures found { IfOk result (λ found.
+        IfSome found (λ p. IsCachedHere text.now tokens.now (rc_value p.1))) }
+    ensures number { IfOk result (λ found.
+        IfSome found (λ p. IsHeldAt held.now p.0 (rc_value p.1))) }
     ensures memory { IsOkUnless result fault.Memory }
 {
     seeker.saved = seeker.saved.saturating_add(TRIED);

@@ -237,8 +237,10 @@ pub(crate) fn find_cached(
     tried: usize,
 ) -> Result<Option<(usize, Rc<CachedPiece>)>, TtFault>
     requires { AreSegments held.now }
-    ensures found { IfOk result (λ found. IfSome found (λ p. IsCachedHere text.now tokens.now (rc_value p.1))) }
-    ensures number { IfOk result (λ found. IfSome found (λ p. IsHeldAt held.now p.0 (rc_value p.1))) }
+    ensures found { IfOk result (λ found.
+        IfSome found (λ p. IsCachedHere text.now tokens.now (rc_value p.1))) }
+    ensures number { IfOk result (λ found.
+        IfSome found (λ p. IsHeldAt held.now p.0 (rc_value p.1))) }
     ensures memory { IsOkUnless result fault.Memory }
 {
     for i in next..next.saturating_add(tried) {

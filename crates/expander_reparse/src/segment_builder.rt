@@ -62,7 +62,8 @@ pub(crate) struct Reparse {
 
 // A segment that begins at offset `from`, after `first` pieces, where these tokens remain.
 fn begin(alloc: Global, first: usize, from: u32, left: &[Token]) -> OpenSegment
-    ensures begun { (text : List ℕ) → AreTokensFrom text from left.now → IsBegun text from left.now result }
+    ensures begun { (text : List ℕ) → AreTokensFrom text from left.now →
+        IsBegun text from left.now result }
     ensures first { result.first ≡ first }
     ensures parts { result.parts.items ≡ [] }
 {
@@ -143,8 +144,11 @@ fn segment_of(
 fn push_parts(own: &mut Vec<Piece>, at: u32, held: &CachedSegment) -> Result<(), AllocError>
     requires within { at + length (rc_value held.now.segment).cutout.bytes < 2 ^ 32 }
     requires right { IsSegment (rc_value held.now.segment) }
-    ensures own { OnOk result (AddsPieces (map (part_shown at) (rc_value held.now.segment).parts.items) own.old.items own.new.items) }
-    ensures met { (sources : Segments) → IsCachedSegment sources held.now → AreMet sources own.old.items → OnOk result (AreMet sources own.new.items) }
+    ensures own { OnOk result (AddsPieces
+        (map (part_shown at) (rc_value held.now.segment).parts.items) own.old.items
+        own.new.items) }
+    ensures met { (sources : Segments) → IsCachedSegment sources held.now →
+        AreMet sources own.old.items → OnOk result (AreMet sources own.new.items) }
 {
     let parts = held.segment.as_ref().parts.as_slice();
     for i in 0..parts.len() {
@@ -162,7 +166,9 @@ impl Reparse {
     /// Before anything of a text with these tokens is read. There is room for one piece and one
     /// segment more than are cached.
     pub fn new(alloc: Global, held: &Segments, tokens: &[Token]) -> Result<Self, AllocError>
-        ensures { (text : List ℕ) → AreTokensFrom text 0 tokens.now → tokens.now ≡ tokens_of (chars text) → IfOk result (λ now. IsReparse held.now text 0 tokens.now now) }
+        ensures { (text : List ℕ) → AreTokensFrom text 0 tokens.now → tokens.now
+            ≡ tokens_of (chars text) → IfOk result (λ now.
+            IsReparse held.now text 0 tokens.now now) }
     {
         let own = Vec::with_capacity(alloc, held.len().saturating_add(1))?;
         let list = Vec::with_capacity(alloc, held.list.len().saturating_add(1))?;
@@ -182,8 +188,10 @@ impl Reparse {
         met: Option<usize>,
     ) -> Result<(), AllocError>
         requires { self.old.begun.from ≤ at }
-        ensures own { OnOk result (AddsPieces ((at, rc_value (rc_value source).tree) ∷ []) self.old.own.items self.new.own.items) }
-        ensures met { (held : Segments) → IsMet held met (rc_value (rc_value source).tree) → AreMet held self.old.own.items → OnOk result (AreMet held self.new.own.items) }
+        ensures own { OnOk result (AddsPieces ((at, rc_value (rc_value source).tree)
+            ∷ []) self.old.own.items self.new.own.items) }
+        ensures met { (held : Segments) → IsMet held met (rc_value (rc_value source).tree) →
+            AreMet held self.old.own.items → OnOk result (AreMet held self.new.own.items) }
         ensures begun { OnOk result (TakesPart at source self.old.begun self.new.begun) }
         ensures list { OnOk result (self.new.list ≡ self.old.list) }
     {
@@ -212,7 +220,8 @@ impl Reparse {
         requires begun { IsBegun text.now at left.now self.old.begun }
         requires here { AreTokensFrom text.now at left.now }
         requires apart { run_on (take at text.now) (drop at text.now) ≡ 0 }
-        ensures passing { (held : Segments) → IsReparse held text.now at left.now self.old → OnOk result (IsReparse held text.now at left.now self.new) }
+        ensures passing { (held : Segments) → IsReparse held text.now at left.now self.old →
+            OnOk result (IsReparse held text.now at left.now self.new) }
         ensures none { OnOk result (self.new.begun.parts.items ≡ []) }
         ensures own { OnOk result (self.new.own ≡ self.old.own) }
     {
@@ -239,7 +248,8 @@ impl Reparse {
         requires words { HoldsText words.now text.now }
         requires begun { IsBegun text.now at left.now self.old.begun }
         requires here { AreTokensFrom text.now at left.now }
-        ensures { (held : Segments) → IsReparse held text.now at left.now self.old → OnOk result (IsReparse held text.now at left.now self.new) }
+        ensures { (held : Segments) → IsReparse held text.now at left.now self.old →
+            OnOk result (IsReparse held text.now at left.now self.new) }
     {
         if self.begun.parts.len() < MOST {
             return Ok(());
@@ -262,10 +272,15 @@ impl Reparse {
     ) -> Result<(), AllocError>
         requires within { at + length (rc_value held.now.segment).cutout.bytes < 2 ^ 32 }
         requires right { IsSegment (rc_value held.now.segment) }
-        ensures own { OnOk result (AddsPieces (map (part_shown at) (rc_value held.now.segment).parts.items) self.old.own.items self.new.own.items) }
-        ensures met { (sources : Segments) → IsCachedSegment sources held.now → AreMet sources self.old.own.items → OnOk result (AreMet sources self.new.own.items) }
-        ensures list { OnOk result (AddsSegment (length self.old.own.items) (rc_value held.now.segment) self.old.list.items self.new.list.items) }
-        ensures begun { (text : List ℕ) → AreTokensFrom text «end» after.now → OnOk result (IsBegun text «end» after.now self.new.begun) }
+        ensures own { OnOk result (AddsPieces
+            (map (part_shown at) (rc_value held.now.segment).parts.items) self.old.own.items
+            self.new.own.items) }
+        ensures met { (sources : Segments) → IsCachedSegment sources held.now →
+            AreMet sources self.old.own.items → OnOk result (AreMet sources self.new.own.items) }
+        ensures list { OnOk result (AddsSegment (length self.old.own.items)
+            (rc_value held.now.segment) self.old.list.items self.new.list.items) }
+        ensures begun { (text : List ℕ) → AreTokensFrom text «end» after.now →
+            OnOk result (IsBegun text «end» after.now self.new.begun) }
         ensures first { OnOk result (self.new.begun.first ≡ length self.new.own.items) }
         ensures parts { OnOk result (self.new.begun.parts.items ≡ []) }
     {
@@ -294,8 +309,10 @@ pub(crate) fn take_segment(
     requires passing { IsReparse context.now.held.now text.now at left.now now.old }
     ensures passing { IfOk result (λ size. IfSome size
         (λ n. IsReparse context.now.held.now text.now (at + n.0) (drop n.1 left.now) now.new)) }
-    ensures shorter { IfOk result (λ size. IfSome size (λ n. length (drop n.1 left.now) < length left.now)) }
-    ensures none { IfOk result (λ size. size ≡ None → IsReparse context.now.held.now text.now at left.now now.new) }
+    ensures shorter { IfOk result (λ size.
+        IfSome size (λ n. length (drop n.1 left.now) < length left.now)) }
+    ensures none { IfOk result (λ size. size ≡ None →
+        IsReparse context.now.held.now text.now at left.now now.new) }
 {
     laws::next_token();
     bridge::laws::reading_behind();

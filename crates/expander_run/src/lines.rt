@@ -124,7 +124,8 @@ pub(crate) fn stop_line(stop: Stop) -> &'static str
 
 /// Adds a line: a position, and what is wrong there.
 pub fn push_line(lines: &mut String, spot: Spot, what: &str) -> Result<(), AllocError>
-    ensures { OnOk result (string_bytes lines.new ≡ string_bytes lines.old ++ line spot.line spot.column what.now) }
+    ensures { OnOk result (string_bytes lines.new ≡ string_bytes lines.old
+        ++ line spot.line spot.column what.now) }
 {
     let Spot {
         line,

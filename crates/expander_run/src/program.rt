@@ -53,7 +53,8 @@ pub fn run<R: Read, W: Write, E: Write>(
     requires faults_fresh { faults.old.failed ≡ false }
     ensures runs { (stop : Option Stop) × Runs stop (R.remaining reader.old.inner) depth
         (Appends (W.contents writer.old.inner) (W.contents writer.new.inner))
-        (Appends (E.contents faults.old.inner) (E.contents faults.new.inner)) reader.new writer.old writer.new faults.new result }
+        (Appends (E.contents faults.old.inner) (E.contents faults.new.inner)) reader.new writer.old
+        writer.new faults.new result }
     ensures untold { result ≡ status 0 → faults.new ≡ faults.old }
 {
     let options = Options {
@@ -79,9 +80,11 @@ pub fn run_with<G: FragmentGrammar + Drop, R: Read, W: Write, E: Write>(
     requires reader_fresh { reader.old.failed ≡ false }
     requires writer_fresh { writer.old.failed ≡ false }
     requires faults_fresh { faults.old.failed ≡ false }
-    ensures runs { (stop : Option Stop) × RunsBy (layers_of G.answer options) stop (R.remaining reader.old.inner) options.depth
+    ensures runs { (stop : Option Stop)
+        × RunsBy (layers_of G.answer options) stop (R.remaining reader.old.inner) options.depth
         (Appends (W.contents writer.old.inner) (W.contents writer.new.inner))
-        (Appends (E.contents faults.old.inner) (E.contents faults.new.inner)) reader.new writer.old writer.new faults.new result }
+        (Appends (E.contents faults.old.inner) (E.contents faults.new.inner)) reader.new writer.old
+        writer.new faults.new result }
     ensures untold { result ≡ status 0 → faults.new ≡ faults.old }
 {
     run_after(alloc, reader, writer, faults, options, Prelude::new(alloc))
@@ -103,9 +106,12 @@ pub fn run_after<G: FragmentGrammar + Drop, R: Read, W: Write, E: Write>(
     requires reader_fresh { reader.old.failed ≡ false }
     requires writer_fresh { writer.old.failed ≡ false }
     requires faults_fresh { faults.old.failed ≡ false }
-    ensures runs { (stop : Option Stop) × RunsAfter (layers_of G.answer options) prelude stop (R.remaining reader.old.inner) options.depth
+    ensures runs { (stop : Option Stop)
+        × RunsAfter (layers_of G.answer options) prelude stop (R.remaining reader.old.inner)
+        options.depth
         (Appends (W.contents writer.old.inner) (W.contents writer.new.inner))
-        (Appends (E.contents faults.old.inner) (E.contents faults.new.inner)) reader.new writer.old writer.new faults.new result }
+        (Appends (E.contents faults.old.inner) (E.contents faults.new.inner)) reader.new writer.old
+        writer.new faults.new result }
     ensures untold { result ≡ status 0 → faults.new ≡ faults.old }
 {
     match answer_input(alloc, reader, options, prelude) {
@@ -133,9 +139,13 @@ fn answer_input<G: FragmentGrammar + Drop, R: Read>(
     prelude: Prelude,
 ) -> Result<(Reply, String), Stop>
     requires { reader.old.failed ≡ false }
-    ensures replied { IfOk result (λ answer. Replied (layers_of G.answer options) prelude (R.remaining reader.old.inner) options.depth answer.0 (string_bytes answer.1)) }
+    ensures replied { IfOk result (λ answer.
+        Replied (layers_of G.answer options) prelude (R.remaining reader.old.inner) options.depth
+        answer.0 (string_bytes answer.1)) }
     ensures read { IfOk result (λ answer. reader.new.failed ≡ false) }
-    ensures stopped { IfErr result (λ stop. StopsEarly (layers_of G.answer options) prelude stop (R.remaining reader.old.inner) options.depth reader.new.failed) }
+    ensures stopped { IfErr result (λ stop.
+        StopsEarly (layers_of G.answer options) prelude stop (R.remaining reader.old.inner)
+        options.depth reader.new.failed) }
 {
     let bytes = read_all(alloc, reader)?;
     let text = std::str::from_utf8(bytes.as_slice()).map_err(|_| Stop::NotUtf8)?;
@@ -150,10 +160,14 @@ fn expanded<G: FragmentGrammar + Drop>(
     prelude: Prelude,
 ) -> Result<Reply, Refusal>
     requires { length text.now < 2 ^ 32 }
-    ensures reply { IfOk result (IsReplyIn (layers_of G.answer options) options.depth (definitions_of prelude) text.now None) }
-    ensures tokens { result ≡ Err Refusal.Tokens → NeedsTooManyIn (layers_of G.answer options) options.depth (definitions_of prelude) text.now }
+    ensures reply { IfOk result (IsReplyIn (layers_of G.answer options) options.depth
+        (definitions_of prelude) text.now None) }
+    ensures tokens { result ≡ Err Refusal.Tokens →
+        NeedsTooManyIn (layers_of G.answer options) options.depth
+        (definitions_of prelude) text.now }
     ensures numbers { result ≡ Err Refusal.Numbers
-        → NeedsNumbersIn 0 [] prelude (meaning_in (layers_of G.answer options) options.depth (definitions_of prelude) text.now) }
+        → NeedsNumbersIn 0 [] prelude (meaning_in (layers_of G.answer options) options.depth
+        (definitions_of prelude) text.now) }
 {
     let Options {
         grammar,
@@ -174,10 +188,15 @@ fn answer<G: FragmentGrammar + Drop>(
     prelude: Prelude,
 ) -> Result<(Reply, String), Refusal>
     requires { length text.now < 2 ^ 32 }
-    ensures reply { IfOk result (λ answer. IsReplyIn (layers_of G.answer options) options.depth (definitions_of prelude) text.now None answer.0) }
+    ensures reply { IfOk result (λ answer.
+        IsReplyIn (layers_of G.answer options) options.depth (definitions_of prelude) text.now None
+        answer.0) }
     ensures told { IfOk result (λ answer. string_bytes answer.1 ≡ report text.now answer.0) }
-    ensures tokens { result ≡ Err Refusal.Tokens → NeedsTooManyIn (layers_of G.answer options) options.depth (definitions_of prelude) text.now }
-    ensures numbers { result ≡ Err Refusal.Numbers → NeedsIds (layers_of G.answer options) prelude options.depth text.now }
+    ensures tokens { result ≡ Err Refusal.Tokens →
+        NeedsTooManyIn (layers_of G.answer options) options.depth
+        (definitions_of prelude) text.now }
+    ensures numbers { result ≡ Err Refusal.Numbers →
+        NeedsIds (layers_of G.answer options) prelude options.depth text.now }
 {
     laws::definitions_are_no_more_than_bytes();
     let reply = expanded(alloc, text, options, prelude)?;
@@ -191,7 +210,8 @@ fn read_all<R: Read>(alloc: Global, reader: &mut Watched<R>) -> Result<Vec<u8>, 
     ensures whole { IfOk result (λ bytes. IsAllOf (R.remaining reader.old.inner) bytes.items) }
     ensures short { IfOk result (λ bytes. length bytes.items < 2 ^ 32) }
     ensures read { IfOk result (λ bytes. reader.new.failed ≡ false) }
-    ensures stopped { IfErr result (λ stop. StopsReading stop (R.remaining reader.old.inner) reader.new.failed) }
+    ensures stopped { IfErr result (λ stop.
+        StopsReading stop (R.remaining reader.old.inner) reader.new.failed) }
 {
     let mut bytes = Vec::new(alloc);
     let mut buf = [0u8; 4096];
@@ -213,7 +233,8 @@ fn read_all<R: Read>(alloc: Global, reader: &mut Watched<R>) -> Result<Vec<u8>, 
 /// writer, which has then taken the first of them.
 pub fn put<W: Write>(writer: &mut Watched<W>, bytes: &[u8]) -> bool
     requires { writer.old.failed ≡ false }
-    ensures { Puts (W.contents writer.old.inner) (W.contents writer.new.inner) writer.new bytes.now result }
+    ensures { Puts (W.contents writer.old.inner) (W.contents writer.new.inner) writer.new
+        bytes.now result }
 {
     let mut at = 0;
     while at < bytes.len() {
@@ -229,7 +250,8 @@ pub fn put<W: Write>(writer: &mut Watched<W>, bytes: &[u8]) -> bool
 // Whether what a reply prints was written and flushed.
 fn put_reply<W: Write>(writer: &mut Watched<W>, reply: &Reply) -> bool
     requires { writer.old.failed ≡ false }
-    ensures { PutsReply (W.contents writer.old.inner) (W.contents writer.new.inner) writer.old writer.new reply.now result }
+    ensures { PutsReply (W.contents writer.old.inner) (W.contents writer.new.inner) writer.old
+        writer.new reply.now result }
 {
     match reply {
         Reply::Read(expansion) => put(writer, expansion.printed().as_bytes()),
@@ -240,7 +262,8 @@ fn put_reply<W: Write>(writer: &mut Watched<W>, reply: &Reply) -> bool
 // Writes these lines, if there are any.
 fn tell<E: Write>(faults: &mut Watched<E>, told: &str)
     requires { faults.old.failed ≡ false }
-    ensures told { Tells told.now (Appends (E.contents faults.old.inner) (E.contents faults.new.inner)) faults.new }
+    ensures told { Tells told.now (Appends (E.contents faults.old.inner)
+        (E.contents faults.new.inner)) faults.new }
     ensures untold { length told.now ≡ 0 → faults.new ≡ faults.old }
 {
     if !told.is_empty() {

@@ -60,7 +60,8 @@ impl<T: Read> Read for Watched<T> {
 
     fn read(&mut self, buf: &mut [u8]) -> io::Result<usize>
         ensures bound { ReadsAtMost result buf.new }
-        ensures bytes { ReadConsumes (T.remaining self.old.inner) (T.remaining self.new.inner) result buf.new }
+        ensures bytes { ReadConsumes (T.remaining self.old.inner) (T.remaining self.new.inner)
+            result buf.new }
         ensures failed { self.new.failed ≡ (self.old.failed || is_error result) }
         ensures flushed { self.new.flushed ≡ false }
     {
@@ -78,7 +79,8 @@ impl<T: Write> Write for Watched<T> {
 
     fn write(&mut self, buf: &[u8]) -> io::Result<usize>
         ensures bound { WritesAtMost result buf.now }
-        ensures bytes { WriteAppends (T.contents self.old.inner) (T.contents self.new.inner) result buf.now }
+        ensures bytes { WriteAppends (T.contents self.old.inner) (T.contents self.new.inner)
+            result buf.now }
         ensures failed { self.new.failed ≡ (self.old.failed || is_bad_write buf.now result) }
         ensures flushed { self.new.flushed ≡ false }
     {

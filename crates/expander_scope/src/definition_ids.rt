@@ -39,7 +39,8 @@ impl DefinitionIds {
     // Adds a definition whose tree is in the interner already.
     fn push(&mut self, known: Rc<MacroDef>) -> Result<(), AllocError>
         ensures given { OnOk result (self.new.given ≡ self.old.given) }
-        ensures definitions { OnOk result (self.new.definitions.items ≡ self.old.definitions.items ++ known ∷ []) }
+        ensures definitions { OnOk result (self.new.definitions.items ≡ self.old.definitions.items
+            ++ known ∷ []) }
         ensures table { OnOk result (self.new.by_tree ≡ self.old.by_tree) }
     {
         self.definitions.push(known)?;
@@ -49,8 +50,10 @@ impl DefinitionIds {
     // Adds a definition, and interns its tree.
     fn put(&mut self, tree: Rc<HashedTree>, known: Rc<MacroDef>) -> Result<(), AllocError>
         ensures given { OnOk result (self.new.given ≡ self.old.given) }
-        ensures definitions { OnOk result (self.new.definitions.items ≡ self.old.definitions.items ++ known ∷ []) }
-        ensures table { OnOk result ((t : Top) → known_in self.new.by_tree t ≡ (if same_top tree.value t then Some known.value else known_in self.old.by_tree t)) }
+        ensures definitions { OnOk result (self.new.definitions.items ≡ self.old.definitions.items
+            ++ known ∷ []) }
+        ensures table { OnOk result ((t : Top) → known_in self.new.by_tree t
+            ≡ (if same_top tree.value t then Some known.value else known_in self.old.by_tree t)) }
     {
         self.by_tree.insert(tree, known.clone()?)?;
         self.definitions.push(known)?;
@@ -114,16 +117,24 @@ pub fn number(
     requires held { IfSome held (λ k. known_in old.now tree.value ≡ Some k.now.value) }
     requires old_table { IsTable old.now }
     requires table { IsTable now.old.by_tree }
-    ensures numbered { (given : ℕ) (known trees : List Forest) → HaveNumbers (numbers_in old.now) known → HasNumbered given old.now known trees now.old →
+    ensures numbered { (given : ℕ) (known trees : List Forest) →
+        HaveNumbers (numbers_in old.now) known → HasNumbered given old.now known trees now.old →
         OnOk result (HasNumbered given old.now known (trees ++ tree.value.inner ∷ []) now.new) }
     ensures tree { IfOk result (λ k. k.value.tree ≡ tree.value) }
-    ensures listed { IfOk result (λ k. definition_tops now.new.definitions.items ≡ definition_tops now.old.definitions.items ++ k.value.tree ∷ []) }
-    ensures number { IfOk result (λ k. numbers_in now.new.by_tree tree.value.inner ≡ Some k.value.number) }
-    ensures grows { OnOk result ((t : Forest) (n : ℕ) → numbers_in now.old.by_tree t ≡ Some n → numbers_in now.new.by_tree t ≡ Some n) }
-    ensures read { AllRead edition old.now → AllRead edition now.old.by_tree → IfOk result (λ k. IsRead edition k.value) }
-    ensures table_read { AllRead edition old.now → AllRead edition now.old.by_tree → OnOk result (AllRead edition now.new.by_tree) }
-    ensures cause { (given : ℕ) (known trees : List Forest) → HaveNumbers (numbers_in old.now) known → HasNumbered given old.now known trees now.old →
-        result ≡ Err Refusal.Numbers → 2 ^ 32 ≤ given + needed known (trees ++ tree.value.inner ∷ []) }
+    ensures listed { IfOk result (λ k. definition_tops now.new.definitions.items
+        ≡ definition_tops now.old.definitions.items ++ k.value.tree ∷ []) }
+    ensures number { IfOk result (λ k. numbers_in now.new.by_tree tree.value.inner
+        ≡ Some k.value.number) }
+    ensures grows { OnOk result ((t : Forest) (n : ℕ) → numbers_in now.old.by_tree t ≡ Some n →
+        numbers_in now.new.by_tree t ≡ Some n) }
+    ensures read { AllRead edition old.now → AllRead edition now.old.by_tree →
+        IfOk result (λ k. IsRead edition k.value) }
+    ensures table_read { AllRead edition old.now → AllRead edition now.old.by_tree →
+        OnOk result (AllRead edition now.new.by_tree) }
+    ensures cause { (given : ℕ) (known trees : List Forest) →
+        HaveNumbers (numbers_in old.now) known → HasNumbered given old.now known trees now.old →
+        result ≡ Err Refusal.Numbers → 2 ^ 32 ≤ given + needed known (trees
+        ++ tree.value.inner ∷ []) }
     ensures tokens { result ≢ Err Refusal.Tokens }
 {
     laws::equal_pieces();

@@ -22,7 +22,8 @@ pub trait EventSink: Drop {
     /// Takes one more event. `outer` is the span of the name of the outermost call that it comes
     /// from, if any.
     fn take(&mut self, step: &TokenEvent<'_>, outer: Option<Span>) -> Result<(), AllocError>
-        ensures { OnOk result (TakesMore has_taken self.old self.new (placed outer (step_of step.now ∷ []))) };
+        ensures { OnOk result (TakesMore has_taken self.old self.new
+            (placed outer (step_of step.now ∷ []))) };
 }
 
 impl EventSink for Vec<Event> {
@@ -42,7 +43,8 @@ pub(crate) fn take_walk<S: EventSink>(
     trees: &TtIter<'_>,
     outer: Option<Span>,
 ) -> Result<(), AllocError>
-    ensures { OnOk result (TakesMore S.has_taken sink.old sink.new (placed outer (walk trees.now))) }
+    ensures { OnOk result (TakesMore S.has_taken sink.old sink.new
+        (placed outer (walk trees.now))) }
 {
     let mut rest = TreeWalk::new(alloc, trees);
     while let Some(step) = rest.next()? {

@@ -81,7 +81,11 @@ fn push_find(
     known: Option<&Rc<MacroDef>>,
 ) -> Result<(), AllocError>
     ensures { OnOk result (map find_of finds.new.items
-        ≡ map find_of finds.old.items ++ (name, option_map (λ k. numbered_of_known k.now.value) known.entry) ∷ []) }
+        ≡ map find_of finds.old.items ++ (
+          name,
+          option_map (λ k.
+              numbered_of_known k.now.value) known.entry,
+        ) ∷ []) }
 {
     let known = match known {
         None => None,
@@ -113,7 +117,8 @@ fn keep<'a, S: EventSink>(
 ) -> Result<(), AllocError>
     requires { (passed : Forest) × (trees.old ≡ joined passed behind) }
     ensures rest { OnOk result (trees.new ≡ behind.entry) }
-    ensures adds { (passed : Forest) → trees.old ≡ joined passed behind.entry → OnOk result (Adds S.has_taken out.old out.new (just outer (walk passed))) }
+    ensures adds { (passed : Forest) → trees.old ≡ joined passed behind.entry →
+        OnOk result (Adds S.has_taken out.old out.new (just outer (walk passed))) }
 {
     let kept = behind.passed_since(trees.remaining()).iter();
     take_walk(alloc, &mut out.output, &kept, outer)?;
@@ -132,8 +137,11 @@ fn fit<G: FragmentGrammar>(
     place: Span,
 ) -> Result<Option<TopSubtree>, TtFault>
     requires { (rules_of rules.now).err ≡ None }
-    ensures fit { IfOk result (λ given. option_map (λ t. t.inner) given ≡ fit_of (G.answer grammar.now) (rules_of rules.now) argument.now) }
-    ensures tokens { result ≡ Err TtFault.Tokens → made_by.bursts is_name (G.answer grammar.now) made (rules_of rules.now).list style.FnLike argument.now ≡ true }
+    ensures fit { IfOk result (λ given. option_map (λ t. t.inner) given
+        ≡ fit_of (G.answer grammar.now) (rules_of rules.now) argument.now) }
+    ensures tokens { result ≡ Err TtFault.Tokens →
+        made_by.bursts is_name (G.answer grammar.now) made (rules_of rules.now).list style.FnLike
+        argument.now ≡ true }
 {
     let mark = |span: Span|
         ensures { result ≡ made span }
@@ -160,7 +168,8 @@ fn answer<G: FragmentGrammar>(
     argument: &TtIter<'_>,
     place: Span,
 ) -> Result<Result<TopSubtree, FaultKind>, TtFault>
-    ensures given { (edition : Edition) → IsRead edition known.now → IfOk result (λ given. trees_of given
+    ensures given { (edition : Edition) → IsRead edition known.now →
+        IfOk result (λ given. trees_of given
         ≡ answer (numbered_world (world (G.answer env.now.grammar.now) edition))
         (numbered_of_known known.now) env.now.depth argument.now) }
     ensures deep { IfOk result (λ given. OnOk given (0 < env.now.depth)) }
@@ -193,10 +202,12 @@ fn expand_call<'a, G: FragmentGrammar, S: EventSink>(
 ) -> Result<(), TtFault>
     requires call { call_at trees.old ≡ Some call }
     requires read { AreRead env.now.scope.now }
-    ensures turn { OnOk result (Turn S.has_taken (searched_under (G.answer env.now.grammar.now) env.now.scope.now env.now.depth outer)
+    ensures turn { OnOk result (Turn S.has_taken
+        (searched_under (G.answer env.now.grammar.now) env.now.scope.now env.now.depth outer)
         out.old out.new trees.old trees.new) }
     ensures tokens { result ≡ Err TtFault.Tokens →
-        (searched_under (G.answer env.now.grammar.now) env.now.scope.now env.now.depth outer trees.old).bursts ≡ true }
+        (searched_under (G.answer env.now.grammar.now) env.now.scope.now env.now.depth outer
+        trees.old).bursts ≡ true }
 {
     let key = key_at(env.alloc, trees, &call)?;
     let Some(known) = env.scope.find(&key) else {
@@ -231,9 +242,11 @@ fn search<G: FragmentGrammar, S: EventSink>(
 ) -> Result<(), TtFault>
     requires { AreRead env.now.scope.now }
     ensures adds { OnOk result (Adds S.has_taken out.old out.new
-        (searched_under (G.answer env.now.grammar.now) env.now.scope.now env.now.depth outer trees.now)) }
+        (searched_under (G.answer env.now.grammar.now) env.now.scope.now env.now.depth outer
+        trees.now)) }
     ensures tokens { result ≡ Err TtFault.Tokens →
-        (searched_under (G.answer env.now.grammar.now) env.now.scope.now env.now.depth outer trees.now).bursts ≡ true }
+        (searched_under (G.answer env.now.grammar.now) env.now.scope.now env.now.depth outer
+        trees.now).bursts ≡ true }
 {
     let mut walk = TreeWalk::new(env.alloc, trees);
     'turns: loop {
@@ -259,7 +272,9 @@ fn search<G: FragmentGrammar, S: EventSink>(
 // Whether the trees have no call, and nothing that would be one but for the `::` before it. Such
 // trees stay as they are.
 fn is_quiet(alloc: Global, trees: &TtIter<'_>) -> Result<bool, AllocError>
-    ensures { IfOk result (λ quiet. quiet ≡ true → (world : World Numbered) (scope : List ℕ → Option Numbered) (depth : ℕ) (outer : Option Span) →
+    ensures { IfOk result (λ quiet. quiet ≡ true →
+        (world : World Numbered) (scope : List ℕ →
+        Option Numbered) (depth : ℕ) (outer : Option Span) →
         searched world scope depth outer trees.now ≡ just outer (walk trees.now)) }
 {
     let mut rest = TreeWalk::new(alloc, trees);
@@ -278,7 +293,8 @@ fn is_quiet(alloc: Global, trees: &TtIter<'_>) -> Result<bool, AllocError>
 
 // The result of a tree without calls: the tree itself.
 fn unchanged(alloc: Global) -> Outcome
-    ensures { (tree : Forest) → parts_for tree result ≡ record { steps = placed None (walk tree); faults = []; finds = [] } }
+    ensures { (tree : Forest) → parts_for tree result
+        ≡ record { steps = placed None (walk tree); faults = []; finds = [] } }
 {
     Outcome {
         steps: None,
@@ -301,9 +317,11 @@ pub fn expand_into<G: FragmentGrammar, S: EventSink>(
 ) -> Result<Expanding<S>, TtFault>
     requires { AreRead env.now.scope.now }
     ensures expands { IfOk result (λ given. Expands S.has_taken sink given
-        (expanded_under (G.answer env.now.grammar.now) env.now.scope.now env.now.depth tree.now.inner)) }
+        (expanded_under (G.answer env.now.grammar.now) env.now.scope.now env.now.depth
+        tree.now.inner)) }
     ensures tokens { result ≡ Err TtFault.Tokens →
-        (expanded_under (G.answer env.now.grammar.now) env.now.scope.now env.now.depth tree.now.inner).bursts ≡ true }
+        (expanded_under (G.answer env.now.grammar.now) env.now.scope.now env.now.depth
+        tree.now.inner).bursts ≡ true }
 {
     let mut out = Expanding {
         output: sink,
@@ -325,9 +343,11 @@ pub fn expand_piece<G: FragmentGrammar>(
 ) -> Result<Outcome, TtFault>
     requires { AreRead env.now.scope.now }
     ensures outcome { IfOk result (λ o. parts_for tree.now.inner o ≡ parts_of
-        (expanded_under (G.answer env.now.grammar.now) env.now.scope.now env.now.depth tree.now.inner)) }
+        (expanded_under (G.answer env.now.grammar.now) env.now.scope.now env.now.depth
+        tree.now.inner)) }
     ensures tokens { result ≡ Err TtFault.Tokens →
-        (expanded_under (G.answer env.now.grammar.now) env.now.scope.now env.now.depth tree.now.inner).bursts ≡ true }
+        (expanded_under (G.answer env.now.grammar.now) env.now.scope.now env.now.depth
+        tree.now.inner).bursts ≡ true }
 {
     let alloc = env.alloc;
     let quiet = is_quiet(alloc, &tree.iter())?;

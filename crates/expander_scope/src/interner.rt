@@ -47,7 +47,8 @@ impl Interner {
     /// Gives the tree this definition, in place of any that it had.
     #[tactic(auto, unfolding(crate::specs::Interning::known_in))]
     pub fn insert(&mut self, tree: Rc<HashedTree>, known: Rc<MacroDef>) -> Result<(), AllocError>
-        ensures { OnOk result ((t : Top) → known_in self.new t ≡ (if same_top tree.value t then Some known.value else known_in self.old t)) }
+        ensures { OnOk result ((t : Top) → known_in self.new t
+            ≡ (if same_top tree.value t then Some known.value else known_in self.old t)) }
     {
         let _ = self.map.insert(tree, known)?;
         Ok(())

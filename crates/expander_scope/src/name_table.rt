@@ -28,7 +28,8 @@ impl NameTable {
     pub fn insert(&mut self, name: Symbol, index: usize) -> Result<(), AllocError>
         ensures ok { OnOk result ((other : List ℕ) → index_of self.new other
             ≡ (if same_text name other then Some index else index_of self.old other)) }
-        ensures err { OnErr result ((other : List ℕ) → index_of self.new other ≡ index_of self.old other) }
+        ensures err { OnErr result ((other : List ℕ) → index_of self.new other
+            ≡ index_of self.old other) }
     {
         let _ = self.map.insert(name, index)?;
         Ok(())

@@ -69,7 +69,8 @@ impl Scope {
     #[tactic(auto, unfolding(crate::specs::ScopeTable::scope_in))]
     pub fn find(&self, name: &Symbol) -> Option<&Rc<MacroDef>>
         requires { AreRead self.now }
-        ensures found { option_map (λ k. numbered_of_known k.now.value) result ≡ scope_in self.now name.now }
+        ensures found { option_map (λ k. numbered_of_known k.now.value) result
+            ≡ scope_in self.now name.now }
         ensures rules { IfSome result (λ k. IsRead self.now.edition k.now.value) }
     {
         self.known.get(self.names.get(name)?)

@@ -80,7 +80,8 @@ fn resolved_outer(start: u32, starts: &Offsets, outer: Option<Span>) -> Option<O
 
 // The leaf with this span.
 fn leaf_at<'a>(leaf: LeafRef<'a>, span: Span) -> LeafRef<'a>
-    ensures { (f : Span → Span) → span ≡ f (span_of (leaf_lent leaf.entry)) → leaf_lent result ≡ leaf_with f (leaf_lent leaf.entry) }
+    ensures { (f : Span → Span) → span ≡ f (span_of (leaf_lent leaf.entry)) → leaf_lent result
+        ≡ leaf_with f (leaf_lent leaf.entry) }
 {
     match leaf {
         LeafRef::Literal(literal) => LeafRef::Literal(literal.with_span(span)),
@@ -97,7 +98,9 @@ fn emit_leaf(
     leaf: LeafRef<'_>,
     outer: Option<Span>,
 ) -> Result<(), AllocError>
-    ensures { OnOk result (PutsOut steps.old steps.new (placed outer (step_with (resolved_by start starts.now) (at_leaf (leaf_lent leaf.entry)) ∷ []))) }
+    ensures { OnOk result (PutsOut steps.old steps.new
+        (placed outer (step_with (resolved_by start starts.now)
+        (at_leaf (leaf_lent leaf.entry)) ∷ []))) }
 {
     let Some(span) = resolved(start, starts, leaf.span()) else {
         return Err(AllocError);
@@ -115,7 +118,8 @@ fn emit_event(
     step: &TokenEvent<'_>,
     outer: Option<Span>,
 ) -> Result<(), AllocError>
-    ensures { OnOk result (PutsOut steps.old steps.new (placed outer (step_with (resolved_by start starts.now) (step_of step.now) ∷ []))) }
+    ensures { OnOk result (PutsOut steps.old steps.new
+        (placed outer (step_with (resolved_by start starts.now) (step_of step.now) ∷ []))) }
 {
     match step {
         TokenEvent::Leaf(leaf) => emit_leaf(steps, start, starts, *leaf, outer),
@@ -137,7 +141,8 @@ fn emit_own_event(
     starts: &Offsets,
     step: &Event,
 ) -> Result<(), AllocError>
-    ensures { OnOk result (PutsOut steps.old steps.new (resolved_steps start starts.now (placed_of step.now ∷ []))) }
+    ensures { OnOk result (PutsOut steps.old steps.new
+        (resolved_steps start starts.now (placed_of step.now ∷ []))) }
 {
     match resolved_outer(start, starts, step.outer) {
         Some(outer) => emit_event(steps, start, starts, &lent(&step.kind), outer),
@@ -152,7 +157,8 @@ fn emit_own_events(
     starts: &Offsets,
     own: &[Event],
 ) -> Result<(), AllocError>
-    ensures { OnOk result (PutsOut steps.old steps.new (resolved_steps start starts.now (map placed_of own.now))) }
+    ensures { OnOk result (PutsOut steps.old steps.new
+        (resolved_steps start starts.now (map placed_of own.now))) }
 {
     for step in own {
         emit_own_event(steps, start, starts, step)?;
@@ -168,7 +174,8 @@ fn emit_tree(
     starts: &Offsets,
     tree: &TopSubtree,
 ) -> Result<(), AllocError>
-    ensures { OnOk result (PutsOut steps.old steps.new (resolved_steps start starts.now (placed None (walk tree.now.inner)))) }
+    ensures { OnOk result (PutsOut steps.old steps.new
+        (resolved_steps start starts.now (placed None (walk tree.now.inner)))) }
 {
     let mut rest = TreeWalk::new(alloc, &tree.iter());
     while let Some(step) = rest.next()? {
@@ -186,7 +193,9 @@ pub(crate) fn emit_events(
     tree: &TopSubtree,
     own: &Option<Vec<Event>>,
 ) -> Result<(), AllocError>
-    ensures { OnOk result (PutsOut steps.old steps.new (resolved_steps start starts.now (steps_for tree.now.inner (option_map (λ s. s.items) own.now)))) }
+    ensures { OnOk result (PutsOut steps.old steps.new
+        (resolved_steps start starts.now
+        (steps_for tree.now.inner (option_map (λ s. s.items) own.now)))) }
 {
     match own {
         None => emit_tree(alloc, steps, start, starts, tree),
@@ -319,7 +328,8 @@ fn put_fault(
     starts: &Offsets,
     told: &(FaultKind, Span),
 ) -> Result<(), AllocError>
-    ensures { OnOk result (faults.new.items ≡ faults.old.items ++ resolved_faults start starts.now (told.now ∷ [])) }
+    ensures { OnOk result (faults.new.items ≡ faults.old.items
+        ++ resolved_faults start starts.now (told.now ∷ [])) }
 {
     let (kind, span) = *told;
     let Some(span) = resolved(start, starts, span) else {
@@ -337,7 +347,8 @@ pub(crate) fn put_faults(
     starts: &Offsets,
     own: &[(FaultKind, Span)],
 ) -> Result<(), AllocError>
-    ensures { OnOk result (faults.new.items ≡ faults.old.items ++ resolved_faults start starts.now own.now) }
+    ensures { OnOk result (faults.new.items ≡ faults.old.items
+        ++ resolved_faults start starts.now own.now) }
 {
     for told in own {
         put_fault(faults, start, starts, told)?;

@@ -60,7 +60,8 @@ fn link_at(links: &[MemoRef], at: usize) -> Option<MemoRef>
 impl Cache {
     /// The cache before the first text is read: empty.
     pub fn new(alloc: Global) -> Self
-        ensures right { (world : World Definition) (edition : Edition) (depth : ℕ) → IsCache world depth edition result }
+        ensures right { (world : World Definition) (edition : Edition) (depth : ℕ) →
+            IsCache world depth edition result }
         ensures held { held_in result ≡ None }
         ensures trees { trees_of result ≡ [] }
         ensures given { result.given ≡ 0 }

@@ -68,7 +68,8 @@ fn add_word(
     step: &TokenEvent<'_>,
     outer: Option<Span>,
 ) -> Result<(), AllocError>
-    ensures { OnOk result (words.new.items ≡ words.old.items ++ word_places (placed outer (step_of step.now ∷ []))) }
+    ensures { OnOk result (words.new.items ≡ words.old.items
+        ++ word_places (placed outer (step_of step.now ∷ []))) }
 {
     if is_definition_word(step) {
         words.push(place(step, outer))?;
@@ -102,7 +103,8 @@ impl EventSink for KeptPrint {
     ghost use Rattle.expander_scope.specs.Outcomes.{placed_of};
     ghost use Rattle.expander_session.specs.CachedOutputs.{HasPrinted};
 
-    ghost has_taken = { λ kept taken. HasPrinted kept.own taken × (map placed_of kept.steps.items ≡ taken) };
+    ghost has_taken = { λ kept taken. HasPrinted kept.own taken
+        × (map placed_of kept.steps.items ≡ taken) };
 
     fn take(&mut self, step: &TokenEvent<'_>, outer: Option<Span>) -> Result<(), AllocError> {
         self.own.take(step, outer)?;
@@ -113,7 +115,8 @@ impl EventSink for KeptPrint {
 
 // What was printed, as cached text. `None` if it is no chunk.
 fn part_of(own: OwnPrint) -> Result<Option<CachedText>, AllocError>
-    ensures { IfOk result (λ o. IfSome o (λ part. (steps : List PlacedStep) → HasPrinted own steps → IsCachedText part steps)) }
+    ensures { IfOk result (λ o. IfSome o (λ part. (steps : List PlacedStep) →
+        HasPrinted own steps → IsCachedText part steps)) }
 {
     let OwnPrint { printer, words, .. } = own;
     match printer.into_chunk() {
@@ -126,7 +129,8 @@ fn part_of(own: OwnPrint) -> Result<Option<CachedText>, AllocError>
 /// What to cache of events that were printed: their text, or no events if there were none. `None`
 /// if neither says what they were.
 pub(crate) fn output_of(alloc: Global, own: OwnPrint) -> Result<Option<CachedOutput>, AllocError>
-    ensures { IfOk result (λ o. IfSome o (λ output. (tree : Forest) (steps : List PlacedStep) → HasPrinted own steps → IsOutputOf tree output steps)) }
+    ensures { IfOk result (λ o. IfSome o (λ output. (tree : Forest) (steps : List PlacedStep) →
+        HasPrinted own steps → IsOutputOf tree output steps)) }
 {
     if own.is_empty {
         return Ok(Some(CachedOutput::Steps(Some(Vec::new(alloc)))));
@@ -139,7 +143,9 @@ pub(crate) fn output_of(alloc: Global, own: OwnPrint) -> Result<Option<CachedOut
 
 /// What to cache of events that were printed and kept: what `output_of` says, or else the events.
 pub(crate) fn kept_output_of(alloc: Global, kept: KeptPrint) -> Result<CachedOutput, AllocError>
-    ensures { IfOk result (λ output. (tree : Forest) (steps : List PlacedStep) → HasPrinted kept.own steps → map placed_of kept.steps.items ≡ steps → IsOutputOf tree output steps) }
+    ensures { IfOk result (λ output. (tree : Forest) (steps : List PlacedStep) →
+        HasPrinted kept.own steps → map placed_of kept.steps.items ≡ steps →
+        IsOutputOf tree output steps) }
 {
     let KeptPrint { own, steps } = kept;
     match output_of(alloc, own)? {

@@ -52,8 +52,12 @@ pub fn replay<G: FragmentGrammar + Drop>(
     commands: &[Command],
 ) -> Result<Vec<Answer>, AllocError>
     requires { length text.now < 2 ^ 32 }
-    ensures answers { IfOk result (λ answers. AreAnswers (layers (G.answer grammar) edition) depth text.now [] commands.now answers.items) }
-    ensures numbers { IfOk result (λ answers. given (layers (G.answer grammar) edition) depth (last_reads text.now [] commands.now answers.items) < 2 ^ 32) }
+    ensures answers { IfOk result (λ answers.
+        AreAnswers (layers (G.answer grammar) edition) depth text.now [] commands.now
+        answers.items) }
+    ensures numbers { IfOk result (λ answers.
+        given (layers (G.answer grammar) edition) depth
+        (last_reads text.now [] commands.now answers.items) < 2 ^ 32) }
 {
     let mut session = Session::new(alloc, text, grammar, edition, depth)?;
     let mut answers = Vec::new(alloc);
@@ -66,7 +70,8 @@ pub fn replay<G: FragmentGrammar + Drop>(
 
 /// The answer to one command.
 pub fn answer_to<G: FragmentGrammar + Drop>(session: &mut Session<G>, command: &Command) -> Answer
-    ensures turn { Turn (layers_of G.answer session.old) session.old session.new command.now result }
+    ensures turn { Turn (layers_of G.answer session.old) session.old session.new
+        command.now result }
     ensures few { session.old.given < 2 ^ 32 → session.new.given < 2 ^ 32 }
 {
     match command {

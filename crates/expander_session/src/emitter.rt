@@ -97,7 +97,8 @@ fn push_place(
         OnOk result
         (steps.new.told.items ≡ steps.old.told.items
         ++ told_from (length (visible before)) (placed outer (step_of step.now ∷ []))) }
-    ensures nested { OnOk result (steps.new.nested.items ≡ steps.old.nested.items ++ words_told (placed outer (step_of step.now ∷ []))) }
+    ensures nested { OnOk result (steps.new.nested.items ≡ steps.old.nested.items
+        ++ words_told (placed outer (step_of step.now ∷ []))) }
     ensures printer { steps.new.printer ≡ steps.old.printer }
 {
     let range = place(step, outer).range;
@@ -112,7 +113,8 @@ fn push_place(
 
 // Adds the fault of a definition keyword at each of these spans.
 fn tell_words(nested: &mut Vec<Fault>, words: &[Span]) -> Result<(), AllocError>
-    ensures { OnOk result (nested.new.items ≡ nested.old.items ++ map (fault_at as_kind.NestedDefinition) words.now) }
+    ensures { OnOk result (nested.new.items ≡ nested.old.items
+        ++ map (fault_at as_kind.NestedDefinition) words.now) }
 {
     for word in words {
         let (kind, range) = (FaultKind::NestedDefinition, word.range);
@@ -156,7 +158,8 @@ pub(crate) fn emit_chunk_at(
     shift: Shift,
     words: &[Span],
 ) -> Result<bool, AllocError>
-    ensures { IfOk result (PutsChunk steps.old steps.new part.now (map (shifted shift) part.now.tokens) words.now) }
+    ensures { IfOk result (PutsChunk steps.old steps.new part.now
+        (map (shifted shift) part.now.tokens) words.now) }
 {
     laws::chunks_are_printed_whole();
     laws::spelling_depends_on_shapes_alone();
@@ -196,8 +199,10 @@ fn push_left_out(
 /// The text of the output, with the spans of its tokens. Adds the faults of definition keywords,
 /// and those of tokens that cannot be printed.
 pub(crate) fn finish(steps: Emitter, faults: &mut Vec<Fault>) -> Result<LazyPrinted, AllocError>
-    ensures printed { IfOk result (λ p. (all : List PlacedStep) → HasOutput steps all → lazy_print_in p ≡ print_of (steps_of all)) }
-    ensures faults { OnOk result ((all : List PlacedStep) → HasOutput steps all → faults.new.items ≡ faults.old.items ++ faults_in all) }
+    ensures printed { IfOk result (λ p. (all : List PlacedStep) → HasOutput steps all →
+        lazy_print_in p ≡ print_of (steps_of all)) }
+    ensures faults { OnOk result ((all : List PlacedStep) → HasOutput steps all → faults.new.items
+        ≡ faults.old.items ++ faults_in all) }
 {
     let Ok(printed) = steps.printer.finish_lazy() else {
         return Err(AllocError);

@@ -63,7 +63,7 @@ use expander_scope::macro_def::MacroDef;
 use expander_scope::refusal::Refusal;
 use expander_scope::scope::Scope;
 use expander_sources::import::Import;
-use expander_sources::prelude::Prelude;
+use expander_sources::prelude::{Prelude, imports_of};
 use mbe::FragmentGrammar;
 use std::alloc::{AllocError, Global};
 use std::rc::Rc;
@@ -97,13 +97,18 @@ fn fresh_memo<G: FragmentGrammar>(
     requires read { AreRead env.now.scope.now }
     requires top { tree.now.value.delimiter ≡ text_top }
     ensures tree { IfOk result (λ q. tree_of q.value ≡ tree.now.value) }
-    ensures holds { (given : ℕ) (numbers : Forest → Option ℕ) (before : List Met) → AreNumbers given numbers →
-        All (λ q. IsRight (world (G.answer env.now.grammar.now) env.now.scope.now.edition) env.now.depth numbers (rc_value q)) taken.now.plains.items →
-        scope_in env.now.scope.now ≡ numbered_scope before → All (IsMet (numbered_by numbers)) before →
+    ensures holds { (given : ℕ) (numbers : Forest → Option ℕ) (before : List Met) →
+        AreNumbers given numbers →
+        All (λ q. IsRight (world (G.answer env.now.grammar.now) env.now.scope.now.edition)
+        env.now.depth numbers (rc_value q)) taken.now.plains.items →
+        scope_in env.now.scope.now ≡ numbered_scope before →
+        All (IsMet (numbered_by numbers)) before →
         IfOk result (λ q. Holds q.value (parts_of
-        (expanded_under (G.answer env.now.grammar.now) env.now.scope.now env.now.depth tree.now.value.inner))) }
+        (expanded_under (G.answer env.now.grammar.now) env.now.scope.now env.now.depth
+        tree.now.value.inner))) }
     ensures tokens { result ≡ Err TtFault.Tokens →
-        (expanded_under (G.answer env.now.grammar.now) env.now.scope.now env.now.depth tree.now.value.inner).bursts ≡ true }
+        (expanded_under (G.answer env.now.grammar.now) env.now.scope.now env.now.depth
+        tree.now.value.inner).bursts ≡ true }
 {
     laws::equal_pieces();
     tt::laws::equal_trees();
@@ -132,25 +137,32 @@ pub(crate) fn evaluate_tree<G: FragmentGrammar>(
 ) -> Result<(Rc<Memo>, Option<usize>, u64), TtFault>
     requires read { AreRead env.now.scope.now }
     requires lookup { IndexesMemos lookup.old memory.now.plains.items }
-    requires link { IfSome link (λ i. slice_get (plain_tops memory.now.plains.items) i ≡ Some tree.now.value) }
+    requires link { IfSome link (λ i. slice_get (plain_tops memory.now.plains.items) i
+        ≡ Some tree.now.value) }
     requires top { tree.now.value.delimiter ≡ text_top }
     requires right { IsCache (world (G.answer env.now.grammar.now) env.now.scope.now.edition)
         env.now.depth env.now.scope.now.edition memory.now }
     ensures lookup { OnOk result (IndexesMemos lookup.new memory.now.plains.items) }
     ensures tree { IfOk result (λ r. tree_of r.0.value ≡ tree.now.value) }
     ensures hash { IfOk result (λ r. r.2 ≡ tree_hash tree.now.value) }
-    ensures holds { (given : ℕ) (numbers : Forest → Option ℕ) (before : List Met) → AreNumbers given numbers →
+    ensures holds { (given : ℕ) (numbers : Forest → Option ℕ) (before : List Met) →
+        AreNumbers given numbers →
         ((t : Forest) (n : ℕ) → numbers_in memory.now.by_tree t ≡ Some n → numbers t ≡ Some n) →
-        All (λ q. IsRight (world (G.answer env.now.grammar.now) env.now.scope.now.edition) env.now.depth numbers (rc_value q)) taken.now.plains.items →
-        scope_in env.now.scope.now ≡ numbered_scope before → All (IsMet (numbered_by numbers)) before →
+        All (λ q. IsRight (world (G.answer env.now.grammar.now) env.now.scope.now.edition)
+        env.now.depth numbers (rc_value q)) taken.now.plains.items →
+        scope_in env.now.scope.now ≡ numbered_scope before →
+        All (IsMet (numbered_by numbers)) before →
         IfOk result (λ r. Holds r.0.value (parts_of
-        (expanded_under (G.answer env.now.grammar.now) env.now.scope.now env.now.depth tree.now.value.inner))) }
+        (expanded_under (G.answer env.now.grammar.now) env.now.scope.now env.now.depth
+        tree.now.value.inner))) }
     ensures counted { IfOk result (λ r. is_some r.1
         ≡ list_any (matches (scope_in env.now.scope.now) tree.now.value.inner) (map
-        (λ q. piece_of (world (G.answer env.now.grammar.now) env.now.scope.now.edition) env.now.depth (rc_value q))
+        (λ q. piece_of (world (G.answer env.now.grammar.now) env.now.scope.now.edition)
+        env.now.depth (rc_value q))
         memory.now.plains.items)) }
     ensures tokens { result ≡ Err TtFault.Tokens →
-        (expanded_under (G.answer env.now.grammar.now) env.now.scope.now env.now.depth tree.now.value.inner).bursts ≡ true }
+        (expanded_under (G.answer env.now.grammar.now) env.now.scope.now env.now.depth
+        tree.now.value.inner).bursts ≡ true }
 {
     laws::equal_pieces();
     tt::laws::equal_trees();
@@ -225,8 +237,10 @@ fn nothing_numbered(alloc: Global, given: u32, count: usize) -> Result<Definitio
 // then stays below it for the next text, and is not given back to the system each time.
 fn nothing_evaluated(alloc: Global, memory: &Cache, room: Room) -> Result<Evaluated, AllocError>
     ensures links { IfOk result (λ taken. AreLinks taken []) }
-    ensures taken { IfOk result (λ taken. (grammar : Grammar) (edition : Edition) (depth : ℕ) → IsCache (world grammar edition) depth edition memory.now →
-        IsEvaluated (world grammar edition) edition depth memory.now (layers grammar edition) [] [] taken) }
+    ensures taken { IfOk result (λ taken. (grammar : Grammar) (edition : Edition) (depth : ℕ) →
+        IsCache (world grammar edition) depth edition memory.now →
+        IsEvaluated (world grammar edition) edition depth memory.now (layers grammar edition) []
+        [] taken) }
 {
     let steps = no_steps(alloc, room.bytes, room.pieces)?;
     let numbers = nothing_numbered(alloc, memory.given, room.definitions)?;
@@ -252,8 +266,10 @@ fn nothing_yet(
     room: Room,
 ) -> Result<Evaluation, AllocError>
     ensures links { IfOk result (λ now. AreLinks now.taken []) }
-    ensures taken { IfOk result (λ now. (grammar : Grammar) (depth : ℕ) → IsCache (world grammar edition) depth edition memory.now →
-        IsEvaluated (world grammar edition) edition depth memory.now (layers grammar edition) [] [] now.taken) }
+    ensures taken { IfOk result (λ now. (grammar : Grammar) (depth : ℕ) →
+        IsCache (world grammar edition) depth edition memory.now →
+        IsEvaluated (world grammar edition) edition depth memory.now (layers grammar edition) [] []
+        now.taken) }
     ensures none { IfOk result (λ now. HasMet now.scope []) }
     ensures edition { IfOk result (λ now. now.scope.edition ≡ edition) }
     ensures read { IfOk result (λ now. AreRead now.scope) }
@@ -295,7 +311,8 @@ fn evaluate_definition(
         LooksAtNoPlace (world grammar now.old.scope.edition) →
         HaveNumbers (numbers_in memory.now.by_tree) (trees_of memory.now) →
         own_place start ≡ first_place piece → tree.value ≡ own_top (relative piece) →
-        OnOk result (Evaluates grammar now.old.scope.edition depth memory.now piece now.old now.new) }
+        OnOk result (Evaluates grammar now.old.scope.edition depth memory.now piece
+        now.old now.new) }
     ensures links { (trees : List Top) → AreLinks now.old.taken trees →
         OnOk result (AreLinks now.new.taken (trees ++ tree.value ∷ [])) }
     ensures grows { OnOk result (Grows now.old.taken now.new.taken) }
@@ -377,7 +394,7 @@ fn evaluate_imports<G: FragmentGrammar>(
         NeedsMore context.now.memory.now (definition_trees context.now.prelude.now) }
     ensures tokens { result ≢ Err Refusal.Tokens }
 {
-    for import in context.prelude.imports() {
+    for import in imports_of(context.prelude) {
         evaluate_import(context.alloc, context.memory, now, import)?;
     }
     Ok(())
@@ -392,13 +409,17 @@ fn emit_anew<G: FragmentGrammar>(
     tree: Rc<HashedTree>,
 ) -> Result<Rc<Memo>, TtFault>
     requires { AreRead env.now.scope.now }
-    ensures steps { OnOk result (PutsOut steps.old steps.new (resolved_steps start env.now.scope.now.starts
-        (expanded_under (G.answer env.now.grammar.now) env.now.scope.now env.now.depth tree.value.inner).steps)) }
+    ensures steps { OnOk result (PutsOut steps.old steps.new
+        (resolved_steps start env.now.scope.now.starts
+        (expanded_under (G.answer env.now.grammar.now) env.now.scope.now env.now.depth
+        tree.value.inner).steps)) }
     ensures tree { IfOk result (λ q. tree_of q.value ≡ tree.value) }
     ensures holds { IfOk result (λ q. Holds q.value (parts_of
-        (expanded_under (G.answer env.now.grammar.now) env.now.scope.now env.now.depth tree.value.inner))) }
+        (expanded_under (G.answer env.now.grammar.now) env.now.scope.now env.now.depth
+        tree.value.inner))) }
     ensures tokens { result ≡ Err TtFault.Tokens →
-        (expanded_under (G.answer env.now.grammar.now) env.now.scope.now env.now.depth tree.value.inner).bursts ≡ true }
+        (expanded_under (G.answer env.now.grammar.now) env.now.scope.now env.now.depth
+        tree.value.inner).bursts ≡ true }
 {
     let alloc = env.alloc;
     let own = tree.as_ref().tree();
@@ -423,14 +444,18 @@ fn emit_output<G: FragmentGrammar>(
     plain: Rc<Memo>,
 ) -> Result<Rc<Memo>, TtFault>
     requires { AreRead env.now.scope.now }
-    ensures steps { let given = expanded_under (G.answer env.now.grammar.now) env.now.scope.now env.now.depth
+    ensures steps { let given = expanded_under (G.answer env.now.grammar.now) env.now.scope.now
+        env.now.depth
         (tree_of plain.value).inner in Holds plain.value (parts_of given) →
-        OnOk result (PutsOut steps.old steps.new (resolved_steps start env.now.scope.now.starts given.steps)) }
+        OnOk result (PutsOut steps.old steps.new
+        (resolved_steps start env.now.scope.now.starts given.steps)) }
     ensures tree { IfOk result (λ q. tree_of q.value ≡ tree_of plain.value) }
-    ensures holds { let given = expanded_under (G.answer env.now.grammar.now) env.now.scope.now env.now.depth
+    ensures holds { let given = expanded_under (G.answer env.now.grammar.now) env.now.scope.now
+        env.now.depth
         (tree_of plain.value).inner in Holds plain.value (parts_of given) →
         IfOk result (λ q. Holds q.value (parts_of given)) }
-    ensures tokens { result ≡ Err TtFault.Tokens → (expanded_under (G.answer env.now.grammar.now) env.now.scope.now
+    ensures tokens { result ≡ Err TtFault.Tokens →
+        (expanded_under (G.answer env.now.grammar.now) env.now.scope.now
         env.now.depth (tree_of plain.value).inner).bursts ≡ true }
 {
     let (alloc, starts) = (env.alloc, &env.scope.starts);
@@ -459,16 +484,20 @@ fn emit_plain<G: FragmentGrammar>(
     plain: Rc<Memo>,
 ) -> Result<Rc<Memo>, TtFault>
     requires { AreRead env.now.scope.now }
-    ensures steps { let given = expanded_under (G.answer env.now.grammar.now) env.now.scope.now env.now.depth
+    ensures steps { let given = expanded_under (G.answer env.now.grammar.now) env.now.scope.now
+        env.now.depth
         (tree_of plain.value).inner in Holds plain.value (parts_of given) →
-        OnOk result (PutsOut steps.old steps.new (resolved_steps start env.now.scope.now.starts given.steps)) }
+        OnOk result (PutsOut steps.old steps.new
+        (resolved_steps start env.now.scope.now.starts given.steps)) }
     ensures faults { IfOk result (λ q. faults.new.items
         ≡ faults.old.items ++ resolved_faults start env.now.scope.now.starts q.value.faults.items) }
     ensures tree { IfOk result (λ q. tree_of q.value ≡ tree_of plain.value) }
-    ensures holds { let given = expanded_under (G.answer env.now.grammar.now) env.now.scope.now env.now.depth
+    ensures holds { let given = expanded_under (G.answer env.now.grammar.now) env.now.scope.now
+        env.now.depth
         (tree_of plain.value).inner in Holds plain.value (parts_of given) →
         IfOk result (λ q. Holds q.value (parts_of given)) }
-    ensures tokens { result ≡ Err TtFault.Tokens → (expanded_under (G.answer env.now.grammar.now) env.now.scope.now
+    ensures tokens { result ≡ Err TtFault.Tokens →
+        (expanded_under (G.answer env.now.grammar.now) env.now.scope.now
         env.now.depth (tree_of plain.value).inner).bursts ≡ true }
 {
     let plain = emit_output(env, steps, start, plain)?;
@@ -487,7 +516,8 @@ fn hold(
 ) -> Result<(), AllocError>
     ensures plains { OnOk result (plains.new.items ≡ plains.old.items ++ plain ∷ []) }
     ensures hashes { OnOk result (hashes.new.items ≡ hashes.old.items ++ hash ∷ []) }
-    ensures links { OnOk result (links.new.items ≡ links.old.items ++ as_link.Plain (length plains.old.items) ∷ []) }
+    ensures links { OnOk result (links.new.items ≡ links.old.items
+        ++ as_link.Plain (length plains.old.items) ∷ []) }
 {
     add_link(links, MemoRef::Plain(plains.len()))?;
     plains.push(plain)?;
@@ -502,7 +532,8 @@ fn count(now: &mut Evaluation, at: Option<usize>)
     ensures scope { now.new.scope ≡ now.old.scope }
     ensures lookup { (held : List (Rc Memo GhostGlobal)) →
         IndexesMemos now.old.lookup held → IndexesMemos now.new.lookup held }
-    ensures taken { now.new.taken ≡ record now.old.taken { expanded = now.old.taken.expanded + (if is_some at then 0 else 1) } }
+    ensures taken { now.new.taken ≡ record now.old.taken
+        { expanded = now.old.taken.expanded + (if is_some at then 0 else 1) } }
 {
     match at {
         Some(i) => now.lookup.next = i.saturating_add(1),
@@ -523,11 +554,13 @@ fn evaluate_plain<G: FragmentGrammar>(
     requires top { tree.now.value.delimiter ≡ text_top }
     requires read { AreRead now.old.scope }
     requires lookup { IndexesMemos now.old.lookup context.now.memory.now.plains.items }
-    requires link { IfSome link (λ i. slice_get (plain_tops context.now.memory.now.plains.items) i ≡ Some tree.now.value) }
+    requires link { IfSome link (λ i. slice_get (plain_tops context.now.memory.now.plains.items) i
+        ≡ Some tree.now.value) }
     requires right { IsCache (world (G.answer context.now.grammar.now) now.old.scope.edition)
         context.now.depth now.old.scope.edition context.now.memory.now }
     requires room { now.old.taken.expanded + 1 < 2 ^ 64 }
-    ensures taken { (piece : Forest) → start ≡ first_start piece → tree.now.value ≡ own_top (relative piece) →
+    ensures taken { (piece : Forest) → start ≡ first_start piece → tree.now.value
+        ≡ own_top (relative piece) →
         OnOk result (Evaluates (G.answer context.now.grammar.now) now.old.scope.edition
         context.now.depth context.now.memory.now piece now.old now.new) }
     ensures links { (trees : List Top) → AreLinks now.old.taken trees →
@@ -536,7 +569,8 @@ fn evaluate_plain<G: FragmentGrammar>(
     ensures edition { OnOk result (now.new.scope.edition ≡ now.old.scope.edition) }
     ensures lookup { OnOk result (IndexesMemos now.new.lookup context.now.memory.now.plains.items) }
     ensures expanded { OnOk result (now.new.taken.expanded ≤ now.old.taken.expanded + 1) }
-    ensures tokens { result ≡ Err TtFault.Tokens → (expanded_under (G.answer context.now.grammar.now) now.old.scope
+    ensures tokens { result ≡ Err TtFault.Tokens →
+        (expanded_under (G.answer context.now.grammar.now) now.old.scope
         context.now.depth tree.now.value.inner).bursts ≡ true }
 {
     laws::equal_pieces();
@@ -570,7 +604,8 @@ fn evaluate_piece<G: FragmentGrammar>(
     requires right { IsCache (world (G.answer context.now.grammar.now) now.old.scope.edition)
         context.now.depth now.old.scope.edition context.now.memory.now }
     requires can { CanDefine context.now.memory.now now.old }
-    requires places { LooksAtNoPlace (world (G.answer context.now.grammar.now) now.old.scope.edition) }
+    requires places { LooksAtNoPlace
+        (world (G.answer context.now.grammar.now) now.old.scope.edition) }
     requires room { now.old.taken.expanded + 1 < 2 ^ 64 }
     requires lookup { IndexesMemos now.old.lookup context.now.memory.now.plains.items }
     requires own { IsOwn (piece_at own.now) own.now }
@@ -584,10 +619,13 @@ fn evaluate_piece<G: FragmentGrammar>(
     ensures lookup { OnOk result (IndexesMemos now.new.lookup context.now.memory.now.plains.items) }
     ensures expanded { OnOk result (now.new.taken.expanded ≤ now.old.taken.expanded + 1) }
     ensures tokens { result ≡ Err Refusal.Tokens →
-        MakesTooMany (G.answer context.now.grammar.now) now.old.scope.edition context.now.depth (piece_at own.now) now.old }
+        MakesTooMany (G.answer context.now.grammar.now) now.old.scope.edition context.now.depth
+        (piece_at own.now) now.old }
     ensures cause { let memory = context.now.memory.now in (trees : List Forest) →
-        HasNumbered memory.given memory.by_tree (trees_of memory) trees now.old.taken.numbers → result ≡ Err Refusal.Numbers →
-        2 ^ 32 ≤ memory.given + needed (trees_of memory) (trees ++ definition_trees (piece_at own.now ∷ [])) }
+        HasNumbered memory.given memory.by_tree (trees_of memory) trees now.old.taken.numbers →
+        result ≡ Err Refusal.Numbers →
+        2 ^ 32 ≤ memory.given + needed (trees_of memory) (trees
+        ++ definition_trees (piece_at own.now ∷ [])) }
 {
     let EvaluationContext { alloc, memory, .. } = *context;
     reserve(&mut now.taken.steps, memory.look_ahead(own))?;

@@ -12,10 +12,13 @@ ghost use Rattle.tt_data.specs.declared.edition.Edition.{Edition};
 /// `counted`. So if no definition had an id
 /// before and the text has fewer than 2^32 bytes, there are ids for them all: `numbered`.
 pub fn definitions_are_no_more_than_bytes()
-    ensures counted { (grammar : Grammar) (edition : Edition) (depth : ℕ) (initial : List Definition) (text : List ℕ) →
-        IsUtf8 text → length (definitions_in (meaning_in (layers grammar edition) depth initial text)) ≤ length text }
+    ensures counted { (grammar : Grammar) (edition : Edition) (depth : ℕ)
+        (initial : List Definition) (text : List ℕ) →
+        IsUtf8 text → length (definitions_in
+        (meaning_in (layers grammar edition) depth initial text)) ≤ length text }
     ensures numbered { (grammar : Grammar) (edition : Edition) (depth : ℕ) (text : List ℕ) →
-        IsUtf8 text → length text < 2 ^ 32 → NeedsNumbers 0 [] (meaning (layers grammar edition) depth text) → ⊥ }
+        IsUtf8 text → length text < 2 ^ 32 →
+        NeedsNumbers 0 [] (meaning (layers grammar edition) depth text) → ⊥ }
 {
     bridge::laws::reading_is_a_relation();
     rustc_lexer::laws::token_lengths();

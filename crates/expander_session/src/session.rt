@@ -70,7 +70,15 @@ impl Model for Expansion {
 
     ghost Value = { Expanded };
 
-    ghost view = { λ e. record { printed = string_bytes e.printed; faults = e.faults.items; origins = map (λ s. s.range) e.origins; texts = map (λ s. s.anchor) e.origins; expanded = e.expanded } };
+    ghost view = { λ e. record {
+      printed = string_bytes e.printed;
+      faults = e.faults.items;
+      origins
+          = map (λ s. s.range) e.origins;
+      texts = map (λ s.
+          s.anchor) e.origins;
+      expanded = e.expanded;
+    } };
 
     ghost invariant = { λ e. length (read_ranges (string_bytes e.printed)) ≡ length e.origins };
 }
@@ -209,7 +217,9 @@ impl<G: FragmentGrammar> Model for Session<G> {
       given = s.memory.given;
     } };
 
-    ghost invariant = { λ s. (length s.text < 2 ^ 32) × IsCache (world (G.answer s.grammar) s.edition) s.depth s.edition s.memory × (s.memory.given < 2 ^ 32) };
+    ghost invariant = { λ s. (length s.text < 2 ^ 32)
+        × IsCache (world (G.answer s.grammar) s.edition) s.depth s.edition s.memory
+        × (s.memory.given < 2 ^ 32) };
 }
 
 impl<G: FragmentGrammar + Drop> Session<G> {
@@ -305,7 +315,8 @@ impl<G: FragmentGrammar + Drop> Session<G> {
         requires stop { IsCharBoundary self.old.text «end» }
         requires order { start ≤ «end» }
         requires fits { length self.old.text - («end» - start) + length replacement.now < 2 ^ 32 }
-        ensures ok { OnOk result (self.new ≡ record self.old { text = edited self.old.text start «end» replacement.now }) }
+        ensures ok { OnOk result (self.new
+            ≡ record self.old { text = edited self.old.text start «end» replacement.now }) }
         ensures err { OnErr result (self.new ≡ self.old) }
     {
         self.text.edit(start, end, replacement)?;
@@ -324,7 +335,8 @@ impl<G: FragmentGrammar + Drop> Session<G> {
     /// At most `u32::MAX` definitions get an id in all, so a text for which they would be more has
     /// no `Read`: `numbers`.
     pub fn expansion(&mut self) -> Result<Reply, Refusal>
-        ensures reply { IfOk result (λ reply. Replies (layers_of G.answer self.old) self.old self.new reply) }
+        ensures reply { IfOk result (λ reply.
+            Replies (layers_of G.answer self.old) self.old self.new reply) }
         ensures same { OnErr result (self.new ≡ self.old) }
         ensures cause { IfErr result (HasCause (layers_of G.answer self.old) self.old) }
         ensures numbers { self.new.given < 2 ^ 32 }
@@ -412,7 +424,8 @@ fn expansion_of(
     expanded: usize,
 ) -> Result<Expansion, AllocError>
     requires { (all : List PlacedStep) × HasOutput steps all }
-    ensures { IfOk result (λ e. (all : List PlacedStep) → HasOutput steps all → ShowsOutput faults.items expanded all e) }
+    ensures { IfOk result (λ e. (all : List PlacedStep) → HasOutput steps all →
+        ShowsOutput faults.items expanded all e) }
 {
     tokens_are_where_they_are_printed();
     let LazyPrinted { text, tokens, .. } = finish(steps, &mut faults)?;

@@ -4,7 +4,7 @@ pub mod Rooting
 pub mod Sources
 pub mod SourceReads
 pub mod Picks
-pub mod Imports
 -- what the functions inside the crate promise each other
+pub mod Imports
 pub mod SourceItems
 pub mod Builds

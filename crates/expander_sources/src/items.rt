@@ -82,7 +82,8 @@ fn end_of(trees: &TtIter<'_>) -> u32
 // The definition of a source in these modules that has this piece.
 fn new_item(modules: Vec<Symbol>, import: Import) -> Result<SourceItem, AllocError>
     requires { IsImport import }
-    ensures { IfOk result (λ i. i ≡ record { modules = modules.items; piece = import_piece import }) }
+    ensures { IfOk result (λ i. i ≡ record
+        { modules = modules.items; piece = import_piece import }) }
 {
     let tree = import.tree.as_ref().tree().iter();
     let Some(definition) = definition_of(&tree) else {

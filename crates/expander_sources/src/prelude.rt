@@ -111,6 +111,14 @@ fn rooted_pick(
     Ok(Some(home_import(alloc, home, key, &item.import)?))
 }
 
+/// The definitions of a prelude in order, for a session.
+pub fn imports_of(prelude: &Prelude) -> &[Import]
+    ensures pieces { prelude.now ≡ import_pieces result.now }
+    ensures right { All IsImport result.now }
+{
+    prelude.imports.as_slice()
+}
+
 impl Prelude {
     ghost use Rattle.std.specs.Prelude.{◌≤◌};
 
@@ -121,14 +129,6 @@ impl Prelude {
         Prelude {
             imports: Vec::new(alloc),
         }
-    }
-
-    /// Its definitions in order.
-    pub fn imports(&self) -> &[Import]
-        ensures pieces { self.now ≡ import_pieces result.now }
-        ensures right { All IsImport result.now }
-    {
-        self.imports.as_slice()
     }
 
     /// How many definitions it has.

@@ -77,7 +77,8 @@ fn push_leaf<'a>(
     rest: &mut TtIter<'a>,
     tree: &mut TopSubtreeBuilder,
 ) -> Result<(), TtFault>
-    ensures puts { OnOk result (PutsRooted root.now (leaf_tree (leaf_lent leaf.entry) rest.old) rest.new
+    ensures puts { OnOk result (PutsRooted root.now
+        (leaf_tree (leaf_lent leaf.entry) rest.old) rest.new
         tree.old.tree tree.new.tree) }
     ensures faults { IfErr result IsBuildFault }
 {
@@ -211,7 +212,8 @@ fn push_head(
     at: Span,
     tree: &mut TopSubtreeBuilder,
 ) -> Result<(), TtFault>
-    ensures ok { OnOk result (Adds tree.old.tree tree.new.tree (head_at key definition.now at empty)) }
+    ensures ok { OnOk result (Adds tree.old.tree tree.new.tree
+        (head_at key definition.now at empty)) }
     ensures faults { IfErr result IsBuildFault }
 {
     push_keyword(alloc, definition.is_macro, at, tree)?;

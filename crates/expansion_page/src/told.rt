@@ -16,7 +16,8 @@ pub(crate) fn lines_of(
     faults: &[Fault],
 ) -> Result<Vec<String>, AllocError>
     requires { length text.now < 2 ^ 32 }
-    ensures { IfOk result (λ lines. map string_bytes lines.items ≡ map (fault_line text.now) faults.now) }
+    ensures { IfOk result (λ lines. map string_bytes lines.items
+        ≡ map (fault_line text.now) faults.now) }
 {
     let mut lines = Vec::new(alloc);
     let mut spot = FIRST;
@@ -36,8 +37,10 @@ pub(crate) fn marks_of<'a>(
     lines: &'a [String],
 ) -> Result<Vec<Mark<'a>>, AllocError>
     requires { length lines.now ≡ length faults.now }
-    ensures starts { IfOk result (λ marks. map (λ m. m.start) marks.items ≡ map (λ f. f.range.start) faults.now) }
-    ensures lines { IfOk result (λ marks. map (λ m. m.told.now) marks.items ≡ map string_bytes lines.now) }
+    ensures starts { IfOk result (λ marks. map (λ m. m.start) marks.items
+        ≡ map (λ f. f.range.start) faults.now) }
+    ensures lines { IfOk result (λ marks. map (λ m. m.told.now) marks.items
+        ≡ map string_bytes lines.now) }
 {
     let mut marks = Vec::new(alloc);
     for i in 0..faults.len() {
@@ -55,7 +58,8 @@ pub(crate) fn lone_mark<'a>(
     line: &'a String,
 ) -> Result<Vec<Mark<'a>>, AllocError>
     ensures starts { IfOk result (λ marks. map (λ m. m.start) marks.items ≡ start ∷ []) }
-    ensures lines { IfOk result (λ marks. map (λ m. m.told.now) marks.items ≡ string_bytes line.now ∷ []) }
+    ensures lines { IfOk result (λ marks. map (λ m. m.told.now) marks.items
+        ≡ string_bytes line.now ∷ []) }
 {
     let mut marks = Vec::new(alloc);
     let told = line.as_str();

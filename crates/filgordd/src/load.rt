@@ -1,12 +1,12 @@
 //! Reads the texts whose definitions a text is expanded after.
 ghost use Rattle.std.specs.Prelude.{◌≡◌, ◌≤◌, ◌<◌, ◌+◌, ◌^◌, length, IfOk};
 
+use crate::files::{misused, opened, read_whole, refused};
 use crate::job::Job;
 use crate::library::{CRATES, FILES, edition_in};
 use crate::other::{Other, other_of};
 use crate::picks::{push_file, push_library};
 use crate::source::blank_front;
-use crate::work::{misused, opened, read_whole, refused};
 use expander::{Edition, Home, Prelude, ReadFault, Source, SourceRead};
 use expander_run::lines::{FIRST, push_line, read_fault_words, spot_of};
 use std::alloc::{AllocError, AllocFailed, Global};

@@ -3,6 +3,7 @@
 #![tactic(auto)]
 
 mod command;
+mod files;
 mod job;
 mod library;
 mod load;
@@ -14,8 +15,9 @@ mod source;
 mod view;
 mod work;
 
+use crate::files::misused;
 use crate::request::{Request, request_of};
-use crate::work::{misused, perform};
+use crate::work::perform;
 use std::process::ExitCode;
 use std::{env, io};
 
