@@ -14,6 +14,14 @@ use std::process::ExitCode;
 use std::{fs, io};
 use tt_data::TtFault;
 
+/// The definitions that a text is expanded after.
+#[derive(Drop)]
+pub(crate) struct Others {
+    pub(crate) prelude: Prelude,
+    /// The names of the files that they come from, in order of the sources' numbers, from 1.
+    pub(crate) names: Vec<String>,
+}
+
 /// Why the program ends before it reads its text.
 #[derive(Drop)]
 pub(crate) enum Ended {
@@ -161,7 +169,7 @@ fn home_of(alloc: Global, homes: &[Home], file: &str) -> Result<Option<Home>, Al
 }
 
 // Adds the definitions of the library in this folder. Its sources have the numbers from 1 on.
-fn load_library(rt: &HostRuntime, prelude: &mut Prelude, folder: &str) -> Result<(), Ended> {
+fn load_library(rt: &HostRuntime, others: &mut Others, folder: &str) -> Result<(), Ended> {
     let homes = crate_homes(rt, folder)?;
     let mut sources = Vec::new(rt.alloc());
     for i in 0..FILES.len() {
@@ -170,7 +178,9 @@ fn load_library(rt: &HostRuntime, prelude: &mut Prelude, folder: &str) -> Result
         let home = home_of(rt.alloc(), homes.as_slice(), file)?;
         let number = i as u32 + 1;
         sources.push(file_source(rt, number, home, path.as_str())?)?;
+        others.names.push(String::from_str(rt.alloc(), file)?)?;
     }
+    let prelude = &mut others.prelude;
     match push_library(rt.alloc(), prelude, sources.as_slice(), homes.as_slice()) {
         Ok(()) => Ok(()),
         Err(fault) => refusal(rt, folder, fault_words(fault)),
@@ -178,7 +188,7 @@ fn load_library(rt: &HostRuntime, prelude: &mut Prelude, folder: &str) -> Result
 }
 
 // Adds the definitions of the file that a word names, as the source with this number.
-fn load_file(rt: &HostRuntime, prelude: &mut Prelude, number: u32, word: &str) -> Result<(), Ended>
+fn load_file(rt: &HostRuntime, others: &mut Others, number: u32, word: &str) -> Result<(), Ended>
     requires { 1 ≤ number }
 {
     let (home, path) = match other_of(rt.alloc(), word)? {
@@ -187,7 +197,8 @@ fn load_file(rt: &HostRuntime, prelude: &mut Prelude, number: u32, word: &str) -
         Other::BadEdition(year) => return misuse(rt, word, "there is no such edition"),
     };
     let source = file_source(rt, number, home, path)?;
-    match push_file(rt.alloc(), prelude, &source) {
+    others.names.push(String::from_str(rt.alloc(), path)?)?;
+    match push_file(rt.alloc(), &mut others.prelude, &source) {
         Ok(()) => Ok(()),
         Err(fault) => refusal(rt, path, fault_words(fault)),
     }
@@ -205,16 +216,19 @@ fn after(number: u32) -> Result<u32, AllocError>
 
 /// The definitions that a job's text is expanded after. Sources are numbered in this order: the
 /// library's files, and then the other files in the order of their words.
-pub(crate) fn prelude_of(rt: &HostRuntime, job: &Job<'_>) -> Result<Prelude, Ended> {
-    let mut prelude = Prelude::new(rt.alloc());
+pub(crate) fn others_of(rt: &HostRuntime, job: &Job<'_>) -> Result<Others, Ended> {
+    let mut others = Others {
+        prelude: Prelude::new(rt.alloc()),
+        names: Vec::new(rt.alloc()),
+    };
     let mut last = 0;
     if let Some(folder) = job.library {
-        load_library(rt, &mut prelude, folder)?;
+        load_library(rt, &mut others, folder)?;
         last = FILES.len() as u32;
     }
     for word in &job.with {
         last = after(last)?;
-        load_file(rt, &mut prelude, last, word)?;
+        load_file(rt, &mut others, last, word)?;
     }
-    Ok(prelude)
+    Ok(others)
 }

@@ -5,9 +5,10 @@ ghost use Rattle.expander_run.specs.Runs.{layers_of};
 ghost use Rattle.expander_session.specs.Replies.{IsReplyIn};
 ghost use Rattle.expander_session.specs.State.{definitions_of};
 
+use crate::load::Others;
 use any_grammar::AnyGrammar;
 use expander::{Options, Prelude, Refusal, Reply, Session};
-use expansion_page::page;
+use expansion_page::page_with_names;
 use std::alloc::{AllocError, Global};
 use std::io;
 use std::process::ExitCode;
@@ -49,21 +50,22 @@ fn stopped(rt: &HostRuntime, why: &str) -> io::Result<ExitCode> {
     Ok(ExitCode::FAILURE)
 }
 
-/// Prints the page of a text after these definitions, with this title. The status is 0 if the text
-/// has no fault, else 1.
+/// Prints the page of a text after these definitions, with this title. A token of another file says
+/// the name of that file. The status is 0 if the text has no fault, else 1.
 pub(crate) fn view(
     rt: &HostRuntime,
     options: Options<AnyGrammar>,
-    prelude: Prelude,
+    others: Others,
     title: &str,
     text: &str,
 ) -> io::Result<ExitCode> {
     if text.len() > 0xffff_ffff {
         return stopped(rt, "input is too long");
     }
+    let Others { prelude, names } = others;
     match reply_of(rt.alloc(), options, prelude, text) {
         Ok(reply) => {
-            let html = page(rt.alloc(), title, text, &reply)?;
+            let html = page_with_names(rt.alloc(), title, text, names.as_slice(), &reply)?;
             print!(rt; "{html}")?;
             Ok(if is_faultless(&reply) {
                 ExitCode::SUCCESS

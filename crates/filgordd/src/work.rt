@@ -2,7 +2,7 @@
 
 use crate::files::{misused, opened, read_whole, stopped};
 use crate::job::{Action, Job};
-use crate::load::{Ended, prelude_of};
+use crate::load::{Ended, Others, others_of};
 use crate::source::blank_front;
 use crate::view::view;
 use any_grammar::AnyGrammar;
@@ -38,12 +38,12 @@ fn expand(
 fn show(
     rt: &HostRuntime,
     options: Options<AnyGrammar>,
-    prelude: Prelude,
+    others: Others,
     name: &str,
     text: &[u8],
 ) -> io::Result<ExitCode> {
     match std::str::from_utf8(text) {
-        Ok(text) => view(rt, options, prelude, name, text),
+        Ok(text) => view(rt, options, others, name, text),
         Err(_) => stopped(rt, "input is not UTF-8"),
     }
 }
@@ -74,13 +74,13 @@ fn replay<R: Read + Drop>(
 fn answer(
     rt: &HostRuntime,
     job: &Job<'_>,
-    prelude: Prelude,
+    others: Others,
     name: &str,
     text: &[u8],
 ) -> io::Result<ExitCode> {
     match job.action {
-        Action::View => show(rt, job.options, prelude, name, text),
-        _ => Ok(expand(rt, job.options, prelude, text)),
+        Action::View => show(rt, job.options, others, name, text),
+        _ => Ok(expand(rt, job.options, others.prelude, text)),
     }
 }
 
@@ -88,7 +88,7 @@ fn answer(
 fn work_on<R: Read + Drop>(
     rt: &HostRuntime,
     job: &Job<'_>,
-    prelude: Prelude,
+    others: Others,
     name: &str,
     reader: R,
 ) -> io::Result<ExitCode> {
@@ -98,18 +98,18 @@ fn work_on<R: Read + Drop>(
     match read_whole(rt.alloc(), reader) {
         Ok(mut text) => {
             blank_front(text.as_mut_slice());
-            answer(rt, job, prelude, name, text.as_slice())
+            answer(rt, job, others, name, text.as_slice())
         }
         Err(why) => stopped(rt, why),
     }
 }
 
 // Does a job on its text after these definitions.
-fn work(rt: &HostRuntime, job: &Job<'_>, prelude: Prelude) -> io::Result<ExitCode> {
+fn work(rt: &HostRuntime, job: &Job<'_>, others: Others) -> io::Result<ExitCode> {
     match job.file {
-        None => work_on(rt, job, prelude, "standard input", rt.stdin()),
+        None => work_on(rt, job, others, "standard input", rt.stdin()),
         Some(path) => match opened(rt, path) {
-            Ok(file) => work_on(rt, job, prelude, path, file),
+            Ok(file) => work_on(rt, job, others, path, file),
             Err(error) => misused(rt, path, &error),
         },
     }
@@ -117,8 +117,8 @@ fn work(rt: &HostRuntime, job: &Job<'_>, prelude: Prelude) -> io::Result<ExitCod
 
 /// Does a job. The status is 2 where one of its files cannot be opened.
 pub(crate) fn perform(rt: &HostRuntime, job: &Job<'_>) -> io::Result<ExitCode> {
-    match prelude_of(rt, job) {
-        Ok(prelude) => work(rt, job, prelude),
+    match others_of(rt, job) {
+        Ok(others) => work(rt, job, others),
         Err(Ended::Status(status)) => Ok(status),
         Err(Ended::Failed(error)) => Err(error),
     }
