@@ -13,7 +13,15 @@ GROUPS = {'Parenthesis': 2, 'Brace': 3, 'Bracket': 4}
 RARE_WORDS = ['do yeet yield become gen', 'box default auto safe macro_rules union']
 RARE_SIGNS = ['/%^~']
 ANY = (1 << 60) - 1
-PREFIX = {'many': 'Many', 'maybe': 'Maybe', 'surely': 'Surely'}
+PREFIX = {'many': 'Many', 'maybe': 'Maybe', 'surely': 'Surely', 'unless': 'Unless'}
+
+
+ABBREVIATIONS = {'begins': 'unless (word "_" ∣ word "become" ∣ word "use")',
+                 'begins_in_condition': 'unless (brace ∣ word "_" ∣ word "become" ∣ word "use")'}
+
+
+def words_of(body):
+    return re.findall(r'"[^"]*"|[()⨾∣]|[A-Za-z0-9_]+', body)
 
 
 def read_rules():
@@ -23,7 +31,7 @@ def read_rules():
     for part in re.split(r'(?m)^says ', text)[2:]:
         head, body = part.split('=', 1)
         body = re.sub(r'(?m)^--.*$', '', body)
-        rules.append((head.strip(), re.findall(r'"[^"]*"|[()⨾∣]|[A-Za-z0-9_]+', body)))
+        rules.append((head.strip(), words_of(body)))
     return rules
 
 
@@ -60,6 +68,10 @@ class Reader:
             return inner
         if word in PREFIX:
             return (PREFIX[word], self.one())
+        if word == 'ahead':
+            return ('Unless', ('Unless', self.one()))
+        if word in ABBREVIATIONS:
+            return Reader(words_of(ABBREVIATIONS[word])).choice()
         if word in ('rule', 'since', 'word', 'single', 'glued'):
             return (word, self.take().strip('"'))
         return ('token', TOKENS[word])
@@ -178,7 +190,7 @@ class Starts:
         kind = e[0]
         if kind == 'Then':
             first, second = e[1], e[2]
-            if first[0] in ('Maybe', 'Many'):
+            if first[0] in ('Maybe', 'Many', 'Unless'):
                 return self.both(self.of(first[1]), self.of(second))
             return self.of(second) if first[0] == 'since' else self.of(first)
         if kind == 'Or':

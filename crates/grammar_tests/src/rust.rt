@@ -3,6 +3,7 @@ use crate::trees::{answer, repeated, tree};
 use fragment_grammar::{FragmentGrammar, Prefix, PrefixEntryPoint};
 use rust_grammar::RustGrammar;
 use std::alloc::Global;
+use std::process::Abort;
 use std::test::Fail;
 use tt_data::{Edition, TtFault};
 
@@ -151,6 +152,148 @@ const ROWS: [(PrefixEntryPoint, Edition, &str, Option<usize>); 25] = [
     (PrefixEntryPoint::Vis, Edition::Edition2021, "a", Some(0)),
 ];
 
+// What begins no fragment by rustc 1.95, which then goes on with the next rule, and what ends one early.
+const BEGINNINGS: [(PrefixEntryPoint, Edition, &str, Option<usize>); 28] = [
+    (
+        PrefixEntryPoint::Path,
+        Edition::Edition2021,
+        "< T as X > :: Y",
+        None,
+    ),
+    (
+        PrefixEntryPoint::Path,
+        Edition::Edition2021,
+        "< T > :: f ( 1 )",
+        None,
+    ),
+    (
+        PrefixEntryPoint::PatTop,
+        Edition::Edition2021,
+        "..= 9",
+        None,
+    ),
+    (PrefixEntryPoint::Pat, Edition::Edition2018, "..= 9", None),
+    (
+        PrefixEntryPoint::PatTop,
+        Edition::Edition2021,
+        "a @ ..= 9",
+        Some(6),
+    ),
+    (PrefixEntryPoint::Vis, Edition::Edition2021, "", None),
+    (PrefixEntryPoint::Vis, Edition::Edition2021, "= a", None),
+    (PrefixEntryPoint::Vis, Edition::Edition2021, ", a", Some(0)),
+    (
+        PrefixEntryPoint::Ty,
+        Edition::Edition2021,
+        "< T > :: m ! ( )",
+        Some(6),
+    ),
+    (
+        PrefixEntryPoint::PatTop,
+        Edition::Edition2021,
+        "< T > :: m ! ( )",
+        Some(6),
+    ),
+    (PrefixEntryPoint::Ty, Edition::Edition2021, "!= x", None),
+    (PrefixEntryPoint::Ty, Edition::Edition2021, "! = x", Some(1)),
+    (
+        PrefixEntryPoint::Stmt,
+        Edition::Edition2021,
+        "safe fn f ( ) ;",
+        Some(1),
+    ),
+    (
+        PrefixEntryPoint::Item,
+        Edition::Edition2021,
+        "safe fn f ( ) ;",
+        Some(6),
+    ),
+    (
+        PrefixEntryPoint::Stmt,
+        Edition::Edition2015,
+        "async unsafe fn f ( ) { }",
+        Some(1),
+    ),
+    (
+        PrefixEntryPoint::Stmt,
+        Edition::Edition2018,
+        "async unsafe fn f ( ) { }",
+        Some(8),
+    ),
+    (
+        PrefixEntryPoint::Stmt,
+        Edition::Edition2021,
+        "gen fn f ( ) { }",
+        Some(1),
+    ),
+    (
+        PrefixEntryPoint::Stmt,
+        Edition::Edition2024,
+        "gen fn f ( ) { }",
+        Some(7),
+    ),
+    (
+        PrefixEntryPoint::Expr,
+        Edition::Edition2021,
+        "become x",
+        None,
+    ),
+    (
+        PrefixEntryPoint::Expr,
+        Edition::Edition2021,
+        "a + become x",
+        Some(4),
+    ),
+    (
+        PrefixEntryPoint::Expr,
+        Edition::Edition2021,
+        "continue ( )",
+        Some(3),
+    ),
+    (
+        PrefixEntryPoint::Expr,
+        Edition::Edition2021,
+        "continue . x",
+        Some(3),
+    ),
+    (
+        PrefixEntryPoint::Expr,
+        Edition::Edition2021,
+        ".. _",
+        Some(2),
+    ),
+    (
+        PrefixEntryPoint::Stmt,
+        Edition::Edition2021,
+        "super let a = 1 ;",
+        Some(5),
+    ),
+    (
+        PrefixEntryPoint::Ty,
+        Edition::Edition2021,
+        "& pin mut a ,",
+        Some(4),
+    ),
+    (
+        PrefixEntryPoint::Expr,
+        Edition::Edition2021,
+        "a :: ( b ) -> c ,",
+        Some(9),
+    ),
+    (
+        PrefixEntryPoint::Expr,
+        Edition::Edition2021,
+        "return . a ? + 1 ,",
+        Some(6),
+    ),
+    (
+        PrefixEntryPoint::Expr,
+        Edition::Edition2021,
+        "for i in 0 .. { } ,",
+        Some(8),
+    ),
+];
+
 fn answer_in(
     alloc: Global,
     edition: Edition,
@@ -161,23 +304,35 @@ fn answer_in(
     Ok(RustGrammar::new(edition).prefix(entry, tree.token_trees()))
 }
 
-#[test]
-fn answers(rt: HostRuntime) -> Result<(), Fail> {
-    for (entry, edition, text, want) in &ROWS {
-        let got = answer_in(rt.alloc(), *edition, *entry, text)?;
+fn check_rows(
+    alloc: Global,
+    rt: &impl Abort,
+    rows: &[(PrefixEntryPoint, Edition, &str, Option<usize>)],
+) -> Result<(), Fail> {
+    for (entry, edition, text, want) in rows {
+        let got = answer_in(alloc, *edition, *entry, text)?;
         assert!(rt; got == answer(*want), "{text}: {got:?}");
     }
     Ok(())
 }
 
+#[test]
+fn answers(rt: HostRuntime) -> Result<(), Fail> {
+    check_rows(rt.alloc(), &rt, &ROWS)
+}
+
+#[test]
+fn beginnings(rt: HostRuntime) -> Result<(), Fail> {
+    check_rows(rt.alloc(), &rt, &BEGINNINGS)
+}
+
 // Lists whose rules stand in one another without end.
-const NESTED: [(PrefixEntryPoint, &str); 13] = [
+const NESTED: [(PrefixEntryPoint, &str); 12] = [
     (PrefixEntryPoint::Expr, "if"),
     (PrefixEntryPoint::Expr, "match"),
     (PrefixEntryPoint::Expr, "while"),
     (PrefixEntryPoint::Expr, "return"),
     (PrefixEntryPoint::Expr, "| x |"),
-    (PrefixEntryPoint::Expr, "x ="),
     (PrefixEntryPoint::Expr, "if let x ="),
     (PrefixEntryPoint::Ty, "A <"),
     (PrefixEntryPoint::Ty, "fn ( ) ->"),
@@ -210,7 +365,7 @@ fn nested_rules_end(rt: HostRuntime) -> Result<(), Fail> {
 
 #[test]
 fn many_signs(rt: HostRuntime) -> Result<(), Fail> {
-    for (unit, times) in [("-", 100_000), ("1 +", 50_000)] {
+    for (unit, times) in [("-", 100_000), ("1 +", 50_000), ("x =", 50_000)] {
         let got = answer_to_many(rt.alloc(), PrefixEntryPoint::Expr, unit, times, "1")?;
         assert!(rt; got == answer(Some(100_001)), "{unit}: {got:?}");
     }

@@ -186,7 +186,7 @@ module _ (m : ℕ) where
   token-out ed (as_token.Word k) f has out = ident-out (has_text (word_text k)) (λ i holds. word-only (word_text k) i has holds) f out
   token-out ed as_token.Name f has out = ident-out _ (λ i holds. any_ident i.sym has) f out
   token-out ed as_token.Identifier f has out = ident-out (λ i. true) (λ i holds. any_ident i.sym has) f out
-  token-out ed as_token.Literal f has out = literal-out (λ kind. true) has f out
+  token-out ed as_token.Literal f has out = literal-out _ has f out
   token-out ed as_token.Number f has out = literal-out _ has f out
   token-out ed (as_token.Group kind) f has out = group-out (λ k inner. same_kind kind k) (λ k inner holds. kind-only k kind (sym (kinds_same kind k holds)) has) f out
   token-out ed as_token.Restriction f has out =

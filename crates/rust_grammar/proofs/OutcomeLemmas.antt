@@ -7,9 +7,9 @@ use Rattle.tt_data.specs.declared.edition.Edition.{Edition}
 use Rattle.fragment_grammar.specs.declared.fragment.PrefixEntryPoint.{PrefixEntryPoint}
 use Rattle.small_grammar.specs.Passing.{passed-size}
 use Rattle.rust_grammar.specs.Answer.{rules_to, most_levels, entry_rule, comes_of}
-use Rattle.rust_grammar.specs.Expressions.{Expression, token, since, ◌⨾◌, ◌∣◌, many, maybe, surely, rule, Taking, and_then, otherwise, or_nothing, decided, next_round, rounds, taken}
-use Rattle.rust_grammar.specs.Names.{Name, entry_visibility, entry_block, entry_statement, entry_pattern, entry_patterns, entry_type, entry_expression, entry_path, entry_item, entry_attribute, group, lifetime, attribute, visibility, visible_item, item, module_item, extern_crate, as_clause, use_declaration, use_tree, function, abi, type_alias, structure, enumeration, union, constant, static_item, trait_item, implementation, extern_block, macro_rules, macro_definition, item_macro, macro_end, generic_params, generic_param, where_clause, where_predicate, let_statement, expression_statement, statement_macro, expression, expression_in_condition, operations, operations_in_condition, expression_end, expression_end_in_condition, binary_operator, assignment_operator, operand, operand_in_condition, sign, sign_in_condition, half_range, half_range_in_condition, jump, jump_in_condition, closure, closure_in_condition, closure_param, atom, atom_in_condition, async_block, with_block, if_expression, loop, postfix, dotted, patterns, pattern, range_pattern_end, pattern_bound, literal_value, type, type_no_bounds, type_sign, type_base, function_type, for_lifetimes, bounds, bound, simple_path, path, path_rest, qualified_path, type_path, type_path_rest, type_segment, generic_args, generic_arg}
-use Rattle.rust_grammar.specs.Outcomes.{Comes, as_token, by_edition, stopped, went_on, by_first, by_second, no_round, one_round, left_out, put_in, not_found, was_found, fault_first, fault_either, fault_round, fault_maybe, fault_surely, by_rule, too_deep}
+use Rattle.rust_grammar.specs.Expressions.{Expression, token, since, ◌⨾◌, ◌∣◌, many, maybe, surely, unless, rule, Taking, and_then, otherwise, or_nothing, decided, without, next_round, rounds, taken}
+use Rattle.rust_grammar.specs.Names.{Name, entry_visibility, entry_block, entry_statement, entry_pattern, entry_patterns, entry_type, entry_expression, entry_path, entry_item, entry_attribute, group, lifetime, attribute, visibility, statement_item, item, module_item, extern_crate, as_clause, use_declaration, use_tree, function, abi, type_alias, structure, enumeration, union, constant, static_item, trait_item, implementation, extern_block, macro_rules, macro_definition, reuse, item_macro, macro_end, generic_params, generic_param, where_clause, where_predicate, let_statement, expression_statement, statement_macro, expression, expression_in_condition, operations, operations_in_condition, assignment, assignment_in_condition, binary_operator, assignment_operator, operand, operand_in_condition, sign, sign_in_condition, half_range, half_range_in_condition, jump, jump_in_condition, closure, closure_in_condition, closure_param, atom, atom_in_condition, async_block, with_block, if_expression, loop, postfix, dotted, patterns, pattern, range_pattern_end, pattern_bound, literal_value, type, type_no_bounds, type_sign, type_base, function_type, for_lifetimes, bounds, bound, simple_path, path, path_rest, self_type, qualified_path, type_path, type_path_rest, type_segment, generic_args, generic_arg}
+use Rattle.rust_grammar.specs.Outcomes.{Comes, as_token, by_edition, stopped, went_on, by_first, by_second, no_round, one_round, left_out, put_in, not_found, was_found, is_absent, is_there, fault_unless, fault_first, fault_either, fault_round, fault_maybe, fault_surely, by_rule, too_deep}
 use Rattle.rust_grammar.specs.Passing.{least, expression-takes, rules_to-take}
 use Rattle.rust_grammar.specs.Rules.{says}
 use Rattle.rust_grammar.specs.declared.outcome.Outcome.{Outcome}
@@ -25,6 +25,7 @@ is_finite (a ∣ b) = is_finite a && is_finite b
 is_finite (many a) = nat_lt 0 (least a) && is_finite a
 is_finite (maybe a) = is_finite a
 is_finite (surely a) = is_finite a
+is_finite (unless a) = is_finite a
 is_finite (rule k) = true
 
 says-finite : (k : Name) → is_finite (says k) ≡ true
@@ -42,7 +43,7 @@ says-finite group = refl
 says-finite lifetime = refl
 says-finite attribute = refl
 says-finite visibility = refl
-says-finite visible_item = refl
+says-finite statement_item = refl
 says-finite item = refl
 says-finite module_item = refl
 says-finite extern_crate = refl
@@ -62,6 +63,7 @@ says-finite implementation = refl
 says-finite extern_block = refl
 says-finite macro_rules = refl
 says-finite macro_definition = refl
+says-finite reuse = refl
 says-finite item_macro = refl
 says-finite macro_end = refl
 says-finite generic_params = refl
@@ -75,8 +77,8 @@ says-finite expression = refl
 says-finite expression_in_condition = refl
 says-finite operations = refl
 says-finite operations_in_condition = refl
-says-finite expression_end = refl
-says-finite expression_end_in_condition = refl
+says-finite assignment = refl
+says-finite assignment_in_condition = refl
 says-finite binary_operator = refl
 says-finite assignment_operator = refl
 says-finite operand = refl
@@ -114,6 +116,7 @@ says-finite bound = refl
 says-finite simple_path = refl
 says-finite path = refl
 says-finite path_rest = refl
+says-finite self_type = refl
 says-finite qualified_path = refl
 says-finite type_path = refl
 says-finite type_path_rest = refl
@@ -184,6 +187,9 @@ comes-once ed n (maybe a) f o fin (fault_maybe _ _ _ _ fault) = ap (λ p. or_not
 comes-once ed n (surely a) f o fin (not_found _ _ _ _ none) = ap decided (comes-once ed n a f Misses fin none)
 comes-once ed n (surely a) f o fin (was_found _ _ _ _ g some) = ap decided (comes-once ed n a f (Fits g) fin some)
 comes-once ed n (surely a) f o fin (fault_surely _ _ _ _ fault) = ap decided (comes-once ed n a f Faults fin fault)
+comes-once ed n (unless a) f o fin (is_absent _ _ _ _ none) = ap (λ p. without p f) (comes-once ed n a f Misses fin none)
+comes-once ed n (unless a) f o fin (is_there _ _ _ _ g some) = ap (λ p. without p f) (comes-once ed n a f (Fits g) fin some)
+comes-once ed n (unless a) f o fin (fault_unless _ _ _ _ fault) = ap (λ p. without p f) (comes-once ed n a f Faults fin fault)
 comes-once ed zero (rule k) f o fin (too_deep _ _ _) = refl
 comes-once ed (suc n) (rule k) f o fin (by_rule _ _ _ _ _ more) = comes-once ed n (says k) f o (says-finite k) more
 
@@ -209,6 +215,11 @@ module _ (ed : Edition) (n : ℕ) where
   surely_comes a f (Fits g) some = was_found ed n a f g some
   surely_comes a f Misses none = not_found ed n a f none
   surely_comes a f Faults fault = fault_surely ed n a f fault
+
+  unless_comes : (a : Expression) (f : Forest) (o : Outcome) → Comes ed n a f o → Comes ed n (unless a) f (without o f)
+  unless_comes a f (Fits g) some = is_there ed n a f g some
+  unless_comes a f Misses none = is_absent ed n a f none
+  unless_comes a f Faults fault = fault_unless ed n a f fault
 
   round_comes : (a : Expression) → Shrinks (outcome ed n a) → (f : Forest) (o : Outcome) → outcome ed n a f ≡ o → Comes ed n a f o →
       ((g : Forest) → outcome ed n a f ≡ Fits g → Comes ed n (many a) g (outcome ed n (many a) g)) → Comes ed n (many a) f (outcome ed n (many a) f)
@@ -237,6 +248,7 @@ module _ (ed : Edition) (n : ℕ) where
         (suc (size f)) f (omega arith)
     comes-from (maybe a) fin f = maybe_comes a f (outcome ed n a f) (comes-from a fin f)
     comes-from (surely a) fin f = surely_comes a f (outcome ed n a f) (comes-from a fin f)
+    comes-from (unless a) fin f = unless_comes a f (outcome ed n a f) (comes-from a fin f)
     comes-from (rule k) fin f = below k f
 
 pub rules-come : (ed : Edition) (n : ℕ) (k : Name) (f : Forest) → Comes ed n (rule k) f (rules_to ed n k f)

@@ -1,17 +1,18 @@
 -- Worked examples, by computation: for each rule a text of which a part is taken, and one that it refuses.
 -- The reader of the small grammar's examples reads the texts.
-use Rattle.std.proofs.Common.{◌≡◌, ℕ, ◌-◌, List, [], ◌∷◌, refl, Option, Some, None}
+use Rattle.std.proofs.Common.{◌≡◌, ℕ, ◌-◌, true, false, List, [], ◌∷◌, refl, Option, Some, None}
 use Rattle.std.specs.Prelude.{map}
 use Prim.Native.String.{String}
 use Rattle.tt_data.specs.Forest.{Forest, joined}
 use Rattle.tt_data.specs.declared.edition.Edition.{Edition}
 use Rattle.tt_data.specs.declared.edition.Edition.TheVariants.{Edition2015, Edition2018, Edition2021, Edition2024}
+use Rattle.tt_data.specs.declared.leaf.LitKind.TheVariants as lit_kind
 use Rattle.fragment_grammar.specs.Steps.{steps}
 use Rattle.small_grammar.proofs.Rows.{trees}
 use Rattle.small_grammar.specs.Tokens as small
 use Rattle.rust_grammar.specs.Answer.{rules_to, most_levels}
-use Rattle.rust_grammar.specs.Names.{Name, entry_visibility, entry_block, entry_statement, entry_pattern, entry_patterns, entry_type, entry_expression, entry_path, entry_item, entry_attribute, group, lifetime, attribute, visibility, visible_item, item, module_item, extern_crate, as_clause, use_declaration, use_tree, function, abi, type_alias, structure, enumeration, union, constant, static_item, trait_item, implementation, extern_block, macro_rules, macro_definition, item_macro, macro_end, generic_params, generic_param, where_clause, where_predicate, let_statement, expression_statement, statement_macro, expression, expression_in_condition, operations, operations_in_condition, expression_end, expression_end_in_condition, binary_operator, assignment_operator, operand, operand_in_condition, sign, sign_in_condition, half_range, half_range_in_condition, jump, jump_in_condition, closure, closure_in_condition, closure_param, atom, atom_in_condition, async_block, with_block, if_expression, loop, postfix, dotted, patterns, pattern, range_pattern_end, pattern_bound, literal_value, type, type_no_bounds, type_sign, type_base, function_type, for_lifetimes, bounds, bound, simple_path, path, path_rest, qualified_path, type_path, type_path_rest, type_segment, generic_args, generic_arg}
-use Rattle.rust_grammar.specs.Tokens.{token_at}
+use Rattle.rust_grammar.specs.Names.{Name, entry_visibility, entry_block, entry_statement, entry_pattern, entry_patterns, entry_type, entry_expression, entry_path, entry_item, entry_attribute, group, lifetime, attribute, visibility, statement_item, item, module_item, extern_crate, as_clause, use_declaration, use_tree, function, abi, type_alias, structure, enumeration, union, constant, static_item, trait_item, implementation, extern_block, macro_rules, macro_definition, reuse, item_macro, macro_end, generic_params, generic_param, where_clause, where_predicate, let_statement, expression_statement, statement_macro, expression, expression_in_condition, operations, operations_in_condition, assignment, assignment_in_condition, binary_operator, assignment_operator, operand, operand_in_condition, sign, sign_in_condition, half_range, half_range_in_condition, jump, jump_in_condition, closure, closure_in_condition, closure_param, atom, atom_in_condition, async_block, with_block, if_expression, loop, postfix, dotted, patterns, pattern, range_pattern_end, pattern_bound, literal_value, type, type_no_bounds, type_sign, type_base, function_type, for_lifetimes, bounds, bound, simple_path, path, path_rest, self_type, qualified_path, type_path, type_path_rest, type_segment, generic_args, generic_arg}
+use Rattle.rust_grammar.specs.Tokens.{token_at, is_literal}
 use Rattle.rust_grammar.specs.declared.outcome.Outcome.{Outcome}
 use Rattle.rust_grammar.specs.declared.outcome.Outcome.TheVariants.{Fits, Misses, Faults}
 
@@ -90,7 +91,7 @@ entries-refused = refl
 abbrev of_items : List Taken
 of_items =
     (visibility, "pub(in a)", "fn")
-    ∷ (visible_item, "pub fn f();", "x")
+    ∷ (statement_item, "pub fn f();", "x")
     ∷ (item, "struct S;", "x")
     ∷ (module_item, "unsafe mod m;", "x")
     ∷ (extern_crate, "extern crate a as b;", "x")
@@ -110,6 +111,7 @@ of_items =
     ∷ (extern_block, "unsafe extern \"C\" { }", "x")
     ∷ (macro_rules, "macro_rules! m { }", "x")
     ∷ (macro_definition, "macro m(a) { }", "x")
+    ∷ (reuse, "reuse a::b as c;", "x")
     ∷ (item_macro, "a::m! { }", "x")
     ∷ (macro_end, "( a );", "x")
     ∷ (generic_params, "<'a, T: A = B, const N: u8 = 1>", "(x)")
@@ -125,7 +127,7 @@ items-taken = refl
 abbrev no_items : List (Name × String)
 no_items =
     (visibility, "crate")
-    ∷ (visible_item, "pub x")
+    ∷ (statement_item, "pub x")
     ∷ (item, "let x")
     ∷ (module_item, "mod { }")
     ∷ (extern_crate, "extern a ;")
@@ -145,6 +147,7 @@ no_items =
     ∷ (extern_block, "extern fn")
     ∷ (macro_rules, "macro_rules ! { }")
     ∷ (macro_definition, "macro m ( a )")
+    ∷ (reuse, "reuse :: { }")
     ∷ (item_macro, "a ! ( )")
     ∷ (macro_end, "( a )")
     ∷ (generic_params, "< T")
@@ -168,8 +171,8 @@ of_statements =
     ∷ (expression_in_condition, "a == S", "{ b }")
     ∷ (operations, "+ a as u8 * b", ", c")
     ∷ (operations_in_condition, "&& let x = y", "{ }")
-    ∷ (expression_end, "+= b", ", c")
-    ∷ (expression_end_in_condition, "..a", "{ }")
+    ∷ (assignment, "+= b", ", c")
+    ∷ (assignment_in_condition, "= S", "{ }")
     ∷ (binary_operator, "<=", "b")
     ∷ (assignment_operator, "<<=", "b")
     ∷ (operand, "-!&mut a.b(c)?", "+ d")
@@ -191,8 +194,8 @@ no_statements =
     ∷ (expression_in_condition, "= a")
     ∷ (operations, "+ ;")
     ∷ (operations_in_condition, "- ;")
-    ∷ (expression_end, "+ b")
-    ∷ (expression_end_in_condition, "+ b")
+    ∷ (assignment, "+ b")
+    ∷ (assignment_in_condition, "+ b")
     ∷ (binary_operator, "=")
     ∷ (assignment_operator, "==")
     ∷ (operand, "+ a")
@@ -325,7 +328,8 @@ of_paths =
     (simple_path, "::a::b", "< c")
     ∷ (path, "a::<u8>::b", "< c")
     ∷ (path_rest, "::a::<u8>", ". b")
-    ∷ (qualified_path, "<A as B>::C<D>", "! e")
+    ∷ (self_type, "<A as B>", "::C")
+    ∷ (qualified_path, "<A as B>::C::<D>", "! e")
     ∷ (type_path, "::a<b>::c(d) -> e", ", f")
     ∷ (type_path_rest, "::a<b>", ", c")
     ∷ (type_segment, "A<B>", "> c")
@@ -343,6 +347,7 @@ abbrev no_paths : List (Name × String)
 no_paths =
     (simple_path, "3")
     ∷ (path, "3")
+    ∷ (self_type, "A")
     ∷ (qualified_path, "< A >")
     ∷ (type_path, "3")
     ∷ (type_segment, "3")
@@ -380,6 +385,42 @@ editions =
     ∷ (Edition2015, closure, "async || a", None)
     ∷ (Edition2018, closure, "async || a", Some 4)
     ∷ []
+
+-- what begins no fragment, and what ends it early
+abbrev beginnings : List (Edition × Name × String × Option ℕ)
+beginnings =
+    (Edition2021, entry_path, "<T as X>::Y", None)
+    ∷ (Edition2021, entry_path, "<T>::f(1)", None)
+    ∷ (Edition2021, entry_patterns, "..=9", None)
+    ∷ (Edition2021, entry_pattern, "..=9", None)
+    ∷ (Edition2021, entry_pattern, "a @ ..=9", Some 6)
+    ∷ (Edition2021, entry_visibility, "", None)
+    ∷ (Edition2021, entry_visibility, "= a", None)
+    ∷ (Edition2021, entry_visibility, ", a", Some 0)
+    ∷ (Edition2021, entry_type, "<T>::m! ()", Some 6)
+    ∷ (Edition2021, entry_patterns, "<T>::m! ()", Some 6)
+    ∷ (Edition2021, entry_type, "!= x", None)
+    ∷ (Edition2021, entry_type, "! = x", Some 1)
+    ∷ (Edition2021, entry_statement, "safe fn f();", Some 1)
+    ∷ (Edition2021, entry_item, "safe fn f();", Some 6)
+    ∷ (Edition2015, entry_statement, "async unsafe fn f() { }", Some 1)
+    ∷ (Edition2018, entry_statement, "async unsafe fn f() { }", Some 8)
+    ∷ (Edition2021, entry_statement, "gen fn f() { }", Some 1)
+    ∷ (Edition2024, entry_statement, "gen fn f() { }", Some 7)
+    ∷ (Edition2021, entry_expression, "become x", None)
+    ∷ (Edition2021, entry_expression, "a + become x", Some 4)
+    ∷ (Edition2021, entry_expression, "continue ()", Some 3)
+    ∷ (Edition2021, entry_expression, "continue.x", Some 3)
+    ∷ (Edition2021, entry_expression, ".. _", Some 2)
+    ∷ []
+
+beginnings-rows : asked_in beginnings ≡ expected_in beginnings
+unfolding token_at small.token_at most_levels
+beginnings-rows = refl
+
+-- `c"x"` is two tokens before edition 2021
+c_strings : map (λ e. is_literal e lit_kind.CStr) (Edition2015 ∷ Edition2018 ∷ Edition2021 ∷ Edition2024 ∷ []) ≡ false ∷ false ∷ true ∷ true ∷ []
+c_strings = refl
 
 editions-rows : asked_in editions ≡ expected_in editions
 unfolding token_at small.token_at most_levels

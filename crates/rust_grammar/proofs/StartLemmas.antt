@@ -23,7 +23,7 @@ use Rattle.rust_grammar.specs.declared.outcome.Outcome.{Outcome}
 use Rattle.rust_grammar.specs.declared.outcome.Outcome.TheVariants.{Fits, Misses, Faults}
 use Rattle.rust_grammar.specs.declared.table.TheConstants.{NODES, IDENTS, SIGNS, STARTS}
 use Rattle.rust_grammar.proofs.ClassLemmas.{token-out}
-use Rattle.rust_grammar.proofs.StepLemmas.{two_parts, one_part, token_comes, since_comes, then_fits, then_misses, or_misses, many_comes, maybe_comes, rule_on, rounds_end}
+use Rattle.rust_grammar.proofs.StepLemmas.{two_parts, one_part, token_comes, since_comes, then_fits, then_misses, or_misses, many_comes, maybe_comes, unless_comes, rule_on, rounds_end}
 use Rattle.rust_grammar.proofs.TableLemmas.{node-sound, root-says, root-within}
 
 -- ---- what is computed
@@ -44,6 +44,7 @@ has_all i = covers 60 (2 ^ 60 - 1) (starts_at i)
 abbrev is_first : ℕ → ℕ → Node → Bool
 is_first i n node.Maybe = has_part i (i + 2) && has_part i (i + n)
 is_first i n node.Many = has_part i (i + 2) && has_part i (i + n)
+is_first i n node.Unless = has_part i (i + 2) && has_part i (i + n)
 is_first i n (node.Since first) = has_part i (i + n)
 is_first i n _ = has_part i (i + 1)
 
@@ -132,10 +133,10 @@ start_at i (suc j) (n ∷ ns) fits e =
     let same : i + suc j ≡ suc i + j = omega arith in
     rw same (start_at (suc i) j ns (omega (arith, fits)) (and_parts (is_start i n) (all_start (suc i) ns) e).1)
 
-nodes_long : length NODES ≡ 1391
+nodes_long : length NODES ≡ 1564
 nodes_long = refl
 
-node-start : (i : ℕ) → i < 1391 → is_start i (node_at i) ≡ true
+node-start : (i : ℕ) → i < 1564 → is_start i (node_at i) ≡ true
 unfolding node_at
 node-start i fits = (let same : 0 + i ≡ i = omega arith in subst (λ k. is_start k (get_or NODES i node.Many) ≡ true) same (start_at 0 i NODES (omega (arith, fits, nodes_long)) all_nodes_start))
 
@@ -155,20 +156,20 @@ module _ (ed : Edition) (f : Forest) where
       let one = bit_at_ones 60 (class_of f) (class-below f) in
       omega (arith, h, out, one)
 
-  module _ (levels i : ℕ) (fits : i < 1391) (deep : levels_at i ≤ levels) (out : bit_at (starts_at i) (class_of f) ≡ 0)
-      (below_it : (l j : ℕ) → j < 1391 → l * 2000 + (1391 - j) < levels * 2000 + (1391 - i) → MissesAt l j) where
-    part : (j : ℕ) → i < j → j < 1391 → has_part i j ≡ true → comes_at ed levels j f ≡ Misses
+  module _ (levels i : ℕ) (fits : i < 1564) (deep : levels_at i ≤ levels) (out : bit_at (starts_at i) (class_of f) ≡ 0)
+      (below_it : (l j : ℕ) → j < 1564 → l * 2000 + (1564 - j) < levels * 2000 + (1564 - i) → MissesAt l j) where
+    part : (j : ℕ) → i < j → j < 1564 → has_part i j ≡ true → comes_at ed levels j f ≡ Misses
     part j later within has =
         let parts = and_parts (covers 60 (starts_at j) (starts_at i)) (nat_le (levels_at j) (levels_at i)) has in
         let less = leb-true (levels_at j) (levels_at i) parts.1 in
         below_it levels j within (omega (arith, later, within)) (omega (arith, less, deep)) (lacks i j parts.0 out)
 
     -- a first part that takes nothing, and a second that misses
-    behind_nothing : (n : ℕ) → node.Then n ≡ node_at i → 1 < n → i + n < 1391 → has_part i (i + n) ≡ true → comes_at ed levels (i + 1) f ≡ Fits f → comes_at ed levels i f ≡ Misses
+    behind_nothing : (n : ℕ) → node.Then n ≡ node_at i → 1 < n → i + n < 1564 → has_part i (i + n) ≡ true → comes_at ed levels (i + 1) f ≡ Fits f → comes_at ed levels i f ≡ Misses
     behind_nothing n e more within has nothing =
         sym (then_fits ed levels i fits n f f e (sym nothing)) ∙ part (i + n) (omega (arith, more)) within has
 
-    by_first : (n : ℕ) → node.Then n ≡ node_at i → 1 < n → i + n < 1391 → (first : Node) → first ≡ node_at (i + 1) → is_sound (i + 1) first ≡ true → is_first i n first ≡ true →
+    by_first : (n : ℕ) → node.Then n ≡ node_at i → 1 < n → i + n < 1564 → (first : Node) → first ≡ node_at (i + 1) → is_sound (i + 1) first ≡ true → is_first i n first ≡ true →
         comes_at ed levels i f ≡ Misses
     by_first n e more within node.Maybe is sound has =
         let parts = and_parts (has_part i (i + 2)) (has_part i (i + n)) has in
@@ -183,6 +184,12 @@ module _ (ed : Edition) (f : Forest) where
         let missed : Misses ≡ comes_at ed levels (i + 1 + 1) f = sym (ap (λ k. comes_at ed levels k f) same ∙ part (i + 2) (omega arith) (omega (arith, inner)) parts.0) in
         behind_nothing n e more within parts.1
         (sym (rounds_end (suc (size f)) (size f) (comes_at ed levels (i + 1 + 1)) f refl missed ∙ many_comes ed levels (i + 1) (omega (arith, more, within)) f is))
+    by_first n e more within node.Unless is sound has =
+        let parts = and_parts (has_part i (i + 2)) (has_part i (i + n)) has in
+        let inner = one_part (i + 1) sound in
+        let same : i + 1 + 1 ≡ i + 2 = omega arith in
+        let missed : Misses ≡ comes_at ed levels (i + 1 + 1) f = sym (ap (λ k. comes_at ed levels k f) same ∙ part (i + 2) (omega arith) (omega (arith, inner)) parts.0) in
+        behind_nothing n e more within parts.1 (sym (unless_comes ed levels (i + 1) (omega (arith, more, within)) f Misses is missed))
     by_first n e more within (node.Since first) is sound has = by_edition (nat_le (year_of first) (year_of ed)) refl
       where
         by_edition : (b : Bool) → nat_le (year_of first) (year_of ed) ≡ b → comes_at ed levels i f ≡ Misses
@@ -209,21 +216,22 @@ module _ (ed : Edition) (f : Forest) where
     by_node node.Many e sound has = absurd (full i has out)
     by_node node.Maybe e sound has = absurd (full i has out)
     by_node node.Surely e sound has = absurd (full i has out)
+    by_node node.Unless e sound has = absurd (full i has out)
     by_node (node.Rule k) e sound has =
         let both = and_parts (covers 60 (starts_at (root_at k)) (starts_at i)) (nat_lt (levels_at (root_at k)) (levels_at i)) has in
         let more = ltb-true (levels_at (root_at k)) (levels_at i) both.1 in
-        let known = ltb-true k 92 sound in
+        let known = ltb-true k 94 sound in
         let within = root-within k known in
         sym (rule_on ed levels (levels - 1) i (root_at k) fits k f e (omega (arith, more, deep)) (root-says k known))
         ∙ below_it (levels - 1) (root_at k) within (omega (arith, within, more, deep)) (omega (arith, more, deep)) (lacks i (root_at k) both.0 out)
 
-  misses_from : (fuel levels i : ℕ) → i < 1391 → levels * 2000 + (1391 - i) < fuel → MissesAt levels i
+  misses_from : (fuel levels i : ℕ) → i < 1564 → levels * 2000 + (1564 - i) < fuel → MissesAt levels i
   misses_from zero levels i fits less deep out = absurd (omega (arith, less))
   misses_from (suc fuel) levels i fits less deep out =
       by_node levels i fits deep out (λ l j within fewer. misses_from fuel l j within (omega (arith, less, fewer))) (node_at i) refl (node-sound i fits) (node-start i fits)
 
   -- so what the table says of a node holds
-  pub starts_miss : (levels i c : ℕ) → i < 1391 → levels_at i ≤ levels → c ≡ class_of f → bit_and (starts_at i / 2 ^ c) 1 ≡ 0 → comes_at ed levels i f ≡ Misses
+  pub starts_miss : (levels i c : ℕ) → i < 1564 → levels_at i ≤ levels → c ≡ class_of f → bit_and (starts_at i / 2 ^ c) 1 ≡ 0 → comes_at ed levels i f ≡ Misses
   starts_miss levels i c fits deep same out =
-      misses_from (suc (levels * 2000 + (1391 - i))) levels i fits (omega arith) deep
+      misses_from (suc (levels * 2000 + (1564 - i))) levels i fits (omega arith) deep
       (ap (bit_at (starts_at i)) (sym same) ∙ sym (shr_and_one (starts_at i) c) ∙ out)

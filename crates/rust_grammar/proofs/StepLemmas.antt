@@ -6,7 +6,7 @@ use Rattle.tt_data.specs.Editions.{year_of}
 use Rattle.tt_data.specs.Forest.{Forest, size}
 use Rattle.tt_data.specs.declared.edition.Edition.{Edition}
 use Rattle.rust_grammar.specs.Answer.{rules_to}
-use Rattle.rust_grammar.specs.Expressions.{Taking, found, nothing_if, and_then, otherwise, or_nothing, decided, next_round, rounds, taken}
+use Rattle.rust_grammar.specs.Expressions.{Taking, found, nothing_if, and_then, otherwise, or_nothing, decided, without, next_round, rounds, taken}
 use Rattle.rust_grammar.specs.Rules.{says}
 use Rattle.rust_grammar.specs.Table.{stands, expression_at, node_at, name_at, is_sound, comes_at, token_of}
 use Rattle.rust_grammar.specs.Tokens.{token_at}
@@ -19,18 +19,18 @@ use Rattle.rust_grammar.proofs.TableLemmas.{node-stands}
 
 -- ---- places
 
-pub two_parts : (i k : ℕ) → (nat_lt 1 k && nat_lt (i + k) 1391) ≡ true → (1 < k) × (i + k < 1391)
-two_parts i k e = (ltb-true 1 k (and_parts (nat_lt 1 k) (nat_lt (i + k) 1391) e).0, ltb-true (i + k) 1391 (and_parts (nat_lt 1 k) (nat_lt (i + k) 1391) e).1)
+pub two_parts : (i k : ℕ) → (nat_lt 1 k && nat_lt (i + k) 1564) ≡ true → (1 < k) × (i + k < 1564)
+two_parts i k e = (ltb-true 1 k (and_parts (nat_lt 1 k) (nat_lt (i + k) 1564) e).0, ltb-true (i + k) 1564 (and_parts (nat_lt 1 k) (nat_lt (i + k) 1564) e).1)
 
-pub one_part : (i : ℕ) → nat_lt (i + 1) 1391 ≡ true → i + 1 < 1391
-one_part i e = ltb-true (i + 1) 1391 e
+pub one_part : (i : ℕ) → nat_lt (i + 1) 1564 ≡ true → i + 1 < 1564
+one_part i e = ltb-true (i + 1) 1564 e
 
 pub sound_as : (i : ℕ) (n m : Node) → is_sound i n ≡ true → n ≡ m → is_sound i m ≡ true
 sound_as i n m sound e = subst (λ k. is_sound i k ≡ true) e sound
 
 -- ---- nodes
 
-module _ (ed : Edition) (levels place : ℕ) (fits : place < 1391) where
+module _ (ed : Edition) (levels place : ℕ) (fits : place < 1564) where
   step : (n : Node) (f : Forest) → n ≡ node_at place → comes_at ed levels place f ≡ taken ed (rules_to ed levels) (stands n (λ m. expression_at (place + m))) f
   step n f e = ap (λ x. taken ed (rules_to ed levels) x f) (node-stands place fits ∙ ap (λ k. stands k (λ m. expression_at (place + m))) (sym e))
 
@@ -75,6 +75,9 @@ module _ (ed : Edition) (levels place : ℕ) (fits : place < 1391) where
   pub surely_comes : (f : Forest) (o : Outcome) → node.Surely ≡ node_at place → o ≡ comes_at ed levels (place + 1) f → decided o ≡ comes_at ed levels place f
   surely_comes f o e first = ap decided first ∙ sym (step node.Surely f e)
 
+  pub unless_comes : (f : Forest) (o : Outcome) → node.Unless ≡ node_at place → o ≡ comes_at ed levels (place + 1) f → without o f ≡ comes_at ed levels place f
+  unless_comes f o e first = ap (λ p. without p f) first ∙ sym (step node.Unless f e)
+
   rule_comes : (k : ℕ) (f : Forest) → node.Rule k ≡ node_at place → rules_to ed levels (name_at k) f ≡ comes_at ed levels place f
   rule_comes k f e = sym (step (node.Rule k) f e)
 
@@ -87,7 +90,7 @@ pub rule_from : (ed : Edition) (levels fewer root : ℕ) (k : ℕ) (f : Forest) 
 rule_from ed levels fewer root k f less says_so =
     ap (λ x. taken ed (rules_to ed fewer) x f) says_so ∙ ap (λ n. rules_to ed n (name_at k) f) (sym less)
 
-pub rule_on : (ed : Edition) (levels fewer place root : ℕ) → place < 1391 → (k : ℕ) (f : Forest) → node.Rule k ≡ node_at place → levels ≡ suc fewer →
+pub rule_on : (ed : Edition) (levels fewer place root : ℕ) → place < 1564 → (k : ℕ) (f : Forest) → node.Rule k ≡ node_at place → levels ≡ suc fewer →
     expression_at root ≡ says (name_at k) → comes_at ed fewer root f ≡ comes_at ed levels place f
 rule_on ed levels fewer place root fits k f e less says_so = rule_from ed levels fewer root k f less says_so ∙ rule_comes ed levels place fits k f e
 

@@ -11,7 +11,7 @@ use Rattle.small_grammar.specs.Text.{◌>>◌}
 use Rattle.small_grammar.specs.Tokens.{same_operator, spells, is_one_of_words, first_operator, passing}
 use Rattle.small_grammar.specs.declared.units.Operator.{Operator}
 use Rattle.small_grammar.specs.declared.units.Operator.TheVariants.{One, Two, Three}
-use Rattle.rust_grammar.specs.Expressions.{Expression, token, ◌⨾◌, ◌∣◌, many, maybe, surely}
+use Rattle.rust_grammar.specs.Expressions.{Expression, token, ◌⨾◌, ◌∣◌, many, maybe, surely, unless}
 use Rattle.rust_grammar.specs.Names.{names, entry_visibility}
 use Rattle.rust_grammar.specs.Rules.{says}
 use Rattle.rust_grammar.specs.Table.{at, stands, expressions, expression_at, node_at, root_at, name_at, set_texts, word_text, letters, is_sound}
@@ -22,7 +22,7 @@ use Rattle.rust_grammar.specs.declared.table.TheConstants.{NODES, ROOTS}
 
 -- ---- what is computed
 
-nodes_long : length NODES ≡ 1391
+nodes_long : length NODES ≡ 1564
 nodes_long = refl
 
 abbrev all_sound : ℕ → List Node → Bool
@@ -39,7 +39,7 @@ roots_say = refl
 
 abbrev all_within : List ℕ → Bool
 all_within [] = true
-all_within (n ∷ ns) = nat_lt n 1391 && all_within ns
+all_within (n ∷ ns) = nat_lt n 1564 && all_within ns
 
 roots_in : all_within ROOTS ≡ true
 roots_in = refl
@@ -53,7 +53,7 @@ sound_at i (suc j) (n ∷ ns) fits e =
     let same : i + suc j ≡ suc i + j = omega arith in
     rw same (sound_at (suc i) j ns (omega (arith, fits)) (and_parts (is_sound i n) (all_sound (suc i) ns) e).1)
 
-pub node-sound : (i : ℕ) → i < 1391 → is_sound i (node_at i) ≡ true
+pub node-sound : (i : ℕ) → i < 1564 → is_sound i (node_at i) ≡ true
 unfolding node_at
 node-sound i fits = (let same : 0 + i ≡ i = omega arith in subst (λ k. is_sound k (get_or NODES i node.Many) ≡ true) same (sound_at 0 i NODES (omega (arith, fits, nodes_long)) nodes_sound))
 
@@ -62,7 +62,7 @@ stands_at [] i fits = absurd (omega (arith, fits))
 stands_at (n ∷ ns) zero fits = refl
 stands_at (n ∷ ns) (suc i) fits = stands_at ns i (omega (arith, fits))
 
-above_one : (i n : ℕ) → (nat_lt 1 n && nat_lt (i + n) 1391) ≡ true → 1 ≤ n
+above_one : (i n : ℕ) → (nat_lt 1 n && nat_lt (i + n) 1564) ≡ true → 1 ≤ n
 above_one i zero e = absurd cc
 above_one i (suc n) e = omega arith
 
@@ -74,6 +74,7 @@ stands_same i (node.Or n) p q sound same = ap (λ e. e ∣ p n) (same 1 (omega a
 stands_same i node.Many p q sound same = ap many (same 1 (omega arith))
 stands_same i node.Maybe p q sound same = ap maybe (same 1 (omega arith))
 stands_same i node.Surely p q sound same = ap surely (same 1 (omega arith))
+stands_same i node.Unless p q sound same = ap unless (same 1 (omega arith))
 stands_same i (node.Rule k) p q sound same = refl
 
 part_at : (es : List Expression) (i m : ℕ) → 1 ≤ m → at (drop (suc i) es) (m - 1) ≡ at es (i + m)
@@ -82,7 +83,7 @@ part_at es i m one =
     get_or-drop (suc i) es (m - 1) (token a_name) ∙ ap (at es) same
 
 -- a node stands for an expression made of those of the nodes further on
-pub node-stands : (i : ℕ) → i < 1391 → expression_at i ≡ stands (node_at i) (λ m. expression_at (i + m))
+pub node-stands : (i : ℕ) → i < 1564 → expression_at i ≡ stands (node_at i) (λ m. expression_at (i + m))
 unfolding node_at expression_at
 node-stands i fits =
     stands_at NODES i (omega (arith, fits, nodes_long))
@@ -91,19 +92,19 @@ node-stands i fits =
 
 -- ---- rules
 
-pub root-says : (k : ℕ) → k < 92 → expression_at (root_at k) ≡ says (name_at k)
+pub root-says : (k : ℕ) → k < 94 → expression_at (root_at k) ≡ says (name_at k)
 unfolding expression_at root_at name_at
 root-says k fits =
     sym (get_or-map (at (expressions NODES)) ROOTS k 0 (token a_name) fits)
     ∙ ap (λ es. get_or es k (token a_name)) roots_say
     ∙ get_or-map says names k entry_visibility (token a_name) fits
 
-within_at : (ns : List ℕ) (k : ℕ) → k < length ns → all_within ns ≡ true → get_or ns k 0 < 1391
+within_at : (ns : List ℕ) (k : ℕ) → k < length ns → all_within ns ≡ true → get_or ns k 0 < 1564
 within_at [] k fits e = absurd (omega (arith, fits))
-within_at (n ∷ ns) zero fits e = ltb-true n 1391 (and_parts (nat_lt n 1391) (all_within ns) e).0
-within_at (n ∷ ns) (suc k) fits e = within_at ns k (omega (arith, fits)) (and_parts (nat_lt n 1391) (all_within ns) e).1
+within_at (n ∷ ns) zero fits e = ltb-true n 1564 (and_parts (nat_lt n 1564) (all_within ns) e).0
+within_at (n ∷ ns) (suc k) fits e = within_at ns k (omega (arith, fits)) (and_parts (nat_lt n 1564) (all_within ns) e).1
 
-pub root-within : (k : ℕ) → k < 92 → root_at k < 1391
+pub root-within : (k : ℕ) → k < 94 → root_at k < 1564
 unfolding root_at
 root-within k fits = within_at ROOTS k fits roots_in
 

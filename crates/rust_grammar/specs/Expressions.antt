@@ -25,6 +25,8 @@ pub data Expression : Type 0 where
   maybe : Expression → Expression
   -- decided: if it does not fit, the whole fragment is a fault
   surely : Expression → Expression
+  -- nothing, if this does not fit
+  unless : Expression → Expression
   -- the rule of this name
   rule : Name → Expression
 
@@ -68,6 +70,12 @@ decided (Fits rest) = Fits rest
 decided Misses = Faults
 decided Faults = Faults
 
+-- nothing is taken, if it missed
+abbrev pub without : Outcome → Forest → Outcome
+without (Fits rest) f = Misses
+without Misses f = Fits f
+without Faults f = Faults
+
 -- what came of one round, and the others after it
 abbrev pub next_round : Taking → Outcome → Forest → Outcome
 next_round others (Fits rest) f = others rest
@@ -89,4 +97,5 @@ taken edition rules (a ∣ b) f = otherwise (taken edition rules a f) (taken edi
 taken edition rules (many a) f = rounds (suc (size f)) (taken edition rules a) f
 taken edition rules (maybe a) f = or_nothing (taken edition rules a f) f
 taken edition rules (surely a) f = decided (taken edition rules a f)
+taken edition rules (unless a) f = without (taken edition rules a f) f
 taken edition rules (rule k) f = rules k f

@@ -8,6 +8,7 @@ use Rattle.tt_data.specs.Spans.{no_span}
 use Rattle.tt_data.specs.declared.delimiter.DelimiterKind.{DelimiterKind}
 use Rattle.tt_data.specs.declared.edition.Edition.{Edition}
 use Rattle.tt_data.specs.declared.leaf.Leaf.TheVariants as as_leaf
+use Rattle.tt_data.specs.declared.leaf.LitKind.{LitKind}
 use Rattle.tt_data.specs.declared.span.Span.{Span}
 use Rattle.fragment_grammar.specs.Steps.{steps}
 use Rattle.fragment_grammar.specs.declared.fragment.Prefix.{Prefix}
@@ -16,12 +17,14 @@ use Rattle.fragment_grammar.specs.declared.fragment.PrefixEntryPoint.TheVariants
 use Rattle.small_grammar.specs.Laws as small
 use Rattle.small_grammar.specs.Laws.{steps-moved, steps-joined, passed-steps}
 use Rattle.small_grammar.specs.Passing.{Passed}
+use Rattle.small_grammar.specs.Text.{◌>>◌}
+use Rattle.small_grammar.specs.Tokens.{literal_where}
 use Rattle.rust_grammar.specs.Answer.{rules_to, most_levels, entry_rule, comes_of, answer_of, answer}
-use Rattle.rust_grammar.specs.Expressions.{Expression, token, since, ◌⨾◌, ◌∣◌, many, maybe, surely, rule, Taking, found, nothing_if, and_then, otherwise, or_nothing, decided, next_round, rounds, taken}
+use Rattle.rust_grammar.specs.Expressions.{Expression, token, since, ◌⨾◌, ◌∣◌, many, maybe, surely, unless, rule, Taking, found, nothing_if, and_then, otherwise, or_nothing, decided, without, next_round, rounds, taken}
 use Rattle.rust_grammar.specs.Names.{Name}
 use Rattle.rust_grammar.specs.Passing.{TakesAtLeast, least_of, rules_to-take}
 use Rattle.rust_grammar.specs.Rules.{says}
-use Rattle.rust_grammar.specs.Tokens.{Token, fixed, a_name, one_of, a_const_bracket, is_const_bracket, token_at}
+use Rattle.rust_grammar.specs.Tokens.{Token, fixed, a_name, a_literal, one_of, a_const_bracket, is_const_bracket, token_at}
 use Rattle.rust_grammar.specs.declared.outcome.Outcome.{Outcome}
 use Rattle.rust_grammar.specs.declared.outcome.Outcome.TheVariants.{Fits, Misses, Faults}
 
@@ -45,10 +48,22 @@ module _ (m : Span → Span) where
   const_bracket-moved k (leaf (as_leaf.Literal l) rest) = refl
   const_bracket-moved k (group d inner rest) = refl
 
+  passes_moved : (b : Bool) (f : Forest) → (b >> Some (map_spans m f)) ≡ option_map (map_spans m) (b >> Some f)
+  passes_moved true f = refl
+  passes_moved false f = refl
+
+  literal-moved : (passes : LitKind → Bool) → small.Moves m (literal_where passes)
+  literal-moved passes empty = refl
+  literal-moved passes (leaf (as_leaf.Ident i) rest) = refl
+  literal-moved passes (leaf (as_leaf.Punct p) rest) = refl
+  literal-moved passes (leaf (as_leaf.Literal l) rest) = passes_moved (passes l.kind) rest
+  literal-moved passes (group d inner rest) = refl
+
   token-moved : (ed : Edition) (t : Token) → small.Moves m (token_at ed t)
   unfolding token_at
   token-moved ed (fixed t) = small.token-moved m t
   token-moved ed a_name = small.ident-moved m _ (λ i s. refl)
+  token-moved ed a_literal = literal-moved _
   token-moved ed (one_of texts) = small.operator-moved m _
   token-moved ed a_const_bracket = small.group-moved m is_const_bracket const_bracket-moved
 
@@ -80,6 +95,11 @@ module _ (m : Span → Span) where
   decided-moved Misses = refl
   decided-moved Faults = refl
 
+  without-moved : (o : Outcome) (f : Forest) → without (moved o) (map_spans m f) ≡ moved (without o f)
+  without-moved (Fits g) f = refl
+  without-moved Misses f = refl
+  without-moved Faults f = refl
+
   round-moved : (q : Taking) → Moves q → (o : Outcome) (f : Forest) → next_round q (moved o) (map_spans m f) ≡ moved (next_round q o f)
   round-moved q moves (Fits g) f = moves g
   round-moved q moves Misses f = refl
@@ -106,6 +126,8 @@ module _ (m : Span → Span) where
     expression-moved (maybe a) f =
         ap (λ o. or_nothing o (map_spans m f)) (expression-moved a f) ∙ or_nothing-moved (taken ed r a f) f
     expression-moved (surely a) f = ap decided (expression-moved a f) ∙ decided-moved (taken ed r a f)
+    expression-moved (unless a) f =
+        ap (λ o. without o (map_spans m f)) (expression-moved a f) ∙ without-moved (taken ed r a f) f
     expression-moved (rule k) f = r_moves k f
 
   rules_to-moved : (ed : Edition) (depth : ℕ) (k : Name) → Moves (rules_to ed depth k)

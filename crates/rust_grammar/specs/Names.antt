@@ -17,7 +17,7 @@ pub data Name : Type 0 where
   lifetime : Name
   attribute : Name
   visibility : Name
-  visible_item : Name
+  statement_item : Name
   item : Name
   module_item : Name
   extern_crate : Name
@@ -37,6 +37,7 @@ pub data Name : Type 0 where
   extern_block : Name
   macro_rules : Name
   macro_definition : Name
+  reuse : Name
   item_macro : Name
   macro_end : Name
   generic_params : Name
@@ -50,8 +51,8 @@ pub data Name : Type 0 where
   expression_in_condition : Name
   operations : Name
   operations_in_condition : Name
-  expression_end : Name
-  expression_end_in_condition : Name
+  assignment : Name
+  assignment_in_condition : Name
   binary_operator : Name
   assignment_operator : Name
   operand : Name
@@ -89,6 +90,7 @@ pub data Name : Type 0 where
   simple_path : Name
   path : Name
   path_rest : Name
+  self_type : Name
   qualified_path : Name
   type_path : Name
   type_path_rest : Name
@@ -113,7 +115,7 @@ names =
     lifetime ∷
     attribute ∷
     visibility ∷
-    visible_item ∷
+    statement_item ∷
     item ∷
     module_item ∷
     extern_crate ∷
@@ -133,6 +135,7 @@ names =
     extern_block ∷
     macro_rules ∷
     macro_definition ∷
+    reuse ∷
     item_macro ∷
     macro_end ∷
     generic_params ∷
@@ -146,8 +149,8 @@ names =
     expression_in_condition ∷
     operations ∷
     operations_in_condition ∷
-    expression_end ∷
-    expression_end_in_condition ∷
+    assignment ∷
+    assignment_in_condition ∷
     binary_operator ∷
     assignment_operator ∷
     operand ∷
@@ -185,6 +188,7 @@ names =
     simple_path ∷
     path ∷
     path_rest ∷
+    self_type ∷
     qualified_path ∷
     type_path ∷
     type_path_rest ∷

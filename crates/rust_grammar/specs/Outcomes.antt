@@ -5,7 +5,7 @@ use Rattle.std.specs.Prelude.{ℕ, suc, zero, nat_le}
 use Rattle.tt_data.specs.Editions.{year_of}
 use Rattle.tt_data.specs.Forest.{Forest}
 use Rattle.tt_data.specs.declared.edition.Edition.{Edition}
-use Rattle.rust_grammar.specs.Expressions.{Expression, token, since, ◌⨾◌, ◌∣◌, many, maybe, surely, rule, found, nothing_if}
+use Rattle.rust_grammar.specs.Expressions.{Expression, token, since, ◌⨾◌, ◌∣◌, many, maybe, surely, unless, rule, found, nothing_if}
 use Rattle.rust_grammar.specs.Names.{Name}
 use Rattle.rust_grammar.specs.Rules.{says}
 use Rattle.rust_grammar.specs.Tokens.{Token, token_at}
@@ -30,12 +30,16 @@ pub data Comes : Edition → ℕ → Expression → Forest → Outcome → Type 
   -- what is decided and does not fit is a fault
   not_found : (ed : Edition) (n : ℕ) (a : Expression) (f : Forest) → Comes ed n a f Misses → Comes ed n (surely a) f Faults
   was_found : (ed : Edition) (n : ℕ) (a : Expression) (f g : Forest) → Comes ed n a f (Fits g) → Comes ed n (surely a) f (Fits g)
+  -- nothing is taken where it does not fit, and where it fits the whole does not
+  is_absent : (ed : Edition) (n : ℕ) (a : Expression) (f : Forest) → Comes ed n a f Misses → Comes ed n (unless a) f (Fits f)
+  is_there : (ed : Edition) (n : ℕ) (a : Expression) (f g : Forest) → Comes ed n a f (Fits g) → Comes ed n (unless a) f Misses
   -- a fault in a part is one of the whole
   fault_first : (ed : Edition) (n : ℕ) (a b : Expression) (f : Forest) → Comes ed n a f Faults → Comes ed n (a ⨾ b) f Faults
   fault_either : (ed : Edition) (n : ℕ) (a b : Expression) (f : Forest) → Comes ed n a f Faults → Comes ed n (a ∣ b) f Faults
   fault_round : (ed : Edition) (n : ℕ) (a : Expression) (f : Forest) → Comes ed n a f Faults → Comes ed n (many a) f Faults
   fault_maybe : (ed : Edition) (n : ℕ) (a : Expression) (f : Forest) → Comes ed n a f Faults → Comes ed n (maybe a) f Faults
   fault_surely : (ed : Edition) (n : ℕ) (a : Expression) (f : Forest) → Comes ed n a f Faults → Comes ed n (surely a) f Faults
+  fault_unless : (ed : Edition) (n : ℕ) (a : Expression) (f : Forest) → Comes ed n a f Faults → Comes ed n (unless a) f Faults
   -- a name means its rule, one level deeper; below the last level it is a fault
   by_rule : (ed : Edition) (n : ℕ) (k : Name) (f : Forest) (o : Outcome) → Comes ed n (says k) f o → Comes ed (suc n) (rule k) f o
   too_deep : (ed : Edition) (k : Name) (f : Forest) → Comes ed zero (rule k) f Faults

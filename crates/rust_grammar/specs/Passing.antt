@@ -2,15 +2,19 @@
 use Rattle.std.proofs.Common.{◌≡◌, ℕ, suc, zero, ◌+◌, ◌≤◌, min, Bool, true, false, refl, subst, arith, Option, Some, None}
 use Rattle.std.specs.Prelude.{nat_le}
 use Rattle.std.proofs.lemmas.Bool.{leb-true}
-use Rattle.tt_data.specs.Forest.{Forest, size}
+use Rattle.tt_data.specs.Forest.{Forest, empty, leaf, group, size}
 use Rattle.tt_data.specs.declared.edition.Edition.{Edition}
+use Rattle.tt_data.specs.declared.leaf.Leaf.TheVariants as as_leaf
+use Rattle.tt_data.specs.declared.leaf.LitKind.{LitKind}
 use Rattle.small_grammar.specs.Passing.{Passed, passed-none, passed-both, passed-fewer, passed-size}
 use Rattle.small_grammar.specs.Passing as small
+use Rattle.small_grammar.specs.Text.{◌>>◌}
+use Rattle.small_grammar.specs.Tokens.{literal_where}
 use Rattle.rust_grammar.specs.Answer.{rules_to}
-use Rattle.rust_grammar.specs.Expressions.{Expression, token, since, ◌⨾◌, ◌∣◌, many, maybe, surely, rule, Taking, found, nothing_if, and_then, otherwise, or_nothing, decided, next_round, rounds, taken}
-use Rattle.rust_grammar.specs.Names.{Name, entry_visibility, entry_block, entry_statement, entry_pattern, entry_patterns, entry_type, entry_expression, entry_path, entry_item, entry_attribute, group, lifetime, attribute, visibility, visible_item, item, module_item, extern_crate, as_clause, use_declaration, use_tree, function, abi, type_alias, structure, enumeration, union, constant, static_item, trait_item, implementation, extern_block, macro_rules, macro_definition, item_macro, macro_end, generic_params, generic_param, where_clause, where_predicate, let_statement, expression_statement, statement_macro, expression, expression_in_condition, operations, operations_in_condition, expression_end, expression_end_in_condition, binary_operator, assignment_operator, operand, operand_in_condition, sign, sign_in_condition, half_range, half_range_in_condition, jump, jump_in_condition, closure, closure_in_condition, closure_param, atom, atom_in_condition, async_block, with_block, if_expression, loop, postfix, dotted, patterns, pattern, range_pattern_end, pattern_bound, literal_value, type, type_no_bounds, type_sign, type_base, function_type, for_lifetimes, bounds, bound, simple_path, path, path_rest, qualified_path, type_path, type_path_rest, type_segment, generic_args, generic_arg}
+use Rattle.rust_grammar.specs.Expressions.{Expression, token, since, ◌⨾◌, ◌∣◌, many, maybe, surely, unless, rule, Taking, found, nothing_if, and_then, otherwise, or_nothing, decided, without, next_round, rounds, taken}
+use Rattle.rust_grammar.specs.Names.{Name, entry_visibility, entry_block, entry_statement, entry_pattern, entry_patterns, entry_type, entry_expression, entry_path, entry_item, entry_attribute, group, lifetime, attribute, visibility, statement_item, item, module_item, extern_crate, as_clause, use_declaration, use_tree, function, abi, type_alias, structure, enumeration, union, constant, static_item, trait_item, implementation, extern_block, macro_rules, macro_definition, reuse, item_macro, macro_end, generic_params, generic_param, where_clause, where_predicate, let_statement, expression_statement, statement_macro, expression, expression_in_condition, operations, operations_in_condition, assignment, assignment_in_condition, binary_operator, assignment_operator, operand, operand_in_condition, sign, sign_in_condition, half_range, half_range_in_condition, jump, jump_in_condition, closure, closure_in_condition, closure_param, atom, atom_in_condition, async_block, with_block, if_expression, loop, postfix, dotted, patterns, pattern, range_pattern_end, pattern_bound, literal_value, type, type_no_bounds, type_sign, type_base, function_type, for_lifetimes, bounds, bound, simple_path, path, path_rest, self_type, qualified_path, type_path, type_path_rest, type_segment, generic_args, generic_arg}
 use Rattle.rust_grammar.specs.Rules.{says}
-use Rattle.rust_grammar.specs.Tokens.{Token, fixed, a_name, one_of, a_const_bracket, token_at}
+use Rattle.rust_grammar.specs.Tokens.{Token, fixed, a_name, a_literal, one_of, a_const_bracket, token_at}
 use Rattle.rust_grammar.specs.declared.outcome.Outcome.{Outcome}
 use Rattle.rust_grammar.specs.declared.outcome.Outcome.TheVariants.{Fits, Misses, Faults}
 
@@ -36,14 +40,27 @@ least (a ∣ b) = min (least a) (least b)
 least (many a) = 0
 least (maybe a) = 0
 least (surely a) = least a
+least (unless a) = 0
 least (rule k) = least_of k
 
 -- ---- tokens
+
+if_passes : (b : Bool) (f rest g : Forest) → Passed 1 f rest → (b >> Some rest) ≡ Some g → Passed 1 f g
+if_passes true f rest g passed e = (let same : rest ≡ g = cc in subst (Passed 1 f) same passed)
+if_passes false f rest g passed e = absurd cc
+
+literal-takes : (passes : LitKind → Bool) → small.TakesAtLeast 1 (literal_where passes)
+literal-takes passes empty g e = absurd cc
+literal-takes passes (leaf (as_leaf.Literal l) rest) g e = if_passes (passes l.kind) (leaf (as_leaf.Literal l) rest) rest g (small.behind_leaf _ _ _ refl) e
+literal-takes passes (leaf (as_leaf.Punct p) rest) g e = absurd cc
+literal-takes passes (leaf (as_leaf.Ident i) rest) g e = absurd cc
+literal-takes passes (group d inner rest) g e = absurd cc
 
 pub token-takes : (ed : Edition) (t : Token) → small.TakesAtLeast 1 (token_at ed t)
 unfolding token_at
 token-takes ed (fixed t) = small.token-takes t
 token-takes ed a_name = small.ident-takes _
+token-takes ed a_literal = literal-takes _
 token-takes ed (one_of texts) = small.operator-takes _
 token-takes ed a_const_bracket = small.group-takes _
 
@@ -80,6 +97,11 @@ decided-takes n f g (Fits h) p_takes e = p_takes g e
 decided-takes n f g Misses p_takes e = absurd cc
 decided-takes n f g Faults p_takes e = absurd cc
 
+without-takes : (f g : Forest) (o : Outcome) → without o f ≡ Fits g → Passed 0 f g
+without-takes f g (Fits h) e = absurd cc
+without-takes f g Misses e = (let same : f ≡ g = cc in subst (Passed 0 f) same (passed-none f))
+without-takes f g Faults e = absurd cc
+
 round-takes : (n : ℕ) (q : Taking) → TakesAtLeast 0 q → (f g : Forest) (o : Outcome) → ((h : Forest) → o ≡ Fits h → Passed n f h) → next_round q o f ≡ Fits g → Passed 0 f g
 round-takes n q others f g (Fits h) takes e = passed-both 0 0 f h g (passed-fewer n 0 f h (omega arith) (takes h refl)) (others h g e)
 round-takes n q others f g Misses takes e = (let same : f ≡ g = cc in subst (Passed 0 f) same (passed-none f))
@@ -101,6 +123,7 @@ module _ (ed : Edition) (rules : Name → Taking) (rules_take : (k : Name) → T
   expression-takes (many a) f g h = rounds-take (least a) (taken ed rules a) (expression-takes a) (suc (size f)) f g h
   expression-takes (maybe a) f g h = or_nothing-takes (least a) f g (taken ed rules a f) (expression-takes a f) h
   expression-takes (surely a) f g h = decided-takes (least a) f g (taken ed rules a f) (expression-takes a f) h
+  expression-takes (unless a) f g h = without-takes f g (taken ed rules a f) h
   expression-takes (rule k) f g h = rules_take k f g h
 
 -- ---- the rules
@@ -120,7 +143,7 @@ says-enough group = refl
 says-enough lifetime = refl
 says-enough attribute = refl
 says-enough visibility = refl
-says-enough visible_item = refl
+says-enough statement_item = refl
 says-enough item = refl
 says-enough module_item = refl
 says-enough extern_crate = refl
@@ -140,6 +163,7 @@ says-enough implementation = refl
 says-enough extern_block = refl
 says-enough macro_rules = refl
 says-enough macro_definition = refl
+says-enough reuse = refl
 says-enough item_macro = refl
 says-enough macro_end = refl
 says-enough generic_params = refl
@@ -153,8 +177,8 @@ says-enough expression = refl
 says-enough expression_in_condition = refl
 says-enough operations = refl
 says-enough operations_in_condition = refl
-says-enough expression_end = refl
-says-enough expression_end_in_condition = refl
+says-enough assignment = refl
+says-enough assignment_in_condition = refl
 says-enough binary_operator = refl
 says-enough assignment_operator = refl
 says-enough operand = refl
@@ -192,6 +216,7 @@ says-enough bound = refl
 says-enough simple_path = refl
 says-enough path = refl
 says-enough path_rest = refl
+says-enough self_type = refl
 says-enough qualified_path = refl
 says-enough type_path = refl
 says-enough type_path_rest = refl

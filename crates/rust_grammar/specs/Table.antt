@@ -5,9 +5,9 @@ use Rattle.small_grammar.specs.Tokens as small
 use Rattle.small_grammar.specs.declared.units.Operator.{Operator}
 use Rattle.small_grammar.specs.declared.units.Operator.TheVariants.{One, Two, Three}
 use Rattle.rust_grammar.specs.Answer.{rules_to}
-use Rattle.rust_grammar.specs.Expressions.{Expression, token, since, ◌⨾◌, ◌∣◌, many, maybe, surely, rule, Taking, taken}
+use Rattle.rust_grammar.specs.Expressions.{Expression, token, since, ◌⨾◌, ◌∣◌, many, maybe, surely, unless, rule, Taking, taken}
 use Rattle.rust_grammar.specs.Names.{Name, names, entry_visibility}
-use Rattle.rust_grammar.specs.Tokens.{Token, fixed, a_name, one_of, a_const_bracket}
+use Rattle.rust_grammar.specs.Tokens.{Token, fixed, a_name, a_literal, one_of, a_const_bracket}
 use Rattle.rust_grammar.specs.declared.node.Node.{Node}
 use Rattle.rust_grammar.specs.declared.node.Node.TheVariants as node
 use Rattle.rust_grammar.specs.declared.node.Token.TheVariants as as_token
@@ -36,7 +36,7 @@ abbrev pub token_of : coded.Token → Token
 token_of (as_token.Word k) = fixed (small.a_word (word_text k))
 token_of as_token.Name = a_name
 token_of as_token.Identifier = fixed small.an_identifier
-token_of as_token.Literal = fixed small.a_literal
+token_of as_token.Literal = a_literal
 token_of as_token.Number = fixed small.a_number
 token_of (as_token.Group kind) = fixed (small.a_group kind)
 token_of as_token.Restriction = fixed small.a_restriction
@@ -58,6 +58,7 @@ stands (node.Or n) part = part 1 ∣ part n
 stands node.Many part = many (part 1)
 stands node.Maybe part = maybe (part 1)
 stands node.Surely part = surely (part 1)
+stands node.Unless part = unless (part 1)
 stands (node.Rule k) part = rule (name_at k)
 
 -- the expressions of nodes
@@ -79,20 +80,21 @@ root_at k = get_or ROOTS k 0
 
 -- a token of the tables
 abbrev pub is_sound_token : coded.Token → Bool
-is_sound_token (as_token.Word k) = nat_lt k 50
-is_sound_token (as_token.OneOf k) = nat_lt k 21
+is_sound_token (as_token.Word k) = nat_lt k 54
+is_sound_token (as_token.OneOf k) = nat_lt k 23
 is_sound_token _ = true
 
 -- the node at a place of the table has its parts in the table, behind it
 abbrev pub is_sound : ℕ → Node → Bool
 is_sound i (node.Token t) = is_sound_token t
 is_sound i (node.Since first) = true
-is_sound i (node.Then n) = nat_lt 1 n && nat_lt (i + n) 1391
-is_sound i (node.Or n) = nat_lt 1 n && nat_lt (i + n) 1391
-is_sound i node.Many = nat_lt (i + 1) 1391
-is_sound i node.Maybe = nat_lt (i + 1) 1391
-is_sound i node.Surely = nat_lt (i + 1) 1391
-is_sound i (node.Rule k) = nat_lt k 92
+is_sound i (node.Then n) = nat_lt 1 n && nat_lt (i + n) 1564
+is_sound i (node.Or n) = nat_lt 1 n && nat_lt (i + n) 1564
+is_sound i node.Many = nat_lt (i + 1) 1564
+is_sound i node.Maybe = nat_lt (i + 1) 1564
+is_sound i node.Surely = nat_lt (i + 1) 1564
+is_sound i node.Unless = nat_lt (i + 1) 1564
+is_sound i (node.Rule k) = nat_lt k 94
 
 -- what comes of the expression of a node, with so many levels of rules left
 abbrev pub comes_at : Edition → ℕ → ℕ → Taking

@@ -97,7 +97,7 @@ impl<'a> Cursor<'a> {
 
     /// Whether the table tells by the class alone that the node at this place misses.
     pub(crate) fn misses(&self, place: u16, levels: u16) -> bool
-        requires { place < 1391 }
+        requires { place < 1564 }
         ensures { IsTrue result → (ed : Edition) → comes_at ed levels place self.now ≡ Misses }
     {
         let starts = starts_at(place);

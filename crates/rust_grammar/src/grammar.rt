@@ -42,7 +42,7 @@ impl RustGrammar {
 #[tactic(auto, unfolding(crate::specs::Table::name_at))]
 fn rule_of(entry: PrefixEntryPoint) -> u8
     ensures same { name_at result ≡ entry_rule entry }
-    ensures within { result < 92 }
+    ensures within { result < 94 }
 {
     match entry {
         PrefixEntryPoint::Vis => 0,

@@ -3,7 +3,7 @@ ghost use Rattle.std.specs.Prelude.{◌≡◌, ◌<◌, suc, IsTrue, nat_le};
 ghost use Rattle.tt_data.specs.Editions.{year_of};
 ghost use Rattle.tt_data.specs.Forest.{size};
 ghost use Rattle.rust_grammar.specs.Answer.{most_levels, rules_to};
-ghost use Rattle.rust_grammar.specs.Expressions.{decided, found, nothing_if, or_nothing, rounds};
+ghost use Rattle.rust_grammar.specs.Expressions.{decided, found, nothing_if, or_nothing, rounds, without};
 ghost use Rattle.rust_grammar.specs.Table.{comes_at, is_sound_token, name_at, token_of};
 ghost use Rattle.rust_grammar.specs.Tokens.{token_at};
 
@@ -57,10 +57,21 @@ fn decided(found: Outcome<'_>) -> Outcome<'_>
     }
 }
 
+// Nothing is taken where nothing was found.
+fn without<'a>(found: Outcome<'a>, trees: Cursor<'a>) -> Outcome<'a>
+    ensures { result ≡ without found.entry trees.entry }
+{
+    match found {
+        Outcome::Fits(_) => Outcome::Misses,
+        Outcome::Misses => Outcome::Fits(trees),
+        Outcome::Faults => Outcome::Faults,
+    }
+}
+
 // What comes of a node as often as it fits, until it does not: each time but the last takes a token.
 #[cycle(interpreter)]
 fn repeat<'a>(edition: Edition, place: u16, levels: u16, trees: Cursor<'a>) -> Outcome<'a>
-    requires { place < 1391 }
+    requires { place < 1564 }
     ensures { result ≡ rounds (suc (size trees.entry)) (comes_at edition levels place) trees.entry }
 {
     let mut rest = trees;
@@ -78,7 +89,7 @@ fn repeat<'a>(edition: Edition, place: u16, levels: u16, trees: Cursor<'a>) -> O
 // takes no frame of the stack.
 #[cycle(interpreter)]
 fn part<'a>(edition: Edition, place: u16, levels: u16, trees: &Cursor<'a>) -> Outcome<'a>
-    requires { place < 1391 }
+    requires { place < 1564 }
     ensures { result ≡ comes_at edition levels place trees.now }
 {
     if trees.misses(place, levels) {
@@ -95,7 +106,7 @@ fn part<'a>(edition: Edition, place: u16, levels: u16, trees: &Cursor<'a>) -> Ou
 // A second part, and a rule that ends another, take no frame of the stack.
 #[cycle(interpreter)]
 fn come_of<'a>(edition: Edition, start: u16, most_levels: u16, trees: &Cursor<'a>) -> Outcome<'a>
-    requires { start < 1391 }
+    requires { start < 1564 }
     ensures { result ≡ comes_at edition most_levels start trees.now }
 {
     let mut place = start;
@@ -121,6 +132,7 @@ fn come_of<'a>(edition: Edition, start: u16, most_levels: u16, trees: &Cursor<'a
             Node::Many => return repeat(edition, place + 1, levels, rest),
             Node::Maybe => return or_nothing(part(edition, place + 1, levels, &rest), rest),
             Node::Surely => return decided(come_of(edition, place + 1, levels, &rest)),
+            Node::Unless => return without(part(edition, place + 1, levels, &rest), rest),
             Node::Rule(rule) => {
                 if levels == 0 {
                     return Outcome::Faults;
@@ -142,7 +154,7 @@ fn most_levels() -> u16
 
 // What comes of a rule that may refer to rules this many levels deep.
 fn come_of_levels<'a>(edition: Edition, rule: u8, levels: u16, trees: &Cursor<'a>) -> Outcome<'a>
-    requires { rule < 92 }
+    requires { rule < 94 }
     ensures { result ≡ rules_to edition levels (name_at rule) trees.now }
 {
     if levels == 0 {
@@ -154,7 +166,7 @@ fn come_of_levels<'a>(edition: Edition, rule: u8, levels: u16, trees: &Cursor<'a
 
 /// What comes of a rule.
 pub(crate) fn come_of_rule<'a>(edition: Edition, rule: u8, trees: &Cursor<'a>) -> Outcome<'a>
-    requires { rule < 92 }
+    requires { rule < 94 }
     ensures { result ≡ rules_to edition most_levels (name_at rule) trees.now }
 {
     come_of_levels(edition, rule, most_levels(), trees)

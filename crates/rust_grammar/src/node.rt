@@ -32,6 +32,7 @@ pub(crate) enum Node {
     Many,
     Maybe,
     Surely,
+    Unless,
     /// A rule, by its number.
     Rule(u8),
 }

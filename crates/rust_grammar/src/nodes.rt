@@ -21,7 +21,7 @@ fn element<T: Copy>(table: &[T], place: usize) -> T
 
 /// The node at this place.
 pub(crate) fn read_node(place: u16) -> Node
-    requires { place < 1391 }
+    requires { place < 1564 }
     ensures same { result ≡ node_at place }
     ensures sound { IsSound place result }
 {
@@ -30,16 +30,16 @@ pub(crate) fn read_node(place: u16) -> Node
 
 /// The place of a rule's first node.
 pub(crate) fn root_of(rule: u8) -> u16
-    requires { rule < 92 }
+    requires { rule < 94 }
     ensures same { expression_at result ≡ says (name_at rule) }
-    ensures within { result < 1391 }
+    ensures within { result < 1564 }
 {
     element(&ROOTS, rule as usize)
 }
 
 /// What the table says of the first trees of the node at this place.
 pub(crate) fn starts_at(place: u16) -> u64
-    requires { place < 1391 }
+    requires { place < 1564 }
     ensures { result ≡ starts_at place }
 {
     element(&STARTS, place as usize)
@@ -78,7 +78,7 @@ fn set_in(sets: &[&'static [Operator]], place: usize) -> &'static [Operator]
 /// A word of the table.
 #[tactic(auto, unfolding(crate::specs::Table::word_text))]
 pub(crate) fn text_of(word: u8) -> &'static str
-    requires { word < 50 }
+    requires { word < 54 }
     ensures { result.now ≡ word_text word }
 {
     text_in(&WORDS, word as usize)
@@ -87,7 +87,7 @@ pub(crate) fn text_of(word: u8) -> &'static str
 /// A set of the table.
 #[tactic(auto, unfolding(crate::specs::Table::set_texts))]
 pub(crate) fn operators_of(set: u8) -> &'static [Operator]
-    requires { set < 21 }
+    requires { set < 23 }
     ensures { map letters result.now ≡ set_texts set }
 {
     set_in(&SETS, set as usize)

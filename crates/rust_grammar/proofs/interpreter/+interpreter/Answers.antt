@@ -1,6 +1,6 @@
 use Rattle.std.proofs.Common.{◌+◌, ◌-◌, sym, ◌∙◌, arith}
 use Rattle.rust_grammar.specs.Table.{comes_at}
-use Rattle.rust_grammar.proofs.StepLemmas.{two_parts, token_comes, since_comes, then_fits, then_misses, then_faults, or_fits, or_misses, or_faults, many_comes, maybe_comes, surely_comes, too_deep, rule_on, round_on}
+use Rattle.rust_grammar.proofs.StepLemmas.{two_parts, token_comes, since_comes, then_fits, then_misses, then_faults, or_fits, or_misses, or_faults, many_comes, maybe_comes, surely_comes, unless_comes, too_deep, rule_on, round_on}
 use Rattle.rust_grammar.proofs.interpreter.+interpreter.Goals as goal
 
 pub come_of-returns-in-Token : goal.come_of-returns-in-Token
@@ -69,6 +69,12 @@ pub come_of-returns-in-Surely : goal.come_of-returns-in-Surely
 come_of-returns-in-Surely t c =
     c.decided.ensures
     ∙ surely_comes c.args.edition c.nodes.levels c.nodes.place c.nodes.invariant.1 c.nodes.rest c.come_of.result c.in-Surely.ensures.same c.come_of.ensures
+    ∙ c.nodes.invariant.0
+
+pub come_of-returns-in-Unless : goal.come_of-returns-in-Unless
+come_of-returns-in-Unless t c =
+    c.without.ensures
+    ∙ unless_comes c.args.edition c.nodes.levels c.nodes.place c.nodes.invariant.1 c.nodes.rest c.part-in-Unless.result c.in-Unless.ensures.same c.part-in-Unless.ensures
     ∙ c.nodes.invariant.0
 
 pub come_of-returns-then-levels-eq0 : goal.come_of-returns-then-levels-eq0

@@ -6,22 +6,22 @@ use Rattle.rust_grammar.proofs.interpreter.+interpreter.Given as goal
 
 -- each call has fewer levels left, or as many and is further on in the table
 abbrev pub decreases-come_of : goal.decreases-come_of
-decreases-come_of l = l.most_levels * 5000 + 3 * (1391 - l.start)
+decreases-come_of l = l.most_levels * 5000 + 3 * (1564 - l.start)
 
 abbrev pub decreases-part : goal.decreases-part
-decreases-part l = l.levels * 5000 + 3 * (1391 - l.place) + 1
+decreases-part l = l.levels * 5000 + 3 * (1564 - l.place) + 1
 
 abbrev pub decreases-repeat : goal.decreases-repeat
-decreases-repeat l = l.levels * 5000 + 3 * (1391 - l.place) + 2
+decreases-repeat l = l.levels * 5000 + 3 * (1564 - l.place) + 2
 
 abbrev pub invariant-come_of-nodes : goal.invariant-come_of-nodes
 invariant-come_of-nodes l =
     (comes_at l.edition l.levels l.place l.rest ≡ comes_at l.edition l.fn.most_levels l.fn.start l.fn.trees)
-    × (l.place < 1391)
-    × (l.levels * 5000 + 3 * (1391 - l.place) ≤ l.fn.most_levels * 5000 + 3 * (1391 - l.fn.start))
+    × (l.place < 1564)
+    × (l.levels * 5000 + 3 * (1564 - l.place) ≤ l.fn.most_levels * 5000 + 3 * (1564 - l.fn.start))
 
 abbrev pub decreases-come_of-nodes : goal.decreases-come_of-nodes
-decreases-come_of-nodes l = l.levels * 5000 + 3 * (1391 - l.place)
+decreases-come_of-nodes l = l.levels * 5000 + 3 * (1564 - l.place)
 
 abbrev pub invariant-repeat-rounds : goal.invariant-repeat-rounds
 invariant-repeat-rounds l =

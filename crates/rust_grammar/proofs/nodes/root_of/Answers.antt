@@ -9,4 +9,4 @@ returns-clause-same c =
 
 pub returns-clause-within : goal.returns-clause-within
 returns-clause-within c =
-    subst (λ n. n < 1391) (root-read c.args.rule c.element.result c.element.ensures) (root-within c.args.rule c.requires)
+    subst (λ n. n < 1564) (root-read c.args.rule c.element.result c.element.ensures) (root-within c.args.rule c.requires)
