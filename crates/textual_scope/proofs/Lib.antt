@@ -1,0 +1,9 @@
+pub mod ResultLemmas
+pub mod MarkLemmas
+pub mod AgreementLemmas
+pub mod SizeLemmas
+pub mod ChainLemmas
+pub mod PlainLemmas
+pub mod KeywordLemmas
+pub mod RuleLemmas
+mod Rows

@@ -1,0 +1,258 @@
+-- Worked examples of Rust's textual scope, by computation: small texts, read word by word.
+use Rattle.std.proofs.Common.{◌≡◌, ℕ, suc, Bool, true, false, List, [], ◌∷◌, ◌++◌, map, Option, Some, None, refl, if◌then◌else◌}
+use Rattle.std.specs.Prelude.{codes, flat_map, nat_eq, nat_lt, ◌&&◌, ◌||◌, Ok}
+use Prim.Native.String.{String}
+use Rattle.tt_data.specs.Forest.{Forest, empty, leaf, group, joined}
+use Rattle.tt_data.specs.Spans.{no_span}
+use Rattle.tt_data.specs.Walk.{Step, at_leaf, opens, closes}
+use Rattle.tt_data.specs.declared.delimiter.DelimiterKind.{DelimiterKind}
+use Rattle.tt_data.specs.declared.delimiter.DelimiterKind.TheVariants.{Parenthesis, Brace, Bracket, Invisible}
+use Rattle.tt_data.specs.declared.leaf.IdentIsRaw.TheVariants as is_raw
+use Rattle.tt_data.specs.declared.leaf.Leaf.{Leaf}
+use Rattle.tt_data.specs.declared.leaf.Leaf.TheVariants as as_leaf
+use Rattle.tt_data.specs.declared.leaf.Spacing.TheVariants.{Joint}
+use Rattle.tt_data.specs.declared.span.Span.{Span}
+use Rattle.bridge.specs.Text.{is_punct}
+use Rattle.small_grammar.specs.Text.{same_text}
+use Rattle.expander_model.specs.declared.fault.Fault.{Fault}
+use Rattle.expander_model.specs.declared.fault.FaultKind.{FaultKind}
+use Rattle.expander_model.specs.declared.fault.FaultKind.TheVariants.{CannotExpand, BrokenDefinition, RecursionLimit}
+use Rattle.expander_model.specs.Definitions.{Definition}
+use Rattle.expander_model.specs.Expansion.{World, PlacedStep}
+use Rattle.expander_model.specs.Meaning.{Layers, Member, plain, defining, member_faults, output_of}
+use Rattle.expander_model.specs.Pieces.{pieces}
+use Rattle.textual_scope.specs.declared.scope_rules.ScopeRules.{ScopeRules}
+use Rattle.textual_scope.specs.declared.scope_rules.ScopeRules.TheVariants.{TopLevel, Rust}
+use Rattle.textual_scope.specs.ScopedMeaning.{scoped_members}
+
+-- ---- a line as trees: words with spaces between them, each a token, whose span starts at its index
+
+-- the words so far, and the one that is begun, after one more character
+abbrev with_char : ℕ → List (List ℕ) × List ℕ → List (List ℕ) × List ℕ
+with_char c w = if nat_eq c 32 then (w.0 ++ w.1 ∷ [], []) else (w.0, w.1 ++ c ∷ [])
+
+abbrev words_from : List (List ℕ) × List ℕ → List ℕ → List (List ℕ)
+words_from w [] = w.0 ++ w.1 ∷ []
+words_from w (c ∷ line) = words_from (with_char c w) line
+
+abbrev pub words : String → List (List ℕ)
+words line = words_from ([], []) (codes line)
+
+abbrev at : ℕ → Span
+at n = record no_span { range = record { start = n; «end» = suc n } }
+
+-- names and numbers are identifiers; another character alone is a punct
+abbrev is_letter : ℕ → Bool
+is_letter c = nat_lt 96 c || (nat_lt 47 c && nat_lt c 58)
+
+abbrev word_leaf : ℕ → List ℕ → Leaf
+word_leaf n (c ∷ []) =
+    if is_letter c then as_leaf.Ident (record { sym = c ∷ []; span = at n; is_raw = is_raw.No })
+    else as_leaf.Punct (record { char = c; spacing = Joint; span = at n })
+word_leaf n word = as_leaf.Ident (record { sym = word; span = at n; is_raw = is_raw.No })
+
+-- brackets; `<` and `>` stand for invisible ones
+abbrev kind_among : List (String × DelimiterKind) → List ℕ → Option DelimiterKind
+kind_among [] word = None
+kind_among (k ∷ ks) word = if same_text (codes k.0) word then Some k.1 else kind_among ks word
+
+abbrev opening : List ℕ → Option DelimiterKind
+opening = kind_among (("(", Parenthesis) ∷ ("{", Brace) ∷ ("[", Bracket) ∷ ("<", Invisible) ∷ [])
+
+abbrev closing : List ℕ → Option DelimiterKind
+closing = kind_among ((")", Parenthesis) ∷ ("}", Brace) ∷ ("]", Bracket) ∷ (">", Invisible) ∷ [])
+
+-- an open group: the index of its opening, and the trees before it
+abbrev Open : Type 0
+Open = ℕ × Forest
+
+abbrev close : ℕ → DelimiterKind → Forest → List Open → Forest × List Open
+close n kind here [] = (here, [])
+close n kind here (o ∷ outer) = (joined o.1 (group (record { open_span = at o.0; close_span = at n; kind = kind }) here empty), outer)
+
+abbrev with_token : ℕ → List ℕ → Option DelimiterKind → Option DelimiterKind → Forest × List Open → Forest × List Open
+with_token n word (Some kind) _ t = (empty, (n, t.0) ∷ t.1)
+with_token n word None (Some kind) t = close n kind t.0 t.1
+with_token n word None None t = (joined t.0 (leaf (word_leaf n word) empty), t.1)
+
+abbrev trees_from : ℕ → List (List ℕ) → Forest × List Open → Forest
+trees_from n [] t = t.0
+trees_from n (word ∷ more) t = trees_from (suc n) more (with_token n word (opening word) (closing word) t)
+
+abbrev pub trees : String → Forest
+trees line = trees_from 0 (words line) (empty, [])
+
+-- ---- what is shown of a text
+
+abbrev bracket : DelimiterKind → String → String → String → String → List ℕ
+bracket Parenthesis a b c d = codes a
+bracket Brace a b c d = codes b
+bracket Bracket a b c d = codes c
+bracket Invisible a b c d = codes d
+
+abbrev step_word : Step → List ℕ
+step_word (at_leaf (as_leaf.Ident i)) = i.sym
+step_word (at_leaf (as_leaf.Punct p)) = p.char ∷ []
+step_word (at_leaf (as_leaf.Literal l)) = []
+step_word (opens kind span) = bracket kind "(" "{" "[" "<"
+step_word (closes kind span) = bracket kind ")" "}" "]" ">"
+
+-- ---- what definitions mean here
+
+-- `?` alone is an invalid body
+abbrev is_broken : Forest → Bool
+is_broken (leaf l empty) = is_punct "?" l
+is_broken _ = false
+
+-- a body that begins with `%` fits no call
+abbrev fits_none : Forest → Bool
+fits_none (leaf l rest) = is_punct "%" l
+fits_none _ = false
+
+-- another gives itself, with the argument in the place of each `$`
+abbrev filled : Forest → Forest → Forest
+filled argument empty = empty
+filled argument (leaf l rest) = joined (if is_punct "$" l then argument else leaf l empty) (filled argument rest)
+filled argument (group d inner rest) = group d (filled argument inner) (filled argument rest)
+
+abbrev toy : World Definition
+toy = record {
+  broken = λ d. is_broken d.body;
+  fit = λ d argument. if fits_none d.body then None else Some (filled argument d.body);
+  bursts = λ d argument. false;
+}
+
+abbrev layers : Layers
+layers = record { read = λ text. Ok empty; world = toy; spelling = λ step more. None }
+
+abbrev members_of : ScopeRules → ℕ → String → List Member
+members_of rules depth line = scoped_members rules layers depth [] (pieces (trees line))
+
+-- the words that are printed
+abbrev pub prints : ScopeRules → String → List (List ℕ)
+prints rules line = map (λ s. step_word s.step) (flat_map output_of (members_of rules 4 line))
+
+-- the faults, each at the index of a word
+abbrev pub faults : ScopeRules → String → List (FaultKind × ℕ)
+faults rules line = map (λ f. (f.kind, f.range.start)) (flat_map (member_faults layers) (members_of rules 4 line))
+
+-- the names that a piece looks up outside of its lists
+abbrev looked_up_in : Member → List (List ℕ)
+looked_up_in (plain piece outcome) = map (λ find. find.0) outcome.finds
+looked_up_in (defining d) = []
+
+abbrev pub looks_up : String → List (List ℕ)
+looks_up line = flat_map looked_up_in (members_of Rust 4 line)
+
+-- ---- what a list defines
+
+nearest_wins : prints Rust "fn f ( ) { macro_rules ! m { 1 } m ! ( ) ; { macro_rules ! m { 2 } m ! ( ) ; } m ! ( ) ; } m ! { }"
+    ≡ words "fn f ( ) { 1 ; { 2 ; } 1 ; } m ! { }"
+nearest_wins = refl
+
+top_level_rules_know_no_list : prints TopLevel "fn f ( ) { macro_rules ! m { 1 } m ! ( ) } m ! { }"
+    ≡ words "fn f ( ) { macro_rules ! m { 1 } m ! ( ) } m ! { }"
+top_level_rules_know_no_list = refl
+
+seen_from_its_end_on : prints Rust "macro_rules ! m { 0 } fn f ( ) { m ! { } macro_rules ! m { 1 } m ! { } } m ! { }"
+    ≡ words "fn f ( ) { 0 1 } 0"
+seen_from_its_end_on = refl
+
+attributes_go_with_it : prints Rust "mod a { # [ x ] macro_rules ! m [ 1 ] ; m ! ( ) }" ≡ words "mod a { 1 }"
+attributes_go_with_it = refl
+
+macros_too : prints Rust "fn f ( ) { macro m ( x ) { 1 } m ! ( 1 ) ; pub ( crate ) macro n { 2 } n ! ( ) }" ≡ words "fn f ( ) { 1 ; 2 }"
+macros_too = refl
+
+-- in a group, but not inside of another piece
+only_whole_pieces : prints Rust "fn f ( ) { a macro_rules ! m { 1 } m ! { } }" ≡ words "fn f ( ) { a macro_rules ! m { 1 } m ! { } }"
+only_whole_pieces = refl
+
+every_visible_group_ends_it : prints Rust "fn f ( ) { ( macro_rules ! m { 1 } m ! { } ) [ macro_rules ! n { 2 } ] m ! { } n ! { } }"
+    ≡ words "fn f ( ) { ( 1 ) [ ] m ! { } n ! { } }"
+every_visible_group_ends_it = refl
+
+invisible_groups_let_it_out : prints Rust "fn f ( ) { < macro_rules ! m { 1 } > m ! { } }" ≡ words "fn f ( ) { < > 1 }"
+invisible_groups_let_it_out = refl
+
+-- ---- what a result defines
+
+made_in_a_list : prints Rust "macro_rules ! mk { macro_rules ! $ { 7 } } fn f ( ) { mk ! { a } { mk ! { b } b ! { } } a ! { } b ! { } }"
+    ≡ words "fn f ( ) { { 7 } 7 b ! { } }"
+made_in_a_list = refl
+
+made_by_what_was_made : prints Rust "macro_rules ! mk { macro_rules ! $ { macro_rules ! b { 1 } } } fn f ( ) { mk ! { a } a ! { } b ! { } }"
+    ≡ words "fn f ( ) { 1 }"
+made_by_what_was_made = refl
+
+-- at the top it is printed, and no later piece finds it
+made_at_the_top : prints Rust "macro_rules ! mk { macro_rules ! $ { 1 } } mk ! ( a ) . a ! ( ) ; fn f ( ) { a ! { } }"
+    ≡ words "macro_rules ! a { 1 } . 1 ; fn f ( ) { a ! { } }"
+made_at_the_top = refl
+
+-- a block that is passed in sees what the template defines around it
+seen_by_an_argument : prints Rust "macro_rules ! e { { macro_rules ! i { 1 } $ } } e ! ( { i ! { } } ) ;" ≡ words "{ { 1 } } ;"
+seen_by_an_argument = refl
+
+-- no definition is put together of a result and what follows it
+not_across_a_result : prints Rust "macro_rules ! d { macro_rules } fn f ( ) { d ! { } ! e { 1 } e ! { } }"
+    ≡ words "fn f ( ) { macro_rules ! e { 1 } e ! { } }"
+not_across_a_result = refl
+
+-- ---- which definition a call finds
+
+-- a call in a template finds what is around the call of the template; `$crate ::` asks no list
+where_it_is_called : prints Rust "macro_rules ! k { j ! { } $crate : : j ! { } } macro_rules ! j { 1 } fn f ( ) { macro_rules ! j { 2 } k ! { } }"
+    ≡ words "fn f ( ) { 2 1 }"
+where_it_is_called = refl
+
+no_list_behind_a_root : prints Rust "fn f ( ) { macro_rules ! j { 2 } $crate:std : : j ! { } a : : j ! { } }"
+    ≡ words "fn f ( ) { $crate:std : : j ! { } a : : j ! { } }"
+no_list_behind_a_root = refl
+
+what_a_root_looks_up : looks_up "fn f ( ) { macro_rules ! j { 2 } $crate:std : : j ! { } }" ≡ codes "$crate:std::j" ∷ []
+what_a_root_looks_up = refl
+
+-- a name that a list answers is looked up nowhere else
+own_names_are_no_look_ups : looks_up "macro_rules ! m { 3 } fn f ( ) { macro_rules ! m { g ! { } } m ! { } } fn h ( ) { m ! { } }"
+    ≡ codes "g" ∷ codes "m" ∷ []
+own_names_are_no_look_ups = refl
+
+-- ---- arguments of calls that stay
+
+-- what is defined there ends with it, and is printed as it is
+an_argument_is_a_list : prints Rust "fn f ( ) { u ! { macro_rules ! m { v ! { } } { m ! { } } } m ! { } } macro_rules ! v { 1 }"
+    ≡ words "fn f ( ) { u ! { macro_rules ! m { v ! { } } { v ! { } } } m ! { } }"
+an_argument_is_a_list = refl
+
+behind_colons_too : prints Rust "fn f ( ) { a : : u ! { macro_rules ! m { 1 } m ! { } } m ! { } }"
+    ≡ words "fn f ( ) { a : : u ! { macro_rules ! m { 1 } 1 } m ! { } }"
+behind_colons_too = refl
+
+-- that of a failed call is not searched
+a_failed_call_defines_nothing : prints Rust "macro_rules ! z { % } fn f ( ) { z ! { macro_rules ! m { 1 } } m ! { } }"
+    ≡ words "fn f ( ) { z ! { macro_rules ! m { 1 } } m ! { } }"
+a_failed_call_defines_nothing = refl
+
+why_it_failed : faults Rust "macro_rules ! z { % } fn f ( ) { z ! { macro_rules ! m { 1 } } m ! { } }" ≡ (CannotExpand, 11) ∷ []
+why_it_failed = refl
+
+-- ---- faults
+
+a_broken_one : prints Rust "fn f ( ) { macro_rules ! b { ? } b ! { } }" ≡ words "fn f ( ) { b ! { } }"
+a_broken_one = refl
+
+-- told where it is defined, and where it is called
+told_twice : faults Rust "fn f ( ) { macro_rules ! b { ? } b ! { } }" ≡ (BrokenDefinition, 7) ∷ (BrokenDefinition, 11) ∷ []
+told_twice = refl
+
+-- a made one at the call that made it
+made_broken : faults Rust "macro_rules ! mk { macro_rules ! $ { ? } } fn f ( ) { mk ! { b } }" ≡ (BrokenDefinition, 16) ∷ []
+made_broken = refl
+
+-- without a level nothing is made any more
+no_level_left : prints Rust "macro_rules ! l { macro_rules ! n { l ! { } } n ! { } } fn f ( ) { l ! { } }" ≡ words "fn f ( ) { l ! { } }"
+no_level_left = refl
+
+told_once : faults Rust "macro_rules ! l { macro_rules ! n { l ! { } } n ! { } } fn f ( ) { l ! { } }" ≡ (RecursionLimit, 23) ∷ []
+told_once = refl

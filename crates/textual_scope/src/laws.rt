@@ -1,0 +1,83 @@
+//! Laws of scopes. Calling a law does nothing: its contract is the statement.
+ghost use Rattle.std.specs.Prelude.{◌≡◌, ℕ, ◌<◌, All, List, [], ◌++◌, Option, Some, Ok};
+ghost use Rattle.tt_data.specs.Forest.{Forest, size};
+ghost use Rattle.tt_data.specs.declared.span.Span.{Span};
+ghost use Rattle.expander_model.specs.Definitions.{Definition, definition_of};
+ghost use Rattle.expander_model.specs.Expansion.{World, expansion, just};
+ghost use Rattle.expander_model.specs.Meaning.{Layers, meaning_in};
+ghost use Rattle.expander_model.specs.Pieces.{pieces};
+ghost use Rattle.textual_scope.specs.Keywords.{AddsNoKeyword, HasNoKeyword, NestsNone};
+ghost use Rattle.textual_scope.specs.ScopedMeaning.{scoped_meaning};
+ghost use Rattle.textual_scope.specs.Scoping.{Around, Scoped, Search, Standing, and_next, only, scoped, search_list, search_parts, without_locals};
+ghost use Rattle.textual_scope.specs.declared.scope_rules.ScopeRules.{ScopeRules};
+ghost use Rattle.textual_scope.specs.declared.scope_rules.ScopeRules.TheVariants.{Rust, TopLevel};
+
+/// Under `TopLevel` a list is expanded as without scopes, and defines nothing: `lists`. A text
+/// means what it meant: `texts`.
+pub fn top_level_scope_is_as_before()
+    ensures lists { (world : World Definition) (local : Definition → Definition)
+        (scope : List ℕ → Option Definition) (depth : ℕ) (standing : Standing)
+        (outer : Option Span) (f : Forest) →
+        scoped TopLevel world local scope depth (without_locals standing outer) f
+        ≡ only (expansion world scope depth outer f) }
+    ensures texts { (layers : Layers) (depth : ℕ) (initial : List Definition) (text : List ℕ) →
+        scoped_meaning TopLevel layers depth initial text ≡ meaning_in layers depth initial text }
+{}
+
+/// Trees without a definition keyword are expanded under both rules alike, and define nothing, if
+/// the definitions in scope give none: `lists`. A text means the same under both rules, if no piece
+/// of it but definitions has a keyword, and they and those before it give none: `texts`.
+pub fn without_keywords_both_rules_agree()
+    ensures lists { (world : World Definition) (local : Definition → Definition)
+        (scope : List ℕ → Option Definition) (depth : ℕ) (standing : Standing)
+        (outer : Option Span) (f : Forest) →
+        ((key : List ℕ) (d : Definition) → scope key ≡ Some d → AddsNoKeyword world d) →
+        HasNoKeyword f →
+        scoped Rust world local scope depth (without_locals standing outer) f
+        ≡ only (expansion world scope depth outer f) }
+    ensures texts { (layers : Layers) (depth : ℕ) (initial : List Definition) (text : List ℕ)
+        (f : Forest) →
+        layers.read text ≡ Ok f → All (AddsNoKeyword layers.world) initial →
+        All (λ p. NestsNone layers.world p (definition_of p)) (pieces f) →
+        scoped_meaning Rust layers depth initial text ≡ meaning_in layers depth initial text }
+{}
+
+/// An expansion depends on what its look-ups find outside of all lists, and on nothing else there.
+pub fn expansions_depend_on_outer_lookups_alone()
+    ensures { (rules : ScopeRules) (world : World Definition) (local : Definition → Definition)
+        (scope others : List ℕ → Option Definition) (depth : ℕ) (around : Around) (f : Forest) →
+        All (λ find. others find.0 ≡ find.1)
+        (scoped rules world local scope depth around f).outcome.finds →
+        scoped rules world local others depth around f
+        ≡ scoped rules world local scope depth around f }
+{}
+
+/// With more steps than a list has tokens a search of it gives the same, however many they are.
+pub fn more_steps_change_nothing()
+    ensures { (rules : ScopeRules) (world : World Definition) (local : Definition → Definition)
+        (scope : List ℕ → Option Definition) (deeper : Option (Search Definition)) (n m : ℕ)
+        (around : Around) (f : Forest) →
+        size f < n → size f < m →
+        search_list rules world local scope deeper n around f
+        ≡ search_list rules world local scope deeper m around f }
+{}
+
+/// Of three results, one after another, it does not matter which two are put together first:
+/// `three`. Nothing before or after a result changes it: `before`, `after`. The parts of two lists,
+/// one after another, are searched list by list: `lists`.
+pub fn results_follow_one_another()
+    ensures three { (a : Scoped Definition) (f g : Around → Scoped Definition) (around : Around) →
+        and_next (and_next a f around) g around
+        ≡ and_next a (λ here. and_next (f here) g here) around }
+    ensures before { (outer : Option Span) (f : Around → Scoped Definition) (around : Around) →
+        and_next (only (just outer [])) f around ≡ f around }
+    ensures after { (a : Scoped Definition) (around : Around) →
+        and_next a (λ here. only (just here.outer [])) around ≡ a }
+    ensures lists { (rules : ScopeRules) (world : World Definition)
+        (local : Definition → Definition) (scope : List ℕ → Option Definition)
+        (search : Search Definition) (deeper : Option (Search Definition)) (around : Around)
+        (front back : List Forest) →
+        search_parts rules world local scope search deeper around (front ++ back)
+        ≡ and_next (search_parts rules world local scope search deeper around front)
+        (λ here. search_parts rules world local scope search deeper here back) around }
+{}
