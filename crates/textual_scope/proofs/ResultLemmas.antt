@@ -1,6 +1,6 @@
 -- Results of searches, one after another.
 use Rattle.std.proofs.Common.{◌≡◌, Bool, true, false, List, [], ◌∷◌, ◌++◌, refl, ap, sym, ◌∙◌, append_assoc, append-nil}
-use Rattle.std.specs.Prelude.{ℕ, Option, Some, None, ◌||◌}
+use Rattle.std.specs.Prelude.{ℕ, Option, ◌||◌}
 use Rattle.tt_data.specs.Forest.{Forest}
 use Rattle.expander_model.specs.Definitions.{Definition}
 use Rattle.expander_model.specs.Expansion.{World, Outcome, just, followed_by}

@@ -1,5 +1,5 @@
 -- Worked examples of Rust's textual scope, by computation: small texts, read word by word.
-use Rattle.std.proofs.Common.{◌≡◌, ℕ, suc, Bool, true, false, List, [], ◌∷◌, ◌++◌, map, Option, Some, None, refl, if◌then◌else◌}
+use Rattle.std.proofs.Common.{◌≡◌, ℕ, suc, Bool, false, List, [], ◌∷◌, ◌++◌, map, Option, Some, None, refl, if◌then◌else◌}
 use Rattle.std.specs.Prelude.{codes, flat_map, nat_eq, nat_lt, ◌&&◌, ◌||◌, Ok}
 use Prim.Native.String.{String}
 use Rattle.tt_data.specs.Forest.{Forest, empty, leaf, group, joined}
@@ -14,11 +14,10 @@ use Rattle.tt_data.specs.declared.leaf.Spacing.TheVariants.{Joint}
 use Rattle.tt_data.specs.declared.span.Span.{Span}
 use Rattle.bridge.specs.Text.{is_punct}
 use Rattle.small_grammar.specs.Text.{same_text}
-use Rattle.expander_model.specs.declared.fault.Fault.{Fault}
 use Rattle.expander_model.specs.declared.fault.FaultKind.{FaultKind}
 use Rattle.expander_model.specs.declared.fault.FaultKind.TheVariants.{CannotExpand, BrokenDefinition, RecursionLimit}
 use Rattle.expander_model.specs.Definitions.{Definition}
-use Rattle.expander_model.specs.Expansion.{World, PlacedStep}
+use Rattle.expander_model.specs.Expansion.{World}
 use Rattle.expander_model.specs.Meaning.{Layers, Member, plain, defining, member_faults, output_of}
 use Rattle.expander_model.specs.Pieces.{pieces}
 use Rattle.textual_scope.specs.declared.scope_rules.ScopeRules.{ScopeRules}
