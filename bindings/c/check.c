@@ -201,7 +201,7 @@ static void sources(void) {
     SAME(expander_prelude(&s, NULL, 2), EXPANDER_NULL);
     SAME(expander_expand(&s), EXPANDER_OK);
     SAME(expander_counts(&s, &counts), EXPANDER_OK);
-    const char *printed = "std :: f 1 ; 2 + ; e ! ( ) ;\n";
+    const char *printed = "std :: f 1 ;\n2 + ;\ne ! ( ) ;\n";
     SAME(counts.printed, strlen(printed));
     SAME(expander_printed(&s, room, sizeof room), EXPANDER_OK);
     SAME(memcmp(room, printed, strlen(printed)), 0);

@@ -107,7 +107,7 @@ def sources():
     assert raises(ValueError, session.source, -1, "") and raises(TypeError, session.source, 1, b"")
     session.prelude([1, (2, 0)])
     expansion = session.expand()
-    assert expansion.printed == "std :: f 1 ; 2 + ; e ! ( ) ;\n"
+    assert expansion.printed == "std :: f 1 ;\n2 + ;\ne ! ( ) ;\n"
     assert expansion.sources.tolist() == [1, 1, 1, 1, 0, 0, 0, 2, 0, 0, 0, 0, 0, 0]
     origins = [token.origin for token, source in zip(expansion.tokens, expansion.sources) if source == 1]
     assert [SOURCE[origin.start : origin.end] for origin in origins] == ["$", ":", ":", "f"]

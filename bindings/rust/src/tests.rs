@@ -74,7 +74,7 @@ fn sources() {
     assert_eq!(session.prelude(&[Pick::All(1), Pick::One(2, 0)]), Ok(()));
     let mut session = std::thread::spawn(move || session).join().expect("it passes");
     let expansion = read(&mut session);
-    assert_eq!(expansion.printed(), "std :: f 1 ; 2 + ; e ! ( ) ;\n");
+    assert_eq!(expansion.printed(), "std :: f 1 ;\n2 + ;\ne ! ( ) ;\n");
     assert_eq!(expansion.sources(), [1, 1, 1, 1, 0, 0, 0, 2, 0, 0, 0, 0, 0, 0]);
     let origins: Vec<&str> = (expansion.tokens().expect("it is short").zip(expansion.sources()))
         .filter_map(|(token, source)| if source == 1 { text.get(token.origin) } else { None })
